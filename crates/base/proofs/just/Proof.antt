@@ -1,0 +1,18 @@
+use Rattle.base.specs.Sets.{only}
+use native.Mathlib.Omega.{arith}
+use lib.Pow.{pow-lt}
+use borrow.Author.Needs.{needs}
+use Rattle.base.proofs.just.Statement.{statement}
+use Rattle.base.proofs.just.Tie as tie
+
+-- src/lib.rt:35:5
+shl-result : tie.Need-shl-result
+shl-result c = search needs
+
+-- src/lib.rt:31:1
+returns : tie.Need-returns
+unfolding only
+returns c = let h = pow-lt (c .pre) in omega arith
+
+pub just-spec : {M : Type 1} → statement M
+just-spec = tie.close (tie.spec shl-result returns)

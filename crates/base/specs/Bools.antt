@@ -1,0 +1,26 @@
+-- Laws of tests and choices.
+use mathlib.Core.Path.{_≡_, refl}
+use mathlib.Core.Bool.{Bool, true, false, not, cond, _&&_, false≢true}
+use native.Mathlib.Decide.{decLt}
+use native.Mathlib.Omega.{arith}
+use Prim.Native.Nat.{ℕ, _<_, _≤_}
+use lib.Dec.{leb, ltb}
+use borrow.Author.Tests.{lt-ltb, le-ltb, lt-leb, le-leb}
+
+-- both parts of a test that holds
+pub both : (a b : Bool) → (a && b) ≡ true → (a ≡ true) × (b ≡ true)
+both true b h = (refl, h)
+both false b h = absurd (false≢true h)
+
+-- below is not at least
+pub lt-not-le : (x y : ℕ) → ltb x y ≡ not (leb y x)
+lt-not-le x y = go (decLt x y)
+  where
+    go : Dec (x < y) → ltb x y ≡ not (leb y x)
+    go (yes h) = rw (lt-ltb x y h, lt-leb y x h) refl
+    go (no h) = let l : y ≤ x = omega arith in rw (le-ltb x y l, le-leb y x l) refl
+
+-- two alike are either
+pub cond-same : {A : Type 0} (b : Bool) (x : A) → cond b x x ≡ x
+cond-same true x = refl
+cond-same false x = refl

@@ -1,0 +1,10 @@
+pub mod Bools
+pub mod Checks
+pub mod Folds
+pub mod FoldLaws
+pub mod TestLaws
+pub mod SumLaws
+pub mod Sets
+pub mod SetLaws
+pub mod UnionLaws
+pub mod Paste
