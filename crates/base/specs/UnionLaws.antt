@@ -1,17 +1,18 @@
 -- Members of unions, of what two sets have in common, of one member alone and of none; subsets and emptiness.
 use mathlib.Core.Path.{_≡_, refl, sym, _∙_}
-use mathlib.Core.Bool.{Bool, true, false, not, _||_, _&&_, and-false, and-or-distrib-left}
+use mathlib.Core.Bool.{Bool, true, false, not, _||_, _&&_, and-false, and-or-distrib-left, or-comm}
 use Prim.Native.Nat.{ℕ, zero, suc, _+_, _/_, _%_, _*_, _^_, _<_, _≤_, min, max}
 use native.Mathlib.Omega.{arith}
 use native.Mathlib.Nat.{pow-suc}
 use native.Mathlib.Decide.{ℕ-discrete, decLt}
+use lib.Pow.{pow-lt}
 use lib.Bits.{bitAnd, bitOr, and-step, or-step, or-lt, and-le-l, and-le-r}
 use lib.Dec.{eqb, ltb, eqb·suc-suc, eqb·zero-suc, eqb·suc-zero}
 use borrow.Author.Tests.{eq-eqb, ne-eqb, lt-ltb}
 use Rattle.base.specs.Folds.{anyTo}
 use Rattle.base.specs.TestLaws.{all-hold, any-all, any-false}
-use Rattle.base.specs.Sets.{mem, isIn, only, union, common, isSubset, isEmpty}
-use Rattle.base.specs.SetLaws.{mem-zero, mem-suc, is-in, same-set}
+use Rattle.base.specs.Sets.{mem, isIn, add, only, union, common, isSubset, isEmpty}
+use Rattle.base.specs.SetLaws.{mem-zero, mem-suc, mem-add, add-lt, is-in, same-set}
 
 and-bit : (m n : ℕ) → m < 2 → n < 2 → (min m n < 2) × (eqb (min m n) 1 ≡ (eqb m 1 && eqb n 1))
 and-bit zero zero h k = (omega arith, refl)
@@ -68,6 +69,17 @@ mem-only (suc a) zero =
 mem-only (suc a) (suc i) =
     let e : 2 ^ a * 2 / 2 ≡ 2 ^ a = omega arith in
     rw (mem-suc, pow-suc, e, eqb·suc-suc) (mem-only a i)
+
+-- adding i is the union with i alone
+pub add-union : (k i s : ℕ) → i < k → s < 2 ^ k → add s i ≡ union s (only i)
+unfolding union only
+add-union k i s h l =
+    same-set k (add s i) (bitOr s (2 ^ i)) (add-lt k i s h l) (or-lt k s (2 ^ i) l (pow-lt h))
+    (λ j _. mem-add i j s ∙ flip (ℕ-discrete i j) ∙ or-comm (eqb j i) (mem s j) ∙ rw (← mem-only i j) (sym (mem-union j s (only i))))
+  where
+    flip : {j : ℕ} → Dec (i ≡ j) → (eqb i j || mem s j) ≡ (eqb j i || mem s j)
+    flip {j} (yes e) = rw (eq-eqb i j e, eq-eqb j i (sym e)) refl
+    flip {j} (no n) = rw (ne-eqb i j n, ne-eqb j i (λ e. n (sym e))) refl
 
 pub in-none : (i : ℕ) → isIn 0 i ≡ false
 unfolding isIn

@@ -13,10 +13,10 @@ pub fn has(s: u32, i: u32) -> bool
 
 // The set with member i.
 pub fn with(s: u32, i: u32) -> u32
-    requires { ⌜ (s < 65536) × (i < 16) ⌝ }
+    requires { ⌜ i < 16 ⌝ }
     ensures { λ r. ⌜ r ≡ add s i ⌝ }
 {
-    if has(s, i) { s } else { s + (1u32 << i) }
+    s | (1u32 << i)
 }
 
 // The set without member i.

@@ -3,7 +3,6 @@ use mathlib.Core.Path.{refl}
 use Rattle.base.proofs.is_empty.Statement.{statement}
 use Rattle.base.proofs.is_empty.Tie as tie
 
--- src/lib.rt:60:1
 returns : tie.Need-returns
 unfolding isEmpty
 returns c = refl

@@ -3,7 +3,6 @@ use mathlib.Core.Path.{refl}
 use Rattle.base.proofs.is_subset.Statement.{statement}
 use Rattle.base.proofs.is_subset.Tie as tie
 
--- src/lib.rt:53:1
 returns : tie.Need-returns
 unfolding isSubset common
 returns c = refl

@@ -3,7 +3,6 @@ use mathlib.Core.Path.{refl}
 use Rattle.base.proofs.joined.Statement.{statement}
 use Rattle.base.proofs.joined.Tie as tie
 
--- src/lib.rt:39:1
 returns : tie.Need-returns
 unfolding union
 returns c = refl

@@ -5,11 +5,9 @@ use borrow.Author.Needs.{needs}
 use Rattle.base.proofs.just.Statement.{statement}
 use Rattle.base.proofs.just.Tie as tie
 
--- src/lib.rt:35:5
 shl-result : tie.Need-shl-result
 shl-result c = search needs
 
--- src/lib.rt:31:1
 returns : tie.Need-returns
 unfolding only
 returns c = let h = pow-lt (c .pre) in omega arith

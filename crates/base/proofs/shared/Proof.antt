@@ -3,7 +3,6 @@ use mathlib.Core.Path.{refl}
 use Rattle.base.proofs.shared.Statement.{statement}
 use Rattle.base.proofs.shared.Tie as tie
 
--- src/lib.rt:46:1
 returns : tie.Need-returns
 unfolding common
 returns c = refl
