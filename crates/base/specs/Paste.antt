@@ -1,10 +1,11 @@
 -- What a list reads after a stretch of it is written over: below, inside and above the stretch.
 use mathlib.Core.Path.{_≡_, ap, sym, _∙_}
-use mathlib.Core.List.{List, _++_}
-use Prim.Native.Nat.{ℕ, _+_, _-_, _<_, _≤_}
+use mathlib.Core.List.{List, [], _∷_, _++_}
+use Prim.Native.Nat.{ℕ, suc, _+_, _-_, _<_, _≤_}
 use native.Mathlib.Omega.{arith}
-use lib.ListN.{length, getD, take, drop, List·getD-append, length-take, length-drop}
-use lib.Seq.{paste, length-paste-head, getD-append-add, getD-take, getD-drop, length-take-le, ext-getD}
+use native.Mathlib.Numerals.{add-one}
+use lib.ListN.{length, getD, take, drop, set, replicate, length-replicate, replicate-append-replicate, List·getD-append, length-take, length-drop}
+use lib.Seq.{paste, drop-cons, set-at, append-snoc, length-paste-head, getD-append-add, getD-take, getD-drop, length-take-le, ext-getD}
 
 module _ (t : List ℕ) (b : ℕ) (w : List ℕ) (n : ℕ) (hb : b + n ≤ length t) (hw : length w ≡ n) where
   head : length (take b t ++ take n w) ≡ b + n
@@ -50,3 +51,10 @@ same-part t u b c n h h′ f =
     let l′ = length-part u c n h′ in
     ext-getD 0 (part t b n) (part u c n) (omega arith)
     (λ i lt. let lt′ : i < n = omega arith in getD-part t b n i lt′ ∙ f i lt′ ∙ sym (getD-part u c n i lt′))
+
+-- one more zero at the front of a list whose first i elements are zeros
+pub cleared-more : (t : List ℕ) (i : ℕ) → i < length t → set (replicate i 0 ++ drop i t) i 0 ≡ replicate (i + 1) 0 ++ drop (i + 1) t
+cleared-more t i h =
+    let r : _≡_ {A = List ℕ} (replicate (i + 1) 0) (replicate i 0 ++ (0 ∷ [])) = sym (replicate-append-replicate i 1 0) in
+    rw (drop-cons t i 0 h, r, add-one i)
+    (set-at (replicate i 0) (getD t i 0) (drop (suc i) t) 0 i (length-replicate i 0) ∙ sym (append-snoc (replicate i 0) 0 (drop (suc i) t)))

@@ -2,7 +2,7 @@
 use mathlib.Core.Path.{_≡_, refl, sym, ap, _∙_}
 use mathlib.Core.Bool.{Bool, true, false, not, _&&_, _||_, and-true, and-assoc, false≢true}
 use mathlib.Core.List.{List, [], _∷_, _++_}
-use Prim.Native.Nat.{ℕ, zero, suc, _<_}
+use Prim.Native.Nat.{ℕ, zero, suc}
 use native.Mathlib.Omega.{arith}
 use lib.ListN.{length}
 use lib.Dec.{eqb, ltb}
@@ -13,7 +13,8 @@ use Rattle.base.specs.FoldLaws.{length-tab}
 use Rattle.terms.specs.declared.Transaction.{Transaction}
 use Rattle.terms.specs.declared.Transaction.the-variants.{Bond, Unbond, Entry}
 use Rattle.terms.specs.Transactions.{kindOf, numberOf, amountOf, readTransaction, sameTransaction, inRange}
-use Rattle.terms.specs.Proposals.{Content, sameTransactions, same, allInRange, unfit}
+use Rattle.terms.specs.declared.Body.{Body}
+use Rattle.terms.specs.Proposals.{Content, slotOf, transactionsOf, sameTransactions, same, allInRange, unfit}
 
 -- the numbers of a transaction tell it
 pub read-back : (x : Transaction) → readTransaction (kindOf x) (numberOf x) (amountOf x) ≡ x
@@ -73,6 +74,11 @@ same-content p q e =
         → _≡_ {A = Content} (record { author = a; round = r; previous = v; transactions = l }) q
     parts a r v l x y z w = rw (x, y, z, w) refl
 
+-- of one author and round, previous sets and transactions decide
+pub same-placed : (p q : Content) → p .author ≡ q .author → p .round ≡ q .round → same p q ≡ (eqb (p .previous) (q .previous) && sameTransactions (p .transactions) (q .transactions))
+unfolding same
+same-placed p q a r = rw (eq-eqb (p .author) (q .author) a, eq-eqb (p .round) (q .round) r) refl
+
 pub content-self : (p : Content) → same p p ≡ true
 unfolding same
 content-self p = rw (eq-eqb (p .author) (p .author) refl, eq-eqb (p .round) (p .round) refl, eq-eqb (p .previous) (p .previous) refl, list-self (p .transactions)) refl
@@ -106,6 +112,13 @@ other-lengths l m e = go (sameTransactions l m) refl
 -- lists of other lengths are not the same
 pub other-tabs : (f g : ℕ → Transaction) (m n : ℕ) → eqb m n ≡ false → sameTransactions (tab f m) (tab g n) ≡ false
 other-tabs f g m n e = other-lengths (tab f m) (tab g n) (rw (length-tab f m, length-tab g n) e)
+
+pub transactions-tab : (b : Body) → transactionsOf b ≡ tab (slotOf b) (b .count)
+unfolding transactionsOf
+transactions-tab b = refl
+
+pub length-transactions : (b : Body) → length (transactionsOf b) ≡ b .count
+length-transactions b = rw (transactions-tab b) (length-tab (slotOf b) (b .count))
 
 range-append : (l m : List Transaction) → allInRange (l ++ m) ≡ (allInRange l && allInRange m)
 unfolding allInRange

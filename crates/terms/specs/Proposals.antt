@@ -28,7 +28,7 @@ unfoldable pub transactionsOf : Body → List Transaction
 transactionsOf b = tab (slotOf b) (b .count)
 
 -- what a body proposes with an author and a round
-unfoldable pub contentWith : ℕ → ℕ → Body → Content
+abbrev pub contentWith : ℕ → ℕ → Body → Content
 contentWith a r b = record { author = a; round = r; previous = b .previous; transactions = transactionsOf b }
 
 abbrev pub contentOf : Proposal → Content

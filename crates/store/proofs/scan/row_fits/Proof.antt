@@ -1,0 +1,38 @@
+use mathlib.Core.Path.{refl}
+use borrow.Author.Tests.{lt-ltb, le-ltb}
+use Rattle.store.specs.Scan.{rowFits}
+use borrow.Author.Needs.{needs}
+use Rattle.store.proofs.scan.row_fits.Statement.{statement}
+use Rattle.store.proofs.scan.row_fits.Tie as tie
+
+held-set-requires : tie.Need-held-set-requires
+held-set-requires c κs = search needs
+
+returns : tie.Need-returns
+unfolding rowFits
+returns c = rw (← c .before .held-set .ensures, le-ltb _ _ (c .if1 .taken)) refl
+
+endorsed-set-requires : tie.Need-endorsed-set-requires
+endorsed-set-requires c κs = search needs
+
+returns-2 : tie.Need-returns-2
+unfolding rowFits
+returns-2 c = rw (← c .before .before .before .held-set .ensures, lt-ltb _ _ (c .before .before .if1 .left), ← c .before .endorsed-set .ensures, le-ltb _ _ (c .if2 .taken)) refl
+
+places-fit-requires : tie.Need-places-fit-requires
+places-fit-requires c κs = search needs
+
+returns-3 : tie.Need-returns-3
+unfolding rowFits
+returns-3 c = rw (← c .before .before .before .before .held-set .ensures, lt-ltb _ _ (c .before .before .before .if1 .left), ← c .before .before .endorsed-set .ensures, lt-ltb _ _ (c .before .if2 .left)) (c .places-fit .ensures)
+
+pub row-fits-spec : {M : Type 1} → statement M
+row-fits-spec =
+    tie.close
+    (tie.spec
+    held-set-requires
+    returns
+    endorsed-set-requires
+    returns-2
+    places-fit-requires
+    returns-3)

@@ -1,0 +1,61 @@
+use borrow.Author.Needs.{needs}
+use mathlib.Core.Path.{_≡_, refl, sym, _∙_}
+use native.Mathlib.Omega.{arith}
+use Prim.Native.Nat.{_+_, _-_, _≤_}
+use borrow.Author.Tests.{not-true, not-false}
+use mathlib.Core.Bool.{true}
+use Rattle.base.specs.Folds.{allTo}
+use Rattle.base.specs.TestLaws.{all-more, all-fails}
+use Rattle.store.specs.Scan.{rowFits, rowsFit}
+use Rattle.store.proofs.scan.rows_fit.Statement.{statement}
+use Rattle.store.proofs.scan.rows_fit.Tie as tie
+use Rattle.store.proofs.scan.row_fits.Reads as row-fits-reads
+
+abbrev Inv-loop : tie.InvT-loop
+Inv-loop t allowance blocks end r₀ r = (r ≤ end) × (allTo (λ j. rowFits t allowance blocks (j + 1)) r ≡ true)
+
+abbrev μ-loop : tie.MeasureT-loop
+μ-loop t allowance blocks end r₀ r = end - r
+
+loop-holds : tie.Need-loop-holds Inv-loop μ-loop
+unfolding allTo rowsFit
+loop-holds c = (omega arith, refl)
+
+add-t8 : tie.Need-add-t8 Inv-loop μ-loop
+add-t8 c = search needs
+
+row-fits-requires : tie.Need-row-fits-requires Inv-loop μ-loop
+row-fits-requires c κs = search needs
+
+returns : tie.Need-returns Inv-loop μ-loop
+unfolding rowsFit
+returns c = let a = c .before .before .before .before .before .args in sym (all-fails (λ j. rowFits (a .t .now) (a .allowance) (a .blocks) (j + 1)) (a .n .0) (c .before .before .before .loop .r) (omega arith) (sym (c .before .row-fits .ensures) ∙ not-true _ (c .if1 .taken)))
+
+add-r : tie.Need-add-r Inv-loop μ-loop
+add-r c = search needs
+
+loop-less : tie.Need-loop-less Inv-loop μ-loop
+loop-less c = search needs
+
+loop-again : tie.Need-loop-again Inv-loop μ-loop
+unfolding rowsFit
+loop-again c = (omega arith, simp (all-more, c .before .before .before .loop .inv .1, ← c .before .row-fits .ensures) (not-false _ (c .if1 .left)))
+
+returns-2 : tie.Need-returns-2 Inv-loop μ-loop
+unfolding rowsFit
+returns-2 c = let a = c .before .before .before .args in let e : c .before .loop .r ≡ a .n .0 = omega arith in sym (rw e at (c .before .loop .inv .1))
+
+pub rows-fit-spec : {M : Type 1} → statement M
+rows-fit-spec =
+    tie.close
+    (tie.spec
+    Inv-loop
+    μ-loop
+    loop-holds
+    add-t8
+    row-fits-requires
+    returns
+    add-r
+    loop-less
+    loop-again
+    returns-2)

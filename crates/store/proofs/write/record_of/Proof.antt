@@ -1,0 +1,62 @@
+use Rattle.terms.specs.ProposalLaws.{length-transactions}
+use Rattle.store.specs.Writes.{recordOf}
+use mathlib.Core.Path.{refl}
+use borrow.Author.Needs.{needs}
+use Rattle.store.proofs.write.record_of.Statement.{statement}
+use Rattle.store.proofs.write.record_of.Tie as tie
+use Rattle.store.proofs.write.put_transaction.Reads as put-transaction-reads
+use Rattle.store.proofs.write.slot.Reads as slot-reads
+
+cast-w : tie.Need-cast-w
+cast-w c = search needs
+
+array-write-w : tie.Need-array-write-w
+array-write-w c = search needs
+
+array-write-w-2 : tie.Need-array-write-w-2
+array-write-w-2 c = search needs
+
+slot-requires : tie.Need-slot-requires
+slot-requires c κs = search needs
+
+put-transaction-requires : tie.Need-put-transaction-requires
+put-transaction-requires c κs = search needs
+
+slot-requires-2 : tie.Need-slot-requires-2
+slot-requires-2 c κs = search needs
+
+put-transaction-requires-2 : tie.Need-put-transaction-requires-2
+put-transaction-requires-2 c κs = search needs
+
+slot-requires-3 : tie.Need-slot-requires-3
+slot-requires-3 c κs = search needs
+
+put-transaction-requires-3 : tie.Need-put-transaction-requires-3
+put-transaction-requires-3 c κs = search needs
+
+slot-requires-4 : tie.Need-slot-requires-4
+slot-requires-4 c κs = search needs
+
+put-transaction-requires-4 : tie.Need-put-transaction-requires-4
+put-transaction-requires-4 c κs = search needs
+
+returns : tie.Need-returns
+unfolding recordOf
+returns c = rw (length-transactions _, ← c .before .slot4 .ensures, ← c .before .before .before .slot3 .ensures, ← c .before .before .before .before .before .slot2 .ensures, ← c .before .before .before .before .before .before .before .slot .ensures) (rw (c .put-transaction4 .ensures, c .before .before .put-transaction3 .ensures, c .before .before .before .before .put-transaction2 .ensures, c .before .before .before .before .before .before .put-transaction .ensures) refl)
+
+pub record-of-spec : {M : Type 1} → statement M
+record-of-spec =
+    tie.close
+    (tie.spec
+    cast-w
+    array-write-w
+    array-write-w-2
+    slot-requires
+    put-transaction-requires
+    slot-requires-2
+    put-transaction-requires-2
+    slot-requires-3
+    put-transaction-requires-3
+    slot-requires-4
+    put-transaction-requires-4
+    returns)

@@ -1,0 +1,4 @@
+pub mod Table
+pub mod Writes
+pub mod RecordLaws
+pub mod Scan

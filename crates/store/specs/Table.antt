@@ -1,0 +1,73 @@
+-- What the lent table says: row r belongs to round r and has 272 words.
+use Prim.Native.Nat.{ℕ, _+_, _*_, _%_, _<_, _≤_}
+use mathlib.Core.Bool.{Bool, cond}
+use mathlib.Core.Option.{Option, none, some}
+use mathlib.Core.List.{List}
+use lib.ListN.{getD, length}
+use lib.Dec.{ltb}
+use Rattle.base.specs.Folds.{tab}
+use Rattle.base.specs.Sets.{isIn}
+use Rattle.terms.specs.declared.Transaction.{Transaction}
+use Rattle.terms.specs.Transactions.{readTransaction}
+use Rattle.terms.specs.Proposals.{Content}
+
+-- how many words a state of ceiling n uses: the rows 0 to n
+abbrev pub used : ℕ → ℕ
+used n = n * 272 + 272
+
+-- row r lies within the table
+abbrev pub Row : List ℕ → ℕ → Type 0
+Row t r = r * 272 + 272 ≤ length t
+
+-- the place is a member's, and its row lies within the table
+pub record Within (t : List ℕ) (m r : ℕ) : Type 0 where
+  pub member : m < 16
+  pub row : r * 272 + 272 ≤ length t
+
+-- the authors whose certificates of round r are held
+unfoldable pub heldSet : List ℕ → ℕ → ℕ
+heldSet t r = getD t (r * 272) 0
+
+-- the authors whose places of round r are marked endorsed
+unfoldable pub endorsedSet : List ℕ → ℕ → ℕ
+endorsedSet t r = getD t (r * 272 + 1) 0
+
+-- the round of block k
+unfoldable pub blockRound : List ℕ → ℕ → ℕ
+blockRound t k = getD t (k * 272 + 2) 0
+
+-- a certificate of author m and round r is held
+unfoldable pub heldAt : List ℕ → ℕ → ℕ → Bool
+heldAt t m r = isIn (heldSet t r) m
+
+-- the place is marked endorsed
+unfoldable pub endorsedAt : List ℕ → ℕ → ℕ → Bool
+endorsedAt t m r = isIn (endorsedSet t r) m
+
+-- word k of the record of a place
+unfoldable pub word : List ℕ → ℕ → ℕ → ℕ → ℕ
+word t m r k = getD t (r * 272 + m * 16 + 16 + k) 0
+
+-- the previous set of a record
+unfoldable pub previousAt : List ℕ → ℕ → ℕ → ℕ
+previousAt t m r = word t m r 0 % 65536
+
+-- how many transactions it has, at most four
+unfoldable pub countAt : List ℕ → ℕ → ℕ → ℕ
+countAt t m r = cond (ltb 4 (word t m r 1)) 4 (word t m r 1)
+
+-- its commit mark: the number of its block, 0 for none
+unfoldable pub markAt : List ℕ → ℕ → ℕ → ℕ
+markAt t m r = word t m r 2
+
+-- its transaction k
+unfoldable pub transactionAt : List ℕ → ℕ → ℕ → ℕ → Transaction
+transactionAt t m r k = readTransaction (word t m r (4 + k * 3)) (word t m r (5 + k * 3)) (word t m r (6 + k * 3))
+
+-- the proposal that the record of a place tells
+unfoldable pub contentAt : List ℕ → ℕ → ℕ → Content
+contentAt t m r = record { author = m; round = r; previous = previousAt t m r; transactions = tab (transactionAt t m r) (countAt t m r) }
+
+-- the certificate held at a place
+unfoldable pub certificateAt : List ℕ → ℕ → ℕ → Option Content
+certificateAt t m r = cond (heldAt t m r) (some (contentAt t m r)) none

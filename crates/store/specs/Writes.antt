@@ -1,0 +1,69 @@
+-- What the store's writes leave in the table.
+use Prim.Native.Nat.{ℕ, _+_, _*_}
+use mathlib.Core.List.{List, [], _∷_, _++_}
+use lib.ListN.{length, getD, set, drop, replicate}
+use lib.Seq.{paste}
+use Rattle.base.specs.Sets.{add, del}
+use Rattle.terms.specs.declared.Transaction.{Transaction}
+use Rattle.terms.specs.declared.Proposal.{Proposal}
+use Rattle.terms.specs.Transactions.{kindOf, numberOf, amountOf, noTransaction}
+use Rattle.terms.specs.Proposals.{Content}
+use Rattle.store.specs.Table.{used, heldSet, endorsedSet}
+
+-- transaction k of a proposal, nothing beyond them
+unfoldable pub nthOf : Content → ℕ → Transaction
+nthOf p k = getD (p .transactions) k noTransaction
+
+-- a transaction's three words, from k on
+unfoldable pub putTransaction : List ℕ → ℕ → Transaction → List ℕ
+putTransaction w k x = set (set (set w k (kindOf x)) (k + 1) (numberOf x)) (k + 2) (amountOf x)
+
+-- the record of a proposal of at most four transactions, in no block
+unfoldable pub recordOf : Content → List ℕ
+recordOf p =
+    putTransaction
+    (putTransaction
+    (putTransaction (putTransaction (set (set (replicate 16 0) 0 (p .previous)) 1 (length (p .transactions))) 4 (nthOf p 0)) 7 (nthOf p 1))
+    10
+    (nthOf p 2))
+    13
+    (nthOf p 3)
+
+-- the record w at the place, which is held from then on
+unfoldable pub putRecord : List ℕ → ℕ → ℕ → List ℕ → List ℕ
+putRecord t m r w = set (paste t (r * 272 + m * 16 + 16) w 16) (r * 272) (add (heldSet t r) m)
+
+-- a certificate put at its place, in no block
+unfoldable pub putCertificate : List ℕ → Content → List ℕ
+putCertificate t p = putRecord t (p .author) (p .round) (recordOf p)
+
+unfoldable pub setEndorsed : List ℕ → ℕ → ℕ → List ℕ
+setEndorsed t m r = set t (r * 272 + 1) (add (endorsedSet t r) m)
+
+unfoldable pub clearEndorsed : List ℕ → ℕ → ℕ → List ℕ
+clearEndorsed t m r = set t (r * 272 + 1) (del (endorsedSet t r) m)
+
+-- the certificate of m and round r in block b
+unfoldable pub setMark : List ℕ → ℕ → ℕ → ℕ → List ℕ
+setMark t m r b = set t (r * 272 + m * 16 + 16 + 2) b
+
+-- block k of round r
+unfoldable pub setBlock : List ℕ → ℕ → ℕ → List ℕ
+setBlock t k r = set t (k * 272 + 2) r
+
+-- the part that a state of ceiling n uses, cleared
+unfoldable pub clearUsed : List ℕ → ℕ → List ℕ
+clearUsed t n = replicate (used n) 0 ++ drop (used n) t
+
+-- a proposal of at most four transactions as it is handed out
+unfoldable pub proposalOf : Content → Proposal
+proposalOf p =
+    record {
+      author = record { 0 = p .author };
+      round = record { 0 = p .round };
+      body = record {
+        previous = p .previous;
+        count = length (p .transactions);
+        slots = record { transaction = nthOf p 0 } ∷ record { transaction = nthOf p 1 } ∷ record { transaction = nthOf p 2 } ∷ record { transaction = nthOf p 3 } ∷ [];
+      };
+    }

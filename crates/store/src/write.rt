@@ -1,0 +1,124 @@
+// The store's writes.
+use terms::Body;
+use terms::Member;
+use terms::Proposal;
+use terms::Round;
+use terms::Transaction;
+ghost use mathlib.Core.Path.{_≡_};
+ghost use Prim.Native.Nat.{_+_, _*_, _<_, _≤_};
+ghost use lib.ListN.{length};
+ghost use lib.Seq.{paste};
+ghost use Rattle.terms.specs.Proposals.{contentOf, contentWith};
+ghost use Rattle.store.specs.Table.{Within, Row};
+ghost use Rattle.store.specs.Writes.{nthOf, putTransaction, recordOf, putCertificate, setEndorsed, clearEndorsed, setMark, setBlock, clearUsed};
+
+// Slot k of a proposal, nothing beyond its transactions.
+fn slot(b: Body, k: u32, a: Member, r: Round) -> Transaction
+    requires { ⌜ (k < 4) × (b .count ≤ 4) ⌝ }
+    ensures { λ v. ⌜ v ≡ nthOf (contentWith (a .0) (r .0) b) k ⌝ }
+{
+    if k < b.count {
+        return terms::slot_at(b, k);
+    }
+    Transaction::Bond(Member(0), 0)
+}
+
+// A transaction as three words from k on.
+fn put_transaction(w: [u32; 16], k: usize, x: Transaction) -> [u32; 16]
+    requires { ⌜ k + 3 ≤ 16 ⌝ }
+    ensures { λ v. ⌜ v ≡ putTransaction w k x ⌝ }
+{
+    let mut v = w;
+    v[k] = terms::kind(x);
+    v[k + 1] = terms::number(x);
+    v[k + 2] = terms::amount(x);
+    v
+}
+
+// The record of a proposal, in no block.
+fn record_of(p: Proposal) -> [u32; 16]
+    requires { ⌜ p .body .count ≤ 4 ⌝ }
+    ensures { λ v. ⌜ v ≡ recordOf (contentOf p) ⌝ }
+{
+    let b = p.body;
+    let a = p.author;
+    let r = p.round;
+    let mut w = [0u32; 16];
+    w[0] = b.previous as u32;
+    w[1] = b.count;
+    let w0 = put_transaction(w, 4, slot(b, 0, a, r));
+    let w1 = put_transaction(w0, 7, slot(b, 1, a, r));
+    let w2 = put_transaction(w1, 10, slot(b, 2, a, r));
+    put_transaction(w2, 13, slot(b, 3, a, r))
+}
+
+// Stores sixteen words from b on.
+fn put_words(t: &mut [u32], b: usize, w: [u32; 16])
+    requires { ⌜ b + 16 ≤ length (now t) ⌝ }
+    ensures { λ _. ⌜ now (t .exit) ≡ paste (now (t .entry)) b w 16 ⌝ }
+{
+    for k in 0..16usize {
+        t[b + k] = w[k];
+    }
+}
+
+// Puts a certificate at its place, in no block.
+pub fn put_certificate(t: &mut [u32], p: Proposal)
+    requires { ⌜ Within (now t) (p .author .0) (p .round .0) × (p .body .count ≤ 4) ⌝ }
+    ensures { λ _. ⌜ now (t .exit) ≡ putCertificate (now (t .entry)) (contentOf p) ⌝ }
+{
+    let m = p.author.0;
+    let at = p.round.0 as usize * 272;
+    let place = at + m as usize * 16 + 16;
+    let w = record_of(p);
+    let s = base::with(t[at], m);
+    put_words(t, place, w);
+    t[at] = s;
+}
+
+// Marks a place endorsed.
+pub fn set_endorsed(t: &mut [u32], m: Member, r: Round)
+    requires { ⌜ Within (now t) (m .0) (r .0) ⌝ }
+    ensures { λ _. ⌜ now (t .exit) ≡ setEndorsed (now (t .entry)) (m .0) (r .0) ⌝ }
+{
+    let at = r.0 as usize * 272 + 1;
+    let s = base::with(t[at], m.0);
+    t[at] = s;
+}
+
+// Clears the endorsed mark of a place.
+pub fn clear_endorsed(t: &mut [u32], m: Member, r: Round)
+    requires { ⌜ Within (now t) (m .0) (r .0) ⌝ }
+    ensures { λ _. ⌜ now (t .exit) ≡ clearEndorsed (now (t .entry)) (m .0) (r .0) ⌝ }
+{
+    let at = r.0 as usize * 272 + 1;
+    let s = base::without(t[at], m.0);
+    t[at] = s;
+}
+
+// Puts the certificate of a place into block b.
+pub fn set_mark(t: &mut [u32], m: Member, r: Round, b: u32)
+    requires { ⌜ Within (now t) (m .0) (r .0) ⌝ }
+    ensures { λ _. ⌜ now (t .exit) ≡ setMark (now (t .entry)) (m .0) (r .0) b ⌝ }
+{
+    t[r.0 as usize * 272 + m.0 as usize * 16 + 16 + 2] = b;
+}
+
+// Block k has the round r.
+pub fn set_block(t: &mut [u32], k: u32, r: Round)
+    requires { ⌜ Row (now t) k ⌝ }
+    ensures { λ _. ⌜ now (t .exit) ≡ setBlock (now (t .entry)) k (r .0) ⌝ }
+{
+    t[k as usize * 272 + 2] = r.0;
+}
+
+// Clears what a state of ceiling n uses.
+pub fn clear_used(t: &mut [u32], n: Round)
+    requires { ⌜ Row (now t) (n .0) ⌝ }
+    ensures { λ _. ⌜ now (t .exit) ≡ clearUsed (now (t .entry)) (n .0) ⌝ }
+{
+    let end = n.0 as usize * 272 + 272;
+    for i in 0..end {
+        t[i] = 0;
+    }
+}
