@@ -10,9 +10,9 @@ use Rattle.agreement.specs.Rules.{Rules}
 use Rattle.agreement.specs.View.{World, Log}
 use Rattle.agreement.specs.Dag.{Held, Reach, here, back}
 use Rattle.agreement.specs.Anchors.{votes, Elected}
+use Rattle.agreement.specs.Invariants.{PreviousQuorum, Storing, Sound}
 use Rattle.agreement.specs.WeightLaws.{Common}
 use Rattle.agreement.specs.QuorumIntersection.{voters-meet}
-use Rattle.agreement.specs.Invariants.{PreviousQuorum, Storing, Sound}
 use Rattle.agreement.specs.DagLaws.{vote-by, at-place}
 use Rattle.agreement.specs.NonEquivocation.{committee-agreement, dag-nonequivocation, Signer, signer}
 

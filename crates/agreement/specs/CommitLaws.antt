@@ -8,24 +8,24 @@ use Prim.Native.Nat.{ℕ, zero, suc, _+_, _-_, _≤_, _<_}
 use native.Mathlib.Decide.{ℕ-discrete}
 use native.Mathlib.Omega.{arith}
 use Rattle.agreement.specs.Rules.{Chain, last, Rules}
+use Rattle.agreement.specs.Laws.{Lawful}
 use Rattle.agreement.specs.View.{View, Knows}
 use Rattle.agreement.specs.Dag.{isHeld, Held, Placed, Reach}
 use Rattle.agreement.specs.Anchors.{Anchor}
 use Rattle.agreement.specs.Links.{InChain, Uncommitted, Link, Linked}
-use Rattle.agreement.specs.Histories.{inHistory}
-use Rattle.agreement.specs.Commits.{used, byLeader, anchorAt, blockOf, blocksOf, choose, taken, committed}
-use Rattle.agreement.specs.Laws.{Lawful}
 use Rattle.agreement.specs.Moves.{Extension, first-block, next-block}
 use Rattle.agreement.specs.DagLaws.{on-place, reach-held}
+use Rattle.agreement.specs.Histories.{inHistory}
 use Rattle.agreement.specs.HistoryLaws.{history-reach, reach-history}
+use Rattle.agreement.specs.Commits.{used, byLeader, anchorAt, blockOf, blocksOf, choose, taken, committed}
 
 module _ {R : Rules} (s : View R) where
   open Rules R using (P, author, round, known, committee, leader)
 
   -- every block holds what s holds
-  abbrev Honest : Chain P → Type 0
-  Honest [] = Unit {0}
-  Honest (b ∷ c) = ((a r : ℕ) (q : P) → b .holds a r ≡ some q → s .dag a r ≡ some q) × Honest c
+  abbrev FromDag : Chain P → Type 0
+  FromDag [] = Unit {0}
+  FromDag (b ∷ c) = ((a r : ℕ) (q : P) → b .holds a r ≡ some q → s .dag a r ≡ some q) × FromDag c
 
   pub anchor-at : {r : ℕ} {q : P} → Knows s r → anchorAt s r ≡ some q → Anchor s r q
   unfolding anchorAt
@@ -45,7 +45,7 @@ module _ {R : Rules} (s : View R) where
   in-used (b ∷ c) p (inl e) = rw e refl
   in-used (b ∷ c) p (inr h) = rw (in-used c p h) (or-true (isHeld (b .holds (author p) (round p))))
 
-  used-in : (c : Chain P) (p : P) → Honest c → Held s p → used c (author p) (round p) ≡ true → InChain R c p
+  used-in : (c : Chain P) (p : P) → FromDag c → Held s p → used c (author p) (round p) ≡ true → InChain R c p
   unfolding used
   used-in [] p x h u = absurd (false≢true u)
   used-in (b ∷ c) p x h u = go (b .holds (author p) (round p)) refl u (used-in c p (x .1) h)
@@ -59,29 +59,29 @@ module _ {R : Rules} (Y : Lawful R) {s : View R} (X : Placed s) (L : Linked s (s
   open Rules R using (P, author, round, known, committee, leader)
   open Lawful Y using (known-down, apart, late)
 
-  linked-honest : (c : Chain P) → Linked s c → Honest s c
-  linked-honest [] l = tt
-  linked-honest (b ∷ c) l = (honest, linked-honest c (l .2))
+  linked-from-dag : (c : Chain P) → Linked s c → FromDag s c
+  linked-from-dag [] l = tt
+  linked-from-dag (b ∷ c) l = (from-dag, linked-from-dag c (l .2))
     where
-      honest : (a r : ℕ) (q : P) → b .holds a r ≡ some q → s .dag a r ≡ some q
-      honest a r q h =
+      from-dag : (a r : ℕ) (q : P) → b .holds a r ≡ some q → s .dag a r ≡ some q
+      from-dag a r q h =
           let f = l .0 .content a r q .0 h in
           rw (f .by, f .at) at (reach-held X (on-place X (l .0 .sees .held)) (f .reached))
 
-  block-honest : (x : P) (c : Chain P) (a r : ℕ) (q : P) → (blockOf s x c) .holds a r ≡ some q → s .dag a r ≡ some q
+  block-from-dag : (x : P) (c : Chain P) (a r : ℕ) (q : P) → (blockOf s x c) .holds a r ≡ some q → s .dag a r ≡ some q
   unfolding blockOf
-  block-honest x c a r q h = go (inHistory s x r a && not (used c a r)) h
+  block-from-dag x c a r q h = go (inHistory s x r a && not (used c a r)) h
     where
       go : (b : Bool) → cond b (s .dag a r) none ≡ some q → s .dag a r ≡ some q
       go true k = k
       go false k = absurd (Option·none-ne-some q k)
 
-  blocks-honest : (l : List P) → Honest s (blocksOf s l)
+  blocks-from-dag : (l : List P) → FromDag s (blocksOf s l)
   unfolding blocksOf
-  blocks-honest [] = linked-honest (s .chain) L
-  blocks-honest (x ∷ l) = (block-honest x (blocksOf s l), blocks-honest l)
+  blocks-from-dag [] = linked-from-dag (s .chain) L
+  blocks-from-dag (x ∷ l) = (block-from-dag x (blocksOf s l), blocks-from-dag l)
 
-  module _ (x : P) (c : Chain P) (hc : Honest s c) (hx : Held s x) where
+  module _ (x : P) (c : Chain P) (hc : FromDag s c) (hx : Held s x) where
     uncommitted-unused : {a r : ℕ} {p : P} → Uncommitted s c x a r p → used c a r ≡ false
     uncommitted-unused {a} {r} {p} f = go (used c a r) refl
       where
@@ -150,7 +150,7 @@ module _ {R : Rules} (Y : Lawful R) {s : View R} (X : Placed s) (L : Linked s (s
         let e : round q ≡ last (s .chain) + suc n = X .place (b .held) .1 in
         let two = apart (committee (s .chain) (last (s .chain) + suc n)) (committee (s .chain) (round x)) h (b .leads) (a .leads) in
         let c = blocksOf s (q ∷ taken s n q) in
-        next-block (link-made x c (blocks-honest (q ∷ taken s n q)) (on-place X (a .held)) a (omega arith) (λ r p i j. g r p (omega arith) j))
+        next-block (link-made x c (blocks-from-dag (q ∷ taken s n q)) (on-place X (a .held)) a (omega arith) (λ r p i j. g r p (omega arith) j))
         (q, subst (λ (z : ℕ). Anchor s z q) (sym e) b, l)
         (f q (subst (λ (z : ℕ). Anchor s z q) (sym e) b) (omega arith) (λ r p i j. absurd (omega arith)))
 
@@ -179,7 +179,7 @@ module _ {R : Rules} (Y : Lawful R) {s : View R} (X : Placed s) (L : Linked s (s
   extension-made : (n : ℕ) → Extended n
   unfolding blocksOf taken
   extension-made zero x a h g =
-      first-block (link-made x (s .chain) (linked-honest (s .chain) L) (on-place X (a .held)) a (above (s .chain) L a (omega arith)) (λ r q k m. g r q (omega arith) m))
+      first-block (link-made x (s .chain) (linked-from-dag (s .chain) L) (on-place X (a .held)) a (above (s .chain) L a (omega arith)) (λ r q k m. g r q (omega arith) m))
   extension-made (suc n) x a h g = extension-next n (extension-made n) x a h g
 
   -- the computed chain is a chain that a commit may make

@@ -1,4 +1,4 @@
--- What a member knows stays when its certificates and its chain grow.
+-- What a member knows stays when its certificates and its chain grow, and every move grows them.
 use mathlib.Core.Path.{_≡_, sym, _∙_}
 use mathlib.Core.Bool.{Bool, true}
 use mathlib.Core.Option.{some, Option·some-injective}
@@ -8,25 +8,26 @@ use Prim.Native.Nat.{ℕ, suc, _≤_}
 use native.Mathlib.Omega.{arith}
 use Rattle.agreement.specs.Weights.{weigh}
 use Rattle.agreement.specs.Rules.{Block, Chain, Rules}
+use Rattle.agreement.specs.Laws.{Lawful}
 use Rattle.agreement.specs.View.{View, Knows, Log}
 use Rattle.agreement.specs.Dag.{Held, Reach, Closed}
 use Rattle.agreement.specs.Anchors.{Anchor, votes, Elected}
 use Rattle.agreement.specs.Links.{Link, ReachesLast, Linked, LastElected}
-use Rattle.agreement.specs.Laws.{Lawful}
-use Rattle.agreement.specs.WeightLaws.{weigh-mono}
-use Rattle.agreement.specs.Prefixes.{_≼_, same, grown, known-stays, committee-stays}
+use Rattle.agreement.specs.Prefixes.{_≼_, same, grown}
 use Rattle.agreement.specs.Invariants.{PreviousQuorum, Signable, Ordering, Certified, Storing}
 use Rattle.agreement.specs.Moves.{Extension, first-block, next-block, Move, other-call, propose, endorse, certify, accept, advance, commit}
+use Rattle.agreement.specs.WeightLaws.{weigh-mono}
+use Rattle.agreement.specs.KnownCommittees.{known-stays, committee-stays}
 use Rattle.agreement.specs.DagLaws.{vote-by, Compatible, at-place, carry}
+use Rattle.agreement.specs.PlaceLaws.{put-old}
 
 -- t has all that s has
 pub record Grows {R : Rules} (s t : View R) : Type 0 where
   pub dag : {a r : ℕ} {p : R .P} → s .dag a r ≡ some p → t .dag a r ≡ some p
   pub chain : s .chain ≼ t .chain
-  pub laws : Lawful R
 
-module _ {R : Rules} {s t : View R} (g : Grows s t) where
-  open Rules R using (size, P, author, round, known, committee, leader, bound)
+module _ {R : Rules} (Y : Lawful R) {s t : View R} (g : Grows s t) where
+  open Rules R using (size, P, round, committee)
 
   alike : Compatible s t
   alike = record { alike = λ {a} {r} {p} {q} h k. Option·some-injective p q (sym (g .dag h) ∙ k) }
@@ -34,10 +35,13 @@ module _ {R : Rules} {s t : View R} (g : Grows s t) where
   alike-back : Compatible t s
   alike-back = record { alike = λ {a} {r} {p} {q} h k. Option·some-injective p q (sym h ∙ g .dag k) }
 
-  stays : {r : ℕ} → Knows s r → committee (t .chain) r ≡ committee (s .chain) r
-  stays k = committee-stays (g .laws) (g .chain) k
+  knows-grows : {r : ℕ} → Knows s r → Knows t r
+  knows-grows k = known-stays Y (g .chain) k
 
-  closed-grows : {p : P} → Closed s p → Closed t p
+  stays : {r : ℕ} → Knows s r → committee (t .chain) r ≡ committee (s .chain) r
+  stays k = committee-stays Y (g .chain) k
+
+  pub closed-grows : {p : P} → Closed s p → Closed t p
   closed-grows f m a e n = let h = f m a e n in (h .0, g .dag (h .1))
 
   previous-grows : {p : P} → PreviousQuorum s p → PreviousQuorum t p
@@ -45,7 +49,7 @@ module _ {R : Rules} {s t : View R} (g : Grows s t) where
       record {
         before = v .before;
         follows = v .follows;
-        aware = known-stays (g .laws) (g .chain) (v .aware);
+        aware = knows-grows (v .aware);
         quorum = rw (stays (v .aware)) (v .quorum);
         someone = v .someone;
         named = v .named;
@@ -58,17 +62,21 @@ module _ {R : Rules} {s t : View R} (g : Grows s t) where
       go (inl e) = inl e
       go (inr v) = inr (previous-grows v)
 
-  anchor-grows : {r : ℕ} {q : P} → Anchor s r q → Anchor t r q
-  anchor-grows x =
+  pub certified-grows : {correct : ℕ → Bool} {G : Log R} {p : P} → Certified correct G s p → Certified correct G t p
+  certified-grows x =
       record {
-        aware = known-stays (g .laws) (g .chain) (x .aware);
-        lead = x .lead;
-        leads = rw (stays (x .aware)) (x .leads);
-        held = g .dag (x .held);
+        aware = knows-grows (x .aware);
+        signers = x .signers;
+        quorum = rw (stays (x .aware)) (x .quorum);
+        with-author = x .with-author;
+        signs = x .signs;
       }
 
+  anchor-grows : {r : ℕ} {q : P} → Anchor s r q → Anchor t r q
+  anchor-grows x = record { aware = knows-grows (x .aware); lead = x .lead; leads = rw (stays (x .aware)) (x .leads); held = g .dag (x .held) }
+
   elected-grows : {q : P} → Elected s q → Elected t q
-  elected-grows {q} v = record { aware = known-stays (g .laws) (g .chain) (v .aware); more = rw (stays (v .aware)) (omega (arith, v .more, wider)) }
+  elected-grows {q} v = record { aware = knows-grows (v .aware); more = rw (stays (v .aware)) (omega (arith, v .more, wider)) }
     where
       still : (i : ℕ) → votes s q i ≡ true → votes t q i ≡ true
       still i h =
@@ -82,86 +90,60 @@ module _ {R : Rules} {s t : View R} (g : Grows s t) where
   last-elected-grows [] x = tt
   last-elected-grows (b ∷ c) x = (x .0, anchor-grows (x .1), elected-grows (x .2))
 
--- what a certificate at (a, r) needs, as s sees it
-pub record Admissible {R : Rules} (correct : ℕ → Bool) (G : Log R) (s : View R) (a r : ℕ) (p : R .P) : Type 0 where
-  pub by : R .author p ≡ a
-  pub at : R .round p ≡ r
-  pub closed : Closed s p
-  pub certified : Certified correct G s p
+module _ {R : Rules} (Y : Lawful R) {correct : ℕ → Bool} {G : Log R} {s t : View R} (g : Grows s t) (T : Storing correct G s) (U : Storing correct G t) where
+  open Rules R using (P)
+  open Lawful Y using (known-down)
 
-module _ {R : Rules} {correct : ℕ → Bool} {G : Log R} {s t : View R} (g : Grows s t) where
-  open Rules R using (P, author, round, known, committee)
-  open Lawful (g .laws) using (known-down, late)
+  -- a held certificate has the history that it had
+  forth : {p q : P} → Held s p → Reach s p q → Reach t p q
+  forth h l = carry U (alike Y g) (g .dag h) l .0
 
-  pub certified-grows : {p : P} → Certified correct G s p → Certified correct G t p
-  certified-grows x =
+  back-again : {p q : P} → Held s p → Reach t p q → Reach s p q × Held s q
+  back-again h l = carry T (alike-back Y g) h l
+
+  link-grows : {b : Block P} {c : Chain P} → Link s b c → Link t b c
+  link-grows {b} {c} l =
       record {
-        aware = known-stays (g .laws) (g .chain) (x .aware);
-        signers = x .signers;
-        quorum = rw (stays g (x .aware)) (x .quorum);
-        with-author = x .with-author;
-        signs = x .signs;
+        anchor = l .anchor;
+        sees = anchor-grows Y g (l .sees);
+        spaced = l .spaced;
+        gap = λ r q h k x m.
+            let n = back-again held m in
+            let known : Knows s r = known-down (s .chain) (omega arith) (l .sees .aware) in
+            let e = U .place (x .held) in
+            l .gap r q h k (record { aware = known; lead = x .lead; leads = rw (stays Y g known) at (x .leads); held = rw (e .0, e .1) at (n .1) }) (n .0);
+        content = λ a r p. (
+          (λ h. let f = l .content a r p .0 h in record { by = f .by; at = f .at; reached = forth held (f .reached); unused = f .unused }),
+          (λ f. l .content a r p .1 (record { by = f .by; at = f .at; reached = back-again held (f .reached) .0; unused = f .unused })),
+        );
       }
+    where
+      held : Held s (l .anchor)
+      held = at-place T (l .sees .held)
 
-  pub storing-grows : ((a r : ℕ) (p : P) → t .dag a r ≡ some p → Admissible correct G s a r p) → Storing correct G t
-  storing-grows f =
-      record {
-        place = λ {a} {r} {p} h. (f a r p h .by, f a r p h .at);
-        closed = λ {a} {r} {p} h. closed-grows g (f a r p h .closed);
-        certified = λ {a} {r} {p} h. certified-grows (f a r p h .certified);
-      }
+  reaches-last-grows : {x : P} (c : Chain P) → Held s x → ReachesLast s c x → ReachesLast t c x
+  reaches-last-grows [] h p = tt
+  reaches-last-grows (b ∷ c) h p = (p .0, anchor-grows Y g (p .1), forth h (p .2))
 
-  module _ (T : Storing correct G s) (U : Storing correct G t) where
-    -- a held certificate has the history that it had
-    forth : {p q : P} → Held s p → Reach s p q → Reach t p q
-    forth h l = carry U (alike g) (g .dag h) l .0
+  linked-grows : (c : Chain P) → Linked s c → Linked t c
+  unfolding link-grows
+  linked-grows [] l = tt
+  linked-grows (b ∷ c) l = (link-grows (l .0), reaches-last-grows c (at-place T (l .0 .sees .held)) (l .1), linked-grows c (l .2))
 
-    back-again : {p q : P} → Held s p → Reach t p q → Reach s p q × Held s q
-    back-again h l = carry T (alike-back g) h l
-
-    link-grows : {b : Block P} {c : Chain P} → Link s b c → Link t b c
-    link-grows {b} {c} l =
-        record {
-          anchor = l .anchor;
-          sees = anchor-grows g (l .sees);
-          spaced = l .spaced;
-          gap = λ r q h k x m.
-              let n = back-again held m in
-              let known′ : Knows s r = known-down (s .chain) (omega arith) (l .sees .aware) in
-              let e = U .place (x .held) in
-              l .gap r q h k (record { aware = known′; lead = x .lead; leads = rw (stays g known′) at (x .leads); held = rw (e .0, e .1) at (n .1) }) (n .0);
-          content = λ a r p. (
-            (λ h. let f = l .content a r p .0 h in record { by = f .by; at = f .at; reached = forth held (f .reached); unused = f .unused }),
-            (λ f. l .content a r p .1 (record { by = f .by; at = f .at; reached = back-again held (f .reached) .0; unused = f .unused })),
-          );
-        }
-      where
-        held : Held s (l .anchor)
-        held = at-place T (l .sees .held)
-
-    reaches-last-grows : {x : P} (c : Chain P) → Held s x → ReachesLast s c x → ReachesLast t c x
-    reaches-last-grows [] h p = tt
-    reaches-last-grows (b ∷ c) h p = (p .0, anchor-grows g (p .1), forth h (p .2))
-
-    linked-grows : (c : Chain P) → Linked s c → Linked t c
-    unfolding link-grows
-    linked-grows [] l = tt
-    linked-grows (b ∷ c) l = (link-grows (l .0), reaches-last-grows c (at-place T (l .0 .sees .held)) (l .1), linked-grows c (l .2))
-
-    pub ordering-grows : Linked s (t .chain) → LastElected s (t .chain) → Ordering t
-    ordering-grows l e = record { linked = linked-grows (t .chain) l; elected = last-elected-grows g (t .chain) e }
+  pub ordering-grows : Linked s (t .chain) → LastElected s (t .chain) → Ordering t
+  ordering-grows l e = record { linked = linked-grows (t .chain) l; elected = last-elected-grows Y g (t .chain) e }
 
 -- a commit's chain grows from the chain before
-pub extension-grows : {R : Rules} {s : View R} {c : Chain (R .P)} → Extension s c → s .chain ≼ c
+extension-grows : {R : Rules} {s : View R} {c : Chain (R .P)} → Extension s c → s .chain ≼ c
 extension-grows (first-block {b = b} l) = grown b (l .spaced) same
 extension-grows (next-block {b = b} l p x) = grown b (l .spaced) (extension-grows x)
 
--- every move grows the state
-pub move-grows : {R : Rules} {correct : ℕ → Bool} {G : Log R} {k : ℕ} {s t : View R} {l m : List (R .P)} → Lawful R → Move correct G k s l t m → Grows s t
-move-grows Y other-call = record { dag = λ h. h; chain = same; laws = Y }
-move-grows Y (propose p e er f g) = record { dag = λ h. h; chain = same; laws = Y }
-move-grows Y (endorse p e n f d g t m) = record { dag = λ h. h; chain = same; laws = Y }
-move-grows Y (certify p d e a b) = record { dag = λ h. a .old h; chain = same; laws = Y }
-move-grows Y (accept p d e a c b m) = record { dag = λ h. a .old h; chain = same; laws = Y }
-move-grows Y advance = record { dag = λ h. h; chain = same; laws = Y }
-move-grows Y (commit c x e) = record { dag = λ h. h; chain = extension-grows x; laws = Y }
+-- every move grows the view
+pub move-grows : {R : Rules} {correct : ℕ → Bool} {G : Log R} {k : ℕ} {s t : View R} {l m : List (R .P)} → Move correct G k s l t m → Grows s t
+move-grows other-call = record { dag = λ h. h; chain = same }
+move-grows (propose p ek er f g) = record { dag = λ h. h; chain = same }
+move-grows (endorse p n e f g) = record { dag = λ h. h; chain = same }
+move-grows {R} {s = s} (certify p e f b) = record { dag = λ h. put-old R p (s .dag) f h; chain = same }
+move-grows {R} {s = s} (accept p f c b) = record { dag = λ h. put-old R p (s .dag) f h; chain = same }
+move-grows advance = record { dag = λ h. h; chain = same }
+move-grows (commit c x e) = record { dag = λ h. h; chain = extension-grows x }

@@ -1,11 +1,11 @@
 -- The computed history is the history.
 use mathlib.Core.Path.{_≡_, refl, sym, _∙_, subst}
-use mathlib.Core.Bool.{true, _&&_}
+use mathlib.Core.Bool.{Bool, true, false, _&&_, true≢false}
 use mathlib.Core.Option.{some, Option·some-injective}
-use Prim.Native.Nat.{ℕ, zero, suc, _+_, _-_, _≤_}
+use Prim.Native.Nat.{ℕ, zero, suc, _+_, _-_, _≤_, _<_}
 use native.Mathlib.Omega.{arith}
-use lib.Dec.{leb}
-use borrow.Author.Tests.{eqb-true, eq-eqb, leb-true, le-leb}
+use lib.Dec.{eqb, leb}
+use borrow.Author.Tests.{eqb-true, eq-eqb, leb-true, le-leb, lt-leb}
 use Rattle.base.specs.Bools.{both}
 use Rattle.base.specs.Folds.{anyTo}
 use Rattle.base.specs.TestLaws.{any-true, true-any}
@@ -13,11 +13,33 @@ use Rattle.agreement.specs.Rules.{Rules}
 use Rattle.agreement.specs.View.{View}
 use Rattle.agreement.specs.Dag.{isHeld, vote, Held, Placed, Reach, here, back}
 use Rattle.agreement.specs.Anchors.{votes}
-use Rattle.agreement.specs.Histories.{level, inHistory}
 use Rattle.agreement.specs.DagLaws.{vote-by, held-by, on-place}
+use Rattle.agreement.specs.Histories.{level, inHistory}
 
 module _ {R : Rules} (s : View R) where
-  open Rules R using (P, round, names)
+  open Rules R using (size, P, author, round, names)
+
+  -- of its own round x has itself in its history
+  pub history-here : (x : P) (a : ℕ) → inHistory s x (round x) a ≡ eqb a (author x)
+  unfolding inHistory level
+  history-here x a =
+      let e : round x - round x ≡ 0 = omega arith in
+      rw (e, le-leb (round x) (round x) (omega arith)) refl
+
+  -- of a round below, the held certificates that those of the round above name
+  pub history-down : (x : P) (r a : ℕ) → r < round x
+      → inHistory s x r a ≡ (isHeld (s .dag a r) && anyTo (λ i. inHistory s x (suc r) i && vote R a (s .dag i (suc r))) size)
+  unfolding inHistory level
+  history-down x r a h =
+      let e : round x - r ≡ suc (round x - suc r) = omega arith in
+      let up : round x - (round x - suc r) ≡ suc r = omega arith in
+      let down : round x - suc (round x - suc r) ≡ r = omega arith in
+      rw (e, up, down, le-leb r (round x) (omega arith), le-leb (suc r) (round x) (omega arith)) refl
+
+  -- of a round above, nothing
+  pub history-above : (x : P) (r a : ℕ) → round x < r → inHistory s x r a ≡ false
+  unfolding inHistory
+  history-above x r a h = rw (lt-leb r (round x) h) refl
 
   -- one more step back
   reach-more : {p q t : P} (m a : ℕ) → Reach s p q → round q ≡ suc m → names q a ≡ true → s .dag a m ≡ some t → Reach s p t
@@ -85,3 +107,11 @@ module _ {R : Rules} {s : View R} (X : Placed s) where
   reach-history {x} {q} hx l =
       let k = reach-level 0 hx (omega arith) (eq-eqb (author x) (author x) refl) l in
       rw (le-leb (round q) (round x) (k .0), k .1) refl
+
+  -- what is not held is in no history
+  pub history-held : {x : P} → Held s x → (r a : ℕ) → isHeld (s .dag a r) ≡ false → inHistory s x r a ≡ false
+  history-held {x} hx r a h = go (inHistory s x r a) refl
+    where
+      go : (b : Bool) → inHistory s x r a ≡ b → b ≡ false
+      go true e = let q = history-reach hx r a e in absurd (true≢false (rw (q .1) at h))
+      go false e = refl

@@ -6,11 +6,11 @@ use mathlib.Core.List.{List}
 use mathlib.Core.Logic.{_⊎_, _≢_}
 use Prim.Native.Nat.{ℕ, suc, _<_}
 use Rattle.agreement.specs.Rules.{Rules}
+use Rattle.agreement.specs.Laws.{Lawful}
 use Rattle.agreement.specs.View.{View, Knows, World, Log, Among}
 use Rattle.agreement.specs.Dag.{Held, Closed}
 use Rattle.agreement.specs.Quorum.{Quorum, Tolerant}
 use Rattle.agreement.specs.Links.{Linked, LastElected}
-use Rattle.agreement.specs.Laws.{Lawful}
 use Rattle.agreement.specs.Prefixes.{Comparable}
 
 module _ {R : Rules} (s : View R) where
@@ -32,7 +32,7 @@ module _ {R : Rules} (s : View R) where
 
   -- what member k signed, all of the list l
   pub record Signing (k : ℕ) (l : List P) : Type 0 where
-    pub one : (p q : P) → Among p l → Among q l → author p ≡ author q → round p ≡ round q → p ≡ q
+    pub nonequivocation : (p q : P) → Among p l → Among q l → author p ≡ author q → round p ≡ round q → p ≡ q
     pub signable : (p : P) → Among p l → Signable p
     pub own : (p : P) → Among p l → author p ≡ k
         → (round p < s .round) ⊎ ((round p ≡ s .round) × (s .proposal ≡ some p))

@@ -12,11 +12,11 @@ use lib.ListN.{length}
 use Rattle.agreement.specs.Rules.{Chain, last, Rules}
 use Rattle.agreement.specs.View.{View}
 use Rattle.agreement.specs.Dag.{isHeld, Held, Placed}
-use Rattle.agreement.specs.Histories.{inHistory}
-use Rattle.agreement.specs.Commits.{used, byLeader, anchorAt, blockOf, blocksOf, choose, taken, committed}
-use Rattle.agreement.specs.Marks.{marked, chainOf, roundsOf, markBlock, marksOf}
 use Rattle.agreement.specs.DagLaws.{on-place}
+use Rattle.agreement.specs.Histories.{inHistory}
 use Rattle.agreement.specs.HistoryLaws.{history-reach}
+use Rattle.agreement.specs.Commits.{used, byLeader, anchorAt, blockOf, blocksOf, choose, taken, committed}
+use Rattle.agreement.specs.Marks.{marked, chainOf, roundsOf, markBlock, marksOf, Fits}
 
 module _ {P : Type 0} (d : ℕ → ℕ → Option P) where
   -- chains with the same blocks
@@ -58,12 +58,7 @@ module _ {R : Rules} (s : View R) where
           rw (y, z, h) refl
       go (no n) f = rw (ne-eqb (m a q) (suc (length l)) n) (f (omega arith))
 
-  -- marks that fit a chain of n blocks: every mark names a block, and only held certificates have one
-  pub record Fits (m : ℕ → ℕ → ℕ) (n : ℕ) : Type 0 where
-    pub range : (a q : ℕ) → m a q ≤ n
-    pub only-held : (a q : ℕ) → isHeld (s .dag a q) ≡ false → m a q ≡ 0
-
-  module _ (x : P) (m : ℕ → ℕ → ℕ) (l : List ℕ) (fits : Fits m (length l)) where
+  module _ (x : P) (m : ℕ → ℕ → ℕ) (l : List ℕ) (fits : Fits s m (length l)) where
     old-blocks : chainOf (s .dag) (markBlock s x (suc (length l)) m) l ≡ chainOf (s .dag) m l
     unfolding markBlock
     old-blocks = same-blocks (s .dag) (markBlock s x (suc (length l)) m) m l λ j a q p h. go j a q p h (eqb (m a q) 0) (inHistory s x q a) refl

@@ -1,12 +1,14 @@
 -- Chains as an engine keeps them: the rounds of the blocks, newest first, and for each place the number of its block, 0 for none.
-use mathlib.Core.Bool.{_&&_, cond}
+use mathlib.Core.Path.{_≡_}
+use mathlib.Core.Bool.{false, _&&_, cond}
 use mathlib.Core.Option.{Option, none}
 use mathlib.Core.List.{List, [], _∷_}
-use Prim.Native.Nat.{ℕ, suc}
+use Prim.Native.Nat.{ℕ, suc, _≤_}
 use lib.Dec.{eqb}
 use lib.ListN.{length}
 use Rattle.agreement.specs.Rules.{Block, Chain, Rules}
 use Rattle.agreement.specs.View.{View}
+use Rattle.agreement.specs.Dag.{isHeld}
 use Rattle.agreement.specs.Histories.{inHistory}
 
 module _ {P : Type 0} (d : ℕ → ℕ → Option P) where
@@ -35,3 +37,8 @@ module _ {R : Rules} (s : View R) where
   unfoldable pub marksOf : (ℕ → ℕ → ℕ) → List ℕ → List P → ℕ → ℕ → ℕ
   marksOf m rs [] = m
   marksOf m rs (x ∷ l) = markBlock x (suc (length (roundsOf R rs l))) (marksOf m rs l)
+
+  -- marks that fit a chain of n blocks: every mark names a block, and only held certificates have one
+  pub record Fits (m : ℕ → ℕ → ℕ) (n : ℕ) : Type 0 where
+    pub range : (a q : ℕ) → m a q ≤ n
+    pub only-held : (a q : ℕ) → isHeld (s .dag a q) ≡ false → m a q ≡ 0

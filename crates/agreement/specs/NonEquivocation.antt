@@ -7,10 +7,10 @@ use Rattle.agreement.specs.Rules.{Rules}
 use Rattle.agreement.specs.View.{Knows, World, Log, Among}
 use Rattle.agreement.specs.Dag.{Held}
 use Rattle.agreement.specs.Quorum.{Tolerant}
+use Rattle.agreement.specs.Invariants.{Certified, Sound}
 use Rattle.agreement.specs.WeightLaws.{Common}
 use Rattle.agreement.specs.QuorumIntersection.{quorum-pos, quorums-meet, quorum-correct}
-use Rattle.agreement.specs.Prefixes.{comparable-committee}
-use Rattle.agreement.specs.Invariants.{Certified, Sound}
+use Rattle.agreement.specs.KnownCommittees.{comparable-committee}
 use Rattle.agreement.specs.DagLaws.{at-place}
 
 module _ {R : Rules} {correct : ℕ → Bool} {w : World R} {G : Log R} (S : Sound correct w G) where
@@ -32,7 +32,7 @@ module _ {R : Rules} {correct : ℕ → Bool} {w : World R} {G : Log R} (S : Sou
   held-once : {i j : ℕ} {p q : P} → correct i ≡ true → correct j ≡ true → Held (w i) p → Held (w j) q → author p ≡ author q → round p ≡ round q → p ≡ q
   unfolding certified
   held-once {i} {j} {p} {q} ci cj hp hq ea er =
-      S .members (m .who) (m .third) .signing .one p q
+      S .members (m .who) (m .third) .signing .nonequivocation p q
       (x .signs (m .who) (m .third) (m .first)) (y .signs (m .who) (m .third) (m .second)) ea er
     where
       x : Certified correct G (w i) p

@@ -9,11 +9,11 @@ use native.Mathlib.Nat.{le-antisymm}
 use native.Mathlib.Decide.{ℕ-discrete, decLe}
 use native.Mathlib.Omega.{arith}
 use Rattle.agreement.specs.Rules.{Block, Chain, last, Rules}
+use Rattle.agreement.specs.Laws.{Lawful}
 use Rattle.agreement.specs.View.{View, Knows, World, Log}
 use Rattle.agreement.specs.Dag.{Held, Reach}
 use Rattle.agreement.specs.Anchors.{Anchor, Elected}
 use Rattle.agreement.specs.Links.{Link, ReachesLast, Linked, LastElected}
-use Rattle.agreement.specs.Laws.{Lawful}
 use Rattle.agreement.specs.Prefixes.{_≼_, same, grown, Comparable}
 use Rattle.agreement.specs.Invariants.{Storing, Sound}
 use Rattle.agreement.specs.DagLaws.{at-place, carry}

@@ -1,46 +1,53 @@
--- Chains that grow: what an earlier form of a chain tells stays told.
-use mathlib.Core.Path.{_≡_, refl, sym, _∙_}
-use mathlib.Core.Bool.{true}
+-- Prefixes of chains: what a chain was before it grew.
+use mathlib.Core.Path.{_≡_, refl}
+use mathlib.Core.Bool.{Bool, true, false, cond}
+use mathlib.Core.Option.{Option, none, some, Option·none-ne-some}
+use mathlib.Core.List.{[], _∷_}
+use mathlib.Core.Logic.{_⊎_}
+use Prim.Native.Nat.{ℕ, suc, _+_, _≤_}
 use native.Mathlib.Omega.{arith}
-use mathlib.Core.List.{_∷_}
-use mathlib.Core.Logic.{_⊎_, inl, inr}
-use Prim.Native.Nat.{ℕ, _+_, _≤_}
-use Rattle.agreement.specs.Rules.{Block, Chain, last, Rules}
-use Rattle.agreement.specs.Laws.{Lawful}
+use lib.Dec.{eqb}
+use lib.ListN.{length}
+use borrow.Author.Tests.{eqb-true, ne-eqb}
+use Rattle.agreement.specs.Rules.{Block, Chain, last}
 
 infix 40 _≼_
--- c is an earlier form of d: d adds blocks, each at least two rounds above the one before
+-- c is a prefix of d: d adds blocks to c, each at least two rounds above the one before
 pub data _≼_ {P : Type 0} (c : Chain P) : Chain P → Type 0 where
   same : c ≼ c
   grown : (b : Block P) {d : Chain P} → last d + 2 ≤ b .round → c ≼ d → c ≼ (b ∷ d)
 
--- one of two chains is an earlier form of the other
+-- one of two chains is a prefix of the other
 abbrev pub Comparable : {P : Type 0} → Chain P → Chain P → Type 0
 Comparable c d = (c ≼ d) ⊎ (d ≼ c)
+
+-- the block of number n, the oldest being number 1
+unfoldable pub blockAt : {P : Type 0} → Chain P → ℕ → Option (Block P)
+blockAt [] n = none
+blockAt (b ∷ c) n = cond (eqb n (suc (length c))) (some b) (blockAt c n)
 
 pub ≼-trans : {P : Type 0} {c d e : Chain P} → c ≼ d → d ≼ e → c ≼ e
 ≼-trans h same = h
 ≼-trans h (grown b l k) = grown b l (≼-trans h k)
 
-module _ {R : Rules} (Y : Lawful R) where
-  open Rules R using (P, known, committee)
-  open Lawful Y using (known-grow, committee-grow)
+≼-length : {P : Type 0} {c d : Chain P} → c ≼ d → length c ≤ length d
+≼-length same = omega arith
+≼-length (grown b l h) = omega (arith, ≼-length h)
 
-  pub known-stays : {c d : Chain P} {r : ℕ} → c ≼ d → known c r ≡ true → known d r ≡ true
-  known-stays same k = k
-  known-stays (grown b {d = d} l h) k = known-grow b d (omega arith) (known-stays h k)
+block-number : {P : Type 0} (c : Chain P) (n : ℕ) {b : Block P} → blockAt c n ≡ some b → n ≤ length c
+unfolding blockAt
+block-number [] n {b} h = absurd (Option·none-ne-some b h)
+block-number (a ∷ c) n {b} h = go (eqb n (suc (length c))) refl h (λ k. block-number c n k)
+  where
+    go : (t : Bool) → eqb n (suc (length c)) ≡ t → cond t (some a) (blockAt c n) ≡ some b → (blockAt c n ≡ some b → n ≤ length c) → n ≤ suc (length c)
+    go true e k f = omega (arith, eqb-true n (suc (length c)) e)
+    go false e k f = omega (arith, f k)
 
-  pub committee-stays : {c d : Chain P} {r : ℕ} → c ≼ d → known c r ≡ true → committee d r ≡ committee c r
-  committee-stays same k = refl
-  committee-stays (grown b {d = d} l h) k = committee-grow b d (omega arith) (known-stays h k) ∙ committee-stays h k
-
-  -- comparable chains tell the same committee
-  pub comparable-committee : {c d : Chain P} {r : ℕ} → Comparable c d → known c r ≡ true → known d r ≡ true → committee c r ≡ committee d r
-  comparable-committee (inl h) k l = sym (committee-stays h k)
-  comparable-committee (inr h) k l = committee-stays h l
-
--- two earlier forms of one chain are comparable
-pub ≼-comparable : {P : Type 0} {c d e : Chain P} → c ≼ e → d ≼ e → Comparable c d
-≼-comparable same h = inr h
-≼-comparable (grown b l h) same = inl (grown b l h)
-≼-comparable (grown b l h) (grown b′ l′ k) = ≼-comparable h k
+-- a block once made stays, with its number, its round and its certificates
+pub block-stays : {P : Type 0} {c d : Chain P} → c ≼ d → (n : ℕ) {b : Block P} → blockAt c n ≡ some b → blockAt d n ≡ some b
+unfolding blockAt
+block-stays same n h = h
+block-stays {c = c} (grown a {d = d} l k) n h =
+    let low : n ≤ length c = block-number c n h in
+    let long = ≼-length k in
+    rw (ne-eqb n (suc (length d)) (λ e. absurd (omega arith))) (block-stays k n h)

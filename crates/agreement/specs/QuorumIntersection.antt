@@ -5,8 +5,8 @@ use Prim.Native.Nat.{ℕ, _<_}
 use native.Mathlib.Omega.{arith}
 use Rattle.agreement.specs.Weights.{total, everyone}
 use Rattle.agreement.specs.Rules.{Rules}
-use Rattle.agreement.specs.Quorum.{Quorum, Outweighs, Tolerant}
 use Rattle.agreement.specs.Laws.{Lawful}
+use Rattle.agreement.specs.Quorum.{Quorum, Outweighs, Tolerant}
 use Rattle.agreement.specs.WeightLaws.{weigh-split, total-pos, Common, meet}
 
 module _ (R : Rules) where

@@ -2,41 +2,44 @@
 use mathlib.Core.Path.{_≡_, sym, ap, _∙_, subst}
 use mathlib.Core.Bool.{Bool, true, false, false≢true}
 use mathlib.Core.Option.{none, some, Option·some-injective, Option·none-ne-some}
-use mathlib.Core.List.{List, _∷_}
+use mathlib.Core.List.{List, _∷_, List·Memᴰ·head, List·Memᴰ·tail}
 use mathlib.Core.Logic.{_⊎_, inl, inr, _≢_}
 use Prim.Native.Nat.{ℕ, suc, _<_}
 use native.Mathlib.Omega.{arith}
 use Rattle.agreement.specs.Rules.{Rules}
+use Rattle.agreement.specs.Laws.{Lawful}
 use Rattle.agreement.specs.View.{View, Log, Among}
+use Rattle.agreement.specs.Places.{put, mark}
 use Rattle.agreement.specs.Invariants.{Signable, Signing}
 use Rattle.agreement.specs.Moves.{Move, other-call, propose, endorse, certify, accept, advance, commit}
+use Rattle.agreement.specs.PlaceLaws.{put-own, mark-own, mark-other}
 use Rattle.agreement.specs.Growth.{Grows, signable-grows}
 
 -- what was signed stays signed
 pub signed-stays : {R : Rules} {correct : ℕ → Bool} {G : Log R} {k : ℕ} {s t : View R} {l m : List (R .P)}
     → Move correct G k s l t m → (x : R .P) → Among x l → Among x m
 signed-stays other-call x h = h
-signed-stays (propose p e er f g) x h = inr h
-signed-stays (endorse p e n f d g t m) x h = inr h
-signed-stays (certify p d e a b) x h = h
-signed-stays (accept p d e a c b m) x h = h
+signed-stays (propose p ek er f g) x h = List·Memᴰ·tail h
+signed-stays (endorse p n e f g) x h = List·Memᴰ·tail h
+signed-stays (certify p e f b) x h = h
+signed-stays (accept p f c b) x h = h
 signed-stays advance x h = h
 signed-stays (commit c v e) x h = h
 
-module _ {R : Rules} {k : ℕ} (s : View R) (l : List (R .P)) (X : Signing s k l) where
+module _ {R : Rules} (Y : Lawful R) {k : ℕ} (s : View R) (l : List (R .P)) (X : Signing s k l) where
   open Rules R using (P, author, round)
 
   -- one more signature, at a place where there was none
   one-more : (p : P) → ((q : P) → Among q l → author q ≡ author p → round q ≡ round p → ⊥)
       → (x y : P) → Among x (p ∷ l) → Among y (p ∷ l) → author x ≡ author y → round x ≡ round y → x ≡ y
-  one-more p fresh x y (inl e) (inl f) ea er = e ∙ sym f
-  one-more p fresh x y (inl e) (inr h) ea er = absurd (fresh y h (sym ea ∙ ap author e) (sym er ∙ ap round e))
-  one-more p fresh x y (inr h) (inl f) ea er = absurd (fresh x h (ea ∙ ap author f) (er ∙ ap round f))
-  one-more p fresh x y (inr h) (inr i) ea er = X .one x y h i ea er
+  one-more p fresh x y (List·Memᴰ·head e) (List·Memᴰ·head f) ea er = e ∙ sym f
+  one-more p fresh x y (List·Memᴰ·head e) (List·Memᴰ·tail h) ea er = absurd (fresh y h (sym ea ∙ ap author e) (sym er ∙ ap round e))
+  one-more p fresh x y (List·Memᴰ·tail h) (List·Memᴰ·head f) ea er = absurd (fresh x h (ea ∙ ap author f) (er ∙ ap round f))
+  one-more p fresh x y (List·Memᴰ·tail h) (List·Memᴰ·tail i) ea er = X .nonequivocation x y h i ea er
 
   signable-more : {t : View R} → Grows s t → {p : P} → Signable s p → (x : P) → Among x (p ∷ l) → Signable t x
-  signable-more g d x (inl e) = signable-grows g (subst (λ (z : P). Signable s z) (sym e) d)
-  signable-more g d x (inr h) = signable-grows g (X .signable x h)
+  signable-more g d x (List·Memᴰ·head e) = signable-grows Y g (subst (λ (z : P). Signable s z) (sym e) d)
+  signable-more g d x (List·Memᴰ·tail h) = signable-grows Y g (X .signable x h)
 
   -- without a proposal, what one signed of one's own is of an earlier round
   own-older : s .proposal ≡ none → (q : P) → Among q l → author q ≡ k → round q < s .round
@@ -61,7 +64,7 @@ module _ {R : Rules} {k : ℕ} (s : View R) (l : List (R .P)) (X : Signing s k l
 
   module _ {t : View R} (g : Grows s t) where
     still-signable : (x : P) → Among x l → Signable t x
-    still-signable x h = signable-grows g (X .signable x h)
+    still-signable x h = signable-grows Y g (X .signable x h)
 
     -- another's place stays marked or held, if no mark is lost but where a certificate comes
     still-other : ((a r : ℕ) → s .endorsed a r ≡ true → (t .endorsed a r ≡ true) ⊎ ((q : P) × (t .dag a r ≡ some q)))
@@ -78,51 +81,62 @@ module _ {R : Rules} {k : ℕ} (s : View R) (l : List (R .P)) (X : Signing s k l
   signing-kept g other-call = X
   signing-kept g (propose p ek er none-yet d) =
       record {
-        one = one-more p (own-fresh ek er none-yet);
+        nonequivocation = one-more p (own-fresh ek er none-yet);
         signable = signable-more g d;
         own = own-now;
         other = other-now;
         proposed = λ x e.
             let i = Option·some-injective p x e in
-            (inl (sym i), ap author (sym i) ∙ ek, ap round (sym i) ∙ er);
+            (List·Memᴰ·head (sym i), ap author (sym i) ∙ ek, ap round (sym i) ∙ er);
       }
     where
       own-now : (x : P) → Among x (p ∷ l) → author x ≡ k → (round x < s .round) ⊎ ((round x ≡ s .round) × (some p ≡ some x))
-      own-now x (inl e) ea = inr (ap round e ∙ er, ap some (sym e))
-      own-now x (inr h) ea = inl (own-older none-yet x h ea)
+      own-now x (List·Memᴰ·head e) ea = inr (ap round e ∙ er, ap some (sym e))
+      own-now x (List·Memᴰ·tail h) ea = inl (own-older none-yet x h ea)
 
       other-now : (x : P) → Among x (p ∷ l) → author x ≢ k
           → (s .endorsed (author x) (round x) ≡ true) ⊎ ((q : P) × (s .dag (author x) (round x) ≡ some q))
-      other-now x (inl e) n = absurd (n (ap author e ∙ ek))
-      other-now x (inr h) n = X .other x h n
-  signing-kept g (endorse p e n f d b m more) =
+      other-now x (List·Memᴰ·head e) n = absurd (n (ap author e ∙ ek))
+      other-now x (List·Memᴰ·tail h) n = X .other x h n
+  signing-kept g (endorse p n e f b) =
       record {
-        one = one-more p (other-fresh n f d);
+        nonequivocation = one-more p (other-fresh n e f);
         signable = signable-more g b;
         own = own-now;
         other = other-now;
-        proposed = λ x i. let y = X .proposed x i in (inr (y .0), y .1, y .2);
+        proposed = λ x i. let y = X .proposed x i in (List·Memᴰ·tail (y .0), y .1, y .2);
       }
     where
       own-now : (x : P) → Among x (p ∷ l) → author x ≡ k → (round x < s .round) ⊎ ((round x ≡ s .round) × (s .proposal ≡ some x))
-      own-now x (inl e) ea = absurd (n (ap author (sym e) ∙ ea))
-      own-now x (inr h) ea = X .own x h ea
+      own-now x (List·Memᴰ·head i) ea = absurd (n (ap author (sym i) ∙ ea))
+      own-now x (List·Memᴰ·tail h) ea = X .own x h ea
+
+      kept : (a r : ℕ) → s .endorsed a r ≡ true → mark R true p (s .endorsed) a r ≡ true
+      kept a r h = go (mark-other R true p (s .endorsed) a r)
+        where
+          go : ((author p ≡ a) × (round p ≡ r)) ⊎ (mark R true p (s .endorsed) a r ≡ s .endorsed a r) → mark R true p (s .endorsed) a r ≡ true
+          go (inl i) = rw (i .0, i .1) at (mark-own R true p (s .endorsed))
+          go (inr i) = i ∙ h
 
       other-now : (x : P) → Among x (p ∷ l) → author x ≢ k
-          → (e (author x) (round x) ≡ true) ⊎ ((q : P) × (s .dag (author x) (round x) ≡ some q))
-      other-now x (inl i) n′ = inl (subst (λ (z : P). e (author z) (round z) ≡ true) (sym i) m)
-      other-now x (inr h) n′ = still-other g (λ a r i. inl (more a r i)) x h n′
-  signing-kept g (certify p d e a b) =
-      record { one = X .one; signable = still-signable g; own = X .own; other = still-other g (λ a r i. inl i); proposed = X .proposed }
-  signing-kept g (accept p d e a c b m) =
-      record { one = X .one; signable = still-signable g; own = X .own; other = still-other g (λ i r h. go (m i r h)); proposed = X .proposed }
+          → (mark R true p (s .endorsed) (author x) (round x) ≡ true) ⊎ ((q : P) × (s .dag (author x) (round x) ≡ some q))
+      other-now x (List·Memᴰ·head i) n′ = inl (subst (λ (z : P). mark R true p (s .endorsed) (author z) (round z) ≡ true) (sym i) (mark-own R true p (s .endorsed)))
+      other-now x (List·Memᴰ·tail h) n′ = still-other g (λ a r i. inl (kept a r i)) x h n′
+  signing-kept g (certify p e f b) =
+      record { nonequivocation = X .nonequivocation; signable = still-signable g; own = X .own; other = still-other g (λ a r i. inl i); proposed = X .proposed }
+  signing-kept g (accept p f c b) =
+      record { nonequivocation = X .nonequivocation; signable = still-signable g; own = X .own; other = still-other g cleared; proposed = X .proposed }
     where
-      go : {i r : ℕ} → (e i r ≡ true) ⊎ ((author p ≡ i) × (round p ≡ r)) → (e i r ≡ true) ⊎ ((q : P) × (d i r ≡ some q))
-      go (inl h) = inl h
-      go (inr h) = inr (p, rw (h .0, h .1) at (a .new))
+      cleared : (a r : ℕ) → s .endorsed a r ≡ true → (mark R false p (s .endorsed) a r ≡ true) ⊎ ((q : P) × (put R p (s .dag) a r ≡ some q))
+      cleared a r h = go (mark-other R false p (s .endorsed) a r)
+        where
+          go : ((author p ≡ a) × (round p ≡ r)) ⊎ (mark R false p (s .endorsed) a r ≡ s .endorsed a r)
+              → (mark R false p (s .endorsed) a r ≡ true) ⊎ ((q : P) × (put R p (s .dag) a r ≡ some q))
+          go (inl i) = inr (p, rw (i .0, i .1) at (put-own R p (s .dag)))
+          go (inr i) = inl (i ∙ h)
   signing-kept g advance =
       record {
-        one = X .one;
+        nonequivocation = X .nonequivocation;
         signable = still-signable g;
         own = λ x h ea. inl (go x (X .own x h ea));
         other = still-other g (λ a r i. inl i);
@@ -133,4 +147,4 @@ module _ {R : Rules} {k : ℕ} (s : View R) (l : List (R .P)) (X : Signing s k l
       go x (inl h) = omega arith
       go x (inr h) = omega arith
   signing-kept g (commit c v e) =
-      record { one = X .one; signable = still-signable g; own = X .own; other = still-other g (λ a r i. inl i); proposed = X .proposed }
+      record { nonequivocation = X .nonequivocation; signable = still-signable g; own = X .own; other = still-other g (λ a r i. inl i); proposed = X .proposed }

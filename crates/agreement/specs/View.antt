@@ -2,8 +2,7 @@
 use mathlib.Core.Path.{_≡_}
 use mathlib.Core.Bool.{Bool, true}
 use mathlib.Core.Option.{Option}
-use mathlib.Core.List.{List, [], _∷_}
-use mathlib.Core.Logic.{_⊎_}
+use mathlib.Core.List.{List, List·Memᴰ}
 use Prim.Native.Nat.{ℕ}
 use Rattle.agreement.specs.Rules.{Chain, Rules}
 
@@ -28,5 +27,4 @@ Log R = ℕ → List (R .P)
 
 -- p is in the list
 abbrev pub Among : {A : Type 0} → A → List A → Type 0
-Among p [] = ⊥
-Among p (q ∷ l) = (p ≡ q) ⊎ Among p l
+Among p l = List·Memᴰ p l
