@@ -4,6 +4,7 @@ use mathlib.Core.Bool.{Bool, true, false, not, _||_, true≢false}
 use Prim.Native.Nat.{ℕ, _≤_, _<_}
 use lib.Dec.{ltb}
 use borrow.Author.Tests.{ltb-true, ltb-false}
+use Rattle.base.specs.Bools.{neither}
 use Rattle.base.specs.Folds.{anyTo, tab}
 use Rattle.base.specs.FoldLaws.{getD-tab, tab-same}
 use Rattle.base.specs.TestLaws.{any-true, any-false}
@@ -13,11 +14,6 @@ use Rattle.sheet.specs.declared.Sheet.{Sheet}
 use Rattle.sheet.specs.declared.Settings.{Settings}
 use Rattle.sheet.specs.Sheets.{weightAt, filled}
 use Rattle.sheet.specs.Ranges.{weightIn, outside, outOfRange, weightless, settingChecks}
-
--- both parts of a choice that fails
-neither : (a b : Bool) → (a || b) ≡ false → (a ≡ false) × (b ≡ false)
-neither true b h = absurd (true≢false h)
-neither false b h = (refl, h)
 
 inside : (x a b : ℕ) → outside x a b ≡ false → (a ≤ x) × (x ≤ b)
 unfolding outside
