@@ -1,0 +1,6 @@
+pub mod Table
+pub mod TableLaws
+pub mod Writes
+pub mod WriteLaws
+pub mod PutLaws
+pub mod Scan
