@@ -3,4 +3,5 @@ pub mod TableLaws
 pub mod Writes
 pub mod WriteLaws
 pub mod PutLaws
+pub mod EndorseLaws
 pub mod Scan
