@@ -4,4 +4,5 @@ pub mod Writes
 pub mod WriteLaws
 pub mod PutLaws
 pub mod EndorseLaws
+pub mod MarkLaws
 pub mod Scan
