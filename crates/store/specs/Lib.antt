@@ -6,3 +6,5 @@ pub mod PutLaws
 pub mod EndorseLaws
 pub mod MarkLaws
 pub mod Scan
+pub mod ScanLaws
+pub mod FitLaws

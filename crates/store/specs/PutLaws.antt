@@ -13,7 +13,7 @@ use Rattle.base.specs.Sets.{add}
 use Rattle.base.specs.Folds.{tab}
 use Rattle.base.specs.FoldLaws.{tab-same, length-tab, getD-tab}
 use Rattle.terms.specs.declared.Transaction.{Transaction}
-use Rattle.terms.specs.Transactions.{readTransaction, noTransaction}
+use Rattle.terms.specs.Transactions.{kindOf, numberOf, amountOf, readTransaction, noTransaction}
 use Rattle.terms.specs.Proposals.{Content}
 use Rattle.terms.specs.ProposalLaws.{read-back}
 use Rattle.store.specs.Table.{used, Within, heldSet, endorsedSet, blockRound, heldAt, endorsedAt, word, previousAt, countAt, markAt, transactionAt, contentAt, certificateAt}
@@ -27,11 +27,11 @@ length-record : (p : Content) → length (recordOf p) ≡ 16
 unfolding recordOf putTransaction
 length-record p = refl
 
-record-previous : (p : Content) → getD (recordOf p) 0 0 ≡ p .previous
+pub record-previous : (p : Content) → getD (recordOf p) 0 0 ≡ p .previous
 unfolding recordOf putTransaction
 record-previous p = refl
 
-record-count : (p : Content) → getD (recordOf p) 1 0 ≡ length (p .transactions)
+pub record-count : (p : Content) → getD (recordOf p) 1 0 ≡ length (p .transactions)
 unfolding recordOf putTransaction
 record-count p = refl
 
@@ -39,13 +39,14 @@ record-mark : (p : Content) → getD (recordOf p) 2 0 ≡ 0
 unfolding recordOf putTransaction
 record-mark p = refl
 
-record-nth : (p : Content) (k : ℕ) → k < 4 → readTransaction (getD (recordOf p) (4 + k * 3) 0) (getD (recordOf p) (5 + k * 3) 0) (getD (recordOf p) (6 + k * 3) 0) ≡ nthOf p k
+record-triple : (p : Content) (k : ℕ) → k < 4
+    → (getD (recordOf p) (4 + k * 3) 0 ≡ kindOf (nthOf p k)) × (getD (recordOf p) (5 + k * 3) 0 ≡ numberOf (nthOf p k)) × (getD (recordOf p) (6 + k * 3) 0 ≡ amountOf (nthOf p k))
 unfolding recordOf putTransaction
-record-nth p zero h = read-back (nthOf p 0)
-record-nth p (suc zero) h = read-back (nthOf p 1)
-record-nth p (suc (suc zero)) h = read-back (nthOf p 2)
-record-nth p (suc (suc (suc zero))) h = read-back (nthOf p 3)
-record-nth p (suc (suc (suc (suc k)))) h = absurd (omega arith)
+record-triple p zero h = (refl, refl, refl)
+record-triple p (suc zero) h = (refl, refl, refl)
+record-triple p (suc (suc zero)) h = (refl, refl, refl)
+record-triple p (suc (suc (suc zero))) h = (refl, refl, refl)
+record-triple p (suc (suc (suc (suc k)))) h = absurd (omega arith)
 
 -- a list is that of its places
 pub tab-nth : (p : Content) → tab (nthOf p) (length (p .transactions)) ≡ p .transactions
@@ -75,6 +76,14 @@ module _ (t : List ℕ) (p : Content) (at : Within t (p .author) (p .round)) whe
   pub word-elsewhere : (m r : ℕ) → m < 16 → samePlace m r (p .author) (p .round) ≡ false → (k : ℕ) → k < 16 → word (putCertificate t p) m r k ≡ word t m r k
   unfolding putCertificate
   word-elsewhere m r h n k l = word-kept t (p .author) (p .round) (recordOf p) at (length-record p) m r k h l (other-place m r (p .author) (p .round) n)
+
+  -- what is made of the three words of transaction k
+  pub triple-put : {A : Type 0} (f : ℕ → ℕ → ℕ → A) (k : ℕ) → k < 4
+      → f (word (putCertificate t p) (p .author) (p .round) (4 + k * 3)) (word (putCertificate t p) (p .author) (p .round) (5 + k * 3)) (word (putCertificate t p) (p .author) (p .round) (6 + k * 3))
+      ≡ f (kindOf (nthOf p k)) (numberOf (nthOf p k)) (amountOf (nthOf p k))
+  triple-put f k h =
+      let z = record-triple p k h in
+      rw (word-at-place (4 + k * 3) (omega arith), word-at-place (5 + k * 3) (omega arith), word-at-place (6 + k * 3) (omega arith), z .0, z .1, z .2) refl
 
   pub held-set-put-same : heldSet (putCertificate t p) (p .round) ≡ add (heldSet t (p .round)) (p .author)
   unfolding putCertificate
@@ -117,16 +126,23 @@ module _ (t : List ℕ) (p : Content) (at : Within t (p .author) (p .round)) whe
   content-kept m r h n = content-same t (putCertificate t p) m r (λ k l _. word-elsewhere m r h n k l)
 
   module _ (few : length (p .transactions) ≤ 4) (small : p .previous < 65536) where
+    pub previous-put : previousAt (putCertificate t p) (p .author) (p .round) ≡ p .previous
+    unfolding previousAt
+    previous-put = rw (word-at-place 0 (omega arith), record-previous p) (omega arith)
+
+    pub count-put : countAt (putCertificate t p) (p .author) (p .round) ≡ length (p .transactions)
+    unfolding countAt
+    count-put = rw (word-at-place 1 (omega arith), record-count p, le-ltb 4 (length (p .transactions)) few) refl
+
     -- what is read back is what was put
     pub content-put : contentAt (putCertificate t p) (p .author) (p .round) ≡ p
-    unfolding contentAt previousAt countAt transactionAt
+    unfolding contentAt transactionAt
     content-put =
-        let q : p .previous % 65536 ≡ p .previous = omega arith in
-        let f : ℕ → Transaction = λ k. readTransaction (word (putCertificate t p) (p .author) (p .round) (4 + k * 3)) (word (putCertificate t p) (p .author) (p .round) (5 + k * 3)) (word (putCertificate t p) (p .author) (p .round) (6 + k * 3)) in
+        let u = putCertificate t p in
+        let f : ℕ → Transaction = λ k. readTransaction (word u (p .author) (p .round) (4 + k * 3)) (word u (p .author) (p .round) (5 + k * 3)) (word u (p .author) (p .round) (6 + k * 3)) in
         let e : tab f (length (p .transactions)) ≡ p .transactions =
-        tab-same f (nthOf p) (length (p .transactions)) (λ k h. rw (word-at-place (4 + k * 3) (omega arith), word-at-place (5 + k * 3) (omega arith), word-at-place (6 + k * 3) (omega arith)) (record-nth p k (omega arith)))
-        ∙ tab-nth p in
-        rw (word-at-place 0 (omega arith), word-at-place 1 (omega arith), record-previous p, record-count p, le-ltb 4 (length (p .transactions)) few, q, e) refl
+        tab-same f (nthOf p) (length (p .transactions)) (λ k h. triple-put readTransaction k (omega arith) ∙ read-back (nthOf p k)) ∙ tab-nth p in
+        rw (previous-put, count-put, e) refl
 
     -- the certificates held after
     pub certificate-put : (m r : ℕ) → certificateAt (putCertificate t p) m r ≡ cond (samePlace m r (p .author) (p .round)) (some p) (certificateAt t m r)
