@@ -8,3 +8,4 @@ pub mod MarkLaws
 pub mod Scan
 pub mod ScanLaws
 pub mod FitLaws
+pub mod ClearLaws

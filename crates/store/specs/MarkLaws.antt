@@ -81,10 +81,10 @@ module _ {n : ℕ} {t u : List ℕ} (o : OnlyMarks n t u) where
   pub beyond-marked : drop n u ≡ drop n t
   beyond-marked = same-beyond t u n (o .size) (o .beyond)
 
-  -- a row beyond keeps its marks
-  pub mark-beyond : (m r : ℕ) → n ≤ r * 272 → markAt u m r ≡ markAt t m r
-  unfolding markAt word
-  mark-beyond m r h = o .beyond (r * 272 + m * 16 + 16 + 2) (omega arith)
+-- the rows above c keep their marks
+pub mark-beyond : (c : ℕ) {t u : List ℕ} → OnlyMarks (used c) t u → (m r : ℕ) → c < r → markAt u m r ≡ markAt t m r
+unfolding markAt word
+mark-beyond c o m r h = o .beyond (r * 272 + m * 16 + 16 + 2) (omega arith)
 
 -- ---- marks
 
