@@ -12,7 +12,7 @@ use lib.Seq.{getD-set-same, getD-set-other}
 use borrow.Author.Tests.{eq-eqb, ne-eqb}
 use Rattle.base.specs.Sets.{isIn, add, del}
 use Rattle.base.specs.SetLaws.{add-lt, del-zero, del-suc, in-del}
-use Rattle.store.specs.Table.{used, Within, heldSet, endorsedSet, blockRound, heldAt, endorsedAt, word, markAt, contentAt, certificateAt}
+use Rattle.store.specs.Table.{used, Row, Within, heldSet, endorsedSet, blockRound, heldAt, endorsedAt, word, markAt, contentAt, certificateAt}
 use Rattle.store.specs.Writes.{setEndorsed, clearEndorsed}
 use Rattle.store.specs.WriteLaws.{samePlace, eqb-flip, in-added, content-same, certificate-same, same-beyond}
 
@@ -79,14 +79,18 @@ module _ (t : List ℕ) (a q : ℕ) where
   unfolding clearEndorsed
   clear-endorsed = only-endorsed t q (del (endorsedSet t q) a)
 
+endorsed-now : (t : List ℕ) (q x : ℕ) → Row t q → endorsedSet (set t (q * 272 + 1) x) q ≡ x
+unfolding endorsedSet
+endorsed-now t q x h = getD-set-same t (q * 272 + 1) x 0 (omega arith)
+
 module _ (t : List ℕ) (a q : ℕ) (at : Within t a q) where
   pub endorsed-set-same : endorsedSet (setEndorsed t a q) q ≡ add (endorsedSet t q) a
-  unfolding setEndorsed endorsedSet
-  endorsed-set-same = getD-set-same t (q * 272 + 1) (add (endorsedSet t q) a) 0 (omega arith)
+  unfolding setEndorsed
+  endorsed-set-same = endorsed-now t q (add (endorsedSet t q) a) (at .row)
 
   pub endorsed-clear-same : endorsedSet (clearEndorsed t a q) q ≡ del (endorsedSet t q) a
-  unfolding clearEndorsed endorsedSet
-  endorsed-clear-same = getD-set-same t (q * 272 + 1) (del (endorsedSet t q) a) 0 (omega arith)
+  unfolding clearEndorsed
+  endorsed-clear-same = endorsed-now t q (del (endorsedSet t q) a) (at .row)
 
   -- the places marked after
   pub endorsed-set : (m r : ℕ) → endorsedAt (setEndorsed t a q) m r ≡ (samePlace m r a q || endorsedAt t m r)
