@@ -17,7 +17,7 @@ use Rattle.agreement.specs.DagLaws.{vote-by, at-place}
 use Rattle.agreement.specs.NonEquivocation.{committee-agreement, dag-nonequivocation, Signer, signer}
 
 module _ {R : Rules} {correct : ℕ → Bool} {w : World R} {G : Log R} (S : Sound correct w G) where
-  open Rules R using (size, P, author, round, names, known, committee)
+  open Rules R using (size, P, author, round, names, committee)
 
   -- above round 1, what a correct member holds names a quorum of the round before, as some correct member knows it
   pub record DagPrevious (p : P) : Type 0 where

@@ -9,7 +9,7 @@ use Rattle.agreement.specs.Dag.{vote}
 use Rattle.agreement.specs.Quorum.{Outweighs}
 
 module _ {R : Rules} (s : View R) where
-  open Rules R using (size, P, author, round, bound, known, committee, leader)
+  open Rules R using (P, author, round, committee, leader)
 
   -- the member knows the committee of round r, and q is what it holds of that round's leader
   pub record Anchor (r : ℕ) (q : P) : Type 0 where

@@ -1,5 +1,6 @@
--- Laws of sums over the numbers below a bound: of two sums, of one part, and of a smaller sum.
-use mathlib.Core.Path.{_≡_, refl}
+-- Laws that have nothing to do with members: sums over the numbers below a bound, and options.
+use mathlib.Core.Path.{_≡_, refl, sym}
+use mathlib.Core.Option.{Option, none, some}
 use native.Mathlib.Decide.{ℕ-discrete, decLt}
 use native.Mathlib.Omega.{arith}
 use Prim.Native.Nat.{ℕ, zero, suc, _+_, _<_, _≤_}
@@ -38,3 +39,9 @@ sum-mono f g n h = go (decLt (sumTo g n) (sumTo f n))
     go : Dec (sumTo g n < sumTo f n) → sumTo f n ≤ sumTo g n
     go (yes l) = let x = sum-less g f n l in absurd (omega (arith, h (x .0) (x .1), x .2))
     go (no l) = omega arith
+
+-- two options with the same content
+pub option-ext : {A : Type 0} (x y : Option A) → ((a : A) → x ≡ some a → y ≡ some a) → ((a : A) → y ≡ some a → x ≡ some a) → x ≡ y
+option-ext none none f g = refl
+option-ext none (some a) f g = g a refl
+option-ext (some a) y f g = sym (f a refl)

@@ -101,10 +101,9 @@ module _ {R : Rules} (Y : Lawful R) {correct : ℕ → Bool} {G : Log R} {s t : 
   back-again : {p q : P} → Held s p → Reach t p q → Reach s p q × Held s q
   back-again h l = carry T (alike-back Y g) h l
 
-  link-grows : {b : Block P} {c : Chain P} → Link s b c → Link t b c
-  link-grows {b} {c} l =
+  link-grows : {b : Block P} {c : Chain P} {x : P} → Link s b c x → Link t b c x
+  link-grows {x = top} l =
       record {
-        anchor = l .anchor;
         sees = anchor-grows Y g (l .sees);
         spaced = l .spaced;
         gap = λ r q h k x m.
@@ -118,7 +117,7 @@ module _ {R : Rules} (Y : Lawful R) {correct : ℕ → Bool} {G : Log R} {s t : 
         );
       }
     where
-      held : Held s (l .anchor)
+      held : Held s top
       held = at-place T (l .sees .held)
 
   reaches-last-grows : {x : P} (c : Chain P) → Held s x → ReachesLast s c x → ReachesLast t c x
@@ -126,9 +125,8 @@ module _ {R : Rules} (Y : Lawful R) {correct : ℕ → Bool} {G : Log R} {s t : 
   reaches-last-grows (b ∷ c) h p = (p .0, anchor-grows Y g (p .1), forth h (p .2))
 
   linked-grows : (c : Chain P) → Linked s c → Linked t c
-  unfolding link-grows
   linked-grows [] l = tt
-  linked-grows (b ∷ c) l = (link-grows (l .0), reaches-last-grows c (at-place T (l .0 .sees .held)) (l .1), linked-grows c (l .2))
+  linked-grows (b ∷ c) l = (l .0, link-grows (l .1), reaches-last-grows c (at-place T (l .1 .sees .held)) (l .2), linked-grows c (l .3))
 
   pub ordering-grows : Linked s (t .chain) → LastElected s (t .chain) → Ordering t
   ordering-grows l e = record { linked = linked-grows (t .chain) l; elected = last-elected-grows Y g (t .chain) e }

@@ -14,7 +14,7 @@ use Rattle.agreement.specs.Links.{Linked, LastElected}
 use Rattle.agreement.specs.Prefixes.{Comparable}
 
 module _ {R : Rules} (s : View R) where
-  open Rules R using (P, author, round, names, known, committee)
+  open Rules R using (P, author, round, names, committee)
 
   -- whom p names is a quorum of the round before, with somebody in it
   pub record PreviousQuorum (p : P) : Type 0 where
@@ -46,7 +46,7 @@ module _ {R : Rules} (s : View R) where
     pub elected : LastElected s (s .chain)
 
 module _ {R : Rules} (correct : ℕ → Bool) (G : Log R) where
-  open Rules R using (P, author, round, known, committee)
+  open Rules R using (P, author, round, committee)
 
   -- a quorum with the author in it stands behind p, and its correct members signed p
   pub record Certified (s : View R) (p : P) : Type 0 where

@@ -49,8 +49,8 @@ pub mod Engines
 pub mod Histories
 pub mod HistoryLaws
 pub mod Commits
+pub mod BlockLaws
 pub mod CommitLaws
-pub mod CommitMoves
 pub mod Marks
 pub mod MarkLaws
 pub mod Listing

@@ -24,13 +24,12 @@ module _ {R : Rules} (s : View R) where
     pub reached : Reach s x p
     pub unused : ¬ InChain R c p
 
-  -- the block b may stand on the chain c: no anchor in between is in its anchor's history, and it holds what of that history c has not
-  pub record Link (b : Block P) (c : Chain P) : Type 0 where
-    pub anchor : P
-    pub sees : Anchor s (b .round) anchor
+  -- the block b of the anchor x may stand on the chain c: no anchor in between is in the history of x, and b holds what of that history c has not
+  pub record Link (b : Block P) (c : Chain P) (x : P) : Type 0 where
+    pub sees : Anchor s (b .round) x
     pub spaced : last c + 2 ≤ b .round
-    pub gap : (r : ℕ) (q : P) → last c < r → r < b .round → Anchor s r q → ¬ Reach s anchor q
-    pub content : (a r : ℕ) (p : P) → (b .holds a r ≡ some p) ↔ Uncommitted c anchor a r p
+    pub gap : (r : ℕ) (q : P) → last c < r → r < b .round → Anchor s r q → ¬ Reach s x q
+    pub content : (a r : ℕ) (p : P) → (b .holds a r ≡ some p) ↔ Uncommitted c x a r p
 
   -- the anchor of the newest block of c, if any, is in the history of x
   abbrev pub ReachesLast : Chain P → P → Type 0
@@ -39,7 +38,7 @@ module _ {R : Rules} (s : View R) where
 
   abbrev pub Linked : Chain P → Type 0
   Linked [] = Unit {0}
-  Linked (b ∷ c) = (l : Link b c) × ReachesLast c (l .anchor) × Linked c
+  Linked (b ∷ c) = (x : P) × Link b c x × ReachesLast c x × Linked c
 
   -- the anchor of the newest block, if any, has the votes
   abbrev pub LastElected : Chain P → Type 0

@@ -9,6 +9,7 @@ use native.Mathlib.Omega.{arith}
 use lib.Dec.{eqb}
 use borrow.Author.Tests.{eqb-true, eq-eqb, ne-eqb}
 use lib.ListN.{length}
+use Rattle.base.specs.Bools.{cond-same}
 use Rattle.agreement.specs.Rules.{Chain, last, Rules}
 use Rattle.agreement.specs.View.{View}
 use Rattle.agreement.specs.Dag.{isHeld, Held, Placed}
@@ -42,6 +43,11 @@ same-certificates {P} d e m (r ∷ l) f = ap₂ _∷_ (λ i. record { round = r;
 
 module _ {R : Rules} (s : View R) where
   open Rules R using (P, round)
+
+  -- every certificate of the list is held
+  abbrev pub AllHeld : List P → Type 0
+  AllHeld [] = Unit {0}
+  AllHeld (x ∷ l) = Held s x × AllHeld l
 
   -- a place is used by a chain if its mark is among the chain's numbers
   used-mark : (m : ℕ → ℕ → ℕ) (l : List ℕ) (a q : ℕ) → isHeld (s .dag a q) ≡ true → m a q ≤ length l
@@ -81,17 +87,12 @@ module _ {R : Rules} (s : View R) where
         cases false true e = rw (ne-eqb (m a q) (suc (length l)) (omega (arith, fits .range a q))) refl
         cases false false e = rw (ne-eqb (m a q) (suc (length l)) (omega (arith, fits .range a q))) refl
 
-        nothing : (b c : Bool) → _≡_ {A = Option P} (cond b none none) (cond c none none)
-        nothing true true = refl
-        nothing true false = refl
-        nothing false true = refl
-        nothing false false = refl
-
         held : (o : Option P) → s .dag a q ≡ o
             → cond (eqb (cond (eqb (m a q) 0 && inHistory s x q a) (suc (length l)) (m a q)) (suc (length l))) (s .dag a q) none
             ≡ cond (inHistory s x q a && not (used (chainOf (s .dag) m l) a q)) (s .dag a q) none
         held none e =
-            rw e (nothing (eqb (cond (eqb (m a q) 0 && inHistory s x q a) (suc (length l)) (m a q)) (suc (length l))) (inHistory s x q a && not (used (chainOf (s .dag) m l) a q)))
+            rw e (cond-same (eqb (cond (eqb (m a q) 0 && inHistory s x q a) (suc (length l)) (m a q)) (suc (length l))) none
+            ∙ sym (cond-same (inHistory s x q a && not (used (chainOf (s .dag) m l) a q)) none))
         held (some p) e = rw (used-mark m l a q (rw e refl) (fits .range a q)) (cases (eqb (m a q) 0) (inHistory s x q a) refl)
 
     -- marking one more block adds that block to the chain
@@ -102,10 +103,6 @@ module _ {R : Rules} (s : View R) where
 module _ {R : Rules} {s : View R} (X : Placed s) where
   open Rules R using (P, author, round, committee, leader)
 
-  abbrev pub AllHeld : List P → Type 0
-  AllHeld [] = Unit {0}
-  AllHeld (x ∷ l) = Held s x × AllHeld l
-
   -- the anchors that a commit takes are held
   pub anchor-held : (r : ℕ) {q : P} → anchorAt s r ≡ some q → Held s q
   unfolding anchorAt
@@ -115,16 +112,16 @@ module _ {R : Rules} {s : View R} (X : Placed s) where
       go none e = absurd (Option·none-ne-some q e)
       go (some a) e = on-place X e
 
-  pub taken-held : (n : ℕ) (x : P) → AllHeld (taken s n x)
+  pub taken-held : (n : ℕ) (x : P) → AllHeld s (taken s n x)
   unfolding taken
   taken-held zero x = tt
   taken-held (suc n) x = go (anchorAt s (last (s .chain) + suc n)) refl (taken-held n)
     where
-      test : (q : P) → Held s q → (b : Bool) → ((y : P) → AllHeld (taken s n y)) → AllHeld (cond b (q ∷ taken s n q) (taken s n x))
+      test : (q : P) → Held s q → (b : Bool) → ((y : P) → AllHeld s (taken s n y)) → AllHeld s (cond b (q ∷ taken s n q) (taken s n x))
       test q h true f = (h, f q)
       test q h false f = f x
 
-      go : (o : Option P) → anchorAt s (last (s .chain) + suc n) ≡ o → ((y : P) → AllHeld (taken s n y)) → AllHeld (choose s x (λ y. taken s n y) o)
+      go : (o : Option P) → anchorAt s (last (s .chain) + suc n) ≡ o → ((y : P) → AllHeld s (taken s n y)) → AllHeld s (choose s x (λ y. taken s n y) o)
       go none e f = f x
       go (some q) e f = test q (anchor-held (last (s .chain) + suc n) e) (inHistory s x (round q) (author q)) f
 
@@ -142,13 +139,14 @@ module _ {R : Rules} {s : View R} (X : Placed s) where
       only a q false i e h = f .only-held a q h
 
   module _ (m : ℕ → ℕ → ℕ) (rs : List ℕ) (fits : Fits s m (length rs)) where
-    pub fits-commit : (l : List P) → AllHeld l → Fits s (marksOf s m rs l) (length (roundsOf R rs l))
+    -- marks fit after a commit where they fitted before
+    pub fits-commit : (l : List P) → AllHeld s l → Fits s (marksOf s m rs l) (length (roundsOf R rs l))
     unfolding marksOf roundsOf
     fits-commit [] h = fits
     fits-commit (x ∷ l) h = fits-more x (marksOf s m rs l) (length (roundsOf R rs l)) (h .0) (fits-commit l (h .1))
 
     -- marking the blocks of a commit makes the chain that the commit makes
-    pub marks-commit : s .chain ≡ chainOf (s .dag) m rs → (l : List P) → AllHeld l → chainOf (s .dag) (marksOf s m rs l) (roundsOf R rs l) ≡ blocksOf s l
+    pub marks-commit : s .chain ≡ chainOf (s .dag) m rs → (l : List P) → AllHeld s l → chainOf (s .dag) (marksOf s m rs l) (roundsOf R rs l) ≡ blocksOf s l
     unfolding marksOf roundsOf blocksOf
     marks-commit e [] h = sym e
     marks-commit e (x ∷ l) h =

@@ -36,8 +36,8 @@ module _ {R : Rules} (s : View R) where
 
   -- the chains that a commit may make; that the first new block's anchor reaches the last old one is not asked, it follows from the votes
   pub data Extension : Chain P → Type 0 where
-    first-block : {b : Block P} → Link s b (s .chain) → Extension (b ∷ s .chain)
-    next-block : {b : Block P} {c : Chain P} (l : Link s b c) → ReachesLast s c (l .anchor) → Extension c → Extension (b ∷ c)
+    first-block : {b : Block P} {x : P} → Link s b (s .chain) x → Extension (b ∷ s .chain)
+    next-block : {b : Block P} {c : Chain P} {x : P} → Link s b c x → ReachesLast s c x → Extension c → Extension (b ∷ c)
 
 module _ {R : Rules} (correct : ℕ → Bool) (G : Log R) (k : ℕ) (s : View R) (l : List (R .P)) where
   open Rules R using (P, author, round)

@@ -14,7 +14,7 @@ use Rattle.agreement.specs.KnownCommittees.{comparable-committee}
 use Rattle.agreement.specs.DagLaws.{at-place}
 
 module _ {R : Rules} {correct : ℕ → Bool} {w : World R} {G : Log R} (S : Sound correct w G) where
-  open Rules R using (size, P, author, round, known, committee)
+  open Rules R using (size, P, author, round, committee)
 
   -- correct members who know a round know the same committee
   pub committee-agreement : {i j r : ℕ} → correct i ≡ true → correct j ≡ true → Knows (w i) r → Knows (w j) r

@@ -63,7 +63,7 @@ module _ {R : Rules} {correct : ℕ → Bool} {w : World R} {G : Log R} (S : Sou
       }
 
   -- the votes of the last block put its anchor into the history of the next
-  reaches-elected : {b : Block P} (c : Chain P) → LastElected (w k) c → (l : Link (w k) b c) → ReachesLast (w k) c (l .anchor)
+  reaches-elected : {b : Block P} (c : Chain P) → LastElected (w k) c → {x : P} → Link (w k) b c x → ReachesLast (w k) c x
   reaches-elected [] e l = tt
   reaches-elected (d ∷ c) e l =
       let x = mine .storing in
@@ -72,8 +72,8 @@ module _ {R : Rules} {correct : ℕ → Bool} {w : World R} {G : Log R} (S : Sou
       (e .0, e .1, anchor-path S ck (at-place x low) (e .2) ck (at-place x high) (omega (arith, x .place low .1, x .place high .1, l .spaced)))
 
   extension-linked : {c : Chain P} → Extension (w k) c → Linked (w k) c
-  extension-linked (first-block l) = (l, reaches-elected ((w k) .chain) (mine .ordering .elected) l, mine .ordering .linked)
-  extension-linked (next-block l p x) = (l, p, extension-linked x)
+  extension-linked (first-block {x = x} l) = (x, l, reaches-elected ((w k) .chain) (mine .ordering .elected) l, mine .ordering .linked)
+  extension-linked (next-block {x = x} l p e) = (x, l, p, extension-linked e)
 
   -- the chain after a move is linked, with an elected top, already in the world before it
   pub new-chain : {t : View R} {m : List P} → Move correct G k (w k) (G k) t m → Linked (w k) (t .chain) × LastElected (w k) (t .chain)

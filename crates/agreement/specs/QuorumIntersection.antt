@@ -17,7 +17,7 @@ module _ (R : Rules) where
   quorum-pos {w} {S} {i} q h = total-pos size w (q .inside i h) (q .weighs i h)
 
 module _ {R : Rules} (Y : Lawful R) where
-  open Rules R using (size, bound)
+  open Rules R using (size)
   open Lawful Y using (bound-law)
 
   -- two quorums share a correct member
@@ -29,7 +29,7 @@ module _ {R : Rules} (Y : Lawful R) where
   quorum-correct t h q = quorums-meet t h q q
 
 module _ (R : Rules) where
-  open Rules R using (size, bound)
+  open Rules R using (size)
 
   -- votes above the bound meet every quorum
   pub voters-meet : {w : ℕ → ℕ} {S T : ℕ → Bool} → Quorum R w S → Outweighs R w T → Common size S T everyone
