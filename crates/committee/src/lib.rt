@@ -116,7 +116,7 @@ pub fn is_quorum(w: &[u64; 16], set: u32) -> bool
 
 // Twice a weight in thousandths of n, before the division, with n more: so halves go upward.
 fn numerator(x: Weight, n: Weight) -> Weight
-    requires { ⌜ (x .0 ≤ n .0) × (n .0 ≤ 562949953421312) ⌝ }
+    requires { ⌜ (0 < n .0) × (x .0 ≤ n .0) × (n .0 ≤ 562949953421312) ⌝ }
     ensures { λ v. ⌜ v .0 ≡ 2000 * x .0 + n .0 ⌝ }
 {
     Weight(2000 * x.0 + n.0)

@@ -6,5 +6,6 @@ pub mod SpanLaws
 pub mod Readable
 pub mod ReadableLaws
 pub mod BoundLaws
+pub mod TotalBound
 pub mod Fill
 pub mod FillLaws

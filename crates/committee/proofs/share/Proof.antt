@@ -22,7 +22,7 @@ element-copy-out-result : tie.Need-element-copy-out-result
 element-copy-out-result c = search needs
 
 numerator-requires : tie.Need-numerator-requires
-numerator-requires c κs = let a = c .before .before .before .args in let h = sum-at (weightIn (a .w .now)) 16 (a .m .0) (omega arith) in (omega (arith, c .before .before .total-weight .ensures), omega (arith, c .before .before .total-weight .ensures))
+numerator-requires c κs = let a = c .before .before .before .args in let h = sum-at (weightIn (a .w .now)) 16 (a .m .0) (omega arith) in let e = c .before .before .total-weight .ensures in (omega arith, omega arith, omega arith)
 
 mul-result-2 : tie.Need-mul-result-2
 mul-result-2 c = search needs
