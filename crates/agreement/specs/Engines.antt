@@ -128,9 +128,9 @@ module _ {R : Rules} {correct : ℕ → Bool} (E : Engine R correct) where
       engines-never-fork l h = engines-sound l h .agree
 
       -- and whoever knows a round knows the same committee
-      pub engines-committees : (l : List Entry) → Legal l → {i j r : ℕ} → correct i ≡ true → correct j ≡ true → Knows (views l i) r → Knows (views l j) r
+      pub engines-committees : (l : List Entry) → Legal l → (i j r : ℕ) → correct i ≡ true → correct j ≡ true → Knows (views l i) r → Knows (views l j) r
           → committee ((views l i) .chain) r ≡ committee ((views l j) .chain) r
-      engines-committees l h ci cj = committee-agreement (engines-sound l h) ci cj
+      engines-committees l h i j r ci cj = committee-agreement (engines-sound l h) ci cj
 
       run : (m l : List Entry) → Legal (m ++ l) → Run correct (views l) (log l) (views (m ++ l)) (log (m ++ l))
       run [] l h = begin

@@ -14,7 +14,7 @@ module _ (R : Rules) where
     pub weighs : (i : ℕ) → S i ≡ true → 0 < w i
     pub enough : total size w ≤ weigh size w S + bound w
 
-  -- votes that outweigh the bound
+  -- votes that weigh more than the bound
   abbrev pub Outweighs : (ℕ → ℕ) → (ℕ → Bool) → Type 0
   Outweighs w T = bound w < weigh size w T
 
