@@ -34,6 +34,7 @@ module _ {R : Rules} (s : View R) where
   pub record Signing (k : ℕ) (l : List P) : Type 0 where
     -- at one place it signed one proposal
     pub nonequivocation : (p q : P) → Among p l → Among q l → author p ≡ author q → round p ≡ round q → p ≡ q
+    -- it checked what it signed
     pub signable : (p : P) → Among p l → Signable p
     -- it has a record of what it signed: of its own, the proposal of the present round; of others, the mark or the certificate
     pub own : (p : P) → Among p l → author p ≡ k

@@ -44,6 +44,7 @@ pub mod Signatures
 pub mod Preservation
 pub mod Agreement
 pub mod Engines
+pub mod EngineAgreement
 -- What an engine computes, and that it is what the theory asks
 pub mod Histories
 pub mod HistoryLaws

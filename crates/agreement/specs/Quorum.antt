@@ -18,6 +18,6 @@ module _ (R : Rules) where
   abbrev pub Outweighs : (ℕ → ℕ) → (ℕ → Bool) → Type 0
   Outweighs w T = bound w < weigh size w T
 
-  -- the members outside `correct` weigh at most the bound
+  -- the faulty members, who are those outside `correct`, weigh at most the bound
   abbrev pub Tolerant : (ℕ → Bool) → (ℕ → ℕ) → Type 0
   Tolerant correct w = weigh size w (outside correct) ≤ bound w
