@@ -14,7 +14,7 @@ use Rattle.agreement.specs.Rules.{Chain, last, Rules}
 use Rattle.agreement.specs.View.{View}
 use Rattle.agreement.specs.Dag.{isHeld, Held, Placed}
 use Rattle.agreement.specs.Histories.{inHistory}
-use Rattle.agreement.specs.HistoryLaws.{history-reach}
+use Rattle.agreement.specs.HistoryLaws.{history-held}
 use Rattle.agreement.specs.Commits.{used, anchorAt, blockOf, blocksOf, choose, taken, committed}
 use Rattle.agreement.specs.CommitLaws.{anchor-held}
 use Rattle.agreement.specs.Marks.{marked, chainOf, roundsOf, markBlock, marksOf, Fits}
@@ -132,7 +132,7 @@ module _ {R : Rules} {s : View R} (X : Placed s) where
       range a q false = omega (arith, f .range a q)
 
       only : (a q : ℕ) (z i : Bool) → inHistory s x q a ≡ i → isHeld (s .dag a q) ≡ false → cond (z && i) (suc n) (m a q) ≡ 0
-      only a q true true e h = let y = history-reach X hx q a e in absurd (true≢false (rw (y .1) at h))
+      only a q true true e h = absurd (true≢false (sym e ∙ history-held X hx q a h))
       only a q true false e h = f .only-held a q h
       only a q false i e h = f .only-held a q h
 
