@@ -71,7 +71,7 @@ module _ {R : Rules} {correct : ℕ → Bool} {w : World R} {G : Log R} (S : Sou
 
         go : Dec (r ≤ last e) → r ≤ last e
         go (yes k) = k
-        go (no k) = absurd (m .gap r q (omega arith) h (anchor-moves x (known-down ((w j) .chain) (omega arith) (m .sees .aware)) held) l)
+        go (no k) = absurd (m .gap r q (omega arith) h (anchor-moves x (known-down ((w j) .chain) r (d .round) (omega arith) (m .sees .aware)) held) l)
 
     -- blocks of one round have one anchor, whose history j sees as i does
     anchors-same : {b d : Block P} {c e : Chain P} {x y : P} → Link (w i) b c x → Link (w j) d e y → b .round ≡ d .round → x ≡ y
