@@ -16,7 +16,6 @@
 -- Shares, and the register of weights, are no part of the theory.
 
 -- What the theory speaks of
-pub mod Generic
 pub mod Weights
 pub mod Rules
 pub mod Laws
