@@ -1,8 +1,10 @@
 pub mod Chain
 pub mod Changes
+pub mod ChangeLaws
 pub mod Committees
 pub mod Leaders
 pub mod Instance
 pub mod Lawful
 pub mod Edges
 pub mod Totals
+pub mod TotalLaws
