@@ -1,4 +1,0 @@
-pub mod Answers
-pub mod Open
-pub mod Pieces
-pub mod Calls
