@@ -37,6 +37,16 @@ unfolding sumTo
 sum-none zero = refl
 sum-none (suc n) = let h = sum-none n in omega arith
 
+-- a longer sum is no smaller
+pub sum-up : (f : ℕ → ℕ) (i n : ℕ) → i ≤ n → sumTo f i ≤ sumTo f n
+unfolding sumTo
+sum-up f i zero h = let e : i ≡ 0 = omega arith in rw e (omega arith)
+sum-up f i (suc n) h = go (ℕ-discrete i (suc n)) (λ l. sum-up f i n l)
+  where
+    go : Dec (i ≡ suc n) → (i ≤ n → sumTo f i ≤ sumTo f n) → sumTo f i ≤ sumTo f n + f n
+    go (yes e) k = rw e (omega arith)
+    go (no e) k = let q = k (omega arith) in omega arith
+
 -- rows before columns, or columns before rows
 sum-swap : (f : ℕ → ℕ → ℕ) (m n : ℕ) → sumTo (λ k. sumTo (f k) n) m ≡ sumTo (λ r. sumTo (λ k. f k r) m) n
 unfolding sumTo
