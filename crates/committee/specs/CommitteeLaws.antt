@@ -1,13 +1,27 @@
 -- Laws of weights, fault bounds and quorums.
 use mathlib.Core.Path.{_≡_, refl}
 use mathlib.Core.Bool.{Bool, true, false, not, cond}
-use Prim.Native.Nat.{ℕ, _+_, _*_, _/_, _≤_, _<_}
+use Prim.Native.Nat.{ℕ, _+_, _-_, _*_, _/_, _≤_, _<_}
 use native.Mathlib.Omega.{arith}
 use native.Mathlib.Nat.{div-lt-iff-lt-mul}
+use borrow.Author.Tests.{le-leb, lt-leb}
+use Rattle.agreement.specs.Rules.{Chain}
+use Rattle.terms.specs.Proposals.{Content}
+use Rattle.sheet.specs.declared.Settings.{Settings}
 use Rattle.agreement.specs.Generic.{sum-mono}
 use Rattle.agreement.specs.Weights.{weigh, total}
-use Rattle.committee.specs.Committees.{boundOf, outsider, short, quorum, shareOf}
+use Rattle.committee.specs.Committees.{bondedFrom, committeeOf, boundOf, outsider, short, quorum, shareOf}
 use Rattle.committee.specs.TotalLaws.{sum-up}
+
+-- up to the lookback the committee is the starting one
+pub committee-start : (S : Settings) (c : Chain Content) (r : ℕ) → r ≤ S .lookback → committeeOf S c r ≡ S .weights
+unfolding committeeOf
+committee-start S c r h = rw (le-leb r (S .lookback) h) refl
+
+-- above it, the bonded one of the round that many rounds before
+pub committee-bonded : (S : Settings) (c : Chain Content) (r : ℕ) → S .lookback < r → committeeOf S c r ≡ bondedFrom (S .ceiling .0) (S .weights) c (r - S .lookback)
+unfolding committeeOf
+committee-bonded S c r h = rw (lt-leb r (S .lookback) h) refl
 
 -- the members below i that are in a set weigh no more than all
 pub weigh-le : (w : ℕ → ℕ) (S : ℕ → Bool) (i n : ℕ) → i ≤ n → weigh i w S ≤ total n w
