@@ -3,7 +3,7 @@ use mathlib.Core.Path.{_≡_, refl, sym, ap, _∙_}
 use native.Mathlib.Omega.{arith}
 use Prim.Native.Nat.{_+_, _-_, _≤_, _<_}
 use Rattle.sheet.specs.Ranges.{weightIn}
-use Rattle.agreement.specs.Generic.{sum-at}
+use Rattle.base.specs.SumLaws.{sum-at}
 use Rattle.committee.specs.Committees.{shareOf}
 use Rattle.committee.specs.CommitteeLaws.{share-le}
 use borrow.Author.Needs.{needs}
