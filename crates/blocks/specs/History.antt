@@ -1,0 +1,24 @@
+-- Histories, going down: for each round the set of authors whose certificates are reached.
+use mathlib.Core.Bool.{cond}
+use mathlib.Core.List.{List}
+use Prim.Native.Nat.{ℕ, zero, suc, _-_}
+use Rattle.base.specs.Folds.{foldTo}
+use Rattle.base.specs.Sets.{isIn, union, common}
+use Rattle.store.specs.Table.{heldSet, previousAt}
+
+-- the set u, and whom the certificate of a and round r names as previous, where a is in s
+unfoldable pub namedBy : List ℕ → ℕ → ℕ → ℕ → ℕ → ℕ
+namedBy t s r a u = cond (isIn s a) (union u (previousAt t a r)) u
+
+-- whom the certificates of s in round r name
+unfoldable pub named : List ℕ → ℕ → ℕ → ℕ
+named t s r = foldTo (namedBy t s r) 16 0
+
+-- those of them whose certificates of the round below are held
+unfoldable pub below : List ℕ → ℕ → ℕ → ℕ
+below t s r = common (named t s r) (heldSet t (r - 1))
+
+-- the history of the set s of round r: its part d rounds below
+unfoldable pub reached : List ℕ → ℕ → ℕ → ℕ → ℕ
+reached t r s zero = s
+reached t r s (suc d) = below t (reached t r s d) (r - d)

@@ -1,0 +1,6 @@
+pub mod History
+pub mod HistoryLaws
+pub mod Anchors
+pub mod AnchorLaws
+pub mod Blocks
+pub mod BlockLaws
