@@ -1,4 +1,12 @@
 pub mod Table
+pub mod TableLaws
 pub mod Writes
 pub mod RecordLaws
+pub mod WriteLaws
+pub mod PutLaws
+pub mod EndorseLaws
+pub mod MarkLaws
 pub mod Scan
+pub mod ScanLaws
+pub mod FitLaws
+pub mod ClearLaws

@@ -2,7 +2,7 @@
 use mathlib.Core.Path.{_≡_, refl}
 use mathlib.Core.Bool.{Bool, true, false, cond, _&&_}
 use mathlib.Core.List.{List, [], _∷_}
-use Prim.Native.Nat.{ℕ, _≤_, _<_}
+use Prim.Native.Nat.{ℕ}
 use native.Mathlib.Omega.{arith}
 use lib.ListN.{getD, List·getD-eq-default}
 use lib.Dec.{eqb, ltb}
@@ -17,20 +17,8 @@ use Rattle.terms.specs.declared.Proposal.{Proposal}
 use Rattle.terms.specs.Transactions.{noTransaction, sameTransaction}
 use Rattle.terms.specs.Proposals.{slotOf, contentWith, contentOf, sameTransactions, same}
 use Rattle.terms.specs.ProposalLaws.{same-tabs, other-tabs, same-placed, transactions-tab}
-use Rattle.store.specs.Table.{word, previousAt, countAt, transactionAt, contentAt}
+use Rattle.store.specs.Table.{previousAt, countAt, transactionAt, contentAt}
 use Rattle.store.specs.Writes.{nthOf, proposalOf}
-
-pub count-le : (t : List ℕ) (m r : ℕ) → countAt t m r ≤ 4
-unfolding countAt
-count-le t m r = go (ltb 4 (word t m r 1)) refl
-  where
-    go : (b : Bool) → ltb 4 (word t m r 1) ≡ b → cond b 4 (word t m r 1) ≤ 4
-    go true e = omega arith
-    go false e = ltb-false 4 (word t m r 1) e
-
-pub previous-lt : (t : List ℕ) (m r : ℕ) → previousAt t m r < 65536
-unfolding previousAt
-previous-lt t m r = omega arith
 
 -- element k of a listed function, nothing beyond
 nth-tab : (f : ℕ → Transaction) (n k : ℕ) → getD (tab f n) k noTransaction ≡ cond (ltb k n) (f k) noTransaction

@@ -71,9 +71,9 @@ pub fn put_certificate(t: &mut [u32], p: Proposal)
     let at = p.round.0 as usize * 272;
     let place = at + m as usize * 16 + 16;
     let w = record_of(p);
-    let s = base::with(t[at], m);
+    let held = base::with(t[at], m);
     put_words(t, place, w);
-    t[at] = s;
+    t[at] = held;
 }
 
 // Marks a place endorsed.
@@ -91,9 +91,9 @@ pub fn clear_endorsed(t: &mut [u32], m: Member, r: Round)
     requires { ⌜ Within (now t) (m .0) (r .0) ⌝ }
     ensures { λ _. ⌜ now (t .exit) ≡ clearEndorsed (now (t .entry)) (m .0) (r .0) ⌝ }
 {
-    let at = r.0 as usize * 272 + 1;
-    let s = base::without(t[at], m.0);
-    t[at] = s;
+    let word = r.0 as usize * 272 + 1;
+    let rest = base::without(t[word], m.0);
+    t[word] = rest;
 }
 
 // Puts the certificate of a place into block b.

@@ -1,5 +1,5 @@
 use Rattle.store.specs.Scan.{recordFits}
-use Rattle.store.specs.RecordLaws.{count-le}
+use Rattle.store.specs.TableLaws.{count-le}
 use native.Mathlib.Omega.{arith}
 use mathlib.Core.Path.{refl, sym, _∙_}
 use borrow.Author.Tests.{lt-ltb, le-ltb, le-leb, lt-leb, not-true, not-false}

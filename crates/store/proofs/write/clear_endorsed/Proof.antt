@@ -4,14 +4,14 @@ use borrow.Author.Needs.{needs}
 use Rattle.store.proofs.write.clear_endorsed.Statement.{statement}
 use Rattle.store.proofs.write.clear_endorsed.Tie as tie
 
-cast-at : tie.Need-cast-at
-cast-at c = search needs
+cast-word : tie.Need-cast-word
+cast-word c = search needs
 
-mul-at : tie.Need-mul-at
-mul-at c = search needs
+mul-word : tie.Need-mul-word
+mul-word c = search needs
 
-add-at : tie.Need-add-at
-add-at c = search needs
+add-word : tie.Need-add-word
+add-word c = search needs
 
 mul-without : tie.Need-mul-without
 mul-without c = search needs
@@ -39,9 +39,9 @@ pub clear-endorsed-spec : {M : Type 1} → statement M
 clear-endorsed-spec =
     tie.close
     (tie.spec
-    cast-at
-    mul-at
-    add-at
+    cast-word
+    mul-word
+    add-word
     mul-without
     slice-read-without
     without-requires

@@ -1,0 +1,1 @@
+// The agreement theory: specs/ only.

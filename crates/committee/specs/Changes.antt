@@ -1,0 +1,46 @@
+-- What transactions, certificates and blocks do to the sixteen weights of a committee.
+use mathlib.Core.List.{List, [], _∷_, _++_}
+use mathlib.Core.Option.{Option, none, some}
+use mathlib.Core.Bool.{cond}
+use Prim.Native.Nat.{ℕ, zero, suc, _+_}
+use lib.ListN.{set}
+use lib.Dec.{ltb}
+use Rattle.agreement.specs.Rules.{Block, Chain}
+use Rattle.terms.specs.declared.Transaction.{Transaction}
+use Rattle.terms.specs.declared.Transaction.the-variants.{Bond, Unbond, Entry}
+use Rattle.terms.specs.Proposals.{Content}
+use Rattle.sheet.specs.Ranges.{weightIn}
+
+-- bond adds, joining if there was no weight; unbond removes; an entry does nothing, and neither does a number that is no member's
+abbrev pub change : Transaction → List ℕ → List ℕ
+change (Bond m a) w = cond (ltb (m .0) 16) (set w (m .0) (weightIn w (m .0) + a)) w
+change (Unbond m) w = cond (ltb (m .0) 16) (set w (m .0) 0) w
+change (Entry n) w = w
+
+-- transactions in order
+unfoldable pub changes : List Transaction → List ℕ → List ℕ
+changes [] w = w
+changes (x ∷ l) w = changes l (change x w)
+
+-- certificates in order
+unfoldable pub changesOf : List Content → List ℕ → List ℕ
+changesOf [] w = w
+changesOf (p ∷ l) w = changesOf l (changes (p .transactions) w)
+
+abbrev pub listed : Option Content → List Content
+listed none = []
+listed (some p) = p ∷ []
+
+-- the certificates of round r by the members below n
+unfoldable pub row : Block Content → ℕ → ℕ → List Content
+row b r zero = []
+row b r (suc n) = row b r n ++ listed (b .holds n r)
+
+-- those of the rounds 1 to n, by round, then author
+unfoldable pub rows : Block Content → ℕ → List Content
+rows b zero = []
+rows b (suc n) = rows b n ++ row b (suc n) 16
+
+-- the order inside a block: its certificates, where the ceiling is n and c is the chain below it
+unfoldable pub ordered : ℕ → Block Content → Chain Content → List Content
+ordered n b c = rows b n

@@ -1,0 +1,56 @@
+-- The reads: their checks, and what they give.
+use mathlib.Core.Bool.{not, cond, _||_}
+use mathlib.Core.Option.{Option, none, some}
+use mathlib.Core.List.{List, [], _∷_}
+use Prim.Native.Nat.{ℕ, suc}
+use lib.ListN.{length}
+use lib.Dec.{eqb, ltb}
+use Rattle.base.specs.Checks.{Checks}
+use Rattle.agreement.specs.Weights.{total}
+use Rattle.agreement.specs.Rules.{Block, Chain}
+use Rattle.agreement.specs.Dag.{isHeld}
+use Rattle.agreement.specs.Prefixes.{blockAt}
+use Rattle.terms.specs.Proposals.{Content}
+use Rattle.sheet.specs.declared.Settings.{Settings}
+use Rattle.committee.specs.Committees.{committeeOf, shareOf}
+use Rattle.committee.specs.Leaders.{members}
+use Rattle.rules.specs.Tests.{Member, badRound, committeeIn, unknown}
+
+-- the number of the block that holds the certificate of a place, 0 for none
+unfoldable pub blockNumber : Chain Content → ℕ → ℕ → ℕ
+blockNumber [] a r = 0
+blockNumber (b ∷ c) a r = cond (isHeld (b .holds a r)) (suc (length c)) (blockNumber c a r)
+
+-- the round of a block that is there
+abbrev pub roundOf : Option (Block Content) → ℕ
+roundOf none = 0
+roundOf (some b) = b .round
+
+module _ (S : Settings) where
+  -- committee: 5, 8
+  abbrev pub readingCommittee : Member S → ℕ → Checks
+  readingCommittee s r = (badRound S r, 5) ∷ (unknown S s r, 8) ∷ []
+
+  -- sixteen weights, 0 for a non-member
+  abbrev pub committeeRead : Member S → ℕ → List ℕ
+  committeeRead s r = committeeOf S (s .chain) r
+
+  -- share: 4, 5, 8, 9
+  abbrev pub readingShare : Member S → ℕ → ℕ → Checks
+  readingShare s m r = (ltb 15 m, 4) ∷ (badRound S r, 5) ∷ (unknown S s r, 8) ∷ (not (members (committeeIn S s r) m), 9) ∷ []
+
+  -- the thousandths
+  abbrev pub shareRead : Member S → ℕ → ℕ → ℕ
+  shareRead s m r = shareOf (committeeIn S s r m) (total 16 (committeeIn S s r))
+
+  -- certificate: 4, 5, 23 none there
+  abbrev pub readingCertificate : Member S → ℕ → ℕ → Checks
+  readingCertificate s m r = (ltb 15 m, 4) ∷ (badRound S r, 5) ∷ (not (isHeld (s .dag m r)), 23) ∷ []
+
+  -- block by number from 1: 23
+  abbrev pub readingBlock : Member S → ℕ → Checks
+  readingBlock s k = (eqb k 0 || ltb (length (s .chain)) k, 23) ∷ []
+
+  -- its round
+  abbrev pub blockRead : Member S → ℕ → ℕ
+  blockRead s k = roundOf (blockAt (s .chain) k)

@@ -1,0 +1,1 @@
+// The rules of document 01 over a member's view: definitions and theorems, no code.

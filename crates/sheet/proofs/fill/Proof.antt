@@ -1,0 +1,28 @@
+use mathlib.Core.Path.{_≡_, refl, sym, ap, _∙_}
+use Rattle.sheet.specs.Sheets.{filled}
+use borrow.Author.Needs.{needs}
+use Rattle.sheet.proofs.fill.Statement.{statement}
+use Rattle.sheet.proofs.fill.Tie as tie
+use Rattle.sheet.proofs.value_or.Reads as value-or-reads
+use Rattle.sheet.proofs.weights.Reads as weights-reads
+
+value-or-requires : tie.Need-value-or-requires
+value-or-requires c κs = search needs
+
+value-or-requires-2 : tie.Need-value-or-requires-2
+value-or-requires-2 c κs = search needs
+
+value-or-requires-3 : tie.Need-value-or-requires-3
+value-or-requires-3 c κs = search needs
+
+weights-requires : tie.Need-weights-requires
+weights-requires c κs = search needs
+
+returns : tie.Need-returns
+unfolding filled
+returns c = simp (c .weights .ensures, c .before .value-or3 .ensures, c .before .before .value-or2 .ensures, c .before .before .before .value-or .ensures)
+
+pub fill-spec : {M : Type 1} → statement M
+fill-spec =
+    tie.close
+    (tie.spec value-or-requires value-or-requires-2 value-or-requires-3 weights-requires returns)

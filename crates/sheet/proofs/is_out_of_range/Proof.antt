@@ -1,0 +1,60 @@
+use mathlib.Core.Path.{_≡_, refl, sym, ap, _∙_}
+use Rattle.sheet.specs.Ranges.{outOfRange}
+use borrow.Author.Needs.{needs}
+use Rattle.sheet.proofs.is_out_of_range.Statement.{statement}
+use Rattle.sheet.proofs.is_out_of_range.Tie as tie
+use Rattle.sheet.proofs.has_outside.Reads as has-outside-reads
+use Rattle.sheet.proofs.is_outside.Reads as is-outside-reads
+
+cast-is-outside : tie.Need-cast-is-outside
+cast-is-outside c = search needs
+
+is-outside-requires : tie.Need-is-outside-requires
+is-outside-requires c κs = search needs
+
+returns : tie.Need-returns
+unfolding outOfRange
+returns c = simp (← c .before .is-outside .ensures, c .if1 .taken)
+
+cast-is-outside-2 : tie.Need-cast-is-outside-2
+cast-is-outside-2 c = search needs
+
+is-outside-requires-2 : tie.Need-is-outside-requires-2
+is-outside-requires-2 c κs = search needs
+
+returns-2 : tie.Need-returns-2
+unfolding outOfRange
+returns-2 c = simp (← c .before .before .before .before .is-outside .ensures, c .before .before .before .if1 .left, ← c .before .is-outside2 .ensures, c .if2 .taken)
+
+cast-is-outside-3 : tie.Need-cast-is-outside-3
+cast-is-outside-3 c = search needs
+
+is-outside-requires-3 : tie.Need-is-outside-requires-3
+is-outside-requires-3 c κs = search needs
+
+returns-3 : tie.Need-returns-3
+unfolding outOfRange
+returns-3 c = simp (← c .before .before .before .before .before .before .before .is-outside .ensures, c .before .before .before .before .before .before .if1 .left, ← c .before .before .before .before .is-outside2 .ensures, c .before .before .before .if2 .left, ← c .before .is-outside3 .ensures, c .if3 .taken)
+
+has-outside-requires : tie.Need-has-outside-requires
+has-outside-requires c κs = search needs
+
+returns-4 : tie.Need-returns-4
+unfolding outOfRange
+returns-4 c = simp (← c .before .before .before .before .before .before .before .before .before .is-outside .ensures, c .before .before .before .before .before .before .before .before .if1 .left, ← c .before .before .before .before .before .before .is-outside2 .ensures, c .before .before .before .before .before .if2 .left, ← c .before .before .before .is-outside3 .ensures, c .before .before .if3 .left, c .has-outside .ensures)
+
+pub is-out-of-range-spec : {M : Type 1} → statement M
+is-out-of-range-spec =
+    tie.close
+    (tie.spec
+    cast-is-outside
+    is-outside-requires
+    returns
+    cast-is-outside-2
+    is-outside-requires-2
+    returns-2
+    cast-is-outside-3
+    is-outside-requires-3
+    returns-3
+    has-outside-requires
+    returns-4)

@@ -1,0 +1,29 @@
+-- The ranges of the settings: checks 2 and 3 of open, which well-formed states pass as well.
+use mathlib.Core.Bool.{Bool, not, _||_}
+use mathlib.Core.List.{List, [], _∷_}
+use Prim.Native.Nat.{ℕ}
+use lib.ListN.{getD}
+use lib.Dec.{ltb}
+use Rattle.base.specs.Checks.{Checks}
+use Rattle.base.specs.Folds.{anyTo}
+use Rattle.sheet.specs.declared.Settings.{Settings}
+
+-- the weight of member i, of sixteen
+abbrev pub weightIn : List ℕ → ℕ → ℕ
+weightIn w i = getD w i 0
+
+-- x is not from a to b
+unfoldable pub outside : ℕ → ℕ → ℕ → Bool
+outside x a b = ltb x a || ltb b x
+
+-- check 2: a setting out of range
+unfoldable pub outOfRange : Settings → Bool
+outOfRange S = outside (S .lookback) 1 1000 || (outside (S .ceiling .0) 3 1024 || (outside (S .allowance) 0 4 || anyTo (λ i. outside (weightIn (S .weights) i) 0 1000000) 16))
+
+-- check 3: no positive weight
+unfoldable pub weightless : Settings → Bool
+weightless S = not (anyTo (λ i. ltb 0 (weightIn (S .weights) i)) 16)
+
+-- the two, in the order in which open makes them
+abbrev pub settingChecks : Settings → Checks
+settingChecks S = (outOfRange S, 2) ∷ (weightless S, 3) ∷ []
