@@ -4,7 +4,7 @@ use mathlib.Core.Bool.{Bool, true, false, cond}
 use mathlib.Core.List.{List}
 use Prim.Native.Nat.{ℕ, zero, suc, _+_, _-_, _<_, _≤_}
 use native.Mathlib.Omega.{arith}
-use native.Mathlib.Numerals.{sub-one}
+use native.Mathlib.Numerals.{add-one, sub-one}
 use lib.Dec.{ltb}
 use lib.ListN.{getD}
 use Rattle.base.specs.FoldLaws.{fold-kept}
@@ -24,27 +24,20 @@ unfolding markHistory markRow markPlace
 history-none b zero t = refl
 history-none b (suc r) t = rw (below-none t (suc r), fold-kept (λ u. u) (markPlace b 0 (suc r)) (λ a u. rw (in-none a) refl) 16 t) (history-none b r t)
 
--- the rounds from m + 1 to r are done
-pub count-more : (l : List ℕ) (m r k : ℕ) → m ≤ r → countAfter l m (r + 1 - m) k ≡ countStep l (r + 1) (countAfter l m (r - m) k)
+-- one round more
+pub count-more : (l : List ℕ) (m n k : ℕ) → countAfter l m (n + 1) k ≡ countStep l (m + 1 + n) (countAfter l m n k)
 unfolding countAfter
-count-more l m r k h =
-    let e : r + 1 - m ≡ suc (r - m) = omega arith in
-    let i : m + suc (r - m) ≡ r + 1 = omega arith in
-    rw (e, i) refl
+count-more l m n k = let e : m + suc n ≡ m + 1 + n = omega arith in rw (add-one n, e) refl
 
-pub blocks-more : (l : List ℕ) (m r k : ℕ) (t : List ℕ) → m ≤ r
-    → blocksAfter l m (r + 1 - m) k t ≡ blockStep l (r + 1) (countAfter l m (r - m) k) (blocksAfter l m (r - m) k t)
+pub blocks-more : (l : List ℕ) (m n k : ℕ) (t : List ℕ) → blocksAfter l m (n + 1) k t ≡ blockStep l (m + 1 + n) (countAfter l m n k) (blocksAfter l m n k t)
 unfolding blocksAfter
-blocks-more l m r k t h =
-    let e : r + 1 - m ≡ suc (r - m) = omega arith in
-    let i : m + suc (r - m) ≡ r + 1 = omega arith in
-    rw (e, i) refl
+blocks-more l m n k t = let e : m + suc n ≡ m + 1 + n = omega arith in rw (add-one n, e) refl
 
--- at most one block for each round, and never fewer
-pub count-step : (l : List ℕ) (r k : ℕ) → (k ≤ countStep l r k) × (countStep l r k ≤ k + 1)
+-- at most one block for a round
+pub count-step : (l : List ℕ) (r k : ℕ) → countStep l r k ≤ k + 1
 unfolding countStep
 count-step l r k = go (ltb (getD l r 0) 16)
   where
-    go : (b : Bool) → (k ≤ cond b (k + 1) k) × (cond b (k + 1) k ≤ k + 1)
-    go true = (omega arith, omega arith)
-    go false = (omega arith, omega arith)
+    go : (b : Bool) → cond b (k + 1) k ≤ k + 1
+    go true = omega arith
+    go false = omega arith

@@ -6,3 +6,4 @@ pub mod TakenLaws
 pub mod Blocks
 pub mod BlockLaws
 pub mod MarkLaws
+pub mod CommitLaws

@@ -25,12 +25,11 @@ pub fn add_blocks(t: &mut [u32], l: &[u32], m: Round, top: Round, k: u32) -> u32
     requires { ⌜ (k ≤ m .0) × (m .0 < top .0) × Row (now t) (top .0) × (top .0 < length (now l)) ⌝ }
     ensures { λ v. ⌜ (v ≡ countAfter (now (l .entry)) (m .0) (top .0 - m .0) k) × (now (t .exit) ≡ blocksAfter (now (l .entry)) (m .0) (top .0 - m .0) k (now (t .entry))) ⌝ }
 {
-    let end = top.0;
+    let last = m.0;
+    let rounds = top.0 - last;
     let mut n = k;
-    let mut r = m.0;
-    while r < end {
-        r += 1;
-        n = block_step(t, l, Round(r), n);
+    for i in 0..rounds {
+        n = block_step(t, l, Round(last + 1 + i), n);
     }
     n
 }

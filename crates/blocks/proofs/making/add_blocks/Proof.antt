@@ -10,35 +10,44 @@ use Rattle.blocks.proofs.making.add_blocks.Tie as tie
 use Rattle.blocks.proofs.making.block_step.Reads as block-step-reads
 
 abbrev Inv-loop : tie.InvT-loop
-Inv-loop t₀ l k end n₀ r₀ t n r = (r₀ ≤ r) × (r ≤ end) × (n ≤ r) × (length t ≡ length t₀) × (n ≡ countAfter l r₀ (r - r₀) k) × (t ≡ blocksAfter l r₀ (r - r₀) k t₀)
+Inv-loop t₀ l k last rounds n₀ i₀ t n i = (i ≤ rounds) × (n ≤ last + i) × (length t ≡ length t₀) × (n ≡ countAfter l last i k) × (t ≡ blocksAfter l last i k t₀)
 
 abbrev μ-loop : tie.MeasureT-loop
-μ-loop t₀ l k end n₀ r₀ t n r = end - r
+μ-loop t₀ l k last rounds n₀ i₀ t n i = rounds - i
+
+sub-rounds : tie.Need-sub-rounds Inv-loop μ-loop
+sub-rounds c = search needs
 
 loop-holds : tie.Need-loop-holds Inv-loop μ-loop
 unfolding countAfter blocksAfter
-loop-holds c = let m = c .before .before .args .m .0 in let e : m - m ≡ 0 = omega arith in (omega arith, omega arith, omega arith, refl, rw e refl, rw e refl)
+loop-holds c = (omega arith, omega arith, refl, refl, refl)
 
-add-r : tie.Need-add-r Inv-loop μ-loop
-add-r c = search needs
+add-t13 : tie.Need-add-t13 Inv-loop μ-loop
+add-t13 c = search needs
+
+add-t14 : tie.Need-add-t14 Inv-loop μ-loop
+add-t14 c = search needs
 
 block-step-requires : tie.Need-block-step-requires Inv-loop μ-loop
 block-step-requires c κs = search needs
+
+add-i : tie.Need-add-i Inv-loop μ-loop
+add-i c = search needs
 
 loop-less : tie.Need-loop-less Inv-loop μ-loop
 loop-less c = search needs
 
 loop-again : tie.Need-loop-again Inv-loop μ-loop
-loop-again c = let a = c .before .before .before .before .before .before .before .before .args in
-    let i = c .before .before .before .before .before .loop in
+loop-again c = let a = c .before .before .before .before .before .before .before .before .before .args in
+    let j = c .before .before .before .before .before .loop in
     let b = c .before .before .block-step in
-    (omega arith, omega arith, omega (arith, b .ensures .0, count-step (a .l .now) (i .r + 1) (i .n)), b .kept .0 ∙ i .inv .3, rw (b .ensures .0, count-more (a .l .now) (a .m .0) (i .r) (a .k) (omega arith), ← i .inv .4) refl, rw (b .ensures .1, blocks-more (a .l .now) (a .m .0) (i .r) (a .k) (a .t .now) (omega arith), ← i .inv .4, ← i .inv .5) refl)
+    (omega arith, omega (arith, b .ensures .0, count-step (a .l .now) (a .m .0 + 1 + j .i) (j .n)), b .kept .0 ∙ j .inv .2, rw (b .ensures .0, count-more (a .l .now) (a .m .0) (j .i) (a .k), ← j .inv .3) refl, rw (b .ensures .1, blocks-more (a .l .now) (a .m .0) (j .i) (a .k) (a .t .now), ← j .inv .3, ← j .inv .4) refl)
 
 same-length : tie.Need-same-length Inv-loop μ-loop
-same-length c = c .before .loop .inv .3
+same-length c = c .before .loop .inv .2
 
 returns : tie.Need-returns Inv-loop μ-loop
-returns c = let a = c .before .before .before .before .args in let e : c .before .loop .r ≡ a .top .0 = omega arith in (rw e at (c .before .loop .inv .4), rw e at (c .before .loop .inv .5))
+returns c = let a = c .before .before .before .before .before .args in let e : c .before .loop .i ≡ a .top .0 - a .m .0 = omega arith in (rw e at (c .before .loop .inv .3), rw e at (c .before .loop .inv .4))
 
 pub add-blocks-spec : {M : Type 1} → statement M
 add-blocks-spec =
@@ -46,9 +55,12 @@ add-blocks-spec =
     (tie.spec
     Inv-loop
     μ-loop
+    sub-rounds
     loop-holds
-    add-r
+    add-t13
+    add-t14
     block-step-requires
+    add-i
     loop-less
     loop-again
     same-length
