@@ -28,7 +28,7 @@ not-in s i h = go (isIn s i) refl
 -- ---- one leader
 
 module _ (l : List ℕ) (r u : ℕ) where
-  pub row-length : length (takeRow l r u) ≡ length l
+  row-length : length (takeRow l r u) ≡ length l
   unfolding takeRow
   row-length = go (isIn u (getD l r 0))
     where
@@ -76,11 +76,6 @@ module _ (t : List ℕ) where
   pub take-done : (m r s : ℕ) (l : List ℕ) → r ≤ m → takeFrom t m (r - m) s l ≡ l
   unfolding takeFrom
   take-done m r s l h = let e : r - m ≡ 0 = omega arith in rw e refl
-
-  pub take-length : (m n s : ℕ) (l : List ℕ) → length (takeFrom t m n s l) ≡ length l
-  unfolding takeFrom
-  take-length m zero s l = refl
-  take-length m (suc n) s l = take-length m n _ _ ∙ row-length l (m + suc n) (below t s (m + suc n + 1))
 
   -- leaders of other rounds stay
   pub take-other : (m n s j : ℕ) (l : List ℕ) → (m < j → m + n < j) → getD (takeFrom t m n s l) j 0 ≡ getD l j 0
