@@ -1,115 +1,17 @@
--- How far changes raise the total weight of a committee.
-use mathlib.Core.Path.{_≡_, refl, sym}
-use mathlib.Core.Bool.{Bool, true, false, cond}
+-- Total weights, and how far changes raise them.
 use mathlib.Core.List.{List}
-use Prim.Native.Nat.{ℕ, zero, suc, _+_, _*_, _≤_, _<_}
-use native.Mathlib.Omega.{arith}
-use native.Mathlib.Decide.{ℕ-discrete, decLt}
-use lib.ListN.{set, length}
-use lib.Seq.{getD-set-same, getD-set-other, set-out}
-use lib.Dec.{eqb, ltb, eqb·suc-zero, eqb·suc-suc}
-use borrow.Author.Tests.{eq-eqb, ne-eqb}
-use Rattle.base.specs.Folds.{foldTo, sumTo}
-use Rattle.base.specs.SumLaws.{sum-same, sum-le}
-use Rattle.agreement.specs.Generic.{sum-add, sum-mono}
-use Rattle.terms.specs.declared.Transaction.{Transaction}
-use Rattle.terms.specs.declared.Transaction.the-variants.{Bond, Unbond, Entry}
-use Rattle.terms.specs.Transactions.{amountOf}
+use Prim.Native.Nat.{ℕ, _+_, _≤_}
+use Rattle.base.specs.Folds.{sumTo}
 use Rattle.sheet.specs.Ranges.{weightIn}
-use Rattle.committee.specs.Changes.{change}
-
--- ---- sums
-
--- one part alone
-sum-one : (a m n : ℕ) → (n ≤ m → sumTo (λ i. cond (eqb i m) a 0) n ≡ 0) × (sumTo (λ i. cond (eqb i m) a 0) n ≤ a)
-unfolding sumTo
-sum-one a m zero = (λ _. refl, omega arith)
-sum-one a m (suc n) = by (ℕ-discrete n m) (sum-one a m n)
-  where
-    by : Dec (n ≡ m) → (n ≤ m → sumTo (λ i. cond (eqb i m) a 0) n ≡ 0) × (sumTo (λ i. cond (eqb i m) a 0) n ≤ a)
-        → (suc n ≤ m → sumTo (λ i. cond (eqb i m) a 0) n + cond (eqb n m) a 0 ≡ 0) × (sumTo (λ i. cond (eqb i m) a 0) n + cond (eqb n m) a 0 ≤ a)
-    by (yes e) p = (λ l. absurd (omega arith), rw (eq-eqb n m e) (let z = p .0 (omega arith) in omega arith))
-    by (no e) p = rw (ne-eqb n m e) (λ l. let z = p .0 (omega arith) in omega arith, let z = p .1 in omega arith)
-
-sum-none : (n : ℕ) → sumTo (λ i. 0) n ≡ 0
-unfolding sumTo
-sum-none zero = refl
-sum-none (suc n) = let h = sum-none n in omega arith
-
--- rows before columns, or columns before rows
-sum-swap : (f : ℕ → ℕ → ℕ) (m n : ℕ) → sumTo (λ k. sumTo (f k) n) m ≡ sumTo (λ r. sumTo (λ k. f k r) m) n
-unfolding sumTo
-sum-swap f zero n = sym (sum-none n)
-sum-swap f (suc m) n = rw (sum-swap f m n) (sym (sum-add (λ r. sumTo (λ k. f k r) m) (f m) n))
-
--- ---- raises
 
 -- the total weight of a committee
 abbrev pub totalIn : List ℕ → ℕ
 totalIn w = sumTo (weightIn w) 16
 
+-- light enough that no sum of weights overflows, nor a share's numerator: below this is every committee that a table tells
+pub record Light (w : List ℕ) : Type 0 where
+  pub total : totalIn w ≤ 562949953421312
+
 -- f raises no total by more than c
 unfoldable pub Raises : (List ℕ → List ℕ) → ℕ → Type 0
 Raises f c = (w : List ℕ) → totalIn (f w) ≤ totalIn w + c
-
-set-at : (w : List ℕ) (m v i b : ℕ) → (i ≡ m → v ≤ b) → weightIn w i ≤ b → weightIn (set w m v) i ≤ b
-set-at w m v i b h l = by (ℕ-discrete i m) (decLt m (length w))
-  where
-    by : Dec (i ≡ m) → Dec (m < length w) → weightIn (set w m v) i ≤ b
-    by (yes e) (yes lt) = rw (e, getD-set-same w m v 0 lt) (h e)
-    by (yes e) (no n) = rw (set-out w m v (omega arith)) l
-    by (no n) d = rw (getD-set-other w m i v 0 n) l
-
-bond-raises : (m a : ℕ) → Raises (λ w. set w m (weightIn w m + a)) a
-unfolding Raises
-bond-raises m a w =
-    let o = sum-one a m 16 .1 in
-    let s = sum-add (weightIn w) (λ i. cond (eqb i m) a 0) 16 in
-    let l = sum-mono (weightIn (set w m (weightIn w m + a))) (λ i. weightIn w i + cond (eqb i m) a 0) 16
-    (λ i h. set-at w m (weightIn w m + a) i (weightIn w i + cond (eqb i m) a 0) (λ e. rw (eq-eqb i m e, e) (omega arith)) (omega arith)) in
-    omega arith
-
-still-raises : (c : ℕ) → Raises (λ w. w) c
-unfolding Raises
-still-raises c w = omega arith
-
-unbond-raises : (m c : ℕ) → Raises (λ w. set w m 0) c
-unfolding Raises
-unbond-raises m c w =
-    let l = sum-mono (weightIn (set w m 0)) (weightIn w) 16 (λ i h. set-at w m 0 i (weightIn w i) (λ e. omega arith) (omega arith)) in
-    omega arith
-
-choice-raises : (b : Bool) (f g : List ℕ → List ℕ) (c : ℕ) → Raises f c → Raises g c → Raises (λ w. cond b (f w) (g w)) c
-choice-raises true f g c h k = h
-choice-raises false f g c h k = k
-
--- a transaction raises the total by its amount at most
-pub change-raises : (x : Transaction) → Raises (change x) (amountOf x)
-change-raises (Bond m a) = choice-raises (ltb (m .0) 16) (λ w. set w (m .0) (weightIn w (m .0) + a)) (λ w. w) a (bond-raises (m .0) a) (still-raises a)
-change-raises (Unbond m) = choice-raises (ltb (m .0) 16) (λ w. set w (m .0) 0) (λ w. w) 0 (unbond-raises (m .0) 0) (still-raises 0)
-change-raises (Entry n) = still-raises 0
-
-pub raises-more : (f : List ℕ → List ℕ) (c d : ℕ) → c ≤ d → Raises f c → Raises f d
-unfolding Raises
-raises-more f c d l h w = let q = h w in omega arith
-
--- a fold raises it by the sum of what its turns do
-pub fold-raises : (f : ℕ → List ℕ → List ℕ) (c : ℕ → ℕ) (n : ℕ) → ((i : ℕ) → i < n → Raises (f i) (c i)) → Raises (foldTo f n) (sumTo c n)
-unfolding Raises foldTo sumTo
-fold-raises f c zero h w = omega arith
-fold-raises f c (suc n) h w =
-    let p = fold-raises f c n (λ i l. h i (omega arith)) w in
-    let q = h n (omega arith) (foldTo f n w) in
-    omega arith
-
--- ---- a place is in one block: over all blocks, rows and members it counts once
-pub marks-once : (mark : ℕ → ℕ → ℕ) (c blocks n : ℕ) → sumTo (λ k. sumTo (λ r. sumTo (λ m. cond (eqb (suc k) (mark m r)) c 0) 16) n) blocks ≤ n * (16 * c)
-marks-once mark c blocks n =
-    rw (sum-swap (λ k r. sumTo (λ m. cond (eqb (suc k) (mark m r)) c 0) 16) blocks n)
-    (sum-le (λ r. sumTo (λ k. sumTo (λ m. cond (eqb (suc k) (mark m r)) c 0) 16) blocks) (16 * c) n
-    (λ r l. rw (sum-swap (λ k m. cond (eqb (suc k) (mark m r)) c 0) blocks 16)
-    (sum-le (λ m. sumTo (λ k. cond (eqb (suc k) (mark m r)) c 0) blocks) c 16 (λ m h. at-once (mark m r) blocks))))
-  where
-    at-once : (b n : ℕ) → sumTo (λ k. cond (eqb (suc k) b) c 0) n ≤ c
-    at-once zero n = rw (sum-same (λ k. cond (eqb (suc k) 0) c 0) (λ k. 0) n (λ k h. rw (eqb·suc-zero k) refl), sum-none n) (omega arith)
-    at-once (suc b) n = rw (sum-same (λ k. cond (eqb (suc k) (suc b)) c 0) (λ k. cond (eqb k b) c 0) n (λ k h. rw (eqb·suc-suc k b) refl)) (sum-one c b n .1)
