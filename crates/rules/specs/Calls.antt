@@ -98,12 +98,12 @@ module _ (S : Settings) where
   voting s (some x) = (unvoted S s x, 22) ∷ []
 
   -- in round r: 19 r is even or 1; 20 last block's round at least r − 1; 8 committee of r unknown; 21; 22
-  abbrev pub committing : Member S → Checks
-  committing s =
+  abbrev pub committing : Member S → Option Content → Checks
+  committing s anchor =
       (eqb (s .round % 2) 0 || eqb (s .round) 1, 19)
       ∷ (leb (s .round - 1) (last (s .chain)), 20)
       ∷ (unknown S s (s .round), 8)
-      ∷ voting s (anchorAt s (s .round - 1))
+      ∷ voting s anchor
 
   abbrev pub checks : ℕ → Member S → Call → Checks
   checks k s (propose previous l) = proposing k s (drafted k s previous l)
@@ -111,7 +111,7 @@ module _ (S : Settings) where
   checks k s (certify e) = certifying k s e (s .proposal)
   checks k s (accept p e) = accepting s p e
   checks k s advance = advancing s
-  checks k s commit = committing s
+  checks k s commit = committing s (anchorAt s (s .round - 1))
   checks k s read = []
 
   -- the number of the first check that refuses the call of member k, 0 for none

@@ -1,3 +1,12 @@
 pub mod Tests
 pub mod Calls
 pub mod Reads
+pub mod Passed
+pub mod TestLaws
+pub mod Quorums
+pub mod PreviousSets
+pub mod SigningMoves
+pub mod CertificateMoves
+pub mod CommitMove
+pub mod Signatures
+pub mod AcceptedMoves
