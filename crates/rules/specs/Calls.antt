@@ -1,5 +1,5 @@
 -- The calls of a member: the checks in document 01's order with its numbers, and the view after an accepted call.
-use mathlib.Core.Bool.{true, not, _||_, cond}
+use mathlib.Core.Bool.{true, false, not, _||_, cond}
 use mathlib.Core.Option.{Option, none, some}
 use mathlib.Core.List.{List, [], _∷_}
 use Prim.Native.Nat.{ℕ, _-_, _%_}
@@ -30,6 +30,10 @@ pub data Call : Type 0 where
   read : Call
 
 module _ (S : Settings) where
+  -- the view after an accepted open: round 1 and nothing else
+  abbrev pub fresh : Member S
+  fresh = record { round = 1; proposal = none; dag = λ a r. none; endorsed = λ a r. false; chain = [] }
+
   -- the proposal of member k with this previous set and these transactions
   abbrev pub drafted : ℕ → Member S → ℕ → List Transaction → Content
   drafted k s previous l = record { author = k; round = s .round; previous = previous; transactions = l }

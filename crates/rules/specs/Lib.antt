@@ -10,3 +10,8 @@ pub mod CertificateMoves
 pub mod CommitMove
 pub mod Signatures
 pub mod AcceptedMoves
+pub mod Rounds
+pub mod Implementations
+pub mod Runs
+pub mod RunAgreement
+pub mod RuleRuns
