@@ -1,9 +1,11 @@
 -- Every accepted call of a correct member is a move of the theory.
 use mathlib.Core.Path.{_≡_, refl}
-use mathlib.Core.Bool.{Bool, true≢false}
+use mathlib.Core.Bool.{Bool, true, true≢false}
 use mathlib.Core.Option.{Option, none, some}
 use mathlib.Core.List.{List, _++_}
 use Prim.Native.Nat.{ℕ, _-_, _≤_, _<_}
+use lib.Dec.{ltb}
+use borrow.Author.Tests.{ltb-true}
 use Rattle.base.specs.Checks.{refusal, numbered}
 use Rattle.agreement.specs.View.{Log}
 use Rattle.agreement.specs.Invariants.{Invariant}
@@ -22,14 +24,14 @@ use Rattle.rules.specs.CertificateMoves.{SignedBy, certify-move, accept-
 use Rattle.rules.specs.CommitMove.{commit-call-move}
 
 -- the previous set of what a member signs is handed in as a 16-bit number
-abbrev pub SetFits : Call → Type 0
-SetFits (propose previous l) = previous < 65536
-SetFits (endorse p) = p .previous < 65536
-SetFits (certify e) = Unit {0}
-SetFits (accept p e) = Unit {0}
-SetFits advance = Unit {0}
-SetFits commit = Unit {0}
-SetFits read = Unit {0}
+abbrev pub setFits : Call → Bool
+setFits (propose previous l) = ltb previous 65536
+setFits (endorse p) = ltb (p .previous) 65536
+setFits (certify e) = true
+setFits (accept p e) = true
+setFits advance = true
+setFits commit = true
+setFits read = true
 
 module _ (S : Settings) (correct : ℕ → Bool) (G : Log (rules S)) (k : ℕ) (s : Member S) where
   -- no signature of a correct member under the certificate that the call takes in is forged
@@ -42,10 +44,10 @@ module _ (S : Settings) (correct : ℕ → Bool) (G : Log (rules S)) (k : ℕ) (
     certify-call-move e none i g h = passed _ refl h λ h15. absurd (true≢false h15)
     certify-call-move e (some p) i g h = certify-move S correct G k s l p e low i (I .signing) (g p e (certifies p e i)) h
 
-    pub accepted-move : (c : Call) → SetFits c → Genuine c → verdict S k s c ≡ 0 → Move correct G k s l (after S k s c) (signs S k s c ++ l)
+    pub accepted-move : (c : Call) → setFits c ≡ true → Genuine c → verdict S k s c ≡ 0 → Move correct G k s l (after S k s c) (signs S k s c ++ l)
     unfolding verdict after
-    accepted-move (propose previous txs) f g h = propose-move S correct G k s l previous txs from f h
-    accepted-move (endorse p) f g h = endorse-move S correct G k s l p f h
+    accepted-move (propose previous txs) f g h = propose-move S correct G k s l previous txs from (ltb-true previous 65536 f) h
+    accepted-move (endorse p) f g h = endorse-move S correct G k s l p (ltb-true (p .previous) 65536 f) h
     accepted-move (certify e) f g h = certify-call-move e (s .proposal) refl g h
     accepted-move (accept p e) f g h = accept-move S correct G k s l p e (g p e (accepts p e)) h
     accepted-move advance f g h = Moves.advance

@@ -20,13 +20,13 @@ use Rattle.rules.specs.Calls as Calls
 use Rattle.rules.specs.Calls.{verdict}
 use Rattle.rules.specs.Signatures as Signatures
 use Rattle.rules.specs.AcceptedMoves as AcceptedMoves
-use Rattle.rules.specs.AcceptedMoves.{SetFits, accepted-move}
+use Rattle.rules.specs.AcceptedMoves.{setFits, accepted-move}
 use Rattle.rules.specs.Rounds.{IsRound}
 
 -- from the view s to the view t by an accepted call of member k
 pub record Follows (S : Settings) (k : ℕ) (s : Member S) (c : Calls.Call) (t : Member S) : Type 0 where
   pub started : 1 ≤ s .round
-  pub fits : SetFits c
+  pub fits : setFits c ≡ true
   pub accepted : verdict S k s c ≡ 0
   pub becomes : t ≡ Calls.after S k s c
 

@@ -15,3 +15,6 @@ pub mod Implementations
 pub mod Runs
 pub mod RunAgreement
 pub mod RuleRuns
+pub mod RunTests
+pub mod RunTestLaws
+pub mod Sample

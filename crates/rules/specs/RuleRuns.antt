@@ -11,7 +11,7 @@ use Rattle.sheet.specs.Ranges.{outOfRange}
 use Rattle.sheet.specs.SheetLaws.{settings-fit}
 use Rattle.rules.specs.Tests.{Member}
 use Rattle.rules.specs.Calls.{Call, fresh, verdict, after, result}
-use Rattle.rules.specs.AcceptedMoves.{SetFits}
+use Rattle.rules.specs.AcceptedMoves.{setFits}
 use Rattle.rules.specs.Rounds.{InRounds, fresh-rounds, rounds-kept}
 use Rattle.rules.specs.Implementations.{Implementation}
 use Rattle.rules.specs.Runs.{Group, Entries, Run, Agreed}
@@ -44,7 +44,7 @@ module _ (S : Settings) where
         ruled = λ c. c;
         answer = verdict S;
         after = result S;
-        Handed = λ k s c. SetFits c;
+        Handed = λ k s c. setFits c ≡ true;
         Good = λ k s. InRounds S s;
         good-after = result-rounds;
         held-rounds = λ k s h. h .held;
