@@ -48,7 +48,7 @@ endorse-signs : (S : Settings) (k : ℕ) (s : Member S) (c : Calls.Call) (p : Co
 endorse-signs S k s c p e = rw e (List·Memᴰ·head refl)
 
 module _ {S : Settings} {F : Implementation S} (X : Group S F) where
-  open Implementation F using (view, answer, after, Good, good-after, held-rounds)
+  open Implementation F using (State, Call, view, answer, after, Handed, Good, good-after, held-rounds)
   open Group X using (correct, start, fresh)
 
   -- what was signed in the list is in the log
@@ -69,22 +69,27 @@ module _ {S : Settings} {F : Implementation S} (X : Group S F) where
           (signed-in (engines X) start p a l (made-signed p a (λ s c. Proposes S a s c p) (λ s c. propose-signs S a s c p) l (x .by-author (rw e c))))
       go (inr e) = signed-in (engines X) start p i l (made-signed p i (λ s c. c ≡ endorse p) (λ s c. endorse-signs S i s c p) l (x .by-endorsers i c e))
 
-  good : (l : Entries X) (i : ℕ) → correct i ≡ true → Good i (stateAfter X l i)
+  -- what holds at the start and every call keeps holds in every state of a run
+  pub kept : (Q : ℕ → State → Type 0) → ((i : ℕ) → correct i ≡ true → Q i (start i)) → ((k : ℕ) (s : State) (c : Call) → Handed k s c → Q k s → Q k (after k s c))
+      → (l : Entries X) → Run X l → (i : ℕ) → correct i ≡ true → Q i (stateAfter X l i)
   unfolding states
-  good [] i c = X .good i c
-  good (e ∷ l) i c = go (eqb i (e .who)) (good l i c)
+  kept Q a f [] r i c = a i c
+  kept Q a f (e ∷ l) r i c = go (eqb i (e .who)) refl (kept Q a f l (r .2) i c)
     where
-      go : (b : Bool) → Good i (stateAfter X l i) → Good i (cond b (after i (stateAfter X l i) (e .call)) (stateAfter X l i))
-      go true h = good-after i (stateAfter X l i) (e .call) h
-      go false h = h
+      go : (b : Bool) → eqb i (e .who) ≡ b → Q i (stateAfter X l i) → Q i (cond b (after i (stateAfter X l i) (e .call)) (stateAfter X l i))
+      go true t h =
+          f i (stateAfter X l i) (e .call) (subst (λ (k : ℕ). Handed k (stateAfter X l k) (e .call)) (sym (eqb-true i (e .who) t)) (r .0 .handed)) h
+      go false t h = h
 
   -- a held certificate is of a round, so the premise on weight covers it
-  tolerant : (l : Entries X) → WithinBound X l → FaultTolerant correct (viewAfter X l)
-  tolerant l b j p c h = b j (p .round) c (held-rounds j (stateAfter X l j) (good l j c) (p .author) (p .round) p h)
+  tolerant : (l : Entries X) → Run X l → WithinBound X l → FaultTolerant correct (viewAfter X l)
+  tolerant l r b j p c h =
+      let g = kept Good (X .good) (λ k s d x q. good-after k s d q) l r j c in
+      b j (p .round) c (held-rounds j (stateAfter X l j) g (p .author) (p .round) p h)
 
   legal : (l : Entries X) → Run X l → Legal (engines X) start l
   legal [] r = tt
-  legal (e ∷ l) r = (r .0 .by, (r .0 .handed, λ a p d t. signed-by l p d (r .0 .signed a p d t)), tolerant (e ∷ l) (r .1), legal l (r .2))
+  legal (e ∷ l) r = (r .0 .by, (r .0 .handed, λ a p d t. signed-by l p d (r .0 .signed a p d t)), tolerant (e ∷ l) r (r .1), legal l (r .2))
 
   -- the chains of correct members never fork
   pub never-fork : (l : Entries X) → Run X l → Agree correct (viewAfter X l)
