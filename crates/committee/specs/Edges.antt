@@ -1,7 +1,7 @@
 -- The cases that document 01 marks P, as one table under a common theorem.
 use mathlib.Core.Path.{_≡_, refl}
 use mathlib.Core.Bool.{Bool, true, false, cond, _&&_}
-use mathlib.Core.Option.{Option, none, some}
+use mathlib.Core.Option.{none, some}
 use mathlib.Core.List.{List, [], _∷_}
 use Prim.Native.Nat.{ℕ}
 use lib.ListN.{set}
@@ -18,7 +18,7 @@ use Rattle.sheet.specs.Sheets.{blankSheet, blankWeight, weightAt, filled}
 use Rattle.sheet.specs.Ranges.{weightIn}
 use Rattle.committee.specs.Changes.{changes, changesOf, row, rows, ordered}
 use Rattle.committee.specs.Committees.{step, bondedFrom, committeeOf, knownBy, boundOf, quorumWeight, shareOf}
-use Rattle.committee.specs.Leaders.{countBelow, memberBelow, memberAt, leaderOf}
+use Rattle.committee.specs.Leaders.{countBelow, memberBelow, memberAt, leaderOf, leaderNumber}
 
 -- ---- what the cases speak of
 
@@ -40,11 +40,6 @@ unbond m = Unbond (record { 0 = m })
 unfoldable pub bonding : Chain Content
 bonding = record { round = 2; holds = λ a r. cond (eqb a 0 && eqb r 1) (some (record { author = 0; round = 1; previous = 0; transactions = bond 5 7 ∷ [] })) none } ∷ []
 
--- the number of a leader, 16 for none
-unfoldable pub number : Option ℕ → ℕ
-number none = 16
-number (some a) = a
-
 unfoldable pub truth : Bool → ℕ
 truth true = 1
 truth false = 0
@@ -57,8 +52,8 @@ cases =
     ∷ (quorumWeight 0, 0) ∷ (quorumWeight 1, 1) ∷ (quorumWeight 3, 3) ∷ (quorumWeight 4, 3) ∷ (quorumWeight 6, 5) ∷ (quorumWeight 7, 5)
     ∷ (truth (knownBy blank [] 22), 1) ∷ (truth (knownBy blank [] 23), 0)
     ∷ (weightIn (committeeOf blank bonding 22) 5, 0) ∷ (weightIn (committeeOf blank bonding 23) 5, 7)
-    ∷ (number (leaderOf (weightIn (blank .weights)) 2), 1) ∷ (number (leaderOf (weightIn (blank .weights)) 4), 2)
-    ∷ (number (leaderOf (weightIn (blank .weights)) 6), 3) ∷ (number (leaderOf (weightIn (blank .weights)) 8), 0)
+    ∷ (leaderNumber (leaderOf (weightIn (blank .weights)) 2), 1) ∷ (leaderNumber (leaderOf (weightIn (blank .weights)) 4), 2)
+    ∷ (leaderNumber (leaderOf (weightIn (blank .weights)) 6), 3) ∷ (leaderNumber (leaderOf (weightIn (blank .weights)) 8), 0)
     ∷ (shareOf 1 16, 63)
     ∷ (weightIn (changes (unbond 2 ∷ bond 2 5 ∷ []) (blank .weights)) 2, 5) ∷ (weightIn (changes (bond 2 5 ∷ unbond 2 ∷ []) (blank .weights)) 2, 0)
     ∷ (weightIn (blank .weights) 3, 1) ∷ (weightIn (filled written .weights) 3, 0)
@@ -70,5 +65,5 @@ agree [] = true
 agree (x ∷ l) = eqb (x .0) (x .1) && agree l
 
 pub edges : agree cases ≡ true
-unfolding agree cases blank written bond unbond bonding number truth boundOf quorumWeight knownBy committeeOf bondedFrom step ordered rows row changesOf changes leaderOf memberAt memberBelow countBelow shareOf filled weightAt blankWeight tab sumTo
+unfolding agree cases blank written bond unbond bonding truth boundOf quorumWeight knownBy committeeOf bondedFrom step ordered rows row changesOf changes leaderOf memberAt memberBelow countBelow shareOf filled weightAt blankWeight tab sumTo
 edges = refl

@@ -1,10 +1,12 @@
 pub mod Chain
 pub mod Changes
 pub mod ChangeLaws
+pub mod Totals
+pub mod TotalLaws
 pub mod Committees
+pub mod CommitteeLaws
 pub mod Leaders
+pub mod LeaderLaws
 pub mod Instance
 pub mod Lawful
 pub mod Edges
-pub mod Totals
-pub mod TotalLaws

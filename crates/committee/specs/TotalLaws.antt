@@ -4,6 +4,7 @@ use mathlib.Core.Bool.{Bool, true, false, cond}
 use mathlib.Core.List.{List}
 use Prim.Native.Nat.{ℕ, zero, suc, _+_, _*_, _≤_, _<_}
 use native.Mathlib.Omega.{arith}
+use native.Mathlib.Numerals.{add-one}
 use native.Mathlib.Decide.{ℕ-discrete, decLt}
 use lib.ListN.{set, length}
 use lib.Seq.{getD-set-same, getD-set-other, set-out}
@@ -36,6 +37,16 @@ sum-none : (n : ℕ) → sumTo (λ i. 0) n ≡ 0
 unfolding sumTo
 sum-none zero = refl
 sum-none (suc n) = let h = sum-none n in omega arith
+
+-- a longer sum is no smaller
+pub sum-up : (f : ℕ → ℕ) (i n : ℕ) → i ≤ n → sumTo f i ≤ sumTo f n
+unfolding sumTo
+sum-up f i zero h = let e : i ≡ 0 = omega arith in rw e (omega arith)
+sum-up f i (suc n) h = go (ℕ-discrete i (suc n)) (λ l. sum-up f i n l)
+  where
+    go : Dec (i ≡ suc n) → (i ≤ n → sumTo f i ≤ sumTo f n) → sumTo f i ≤ sumTo f n + f n
+    go (yes e) k = rw e (omega arith)
+    go (no e) k = let q = k (omega arith) in omega arith
 
 -- rows before columns, or columns before rows
 sum-swap : (f : ℕ → ℕ → ℕ) (m n : ℕ) → sumTo (λ k. sumTo (f k) n) m ≡ sumTo (λ r. sumTo (λ k. f k r) m) n
@@ -111,13 +122,13 @@ pub fold-raises-each : (f : ℕ → List ℕ → List ℕ) (c n : ℕ) → ((i :
 fold-raises-each f c n h = raises-more (foldTo f n) (sumTo (λ i. c) n) (n * c) (sum-le (λ i. c) c n (λ i l. omega arith)) (fold-raises f (λ i. c) n h)
 
 -- a place is in one block: over all blocks, rows and members it counts once
-pub marks-once : (mark : ℕ → ℕ → ℕ) (c blocks n : ℕ) → sumTo (λ k. sumTo (λ r. sumTo (λ m. cond (eqb (mark m r) (suc k)) c 0) 16) n) blocks ≤ n * (16 * c)
+pub marks-once : (mark : ℕ → ℕ → ℕ) (c blocks n : ℕ) → sumTo (λ k. sumTo (λ r. sumTo (λ m. cond (eqb (mark m r) (k + 1)) c 0) 16) n) blocks ≤ n * (16 * c)
 marks-once mark c blocks n =
-    rw (sum-swap (λ k r. sumTo (λ m. cond (eqb (mark m r) (suc k)) c 0) 16) blocks n)
-    (sum-le (λ r. sumTo (λ k. sumTo (λ m. cond (eqb (mark m r) (suc k)) c 0) 16) blocks) (16 * c) n
-    (λ r l. rw (sum-swap (λ k m. cond (eqb (mark m r) (suc k)) c 0) blocks 16)
-    (sum-le (λ m. sumTo (λ k. cond (eqb (mark m r) (suc k)) c 0) blocks) c 16 (λ m h. at-once (mark m r) blocks))))
+    rw (sum-swap (λ k r. sumTo (λ m. cond (eqb (mark m r) (k + 1)) c 0) 16) blocks n)
+    (sum-le (λ r. sumTo (λ k. sumTo (λ m. cond (eqb (mark m r) (k + 1)) c 0) 16) blocks) (16 * c) n
+    (λ r l. rw (sum-swap (λ k m. cond (eqb (mark m r) (k + 1)) c 0) blocks 16)
+    (sum-le (λ m. sumTo (λ k. cond (eqb (mark m r) (k + 1)) c 0) blocks) c 16 (λ m h. at-once (mark m r) blocks))))
   where
-    at-once : (b n : ℕ) → sumTo (λ k. cond (eqb b (suc k)) c 0) n ≤ c
-    at-once zero n = rw (sum-same (λ k. cond (eqb 0 (suc k)) c 0) (λ k. 0) n (λ k h. rw (eqb·zero-suc k) refl), sum-none n) (omega arith)
-    at-once (suc b) n = rw (sum-same (λ k. cond (eqb (suc b) (suc k)) c 0) (λ k. cond (eqb b k) c 0) n (λ k h. rw (eqb·suc-suc b k) refl)) (sum-one c b n .1)
+    at-once : (b n : ℕ) → sumTo (λ k. cond (eqb b (k + 1)) c 0) n ≤ c
+    at-once zero n = rw (sum-same (λ k. cond (eqb 0 (k + 1)) c 0) (λ k. 0) n (λ k h. rw (add-one k, eqb·zero-suc k) refl), sum-none n) (omega arith)
+    at-once (suc b) n = rw (sum-same (λ k. cond (eqb (suc b) (k + 1)) c 0) (λ k. cond (eqb b k) c 0) n (λ k h. rw (add-one k, eqb·suc-suc b k) refl)) (sum-one c b n .1)

@@ -1,1 +1,133 @@
-// committees
+// Committees: sixteen weights, 0 for a non-member. Their weight, fault bound and quorums, and a member's share.
+pub mod change;
+pub mod leader;
+
+use sheet::Weight;
+use terms::Member;
+ghost use mathlib.Core.Path.{_≡_};
+ghost use mathlib.Core.Bool.{cond, not, _&&_};
+ghost use Prim.Native.Nat.{_+_, _*_, _<_, _≤_};
+ghost use lib.Dec.{ltb};
+ghost use Rattle.base.specs.Sets.{isIn};
+ghost use Rattle.agreement.specs.Weights.{weigh, total};
+ghost use Rattle.sheet.specs.Ranges.{weightIn};
+ghost use Rattle.committee.specs.Committees.{boundOf, outsider, short, quorum, shareOf};
+ghost use Rattle.committee.specs.Leaders.{members};
+ghost use Rattle.committee.specs.Totals.{Light};
+
+// Is m a member of the committee?
+pub fn is_member(w: &[u64; 16], m: Member) -> bool
+    requires { ⌜ m .0 < 16 ⌝ }
+    ensures { λ v. ⌜ v ≡ members (weightIn (now (w .entry))) (m .0) ⌝ }
+{
+    0 < w[m.0 as usize]
+}
+
+// The total weight.
+pub fn total_weight(w: &[u64; 16]) -> Weight
+    requires { ⌜ Light (now w) ⌝ }
+    ensures { λ v. ⌜ v .0 ≡ total 16 (weightIn (now (w .entry))) ⌝ }
+{
+    let mut sum: u64 = 0;
+    for i in 0..16usize {
+        sum += w[i];
+    }
+    Weight(sum)
+}
+
+// What a member adds to the weight of a set.
+fn part(w: &[u64; 16], set: u32, m: Member) -> Weight
+    requires { ⌜ m .0 < 16 ⌝ }
+    ensures { λ v. ⌜ v .0 ≡ cond (isIn set (m .0)) (weightIn (now (w .entry)) (m .0)) 0 ⌝ }
+{
+    if base::has(set, m.0) {
+        return Weight(w[m.0 as usize]);
+    }
+    Weight(0)
+}
+
+// The weight of a set of members.
+pub fn set_weight(w: &[u64; 16], set: u32) -> Weight
+    requires { ⌜ Light (now w) ⌝ }
+    ensures { λ v. ⌜ v .0 ≡ weigh 16 (weightIn (now (w .entry))) (isIn set) ⌝ }
+{
+    let mut sum: u64 = 0;
+    for i in 0..16u32 {
+        let x = part(w, set, Member(i));
+        sum += x.0;
+    }
+    Weight(sum)
+}
+
+// The fault bound of a total weight.
+pub fn fault_bound(n: Weight) -> Weight
+    ensures { λ v. ⌜ v .0 ≡ boundOf (n .0) ⌝ }
+{
+    if n.0 == 0 {
+        return Weight(0);
+    }
+    Weight((n.0 - 1) / 3)
+}
+
+// Is the member in the set, and outside the committee?
+fn is_outsider(w: &[u64; 16], set: u32, m: Member) -> bool
+    requires { ⌜ m .0 < 16 ⌝ }
+    ensures { λ v. ⌜ v ≡ (isIn set (m .0) && not (ltb 0 (weightIn (now (w .entry)) (m .0)))) ⌝ }
+{
+    if !base::has(set, m.0) {
+        return false;
+    }
+    !is_member(w, m)
+}
+
+// Is somebody of the set outside the committee?
+pub fn has_outsider(w: &[u64; 16], set: u32) -> bool
+    ensures { λ v. ⌜ v ≡ outsider (weightIn (now (w .entry))) (isIn set) ⌝ }
+{
+    for i in 0..16u32 {
+        if is_outsider(w, set, Member(i)) {
+            return true;
+        }
+    }
+    false
+}
+
+// Does the set weigh less than a quorum?
+pub fn is_short(w: &[u64; 16], set: u32) -> bool
+    requires { ⌜ Light (now w) ⌝ }
+    ensures { λ v. ⌜ v ≡ short (weightIn (now (w .entry))) (isIn set) ⌝ }
+{
+    let n = total_weight(w);
+    let f = fault_bound(n);
+    let a = set_weight(w, set);
+    a.0 < n.0 - f.0
+}
+
+// Is the set a quorum?
+pub fn is_quorum(w: &[u64; 16], set: u32) -> bool
+    requires { ⌜ Light (now w) ⌝ }
+    ensures { λ v. ⌜ v ≡ quorum (weightIn (now (w .entry))) (isIn set) ⌝ }
+{
+    if has_outsider(w, set) {
+        return false;
+    }
+    !is_short(w, set)
+}
+
+// Twice a weight in thousandths of n, before the division, with n more: so halves go upward.
+fn numerator(x: Weight, n: Weight) -> Weight
+    requires { ⌜ (x .0 ≤ n .0) × (n .0 ≤ 562949953421312) ⌝ }
+    ensures { λ v. ⌜ v .0 ≡ 2000 * x .0 + n .0 ⌝ }
+{
+    Weight(2000 * x.0 + n.0)
+}
+
+// A member's share: its weight in thousandths of the total, to the nearest, halves upward.
+pub fn share(w: &[u64; 16], m: Member) -> u32
+    requires { ⌜ (m .0 < 16) × (0 < weightIn (now w) (m .0)) × Light (now w) ⌝ }
+    ensures { λ v. ⌜ v ≡ shareOf (weightIn (now (w .entry)) (m .0)) (total 16 (weightIn (now (w .entry)))) ⌝ }
+{
+    let n = total_weight(w);
+    let x = numerator(Weight(w[m.0 as usize]), n);
+    (x.0 / (2 * n.0)) as u32
+}

@@ -1,0 +1,29 @@
+use mathlib.Core.Path.{_≡_, refl, sym, ap, _∙_}
+use native.Mathlib.Omega.{arith}
+use Prim.Native.Nat.{_+_, _-_, _≤_, _<_}
+use Rattle.committee.specs.Committees.{short, quorumWeight}
+use Rattle.committee.specs.CommitteeLaws.{bound-le}
+use borrow.Author.Needs.{needs}
+use Rattle.committee.proofs.is_short.Statement.{statement}
+use Rattle.committee.proofs.is_short.Tie as tie
+
+total-weight-requires : tie.Need-total-weight-requires
+total-weight-requires c κs = search needs
+
+fault-bound-requires : tie.Need-fault-bound-requires
+fault-bound-requires c κs = search needs
+
+set-weight-requires : tie.Need-set-weight-requires
+set-weight-requires c κs = search needs
+
+sub-result : tie.Need-sub-result
+sub-result c = let h = bound-le (c .before .before .before .before .total-weight .result .0) in omega (arith, c .before .before .before .fault-bound .ensures)
+
+returns : tie.Need-returns
+unfolding short quorumWeight
+returns c = rw (c .before .before .before .set-weight .ensures, c .before .before .before .before .fault-bound .ensures, c .before .before .before .before .before .total-weight .ensures) refl
+
+pub is-short-spec : {M : Type 1} → statement M
+is-short-spec =
+    tie.close
+    (tie.spec total-weight-requires fault-bound-requires set-weight-requires sub-result returns)

@@ -1,0 +1,57 @@
+-- Laws of weights, fault bounds and quorums.
+use mathlib.Core.Path.{_≡_, refl}
+use mathlib.Core.Bool.{Bool, true, false, not, cond}
+use Prim.Native.Nat.{ℕ, _+_, _-_, _*_, _/_, _≤_, _<_}
+use native.Mathlib.Omega.{arith}
+use native.Mathlib.Nat.{div-lt-iff-lt-mul}
+use borrow.Author.Tests.{le-leb, lt-leb}
+use Rattle.agreement.specs.Rules.{Chain}
+use Rattle.terms.specs.Proposals.{Content}
+use Rattle.sheet.specs.declared.Settings.{Settings}
+use Rattle.base.specs.SumLaws.{sum-mono}
+use Rattle.agreement.specs.Weights.{weigh, total}
+use Rattle.committee.specs.Committees.{bondedFrom, committeeOf, boundOf, outsider, short, quorum, shareOf}
+use Rattle.committee.specs.TotalLaws.{sum-up}
+
+-- up to the lookback the committee is the starting one
+pub committee-start : (S : Settings) (c : Chain Content) (r : ℕ) → r ≤ S .lookback → committeeOf S c r ≡ S .weights
+unfolding committeeOf
+committee-start S c r h = rw (le-leb r (S .lookback) h) refl
+
+-- above it, the bonded one of the round that many rounds before
+pub committee-bonded : (S : Settings) (c : Chain Content) (r : ℕ) → S .lookback < r → committeeOf S c r ≡ bondedFrom (S .ceiling .0) (S .weights) c (r - S .lookback)
+unfolding committeeOf
+committee-bonded S c r h = rw (lt-leb r (S .lookback) h) refl
+
+-- the members below i that are in a set weigh no more than all
+pub weigh-le : (w : ℕ → ℕ) (S : ℕ → Bool) (i n : ℕ) → i ≤ n → weigh i w S ≤ total n w
+weigh-le w S i n h =
+    let p = sum-mono (λ j. cond (S j) (w j) 0) w i (λ j l. part (S j) (w j)) in
+    let q = sum-up w i n h in
+    omega arith
+  where
+    part : (b : Bool) (x : ℕ) → cond b x 0 ≤ x
+    part true x = omega arith
+    part false x = omega arith
+
+pub bound-le : (n : ℕ) → 3 * boundOf n ≤ n
+unfolding boundOf
+bound-le n = omega arith
+
+pub quorum-not : (w : ℕ → ℕ) (set : ℕ → Bool) → outsider w set ≡ true → quorum w set ≡ false
+unfolding quorum
+quorum-not w set e = rw e refl
+
+-- inside the committee, weight decides
+pub quorum-inside : (w : ℕ → ℕ) (set : ℕ → Bool) → outsider w set ≡ false → quorum w set ≡ not (short w set)
+unfolding quorum
+quorum-inside w set e = rw e refl
+
+-- a share is at most a thousand thousandths
+pub share-le : (w n : ℕ) → 0 < n → w ≤ n → shareOf w n ≤ 1000
+unfolding shareOf
+share-le w n h l =
+    let p : 0 < 2 * n = omega arith in
+    let q : 2000 * w + n < 1001 * (2 * n) = omega arith in
+    let r : (2000 * w + n) / (2 * n) < 1001 = div-lt-iff-lt-mul p .1 q in
+    omega arith

@@ -1,0 +1,125 @@
+-- How far the walk raises the total weight.
+use mathlib.Core.Path.{_≡_, refl, _∙_}
+use mathlib.Core.Bool.{Bool, true, false, cond}
+use mathlib.Core.List.{List}
+use Prim.Native.Nat.{ℕ, _+_, _*_, _<_, _≤_}
+use native.Mathlib.Omega.{arith}
+use native.Mathlib.Nat.{mul-le-mul-right, le-refl}
+use native.Mathlib.Decide.{decLt}
+use lib.ListN.{getD}
+use lib.Dec.{eqb}
+use borrow.Author.Tests.{eqb-true, eqb-false}
+use Rattle.base.specs.Folds.{foldTo, sumTo}
+use Rattle.terms.specs.declared.Transaction.the-variants.{Bond, Unbond, Entry}
+use Rattle.terms.specs.Transactions.{amountOf, readTransaction}
+use Rattle.store.specs.Table.{word, blockRound, heldAt, markAt, countAt, transactionAt}
+use Rattle.store.specs.TableLaws.{count-le}
+use Rattle.committee.specs.Chain.{holdsAt, blockAt, chainOf}
+use Rattle.committee.specs.Changes.{change, changesOf, listed}
+use Rattle.committee.specs.Committees.{step, bondedFrom}
+use Rattle.committee.specs.Totals.{totalIn, Raises}
+use Rattle.committee.specs.TotalLaws.{still-raises, change-raises, raised, raises-more, raises-same, fold-raises, fold-raises-each, marks-once}
+use Rattle.walk.specs.Walk.{rowChange, rowsChange, blockChange}
+use Rattle.walk.specs.WalkLaws.{record-fold, place-absent, place-other, place-present, block-fold, bonded-fold, step-counts, step-waits}
+
+-- the amounts of held transactions are at most a, in the rounds 1 to n
+abbrev pub Modest : List ℕ → ℕ → ℕ → Type 0
+Modest t n a = (m r k : ℕ) → 1 ≤ r → r ≤ n → heldAt t m r ≡ true → k < countAt t m r → amountOf (transactionAt t m r k) ≤ a
+
+turns-raise : (t : List ℕ) (m r a c : ℕ) → c ≤ 4 → ((k : ℕ) → k < c → amountOf (transactionAt t m r k) ≤ a) → Raises (foldTo (λ k. change (transactionAt t m r k)) c) (4 * a)
+turns-raise t m r a c h l =
+    raises-more (foldTo (λ k. change (transactionAt t m r k)) c) (c * a) (4 * a) (mul-le-mul-right a h)
+    (fold-raises-each (λ k. change (transactionAt t m r k)) a c
+    (λ k i. raises-more (change (transactionAt t m r k)) (amountOf (transactionAt t m r k)) a (l k i) (change-raises (transactionAt t m r k))))
+
+module _ (t : List ℕ) (n a : ℕ) (modest : Modest t n a) where
+  -- a place counts in the block that its mark names
+  place-raises : (k m r : ℕ) → 1 ≤ r → r ≤ n → Raises (changesOf (listed (holdsAt t k m r))) (cond (eqb (markAt t m r) k) (4 * a) 0)
+  place-raises k m r h l = go (heldAt t m r) refl (eqb (markAt t m r) k) refl
+    where
+      go : (x : Bool) → heldAt t m r ≡ x → (y : Bool) → eqb (markAt t m r) k ≡ y → Raises (changesOf (listed (holdsAt t k m r))) (cond y (4 * a) 0)
+      go false e y q = raises-same (changesOf (listed (holdsAt t k m r))) (λ w. w) (cond y (4 * a) 0) (λ w. place-absent t k m r w e) (still-raises (cond y (4 * a) 0))
+      go true e false q = raises-same (changesOf (listed (holdsAt t k m r))) (λ w. w) 0 (λ w. place-other t k m r w (eqb-false (markAt t m r) k q)) (still-raises 0)
+      go true e true q =
+          raises-same (changesOf (listed (holdsAt t k m r))) (foldTo (λ j. change (transactionAt t m r j)) (countAt t m r)) (4 * a)
+          (λ w. place-present t k m r w e (eqb-true (markAt t m r) k q) ∙ record-fold t m r w)
+          (turns-raise t m r a (countAt t m r) (count-le t m r) (λ j i. modest m r j h l e i))
+
+  row-raises : (k r : ℕ) → 1 ≤ r → r ≤ n → Raises (rowChange t k r) (sumTo (λ m. cond (eqb (markAt t m r) k) (4 * a) 0) 16)
+  unfolding rowChange
+  row-raises k r h l = fold-raises (λ m. changesOf (listed (holdsAt t k m r))) (λ m. cond (eqb (markAt t m r) k) (4 * a) 0) 16 (λ m _. place-raises k m r h l)
+
+  block-raises : (k : ℕ) → Raises (blockChange n t k) (sumTo (λ r. sumTo (λ m. cond (eqb (markAt t m (0 + r + 1)) (k + 1)) (4 * a) 0) 16) n)
+  unfolding rowsChange
+  block-raises k =
+      raises-same (blockChange n t k) (foldTo (λ i. rowChange t (k + 1) (0 + i + 1)) n) (sumTo (λ r. sumTo (λ m. cond (eqb (markAt t m (0 + r + 1)) (k + 1)) (4 * a) 0) 16) n)
+      (block-fold t k n)
+      (fold-raises (λ i. rowChange t (k + 1) (0 + i + 1)) (λ r. sumTo (λ m. cond (eqb (markAt t m (0 + r + 1)) (k + 1)) (4 * a) 0) 16) n (λ i h. row-raises (k + 1) (0 + i + 1) (omega arith) (omega arith)))
+
+  step-raises : (s k : ℕ) → Raises (step n s (blockAt n t (k + 1)) (chainOf n t k)) (sumTo (λ r. sumTo (λ m. cond (eqb (markAt t m (0 + r + 1)) (k + 1)) (4 * a) 0) 16) n)
+  step-raises s k = go (decLt (blockRound t (k + 1)) s)
+    where
+      c : ℕ
+      c = sumTo (λ r. sumTo (λ m. cond (eqb (markAt t m (0 + r + 1)) (k + 1)) (4 * a) 0) 16) n
+
+      go : Dec (blockRound t (k + 1) < s) → Raises (step n s (blockAt n t (k + 1)) (chainOf n t k)) c
+      go (yes h) = raises-same (step n s (blockAt n t (k + 1)) (chainOf n t k)) (blockChange n t k) c (λ w. step-counts n s k t w h) (block-raises k)
+      go (no h) = raises-same (step n s (blockAt n t (k + 1)) (chainOf n t k)) (λ w. w) c (λ w. step-waits n s k t w (omega arith)) (still-raises c)
+
+  -- each place counts once at most
+  once : (f : ℕ → List ℕ → List ℕ) → ((k : ℕ) → Raises (f k) (sumTo (λ r. sumTo (λ m. cond (eqb (markAt t m (0 + r + 1)) (k + 1)) (4 * a) 0) 16) n)) → (k : ℕ) → Raises (foldTo f k) (n * (16 * (4 * a)))
+  once f h k =
+      raises-more (foldTo f k) (sumTo (λ j. sumTo (λ r. sumTo (λ m. cond (eqb (markAt t m (0 + r + 1)) (j + 1)) (4 * a) 0) 16) n) k) (n * (16 * (4 * a)))
+      (marks-once (λ m r. markAt t m (0 + r + 1)) (4 * a) k n)
+      (fold-raises f (λ j. sumTo (λ r. sumTo (λ m. cond (eqb (markAt t m (0 + r + 1)) (j + 1)) (4 * a) 0) 16) n) k (λ j _. h j))
+
+  -- the bonded committee
+  pub bonded-raises : (s k : ℕ) (w : List ℕ) → totalIn (bondedFrom n w (chainOf n t k) s) ≤ totalIn w + n * (16 * (4 * a))
+  bonded-raises s k w =
+      rw (bonded-fold n t w k s)
+      (raised (foldTo (λ j. step n s (blockAt n t (j + 1)) (chainOf n t j)) k) (n * (16 * (4 * a))) (once (λ j. step n s (blockAt n t (j + 1)) (chainOf n t j)) (step-raises s) k) w)
+
+  place-most : (k m r : ℕ) → 1 ≤ r → r ≤ n → Raises (changesOf (listed (holdsAt t k m r))) (4 * a)
+  place-most k m r h l = raises-more (changesOf (listed (holdsAt t k m r))) (cond (eqb (markAt t m r) k) (4 * a) 0) (4 * a) (go (eqb (markAt t m r) k)) (place-raises k m r h l)
+    where
+      go : (b : Bool) → cond b (4 * a) 0 ≤ 4 * a
+      go true = omega arith
+      go false = omega arith
+
+  pub places-raise : (k r c : ℕ) → 1 ≤ r → r ≤ n → Raises (foldTo (λ m. changesOf (listed (holdsAt t k m r))) c) (c * (4 * a))
+  places-raise k r c h l = fold-raises-each (λ m. changesOf (listed (holdsAt t k m r))) (4 * a) c (λ m _. place-most k m r h l)
+
+  pub rows-raise : (k b c : ℕ) → b + c ≤ n → Raises (rowsChange t k b c) (c * (16 * (4 * a)))
+  unfolding rowsChange rowChange
+  rows-raise k b c h = fold-raises-each (λ i. rowChange t k (b + i + 1)) (16 * (4 * a)) c (λ i l. places-raise k (b + i + 1) 16 (omega arith) (omega arith))
+
+-- ---- where each word is a 32-bit number
+
+module _ (t : List ℕ) (words : (i : ℕ) → getD t i 0 < 4294967296) where
+  amount-lt : (m r k : ℕ) → amountOf (transactionAt t m r k) ≤ 4294967295
+  unfolding transactionAt readTransaction word
+  amount-lt m r k = go (eqb (word t m r (4 + k * 3)) 0) (eqb (word t m r (4 + k * 3)) 1)
+    where
+      go : (x y : Bool) → amountOf (cond x (Bond (record { 0 = word t m r (5 + k * 3) }) (word t m r (6 + k * 3))) (cond y (Unbond (record { 0 = word t m r (5 + k * 3) })) (Entry (word t m r (5 + k * 3))))) ≤ 4294967295
+      go true y = let h = words (r * 272 + m * 16 + 16 + (6 + k * 3)) in omega arith
+      go false true = omega arith
+      go false false = omega arith
+
+  modest : (n : ℕ) → Modest t n 4294967295
+  modest n m r k _ _ _ _ = amount-lt m r k
+
+  pub turns-light : (m r c : ℕ) (w : List ℕ) → c ≤ 4 → totalIn (foldTo (λ k. change (transactionAt t m r k)) c w) ≤ totalIn w + 17179869180
+  turns-light m r c w h = raised (foldTo (λ k. change (transactionAt t m r k)) c) 17179869180 (turns-raise t m r 4294967295 c h (λ k _. amount-lt m r k)) w
+
+  pub places-light : (k r c : ℕ) (w : List ℕ) → c ≤ 16 → 1 ≤ r → totalIn (foldTo (λ m. changesOf (listed (holdsAt t k m r))) c w) ≤ totalIn w + 274877906880
+  places-light k r c w h l =
+      let p = raised (foldTo (λ m. changesOf (listed (holdsAt t k m r))) c) (c * 17179869180) (places-raise t r 4294967295 (modest r) k r c l (le-refl r)) w in
+      omega arith
+
+  pub rows-light : (k b c : ℕ) (w : List ℕ) → c ≤ 1024 → totalIn (rowsChange t k b c w) ≤ totalIn w + 281474976645120
+  rows-light k b c w h =
+      let p = raised (rowsChange t k b c) (c * 274877906880) (rows-raise t (b + c) 4294967295 (modest (b + c)) k b c (le-refl (b + c))) w in
+      omega arith
+
+  pub bonded-light : (n s k : ℕ) (w : List ℕ) → n ≤ 1024 → totalIn (bondedFrom n w (chainOf n t k) s) ≤ totalIn w + 281474976645120
+  bonded-light n s k w h = let p = bonded-raises t n 4294967295 (modest n) s k w in omega arith

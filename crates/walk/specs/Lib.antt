@@ -1,0 +1,4 @@
+pub mod Walk
+pub mod WalkLaws
+pub mod Readable
+pub mod BoundLaws

@@ -1,0 +1,25 @@
+-- The walk over the table that finds a committee: what each level of it does.
+use mathlib.Core.Bool.{cond}
+use mathlib.Core.List.{List}
+use Prim.Native.Nat.{ℕ, _+_}
+use lib.Dec.{eqb}
+use Rattle.base.specs.Folds.{foldTo}
+use Rattle.store.specs.Table.{blockRound}
+use Rattle.committee.specs.Chain.{holdsAt, blockAt, chainOf}
+use Rattle.committee.specs.Changes.{changesOf, listed, ordered}
+
+-- the places of row r that block k holds, by author
+unfoldable pub rowChange : List ℕ → ℕ → ℕ → List ℕ → List ℕ
+rowChange t k r w = foldTo (λ m. changesOf (listed (holdsAt t k m r))) 16 w
+
+-- those of the n rows above row a
+unfoldable pub rowsChange : List ℕ → ℕ → ℕ → ℕ → List ℕ → List ℕ
+rowsChange t k a n w = foldTo (λ i. rowChange t k (a + i + 1)) n w
+
+-- the block after the first k, where the ceiling is n
+unfoldable pub blockChange : ℕ → List ℕ → ℕ → List ℕ → List ℕ
+blockChange n t k w = changesOf (ordered n (blockAt n t (k + 1)) (chainOf n t k)) w
+
+-- the round of the newest of the first k blocks, 0 for none
+unfoldable pub lastRound : List ℕ → ℕ → ℕ
+lastRound t k = cond (eqb k 0) 0 (blockRound t k)
