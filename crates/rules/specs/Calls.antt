@@ -31,8 +31,8 @@ pub data Call : Type 0 where
 
 module _ (S : Settings) where
   -- the view after an accepted open: round 1 and nothing else
-  abbrev pub fresh : Member S
-  fresh = record { round = 1; proposal = none; dag = λ a r. none; endorsed = λ a r. false; chain = [] }
+  abbrev pub freshView : Member S
+  freshView = record { round = 1; proposal = none; dag = λ a r. none; endorsed = λ a r. false; chain = [] }
 
   -- the proposal of member k with this previous set and these transactions
   abbrev pub drafted : ℕ → Member S → ℕ → List Transaction → Content

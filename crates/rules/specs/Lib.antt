@@ -1,6 +1,7 @@
 pub mod Tests
 pub mod Calls
 pub mod Reads
+pub mod CallLaws
 pub mod Passed
 pub mod TestLaws
 pub mod Quorums

@@ -12,7 +12,7 @@ use Rattle.terms.specs.Proposals.{Content}
 use Rattle.sheet.specs.declared.Settings.{Settings}
 use Rattle.committee.specs.Instance.{rules}
 use Rattle.rules.specs.Tests.{Member}
-use Rattle.rules.specs.Calls.{Call, propose, endorse, certify, accept, advance, commit, read, fresh, drafted, accepting, advancing, verdict, certified, after}
+use Rattle.rules.specs.Calls.{Call, propose, endorse, certify, accept, advance, commit, read, freshView, drafted, accepting, advancing, verdict, certified, after}
 use Rattle.rules.specs.Passed.{passed}
 use Rattle.rules.specs.TestLaws.{round-fits}
 
@@ -26,7 +26,7 @@ pub record InRounds (S : Settings) (s : Member S) : Type 0 where
   pub held : (a r : ℕ) (p : Content) → s .dag a r ≡ some p → IsRound S (p .round)
 
 module _ (S : Settings) where
-  pub fresh-rounds : 1 ≤ S .ceiling .0 → InRounds S (fresh S)
+  pub fresh-rounds : 1 ≤ S .ceiling .0 → InRounds S (freshView S)
   fresh-rounds h = record { present = (omega arith, h); proposed = λ p e. absurd (Option·none-ne-some p e); held = λ a r p e. absurd (Option·none-ne-some p e) }
 
   module _ (s : Member S) (h : InRounds S s) where
