@@ -24,7 +24,7 @@ use Rattle.rules.specs.Runs.{Group, engines, Entries, stateAfter, viewAf
 use Rattle.rules.specs.RunTests.{isPropose, isEndorse, ofCertificate, isMade, isSigned, isBounded, isFair, isRun}
 
 -- a test that holds, or whose condition does not
-pub implied : (a b : Bool) → (not a || b) ≡ true → a ≡ true → b ≡ true
+implied : (a b : Bool) → (not a || b) ≡ true → a ≡ true → b ≡ true
 implied true b h e = h
 implied false b h e = absurd (false≢true e)
 
