@@ -19,8 +19,9 @@ use Rattle.committee.specs.Changes.{change, changesOf, listed}
 use Rattle.committee.specs.Committees.{step, bondedFrom}
 use Rattle.committee.specs.Totals.{totalIn, Raises}
 use Rattle.committee.specs.TotalLaws.{still-raises, change-raises, raised, raises-more, raises-same, fold-raises, fold-raises-each, marks-once}
-use Rattle.walk.specs.Walk.{rowChange, rowsChange, blockChange}
-use Rattle.walk.specs.WalkLaws.{record-fold, place-absent, place-other, place-present, block-fold, bonded-fold, step-counts, step-waits}
+use Rattle.walk.specs.Walk.{rowChange, rowsChange, blockChange, afterBlocks}
+use Rattle.walk.specs.WalkLaws.{record-fold, place-absent, place-other, place-present, block-fold}
+use Rattle.walk.specs.ChainLaws.{bonded-fold, step-counts, step-waits}
 
 -- the amounts of held transactions are at most a, in the rounds 1 to n
 abbrev pub Modest : List ℕ → ℕ → ℕ → Type 0
@@ -79,6 +80,11 @@ module _ (t : List ℕ) (n a : ℕ) (modest : Modest t n a) where
       rw (bonded-fold n t w k s)
       (raised (foldTo (λ j. step n s (blockAt n t (j + 1)) (chainOf n t j)) k) (n * (16 * (4 * a))) (once (λ j. step n s (blockAt n t (j + 1)) (chainOf n t j)) (step-raises s) k) w)
 
+  -- the weights after the first k blocks
+  after-raises : (k : ℕ) (w : List ℕ) → totalIn (afterBlocks n t k w) ≤ totalIn w + n * (16 * (4 * a))
+  unfolding afterBlocks
+  after-raises k w = raised (foldTo (blockChange n t) k) (n * (16 * (4 * a))) (once (blockChange n t) block-raises k) w
+
   place-most : (k m r : ℕ) → 1 ≤ r → r ≤ n → Raises (changesOf (listed (holdsAt t k m r))) (4 * a)
   place-most k m r h l = raises-more (changesOf (listed (holdsAt t k m r))) (cond (eqb (markAt t m r) k) (4 * a) 0) (4 * a) (go (eqb (markAt t m r) k)) (place-raises k m r h l)
     where
@@ -121,5 +127,5 @@ module _ (t : List ℕ) (words : (i : ℕ) → getD t i 0 < 4294967296) where
       let p = raised (rowsChange t k b c) (c * 274877906880) (rows-raise t (b + c) 4294967295 (modest (b + c)) k b c (le-refl (b + c))) w in
       omega arith
 
-  pub bonded-light : (n s k : ℕ) (w : List ℕ) → n ≤ 1024 → totalIn (bondedFrom n w (chainOf n t k) s) ≤ totalIn w + 281474976645120
-  bonded-light n s k w h = let p = bonded-raises t n 4294967295 (modest n) s k w in omega arith
+  pub after-light : (n k : ℕ) (w : List ℕ) → n ≤ 1024 → totalIn (afterBlocks n t k w) ≤ totalIn w + 281474976645120
+  after-light n k w h = let p = after-raises t n 4294967295 (modest n) k w in omega arith

@@ -1,4 +1,10 @@
 pub mod Walk
 pub mod WalkLaws
+pub mod ChainLaws
+pub mod Spans
+pub mod SpanLaws
 pub mod Readable
+pub mod ReadableLaws
 pub mod BoundLaws
+pub mod Fill
+pub mod FillLaws

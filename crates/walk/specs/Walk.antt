@@ -1,9 +1,9 @@
 -- The walk over the table that finds a committee: what each level of it does.
-use mathlib.Core.Bool.{cond}
+use mathlib.Core.Bool.{Bool, cond, _&&_}
 use mathlib.Core.List.{List}
-use Prim.Native.Nat.{ℕ, _+_}
-use lib.Dec.{eqb}
-use Rattle.base.specs.Folds.{foldTo}
+use Prim.Native.Nat.{ℕ, _+_, _%_}
+use lib.Dec.{eqb, ltb}
+use Rattle.base.specs.Folds.{foldTo, allTo}
 use Rattle.store.specs.Table.{blockRound}
 use Rattle.committee.specs.Chain.{holdsAt, blockAt, chainOf}
 use Rattle.committee.specs.Changes.{changesOf, listed, ordered}
@@ -20,6 +20,18 @@ rowsChange t k a n w = foldTo (λ i. rowChange t k (a + i + 1)) n w
 unfoldable pub blockChange : ℕ → List ℕ → ℕ → List ℕ → List ℕ
 blockChange n t k w = changesOf (ordered n (blockAt n t (k + 1)) (chainOf n t k)) w
 
+-- the first k blocks, oldest first
+unfoldable pub afterBlocks : ℕ → List ℕ → ℕ → List ℕ → List ℕ
+afterBlocks n t k w = foldTo (blockChange n t) k w
+
 -- the round of the newest of the first k blocks, 0 for none
 unfoldable pub lastRound : List ℕ → ℕ → ℕ
 lastRound t k = cond (eqb k 0) 0 (blockRound t k)
+
+-- the block after the first k has an even round, above that of the block before and below the ceiling n
+unfoldable pub blockFits : ℕ → List ℕ → ℕ → Bool
+blockFits n t k = eqb (blockRound t (k + 1) % 2) 0 && (ltb (lastRound t k) (blockRound t (k + 1)) && ltb (blockRound t (k + 1)) n)
+
+-- block rounds are even, rising and below the ceiling
+unfoldable pub blocksFit : ℕ → List ℕ → ℕ → Bool
+blocksFit n t blocks = allTo (blockFits n t) blocks

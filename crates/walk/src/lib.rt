@@ -1,36 +1,60 @@
 // The committee of a round, from the chain in the table.
+// Its cost is that of one pass over the held certificates and one over each block's rows. In every state that a run reaches a block's certificates
+// fill each row between its first and its last, so both are linear; marks that are scattered over a table by other means may cost more.
+pub mod advance;
+pub mod leaders;
 pub mod rows;
+pub mod spans;
 
 use sheet::Settings;
 use terms::Round;
 ghost use mathlib.Core.Path.{_≡_};
-ghost use Prim.Native.Nat.{_+_, _*_, _<_, _≤_};
-ghost use lib.ListN.{length};
+ghost use Prim.Native.Nat.{_<_, _≤_};
 ghost use Rattle.store.specs.Table.{Row};
-ghost use Rattle.committee.specs.Chain.{blockAt, chainOf};
-ghost use Rattle.committee.specs.Committees.{step, bondedFrom, committeeOf, knownBy};
-ghost use Rattle.committee.specs.Totals.{totalIn, Light};
-ghost use Rattle.walk.specs.Walk.{lastRound};
+ghost use Rattle.committee.specs.Chain.{chainOf};
+ghost use Rattle.committee.specs.Committees.{committeeOf, knownBy};
+ghost use Rattle.committee.specs.Totals.{Light};
+ghost use Rattle.walk.specs.Walk.{lastRound, blockFits, blocksFit};
 ghost use Rattle.walk.specs.Readable.{Readable};
 
-// The block after the first k, if its round is below s; n is the ceiling.
-fn apply_next(t: &[u32], k: u32, n: Round, s: Round, w: &mut [u64; 16])
-    requires { ⌜ Row (now t) (n .0) × (n .0 ≤ 1024) × (k < n .0) × (totalIn (now w) ≤ 562949953421312) ⌝ }
-    ensures { λ _. ⌜ now (w .exit) ≡ step (n .0) (s .0) (blockAt (n .0) (now (t .entry)) (k + 1)) (chainOf (n .0) (now (t .entry)) k) (now (w .entry)) ⌝ }
+// The round of the newest of the first k blocks, 0 for none.
+pub fn last_round(t: &[u32], k: u32) -> Round
+    requires { ⌜ Row (now t) k ⌝ }
+    ensures { λ v. ⌜ v .0 ≡ lastRound (now (t .entry)) k ⌝ }
 {
-    if store::block_round(t, k + 1) < s.0 {
-        crate::rows::apply_rows(t, k + 1, 0, n.0, w);
+    if k == 0 {
+        return Round(0);
     }
+    Round(store::block_round(t, k))
 }
 
-// The blocks of rounds below s, oldest first.
-fn apply_blocks(t: &[u32], blocks: u32, n: Round, s: Round, w: &mut [u64; 16])
-    requires { ⌜ Row (now t) (n .0) × (n .0 ≤ 1024) × (blocks ≤ n .0) × (totalIn (now w) ≤ 16000000) ⌝ }
-    ensures { λ _. ⌜ now (w .exit) ≡ bondedFrom (n .0) (now (w .entry)) (chainOf (n .0) (now (t .entry)) blocks) (s .0) ⌝ }
+// Has the block after the first k an even round, above that of the block before and below the ceiling n?
+fn block_fits(t: &[u32], k: u32, n: Round) -> bool
+    requires { ⌜ Row (now t) (n .0) × (n .0 ≤ 1024) × (k < n .0) ⌝ }
+    ensures { λ v. ⌜ v ≡ blockFits (n .0) (now (t .entry)) k ⌝ }
+{
+    let r = store::block_round(t, k + 1);
+    if r % 2 != 0 {
+        return false;
+    }
+    let last = last_round(t, k);
+    if r <= last.0 {
+        return false;
+    }
+    r < n.0
+}
+
+// Are the block rounds even, rising and below the ceiling n?
+pub fn blocks_fit(t: &[u32], blocks: u32, n: Round) -> bool
+    requires { ⌜ Row (now t) (n .0) × (n .0 ≤ 1024) × (blocks ≤ n .0) ⌝ }
+    ensures { λ v. ⌜ v ≡ blocksFit (n .0) (now (t .entry)) blocks ⌝ }
 {
     for k in 0..blocks {
-        apply_next(t, k, n, s, w);
+        if !block_fits(t, k, n) {
+            return false;
+        }
     }
+    true
 }
 
 // The committee of round r.
@@ -39,23 +63,14 @@ pub fn committee_of(t: &[u32], s: Settings, blocks: u32, r: Round) -> [u64; 16]
     ensures { λ w. ⌜ (w ≡ committeeOf s (chainOf (s .ceiling .0) (now (t .entry)) blocks) (r .0)) × Light w ⌝ }
 {
     let mut w = s.weights;
-    let l = s.lookback;
-    if r.0 <= l {
+    if r.0 <= s.lookback {
         return w;
     }
-    apply_blocks(t, blocks, s.ceiling, Round(r.0 - l), &mut w);
+    let mut below = [0u32; 512];
+    let mut last = [0u32; 512];
+    crate::spans::find(t, &mut below, &mut last, s.ceiling);
+    let k = crate::advance::advance(t, &below, &last, s, blocks, 0, r, &mut w);
     w
-}
-
-// The round of the newest block, 0 for none.
-pub fn last_round(t: &[u32], blocks: u32) -> Round
-    requires { ⌜ Row (now t) blocks ⌝ }
-    ensures { λ v. ⌜ v .0 ≡ lastRound (now (t .entry)) blocks ⌝ }
-{
-    if blocks == 0 {
-        return Round(0);
-    }
-    Round(store::block_round(t, blocks))
 }
 
 // Does the chain tell the committee of round r?

@@ -1,6 +1,5 @@
-use mathlib.Core.Path.{_≡_, refl, sym, ap, _∙_}
+use mathlib.Core.Path.{refl}
 use native.Mathlib.Omega.{arith}
-use Prim.Native.Nat.{_+_, _-_, _≤_, _<_}
 use Rattle.committee.specs.Committees.{short, quorumWeight}
 use Rattle.committee.specs.CommitteeLaws.{bound-le}
 use borrow.Author.Needs.{needs}

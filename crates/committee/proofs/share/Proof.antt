@@ -1,7 +1,6 @@
 use Rattle.base.specs.Folds.{sumTo}
-use mathlib.Core.Path.{_≡_, refl, sym, ap, _∙_}
+use mathlib.Core.Path.{refl}
 use native.Mathlib.Omega.{arith}
-use Prim.Native.Nat.{_+_, _-_, _≤_, _<_}
 use Rattle.sheet.specs.Ranges.{weightIn}
 use Rattle.base.specs.SumLaws.{sum-at}
 use Rattle.committee.specs.Committees.{shareOf}

@@ -1,6 +1,6 @@
-use mathlib.Core.Path.{_≡_, refl, sym, ap, _∙_}
+use mathlib.Core.Path.{refl}
 use Rattle.committee.specs.Committees.{knownBy}
-use Rattle.walk.specs.WalkLaws.{last-chain}
+use Rattle.walk.specs.ChainLaws.{last-chain}
 use borrow.Author.Needs.{needs}
 use Rattle.walk.proofs.known.Statement.{statement}
 use Rattle.walk.proofs.known.Tie as tie

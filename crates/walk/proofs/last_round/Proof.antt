@@ -1,5 +1,5 @@
-use mathlib.Core.Path.{_≡_, refl, sym, ap, _∙_}
-use Rattle.walk.specs.WalkLaws.{last-none, last-some}
+use mathlib.Core.Path.{sym, _∙_}
+use Rattle.walk.specs.ChainLaws.{last-none, last-some}
 use borrow.Author.Needs.{needs}
 use Rattle.walk.proofs.last_round.Statement.{statement}
 use Rattle.walk.proofs.last_round.Tie as tie

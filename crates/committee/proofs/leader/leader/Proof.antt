@@ -1,8 +1,6 @@
-use mathlib.Core.Path.{_≡_, refl, sym, ap, _∙_}
+use mathlib.Core.Path.{sym, ap, _∙_}
 use native.Mathlib.Omega.{arith}
-use Prim.Native.Nat.{_+_, _-_, _≤_, _<_}
-use Rattle.base.specs.Sets.{isIn}
-use Rattle.committee.specs.Leaders.{leaderNumber, memberAt, memberSet}
+use Rattle.committee.specs.Leaders.{leaderNumber}
 use Rattle.committee.specs.LeaderLaws.{at-none, leader-odd, leader-early, leader-set}
 use borrow.Author.Needs.{needs}
 use Rattle.committee.proofs.leader.leader.Statement.{statement}

@@ -1,0 +1,73 @@
+use borrow.Author.Needs.{needs}
+use mathlib.Core.Path.{_≡_, refl}
+use native.Mathlib.Omega.{arith}
+use Prim.Native.Nat.{_-_, _≤_}
+use Rattle.committee.specs.Chain.{chainOf}
+use Rattle.walk.specs.Fill.{leaderAt, fillTo}
+use Rattle.walk.specs.FillLaws.{fill-none, fill-more}
+use Rattle.walk.specs.Readable.{Stands}
+use Rattle.walk.specs.ReadableLaws.{stands-start, stands-up}
+use Rattle.walk.proofs.leaders.fill_rounds.Statement.{statement}
+use Rattle.walk.proofs.leaders.fill_rounds.Tie as tie
+
+abbrev Inv-loop : tie.InvT-loop
+Inv-loop t below last s blocks w₀ l₀ k₀ q₀ q-end w l k q = (q₀ ≤ q) × (q ≤ q-end) × Stands s t blocks (q - s .lookback) k w × (l ≡ fillTo (leaderAt s (chainOf (s .ceiling .0) t blocks)) q₀ (q - q₀) l₀)
+
+abbrev μ-loop : tie.MeasureT-loop
+μ-loop t below last s blocks w₀ l₀ k₀ q₀ q-end w l k q = q-end - q
+
+loop-holds : tie.Need-loop-holds Inv-loop μ-loop
+loop-holds c = (omega arith, omega arith, rw (c .before .pre .4) (stands-start _), fill-none _ _ _)
+
+add-l : tie.Need-add-l Inv-loop μ-loop
+add-l c = search needs
+
+advance-requires : tie.Need-advance-requires Inv-loop μ-loop
+advance-requires c κs = let p = c .before .before .before .before .pre in let q = c .before .before .loop in (p .0, p .1, stands-up _ (omega arith) (q .inv .2))
+
+leader-requires : tie.Need-leader-requires Inv-loop μ-loop
+leader-requires c κs = search needs
+
+cast-l : tie.Need-cast-l Inv-loop μ-loop
+cast-l c = search needs
+
+add-l-2 : tie.Need-add-l-2 Inv-loop μ-loop
+add-l-2 c = search needs
+
+mul-l : tie.Need-mul-l Inv-loop μ-loop
+mul-l c = search needs
+
+element-write-l : tie.Need-element-write-l Inv-loop μ-loop
+element-write-l c = search needs
+
+add-q : tie.Need-add-q Inv-loop μ-loop
+add-q c = search needs
+
+loop-less : tie.Need-loop-less Inv-loop μ-loop
+loop-less c = search needs
+
+loop-again : tie.Need-loop-again Inv-loop μ-loop
+unfolding leaderAt
+loop-again c = let q = c .before .before .before .before .before .loop in (omega arith, omega arith, stands-up _ (omega arith) (c .before .before .advance .ensures .0), rw (fill-more _ _ _ _ (q .inv .0), ← c .before .before .advance .ensures .1, ← c .leader .ensures, ← q .inv .3) refl)
+
+returns : tie.Need-returns Inv-loop μ-loop
+returns c = let q = c .before .loop in let e : q .q ≡ c .before .before .before .args .top .0 = omega arith in rw e at (q .inv .3)
+
+pub fill-rounds-spec : {M : Type 1} → statement M
+fill-rounds-spec =
+    tie.close
+    (tie.spec
+    Inv-loop
+    μ-loop
+    loop-holds
+    add-l
+    advance-requires
+    leader-requires
+    cast-l
+    add-l-2
+    mul-l
+    element-write-l
+    add-q
+    loop-less
+    loop-again
+    returns)

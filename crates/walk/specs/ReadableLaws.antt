@@ -1,0 +1,69 @@
+-- Laws of what the walk relies on, and of running committees.
+use mathlib.Core.Path.{_≡_, refl, sym, _∙_}
+use mathlib.Core.Bool.{true}
+use mathlib.Core.List.{List}
+use Prim.Native.Nat.{ℕ, _+_, _-_, _*_, _<_, _≤_}
+use native.Mathlib.Omega.{arith}
+use native.Mathlib.Decide.{ℕ-discrete}
+use Rattle.base.specs.SumLaws.{sum-le}
+use Rattle.store.specs.Table.{Row, blockRound}
+use Rattle.sheet.specs.declared.Settings.{Settings}
+use Rattle.sheet.specs.Ranges.{weightIn}
+use Rattle.sheet.specs.SheetLaws.{SettingsFit}
+use Rattle.committee.specs.Chain.{chainOf}
+use Rattle.committee.specs.Committees.{bondedFrom}
+use Rattle.walk.specs.Walk.{blockChange, blocksFit}
+use Rattle.walk.specs.ChainLaws.{last-none, last-some, fits-at, last-from, bonded-split, after-none, after-more}
+use Rattle.walk.specs.Readable.{Readable, Stands}
+
+-- settings in range, a table long enough and fitting blocks are enough
+pub readable : (S : Settings) (t : List ℕ) (blocks : ℕ) → SettingsFit S → Row t (S .ceiling .0) → blocksFit (S .ceiling .0) t blocks ≡ true → Readable S t blocks
+readable S t blocks f l e =
+    record {
+      ceiling = f .ceiling-to;
+      long = l;
+      few = few (ℕ-discrete blocks 0);
+      rounds = e;
+      light = sum-le (weightIn (S .weights)) 1000000 16 (f .weight-to);
+    }
+  where
+    few : Dec (blocks ≡ 0) → 2 * blocks < S .ceiling .0
+    few (yes z) = let c = f .ceiling-from in omega arith
+    few (no z) =
+        let p = last-from (S .ceiling .0) t blocks e blocks (omega arith) in
+        let q = fits-at (S .ceiling .0) t blocks e (blocks - 1) (omega arith) in
+        let i : blocks - 1 + 1 ≡ blocks = omega arith in
+        let b = rw i at (q .below) in
+        let s = last-some t blocks z in
+        omega arith
+
+module _ {S : Settings} {t : List ℕ} {blocks : ℕ} where
+  pub stands-start : (q : ℕ) → Stands S t blocks q 0 (S .weights)
+  stands-start q = record { some = omega arith; passed = omega (arith, last-none t); weights = sym (after-none (S .ceiling .0) t (S .weights)) }
+
+  pub stands-up : {q k : ℕ} {w : List ℕ} (q′ : ℕ) → q ≤ q′ → Stands S t blocks q k w → Stands S t blocks q′ k w
+  stands-up q′ h s = record { some = s .some; passed = let p = s .passed in omega arith; weights = s .weights }
+
+  -- one block more
+  pub stands-next : {q k : ℕ} {w : List ℕ} (v : List ℕ) → k < blocks → blockRound t (k + 1) ≤ q → v ≡ blockChange (S .ceiling .0) t k w → Stands S t blocks q k w → Stands S t blocks q (k + 1) v
+  stands-next {q} {k} {w} v h l e s =
+      record {
+        some = omega arith;
+        passed = rw (last-some t (k + 1) (λ z. omega arith)) l;
+        weights = rw (e, after-more (S .ceiling .0) t k (S .weights), s .weights) refl;
+      }
+
+  -- where no block of a round below s is left, it is the bonded committee of that round
+  pub stands-bonded : {k : ℕ} {w : List ℕ} (s : ℕ) → 1 ≤ s → Readable S t blocks → (k < blocks → s ≤ blockRound t (k + 1)) → Stands S t blocks (s - 1) k w
+      → w ≡ bondedFrom (S .ceiling .0) (S .weights) (chainOf (S .ceiling .0) t blocks) s
+  stands-bonded {k} {w} s h a f x =
+      let p = x .passed in
+      x .weights ∙ sym (bonded-split (S .ceiling .0) t blocks (a .rounds) (S .weights) s k blocks (x .some) (omega arith) (omega arith) f)
+
+  -- before the first block's round it is the starting one
+  pub stands-first : {k : ℕ} {w : List ℕ} → Readable S t blocks → Stands S t blocks 0 k w → w ≡ S .weights
+  stands-first {k} {w} a s =
+      let p = last-from (S .ceiling .0) t blocks (a .rounds) k (s .some) in
+      let q = s .passed in
+      let e : k ≡ 0 = omega arith in
+      s .weights ∙ rw e (after-none (S .ceiling .0) t (S .weights))
