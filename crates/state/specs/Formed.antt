@@ -20,8 +20,9 @@ use Rattle.sheet.specs.Ranges.{outOfRange, weightless}
 use Rattle.sheet.specs.SheetLaws.{SettingsFit, settings-fit}
 use Rattle.committee.specs.Chain.{chainOf}
 use Rattle.state.specs.declared.State.{State}
+use Rattle.walk.specs.Walk.{blocksFit}
 use Rattle.state.specs.RoundLaws.{few-blocks, last-below}
-use Rattle.state.specs.WellFormed.{numbersFit, headFits, bodyFits, proposalFits, blocksFit, wellFormed}
+use Rattle.state.specs.WellFormed.{numbersFit, headFits, bodyFits, proposalFits, wellFormed}
 
 -- own number, present round and number of blocks are in range
 pub record NumbersFit (o r b n : ℕ) : Type 0 where

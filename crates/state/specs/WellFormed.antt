@@ -4,14 +4,12 @@ use mathlib.Core.List.{List}
 use Prim.Native.Nat.{ℕ, _+_, _%_}
 use lib.ListN.{length}
 use lib.Dec.{leb, ltb, eqb}
-use Rattle.base.specs.Folds.{allTo}
-use Rattle.agreement.specs.Rules.{last}
 use Rattle.terms.specs.declared.Body.{Body}
 use Rattle.terms.specs.Proposals.{transactionsOf, unfit, wrongSet}
-use Rattle.store.specs.Table.{used, blockRound}
+use Rattle.store.specs.Table.{used}
 use Rattle.store.specs.Scan.{rowsFit}
 use Rattle.sheet.specs.Ranges.{outOfRange, weightless}
-use Rattle.committee.specs.Chain.{chainOf}
+use Rattle.walk.specs.Walk.{blocksFit}
 use Rattle.state.specs.declared.State.{State}
 
 -- own number, present round and number of blocks are in range
@@ -30,15 +28,7 @@ bodyFits allowance r b = not (unfit allowance (transactionsOf b)) && not (wrongS
 unfoldable pub proposalFits : State → Bool
 proposalFits s = cond (s .proposing) (bodyFits (s .settings .allowance) (s .round .0) (s .body)) true
 
--- the block after the first k: its round is even, above the one before and below the ceiling n
-unfoldable pub blockFits : ℕ → List ℕ → ℕ → Bool
-blockFits n t k = eqb (blockRound t (k + 1) % 2) 0 && (ltb (last (chainOf n t k)) (blockRound t (k + 1)) && ltb (blockRound t (k + 1)) n)
-
--- block rounds are even, rising and below the ceiling
-unfoldable pub blocksFit : ℕ → List ℕ → ℕ → Bool
-blocksFit n t blocks = allTo (blockFits n t) blocks
-
--- the lent table has at least the length for the ceiling, and the conditions above hold
+-- the lent table has at least the length for the ceiling, the conditions above hold, and block rounds are even, rising and below the ceiling
 unfoldable pub wellFormed : State → List ℕ → Bool
 wellFormed s t =
     leb (used (s .settings .ceiling .0)) (length t)

@@ -5,10 +5,7 @@ use terms::Member;
 use terms::Round;
 ghost use mathlib.Core.Path.{_≡_};
 ghost use Prim.Native.Nat.{_<_, _≤_};
-ghost use Rattle.agreement.specs.Rules.{last};
-ghost use Rattle.store.specs.Table.{Row};
-ghost use Rattle.committee.specs.Chain.{chainOf};
-ghost use Rattle.state.specs.WellFormed.{numbersFit, headFits, bodyFits, proposalFits, blockFits, blocksFit, wellFormed};
+ghost use Rattle.state.specs.WellFormed.{numbersFit, headFits, bodyFits, proposalFits, wellFormed};
 
 // The table holds certificates, endorsed places and blocks; the rest is here.
 pub struct State {
@@ -57,44 +54,6 @@ fn proposal_fits(s: State) -> bool
     body_fits(s.settings.allowance, s.round, s.body)
 }
 
-// The round of the last of the first k blocks, 0 for none.
-fn last_round(t: &[u32], n: Round, k: u32) -> u32
-    requires { ⌜ Row (now t) (n .0) × (k ≤ n .0) ⌝ }
-    ensures { λ v. ⌜ v ≡ last (chainOf (n .0) (now (t .entry)) k) ⌝ }
-{
-    if k == 0 {
-        return 0;
-    }
-    store::block_round(t, k)
-}
-
-// Is the block after the first k well formed, where n is the ceiling?
-fn block_fits(t: &[u32], n: Round, k: u32) -> bool
-    requires { ⌜ Row (now t) (n .0) × (n .0 ≤ 1024) × (k < n .0) ⌝ }
-    ensures { λ v. ⌜ v ≡ blockFits (n .0) (now (t .entry)) k ⌝ }
-{
-    let r = store::block_round(t, k + 1);
-    if r % 2 != 0 {
-        return false;
-    }
-    if r <= last_round(t, n, k) {
-        return false;
-    }
-    r < n.0
-}
-
-fn blocks_fit(t: &[u32], n: Round, blocks: u32) -> bool
-    requires { ⌜ Row (now t) (n .0) × (n .0 ≤ 1024) × (blocks ≤ n .0) ⌝ }
-    ensures { λ v. ⌜ v ≡ blocksFit (n .0) (now (t .entry)) blocks ⌝ }
-{
-    for k in 0..blocks {
-        if !block_fits(t, n, k) {
-            return false;
-        }
-    }
-    true
-}
-
 // Are the settings in range, with some positive weight, and the numbers?
 fn head_fits(s: State) -> bool
     ensures { λ v. ⌜ v ≡ headFits s ⌝ }
@@ -128,5 +87,5 @@ pub fn well_formed(s: State, t: &[u32]) -> bool
     if !store::scan::rows_fit(t, settings.allowance, blocks, n) {
         return false;
     }
-    blocks_fit(t, n, blocks)
+    walk::blocks_fit(t, blocks, n)
 }
