@@ -6,11 +6,11 @@ use mathlib.Core.List.{List, [], List·Memᴰ·not-nil}
 use mathlib.Core.Logic.{inl}
 use Prim.Native.Nat.{ℕ}
 use native.Mathlib.Decide.{ℕ-discrete}
-use Rattle.agreement.specs.Rules.{Chain, Rules}
+use Rattle.agreement.specs.Rules.{Block, Chain, Rules}
 use Rattle.agreement.specs.Laws.{Lawful}
 use Rattle.agreement.specs.View.{View, Knows, World, Log}
 use Rattle.agreement.specs.Links.{Linked, LastElected}
-use Rattle.agreement.specs.Prefixes.{_≼_, same, ≼-trans}
+use Rattle.agreement.specs.Prefixes.{_≼_, same, blockAt, ≼-trans, block-stays}
 use Rattle.agreement.specs.Invariants.{Invariant, FaultTolerant, Agree, Sound}
 use Rattle.agreement.specs.Moves.{Move, other-call}
 use Rattle.agreement.specs.Runs.{Initial, unsigned, Start, Next, Run, begin, step}
@@ -104,10 +104,14 @@ module _ {R : Rules} (correct : ℕ → Bool) where
   sound S begin = S
   sound S (step r n b) = sound-next (sound S r) n b
 
-  -- no block is ever undone
+  -- a chain only ever grows
   pub chains-grow : {w v : World R} {G H : Log R} → Run correct w G v H → (i : ℕ) → (w i) .chain ≼ (v i) .chain
   chains-grow begin i = same
   chains-grow (step r n b) i = ≼-trans (chains-grow r i) (move-grows (each n i) .chain)
+
+  -- so a block once made stays, with its number, its round and its certificates
+  pub blocks-stay : {w v : World R} {G H : Log R} → Run correct w G v H → (i n : ℕ) {b : Block P} → blockAt ((w i) .chain) n ≡ some b → blockAt ((v i) .chain) n ≡ some b
+  blocks-stay r i n = block-stays (chains-grow r i) n
 
   module _ {start w : World R} {G : Log R} (Y : Lawful R) (x : Start correct start) (r : Run correct start (unsigned R) w G) where
     -- the chains of correct members never fork
@@ -115,6 +119,6 @@ module _ {R : Rules} (correct : ℕ → Bool) where
     never-fork = sound (sound-start Y x) r .agree
 
     -- correct members who know a round know the same committee
-    pub committees-agree : {i j n : ℕ} → correct i ≡ true → correct j ≡ true → Knows (w i) n → Knows (w j) n
+    pub committees-agree : (i j n : ℕ) → correct i ≡ true → correct j ≡ true → Knows (w i) n → Knows (w j) n
         → committee ((w i) .chain) n ≡ committee ((w j) .chain) n
-    committees-agree ci cj k l = committee-agreement (sound (sound-start Y x) r) ci cj k l
+    committees-agree i j n ci cj k l = committee-agreement (sound (sound-start Y x) r) ci cj k l

@@ -22,7 +22,7 @@ module _ {R : Rules} (s : View R) where
   abbrev pub votes : P → ℕ → Bool
   votes q v = vote R (author q) (s .dag v (suc (round q)))
 
-  -- the votes for q weigh more than the bound
+  -- the votes for q weigh more than the bound (election in the report)
   pub record Elected (q : P) : Type 0 where
     pub aware : Knows s (suc (round q))
     pub more : Outweighs R (committee (s .chain) (suc (round q))) (votes q)

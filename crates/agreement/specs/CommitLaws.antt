@@ -9,10 +9,10 @@ use native.Mathlib.Omega.{arith}
 use Rattle.agreement.specs.Rules.{Chain, last, Rules}
 use Rattle.agreement.specs.Laws.{Lawful}
 use Rattle.agreement.specs.View.{View, Knows, Log}
-use Rattle.agreement.specs.Dag.{Placed, Reach}
+use Rattle.agreement.specs.Dag.{Held, Placed, Reach}
 use Rattle.agreement.specs.Quorum.{Outweighs}
 use Rattle.agreement.specs.Anchors.{Anchor, votes}
-use Rattle.agreement.specs.Links.{Linked, LastElected}
+use Rattle.agreement.specs.Links.{Linked}
 use Rattle.agreement.specs.Invariants.{Invariant}
 use Rattle.agreement.specs.Moves.{afterCommit, Extension, first-block, next-block, Move, commit}
 use Rattle.agreement.specs.DagLaws.{on-place, all-placed}
@@ -36,6 +36,24 @@ module _ {R : Rules} (s : View R) where
   at-anchor : {r : ℕ} {q : P} → Anchor s r q → anchorAt s r ≡ some q
   unfolding anchorAt
   at-anchor x = rw (x .leads) (x .held)
+
+module _ {R : Rules} {s : View R} (X : Placed s) where
+  open Rules R using (P, round, committee, leader)
+
+  -- the computed anchor is a certificate of its leader and round
+  anchor-by : (r : ℕ) {q : P} → anchorAt s r ≡ some q → (a : ℕ) × (s .dag a r ≡ some q)
+  unfolding anchorAt
+  anchor-by r {q} h = go (leader (committee (s .chain) r) r) h
+    where
+      go : (o : Option ℕ) → byLeader s r o ≡ some q → (a : ℕ) × (s .dag a r ≡ some q)
+      go none e = absurd (Option·none-ne-some q e)
+      go (some a) e = (a, e)
+
+  pub anchor-held : (r : ℕ) {q : P} → anchorAt s r ≡ some q → Held s q
+  anchor-held r h = on-place X (anchor-by r h .1)
+
+  pub anchor-round : (r : ℕ) {q : P} → anchorAt s r ≡ some q → round q ≡ r
+  anchor-round r h = X .place (anchor-by r h .1) .1
 
 module _ {R : Rules} (Y : Lawful R) {s : View R} (X : Placed s) (L : Linked s (s .chain)) where
   open Rules R using (P, author, round, committee)
@@ -88,7 +106,7 @@ module _ {R : Rules} (Y : Lawful R) {s : View R} (X : Placed s) (L : Linked s (s
     extension-next = go (anchorAt s (last (s .chain) + suc n)) refl
       where
         aware : Knows s (last (s .chain) + suc n)
-        aware = known-down (s .chain) (omega arith) (a .aware)
+        aware = known-down (s .chain) (last (s .chain) + suc n) (round x) (omega arith) (a .aware)
 
         test : (q : P) → Anchor s (last (s .chain) + suc n) q → (i : Bool) → inHistory s x (round q) (author q) ≡ i
             → Extension s (blocksOf s (x ∷ cond i (q ∷ taken s n q) (taken s n x)))
@@ -120,21 +138,18 @@ module _ {R : Rules} (Y : Lawful R) {correct : ℕ → Bool} {G : Log R} {k : �
   open Rules R using (P, round, committee)
   open Lawful Y using (known-down)
 
-  -- the anchor q of a round above the last block, with votes above the bound
-  module _ (r : ℕ) (q : P) (found : anchorAt s r ≡ some q) (above : last (s .chain) < r)
-      (aware : Knows s (suc r)) (more : Outweighs R (committee (s .chain) (suc r)) (votes s q)) where
-    sees : Anchor s r q
-    sees = anchor-at s (known-down (s .chain) (omega arith) aware) found
+  -- the commit of the anchor q of a round above the last block, if the votes for it weigh more than the bound
+  pub commit-move : (r : ℕ) (q : P) → anchorAt s r ≡ some q → last (s .chain) < r → Knows s (suc r) → Outweighs R (committee (s .chain) (suc (round q))) (votes s q)
+      → Move correct G k s l (afterCommit s (committed s q)) l
+  unfolding committed blocksOf blockOf
+  commit-move r q found later aware more =
+      commit (committed s q) (committed-extension Y X (I .ordering .linked) q own (omega (arith, level))) (q, own, record { aware = rw level aware; more = more })
+    where
+      X : Placed s
+      X = all-placed (I .storing)
 
-    level : round q ≡ r
-    level = I .storing .place (sees .held) .1
+      level : round q ≡ r
+      level = anchor-round X r found
 
-    own : Anchor s (round q) q
-    own = subst (λ (n : ℕ). Anchor s n q) (sym level) sees
-
-    top : LastElected s (committed s q)
-    unfolding committed blocksOf blockOf
-    top = (q, own, record { aware = rw level aware; more = subst (λ (n : ℕ). Outweighs R (committee (s .chain) (suc n)) (votes s q)) (sym level) more })
-
-    pub commit-move : Move correct G k s l (afterCommit s (committed s q)) l
-    commit-move = commit (committed s q) (committed-extension Y (all-placed (I .storing)) (I .ordering .linked) q own (omega (arith, level))) top
+      own : Anchor s (round q) q
+      own = subst (λ (n : ℕ). Anchor s n q) (sym level) (anchor-at s (known-down (s .chain) r (suc r) (omega arith) aware) found)

@@ -1,4 +1,4 @@
--- The certificates of a view: places, histories and closure.
+-- The certificates of a view, which are a graph by the authors that they name: places, histories and closure.
 use mathlib.Core.Path.{_≡_}
 use mathlib.Core.Bool.{Bool, true, false}
 use mathlib.Core.Option.{Option, none, some}
@@ -23,16 +23,16 @@ module _ {R : Rules} (s : View R) where
   abbrev pub Held : P → Type 0
   Held p = s .dag (author p) (round p) ≡ some p
 
-  -- every certificate is held at its own place, and by a member
+  -- every certificate is held at its own place, and is a member's
   pub record Placed : Type 0 where
     pub place : {a r : ℕ} {p : P} → s .dag a r ≡ some p → (author p ≡ a) × (round p ≡ r)
     pub member : {a r : ℕ} {p : P} → s .dag a r ≡ some p → a < size
 
-  -- q is in the history of p
+  -- q is in the history of p (path in the report)
   pub data Reach : P → P → Type 0 where
     here : {p : P} → Reach p p
     back : {p q t : P} (m a : ℕ) → round p ≡ suc m → names p a ≡ true → s .dag a m ≡ some q → Reach q t → Reach p t
 
-  -- whoever p names is held one round earlier
+  -- whoever p names is held one round earlier (closure in the report)
   abbrev pub Closed : P → Type 0
   Closed p = (m a : ℕ) → round p ≡ suc m → names p a ≡ true → (q : P) × (s .dag a m ≡ some q)

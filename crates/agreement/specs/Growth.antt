@@ -102,13 +102,13 @@ module _ {R : Rules} (Y : Lawful R) {correct : ℕ → Bool} {G : Log R} {s t : 
   back-again h l = carry T (alike-back Y g) h l
 
   link-grows : {b : Block P} {c : Chain P} {x : P} → Link s b c x → Link t b c x
-  link-grows {x = top} l =
+  link-grows {b} {x = top} l =
       record {
         sees = anchor-grows Y g (l .sees);
         spaced = l .spaced;
         gap = λ r q h k x m.
             let n = back-again held m in
-            let known : Knows s r = known-down (s .chain) (omega arith) (l .sees .aware) in
+            let known : Knows s r = known-down (s .chain) r (b .round) (omega arith) (l .sees .aware) in
             let e = U .place (x .held) in
             l .gap r q h k (record { aware = known; lead = x .lead; leads = rw (stays Y g known) at (x .leads); held = rw (e .0, e .1) at (n .1) }) (n .0);
         content = λ a r p. (

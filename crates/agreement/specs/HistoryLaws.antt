@@ -12,7 +12,6 @@ use Rattle.base.specs.TestLaws.{any-true, true-any}
 use Rattle.agreement.specs.Rules.{Rules}
 use Rattle.agreement.specs.View.{View}
 use Rattle.agreement.specs.Dag.{isHeld, vote, Held, Placed, Reach, here, back}
-use Rattle.agreement.specs.Anchors.{votes}
 use Rattle.agreement.specs.DagLaws.{vote-by, held-by, on-place}
 use Rattle.agreement.specs.Histories.{level, inHistory}
 
@@ -79,10 +78,10 @@ module _ {R : Rules} {s : View R} (X : Placed s) where
   level-up x {y} {q} d m a hy e h er n hq =
       let below : round x - suc d ≡ m = omega arith in
       let level′ : round x - d ≡ round y = omega arith in
-      let votes : vote R a (s .dag (author y) (round x - d)) ≡ true = rw (level′, hy) n in
+      let named : vote R a (s .dag (author y) (round x - d)) ≡ true = rw (level′, hy) n in
       let found : anyTo (λ i. level s x d i && vote R a (s .dag i (round x - d))) size ≡ true =
       true-any (λ i. level s x d i && vote R a (s .dag i (round x - d))) size (author y)
-      (X .member hy) (rw (h, votes) refl) in
+      (X .member hy) (rw (h, named) refl) in
       rw (below, hq, found) refl
 
   reach-level : {x y q : P} (d : ℕ) → Held s y → round y + d ≡ round x → level s x d (author y) ≡ true → Reach s y q

@@ -32,15 +32,18 @@ module _ {R : Rules} (s : View R) where
 
   -- what member k signed, all of the list l
   pub record Signing (k : ℕ) (l : List P) : Type 0 where
+    -- at one place it signed one proposal
     pub nonequivocation : (p q : P) → Among p l → Among q l → author p ≡ author q → round p ≡ round q → p ≡ q
+    -- it checked what it signed
     pub signable : (p : P) → Among p l → Signable p
+    -- it has a record of what it signed: of its own, the proposal of the present round; of others, the mark or the certificate
     pub own : (p : P) → Among p l → author p ≡ k
         → (round p < s .round) ⊎ ((round p ≡ s .round) × (s .proposal ≡ some p))
     pub other : (p : P) → Among p l → author p ≢ k
         → (s .endorsed (author p) (round p) ≡ true) ⊎ ((q : P) × (s .dag (author p) (round p) ≡ some q))
     pub proposed : (p : P) → s .proposal ≡ some p → Among p l × (author p ≡ k) × (round p ≡ s .round)
 
-  -- the chain's blocks hang together, and the newest was voted for
+  -- the chain's blocks hang together, and the newest was elected
   pub record Ordering : Type 0 where
     pub linked : Linked s (s .chain)
     pub elected : LastElected s (s .chain)
@@ -56,12 +59,13 @@ module _ {R : Rules} (correct : ℕ → Bool) (G : Log R) where
     pub with-author : signers (author p) ≡ true
     pub signs : (i : ℕ) → correct i ≡ true → signers i ≡ true → Among p (G i)
 
-  -- the certificates that a member holds
+  -- the certificates that a member holds are at their places, closed and certified
   pub record Storing (s : View R) : Type 0 where
     pub place : {a r : ℕ} {p : P} → s .dag a r ≡ some p → (author p ≡ a) × (round p ≡ r)
     pub closed : {a r : ℕ} {p : P} → s .dag a r ≡ some p → Closed s p
     pub certified : {a r : ℕ} {p : P} → s .dag a r ≡ some p → Certified s p
 
+  -- what holds of member k, who signed l
   pub record Invariant (k : ℕ) (s : View R) (l : List P) : Type 0 where
     pub signing : Signing s k l
     pub storing : Storing s
@@ -74,10 +78,11 @@ module _ {R : Rules} (correct : ℕ → Bool) (w : World R) where
   abbrev pub FaultTolerant : Type 0
   FaultTolerant = (j : ℕ) (p : P) → correct j ≡ true → Held (w j) p → Knows (w j) (round p) → Tolerant R correct (committee ((w j) .chain) (round p))
 
-  -- the chains of correct members never part
+  -- of two correct members' chains one is a prefix of the other
   abbrev pub Agree : Type 0
   Agree = (i j : ℕ) → correct i ≡ true → correct j ≡ true → Comparable ((w i) .chain) ((w j) .chain)
 
+  -- what holds in every world of a run; the parts need one another, so they are proved in one induction
   pub record Sound (G : Log R) : Type 0 where
     pub laws : Lawful R
     pub members : (j : ℕ) → correct j ≡ true → Invariant correct G j (w j) (G j)

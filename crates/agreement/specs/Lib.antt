@@ -1,23 +1,21 @@
--- Agreement: over abstract rules, the chains of correct members never fork.
+-- Agreement: over abstract rules, the chains of correct members never fork, whoever knows a round knows the same committee, and a chain only grows.
 --
--- The files stand in the order of the argument. What the rules compute is data (Rules); only the theorems take laws (Laws). So every definition
--- that a contract may cite makes sense in any state, also in one that no run reaches.
+-- The files stand in the order of the argument. What the rules compute is data (Rules), and only theorems take laws (Laws), so that every definition
+-- that a contract cites means something in any state, also in one that no run reaches.
 --
--- What may change without proving anything here again, and the parameter that covers it:
---   the order inside a block          `order` of Listing: any function of the block and the chain below it, which tells the leader of the block's round;
---                                     transactions then apply in another order, which is another `committee` of Rules
---   the fault bound, and quorums      `bound` of Rules: asked is only 0 < total → 3 * bound < total
---   how leaders are found             `leader` of Rules: asked is only that rounds with a leader are two apart, from 2 on
---   committees, lookback, what a      `known` and `committee` of Rules: asked is only that a block two or more rounds above the last one
---   transaction does                  leaves what the chain tells already
---   what else a state keeps, and      `State` and `view` of Engines: anything that shows a view
---   how (endorsers, queues, rights)
---   calls that refuse more, reads,    `other-call` of Moves: a call that leaves the view, refused ones among them
---   previews, rights of callers
---   calls that do several moves       as many entries of the list of Engines
+-- Parameters, and the later changes that each of them covers, so that nothing here is proved again:
+--   `order` of Listing             the order inside a block. It may be any function of the block and the chain below, which tells the leader of the block's round
+--   `known`, `committee` of Rules  what transactions do and in which order they apply, lookback. Asked is only that a block which stands two or more
+--                                  rounds above the last one leaves what the chain told already
+--   `bound` of Rules               the fault bound, and with it quorums and votes (a margin). Asked is only 0 < total → 3 * bound < total
+--   `leader` of Rules              how a leader is chosen or looked up. Asked is only that rounds with a leader are two apart, from 2 on
+--   `P` of Rules                   what a proposal holds; transactions are not looked at
+--   `State`, `view` of Engines     storage: how a member keeps its view, and what else it keeps (endorsers, queues, rights, ports)
+--   `other-call` of Moves          calls that leave the view: reads, previews, lists, and every refused call, so also calls that refuse more than before
+--   the list of Engines            a call that counts as several (a batch of certificates) is as many entries
+-- Shares, and the register of weights, are no part of the theory.
 
 -- What the theory speaks of
-pub mod Generic
 pub mod Weights
 pub mod Rules
 pub mod Laws
@@ -45,6 +43,7 @@ pub mod Signatures
 pub mod Preservation
 pub mod Agreement
 pub mod Engines
+pub mod EngineAgreement
 -- What an engine computes, and that it is what the theory asks
 pub mod Histories
 pub mod HistoryLaws

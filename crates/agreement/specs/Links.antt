@@ -17,7 +17,7 @@ InChain R (b ∷ c) p = (b .holds (R .author p) (R .round p) ≡ some p) ⊎ InC
 module _ {R : Rules} (s : View R) where
   open Rules R using (P, author, round)
 
-  -- p belongs at (a, r), in the block of the anchor x above the chain c
+  -- p, whose place is (a, r), is in the history of x and in no block of c
   pub record Uncommitted (c : Chain P) (x : P) (a r : ℕ) (p : P) : Type 0 where
     pub by : author p ≡ a
     pub at : round p ≡ r
@@ -36,6 +36,7 @@ module _ {R : Rules} (s : View R) where
   ReachesLast [] x = Unit {0}
   ReachesLast (b ∷ c) x = (q : P) × Anchor s (b .round) q × Reach s x q
 
+  -- every block may stand on those below it, and its anchor reaches the anchor of the one below
   abbrev pub Linked : Chain P → Type 0
   Linked [] = Unit {0}
   Linked (b ∷ c) = (x : P) × Link b c x × ReachesLast c x × Linked c

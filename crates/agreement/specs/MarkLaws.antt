@@ -1,7 +1,7 @@
 -- Marking the blocks of a commit makes the chain that the commit makes.
 use mathlib.Core.Path.{_≡_, refl, sym, ap, ap₂, _∙_}
 use mathlib.Core.Bool.{Bool, true, false, not, _&&_, _||_, cond, true≢false}
-use mathlib.Core.Option.{Option, none, some, Option·none-ne-some}
+use mathlib.Core.Option.{Option, none, some}
 use mathlib.Core.List.{List, [], _∷_}
 use Prim.Native.Nat.{ℕ, zero, suc, _+_, _-_, _≤_, _<_}
 use native.Mathlib.Decide.{ℕ-discrete}
@@ -13,10 +13,10 @@ use Rattle.base.specs.Bools.{cond-same}
 use Rattle.agreement.specs.Rules.{Chain, last, Rules}
 use Rattle.agreement.specs.View.{View}
 use Rattle.agreement.specs.Dag.{isHeld, Held, Placed}
-use Rattle.agreement.specs.DagLaws.{on-place}
 use Rattle.agreement.specs.Histories.{inHistory}
-use Rattle.agreement.specs.HistoryLaws.{history-reach}
-use Rattle.agreement.specs.Commits.{used, byLeader, anchorAt, blockOf, blocksOf, choose, taken, committed}
+use Rattle.agreement.specs.HistoryLaws.{history-held}
+use Rattle.agreement.specs.Commits.{used, anchorAt, blockOf, blocksOf, choose, taken, committed}
+use Rattle.agreement.specs.CommitLaws.{anchor-held}
 use Rattle.agreement.specs.Marks.{marked, chainOf, roundsOf, markBlock, marksOf, Fits}
 
 module _ {P : Type 0} (d : ℕ → ℕ → Option P) where
@@ -40,6 +40,12 @@ same-certificates {P} d e m (r ∷ l) f = ap₂ _∷_ (λ i. record { round = r;
     alike : (a q : ℕ) (b : Bool) → eqb (m a q) (suc (length l)) ≡ b → _≡_ {A = Option P} (cond b (d a q) none) (cond b (e a q) none)
     alike a q true h = let k = eqb-true (m a q) (suc (length l)) h in f a q (omega arith)
     alike a q false h = refl
+
+-- one block for each anchor
+pub rounds-count : (R : Rules) (rs : List ℕ) (l : List (R .P)) → length (roundsOf R rs l) ≡ length l + length rs
+unfolding roundsOf
+rounds-count R rs [] = omega arith
+rounds-count R rs (x ∷ l) = omega (arith, rounds-count R rs l)
 
 module _ {R : Rules} (s : View R) where
   open Rules R using (P, round)
@@ -101,17 +107,9 @@ module _ {R : Rules} (s : View R) where
     mark-block = ap₂ _∷_ (λ i. record { round = round x; holds = λ a q. new-block a q i }) old-blocks
 
 module _ {R : Rules} {s : View R} (X : Placed s) where
-  open Rules R using (P, author, round, committee, leader)
+  open Rules R using (P, author, round)
 
   -- the anchors that a commit takes are held
-  pub anchor-held : (r : ℕ) {q : P} → anchorAt s r ≡ some q → Held s q
-  unfolding anchorAt
-  anchor-held r {q} h = go (leader (committee (s .chain) r) r) h
-    where
-      go : (o : Option ℕ) → byLeader s r o ≡ some q → Held s q
-      go none e = absurd (Option·none-ne-some q e)
-      go (some a) e = on-place X e
-
   pub taken-held : (n : ℕ) (x : P) → AllHeld s (taken s n x)
   unfolding taken
   taken-held zero x = tt
@@ -123,7 +121,7 @@ module _ {R : Rules} {s : View R} (X : Placed s) where
 
       go : (o : Option P) → anchorAt s (last (s .chain) + suc n) ≡ o → ((y : P) → AllHeld s (taken s n y)) → AllHeld s (choose s x (λ y. taken s n y) o)
       go none e f = f x
-      go (some q) e f = test q (anchor-held (last (s .chain) + suc n) e) (inHistory s x (round q) (author q)) f
+      go (some q) e f = test q (anchor-held X (last (s .chain) + suc n) e) (inHistory s x (round q) (author q)) f
 
   fits-more : (x : P) (m : ℕ → ℕ → ℕ) (n : ℕ) → Held s x → Fits s m n → Fits s (markBlock s x (suc n) m) (suc n)
   unfolding markBlock
@@ -134,7 +132,7 @@ module _ {R : Rules} {s : View R} (X : Placed s) where
       range a q false = omega (arith, f .range a q)
 
       only : (a q : ℕ) (z i : Bool) → inHistory s x q a ≡ i → isHeld (s .dag a q) ≡ false → cond (z && i) (suc n) (m a q) ≡ 0
-      only a q true true e h = let y = history-reach X hx q a e in absurd (true≢false (rw (y .1) at h))
+      only a q true true e h = absurd (true≢false (sym e ∙ history-held X hx q a h))
       only a q true false e h = f .only-held a q h
       only a q false i e h = f .only-held a q h
 

@@ -12,7 +12,7 @@ use Rattle.agreement.specs.Places.{put, mark}
 use Rattle.agreement.specs.Links.{Link, ReachesLast, LastElected}
 use Rattle.agreement.specs.Invariants.{Signable, Certified}
 
--- the view after each of them
+-- the view after each move
 module _ {R : Rules} (s : View R) where
   open Rules R using (P)
 

@@ -30,7 +30,6 @@ module _ {R : Rules} {correct : ℕ → Bool} {w : World R} {G : Log R} (S : Sou
 
   -- two certificates of one author and round, held by correct members, are the same
   held-once : {i j : ℕ} {p q : P} → correct i ≡ true → correct j ≡ true → Held (w i) p → Held (w j) q → author p ≡ author q → round p ≡ round q → p ≡ q
-  unfolding certified
   held-once {i} {j} {p} {q} ci cj hp hq ea er =
       S .members (m .who) (m .third) .signing .nonequivocation p q
       (x .signs (m .who) (m .third) (m .first)) (y .signs (m .who) (m .third) (m .second)) ea er

@@ -8,7 +8,7 @@ use Prim.Native.Nat.{ℕ, _≤_, _<_}
 use native.Mathlib.Nat.{le-antisymm}
 use native.Mathlib.Decide.{ℕ-discrete, decLe}
 use native.Mathlib.Omega.{arith}
-use Rattle.agreement.specs.Generic.{option-ext}
+use Rattle.base.specs.Options.{option-ext}
 use Rattle.agreement.specs.Rules.{Block, Chain, last, Rules}
 use Rattle.agreement.specs.Laws.{Lawful}
 use Rattle.agreement.specs.View.{View, Knows, World, Log}
@@ -71,7 +71,7 @@ module _ {R : Rules} {correct : ℕ → Bool} {w : World R} {G : Log R} (S : Sou
 
         go : Dec (r ≤ last e) → r ≤ last e
         go (yes k) = k
-        go (no k) = absurd (m .gap r q (omega arith) h (anchor-moves x (known-down ((w j) .chain) (omega arith) (m .sees .aware)) held) l)
+        go (no k) = absurd (m .gap r q (omega arith) h (anchor-moves x (known-down ((w j) .chain) r (d .round) (omega arith) (m .sees .aware)) held) l)
 
     -- blocks of one round have one anchor, whose history j sees as i does
     anchors-same : {b d : Block P} {c e : Chain P} {x y : P} → Link (w i) b c x → Link (w j) d e y → b .round ≡ d .round → x ≡ y

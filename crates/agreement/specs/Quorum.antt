@@ -14,10 +14,10 @@ module _ (R : Rules) where
     pub weighs : (i : ℕ) → S i ≡ true → 0 < w i
     pub enough : total size w ≤ weigh size w S + bound w
 
-  -- votes that outweigh the bound
+  -- votes that weigh more than the bound
   abbrev pub Outweighs : (ℕ → ℕ) → (ℕ → Bool) → Type 0
   Outweighs w T = bound w < weigh size w T
 
-  -- the members outside `correct` weigh at most the bound
+  -- the faulty members, who are those outside `correct`, weigh at most the bound
   abbrev pub Tolerant : (ℕ → Bool) → (ℕ → ℕ) → Type 0
   Tolerant correct w = weigh size w (outside correct) ≤ bound w

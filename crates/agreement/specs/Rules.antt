@@ -1,4 +1,4 @@
--- The rules as plain data: proposals, committees, leaders, fault bound.
+-- The rules as plain data: proposals, committees, leaders, fault bound. They mean something for any chain, so no law is asked here.
 use mathlib.Core.Bool.{Bool}
 use mathlib.Core.Option.{Option}
 use mathlib.Core.List.{List, [], _∷_}
@@ -18,20 +18,19 @@ abbrev pub last : {P : Type 0} → Chain P → ℕ
 last [] = 0
 last (b ∷ c) = b .round
 
--- the rules; they mean something in any state, so they carry no proofs
 pub record Rules : Type 1 where
-  -- how many members there are; they are the numbers below
+  -- how many members there are; a member is a number below
   pub size : ℕ
-  -- proposals; a certificate is told by its proposal
+  -- proposals; two certificates are the same when their proposals are, whoever endorsed
   pub P : Type 0
   pub author : P → ℕ
   pub round : P → ℕ
-  -- whom a proposal names as its previous set
+  -- whom a proposal names in its previous set
   pub names : P → ℕ → Bool
-  -- the fault bound of a committee
+  -- the fault bound of a committee, which is the weight of each member, 0 for a non-member
   pub bound : (ℕ → ℕ) → ℕ
-  -- the rounds whose committee a chain tells, and that committee
+  -- the rounds whose committee a chain tells, and that committee (active committee in the report)
   pub known : Chain P → ℕ → Bool
   pub committee : Chain P → ℕ → ℕ → ℕ
-  -- the leader of a round
+  -- the leader of a round, by its committee
   pub leader : (ℕ → ℕ) → ℕ → Option ℕ

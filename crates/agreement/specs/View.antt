@@ -6,10 +6,14 @@ use mathlib.Core.List.{List, List·Memᴰ}
 use Prim.Native.Nat.{ℕ}
 use Rattle.agreement.specs.Rules.{Chain, Rules}
 
+-- a member's state as the rules see it (validator state in the report)
 pub record View (R : Rules) : Type 0 where
   pub round : ℕ
+  -- its proposal for that round, if any
   pub proposal : Option (R .P)
+  -- the certificates that it holds, by author and round
   pub dag : ℕ → ℕ → Option (R .P)
+  -- the places that it endorsed, by author and round
   pub endorsed : ℕ → ℕ → Bool
   pub chain : Chain (R .P)
 
@@ -17,7 +21,7 @@ pub record View (R : Rules) : Type 0 where
 abbrev pub Knows : {R : Rules} → View R → ℕ → Type 0
 Knows {R} s r = R .known (s .chain) r ≡ true
 
--- the states of the members; those of faulty members mean nothing
+-- the views of the members; those of faulty members mean nothing
 abbrev pub World : Rules → Type 0
 World R = ℕ → View R
 

@@ -1,5 +1,6 @@
 -- Laws of sums over the numbers below a bound.
 use mathlib.Core.Path.{_≡_, refl}
+use native.Mathlib.Decide.{ℕ-discrete, decLt}
 use Prim.Native.Nat.{ℕ, zero, suc, _+_, _*_, _<_, _≤_}
 use native.Mathlib.Omega.{arith}
 use native.Mathlib.Nat.{suc-mul}
@@ -20,3 +21,37 @@ pub sum-le : (f : ℕ → ℕ) (b n : ℕ) → ((i : ℕ) → i < n → f i ≤ 
 unfolding sumTo
 sum-le f b zero h = omega arith
 sum-le f b (suc n) h = let i = sum-le f b n (λ i l. h i (omega arith)) in let p = h n (omega arith) in simp suc-mul (omega arith)
+
+-- the sum of sums
+pub sum-add : (f g : ℕ → ℕ) (n : ℕ) → sumTo (λ i. f i + g i) n ≡ sumTo f n + sumTo g n
+unfolding sumTo
+sum-add f g zero = refl
+sum-add f g (suc n) = let h = sum-add f g n in omega arith
+
+-- each part is at most the sum
+pub sum-at : (f : ℕ → ℕ) (n i : ℕ) → i < n → f i ≤ sumTo f n
+unfolding sumTo
+sum-at f zero i h = absurd (omega arith)
+sum-at f (suc n) i h = go (ℕ-discrete i n) (λ l. sum-at f n i l)
+  where
+    go : Dec (i ≡ n) → (i < n → f i ≤ sumTo f n) → f i ≤ sumTo f n + f n
+    go (yes e) k = rw e (omega arith)
+    go (no e) k = let l = k (omega arith) in omega arith
+
+-- a smaller sum has a smaller part
+pub sum-less : (f g : ℕ → ℕ) (n : ℕ) → sumTo f n < sumTo g n → (i : ℕ) × (i < n) × (f i < g i)
+unfolding sumTo
+sum-less f g zero h = absurd (omega arith)
+sum-less f g (suc n) h = go (decLt (f n) (g n)) (λ l. sum-less f g n l)
+  where
+    go : Dec (f n < g n) → (sumTo f n < sumTo g n → (i : ℕ) × (i < n) × (f i < g i)) → (i : ℕ) × (i < suc n) × (f i < g i)
+    go (yes l) k = (n, omega arith, l)
+    go (no l) k = let x = k (omega arith) in (x .0, omega (arith, x .1), x .2)
+
+-- smaller parts make a smaller sum
+pub sum-mono : (f g : ℕ → ℕ) (n : ℕ) → ((i : ℕ) → i < n → f i ≤ g i) → sumTo f n ≤ sumTo g n
+sum-mono f g n h = go (decLt (sumTo g n) (sumTo f n))
+  where
+    go : Dec (sumTo g n < sumTo f n) → sumTo f n ≤ sumTo g n
+    go (yes l) = let x = sum-less g f n l in absurd (omega (arith, h (x .0) (x .1), x .2))
+    go (no l) = omega arith

@@ -8,7 +8,7 @@ use borrow.Author.Tests.{le-leb, lt-leb}
 use Rattle.agreement.specs.Rules.{Chain}
 use Rattle.terms.specs.Proposals.{Content}
 use Rattle.sheet.specs.declared.Settings.{Settings}
-use Rattle.agreement.specs.Generic.{sum-mono}
+use Rattle.base.specs.SumLaws.{sum-mono}
 use Rattle.agreement.specs.Weights.{weigh, total}
 use Rattle.committee.specs.Committees.{bondedFrom, committeeOf, boundOf, outsider, short, quorum, shareOf}
 use Rattle.committee.specs.TotalLaws.{sum-up}

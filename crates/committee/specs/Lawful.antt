@@ -65,8 +65,8 @@ module _ (S : Settings) where
       record {
         bound-law = bound-low;
         known-down = known-low;
-        known-grow = λ b c {r} l k. known-still b c r l k;
-        committee-grow = λ b c {r} l k. committee-same b c r l k;
+        known-grow = known-still;
+        committee-grow = committee-same;
         apart = leaders-apart;
         late = leader-late;
       }

@@ -12,7 +12,7 @@ use lib.Dec.{eqb, ltb, eqb·zero-suc, eqb·suc-suc}
 use borrow.Author.Tests.{eq-eqb, ne-eqb}
 use Rattle.base.specs.Folds.{foldTo, sumTo}
 use Rattle.base.specs.SumLaws.{sum-same, sum-le}
-use Rattle.agreement.specs.Generic.{sum-add, sum-mono}
+use Rattle.base.specs.SumLaws.{sum-add, sum-mono}
 use Rattle.terms.specs.declared.Transaction.{Transaction}
 use Rattle.terms.specs.declared.Transaction.the-variants.{Bond, Unbond, Entry}
 use Rattle.terms.specs.Transactions.{amountOf}

@@ -2,7 +2,7 @@ use Rattle.base.specs.Folds.{sumTo}
 use mathlib.Core.Path.{refl}
 use native.Mathlib.Omega.{arith}
 use Rattle.sheet.specs.Ranges.{weightIn}
-use Rattle.agreement.specs.Generic.{sum-at}
+use Rattle.base.specs.SumLaws.{sum-at}
 use Rattle.committee.specs.Committees.{shareOf}
 use Rattle.committee.specs.CommitteeLaws.{share-le}
 use borrow.Author.Needs.{needs}

@@ -1,7 +1,7 @@
 use borrow.Author.Tests.{lt-ltb, le-ltb}
 use native.Mathlib.Omega.{arith}
 use Rattle.sheet.specs.Ranges.{weightIn}
-use Rattle.agreement.specs.Generic.{sum-at}
+use Rattle.base.specs.SumLaws.{sum-at}
 use Rattle.committee.proofs.change.bond.Statement.{statement}
 use Rattle.committee.proofs.change.bond.Tie as tie
 

@@ -1,0 +1,12 @@
+pub mod WellFormed
+pub mod View
+pub mod Number
+pub mod States
+pub mod ChainLaws
+pub mod RoundLaws
+pub mod Formed
+pub mod ViewLaws
+pub mod WriteLaws
+pub mod KeptLaws
+pub mod StepLaws
+pub mod NumberLaws
