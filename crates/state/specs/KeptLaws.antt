@@ -13,7 +13,7 @@ use Rattle.terms.specs.ProposalLaws.{length-transactions}
 use Rattle.store.specs.Table.{Row, Within, blockRound}
 use Rattle.store.specs.Writes.{putCertificate, setEndorsed, clearEndorsed, clearUsed}
 use Rattle.store.specs.PutLaws.{length-put, block-round-put}
-use Rattle.store.specs.EndorseLaws.{block-round-endorse, set-endorsed, clear-endorsed}
+use Rattle.store.specs.EndorseLaws.{OnlyEndorsed, block-round-endorse, set-endorsed, clear-endorsed}
 use Rattle.store.specs.ClearLaws.{length-cleared, rows-cleared}
 use Rattle.store.specs.Scan.{rowsFit}
 use Rattle.store.specs.FitLaws.{rows-put, rows-set-endorsed, rows-clear-endorsed}
@@ -56,21 +56,20 @@ module _ (s : State) (t : List ℕ) (f : Formed s t) where
       formed-by s u (f .in-range) (f .weighty) (f .numbers) (f .proposal) (omega arith) r
       (blocks-same (s .settings .ceiling .0) t u (s .blocks) (λ k _. b k) (f .rounds))
 
+  marked : {q : ℕ} {u : List ℕ} → OnlyEndorsed q t u → rowsFit u (s .settings .allowance) (s .blocks) (s .settings .ceiling .0) ≡ true → Formed s u
+  marked {u = u} o r = written u (o .size) r (block-round-endorse o)
+
   module _ (a q : ℕ) (h : a < 16) (l : q ≤ s .settings .ceiling .0) where
     at : Within t a q
     at = record { member = h; row = omega arith }
 
     -- a place marked endorsed
     pub endorse-kept : Formed s (setEndorsed t a q)
-    endorse-kept =
-        let o = set-endorsed t a q in
-        written (setEndorsed t a q) (o .size) (rows-set-endorsed t a q at (s .settings .allowance) (s .blocks) (s .settings .ceiling .0) (f .rows)) (block-round-endorse o)
+    endorse-kept = marked (set-endorsed t a q) (rows-set-endorsed t a q at (s .settings .allowance) (s .blocks) (s .settings .ceiling .0) (f .rows))
 
     -- its mark cleared
     pub clear-kept : Formed s (clearEndorsed t a q)
-    clear-kept =
-        let o = clear-endorsed t a q in
-        written (clearEndorsed t a q) (o .size) (rows-clear-endorsed t a q at (s .settings .allowance) (s .blocks) (s .settings .ceiling .0) (f .rows)) (block-round-endorse o)
+    clear-kept = marked (clear-endorsed t a q) (rows-clear-endorsed t a q at (s .settings .allowance) (s .blocks) (s .settings .ceiling .0) (f .rows))
 
   -- a certificate held that passes checks 6 and 7
   pub put-kept : (p : Content) → Storable (s .settings .ceiling .0) p → unfit (s .settings .allowance) (p .transactions) ≡ false → wrongSet (p .round) (p .previous) ≡ false

@@ -47,30 +47,32 @@ on-round {n} {p} k a r e = rw (same-place a r (p .author) (p .round) e .1) (is-r
 by-places : {A : Type 0} (f g : ℕ → ℕ → A) → ((a r : ℕ) → f a r ≡ g a r) → f ≡ g
 by-places f g e = fun-ext (λ a. fun-ext (e a))
 
--- ---- what the theory writes at a place, by the place
+-- ---- what the theory writes at a place
+
+-- f is x at the place (m, q), and g at the others
+by-place : {A : Type 0} (m q : ℕ) (f g : ℕ → ℕ → A) (x : A) → f m q ≡ x → ((a r : ℕ) → (m ≡ a → q ≡ r → ⊥) → f a r ≡ g a r) → (a r : ℕ) → f a r ≡ cond (samePlace a r m q) x (g a r)
+by-place m q f g x h e a r = go (samePlace a r m q) refl
+  where
+    go : (b : Bool) → samePlace a r m q ≡ b → f a r ≡ cond b x (g a r)
+    go true k = let z = same-place a r m q k in rw (z .0, z .1) h
+    go false k = e a r (λ y z. other-place a r m q k (sym y) (sym z))
 
 module _ (S : Settings) (p : Content) where
   put-at : (d : ℕ → ℕ → Option Content) → d (p .author) (p .round) ≡ none → (a r : ℕ) → put (rules S) p d a r ≡ cond (samePlace a r (p .author) (p .round)) (some p) (d a r)
-  put-at d free a r = go (samePlace a r (p .author) (p .round)) refl
+  put-at d free =
+      by-place (p .author) (p .round) (put (rules S) p d) d (some p) (put-own (rules S) p d)
+      (λ a r n. option-ext (put (rules S) p d a r) (d a r) (λ q h. was a r q n (put-only (rules S) p d h)) (λ q h. put-old (rules S) p d free h))
     where
-      go : (b : Bool) → samePlace a r (p .author) (p .round) ≡ b → put (rules S) p d a r ≡ cond b (some p) (d a r)
-      go true e = let z = same-place a r (p .author) (p .round) e in rw (z .0, z .1) (put-own (rules S) p d)
-      go false e = option-ext (put (rules S) p d a r) (d a r) (λ q h. was q (put-only (rules S) p d h)) (λ q h. put-old (rules S) p d free h)
-        where
-          was : (q : Content) → ((p .author ≡ a) × (p .round ≡ r) × (p ≡ q)) ⊎ (d a r ≡ some q) → d a r ≡ some q
-          was q (inl z) = absurd (other-place a r (p .author) (p .round) e (sym (z .0)) (sym (z .1)))
-          was q (inr h) = h
+      was : (a r : ℕ) (q : Content) → (p .author ≡ a → p .round ≡ r → ⊥) → ((p .author ≡ a) × (p .round ≡ r) × (p ≡ q)) ⊎ (d a r ≡ some q) → d a r ≡ some q
+      was a r q n (inl z) = absurd (n (z .0) (z .1))
+      was a r q n (inr h) = h
 
   mark-at : (m : Bool) (d : ℕ → ℕ → Bool) (a r : ℕ) → mark (rules S) m p d a r ≡ cond (samePlace a r (p .author) (p .round)) m (d a r)
-  mark-at m d a r = go (samePlace a r (p .author) (p .round)) refl
+  mark-at m d = by-place (p .author) (p .round) (mark (rules S) m p d) d m (mark-own (rules S) m p d) (λ a r n. was a r n (mark-other (rules S) m p d a r))
     where
-      go : (b : Bool) → samePlace a r (p .author) (p .round) ≡ b → mark (rules S) m p d a r ≡ cond b m (d a r)
-      go true e = let z = same-place a r (p .author) (p .round) e in rw (z .0, z .1) (mark-own (rules S) m p d)
-      go false e = was (mark-other (rules S) m p d a r)
-        where
-          was : ((p .author ≡ a) × (p .round ≡ r)) ⊎ (mark (rules S) m p d a r ≡ d a r) → mark (rules S) m p d a r ≡ d a r
-          was (inl z) = absurd (other-place a r (p .author) (p .round) e (sym (z .0)) (sym (z .1)))
-          was (inr h) = h
+      was : (a r : ℕ) → (p .author ≡ a → p .round ≡ r → ⊥) → ((p .author ≡ a) × (p .round ≡ r)) ⊎ (mark (rules S) m p d a r ≡ d a r) → mark (rules S) m p d a r ≡ d a r
+      was a r n (inl z) = absurd (n (z .0) (z .1))
+      was a r n (inr h) = h
 
 -- ---- blocks
 

@@ -1,0 +1,55 @@
+// The marks of a history, and the block of one anchor.
+use terms::Member;
+use terms::Round;
+ghost use mathlib.Core.Path.{_≡_};
+ghost use Rattle.store.specs.Table.{Within, Row};
+ghost use Rattle.blocks.specs.Blocks.{markPlace, markRow, markHistory, addBlock};
+
+// Puts the certificate of a and round r into block b, if a is in s and it is in no block yet.
+fn mark_place(t: &mut [u32], b: u32, s: u32, r: Round, a: Member)
+    requires { ⌜ Within (now t) (a .0) (r .0) ⌝ }
+    ensures { λ _. ⌜ now (t .exit) ≡ markPlace b s (r .0) (a .0) (now (t .entry)) ⌝ }
+{
+    if base::has(s, a.0) {
+        if store::record::mark(t, a, r) == 0 {
+            store::write::set_mark(t, a, r, b);
+        }
+    }
+}
+
+fn mark_row(t: &mut [u32], b: u32, s: u32, r: Round)
+    requires { ⌜ Row (now t) (r .0) ⌝ }
+    ensures { λ _. ⌜ now (t .exit) ≡ markRow b s (r .0) (now (t .entry)) ⌝ }
+{
+    for a in 0..16u32 {
+        mark_place(t, b, s, r, Member(a));
+    }
+}
+
+// Puts what is in no block yet, of the history of the set s of round top, into block b.
+fn mark_history(t: &mut [u32], b: u32, s: u32, top: Round)
+    requires { ⌜ Row (now t) (top .0) ⌝ }
+    ensures { λ _. ⌜ now (t .exit) ≡ markHistory b (top .0) s (now (t .entry)) ⌝ }
+{
+    let mut r = top.0;
+    let mut here = s;
+    while 0 < r {
+        if here == 0 {
+            return;
+        }
+        let next = crate::history::step_down(t, here, Round(r));
+        mark_row(t, b, here, Round(r));
+        here = next;
+        r -= 1;
+    }
+}
+
+// Makes block k, of the anchor of author a and round r.
+pub fn add_block(t: &mut [u32], k: u32, a: Member, r: Round)
+    requires { ⌜ Within (now t) (a .0) (r .0) × Row (now t) k ⌝ }
+    ensures { λ _. ⌜ now (t .exit) ≡ addBlock k (a .0) (r .0) (now (t .entry)) ⌝ }
+{
+    let s = base::just(a.0);
+    mark_history(t, k, s, r);
+    store::write::set_block(t, k, r);
+}

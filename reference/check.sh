@@ -1,0 +1,25 @@
+#!/bin/sh
+# check.sh [LAST [FIRST]]: the tests, the example, the edge streams, and seeds
+# FIRST to LAST (1 to 50 if not given), the reference against naive.py.
+# A runner given in RUNNER is compared with the reference as well.
+cd "$(dirname "$0")" || exit 2
+bin/tests_ref -q || exit 1
+status=0
+differs() { echo "differs: $1"; status=1; }
+for runner in bin/runner_ref "python3 naive.py" $RUNNER; do
+    $runner < example.stream | cmp - example.expected || differs example
+    for stream in edges/*.stream; do
+        $runner < "$stream" | cmp - "${stream%.stream}.expected" || differs "$stream"
+    done
+done
+mkdir -p out
+for seed in $(seq "${2:-1}" "${1:-50}"); do
+    bin/shuffle "$seed" > out/stream
+    bin/runner_ref < out/stream > out/expected
+    for runner in "python3 naive.py" $RUNNER; do
+        $runner < out/stream | cmp - out/expected || differs "seed $seed"
+    done
+done
+rm -r out
+[ $status = 0 ] && echo all the same
+exit $status

@@ -1,0 +1,169 @@
+#!/usr/bin/env python3
+"""Spoils the reference in one place at a time and counts which streams
+notice: the edge stream and the shuffled streams of seeds 1 to N.
+
+    mutants.py N        (build.sh first; works in the directory mutants)
+
+Six of the changes cannot show in a runner's answers; they are marked same.
+"""
+import subprocess, os, sys, shutil
+from concurrent.futures import ThreadPoolExecutor
+base = os.path.dirname(os.path.abspath(__file__))
+SAME = {4, 12, 45, 46, 49, 52}
+M=[
+('reference.rs','if votes <= fault_bound(total(committee))','if votes < fault_bound(total(committee))'),
+('reference.rs','self.chain.partition_point(|b| b.round < s)','self.chain.partition_point(|b| b.round <= s)'),
+('reference.rs','s > self.last_block_round() + 2','s > self.last_block_round() + 1'),
+('reference.rs','s > self.last_block_round() + 2','s > self.last_block_round() + 3'),
+('reference.rs','if r <= self.settings.lookback {','if r < self.settings.lookback {'),
+('reference.rs','for (round, history) in taken.into_iter().rev()','for (round, history) in taken.into_iter()'),
+('reference.rs','self.proposal == other.proposal','self.proposal == other.proposal && self.endorsers == other.endorsers'),
+('reference.rs','members[(round / 2) as usize % members.len()]','members[(round / 2 - 1) as usize % members.len()]'),
+('reference.rs','members[(round / 2) as usize % members.len()]','members[round as usize % members.len()]'),
+('reference.rs','(n - 1) / 3','n / 3'),
+('reference.rs','>= quorum_weight(total(committee))','> quorum_weight(total(committee))'),
+('reference.rs','self.endorsed[place(p.author, p.round)] = true;',''),
+('reference.rs','self.endorsed[here] = false;',''),
+('reference.rs','        self.round += 1;\n        self.proposal = None;','        self.round += 1;'),
+('reference.rs','        self.round += 1;\n        self.proposal = None;','        self.round += 1;\n        self.proposal = None;\n        self.endorsed.iter_mut().for_each(|e| *e = false);'),
+('reference.rs','                    history = self.history(a, round);\n                    taken.push((round, history.clone()));','                    taken.push((round, self.history(a, round)));'),
+('reference.rs','if in_set(history[round as usize], a) {','{'),
+('reference.rs','while round > last + 2 {','while round > last + 4 {'),
+('reference.rs','while round > last + 2 {','while round > last + 2 && round > 4 {'),
+('reference.rs','committee[member as usize] += u64::from(amount)','committee[member as usize] = u64::from(amount)'),
+('reference.rs','let committee = self.committee_of(r).ok_or(8u32)?;\n        let anchor','let committee = self.committee_of(r - 1).ok_or(8u32)?;\n        let anchor'),
+('reference.rs','            let before = self.committee_of(p.round - 1).ok_or(8u32)?;','            let before = self.committee_of(p.round).ok_or(8u32)?;'),
+('reference.rs','            let before = self.committee_of(r - 1).ok_or(8u32)?;','            let before = self.committee_of(r).ok_or(8u32)?;'),
+('reference.rs','if self.proposal.is_some() || self.is_held(self.own, r)','if self.proposal.is_some()'),
+('reference.rs','self.is_held(p.author, p.round) || self.is_endorsed(p.author, p.round)','self.is_endorsed(p.author, p.round)'),
+('reference.rs','        if p.round > 1 && !self.all_held(p.previous, p.round - 1) {\n            return Err(11);\n        }',''),
+('reference.rs','transactions.len() <= self.settings.allowance as usize','transactions.len() < self.settings.allowance as usize + 2'),
+('reference.rs','Transaction::Unbond { member } => committee[member as usize] = 0,','Transaction::Unbond { .. } => {}'),
+('reference.rs','                    if held.block == 0 {','                    if held.block == 0 || r == 1 {'),
+('reference.rs','for a in members_of(history[r as usize]) {\n                    let held = self','for a in members_of(history[r as usize]).collect::<Vec<_>>().into_iter().rev() {\n                    let held = self'),
+('reference.rs','votes += committee[a as usize];','votes += 1;'),
+('reference.rs','members_of(set).map(|m| committee[m as usize]).sum()','members_of(set).map(|m| committee[m as usize].min(1)).sum()'),
+('reference.rs','if in_set(held.certificate.proposal.previous, anchor) {','{'),
+('reference.rs','self.last_block_round() >= r - 1','self.last_block_round() > r - 1'),
+('reference.rs','        if settings.ceiling > serves {\n            return Err(1);\n        }',''),
+('reference.rs','(1..=1_000).contains(&amount)','(0..=1_000).contains(&amount)'),
+('reference.rs','(1..=1_000).contains(&amount)','(1..=1_001).contains(&amount)'),
+('reference.rs','            Transaction::Unbond { member } => member < MEMBERS,','            Transaction::Unbond { .. } => true,'),
+('reference.rs','let mut after = match self.chain.last() {\n                Some(block) => block.after,','let mut after = match self.chain.last() {\n                Some(_) => self.settings.weights,'),
+('reference.rs','if self.is_held(leader, round) { Some(leader) } else { None }','Some(leader)'),
+('runner_ref.rs','text.len() + 2 > LONGEST','text.len() + 2 >= LONGEST'),
+('runner_ref.rs','kept.len() + part.len() > LONGEST','kept.len() + part.len() >= LONGEST'),
+('runner_ref.rs',"(b\"U\", 0) =>","(b\"U\", _) =>"),
+('runner_ref.rs',"(b\"E\", 0) =>","(b\"E\", _) =>"),
+('runner_ref.rs',"|| (field.len() > 1 && field[0] == b'0')",""),
+('runner_ref.rs',"b == b'\"' || ",""),
+('runner_ref.rs','            after_cr = false;\n',''),
+('runner_ref.rs','    if long || !kept.is_empty() {\n        handle(None)?;','    if long || !kept.is_empty() {\n        if long {handle(None)?} else {handle(Some(&kept))?}'),
+('runner_ref.rs','Err(number) => Outcome::Refused(number),\n            };\n        }\n        let Some(member)','Err(number) => { self.member = None; Outcome::Refused(number) }\n            };\n        }\n        let Some(member)'),
+# order of checks
+('reference.rs','''        if self.proposal.is_some() || self.is_held(self.own, r) {
+            return Err(10);
+        }
+        let committee = self.committee_of(r).ok_or(8u32)?;''','''        let committee = self.committee_of(r).ok_or(8u32)?;
+        if self.proposal.is_some() || self.is_held(self.own, r) {
+            return Err(10);
+        }'''),
+('reference.rs','''        if !inside(c.signers(), committee) {
+            return Err(9);
+        }
+        if !is_quorum(c.signers(), committee) {
+            return Err(13);
+        }
+        if p.round > 1 && !self.all_held(p.previous, p.round - 1) {
+            return Err(11);
+        }''','''        if !inside(c.signers(), committee) {
+            return Err(9);
+        }
+        if p.round > 1 && !self.all_held(p.previous, p.round - 1) {
+            return Err(11);
+        }
+        if !is_quorum(c.signers(), committee) {
+            return Err(13);
+        }'''),
+('reference.rs','''            let before = self.committee_of(p.round - 1).ok_or(8u32)?;
+            if !self.all_held(p.previous, p.round - 1) {
+                return Err(11);
+            }''','''            if !self.all_held(p.previous, p.round - 1) {
+                return Err(11);
+            }
+            let before = self.committee_of(p.round - 1).ok_or(8u32)?;'''),
+('reference.rs','''        if r % 2 == 0 || r == 1 {
+            return Err(19);
+        }
+        if self.last_block_round() >= r - 1 {
+            return Err(20);
+        }''','''        if r > 1 && self.last_block_round() >= r - 1 {
+            return Err(20);
+        }
+        if r % 2 == 0 || r == 1 {
+            return Err(19);
+        }'''),
+('reference.rs','''        if self.is_held(self.own, self.round) {
+            return Err(10);
+        }
+        if in_set(endorsers, self.own) {
+            return Err(14);
+        }''','''        if in_set(endorsers, self.own) {
+            return Err(14);
+        }
+        if self.is_held(self.own, self.round) {
+            return Err(10);
+        }'''),
+('reference.rs','let Some(proposal) = &self.proposal else {\n            return Err(15);\n        };\n        if self.is_held(self.own, self.round) {\n            return Err(10);\n        }','if self.is_held(self.own, self.round) {\n            return Err(10);\n        }\n        let Some(proposal) = &self.proposal else {\n            return Err(15);\n        };'),
+('reference.rs','''        let committee = self.committee_of(r).ok_or(8u32)?;
+        let anchor = self.anchor(r - 1).ok_or(21u32)?;''','''        let anchor = self.anchor(r - 1).ok_or(21u32)?;
+        let committee = self.committee_of(r).ok_or(8u32)?;'''),
+('reference.rs','''        self.held[place(self.own, self.round)] = Some(Held { certificate, block: 0 });
+        Ok(())''','''        self.held[place(self.own, self.round)] = Some(Held { certificate, block: 0 });
+        self.proposal = None;
+        Ok(())'''),
+]
+work = os.path.join(base, 'mutants')
+os.makedirs(work, exist_ok=True)
+good = os.path.join(base, 'bin', 'runner_ref')
+
+
+def answers(runner, stream):
+    return subprocess.run([runner], input=stream, capture_output=True).stdout
+
+
+streams = []
+for seed in range(1, int(sys.argv[1]) + 1):
+    stream = subprocess.run([os.path.join(base, 'bin', 'shuffle'), str(seed)],
+                            capture_output=True).stdout
+    streams.append((stream, answers(good, stream)))
+edge = open(os.path.join(base, 'edges', 'edge.stream'), 'rb').read()
+edge_expected = open(os.path.join(base, 'edges', 'edge.expected'), 'rb').read()
+
+
+def one(i):
+    name, old, new = M[i]
+    place = os.path.join(work, str(i))
+    os.makedirs(place, exist_ok=True)
+    for source in ('reference.rs', 'runner_ref.rs'):
+        shutil.copy(os.path.join(base, source), place)
+    text = open(os.path.join(place, name)).read()
+    if text.count(old) != 1:
+        return 'the text to spoil is there %d times' % text.count(old)
+    open(os.path.join(place, name), 'w').write(text.replace(old, new))
+    runner = os.path.join(place, 'runner')
+    built = subprocess.run(['rustc', '--edition', '2021', '-O', '-Awarnings',
+                            os.path.join(place, 'runner_ref.rs'), '-o', runner],
+                           capture_output=True, text=True)
+    if built.returncode:
+        return 'does not build'
+    noticed = sum(answers(runner, s) != expected for s, expected in streams)
+    in_edge = answers(runner, edge) != edge_expected
+    return 'edge stream %s, %d of %d seeds%s' % ('yes' if in_edge else 'no', noticed,
+                                                 len(streams), ' (same)' if i in SAME else '')
+
+
+with ThreadPoolExecutor(4) as pool:
+    for i, result in enumerate(pool.map(one, range(len(M)))):
+        print(i, M[i][0], repr(M[i][1][:44]), '->', repr(M[i][2][:44]), ':', result, flush=True)
+shutil.rmtree(work)

@@ -1,0 +1,270 @@
+#!/usr/bin/env python3
+"""A second writing of the rules and the runner of document 01, as a check on
+the first: no caches, everything worked out from the state each time it is
+asked, dictionaries and sets throughout. Slow on purpose.
+
+    naive.py < stream > answers
+"""
+import re
+import sys
+
+RANGES = [(1, 1000, 20), (3, 1024, 1024), (0, 4, 4)] + \
+         [(0, 1000000, 1)] * 4 + [(0, 1000000, 0)] * 12
+
+
+class Refused(Exception):
+    pass
+
+
+def refuse_if(condition, number):
+    if condition:
+        raise Refused(number)
+
+
+def bits(n):
+    return {i for i in range(16) if n & (1 << i)}
+
+
+class Engine:
+    def __init__(self, own, sheet):
+        refuse_if(own > 15, 4)
+        filled = []
+        for written, (low, high, blank) in zip(sheet, RANGES):
+            value = blank if written is None else written
+            refuse_if(not low <= value <= high, 2)
+            filled.append(value)
+        self.lookback, self.ceiling, self.allowance = filled[:3]
+        self.start = {m: w for m, w in enumerate(filled[3:]) if w > 0}
+        refuse_if(not self.start, 3)
+        refuse_if(self.ceiling > 64, 1)
+        self.own, self.round, self.proposal = own, 1, None
+        self.held = {}       # (author, round) -> (previous, transactions)
+        self.endorsed = set()
+        self.blocks = []     # (round, [(certificate round, author)])
+
+    # committees
+    def last(self):
+        return self.blocks[-1][0] if self.blocks else 0
+
+    def known(self, r):
+        return r <= self.lookback or r - self.lookback <= self.last() + 2
+
+    def committee(self, r):
+        weights = dict(self.start)
+        if r > self.lookback:
+            for block_round, certificates in self.blocks:
+                if block_round < r - self.lookback:
+                    for cr, author in certificates:
+                        for kind, number, amount in self.held[author, cr][1]:
+                            if kind == 'B':
+                                weights[number] = weights.get(number, 0) + amount
+                            if kind == 'U':
+                                weights.pop(number, None)
+        return weights
+
+    @staticmethod
+    def bound(committee):
+        n = sum(committee.values())
+        return (n - 1) // 3 if n else 0
+
+    def quorum(self, members, committee):
+        need = sum(committee.values()) - self.bound(committee)
+        return members <= set(committee) and sum(committee[m] for m in members) >= need
+
+    def anchor(self, r):
+        ordered = sorted(self.committee(r))
+        if not ordered:
+            return None
+        who = ordered[(r // 2) % len(ordered)]
+        return (who, r) if (who, r) in self.held else None
+
+    def history(self, place):
+        found, todo = set(), [place]
+        while todo:
+            author, r = todo.pop()
+            if (author, r) in self.held and (author, r) not in found:
+                found.add((author, r))
+                todo += [(a, r - 1) for a in self.held[author, r][0]]
+        return found
+
+    # shared checks
+    def fit(self, transactions):
+        def good(kind, number, amount):
+            if kind == 'B':
+                return number <= 15 and 1 <= amount <= 1000
+            return number <= 15 if kind == 'U' else True
+        refuse_if(len(transactions) > self.allowance or
+                  not all(good(*t) for t in transactions), 6)
+
+    def shape(self, author, r, previous, transactions):
+        refuse_if(author > 15, 4)
+        refuse_if(r == 0 or r > self.ceiling, 5)
+        self.fit(transactions)
+        refuse_if(bool(previous) == (r == 1), 7)
+
+    def names_held(self, r, previous):
+        refuse_if(any((a, r - 1) not in self.held for a in previous), 11)
+
+    # calls
+    def propose(self, previous, transactions):
+        r = self.round
+        self.fit(transactions)
+        refuse_if(bool(previous) == (r == 1), 7)
+        refuse_if(self.proposal is not None or (self.own, r) in self.held, 10)
+        refuse_if(not self.known(r), 8)
+        refuse_if(self.own not in self.committee(r), 9)
+        if r > 1:
+            self.names_held(r, previous)
+            refuse_if(not self.quorum(previous, self.committee(r - 1)), 12)
+        self.proposal = (previous, transactions)
+
+    def endorse(self, author, r, previous, transactions):
+        self.shape(author, r, previous, transactions)
+        refuse_if(author == self.own, 14)
+        refuse_if((author, r) in self.held or (author, r) in self.endorsed, 10)
+        if r > 1:
+            refuse_if(not self.known(r - 1), 8)
+            self.names_held(r, previous)
+            refuse_if(not self.quorum(previous, self.committee(r - 1)), 12)
+        self.endorsed.add((author, r))
+
+    def certify(self, endorsers):
+        r = self.round
+        refuse_if(self.proposal is None, 15)
+        refuse_if((self.own, r) in self.held, 10)
+        refuse_if(self.own in endorsers, 14)
+        refuse_if(not self.known(r), 8)
+        self.sign(r, endorsers | {self.own})
+        self.held[self.own, r] = self.proposal
+
+    def sign(self, r, signers):
+        committee = self.committee(r)
+        refuse_if(not signers <= set(committee), 9)
+        refuse_if(not self.quorum(signers, committee), 13)
+
+    def accept(self, author, r, previous, endorsers, transactions):
+        self.shape(author, r, previous, transactions)
+        refuse_if(author in endorsers, 14)
+        if (author, r) in self.held:
+            refuse_if(self.held[author, r] == (previous, transactions), 16)
+            refuse_if(True, 17)
+        refuse_if(not self.known(r), 8)
+        self.sign(r, endorsers | {author})
+        self.names_held(r, previous)
+        self.held[author, r] = (previous, transactions)
+        self.endorsed.discard((author, r))
+
+    def advance(self):
+        refuse_if(self.round == self.ceiling, 18)
+        self.round += 1
+        self.proposal = None
+
+    def commit(self):
+        r = self.round
+        refuse_if(r == 1 or r % 2 == 0, 19)
+        refuse_if(self.last() >= r - 1, 20)
+        refuse_if(not self.known(r), 8)
+        anchor = self.anchor(r - 1)
+        refuse_if(anchor is None, 21)
+        committee = self.committee(r)
+        votes = sum(committee.get(a, 0) for (a, cr), (previous, _) in self.held.items()
+                    if cr == r and anchor[0] in previous)
+        refuse_if(not votes > self.bound(committee), 22)
+        taken = [anchor]
+        for even in range(r - 3, self.last(), -2):
+            older = self.anchor(even)
+            if older is not None and older in self.history(taken[-1]):
+                taken.append(older)
+        for place in reversed(taken):
+            used = {c for _, certificates in self.blocks for c in certificates}
+            fresh = {(cr, a) for a, cr in self.history(place)} - used
+            self.blocks.append((place[1], sorted(fresh)))
+        return len(taken)
+
+    def chain(self):
+        lines = []
+        for number, (block_round, certificates) in enumerate(self.blocks, 1):
+            for cr, author in certificates:
+                fields = [number, block_round, cr, author]
+                for triple in self.held[author, cr][1]:
+                    fields += triple
+                lines.append(','.join(map(str, fields)))
+        return lines
+
+
+class Unreadable(Exception):
+    pass
+
+
+def number(field):
+    if not re.fullmatch(r'0|[1-9][0-9]{0,9}', field, re.ASCII) or int(field) >= 2 ** 32:
+        raise Unreadable
+    return int(field)
+
+
+def member_set(field):
+    n = number(field)
+    if n >= 2 ** 16:
+        raise Unreadable
+    return bits(n)
+
+
+def triples(fields):
+    found = []
+    if len(fields) % 3:
+        raise Unreadable
+    for i in range(0, len(fields), 3):
+        kind, n, amount = fields[i], number(fields[i + 1]), number(fields[i + 2])
+        if kind not in ('B', 'U', 'E') or (kind != 'B' and amount != 0):
+            raise Unreadable
+        found.append((kind, n, amount))
+    return found
+
+
+def call(record):
+    """The name of the call and its values."""
+    name, *f = record.split(',')
+    if name == 'open' and len(f) == 20:
+        return name, [number(f[0]), [None if x == '' else number(x) for x in f[1:]]]
+    if name == 'propose' and len(f) >= 1:
+        return name, [member_set(f[0]), triples(f[1:])]
+    if name == 'endorse' and len(f) >= 3:
+        return name, [number(f[0]), number(f[1]), member_set(f[2]), triples(f[3:])]
+    if name == 'certify' and len(f) == 1:
+        return name, [member_set(f[0])]
+    if name == 'accept' and len(f) >= 4:
+        return name, [number(f[0]), number(f[1]), member_set(f[2]), member_set(f[3]),
+                      triples(f[4:])]
+    if name in ('advance', 'commit', 'chain') and not f:
+        return name, []
+    raise Unreadable
+
+
+def main():
+    data = sys.stdin.buffer.read().decode('latin-1')
+    out, engine, at = [], None, 0
+    while at < len(data):
+        end = data.find('\r\n', at)
+        text = data[at:] if end < 0 else data[at:end]
+        at = len(data) if end < 0 else end + 2
+        try:
+            if end < 0 or len(text) + 2 > 1024 or any(c in text for c in '"\r\n'):
+                raise Unreadable
+            name, values = call(text)
+            if name == 'open':
+                engine = Engine(*values)
+                out.append('ok')
+            else:
+                refuse_if(engine is None, 1)
+                result = getattr(engine, name)(*values)
+                if name == 'chain':
+                    out += result
+                out.append('ok,%d' % result if name == 'commit' else 'ok')
+        except Unreadable:
+            out.append('refused,24')
+        except Refused as refusal:
+            out.append('refused,%d' % refusal.args[0])
+    sys.stdout.buffer.write(''.join(line + '\r\n' for line in out).encode('latin-1'))
+
+
+main()

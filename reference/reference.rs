@@ -1,0 +1,638 @@
+//! Ordering engine: reference rules, written from document 01 alone.
+//!
+//! Plain on purpose. A refusal is the paper's number, so `Err(12)` below is
+//! the paper's "12". Each call comes as a pair: `may_...` makes the checks in
+//! the paper's order and changes nothing; the call itself makes them and then
+//! does the change. A refused call therefore leaves the state as it was.
+
+#![allow(dead_code)]
+
+/// Refusal numbers are those of the paper.
+pub type Answer<T> = Result<T, u32>;
+
+// ---------------------------------------------------------------- terms ---
+
+/// Members are 0 to 15.
+pub const MEMBERS: u32 = 16;
+
+/// A set of members: member i counts 2 to the power i.
+pub type Set = u16;
+
+pub fn in_set(set: Set, member: u32) -> bool {
+    member < MEMBERS && set >> member & 1 == 1
+}
+
+pub fn single(member: u32) -> Set {
+    1 << member
+}
+
+/// The members of a set, by rising number.
+pub fn members_of(set: Set) -> impl Iterator<Item = u32> {
+    (0..MEMBERS).filter(move |&m| in_set(set, m))
+}
+
+#[derive(Clone, Copy, PartialEq, Eq, Debug)]
+pub enum Transaction {
+    Bond { member: u32, amount: u32 },
+    Unbond { member: u32 },
+    Entry { number: u32 },
+}
+
+impl Transaction {
+    pub fn in_range(&self) -> bool {
+        match *self {
+            Transaction::Bond { member, amount } => {
+                member < MEMBERS && (1..=1_000).contains(&amount)
+            }
+            Transaction::Unbond { member } => member < MEMBERS,
+            Transaction::Entry { .. } => true,
+        }
+    }
+}
+
+#[derive(Clone, PartialEq, Eq, Debug)]
+pub struct Proposal {
+    pub author: u32,
+    pub round: u32,
+    /// Authors of certificates one round earlier.
+    pub previous: Set,
+    pub transactions: Vec<Transaction>,
+}
+
+/// Two certificates are the same when the proposals are equal.
+#[derive(Clone, Debug)]
+pub struct Certificate {
+    pub proposal: Proposal,
+    pub endorsers: Set,
+}
+
+impl Certificate {
+    pub fn same_as(&self, other: &Certificate) -> bool {
+        self.proposal == other.proposal
+    }
+
+    /// Author and endorsers. Only asked once the author is known to be 0 to 15.
+    pub fn signers(&self) -> Set {
+        self.endorsers | single(self.proposal.author)
+    }
+}
+
+// ---------------------------------------------------------------- sheet ---
+
+#[derive(Clone, Copy, PartialEq, Eq, Debug)]
+pub enum Setting {
+    Blank,
+    Written(u32),
+}
+
+#[derive(Clone, Copy, PartialEq, Eq, Debug)]
+pub struct Sheet {
+    pub lookback: Setting,
+    pub ceiling: Setting,
+    pub allowance: Setting,
+    pub weights: [Setting; 16],
+}
+
+#[derive(Clone, PartialEq, Eq, Debug)]
+pub struct Settings {
+    pub lookback: u32,
+    pub ceiling: u32,
+    pub allowance: u32,
+    pub weights: Committee,
+}
+
+impl Sheet {
+    pub fn all_blank() -> Sheet {
+        Sheet {
+            lookback: Setting::Blank,
+            ceiling: Setting::Blank,
+            allowance: Setting::Blank,
+            weights: [Setting::Blank; 16],
+        }
+    }
+
+    /// Fills the blanks; 2 for a setting out of range.
+    pub fn fill(&self) -> Answer<Settings> {
+        fn one(setting: Setting, low: u32, high: u32, blank: u32) -> Answer<u32> {
+            match setting {
+                Setting::Blank => Ok(blank),
+                Setting::Written(n) if low <= n && n <= high => Ok(n),
+                Setting::Written(_) => Err(2),
+            }
+        }
+        let lookback = one(self.lookback, 1, 1_000, 20)?;
+        let ceiling = one(self.ceiling, 3, 1_024, 1_024)?;
+        let allowance = one(self.allowance, 0, 4, 4)?;
+        let mut weights = [0; 16];
+        for m in 0..16 {
+            let blank = if m <= 3 { 1 } else { 0 };
+            weights[m] = u64::from(one(self.weights[m], 0, 1_000_000, blank)?);
+        }
+        Ok(Settings { lookback, ceiling, allowance, weights })
+    }
+}
+
+// ----------------------------------------- committees, quorums, leaders ---
+
+/// Sixteen weights, 0 for a non-member.
+pub type Committee = [u64; 16];
+
+pub fn total(committee: &Committee) -> u64 {
+    committee.iter().sum()
+}
+
+pub fn fault_bound(n: u64) -> u64 {
+    if n == 0 { 0 } else { (n - 1) / 3 }
+}
+
+pub fn quorum_weight(n: u64) -> u64 {
+    n - fault_bound(n)
+}
+
+/// What a set weighs in a committee; those outside weigh nothing.
+pub fn weight_of(set: Set, committee: &Committee) -> u64 {
+    members_of(set).map(|m| committee[m as usize]).sum()
+}
+
+pub fn inside(set: Set, committee: &Committee) -> bool {
+    members_of(set).all(|m| committee[m as usize] > 0)
+}
+
+pub fn is_quorum(set: Set, committee: &Committee) -> bool {
+    inside(set, committee) && weight_of(set, committee) >= quorum_weight(total(committee))
+}
+
+/// The leader of an even round; an empty committee has none.
+pub fn leader(round: u32, committee: &Committee) -> Option<u32> {
+    let members: Vec<u32> = (0..MEMBERS).filter(|&m| committee[m as usize] > 0).collect();
+    if members.is_empty() {
+        return None;
+    }
+    Some(members[(round / 2) as usize % members.len()])
+}
+
+/// Weight in thousandths of the total, to the nearest, halves upward.
+/// Only asked of a committee with a member in it.
+pub fn thousandths(weight: u64, n: u64) -> u64 {
+    (2 * 1_000 * weight + n) / (2 * n)
+}
+
+/// What one transaction of a block does to the bonded committee.
+pub fn change(committee: &mut Committee, transaction: &Transaction) {
+    match *transaction {
+        Transaction::Bond { member, amount } => committee[member as usize] += u64::from(amount),
+        Transaction::Unbond { member } => committee[member as usize] = 0,
+        Transaction::Entry { .. } => {}
+    }
+}
+
+// ------------------------------------------------------- a member's state ---
+
+#[derive(Clone, Debug)]
+pub struct Held {
+    pub certificate: Certificate,
+    /// The number of its block, 0 for none.
+    pub block: u32,
+}
+
+#[derive(Clone, Debug)]
+pub struct Block {
+    /// The round of its anchor.
+    pub round: u32,
+    /// (round, author), by round, then author.
+    pub certificates: Vec<(u32, u32)>,
+    /// The starting committee changed by all blocks up to and with this one.
+    pub after: Committee,
+}
+
+#[derive(Clone, Debug)]
+pub struct Member {
+    own: u32,
+    settings: Settings,
+    round: u32,
+    proposal: Option<Proposal>,
+    /// Certificates by place; see `place`.
+    held: Vec<Option<Held>>,
+    endorsed: Vec<bool>,
+    chain: Vec<Block>,
+}
+
+/// Places by round, then author: 16 to a round, the first round is 1.
+fn place(author: u32, round: u32) -> usize {
+    ((round - 1) * MEMBERS + author) as usize
+}
+
+/// Authors by round: `history[r]` is the set of authors of round r in it.
+pub type History = Vec<Set>;
+
+impl Member {
+    /// Open. `serves` is the largest ceiling the lent tables have room for.
+    pub fn open(own: u32, sheet: &Sheet, serves: u32) -> Answer<Member> {
+        if own >= MEMBERS {
+            return Err(4);
+        }
+        let settings = sheet.fill()?; // 2
+        if settings.weights.iter().all(|&w| w == 0) {
+            return Err(3);
+        }
+        if settings.ceiling > serves {
+            return Err(1);
+        }
+        let places = (settings.ceiling * MEMBERS) as usize;
+        Ok(Member {
+            own,
+            settings,
+            round: 1,
+            proposal: None,
+            held: vec![None; places],
+            endorsed: vec![false; places],
+            chain: Vec::new(),
+        })
+    }
+
+    // ---- plain looks at the state
+
+    pub fn own(&self) -> u32 {
+        self.own
+    }
+    pub fn settings(&self) -> &Settings {
+        &self.settings
+    }
+    pub fn round(&self) -> u32 {
+        self.round
+    }
+    pub fn proposal(&self) -> Option<&Proposal> {
+        self.proposal.as_ref()
+    }
+    pub fn chain(&self) -> &[Block] {
+        &self.chain
+    }
+
+    /// The certificate held at a place that is in range.
+    pub fn held_at(&self, author: u32, round: u32) -> Option<&Held> {
+        self.held[place(author, round)].as_ref()
+    }
+    pub fn is_held(&self, author: u32, round: u32) -> bool {
+        self.held_at(author, round).is_some()
+    }
+    pub fn is_endorsed(&self, author: u32, round: u32) -> bool {
+        self.endorsed[place(author, round)]
+    }
+
+    /// The authors whose certificates of a round are held; none in round 0.
+    pub fn held_authors(&self, round: u32) -> Set {
+        let mut set = 0;
+        if (1..=self.settings.ceiling).contains(&round) {
+            for a in 0..MEMBERS {
+                if self.is_held(a, round) {
+                    set |= single(a);
+                }
+            }
+        }
+        set
+    }
+
+    /// 0 for none.
+    pub fn last_block_round(&self) -> u32 {
+        self.chain.last().map_or(0, |b| b.round)
+    }
+
+    // ---- committees
+
+    /// The starting committee changed by all blocks of rounds below s;
+    /// nothing when it is not known.
+    pub fn bonded_committee(&self, s: u32) -> Option<&Committee> {
+        if s > self.last_block_round() + 2 {
+            return None;
+        }
+        let below = self.chain.partition_point(|b| b.round < s);
+        Some(if below == 0 { &self.settings.weights } else { &self.chain[below - 1].after })
+    }
+
+    /// The committee of a round, nothing when it is not known.
+    pub fn committee_of(&self, r: u32) -> Option<&Committee> {
+        if r <= self.settings.lookback {
+            Some(&self.settings.weights)
+        } else {
+            self.bonded_committee(r - self.settings.lookback)
+        }
+    }
+
+    // ---- checks that several calls share
+
+    fn round_in_range(&self, round: u32) -> bool {
+        1 <= round && round <= self.settings.ceiling
+    }
+
+    fn transactions_fit(&self, transactions: &[Transaction]) -> bool {
+        transactions.len() <= self.settings.allowance as usize
+            && transactions.iter().all(|t| t.in_range())
+    }
+
+    fn all_held(&self, authors: Set, round: u32) -> bool {
+        members_of(authors).all(|a| self.is_held(a, round))
+    }
+
+    // ---- propose
+
+    pub fn may_propose(&self, previous: Set, transactions: &[Transaction]) -> Answer<()> {
+        let r = self.round;
+        if !self.transactions_fit(transactions) {
+            return Err(6);
+        }
+        if (previous == 0) != (r == 1) {
+            return Err(7);
+        }
+        if self.proposal.is_some() || self.is_held(self.own, r) {
+            return Err(10);
+        }
+        let committee = self.committee_of(r).ok_or(8u32)?;
+        if committee[self.own as usize] == 0 {
+            return Err(9);
+        }
+        if r > 1 {
+            if !self.all_held(previous, r - 1) {
+                return Err(11);
+            }
+            // The round before is known whenever the round is.
+            let before = self.committee_of(r - 1).ok_or(8u32)?;
+            if !is_quorum(previous, before) {
+                return Err(12);
+            }
+        }
+        Ok(())
+    }
+
+    pub fn propose(&mut self, previous: Set, transactions: &[Transaction]) -> Answer<()> {
+        self.may_propose(previous, transactions)?;
+        self.proposal = Some(Proposal {
+            author: self.own,
+            round: self.round,
+            previous,
+            transactions: transactions.to_vec(),
+        });
+        Ok(())
+    }
+
+    // ---- endorse
+
+    pub fn may_endorse(&self, p: &Proposal) -> Answer<()> {
+        if p.author >= MEMBERS {
+            return Err(4);
+        }
+        if !self.round_in_range(p.round) {
+            return Err(5);
+        }
+        if !self.transactions_fit(&p.transactions) {
+            return Err(6);
+        }
+        if (p.previous == 0) != (p.round == 1) {
+            return Err(7);
+        }
+        if p.author == self.own {
+            return Err(14);
+        }
+        if self.is_held(p.author, p.round) || self.is_endorsed(p.author, p.round) {
+            return Err(10);
+        }
+        if p.round > 1 {
+            let before = self.committee_of(p.round - 1).ok_or(8u32)?;
+            if !self.all_held(p.previous, p.round - 1) {
+                return Err(11);
+            }
+            if !is_quorum(p.previous, before) {
+                return Err(12);
+            }
+        }
+        Ok(())
+    }
+
+    pub fn endorse(&mut self, p: &Proposal) -> Answer<()> {
+        self.may_endorse(p)?;
+        self.endorsed[place(p.author, p.round)] = true;
+        Ok(())
+    }
+
+    // ---- certify
+
+    pub fn may_certify(&self, endorsers: Set) -> Answer<Certificate> {
+        let Some(proposal) = &self.proposal else {
+            return Err(15);
+        };
+        if self.is_held(self.own, self.round) {
+            return Err(10);
+        }
+        if in_set(endorsers, self.own) {
+            return Err(14);
+        }
+        let certificate = Certificate { proposal: proposal.clone(), endorsers };
+        let committee = self.committee_of(self.round).ok_or(8u32)?;
+        if !inside(certificate.signers(), committee) {
+            return Err(9);
+        }
+        if !is_quorum(certificate.signers(), committee) {
+            return Err(13);
+        }
+        Ok(certificate)
+    }
+
+    pub fn certify(&mut self, endorsers: Set) -> Answer<()> {
+        let certificate = self.may_certify(endorsers)?;
+        self.held[place(self.own, self.round)] = Some(Held { certificate, block: 0 });
+        Ok(())
+    }
+
+    // ---- accept
+
+    pub fn may_accept(&self, c: &Certificate) -> Answer<()> {
+        let p = &c.proposal;
+        if p.author >= MEMBERS {
+            return Err(4);
+        }
+        if !self.round_in_range(p.round) {
+            return Err(5);
+        }
+        if !self.transactions_fit(&p.transactions) {
+            return Err(6);
+        }
+        if (p.previous == 0) != (p.round == 1) {
+            return Err(7);
+        }
+        if in_set(c.endorsers, p.author) {
+            return Err(14);
+        }
+        if let Some(there) = self.held_at(p.author, p.round) {
+            return Err(if there.certificate.same_as(c) { 16 } else { 17 });
+        }
+        let committee = self.committee_of(p.round).ok_or(8u32)?;
+        if !inside(c.signers(), committee) {
+            return Err(9);
+        }
+        if !is_quorum(c.signers(), committee) {
+            return Err(13);
+        }
+        if p.round > 1 && !self.all_held(p.previous, p.round - 1) {
+            return Err(11);
+        }
+        Ok(())
+    }
+
+    pub fn accept(&mut self, c: &Certificate) -> Answer<()> {
+        self.may_accept(c)?;
+        let here = place(c.proposal.author, c.proposal.round);
+        self.held[here] = Some(Held { certificate: c.clone(), block: 0 });
+        self.endorsed[here] = false;
+        Ok(())
+    }
+
+    // ---- advance
+
+    pub fn may_advance(&self) -> Answer<()> {
+        if self.round == self.settings.ceiling {
+            return Err(18);
+        }
+        Ok(())
+    }
+
+    pub fn advance(&mut self) -> Answer<()> {
+        self.may_advance()?;
+        self.round += 1;
+        self.proposal = None;
+        Ok(())
+    }
+
+    // ---- commit
+
+    /// The author of the anchor of an even round: the leader, if its
+    /// certificate is held.
+    pub fn anchor(&self, round: u32) -> Option<u32> {
+        let leader = leader(round, self.committee_of(round)?)?;
+        if self.is_held(leader, round) { Some(leader) } else { None }
+    }
+
+    /// The certificate and, repeatedly, held certificates named as previous.
+    pub fn history(&self, author: u32, round: u32) -> History {
+        let mut history = vec![0; round as usize + 1];
+        history[round as usize] = single(author);
+        for r in (2..=round).rev() {
+            let mut named = 0;
+            for a in members_of(history[r as usize]) {
+                if let Some(held) = self.held_at(a, r) {
+                    named |= held.certificate.proposal.previous;
+                }
+            }
+            history[r as usize - 1] = named & self.held_authors(r - 1);
+        }
+        history
+    }
+
+    /// The author of the anchor of the round before, if a commit would go.
+    pub fn may_commit(&self) -> Answer<u32> {
+        let r = self.round;
+        if r % 2 == 0 || r == 1 {
+            return Err(19);
+        }
+        if self.last_block_round() >= r - 1 {
+            return Err(20);
+        }
+        let committee = self.committee_of(r).ok_or(8u32)?;
+        let anchor = self.anchor(r - 1).ok_or(21u32)?;
+        let mut votes = 0;
+        for a in 0..MEMBERS {
+            if let Some(held) = self.held_at(a, r) {
+                if in_set(held.certificate.proposal.previous, anchor) {
+                    votes += committee[a as usize];
+                }
+            }
+        }
+        if votes <= fault_bound(total(committee)) {
+            return Err(22);
+        }
+        Ok(anchor)
+    }
+
+    /// The number of blocks added.
+    pub fn commit(&mut self) -> Answer<u32> {
+        let anchor = self.may_commit()?;
+        let last = self.last_block_round();
+
+        // From that anchor back over even rounds above the last block's.
+        let mut round = self.round - 1;
+        let mut history = self.history(anchor, round);
+        let mut taken = vec![(round, history.clone())];
+        while round > last + 2 {
+            round -= 2;
+            if let Some(a) = self.anchor(round) {
+                if in_set(history[round as usize], a) {
+                    history = self.history(a, round);
+                    taken.push((round, history.clone()));
+                }
+            }
+        }
+
+        // Oldest first, each makes a block.
+        let count = taken.len() as u32;
+        for (round, history) in taken.into_iter().rev() {
+            let number = self.chain.len() as u32 + 1;
+            let mut after = match self.chain.last() {
+                Some(block) => block.after,
+                None => self.settings.weights,
+            };
+            let mut certificates = Vec::new();
+            for r in 1..=round {
+                for a in members_of(history[r as usize]) {
+                    let held = self.held[place(a, r)].as_mut().expect("a history is held");
+                    if held.block == 0 {
+                        held.block = number;
+                        certificates.push((r, a));
+                        for t in &held.certificate.proposal.transactions {
+                            change(&mut after, t);
+                        }
+                    }
+                }
+            }
+            self.chain.push(Block { round, certificates, after });
+        }
+        Ok(count)
+    }
+
+    // ---- reads
+
+    pub fn read_committee(&self, round: u32) -> Answer<Committee> {
+        if !self.round_in_range(round) {
+            return Err(5);
+        }
+        Ok(*self.committee_of(round).ok_or(8u32)?)
+    }
+
+    pub fn read_share(&self, member: u32, round: u32) -> Answer<u64> {
+        if member >= MEMBERS {
+            return Err(4);
+        }
+        let committee = self.read_committee(round)?; // 5, 8
+        if committee[member as usize] == 0 {
+            return Err(9);
+        }
+        Ok(thousandths(committee[member as usize], total(&committee)))
+    }
+
+    /// The proposal and the number of its block, 0 for none.
+    pub fn read_certificate(&self, author: u32, round: u32) -> Answer<(&Proposal, u32)> {
+        if author >= MEMBERS {
+            return Err(4);
+        }
+        if !self.round_in_range(round) {
+            return Err(5);
+        }
+        let held = self.held_at(author, round).ok_or(23u32)?;
+        Ok((&held.certificate.proposal, held.block))
+    }
+
+    /// The round of a block, by number from 1.
+    pub fn read_block(&self, number: u32) -> Answer<u32> {
+        if number == 0 {
+            return Err(23);
+        }
+        self.chain.get(number as usize - 1).map(|b| b.round).ok_or(23)
+    }
+}

@@ -1,0 +1,485 @@
+//! `rustc --test tests_ref.rs`: the cases marked P in document 01, the slips
+//! it wants ruled out, the example, small runs worked out by hand, and the
+//! shortcuts of the reference compared with the plain definitions.
+
+#![allow(dead_code)]
+
+#[path = "runner_ref.rs"]
+mod runner_ref;
+
+use runner_ref::reference::*;
+use runner_ref::{read_number, run};
+use std::collections::BTreeSet;
+use Setting::{Blank, Written};
+
+fn sheet(lookback: Setting, ceiling: Setting, allowance: Setting, weights: &[u32]) -> Sheet {
+    let mut sheet = Sheet { lookback, ceiling, allowance, weights: [Blank; 16] };
+    for (m, &w) in weights.iter().enumerate() {
+        sheet.weights[m] = Written(w);
+    }
+    sheet
+}
+
+fn ones(n: usize) -> Sheet {
+    let mut s = sheet(Blank, Blank, Blank, &[0; 16]);
+    for m in 0..n {
+        s.weights[m] = Written(1);
+    }
+    s
+}
+
+fn proposal(author: u32, round: u32, previous: Set, transactions: &[Transaction]) -> Proposal {
+    Proposal { author, round, previous, transactions: transactions.to_vec() }
+}
+
+fn certificate(author: u32, round: u32, previous: Set, endorsers: Set, transactions: &[Transaction]) -> Certificate {
+    Certificate { proposal: proposal(author, round, previous, transactions), endorsers }
+}
+
+fn bond(member: u32, amount: u32) -> Transaction {
+    Transaction::Bond { member, amount }
+}
+fn unbond(member: u32) -> Transaction {
+    Transaction::Unbond { member }
+}
+fn entry(number: u32) -> Transaction {
+    Transaction::Entry { number }
+}
+
+/// Member 0 alone, with one certificate in each round up to the given one;
+/// the transactions stand in the first.
+fn alone(sheet: &Sheet, rounds: u32, first: &[Transaction]) -> Member {
+    let mut m = Member::open(0, sheet, 1_024).unwrap();
+    for r in 1..=rounds {
+        m.propose(u16::from(r > 1), if r == 1 { first } else { &[] }).unwrap();
+        m.certify(0).unwrap();
+        if r < rounds {
+            m.advance().unwrap();
+        }
+    }
+    m
+}
+
+// ------------------------------------------------------------ P: edges ---
+
+#[test]
+fn p_bounds_and_quorums() {
+    let table = [(0, 0, 0), (1, 0, 1), (3, 0, 3), (4, 1, 3), (6, 1, 5), (7, 2, 5)];
+    for (n, bound, quorum) in table {
+        assert_eq!((fault_bound(n), quorum_weight(n)), (bound, quorum), "total {n}");
+    }
+}
+
+#[test]
+fn p_known_rounds_of_an_empty_chain() {
+    let m = Member::open(0, &Sheet::all_blank(), 1_024).unwrap();
+    assert!(m.read_committee(22).is_ok());
+    assert_eq!(m.read_committee(23), Err(8));
+}
+
+#[test]
+fn p_bond_out_at_22_in_at_23() {
+    let s = sheet(Blank, Blank, Blank, &[1, 0, 0, 0]);
+    let mut m = alone(&s, 3, &[bond(7, 9)]);
+    assert_eq!(m.commit(), Ok(1));
+    assert_eq!(m.read_block(1), Ok(2));
+    assert_eq!(m.read_committee(22).unwrap()[7], 0);
+    assert_eq!(m.read_committee(23).unwrap()[7], 9);
+    assert!(m.read_committee(24).is_ok());
+    assert_eq!(m.read_committee(25), Err(8));
+}
+
+#[test]
+fn p_leaders() {
+    let m = Member::open(0, &Sheet::all_blank(), 1_024).unwrap();
+    let leaders: Vec<_> = [2, 4, 6, 8].iter().map(|&r| leader(r, &m.read_committee(r).unwrap())).collect();
+    assert_eq!(leaders, [Some(1), Some(2), Some(3), Some(0)]);
+    assert_eq!(leader(2, &[0; 16]), None);
+}
+
+#[test]
+fn p_share() {
+    let m = Member::open(0, &ones(16), 1_024).unwrap();
+    for member in 0..16 {
+        assert_eq!(m.read_share(member, 1), Ok(63));
+    }
+    assert_eq!(thousandths(1, 3), 333);
+    assert_eq!(thousandths(2, 3), 667);
+    assert_eq!(thousandths(1, 1), 1_000);
+    assert_eq!(thousandths(1, 2_000), 1); // a half, upward
+    assert_eq!(thousandths(1, 2_001), 0);
+}
+
+#[test]
+fn p_unbond_then_bond_and_the_reverse() {
+    let mut c = [1u64; 16];
+    change(&mut c, &unbond(2));
+    change(&mut c, &bond(2, 5));
+    assert_eq!(c[2], 5);
+    let mut c = [1u64; 16];
+    change(&mut c, &bond(2, 5));
+    change(&mut c, &unbond(2));
+    assert_eq!(c[2], 0);
+
+    // The same through a block, lookback 1.
+    let s = sheet(Written(1), Blank, Blank, &[1, 0, 0, 0]);
+    let mut m = alone(&s, 3, &[bond(2, 7), unbond(2), bond(2, 5), unbond(9)]);
+    m.commit().unwrap();
+    assert_eq!(m.read_committee(4).unwrap()[2], 5);
+    let mut m = alone(&s, 3, &[unbond(2), bond(2, 5), unbond(2)]);
+    m.commit().unwrap();
+    assert_eq!(m.read_committee(4).unwrap()[2], 0);
+    assert_eq!(m.read_share(2, 4), Err(9));
+}
+
+#[test]
+fn p_blank_weight_and_written_zero() {
+    let m = Member::open(0, &Sheet::all_blank(), 1_024).unwrap();
+    assert_eq!(m.read_committee(1).unwrap()[..5], [1, 1, 1, 1, 0]);
+    let mut s = Sheet::all_blank();
+    s.weights[3] = Written(0);
+    let m = Member::open(0, &s, 1_024).unwrap();
+    assert_eq!(m.read_committee(1).unwrap()[3], 0);
+    assert_eq!(m.read_share(3, 1), Err(9));
+    assert_eq!(Member::open(3, &s, 1_024).unwrap().propose(0, &[]), Err(9));
+}
+
+#[test]
+fn unproved_ceilings() {
+    let with = |c| sheet(Blank, Written(c), Blank, &[]);
+    assert!(Member::open(0, &with(1_024), 1_024).is_ok());
+    assert_eq!(Member::open(0, &with(1_025), 1_024).err(), Some(2));
+    assert_eq!(Member::open(0, &with(2), 1_024).err(), Some(2));
+    assert_eq!(Member::open(0, &with(65), 64).err(), Some(1));
+    assert!(Member::open(0, &with(64), 64).is_ok());
+}
+
+// --------------------------------------------------------------- sheet ---
+
+#[test]
+fn sheet_ranges() {
+    let filled = Sheet::all_blank().fill().unwrap();
+    assert_eq!((filled.lookback, filled.ceiling, filled.allowance), (20, 1_024, 4));
+    let good = [(1, 3, 0, 0), (1_000, 1_024, 4, 1_000_000)];
+    for (l, c, a, w) in good {
+        assert!(sheet(Written(l), Written(c), Written(a), &[1, w]).fill().is_ok());
+    }
+    for (l, c, a, w) in [(0, 3, 0, 0), (1_001, 3, 0, 0), (1, 2, 0, 0), (1, 1_025, 0, 0), (1, 3, 5, 0), (1, 3, 0, 1_000_001)] {
+        assert_eq!(sheet(Written(l), Written(c), Written(a), &[1, w]).fill(), Err(2));
+    }
+    assert_eq!(Member::open(0, &sheet(Blank, Blank, Blank, &[0; 4]), 1_024).err(), Some(3));
+    assert_eq!(Member::open(16, &sheet(Written(0), Blank, Blank, &[0; 4]), 3).err(), Some(4));
+    assert_eq!(Member::open(15, &sheet(Written(0), Blank, Blank, &[0; 4]), 3).err(), Some(2));
+    assert_eq!(Member::open(15, &sheet(Blank, Blank, Blank, &[0; 4]), 3).err(), Some(3));
+    assert_eq!(Member::open(15, &Sheet::all_blank(), 3).err(), Some(1));
+}
+
+// --------------------------------------------------------------- slips ---
+
+/// Own 0, four members of weight 1, in round 3, the anchor of 2 held.
+fn before_votes() -> Member {
+    let mut m = Member::open(0, &Sheet::all_blank(), 1_024).unwrap();
+    for a in 0..4 {
+        m.accept(&certificate(a, 1, 0, 15 & !single(a), &[entry(a)])).unwrap();
+    }
+    for a in 0..4 {
+        m.accept(&certificate(a, 2, 15, 15 & !single(a), &[])).unwrap();
+    }
+    m.advance().unwrap();
+    m.advance().unwrap();
+    m
+}
+
+#[test]
+fn slip_voting_weight_equal_to_the_bound() {
+    let mut m = before_votes();
+    assert_eq!(m.commit(), Err(22));
+    m.accept(&certificate(3, 3, 2, 7, &[])).unwrap();
+    assert_eq!(m.commit(), Err(22)); // weight 1, bound 1
+    m.accept(&certificate(2, 3, 13, 11, &[])).unwrap(); // names all but the anchor
+    assert_eq!(m.commit(), Err(22));
+    m.accept(&certificate(1, 3, 2, 13, &[])).unwrap();
+    assert_eq!(m.commit(), Ok(1));
+}
+
+#[test]
+fn slip_a_rounds_own_block_changing_its_committee() {
+    // With lookback 1 the bonded committee of 2 leaves out the block of 2.
+    let s = sheet(Written(1), Blank, Blank, &[1, 0, 0, 0]);
+    let mut m = alone(&s, 3, &[bond(5, 3)]);
+    m.commit().unwrap();
+    assert_eq!(m.bonded_committee(2).unwrap()[5], 0);
+    assert_eq!(m.bonded_committee(3).unwrap()[5], 3);
+    assert_eq!(m.read_committee(3).unwrap()[5], 0);
+    assert_eq!(m.read_committee(4).unwrap()[5], 3);
+}
+
+#[test]
+fn slip_blocks_newest_first() {
+    let s = sheet(Blank, Blank, Blank, &[1, 0, 0, 0]);
+    let mut m = alone(&s, 9, &[]);
+    assert_eq!(m.commit(), Ok(4));
+    let rounds: Vec<_> = (1..=4).map(|n| m.read_block(n).unwrap()).collect();
+    assert_eq!(rounds, [2, 4, 6, 8]);
+    for r in 1..=8 {
+        assert_eq!(m.read_certificate(0, r).unwrap().1, r.div_ceil(2));
+    }
+    assert_eq!(m.read_certificate(0, 9).unwrap().1, 0);
+    assert_eq!(m.read_block(0), Err(23));
+    assert_eq!(m.read_block(5), Err(23));
+    assert_eq!(m.commit(), Err(20));
+}
+
+#[test]
+fn slip_endorsement_forgotten() {
+    let mut m = before_votes();
+    let p = proposal(3, 3, 7, &[entry(1)]);
+    m.endorse(&p).unwrap();
+    assert_eq!(m.endorse(&p), Err(10));
+    m.advance().unwrap();
+    assert_eq!(m.endorse(&p), Err(10));
+    assert_eq!(m.endorse(&proposal(3, 3, 7, &[])), Err(10));
+    m.accept(&certificate(3, 3, 7, 7, &[])).unwrap(); // another than endorsed
+    assert!(!m.is_endorsed(3, 3));
+    assert_eq!(m.endorse(&p), Err(10)); // held now
+}
+
+#[test]
+fn slip_endorsers_compared() {
+    let mut m = before_votes();
+    assert_eq!(m.accept(&certificate(1, 2, 15, 12, &[])), Err(16));
+    assert_eq!(m.accept(&certificate(1, 2, 15, 0, &[])), Err(16));
+    assert_eq!(m.accept(&certificate(1, 2, 7, 13, &[])), Err(17));
+    assert_eq!(m.accept(&certificate(1, 2, 15, 13, &[entry(0)])), Err(17));
+}
+
+// ------------------------------------------------------ small runs by hand ---
+
+#[test]
+fn order_within_a_block() {
+    let mut m = before_votes();
+    for a in [3, 1] {
+        m.accept(&certificate(a, 3, 15, 15 & !single(a), &[])).unwrap();
+    }
+    assert_eq!(m.commit(), Ok(1));
+    assert_eq!(m.chain()[0].certificates, [(1, 0), (1, 1), (1, 2), (1, 3), (2, 1)]);
+    assert_eq!(m.read_certificate(0, 2), Ok((&proposal(0, 2, 15, &[]), 0)));
+    assert_eq!(m.read_certificate(2, 1), Ok((&proposal(2, 1, 0, &[entry(2)]), 1)));
+}
+
+#[test]
+fn reads_refuse() {
+    let m = before_votes();
+    assert_eq!(m.read_committee(0), Err(5));
+    assert_eq!(m.read_committee(1_025), Err(5));
+    assert_eq!(m.read_share(16, 0), Err(4));
+    assert_eq!(m.read_share(15, 0), Err(5));
+    assert_eq!(m.read_share(15, 23), Err(8));
+    assert_eq!(m.read_share(15, 22), Err(9));
+    assert_eq!(m.read_share(1, 22), Ok(250));
+    assert_eq!(m.read_certificate(16, 0), Err(4));
+    assert_eq!(m.read_certificate(0, 0), Err(5));
+    assert_eq!(m.read_certificate(0, 1_025), Err(5));
+    assert_eq!(m.read_certificate(0, 3), Err(23));
+}
+
+#[test]
+fn weights_decide_not_heads() {
+    // 5 of 6 is a quorum: member 0 of weight 5 is one alone, member 1 never.
+    let s = sheet(Blank, Blank, Blank, &[5, 1, 0, 0]);
+    let mut m = Member::open(0, &s, 1_024).unwrap();
+    m.propose(0, &[]).unwrap();
+    assert!(m.certify(0).is_ok());
+    assert_eq!(m.accept(&certificate(1, 1, 0, 0, &[])), Err(13));
+    assert!(m.accept(&certificate(1, 1, 0, 1, &[])).is_ok());
+    m.advance().unwrap();
+    assert_eq!(m.propose(2, &[]), Err(12));
+    assert!(m.propose(1, &[]).is_ok());
+}
+
+#[test]
+fn no_change_on_refusal() {
+    let mut m = before_votes();
+    let image = format!("{m:?}");
+    let _ = m.propose(0, &[]);
+    let _ = m.propose(65_535, &[bond(16, 1)]);
+    let _ = m.endorse(&proposal(0, 3, 15, &[]));
+    let _ = m.endorse(&proposal(1, 3, 16, &[]));
+    let _ = m.certify(14);
+    let _ = m.accept(&certificate(1, 3, 15, 0, &[]));
+    let _ = m.commit();
+    assert_eq!(image, format!("{m:?}"));
+}
+
+// -------------------------------------------------------------- runner ---
+
+fn answers(input: &[u8]) -> String {
+    let mut out = Vec::new();
+    run(&mut &input[..], &mut out).unwrap();
+    String::from_utf8(out).unwrap()
+}
+
+#[test]
+fn the_example() {
+    let input = "open,0,,64,,1,0,0,0,,,,,,,,,,,,\npropose,0,E,7,0\ncertify,0\nadvance\npropose,1\ncertify,0\nadvance\npropose,1,E,9,0\ncertify,0\ncommit\nchain\ncommit\n";
+    let output = "ok\n".repeat(9) + "ok,1\n1,2,1,0,E,7,0\n1,2,2,0\nok\nrefused,20\n";
+    assert_eq!(answers(input.replace('\n', "\r\n").as_bytes()), output.replace('\n', "\r\n"));
+}
+
+#[test]
+fn numbers() {
+    for (text, n) in [("0", 0), ("7", 7), ("10", 10), ("4294967295", u32::MAX)] {
+        assert_eq!(read_number(text.as_bytes()), Some(n));
+    }
+    for text in ["", "00", "01", "+1", "-1", " 1", "1 ", "4294967296", "42949672950", "99999999999999999999", "1a", "\u{661}"] {
+        assert_eq!(read_number(text.as_bytes()), None, "{text}");
+    }
+}
+
+/// The records come out the same however the input is cut into pieces.
+#[test]
+fn pieces_of_input() {
+    let mut input = Vec::new();
+    for part in ["advance\r\n", "\r\n", "\n\r\n", "\r\r\n", "a\rb\r\n", "\r\n\n"] {
+        input.extend_from_slice(part.as_bytes());
+    }
+    for length in [1_021, 1_022, 1_023, 1_024, 1_025, 3_000] {
+        input.extend(std::iter::repeat(b'\r').take(length));
+        input.extend_from_slice(b"\r\nchain\r\n");
+        let long = format!("propose,0,E,{},0\r\n", "1".repeat(length));
+        input.extend_from_slice(long.as_bytes());
+    }
+    input.extend_from_slice(b"advance\r");
+    let whole = answers(&input);
+    for size in [1, 2, 3, 7, 64, 1_023, 1_024, 1_025, 4_096] {
+        let mut out = Vec::new();
+        let mut pieces = std::io::BufReader::with_capacity(size, &input[..]);
+        run(&mut pieces, &mut out).unwrap();
+        assert_eq!(String::from_utf8(out).unwrap(), whole);
+    }
+    assert_eq!(whole.lines().count(), 6 + 6 * 3 + 1);
+}
+
+#[test]
+fn longest_record() {
+    let open = "open,0,,64,,1,0,0,0,,,,,,,,,,,,\r\n";
+    for (digits, answer) in [(4, "6"), (5, "6"), (6, "6"), (7, "24"), (8, "24")] {
+        let record = format!("propose,0,E,{},0{}\r\n", "1".repeat(digits), ",E,1,0".repeat(167));
+        assert_eq!(record.len(), 1_018 + digits);
+        let got = answers((open.to_owned() + &record).as_bytes());
+        assert_eq!(got, format!("ok\r\nrefused,{answer}\r\n"));
+    }
+}
+
+// ------------------------------- shortcuts against the plain definitions ---
+
+struct Rng(u64);
+impl Rng {
+    fn below(&mut self, n: u64) -> u64 {
+        self.0 ^= self.0 << 13;
+        self.0 ^= self.0 >> 7;
+        self.0 ^= self.0 << 17;
+        self.0 % n
+    }
+}
+
+fn plain_bonded(m: &Member, s: u32) -> Committee {
+    let mut c = m.settings().weights;
+    for block in m.chain().iter().filter(|b| b.round < s) {
+        for &(r, a) in &block.certificates {
+            for t in &m.held_at(a, r).unwrap().certificate.proposal.transactions {
+                change(&mut c, t);
+            }
+        }
+    }
+    c
+}
+
+fn plain_history(m: &Member, author: u32, round: u32) -> BTreeSet<(u32, u32)> {
+    let mut found = BTreeSet::new();
+    let mut waiting = vec![(round, author)];
+    while let Some((r, a)) = waiting.pop() {
+        if let Some(held) = m.held_at(a, r) {
+            if found.insert((r, a)) {
+                waiting.extend(members_of(held.certificate.proposal.previous).map(|p| (r - 1, p)));
+            }
+        }
+    }
+    found
+}
+
+#[test]
+fn shortcuts() {
+    let mut rng = Rng(0x1234_5678_9abc_def1);
+    let mut blocks = 0;
+    for _ in 0..300 {
+        let weights: Vec<u32> = (0..16).map(|_| rng.below(4) as u32).collect();
+        let lookback = 1 + rng.below(8) as u32;
+        let Ok(mut m) = Member::open(0, &sheet(Written(lookback), Written(24), Blank, &weights), 64) else { continue };
+        loop {
+            let r = m.round();
+            if let Some(committee) = m.committee_of(r).copied() {
+                for a in 0..16 {
+                    if committee[a as usize] == 0 || rng.below(5) == 0 {
+                        continue;
+                    }
+                    let before = m.held_authors(r - 1);
+                    let mut previous = before & !(rng.below(65_536) as Set & rng.below(65_536) as Set);
+                    if previous == 0 {
+                        previous = before;
+                    }
+                    let mut transactions = Vec::new();
+                    for _ in 0..rng.below(3) {
+                        transactions.push(match rng.below(4) {
+                            0 => unbond(rng.below(16) as u32),
+                            1 => entry(rng.below(100) as u32),
+                            _ => bond(rng.below(16) as u32, 1 + rng.below(4) as u32),
+                        });
+                    }
+                    let all = (0..16).filter(|&m| committee[m as usize] > 0 && m != a).map(single).fold(0, |x, y| x | y);
+                    let _ = m.accept(&certificate(a, r, previous, all, &transactions));
+                }
+            }
+            if rng.below(3) > 0 {
+                let before = m.chain().len() as u32;
+                if let Ok(n) = m.commit() {
+                    assert_eq!(m.chain().len() as u32, before + n);
+                    blocks += n;
+                }
+            }
+            if m.advance().is_err() {
+                break;
+            }
+        }
+        // Committees, histories, marks and the well-formedness of the chain.
+        for s in 0..=24 {
+            let known = s <= m.last_block_round() + 2;
+            assert_eq!(m.bonded_committee(s).is_some(), known);
+            if known {
+                assert_eq!(*m.bonded_committee(s).unwrap(), plain_bonded(&m, s));
+            }
+        }
+        for r in 1..=24 {
+            for a in members_of(m.held_authors(r)) {
+                let history = m.history(a, r);
+                let listed: BTreeSet<_> = (1..=r).flat_map(|q| members_of(history[q as usize]).map(move |b| (q, b))).collect();
+                assert_eq!(listed, plain_history(&m, a, r));
+            }
+        }
+        let mut last = 0;
+        for (i, block) in m.chain().iter().enumerate() {
+            assert!(block.round % 2 == 0 && block.round > last && block.round < 24);
+            last = block.round;
+            let mut marked = Vec::new();
+            for r in 1..=24 {
+                for a in members_of(m.held_authors(r)) {
+                    if m.held_at(a, r).unwrap().block == i as u32 + 1 {
+                        marked.push((r, a));
+                    }
+                }
+            }
+            assert_eq!(marked, block.certificates);
+        }
+    }
+    assert!(blocks > 300, "{blocks}");
+}
