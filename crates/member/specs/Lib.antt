@@ -7,3 +7,4 @@ pub mod OpenLaws
 pub mod PassedLaws
 pub mod Steps
 pub mod CallLaws
+pub mod NextLaws
