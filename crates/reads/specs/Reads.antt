@@ -15,12 +15,12 @@ use Rattle.state.specs.View.{view}
 use Rattle.state.specs.Number.{guarded}
 use Rattle.member.specs.Answers.{left, answerOf}
 use Rattle.member.specs.Open.{noBody}
-use Rattle.reads.specs.declared.Committee.{Committee}
-use Rattle.reads.specs.declared.Share.{Share}
-use Rattle.reads.specs.declared.Share.the-variants as share
-use Rattle.reads.specs.declared.Found.{Found}
-use Rattle.reads.specs.declared.BlockRound.{BlockRound}
-use Rattle.reads.specs.declared.BlockRound.the-variants as blockRound
+use Rattle.reads.specs.declared.CommitteeRead.{CommitteeRead}
+use Rattle.reads.specs.declared.ShareRead.{ShareRead}
+use Rattle.reads.specs.declared.ShareRead.the-variants as share
+use Rattle.reads.specs.declared.CertificateRead.{CertificateRead}
+use Rattle.reads.specs.declared.BlockRead.{BlockRead}
+use Rattle.reads.specs.declared.BlockRead.the-variants as block
 
 -- no proposal, of nobody and no round
 abbrev pub noProposal : Proposal
@@ -36,21 +36,21 @@ module _ (s : State) (t : List ℕ) where
   unfoldable pub committeeNumber : ℕ → ℕ
   committeeNumber r = refusal (guarded s t (rules.readingCommittee (s .settings) (view s t) r))
 
-  unfoldable pub committeeAnswer : ℕ → Committee
+  unfoldable pub committeeAnswer : ℕ → CommitteeRead
   committeeAnswer r = record { answer = answerOf (committeeNumber r); weights = left (committeeNumber r) (rules.committeeRead (s .settings) (view s t) r) (replicate 16 0) }
 
   -- share (4, 5, 8, 9): the thousandths
   unfoldable pub shareNumber : ℕ → ℕ → ℕ
   shareNumber m r = refusal (guarded s t (rules.readingShare (s .settings) (view s t) m r))
 
-  unfoldable pub shareAnswer : ℕ → ℕ → Share
+  unfoldable pub shareAnswer : ℕ → ℕ → ShareRead
   shareAnswer m r = cond (eqb (shareNumber m r) 0) (share.Thousandths (rules.shareRead (s .settings) (view s t) m r)) (share.Refused (shareNumber m r))
 
   -- certificate (4, 5, 23 none there): the proposal and the number of its block, 0 for none
   unfoldable pub certificateNumber : ℕ → ℕ → ℕ
   certificateNumber m r = refusal (guarded s t (rules.readingCertificate (s .settings) (view s t) m r))
 
-  unfoldable pub certificateAnswer : ℕ → ℕ → Found
+  unfoldable pub certificateAnswer : ℕ → ℕ → CertificateRead
   certificateAnswer m r =
       record {
         answer = answerOf (certificateNumber m r);
@@ -62,5 +62,5 @@ module _ (s : State) (t : List ℕ) where
   unfoldable pub blockNumber : ℕ → ℕ
   blockNumber k = refusal (guarded s t (rules.readingBlock (s .settings) (view s t) k))
 
-  unfoldable pub blockAnswer : ℕ → BlockRound
-  blockAnswer k = cond (eqb (blockNumber k) 0) (blockRound.At (record { 0 = rules.blockRead (s .settings) (view s t) k })) (blockRound.Refused (blockNumber k))
+  unfoldable pub blockAnswer : ℕ → BlockRead
+  blockAnswer k = cond (eqb (blockNumber k) 0) (block.At (record { 0 = rules.blockRead (s .settings) (view s t) k })) (block.Refused (blockNumber k))

@@ -5,33 +5,31 @@ use terms::Member;
 use terms::Proposal;
 use terms::Round;
 ghost use mathlib.Core.Path.{_≡_};
-ghost use Rattle.base.specs.Checks.{refusal};
-ghost use Rattle.rules.specs.Reads.{readingCommittee, readingShare, readingCertificate};
+ghost use Prim.Native.Nat.{_<_};
 ghost use Rattle.state.specs.Formed.{Formed};
-ghost use Rattle.state.specs.View.{view};
-ghost use Rattle.reads.specs.Reads.{committeeNumber, committeeAnswer, shareNumber, shareAnswer, certificateNumber, certificateAnswer, blockNumber, blockAnswer};
+ghost use Rattle.reads.specs.Reads.{committeeNumber, committeeAnswer, shareAnswer, certificateNumber, certificateAnswer, blockAnswer};
 
 // The committee of a round: sixteen weights, 0 for a non-member; all 0 where the read is refused.
-pub struct Committee {
+pub struct CommitteeRead {
     pub answer: Answer,
     pub weights: [u64; 16],
 }
 
 // A member's share in thousandths.
-pub enum Share {
+pub enum ShareRead {
     Thousandths(u32),
     Refused(u32),
 }
 
 // A held certificate: its proposal, and the number of its block, 0 for none; nothing where the read is refused.
-pub struct Found {
+pub struct CertificateRead {
     pub answer: Answer,
     pub proposal: Proposal,
     pub block: u32,
 }
 
 // The round of a block.
-pub enum BlockRound {
+pub enum BlockRead {
     At(Round),
     Refused(u32),
 }
@@ -52,48 +50,48 @@ fn committee_number(s: State, t: &[u32], r: Round) -> u32
     0
 }
 
-pub fn committee(s: State, t: &[u32], r: Round) -> Committee
+pub fn committee(s: State, t: &[u32], r: Round) -> CommitteeRead
     ensures { λ v. ⌜ v ≡ committeeAnswer s (now (t .entry)) (r .0) ⌝ }
 {
     let n = committee_number(s, t, r);
     if n != 0 {
-        return Committee {
+        return CommitteeRead {
             answer: Answer::Refused(n),
             weights: [0u64; 16],
         };
     }
-    Committee {
+    CommitteeRead {
         answer: Answer::Accepted,
         weights: walk::committee_of(t, s.settings, s.blocks, r),
     }
 }
 
 // Checks 5, 8, 9 of a share, or the share.
-fn share_of(s: State, t: &[u32], m: Member, r: Round) -> Share
+fn share_of(s: State, t: &[u32], m: Member, r: Round) -> ShareRead
     requires { ⌜ Formed s (now t) × (m .0 < 16) ⌝ }
     ensures { λ v. ⌜ v ≡ shareAnswer s (now (t .entry)) (m .0) (r .0) ⌝ }
 {
     if member::checks::is_bad_round(s.settings, r) {
-        return Share::Refused(5);
+        return ShareRead::Refused(5);
     }
     if !walk::known(t, s.settings, s.blocks, r) {
-        return Share::Refused(8);
+        return ShareRead::Refused(8);
     }
     let w = walk::committee_of(t, s.settings, s.blocks, r);
     if !committee::is_member(&w, m) {
-        return Share::Refused(9);
+        return ShareRead::Refused(9);
     }
-    Share::Thousandths(committee::share(&w, m))
+    ShareRead::Thousandths(committee::share(&w, m))
 }
 
-pub fn share(s: State, t: &[u32], m: Member, r: Round) -> Share
+pub fn share(s: State, t: &[u32], m: Member, r: Round) -> ShareRead
     ensures { λ v. ⌜ v ≡ shareAnswer s (now (t .entry)) (m .0) (r .0) ⌝ }
 {
     if !state::well_formed(s, t) {
-        return Share::Refused(1);
+        return ShareRead::Refused(1);
     }
     if 15 < m.0 {
-        return Share::Refused(4);
+        return ShareRead::Refused(4);
     }
     share_of(s, t, m, r)
 }
@@ -117,12 +115,12 @@ fn certificate_number(s: State, t: &[u32], m: Member, r: Round) -> u32
     0
 }
 
-pub fn certificate(s: State, t: &[u32], m: Member, r: Round) -> Found
+pub fn certificate(s: State, t: &[u32], m: Member, r: Round) -> CertificateRead
     ensures { λ v. ⌜ v ≡ certificateAnswer s (now (t .entry)) (m .0) (r .0) ⌝ }
 {
     let n = certificate_number(s, t, m, r);
     if n != 0 {
-        return Found {
+        return CertificateRead {
             answer: Answer::Refused(n),
             proposal: Proposal {
                 author: Member(0),
@@ -132,25 +130,25 @@ pub fn certificate(s: State, t: &[u32], m: Member, r: Round) -> Found
             block: 0,
         };
     }
-    Found {
+    CertificateRead {
         answer: Answer::Accepted,
         proposal: store::record::proposal_at(t, m, r),
         block: store::record::mark(t, m, r),
     }
 }
 
-pub fn block(s: State, t: &[u32], k: u32) -> BlockRound
+pub fn block(s: State, t: &[u32], k: u32) -> BlockRead
     ensures { λ v. ⌜ v ≡ blockAnswer s (now (t .entry)) k ⌝ }
 {
     if !state::well_formed(s, t) {
-        return BlockRound::Refused(1);
+        return BlockRead::Refused(1);
     }
     if k == 0 {
-        return BlockRound::Refused(23);
+        return BlockRead::Refused(23);
     }
     if s.blocks < k {
-        return BlockRound::Refused(23);
+        return BlockRead::Refused(23);
     }
     let r = store::block_round(t, k);
-    BlockRound::At(Round(r))
+    BlockRead::At(Round(r))
 }
