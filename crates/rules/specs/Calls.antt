@@ -1,5 +1,5 @@
 -- The calls of a member: the checks in document 01's order with its numbers, and the view after an accepted call.
-use mathlib.Core.Bool.{true, not, _||_, cond}
+use mathlib.Core.Bool.{true, false, not, _||_, cond}
 use mathlib.Core.Option.{Option, none, some}
 use mathlib.Core.List.{List, [], _∷_}
 use Prim.Native.Nat.{ℕ, _-_, _%_}
@@ -30,6 +30,10 @@ pub data Call : Type 0 where
   read : Call
 
 module _ (S : Settings) where
+  -- the view after an accepted open: round 1 and nothing else
+  abbrev pub freshView : Member S
+  freshView = record { round = 1; proposal = none; dag = λ a r. none; endorsed = λ a r. false; chain = [] }
+
   -- the proposal of member k with this previous set and these transactions
   abbrev pub drafted : ℕ → Member S → ℕ → List Transaction → Content
   drafted k s previous l = record { author = k; round = s .round; previous = previous; transactions = l }
@@ -44,8 +48,7 @@ module _ (S : Settings) where
       ∷ (unknown S s (p .round), 8)
       ∷ (not (members (committeeIn S s (p .round)) k), 9)
       ∷ (above (p .round) (missing S s p), 11)
-      ∷ (above (p .round) (not (quorum (committeeIn S s (p .round - 1)) (isIn (p .previous)))), 12)
-      ∷ []
+      ∷ (above (p .round) (not (quorum (committeeIn S s (p .round - 1)) (isIn (p .previous)))), 12) ∷ []
 
   -- 4 author; 5 round 0 or over the ceiling; 6; 7; 14 author is oneself; 10 place held or already endorsed; then, above round 1, 8 for the round before, 11, 12
   abbrev pub endorsing : ℕ → Member S → Content → Checks
@@ -58,8 +61,7 @@ module _ (S : Settings) where
       ∷ (isHeld (s .dag (p .author) (p .round)) || s .endorsed (p .author) (p .round), 10)
       ∷ (above (p .round) (unknown S s (p .round - 1)), 8)
       ∷ (above (p .round) (missing S s p), 11)
-      ∷ (above (p .round) (not (quorum (committeeIn S s (p .round - 1)) (isIn (p .previous)))), 12)
-      ∷ []
+      ∷ (above (p .round) (not (quorum (committeeIn S s (p .round - 1)) (isIn (p .previous)))), 12) ∷ []
 
   -- 15 no proposal this round; 10 own place held; 14 oneself among them; 8; 9 a signer outside the committee; 13 signers short of a quorum
   abbrev pub certifying : ℕ → Member S → ℕ → Option Content → Checks
@@ -69,8 +71,7 @@ module _ (S : Settings) where
       ∷ (isIn e k, 14)
       ∷ (unknown S s (s .round), 8)
       ∷ (outsider (committeeIn S s (s .round)) (isIn (signersOf p e)), 9)
-      ∷ (short (committeeIn S s (s .round)) (isIn (signersOf p e)), 13)
-      ∷ []
+      ∷ (short (committeeIn S s (s .round)) (isIn (signersOf p e)), 13) ∷ []
 
   -- 4; 5; 6; 7; 14 author among endorsers; 16 the same certificate held; 17 another held there; 8; 9 a signer outside; 13; 11
   abbrev pub accepting : Member S → Content → ℕ → Checks
@@ -85,8 +86,7 @@ module _ (S : Settings) where
       ∷ (unknown S s (p .round), 8)
       ∷ (outsider (committeeIn S s (p .round)) (isIn (signersOf p e)), 9)
       ∷ (short (committeeIn S s (p .round)) (isIn (signersOf p e)), 13)
-      ∷ (above (p .round) (missing S s p), 11)
-      ∷ []
+      ∷ (above (p .round) (missing S s p), 11) ∷ []
 
   -- 18 at the ceiling
   abbrev pub advancing : Member S → Checks
@@ -98,12 +98,12 @@ module _ (S : Settings) where
   voting s (some x) = (unvoted S s x, 22) ∷ []
 
   -- in round r: 19 r is even or 1; 20 last block's round at least r − 1; 8 committee of r unknown; 21; 22
-  abbrev pub committing : Member S → Checks
-  committing s =
+  abbrev pub committing : Member S → Option Content → Checks
+  committing s anchor =
       (eqb (s .round % 2) 0 || eqb (s .round) 1, 19)
       ∷ (leb (s .round - 1) (last (s .chain)), 20)
       ∷ (unknown S s (s .round), 8)
-      ∷ voting s (anchorAt s (s .round - 1))
+      ∷ voting s anchor
 
   abbrev pub checks : ℕ → Member S → Call → Checks
   checks k s (propose previous l) = proposing k s (drafted k s previous l)
@@ -111,7 +111,7 @@ module _ (S : Settings) where
   checks k s (certify e) = certifying k s e (s .proposal)
   checks k s (accept p e) = accepting s p e
   checks k s advance = advancing s
-  checks k s commit = committing s
+  checks k s commit = committing s (anchorAt s (s .round - 1))
   checks k s read = []
 
   -- the number of the first check that refuses the call of member k, 0 for none

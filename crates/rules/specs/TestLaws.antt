@@ -1,0 +1,50 @@
+-- What the tests say where they let a call pass.
+use mathlib.Core.Path.{_≡_, refl}
+use mathlib.Core.Bool.{Bool, true, false, not, _&&_, true≢false, false≢true}
+use mathlib.Core.Option.{Option, none, some}
+use mathlib.Core.Logic.{_≢_}
+use Prim.Native.Nat.{ℕ, zero, suc, _≤_}
+use native.Mathlib.Omega.{arith}
+use lib.Dec.{eqb, ltb}
+use borrow.Author.Tests.{eqb-true, eqb-false, ltb-false, not-false}
+use Rattle.base.specs.Bools.{neither}
+use Rattle.agreement.specs.View.{Knows}
+use Rattle.agreement.specs.Dag.{isHeld}
+use Rattle.sheet.specs.declared.Settings.{Settings}
+use Rattle.committee.specs.Committees.{knownBy}
+use Rattle.rules.specs.Tests.{Member, badRound, above, unknown}
+
+-- of two tests that fail together, the second fails where the first holds
+pub but : (a b : Bool) → (a && not b) ≡ false → a ≡ true → b ≡ true
+but true b h e = not-false b h
+but false b h e = absurd (false≢true e)
+
+-- a place where nothing is held
+pub absent : {P : Type 0} (o : Option P) → isHeld o ≡ false → o ≡ none
+absent none h = refl
+absent (some x) h = absurd (true≢false h)
+
+-- a test that is made above round 1 only, above round 1
+pub later : (r : ℕ) (b : Bool) → r ≢ 1 → above r b ≡ false → b ≡ false
+unfolding above
+later r b n h = go (eqb r 1) refl h
+  where
+    go : (t : Bool) → eqb r 1 ≡ t → (not t && b) ≡ false → b ≡ false
+    go true e k = absurd (n (eqb-true r 1 e))
+    go false e k = k
+
+-- a round that passes check 5
+pub round-fits : (S : Settings) (r : ℕ) → badRound S r ≡ false → (1 ≤ r) × (r ≤ S .ceiling .0)
+unfolding badRound
+round-fits S r h =
+    let p = neither (eqb r 0) (ltb (S .ceiling .0) r) h in
+    (positive r (p .0), ltb-false (S .ceiling .0) r (p .1))
+  where
+    positive : (n : ℕ) → eqb n 0 ≡ false → 1 ≤ n
+    positive zero e = absurd (eqb-false 0 0 e refl)
+    positive (suc n) e = omega arith
+
+-- a round that passes check 8
+pub is-known : (S : Settings) (s : Member S) (r : ℕ) → unknown S s r ≡ false → Knows s r
+unfolding unknown
+is-known S s r h = not-false (knownBy S (s .chain) r) h
