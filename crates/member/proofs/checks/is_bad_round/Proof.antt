@@ -1,4 +1,4 @@
-use mathlib.Core.Path.{_≡_, refl, sym, ap, _∙_}
+use mathlib.Core.Path.{sym}
 use Rattle.member.specs.PieceLaws.{bad-zero, bad-over}
 use Rattle.member.proofs.checks.is_bad_round.Statement.{statement}
 use Rattle.member.proofs.checks.is_bad_round.Tie as tie

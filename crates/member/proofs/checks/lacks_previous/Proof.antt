@@ -1,4 +1,4 @@
-use mathlib.Core.Path.{_≡_, refl, sym, ap, _∙_}
+use mathlib.Core.Path.{sym}
 use Rattle.member.specs.PieceLaws.{above-first, lacks-by}
 use native.Mathlib.Omega.{arith}
 use borrow.Author.Needs.{needs}

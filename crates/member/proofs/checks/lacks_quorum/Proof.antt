@@ -1,5 +1,5 @@
-use mathlib.Core.Path.{_≡_, refl, sym, ap, _∙_}
-use mathlib.Core.Bool.{true, false, not}
+use mathlib.Core.Path.{sym, ap, _∙_}
+use mathlib.Core.Bool.{not}
 use Rattle.member.specs.PieceLaws.{readable, above-first, above-later}
 use Rattle.base.specs.Sets.{isIn}
 use Rattle.sheet.specs.Ranges.{weightIn}

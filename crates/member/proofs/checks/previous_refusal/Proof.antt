@@ -1,4 +1,4 @@
-use mathlib.Core.Path.{_≡_, refl, sym, ap, _∙_}
+use mathlib.Core.Path.{sym, _∙_}
 use Rattle.base.specs.Checks.{passes-all, refuses, passes}
 use borrow.Author.Needs.{needs}
 use Rattle.member.proofs.checks.previous_refusal.Statement.{statement}
