@@ -1,33 +1,31 @@
 -- The places that calls speak of: what the checks of a place ask of the table, and where an accepted certificate is put.
 use mathlib.Core.Path.{_≡_, refl, sym, ap, _∙_}
-use mathlib.Core.Bool.{Bool, true, false, _||_}
+use mathlib.Core.Bool.{true, false, _||_}
 use mathlib.Core.List.{List, [], _∷_, _++_}
 use mathlib.Core.Logic.{_≢_}
 use Prim.Native.Nat.{ℕ, _<_, _≤_}
 use native.Mathlib.Omega.{arith}
-use native.Mathlib.Decide.{decLt}
 use lib.ListN.{drop}
 use borrow.Author.Tests.{ltb-false}
 use Rattle.base.specs.Checks.{Checks, refusal, numbered, refuses, passes, first-refuses, first-passes}
 use Rattle.base.specs.Sets.{isIn, add}
+use Rattle.terms.specs.declared.Body.{Body}
 use Rattle.terms.specs.declared.Proposal.{Proposal}
-use Rattle.terms.specs.declared.Certificate.{Certificate}
 use Rattle.terms.specs.Proposals.{contentOf, same}
 use Rattle.store.specs.Table.{Within, heldAt, endorsedAt, contentAt}
 use Rattle.store.specs.Writes.{putCertificate}
 use Rattle.store.specs.PutLaws.{length-put}
-use Rattle.rules.specs.Calls.{endorsing, certifying, accepting, endorse, certify, accept}
+use Rattle.rules.specs.Calls.{certifying, accepting}
 use Rattle.rules.specs.Passed.{passed}
 use Rattle.rules.specs.Tests.{signersOf, above, missing}
 use Rattle.rules.specs.TestLaws.{round-fits}
 use Rattle.agreement.specs.Dag.{isHeld}
 use Rattle.state.specs.declared.State.{State}
-use Rattle.state.specs.Formed.{Formed, formed, body-fits}
+use Rattle.state.specs.Formed.{BodyFits, Formed, body-fits}
 use Rattle.state.specs.View.{view}
 use Rattle.state.specs.ViewLaws.{held-dag, same-dag, endorsed-at, proposal-none, proposal-some, held-proposal}
-use Rattle.state.specs.NumberLaws.{number-passed}
-use Rattle.member.specs.Pieces.{Placed, formChecks, signerChecks}
-use Rattle.member.specs.Calls.{endorseNumber, certifyNumber, acceptNumber}
+use Rattle.member.specs.Pieces.{formChecks, signerChecks}
+use Rattle.member.specs.PassedLaws.{Fits}
 
 -- ---- a piece and the checks after it
 
@@ -37,14 +35,6 @@ module _ {n : ℕ} (l m : Checks) (e : n ≡ refusal l) where
 
   pub piece-passed : numbered l ≡ true → n ≡ 0 → refusal (l ++ m) ≡ refusal m
   piece-passed p h = first-passes l m p (sym e ∙ h)
-
--- where all pass, the first do
-first-passed : (l m : Checks) → refusal (l ++ m) ≡ 0 → refusal l ≡ 0
-first-passed l m h = go (decLt 0 (refusal l))
-  where
-    go : Dec (0 < refusal l) → refusal l ≡ 0
-    go (yes k) = sym (first-refuses l m k) ∙ h
-    go (no k) = omega arith
 
 module _ (s : State) (t : List ℕ) where
   pub form-numbered : (p : Proposal) → numbered (formChecks (s .settings) (contentOf p)) ≡ true
@@ -58,17 +48,15 @@ module _ (s : State) (t : List ℕ) where
   -- ---- places
 
   -- what checks 4 to 7 let pass
-  pub placed : (p : Proposal) → Formed s t → refusal (formChecks (s .settings) (contentOf p)) ≡ 0 → Placed s p
-  placed p f h = passed (formChecks (s .settings) (contentOf p)) (form-numbered p) h (λ e₄ e₅ e₆ e₇.
-      let r = round-fits (s .settings) (p .round .0) e₅ in
-      let b = body-fits (s .settings .allowance) (p .round .0) (p .body) e₆ e₇ in
-      let a = ltb-false 15 (p .author .0) e₄ in
-      let n = f .settings .allowance-to in
-      let k = b .few in
-      record { author = omega arith; from = r .0; to = r .1; few = omega arith })
+  pub form-fits : (p : Proposal) → refusal (formChecks (s .settings) (contentOf p)) ≡ 0 → Fits s p
+  form-fits p h =
+      passed (formChecks (s .settings) (contentOf p)) (form-numbered p) h λ h4 h5 h6 h7.
+      let a = ltb-false 15 (p .author .0) h4 in
+      let r = round-fits (s .settings) (p .round .0) h5 in
+      record { author = omega arith; from = r .0; to = r .1; body = body-fits (s .settings .allowance) (p .round .0) (p .body) h6 h7 }
 
-  pub within : (p : Proposal) → Formed s t → Placed s p → Within t (p .author .0) (p .round .0)
-  within p f q = let h = f .long in let l = q .to in record { member = q .author; row = omega arith }
+  pub fits-within : (p : Proposal) → Formed s t → Fits s p → Within t (p .author .0) (p .round .0)
+  fits-within p f q = let h = f .long in let l = q .to in record { member = q .author; row = omega arith }
 
   pub own-within : Formed s t → Within t (s .own .0) (s .round .0)
   own-within f = let h = f .long in let l = f .numbers .round-to in record { member = f .numbers .own; row = omega arith }
@@ -76,7 +64,7 @@ module _ (s : State) (t : List ℕ) where
   -- ---- check 10
 
   -- of endorse: the place is held or endorsed
-  pub place-taken : (p : Proposal) → Placed s p
+  pub place-taken : (p : Proposal) → Fits s p
       → (isHeld (view s t .dag (p .author .0) (p .round .0)) || view s t .endorsed (p .author .0) (p .round .0)) ≡ (heldAt t (p .author .0) (p .round .0) || endorsedAt t (p .author .0) (p .round .0))
   place-taken p q =
       let n = s .settings .ceiling .0 in
@@ -88,7 +76,7 @@ module _ (s : State) (t : List ℕ) where
 
   -- ---- accept
 
-  module _ (p : Proposal) (e : ℕ) (q : Placed s p) where
+  module _ (p : Proposal) (e : ℕ) (q : Fits s p) where
     pub place-same : heldAt t (p .author .0) (p .round .0) ≡ true → same (contentOf p) (contentAt t (p .author .0) (p .round .0)) ≡ true
         → refusal (drop 5 (accepting (s .settings) (view s t) (contentOf p) e)) ≡ 16
     place-same h k = refuses 16 _ (same-dag (s .settings .ceiling .0) t (p .author .0) (p .round .0) (q .from) (q .to) (contentOf p) ∙ rw (h, k) refl)
@@ -109,20 +97,9 @@ module _ (s : State) (t : List ℕ) where
         ∙ passes 17 _ (held-dag (s .settings .ceiling .0) t (p .author .0) (p .round .0) (q .from) (q .to) ∙ h)
         ∙ rw k refl
 
-  pub accepted-place : (c : Certificate) → acceptNumber s t c ≡ 0 → Formed s t × Placed s (c .proposal)
-  unfolding acceptNumber
-  accepted-place c h =
-      let p = c .proposal in
-      let n = number-passed s t (accept (contentOf p) (c .endorsers)) h in
-      let f = formed s t (n .0) in
-      (f, placed p f (first-passed (formChecks (s .settings) (contentOf p)) (drop 4 (accepting (s .settings) (view s t) (contentOf p) (c .endorsers))) (n .1)))
-
-  pub endorsed-place : (p : Proposal) → endorseNumber s t p ≡ 0 → Formed s t × Placed s p
-  unfolding endorseNumber
-  endorsed-place p h =
-      let n = number-passed s t (endorse (contentOf p)) h in
-      let f = formed s t (n .0) in
-      (f, placed p f (first-passed (formChecks (s .settings) (contentOf p)) (drop 4 (endorsing (s .settings) (s .own .0) (view s t) (contentOf p))) (n .1)))
+  -- a body that passed has at most four transactions
+  pub few : (b : Body) (r : ℕ) → Formed s t → BodyFits (s .settings .allowance) r b → b .count ≤ 4
+  few b r f h = let n = f .settings .allowance-to in let k = h .few in omega arith
 
   pub within-put : (p : Proposal) → Within t (p .author .0) (p .round .0) → Within (putCertificate t (contentOf p)) (p .author .0) (p .round .0)
   within-put p w = let l = length-put t (contentOf p) w in let h = w .row in record { member = w .member; row = omega arith }
@@ -139,16 +116,3 @@ module _ (s : State) (t : List ℕ) where
   certify-some e f h k =
       ap (λ o. refusal (certifying (s .settings) (s .own .0) (view s t) e o)) (proposal-some s h)
       ∙ rw (held-dag (s .settings .ceiling .0) t (s .own .0) (s .round .0) (f .numbers .round-from) (f .numbers .round-to), k) refl
-
-  pub certified-place : (e : ℕ) → certifyNumber s t e ≡ 0 → Within t (s .own .0) (s .round .0) × (s .body .count ≤ 4)
-  unfolding certifyNumber
-  certified-place e h =
-      let n = number-passed s t (certify e) h in
-      let f = formed s t (n .0) in
-      let a = f .settings .allowance-to in
-      let b = f .proposal (proposes (s .proposing) refl (n .1)) .few in
-      (own-within f, omega arith)
-    where
-      proposes : (b : Bool) → s .proposing ≡ b → refusal (certifying (s .settings) (s .own .0) (view s t) e (view s t .proposal)) ≡ 0 → s .proposing ≡ true
-      proposes true i k = i
-      proposes false i k = let z = certify-none e i in absurd (omega arith)

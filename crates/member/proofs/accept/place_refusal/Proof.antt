@@ -1,7 +1,7 @@
 use mathlib.Core.Path.{sym, _∙_}
 use mathlib.Core.List.{[], _∷_}
 use Rattle.base.specs.Checks.{passes-all, refuses, passes}
-use Rattle.member.specs.PlaceLaws.{within, place-same, place-other, place-free, piece-refused, piece-passed, signers-numbered}
+use Rattle.member.specs.PlaceLaws.{fits-within, place-same, place-other, place-free, piece-refused, piece-passed, signers-numbered}
 use Rattle.terms.specs.Proposals.{contentOf}
 use Rattle.rules.specs.Tests.{above, missing}
 use Rattle.state.specs.View.{view}
@@ -11,10 +11,10 @@ use Rattle.member.proofs.accept.place_refusal.Statement.{statement}
 use Rattle.member.proofs.accept.place_refusal.Tie as tie
 
 held-requires : tie.Need-held-requires
-held-requires c κs = within _ _ _ (c .before .before .pre .0) (c .before .before .pre .1)
+held-requires c κs = fits-within _ _ _ (c .before .before .pre .0) (c .before .before .pre .1)
 
 is-same-requires : tie.Need-is-same-requires
-is-same-requires c κs = within _ _ _ (c .before .before .before .before .pre .0) (c .before .before .before .before .pre .1)
+is-same-requires c κs = fits-within _ _ _ (c .before .before .before .before .pre .0) (c .before .before .before .before .pre .1)
 
 returns : tie.Need-returns
 returns c = sym (place-same (c .before .before .before .before .before .before .args .s) (c .before .before .before .before .before .before .args .t .now) (c .before .before .before .before .before .before .args .c .proposal) (c .before .before .before .before .before .before .args .c .endorsers) (c .before .before .before .before .before .before .pre .1) (sym (c .before .before .before .held .ensures) ∙ c .before .before .if1 .taken) (sym (c .before .is-same .ensures) ∙ c .if2 .taken))

@@ -1,6 +1,7 @@
 use mathlib.Core.Path.{sym, _∙_}
 use Rattle.member.specs.AnswerLaws.{outcome-accepted, outcome-refused, left-accepted, left-refused}
-use Rattle.member.specs.PlaceLaws.{certified-place}
+use Rattle.member.specs.PlaceLaws.{own-within, few}
+use Rattle.member.specs.PassedLaws.{certify-passed}
 use Rattle.member.specs.Calls.{certifyOutcome, certifyTable}
 use borrow.Author.Needs.{needs}
 use Rattle.member.proofs.certify.certify.Statement.{statement}
@@ -17,7 +18,7 @@ unfolding certifyOutcome certifyTable
 returns c = (outcome-refused (c .before .certify-number .ensures) _ _ (c .if1 .taken), sym (left-refused _ _ _ (λ z. c .if1 .taken (c .before .certify-number .ensures ∙ z))))
 
 put-certificate-requires : tie.Need-put-certificate-requires
-put-certificate-requires c κs = certified-place (c .before .before .before .before .before .before .before .before .args .s) (c .before .before .before .before .before .before .before .before .args .t .now) (c .before .before .before .before .before .before .before .before .args .e) (sym (c .before .before .before .before .before .certify-number .ensures) ∙ c .before .before .before .before .if1 .left)
+put-certificate-requires c κs = let x = certify-passed (c .before .before .before .before .before .before .before .before .args .s) (c .before .before .before .before .before .before .before .before .args .t .now) (c .before .before .before .before .before .before .before .before .args .e) (sym (c .before .before .before .before .before .certify-number .ensures) ∙ c .before .before .before .before .if1 .left) in (own-within _ _ (x .0), few _ _ _ _ (x .0) (x .0 .proposal (x .1)))
 
 same-length-2 : tie.Need-same-length-2
 same-length-2 c = search needs

@@ -1,6 +1,7 @@
 use mathlib.Core.Path.{sym, _∙_}
 use Rattle.member.specs.AnswerLaws.{outcome-accepted, outcome-refused, left-accepted, left-refused}
-use Rattle.member.specs.PlaceLaws.{within, endorsed-place}
+use Rattle.member.specs.PlaceLaws.{fits-within}
+use Rattle.member.specs.PassedLaws.{endorse-passed}
 use Rattle.member.specs.Calls.{endorseOutcome, endorseTable}
 use borrow.Author.Needs.{needs}
 use Rattle.member.proofs.endorse.endorse.Statement.{statement}
@@ -17,7 +18,7 @@ unfolding endorseOutcome endorseTable
 returns c = (outcome-refused (c .before .endorse-number .ensures) _ _ (c .if1 .taken), sym (left-refused _ _ _ (λ z. c .if1 .taken (c .before .endorse-number .ensures ∙ z))))
 
 set-endorsed-requires : tie.Need-set-endorsed-requires
-set-endorsed-requires c κs = let x = endorsed-place (c .before .before .before .before .before .args .s) (c .before .before .before .before .before .args .t .now) (c .before .before .before .before .before .args .p) (sym (c .before .before .endorse-number .ensures) ∙ c .before .if1 .left) in within _ _ _ (x .0) (x .1)
+set-endorsed-requires c κs = let x = endorse-passed (c .before .before .before .before .before .args .s) (c .before .before .before .before .before .args .t .now) (c .before .before .before .before .before .args .p) (sym (c .before .before .endorse-number .ensures) ∙ c .before .if1 .left) in fits-within _ _ _ (x .0) (x .1)
 
 same-length-2 : tie.Need-same-length-2
 same-length-2 c = search needs

@@ -2,7 +2,7 @@ use mathlib.Core.Path.{sym, _∙_}
 use borrow.Author.Tests.{not-true, not-false}
 use Rattle.state.specs.NumberLaws.{number-unformed, number-formed}
 use Rattle.state.specs.Formed.{formed}
-use Rattle.member.specs.PlaceLaws.{placed, piece-refused, piece-passed, form-numbered}
+use Rattle.member.specs.PlaceLaws.{form-fits, piece-refused, piece-passed, form-numbered}
 use Rattle.rules.specs.Calls.{endorsing}
 use Rattle.member.specs.Calls.{endorseNumber}
 use Rattle.terms.specs.Proposals.{contentOf}
@@ -28,7 +28,7 @@ unfolding endorseNumber
 returns-2 c = piece-refused (formChecks (c .before .before .before .before .before .args .s .settings) (contentOf (c .before .before .before .before .before .args .p))) (drop 4 (endorsing (c .before .before .before .before .before .args .s .settings) (c .before .before .before .before .before .args .s .own .0) (view (c .before .before .before .before .before .args .s) (c .before .before .before .before .before .args .t .now)) (contentOf (c .before .before .before .before .before .args .p)))) (c .before .form-refusal .ensures) (c .if2 .taken) ∙ sym (number-formed _ _ _ (sym (c .before .before .before .well-formed .ensures) ∙ not-false _ (c .before .before .if1 .left)))
 
 place-refusal-requires : tie.Need-place-refusal-requires
-place-refusal-requires c κs = let f = formed (c .before .before .before .before .before .args .s) (c .before .before .before .before .before .args .t .now) (sym (c .before .before .before .well-formed .ensures) ∙ not-false _ (c .before .before .if1 .left)) in (f, placed (c .before .before .before .before .before .args .s) (c .before .before .before .before .before .args .t .now) (c .before .before .before .before .before .args .p) f (sym (c .before .form-refusal .ensures) ∙ c .if2 .left))
+place-refusal-requires c κs = let f = formed (c .before .before .before .before .before .args .s) (c .before .before .before .before .before .args .t .now) (sym (c .before .before .before .well-formed .ensures) ∙ not-false _ (c .before .before .if1 .left)) in (f, form-fits (c .before .before .before .before .before .args .s) (c .before .before .before .before .before .args .t .now) (c .before .before .before .before .before .args .p) (sym (c .before .form-refusal .ensures) ∙ c .if2 .left))
 
 returns-3 : tie.Need-returns-3
 unfolding endorseNumber

@@ -1,7 +1,7 @@
 use mathlib.Core.Path.{sym, _∙_}
 use borrow.Author.Tests.{eq-eqb, ne-eqb}
 use Rattle.base.specs.Checks.{refuses, passes}
-use Rattle.member.specs.PlaceLaws.{within, place-taken}
+use Rattle.member.specs.PlaceLaws.{fits-within, place-taken}
 use Rattle.member.proofs.endorse.place_refusal.Statement.{statement}
 use Rattle.member.proofs.endorse.place_refusal.Tie as tie
 
@@ -9,7 +9,7 @@ returns : tie.Need-returns
 returns c = sym (refuses _ _ (eq-eqb _ _ (c .if1 .taken)))
 
 is-taken-requires : tie.Need-is-taken-requires
-is-taken-requires c κs = within _ _ _ (c .before .before .before .before .pre .0) (c .before .before .before .before .pre .1)
+is-taken-requires c κs = fits-within _ _ _ (c .before .before .before .before .pre .0) (c .before .before .before .before .pre .1)
 
 returns-2 : tie.Need-returns-2
 returns-2 c = sym (passes _ _ (ne-eqb _ _ (c .before .before .if1 .left)) ∙ refuses _ _ (place-taken (c .before .before .before .before .before .before .args .s) (c .before .before .before .before .before .before .args .t .now) (c .before .before .before .before .before .before .args .p) (c .before .before .before .before .before .before .pre .1) ∙ sym (c .before .is-taken .ensures) ∙ c .if2 .taken))
