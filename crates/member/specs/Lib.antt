@@ -8,3 +8,5 @@ pub mod PassedLaws
 pub mod Steps
 pub mod CallLaws
 pub mod NextLaws
+pub mod PieceLaws
+pub mod PlaceLaws

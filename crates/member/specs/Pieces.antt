@@ -1,23 +1,14 @@
 -- Parts of the calls' checks that several calls share, as the code makes them.
 use mathlib.Core.Bool.{not}
 use mathlib.Core.List.{[], _∷_}
-use Prim.Native.Nat.{ℕ, _-_, _<_, _≤_}
+use Prim.Native.Nat.{ℕ, _-_}
 use lib.Dec.{ltb}
 use Rattle.base.specs.Checks.{Checks}
 use Rattle.base.specs.Sets.{isIn}
-use Rattle.terms.specs.declared.Proposal.{Proposal}
 use Rattle.terms.specs.Proposals.{Content, unfit, wrongSet}
 use Rattle.sheet.specs.declared.Settings.{Settings}
 use Rattle.committee.specs.Committees.{outsider, short, quorum}
 use Rattle.rules.specs.Tests.{Member, badRound, above, committeeIn, unknown, missing}
-use Rattle.state.specs.declared.State.{State}
-
--- author, round and count of a proposal are in range
-pub record Placed (s : State) (p : Proposal) : Type 0 where
-  pub author : p .author .0 < 16
-  pub from : 0 < p .round .0
-  pub to : p .round .0 ≤ s .settings .ceiling .0
-  pub few : p .body .count ≤ 4
 
 module _ (S : Settings) where
   -- 4, 5, 6, 7

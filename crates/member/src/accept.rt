@@ -10,12 +10,12 @@ ghost use lib.ListN.{drop};
 ghost use Rattle.rules.specs.Calls.{accepting};
 ghost use Rattle.state.specs.Formed.{Formed};
 ghost use Rattle.state.specs.View.{view};
-ghost use Rattle.member.specs.Pieces.{Placed};
+ghost use Rattle.member.specs.PassedLaws.{Fits};
 ghost use Rattle.member.specs.Calls.{acceptNumber, acceptOutcome, acceptTable};
 
 // Checks 16, 17, those of the signers, and 11.
 fn place_refusal(s: State, t: &[u32], c: Certificate) -> u32
-    requires { ⌜ Formed s (now t) × Placed s (c .proposal) ⌝ }
+    requires { ⌜ Formed s (now t) × Fits s (c .proposal) ⌝ }
     ensures { λ v. ⌜ v ≡ refusal (drop 5 (accepting (s .settings) (view s (now (t .entry))) (contentOf (c .proposal)) (c .endorsers))) ⌝ }
 {
     let p = c.proposal;

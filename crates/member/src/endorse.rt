@@ -15,7 +15,7 @@ ghost use Rattle.terms.specs.Proposals.{contentOf};
 ghost use Rattle.rules.specs.Calls.{endorsing};
 ghost use Rattle.state.specs.Formed.{Formed};
 ghost use Rattle.state.specs.View.{view};
-ghost use Rattle.member.specs.Pieces.{Placed};
+ghost use Rattle.member.specs.PassedLaws.{Fits};
 ghost use Rattle.member.specs.Calls.{endorseNumber, endorseOutcome, endorseTable};
 
 // Check 10: is the place held or already endorsed?
@@ -42,7 +42,7 @@ fn is_unknown(s: State, t: &[u32], r: Round) -> bool
 
 // Checks 14, 10, 8, 11, 12.
 fn place_refusal(s: State, t: &[u32], p: Proposal) -> u32
-    requires { ⌜ Formed s (now t) × Placed s p ⌝ }
+    requires { ⌜ Formed s (now t) × Fits s p ⌝ }
     ensures { λ v. ⌜ v ≡ refusal (drop 4 (endorsing (s .settings) (s .own .0) (view s (now (t .entry))) (contentOf p))) ⌝ }
 {
     if p.author.0 == s.own.0 {

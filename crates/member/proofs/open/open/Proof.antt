@@ -1,5 +1,5 @@
 use mathlib.Core.Path.{sym, _∙_}
-use Rattle.member.specs.Open.{openOutcome, openTable, freshState}
+use Rattle.member.specs.Open.{openOutcome, openTable}
 use Rattle.member.specs.AnswerLaws.{left-accepted, left-refused, outcome-accepted, outcome-refused}
 use Rattle.member.specs.OpenLaws.{opened}
 use borrow.Author.Needs.{needs}
