@@ -7,26 +7,17 @@ use Prim.Native.Nat.{ℕ, _-_, _<_, _≤_}
 use native.Mathlib.Omega.{arith}
 use lib.Dec.{ltb}
 use borrow.Author.Tests.{eq-eqb, ne-eqb}
-use Rattle.base.specs.SumLaws.{sum-le}
 use Rattle.sheet.specs.declared.Settings.{Settings}
-use Rattle.sheet.specs.Ranges.{weightIn}
 use Rattle.base.specs.Sets.{isSubset}
 use Rattle.terms.specs.declared.Proposal.{Proposal}
 use Rattle.terms.specs.Proposals.{contentOf}
 use Rattle.store.specs.Table.{heldSet}
 use Rattle.committee.specs.Committees.{knownBy}
-use Rattle.walk.specs.Readable.{Readable}
 use Rattle.rules.specs.Tests.{Member, badRound, above, unknown, missing}
 use Rattle.state.specs.declared.State.{State}
 use Rattle.state.specs.Formed.{Formed}
 use Rattle.state.specs.View.{view}
 use Rattle.state.specs.ViewLaws.{missing-held}
-
--- a well-formed state can be walked over
-pub readable : (s : State) (t : List ℕ) → Formed s t → Readable (s .settings) t (s .blocks)
-readable s t f =
-    let w = sum-le (weightIn (s .settings .weights)) 1000000 16 (f .settings .weight-to) in
-    record { ceiling = f .settings .ceiling-to; long = f .long; few = f .room; light = omega arith }
 
 -- a test that is made above round 1 only
 pub above-first : (r : ℕ) (b : Bool) → r ≡ 1 → above r b ≡ false

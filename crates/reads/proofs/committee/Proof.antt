@@ -1,5 +1,5 @@
 use mathlib.Core.Path.{sym, _∙_}
-use Rattle.member.specs.PieceLaws.{readable}
+use Rattle.state.specs.Walkable.{readable}
 use Rattle.reads.specs.ReadLaws.{committee-refused, committee-given, committee-passed}
 use borrow.Author.Needs.{needs}
 use Rattle.reads.proofs.committee.Statement.{statement}

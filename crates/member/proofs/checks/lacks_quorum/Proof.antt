@@ -1,6 +1,7 @@
 use mathlib.Core.Path.{sym, ap, _∙_}
 use mathlib.Core.Bool.{not}
-use Rattle.member.specs.PieceLaws.{readable, above-first, above-later}
+use Rattle.state.specs.Walkable.{readable}
+use Rattle.member.specs.PieceLaws.{above-first, above-later}
 use Rattle.base.specs.Sets.{isIn}
 use Rattle.sheet.specs.Ranges.{weightIn}
 use Rattle.committee.specs.Committees.{quorum}

@@ -1,7 +1,8 @@
 use mathlib.Core.Path.{sym, ap, _∙_}
 use mathlib.Core.Bool.{not}
 use Rattle.base.specs.Checks.{refuses, passes}
-use Rattle.member.specs.PieceLaws.{readable, unknown-not}
+use Rattle.state.specs.Walkable.{readable}
+use Rattle.member.specs.PieceLaws.{unknown-not}
 use Rattle.sheet.specs.Ranges.{weightIn}
 use Rattle.committee.specs.Leaders.{members}
 use Rattle.member.proofs.propose.committee_refusal.Statement.{statement}
