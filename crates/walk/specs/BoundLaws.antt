@@ -2,9 +2,9 @@
 use mathlib.Core.Path.{_≡_, refl, _∙_}
 use mathlib.Core.Bool.{Bool, true, false, cond}
 use mathlib.Core.List.{List}
-use Prim.Native.Nat.{ℕ, _+_, _*_, _<_, _≤_}
+use Prim.Native.Nat.{ℕ, _+_, _-_, _*_, _/_, _%_, _<_, _≤_}
 use native.Mathlib.Omega.{arith}
-use native.Mathlib.Nat.{mul-le-mul-right, le-refl}
+use native.Mathlib.Nat.{mul-le-mul-right}
 use native.Mathlib.Decide.{decLt}
 use lib.ListN.{getD}
 use lib.Dec.{eqb}
@@ -19,8 +19,8 @@ use Rattle.committee.specs.Changes.{change, changesOf, listed}
 use Rattle.committee.specs.Committees.{step, bondedFrom}
 use Rattle.committee.specs.Totals.{totalIn, Raises}
 use Rattle.committee.specs.TotalLaws.{still-raises, change-raises, raised, raises-more, raises-same, fold-raises, fold-raises-each, marks-once}
-use Rattle.walk.specs.Walk.{rowChange, rowsChange, blockChange, afterBlocks}
-use Rattle.walk.specs.WalkLaws.{record-fold, place-absent, place-other, place-present, block-fold}
+use Rattle.walk.specs.Walk.{placeChange, placesChange, blockChange, afterBlocks}
+use Rattle.walk.specs.WalkLaws.{record-fold, place-absent, place-other, place-present, block-rows}
 use Rattle.walk.specs.ChainLaws.{bonded-fold, step-counts, step-waits}
 
 -- the amounts of held transactions are at most a, in the rounds 1 to n
@@ -46,33 +46,30 @@ module _ (t : List ℕ) (n a : ℕ) (modest : Modest t n a) where
           (λ w. place-present t k m r w e (eqb-true (markAt t m r) k q) ∙ record-fold t m r w)
           (turns-raise t m r a (countAt t m r) (count-le t m r) (λ j i. modest m r j h l e i))
 
-  row-raises : (k r : ℕ) → 1 ≤ r → r ≤ n → Raises (rowChange t k r) (sumTo (λ m. cond (eqb (markAt t m r) k) (4 * a) 0) 16)
-  unfolding rowChange
-  row-raises k r h l = fold-raises (λ m. changesOf (listed (holdsAt t k m r))) (λ m. cond (eqb (markAt t m r) k) (4 * a) 0) 16 (λ m _. place-raises k m r h l)
-
-  block-raises : (k : ℕ) → Raises (blockChange n t k) (sumTo (λ r. sumTo (λ m. cond (eqb (markAt t m (0 + r + 1)) (k + 1)) (4 * a) 0) 16) n)
-  unfolding rowsChange
+  -- what block k + 1 may raise it by
+  block-raises : (k : ℕ) → Raises (blockChange n t k) (sumTo (λ r. sumTo (λ m. cond (eqb (markAt t m (r + 1)) (k + 1)) (4 * a) 0) 16) n)
   block-raises k =
-      raises-same (blockChange n t k) (foldTo (λ i. rowChange t (k + 1) (0 + i + 1)) n) (sumTo (λ r. sumTo (λ m. cond (eqb (markAt t m (0 + r + 1)) (k + 1)) (4 * a) 0) 16) n)
-      (block-fold t k n)
-      (fold-raises (λ i. rowChange t (k + 1) (0 + i + 1)) (λ r. sumTo (λ m. cond (eqb (markAt t m (0 + r + 1)) (k + 1)) (4 * a) 0) 16) n (λ i h. row-raises (k + 1) (0 + i + 1) (omega arith) (omega arith)))
+      raises-same (blockChange n t k) (foldTo (λ r. foldTo (λ m. changesOf (listed (holdsAt t (k + 1) m (r + 1)))) 16) n) (sumTo (λ r. sumTo (λ m. cond (eqb (markAt t m (r + 1)) (k + 1)) (4 * a) 0) 16) n)
+      (block-rows t k n)
+      (fold-raises (λ r. foldTo (λ m. changesOf (listed (holdsAt t (k + 1) m (r + 1)))) 16) (λ r. sumTo (λ m. cond (eqb (markAt t m (r + 1)) (k + 1)) (4 * a) 0) 16) n
+      (λ r h. fold-raises (λ m. changesOf (listed (holdsAt t (k + 1) m (r + 1)))) (λ m. cond (eqb (markAt t m (r + 1)) (k + 1)) (4 * a) 0) 16 (λ m _. place-raises (k + 1) m (r + 1) (omega arith) (omega arith))))
 
-  step-raises : (s k : ℕ) → Raises (step n s (blockAt n t (k + 1)) (chainOf n t k)) (sumTo (λ r. sumTo (λ m. cond (eqb (markAt t m (0 + r + 1)) (k + 1)) (4 * a) 0) 16) n)
+  step-raises : (s k : ℕ) → Raises (step n s (blockAt n t (k + 1)) (chainOf n t k)) (sumTo (λ r. sumTo (λ m. cond (eqb (markAt t m (r + 1)) (k + 1)) (4 * a) 0) 16) n)
   step-raises s k = go (decLt (blockRound t (k + 1)) s)
     where
       c : ℕ
-      c = sumTo (λ r. sumTo (λ m. cond (eqb (markAt t m (0 + r + 1)) (k + 1)) (4 * a) 0) 16) n
+      c = sumTo (λ r. sumTo (λ m. cond (eqb (markAt t m (r + 1)) (k + 1)) (4 * a) 0) 16) n
 
       go : Dec (blockRound t (k + 1) < s) → Raises (step n s (blockAt n t (k + 1)) (chainOf n t k)) c
       go (yes h) = raises-same (step n s (blockAt n t (k + 1)) (chainOf n t k)) (blockChange n t k) c (λ w. step-counts n s k t w h) (block-raises k)
       go (no h) = raises-same (step n s (blockAt n t (k + 1)) (chainOf n t k)) (λ w. w) c (λ w. step-waits n s k t w (omega arith)) (still-raises c)
 
   -- each place counts once at most
-  once : (f : ℕ → List ℕ → List ℕ) → ((k : ℕ) → Raises (f k) (sumTo (λ r. sumTo (λ m. cond (eqb (markAt t m (0 + r + 1)) (k + 1)) (4 * a) 0) 16) n)) → (k : ℕ) → Raises (foldTo f k) (n * (16 * (4 * a)))
+  once : (f : ℕ → List ℕ → List ℕ) → ((k : ℕ) → Raises (f k) (sumTo (λ r. sumTo (λ m. cond (eqb (markAt t m (r + 1)) (k + 1)) (4 * a) 0) 16) n)) → (k : ℕ) → Raises (foldTo f k) (n * (16 * (4 * a)))
   once f h k =
-      raises-more (foldTo f k) (sumTo (λ j. sumTo (λ r. sumTo (λ m. cond (eqb (markAt t m (0 + r + 1)) (j + 1)) (4 * a) 0) 16) n) k) (n * (16 * (4 * a)))
-      (marks-once (λ m r. markAt t m (0 + r + 1)) (4 * a) k n)
-      (fold-raises f (λ j. sumTo (λ r. sumTo (λ m. cond (eqb (markAt t m (0 + r + 1)) (j + 1)) (4 * a) 0) 16) n) k (λ j _. h j))
+      raises-more (foldTo f k) (sumTo (λ j. sumTo (λ r. sumTo (λ m. cond (eqb (markAt t m (r + 1)) (j + 1)) (4 * a) 0) 16) n) k) (n * (16 * (4 * a)))
+      (marks-once (λ m r. markAt t m (r + 1)) (4 * a) k n)
+      (fold-raises f (λ j. sumTo (λ r. sumTo (λ m. cond (eqb (markAt t m (r + 1)) (j + 1)) (4 * a) 0) 16) n) k (λ j _. h j))
 
   -- the bonded committee
   pub bonded-raises : (s k : ℕ) (w : List ℕ) → totalIn (bondedFrom n w (chainOf n t k) s) ≤ totalIn w + n * (16 * (4 * a))
@@ -85,19 +82,17 @@ module _ (t : List ℕ) (n a : ℕ) (modest : Modest t n a) where
   unfolding afterBlocks
   after-raises k w = raised (foldTo (blockChange n t) k) (n * (16 * (4 * a))) (once (blockChange n t) block-raises k) w
 
-  place-most : (k m r : ℕ) → 1 ≤ r → r ≤ n → Raises (changesOf (listed (holdsAt t k m r))) (4 * a)
-  place-most k m r h l = raises-more (changesOf (listed (holdsAt t k m r))) (cond (eqb (markAt t m r) k) (4 * a) 0) (4 * a) (go (eqb (markAt t m r) k)) (place-raises k m r h l)
+  -- the places below p
+  places-raise : (k p : ℕ) → p ≤ n * 16 + 16 → Raises (placesChange t k p) ((p - 16) * (4 * a))
+  unfolding placesChange placeChange
+  places-raise k p h =
+      fold-raises-each (λ i. changesOf (listed (holdsAt t k ((i + 16) % 16) ((i + 16) / 16)))) (4 * a) (p - 16)
+      (λ i l. raises-more (changesOf (listed (holdsAt t k ((i + 16) % 16) ((i + 16) / 16)))) (cond (eqb (markAt t ((i + 16) % 16) ((i + 16) / 16)) k) (4 * a) 0) (4 * a)
+      (most (eqb (markAt t ((i + 16) % 16) ((i + 16) / 16)) k)) (place-raises k ((i + 16) % 16) ((i + 16) / 16) (omega arith) (omega arith)))
     where
-      go : (b : Bool) → cond b (4 * a) 0 ≤ 4 * a
-      go true = omega arith
-      go false = omega arith
-
-  pub places-raise : (k r c : ℕ) → 1 ≤ r → r ≤ n → Raises (foldTo (λ m. changesOf (listed (holdsAt t k m r))) c) (c * (4 * a))
-  places-raise k r c h l = fold-raises-each (λ m. changesOf (listed (holdsAt t k m r))) (4 * a) c (λ m _. place-most k m r h l)
-
-  pub rows-raise : (k b c : ℕ) → b + c ≤ n → Raises (rowsChange t k b c) (c * (16 * (4 * a)))
-  unfolding rowsChange rowChange
-  rows-raise k b c h = fold-raises-each (λ i. rowChange t k (b + i + 1)) (16 * (4 * a)) c (λ i l. places-raise k (b + i + 1) 16 (omega arith) (omega arith))
+      most : (b : Bool) → cond b (4 * a) 0 ≤ 4 * a
+      most true = omega arith
+      most false = omega arith
 
 -- ---- where each word is a 32-bit number
 
@@ -117,14 +112,9 @@ module _ (t : List ℕ) (words : (i : ℕ) → getD t i 0 < 4294967296) where
   pub turns-light : (m r c : ℕ) (w : List ℕ) → c ≤ 4 → totalIn (foldTo (λ k. change (transactionAt t m r k)) c w) ≤ totalIn w + 17179869180
   turns-light m r c w h = raised (foldTo (λ k. change (transactionAt t m r k)) c) 17179869180 (turns-raise t m r 4294967295 c h (λ k _. amount-lt m r k)) w
 
-  pub places-light : (k r c : ℕ) (w : List ℕ) → c ≤ 16 → 1 ≤ r → totalIn (foldTo (λ m. changesOf (listed (holdsAt t k m r))) c w) ≤ totalIn w + 274877906880
-  places-light k r c w h l =
-      let p = raised (foldTo (λ m. changesOf (listed (holdsAt t k m r))) c) (c * 17179869180) (places-raise t r 4294967295 (modest r) k r c l (le-refl r)) w in
-      omega arith
-
-  pub rows-light : (k b c : ℕ) (w : List ℕ) → c ≤ 1024 → totalIn (rowsChange t k b c w) ≤ totalIn w + 281474976645120
-  rows-light k b c w h =
-      let p = raised (rowsChange t k b c) (c * 274877906880) (rows-raise t (b + c) 4294967295 (modest (b + c)) k b c (le-refl (b + c))) w in
+  pub places-light : (k p : ℕ) (w : List ℕ) → p ≤ 16400 → totalIn (placesChange t k p w) ≤ totalIn w + 281474976645120
+  places-light k p w h =
+      let r = raised (placesChange t k p) ((p - 16) * 17179869180) (places-raise t 1024 4294967295 (modest 1024) k p h) w in
       omega arith
 
   pub after-light : (n k : ℕ) (w : List ℕ) → n ≤ 1024 → totalIn (afterBlocks n t k w) ≤ totalIn w + 281474976645120

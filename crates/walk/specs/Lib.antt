@@ -1,8 +1,8 @@
 pub mod Walk
+pub mod Links
+pub mod LinkLaws
 pub mod WalkLaws
 pub mod ChainLaws
-pub mod Spans
-pub mod SpanLaws
 pub mod Readable
 pub mod ReadableLaws
 pub mod BoundLaws

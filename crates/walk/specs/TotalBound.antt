@@ -1,8 +1,8 @@
 -- The greatest total weight of a committee, in every well-formed table: 81,536,000.
 use mathlib.Core.Path.{_≡_, sym, ap, _∙_}
-use mathlib.Core.Bool.{Bool, true, false, not, _&&_, _||_}
+use mathlib.Core.Bool.{true, not, _&&_}
 use mathlib.Core.List.{List}
-use Prim.Native.Nat.{ℕ, _+_, _-_, _*_, _<_, _≤_}
+use Prim.Native.Nat.{ℕ, _-_, _<_, _≤_}
 use native.Mathlib.Omega.{arith}
 use native.Mathlib.Decide.{decLt}
 use lib.Dec.{leb, ltb}
@@ -16,7 +16,7 @@ use Rattle.terms.specs.declared.Transaction.the-variants.{Bond, Unbond, Entry}
 use Rattle.terms.specs.Transactions.{amountOf, bondInRange, inRange}
 use Rattle.terms.specs.Proposals.{unfit}
 use Rattle.terms.specs.ProposalLaws.{unfit-tab}
-use Rattle.store.specs.Table.{heldAt, countAt, transactionAt, contentAt}
+use Rattle.store.specs.Table.{countAt, transactionAt}
 use Rattle.store.specs.TableLaws.{content-transactions}
 use Rattle.store.specs.Scan.{rowsFit}
 use Rattle.store.specs.ScanLaws.{transactions-fit, rows-held}

@@ -1,20 +1,20 @@
--- The walk over the table that finds a committee: what each level of it does.
+-- The walk over the table that finds a committee: what each level of it does, and when block rounds are in order.
 use mathlib.Core.Bool.{Bool, cond, _&&_}
 use mathlib.Core.List.{List}
-use Prim.Native.Nat.{ℕ, _+_, _%_}
+use Prim.Native.Nat.{ℕ, _+_, _-_, _/_, _%_}
 use lib.Dec.{eqb, ltb}
 use Rattle.base.specs.Folds.{foldTo, allTo}
 use Rattle.store.specs.Table.{blockRound}
 use Rattle.committee.specs.Chain.{holdsAt, blockAt, chainOf}
 use Rattle.committee.specs.Changes.{changesOf, listed, ordered}
 
--- the places of row r that block k holds, by author
-unfoldable pub rowChange : List ℕ → ℕ → ℕ → List ℕ → List ℕ
-rowChange t k r w = foldTo (λ m. changesOf (listed (holdsAt t k m r))) 16 w
+-- place p, if block k holds it; the place of member m and round r is number 16 r + m
+unfoldable pub placeChange : List ℕ → ℕ → ℕ → List ℕ → List ℕ
+placeChange t k p w = changesOf (listed (holdsAt t k (p % 16) (p / 16))) w
 
--- those of the n rows above row a
-unfoldable pub rowsChange : List ℕ → ℕ → ℕ → ℕ → List ℕ → List ℕ
-rowsChange t k a n w = foldTo (λ i. rowChange t k (a + i + 1)) n w
+-- the places from round 1 on and below p that block k holds
+unfoldable pub placesChange : List ℕ → ℕ → ℕ → List ℕ → List ℕ
+placesChange t k p w = foldTo (λ i. placeChange t k (i + 16)) (p - 16) w
 
 -- the block after the first k, where the ceiling is n
 unfoldable pub blockChange : ℕ → List ℕ → ℕ → List ℕ → List ℕ

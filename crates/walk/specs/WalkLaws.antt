@@ -1,43 +1,29 @@
--- Laws of the walk: places, rows, and a block row by row.
-use mathlib.Core.Path.{_≡_, refl, sym, _∙_}
-use mathlib.Core.Bool.{Bool, true, false, cond, false≢true}
+-- Laws of the walk: places, and a block place by place.
+use mathlib.Core.Path.{_≡_, refl, sym, ap, _∙_}
+use mathlib.Core.Bool.{Bool, true, false, cond}
 use mathlib.Core.List.{List}
 use mathlib.Core.Option.{none}
-use Prim.Native.Nat.{ℕ, zero, suc, _+_, _-_, _<_, _≤_}
+use Prim.Native.Nat.{ℕ, zero, suc, _+_, _-_, _*_, _/_, _%_, _<_, _≤_}
 use native.Mathlib.Omega.{arith}
 use native.Mathlib.Decide.{ℕ-discrete}
+use native.Mathlib.Numerals.{add-one}
 use lib.Dec.{eqb}
 use borrow.Author.Tests.{eq-eqb, ne-eqb, le-leb}
 use Rattle.base.specs.Folds.{foldTo}
 use Rattle.base.specs.FoldLaws.{fold-more, fold-same}
-use Rattle.base.specs.UnionLaws.{in-none}
-use Rattle.store.specs.Table.{heldSet, markAt, heldAt, countAt, transactionAt, contentAt}
-use Rattle.store.specs.TableLaws.{certificate-present, certificate-absent, held-in, content-transactions}
+use Rattle.store.specs.Table.{markAt, heldAt, countAt, transactionAt, contentAt}
+use Rattle.store.specs.TableLaws.{certificate-present, certificate-absent, content-transactions}
 use Rattle.committee.specs.Chain.{isRound, holdsAt, blockAt, chainOf}
 use Rattle.committee.specs.Changes.{change, changes, changesOf, listed}
 use Rattle.committee.specs.ChangeLaws.{changes-tab, changes-none, changes-one, ordered-changes}
-use Rattle.walk.specs.Walk.{rowChange, rowsChange, blockChange}
+use Rattle.walk.specs.Walk.{placeChange, placesChange, blockChange}
+use Rattle.walk.specs.Links.{Marked, First}
 
 -- ---- folds
 
--- turns that change nothing
-fold-still : {A : Type 0} (f : ℕ → A → A) (n : ℕ) (x : A) → ((i : ℕ) (y : A) → i < n → f i y ≡ y) → foldTo f n x ≡ x
+fold-none : {A : Type 0} (f : ℕ → A → A) (x : A) → foldTo f 0 x ≡ x
 unfolding foldTo
-fold-still f zero x h = refl
-fold-still f (suc n) x h = h n (foldTo f n x) (omega arith) ∙ fold-still f n x (λ i y l. h i y (omega arith))
-
--- the turns up to a change nothing
-fold-low : {A : Type 0} (f : ℕ → A → A) (a n : ℕ) (x : A) → a ≤ n → ((i : ℕ) (y : A) → i < a → f i y ≡ y) → foldTo f n x ≡ foldTo (λ i. f (a + i)) (n - a) x
-unfolding foldTo
-fold-low f a zero x h low = let e : 0 - a ≡ 0 = omega arith in rw e refl
-fold-low f a (suc n) x h low = go (ℕ-discrete a (suc n)) (λ l. fold-low f a n x l low)
-  where
-    go : Dec (a ≡ suc n) → (a ≤ n → foldTo f n x ≡ foldTo (λ i. f (a + i)) (n - a) x) → f n (foldTo f n x) ≡ foldTo (λ i. f (a + i)) (suc n - a) x
-    go (yes p) k = let e : suc n - a ≡ 0 = omega arith in rw e (fold-still f (suc n) x (λ i y b. low i y (omega arith)))
-    go (no p) k =
-        let e : suc n - a ≡ n - a + 1 = omega arith in
-        let s : a + (n - a) ≡ n = omega arith in
-        rw (e, fold-more (λ i. f (a + i)) (n - a) x, s, k (omega arith)) refl
+fold-none f x = refl
 
 -- the turns from z on change nothing
 fold-high : {A : Type 0} (f : ℕ → A → A) (n z : ℕ) (x : A) → z ≤ n → ((i : ℕ) (y : A) → z ≤ i → i < n → f i y ≡ y) → foldTo f n x ≡ foldTo f z x
@@ -48,6 +34,29 @@ fold-high f (suc n) z x h high = go (ℕ-discrete z (suc n)) (λ l. fold-high f 
     go : Dec (z ≡ suc n) → (z ≤ n → foldTo f n x ≡ foldTo f z x) → f n (foldTo f n x) ≡ foldTo f z x
     go (yes p) k = rw p refl
     go (no p) k = high n (foldTo f n x) (omega arith) (omega arith) ∙ k (omega arith)
+
+-- c turns more
+fold-join : {A : Type 0} (f : ℕ → A → A) (a c : ℕ) (x : A) → foldTo f (a + c) x ≡ foldTo (λ i. f (a + i)) c (foldTo f a x)
+unfolding foldTo
+fold-join f a zero x = let e : a + 0 ≡ a = omega arith in rw e refl
+fold-join f a (suc c) x =
+    let e : a + suc c ≡ suc (a + c) = omega arith in
+    rw e (ap (f (a + c)) (fold-join f a c x))
+
+-- sixteen turns in each turn
+fold-flat : {A : Type 0} (f : ℕ → ℕ → A → A) (n : ℕ) (x : A) → foldTo (λ r. foldTo (f r) 16) n x ≡ foldTo (λ i. f (i / 16) (i % 16)) (n * 16) x
+fold-flat {A} f n x = go n
+  where
+    go : (n : ℕ) → foldTo (λ r. foldTo (f r) 16) n x ≡ foldTo (λ i. f (i / 16) (i % 16)) (n * 16) x
+    go zero = start
+      where
+        start : foldTo (λ r. foldTo (f r) 16) 0 x ≡ foldTo (λ i. f (i / 16) (i % 16)) 0 x
+        start = fold-none (λ r. foldTo (f r) 16) x ∙ sym (fold-none (λ i. f (i / 16) (i % 16)) x)
+    go (suc n) =
+        let e : (n + 1) * 16 ≡ n * 16 + 16 = omega arith in
+        rw (← add-one n, e, fold-more (λ r. foldTo (f r) 16) n x, go n, fold-join (λ i. f (i / 16) (i % 16)) (n * 16) 16 x)
+        (fold-same (f n) (λ i. f ((n * 16 + i) / 16) ((n * 16 + i) % 16)) 16 (foldTo (λ i. f (i / 16) (i % 16)) (n * 16) x)
+        (λ i y h. let a : (n * 16 + i) / 16 ≡ n = omega arith in let b : (n * 16 + i) % 16 ≡ i = omega arith in rw (a, b) refl))
 
 -- ---- a place
 
@@ -74,58 +83,54 @@ module _ (t : List ℕ) (k m r : ℕ) (w : List ℕ) where
   unfolding holdsAt
   place-present e q = rw (eq-eqb (markAt t m r) k q, certificate-present t m r e) (changes-one (contentAt t m r) w)
 
--- ---- rows
-
--- a row without the mark changes nothing
-row-unmarked : (t : List ℕ) (k r : ℕ) (w : List ℕ) → ((m : ℕ) → m < 16 → heldAt t m r ≡ true → markAt t m r ≡ k → ⊥) → rowChange t k r w ≡ w
-unfolding rowChange
-row-unmarked t k r w h = fold-still (λ m. changesOf (listed (holdsAt t k m r))) 16 w (λ m v l. go m v l (heldAt t m r) refl)
+-- a place that is not marked changes nothing
+place-unmarked : (t : List ℕ) (k p : ℕ) (w : List ℕ) → (Marked t k p → ⊥) → placeChange t k p w ≡ w
+unfolding placeChange
+place-unmarked t k p w n = go (heldAt t (p % 16) (p / 16)) refl
   where
-    go : (m : ℕ) (v : List ℕ) → m < 16 → (b : Bool) → heldAt t m r ≡ b → changesOf (listed (holdsAt t k m r)) v ≡ v
-    go m v l true e = place-other t k m r v (h m l e)
-    go m v l false e = place-absent t k m r v e
+    go : (b : Bool) → heldAt t (p % 16) (p / 16) ≡ b → changesOf (listed (holdsAt t k (p % 16) (p / 16))) w ≡ w
+    go true e = place-other t k (p % 16) (p / 16) w (λ q. n (record { held = e; mark = q }))
+    go false e = place-absent t k (p % 16) (p / 16) w e
 
--- nor does one without a held certificate
-pub row-empty : (t : List ℕ) (k r : ℕ) (w : List ℕ) → heldSet t r ≡ 0 → rowChange t k r w ≡ w
-row-empty t k r w e = row-unmarked t k r w (λ m l h _. false≢true (sym (rw (held-in t m r, e) (in-none m)) ∙ h))
+-- ---- places in order
 
--- no row yet
-pub rows-none : (t : List ℕ) (k a : ℕ) (w : List ℕ) → w ≡ rowsChange t k a (a - a) w
-unfolding rowsChange foldTo
-rows-none t k a w = let e : a - a ≡ 0 = omega arith in rw e refl
+-- places that are passed over
+places-skip : (t : List ℕ) (k a p : ℕ) (w : List ℕ) → a ≤ p → ((i : ℕ) → a ≤ i → i < p → Marked t k i → ⊥) → placesChange t k p w ≡ placesChange t k a w
+unfolding placesChange
+places-skip t k a p w h n =
+    fold-high (λ i. placeChange t k (i + 16)) (p - 16) (a - 16) w (omega arith) (λ i v x y. place-unmarked t k (i + 16) v (n (i + 16) (omega arith) (omega arith)))
 
--- one more row
-pub rows-more : (t : List ℕ) (k a r : ℕ) (w : List ℕ) → a ≤ r → rowsChange t k a (r + 1 - a) w ≡ rowChange t k (r + 1) (rowsChange t k a (r - a) w)
-unfolding rowsChange
-rows-more t k a r w h =
-    let e : r + 1 - a ≡ r - a + 1 = omega arith in
-    let q : a + (r - a) + 1 ≡ r + 1 = omega arith in
-    rw (e, fold-more (λ i. rowChange t k (a + i + 1)) (r - a) w, q) refl
+-- up to the first place nothing changes
+pub places-first : (t : List ℕ) (k e p : ℕ) (w : List ℕ) → First t k 16 e p → w ≡ placesChange t k p w
+unfolding placesChange foldTo
+places-first t k e p w f = sym (places-skip t k 16 p w (f .from) (f .skipped))
+
+-- from one place to the next
+pub places-next : (t : List ℕ) (k e p q : ℕ) (w : List ℕ) → 16 ≤ p → Marked t k p → First t k (p + 1) e q
+    → placesChange t k q w ≡ changes (contentAt t (p % 16) (p / 16) .transactions) (placesChange t k p w)
+unfolding placesChange placeChange
+places-next t k e p q w h x f =
+    let i : p + 1 - 16 ≡ p - 16 + 1 = omega arith in
+    let j : p - 16 + 16 ≡ p = omega arith in
+    places-skip t k (p + 1) q w (f .from) (f .skipped)
+    ∙ rw (i, fold-more (λ i. placeChange t k (i + 16)) (p - 16) w, j) (place-present t k (p % 16) (p / 16) (placesChange t k p w) (x .held) (x .mark))
 
 -- ---- a block
 
-block-row : (t : List ℕ) (k n r : ℕ) (w : List ℕ) → r < n → foldTo (λ m. changesOf (listed (blockAt n t k .holds m (suc r)))) 16 w ≡ rowChange t k (suc r) w
-unfolding rowChange blockAt isRound
-block-row t k n r w h = rw (le-leb 1 (suc r) (omega arith), le-leb (suc r) n (omega arith)) refl
-
--- a block, row by row
-pub block-fold : (t : List ℕ) (k n : ℕ) (w : List ℕ) → blockChange n t k w ≡ rowsChange t (k + 1) 0 n w
-unfolding blockChange rowsChange
-block-fold t k n w =
+-- by round, then author
+pub block-rows : (t : List ℕ) (k n : ℕ) (w : List ℕ) → blockChange n t k w ≡ foldTo (λ r. foldTo (λ m. changesOf (listed (holdsAt t (k + 1) m (r + 1)))) 16) n w
+unfolding blockChange blockAt isRound
+block-rows t k n w =
     ordered-changes n (blockAt n t (k + 1)) (chainOf n t k) w
-    ∙ fold-same (λ r. foldTo (λ m. changesOf (listed (blockAt n t (k + 1) .holds m (suc r)))) 16) (λ i. rowChange t (k + 1) (0 + i + 1)) n w
-    (λ r v h. let e : 0 + r + 1 ≡ suc r = omega arith in rw e (block-row t (k + 1) n r v h))
+    ∙ fold-same (λ r. foldTo (λ m. changesOf (listed (blockAt n t (k + 1) .holds m (suc r)))) 16) (λ r. foldTo (λ m. changesOf (listed (holdsAt t (k + 1) m (r + 1)))) 16) n w
+    (λ r v h. rw (le-leb 1 (suc r) (omega arith), le-leb (suc r) n (omega arith), add-one r) refl)
 
--- a block whose marks stand only in the rows above row a up to row z
-pub block-span : (t : List ℕ) (k n a z : ℕ) (w : List ℕ) → a ≤ z → z ≤ n
-    → ((m r : ℕ) → m < 16 → 1 ≤ r → r ≤ n → heldAt t m r ≡ true → markAt t m r ≡ k + 1 → (a < r) × (r ≤ z))
-    → blockChange n t k w ≡ rowsChange t (k + 1) a (z - a) w
-unfolding rowsChange
-block-span t k n a z w h l inside =
-    block-fold t k n w
-    ∙ fold-high (λ i. rowChange t (k + 1) (0 + i + 1)) n z w l
-    (λ i v b c. row-unmarked t (k + 1) (0 + i + 1) v (λ m q e p. let x = inside m (0 + i + 1) q (omega arith) (omega arith) e p in omega arith))
-    ∙ fold-low (λ i. rowChange t (k + 1) (0 + i + 1)) a z w h
-    (λ i v b. row-unmarked t (k + 1) (0 + i + 1) v (λ m q e p. let x = inside m (0 + i + 1) q (omega arith) (omega arith) e p in omega arith))
-    ∙ fold-same (λ i. rowChange t (k + 1) (0 + (a + i) + 1)) (λ i. rowChange t (k + 1) (a + i + 1)) (z - a) w
-    (λ i v _. let e : 0 + (a + i) + 1 ≡ a + i + 1 = omega arith in rw e refl)
+-- place by place
+pub block-places : (t : List ℕ) (k n : ℕ) (w : List ℕ) → blockChange n t k w ≡ placesChange t (k + 1) (n * 16 + 16) w
+unfolding placesChange placeChange
+block-places t k n w =
+    let e : n * 16 + 16 - 16 ≡ n * 16 = omega arith in
+    block-rows t k n w
+    ∙ fold-flat (λ r m. changesOf (listed (holdsAt t (k + 1) m (r + 1)))) n w
+    ∙ rw e (fold-same (λ i. changesOf (listed (holdsAt t (k + 1) (i % 16) (i / 16 + 1)))) (λ i. changesOf (listed (holdsAt t (k + 1) ((i + 16) % 16) ((i + 16) / 16)))) (n * 16) w
+    (λ i v _. let a : (i + 16) % 16 ≡ i % 16 = omega arith in let b : (i + 16) / 16 ≡ i / 16 + 1 = omega arith in rw (a, b) refl))

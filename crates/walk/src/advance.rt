@@ -3,60 +3,40 @@ use sheet::Settings;
 use terms::Round;
 ghost use mathlib.Core.Path.{_≡_};
 ghost use Prim.Native.Nat.{_+_, _-_, _*_, _<_, _≤_};
-ghost use Rattle.store.specs.Table.{Row};
 ghost use Rattle.committee.specs.Chain.{chainOf};
 ghost use Rattle.committee.specs.Committees.{bondedFrom, committeeOf};
-ghost use Rattle.committee.specs.Totals.{totalIn};
-ghost use Rattle.walk.specs.Walk.{blockChange};
 ghost use Rattle.walk.specs.Readable.{Readable, Stands};
-ghost use Rattle.walk.specs.Spans.{Spans};
+ghost use Rattle.walk.specs.Links.{Links};
 
 // The number of the block that comes after k of so many: oldest first.
-fn next(k: u32, blocks: u32) -> u32
+fn number(k: u32, blocks: u32) -> u32
     requires { ⌜ (k < blocks) × (blocks < 512) ⌝ }
     ensures { λ v. ⌜ v ≡ k + 1 ⌝ }
 {
     k + 1
 }
 
-// Block b, where the ceiling is n.
-fn apply_block(
-    t: &[u32],
-    below: &[u32; 512],
-    last: &[u32; 512],
-    b: u32,
-    n: Round,
-    w: &mut [u64; 16],
-)
-    requires { ⌜ Row (now t) (n .0) × (n .0 ≤ 1024) × (1 ≤ b) × (b < 512) × Spans (now t) (n .0 * 16 + 16) (now below) (now last) × (totalIn (now w) ≤ 562949953421312) ⌝ }
-    ensures { λ _. ⌜ now (w .exit) ≡ blockChange (n .0) (now (t .entry)) (b - 1) (now (w .entry)) ⌝ }
-{
-    let a = below[b as usize];
-    let z = last[b as usize];
-    crate::rows::apply_rows(t, b, a, z, w);
-}
-
 // The blocks after the first k whose rounds are below q; gives how many are applied then.
 fn advance_to(
     t: &[u32],
-    below: &[u32; 512],
-    last: &[u32; 512],
+    head: &[u32; 512],
+    next: &[u32; 16400],
     s: Settings,
     blocks: u32,
     k: u32,
     q: Round,
     w: &mut [u64; 16],
 ) -> u32
-    requires { ⌜ Readable s (now t) blocks × Spans (now t) (s .ceiling .0 * 16 + 16) (now below) (now last) × (1 ≤ q .0) × Stands s (now t) blocks (q .0 - 1) k (now w) ⌝ }
+    requires { ⌜ Readable s (now t) blocks × Links (now t) 16 (s .ceiling .0 * 16 + 16) (now head) (now next) × (1 ≤ q .0) × Stands s (now t) blocks (q .0 - 1) k (now w) ⌝ }
     ensures { λ v. ⌜ Stands s (now (t .entry)) blocks (q .0 - 1) v (now (w .exit)) × (now (w .exit) ≡ bondedFrom (s .ceiling .0) (s .weights) (chainOf (s .ceiling .0) (now (t .entry)) blocks) (q .0)) ⌝ }
 {
     let mut j = k;
     while j < blocks {
-        let b = next(j, blocks);
+        let b = number(j, blocks);
         if q.0 <= store::block_round(t, b) {
             return j;
         }
-        apply_block(t, below, last, b, s.ceiling, w);
+        crate::block::apply_block(t, head, next, b, s.ceiling, w);
         j += 1;
     }
     j
@@ -65,19 +45,19 @@ fn advance_to(
 // The committee of round r, from that of an earlier round, which has the first k blocks; gives how many it has then.
 pub fn advance(
     t: &[u32],
-    below: &[u32; 512],
-    last: &[u32; 512],
+    head: &[u32; 512],
+    next: &[u32; 16400],
     s: Settings,
     blocks: u32,
     k: u32,
     r: Round,
     w: &mut [u64; 16],
 ) -> u32
-    requires { ⌜ Readable s (now t) blocks × Spans (now t) (s .ceiling .0 * 16 + 16) (now below) (now last) × Stands s (now t) blocks (r .0 - s .lookback - 1) k (now w) ⌝ }
+    requires { ⌜ Readable s (now t) blocks × Links (now t) 16 (s .ceiling .0 * 16 + 16) (now head) (now next) × Stands s (now t) blocks (r .0 - s .lookback - 1) k (now w) ⌝ }
     ensures { λ v. ⌜ Stands s (now (t .entry)) blocks (r .0 - s .lookback - 1) v (now (w .exit)) × (now (w .exit) ≡ committeeOf s (chainOf (s .ceiling .0) (now (t .entry)) blocks) (r .0)) ⌝ }
 {
     if r.0 <= s.lookback {
         return k;
     }
-    advance_to(t, below, last, s, blocks, k, Round(r.0 - s.lookback), w)
+    advance_to(t, head, next, s, blocks, k, Round(r.0 - s.lookback), w)
 }

@@ -6,13 +6,13 @@ ghost use Prim.Native.Nat.{_+_, _-_, _*_, _≤_};
 ghost use Rattle.committee.specs.Chain.{chainOf};
 ghost use Rattle.walk.specs.Fill.{leaderAt, fillTo};
 ghost use Rattle.walk.specs.Readable.{Readable};
-ghost use Rattle.walk.specs.Spans.{Spans};
+ghost use Rattle.walk.specs.Links.{Links};
 
-// The leaders of the rounds above m up to top, where the rows of each block are known and w is the starting committee.
+// The leaders of the rounds above m up to top, where the places of each block are linked and w is the starting committee.
 fn fill_rounds(
     t: &[u32],
-    below: &[u32; 512],
-    last: &[u32; 512],
+    head: &[u32; 512],
+    next: &[u32; 16400],
     s: Settings,
     blocks: u32,
     m: Round,
@@ -20,13 +20,13 @@ fn fill_rounds(
     w: &mut [u64; 16],
     l: &mut [u32; 1025],
 )
-    requires { ⌜ Readable s (now t) blocks × Spans (now t) (s .ceiling .0 * 16 + 16) (now below) (now last) × (m .0 ≤ top .0) × (top .0 ≤ 1024) × (now w ≡ s .weights) ⌝ }
+    requires { ⌜ Readable s (now t) blocks × Links (now t) 16 (s .ceiling .0 * 16 + 16) (now head) (now next) × (m .0 ≤ top .0) × (top .0 ≤ 1024) × (now w ≡ s .weights) ⌝ }
     ensures { λ _. ⌜ now (l .exit) ≡ fillTo (leaderAt s (chainOf (s .ceiling .0) (now (t .entry)) blocks)) (m .0) (top .0 - m .0) (now (l .entry)) ⌝ }
 {
     let mut k = 0;
     for q in m.0..top.0 {
         let r = Round(q + 1);
-        k = crate::advance::advance(t, below, last, s, blocks, k, r, w);
+        k = crate::advance::advance(t, head, next, s, blocks, k, r, w);
         l[q as usize + 1] = committee::leader::leader(w, r);
     }
 }
@@ -37,8 +37,9 @@ pub fn fill_leaders(t: &[u32], s: Settings, blocks: u32, m: Round, top: Round, l
     ensures { λ _. ⌜ now (l .exit) ≡ fillTo (leaderAt s (chainOf (s .ceiling .0) (now (t .entry)) blocks)) (m .0) (top .0 - m .0) (now (l .entry)) ⌝ }
 {
     let mut w = s.weights;
-    let mut below = [0u32; 512];
-    let mut last = [0u32; 512];
-    crate::spans::find(t, &mut below, &mut last, s.ceiling);
-    fill_rounds(t, &below, &last, s, blocks, m, top, &mut w, l);
+    let end = s.ceiling.0 * 16 + 16;
+    let mut head = [end; 512];
+    let mut next = [0u32; 16400];
+    crate::links::link_rows(t, &mut head, &mut next, s.ceiling);
+    fill_rounds(t, &head, &next, s, blocks, m, top, &mut w, l);
 }

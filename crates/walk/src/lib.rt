@@ -1,10 +1,9 @@
 // The committee of a round, from the chain in the table.
-// Its cost is that of one pass over the held certificates and one over each block's rows. In every state that a run reaches a block's certificates
-// fill each row between its first and its last, so both are linear; marks that are scattered over a table by other means may cost more.
+// Its cost is that of one pass over the header of each row and each held certificate, and of one look at each certificate in a block.
 pub mod advance;
+pub mod block;
 pub mod leaders;
-pub mod rows;
-pub mod spans;
+pub mod links;
 
 use sheet::Settings;
 use terms::Round;
@@ -66,10 +65,11 @@ pub fn committee_of(t: &[u32], s: Settings, blocks: u32, r: Round) -> [u64; 16]
     if r.0 <= s.lookback {
         return w;
     }
-    let mut below = [0u32; 512];
-    let mut last = [0u32; 512];
-    crate::spans::find(t, &mut below, &mut last, s.ceiling);
-    let k = crate::advance::advance(t, &below, &last, s, blocks, 0, r, &mut w);
+    let end = s.ceiling.0 * 16 + 16;
+    let mut head = [end; 512];
+    let mut next = [0u32; 16400];
+    crate::links::link_rows(t, &mut head, &mut next, s.ceiling);
+    let k = crate::advance::advance(t, &head, &next, s, blocks, 0, r, &mut w);
     w
 }
 

@@ -1,11 +1,19 @@
 use native.Mathlib.Omega.{arith}
-use Rattle.walk.specs.SpanLaws.{spans-start}
+use Prim.Native.Nat.{ℕ}
+use lib.ListN.{length-replicate}
+use Rattle.walk.specs.LinkLaws.{links-start}
 use borrow.Author.Needs.{needs}
 use Rattle.walk.proofs.leaders.fill_leaders.Statement.{statement}
 use Rattle.walk.proofs.leaders.fill_leaders.Tie as tie
 
-find-requires : tie.Need-find-requires
-find-requires c κs = (omega arith, omega arith, spans-start _)
+mul-end : tie.Need-mul-end
+mul-end c = search needs
+
+add-end : tie.Need-add-end
+add-end c = search needs
+
+link-rows-requires : tie.Need-link-rows-requires
+link-rows-requires c κs = (omega arith, omega arith, links-start _ _ _ (length-replicate {A = ℕ} 16400 0))
 
 fill-rounds-requires : tie.Need-fill-rounds-requires
 fill-rounds-requires c κs = search needs
@@ -14,4 +22,5 @@ returns : tie.Need-returns
 returns c = search needs
 
 pub fill-leaders-spec : {M : Type 1} → statement M
-fill-leaders-spec = tie.close (tie.spec find-requires fill-rounds-requires returns)
+fill-leaders-spec =
+    tie.close (tie.spec mul-end add-end link-rows-requires fill-rounds-requires returns)

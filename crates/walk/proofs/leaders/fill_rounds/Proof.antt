@@ -11,10 +11,10 @@ use Rattle.walk.proofs.leaders.fill_rounds.Statement.{statement}
 use Rattle.walk.proofs.leaders.fill_rounds.Tie as tie
 
 abbrev Inv-loop : tie.InvT-loop
-Inv-loop t below last s blocks w₀ l₀ k₀ q₀ q-end w l k q = (q₀ ≤ q) × (q ≤ q-end) × Stands s t blocks (q - s .lookback) k w × (l ≡ fillTo (leaderAt s (chainOf (s .ceiling .0) t blocks)) q₀ (q - q₀) l₀)
+Inv-loop t head next s blocks w₀ l₀ k₀ q₀ q-end w l k q = (q₀ ≤ q) × (q ≤ q-end) × Stands s t blocks (q - s .lookback) k w × (l ≡ fillTo (leaderAt s (chainOf (s .ceiling .0) t blocks)) q₀ (q - q₀) l₀)
 
 abbrev μ-loop : tie.MeasureT-loop
-μ-loop t below last s blocks w₀ l₀ k₀ q₀ q-end w l k q = q-end - q
+μ-loop t head next s blocks w₀ l₀ k₀ q₀ q-end w l k q = q-end - q
 
 loop-holds : tie.Need-loop-holds Inv-loop μ-loop
 loop-holds c = (omega arith, omega arith, rw (c .before .pre .4) (stands-start _), fill-none _ _ _)

@@ -9,8 +9,8 @@ use Rattle.store.specs.TableLaws.{count-le}
 use Rattle.committee.specs.Changes.{change}
 use Rattle.walk.specs.WalkLaws.{record-fold}
 use Rattle.walk.specs.BoundLaws.{turns-light}
-use Rattle.walk.proofs.rows.apply_record.Statement.{statement}
-use Rattle.walk.proofs.rows.apply_record.Tie as tie
+use Rattle.walk.proofs.block.apply_record.Statement.{statement}
+use Rattle.walk.proofs.block.apply_record.Tie as tie
 
 abbrev Inv-loop : tie.InvT-loop
 Inv-loop t m r w₀ n k₀ w k = (k ≤ n) × (w ≡ foldTo (λ j. change (transactionAt t (m .0) (r .0) j)) k w₀)

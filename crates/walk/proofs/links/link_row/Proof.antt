@@ -1,0 +1,57 @@
+use borrow.Author.Needs.{needs}
+use mathlib.Core.Path.{_≡_, sym, _∙_}
+use native.Mathlib.Omega.{arith}
+use Prim.Native.Nat.{ℕ, _+_, _-_, _*_, _≤_}
+use Rattle.walk.specs.Links.{Links}
+use Rattle.walk.specs.LinkLaws.{links-empty}
+use Rattle.walk.proofs.links.link_row.Statement.{statement}
+use Rattle.walk.proofs.links.link_row.Tie as tie
+
+abbrev Inv-loop : tie.InvT-loop
+Inv-loop t head₀ next₀ r i₀ head next i = (i ≤ 16) × ((e : ℕ) → Links t (r .0 * 16 + 16) e head₀ next₀ → Links t (r .0 * 16 + 16 - i) e head next)
+
+abbrev μ-loop : tie.MeasureT-loop
+μ-loop t head₀ next₀ r i₀ head next i = 16 - i
+
+held-set-requires : tie.Need-held-set-requires Inv-loop μ-loop
+held-set-requires c κs = search needs
+
+returns : tie.Need-returns Inv-loop μ-loop
+returns c = λ e s. links-empty _ (sym (c .before .held-set .ensures) ∙ c .if1 .taken) s
+
+loop-holds : tie.Need-loop-holds Inv-loop μ-loop
+loop-holds c = let a = c .before .before .before .args in let q : a .r .0 * 16 + 16 - 0 ≡ a .r .0 * 16 + 16 = omega arith in (omega arith, λ e s. rw q s)
+
+sub-t12 : tie.Need-sub-t12 Inv-loop μ-loop
+sub-t12 c = search needs
+
+link-place-requires : tie.Need-link-place-requires Inv-loop μ-loop
+link-place-requires c κs = (record { member = omega arith; row = omega arith }, omega arith)
+
+add-i : tie.Need-add-i Inv-loop μ-loop
+add-i c = search needs
+
+loop-less : tie.Need-loop-less Inv-loop μ-loop
+loop-less c = search needs
+
+loop-again : tie.Need-loop-again Inv-loop μ-loop
+loop-again c = let a = c .before .before .before .before .before .before .before .before .args in let x = c .before .before .before .before .loop in let q : a .r .0 * 16 + 16 - x .i ≡ a .r .0 * 16 + (15 - x .i) + 1 = omega arith in let p : a .r .0 * 16 + 16 - (x .i + 1) ≡ a .r .0 * 16 + (15 - x .i) = omega arith in (omega arith, λ e s. rw p (c .link-place .ensures e (rw q at (x .inv .1 e s))))
+
+returns-2 : tie.Need-returns-2 Inv-loop μ-loop
+returns-2 c = let a = c .before .before .before .before .before .args in let x = c .before .loop in let q : a .r .0 * 16 + 16 - x .i ≡ a .r .0 * 16 = omega arith in λ e s. rw q at (x .inv .1 e s)
+
+pub link-row-spec : {M : Type 1} → statement M
+link-row-spec =
+    tie.close
+    (tie.spec
+    Inv-loop
+    μ-loop
+    held-set-requires
+    returns
+    loop-holds
+    sub-t12
+    link-place-requires
+    add-i
+    loop-less
+    loop-again
+    returns-2)
