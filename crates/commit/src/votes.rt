@@ -3,15 +3,17 @@ use sheet::Weight;
 use terms::Member;
 use terms::Round;
 ghost use mathlib.Core.Path.{_≡_};
+ghost use mathlib.Core.Bool.{cond};
 ghost use Prim.Native.Nat.{_<_};
 ghost use Rattle.store.specs.Table.{Within, Row};
 ghost use Rattle.committee.specs.Totals.{Light};
-ghost use Rattle.commit.specs.Votes.{voteOf, votesFor};
+ghost use Rattle.sheet.specs.Ranges.{weightIn};
+ghost use Rattle.commit.specs.Votes.{votesAt, votesFor};
 
 // The weight of i, if its certificate of round r is held and names a.
 fn vote_of(t: &[u32], w: &[u64; 16], r: Round, a: Member, i: Member) -> Weight
     requires { ⌜ Within (now t) (i .0) (r .0) × (a .0 < 16) ⌝ }
-    ensures { λ v. ⌜ v .0 ≡ voteOf (now (t .entry)) (now (w .entry)) (r .0) (a .0) (i .0) ⌝ }
+    ensures { λ v. ⌜ v .0 ≡ cond (votesAt (now (t .entry)) (r .0) (a .0) (i .0)) (weightIn (now (w .entry)) (i .0)) 0 ⌝ }
 {
     if !store::held(t, i, r) {
         return Weight(0);

@@ -1,0 +1,57 @@
+use mathlib.Core.Path.{refl, sym, _∙_}
+use borrow.Author.Tests.{eq-eqb, ne-eqb}
+use native.Mathlib.Omega.{arith}
+use Rattle.base.specs.Checks.{refuses, passes, passes-all}
+use Rattle.walk.specs.ReadableLaws.{readable}
+use borrow.Author.Needs.{needs}
+use Rattle.commit.proofs.checks.time_refusal.Statement.{statement}
+use Rattle.commit.proofs.checks.time_refusal.Tie as tie
+use Rattle.commit.proofs.checks.time_refusal.Reads as reads
+use Rattle.commit.proofs.checks.time_refusal.Lts as lts
+use Rattle.walk.proofs.known.Reads as known-reads
+use Rattle.walk.proofs.last_round.Reads as last-round-reads
+
+-- src/checks.rt:21:9
+returns : tie.Need-returns
+returns c = sym (refuses 19 _ (rw (eq-eqb _ _ (c .if1 .taken)) refl))
+
+-- src/checks.rt:24:9
+returns-2 : tie.Need-returns-2
+returns-2 c = search needs
+
+-- src/checks.rt:26:9
+last-round-requires : tie.Need-last-round-requires
+last-round-requires c κs = search needs
+
+-- src/checks.rt:27:8
+sub-if3 : tie.Need-sub-if3
+sub-if3 c = search needs
+
+-- src/checks.rt:28:9
+returns-3 : tie.Need-returns-3
+returns-3 c = search needs
+
+-- src/checks.rt:30:9
+known-requires : tie.Need-known-requires
+known-requires c κs = let f = c .before .before .before .before .before .before .args .zzz in readable _ _ _ (f .settings) (f .long) (f .rounds)
+
+-- src/checks.rt:31:9
+returns-4 : tie.Need-returns-4
+returns-4 c = search needs
+
+-- src/checks.rt:15:1
+returns-5 : tie.Need-returns-5
+returns-5 c = search needs
+
+pub time-refusal-spec : {M : Type 1} → statement M
+time-refusal-spec =
+    tie.close
+    (tie.spec
+    returns
+    returns-2
+    last-round-requires
+    sub-if3
+    returns-3
+    known-requires
+    returns-4
+    returns-5)

@@ -1,0 +1,81 @@
+use borrow.Author.Needs.{needs}
+use Rattle.commit.proofs.checks.vote_refusal.Statement.{statement}
+use Rattle.commit.proofs.checks.vote_refusal.Tie as tie
+use Rattle.commit.proofs.checks.vote_refusal.Reads as reads
+use Rattle.commit.proofs.checks.vote_refusal.Lts as lts
+use Rattle.blocks.proofs.anchors.is_led.Reads as is-led-reads
+use Rattle.commit.proofs.votes.votes_for.Reads as votes-for-reads
+use Rattle.committee.proofs.fault_bound.Reads as fault-bound-reads
+use Rattle.committee.proofs.total_weight.Reads as total-weight-reads
+use Rattle.store.proofs.held_set.Reads as held-set-reads
+use Rattle.walk.proofs.committee_of.Reads as committee-of-reads
+
+-- src/checks.rt:42:21
+sub-a : tie.Need-sub-a
+sub-a c = search needs
+
+-- src/checks.rt:43:15
+cast-a : tie.Need-cast-a
+cast-a c = search needs
+
+-- src/checks.rt:43:13
+mul-a : tie.Need-mul-a
+mul-a c = search needs
+
+-- src/checks.rt:43:13
+element-copy-out-a : tie.Need-element-copy-out-a
+element-copy-out-a c = search needs
+
+-- src/checks.rt:44:33
+held-set-requires : tie.Need-held-set-requires
+held-set-requires c κs = search needs
+
+-- src/checks.rt:44:9
+is-led-requires : tie.Need-is-led-requires
+is-led-requires c κs = search needs
+
+-- src/checks.rt:45:9
+returns : tie.Need-returns
+returns c = ?
+
+-- src/checks.rt:47:13
+committee-of-requires : tie.Need-committee-of-requires
+committee-of-requires c κs = ?
+
+-- src/checks.rt:48:40
+total-weight-requires : tie.Need-total-weight-requires
+total-weight-requires c κs = search needs
+
+-- src/checks.rt:48:9
+fault-bound-requires : tie.Need-fault-bound-requires
+fault-bound-requires c κs = search needs
+
+-- src/checks.rt:49:9
+votes-for-requires : tie.Need-votes-for-requires
+votes-for-requires c κs = ?
+
+-- src/checks.rt:51:9
+returns-2 : tie.Need-returns-2
+returns-2 c = ?
+
+-- src/checks.rt:37:1
+returns-3 : tie.Need-returns-3
+returns-3 c = ?
+
+pub vote-refusal-spec : {M : Type 1} → statement M
+vote-refusal-spec =
+    tie.close
+    (tie.spec
+    sub-a
+    cast-a
+    mul-a
+    element-copy-out-a
+    held-set-requires
+    is-led-requires
+    returns
+    committee-of-requires
+    total-weight-requires
+    fault-bound-requires
+    votes-for-requires
+    returns-2
+    returns-3)
