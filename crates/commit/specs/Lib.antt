@@ -1,2 +1,4 @@
 pub mod Votes
 pub mod Commit
+pub mod AnchorLaws
+pub mod CheckLaws
