@@ -1,5 +1,5 @@
 -- The checks of a commit, one by one, and what an accepted one gives.
-use mathlib.Core.Path.{_≡_, refl, sym, _∙_}
+use mathlib.Core.Path.{_≡_, refl, sym, ap, _∙_}
 use mathlib.Core.Bool.{Bool, true, false, not, cond, _||_}
 use mathlib.Core.List.{List, [], _∷_}
 use mathlib.Core.Logic.{_≢_}
@@ -7,6 +7,7 @@ use mathlib.Core.Option.{Option, none, some}
 use Prim.Native.Nat.{ℕ, suc, _-_, _%_, _<_, _≤_}
 use native.Mathlib.Omega.{arith}
 use lib.Dec.{eqb, leb, ltb}
+use lib.ListN.{getD}
 use borrow.Author.Tests.{eq-eqb, ne-eqb, eqb-false, le-leb, lt-leb, leb-false, lt-ltb, le-ltb, ltb-true, not-false}
 use Rattle.base.specs.Bools.{neither}
 use Rattle.base.specs.Checks.{refusal, refuses, passes, passes-all, cleared, first-refuses, first-passes, numbered}
@@ -29,8 +30,8 @@ use Rattle.state.specs.WellFormed.{wellFormed}
 use Rattle.state.specs.Formed.{Formed}
 use Rattle.state.specs.NumberLaws.{number-unformed, number-formed, number-passed}
 use Rattle.commit.specs.Votes.{votesFor}
-use Rattle.commit.specs.Commit.{timeChecks, voteChecks, commitNumber}
-use Rattle.commit.specs.AnchorLaws.{leaderOn, committeeOn, anchor-on, unvoted-on}
+use Rattle.commit.specs.Commit.{timeChecks, voteChecks, commitNumber, leadersFor}
+use Rattle.commit.specs.AnchorLaws.{leaderOn, committeeOn, anchor-on, unvoted-on, leaders-on}
 
 module _ (s : State) (t : List ℕ) where
   abbrev r : ℕ
@@ -94,6 +95,10 @@ module _ (s : State) (t : List ℕ) where
 
     anchor : anchorAt (view s t) (r - 1) ≡ cond (isIn (heldSet t (r - 1)) a) (some (contentAt t a (r - 1))) none
     anchor = anchor-on s t (r - 1) (omega arith) (omega (arith, f .numbers .round-to))
+
+    -- the leader in the list of leaders
+    pub led-on : (l : List ℕ) → l ≡ leadersFor s t → m < r - 1 → getD l (r - 1) 0 ≡ a
+    led-on l e h = ap (λ (z : List ℕ). getD z (r - 1) 0) e ∙ leaders-on s t (r - 1) h (omega arith) (omega (arith, f .numbers .round-to, f .settings .ceiling-to))
 
     pub anchor-none : isIn (heldSet t (r - 1)) a ≡ false → 21 ≡ refusal (voteChecks s t)
     anchor-none e = rw (anchor, e) (sym (refuses 21 _ refl))
