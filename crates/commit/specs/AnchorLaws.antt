@@ -1,15 +1,15 @@
 -- The anchors that a table tells, and the votes for them.
-use mathlib.Core.Path.{_≡_, refl, sym, ap, ap₂, _∙_}
+use mathlib.Core.Path.{_≡_, refl, ap, _∙_}
 use mathlib.Core.Bool.{Bool, not, cond}
 use mathlib.Core.List.{List}
 use mathlib.Core.Option.{Option, none, some}
-use Prim.Native.Nat.{ℕ, suc, _+_, _-_, _<_, _≤_}
+use Prim.Native.Nat.{ℕ, suc, _-_, _<_, _≤_}
 use native.Mathlib.Omega.{arith}
 use lib.Dec.{ltb}
 use lib.ListN.{getD, length, replicate}
 use Rattle.base.specs.Sets.{isIn}
 use Rattle.base.specs.SumLaws.{sum-same}
-use Rattle.agreement.specs.Weights.{weigh, total}
+use Rattle.agreement.specs.Weights.{total}
 use Rattle.agreement.specs.Rules.{Chain}
 use Rattle.agreement.specs.Commits.{byLeader, anchorAt}
 use Rattle.terms.specs.Proposals.{Content}
@@ -20,7 +20,7 @@ use Rattle.committee.specs.Chain.{chainOf}
 use Rattle.committee.specs.Committees.{committeeOf, boundOf}
 use Rattle.committee.specs.Leaders.{leaderOf, leaderNumber}
 use Rattle.walk.specs.Walk.{lastRound}
-use Rattle.walk.specs.Fill.{leaderAt}
+use Rattle.walk.specs.Fill.{leaderAt, fillTo}
 use Rattle.walk.specs.FillLaws.{fill-at, fill-length}
 use Rattle.rules.specs.Tests.{unvoted}
 use Rattle.blocks.specs.AnchorLaws.{not-in}
@@ -63,9 +63,14 @@ module _ (s : State) (t : List ℕ) where
 
   -- ---- the leaders that a commit uses
 
-  pub leaders-length : length (leadersFor s t) ≡ 1025
+  -- the list as it is filled, where m is the last block's round
+  pub leaders-filled : (l : List ℕ) (m : ℕ) → l ≡ fillTo (leaderAt (s .settings) chain) m (s .round .0 - 1 - m) (replicate 1025 16) → m ≡ lastRound t (s .blocks) → l ≡ leadersFor s t
   unfolding leadersFor
-  leaders-length = fill-length (leaderAt (s .settings) chain) (lastRound t (s .blocks)) (replicate 1025 16) (s .round .0 - 1 - lastRound t (s .blocks))
+  leaders-filled l m h e = h ∙ ap (λ (z : ℕ). fillTo (leaderAt (s .settings) chain) z (s .round .0 - 1 - z) (replicate 1025 16)) e
+
+  pub leaders-length : (l : List ℕ) → l ≡ leadersFor s t → length l ≡ 1025
+  unfolding leadersFor
+  leaders-length l e = ap length e ∙ fill-length (leaderAt (s .settings) chain) (lastRound t (s .blocks)) (replicate 1025 16) (s .round .0 - 1 - lastRound t (s .blocks))
 
   pub leaders-on : (q : ℕ) → lastRound t (s .blocks) < q → q < s .round .0 → s .round .0 ≤ 1024 → getD (leadersFor s t) q 0 ≡ leaderOn q
   unfolding leadersFor

@@ -3,12 +3,12 @@ use mathlib.Core.Path.{_≡_, refl, sym, ap, _∙_}
 use mathlib.Core.Bool.{Bool, true, false, not, cond, _||_}
 use mathlib.Core.List.{List, [], _∷_}
 use mathlib.Core.Logic.{_≢_}
-use mathlib.Core.Option.{Option, none, some}
+use mathlib.Core.Option.{none, some}
 use Prim.Native.Nat.{ℕ, suc, _-_, _%_, _<_, _≤_}
 use native.Mathlib.Omega.{arith}
-use lib.Dec.{eqb, leb, ltb}
+use lib.Dec.{eqb, ltb}
 use lib.ListN.{getD}
-use borrow.Author.Tests.{eq-eqb, ne-eqb, eqb-false, le-leb, lt-leb, leb-false, lt-ltb, le-ltb, ltb-true, not-false}
+use borrow.Author.Tests.{eq-eqb, ne-eqb, eqb-false, le-leb, lt-leb, leb-false, lt-ltb, le-ltb}
 use Rattle.base.specs.Bools.{neither}
 use Rattle.base.specs.Checks.{refusal, refuses, passes, passes-all, cleared, first-refuses, first-passes, numbered}
 use Rattle.base.specs.Sets.{isIn}
@@ -21,14 +21,14 @@ use Rattle.sheet.specs.Ranges.{weightIn}
 use Rattle.committee.specs.Chain.{chainOf}
 use Rattle.committee.specs.Committees.{knownBy, boundOf}
 use Rattle.walk.specs.Walk.{lastRound}
-use Rattle.walk.specs.ChainLaws.{last-chain}
+use Rattle.walk.specs.ChainLaws.{last-chain, last-from}
 use Rattle.rules.specs.Tests.{unknown}
 use Rattle.rules.specs.Calls as rules
 use Rattle.state.specs.declared.State.{State}
 use Rattle.state.specs.View.{view}
 use Rattle.state.specs.WellFormed.{wellFormed}
 use Rattle.state.specs.Formed.{Formed}
-use Rattle.state.specs.NumberLaws.{number-unformed, number-formed, number-passed}
+use Rattle.state.specs.NumberLaws.{number-unformed, number-formed}
 use Rattle.commit.specs.Votes.{votesFor}
 use Rattle.commit.specs.Commit.{timeChecks, voteChecks, commitNumber, leadersFor}
 use Rattle.commit.specs.AnchorLaws.{leaderOn, committeeOn, anchor-on, unvoted-on, leaders-on}
@@ -74,15 +74,19 @@ module _ (s : State) (t : List ℕ) where
   -- what they let pass
   pub record Timely : Type 0 where
     pub odd : r % 2 ≢ 0
-    pub later : r ≢ 1
+    pub from : 1 < r
     pub above : m < r - 1
+    pub few : s .blocks ≤ m
 
-  pub timely : refusal (timeChecks s t) ≡ 0 → Timely
-  timely e =
+  pub timely : Formed s t → refusal (timeChecks s t) ≡ 0 → Timely
+  timely f e =
+      let n = s .settings .ceiling .0 in
       let p = cleared _ 19 _ (omega arith) e in
       let q = cleared _ 20 _ (omega arith) (p .1) in
       let o = neither (eqb (r % 2) 0) (eqb r 1) (p .0) in
-      record { odd = eqb-false (r % 2) 0 (o .0); later = eqb-false r 1 (o .1); above = leb-false (r - 1) m (rw (last-chain (s .settings .ceiling .0) t (s .blocks)) at (q .0)) }
+      let x = eqb-false r 1 (o .1) in
+      let y = last-from n t (s .blocks) (f .rounds) (s .blocks) (omega arith) in
+      record { odd = eqb-false (r % 2) 0 (o .0); from = omega (arith, f .numbers .round-from); above = leb-false (r - 1) m (rw (last-chain n t (s .blocks)) at (q .0)); few = omega arith }
 
   -- ---- 21, 22
 
@@ -138,3 +142,7 @@ module _ (s : State) (t : List ℕ) where
   pub number-timely : wellFormed s t ≡ true → refusal (timeChecks s t) ≡ 0 → commitNumber s t ≡ refusal (voteChecks s t)
   unfolding commitNumber numbered
   number-timely e n = number-formed s t rules.commit e ∙ first-passes (timeChecks s t) (voteChecks s t) refl n
+
+  pub number-unread : wellFormed s t ≡ false → commitNumber s t ≡ 1
+  unfolding commitNumber
+  number-unread e = number-unformed s t rules.commit e

@@ -22,6 +22,10 @@ use Rattle.commit.specs.declared.Outcome.{Outcome}
 abbrev pub refusedWith : State → ℕ → Outcome
 refusedWith s n = record { state = s; answer = Refused n }
 
+-- the state with k blocks
+abbrev pub withBlocks : State → ℕ → State
+withBlocks s k = record { own = s .own; settings = s .settings; round = s .round; proposing = s .proposing; body = s .body; blocks = k }
+
 module _ (s : State) (t : List ℕ) where
   -- the checks 19, 20, 8, and then 21, 22
   abbrev pub timeChecks : Checks
@@ -44,7 +48,7 @@ module _ (s : State) (t : List ℕ) where
   blocksThen = commitCount (lastRound t (s .blocks)) (s .round .0 - 1) (s .blocks) leadersFor t
 
   abbrev pub committedState : State
-  committedState = record { own = s .own; settings = s .settings; round = s .round; proposing = s .proposing; body = s .body; blocks = blocksThen }
+  committedState = withBlocks s blocksThen
 
   unfoldable pub committedTable : List ℕ
   committedTable = commitTable (lastRound t (s .blocks)) (s .round .0 - 1) (s .blocks) leadersFor t

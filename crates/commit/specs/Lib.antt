@@ -2,3 +2,4 @@ pub mod Votes
 pub mod Commit
 pub mod AnchorLaws
 pub mod CheckLaws
+pub mod AnswerLaws

@@ -42,12 +42,12 @@ element-copy-out-t14 c = search needs
 -- src/votes.rt:20:9
 returns-2 : tie.Need-returns-2
 unfolding votesAt
-returns-2 c = simp (← c .before .before .before .before .before .before .held .ensures, not-false (c .before .before .before .before .before .before .held .result) (c .before .before .before .before .before .if1 .left), ← c .before .before .before .before .previous .ensures,  ← c .before .before .before .has .ensures, c .before .before .if2 .taken)
+returns-2 c = simp (← c .before .before .before .before .before .before .held .ensures, not-false (c .before .before .before .before .before .before .held .result) (c .before .before .before .before .before .if1 .left), ← c .before .before .before .before .previous .ensures, ← c .before .before .before .has .ensures, c .before .before .if2 .taken)
 
 -- src/votes.rt:12:1
 returns-3 : tie.Need-returns-3
 unfolding votesAt
-returns-3 c = simp (← c .before .before .before .before .held .ensures, not-false (c .before .before .before .before .held .result) (c .before .before .before .if1 .left), ← c .before .before .previous .ensures,  ← c .before .has .ensures, c .if2 .left)
+returns-3 c = simp (← c .before .before .before .before .held .ensures, not-false (c .before .before .before .before .held .result) (c .before .before .before .if1 .left), ← c .before .before .previous .ensures, ← c .before .has .ensures, c .if2 .left)
 
 pub vote-of-spec : {M : Type 1} → statement M
 vote-of-spec =
