@@ -3,3 +3,4 @@ pub mod Commit
 pub mod AnchorLaws
 pub mod CheckLaws
 pub mod AnswerLaws
+pub mod ShownLaws
