@@ -5,6 +5,7 @@ use mathlib.Core.List.{List, [], _∷_}
 use mathlib.Core.Logic.{_≢_}
 use mathlib.Core.Option.{none, some}
 use Prim.Native.Nat.{ℕ, suc, _-_, _%_, _<_, _≤_}
+use native.Mathlib.Decide.{ℕ-discrete}
 use native.Mathlib.Omega.{arith}
 use lib.Dec.{eqb, ltb}
 use lib.ListN.{getD}
@@ -27,8 +28,8 @@ use Rattle.rules.specs.Calls as rules
 use Rattle.state.specs.declared.State.{State}
 use Rattle.state.specs.View.{view}
 use Rattle.state.specs.WellFormed.{wellFormed}
-use Rattle.state.specs.Formed.{Formed}
-use Rattle.state.specs.NumberLaws.{number-unformed, number-formed}
+use Rattle.state.specs.Formed.{Formed, formed}
+use Rattle.state.specs.NumberLaws.{number-unformed, number-formed, number-passed}
 use Rattle.commit.specs.Votes.{votesFor}
 use Rattle.commit.specs.Commit.{timeChecks, voteChecks, commitNumber, leadersFor}
 use Rattle.commit.specs.AnchorLaws.{leaderOn, committeeOn, anchor-on, unvoted-on, leaders-on}
@@ -146,3 +147,21 @@ module _ (s : State) (t : List ℕ) where
   pub number-unread : wellFormed s t ≡ false → commitNumber s t ≡ 1
   unfolding commitNumber
   number-unread e = number-unformed s t rules.commit e
+
+  -- what an accepted commit gives: the leader of the round before has its certificate held
+  pub record Accepted : Type 0 where
+    pub formed : Formed s t
+    pub timely : Timely
+    pub led : isIn (heldSet t (r - 1)) (leaderOn s t (r - 1)) ≡ true
+
+  pub accepted : commitNumber s t ≡ 0 → Accepted
+  unfolding commitNumber
+  accepted e = go (ℕ-discrete (refusal (timeChecks s t)) 0)
+    where
+      go : Dec (refusal (timeChecks s t) ≡ 0) → Accepted
+      go (yes z) =
+          let p = number-passed s t rules.commit e in
+          let f = formed s t (p .0) in
+          let w = timely f z in
+          record { formed = f; timely = w; led = voted f (w .from) (sym (number-timely (p .0) z) ∙ e) }
+      go (no z) = absurd (z (sym (number-late (number-passed s t rules.commit e .0) z) ∙ e))

@@ -4,3 +4,4 @@ pub mod AnchorLaws
 pub mod CheckLaws
 pub mod AnswerLaws
 pub mod ShownLaws
+pub mod CommitLaws
