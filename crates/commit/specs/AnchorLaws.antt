@@ -3,7 +3,8 @@ use mathlib.Core.Path.{_≡_, refl, ap, _∙_}
 use mathlib.Core.Bool.{Bool, not, cond}
 use mathlib.Core.List.{List}
 use mathlib.Core.Option.{Option, none, some}
-use Prim.Native.Nat.{ℕ, suc, _-_, _<_, _≤_}
+use Prim.Native.Nat.{ℕ, suc, _-_, _%_, _<_, _≤_}
+use native.Mathlib.Decide.{ℕ-discrete}
 use native.Mathlib.Omega.{arith}
 use lib.Dec.{ltb}
 use lib.ListN.{getD, length, replicate}
@@ -19,6 +20,7 @@ use Rattle.sheet.specs.Ranges.{weightIn}
 use Rattle.committee.specs.Chain.{chainOf}
 use Rattle.committee.specs.Committees.{committeeOf, boundOf}
 use Rattle.committee.specs.Leaders.{leaderOf, leaderNumber}
+use Rattle.committee.specs.LeaderLaws.{leader-odd}
 use Rattle.walk.specs.Walk.{lastRound}
 use Rattle.walk.specs.Fill.{leaderAt, fillTo}
 use Rattle.walk.specs.FillLaws.{fill-at, fill-length}
@@ -60,6 +62,15 @@ module _ (s : State) (t : List ℕ) where
       rw (content-round t a q, content-author t a q)
       (ap (λ (z : ℕ). not (ltb (boundOf (total 16 w)) z))
       (sum-same _ _ 16 (λ i h. ap (λ (b : Bool). cond b (w i) 0) (vote-dag (s .settings .ceiling .0) t i (suc q) (omega arith) to (s .settings) a))))
+
+  -- only even rounds have leaders
+  pub leader-even : (q : ℕ) → leaderOn q < 16 → q % 2 ≡ 0
+  unfolding leaderAt
+  leader-even q h = go (ℕ-discrete (q % 2) 0)
+    where
+      go : Dec (q % 2 ≡ 0) → q % 2 ≡ 0
+      go (yes e) = e
+      go (no d) = absurd (omega (arith, ap leaderNumber (leader-odd (weightIn (committeeOn q)) q d)))
 
   -- ---- the leaders that a commit uses
 

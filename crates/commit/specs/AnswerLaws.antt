@@ -29,9 +29,15 @@ module _ (s : State) (t : List ℕ) where
   abbrev pub Answers : Outcome → List ℕ → Type 0
   Answers o u = (o ≡ commitOutcome s t) × (u ≡ commitTableAfter s t)
 
-  answers-refused : (n : ℕ) → commitNumber s t ≡ n → n ≢ 0 → Answers (refusedWith s n) t
+  -- a refused commit changes nothing
+  pub answers-refused : (n : ℕ) → commitNumber s t ≡ n → n ≢ 0 → Answers (refusedWith s n) t
   unfolding commitOutcome commitTableAfter
   answers-refused n e h = rw (e, ne-eqb n 0 h) (refl, refl)
+
+  -- an accepted one has made blocks
+  pub answers-accepted : commitNumber s t ≡ 0 → Answers (addedWith s (blocksThen s t)) (committedTable s t)
+  unfolding commitOutcome commitTableAfter
+  answers-accepted e = rw (eq-eqb (commitNumber s t) 0 e) (refl, refl)
 
   pub answers-unread : wellFormed s t ≡ false → Answers (refusedWith s 1) t
   answers-unread e = answers-refused 1 (number-unread s t e) (λ z. omega arith)
@@ -45,8 +51,7 @@ module _ (s : State) (t : List ℕ) where
       answers-unvoted n i h = answers-refused n (number-timely s t e o ∙ sym i) h
 
       pub answers-added : refusal (voteChecks s t) ≡ 0 → (k : ℕ) (u : List ℕ) → k ≡ blocksThen s t → u ≡ committedTable s t → Answers (addedWith s k) u
-      unfolding commitOutcome commitTableAfter
-      answers-added v k u i j = rw (eq-eqb (commitNumber s t) 0 (number-timely s t e o ∙ v)) (ap (addedWith s) i, j)
+      answers-added v k u i j = let a = answers-accepted (number-timely s t e o ∙ v) in (ap (addedWith s) i ∙ a .0, j ∙ a .1)
 
   -- ---- the blocks as the engine makes them
 

@@ -3,21 +3,19 @@ use mathlib.Core.Path.{_≡_, refl, sym, ap, ap₂, _∙_, fun-ext}
 use mathlib.Core.Bool.{Bool, true, false, cond, _&&_}
 use mathlib.Core.List.{List}
 use mathlib.Core.Option.{Option, none, some}
-use Prim.Native.Nat.{ℕ, suc, _-_, _<_, _≤_}
+use Prim.Native.Nat.{ℕ, _-_, _<_, _≤_}
 use native.Mathlib.Omega.{arith}
 use lib.Dec.{ltb}
-use lib.ListN.{getD, length, drop}
+use lib.ListN.{getD}
 use borrow.Author.Tests.{lt-ltb}
 use Rattle.base.specs.Bools.{cond-same}
 use Rattle.base.specs.Sets.{isIn}
 use Rattle.base.specs.SetLaws.{in-member}
-use Rattle.agreement.specs.Rules.{Chain, last}
 use Rattle.agreement.specs.Commits.{anchorAt, committed}
-use Rattle.agreement.specs.Moves.{afterCommit}
 use Rattle.terms.specs.Proposals.{Content}
-use Rattle.store.specs.Table.{used, heldSet, heldAt, contentAt, certificateAt}
-use Rattle.store.specs.TableLaws.{held-in, content-author, content-round, certificate-at, certificate-present, certificate-absent}
-use Rattle.store.specs.MarkLaws.{OnlyMarks, certificate-marked, endorsed-marked, beyond-marked}
+use Rattle.store.specs.Table.{used, heldSet, contentAt}
+use Rattle.store.specs.TableLaws.{held-in, content-author, content-round, certificate-present, certificate-absent}
+use Rattle.store.specs.MarkLaws.{OnlyMarks, certificate-marked, endorsed-marked}
 use Rattle.committee.specs.Chain.{isRound, chainOf}
 use Rattle.walk.specs.Walk.{lastRound}
 use Rattle.walk.specs.ChainLaws.{last-chain}
@@ -31,9 +29,9 @@ use Rattle.rules.specs.CallLaws.{after-commit}
 use Rattle.state.specs.declared.State.{State}
 use Rattle.state.specs.View.{dagOf, endorsedOf, proposalOf, view}
 use Rattle.state.specs.ViewLaws.{dag-at}
-use Rattle.commit.specs.Commit.{withBlocks, commitNumber, leadersFor, blocksThen, committedState, committedTable}
+use Rattle.commit.specs.Commit.{commitNumber, leadersFor, blocksThen, committedState, committedTable}
 use Rattle.commit.specs.AnchorLaws.{leaderOn, anchor-on, leaders-on, leaders-length}
-use Rattle.commit.specs.CheckLaws.{Accepted, accepted}
+use Rattle.commit.specs.CheckLaws.{accepted}
 use Rattle.commit.specs.ShownLaws.{shows, marks-fit, chain-shown}
 use Rattle.rules.specs.Calls as rules
 
@@ -100,16 +98,22 @@ module _ (s : State) (t : List ℕ) (ok : commitNumber s t ≡ 0) where
         table = f .long;
       }
 
-  -- only marks and block rounds change, up to the row of the anchor
-  pub only-marks : OnlyMarks (used (r - 1)) t (committedTable s t)
+  -- only marks and block rounds change, in the rows of the state
+  pub only-marks : OnlyMarks (used n) t (committedTable s t)
   unfolding committedTable
-  only-marks = let w = accepted s t ok .timely in commit-stage m (r - 1) (s .blocks) (leadersFor s t) t (w .few) (w .above) .only
+  only-marks =
+      let y = accepted s t ok in
+      let w = y .timely in
+      let to = y .formed .numbers .round-to in
+      let o = commit-stage m (r - 1) (s .blocks) (leadersFor s t) t (w .few) (w .above) .only in
+      record { size = o .size; words = o .words; beyond = λ j h. o .beyond j (omega arith) }
 
-  dag-kept : dagOf n (committedTable s t) ≡ dagOf n t
+  -- so certificates and endorsed places stay
+  pub dag-kept : dagOf n (committedTable s t) ≡ dagOf n t
   unfolding dagOf
   dag-kept = fun-ext (λ b. fun-ext (λ q. ap (λ (o : Option Content). cond (isRound n q) o none) (certificate-marked only-marks b q)))
 
-  endorsed-kept : endorsedOf n (committedTable s t) ≡ endorsedOf n t
+  pub endorsed-kept : endorsedOf n (committedTable s t) ≡ endorsedOf n t
   unfolding endorsedOf
   endorsed-kept = fun-ext (λ b. fun-ext (λ q. ap (λ (z : Bool). isRound n q && z) (endorsed-marked only-marks b q)))
 

@@ -5,3 +5,4 @@ pub mod CheckLaws
 pub mod AnswerLaws
 pub mod ShownLaws
 pub mod CommitLaws
+pub mod KeptLaws

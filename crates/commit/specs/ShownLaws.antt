@@ -3,13 +3,12 @@ use mathlib.Core.Path.{_≡_, refl, sym, ap, _∙_}
 use mathlib.Core.Bool.{Bool, true, false, cond}
 use mathlib.Core.List.{List, _∷_}
 use mathlib.Core.Option.{Option, none, some}
-use Prim.Native.Nat.{ℕ, zero, suc, _<_, _≤_}
+use Prim.Native.Nat.{ℕ, zero, suc, _≤_}
 use native.Mathlib.Omega.{arith}
 use lib.Dec.{eqb}
 use lib.ListN.{length}
 use Rattle.base.specs.Bools.{cond-same}
 use Rattle.base.specs.Sets.{isIn}
-use Rattle.agreement.specs.Rules.{Chain}
 use Rattle.agreement.specs.Dag.{isHeld}
 use Rattle.agreement.specs.DagLaws.{held-by}
 use Rattle.agreement.specs.Marks.{Fits}

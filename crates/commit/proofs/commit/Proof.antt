@@ -9,93 +9,64 @@ use Rattle.commit.specs.AnswerLaws.{answers-unread, answers-late, answer
 use borrow.Author.Needs.{needs}
 use Rattle.commit.proofs.commit.Statement.{statement}
 use Rattle.commit.proofs.commit.Tie as tie
-use Rattle.commit.proofs.commit.Reads as reads
-use Rattle.commit.proofs.commit.Lts as lts
-use Rattle.blocks.proofs.commit_blocks.Reads as commit-blocks-reads
-use Rattle.commit.proofs.checks.time_refusal.Reads as time-refusal-reads
-use Rattle.commit.proofs.checks.vote_refusal.Reads as vote-refusal-reads
-use Rattle.commit.proofs.refused.Reads as refused-reads
-use Rattle.state.proofs.well_formed.Reads as well-formed-reads
-use Rattle.walk.proofs.last_round.Reads as last-round-reads
-use Rattle.walk.proofs.leaders.fill_leaders.Reads as fill-leaders-reads
 
--- src/lib.rt:35:9
 well-formed-requires : tie.Need-well-formed-requires
 well-formed-requires c κs = search needs
 
--- src/lib.rt:36:9
 refused-requires : tie.Need-refused-requires
 refused-requires c κs = search needs
 
--- src/lib.rt:36:9
 same-length : tie.Need-same-length
 same-length c = search needs
 
--- src/lib.rt:36:9
 returns : tie.Need-returns
 returns c = let a = answers-unread _ _ (sym (c .before .before .well-formed .ensures) ∙ not-true (c .before .before .well-formed .result) (c .before .if1 .taken)) in (c .refused .ensures ∙ a .0, a .1)
 
--- src/lib.rt:38:9
 time-refusal-requires : tie.Need-time-refusal-requires
 time-refusal-requires c κs = formed _ _ (sym (c .before .before .well-formed .ensures) ∙ not-false (c .before .before .well-formed .result) (c .before .if1 .left))
 
--- src/lib.rt:40:9
 refused-requires-2 : tie.Need-refused-requires-2
 refused-requires-2 c κs = search needs
 
--- src/lib.rt:40:9
 same-length-2 : tie.Need-same-length-2
 same-length-2 c = search needs
 
--- src/lib.rt:40:9
 returns-2 : tie.Need-returns-2
 returns-2 c = let a = answers-late _ _ (sym (c .before .before .before .before .before .well-formed .ensures) ∙ not-false (c .before .before .before .before .before .well-formed .result) (c .before .before .before .before .if1 .left)) _ (c .before .before .time-refusal .ensures) (c .before .if2 .taken) in (c .refused2 .ensures ∙ a .0, a .1)
 
--- src/lib.rt:44:9
 last-round-requires : tie.Need-last-round-requires
 last-round-requires c κs = let f = formed _ _ (sym (c .before .before .before .before .before .before .well-formed .ensures) ∙ not-false (c .before .before .before .before .before .before .well-formed .result) (c .before .before .before .before .before .if1 .left)) in omega (arith, f .long, f .numbers .blocks-to)
 
--- src/lib.rt:45:21
 sub-t20 : tie.Need-sub-t20
 sub-t20 c = let f = formed _ _ (sym (c .before .before .before .before .before .before .before .before .well-formed .ensures) ∙ not-false (c .before .before .before .before .before .before .before .before .well-formed .result) (c .before .before .before .before .before .before .before .if1 .left)) in f .numbers .round-from
 
--- src/lib.rt:47:5
 fill-leaders-requires : tie.Need-fill-leaders-requires
 fill-leaders-requires c κs = let f = formed _ _ (sym (c .before .before .before .before .before .before .before .before .before .before .well-formed .ensures) ∙ not-false (c .before .before .before .before .before .before .before .before .before .before .well-formed .result) (c .before .before .before .before .before .before .before .before .before .if1 .left)) in let w = timely _ _ f (sym (c .before .before .before .before .before .before .before .time-refusal .ensures) ∙ c .before .before .before .before .before .before .if2 .left) in (readable _ _ _ (f .settings) (f .long) (f .rounds), omega (arith, w .above, c .before .before .before .last-round .ensures), omega (arith, f .numbers .round-to, f .settings .ceiling-to))
 
--- src/lib.rt:48:9
 vote-refusal-requires : tie.Need-vote-refusal-requires
 vote-refusal-requires c κs = let f = formed _ _ (sym (c .before .before .before .before .before .before .before .before .before .before .before .before .before .well-formed .ensures) ∙ not-false (c .before .before .before .before .before .before .before .before .before .before .before .before .before .well-formed .result) (c .before .before .before .before .before .before .before .before .before .before .before .before .if1 .left)) in let w = timely _ _ f (sym (c .before .before .before .before .before .before .before .before .before .before .time-refusal .ensures) ∙ c .before .before .before .before .before .before .before .before .before .if2 .left) in (f, w .from, (leaders-filled _ _ _ _ (c .before .before .fill-leaders .ensures) (c .before .before .before .before .before .before .last-round .ensures)), w .above)
 
--- src/lib.rt:50:9
 refused-requires-3 : tie.Need-refused-requires-3
 refused-requires-3 c κs = search needs
 
--- src/lib.rt:50:9
 same-length-3 : tie.Need-same-length-3
 same-length-3 c = search needs
 
--- src/lib.rt:50:9
 returns-3 : tie.Need-returns-3
 returns-3 c = let a = answers-unvoted _ _ (sym (c .before .before .before .before .before .before .before .before .before .before .before .before .before .before .before .before .well-formed .ensures) ∙ not-false (c .before .before .before .before .before .before .before .before .before .before .before .before .before .before .before .before .well-formed .result) (c .before .before .before .before .before .before .before .before .before .before .before .before .before .before .before .if1 .left)) (sym (c .before .before .before .before .before .before .before .before .before .before .before .before .before .time-refusal .ensures) ∙ c .before .before .before .before .before .before .before .before .before .before .before .before .if2 .left) _ (c .before .before .vote-refusal .ensures) (c .before .if3 .taken) in (c .refused3 .ensures ∙ a .0, a .1)
 
--- src/lib.rt:52:38
 slice-aggregate-commit-blocks : tie.Need-slice-aggregate-commit-blocks
 slice-aggregate-commit-blocks c = let a = c .before .before .before .before .before .before .before .before .before .before .before .before .before .before .before .before .before .before .before .before .args in sym (leaders-length (a .s) (a .t .now) _ (leaders-filled (a .s) (a .t .now) _ _ (c .before .before .before .before .before .before .fill-leaders .ensures) (c .before .before .before .before .before .before .before .before .before .before .last-round .ensures)))
 
--- src/lib.rt:52:9
 commit-blocks-requires : tie.Need-commit-blocks-requires
 commit-blocks-requires c κs = let f = formed _ _ (sym (c .before .before .before .before .before .before .before .before .before .before .before .before .before .before .before .before .before .well-formed .ensures) ∙ not-false (c .before .before .before .before .before .before .before .before .before .before .before .before .before .before .before .before .before .well-formed .result) (c .before .before .before .before .before .before .before .before .before .before .before .before .before .before .before .before .if1 .left)) in let w = timely _ _ f (sym (c .before .before .before .before .before .before .before .before .before .before .before .before .before .before .time-refusal .ensures) ∙ c .before .before .before .before .before .before .before .before .before .before .before .before .before .if2 .left) in let v = c .before .before .before .before .before .before .before .before .before .before .last-round .ensures in let e = (leaders-filled _ _ _ _ (c .before .before .before .before .before .before .fill-leaders .ensures) (c .before .before .before .before .before .before .before .before .before .before .last-round .ensures)) in let n = leaders-length _ _ _ e in (omega (arith, w .few), omega (arith, w .above), omega (arith, f .long, f .numbers .round-to), omega (arith, f .numbers .round-to, f .settings .ceiling-to), led-low _ _ f w (sym (c .before .before .before .vote-refusal .ensures) ∙ c .before .before .if3 .left) _ e)
 
--- src/lib.rt:57:34
 sub-t20-2 : tie.Need-sub-t20-2
 sub-t20-2 c = let f = formed _ _ (sym (c .before .before .before .before .before .before .before .before .before .before .before .before .before .before .before .before .before .before .before .before .before .well-formed .ensures) ∙ not-false (c .before .before .before .before .before .before .before .before .before .before .before .before .before .before .before .before .before .before .before .before .before .well-formed .result) (c .before .before .before .before .before .before .before .before .before .before .before .before .before .before .before .before .before .before .before .before .if1 .left)) in let w = timely _ _ f (sym (c .before .before .before .before .before .before .before .before .before .before .before .before .before .before .before .before .before .before .time-refusal .ensures) ∙ c .before .before .before .before .before .before .before .before .before .before .before .before .before .before .before .before .before .if2 .left) in rw (c .before .before .before .commit-blocks .ensures .0) (blocks-more _ _ w _ (c .before .before .before .before .before .before .before .before .before .before .before .before .before .before .last-round .ensures) _)
 
--- src/lib.rt:32:1
 same-length-4 : tie.Need-same-length-4
 same-length-4 c = search needs
 
--- src/lib.rt:32:1
 returns-4 : tie.Need-returns-4
 returns-4 c = let i = c .before .before .before .before .before .before .before .before .before .before .before .before .before .before .last-round .ensures in let e = (leaders-filled _ _ _ _ (c .before .before .before .before .before .before .before .before .before .before .fill-leaders .ensures) (c .before .before .before .before .before .before .before .before .before .before .before .before .before .before .last-round .ensures)) in answers-added _ _ (sym (c .before .before .before .before .before .before .before .before .before .before .before .before .before .before .before .before .before .before .before .before .before .well-formed .ensures) ∙ not-false (c .before .before .before .before .before .before .before .before .before .before .before .before .before .before .before .before .before .before .before .before .before .well-formed .result) (c .before .before .before .before .before .before .before .before .before .before .before .before .before .before .before .before .before .before .before .before .if1 .left)) (sym (c .before .before .before .before .before .before .before .before .before .before .before .before .before .before .before .before .before .before .time-refusal .ensures) ∙ c .before .before .before .before .before .before .before .before .before .before .before .before .before .before .before .before .before .if2 .left) (sym (c .before .before .before .before .before .before .before .vote-refusal .ensures) ∙ c .before .before .before .before .before .before .if3 .left) _ _ (c .before .before .before .commit-blocks .ensures .0 ∙ count-then _ _ _ i _ e) (c .before .before .before .commit-blocks .ensures .1 ∙ table-then _ _ _ i _ e)
 

@@ -5,40 +5,28 @@ use Rattle.walk.specs.ReadableLaws.{readable}
 use borrow.Author.Needs.{needs}
 use Rattle.commit.proofs.checks.time_refusal.Statement.{statement}
 use Rattle.commit.proofs.checks.time_refusal.Tie as tie
-use Rattle.commit.proofs.checks.time_refusal.Reads as reads
-use Rattle.commit.proofs.checks.time_refusal.Lts as lts
-use Rattle.walk.proofs.known.Reads as known-reads
-use Rattle.walk.proofs.last_round.Reads as last-round-reads
 
--- src/checks.rt:21:9
 returns : tie.Need-returns
 returns c = round-even _ _ (c .if1 .taken)
 
--- src/checks.rt:24:9
 returns-2 : tie.Need-returns-2
 returns-2 c = round-one _ _ (c .before .if1 .left) (c .if2 .taken)
 
--- src/checks.rt:26:9
 last-round-requires : tie.Need-last-round-requires
 last-round-requires c κs = search needs
 
--- src/checks.rt:27:8
 sub-if3 : tie.Need-sub-if3
 sub-if3 c = search needs
 
--- src/checks.rt:28:9
 returns-3 : tie.Need-returns-3
 returns-3 c = round-old _ _ (c .before .before .before .before .if1 .left) (c .before .before .before .if2 .left) (rw (c .before .before .last-round .ensures) at (c .if3 .taken))
 
--- src/checks.rt:30:9
 known-requires : tie.Need-known-requires
 known-requires c κs = let f = c .before .before .before .before .before .before .pre in readable _ _ _ (f .settings) (f .long) (f .rounds)
 
--- src/checks.rt:31:9
 returns-4 : tie.Need-returns-4
 returns-4 c = round-unknown _ _ (c .before .before .before .before .before .before .if1 .left) (c .before .before .before .before .before .if2 .left) (rw (c .before .before .before .before .last-round .ensures) at (c .before .before .if3 .left)) (sym (c .before .known .ensures) ∙ not-true (c .before .known .result) (c .if4 .taken))
 
--- src/checks.rt:15:1
 returns-5 : tie.Need-returns-5
 returns-5 c = round-timely _ _ (c .before .before .before .before .before .before .if1 .left) (c .before .before .before .before .before .if2 .left) (rw (c .before .before .before .before .last-round .ensures) at (c .before .before .if3 .left)) (sym (c .before .known .ensures) ∙ not-false (c .before .known .result) (c .if4 .left))
 

@@ -7,64 +7,43 @@ use Rattle.commit.specs.CheckLaws.{led-on, anchor-none, votes-few, votes
 use borrow.Author.Needs.{needs}
 use Rattle.commit.proofs.checks.vote_refusal.Statement.{statement}
 use Rattle.commit.proofs.checks.vote_refusal.Tie as tie
-use Rattle.commit.proofs.checks.vote_refusal.Reads as reads
-use Rattle.commit.proofs.checks.vote_refusal.Lts as lts
-use Rattle.blocks.proofs.anchors.is_led.Reads as is-led-reads
-use Rattle.commit.proofs.votes.votes_for.Reads as votes-for-reads
-use Rattle.committee.proofs.fault_bound.Reads as fault-bound-reads
-use Rattle.committee.proofs.total_weight.Reads as total-weight-reads
-use Rattle.store.proofs.held_set.Reads as held-set-reads
-use Rattle.walk.proofs.committee_of.Reads as committee-of-reads
 
--- src/checks.rt:42:21
 sub-a : tie.Need-sub-a
 sub-a c = search needs
 
--- src/checks.rt:43:15
 cast-a : tie.Need-cast-a
 cast-a c = search needs
 
--- src/checks.rt:43:13
 mul-a : tie.Need-mul-a
 mul-a c = search needs
 
--- src/checks.rt:43:13
 element-copy-out-a : tie.Need-element-copy-out-a
 element-copy-out-a c = search needs
 
--- src/checks.rt:44:33
 held-set-requires : tie.Need-held-set-requires
 held-set-requires c κs = search needs
 
--- src/checks.rt:44:9
 is-led-requires : tie.Need-is-led-requires
 is-led-requires c κs = search needs
 
--- src/checks.rt:45:9
 returns : tie.Need-returns
 returns c = let p = c .before .before .before .before .before .before .before .before .pre in let e = led-on _ _ (p .0) (p .1) _ (p .2) (p .3) in anchor-none _ _ (p .0) (p .1) (rw (c .before .before .held-set .ensures, e) at (sym (c .before .is-led .ensures) ∙ not-true (c .before .is-led .result) (c .if1 .taken)))
 
--- src/checks.rt:47:13
 committee-of-requires : tie.Need-committee-of-requires
 committee-of-requires c κs = let f = c .before .before .before .before .before .before .before .before .pre .0 in readable _ _ _ (f .settings) (f .long) (f .rounds)
 
--- src/checks.rt:48:40
 total-weight-requires : tie.Need-total-weight-requires
 total-weight-requires c κs = search needs
 
--- src/checks.rt:48:9
 fault-bound-requires : tie.Need-fault-bound-requires
 fault-bound-requires c κs = search needs
 
--- src/checks.rt:49:9
 votes-for-requires : tie.Need-votes-for-requires
 votes-for-requires c κs = let f = c .before .before .before .before .before .before .before .before .before .before .before .before .before .pre .0 in (omega (arith, f .long, f .numbers .round-to), in-member _ _ (sym (c .before .before .before .before .before .before .is-led .ensures) ∙ not-false (c .before .before .before .before .before .before .is-led .result) (c .before .before .before .before .before .if1 .left)), c .before .before .before .before .committee-of .ensures .1)
 
--- src/checks.rt:51:9
 returns-2 : tie.Need-returns-2
 returns-2 c = let p = c .before .before .before .before .before .before .before .before .before .before .before .before .before .before .before .before .before .pre in let e = led-on _ _ (p .0) (p .1) _ (p .2) (p .3) in votes-few _ _ (p .0) (p .1) (rw (c .before .before .before .before .before .before .before .before .before .before .before .held-set .ensures, e) at (sym (c .before .before .before .before .before .before .before .before .before .before .is-led .ensures) ∙ not-false (c .before .before .before .before .before .before .before .before .before .before .is-led .result) (c .before .before .before .before .before .before .before .before .before .if1 .left))) (rw (c .before .before .before .votes-for .ensures, c .before .before .before .before .before .fault-bound .ensures, c .before .before .before .before .before .before .total-weight .ensures, c .before .before .before .before .before .before .before .before .committee-of .ensures .0, e) at (c .if2 .taken))
 
--- src/checks.rt:37:1
 returns-3 : tie.Need-returns-3
 returns-3 c = let p = c .before .before .before .before .before .before .before .before .before .before .before .before .before .before .before .before .before .pre in let e = led-on _ _ (p .0) (p .1) _ (p .2) (p .3) in votes-enough _ _ (p .0) (p .1) (rw (c .before .before .before .before .before .before .before .before .before .before .before .held-set .ensures, e) at (sym (c .before .before .before .before .before .before .before .before .before .before .is-led .ensures) ∙ not-false (c .before .before .before .before .before .before .before .before .before .before .is-led .result) (c .before .before .before .before .before .before .before .before .before .if1 .left))) (rw (c .before .before .before .votes-for .ensures, c .before .before .before .before .before .fault-bound .ensures, c .before .before .before .before .before .before .total-weight .ensures, c .before .before .before .before .before .before .before .before .committee-of .ensures .0, e) at (c .if2 .left))
 

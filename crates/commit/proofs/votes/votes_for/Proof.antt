@@ -11,9 +11,6 @@ use Rattle.committee.specs.CommitteeLaws.{weigh-le}
 use Rattle.commit.specs.Votes.{votesAt, votesFor}
 use Rattle.commit.proofs.votes.votes_for.Statement.{statement}
 use Rattle.commit.proofs.votes.votes_for.Tie as tie
-use Rattle.commit.proofs.votes.votes_for.Reads as reads
-use Rattle.commit.proofs.votes.votes_for.Lts as lts
-use Rattle.commit.proofs.votes.vote_of.Reads as vote-of-reads
 
 abbrev Inv-loop : tie.InvT-loop
 Inv-loop t w r a sum₀ i₀ sum i = (i ≤ 16) × (sum ≡ weigh i (weightIn w) (votesAt t (r .0) (a .0)))
@@ -21,32 +18,25 @@ Inv-loop t w r a sum₀ i₀ sum i = (i ≤ 16) × (sum ≡ weigh i (weightIn w)
 abbrev μ-loop : tie.MeasureT-loop
 μ-loop t w r a sum₀ i₀ sum i = 16 - i
 
--- src/votes.rt:31:5
 loop-holds : tie.Need-loop-holds Inv-loop μ-loop
 unfolding sumTo
 loop-holds c = (omega arith, refl)
 
--- src/votes.rt:32:13
 vote-of-requires : tie.Need-vote-of-requires Inv-loop μ-loop
 vote-of-requires c κs = search needs
 
--- src/votes.rt:33:9
 add-sum : tie.Need-add-sum Inv-loop μ-loop
 add-sum c = let a = c .before .before .before .before .before .args in let i = c .before .before .before .loop .i in let f = votesAt (a .t .now) (a .r .0) (a .a .0) in let h = weigh-le (weightIn (a .w .now)) f (i + 1) 16 (omega arith) in let s = sum-more (λ j. cond (f j) (weightIn (a .w .now) j) 0) i in omega (arith, c .before .vote-of .ensures)
 
--- src/votes.rt:31:9
 add-i : tie.Need-add-i Inv-loop μ-loop
 add-i c = search needs
 
--- src/votes.rt:31:5
 loop-less : tie.Need-loop-less Inv-loop μ-loop
 loop-less c = search needs
 
--- src/votes.rt:31:5
 loop-again : tie.Need-loop-again Inv-loop μ-loop
 loop-again c = (omega arith, rw (c .before .vote-of .ensures, sum-more, c .before .before .before .loop .inv .1) refl)
 
--- src/votes.rt:26:1
 returns : tie.Need-returns Inv-loop μ-loop
 unfolding votesFor
 returns c = let e : c .before .loop .i ≡ 16 = omega arith in rw e at (c .before .loop .inv .1)
