@@ -39,6 +39,8 @@ module _ (s : State) (t : List ℕ) where
   unfolding commitOutcome commitTableAfter
   answers-accepted e = rw (eq-eqb (commitNumber s t) 0 e) (refl, refl)
 
+  -- ---- check by check, as the engine makes them
+
   pub answers-unread : wellFormed s t ≡ false → Answers (refusedWith s 1) t
   answers-unread e = answers-refused 1 (number-unread s t e) (λ z. omega arith)
 
@@ -50,10 +52,17 @@ module _ (s : State) (t : List ℕ) where
       pub answers-unvoted : (n : ℕ) → n ≡ refusal (voteChecks s t) → n ≢ 0 → Answers (refusedWith s n) t
       answers-unvoted n i h = answers-refused n (number-timely s t e o ∙ sym i) h
 
-      pub answers-added : refusal (voteChecks s t) ≡ 0 → (k : ℕ) (u : List ℕ) → k ≡ blocksThen s t → u ≡ committedTable s t → Answers (addedWith s k) u
-      answers-added v k u i j = let a = answers-accepted (number-timely s t e o ∙ v) in (ap (addedWith s) i ∙ a .0, j ∙ a .1)
+      -- the blocks, where m is the last block's round and l has the leaders
+      pub answers-made : refusal (voteChecks s t) ≡ 0 → (m : ℕ) → m ≡ lastRound t (s .blocks) → (l : List ℕ) → l ≡ leadersFor s t → (k : ℕ) (u : List ℕ)
+          → k ≡ commitCount m (s .round .0 - 1) (s .blocks) l t → u ≡ commitTable m (s .round .0 - 1) (s .blocks) l t → Answers (addedWith s k) u
+      unfolding blocksThen committedTable
+      answers-made v m i l j k u p q =
+          let a = answers-accepted (number-timely s t e o ∙ v) in
+          let b = p ∙ ap₂ (λ (x : ℕ) (y : List ℕ). commitCount x (s .round .0 - 1) (s .blocks) y t) i j in
+          let d = q ∙ ap₂ (λ (x : ℕ) (y : List ℕ). commitTable x (s .round .0 - 1) (s .blocks) y t) i j in
+          (ap (addedWith s) b ∙ a .0, d ∙ a .1)
 
-  -- ---- the blocks as the engine makes them
+  -- ---- what making the blocks relies on
 
   -- the anchor has an author
   pub led-low : Formed s t → Timely s t → refusal (voteChecks s t) ≡ 0 → (l : List ℕ) → l ≡ leadersFor s t → getD l (s .round .0 - 1) 0 < 16
@@ -61,12 +70,3 @@ module _ (s : State) (t : List ℕ) where
 
   pub blocks-more : Timely s t → (m : ℕ) → m ≡ lastRound t (s .blocks) → (l : List ℕ) → s .blocks ≤ commitCount m (s .round .0 - 1) (s .blocks) l t
   blocks-more w m i l = commit-stage m (s .round .0 - 1) (s .blocks) l t (rw i (w .few)) (rw i (w .above)) .more
-
-  module _ (m : ℕ) (i : m ≡ lastRound t (s .blocks)) (l : List ℕ) (e : l ≡ leadersFor s t) where
-    pub count-then : commitCount m (s .round .0 - 1) (s .blocks) l t ≡ blocksThen s t
-    unfolding blocksThen
-    count-then = ap₂ (λ (x : ℕ) (y : List ℕ). commitCount x (s .round .0 - 1) (s .blocks) y t) i e
-
-    pub table-then : commitTable m (s .round .0 - 1) (s .blocks) l t ≡ committedTable s t
-    unfolding committedTable
-    table-then = ap₂ (λ (x : ℕ) (y : List ℕ). commitTable x (s .round .0 - 1) (s .blocks) y t) i e
