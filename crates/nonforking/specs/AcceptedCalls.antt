@@ -47,16 +47,16 @@ pub record Next (e : Engine) (c : Call) (x : Engine) : Type 0 where
 module _ (e : Engine) where
   open Engine e using (state, table)
 
-  -- what a call of the rules makes of the view
-  by-rules : (c : Call) {x : Engine} → after e c ≡ x → Next e c x → Next e c (after e c)
-  by-rules c q n = subst (Next e c) (sym q) n
+  -- what the contract says that is left
+  leaves : (c : Call) {x : Engine} → after e c ≡ x → Next e c x → Next e c (after e c)
+  leaves c q n = subst (Next e c) (sym q) n
 
   -- ---- what the calls have in common: a place that passes check 10 or 17 is free
 
-  free : Formed state table → (a r : ℕ) → 0 < r → r ≤ state .settings .ceiling .0 → isHeld (view state table .dag a r) ≡ false → heldAt table a r ≡ false
-  free f a r from to h = sym (held-dag (state .settings .ceiling .0) table a r from to) ∙ h
+  free : (a r : ℕ) → 0 < r → r ≤ state .settings .ceiling .0 → isHeld (view state table .dag a r) ≡ false → heldAt table a r ≡ false
+  free a r from to h = sym (held-dag (state .settings .ceiling .0) table a r from to) ∙ h
 
-  module _ (f : Formed state table) where
+  module _ (w : wellFormed state table ≡ true) (f : Formed state table) (low : state .body .previous < 65536) where
     -- a proposal that passes checks 4 to 7 has a place
     fits : (p : Proposal) → p .body .previous < 65536 → ltb 15 (p .author .0) ≡ false → badRound (state .settings) (p .round .0) ≡ false
         → unfit (state .settings .allowance) (transactionsOf (p .body)) ≡ false → wrongSet (p .round .0) (p .body .previous) ≡ false → Storable (state .settings .ceiling .0) (contentOf p)
@@ -71,8 +71,8 @@ module _ (e : Engine) where
         let S = state .settings in
         let k = state .own .0 in
         let s = view state table in
-        passed (rules.checks S k s (ruled (propose b))) refl (accepted-checks e (propose b) a) λ h6 h7 h10 h8 h9 h11 h12.
-        by-rules (propose b) (propose-accepted e b a)
+        passed (rules.checks S k s (ruled (propose b))) refl (accepted-checks e w (propose b) a) λ h6 h7 h10 h8 h9 h11 h12.
+        leaves (propose b) (propose-accepted e b a)
         (record {
           own = refl;
           settings = refl;
@@ -81,15 +81,15 @@ module _ (e : Engine) where
           becomes = view-propose state table b ∙ sym (after-propose S k s (b .previous) _);
         })
 
-    endorse-next : (p : Proposal) → p .body .previous < 65536 → state .body .previous < 65536 → number e (endorse p) ≡ 0 → Next e (endorse p) (after e (endorse p))
+    endorse-next : (p : Proposal) → p .body .previous < 65536 → number e (endorse p) ≡ 0 → Next e (endorse p) (after e (endorse p))
     unfolding numbered
-    endorse-next p small low a =
+    endorse-next p small a =
         let S = state .settings in
         let k = state .own .0 in
         let s = view state table in
-        passed (rules.checks S k s (ruled (endorse p))) refl (accepted-checks e (endorse p) a) λ h4 h5 h6 h7 h14 h10 h8 h11 h12.
+        passed (rules.checks S k s (ruled (endorse p))) refl (accepted-checks e w (endorse p) a) λ h4 h5 h6 h7 h14 h10 h8 h11 h12.
         let x = fits p small h4 h5 h6 h7 in
-        by-rules (endorse p) (endorse-accepted e p a)
+        leaves (endorse p) (endorse-accepted e p a)
         (record {
           own = refl;
           settings = refl;
@@ -98,22 +98,22 @@ module _ (e : Engine) where
           becomes = view-endorse state table (contentOf p) (f .long) x ∙ sym (after-endorse S k s (contentOf p));
         })
 
-    accept-next : (c : Certificate) → c .proposal .body .previous < 65536 → state .body .previous < 65536 → number e (accept c) ≡ 0 → Next e (accept c) (after e (accept c))
+    accept-next : (c : Certificate) → c .proposal .body .previous < 65536 → number e (accept c) ≡ 0 → Next e (accept c) (after e (accept c))
     unfolding numbered
-    accept-next c small low a =
+    accept-next c small a =
         let S = state .settings in
         let k = state .own .0 in
         let s = view state table in
         let p = c .proposal in
-        passed (rules.checks S k s (ruled (accept c))) refl (accepted-checks e (accept c) a) λ h4 h5 h6 h7 h14 h16 h17 h8 h9 h13 h11.
+        passed (rules.checks S k s (ruled (accept c))) refl (accepted-checks e w (accept c) a) λ h4 h5 h6 h7 h14 h16 h17 h8 h9 h13 h11.
         let x = fits p small h4 h5 h6 h7 in
-        by-rules (accept c) (accept-accepted e c a)
+        leaves (accept c) (accept-accepted e c a)
         (record {
           own = refl;
           settings = refl;
           formed = whole state _ (clear-kept state _ (put-kept state table f (contentOf p) x h6 h7) (p .author .0) (p .round .0) (x .author) (x .to));
           small = low;
-          becomes = view-accept state table (contentOf p) (f .long) x (free f (p .author .0) (p .round .0) (x .from) (x .to) h17) ∙ sym (after-accept S k s (contentOf p) (c .endorsers));
+          becomes = view-accept state table (contentOf p) (f .long) x (free (p .author .0) (p .round .0) (x .from) (x .to) h17) ∙ sym (after-accept S k s (contentOf p) (c .endorsers));
         })
 
     -- an accepted certify has a proposal
@@ -125,11 +125,11 @@ module _ (e : Engine) where
         go true i = refl
         go false i =
             passed (certifying (state .settings) (state .own .0) (view state table) d none) refl
-            (rw (proposal-none state i) at (accepted-checks e (certify d) a)) λ h15. absurd (true≢false h15)
+            (rw (proposal-none state i) at (accepted-checks e w (certify d) a)) λ h15. absurd (true≢false h15)
 
-    certify-next : (d : ℕ) → state .body .previous < 65536 → number e (certify d) ≡ 0 → Next e (certify d) (after e (certify d))
+    certify-next : (d : ℕ) → number e (certify d) ≡ 0 → Next e (certify d) (after e (certify d))
     unfolding numbered
-    certify-next d low a =
+    certify-next d a =
         let S = state .settings in
         let k = state .own .0 in
         let s = view state table in
@@ -138,15 +138,15 @@ module _ (e : Engine) where
         let b = f .proposal i in
         let n = f .numbers in
         passed (certifying S k s d (some p)) refl
-        (subst (λ (o : Option Content). refusal (certifying S k s d o) ≡ 0) (proposal-some state i) (accepted-checks e (certify d) a)) λ h10 h14 h8 h9 h13.
+        (subst (λ (o : Option Content). refusal (certifying S k s d o) ≡ 0) (proposal-some state i) (accepted-checks e w (certify d) a)) λ h10 h14 h8 h9 h13.
         let x : Storable (S .ceiling .0) p = storable (S .ceiling .0) (S .allowance) k (state .round .0) (state .body) (n .own) (n .round-from) (n .round-to) (f .settings .allowance-to) b low in
-        by-rules (certify d) (certify-accepted e d a)
+        leaves (certify d) (certify-accepted e d a)
         (record {
           own = refl;
           settings = refl;
           formed = whole state _ (put-kept state table f p x (b .fit) (b .right));
           small = low;
-          becomes = view-certify state table p (f .long) x (free f k (state .round .0) (x .from) (x .to) h10) ∙ sym (after-certify S k s d p (proposal-some state i));
+          becomes = view-certify state table p (f .long) x (free k (state .round .0) (x .from) (x .to) h10) ∙ sym (after-certify S k s d p (proposal-some state i));
         })
 
     advance-next : number e advance ≡ 0 → Next e advance (after e advance)
@@ -155,8 +155,8 @@ module _ (e : Engine) where
         let S = state .settings in
         let k = state .own .0 in
         let s = view state table in
-        passed (rules.checks S k s rules.advance) refl (accepted-checks e advance a) λ h18.
-        by-rules advance (advance-accepted e a)
+        passed (rules.checks S k s rules.advance) refl (accepted-checks e w advance a) λ h18.
+        leaves advance (advance-accepted e a)
         (record {
           own = refl;
           settings = refl;
@@ -165,32 +165,35 @@ module _ (e : Engine) where
           becomes = view-advance state table noBody ∙ sym (after-advance S k s);
         })
 
-    read-next : (c : Call) → ruled c ≡ rules.read → after e c ≡ e → state .body .previous < 65536 → Next e c (after e c)
-    read-next c q r low =
-        by-rules c r
+    read-next : (c : Call) → ruled c ≡ rules.read → after e c ≡ e → Next e c (after e c)
+    read-next c q r =
+        leaves c r
         (record {
           own = refl;
           settings = refl;
-          formed = whole state table f;
+          formed = w;
           small = low;
           becomes = rw q (sym (after-read (state .settings) (state .own .0) (view state table)));
         })
 
     module _ (C : CommitFacts) where
-      commit-next : state .body .previous < 65536 → number e commit ≡ 0 → Next e commit (after e commit)
-      commit-next low a =
-          let w = whole state table f in
-          by-rules commit (commit-accepted e a) (record { own = refl; settings = refl; formed = C .commit-kept state table w a; small = low; becomes = C .commit-view state table w a })
+      commit-next : number e commit ≡ 0 → Next e commit (after e commit)
+      commit-next a =
+          leaves commit (commit-accepted e a) (record { own = refl; settings = refl; formed = C .commit-kept state table w a; small = low; becomes = C .commit-view state table w a })
 
-      pub accepted-next : (c : Call) → InRange c → NoOpen e c → state .body .previous < 65536 → number e c ≡ 0 → Next e c (after e c)
-      accepted-next (opens own sheet) r o low a = absurd (o own sheet refl a)
-      accepted-next (propose b) r o low a = propose-next b r a
-      accepted-next (endorse p) r o low a = endorse-next p r low a
-      accepted-next (certify d) r o low a = certify-next d low a
-      accepted-next (accept c) r o low a = accept-next c (r .0) low a
-      accepted-next advance r o low a = advance-next a
-      accepted-next commit r o low a = commit-next low a
-      accepted-next (committee x) r o low a = read-next (committee x) refl refl low
-      accepted-next (share m x) r o low a = read-next (share m x) refl refl low
-      accepted-next (certificate m x) r o low a = read-next (certificate m x) refl refl low
-      accepted-next (block n) r o low a = read-next (block n) refl refl low
+      each : (c : Call) → InRange c → NoOpen e c → number e c ≡ 0 → Next e c (after e c)
+      each (opens own sheet) r o a = absurd (o own sheet refl a)
+      each (propose b) r o a = propose-next b r a
+      each (endorse p) r o a = endorse-next p r a
+      each (certify d) r o a = certify-next d a
+      each (accept c) r o a = accept-next c (r .0) a
+      each advance r o a = advance-next a
+      each commit r o a = commit-next a
+      each (committee x) r o a = read-next (committee x) refl refl
+      each (share m x) r o a = read-next (share m x) refl refl
+      each (certificate m x) r o a = read-next (certificate m x) refl refl
+      each (block n) r o a = read-next (block n) refl refl
+
+pub accepted-next : CommitFacts → (e : Engine) → wellFormed (e .state) (e .table) ≡ true → e .state .body .previous < 65536
+    → (c : Call) → InRange c → NoOpen e c → number e c ≡ 0 → Next e c (after e c)
+accepted-next C e w low = each e w (formed (e .state) (e .table) w) low C
