@@ -117,7 +117,7 @@ module _ (e : Engine) where
         })
 
     -- an accepted certify has a proposal
-    proposal-there : (d : ℕ) → number e (certify d) ≡ 0 → state .proposing ≡ true
+    pub proposal-there : (d : ℕ) → number e (certify d) ≡ 0 → state .proposing ≡ true
     unfolding numbered
     proposal-there d a = go (state .proposing) refl
       where
