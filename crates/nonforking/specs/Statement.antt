@@ -33,6 +33,10 @@ chain e = chainOf (e .state .settings .ceiling .0) (e .table) (e .state .blocks)
 abbrev pub listed : Engine → List (ℕ × List Content)
 listed e = listing (ordered (e .state .settings .ceiling .0)) (chain e)
 
+-- its chain is a prefix of that of d, which lists the same blocks with the same certificates in the same order, and perhaps more
+abbrev pub Prefix : Engine → Engine → Type 0
+Prefix e d = (more : List (ℕ × List Content)) × (listed d ≡ listed e ++ more)
+
 -- it knows round r: r is at most the lookback, or the bonded committee of r minus lookback is known by its chain
 abbrev pub Knows : Engine → ℕ → Type 0
 Knows e r = knownBy (e .state .settings) (chain e) r ≡ true
@@ -127,10 +131,6 @@ module _ (X : Members) where
   abbrev pub Run : List Entry → Type 0
   Run [] = WithinBound []
   Run (e ∷ l) = Fair e l × WithinBound (e ∷ l) × Run l
-
-  -- d lists what c lists, block by block, and perhaps more
-  abbrev pub Prefix : Engine → Engine → Type 0
-  Prefix c d = (more : List (ℕ × List Content)) × (listed d ≡ listed c ++ more)
 
   -- the conclusion, of any two correct members
   pub record Agreed (l : List Entry) : Type 0 where
