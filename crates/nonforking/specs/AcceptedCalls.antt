@@ -1,13 +1,11 @@
 -- An accepted call on a well-formed state leaves a well-formed state, whose view is the rules' next view.
-use mathlib.Core.Path.{_≡_, refl, sym, ap, _∙_, subst}
+use mathlib.Core.Path.{_≡_, refl, sym, _∙_, subst}
 use mathlib.Core.Bool.{Bool, true, false, true≢false}
 use mathlib.Core.Option.{Option, none, some}
-use mathlib.Core.Logic.{_≢_}
 use Prim.Native.Nat.{ℕ, _<_, _≤_}
 use native.Mathlib.Omega.{arith}
 use lib.Dec.{ltb}
 use borrow.Author.Tests.{ltb-false, leb-false}
-use Rattle.base.specs.Bools.{neither}
 use Rattle.base.specs.Checks.{refusal, numbered}
 use Rattle.agreement.specs.Dag.{isHeld}
 use Rattle.terms.specs.declared.Body.{Body}
@@ -17,12 +15,12 @@ use Rattle.terms.specs.Proposals.{Content, contentWith, contentOf, transactions
 use Rattle.store.specs.Table.{heldAt}
 use Rattle.rules.specs.Tests.{badRound}
 use Rattle.rules.specs.Calls as rules
-use Rattle.rules.specs.Calls.{proposing, endorsing, certifying, accepting, advancing}
+use Rattle.rules.specs.Calls.{proposing, certifying}
 use Rattle.rules.specs.CallLaws.{after-propose, after-endorse, after-certify, after-accept, after-advance, after-read}
 use Rattle.rules.specs.Passed.{passed}
 use Rattle.rules.specs.TestLaws.{round-fits}
 use Rattle.state.specs.WellFormed.{wellFormed}
-use Rattle.state.specs.View.{view, proposalOf}
+use Rattle.state.specs.View.{view}
 use Rattle.state.specs.Formed.{Formed, formed, whole, body-fits}
 use Rattle.state.specs.ViewLaws.{held-dag, proposal-none, proposal-some}
 use Rattle.state.specs.WriteLaws.{Storable}

@@ -1,25 +1,23 @@
 -- What lasts in a run: a block once made stays under every later call, and every state is well formed.
-use mathlib.Core.Path.{_≡_, refl, sym, ap, _∙_, subst}
-use mathlib.Core.Bool.{true, false}
-use mathlib.Core.Option.{Option, some}
+use mathlib.Core.Path.{_≡_, refl, ap}
+use mathlib.Core.Bool.{true}
+use mathlib.Core.Option.{some}
 use mathlib.Core.List.{List, [], _∷_, _++_}
 use Prim.Native.Nat.{ℕ}
-use Rattle.agreement.specs.Rules.{Block, Chain}
-use Rattle.agreement.specs.Listing.{lists-prefix}
+use Rattle.agreement.specs.Rules.{Block}
 use Rattle.agreement.specs.Prefixes.{_≼_, blockAt, block-stays}
 use Rattle.terms.specs.Proposals.{Content}
-use Rattle.sheet.specs.Ranges.{outOfRange}
-use Rattle.committee.specs.Changes.{ordered}
 use Rattle.rules.specs.Runs as runs
-use Rattle.rules.specs.Runs.{Entries, chainAfter}
+use Rattle.rules.specs.Runs.{Entries}
 use Rattle.rules.specs.RunAgreement as agreement
 use Rattle.state.specs.WellFormed.{wellFormed}
-use Rattle.nonforking.specs.Statement.{chain, listed, Members, Entry, engineAfter, Run, Prefix}
+use Rattle.nonforking.specs.Statement.{chain, Members, Entry, engineAfter, Run}
 use Rattle.nonforking.specs.Views.{ruled}
 use Rattle.nonforking.specs.CommitFacts.{CommitFacts}
+use Rattle.nonforking.specs.Starts.{Fit, opens-fit}
 use Rattle.nonforking.specs.Mirrors.{group, mirror, run-plain, mirrored}
 use Rattle.nonforking.specs.RunMirrors.{run-ruled}
-use Rattle.nonforking.specs.Theorem.{fit, chain-shown, listed-shown}
+use Rattle.nonforking.specs.Theorem.{chain-shown}
 
 module _ (C : CommitFacts) (X : Members) where
   open Members X using (correct, settings)
@@ -29,19 +27,19 @@ module _ (C : CommitFacts) (X : Members) where
   earlier [] l r = r
   earlier (e ∷ m) l r = earlier m l (r .2)
 
-  mirror-more : (z : outOfRange settings ≡ false) (m l : List Entry) → mirror X z (m ++ l) ≡ mirror X z m ++ mirror X z l
+  mirror-more : (z : Fit X) (m l : List Entry) → mirror X z (m ++ l) ≡ mirror X z m ++ mirror X z l
   mirror-more z [] l = refl
   mirror-more z (e ∷ m) l = ap (λ (x : Entries (group X z)). record { who = e .who; call = ruled (e .call) } ∷ x) (mirror-more z m l)
 
   -- every state that a run reaches is well formed
   pub run-formed : (l : List Entry) → Run X l → (i : ℕ) → correct i ≡ true → wellFormed (engineAfter X l i .state) (engineAfter X l i .table) ≡ true
-  run-formed l r i c = let z = fit C X i c in mirrored X z C l (run-plain X z l r) i c .good .formed
+  run-formed l r i c = let z = opens-fit X i c in mirrored X z C l (run-plain X z l r) i c .good .formed
 
   -- the entries m follow the entries l
   module _ (m l : List Entry) (r : Run X (m ++ l)) (i : ℕ) (c : correct i ≡ true) where
     grows : chain (engineAfter X l i) ≼ chain (engineAfter X (m ++ l) i)
     grows =
-        let z = fit C X i c in
+        let z = opens-fit X i c in
         let q = mirror-more z m l in
         rw (chain-shown C X l (earlier m l r) z i c, chain-shown C X (m ++ l) r z i c, q)
         (agreement.chain-grows (group X z) (mirror X z m) (mirror X z l) (rw q at (run-ruled C X z (m ++ l) r)) i)

@@ -6,24 +6,23 @@ use Prim.Native.Nat.{ℕ}
 use lib.Dec.{eqb}
 use borrow.Author.Tests.{eqb-true}
 use Rattle.agreement.specs.Engines.{states}
-use Rattle.sheet.specs.Ranges.{outOfRange}
 use Rattle.rules.specs.Tests.{Member}
 use Rattle.rules.specs.Calls.{result}
 use Rattle.rules.specs.RuleRuns.{onViews, opened}
 use Rattle.rules.specs.Runs.{Group, Entries, viewAfter}
-use Rattle.nonforking.specs.Engine.{Engine, after}
+use Rattle.nonforking.specs.Engine.{after}
 use Rattle.nonforking.specs.Statement.{Members, Entry, InRange, engineAfter, Run}
 use Rattle.nonforking.specs.Views.{viewAt, ruled, Good, NoOpen}
 use Rattle.nonforking.specs.CommitFacts.{CommitFacts}
 use Rattle.nonforking.specs.Steps.{good-after, view-after}
-use Rattle.nonforking.specs.Starts.{open-passed, start-good, start-view}
+use Rattle.nonforking.specs.Starts.{Fit, start-good, start-view}
 
-module _ (X : Members) (fit : outOfRange (X .settings) ≡ false) where
+module _ (X : Members) (fit : Fit X) where
   open Members X using (correct, settings)
 
   -- the members, each with the fresh view
   abbrev pub group : Group settings (onViews settings)
-  group = opened settings fit correct (λ k c. open-passed X k c .member)
+  group = opened settings (fit .in-range) correct (fit .below)
 
   abbrev pub mirror : List Entry → Entries group
   mirror [] = []

@@ -1,7 +1,7 @@
 -- A run of engines is a run of the rules.
 use mathlib.Core.Path.{_≡_, refl, sym, ap, _∙_, subst, subst₂}
-use mathlib.Core.Bool.{Bool, true, false}
-use mathlib.Core.Option.{some, Option·some-injective}
+use mathlib.Core.Bool.{true}
+use mathlib.Core.Option.{Option·some-injective}
 use mathlib.Core.List.{List, [], _∷_}
 use mathlib.Core.Logic.{inl, inr}
 use Prim.Native.Nat.{ℕ, _≤_}
@@ -10,7 +10,7 @@ use Rattle.agreement.specs.Weights.{weigh, total, outside}
 use Rattle.agreement.specs.Rules.{Chain}
 use Rattle.terms.specs.Proposals.{Content, transactionsOf}
 use Rattle.sheet.specs.declared.Settings.{Settings}
-use Rattle.sheet.specs.Ranges.{weightIn, outOfRange}
+use Rattle.sheet.specs.Ranges.{weightIn}
 use Rattle.committee.specs.Committees.{committeeOf, knownBy, boundOf}
 use Rattle.rules.specs.Tests.{Member}
 use Rattle.rules.specs.Calls as rules
@@ -28,6 +28,7 @@ use Rattle.nonforking.specs.Views.{viewAt, ruled, Good}
 use Rattle.nonforking.specs.CommitFacts.{CommitFacts}
 use Rattle.nonforking.specs.AcceptedCalls.{proposal-there}
 use Rattle.nonforking.specs.Steps.{number-verdict, accepted-verdict}
+use Rattle.nonforking.specs.Starts.{Fit}
 use Rattle.nonforking.specs.Mirrors.{group, mirror, Plain, run-plain, Mirrored, mirrored}
 
 -- ---- one call
@@ -62,7 +63,7 @@ module _ (S : Settings) (e : Engine) where
 
 -- ---- a list of calls
 
-module _ (C : CommitFacts) (X : Members) (fit : outOfRange (X .settings) ≡ false) where
+module _ (C : CommitFacts) (X : Members) (fit : Fit X) where
   open Members X using (correct, settings)
 
   made-ruled : (f : Engine → Call → Type 0) (h : Member settings → rules.Call → Type 0) → ((e : Engine) (c : Call) → f e c → h (viewAt settings e) (ruled c))

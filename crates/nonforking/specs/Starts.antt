@@ -6,11 +6,10 @@ use Prim.Native.Nat.{ℕ, _<_}
 use native.Mathlib.Omega.{arith}
 use lib.ListN.{length}
 use borrow.Author.Tests.{ltb-false}
-use Rattle.base.specs.Checks.{refusal, numbered}
+use Rattle.base.specs.Checks.{numbered}
 use Rattle.store.specs.Table.{used, Row}
 use Rattle.store.specs.Writes.{clearUsed}
 use Rattle.sheet.specs.declared.Settings.{Settings}
-use Rattle.sheet.specs.Sheets.{filled}
 use Rattle.sheet.specs.Ranges.{outOfRange, weightless}
 use Rattle.rules.specs.Tests as tests
 use Rattle.rules.specs.Calls.{freshView}
@@ -20,22 +19,27 @@ use Rattle.state.specs.Formed.{whole}
 use Rattle.state.specs.KeptLaws.{open-formed}
 use Rattle.state.specs.StepLaws.{view-open}
 use Rattle.member.specs.Open.{noBody, opening, openNumber}
-use Rattle.nonforking.specs.Engine.{Engine, opens, number}
+use Rattle.nonforking.specs.Engine.{Engine}
 use Rattle.nonforking.specs.Statement.{Members, engineAfter}
 use Rattle.nonforking.specs.EngineLaws.{open-accepted}
 use Rattle.nonforking.specs.Views.{viewAt, Good}
 
+-- the settings are in range and correct members have numbers 0 to 15
+pub record Fit (X : Members) : Type 0 where
+  pub in-range : outOfRange (X .settings) ≡ false
+  pub below : (k : ℕ) → X .correct k ≡ true → k < 16
+
 module _ (X : Members) (k : ℕ) (ck : X .correct k ≡ true) where
   open Members X using (before, sheet, settings)
 
-  pub record Passed : Type 0 where
+  record Passed : Type 0 where
     pub member : k < 16
     pub in-range : outOfRange settings ≡ false
     pub weighty : weightless settings ≡ false
     pub long : Row (before k .table) (settings .ceiling .0)
 
   -- what the checks of open let pass
-  pub open-passed : Passed
+  open-passed : Passed
   unfolding openNumber numbered
   open-passed =
       passed (opening (before k .table) (record { 0 = k }) settings) refl
@@ -66,3 +70,7 @@ module _ (X : Members) (k : ℕ) (ck : X .correct k ≡ true) where
 
   pub start-view : viewAt settings (engineAfter X [] k) ≡ freshView settings
   start-view = ap (viewAt settings) begins ∙ view-open (record { 0 = k }) settings noBody (before k .table)
+
+-- where some member is correct, all that it takes follows from accepted opens
+pub opens-fit : (X : Members) (i : ℕ) → X .correct i ≡ true → Fit X
+opens-fit X i c = record { in-range = open-passed X i c .in-range; below = λ k d. open-passed X k d .member }

@@ -1,6 +1,6 @@
 -- Any call of a run on an engine is the rules' call on its view, and keeps what every state of a run is.
 use mathlib.Core.Path.{_≡_, sym, ap, _∙_, subst, subst₂}
-use mathlib.Core.Bool.{Bool, false}
+use mathlib.Core.Bool.{false}
 use Prim.Native.Nat.{ℕ}
 use native.Mathlib.Decide.{ℕ-discrete}
 use Rattle.sheet.specs.declared.Settings.{Settings}
@@ -13,7 +13,7 @@ use Rattle.nonforking.specs.Views.{viewAt, ruled, Good, NoOpen}
 use Rattle.nonforking.specs.VerdictLaws as laws
 use Rattle.nonforking.specs.VerdictLaws.{isRead}
 use Rattle.nonforking.specs.CommitFacts.{CommitFacts}
-use Rattle.nonforking.specs.AcceptedCalls.{Next, accepted-next}
+use Rattle.nonforking.specs.AcceptedCalls.{accepted-next}
 
 module _ {S : Settings} {k : ℕ} {e : Engine} (g : Good S k e) where
   -- what holds of the state's own settings and number holds of S and k

@@ -1,36 +1,28 @@
 -- Demand 3, proved: in every run the chains of correct members never fork, and committees are alike.
-use mathlib.Core.Path.{_≡_, refl, sym, ap, _∙_, subst}
-use mathlib.Core.Bool.{true, false}
-use mathlib.Core.Option.{Option, some}
-use mathlib.Core.List.{List, [], _∷_, _++_}
+use mathlib.Core.Path.{_≡_, refl, sym, ap, _∙_}
+use mathlib.Core.Bool.{true}
+use mathlib.Core.List.{List, _++_}
 use mathlib.Core.Logic.{_⊎_, inl, inr}
 use Prim.Native.Nat.{ℕ}
-use Rattle.agreement.specs.Rules.{Block, Chain}
-use Rattle.agreement.specs.Listing.{listing, Lists, lists-prefix}
-use Rattle.agreement.specs.Prefixes.{blockAt}
+use Rattle.agreement.specs.Listing.{listing, Lists}
 use Rattle.terms.specs.Proposals.{Content}
-use Rattle.sheet.specs.Ranges.{weightIn, outOfRange}
+use Rattle.sheet.specs.Ranges.{weightIn}
 use Rattle.committee.specs.Changes.{ordered}
 use Rattle.committee.specs.Committees.{committeeOf, knownBy}
 use Rattle.rules.specs.Runs as runs
-use Rattle.rules.specs.Runs.{Entries, chainAfter}
+use Rattle.rules.specs.Runs.{chainAfter}
 use Rattle.rules.specs.RunAgreement as agreement
 use Rattle.rules.specs.RunAgreement.{runs-agree}
-use Rattle.state.specs.WellFormed.{wellFormed}
 use Rattle.nonforking.specs.Statement.{chain, listed, Knows, weights, Members, Entry, engineAfter, Run, Prefix, Agreed, DemandThree}
 use Rattle.nonforking.specs.CommitFacts.{CommitFacts}
-use Rattle.nonforking.specs.Starts.{open-passed}
+use Rattle.nonforking.specs.Starts.{Fit, opens-fit}
 use Rattle.nonforking.specs.Mirrors.{group, mirror, run-plain, Mirrored, mirrored}
 use Rattle.nonforking.specs.RunMirrors.{shown, run-ruled}
 
 module _ (C : CommitFacts) (X : Members) where
   open Members X using (correct, settings)
 
-  -- a correct member has opened, so the settings are in range
-  pub fit : (i : ℕ) → correct i ≡ true → outOfRange settings ≡ false
-  fit i c = open-passed X i c .in-range
-
-  module _ (l : List Entry) (r : Run X l) (z : outOfRange settings ≡ false) where
+  module _ (l : List Entry) (r : Run X l) (z : Fit X) where
     -- what the engines show is what the views show
     module _ (i : ℕ) (c : correct i ≡ true) where
       mirrors : Mirrored X z l i
@@ -73,6 +65,6 @@ module _ (C : CommitFacts) (X : Members) where
 pub demand-3 : CommitFacts → DemandThree
 demand-3 C X l r =
     record {
-      chains = λ i j ci cj. chains-agree C X l r (fit C X i ci) i j ci cj;
-      committees = λ i j q ci cj. committees-agree C X l r (fit C X i ci) i j q ci cj;
+      chains = λ i j ci cj. chains-agree C X l r (opens-fit X i ci) i j ci cj;
+      committees = λ i j q ci cj. committees-agree C X l r (opens-fit X i ci) i j q ci cj;
     }
