@@ -34,7 +34,7 @@ module _ (C : CommitFacts) (X : Members) where
       pub listed-shown : listed (engineAfter X l i) ≡ listing (ordered (settings .ceiling .0)) (chainAfter (group X z) (mirror X z l) i)
       listed-shown = shown C X z (λ T x. listed (engineAfter X l i) ≡ listing (ordered (T .ceiling .0)) x) mirrors refl
 
-      weights-shown : (q m : ℕ) → weights (engineAfter X l i) q m ≡ weightIn (committeeOf settings (chainAfter (group X z) (mirror X z l) i) q) m
+      pub weights-shown : (q m : ℕ) → weights (engineAfter X l i) q m ≡ weightIn (committeeOf settings (chainAfter (group X z) (mirror X z l) i) q) m
       weights-shown q m = shown C X z (λ T x. weights (engineAfter X l i) q m ≡ weightIn (committeeOf T x q) m) mirrors refl
 
       knows-shown : (q : ℕ) → Knows (engineAfter X l i) q → knownBy settings (chainAfter (group X z) (mirror X z l) i) q ≡ true
