@@ -1,6 +1,6 @@
 -- The converse: a list of calls on engines is a run where the rules' calls on views are one.
 use mathlib.Core.Path.{_≡_, refl, sym, ap, _∙_, subst, subst₂}
-use mathlib.Core.Bool.{Bool, true, false}
+use mathlib.Core.Bool.{true, false}
 use mathlib.Core.Option.{Option, none, some, Option·some-injective, Option·none-ne-some}
 use mathlib.Core.List.{List, [], _∷_}
 use mathlib.Core.Logic.{inl, inr}
@@ -16,7 +16,6 @@ use Rattle.rules.specs.Calls as rules
 use Rattle.rules.specs.Calls.{verdict}
 use Rattle.rules.specs.Signatures as signatures
 use Rattle.rules.specs.Runs as runs
-use Rattle.rules.specs.Runs.{viewAfter}
 use Rattle.state.specs.Formed.{formed}
 use Rattle.state.specs.ViewLaws.{proposal-some}
 use Rattle.nonforking.specs.Engine.{Engine, Call, opens, propose, endorse, certify, accept, advance, commit, committee, share, certificate, block, number}
@@ -28,7 +27,7 @@ use Rattle.nonforking.specs.CommitFacts.{CommitFacts}
 use Rattle.nonforking.specs.AcceptedCalls.{proposal-there}
 use Rattle.nonforking.specs.Steps.{number-verdict, accepted-verdict}
 use Rattle.nonforking.specs.Starts.{Fit}
-use Rattle.nonforking.specs.Mirrors.{group, mirror, Plain, Mirrored, mirrored}
+use Rattle.nonforking.specs.Mirrors.{group, mirror, Plain, mirrored}
 
 -- ---- one call
 
@@ -76,10 +75,11 @@ module _ (C : CommitFacts) (X : Members) (fit : Fit X) where
   made-back f h i g c (e ∷ l) p (inl m) =
       let x = mirrored X fit C l (p .2) i c in
       let y = g (engineAfter X l i) (x .good) (e .call) (subst (λ (s : Member settings). h s (ruled (e .call))) (sym (x .shows)) (m .2)) in
-      inl
-      (m .0,
+      inl (
+        m .0,
         number-verdict (x .good) (e .call) (y .0) ∙ subst (λ (s : Member settings). verdict settings i s (ruled (e .call)) ≡ 0) (sym (x .shows)) (m .1),
-        y .1)
+        y .1,
+      )
   made-back f h i g c (e ∷ l) p (inr m) = inr (made-back f h i g c l (p .2) m)
 
   signed-back : (l : List Entry) → Plain X fit l → (p : Content) (d : ℕ) → runs.Signed (group X fit) p d (mirror X fit l) → Signed X p d l

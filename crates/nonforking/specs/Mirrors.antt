@@ -51,7 +51,8 @@ module _ (X : Members) (fit : Fit X) where
             → Good settings i (cond b (after (engineAfter X l i) (e .call)) (engineAfter X l i))
             × (viewAt settings (cond b (after (engineAfter X l i) (e .call)) (engineAfter X l i)) ≡ cond b (result settings i (viewAfter group (mirror l) i) (ruled (e .call))) (viewAfter group (mirror l) i))
         go true t m =
-            let o = subst (λ (k : ℕ). NoOpen (engineAfter X l k) (e .call)) (sym (eqb-true i (e .who) t)) (p .1) in
-            (good-after (m .good) C (e .call) (p .0) o,
-              view-after (m .good) C (e .call) (p .0) o ∙ ap (λ (s : Member settings). result settings i s (ruled (e .call))) (m .shows))
+            let o = subst (λ (k : ℕ). NoOpen (engineAfter X l k) (e .call)) (sym (eqb-true i (e .who) t)) (p .1) in (
+              good-after (m .good) C (e .call) (p .0) o,
+              view-after (m .good) C (e .call) (p .0) o ∙ ap (λ (s : Member settings). result settings i s (ruled (e .call))) (m .shows),
+            )
         go false t m = (m .good, m .shows)

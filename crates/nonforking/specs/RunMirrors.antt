@@ -71,10 +71,11 @@ module _ (C : CommitFacts) (X : Members) (fit : Fit X) where
   made-ruled f h g i c [] p m = absurd m
   made-ruled f h g i c (e ∷ l) p (inl m) =
       let x = mirrored X fit C l (p .2) i c in
-      inl
-      (m .0,
+      inl (
+        m .0,
         subst (λ (s : Member settings). verdict settings i s (ruled (e .call)) ≡ 0) (x .shows) (accepted-verdict (x .good) (e .call) (m .1)),
-        subst (λ (s : Member settings). h s (ruled (e .call))) (x .shows) (g (engineAfter X l i) (e .call) (m .2)))
+        subst (λ (s : Member settings). h s (ruled (e .call))) (x .shows) (g (engineAfter X l i) (e .call) (m .2)),
+      )
   made-ruled f h g i c (e ∷ l) p (inr m) = inr (made-ruled f h g i c l (p .2) m)
 
   signed-ruled : (l : List Entry) → Plain X fit l → (p : Content) (d : ℕ) → Signed X p d l → runs.Signed (group X fit) p d (mirror X fit l)

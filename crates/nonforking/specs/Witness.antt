@@ -1,10 +1,10 @@
 -- The premises can be met: a run of engines in which members 0, 1 and 2 are correct and 3 is faulty, a block is made, and its bond changes a committee.
 use mathlib.Core.Path.{_≡_, refl, ap, _∙_}
-use mathlib.Core.Bool.{Bool, true, false, false≢true}
+use mathlib.Core.Bool.{true}
 use mathlib.Core.List.{List, [], _∷_}
 use Prim.Native.Nat.{ℕ}
 use native.Mathlib.Omega.{arith}
-use lib.ListN.{length, replicate, length-replicate}
+use lib.ListN.{replicate}
 use lib.Dec.{ltb}
 use borrow.Author.Tests.{ltb-true, le-ltb}
 use Rattle.base.specs.Checks.{passes, passes-all}
@@ -24,9 +24,9 @@ use Rattle.rules.specs.Tests.{Member}
 use Rattle.rules.specs.Calls as rules
 use Rattle.rules.specs.Calls.{verdict}
 use Rattle.rules.specs.Runs as runs
-use Rattle.rules.specs.Sample.{fit, below, Sample, sample, sample-run}
+use Rattle.rules.specs.Sample.{fit, below, sample, sample-run}
 use Rattle.member.specs.Open.{closedState, openNumber}
-use Rattle.nonforking.specs.Engine.{Engine, Call, opens, propose, endorse, certify, accept, advance, commit, number}
+use Rattle.nonforking.specs.Engine.{Call, propose, endorse, certify, accept, advance, commit, number}
 use Rattle.nonforking.specs.Statement.{listed, weights, Members, Entry, engineAfter, Run}
 use Rattle.nonforking.specs.CommitFacts.{CommitFacts}
 use Rattle.nonforking.specs.Steps.{number-verdict}
