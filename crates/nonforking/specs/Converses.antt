@@ -19,7 +19,6 @@ use Rattle.rules.specs.Runs as runs
 use Rattle.state.specs.Formed.{formed}
 use Rattle.state.specs.ViewLaws.{proposal-some}
 use Rattle.nonforking.specs.Engine.{Engine, Call, opens, propose, endorse, certify, accept, advance, commit, committee, share, certificate, block, number}
-use Rattle.nonforking.specs.Statement as statement
 use Rattle.nonforking.specs.Statement.{Members, Entry, Takes, certifies, accepts, Proposes, proposes, Endorses, endorses, engineAfter, Made, Signed, Fair, WithinBound, Run}
 use Rattle.nonforking.specs.Views.{viewAt, ruled, Good}
 use Rattle.nonforking.specs.VerdictLaws.{isRead}

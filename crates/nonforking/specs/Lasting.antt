@@ -1,22 +1,23 @@
 -- What lasts in a run: a block once made stays under every later call, and every state is well formed.
-use mathlib.Core.Path.{_≡_, refl, ap}
+use mathlib.Core.Path.{_≡_, refl, sym, ap, _∙_}
 use mathlib.Core.Bool.{true}
 use mathlib.Core.Option.{some}
 use mathlib.Core.List.{List, [], _∷_, _++_}
 use Prim.Native.Nat.{ℕ}
 use Rattle.agreement.specs.Rules.{Block}
+use Rattle.agreement.specs.Listing.{lists-prefix}
 use Rattle.agreement.specs.Prefixes.{_≼_, blockAt, block-stays}
 use Rattle.terms.specs.Proposals.{Content}
-use Rattle.rules.specs.Runs as runs
-use Rattle.rules.specs.Runs.{Entries}
+use Rattle.committee.specs.Changes.{ordered}
+use Rattle.rules.specs.Runs.{Entries, chainAfter}
 use Rattle.rules.specs.RunAgreement as agreement
 use Rattle.state.specs.WellFormed.{wellFormed}
-use Rattle.nonforking.specs.Statement.{chain, Members, Entry, engineAfter, Run}
+use Rattle.nonforking.specs.Statement.{chain, Prefix, Members, Entry, engineAfter, Run}
 use Rattle.nonforking.specs.Views.{ruled}
 use Rattle.nonforking.specs.Starts.{Fit, opens-fit}
 use Rattle.nonforking.specs.Mirrors.{group, mirror, run-plain, mirrored}
 use Rattle.nonforking.specs.RunMirrors.{run-ruled}
-use Rattle.nonforking.specs.Theorem.{chain-shown}
+use Rattle.nonforking.specs.Theorem.{chain-shown, listed-shown}
 
 module _ (X : Members) where
   open Members X using (correct, settings)
@@ -36,13 +37,20 @@ module _ (X : Members) where
 
   -- the entries m follow the entries l
   module _ (m l : List Entry) (r : Run X (m ++ l)) (i : ℕ) (c : correct i ≡ true) where
-    grows : chain (engineAfter X l i) ≼ chain (engineAfter X (m ++ l) i)
-    grows =
-        let z = opens-fit X i c in
+    grows : (z : Fit X) → chainAfter (group X z) (mirror X z l) i ≼ chainAfter (group X z) (mirror X z (m ++ l)) i
+    grows z =
         let q = mirror-more z m l in
-        rw (chain-shown X l (earlier m l r) z i c, chain-shown X (m ++ l) r z i c, q)
-        (agreement.chain-grows (group X z) (mirror X z m) (mirror X z l) (rw q at (run-ruled X z (m ++ l) r)) i)
+        rw q (agreement.chain-grows (group X z) (mirror X z m) (mirror X z l) (rw q at (run-ruled X z (m ++ l) r)) i)
 
     -- a block once made stays, with its number, its round and its certificates
     pub block-kept : (n : ℕ) {b : Block Content} → blockAt (chain (engineAfter X l i)) n ≡ some b → blockAt (chain (engineAfter X (m ++ l) i)) n ≡ some b
-    block-kept = block-stays grows
+    block-kept n =
+        let z = opens-fit X i c in
+        rw (chain-shown X l (earlier m l r) z i c, chain-shown X (m ++ l) r z i c) (block-stays (grows z) n)
+
+    -- and as chains are listed: the later one lists the same blocks, with the same certificates in the same order, and perhaps more
+    pub chain-kept : Prefix (engineAfter X l i) (engineAfter X (m ++ l) i)
+    chain-kept =
+        let z = opens-fit X i c in
+        let x = lists-prefix (ordered (settings .ceiling .0)) (grows z) in
+        (x .0, listed-shown X (m ++ l) r z i c ∙ x .1 ∙ ap (λ (y : List (ℕ × List Content)). y ++ x .0) (sym (listed-shown X l (earlier m l r) z i c)))

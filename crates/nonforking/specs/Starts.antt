@@ -11,7 +11,6 @@ use Rattle.store.specs.Table.{used, Row}
 use Rattle.store.specs.Writes.{clearUsed}
 use Rattle.sheet.specs.declared.Settings.{Settings}
 use Rattle.sheet.specs.Ranges.{outOfRange, weightless}
-use Rattle.rules.specs.Tests as tests
 use Rattle.rules.specs.Calls.{freshView}
 use Rattle.rules.specs.Passed.{passed}
 use Rattle.state.specs.States.{fresh}
