@@ -5,6 +5,7 @@ pub mod States
 pub mod ChainLaws
 pub mod RoundLaws
 pub mod Formed
+pub mod Walkable
 pub mod ViewLaws
 pub mod WriteLaws
 pub mod KeptLaws

@@ -1,0 +1,61 @@
+-- Commit on a state and its table: the number that refuses, the answer and the state, and the table.
+use mathlib.Core.Bool.{cond, _||_}
+use mathlib.Core.List.{List, [], _∷_}
+use Prim.Native.Nat.{ℕ, _-_, _%_}
+use lib.ListN.{replicate}
+use lib.Dec.{eqb, leb}
+use Rattle.base.specs.Checks.{Checks}
+use Rattle.agreement.specs.Rules.{last}
+use Rattle.agreement.specs.Commits.{anchorAt}
+use Rattle.committee.specs.Chain.{chainOf}
+use Rattle.walk.specs.Walk.{lastRound}
+use Rattle.walk.specs.Fill.{leaderAt, fillTo}
+use Rattle.rules.specs.Tests.{unknown}
+use Rattle.rules.specs.Calls as rules
+use Rattle.state.specs.declared.State.{State}
+use Rattle.state.specs.View.{view}
+use Rattle.state.specs.Number.{numberOf}
+use Rattle.blocks.specs.Blocks.{commitTable, commitCount}
+use Rattle.commit.specs.declared.Committed.the-variants.{Added, Refused}
+use Rattle.commit.specs.declared.Outcome.{Outcome}
+
+abbrev pub refusedWith : State → ℕ → Outcome
+refusedWith s n = record { state = s; answer = Refused n }
+
+-- the state with k blocks
+abbrev pub withBlocks : State → ℕ → State
+withBlocks s k = record { own = s .own; settings = s .settings; round = s .round; proposing = s .proposing; body = s .body; blocks = k }
+
+module _ (s : State) (t : List ℕ) where
+  -- the checks 19, 20, 8, and then 21, 22
+  abbrev pub timeChecks : Checks
+  timeChecks = (eqb (s .round .0 % 2) 0 || eqb (s .round .0) 1, 19) ∷ (leb (s .round .0 - 1) (last (view s t .chain)), 20) ∷ (unknown (s .settings) (view s t) (s .round .0), 8) ∷ []
+
+  abbrev pub voteChecks : Checks
+  voteChecks = rules.voting (s .settings) (view s t) (anchorAt (view s t) (s .round .0 - 1))
+
+  -- the number of the first check that refuses, 0 for none
+  unfoldable pub commitNumber : ℕ
+  commitNumber = numberOf s t rules.commit
+
+  -- the leaders of the rounds above the last block's, below the present one, by round, 16 for none
+  unfoldable pub leadersFor : List ℕ
+  leadersFor =
+      fillTo (leaderAt (s .settings) (chainOf (s .settings .ceiling .0) t (s .blocks))) (lastRound t (s .blocks)) (s .round .0 - 1 - lastRound t (s .blocks)) (replicate 1025 16)
+
+  -- how many blocks there are after an accepted commit, the state and the table
+  unfoldable pub blocksThen : ℕ
+  blocksThen = commitCount (lastRound t (s .blocks)) (s .round .0 - 1) (s .blocks) leadersFor t
+
+  abbrev pub committedState : State
+  committedState = withBlocks s blocksThen
+
+  unfoldable pub committedTable : List ℕ
+  committedTable = commitTable (lastRound t (s .blocks)) (s .round .0 - 1) (s .blocks) leadersFor t
+
+  -- the answer is the number of blocks added; a refused commit changes nothing
+  unfoldable pub commitOutcome : Outcome
+  commitOutcome = cond (eqb commitNumber 0) (record { state = committedState; answer = Added (blocksThen - s .blocks) }) (refusedWith s commitNumber)
+
+  unfoldable pub commitTableAfter : List ℕ
+  commitTableAfter = cond (eqb commitNumber 0) committedTable t

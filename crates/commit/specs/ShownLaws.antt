@@ -1,0 +1,85 @@
+-- What a state and its table show, as the theory's commit wants it.
+use mathlib.Core.Path.{_≡_, refl, sym, ap, _∙_}
+use mathlib.Core.Bool.{Bool, true, false, cond}
+use mathlib.Core.List.{List, _∷_}
+use mathlib.Core.Option.{Option, none, some}
+use Prim.Native.Nat.{ℕ, zero, suc, _≤_}
+use native.Mathlib.Omega.{arith}
+use lib.Dec.{eqb}
+use lib.ListN.{length}
+use Rattle.base.specs.Bools.{cond-same}
+use Rattle.base.specs.Sets.{isIn}
+use Rattle.agreement.specs.Dag.{isHeld}
+use Rattle.agreement.specs.DagLaws.{held-by}
+use Rattle.agreement.specs.Marks.{Fits}
+use Rattle.terms.specs.Proposals.{Content}
+use Rattle.store.specs.Table.{markAt, blockRound, certificateAt}
+use Rattle.store.specs.TableLaws.{content-previous}
+use Rattle.store.specs.ScanLaws.{rows-held}
+use Rattle.committee.specs.Chain.{isRound, holdsAt, blockAt, chainOf}
+use Rattle.rules.specs.Tests.{Member}
+use Rattle.bridge.specs.Histories.{Shows}
+use Rattle.bridge.specs.Chains.{roundsIn, marksIn, chainIn}
+use Rattle.state.specs.declared.State.{State}
+use Rattle.state.specs.View.{dagOf, view}
+use Rattle.state.specs.ViewLaws.{InDag, in-dag, held-dag}
+use Rattle.state.specs.ChainLaws.{holds-at}
+use Rattle.state.specs.Formed.{Formed}
+use Rattle.agreement.specs.Marks as marks
+
+module _ (s : State) (t : List ℕ) where
+  abbrev n : ℕ
+  n = s .settings .ceiling .0
+
+  abbrev v : Member (s .settings)
+  v = view s t
+
+  inside : (a r : ℕ) → isHeld (v .dag a r) ≡ true → (q : Content) × InDag n t a r q
+  inside a r h = let q = held-by (v .dag a r) h in (q .0, in-dag n t a r (q .0) (q .1))
+
+  -- certificates are at their places, and name whom the records name
+  pub shows : Shows v n t
+  shows =
+      record {
+        sixteen = refl;
+        placed = record { place = λ {a} {r} {p} h. let d = in-dag n t a r p h in (d .author, d .round); member = λ {a} {r} {p} h. in-dag n t a r p h .member };
+        inside = λ a r h. let d = inside a r h .1 in (d .from, d .to);
+        held = λ a r from to. sym (held-dag n t a r from to);
+        naming = λ a r i q h. ap (λ (p : Content). isIn (p .previous) i) (in-dag n t a r q h .content) ∙ ap (λ (z : ℕ). isIn z i) (content-previous t a r);
+      }
+
+  -- every mark of a held certificate names a block
+  pub marks-fit : Formed s t → Fits v (marksIn v t) (s .blocks)
+  unfolding marksIn
+  marks-fit f = record { range = λ a q. range a q (isHeld (v .dag a q)) refl; only-held = λ a q h. rw h refl }
+    where
+      range : (a q : ℕ) (b : Bool) → isHeld (v .dag a q) ≡ b → cond b (markAt t a q) 0 ≤ s .blocks
+      range a q true e = let d = inside a q e .1 in rows-held t (s .settings .allowance) (s .blocks) n (f .rows) q (d .from) (d .to) .records a (d .held) .mark
+      range a q false e = omega arith
+
+  -- ---- the chain that marks and block rounds tell
+
+  module _ (u : List ℕ) (e : dagOf n u ≡ v .dag) where
+    count : (k : ℕ) → length (roundsIn u k) ≡ k
+    unfolding roundsIn
+    count zero = refl
+    count (suc k) = ap suc (count k)
+
+    block-shown : (k a r : ℕ) → cond (isRound n r) (holdsAt u k a r) none ≡ cond (eqb (marksIn v u a r) k) (v .dag a r) none
+    unfolding dagOf marksIn
+    block-shown k a r =
+        rw (holds-at u k a r) (go (isRound n r) (certificateAt u a r))
+        ∙ ap (λ (d : ℕ → ℕ → Option Content). cond (eqb (cond (isHeld (d a r)) (markAt u a r) 0) k) (d a r) none) e
+      where
+        go : (b : Bool) (o : Option Content) → cond b (cond (eqb (markAt u a r) k) o none) none ≡ cond (eqb (cond (isHeld (cond b o none)) (markAt u a r) 0) k) (cond b o none) none
+        go false o = sym (cond-same (eqb 0 k) none)
+        go true none = cond-same (eqb (markAt u a r) k) none ∙ sym (cond-same (eqb 0 k) none)
+        go true (some q) = refl
+
+    -- is the one that the table shows
+    pub chain-shown : (k : ℕ) → chainOf n u k ≡ chainIn v u k
+    unfolding chainOf blockAt roundsIn marks.chainOf
+    chain-shown zero = refl
+    chain-shown (suc k) =
+        rw (count k)
+        (λ i. record { round = blockRound u (suc k); holds = λ a r. block-shown (suc k) a r i } ∷ chain-shown k i)

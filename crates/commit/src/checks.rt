@@ -1,0 +1,54 @@
+// The checks of a commit in a well-formed state, each the number of the first that refuses, 0 for none.
+use state::State;
+use terms::Member;
+use terms::Round;
+ghost use mathlib.Core.Path.{_≡_};
+ghost use Prim.Native.Nat.{_-_, _<_, _≤_};
+ghost use lib.ListN.{getD};
+ghost use Rattle.base.specs.Checks.{refusal};
+ghost use Rattle.state.specs.Formed.{Formed};
+ghost use Rattle.state.specs.View.{view};
+ghost use Rattle.walk.specs.Walk.{lastRound};
+ghost use Rattle.commit.specs.Commit.{timeChecks, voteChecks, leadersFor};
+
+// Checks 19, 20, 8.
+pub fn time_refusal(s: State, t: &[u32]) -> u32
+    requires { ⌜ Formed s (now t) ⌝ }
+    ensures { λ v. ⌜ v ≡ refusal (timeChecks s (now (t .entry))) ⌝ }
+{
+    let r = s.round.0;
+    if r % 2 == 0 {
+        return 19;
+    }
+    if r == 1 {
+        return 19;
+    }
+    let last = walk::last_round(t, s.blocks);
+    if r - 1 <= last.0 {
+        return 20;
+    }
+    if !walk::known(t, s.settings, s.blocks, s.round) {
+        return 8;
+    }
+    0
+}
+
+// Checks 21, 22, where l has the leaders by round.
+pub fn vote_refusal(s: State, t: &[u32], l: &[u32; 1025]) -> u32
+    requires { ⌜ Formed s (now t) × (1 < s .round .0) × (now l ≡ leadersFor s (now t)) × (lastRound (now t) (s .blocks) < s .round .0 - 1) ⌝ }
+    ensures { λ v. ⌜ v ≡ refusal (voteChecks s (now (t .entry))) ⌝ }
+{
+    let r = s.round;
+    let top = Round(r.0 - 1);
+    let a = l[top.0 as usize];
+    if !blocks::anchors::is_led(store::held_set(t, top), a) {
+        return 21;
+    }
+    let w = walk::committee_of(t, s.settings, s.blocks, r);
+    let bound = committee::fault_bound(committee::total_weight(&w));
+    let votes = crate::votes::votes_for(t, &w, r, Member(a));
+    if votes.0 <= bound.0 {
+        return 22;
+    }
+    0
+}

@@ -1,0 +1,59 @@
+// Commit: the anchor of the round before, and those that its history takes, make blocks, oldest first.
+pub mod checks;
+pub mod votes;
+
+use state::State;
+use terms::Round;
+ghost use mathlib.Core.Path.{_≡_};
+ghost use Rattle.commit.specs.Commit.{refusedWith, commitOutcome, commitTableAfter};
+
+// Accepted with the number of blocks added, or refused with the number of the first check that refuses.
+pub enum Committed {
+    Added(u32),
+    Refused(u32),
+}
+
+// The answer, and the state that the call leaves.
+pub struct Outcome {
+    pub state: State,
+    pub answer: Committed,
+}
+
+// A refused commit.
+fn refused(s: State, n: u32) -> Outcome
+    ensures { λ o. ⌜ o ≡ refusedWith s n ⌝ }
+{
+    Outcome {
+        state: s,
+        answer: Committed::Refused(n),
+    }
+}
+
+pub fn commit(s: State, t: &mut [u32]) -> Outcome
+    ensures { λ o. ⌜ (o ≡ commitOutcome s (now (t .entry))) × (now (t .exit) ≡ commitTableAfter s (now (t .entry))) ⌝ }
+{
+    if !state::well_formed(s, t) {
+        return refused(s, 1);
+    }
+    let late = crate::checks::time_refusal(s, t);
+    if late != 0 {
+        return refused(s, late);
+    }
+    let settings = s.settings;
+    let blocks = s.blocks;
+    let last = walk::last_round(t, blocks);
+    let top = Round(s.round.0 - 1);
+    let mut leaders = [16u32; 1025];
+    walk::leaders::fill_leaders(t, settings, blocks, last, top, &mut leaders);
+    let fault = crate::checks::vote_refusal(s, t, &leaders);
+    if fault != 0 {
+        return refused(s, fault);
+    }
+    let k = blocks::commit_blocks(t, &mut leaders, last, top, blocks);
+    let mut next = s;
+    next.blocks = k;
+    Outcome {
+        state: next,
+        answer: Committed::Added(k - blocks),
+    }
+}

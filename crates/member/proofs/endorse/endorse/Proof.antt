@@ -1,0 +1,39 @@
+use mathlib.Core.Path.{sym, _∙_}
+use Rattle.member.specs.AnswerLaws.{outcome-accepted, outcome-refused, left-accepted, left-refused}
+use Rattle.member.specs.PlaceLaws.{fits-within}
+use Rattle.member.specs.PassedLaws.{endorse-passed}
+use Rattle.member.specs.Calls.{endorseOutcome, endorseTable}
+use borrow.Author.Needs.{needs}
+use Rattle.member.proofs.endorse.endorse.Statement.{statement}
+use Rattle.member.proofs.endorse.endorse.Tie as tie
+
+endorse-number-requires : tie.Need-endorse-number-requires
+endorse-number-requires c κs = search needs
+
+same-length : tie.Need-same-length
+same-length c = search needs
+
+returns : tie.Need-returns
+unfolding endorseOutcome endorseTable
+returns c = (outcome-refused (c .before .endorse-number .ensures) _ _ (c .if1 .taken), sym (left-refused _ _ _ (λ z. c .if1 .taken (c .before .endorse-number .ensures ∙ z))))
+
+set-endorsed-requires : tie.Need-set-endorsed-requires
+set-endorsed-requires c κs = let x = endorse-passed (c .before .before .before .before .before .args .s) (c .before .before .before .before .before .args .t .now) (c .before .before .before .before .before .args .p) (sym (c .before .before .endorse-number .ensures) ∙ c .before .if1 .left) in fits-within _ _ _ (x .0) (x .1)
+
+same-length-2 : tie.Need-same-length-2
+same-length-2 c = search needs
+
+returns-2 : tie.Need-returns-2
+unfolding endorseOutcome endorseTable
+returns-2 c = (outcome-accepted (c .before .before .before .before .before .endorse-number .ensures) _ _ (c .before .before .before .before .if1 .left), c .before .before .set-endorsed .ensures ∙ sym (left-accepted _ _ _ (sym (c .before .before .before .before .before .endorse-number .ensures) ∙ c .before .before .before .before .if1 .left)))
+
+pub endorse-spec : {M : Type 1} → statement M
+endorse-spec =
+    tie.close
+    (tie.spec
+    endorse-number-requires
+    same-length
+    returns
+    set-endorsed-requires
+    same-length-2
+    returns-2)

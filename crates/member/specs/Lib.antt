@@ -1,0 +1,12 @@
+pub mod Answers
+pub mod Open
+pub mod Pieces
+pub mod Calls
+pub mod AnswerLaws
+pub mod OpenLaws
+pub mod PassedLaws
+pub mod Steps
+pub mod CallLaws
+pub mod NextLaws
+pub mod PieceLaws
+pub mod PlaceLaws

@@ -1,0 +1,92 @@
+-- All calls but commit and the reads, with any values: the number that refuses, the answer and the state, and the table, as the contracts have them.
+use mathlib.Core.List.{List}
+use Prim.Native.Nat.{ℕ}
+use Rattle.terms.specs.declared.Member.{Member}
+use Rattle.terms.specs.declared.Body.{Body}
+use Rattle.terms.specs.declared.Proposal.{Proposal}
+use Rattle.terms.specs.declared.Certificate.{Certificate}
+use Rattle.terms.specs.Proposals.{contentWith, contentOf, transactionsOf}
+use Rattle.store.specs.Writes.{putCertificate, setEndorsed, clearEndorsed, clearUsed}
+use Rattle.sheet.specs.declared.Sheet.{Sheet}
+use Rattle.sheet.specs.Sheets.{filled}
+use Rattle.rules.specs.Tests as tests
+use Rattle.rules.specs.Calls as rules
+use Rattle.state.specs.declared.State.{State}
+use Rattle.state.specs.View.{view}
+use Rattle.member.specs.declared.Outcome.{Outcome}
+use Rattle.member.specs.Open.{freshState, openNumber, openOutcome, openTable}
+use Rattle.member.specs.Calls.{proposeNumber, proposed, proposeOutcome, endorseNumber, endorseOutcome, endorseTable, certifyNumber, certifyOutcome, certifyTable, acceptNumber, acceptOutcome, acceptTable, advanceNumber, advanced, advanceOutcome}
+
+pub data Call : Type 0 where
+  -- own number, sheet
+  opens : Member → Sheet → Call
+  propose : Body → Call
+  endorse : Proposal → Call
+  -- endorsers
+  certify : ℕ → Call
+  accept : Certificate → Call
+  advance : Call
+
+module _ (s : State) (t : List ℕ) where
+  -- the number that refuses, 0 for none
+  abbrev pub number : Call → ℕ
+  number (opens own sheet) = openNumber t own (filled sheet)
+  number (propose b) = proposeNumber s t b
+  number (endorse p) = endorseNumber s t p
+  number (certify e) = certifyNumber s t e
+  number (accept c) = acceptNumber s t c
+  number advance = advanceNumber s t
+
+  -- the answer, and the state after the call
+  abbrev pub outcome : Call → Outcome
+  outcome (opens own sheet) = openOutcome s t own sheet
+  outcome (propose b) = proposeOutcome s t b
+  outcome (endorse p) = endorseOutcome s t p
+  outcome (certify e) = certifyOutcome s t e
+  outcome (accept c) = acceptOutcome s t c
+  outcome advance = advanceOutcome s t
+
+  -- the table after the call; propose and advance are lent it to read only
+  abbrev pub tableAfter : Call → List ℕ
+  tableAfter (opens own sheet) = openTable t own sheet
+  tableAfter (propose b) = t
+  tableAfter (endorse p) = endorseTable s t p
+  tableAfter (certify e) = certifyTable s t e
+  tableAfter (accept c) = acceptTable s t c
+  tableAfter advance = t
+
+  -- ---- where the call is accepted
+
+  abbrev pub newState : Call → State
+  newState (opens own sheet) = freshState own (filled sheet)
+  newState (propose b) = proposed s t b
+  newState (endorse p) = s
+  newState (certify e) = s
+  newState (accept c) = s
+  newState advance = advanced s t
+
+  abbrev pub newTable : Call → List ℕ
+  newTable (opens own sheet) = clearUsed t (filled sheet .ceiling .0)
+  newTable (propose b) = t
+  newTable (endorse p) = setEndorsed t (p .author .0) (p .round .0)
+  newTable (certify e) = putCertificate t (contentWith (s .own .0) (s .round .0) (s .body))
+  newTable (accept c) = clearEndorsed (putCertificate t (contentOf (c .proposal))) (c .proposal .author .0) (c .proposal .round .0)
+  newTable advance = t
+
+  -- the rules' next view
+  abbrev pub nextView : (c : Call) → tests.Member (newState c .settings)
+  nextView (opens own sheet) = rules.freshView (filled sheet)
+  nextView (propose b) = rules.after (s .settings) (s .own .0) (view s t) (rules.propose (b .previous) (transactionsOf b))
+  nextView (endorse p) = rules.after (s .settings) (s .own .0) (view s t) (rules.endorse (contentOf p))
+  nextView (certify e) = rules.after (s .settings) (s .own .0) (view s t) (rules.certify e)
+  nextView (accept c) = rules.after (s .settings) (s .own .0) (view s t) (rules.accept (contentOf (c .proposal)) (c .endorsers))
+  nextView advance = rules.after (s .settings) (s .own .0) (view s t) rules.advance
+
+-- the previous set of the proposal that a call signs or holds; a machine's is below 65,536
+abbrev pub previousIn : State → Call → ℕ
+previousIn s (opens own sheet) = 0
+previousIn s (propose b) = b .previous
+previousIn s (endorse p) = p .body .previous
+previousIn s (certify e) = s .body .previous
+previousIn s (accept c) = c .proposal .body .previous
+previousIn s advance = 0

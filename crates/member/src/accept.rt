@@ -1,0 +1,82 @@
+// Accept: a certificate is held, and its endorsed mark cleared.
+use crate::Answer;
+use crate::Outcome;
+use state::State;
+use terms::Certificate;
+ghost use mathlib.Core.Path.{_≡_};
+ghost use Rattle.base.specs.Checks.{refusal};
+ghost use Rattle.terms.specs.Proposals.{contentOf};
+ghost use lib.ListN.{drop};
+ghost use Rattle.rules.specs.Calls.{accepting};
+ghost use Rattle.state.specs.Formed.{Formed};
+ghost use Rattle.state.specs.View.{view};
+ghost use Rattle.member.specs.PassedLaws.{Fits};
+ghost use Rattle.member.specs.Calls.{acceptNumber, acceptOutcome, acceptTable};
+
+// Checks 16, 17, those of the signers, and 11.
+fn place_refusal(s: State, t: &[u32], c: Certificate) -> u32
+    requires { ⌜ Formed s (now t) × Fits s (c .proposal) ⌝ }
+    ensures { λ v. ⌜ v ≡ refusal (drop 5 (accepting (s .settings) (view s (now (t .entry))) (contentOf (c .proposal)) (c .endorsers))) ⌝ }
+{
+    let p = c.proposal;
+    if store::held(t, p.author, p.round) {
+        if store::record::is_same(t, p) {
+            return 16;
+        }
+        return 17;
+    }
+    let signers = base::with(c.endorsers as u32, p.author.0);
+    let n = crate::checks::signer_refusal(s, t, p.round, signers);
+    if n != 0 {
+        return n;
+    }
+    if crate::checks::lacks_previous(s, t, p) {
+        return 11;
+    }
+    0
+}
+
+// The checks of a well-formed state.
+fn refusal_of(s: State, t: &[u32], c: Certificate) -> u32
+    requires { ⌜ Formed s (now t) ⌝ }
+    ensures { λ v. ⌜ v ≡ refusal (accepting (s .settings) (view s (now (t .entry))) (contentOf (c .proposal)) (c .endorsers)) ⌝ }
+{
+    let p = c.proposal;
+    let n = crate::checks::form_refusal(s.settings, p);
+    if n != 0 {
+        return n;
+    }
+    if base::has(c.endorsers as u32, p.author.0) {
+        return 14;
+    }
+    place_refusal(s, t, c)
+}
+
+// The number of the first check that refuses, 0 for none.
+pub fn accept_number(s: State, t: &[u32], c: Certificate) -> u32
+    ensures { λ v. ⌜ v ≡ acceptNumber s (now (t .entry)) c ⌝ }
+{
+    if !state::well_formed(s, t) {
+        return 1;
+    }
+    refusal_of(s, t, c)
+}
+
+pub fn accept(s: State, t: &mut [u32], c: Certificate) -> Outcome
+    ensures { λ o. ⌜ (o ≡ acceptOutcome s (now (t .entry)) c) × (now (t .exit) ≡ acceptTable s (now (t .entry)) c) ⌝ }
+{
+    let n = accept_number(s, t, c);
+    if n != 0 {
+        return Outcome {
+            state: s,
+            answer: Answer::Refused(n),
+        };
+    }
+    let p = c.proposal;
+    store::write::put_certificate(t, p);
+    store::write::clear_endorsed(t, p.author, p.round);
+    Outcome {
+        state: s,
+        answer: Answer::Accepted,
+    }
+}

@@ -1,0 +1,64 @@
+// Certify: the proposal of the present round becomes a certificate, which is held. The proposal stays.
+use crate::Answer;
+use crate::Outcome;
+use state::State;
+use terms::Proposal;
+ghost use mathlib.Core.Path.{_≡_};
+ghost use Rattle.base.specs.Checks.{refusal};
+ghost use Rattle.rules.specs.Calls.{certifying};
+ghost use Rattle.state.specs.Formed.{Formed};
+ghost use Rattle.state.specs.View.{view};
+ghost use Rattle.member.specs.Calls.{certifyNumber, certifyOutcome, certifyTable};
+
+// The checks of a well-formed state: 15, 10, 14, and those of the signers.
+fn refusal_of(s: State, t: &[u32], e: u16) -> u32
+    requires { ⌜ Formed s (now t) ⌝ }
+    ensures { λ v. ⌜ v ≡ refusal (certifying (s .settings) (s .own .0) (view s (now (t .entry))) e (view s (now (t .entry)) .proposal)) ⌝ }
+{
+    if !s.proposing {
+        return 15;
+    }
+    if store::held(t, s.own, s.round) {
+        return 10;
+    }
+    if base::has(e as u32, s.own.0) {
+        return 14;
+    }
+    let signers = base::with(e as u32, s.own.0);
+    crate::checks::signer_refusal(s, t, s.round, signers)
+}
+
+// The number of the first check that refuses, 0 for none.
+pub fn certify_number(s: State, t: &[u32], e: u16) -> u32
+    ensures { λ v. ⌜ v ≡ certifyNumber s (now (t .entry)) e ⌝ }
+{
+    if !state::well_formed(s, t) {
+        return 1;
+    }
+    refusal_of(s, t, e)
+}
+
+pub fn certify(s: State, t: &mut [u32], e: u16) -> Outcome
+    ensures { λ o. ⌜ (o ≡ certifyOutcome s (now (t .entry)) e) × (now (t .exit) ≡ certifyTable s (now (t .entry)) e) ⌝ }
+{
+    let n = certify_number(s, t, e);
+    if n != 0 {
+        return Outcome {
+            state: s,
+            answer: Answer::Refused(n),
+        };
+    }
+    let author = s.own;
+    let round = s.round;
+    let body = s.body;
+    let p = Proposal {
+        author,
+        round,
+        body,
+    };
+    store::write::put_certificate(t, p);
+    Outcome {
+        state: s,
+        answer: Answer::Accepted,
+    }
+}

@@ -1,0 +1,105 @@
+// Checks that several calls share, each the number of the first that refuses, 0 for none.
+use sheet::Settings;
+use state::State;
+use terms::Proposal;
+use terms::Round;
+ghost use mathlib.Core.Path.{_≡_};
+ghost use Prim.Native.Nat.{_-_, _<_, _≤_};
+ghost use Rattle.base.specs.Checks.{refusal};
+ghost use Rattle.terms.specs.Proposals.{contentOf};
+ghost use mathlib.Core.Bool.{not};
+ghost use Rattle.base.specs.Sets.{isIn};
+ghost use Rattle.committee.specs.Committees.{quorum};
+ghost use Rattle.rules.specs.Tests.{badRound, above, committeeIn, missing};
+ghost use Rattle.state.specs.Formed.{Formed};
+ghost use Rattle.state.specs.View.{view};
+ghost use Rattle.member.specs.Pieces.{formChecks, previousChecks, signerChecks};
+
+// Is the round 0 or over the ceiling?
+pub fn is_bad_round(s: Settings, r: Round) -> bool
+    ensures { λ v. ⌜ v ≡ badRound s (r .0) ⌝ }
+{
+    if r.0 == 0 {
+        return true;
+    }
+    s.ceiling.0 < r.0
+}
+
+// Checks 4, 5, 6, 7 of a proposal.
+pub fn form_refusal(s: Settings, p: Proposal) -> u32
+    requires { ⌜ s .allowance ≤ 4 ⌝ }
+    ensures { λ v. ⌜ v ≡ refusal (formChecks s (contentOf p)) ⌝ }
+{
+    if 15 < p.author.0 {
+        return 4;
+    }
+    if is_bad_round(s, p.round) {
+        return 5;
+    }
+    let b = p.body;
+    if terms::is_unfit(s.allowance, b) {
+        return 6;
+    }
+    if terms::is_wrong_set(p.round, b.previous as u32) {
+        return 7;
+    }
+    0
+}
+
+// Check 11 above round 1: is a named previous certificate not held?
+pub fn lacks_previous(s: State, t: &[u32], p: Proposal) -> bool
+    requires { ⌜ Formed s (now t) × (0 < p .round .0) × (p .round .0 ≤ s .settings .ceiling .0) ⌝ }
+    ensures { λ v. ⌜ v ≡ above (p .round .0) (missing (s .settings) (view s (now (t .entry))) (contentOf p)) ⌝ }
+{
+    let r = p.round.0;
+    if r == 1 {
+        return false;
+    }
+    let held = store::held_set(t, Round(r - 1));
+    !base::is_subset(p.body.previous as u32, held)
+}
+
+// Check 12 above round 1: is the previous set no quorum of the round before?
+pub fn lacks_quorum(s: State, t: &[u32], p: Proposal) -> bool
+    requires { ⌜ Formed s (now t) × (0 < p .round .0) × (p .round .0 ≤ s .settings .ceiling .0) ⌝ }
+    ensures { λ v. ⌜ v ≡ above (p .round .0) (not (quorum (committeeIn (s .settings) (view s (now (t .entry))) (p .round .0 - 1)) (isIn (p .body .previous)))) ⌝ }
+{
+    let r = p.round.0;
+    if r == 1 {
+        return false;
+    }
+    let w = walk::committee_of(t, s.settings, s.blocks, Round(r - 1));
+    !committee::is_quorum(&w, p.body.previous as u32)
+}
+
+// Checks 11 and 12 of a proposal.
+pub fn previous_refusal(s: State, t: &[u32], p: Proposal) -> u32
+    requires { ⌜ Formed s (now t) × (0 < p .round .0) × (p .round .0 ≤ s .settings .ceiling .0) ⌝ }
+    ensures { λ v. ⌜ v ≡ refusal (previousChecks (s .settings) (view s (now (t .entry))) (contentOf p)) ⌝ }
+{
+    if lacks_previous(s, t, p) {
+        return 11;
+    }
+    if lacks_quorum(s, t, p) {
+        return 12;
+    }
+    0
+}
+
+// Checks 8, 9, 13 of the signers of a certificate of round r.
+pub fn signer_refusal(s: State, t: &[u32], r: Round, signers: u32) -> u32
+    requires { ⌜ Formed s (now t) ⌝ }
+    ensures { λ v. ⌜ v ≡ refusal (signerChecks (s .settings) (view s (now (t .entry))) (r .0) signers) ⌝ }
+{
+    if !walk::known(t, s.settings, s.blocks, r) {
+        return 8;
+    }
+    let w = walk::committee_of(t, s.settings, s.blocks, r);
+    if committee::has_outsider(&w, signers) {
+        return 9;
+    }
+    if committee::is_short(&w, signers) {
+        return 13;
+    }
+    0
+}

@@ -1,0 +1,89 @@
+// Endorse: the place of a proposal is marked endorsed. One's own membership is not tested.
+use crate::Answer;
+use crate::Outcome;
+use state::State;
+use terms::Proposal;
+use terms::Round;
+ghost use mathlib.Core.Path.{_≡_};
+ghost use mathlib.Core.Bool.{_||_};
+ghost use Prim.Native.Nat.{_-_, _<_};
+ghost use lib.ListN.{drop};
+ghost use Rattle.store.specs.Table.{Within, heldAt, endorsedAt};
+ghost use Rattle.rules.specs.Tests.{above, unknown};
+ghost use Rattle.base.specs.Checks.{refusal};
+ghost use Rattle.terms.specs.Proposals.{contentOf};
+ghost use Rattle.rules.specs.Calls.{endorsing};
+ghost use Rattle.state.specs.Formed.{Formed};
+ghost use Rattle.state.specs.View.{view};
+ghost use Rattle.member.specs.PassedLaws.{Fits};
+ghost use Rattle.member.specs.Calls.{endorseNumber, endorseOutcome, endorseTable};
+
+// Check 10: is the place held or already endorsed?
+fn is_taken(t: &[u32], p: Proposal) -> bool
+    requires { ⌜ Within (now t) (p .author .0) (p .round .0) ⌝ }
+    ensures { λ v. ⌜ v ≡ (heldAt (now (t .entry)) (p .author .0) (p .round .0) || endorsedAt (now (t .entry)) (p .author .0) (p .round .0)) ⌝ }
+{
+    if store::held(t, p.author, p.round) {
+        return true;
+    }
+    store::endorsed(t, p.author, p.round)
+}
+
+// Check 8 above round 1: is the committee of the round before unknown?
+fn is_unknown(s: State, t: &[u32], r: Round) -> bool
+    requires { ⌜ Formed s (now t) × (0 < r .0) ⌝ }
+    ensures { λ v. ⌜ v ≡ above (r .0) (unknown (s .settings) (view s (now (t .entry))) (r .0 - 1)) ⌝ }
+{
+    if r.0 == 1 {
+        return false;
+    }
+    !walk::known(t, s.settings, s.blocks, Round(r.0 - 1))
+}
+
+// Checks 14, 10, 8, 11, 12.
+fn place_refusal(s: State, t: &[u32], p: Proposal) -> u32
+    requires { ⌜ Formed s (now t) × Fits s p ⌝ }
+    ensures { λ v. ⌜ v ≡ refusal (drop 4 (endorsing (s .settings) (s .own .0) (view s (now (t .entry))) (contentOf p))) ⌝ }
+{
+    if p.author.0 == s.own.0 {
+        return 14;
+    }
+    if is_taken(t, p) {
+        return 10;
+    }
+    if is_unknown(s, t, p.round) {
+        return 8;
+    }
+    crate::checks::previous_refusal(s, t, p)
+}
+
+// The number of the first check that refuses, 0 for none.
+pub fn endorse_number(s: State, t: &[u32], p: Proposal) -> u32
+    ensures { λ v. ⌜ v ≡ endorseNumber s (now (t .entry)) p ⌝ }
+{
+    if !state::well_formed(s, t) {
+        return 1;
+    }
+    let n = crate::checks::form_refusal(s.settings, p);
+    if n != 0 {
+        return n;
+    }
+    place_refusal(s, t, p)
+}
+
+pub fn endorse(s: State, t: &mut [u32], p: Proposal) -> Outcome
+    ensures { λ o. ⌜ (o ≡ endorseOutcome s (now (t .entry)) p) × (now (t .exit) ≡ endorseTable s (now (t .entry)) p) ⌝ }
+{
+    let n = endorse_number(s, t, p);
+    if n != 0 {
+        return Outcome {
+            state: s,
+            answer: Answer::Refused(n),
+        };
+    }
+    store::write::set_endorsed(t, p.author, p.round);
+    Outcome {
+        state: s,
+        answer: Answer::Accepted,
+    }
+}

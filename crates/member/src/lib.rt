@@ -1,0 +1,22 @@
+// The calls of a member: open, propose, endorse, certify, accept, advance.
+pub mod accept;
+pub mod advance;
+pub mod certify;
+pub mod checks;
+pub mod endorse;
+pub mod open;
+pub mod propose;
+
+use state::State;
+
+// What a call answers: accepted, or the number of the first check that refuses it.
+pub enum Answer {
+    Accepted,
+    Refused(u32),
+}
+
+// The answer, and the state that the call leaves.
+pub struct Outcome {
+    pub state: State,
+    pub answer: Answer,
+}

@@ -1,0 +1,98 @@
+// Open: a fresh state, and the used part of the table cleared.
+use crate::Answer;
+use crate::Outcome;
+use sheet::Settings;
+use sheet::Sheet;
+use state::State;
+use terms::Body;
+use terms::Member;
+use terms::Round;
+use terms::Slot;
+use terms::Transaction;
+ghost use mathlib.Core.Path.{_≡_};
+ghost use Rattle.member.specs.Open.{noBody, closedState, freshState, openNumber, openOutcome, openTable};
+
+// No proposal.
+pub fn no_body() -> Body
+    ensures { λ b. ⌜ b ≡ noBody ⌝ }
+{
+    let slot = Slot {
+        transaction: Transaction::Bond(Member(0), 0),
+    };
+    Body {
+        previous: 0,
+        count: 0,
+        slots: [slot; 4],
+    }
+}
+
+// The state before an open: it is not well formed, so every call but open answers 1.
+pub fn closed() -> State
+    ensures { λ s. ⌜ s ≡ closedState ⌝ }
+{
+    State {
+        own: Member(0),
+        settings: Settings {
+            lookback: 0,
+            ceiling: Round(0),
+            allowance: 0,
+            weights: [0u64; 16],
+        },
+        round: Round(0),
+        proposing: false,
+        body: no_body(),
+        blocks: 0,
+    }
+}
+
+// Round 1 and nothing else.
+fn fresh(own: Member, settings: Settings) -> State
+    ensures { λ s. ⌜ s ≡ freshState own settings ⌝ }
+{
+    State {
+        own,
+        settings,
+        round: Round(1),
+        proposing: false,
+        body: no_body(),
+        blocks: 0,
+    }
+}
+
+// The number of the first check that refuses, 0 for none: 4 member above 15; 2 setting out of range; 3 no positive weight; 1 lent table too short.
+pub fn open_number(t: &[u32], own: Member, settings: Settings) -> u32
+    ensures { λ v. ⌜ v ≡ openNumber (now (t .entry)) own settings ⌝ }
+{
+    if 15 < own.0 {
+        return 4;
+    }
+    if sheet::is_out_of_range(settings) {
+        return 2;
+    }
+    if sheet::is_weightless(settings) {
+        return 3;
+    }
+    if t.len() < settings.ceiling.0 as usize * 272 + 272 {
+        return 1;
+    }
+    0
+}
+
+// Opens the engine of a member; a refused open leaves the state s and the table as they were.
+pub fn open(s: State, t: &mut [u32], own: Member, written: Sheet) -> Outcome
+    ensures { λ o. ⌜ (o ≡ openOutcome s (now (t .entry)) own written) × (now (t .exit) ≡ openTable (now (t .entry)) own written) ⌝ }
+{
+    let settings = sheet::fill(written);
+    let n = open_number(t, own, settings);
+    if n != 0 {
+        return Outcome {
+            state: s,
+            answer: Answer::Refused(n),
+        };
+    }
+    store::write::clear_used(t, settings.ceiling);
+    Outcome {
+        state: fresh(own, settings),
+        answer: Answer::Accepted,
+    }
+}

@@ -1,0 +1,87 @@
+// Propose: a proposal for the present round is kept. Author and round are one's own.
+use crate::Answer;
+use crate::Outcome;
+use state::State;
+use terms::Body;
+use terms::Proposal;
+ghost use mathlib.Core.Path.{_≡_};
+ghost use mathlib.Core.Bool.{_||_};
+ghost use lib.ListN.{drop};
+ghost use Rattle.agreement.specs.Dag.{isHeld};
+ghost use Rattle.base.specs.Checks.{refusal};
+ghost use Rattle.terms.specs.Proposals.{contentWith};
+ghost use Rattle.rules.specs.Calls.{proposing};
+ghost use Rattle.state.specs.Formed.{Formed};
+ghost use Rattle.state.specs.View.{view};
+ghost use Rattle.member.specs.Calls.{proposeNumber, proposeOutcome};
+
+// Check 10: is there a proposal, or is one's own place held?
+fn is_taken(s: State, t: &[u32]) -> bool
+    requires { ⌜ Formed s (now t) ⌝ }
+    ensures { λ v. ⌜ v ≡ (isHeld (view s (now (t .entry)) .proposal) || isHeld (view s (now (t .entry)) .dag (s .own .0) (s .round .0))) ⌝ }
+{
+    if s.proposing {
+        return true;
+    }
+    store::held(t, s.own, s.round)
+}
+
+// Checks 8, 9, 11, 12.
+fn committee_refusal(s: State, t: &[u32], b: Body) -> u32
+    requires { ⌜ Formed s (now t) ⌝ }
+    ensures { λ v. ⌜ v ≡ refusal (drop 3 (proposing (s .settings) (s .own .0) (view s (now (t .entry))) (contentWith (s .own .0) (s .round .0) b))) ⌝ }
+{
+    let r = s.round;
+    if !walk::known(t, s.settings, s.blocks, r) {
+        return 8;
+    }
+    let w = walk::committee_of(t, s.settings, s.blocks, r);
+    if !committee::is_member(&w, s.own) {
+        return 9;
+    }
+    let author = s.own;
+    let p = Proposal {
+        author,
+        round: r,
+        body: b,
+    };
+    crate::checks::previous_refusal(s, t, p)
+}
+
+// The number of the first check that refuses, 0 for none.
+pub fn propose_number(s: State, t: &[u32], b: Body) -> u32
+    ensures { λ v. ⌜ v ≡ proposeNumber s (now (t .entry)) b ⌝ }
+{
+    if !state::well_formed(s, t) {
+        return 1;
+    }
+    if terms::is_unfit(s.settings.allowance, b) {
+        return 6;
+    }
+    if terms::is_wrong_set(s.round, b.previous as u32) {
+        return 7;
+    }
+    if is_taken(s, t) {
+        return 10;
+    }
+    committee_refusal(s, t, b)
+}
+
+pub fn propose(s: State, t: &[u32], b: Body) -> Outcome
+    ensures { λ o. ⌜ o ≡ proposeOutcome s (now (t .entry)) b ⌝ }
+{
+    let n = propose_number(s, t, b);
+    if n != 0 {
+        return Outcome {
+            state: s,
+            answer: Answer::Refused(n),
+        };
+    }
+    let mut next = s;
+    next.proposing = true;
+    next.body = b;
+    Outcome {
+        state: next,
+        answer: Answer::Accepted,
+    }
+}

@@ -1,0 +1,66 @@
+-- What the reads answer.
+use mathlib.Core.Bool.{cond}
+use mathlib.Core.Option.{Option, none, some}
+use mathlib.Core.List.{List}
+use Prim.Native.Nat.{ℕ}
+use lib.ListN.{replicate}
+use lib.Dec.{eqb}
+use Rattle.base.specs.Checks.{refusal}
+use Rattle.terms.specs.declared.Proposal.{Proposal}
+use Rattle.terms.specs.Proposals.{Content}
+use Rattle.store.specs.Writes.{proposalOf}
+use Rattle.rules.specs.Reads as rules
+use Rattle.state.specs.declared.State.{State}
+use Rattle.state.specs.View.{view}
+use Rattle.state.specs.Number.{guarded}
+use Rattle.member.specs.Answers.{left, answerOf}
+use Rattle.member.specs.Open.{noBody}
+use Rattle.reads.specs.declared.CommitteeRead.{CommitteeRead}
+use Rattle.reads.specs.declared.ShareRead.{ShareRead}
+use Rattle.reads.specs.declared.ShareRead.the-variants as share
+use Rattle.reads.specs.declared.CertificateRead.{CertificateRead}
+use Rattle.reads.specs.declared.BlockRead.{BlockRead}
+use Rattle.reads.specs.declared.BlockRead.the-variants as block
+
+-- no proposal, of nobody and no round
+abbrev pub noProposal : Proposal
+noProposal = record { author = record { 0 = 0 }; round = record { 0 = 0 }; body = noBody }
+
+-- a certificate as it is handed out, nothing where there is none
+abbrev pub shown : Option Content → Proposal
+shown none = noProposal
+shown (some p) = proposalOf p
+
+module _ (s : State) (t : List ℕ) where
+  -- committee (5, 8): sixteen weights, 0 for a non-member
+  unfoldable pub committeeNumber : ℕ → ℕ
+  committeeNumber r = refusal (guarded s t (rules.readingCommittee (s .settings) (view s t) r))
+
+  unfoldable pub committeeAnswer : ℕ → CommitteeRead
+  committeeAnswer r = record { answer = answerOf (committeeNumber r); weights = left (committeeNumber r) (rules.committeeRead (s .settings) (view s t) r) (replicate 16 0) }
+
+  -- share (4, 5, 8, 9): the thousandths
+  unfoldable pub shareNumber : ℕ → ℕ → ℕ
+  shareNumber m r = refusal (guarded s t (rules.readingShare (s .settings) (view s t) m r))
+
+  unfoldable pub shareAnswer : ℕ → ℕ → ShareRead
+  shareAnswer m r = cond (eqb (shareNumber m r) 0) (share.Thousandths (rules.shareRead (s .settings) (view s t) m r)) (share.Refused (shareNumber m r))
+
+  -- certificate (4, 5, 23 none there): the proposal and the number of its block, 0 for none
+  unfoldable pub certificateNumber : ℕ → ℕ → ℕ
+  certificateNumber m r = refusal (guarded s t (rules.readingCertificate (s .settings) (view s t) m r))
+
+  unfoldable pub certificateAnswer : ℕ → ℕ → CertificateRead
+  certificateAnswer m r =
+      record {
+        answer = answerOf (certificateNumber m r);
+        proposal = left (certificateNumber m r) (shown (view s t .dag m r)) noProposal;
+        block = left (certificateNumber m r) (rules.blockNumber (view s t .chain) m r) 0;
+      }
+
+  -- block by number from 1 (23): its round
+  unfoldable pub blockNumber : ℕ → ℕ
+  blockNumber k = refusal (guarded s t (rules.readingBlock (s .settings) (view s t) k))
+
+  unfoldable pub blockAnswer : ℕ → BlockRead
+  blockAnswer k = cond (eqb (blockNumber k) 0) (block.At (record { 0 = rules.blockRead (s .settings) (view s t) k })) (block.Refused (blockNumber k))

@@ -1,0 +1,154 @@
+// The reads: committee, share, certificate, block. They change nothing.
+use member::Answer;
+use state::State;
+use terms::Member;
+use terms::Proposal;
+use terms::Round;
+ghost use mathlib.Core.Path.{_≡_};
+ghost use Prim.Native.Nat.{_<_};
+ghost use Rattle.state.specs.Formed.{Formed};
+ghost use Rattle.reads.specs.Reads.{committeeNumber, committeeAnswer, shareAnswer, certificateNumber, certificateAnswer, blockAnswer};
+
+// The committee of a round: sixteen weights, 0 for a non-member; all 0 where the read is refused.
+pub struct CommitteeRead {
+    pub answer: Answer,
+    pub weights: [u64; 16],
+}
+
+// A member's share in thousandths.
+pub enum ShareRead {
+    Thousandths(u32),
+    Refused(u32),
+}
+
+// A held certificate: its proposal, and the number of its block, 0 for none; nothing where the read is refused.
+pub struct CertificateRead {
+    pub answer: Answer,
+    pub proposal: Proposal,
+    pub block: u32,
+}
+
+// The round of a block.
+pub enum BlockRead {
+    At(Round),
+    Refused(u32),
+}
+
+// The number of the first check that refuses a read of a committee, 0 for none.
+fn committee_number(s: State, t: &[u32], r: Round) -> u32
+    ensures { λ v. ⌜ v ≡ committeeNumber s (now (t .entry)) (r .0) ⌝ }
+{
+    if !state::well_formed(s, t) {
+        return 1;
+    }
+    if member::checks::is_bad_round(s.settings, r) {
+        return 5;
+    }
+    if !walk::known(t, s.settings, s.blocks, r) {
+        return 8;
+    }
+    0
+}
+
+pub fn committee(s: State, t: &[u32], r: Round) -> CommitteeRead
+    ensures { λ v. ⌜ v ≡ committeeAnswer s (now (t .entry)) (r .0) ⌝ }
+{
+    let n = committee_number(s, t, r);
+    if n != 0 {
+        return CommitteeRead {
+            answer: Answer::Refused(n),
+            weights: [0u64; 16],
+        };
+    }
+    CommitteeRead {
+        answer: Answer::Accepted,
+        weights: walk::committee_of(t, s.settings, s.blocks, r),
+    }
+}
+
+// Checks 5, 8, 9 of a share, or the share.
+fn share_of(s: State, t: &[u32], m: Member, r: Round) -> ShareRead
+    requires { ⌜ Formed s (now t) × (m .0 < 16) ⌝ }
+    ensures { λ v. ⌜ v ≡ shareAnswer s (now (t .entry)) (m .0) (r .0) ⌝ }
+{
+    if member::checks::is_bad_round(s.settings, r) {
+        return ShareRead::Refused(5);
+    }
+    if !walk::known(t, s.settings, s.blocks, r) {
+        return ShareRead::Refused(8);
+    }
+    let w = walk::committee_of(t, s.settings, s.blocks, r);
+    if !committee::is_member(&w, m) {
+        return ShareRead::Refused(9);
+    }
+    ShareRead::Thousandths(committee::share(&w, m))
+}
+
+pub fn share(s: State, t: &[u32], m: Member, r: Round) -> ShareRead
+    ensures { λ v. ⌜ v ≡ shareAnswer s (now (t .entry)) (m .0) (r .0) ⌝ }
+{
+    if !state::well_formed(s, t) {
+        return ShareRead::Refused(1);
+    }
+    if 15 < m.0 {
+        return ShareRead::Refused(4);
+    }
+    share_of(s, t, m, r)
+}
+
+// The number of the first check that refuses a read of a certificate, 0 for none.
+fn certificate_number(s: State, t: &[u32], m: Member, r: Round) -> u32
+    ensures { λ v. ⌜ v ≡ certificateNumber s (now (t .entry)) (m .0) (r .0) ⌝ }
+{
+    if !state::well_formed(s, t) {
+        return 1;
+    }
+    if 15 < m.0 {
+        return 4;
+    }
+    if member::checks::is_bad_round(s.settings, r) {
+        return 5;
+    }
+    if !store::held(t, m, r) {
+        return 23;
+    }
+    0
+}
+
+pub fn certificate(s: State, t: &[u32], m: Member, r: Round) -> CertificateRead
+    ensures { λ v. ⌜ v ≡ certificateAnswer s (now (t .entry)) (m .0) (r .0) ⌝ }
+{
+    let n = certificate_number(s, t, m, r);
+    if n != 0 {
+        return CertificateRead {
+            answer: Answer::Refused(n),
+            proposal: Proposal {
+                author: Member(0),
+                round: Round(0),
+                body: member::open::no_body(),
+            },
+            block: 0,
+        };
+    }
+    CertificateRead {
+        answer: Answer::Accepted,
+        proposal: store::record::proposal_at(t, m, r),
+        block: store::record::mark(t, m, r),
+    }
+}
+
+pub fn block(s: State, t: &[u32], k: u32) -> BlockRead
+    ensures { λ v. ⌜ v ≡ blockAnswer s (now (t .entry)) k ⌝ }
+{
+    if !state::well_formed(s, t) {
+        return BlockRead::Refused(1);
+    }
+    if k == 0 {
+        return BlockRead::Refused(23);
+    }
+    if s.blocks < k {
+        return BlockRead::Refused(23);
+    }
+    let r = store::block_round(t, k);
+    BlockRead::At(Round(r))
+}
