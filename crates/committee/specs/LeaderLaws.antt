@@ -37,7 +37,7 @@ count-le set (suc n) = go (set n) (count-le set n)
     go true h = omega arith
     go false h = omega arith
 
-pub count-up : (set : ℕ → Bool) (i n : ℕ) → i ≤ n → countBelow set i ≤ countBelow set n
+count-up : (set : ℕ → Bool) (i n : ℕ) → i ≤ n → countBelow set i ≤ countBelow set n
 unfolding countBelow
 count-up set i n h = sum-up (λ j. cond (set j) 1 0) i n h
 
@@ -112,14 +112,14 @@ set-in w (suc n) i h = go (members (weightIn w) n) refl (ℕ-discrete n i) (set-
     go false e (no q) f = rw (low q) f
 
 -- who is a member is in the set
-pub in-members : (w : List ℕ) (i : ℕ) → i < 16 → isIn (memberSet w) i ≡ members (weightIn w) i
+in-members : (w : List ℕ) (i : ℕ) → i < 16 → isIn (memberSet w) i ≡ members (weightIn w) i
 unfolding memberSet
 in-members w i h = set-in w 16 i (omega arith) ∙ rw (lt-ltb i 16 h) refl
 
-pub set-count : (w : List ℕ) → countBelow (isIn (memberSet w)) 16 ≡ countBelow (members (weightIn w)) 16
+set-count : (w : List ℕ) → countBelow (isIn (memberSet w)) 16 ≡ countBelow (members (weightIn w)) 16
 set-count w = count-same (isIn (memberSet w)) (members (weightIn w)) 16 (in-members w)
 
-pub set-at : (w : List ℕ) (k : ℕ) → memberAt (isIn (memberSet w)) k ≡ memberAt (members (weightIn w)) k
+set-at : (w : List ℕ) (k : ℕ) → memberAt (isIn (memberSet w)) k ≡ memberAt (members (weightIn w)) k
 unfolding memberAt
 set-at w k = below-same (isIn (memberSet w)) (members (weightIn w)) 16 k (in-members w)
 

@@ -20,7 +20,7 @@ fn join(w: &[u64; 16], set: u32, m: Member) -> u32
 }
 
 // The members of a committee, as a set.
-pub fn member_set(w: &[u64; 16]) -> u32
+fn member_set(w: &[u64; 16]) -> u32
     ensures { λ v. ⌜ v ≡ memberSet (now (w .entry)) ⌝ }
 {
     let mut set: u32 = 0;
@@ -42,7 +42,7 @@ fn one(set: u32, m: Member) -> u32
 }
 
 // How many are in the set.
-pub fn count(set: u32) -> u32
+fn count(set: u32) -> u32
     ensures { λ v. ⌜ v ≡ countBelow (isIn set) 16 ⌝ }
 {
     let mut n: u32 = 0;

@@ -13,7 +13,7 @@ use Rattle.store.specs.TableLaws.{held-in}
 use Rattle.walk.specs.Links.{Marked, First, Links}
 
 -- what a place of a member and a round holds
-pub marked-at : {t : List ℕ} {k : ℕ} (m r : ℕ) → m < 16 → Marked t k (r * 16 + m) → (heldAt t m r ≡ true) × (markAt t m r ≡ k)
+marked-at : {t : List ℕ} {k : ℕ} (m r : ℕ) → m < 16 → Marked t k (r * 16 + m) → (heldAt t m r ≡ true) × (markAt t m r ≡ k)
 marked-at {t} {k} m r h x =
     let i : (r * 16 + m) % 16 ≡ m = omega arith in
     let q : (r * 16 + m) / 16 ≡ r = omega arith in

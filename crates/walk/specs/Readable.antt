@@ -17,6 +17,6 @@ pub record Readable (S : Settings) (t : List ℕ) (blocks : ℕ) : Type 0 where
 
 -- the starting weights, changed by the first k blocks, none of which has a round above q
 pub record Stands (S : Settings) (t : List ℕ) (blocks q k : ℕ) (w : List ℕ) : Type 0 where
-  pub some : k ≤ blocks
+  pub within : k ≤ blocks
   pub passed : lastRound t k ≤ q
   pub weights : w ≡ afterBlocks (S .ceiling .0) t k (S .weights)

@@ -39,16 +39,16 @@ readable S t blocks f l e =
 
 module _ {S : Settings} {t : List ℕ} {blocks : ℕ} where
   pub stands-start : (q : ℕ) → Stands S t blocks q 0 (S .weights)
-  stands-start q = record { some = omega arith; passed = omega (arith, last-none t); weights = sym (after-none (S .ceiling .0) t (S .weights)) }
+  stands-start q = record { within = omega arith; passed = omega (arith, last-none t); weights = sym (after-none (S .ceiling .0) t (S .weights)) }
 
   pub stands-up : {q k : ℕ} {w : List ℕ} (q′ : ℕ) → q ≤ q′ → Stands S t blocks q k w → Stands S t blocks q′ k w
-  stands-up q′ h s = record { some = s .some; passed = let p = s .passed in omega arith; weights = s .weights }
+  stands-up q′ h s = record { within = s .within; passed = let p = s .passed in omega arith; weights = s .weights }
 
   -- one block more
   pub stands-next : {q k : ℕ} {w : List ℕ} (v : List ℕ) → k < blocks → blockRound t (k + 1) ≤ q → v ≡ blockChange (S .ceiling .0) t k w → Stands S t blocks q k w → Stands S t blocks q (k + 1) v
   stands-next {q} {k} {w} v h l e s =
       record {
-        some = omega arith;
+        within = omega arith;
         passed = rw (last-some t (k + 1) (λ z. omega arith)) l;
         weights = rw (e, after-more (S .ceiling .0) t k (S .weights), s .weights) refl;
       }
@@ -58,12 +58,12 @@ module _ {S : Settings} {t : List ℕ} {blocks : ℕ} where
       → w ≡ bondedFrom (S .ceiling .0) (S .weights) (chainOf (S .ceiling .0) t blocks) s
   stands-bonded {k} {w} s h a f x =
       let p = x .passed in
-      x .weights ∙ sym (bonded-split (S .ceiling .0) t blocks (a .rounds) (S .weights) s k blocks (x .some) (omega arith) (omega arith) f)
+      x .weights ∙ sym (bonded-split (S .ceiling .0) t blocks (a .rounds) (S .weights) s k blocks (x .within) (omega arith) (omega arith) f)
 
   -- before the first block's round it is the starting one
   pub stands-first : {k : ℕ} {w : List ℕ} → Readable S t blocks → Stands S t blocks 0 k w → w ≡ S .weights
   stands-first {k} {w} a s =
-      let p = last-from (S .ceiling .0) t blocks (a .rounds) k (s .some) in
+      let p = last-from (S .ceiling .0) t blocks (a .rounds) k (s .within) in
       let q = s .passed in
       let e : k ≡ 0 = omega arith in
       s .weights ∙ rw e (after-none (S .ceiling .0) t (S .weights))

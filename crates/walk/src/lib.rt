@@ -69,7 +69,7 @@ pub fn committee_of(t: &[u32], s: Settings, blocks: u32, r: Round) -> [u64; 16]
     let mut head = [end; 512];
     let mut next = [0u32; 16400];
     crate::links::link_rows(t, &mut head, &mut next, s.ceiling);
-    let k = crate::advance::advance(t, &head, &next, s, blocks, 0, r, &mut w);
+    crate::advance::advance(t, &head, &next, s, blocks, 0, r, &mut w);
     w
 }
 
