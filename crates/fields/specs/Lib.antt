@@ -1,0 +1,12 @@
+pub mod Fields
+pub mod FieldLaws
+pub mod Numbers
+pub mod NumberLaws
+pub mod Steps
+pub mod StepLaws
+pub mod Words
+pub mod Triples
+pub mod Bodies
+pub mod BodyLaws
+pub mod TripleLaws
+pub mod WordLaws
