@@ -10,6 +10,7 @@ use Rattle.terms.specs.declared.Transaction.{Transaction}
 use Rattle.terms.specs.declared.Body.{Body}
 use Rattle.fields.specs.Triples.{before}
 use Rattle.fields.specs.Bodies.{bodyOf, push, pushAll, onto}
+use Rattle.fields.specs.Readings.{triplesOf}
 
 push-body : (p : ℕ) (l : List Transaction) (x : Transaction) → push (bodyOf p l) x ≡ bodyOf p (l ++ (x ∷ []))
 unfolding push bodyOf
@@ -27,7 +28,7 @@ unfolding pushAll
 push-all p l [] = ap (bodyOf p) (sym (append-nil l))
 push-all p l (x ∷ m) = rw (push-body p l x) (push-all p (l ++ (x ∷ [])) m ∙ ap (bodyOf p) (append-assoc l (x ∷ []) m))
 
-pub pushed-all : (p : ℕ) (l : List Transaction) → pushAll (bodyOf p []) l ≡ bodyOf p l
+pushed-all : (p : ℕ) (l : List Transaction) → pushAll (bodyOf p []) l ≡ bodyOf p l
 pushed-all p l = push-all p [] l
 
 -- a transaction that is read is pushed before the rest
@@ -40,3 +41,11 @@ onto-before b x (some l) = refl
 pub onto-end : (b : Body) → pushAll b [] ≡ b
 unfolding pushAll
 onto-end b = refl
+
+pub onto-none : (b : Body) (p : ℕ) (o : Option (List Transaction)) → b ≡ bodyOf p [] → onto b o ≡ triplesOf p o
+onto-none b p none e = refl
+onto-none b p (some l) e = rw (e, pushed-all p l) refl
+
+pub body-count : (p : ℕ) → bodyOf p [] .count ≡ 0
+unfolding bodyOf
+body-count p = refl

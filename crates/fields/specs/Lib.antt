@@ -10,3 +10,9 @@ pub mod Bodies
 pub mod BodyLaws
 pub mod TripleLaws
 pub mod WordLaws
+pub mod Requests
+pub mod Readings
+pub mod SettingLaws
+pub mod RequestLaws
+pub mod DamageLaws
+pub mod DamagedRequests

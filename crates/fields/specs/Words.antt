@@ -3,8 +3,8 @@ use mathlib.Core.Bool.{Bool, true, false, cond, _&&_}
 use mathlib.Core.List.{List, [], _∷_}
 use Prim.Native.Nat.{ℕ}
 use lib.Dec.{eqb}
-use Rattle.fields.specs.declared.word.Kind.{Kind}
-use Rattle.fields.specs.declared.word.Kind.the-variants.{Unreadable, Open, Propose, Endorse, Certify, Accept, Advance, Commit, Chain}
+use Rattle.fields.specs.declared.Kind.{Kind}
+use Rattle.fields.specs.declared.Kind.the-variants.{Unreadable, Open, Propose, Endorse, Certify, Accept, Advance, Commit, Chain}
 
 -- the same bytes
 unfoldable pub sameBytes : List ℕ → List ℕ → Bool

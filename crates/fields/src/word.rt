@@ -1,19 +1,7 @@
 // The words that records start with.
+use crate::Kind;
 ghost use mathlib.Core.Path.{_≡_};
 ghost use Rattle.fields.specs.Words.{sameBytes, named};
-
-// What a record asks for.
-pub enum Kind {
-    Unreadable,
-    Open,
-    Propose,
-    Endorse,
-    Certify,
-    Accept,
-    Advance,
-    Commit,
-    Chain,
-}
 
 // Does the field hold these bytes?
 pub fn is_same(f: &[u8], w: &[u8]) -> bool
