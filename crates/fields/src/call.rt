@@ -93,7 +93,7 @@ pub fn read_open(rec: &[u8], at: usize) -> Reading
     requires { ⌜ at ≤ length (now rec) + 1 ⌝ }
     ensures { λ r. ⌜ r ≡ readingOf (openOf (fieldsFrom (now (rec .entry)) at)) ⌝ }
 {
-    let o = crate::number::number_at(rec, at, 4294967295);
+    let o = crate::number::number_at(rec, at, crate::number::MOST);
     let own = o.number;
     let Number::Of(own_number) = own else {
         return unreadable();
@@ -139,7 +139,7 @@ pub fn read_propose(rec: &[u8], at: usize) -> Reading
     requires { ⌜ (at ≤ length (now rec) + 1) × (length (now rec) ≤ 1022) ⌝ }
     ensures { λ r. ⌜ r ≡ readingOf (proposeOf (fieldsFrom (now (rec .entry)) at)) ⌝ }
 {
-    let p = crate::number::number_at(rec, at, 65535);
+    let p = crate::number::number_at(rec, at, crate::number::MOST_SET);
     let x = p.number;
     let Number::Of(previous) = x else {
         return unreadable();
@@ -160,17 +160,17 @@ pub fn read_endorse(rec: &[u8], at: usize) -> Reading
     requires { ⌜ (at ≤ length (now rec) + 1) × (length (now rec) ≤ 1022) ⌝ }
     ensures { λ r. ⌜ r ≡ readingOf (endorseOf (fieldsFrom (now (rec .entry)) at)) ⌝ }
 {
-    let a = crate::number::number_at(rec, at, 4294967295);
+    let a = crate::number::number_at(rec, at, crate::number::MOST);
     let x = a.number;
     let Number::Of(author) = x else {
         return unreadable();
     };
-    let r = crate::number::number_at(rec, a.next, 4294967295);
+    let r = crate::number::number_at(rec, a.next, crate::number::MOST);
     let y = r.number;
     let Number::Of(round) = y else {
         return unreadable();
     };
-    let p = crate::number::number_at(rec, r.next, 65535);
+    let p = crate::number::number_at(rec, r.next, crate::number::MOST_SET);
     let z = p.number;
     let Number::Of(previous) = z else {
         return unreadable();
@@ -191,7 +191,7 @@ pub fn read_certify(rec: &[u8], at: usize) -> Reading
     requires { ⌜ at ≤ length (now rec) + 1 ⌝ }
     ensures { λ r. ⌜ r ≡ readingOf (certifyOf (fieldsFrom (now (rec .entry)) at)) ⌝ }
 {
-    let e = crate::number::number_at(rec, at, 65535);
+    let e = crate::number::number_at(rec, at, crate::number::MOST_SET);
     let x = e.number;
     let Number::Of(endorsers) = x else {
         return unreadable();
@@ -208,22 +208,22 @@ pub fn read_accept(rec: &[u8], at: usize) -> Reading
     requires { ⌜ (at ≤ length (now rec) + 1) × (length (now rec) ≤ 1022) ⌝ }
     ensures { λ r. ⌜ r ≡ readingOf (acceptOf (fieldsFrom (now (rec .entry)) at)) ⌝ }
 {
-    let a = crate::number::number_at(rec, at, 4294967295);
+    let a = crate::number::number_at(rec, at, crate::number::MOST);
     let x = a.number;
     let Number::Of(author) = x else {
         return unreadable();
     };
-    let r = crate::number::number_at(rec, a.next, 4294967295);
+    let r = crate::number::number_at(rec, a.next, crate::number::MOST);
     let y = r.number;
     let Number::Of(round) = y else {
         return unreadable();
     };
-    let p = crate::number::number_at(rec, r.next, 65535);
+    let p = crate::number::number_at(rec, r.next, crate::number::MOST_SET);
     let z = p.number;
     let Number::Of(previous) = z else {
         return unreadable();
     };
-    let e = crate::number::number_at(rec, p.next, 65535);
+    let e = crate::number::number_at(rec, p.next, crate::number::MOST_SET);
     let v = e.number;
     let Number::Of(endorsers) = v else {
         return unreadable();

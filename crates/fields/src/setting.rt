@@ -36,7 +36,7 @@ fn setting_in(f: &[u8]) -> SettingRead
     if f.len() == 0 {
         return SettingRead::Of(Setting::Blank);
     }
-    let n = crate::number::decimal(f, 4294967295);
+    let n = crate::number::decimal(f, crate::number::MOST);
     match n {
         Number::Unreadable => SettingRead::Unreadable,
         Number::Of(v) => SettingRead::Of(Setting::Written(v)),

@@ -115,7 +115,7 @@ pub fn from_number(rec: &[u8], at: usize, body: Body, kind: u32) -> Triples
     requires { ⌜ Going (now rec) at (body .count) ⌝ }
     ensures { λ r. ⌜ r ≡ onto body (atNumber (fieldsFrom (now (rec .entry)) at) kind) ⌝ }
 {
-    let s = crate::number::number_at(rec, at, 4294967295);
+    let s = crate::number::number_at(rec, at, crate::number::MOST);
     let n = s.number;
     let Number::Of(number) = n else {
         return refused();
@@ -128,7 +128,7 @@ pub fn from_amount(rec: &[u8], at: usize, body: Body, kind: u32, number: u32) ->
     requires { ⌜ Going (now rec) at (body .count) ⌝ }
     ensures { λ r. ⌜ r ≡ onto body (atAmount (fieldsFrom (now (rec .entry)) at) kind number) ⌝ }
 {
-    let s = crate::number::number_at(rec, at, 4294967295);
+    let s = crate::number::number_at(rec, at, crate::number::MOST);
     let a = s.number;
     let Number::Of(amount) = a else {
         return refused();
