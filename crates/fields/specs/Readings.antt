@@ -16,7 +16,7 @@ use Rattle.fields.specs.declared.Kind.the-variants.{Unreadable, Open, Pr
 use Rattle.fields.specs.declared.Reading.{Reading}
 use Rattle.fields.specs.declared.triple.Triples.{Triples}
 use Rattle.fields.specs.declared.setting.SettingRead.{SettingRead}
-use Rattle.fields.specs.declared.setting.SettingRead.the-variants.{Unreadable as NoSetting, Of}
+use Rattle.fields.specs.declared.setting.SettingRead.the-variants.{NoSetting, Is}
 use Rattle.fields.specs.declared.setting.Weights.{Weights}
 use Rattle.fields.specs.Numbers.{given}
 use Rattle.fields.specs.Bodies.{bodyOf, refusedTriples}
@@ -78,7 +78,7 @@ triplesReading k a r p e o = given o (plainReading Unreadable) (λ l. callReadin
 -- what reading a setting, and sixteen weights, comes to
 abbrev pub settingFound : Option Setting → SettingRead
 settingFound none = NoSetting
-settingFound (some x) = Of x
+settingFound (some x) = Is x
 
 abbrev pub noWeights : Weights
 noWeights = record { ok = false; cells = replicate 16 (record { setting = Blank }) }

@@ -10,11 +10,11 @@ use Rattle.terms.specs.declared.Transaction.{Transaction}
 use Rattle.sheet.specs.declared.Setting.{Setting}
 use Rattle.sheet.specs.declared.Cell.{Cell}
 use Rattle.fields.specs.declared.Kind.{Kind}
-use Rattle.fields.specs.declared.Kind.the-variants.{Unreadable as NoKind}
+use Rattle.fields.specs.declared.Kind.the-variants.{Unreadable}
 use Rattle.fields.specs.declared.number.Number.{Number}
-use Rattle.fields.specs.declared.number.Number.the-variants.{Unreadable, Of}
+use Rattle.fields.specs.declared.number.Number.the-variants.{NoNumber, Of}
 use Rattle.fields.specs.declared.setting.SettingRead.{SettingRead}
-use Rattle.fields.specs.declared.setting.SettingRead.the-variants.{Unreadable as NoSetting, Of as ASetting}
+use Rattle.fields.specs.declared.setting.SettingRead.the-variants.{NoSetting, Is}
 use Rattle.fields.specs.declared.setting.Weights.{Weights}
 use Rattle.fields.specs.Fields.{fieldsFrom}
 use Rattle.fields.specs.FieldLaws.{from-step, from-none}
@@ -54,12 +54,12 @@ module _ (m : ℕ) (s : List ℕ) (at : ℕ) (k : ℕ → List (List ℕ) → Re
   pub number-goes : {n : ℕ} {next : ℕ} → Stepped s at next → r ≡ Of n → nextBy (numberTo m) (fieldsFrom s at) k ≡ k n (fieldsFrom s next)
   number-goes {n} {next} t q = next-goes (numberTo m) k (fieldsFrom s at) n (found-of _ n (sym e ∙ q)) ∙ ap (k n) (sym (t .fields-after))
 
-  pub number-stops : r ≡ Unreadable → nextBy (numberTo m) (fieldsFrom s at) k ≡ unreadable
+  pub number-stops : r ≡ NoNumber → nextBy (numberTo m) (fieldsFrom s at) k ≡ unreadable
   number-stops q = next-fails (numberTo m) k (fieldsFrom s at) (found-none _ (sym e ∙ q))
 
 -- a step over a setting
 module _ (s : List ℕ) (at : ℕ) (k : Setting → List (List ℕ) → Request) {r : SettingRead} (e : r ≡ settingFound (firstBy setting (fieldsFrom s at))) where
-  pub setting-goes : {x : Setting} {next : ℕ} → Stepped s at next → r ≡ ASetting x → nextBy setting (fieldsFrom s at) k ≡ k x (fieldsFrom s next)
+  pub setting-goes : {x : Setting} {next : ℕ} → Stepped s at next → r ≡ Is x → nextBy setting (fieldsFrom s at) k ≡ k x (fieldsFrom s next)
   setting-goes {x} {next} t q = next-goes setting k (fieldsFrom s at) x (setting-of _ x (sym e ∙ q)) ∙ ap (k x) (sym (t .fields-after))
 
   pub setting-stops : r ≡ NoSetting → nextBy setting (fieldsFrom s at) k ≡ unreadable
@@ -109,10 +109,10 @@ end-here q s at h = rw (from-none s at h) refl
 
 -- a call that ends in triples, by what reading those came to
 module _ (K : Kind) (a r p e : ℕ) (o : Option (List Transaction)) {t : Triples} (q : t ≡ triplesOf p o) where
-  pub triples-stop : t .ok ≡ false → triplesReading K a r p e o ≡ plainReading NoKind
+  pub triples-stop : t .ok ≡ false → triplesReading K a r p e o ≡ plainReading Unreadable
   triples-stop h = go o (rw q at h)
     where
-      go : (o : Option (List Transaction)) → triplesOf p o .ok ≡ false → triplesReading K a r p e o ≡ plainReading NoKind
+      go : (o : Option (List Transaction)) → triplesOf p o .ok ≡ false → triplesReading K a r p e o ≡ plainReading Unreadable
       go none h = refl
       go (some l) h = absurd (true≢false h)
 

@@ -10,7 +10,7 @@ use Rattle.sheet.specs.declared.Setting.{Setting}
 use Rattle.sheet.specs.declared.Setting.the-variants.{Blank, Written}
 use Rattle.sheet.specs.declared.Cell.{Cell}
 use Rattle.fields.specs.declared.setting.SettingRead.{SettingRead}
-use Rattle.fields.specs.declared.setting.SettingRead.the-variants.{Unreadable, Of}
+use Rattle.fields.specs.declared.setting.SettingRead.the-variants.{NoSetting, Is}
 use Rattle.fields.specs.Fields.{fieldsFrom}
 use Rattle.fields.specs.FieldLaws.{from-step, from-none}
 use Rattle.fields.specs.Numbers.{number, setting}
@@ -35,11 +35,11 @@ no-field [] h e = absurd (h refl)
 no-field (b ∷ f) h e = rw e refl
 
 -- what was found
-pub setting-of : (o : Option Setting) (x : Setting) → settingFound o ≡ Of x → o ≡ some x
+pub setting-of : (o : Option Setting) (x : Setting) → settingFound o ≡ Is x → o ≡ some x
 setting-of none x e = let z : _≡_ {A = ℕ} 0 1 = cc in absurd (omega arith)
 setting-of (some y) x e = let h : y ≡ x = cc in rw h refl
 
-pub setting-none : (o : Option Setting) → settingFound o ≡ Unreadable → o ≡ none
+pub setting-none : (o : Option Setting) → settingFound o ≡ NoSetting → o ≡ none
 setting-none none e = refl
 setting-none (some y) e = let z : _≡_ {A = ℕ} 0 1 = cc in absurd (omega arith)
 
@@ -69,12 +69,12 @@ cells-front n (f ∷ fs) = refl
 
 -- one field more, of m that are left
 module _ (l : List Cell) {m : ℕ} {n : ℕ} (h : m ≡ suc n) (s : List ℕ) (at : ℕ) {r : SettingRead} (e : r ≡ settingFound (firstBy setting (fieldsFrom s at))) where
-  pub cells-more : {x : Setting} {next : ℕ} → Stepped s at next → r ≡ Of x → following l (cellsIn m (fieldsFrom s at)) ≡ following (l ++ (record { setting = x } ∷ [])) (cellsIn n (fieldsFrom s next))
+  pub cells-more : {x : Setting} {next : ℕ} → Stepped s at next → r ≡ Is x → following l (cellsIn m (fieldsFrom s at)) ≡ following (l ++ (record { setting = x } ∷ [])) (cellsIn n (fieldsFrom s next))
   cells-more {x} {next} t q =
       let fs = fieldsFrom s at in
       rw (h, cells-front n fs, setting-of (firstBy setting fs) x (sym e ∙ q), t .fields-after) (following-front l x (cellsIn n (rest fs)))
 
-  pub cells-stop : r ≡ Unreadable → following l (cellsIn m (fieldsFrom s at)) ≡ none
+  pub cells-stop : r ≡ NoSetting → following l (cellsIn m (fieldsFrom s at)) ≡ none
   cells-stop q =
       let fs = fieldsFrom s at in
       rw (h, cells-front n fs, setting-none (firstBy setting fs) (sym e ∙ q)) (following-none l)

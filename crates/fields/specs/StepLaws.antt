@@ -8,7 +8,7 @@ use Prim.Native.Nat.{ℕ, _+_, _≤_, _<_}
 use lib.ListN.{length, drop}
 use Rattle.fields.specs.Fields.{untilComma, fieldsFrom}
 use Rattle.fields.specs.FieldLaws.{from-step, from-none}
-use Rattle.fields.specs.declared.number.Number.the-variants.{Unreadable, Of}
+use Rattle.fields.specs.declared.number.Number.the-variants.{NoNumber, Of}
 use Rattle.fields.specs.Steps.{found, firstBy, rest, Stepped}
 
 -- where something was read, and where not
@@ -16,7 +16,7 @@ pub found-of : (o : Option ℕ) (n : ℕ) → found o ≡ Of n → o ≡ some n
 found-of none n e = let z : _≡_ {A = ℕ} 0 1 = cc in absurd (omega arith)
 found-of (some m) n e = let h : m ≡ n = cc in rw h refl
 
-pub found-none : (o : Option ℕ) → found o ≡ Unreadable → o ≡ none
+pub found-none : (o : Option ℕ) → found o ≡ NoNumber → o ≡ none
 found-none none e = refl
 found-none (some m) e = let z : _≡_ {A = ℕ} 0 1 = cc in absurd (omega arith)
 

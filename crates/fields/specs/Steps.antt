@@ -5,11 +5,11 @@ use mathlib.Core.Option.{Option, none, some}
 use Prim.Native.Nat.{ℕ, _+_, _≤_, _<_}
 use lib.ListN.{length}
 use Rattle.fields.specs.declared.number.Number.{Number}
-use Rattle.fields.specs.declared.number.Number.the-variants.{Unreadable, Of}
+use Rattle.fields.specs.declared.number.Number.the-variants.{NoNumber, Of}
 use Rattle.fields.specs.Fields.{fieldsFrom}
 
 abbrev pub found : Option ℕ → Number
-found none = Unreadable
+found none = NoNumber
 found (some n) = Of n
 
 -- what the first field of fs holds; where there is no field, nothing readable

@@ -100,17 +100,17 @@ pub fn read_open(rec: &[u8], at: usize) -> Reading
     };
     let l = crate::setting::setting_at(rec, o.next);
     let lookback = l.setting;
-    let SettingRead::Of(lookback_set) = lookback else {
+    let SettingRead::Is(lookback_set) = lookback else {
         return unreadable();
     };
     let c = crate::setting::setting_at(rec, l.next);
     let ceiling = c.setting;
-    let SettingRead::Of(ceiling_set) = ceiling else {
+    let SettingRead::Is(ceiling_set) = ceiling else {
         return unreadable();
     };
     let a = crate::setting::setting_at(rec, c.next);
     let allowance = a.setting;
-    let SettingRead::Of(allowance_set) = allowance else {
+    let SettingRead::Is(allowance_set) = allowance else {
         return unreadable();
     };
     let w = crate::setting::weights_at(rec, a.next);

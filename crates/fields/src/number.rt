@@ -13,7 +13,7 @@ pub const MOST_SET: u32 = 65535;
 
 // What a field holds.
 pub enum Number {
-    Unreadable,
+    NoNumber,
     Of(u32),
 }
 
@@ -35,21 +35,21 @@ pub fn decimal(f: &[u8], m: u32) -> Number
     ensures { λ r. ⌜ r ≡ found (numberTo m (now (f .entry))) ⌝ }
 {
     if !is_plain(f) {
-        return Number::Unreadable;
+        return Number::NoNumber;
     }
     let mut v: u64 = 0;
     let mut i = 0;
     while i < f.len() {
         let b = f[i];
         if b < 48 {
-            return Number::Unreadable;
+            return Number::NoNumber;
         }
         if 57 < b {
-            return Number::Unreadable;
+            return Number::NoNumber;
         }
         v = v * 10 + ((b - 48) as u64);
         if (m as u64) < v {
-            return Number::Unreadable;
+            return Number::NoNumber;
         }
         i += 1;
     }
@@ -69,7 +69,7 @@ pub fn number_at(rec: &[u8], at: usize, m: u32) -> Step
 {
     if rec.len() < at {
         return Step {
-            number: Number::Unreadable,
+            number: Number::NoNumber,
             next: at,
         };
     }

@@ -13,8 +13,8 @@ ghost use Rattle.fields.specs.Readings.{settingFound, noWeights, weights
 
 // What a field of the sheet holds.
 pub enum SettingRead {
-    Unreadable,
-    Of(Setting),
+    NoSetting,
+    Is(Setting),
 }
 
 // A setting that was read, and the place of the next field.
@@ -34,12 +34,12 @@ fn setting_in(f: &[u8]) -> SettingRead
     ensures { λ r. ⌜ r ≡ settingFound (setting (now (f .entry))) ⌝ }
 {
     if f.len() == 0 {
-        return SettingRead::Of(Setting::Blank);
+        return SettingRead::Is(Setting::Blank);
     }
     let n = crate::number::decimal(f, crate::number::MOST);
     match n {
-        Number::Unreadable => SettingRead::Unreadable,
-        Number::Of(v) => SettingRead::Of(Setting::Written(v)),
+        Number::NoNumber => SettingRead::NoSetting,
+        Number::Of(v) => SettingRead::Is(Setting::Written(v)),
     }
 }
 
@@ -50,7 +50,7 @@ pub fn setting_at(rec: &[u8], at: usize) -> SettingStep
 {
     if rec.len() < at {
         return SettingStep {
-            setting: SettingRead::Unreadable,
+            setting: SettingRead::NoSetting,
             next: at,
         };
     }
@@ -88,7 +88,7 @@ pub fn weights_at(rec: &[u8], at: usize) -> Weights
     while i < 16 {
         let s = setting_at(rec, place);
         let x = s.setting;
-        let SettingRead::Of(setting) = x else {
+        let SettingRead::Is(setting) = x else {
             return no_weights();
         };
         let cell = Cell { setting: setting };

@@ -71,7 +71,7 @@ fn kind_named(f: &[u8]) -> Number
     if crate::word::is_same(f, b"E") {
         return Number::Of(2);
     }
-    Number::Unreadable
+    Number::NoNumber
 }
 
 // A body with the transaction of a kind, a number and an amount, which is 0 for all but bonds.
