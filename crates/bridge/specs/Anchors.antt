@@ -1,19 +1,19 @@
 -- The leaders that are left are the anchors that the theory takes.
-use mathlib.Core.Path.{_≡_, refl, sym, ap, ap₂, _∙_, subst}
-use mathlib.Core.Bool.{Bool, true, false, cond, _&&_}
+use mathlib.Core.Path.{_≡_, refl, sym, ap, _∙_, subst}
+use mathlib.Core.Bool.{Bool, true, false, cond}
 use mathlib.Core.Option.{Option, none, some}
 use mathlib.Core.List.{List, [], _∷_}
 use Prim.Native.Nat.{ℕ, zero, suc, _+_, _-_, _≤_, _<_}
 use native.Mathlib.Omega.{arith}
 use lib.Dec.{ltb}
 use lib.ListN.{getD, length}
-use borrow.Author.Tests.{ltb-true, ltb-false, lt-ltb, le-ltb}
-use Rattle.base.specs.Sets.{isIn, only}
+use borrow.Author.Tests.{ltb-true, ltb-false, lt-ltb}
+use Rattle.base.specs.Sets.{only}
 use Rattle.agreement.specs.Rules.{last, Rules}
 use Rattle.agreement.specs.View.{View}
-use Rattle.agreement.specs.Dag.{isHeld, Held, Placed}
+use Rattle.agreement.specs.Dag.{isHeld, Held}
 use Rattle.agreement.specs.DagLaws.{on-place}
-use Rattle.agreement.specs.Commits.{byLeader, anchorAt, choose, taken}
+use Rattle.agreement.specs.Commits.{anchorAt, choose, taken}
 use Rattle.agreement.specs.HistoryLaws.{history-held}
 use Rattle.store.specs.Table.{Row}
 use Rattle.store.specs.TableLaws.{held-member}

@@ -1,12 +1,12 @@
 -- The chain on the table after a commit is the one that the theory's commit makes.
-use mathlib.Core.Path.{_≡_, refl, sym, ap, ap₂, _∙_, subst}
+use mathlib.Core.Path.{_≡_, refl, sym, ap, ap₂, _∙_}
 use mathlib.Core.Bool.{Bool, true, false, _&&_, cond}
-use mathlib.Core.Option.{Option, some, none}
+use mathlib.Core.Option.{Option}
 use mathlib.Core.List.{List, [], _∷_}
-use Prim.Native.Nat.{ℕ, zero, suc, _+_, _-_, _*_, _≤_, _<_}
+use Prim.Native.Nat.{ℕ, zero, suc, _+_, _-_, _≤_, _<_}
 use native.Mathlib.Decide.{ℕ-discrete}
 use native.Mathlib.Omega.{arith}
-use lib.Dec.{eqb, ltb}
+use lib.Dec.{eqb}
 use lib.ListN.{getD, length}
 use borrow.Author.Tests.{lt-ltb, le-ltb}
 use Rattle.base.specs.Sets.{only}
@@ -15,10 +15,10 @@ use Rattle.agreement.specs.View.{View}
 use Rattle.agreement.specs.Dag.{isHeld, Held}
 use Rattle.agreement.specs.DagLaws.{held-by, on-place}
 use Rattle.agreement.specs.HistoryLaws.{history-held}
-use Rattle.agreement.specs.Commits.{taken, committed}
+use Rattle.agreement.specs.Commits.{committed}
 use Rattle.agreement.specs.Marks.{Fits, chainOf, markBlock, roundsOf, marksOf}
 use Rattle.agreement.specs.MarkLaws.{marks-committed}
-use Rattle.store.specs.Table.{used, Row, markAt, blockRound}
+use Rattle.store.specs.Table.{Row, markAt, blockRound}
 use Rattle.store.specs.MarkLaws.{OnlyMarks}
 use Rattle.store.specs.TableLaws.{held-member}
 use Rattle.blocks.specs.History.{inHistory}
@@ -100,9 +100,6 @@ module _ {R : Rules} {s : View R} {c k : ℕ} {l t : List ℕ} {x : R .P} (W : R
       go (no e) =
           let y = taken-left t m (round x) l (W .above) (W .leaders) r g in
           rw (y .0) (sym (W .shows .held (getD l r 0) r (omega arith) (omega (arith, W .inside))) ∙ y .1 h (omega arith))
-
-  next : (r : ℕ) → m ≤ r → (o : Option P) → anchorIn s left (suc r) ≡ o → anchors (suc r) ≡ anchorsIn s left m (suc (r - m))
-  next r h o e = let i : suc r - m ≡ suc (r - m) = omega arith in ap (anchorsIn s left m) i
 
   made : (r b : ℕ) (u : List ℕ) → Stage m k t r b u → r < round x → getD left (suc r) 0 < 16 → Made r b u
       → Made (suc r) (suc b) (addBlock (suc b) (getD left (suc r) 0) (suc r) u)

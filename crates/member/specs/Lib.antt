@@ -7,6 +7,6 @@ pub mod OpenLaws
 pub mod PassedLaws
 pub mod Steps
 pub mod CallLaws
-pub mod NextLaws
 pub mod PieceLaws
 pub mod PlaceLaws
+pub mod NextLaws

@@ -26,6 +26,7 @@ use Rattle.state.specs.KeptLaws.{storable, propose-kept, advance-kept, endorse-
 use Rattle.state.specs.StepLaws.{view-propose, view-advance, view-endorse, view-certify, view-accept, view-open}
 use Rattle.member.specs.Open.{noBody}
 use Rattle.member.specs.OpenLaws.{opened}
+use Rattle.member.specs.PlaceLaws.{own-within, fits-within}
 use Rattle.member.specs.PassedLaws.{Fits, propose-passed, endorse-passed, certify-passed, accept-passed, advance-passed}
 use Rattle.member.specs.Steps.{Call, opens, propose, endorse, certify, accept, advance, number, outcome, tableAfter, newState, newTable, nextView, previousIn}
 use Rattle.member.specs.CallLaws.{refused-still, accepted-new}
@@ -86,12 +87,6 @@ module _ (s : State) (t : List ℕ) where
 
   -- ---- the table
 
-  own-within : Formed s t → Within t (s .own .0) (s .round .0)
-  own-within f = let n = f .numbers in record { member = n .own; row = omega (arith, f .long) }
-
-  fits-within : (p : Proposal) → Formed s t → Fits s p → Within t (p .author .0) (p .round .0)
-  fits-within p f k = record { member = k .author; row = omega (arith, f .long) }
-
   -- an accepted call changes nothing beyond the part that the state then uses
   pub new-beyond : (c : Call) → number s t c ≡ 0 → drop (used (newState s t c .settings .ceiling .0)) (newTable s t c) ≡ drop (used (newState s t c .settings .ceiling .0)) t
   new-beyond (opens own sheet) e = cleared-beyond t (filled sheet .ceiling .0)
@@ -99,12 +94,12 @@ module _ (s : State) (t : List ℕ) where
   new-beyond (endorse p) e = let k = endorse-passed s t p e in endorse-beyond (set-endorsed t (p .author .0) (p .round .0)) (s .settings .ceiling .0) (k .1 .to)
   new-beyond (certify i) e =
       let k = certify-passed s t i e in
-      put-beyond t (contentWith (s .own .0) (s .round .0) (s .body)) (own-within (k .0)) (s .settings .ceiling .0) (k .0 .numbers .round-to)
+      put-beyond t (contentWith (s .own .0) (s .round .0) (s .body)) (own-within s t (k .0)) (s .settings .ceiling .0) (k .0 .numbers .round-to)
   new-beyond (accept c) e =
       let k = accept-passed s t c e in
       let p = c .proposal in
       endorse-beyond (clear-endorsed (putCertificate t (contentOf p)) (p .author .0) (p .round .0)) (s .settings .ceiling .0) (k .1 .0 .to)
-      ∙ put-beyond t (contentOf p) (fits-within p (k .0) (k .1 .0)) (s .settings .ceiling .0) (k .1 .0 .to)
+      ∙ put-beyond t (contentOf p) (fits-within s t p (k .0) (k .1 .0)) (s .settings .ceiling .0) (k .1 .0 .to)
   new-beyond advance e = refl
 
   -- and a refused one nothing

@@ -15,7 +15,6 @@ use Rattle.store.specs.Table.{heldSet}
 use Rattle.committee.specs.Committees.{knownBy}
 use Rattle.rules.specs.Tests.{Member, badRound, above, unknown, missing}
 use Rattle.state.specs.declared.State.{State}
-use Rattle.state.specs.Formed.{Formed}
 use Rattle.state.specs.View.{view}
 use Rattle.state.specs.ViewLaws.{missing-held}
 

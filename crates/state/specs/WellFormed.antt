@@ -1,9 +1,9 @@
 -- When a state is well formed: document 01's paragraph, condition by condition.
 use mathlib.Core.Bool.{Bool, true, not, cond, _&&_}
 use mathlib.Core.List.{List}
-use Prim.Native.Nat.{ℕ, _+_, _%_}
+use Prim.Native.Nat.{ℕ}
 use lib.ListN.{length}
-use lib.Dec.{leb, ltb, eqb}
+use lib.Dec.{leb, ltb}
 use Rattle.terms.specs.declared.Body.{Body}
 use Rattle.terms.specs.Proposals.{transactionsOf, unfit, wrongSet}
 use Rattle.store.specs.Table.{used}
