@@ -1,0 +1,279 @@
+use mathlib.Core.Path.{refl}
+use Rattle.fields.specs.declared.Kind.the-variants.{Unreadable, Open, Propose, Endorse, Certify, Accept, Advance, Chain}
+use Rattle.records.specs.TurnLaws.{served-by, told-by, counted-by}
+use borrow.Author.Needs.{needs}
+use Rattle.records.proofs.serve.Statement.{statement}
+use Rattle.records.proofs.serve.Tie as tie
+use Rattle.records.proofs.serve.Reads as reads
+use Rattle.records.proofs.serve.Lts as lts
+use Rattle.commit.proofs.commit.Reads as commit-reads
+use Rattle.lines.proofs.put_refused.Reads as put-refused-reads
+use Rattle.member.proofs.accept.accept.Reads as accept-reads
+use Rattle.member.proofs.advance.advance.Reads as advance-reads
+use Rattle.member.proofs.certify.certify.Reads as certify-reads
+use Rattle.member.proofs.endorse.endorse.Reads as endorse-reads
+use Rattle.member.proofs.open.open.Reads as open-reads
+use Rattle.member.proofs.propose.propose.Reads as propose-reads
+use Rattle.records.proofs.counted.Reads as counted-reads
+use Rattle.records.proofs.listed.Reads as listed-reads
+use Rattle.records.proofs.told.Reads as told-reads
+
+-- src/lib.rt:71:71
+enum-told : tie.Need-enum-told
+enum-told c = search needs
+
+-- src/lib.rt:71:52
+put-refused-requires : tie.Need-put-refused-requires
+put-refused-requires c κs = search needs
+
+-- src/lib.rt:72:50
+enum-told-2 : tie.Need-enum-told-2
+enum-told-2 c = search needs
+
+-- src/lib.rt:72:28
+open-requires : tie.Need-open-requires
+open-requires c κs = search needs
+
+-- src/lib.rt:72:23
+told-requires : tie.Need-told-requires
+told-requires c κs = search needs
+
+-- src/lib.rt:73:59
+enum-told-3 : tie.Need-enum-told-3
+enum-told-3 c = search needs
+
+-- src/lib.rt:73:31
+propose-requires : tie.Need-propose-requires
+propose-requires c κs = search needs
+
+-- src/lib.rt:73:26
+told-requires-2 : tie.Need-told-requires-2
+told-requires-2 c κs = search needs
+
+-- src/lib.rt:74:59
+enum-told-4 : tie.Need-enum-told-4
+enum-told-4 c = search needs
+
+-- src/lib.rt:74:31
+endorse-requires : tie.Need-endorse-requires
+endorse-requires c κs = search needs
+
+-- src/lib.rt:74:26
+told-requires-3 : tie.Need-told-requires-3
+told-requires-3 c κs = search needs
+
+-- src/lib.rt:75:59
+enum-told-5 : tie.Need-enum-told-5
+enum-told-5 c = search needs
+
+-- src/lib.rt:75:31
+certify-requires : tie.Need-certify-requires
+certify-requires c κs = search needs
+
+-- src/lib.rt:75:26
+told-requires-4 : tie.Need-told-requires-4
+told-requires-4 c κs = search needs
+
+-- src/lib.rt:76:56
+enum-told-6 : tie.Need-enum-told-6
+enum-told-6 c = search needs
+
+-- src/lib.rt:76:30
+accept-requires : tie.Need-accept-requires
+accept-requires c κs = search needs
+
+-- src/lib.rt:76:25
+told-requires-5 : tie.Need-told-requires-5
+told-requires-5 c κs = search needs
+
+-- src/lib.rt:77:59
+enum-told-7 : tie.Need-enum-told-7
+enum-told-7 c = search needs
+
+-- src/lib.rt:77:31
+advance-requires : tie.Need-advance-requires
+advance-requires c κs = search needs
+
+-- src/lib.rt:77:26
+told-requires-6 : tie.Need-told-requires-6
+told-requires-6 c κs = search needs
+
+-- src/lib.rt:78:51
+enum-told-8 : tie.Need-enum-told-8
+enum-told-8 c = search needs
+
+-- src/lib.rt:78:33
+commit-requires : tie.Need-commit-requires
+commit-requires c κs = search needs
+
+-- src/lib.rt:78:25
+counted-requires : tie.Need-counted-requires
+counted-requires c κs = search needs
+
+-- src/lib.rt:79:57
+enum-told-9 : tie.Need-enum-told-9
+enum-told-9 c = search needs
+
+-- src/lib.rt:79:47
+listed-requires : tie.Need-listed-requires
+listed-requires c κs = search needs
+
+-- src/lib.rt:59:1
+same-length : tie.Need-same-length
+same-length c = search needs
+
+-- src/lib.rt:59:1
+returns : tie.Need-returns
+returns c = served-by Unreadable (c .before .before .before .before .enum-told .given .1) refl refl (c .before .before .put-refused .ensures)
+
+-- src/lib.rt:59:1
+same-length-2 : tie.Need-same-length-2
+same-length-2 c = search needs
+
+-- src/lib.rt:59:1
+same-length-3 : tie.Need-same-length-3
+same-length-3 c = search needs
+
+-- src/lib.rt:59:1
+returns-2 : tie.Need-returns-2
+returns-2 c = told-by Open (c .before .before .before .before .before .before .before .before .enum-told2 .given .1) (c .before .before .before .before .before .before .«open» .ensures .0) refl refl (c .before .before .before .before .before .before .«open» .ensures .1) (c .before .before .told .ensures)
+
+-- src/lib.rt:59:1
+same-length-4 : tie.Need-same-length-4
+same-length-4 c = search needs
+
+-- src/lib.rt:59:1
+same-length-5 : tie.Need-same-length-5
+same-length-5 c = search needs
+
+-- src/lib.rt:59:1
+returns-3 : tie.Need-returns-3
+returns-3 c = told-by Propose (c .before .before .before .before .before .before .enum-told3 .given .1) (c .before .before .before .before .propose .ensures) refl refl refl (c .before .before .told2 .ensures)
+
+-- src/lib.rt:59:1
+same-length-6 : tie.Need-same-length-6
+same-length-6 c = search needs
+
+-- src/lib.rt:59:1
+same-length-7 : tie.Need-same-length-7
+same-length-7 c = search needs
+
+-- src/lib.rt:59:1
+returns-4 : tie.Need-returns-4
+returns-4 c = told-by Endorse (c .before .before .before .before .before .before .before .before .enum-told4 .given .1) (c .before .before .before .before .before .before .endorse .ensures .0) refl refl (c .before .before .before .before .before .before .endorse .ensures .1) (c .before .before .told3 .ensures)
+
+-- src/lib.rt:59:1
+same-length-8 : tie.Need-same-length-8
+same-length-8 c = search needs
+
+-- src/lib.rt:59:1
+same-length-9 : tie.Need-same-length-9
+same-length-9 c = search needs
+
+-- src/lib.rt:59:1
+returns-5 : tie.Need-returns-5
+returns-5 c = told-by Certify (c .before .before .before .before .before .before .before .before .enum-told5 .given .1) (c .before .before .before .before .before .before .certify .ensures .0) refl refl (c .before .before .before .before .before .before .certify .ensures .1) (c .before .before .told4 .ensures)
+
+-- src/lib.rt:59:1
+same-length-10 : tie.Need-same-length-10
+same-length-10 c = search needs
+
+-- src/lib.rt:59:1
+same-length-11 : tie.Need-same-length-11
+same-length-11 c = search needs
+
+-- src/lib.rt:59:1
+returns-6 : tie.Need-returns-6
+returns-6 c = told-by Accept (c .before .before .before .before .before .before .before .before .enum-told6 .given .1) (c .before .before .before .before .before .before .accept .ensures .0) refl refl (c .before .before .before .before .before .before .accept .ensures .1) (c .before .before .told5 .ensures)
+
+-- src/lib.rt:59:1
+same-length-12 : tie.Need-same-length-12
+same-length-12 c = search needs
+
+-- src/lib.rt:59:1
+same-length-13 : tie.Need-same-length-13
+same-length-13 c = search needs
+
+-- src/lib.rt:59:1
+returns-7 : tie.Need-returns-7
+returns-7 c = told-by Advance (c .before .before .before .before .before .before .enum-told7 .given .1) (c .before .before .before .before .advance .ensures) refl refl refl (c .before .before .told6 .ensures)
+
+-- src/lib.rt:59:1
+same-length-14 : tie.Need-same-length-14
+same-length-14 c = search needs
+
+-- src/lib.rt:59:1
+same-length-15 : tie.Need-same-length-15
+same-length-15 c = search needs
+
+-- src/lib.rt:59:1
+returns-8 : tie.Need-returns-8
+returns-8 c = counted-by (c .before .before .before .before .before .before .before .before .enum-told8 .given .1) (c .before .before .before .before .before .before .commit .ensures .0) (c .before .before .before .before .before .before .commit .ensures .1) (c .before .before .counted .ensures)
+
+-- src/lib.rt:59:1
+same-length-16 : tie.Need-same-length-16
+same-length-16 c = search needs
+
+-- src/lib.rt:59:1
+same-length-17 : tie.Need-same-length-17
+same-length-17 c = search needs
+
+-- src/lib.rt:59:1
+returns-9 : tie.Need-returns-9
+returns-9 c = served-by Chain (c .before .before .before .before .before .enum-told9 .given .1) refl refl (c .before .before .listed .ensures)
+
+pub serve-spec : {M : Type 1} → statement M
+serve-spec =
+    tie.close
+    (tie.spec
+    enum-told
+    put-refused-requires
+    enum-told-2
+    open-requires
+    told-requires
+    enum-told-3
+    propose-requires
+    told-requires-2
+    enum-told-4
+    endorse-requires
+    told-requires-3
+    enum-told-5
+    certify-requires
+    told-requires-4
+    enum-told-6
+    accept-requires
+    told-requires-5
+    enum-told-7
+    advance-requires
+    told-requires-6
+    enum-told-8
+    commit-requires
+    counted-requires
+    enum-told-9
+    listed-requires
+    same-length
+    returns
+    same-length-2
+    same-length-3
+    returns-2
+    same-length-4
+    same-length-5
+    returns-3
+    same-length-6
+    same-length-7
+    returns-4
+    same-length-8
+    same-length-9
+    returns-5
+    same-length-10
+    same-length-11
+    returns-6
+    same-length-12
+    same-length-13
+    returns-7
+    same-length-14
+    same-length-15
+    returns-8
+    same-length-16
+    same-length-17
+    returns-9)
