@@ -1,7 +1,7 @@
 -- Laws of what a record does: by its kind.
 use mathlib.Core.Path.{_≡_, _∙_, sym, ap}
 use mathlib.Core.List.{List}
-use Prim.Native.Nat.{ℕ, _≤_}
+use Prim.Native.Nat.{ℕ}
 use native.Mathlib.Omega.{arith}
 use Rattle.state.specs.declared.State.{State}
 use Rattle.member.specs.declared.Outcome as called
@@ -10,13 +10,10 @@ use Rattle.commit.specs.Commit.{commitOutcome, commitTableAfter}
 use Rattle.fields.specs.declared.Kind.{Kind}
 use Rattle.fields.specs.declared.Kind.the-variants.{Commit}
 use Rattle.fields.specs.declared.Reading.{Reading}
-use Rattle.lines.specs.Puts.{Puts, puts-within}
+use Rattle.lines.specs.Puts.{Puts}
 use Rattle.records.specs.Answers.{answerLine, committedLine}
+use Rattle.records.specs.PutLaws.{puts-as}
 use Rattle.records.specs.Turns.{stateAfter, tableAfter, lineAfter, servedState, servedTable, servedLine, Served}
-
--- the same bytes under another name
-pub puts-as : {x : List ℕ} {y : List ℕ} {at : ℕ} {next : ℕ} {l : List ℕ} {m : ℕ} {k : List ℕ} → k ≡ l → m ≤ 20 → Puts x y at next l m → Puts x y at next k 20
-puts-as e h p = rw e (puts-within 20 h p)
 
 module _ {s : State} {t : List ℕ} {q : Reading} {state : State} {table : List ℕ} {x : List ℕ} {y : List ℕ} {at : ℕ} {next : ℕ} where
   pub served-by : (k : Kind) → q .kind ≡ k → state ≡ stateAfter s t q k → table ≡ tableAfter s t q k → Puts x y at next (lineAfter s t q k) 20 → Served s t q state table x y at next

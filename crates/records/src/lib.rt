@@ -1,5 +1,6 @@
 // Records served: the call that a record asks for, and the line of its answer.
 pub mod answer;
+pub mod listing;
 
 use fields::Kind;
 use fields::Reading;

@@ -2,7 +2,7 @@ use mathlib.Core.Path.{_∙_, sym, ap}
 use mathlib.Core.Bool.{cond}
 use native.Mathlib.Omega.{arith}
 use Rattle.lines.specs.Lines.{okLine, refusedLine}
-use Rattle.records.specs.TurnLaws.{puts-as}
+use Rattle.records.specs.PutLaws.{puts-as}
 use borrow.Author.Needs.{needs}
 use Rattle.records.proofs.listed.Statement.{statement}
 use Rattle.records.proofs.listed.Tie as tie
