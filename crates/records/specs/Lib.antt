@@ -4,3 +4,4 @@ pub mod PutLaws
 pub mod TurnLaws
 pub mod Listing
 pub mod ListingLaws
+pub mod BlockLaws

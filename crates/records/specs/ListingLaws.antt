@@ -63,7 +63,7 @@ module _ (t : List ℕ) (k b m r : ℕ) where
   place-present e q = rw (holds-at t k m r, eq-eqb (markAt t m r) k q, certificate-present t m r e) (append-nil (listingLine k b r m (contentAt t m r .transactions)))
 
 -- certificate by certificate of a row
-lines-append : (k b : ℕ) (l m : List Content) → contentLines k b (l ++ m) ≡ contentLines k b l ++ contentLines k b m
+pub lines-append : (k b : ℕ) (l m : List Content) → contentLines k b (l ++ m) ≡ contentLines k b l ++ contentLines k b m
 unfolding contentLines
 lines-append k b [] m = refl
 lines-append k b (p ∷ l) m =

@@ -1,10 +1,10 @@
 // The lines of a listing, put into a buffer from a place on. Each function returns the next place.
 use terms::Member;
 use terms::Round;
-ghost use Prim.Native.Nat.{_+_, _≤_};
+ghost use Prim.Native.Nat.{_+_, _*_, _≤_};
 ghost use lib.ListN.{length};
 ghost use Rattle.store.specs.Table.{Within, Row, blockRound};
-ghost use Rattle.committee.specs.Changes.{listed, row};
+ghost use Rattle.committee.specs.Changes.{listed, row, rows};
 ghost use Rattle.committee.specs.Chain.{holdsAt, blockAt};
 ghost use Rattle.lines.specs.Puts.{Puts};
 ghost use Rattle.records.specs.Listing.{contentLines};
@@ -44,6 +44,20 @@ pub fn list_row(t: &[u32], k: u32, r: Round, out: &mut [u8], at: usize) -> usize
     while m < 16 {
         next = list_place(t, k, Round(b), Member(m), r, out, next);
         m += 1;
+    }
+    next
+}
+
+// The certificates of block k where the ceiling is n: by round, then author.
+pub fn list_block(t: &[u32], n: Round, k: u32, out: &mut [u8], at: usize) -> usize
+    requires { ⌜ Row (now t) k × Row (now t) (n .0) × (at + n .0 * 2256 ≤ length (now out)) ⌝ }
+    ensures { λ v. ⌜ Puts (now (out .entry)) (now (out .exit)) at v (contentLines k (blockRound (now (t .entry)) k) (rows (blockAt (n .0) (now (t .entry)) k) (n .0))) (n .0 * 2256) ⌝ }
+{
+    let mut next = at;
+    let mut r: u32 = 0;
+    while r < n.0 {
+        next = list_row(t, k, Round(r + 1), out, next);
+        r += 1;
     }
     next
 }
