@@ -15,7 +15,7 @@ ghost use Rattle.requests.specs.declared.Kind.the-variants.{Unreadable};
 ghost use Rattle.fields.specs.Fields.{fieldsFrom};
 ghost use Rattle.requests.specs.Triples.{atKind};
 ghost use Rattle.requests.specs.Requests.{openOf, proposeOf, endorseOf, certifyOf, acceptOf};
-ghost use Rattle.requests.specs.Readings.{callReading, plainReading, readingOf, endReading, triplesOf, triplesReading};
+ghost use Rattle.requests.specs.Readings.{callReading, plainReading, openReading, readingOf, endReading, triplesOf, triplesReading};
 
 // A call of a kind with its author, round, body and endorsers.
 fn call_of(kind: Kind, author: Member, round: Round, body: Body, endorsers: u16) -> Reading
@@ -29,6 +29,21 @@ fn call_of(kind: Kind, author: Member, round: Round, body: Body, endorsers: u16)
         round: round,
         body: body,
         endorsers: endorsers,
+    }
+}
+
+// An open with its own number and sheet.
+fn open_of(own: Member, sheet: Sheet) -> Reading
+    ensures { λ r. ⌜ r ≡ openReading (own .0) sheet ⌝ }
+{
+    Reading {
+        kind: Kind::Open,
+        own: own,
+        sheet: sheet,
+        author: Member(0),
+        round: Round(0),
+        body: crate::triple::no_body(0),
+        endorsers: 0,
     }
 }
 
@@ -118,20 +133,13 @@ pub fn read_open(rec: &[u8], at: usize) -> Reading
         return unreadable();
     }
     let cells = w.cells;
-    Reading {
-        kind: Kind::Open,
-        own: Member(own_number),
-        sheet: Sheet {
-            lookback: lookback_set,
-            ceiling: ceiling_set,
-            allowance: allowance_set,
-            weights: cells,
-        },
-        author: Member(0),
-        round: Round(0),
-        body: crate::triple::no_body(0),
-        endorsers: 0,
-    }
+    let sheet = Sheet {
+        lookback: lookback_set,
+        ceiling: ceiling_set,
+        allowance: allowance_set,
+        weights: cells,
+    };
+    open_of(Member(own_number), sheet)
 }
 
 // propose, previous, triples

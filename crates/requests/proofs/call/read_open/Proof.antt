@@ -12,7 +12,7 @@ use Rattle.requests.proofs.call.unreadable.Reads as unreadable-reads
 use Rattle.fields.proofs.number.number_at.Reads as number-at-reads
 use Rattle.requests.proofs.setting.setting_at.Reads as setting-at-reads
 use Rattle.requests.proofs.setting.weights_at.Reads as weights-at-reads
-use Rattle.requests.proofs.triple.no_body.Reads as no-body-reads
+use Rattle.requests.proofs.call.open_of.Reads as open-of-reads
 
 -- src/call.rt:88:9
 number-at-requires : tie.Need-number-at-requires
@@ -107,12 +107,12 @@ returns-5 : tie.Need-returns-5
 returns-5 c = c .unreadable5 .ensures ∙ sym (ap readingOf (number-goes _ _ _ _ (c .before .before .before .before .before .before .before .before .before .before .before .before .before .before .before .before .before .before .before .number-at .ensures .0) (c .before .before .before .before .before .before .before .before .before .before .before .before .before .before .before .before .before .before .before .number-at .ensures .1) (c .before .before .before .before .before .before .before .before .before .before .before .before .before .before .before .before .before .own .given .1) ∙ setting-goes _ _ _ (c .before .before .before .before .before .before .before .before .before .before .before .before .before .before .before .setting-at .ensures .0) (c .before .before .before .before .before .before .before .before .before .before .before .before .before .before .before .setting-at .ensures .1) (c .before .before .before .before .before .before .before .before .before .before .before .before .before .lookback .given .1) ∙ setting-goes _ _ _ (c .before .before .before .before .before .before .before .before .before .before .before .setting-at2 .ensures .0) (c .before .before .before .before .before .before .before .before .before .before .before .setting-at2 .ensures .1) (c .before .before .before .before .before .before .before .before .before .ceiling .given .1) ∙ setting-goes _ _ _ (c .before .before .before .before .before .before .before .setting-at3 .ensures .0) (c .before .before .before .before .before .before .before .setting-at3 .ensures .1) (c .before .before .before .before .before .allowance .given .1) ∙ weights-stop _ _ (c .before .before .before .weights-at .ensures) (not-true _ (c .before .if1 .taken))))
 
 -- src/call.rt:124:15
-no-body-requires : tie.Need-no-body-requires
-no-body-requires c κs = search needs
+open-of-requires : tie.Need-open-of-requires
+open-of-requires c κs = search needs
 
 -- src/call.rt:84:1
 returns-6 : tie.Need-returns-6
-returns-6 c = rw (c .no-body .ensures) (sym (ap readingOf (number-goes _ _ _ _ (c .before .before .before .before .before .before .before .before .before .before .before .before .before .before .before .before .before .before .before .before .number-at .ensures .0) (c .before .before .before .before .before .before .before .before .before .before .before .before .before .before .before .before .before .before .before .before .number-at .ensures .1) (c .before .before .before .before .before .before .before .before .before .before .before .before .before .before .before .before .before .before .own .given .1) ∙ setting-goes _ _ _ (c .before .before .before .before .before .before .before .before .before .before .before .before .before .before .before .before .setting-at .ensures .0) (c .before .before .before .before .before .before .before .before .before .before .before .before .before .before .before .before .setting-at .ensures .1) (c .before .before .before .before .before .before .before .before .before .before .before .before .before .before .lookback .given .1) ∙ setting-goes _ _ _ (c .before .before .before .before .before .before .before .before .before .before .before .before .setting-at2 .ensures .0) (c .before .before .before .before .before .before .before .before .before .before .before .before .setting-at2 .ensures .1) (c .before .before .before .before .before .before .before .before .before .before .ceiling .given .1) ∙ setting-goes _ _ _ (c .before .before .before .before .before .before .before .before .setting-at3 .ensures .0) (c .before .before .before .before .before .before .before .before .setting-at3 .ensures .1) (c .before .before .before .before .before .before .allowance .given .1) ∙ weights-go _ _ (c .before .before .before .before .weights-at .ensures) (not-false _ (c .before .before .if1 .left)))))
+returns-6 c = c .open-of .ensures ∙ (sym (ap readingOf (number-goes _ _ _ _ (c .before .before .before .before .before .before .before .before .before .before .before .before .before .before .before .before .before .before .before .before .number-at .ensures .0) (c .before .before .before .before .before .before .before .before .before .before .before .before .before .before .before .before .before .before .before .before .number-at .ensures .1) (c .before .before .before .before .before .before .before .before .before .before .before .before .before .before .before .before .before .before .own .given .1) ∙ setting-goes _ _ _ (c .before .before .before .before .before .before .before .before .before .before .before .before .before .before .before .before .setting-at .ensures .0) (c .before .before .before .before .before .before .before .before .before .before .before .before .before .before .before .before .setting-at .ensures .1) (c .before .before .before .before .before .before .before .before .before .before .before .before .before .before .lookback .given .1) ∙ setting-goes _ _ _ (c .before .before .before .before .before .before .before .before .before .before .before .before .setting-at2 .ensures .0) (c .before .before .before .before .before .before .before .before .before .before .before .before .setting-at2 .ensures .1) (c .before .before .before .before .before .before .before .before .before .before .ceiling .given .1) ∙ setting-goes _ _ _ (c .before .before .before .before .before .before .before .before .setting-at3 .ensures .0) (c .before .before .before .before .before .before .before .before .setting-at3 .ensures .1) (c .before .before .before .before .before .before .allowance .given .1) ∙ weights-go _ _ (c .before .before .before .before .weights-at .ensures) (not-false _ (c .before .before .if1 .left)))))
 
 pub read-open-spec : {M : Type 1} → statement M
 read-open-spec =
@@ -141,5 +141,5 @@ read-open-spec =
     weights-at-requires
     unreadable-requires-5
     returns-5
-    no-body-requires
+    open-of-requires
     returns-6)
