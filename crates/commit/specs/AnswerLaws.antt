@@ -15,14 +15,9 @@ use Rattle.blocks.specs.CommitLaws.{commit-stage}
 use Rattle.state.specs.declared.State.{State}
 use Rattle.state.specs.WellFormed.{wellFormed}
 use Rattle.state.specs.Formed.{Formed}
-use Rattle.commit.specs.declared.Committed.the-variants.{Added}
 use Rattle.commit.specs.declared.Outcome.{Outcome}
-use Rattle.commit.specs.Commit.{refusedWith, withBlocks, timeChecks, voteChecks, commitNumber, leadersFor, blocksThen, committedTable, commitOutcome, commitTableAfter}
+use Rattle.commit.specs.Commit.{refusedWith, addedWith, timeChecks, voteChecks, commitNumber, leadersFor, blocksThen, committedTable, commitOutcome, commitTableAfter}
 use Rattle.commit.specs.CheckLaws.{Timely, voted, led-on, number-unread, number-late, number-timely}
-
--- an accepted commit that leaves k blocks
-abbrev pub addedWith : State → ℕ → Outcome
-addedWith s k = record { state = withBlocks s k; answer = Added (k - s .blocks) }
 
 module _ (s : State) (t : List ℕ) where
   -- the answer and the table, as the contract has them

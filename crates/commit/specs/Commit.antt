@@ -19,12 +19,17 @@ use Rattle.blocks.specs.Blocks.{commitTable, commitCount}
 use Rattle.commit.specs.declared.Committed.the-variants.{Added, Refused}
 use Rattle.commit.specs.declared.Outcome.{Outcome}
 
+-- refused with the number n
 abbrev pub refusedWith : State → ℕ → Outcome
 refusedWith s n = record { state = s; answer = Refused n }
 
 -- the state with k blocks
 abbrev pub withBlocks : State → ℕ → State
 withBlocks s k = record { own = s .own; settings = s .settings; round = s .round; proposing = s .proposing; body = s .body; blocks = k }
+
+-- accepted, where there are k blocks then: the answer is the number of blocks added
+abbrev pub addedWith : State → ℕ → Outcome
+addedWith s k = record { state = withBlocks s k; answer = Added (k - s .blocks) }
 
 module _ (s : State) (t : List ℕ) where
   -- the checks 19, 20, 8, and then 21, 22
@@ -53,9 +58,9 @@ module _ (s : State) (t : List ℕ) where
   unfoldable pub committedTable : List ℕ
   committedTable = commitTable (lastRound t (s .blocks)) (s .round .0 - 1) (s .blocks) leadersFor t
 
-  -- the answer is the number of blocks added; a refused commit changes nothing
+  -- a refused commit changes nothing
   unfoldable pub commitOutcome : Outcome
-  commitOutcome = cond (eqb commitNumber 0) (record { state = committedState; answer = Added (blocksThen - s .blocks) }) (refusedWith s commitNumber)
+  commitOutcome = cond (eqb commitNumber 0) (addedWith s blocksThen) (refusedWith s commitNumber)
 
   unfoldable pub commitTableAfter : List ℕ
   commitTableAfter = cond (eqb commitNumber 0) committedTable t

@@ -3,11 +3,9 @@ use state::State;
 use terms::Member;
 use terms::Round;
 ghost use mathlib.Core.Path.{_≡_};
-ghost use Prim.Native.Nat.{_-_, _<_, _≤_};
-ghost use lib.ListN.{getD};
+ghost use Prim.Native.Nat.{_-_, _<_};
 ghost use Rattle.base.specs.Checks.{refusal};
 ghost use Rattle.state.specs.Formed.{Formed};
-ghost use Rattle.state.specs.View.{view};
 ghost use Rattle.walk.specs.Walk.{lastRound};
 ghost use Rattle.commit.specs.Commit.{timeChecks, voteChecks, leadersFor};
 

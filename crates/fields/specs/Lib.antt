@@ -5,14 +5,4 @@ pub mod NumberLaws
 pub mod Steps
 pub mod StepLaws
 pub mod Words
-pub mod Triples
-pub mod Bodies
-pub mod BodyLaws
-pub mod TripleLaws
 pub mod WordLaws
-pub mod Requests
-pub mod Readings
-pub mod SettingLaws
-pub mod RequestLaws
-pub mod DamageLaws
-pub mod DamagedRequests

@@ -1,7 +1,7 @@
 -- Laws of decimal numbers.
-use mathlib.Core.Path.{_≡_, refl}
-use mathlib.Core.Bool.{Bool, true, false, not, cond, _&&_, and-false}
-use mathlib.Core.List.{List, [], _∷_}
+use mathlib.Core.Path.{_≡_, refl, sym}
+use mathlib.Core.Bool.{Bool, true, false, not, cond, _&&_, and-false, and-true, and-assoc}
+use mathlib.Core.List.{List, [], _∷_, _++_}
 use mathlib.Core.Option.{none, some}
 use Prim.Native.Nat.{ℕ, _+_, _*_, _-_, _≤_, _<_}
 use native.Mathlib.Omega.{arith}
@@ -9,7 +9,7 @@ use native.Mathlib.Numerals.{add-one}
 use lib.ListN.{drop, length, getD, drop-of-length-le}
 use lib.Seq.{drop-cons}
 use lib.Dec.{eqb, leb}
-use borrow.Author.Tests.{le-leb, lt-leb, leb-true}
+use borrow.Author.Tests.{le-leb, lt-leb, leb-true, ne-eqb}
 use Rattle.base.specs.Bools.{both}
 use Rattle.fields.specs.Numbers.{isDigit, allDigits, value, plain, numberTo}
 
@@ -97,3 +97,28 @@ module _ (m : ℕ) (f : List ℕ) where
           let l = leb-true (value 0 f) m (both (allDigits f) (leb (value 0 f) m) (both (plain f) (allDigits f && leb (value 0 f) m) q .1) .1) in
           omega arith
       go false q k = let z : _≡_ {A = ℕ} 0 1 = cc in absurd (omega arith)
+
+-- one digit more
+pub digits-snoc : (f : List ℕ) (b : ℕ) → allDigits (f ++ (b ∷ [])) ≡ (allDigits f && isDigit b)
+unfolding allDigits
+digits-snoc [] b = and-true (isDigit b)
+digits-snoc (x ∷ f) b = rw (digits-snoc f b) (sym (and-assoc (isDigit x) (allDigits f) (isDigit b)))
+
+pub value-snoc : (v : ℕ) (f : List ℕ) (b : ℕ) → value v (f ++ (b ∷ [])) ≡ value v f * 10 + (b - 48)
+unfolding value
+value-snoc v [] b = refl
+value-snoc v (x ∷ f) b = value-snoc (v * 10 + (x - 48)) f b
+
+pub plain-snoc : (f : List ℕ) (b : ℕ) → 0 < length f → (getD f 0 0 ≡ 48 → ⊥) → plain (f ++ (b ∷ [])) ≡ true
+unfolding plain
+plain-snoc [] b h n = absurd (omega arith)
+plain-snoc (x ∷ []) b h n = rw (ne-eqb x 48 n) refl
+plain-snoc (x ∷ y ∷ f) b h n = rw (ne-eqb x 48 n) refl
+
+pub digits-one : (b : ℕ) → isDigit b ≡ true → allDigits (b ∷ []) ≡ true
+unfolding allDigits
+digits-one b e = rw e refl
+
+pub value-one : (v b : ℕ) → value v (b ∷ []) ≡ v * 10 + (b - 48)
+unfolding value
+value-one v b = refl

@@ -1,11 +1,9 @@
--- Decimal numbers, sets and settings, as a field holds them; none is unreadable.
+-- Decimal numbers and sets, as a field holds them; none is unreadable.
 use mathlib.Core.Bool.{Bool, true, false, not, cond, _&&_}
 use mathlib.Core.List.{List, [], _∷_}
 use mathlib.Core.Option.{Option, none, some}
 use Prim.Native.Nat.{ℕ, _+_, _*_, _-_}
 use lib.Dec.{eqb, leb}
-use Rattle.sheet.specs.declared.Setting.{Setting}
-use Rattle.sheet.specs.declared.Setting.the-variants.{Blank, Written}
 
 -- with what was read, or d where it was unreadable
 abbrev pub given : {A : Type 0} {B : Type 0} → Option A → B → (A → B) → B
@@ -41,8 +39,3 @@ number f = numberTo 4294967295 f
 -- a set of members
 abbrev pub set : List ℕ → Option ℕ
 set f = numberTo 65535 f
-
--- a setting: an empty field is blank
-unfoldable pub setting : List ℕ → Option Setting
-setting [] = some Blank
-setting (b ∷ f) = given (number (b ∷ f)) none (λ n. some (Written n))

@@ -6,11 +6,6 @@ ghost use Rattle.fields.specs.Fields.{fieldsFrom};
 ghost use Rattle.fields.specs.Numbers.{plain, numberTo};
 ghost use Rattle.fields.specs.Steps.{found, firstBy, Stepped};
 
-// The largest number, and the largest set of members.
-pub const MOST: u32 = 4294967295;
-
-pub const MOST_SET: u32 = 65535;
-
 // What a field holds.
 pub enum Number {
     NoNumber,

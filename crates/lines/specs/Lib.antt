@@ -1,3 +1,4 @@
 pub mod Lines
 pub mod Puts
 pub mod LineLaws
+pub mod ReadBack

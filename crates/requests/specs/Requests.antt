@@ -1,0 +1,117 @@
+-- What a record asks for.
+use mathlib.Core.Bool.{Bool, false, cond, _||_}
+use mathlib.Core.List.{List, [], _∷_}
+use mathlib.Core.Option.{Option, none, some}
+use Prim.Native.Nat.{ℕ, zero, suc}
+use lib.ListN.{length}
+use lib.Dec.{eqb, ltb}
+use Rattle.terms.specs.declared.Transaction.{Transaction}
+use Rattle.sheet.specs.declared.Setting.{Setting}
+use Rattle.sheet.specs.declared.Cell.{Cell}
+use Rattle.sheet.specs.declared.Sheet.{Sheet}
+use Rattle.requests.specs.declared.Kind.{Kind}
+use Rattle.requests.specs.declared.Kind.the-variants.{Unreadable, Open, Propose, Endorse, Certify, Accept, Advance, Commit, Chain}
+use Rattle.fields.specs.Fields.{fields}
+use Rattle.fields.specs.Numbers.{given, number, set}
+use Rattle.requests.specs.Settings.{setting}
+use Rattle.requests.specs.Triples.{atKind}
+use Rattle.requests.specs.Kinds.{named}
+
+pub data Request : Type 0 where
+  -- answers 24
+  unreadable : Request
+  -- own number and sheet
+  openAs : ℕ → Sheet → Request
+  -- previous set and transactions
+  propose : ℕ → List Transaction → Request
+  -- author, round, previous set and transactions
+  endorse : ℕ → ℕ → ℕ → List Transaction → Request
+  -- endorsers
+  certify : ℕ → Request
+  -- author, round, previous set, endorsers and transactions
+  accept : ℕ → ℕ → ℕ → ℕ → List Transaction → Request
+  advance : Request
+  commit : Request
+  chain : Request
+
+-- a field that p reads comes next; k has what it holds, and the fields after it
+unfoldable pub nextBy : {A : Type 0} → (List ℕ → Option A) → List (List ℕ) → (A → List (List ℕ) → Request) → Request
+nextBy p [] k = unreadable
+nextBy p (f ∷ fs) k = given (p f) unreadable (λ x. k x fs)
+
+-- no field comes next
+unfoldable pub atEnd : List (List ℕ) → Request → Request
+atEnd [] r = r
+atEnd (f ∷ fs) r = unreadable
+
+-- triples come next, and nothing else
+unfoldable pub triplesThen : List (List ℕ) → (List Transaction → Request) → Request
+triplesThen fs k = given (atKind fs) unreadable k
+
+-- one setting more in front
+abbrev pub inFront : Option Setting → Option (List Cell) → Option (List Cell)
+inFront none l = none
+inFront (some x) none = none
+inFront (some x) (some l) = some (record { setting = x } ∷ l)
+
+-- n settings, and nothing else
+unfoldable pub cellsIn : ℕ → List (List ℕ) → Option (List Cell)
+cellsIn zero [] = some []
+cellsIn zero (f ∷ fs) = none
+cellsIn (suc n) [] = none
+cellsIn (suc n) (f ∷ fs) = inFront (setting f) (cellsIn n fs)
+
+-- sixteen weights come next, and nothing else
+unfoldable pub weightsThen : List (List ℕ) → (List Cell → Request) → Request
+weightsThen fs k = given (cellsIn 16 fs) unreadable k
+
+-- the fields after the first, by what that one names
+abbrev pub openOf : List (List ℕ) → Request
+openOf fs =
+    nextBy number fs (λ own fs. nextBy setting fs (λ l fs. nextBy setting fs (λ c fs. nextBy setting fs (λ a fs.
+    weightsThen fs (λ w. openAs own (record { lookback = l; ceiling = c; allowance = a; weights = w }))))))
+
+abbrev pub proposeOf : List (List ℕ) → Request
+proposeOf fs = nextBy set fs (λ p fs. triplesThen fs (λ l. propose p l))
+
+abbrev pub endorseOf : List (List ℕ) → Request
+endorseOf fs = nextBy number fs (λ a fs. nextBy number fs (λ r fs. nextBy set fs (λ p fs. triplesThen fs (λ l. endorse a r p l))))
+
+abbrev pub certifyOf : List (List ℕ) → Request
+certifyOf fs = nextBy set fs (λ e fs. atEnd fs (certify e))
+
+abbrev pub acceptOf : List (List ℕ) → Request
+acceptOf fs =
+    nextBy number fs (λ a fs. nextBy number fs (λ r fs. nextBy set fs (λ p fs. nextBy set fs (λ e fs.
+    triplesThen fs (λ l. accept a r p e l)))))
+
+abbrev pub byKind : Kind → List (List ℕ) → Request
+byKind Unreadable fs = unreadable
+byKind Open fs = openOf fs
+byKind Propose fs = proposeOf fs
+byKind Endorse fs = endorseOf fs
+byKind Certify fs = certifyOf fs
+byKind Accept fs = acceptOf fs
+byKind Advance fs = atEnd fs advance
+byKind Commit fs = atEnd fs commit
+byKind Chain fs = atEnd fs chain
+
+abbrev pub byFields : List (List ℕ) → Request
+byFields [] = unreadable
+byFields (w ∷ fs) = byKind (named w) fs
+
+-- more than 1,024 bytes with the CRLF
+unfoldable pub tooLong : List ℕ → Bool
+tooLong s = ltb 1022 (length s)
+
+-- a quote mark, a CR or an LF, which in a record is a lone one
+unfoldable pub isMark : ℕ → Bool
+isMark b = eqb b 34 || (eqb b 13 || eqb b 10)
+
+unfoldable pub damaged : List ℕ → Bool
+damaged [] = false
+damaged (b ∷ s) = isMark b || damaged s
+
+-- what the record s, without its CRLF, asks for
+unfoldable pub request : List ℕ → Request
+request s = cond (tooLong s || damaged s) unreadable (byFields (fields s))
