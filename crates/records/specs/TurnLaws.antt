@@ -7,9 +7,9 @@ use Rattle.state.specs.declared.State.{State}
 use Rattle.member.specs.declared.Outcome as called
 use Rattle.commit.specs.declared.Outcome as committed
 use Rattle.commit.specs.Commit.{commitOutcome, commitTableAfter}
-use Rattle.fields.specs.declared.Kind.{Kind}
-use Rattle.fields.specs.declared.Kind.the-variants.{Commit}
-use Rattle.fields.specs.declared.Reading.{Reading}
+use Rattle.requests.specs.declared.Kind.{Kind}
+use Rattle.requests.specs.declared.Kind.the-variants.{Commit}
+use Rattle.requests.specs.declared.Reading.{Reading}
 use Rattle.lines.specs.Puts.{Puts}
 use Rattle.records.specs.Answers.{answerLine, committedLine}
 use Rattle.records.specs.PutLaws.{puts-as}

@@ -10,9 +10,9 @@ use Rattle.state.specs.WellFormed.{wellFormed}
 use Rattle.member.specs.Open.{openOutcome, openTable}
 use Rattle.member.specs.Calls.{proposeOutcome, endorseOutcome, endorseTable, certifyOutcome, certifyTable, acceptOutcome, acceptTable, advanceOutcome}
 use Rattle.commit.specs.Commit.{commitOutcome, commitTableAfter}
-use Rattle.fields.specs.declared.Kind.{Kind}
-use Rattle.fields.specs.declared.Kind.the-variants.{Unreadable, Open, Propose, Endorse, Certify, Accept, Advance, Commit, Chain}
-use Rattle.fields.specs.declared.Reading.{Reading}
+use Rattle.requests.specs.declared.Kind.{Kind}
+use Rattle.requests.specs.declared.Kind.the-variants.{Unreadable, Open, Propose, Endorse, Certify, Accept, Advance, Commit, Chain}
+use Rattle.requests.specs.declared.Reading.{Reading}
 use Rattle.lines.specs.Lines.{okLine, refusedLine}
 use Rattle.lines.specs.Puts.{Puts}
 use Rattle.records.specs.Answers.{answerLine, committedLine}

@@ -2,8 +2,8 @@
 pub mod answer;
 pub mod listing;
 
-use fields::Kind;
-use fields::Reading;
+use requests::Kind;
+use requests::Reading;
 use state::State;
 use terms::Certificate;
 use terms::Proposal;

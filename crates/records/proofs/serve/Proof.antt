@@ -1,5 +1,5 @@
 use mathlib.Core.Path.{refl}
-use Rattle.fields.specs.declared.Kind.the-variants.{Unreadable, Open, Propose, Endorse, Certify, Accept, Advance, Chain}
+use Rattle.requests.specs.declared.Kind.the-variants.{Unreadable, Open, Propose, Endorse, Certify, Accept, Advance, Chain}
 use Rattle.records.specs.TurnLaws.{served-by, told-by, counted-by}
 use borrow.Author.Needs.{needs}
 use Rattle.records.proofs.serve.Statement.{statement}
