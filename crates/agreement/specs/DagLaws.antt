@@ -1,6 +1,6 @@
 -- Histories stay among the held certificates, and two views that hold a certificate see one history of it.
 use mathlib.Core.Path.{_≡_, refl, sym, ap, _∙_}
-use mathlib.Core.Bool.{Bool, true, false≢true}
+use mathlib.Core.Bool.{Bool, true, false, false≢true, true≢false}
 use mathlib.Core.Option.{Option, none, some}
 use Prim.Native.Nat.{ℕ}
 use Rattle.agreement.specs.Rules.{Rules}
@@ -17,6 +17,11 @@ vote-by R (some q) h = (q, refl, h)
 pub held-by : {P : Type 0} (o : Option P) → isHeld o ≡ true → (q : P) × (o ≡ some q)
 held-by none h = absurd (false≢true h)
 held-by (some q) h = (q, refl)
+
+-- a place where nothing is held
+pub absent : {P : Type 0} (o : Option P) → isHeld o ≡ false → o ≡ none
+absent none h = refl
+absent (some x) h = absurd (true≢false h)
 
 -- no place has two certificates, one in s and one in t
 pub record Compatible {R : Rules} (s t : View R) : Type 0 where

@@ -2,7 +2,7 @@
 use mathlib.Core.Path.{_≡_, refl, ap, sym, _∙_}
 use mathlib.Core.List.{[], _∷_, _++_}
 use native.Mathlib.Decide.{ℕ-discrete}
-use Prim.Native.Nat.{ℕ, zero, suc, _+_, _<_}
+use Prim.Native.Nat.{ℕ, zero, suc, _+_, _*_, _/_, _%_, _<_, _≤_}
 use native.Mathlib.Omega.{arith}
 use native.Mathlib.Numerals.{add-one}
 use lib.ListN.{length, getD, length-append, List·getD-append}
@@ -25,6 +25,43 @@ pub fold-same : {A : Type 0} (f g : ℕ → A → A) (n : ℕ) (a : A) → ((i :
 unfolding foldTo
 fold-same f g zero a e = refl
 fold-same f g (suc n) a e = ap (f n) (fold-same f g n a (λ i x h. e i x (omega arith))) ∙ e n (foldTo g n a) (omega arith)
+
+pub fold-none : {A : Type 0} (f : ℕ → A → A) (x : A) → foldTo f 0 x ≡ x
+unfolding foldTo
+fold-none f x = refl
+
+-- the turns from z on change nothing
+pub fold-high : {A : Type 0} (f : ℕ → A → A) (n z : ℕ) (x : A) → z ≤ n → ((i : ℕ) (y : A) → z ≤ i → i < n → f i y ≡ y) → foldTo f n x ≡ foldTo f z x
+unfolding foldTo
+fold-high f zero z x h high = let e : z ≡ 0 = omega arith in rw e refl
+fold-high f (suc n) z x h high = go (ℕ-discrete z (suc n)) (λ l. fold-high f n z x l (λ i y b c. high i y b (omega arith)))
+  where
+    go : Dec (z ≡ suc n) → (z ≤ n → foldTo f n x ≡ foldTo f z x) → f n (foldTo f n x) ≡ foldTo f z x
+    go (yes p) k = rw p refl
+    go (no p) k = high n (foldTo f n x) (omega arith) (omega arith) ∙ k (omega arith)
+
+-- c turns more
+pub fold-join : {A : Type 0} (f : ℕ → A → A) (a c : ℕ) (x : A) → foldTo f (a + c) x ≡ foldTo (λ i. f (a + i)) c (foldTo f a x)
+unfolding foldTo
+fold-join f a zero x = let e : a + 0 ≡ a = omega arith in rw e refl
+fold-join f a (suc c) x =
+    let e : a + suc c ≡ suc (a + c) = omega arith in
+    rw e (ap (f (a + c)) (fold-join f a c x))
+
+-- sixteen turns in each turn
+pub fold-flat : {A : Type 0} (f : ℕ → ℕ → A → A) (n : ℕ) (x : A) → foldTo (λ r. foldTo (f r) 16) n x ≡ foldTo (λ i. f (i / 16) (i % 16)) (n * 16) x
+fold-flat {A} f n x = go n
+  where
+    go : (n : ℕ) → foldTo (λ r. foldTo (f r) 16) n x ≡ foldTo (λ i. f (i / 16) (i % 16)) (n * 16) x
+    go zero = start
+      where
+        start : foldTo (λ r. foldTo (f r) 16) 0 x ≡ foldTo (λ i. f (i / 16) (i % 16)) 0 x
+        start = fold-none (λ r. foldTo (f r) 16) x ∙ sym (fold-none (λ i. f (i / 16) (i % 16)) x)
+    go (suc n) =
+        let e : (n + 1) * 16 ≡ n * 16 + 16 = omega arith in
+        rw (← add-one n, e, fold-more (λ r. foldTo (f r) 16) n x, go n, fold-join (λ i. f (i / 16) (i % 16)) (n * 16) 16 x)
+        (fold-same (f n) (λ i. f ((n * 16 + i) / 16) ((n * 16 + i) % 16)) 16 (foldTo (λ i. f (i / 16) (i % 16)) (n * 16) x)
+        (λ i y h. let a : (n * 16 + i) / 16 ≡ n = omega arith in let b : (n * 16 + i) % 16 ≡ i = omega arith in rw (a, b) refl))
 
 pub length-tab : {A : Type 0} (f : ℕ → A) (n : ℕ) → length (tab f n) ≡ n
 unfolding tab

@@ -1,5 +1,6 @@
 pub mod Bools
 pub mod Checks
+pub mod Passed
 pub mod Options
 pub mod Folds
 pub mod FoldLaws

@@ -1,10 +1,13 @@
 -- Laws of sums over the numbers below a bound.
-use mathlib.Core.Path.{_≡_, refl}
+use mathlib.Core.Path.{_≡_, refl, sym}
+use mathlib.Core.Bool.{cond}
 use native.Mathlib.Decide.{ℕ-discrete, decLt}
 use Prim.Native.Nat.{ℕ, zero, suc, _+_, _*_, _<_, _≤_}
 use native.Mathlib.Omega.{arith}
 use native.Mathlib.Nat.{suc-mul}
 use native.Mathlib.Numerals.{add-one}
+use lib.Dec.{eqb}
+use borrow.Author.Tests.{eq-eqb, ne-eqb}
 use Rattle.base.specs.Folds.{sumTo}
 
 pub sum-more : (f : ℕ → ℕ) (n : ℕ) → sumTo f (n + 1) ≡ sumTo f n + f n
@@ -55,3 +58,35 @@ sum-mono f g n h = go (decLt (sumTo g n) (sumTo f n))
     go : Dec (sumTo g n < sumTo f n) → sumTo f n ≤ sumTo g n
     go (yes l) = let x = sum-less g f n l in absurd (omega (arith, h (x .0) (x .1), x .2))
     go (no l) = omega arith
+
+-- one part alone
+pub sum-one : (a m n : ℕ) → (n ≤ m → sumTo (λ i. cond (eqb m i) a 0) n ≡ 0) × (sumTo (λ i. cond (eqb m i) a 0) n ≤ a)
+unfolding sumTo
+sum-one a m zero = (λ _. refl, omega arith)
+sum-one a m (suc n) = by (ℕ-discrete m n) (sum-one a m n)
+  where
+    by : Dec (m ≡ n) → (n ≤ m → sumTo (λ i. cond (eqb m i) a 0) n ≡ 0) × (sumTo (λ i. cond (eqb m i) a 0) n ≤ a)
+        → (suc n ≤ m → sumTo (λ i. cond (eqb m i) a 0) n + cond (eqb m n) a 0 ≡ 0) × (sumTo (λ i. cond (eqb m i) a 0) n + cond (eqb m n) a 0 ≤ a)
+    by (yes e) p = (λ l. absurd (omega arith), rw (eq-eqb m n e) (let z = p .0 (omega arith) in omega arith))
+    by (no e) p = rw (ne-eqb m n e) (λ l. let z = p .0 (omega arith) in omega arith, let z = p .1 in omega arith)
+
+pub sum-none : (n : ℕ) → sumTo (λ i. 0) n ≡ 0
+unfolding sumTo
+sum-none zero = refl
+sum-none (suc n) = let h = sum-none n in omega arith
+
+-- a longer sum is no smaller
+pub sum-up : (f : ℕ → ℕ) (i n : ℕ) → i ≤ n → sumTo f i ≤ sumTo f n
+unfolding sumTo
+sum-up f i zero h = let e : i ≡ 0 = omega arith in rw e (omega arith)
+sum-up f i (suc n) h = go (ℕ-discrete i (suc n)) (λ l. sum-up f i n l)
+  where
+    go : Dec (i ≡ suc n) → (i ≤ n → sumTo f i ≤ sumTo f n) → sumTo f i ≤ sumTo f n + f n
+    go (yes e) k = rw e (omega arith)
+    go (no e) k = let q = k (omega arith) in omega arith
+
+-- rows before columns, or columns before rows
+pub sum-swap : (f : ℕ → ℕ → ℕ) (m n : ℕ) → sumTo (λ k. sumTo (f k) n) m ≡ sumTo (λ r. sumTo (λ k. f k r) m) n
+unfolding sumTo
+sum-swap f zero n = sym (sum-none n)
+sum-swap f (suc m) n = rw (sum-swap f m n) (sym (sum-add (λ r. sumTo (λ k. f k r) m) (f m) n))

@@ -9,13 +9,14 @@ use native.Mathlib.Omega.{arith}
 use lib.Dec.{ltb}
 use lib.ListN.{getD, length, replicate}
 use Rattle.base.specs.Sets.{isIn}
+use Rattle.base.specs.SetLaws.{not-in}
 use Rattle.base.specs.SumLaws.{sum-same}
 use Rattle.agreement.specs.Weights.{total}
 use Rattle.agreement.specs.Rules.{Chain}
 use Rattle.agreement.specs.Commits.{byLeader, anchorAt}
 use Rattle.terms.specs.Proposals.{Content}
-use Rattle.store.specs.Table.{heldSet, contentAt, certificateAt}
-use Rattle.store.specs.TableLaws.{held-in, content-author, content-round}
+use Rattle.store.specs.Table.{heldSet, contentAt}
+use Rattle.store.specs.TableLaws.{held-in, certificate-at, content-author, content-round}
 use Rattle.sheet.specs.Ranges.{weightIn}
 use Rattle.committee.specs.Chain.{chainOf}
 use Rattle.committee.specs.Committees.{committeeOf, boundOf}
@@ -25,7 +26,6 @@ use Rattle.walk.specs.Walk.{lastRound}
 use Rattle.walk.specs.Fill.{leaderAt, fillTo}
 use Rattle.walk.specs.FillLaws.{fill-at, fill-length}
 use Rattle.rules.specs.Tests.{unvoted}
-use Rattle.blocks.specs.AnchorLaws.{not-in}
 use Rattle.state.specs.declared.State.{State}
 use Rattle.state.specs.View.{view}
 use Rattle.state.specs.ViewLaws.{dag-at, vote-dag}
@@ -46,12 +46,12 @@ module _ (s : State) (t : List ℕ) where
 
   -- the anchor of round q is the leader's certificate, if it is held
   pub anchor-on : (q : ℕ) → 0 < q → q ≤ s .settings .ceiling .0 → anchorAt (view s t) q ≡ cond (isIn (heldSet t q) (leaderOn q)) (some (contentAt t (leaderOn q) q)) none
-  unfolding anchorAt leaderAt certificateAt
+  unfolding anchorAt leaderAt
   anchor-on q from to = go (leaderOf (weightIn (committeeOn q)) q)
     where
       go : (o : Option ℕ) → byLeader (view s t) q o ≡ cond (isIn (heldSet t q) (leaderNumber o)) (some (contentAt t (leaderNumber o) q)) none
       go none = rw (not-in (heldSet t q) 16 (omega arith)) refl
-      go (some a) = dag-at (s .settings .ceiling .0) t a q from to ∙ rw (held-in t a q) refl
+      go (some a) = dag-at (s .settings .ceiling .0) t a q from to ∙ rw (certificate-at t a q, held-in t a q) refl
 
   -- check 22: the votes of the round above it weigh not more than the bound
   pub unvoted-on : (a q : ℕ) → suc q ≤ s .settings .ceiling .0

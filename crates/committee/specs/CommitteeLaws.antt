@@ -8,10 +8,9 @@ use borrow.Author.Tests.{le-leb, lt-leb}
 use Rattle.agreement.specs.Rules.{Chain}
 use Rattle.terms.specs.Proposals.{Content}
 use Rattle.sheet.specs.declared.Settings.{Settings}
-use Rattle.base.specs.SumLaws.{sum-mono}
+use Rattle.base.specs.SumLaws.{sum-mono, sum-up}
 use Rattle.agreement.specs.Weights.{weigh, total}
 use Rattle.committee.specs.Committees.{bondedFrom, committeeOf, boundOf, outsider, short, quorum, shareOf}
-use Rattle.committee.specs.TotalLaws.{sum-up}
 
 -- up to the lookback the committee is the starting one
 pub committee-start : (S : Settings) (c : Chain Content) (r : ℕ) → r ≤ S .lookback → committeeOf S c r ≡ S .weights

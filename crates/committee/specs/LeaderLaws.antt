@@ -9,12 +9,11 @@ use native.Mathlib.Decide.{ℕ-discrete, decLt}
 use lib.Dec.{eqb, ltb}
 use borrow.Author.Tests.{eq-eqb, ne-eqb, le-leb, lt-leb, lt-ltb, le-ltb}
 use Rattle.base.specs.Folds.{foldTo, sumTo}
-use Rattle.base.specs.SumLaws.{sum-same, sum-more}
+use Rattle.base.specs.SumLaws.{sum-same, sum-more, sum-up}
 use Rattle.base.specs.Sets.{isIn, add}
 use Rattle.base.specs.SetLaws.{in-add}
 use Rattle.base.specs.UnionLaws.{in-none}
 use Rattle.sheet.specs.Ranges.{weightIn}
-use Rattle.committee.specs.TotalLaws.{sum-up}
 use Rattle.committee.specs.Leaders.{countBelow, memberBelow, memberAt, members, leaderOf, joined, memberSet}
 
 -- ---- counting

@@ -9,50 +9,15 @@ use native.Mathlib.Decide.{ℕ-discrete, decLt}
 use lib.ListN.{set, length}
 use lib.Seq.{getD-set-same, getD-set-other, set-out}
 use lib.Dec.{eqb, ltb, eqb·zero-suc, eqb·suc-suc}
-use borrow.Author.Tests.{eq-eqb, ne-eqb}
+use borrow.Author.Tests.{eq-eqb}
 use Rattle.base.specs.Folds.{foldTo, sumTo}
-use Rattle.base.specs.SumLaws.{sum-same, sum-le}
-use Rattle.base.specs.SumLaws.{sum-add, sum-mono}
+use Rattle.base.specs.SumLaws.{sum-same, sum-le, sum-add, sum-mono, sum-one, sum-none, sum-swap}
 use Rattle.terms.specs.declared.Transaction.{Transaction}
 use Rattle.terms.specs.declared.Transaction.the-variants.{Bond, Unbond, Entry}
 use Rattle.terms.specs.Transactions.{amountOf}
 use Rattle.sheet.specs.Ranges.{weightIn}
 use Rattle.committee.specs.Changes.{change}
 use Rattle.committee.specs.Totals.{totalIn, Raises}
-
--- ---- sums
-
--- one part alone
-sum-one : (a m n : ℕ) → (n ≤ m → sumTo (λ i. cond (eqb m i) a 0) n ≡ 0) × (sumTo (λ i. cond (eqb m i) a 0) n ≤ a)
-unfolding sumTo
-sum-one a m zero = (λ _. refl, omega arith)
-sum-one a m (suc n) = by (ℕ-discrete m n) (sum-one a m n)
-  where
-    by : Dec (m ≡ n) → (n ≤ m → sumTo (λ i. cond (eqb m i) a 0) n ≡ 0) × (sumTo (λ i. cond (eqb m i) a 0) n ≤ a)
-        → (suc n ≤ m → sumTo (λ i. cond (eqb m i) a 0) n + cond (eqb m n) a 0 ≡ 0) × (sumTo (λ i. cond (eqb m i) a 0) n + cond (eqb m n) a 0 ≤ a)
-    by (yes e) p = (λ l. absurd (omega arith), rw (eq-eqb m n e) (let z = p .0 (omega arith) in omega arith))
-    by (no e) p = rw (ne-eqb m n e) (λ l. let z = p .0 (omega arith) in omega arith, let z = p .1 in omega arith)
-
-sum-none : (n : ℕ) → sumTo (λ i. 0) n ≡ 0
-unfolding sumTo
-sum-none zero = refl
-sum-none (suc n) = let h = sum-none n in omega arith
-
--- a longer sum is no smaller
-pub sum-up : (f : ℕ → ℕ) (i n : ℕ) → i ≤ n → sumTo f i ≤ sumTo f n
-unfolding sumTo
-sum-up f i zero h = let e : i ≡ 0 = omega arith in rw e (omega arith)
-sum-up f i (suc n) h = go (ℕ-discrete i (suc n)) (λ l. sum-up f i n l)
-  where
-    go : Dec (i ≡ suc n) → (i ≤ n → sumTo f i ≤ sumTo f n) → sumTo f i ≤ sumTo f n + f n
-    go (yes e) k = rw e (omega arith)
-    go (no e) k = let q = k (omega arith) in omega arith
-
--- rows before columns, or columns before rows
-sum-swap : (f : ℕ → ℕ → ℕ) (m n : ℕ) → sumTo (λ k. sumTo (f k) n) m ≡ sumTo (λ r. sumTo (λ k. f k r) m) n
-unfolding sumTo
-sum-swap f zero n = sym (sum-none n)
-sum-swap f (suc m) n = rw (sum-swap f m n) (sym (sum-add (λ r. sumTo (λ k. f k r) m) (f m) n))
 
 -- ---- changes
 

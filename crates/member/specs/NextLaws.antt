@@ -3,13 +3,12 @@ use mathlib.Core.Path.{_≡_, refl, sym, _∙_}
 use mathlib.Core.Bool.{Bool, true, false}
 use mathlib.Core.List.{List}
 use Prim.Native.Nat.{ℕ, _<_}
-use native.Mathlib.Omega.{arith}
 use lib.Dec.{eqb}
 use lib.ListN.{drop}
 use borrow.Author.Tests.{eqb-true, eqb-false}
 use Rattle.terms.specs.declared.Proposal.{Proposal}
 use Rattle.terms.specs.Proposals.{transactionsOf, contentWith, contentOf}
-use Rattle.store.specs.Table.{used, Within}
+use Rattle.store.specs.Table.{used}
 use Rattle.store.specs.Writes.{putCertificate}
 use Rattle.store.specs.PutLaws.{put-beyond}
 use Rattle.store.specs.EndorseLaws.{set-endorsed, clear-endorsed, endorse-beyond}

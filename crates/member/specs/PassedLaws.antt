@@ -14,7 +14,7 @@ use Rattle.terms.specs.declared.Certificate.{Certificate}
 use Rattle.terms.specs.Proposals.{Content, transactionsOf, contentOf}
 use Rattle.store.specs.Table.{heldAt}
 use Rattle.rules.specs.Calls as rules
-use Rattle.rules.specs.Passed.{passed}
+use Rattle.base.specs.Passed.{passed}
 use Rattle.rules.specs.TestLaws.{round-fits}
 use Rattle.state.specs.declared.State.{State}
 use Rattle.state.specs.View.{view}

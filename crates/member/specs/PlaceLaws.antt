@@ -16,7 +16,7 @@ use Rattle.store.specs.Table.{Within, heldAt, endorsedAt, contentAt}
 use Rattle.store.specs.Writes.{putCertificate}
 use Rattle.store.specs.PutLaws.{length-put}
 use Rattle.rules.specs.Calls.{certifying, accepting}
-use Rattle.rules.specs.Passed.{passed}
+use Rattle.base.specs.Passed.{passed}
 use Rattle.rules.specs.Tests.{signersOf, above, missing}
 use Rattle.rules.specs.TestLaws.{round-fits}
 use Rattle.agreement.specs.Dag.{isHeld}

@@ -17,7 +17,7 @@ use Rattle.rules.specs.Tests.{badRound}
 use Rattle.rules.specs.Calls as rules
 use Rattle.rules.specs.Calls.{proposing, certifying}
 use Rattle.rules.specs.CallLaws.{after-propose, after-endorse, after-certify, after-accept, after-advance, after-read}
-use Rattle.rules.specs.Passed.{passed}
+use Rattle.base.specs.Passed.{passed}
 use Rattle.rules.specs.TestLaws.{round-fits}
 use Rattle.state.specs.WellFormed.{wellFormed}
 use Rattle.state.specs.View.{view}

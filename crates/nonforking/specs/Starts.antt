@@ -12,7 +12,7 @@ use Rattle.store.specs.Writes.{clearUsed}
 use Rattle.sheet.specs.declared.Settings.{Settings}
 use Rattle.sheet.specs.Ranges.{outOfRange, weightless}
 use Rattle.rules.specs.Calls.{freshView}
-use Rattle.rules.specs.Passed.{passed}
+use Rattle.base.specs.Passed.{passed}
 use Rattle.state.specs.States.{fresh}
 use Rattle.state.specs.Formed.{whole}
 use Rattle.state.specs.KeptLaws.{open-formed}

@@ -21,7 +21,7 @@ use Rattle.committee.specs.Committees.{shareOf}
 use Rattle.committee.specs.Leaders.{members}
 use Rattle.rules.specs.Tests.{badRound, unknown, committeeIn}
 use Rattle.rules.specs.Reads as rules
-use Rattle.rules.specs.Passed.{passed}
+use Rattle.base.specs.Passed.{passed}
 use Rattle.rules.specs.TestLaws.{round-fits}
 use Rattle.state.specs.declared.State.{State}
 use Rattle.state.specs.View.{view}

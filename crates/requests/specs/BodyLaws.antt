@@ -1,19 +1,16 @@
 -- Laws of bodies: pushing transactions onto a body makes the body of them all.
 use mathlib.Core.Path.{_≡_, refl, ap, sym, _∙_}
-use mathlib.Core.Bool.{not, _||_}
 use mathlib.Core.List.{List, [], _∷_, _++_, append-assoc, append-nil}
 use mathlib.Core.Option.{Option, none, some}
 use Prim.Native.Nat.{ℕ, suc, _+_, _≤_, _<_}
 use native.Mathlib.Decide.{decLt}
 use native.Mathlib.Omega.{arith}
 use lib.ListN.{length, length-append}
-use lib.Dec.{ltb}
-use borrow.Author.Tests.{le-ltb, lt-ltb}
-use Rattle.base.specs.Folds.{tab}
+use borrow.Author.Tests.{le-ltb}
 use Rattle.terms.specs.declared.Transaction.{Transaction}
 use Rattle.terms.specs.declared.Body.{Body}
-use Rattle.terms.specs.Proposals.{slotOf, transactionsOf, allInRange, unfit}
-use Rattle.terms.specs.ProposalLaws.{length-transactions}
+use Rattle.terms.specs.Proposals.{transactionsOf, unfit}
+use Rattle.terms.specs.ProposalLaws.{length-transactions, four-slots, unfit-over}
 use Rattle.requests.specs.Triples.{before}
 use Rattle.requests.specs.Bodies.{bodyOf, push, pushAll, onto}
 use Rattle.requests.specs.Readings.{triplesOf}
@@ -58,22 +55,16 @@ body-length p l = refl
 
 -- where there are at most four, the body has the transactions that were read
 body-transactions : (p : ℕ) (l : List Transaction) → length l ≤ 4 → transactionsOf (bodyOf p l) ≡ l
-unfolding transactionsOf slotOf bodyOf tab
-body-transactions p [] h = refl
-body-transactions p (a ∷ []) h = refl
-body-transactions p (a ∷ b ∷ []) h = refl
-body-transactions p (a ∷ b ∷ c ∷ []) h = refl
-body-transactions p (a ∷ b ∷ c ∷ d ∷ []) h = refl
-body-transactions p (a ∷ b ∷ c ∷ d ∷ e ∷ l) h = absurd (omega arith)
+unfolding bodyOf
+body-transactions p l h = four-slots p l h
 
 -- check 6 sees a body as the transactions that were read, however many
 pub unfit-body : (a p : ℕ) (l : List Transaction) → a ≤ 4 → unfit a (transactionsOf (bodyOf p l)) ≡ unfit a l
-unfolding unfit
 unfit-body a p l h = go (decLt 4 (length l))
   where
     count : length (transactionsOf (bodyOf p l)) ≡ length l
     count = length-transactions (bodyOf p l) ∙ body-length p l
 
-    go : Dec (4 < length l) → (ltb a (length (transactionsOf (bodyOf p l))) || not (allInRange (transactionsOf (bodyOf p l)))) ≡ (ltb a (length l) || not (allInRange l))
-    go (yes k) = rw (count, lt-ltb a (length l) (omega arith)) refl
+    go : Dec (4 < length l) → unfit a (transactionsOf (bodyOf p l)) ≡ unfit a l
+    go (yes k) = unfit-over a (transactionsOf (bodyOf p l)) (let c = count in omega arith) ∙ sym (unfit-over a l (omega arith))
     go (no k) = rw (body-transactions p l (omega arith)) refl

@@ -17,7 +17,7 @@ use Rattle.sheet.specs.declared.Settings.{Settings}
 use Rattle.committee.specs.Instance.{rules}
 use Rattle.rules.specs.Tests.{Member}
 use Rattle.rules.specs.Calls.{Call, propose, endorse, certify, accept, advance, commit, read, certifying, verdict, certified, after}
-use Rattle.rules.specs.Passed.{passed}
+use Rattle.base.specs.Passed.{passed}
 use Rattle.rules.specs.Signatures.{signs, Takes, certifies, accepts}
 use Rattle.rules.specs.SigningMoves.{propose-move, endorse-move}
 use Rattle.rules.specs.CertificateMoves.{SignedBy, certify-move, accept-move}

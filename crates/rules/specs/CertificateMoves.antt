@@ -6,6 +6,7 @@ use mathlib.Core.List.{List}
 use Prim.Native.Nat.{ℕ, _<_}
 use native.Mathlib.Omega.{arith}
 use borrow.Author.Tests.{eq-eqb, ltb-false}
+use Rattle.agreement.specs.DagLaws.{absent}
 use Rattle.base.specs.Checks.{refusal, numbered}
 use Rattle.base.specs.Sets.{isIn}
 use Rattle.base.specs.SetLaws.{in-member, in-add}
@@ -20,8 +21,8 @@ use Rattle.committee.specs.Committees.{outsider, short}
 use Rattle.committee.specs.Instance.{rules}
 use Rattle.rules.specs.Tests.{Member, signersOf, committeeIn}
 use Rattle.rules.specs.Calls.{certifying, accepting}
-use Rattle.rules.specs.Passed.{passed}
-use Rattle.rules.specs.TestLaws.{absent, is-known}
+use Rattle.base.specs.Passed.{passed}
+use Rattle.rules.specs.TestLaws.{is-known}
 use Rattle.rules.specs.Quorums.{quorum-made}
 use Rattle.rules.specs.PreviousSets.{closed-made}
 

@@ -25,7 +25,7 @@ use Rattle.committee.specs.Instance.{rules}
 use Rattle.committee.specs.Lawful.{lawful}
 use Rattle.rules.specs.Tests.{Member, committeeIn, unvoted}
 use Rattle.rules.specs.Calls.{committing, added}
-use Rattle.rules.specs.Passed.{passed}
+use Rattle.base.specs.Passed.{passed}
 use Rattle.rules.specs.TestLaws.{is-known}
 
 -- votes that pass check 22 weigh more than the bound

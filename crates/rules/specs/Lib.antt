@@ -6,7 +6,6 @@ pub mod Calls
 pub mod Reads
 pub mod CallLaws
 -- An accepted call is a move of the agreement theory
-pub mod Passed
 pub mod TestLaws
 pub mod Quorums
 pub mod PreviousSets

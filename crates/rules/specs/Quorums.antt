@@ -5,14 +5,13 @@ use Prim.Native.Nat.{ℕ, _-_, _<_}
 use native.Mathlib.Omega.{arith}
 use lib.Dec.{ltb}
 use borrow.Author.Tests.{ltb-true, ltb-false, not-false, not-true}
-use Rattle.base.specs.Bools.{neither}
+use Rattle.base.specs.Bools.{neither, but}
 use Rattle.base.specs.TestLaws.{any-false}
 use Rattle.agreement.specs.Weights.{weigh, total}
 use Rattle.agreement.specs.Quorum.{Quorum}
 use Rattle.sheet.specs.declared.Settings.{Settings}
 use Rattle.committee.specs.Committees.{boundOf, quorumWeight, outsider, short, quorum}
 use Rattle.committee.specs.Instance.{rules}
-use Rattle.rules.specs.TestLaws.{but}
 
 module _ (S : Settings) (w : ℕ → ℕ) (set : ℕ → Bool) (inside : (i : ℕ) → set i ≡ true → i < 16) where
   -- nobody outside the committee, and enough weight

@@ -13,7 +13,7 @@ use Rattle.sheet.specs.declared.Settings.{Settings}
 use Rattle.committee.specs.Instance.{rules}
 use Rattle.rules.specs.Tests.{Member}
 use Rattle.rules.specs.Calls.{Call, propose, endorse, certify, accept, advance, commit, read, freshView, drafted, accepting, advancing, verdict, certified, after}
-use Rattle.rules.specs.Passed.{passed}
+use Rattle.base.specs.Passed.{passed}
 use Rattle.rules.specs.TestLaws.{round-fits}
 
 -- r is a round

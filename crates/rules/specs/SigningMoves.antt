@@ -5,6 +5,7 @@ use mathlib.Core.List.{List, _∷_}
 use Prim.Native.Nat.{ℕ, _-_, _≤_, _<_}
 use native.Mathlib.Omega.{arith}
 use borrow.Author.Tests.{eqb-false}
+use Rattle.agreement.specs.DagLaws.{absent}
 use Rattle.base.specs.Bools.{neither}
 use Rattle.base.specs.Checks.{refusal, numbered}
 use Rattle.agreement.specs.View.{Log}
@@ -18,8 +19,8 @@ use Rattle.committee.specs.Instance.{rules}
 use Rattle.committee.specs.Lawful.{lawful}
 use Rattle.rules.specs.Tests.{Member, unknown}
 use Rattle.rules.specs.Calls.{drafted, proposing, endorsing}
-use Rattle.rules.specs.Passed.{passed}
-use Rattle.rules.specs.TestLaws.{absent, later, round-fits, is-known}
+use Rattle.base.specs.Passed.{passed}
+use Rattle.rules.specs.TestLaws.{later, round-fits, is-known}
 use Rattle.rules.specs.PreviousSets.{signable-made}
 
 module _ (S : Settings) (correct : ℕ → Bool) (G : Log (rules S)) (k : ℕ) (s : Member S) (l : List Content) where

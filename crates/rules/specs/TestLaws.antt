@@ -1,7 +1,6 @@
 -- What the tests say where they let a call pass.
 use mathlib.Core.Path.{_≡_, refl}
-use mathlib.Core.Bool.{Bool, true, false, not, _&&_, true≢false, false≢true}
-use mathlib.Core.Option.{Option, none, some}
+use mathlib.Core.Bool.{Bool, true, false, not, _&&_}
 use mathlib.Core.Logic.{_≢_}
 use Prim.Native.Nat.{ℕ, zero, suc, _≤_}
 use native.Mathlib.Omega.{arith}
@@ -9,20 +8,9 @@ use lib.Dec.{eqb, ltb}
 use borrow.Author.Tests.{eqb-true, eqb-false, ltb-false, not-false}
 use Rattle.base.specs.Bools.{neither}
 use Rattle.agreement.specs.View.{Knows}
-use Rattle.agreement.specs.Dag.{isHeld}
 use Rattle.sheet.specs.declared.Settings.{Settings}
 use Rattle.committee.specs.Committees.{knownBy}
 use Rattle.rules.specs.Tests.{Member, badRound, above, unknown}
-
--- of two tests that fail together, the second fails where the first holds
-pub but : (a b : Bool) → (a && not b) ≡ false → a ≡ true → b ≡ true
-but true b h e = not-false b h
-but false b h e = absurd (false≢true e)
-
--- a place where nothing is held
-pub absent : {P : Type 0} (o : Option P) → isHeld o ≡ false → o ≡ none
-absent none h = refl
-absent (some x) h = absurd (true≢false h)
 
 -- a test that is made above round 1 only, above round 1
 pub later : (r : ℕ) (b : Bool) → r ≢ 1 → above r b ≡ false → b ≡ false

@@ -4,17 +4,18 @@ use mathlib.Core.Bool.{Bool, true, false, not, cond, _&&_, _||_, and-true, and-f
 use mathlib.Core.List.{List}
 use mathlib.Core.Logic.{_≢_}
 use native.Mathlib.Decide.{ℕ-discrete}
-use Prim.Native.Nat.{ℕ, zero, suc, _+_, _*_, _/_, _<_, _≤_}
+use Prim.Native.Nat.{ℕ, _+_, _*_, _<_, _≤_}
 use native.Mathlib.Omega.{arith}
 use lib.Dec.{eqb}
 use lib.ListN.{length, getD, set, drop, length-set}
 use lib.Seq.{getD-set-same, getD-set-other}
 use borrow.Author.Tests.{eq-eqb, ne-eqb}
+use Rattle.base.specs.Bools.{eqb-flip}
 use Rattle.base.specs.Sets.{isIn, add, del}
-use Rattle.base.specs.SetLaws.{add-lt, del-zero, del-suc, in-del}
+use Rattle.base.specs.SetLaws.{add-lt, del-le, in-del}
 use Rattle.store.specs.Table.{used, Row, Within, heldSet, endorsedSet, blockRound, heldAt, endorsedAt, word, markAt, contentAt, certificateAt}
 use Rattle.store.specs.Writes.{setEndorsed, clearEndorsed}
-use Rattle.store.specs.WriteLaws.{samePlace, eqb-flip, in-added, content-same, certificate-same, same-beyond}
+use Rattle.store.specs.WriteLaws.{samePlace, in-added, content-same, certificate-same, same-beyond}
 
 -- u is t but for the endorsed set of row q
 pub record OnlyEndorsed (q : ℕ) (t u : List ℕ) : Type 0 where
@@ -65,10 +66,6 @@ module _ {q : ℕ} {t u : List ℕ} (o : OnlyEndorsed q t u) where
 
 only-endorsed : (t : List ℕ) (q x : ℕ) → OnlyEndorsed q t (set t (q * 272 + 1) x)
 only-endorsed t q x = record { size = length-set t (q * 272 + 1) x; words = λ j n. getD-set-other t (q * 272 + 1) j x 0 n }
-
-del-le : (i s : ℕ) → del s i ≤ s
-del-le zero s = rw (del-zero s) (omega arith)
-del-le (suc i) s = let h = del-le i (s / 2) in rw (del-suc s i) (omega arith)
 
 module _ (t : List ℕ) (a q : ℕ) where
   pub set-endorsed : OnlyEndorsed q t (setEndorsed t a q)

@@ -2,7 +2,7 @@
 use mathlib.Core.Path.{_≡_, refl}
 use mathlib.Core.Bool.{Bool, true, false, cond, _&&_}
 use mathlib.Core.List.{List, [], _∷_}
-use Prim.Native.Nat.{ℕ}
+use Prim.Native.Nat.{ℕ, _≤_}
 use native.Mathlib.Omega.{arith}
 use lib.ListN.{getD, List·getD-eq-default}
 use lib.Dec.{eqb, ltb}
@@ -15,9 +15,10 @@ use Rattle.terms.specs.declared.Round.{Round}
 use Rattle.terms.specs.declared.Body.{Body}
 use Rattle.terms.specs.declared.Proposal.{Proposal}
 use Rattle.terms.specs.Transactions.{noTransaction, sameTransaction}
-use Rattle.terms.specs.Proposals.{slotOf, contentWith, contentOf, sameTransactions, same}
-use Rattle.terms.specs.ProposalLaws.{same-tabs, other-tabs, same-placed, transactions-tab}
+use Rattle.terms.specs.Proposals.{slotOf, transactionsOf, contentWith, contentOf, sameTransactions, same}
+use Rattle.terms.specs.ProposalLaws.{same-tabs, other-tabs, same-placed, transactions-tab, four-slots}
 use Rattle.store.specs.Table.{previousAt, countAt, transactionAt, contentAt}
+use Rattle.store.specs.TableLaws.{content-few}
 use Rattle.store.specs.Writes.{nthOf, proposalOf}
 
 -- element k of a listed function, nothing beyond
@@ -59,3 +60,13 @@ pub proposal-by : (t : List ℕ) (m : Member) (r : Round) (v n : ℕ) (x₀ x₁
     (proposalOf (contentAt t (m .0) (r .0)))
 unfolding proposalOf contentAt
 proposal-by t m r v n x₀ x₁ x₂ x₃ a b c₀ c₁ c₂ c₃ = rw (a, b, c₀, c₁, c₂, c₃, length-tab (transactionAt t (m .0) (r .0)) (countAt t (m .0) (r .0))) refl
+
+-- a proposal as it is handed out has its transactions, at most four
+module _ (t : List ℕ) (m r : ℕ) {p : Proposal} (e : p ≡ proposalOf (contentAt t m r)) where
+  pub proposal-few : p .body .count ≤ 4
+  unfolding proposalOf
+  proposal-few = rw e (content-few t m r)
+
+  pub proposal-shown : transactionsOf (p .body) ≡ contentAt t m r .transactions
+  unfolding proposalOf nthOf
+  proposal-shown = rw e (four-slots (contentAt t m r .previous) (contentAt t m r .transactions) (content-few t m r))

@@ -3,14 +3,18 @@ use mathlib.Core.Path.{_≡_, refl}
 use mathlib.Core.Bool.{Bool, true, false, cond}
 use mathlib.Core.List.{List}
 use mathlib.Core.Option.{Option, none, some}
-use Prim.Native.Nat.{ℕ, _<_, _≤_}
+use Prim.Native.Nat.{ℕ, _+_, _*_, _<_, _≤_}
 use native.Mathlib.Omega.{arith}
+use lib.ListN.{getD, length}
 use lib.Dec.{ltb}
 use borrow.Author.Tests.{ltb-false}
 use Rattle.base.specs.SetLaws.{in-member}
 use Rattle.base.specs.Folds.{tab}
+use Rattle.base.specs.FoldLaws.{length-tab}
 use Rattle.base.specs.Sets.{isIn}
+use Rattle.terms.specs.Transactions.{amountOf}
 use Rattle.terms.specs.Proposals.{Content}
+use Rattle.terms.specs.ProposalLaws.{read-amount}
 use Rattle.store.specs.Table.{heldSet, endorsedSet, heldAt, endorsedAt, word, previousAt, countAt, transactionAt, contentAt, certificateAt}
 
 module _ (t : List ℕ) (m r : ℕ) where
@@ -80,3 +84,14 @@ module _ (t : List ℕ) (m r : ℕ) where
   pub content-transactions : contentAt t m r .transactions ≡ tab (transactionAt t m r) (countAt t m r)
   unfolding contentAt
   content-transactions = refl
+
+  pub content-few : length (contentAt t m r .transactions) ≤ 4
+  content-few = rw (content-transactions, length-tab (transactionAt t m r) (countAt t m r)) count-le
+
+  -- where each word is a 32-bit number, so is each amount
+  pub amount-lt : ((i : ℕ) → getD t i 0 < 4294967296) → (k : ℕ) → amountOf (transactionAt t m r k) ≤ 4294967295
+  unfolding transactionAt word
+  amount-lt words k =
+      let h = words (r * 272 + m * 16 + 16 + (6 + k * 3)) in
+      let l = read-amount (word t m r (4 + k * 3)) (word t m r (5 + k * 3)) (word t m r (6 + k * 3)) in
+      omega arith

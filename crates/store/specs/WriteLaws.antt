@@ -11,7 +11,7 @@ use lib.Dec.{eqb}
 use lib.ListN.{length, getD, drop, length-set, length-drop}
 use lib.Seq.{paste, length-paste, getD-set-same, getD-set-other, ext-getD, getD-drop}
 use borrow.Author.Tests.{eq-eqb, ne-eqb, eqb-true}
-use Rattle.base.specs.Bools.{both}
+use Rattle.base.specs.Bools.{both, eqb-flip}
 use Rattle.base.specs.Folds.{tab}
 use Rattle.base.specs.FoldLaws.{tab-same}
 use Rattle.base.specs.Sets.{isIn, add}
@@ -30,13 +30,6 @@ same-place m r a q e = let z = both (eqb m a) (eqb r q) e in (eqb-true m a (z .0
 
 pub other-place : (m r a q : ℕ) → samePlace m r a q ≡ false → m ≡ a → r ≡ q → ⊥
 other-place m r a q e x y = absurd (true≢false (sym (rw (eq-eqb m a x, eq-eqb r q y) refl) ∙ e))
-
-pub eqb-flip : (a b : ℕ) → eqb a b ≡ eqb b a
-eqb-flip a b = by (ℕ-discrete a b)
-  where
-    by : Dec (a ≡ b) → eqb a b ≡ eqb b a
-    by (yes e) = rw (eq-eqb a b e, eq-eqb b a (sym e)) refl
-    by (no n) = rw (ne-eqb a b n, ne-eqb b a (λ e. n (sym e))) refl
 
 -- where a row's set gets one member more, one place more is in
 pub in-added : (s s′ : ℕ → ℕ) (a q : ℕ) → a < 16 → s′ q ≡ add (s q) a → ((r : ℕ) → r ≢ q → s′ r ≡ s r) → (m r : ℕ) → isIn (s′ r) m ≡ (samePlace m r a q || isIn (s r) m)

@@ -1,20 +1,24 @@
 -- Laws of transactions and proposals.
-use mathlib.Core.Path.{_≡_, refl, sym, ap, _∙_}
-use mathlib.Core.Bool.{Bool, true, false, not, _&&_, _||_, and-true, and-assoc, false≢true}
+use mathlib.Core.Path.{_≡_, refl, sym, ap, _∙_, subst}
+use mathlib.Core.Bool.{Bool, true, false, not, cond, _&&_, _||_, and-true, and-assoc, false≢true, true≢false}
 use mathlib.Core.List.{List, [], _∷_, _++_}
-use Prim.Native.Nat.{ℕ, zero, suc}
+use mathlib.Core.Logic.{_≢_}
+use Prim.Native.Nat.{ℕ, zero, suc, _≤_, _<_}
 use native.Mathlib.Omega.{arith}
-use lib.ListN.{length}
-use lib.Dec.{eqb, ltb}
-use borrow.Author.Tests.{eq-eqb, eqb-true}
+use lib.ListN.{length, getD}
+use lib.Dec.{eqb, ltb, leb}
+use borrow.Author.Tests.{eq-eqb, eqb-true, leb-true, lt-ltb, not-false}
 use Rattle.base.specs.Bools.{both}
-use Rattle.base.specs.Folds.{allTo, tab}
+use Rattle.base.specs.Folds.{allTo, anyTo, tab}
 use Rattle.base.specs.FoldLaws.{length-tab}
+use Rattle.base.specs.TestLaws.{any-true}
+use Rattle.base.specs.Sets.{isIn, isEmpty}
+use Rattle.base.specs.UnionLaws.{in-none, empty-in}
 use Rattle.terms.specs.declared.Transaction.{Transaction}
 use Rattle.terms.specs.declared.Transaction.the-variants.{Bond, Unbond, Entry}
-use Rattle.terms.specs.Transactions.{kindOf, numberOf, amountOf, readTransaction, sameTransaction, inRange}
+use Rattle.terms.specs.Transactions.{kindOf, numberOf, amountOf, readTransaction, noTransaction, sameTransaction, bondInRange, inRange}
 use Rattle.terms.specs.declared.Body.{Body}
-use Rattle.terms.specs.Proposals.{Content, slotOf, transactionsOf, sameTransactions, same, allInRange, unfit}
+use Rattle.terms.specs.Proposals.{Content, slotOf, transactionsOf, sameTransactions, same, allInRange, unfit, wrongSet}
 
 -- the numbers of a transaction tell it
 pub read-back : (x : Transaction) → readTransaction (kindOf x) (numberOf x) (amountOf x) ≡ x
@@ -22,6 +26,23 @@ unfolding readTransaction
 read-back (Bond m a) = refl
 read-back (Unbond m) = refl
 read-back (Entry n) = refl
+
+-- the amount of three numbers' transaction is not above the third
+pub read-amount : (kind number amount : ℕ) → amountOf (readTransaction kind number amount) ≤ amount
+unfolding readTransaction
+read-amount kind number amount = go (eqb kind 0) (eqb kind 1)
+  where
+    go : (a b : Bool) → amountOf (cond a (Bond (record { 0 = number }) amount) (cond b (Unbond (record { 0 = number })) (Entry number))) ≤ amount
+    go true b = omega arith
+    go false true = omega arith
+    go false false = omega arith
+
+-- no amount in range is above 1,000
+pub range-amount : (x : Transaction) → inRange x ≡ true → amountOf x ≤ 1000
+unfolding bondInRange
+range-amount (Bond m a) e = leb-true a 1000 (both (leb 1 a) (leb a 1000) (both (ltb (m .0) 16) (leb 1 a && leb a 1000) e .1) .1)
+range-amount (Unbond m) e = omega arith
+range-amount (Entry n) e = omega arith
 
 -- equal numbers, equal transactions
 pub same-transaction : (x y : Transaction) → sameTransaction x y ≡ true → x ≡ y
@@ -120,6 +141,23 @@ transactions-tab b = refl
 pub length-transactions : (b : Body) → length (transactionsOf b) ≡ b .count
 length-transactions b = rw (transactions-tab b) (length-tab (slotOf b) (b .count))
 
+-- four slots hold the transactions of a list that is not longer
+pub four-slots : (v : ℕ) (l : List Transaction) → length l ≤ 4
+    → transactionsOf
+    (record {
+      previous = v;
+      count = length l;
+      slots = record { transaction = getD l 0 noTransaction } ∷ record { transaction = getD l 1 noTransaction } ∷ record { transaction = getD l 2 noTransaction } ∷ record { transaction = getD l 3 noTransaction } ∷ [];
+    })
+    ≡ l
+unfolding transactionsOf slotOf tab
+four-slots v [] h = refl
+four-slots v (x ∷ []) h = refl
+four-slots v (x ∷ y ∷ []) h = refl
+four-slots v (x ∷ y ∷ z ∷ []) h = refl
+four-slots v (x ∷ y ∷ z ∷ w ∷ []) h = refl
+four-slots v (x ∷ y ∷ z ∷ w ∷ u ∷ l) h = absurd (omega arith)
+
 range-append : (l m : List Transaction) → allInRange (l ++ m) ≡ (allInRange l && allInRange m)
 unfolding allInRange
 range-append [] m = refl
@@ -133,3 +171,24 @@ range-tab f (suc n) = range-append (tab f n) (f n ∷ []) ∙ rw (range-tab f n,
 pub unfit-tab : (a : ℕ) (f : ℕ → Transaction) (n : ℕ) → unfit a (tab f n) ≡ (ltb a n || not (allTo (λ k. inRange (f k)) n))
 unfolding unfit
 unfit-tab a f n = rw (length-tab f n, range-tab f n) refl
+
+-- over the allowance
+pub unfit-over : (a : ℕ) (l : List Transaction) → a < length l → unfit a l ≡ true
+unfolding unfit
+unfit-over a l h = rw (lt-ltb a (length l) h) refl
+
+-- ---- check 7
+
+-- a set that passes it in round 1 names nobody
+pub first-names : (set : ℕ) → wrongSet 1 set ≡ false → (i : ℕ) → isIn set i ≡ true → ⊥
+unfolding wrongSet isEmpty
+first-names set h i n = true≢false (sym n ∙ subst (λ (z : ℕ). isIn z i ≡ false) (sym (eqb-true set 0 (not-false (eqb set 0) h))) (in-none i))
+
+-- a 16-bit set that passes it above round 1 names somebody
+pub later-names : (r set : ℕ) → r ≢ 1 → set < 65536 → wrongSet r set ≡ false → (i : ℕ) × (i < 16) × (isIn set i ≡ true)
+unfolding wrongSet
+later-names r set n small h = any-true (isIn set) 16 (not-false (anyTo (isIn set) 16) (sym (empty-in set small) ∙ go (eqb r 1) refl h))
+  where
+    go : (b : Bool) → eqb r 1 ≡ b → cond b (not (isEmpty set)) (isEmpty set) ≡ false → isEmpty set ≡ false
+    go true e k = absurd (n (eqb-true r 1 e))
+    go false e k = k

@@ -10,10 +10,9 @@ use lib.ListN.{getD}
 use lib.Dec.{eqb}
 use borrow.Author.Tests.{eqb-true, eqb-false}
 use Rattle.base.specs.Folds.{foldTo, sumTo}
-use Rattle.terms.specs.declared.Transaction.the-variants.{Bond, Unbond, Entry}
-use Rattle.terms.specs.Transactions.{amountOf, readTransaction}
-use Rattle.store.specs.Table.{word, blockRound, heldAt, markAt, countAt, transactionAt}
-use Rattle.store.specs.TableLaws.{count-le}
+use Rattle.terms.specs.Transactions.{amountOf}
+use Rattle.store.specs.Table.{blockRound, heldAt, markAt, countAt, transactionAt}
+use Rattle.store.specs.TableLaws.{count-le, amount-lt}
 use Rattle.committee.specs.Chain.{holdsAt, blockAt, chainOf}
 use Rattle.committee.specs.Changes.{change, changesOf, listed}
 use Rattle.committee.specs.Committees.{step, bondedFrom}
@@ -97,20 +96,11 @@ module _ (t : List ℕ) (n a : ℕ) (modest : Modest t n a) where
 -- ---- where each word is a 32-bit number
 
 module _ (t : List ℕ) (words : (i : ℕ) → getD t i 0 < 4294967296) where
-  amount-lt : (m r k : ℕ) → amountOf (transactionAt t m r k) ≤ 4294967295
-  unfolding transactionAt readTransaction word
-  amount-lt m r k = go (eqb (word t m r (4 + k * 3)) 0) (eqb (word t m r (4 + k * 3)) 1)
-    where
-      go : (x y : Bool) → amountOf (cond x (Bond (record { 0 = word t m r (5 + k * 3) }) (word t m r (6 + k * 3))) (cond y (Unbond (record { 0 = word t m r (5 + k * 3) })) (Entry (word t m r (5 + k * 3))))) ≤ 4294967295
-      go true y = let h = words (r * 272 + m * 16 + 16 + (6 + k * 3)) in omega arith
-      go false true = omega arith
-      go false false = omega arith
-
   modest : (n : ℕ) → Modest t n 4294967295
-  modest n m r k _ _ _ _ = amount-lt m r k
+  modest n m r k _ _ _ _ = amount-lt t m r words k
 
   pub turns-light : (m r c : ℕ) (w : List ℕ) → c ≤ 4 → totalIn (foldTo (λ k. change (transactionAt t m r k)) c w) ≤ totalIn w + 17179869180
-  turns-light m r c w h = raised (foldTo (λ k. change (transactionAt t m r k)) c) 17179869180 (turns-raise t m r 4294967295 c h (λ k _. amount-lt m r k)) w
+  turns-light m r c w h = raised (foldTo (λ k. change (transactionAt t m r k)) c) 17179869180 (turns-raise t m r 4294967295 c h (λ k _. amount-lt t m r words k)) w
 
   pub places-light : (k p : ℕ) (w : List ℕ) → p ≤ 16400 → totalIn (placesChange t k p w) ≤ totalIn w + 281474976645120
   places-light k p w h =

@@ -1,21 +1,19 @@
 -- The greatest total weight of a committee, in every well-formed table: 81,536,000.
 use mathlib.Core.Path.{_≡_, sym, ap, _∙_}
-use mathlib.Core.Bool.{true, not, _&&_}
+use mathlib.Core.Bool.{true, not}
 use mathlib.Core.List.{List}
 use Prim.Native.Nat.{ℕ, _-_, _<_, _≤_}
 use native.Mathlib.Omega.{arith}
 use native.Mathlib.Decide.{decLt}
-use lib.Dec.{leb, ltb}
-use borrow.Author.Tests.{leb-true, not-false}
-use Rattle.base.specs.Bools.{both, neither}
+use lib.Dec.{ltb}
+use borrow.Author.Tests.{not-false}
+use Rattle.base.specs.Bools.{neither}
 use Rattle.base.specs.Folds.{allTo}
 use Rattle.base.specs.SumLaws.{sum-le}
 use Rattle.base.specs.TestLaws.{all-at}
-use Rattle.terms.specs.declared.Transaction.{Transaction}
-use Rattle.terms.specs.declared.Transaction.the-variants.{Bond, Unbond, Entry}
-use Rattle.terms.specs.Transactions.{amountOf, bondInRange, inRange}
+use Rattle.terms.specs.Transactions.{inRange}
 use Rattle.terms.specs.Proposals.{unfit}
-use Rattle.terms.specs.ProposalLaws.{unfit-tab}
+use Rattle.terms.specs.ProposalLaws.{range-amount, unfit-tab}
 use Rattle.store.specs.Table.{countAt, transactionAt}
 use Rattle.store.specs.TableLaws.{content-transactions}
 use Rattle.store.specs.Scan.{rowsFit}
@@ -28,13 +26,6 @@ use Rattle.committee.specs.Committees.{committeeOf}
 use Rattle.committee.specs.CommitteeLaws.{committee-start, committee-bonded}
 use Rattle.committee.specs.Totals.{totalIn}
 use Rattle.walk.specs.BoundLaws.{Modest, bonded-raises}
-
--- no amount in range is above 1,000
-range-amount : (x : Transaction) → inRange x ≡ true → amountOf x ≤ 1000
-unfolding bondInRange
-range-amount (Bond m a) e = leb-true a 1000 (both (leb 1 a) (leb a 1000) (both (ltb (m .0) 16) (leb 1 a && leb a 1000) e .1) .1)
-range-amount (Unbond m) e = omega arith
-range-amount (Entry n) e = omega arith
 
 modest-rows : (t : List ℕ) (allowance blocks n : ℕ) → rowsFit t allowance blocks n ≡ true → Modest t n 1000
 modest-rows t allowance blocks n e m r k h l f i =

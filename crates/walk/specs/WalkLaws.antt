@@ -1,16 +1,15 @@
 -- Laws of the walk: places, and a block place by place.
-use mathlib.Core.Path.{_≡_, refl, sym, ap, _∙_}
+use mathlib.Core.Path.{_≡_, refl, sym, _∙_}
 use mathlib.Core.Bool.{Bool, true, false, cond}
 use mathlib.Core.List.{List}
 use mathlib.Core.Option.{none}
-use Prim.Native.Nat.{ℕ, zero, suc, _+_, _-_, _*_, _/_, _%_, _<_, _≤_}
+use Prim.Native.Nat.{ℕ, suc, _+_, _-_, _*_, _/_, _%_, _<_, _≤_}
 use native.Mathlib.Omega.{arith}
-use native.Mathlib.Decide.{ℕ-discrete}
 use native.Mathlib.Numerals.{add-one}
 use lib.Dec.{eqb}
 use borrow.Author.Tests.{eq-eqb, ne-eqb, le-leb}
 use Rattle.base.specs.Folds.{foldTo}
-use Rattle.base.specs.FoldLaws.{fold-more, fold-same}
+use Rattle.base.specs.FoldLaws.{fold-more, fold-same, fold-high, fold-flat}
 use Rattle.store.specs.Table.{markAt, heldAt, countAt, transactionAt, contentAt}
 use Rattle.store.specs.TableLaws.{certificate-present, certificate-absent, content-transactions}
 use Rattle.committee.specs.Chain.{isRound, holdsAt, blockAt, chainOf}
@@ -18,45 +17,6 @@ use Rattle.committee.specs.Changes.{change, changes, changesOf, listed}
 use Rattle.committee.specs.ChangeLaws.{changes-tab, changes-none, changes-one, ordered-changes}
 use Rattle.walk.specs.Walk.{placeChange, placesChange, blockChange}
 use Rattle.walk.specs.Links.{Marked, First}
-
--- ---- folds
-
-fold-none : {A : Type 0} (f : ℕ → A → A) (x : A) → foldTo f 0 x ≡ x
-unfolding foldTo
-fold-none f x = refl
-
--- the turns from z on change nothing
-fold-high : {A : Type 0} (f : ℕ → A → A) (n z : ℕ) (x : A) → z ≤ n → ((i : ℕ) (y : A) → z ≤ i → i < n → f i y ≡ y) → foldTo f n x ≡ foldTo f z x
-unfolding foldTo
-fold-high f zero z x h high = let e : z ≡ 0 = omega arith in rw e refl
-fold-high f (suc n) z x h high = go (ℕ-discrete z (suc n)) (λ l. fold-high f n z x l (λ i y b c. high i y b (omega arith)))
-  where
-    go : Dec (z ≡ suc n) → (z ≤ n → foldTo f n x ≡ foldTo f z x) → f n (foldTo f n x) ≡ foldTo f z x
-    go (yes p) k = rw p refl
-    go (no p) k = high n (foldTo f n x) (omega arith) (omega arith) ∙ k (omega arith)
-
--- c turns more
-fold-join : {A : Type 0} (f : ℕ → A → A) (a c : ℕ) (x : A) → foldTo f (a + c) x ≡ foldTo (λ i. f (a + i)) c (foldTo f a x)
-unfolding foldTo
-fold-join f a zero x = let e : a + 0 ≡ a = omega arith in rw e refl
-fold-join f a (suc c) x =
-    let e : a + suc c ≡ suc (a + c) = omega arith in
-    rw e (ap (f (a + c)) (fold-join f a c x))
-
--- sixteen turns in each turn
-fold-flat : {A : Type 0} (f : ℕ → ℕ → A → A) (n : ℕ) (x : A) → foldTo (λ r. foldTo (f r) 16) n x ≡ foldTo (λ i. f (i / 16) (i % 16)) (n * 16) x
-fold-flat {A} f n x = go n
-  where
-    go : (n : ℕ) → foldTo (λ r. foldTo (f r) 16) n x ≡ foldTo (λ i. f (i / 16) (i % 16)) (n * 16) x
-    go zero = start
-      where
-        start : foldTo (λ r. foldTo (f r) 16) 0 x ≡ foldTo (λ i. f (i / 16) (i % 16)) 0 x
-        start = fold-none (λ r. foldTo (f r) 16) x ∙ sym (fold-none (λ i. f (i / 16) (i % 16)) x)
-    go (suc n) =
-        let e : (n + 1) * 16 ≡ n * 16 + 16 = omega arith in
-        rw (← add-one n, e, fold-more (λ r. foldTo (f r) 16) n x, go n, fold-join (λ i. f (i / 16) (i % 16)) (n * 16) 16 x)
-        (fold-same (f n) (λ i. f ((n * 16 + i) / 16) ((n * 16 + i) % 16)) 16 (foldTo (λ i. f (i / 16) (i % 16)) (n * 16) x)
-        (λ i y h. let a : (n * 16 + i) / 16 ≡ n = omega arith in let b : (n * 16 + i) % 16 ≡ i = omega arith in rw (a, b) refl))
 
 -- ---- a place
 
