@@ -1,6 +1,6 @@
 // Commit: the anchor of the round before, and those that its history takes, make blocks, oldest first.
-pub mod checks;
-pub mod votes;
+mod checks;
+mod votes;
 
 use state::State;
 use terms::Round;

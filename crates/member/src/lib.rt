@@ -2,11 +2,12 @@
 pub mod accept;
 pub mod advance;
 pub mod certify;
-pub mod checks;
+mod checks;
 pub mod endorse;
 pub mod open;
 pub mod propose;
 
+pub use checks::is_bad_round;
 use state::State;
 
 // What a call answers: accepted, or the number of the first check that refuses it.

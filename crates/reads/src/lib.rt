@@ -41,7 +41,7 @@ fn committee_number(s: State, t: &[u32], r: Round) -> u32
     if !state::well_formed(s, t) {
         return 1;
     }
-    if member::checks::is_bad_round(s.settings, r) {
+    if member::is_bad_round(s.settings, r) {
         return 5;
     }
     if !walk::known(t, s.settings, s.blocks, r) {
@@ -71,7 +71,7 @@ fn share_of(s: State, t: &[u32], m: Member, r: Round) -> ShareRead
     requires { ⌜ Formed s (now t) × (m .0 < 16) ⌝ }
     ensures { λ v. ⌜ v ≡ shareAnswer s (now (t .entry)) (m .0) (r .0) ⌝ }
 {
-    if member::checks::is_bad_round(s.settings, r) {
+    if member::is_bad_round(s.settings, r) {
         return ShareRead::Refused(5);
     }
     if !walk::known(t, s.settings, s.blocks, r) {
@@ -106,7 +106,7 @@ fn certificate_number(s: State, t: &[u32], m: Member, r: Round) -> u32
     if 15 < m.0 {
         return 4;
     }
-    if member::checks::is_bad_round(s.settings, r) {
+    if member::is_bad_round(s.settings, r) {
         return 5;
     }
     if !store::held(t, m, r) {
