@@ -1,7 +1,6 @@
 -- The calls on a state and its table: the number that refuses, the answer and the state, and the table.
-use mathlib.Core.Bool.{true, false}
 use mathlib.Core.List.{List}
-use Prim.Native.Nat.{ℕ, _+_}
+use Prim.Native.Nat.{ℕ}
 use Rattle.terms.specs.declared.Body.{Body}
 use Rattle.terms.specs.declared.Proposal.{Proposal}
 use Rattle.terms.specs.declared.Certificate.{Certificate}
@@ -9,6 +8,7 @@ use Rattle.terms.specs.Proposals.{contentWith, contentOf, transactionsOf}
 use Rattle.store.specs.Writes.{putCertificate, setEndorsed, clearEndorsed}
 use Rattle.rules.specs.Calls as rules
 use Rattle.state.specs.declared.State.{State}
+use Rattle.state.specs.States.{proposed, advanced}
 use Rattle.state.specs.Number.{numberOf}
 use Rattle.member.specs.declared.Outcome.{Outcome}
 use Rattle.member.specs.Answers.{left, outcomeOf}
@@ -20,11 +20,8 @@ module _ (s : State) (t : List ℕ) where
   unfoldable pub proposeNumber : Body → ℕ
   proposeNumber b = numberOf s t (rules.propose (b .previous) (transactionsOf b))
 
-  abbrev pub proposed : Body → State
-  proposed b = record { own = s .own; settings = s .settings; round = s .round; proposing = true; body = b; blocks = s .blocks }
-
   unfoldable pub proposeOutcome : Body → Outcome
-  proposeOutcome b = outcomeOf (proposeNumber b) (proposed b) s
+  proposeOutcome b = outcomeOf (proposeNumber b) (proposed s b) s
 
   -- ---- endorse: the place is marked endorsed
 
@@ -64,8 +61,5 @@ module _ (s : State) (t : List ℕ) where
   unfoldable pub advanceNumber : ℕ
   advanceNumber = numberOf s t rules.advance
 
-  abbrev pub advanced : State
-  advanced = record { own = s .own; settings = s .settings; round = record { 0 = s .round .0 + 1 }; proposing = false; body = noBody; blocks = s .blocks }
-
   unfoldable pub advanceOutcome : Outcome
-  advanceOutcome = outcomeOf advanceNumber advanced s
+  advanceOutcome = outcomeOf advanceNumber (advanced s noBody) s

@@ -15,6 +15,7 @@ use Rattle.sheet.specs.declared.Sheet.{Sheet}
 use Rattle.sheet.specs.Sheets.{filled}
 use Rattle.sheet.specs.Ranges.{outOfRange, weightless}
 use Rattle.state.specs.declared.State.{State}
+use Rattle.state.specs.States.{fresh}
 use Rattle.member.specs.declared.Outcome.{Outcome}
 use Rattle.member.specs.Answers.{left, outcomeOf}
 
@@ -36,7 +37,7 @@ closedState =
 
 -- a fresh state has round 1 and nothing else
 abbrev pub freshState : Member → Settings → State
-freshState own S = record { own = own; settings = S; round = record { 0 = 1 }; proposing = false; body = noBody; blocks = 0 }
+freshState own S = fresh own S noBody
 
 -- 4 member above 15; 2 setting out of range; 3 no positive weight; 1 lent table too short
 abbrev pub opening : List ℕ → Member → Settings → Checks

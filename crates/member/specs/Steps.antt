@@ -12,10 +12,11 @@ use Rattle.sheet.specs.Sheets.{filled}
 use Rattle.rules.specs.Tests as tests
 use Rattle.rules.specs.Calls as rules
 use Rattle.state.specs.declared.State.{State}
+use Rattle.state.specs.States.{proposed, advanced}
 use Rattle.state.specs.View.{view}
 use Rattle.member.specs.declared.Outcome.{Outcome}
-use Rattle.member.specs.Open.{freshState, openNumber, openOutcome, openTable}
-use Rattle.member.specs.Calls.{proposeNumber, proposed, proposeOutcome, endorseNumber, endorseOutcome, endorseTable, certifyNumber, certifyOutcome, certifyTable, acceptNumber, acceptOutcome, acceptTable, advanceNumber, advanced, advanceOutcome}
+use Rattle.member.specs.Open.{noBody, freshState, openNumber, openOutcome, openTable}
+use Rattle.member.specs.Calls.{proposeNumber, proposeOutcome, endorseNumber, endorseOutcome, endorseTable, certifyNumber, certifyOutcome, certifyTable, acceptNumber, acceptOutcome, acceptTable, advanceNumber, advanceOutcome}
 
 pub data Call : Type 0 where
   -- own number, sheet
@@ -59,11 +60,11 @@ module _ (s : State) (t : List ℕ) where
 
   abbrev pub newState : Call → State
   newState (opens own sheet) = freshState own (filled sheet)
-  newState (propose b) = proposed s t b
+  newState (propose b) = proposed s b
   newState (endorse p) = s
   newState (certify e) = s
   newState (accept c) = s
-  newState advance = advanced s t
+  newState advance = advanced s noBody
 
   abbrev pub newTable : Call → List ℕ
   newTable (opens own sheet) = clearUsed t (filled sheet .ceiling .0)
