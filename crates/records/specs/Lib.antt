@@ -5,3 +5,5 @@ pub mod TurnLaws
 pub mod Listing
 pub mod ListingLaws
 pub mod BlockLaws
+pub mod Counts
+pub mod CountLaws

@@ -68,12 +68,3 @@ unfolding contentLines
 lines-append k b [] m = refl
 lines-append k b (p ∷ l) m =
     rw (lines-append k b l m) (sym (append-assoc (listingLine k b (p .round) (p .author) (p .transactions)) (contentLines k b l) (contentLines k b m)))
-
-module _ (n : ℕ) (t : List ℕ) (k b r : ℕ) where
-  pub row-none : contentLines k b (row (blockAt n t k) r 0) ≡ []
-  unfolding row contentLines
-  row-none = refl
-
-  pub row-next : 1 ≤ r → r ≤ n → (m : ℕ) → contentLines k b (row (blockAt n t k) r (m + 1)) ≡ contentLines k b (row (blockAt n t k) r m) ++ contentLines k b (listed (holdsAt t k m r))
-  unfolding row blockAt isRound
-  row-next h l m = rw (add-one m, lines-append k b (row (blockAt n t k) r m) (listed (blockAt n t k .holds m r)), le-leb 1 r h, le-leb r n l) refl
