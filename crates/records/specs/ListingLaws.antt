@@ -3,9 +3,8 @@ use mathlib.Core.Path.{_≡_, refl, sym}
 use mathlib.Core.Bool.{Bool, true, false, cond}
 use mathlib.Core.List.{List, [], _∷_, _++_, append-assoc, append-nil}
 use mathlib.Core.Option.{none}
-use Prim.Native.Nat.{ℕ, _+_, _≤_}
+use Prim.Native.Nat.{ℕ, _≤_}
 use native.Mathlib.Omega.{arith}
-use native.Mathlib.Numerals.{add-one}
 use lib.ListN.{length}
 use lib.Dec.{eqb}
 use Rattle.base.specs.Folds.{tab}
@@ -16,10 +15,10 @@ use Rattle.terms.specs.Proposals.{Content, slotOf, transactionsOf}
 use Rattle.store.specs.Table.{heldAt, markAt, countAt, transactionAt, contentAt}
 use Rattle.store.specs.TableLaws.{count-le, content-transactions, certificate-absent, certificate-present}
 use Rattle.state.specs.ChainLaws.{holds-at}
-use borrow.Author.Tests.{ne-eqb, eq-eqb, le-leb}
+use borrow.Author.Tests.{ne-eqb, eq-eqb}
 use Rattle.store.specs.Writes.{nthOf, proposalOf}
-use Rattle.committee.specs.Changes.{listed, row}
-use Rattle.committee.specs.Chain.{isRound, holdsAt, blockAt}
+use Rattle.committee.specs.Changes.{listed}
+use Rattle.committee.specs.Chain.{holdsAt}
 use Rattle.lines.specs.Lines.{listingLine}
 use Rattle.records.specs.Listing.{contentLines}
 

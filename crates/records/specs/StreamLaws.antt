@@ -2,8 +2,8 @@
 use mathlib.Core.Path.{_≡_, refl, sym, ap, _∙_}
 use mathlib.Core.Bool.{Bool, true, false, cond}
 use mathlib.Core.List.{List, [], _∷_, _++_, append-assoc, append-nil}
-use mathlib.Core.Option.{Option, none, some}
-use Prim.Native.Nat.{ℕ, _+_, _*_, _≤_}
+use mathlib.Core.Option.{Option, some}
+use Prim.Native.Nat.{ℕ, _≤_}
 use native.Mathlib.Omega.{arith}
 use lib.ListN.{length, take, drop}
 use lib.Dec.{eqb, ltb}
@@ -12,9 +12,9 @@ use Rattle.requests.specs.declared.Reading.{Reading}
 use Rattle.stream.specs.declared.Step.{Step}
 use Rattle.stream.specs.declared.Event.{Event}
 use Rattle.stream.specs.declared.Event.the-variants as event
-use Rattle.stream.specs.Streams.{hasEnd, untilEnd}
+use Rattle.stream.specs.Streams.{hasEnd}
 use Rattle.stream.specs.StreamLaws.{ended-short}
-use Rattle.stream.specs.Steps.{left, telling, passed, endedStep, openStep, stepOf, lastOf}
+use Rattle.stream.specs.Steps.{left, telling, passed, stepOf, lastOf}
 use Rattle.stream.specs.StepLaws.{step-told, last-told}
 use Rattle.lines.specs.Lines.{refusedLine}
 use Rattle.lines.specs.Puts.{Puts}
