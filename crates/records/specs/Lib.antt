@@ -1,7 +1,11 @@
+pub mod Listing
+pub mod ListingLaws
+pub mod BlockLaws
+pub mod Counts
+pub mod CountLaws
 pub mod Answers
 pub mod Turns
 pub mod PutLaws
 pub mod TurnLaws
-pub mod Listing
-pub mod ListingLaws
-pub mod BlockLaws
+pub mod Streams
+pub mod StreamLaws

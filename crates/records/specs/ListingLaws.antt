@@ -3,9 +3,8 @@ use mathlib.Core.Path.{_≡_, refl, sym}
 use mathlib.Core.Bool.{Bool, true, false, cond}
 use mathlib.Core.List.{List, [], _∷_, _++_, append-assoc, append-nil}
 use mathlib.Core.Option.{none}
-use Prim.Native.Nat.{ℕ, _+_, _≤_}
+use Prim.Native.Nat.{ℕ, _≤_}
 use native.Mathlib.Omega.{arith}
-use native.Mathlib.Numerals.{add-one}
 use lib.ListN.{length}
 use lib.Dec.{eqb}
 use Rattle.base.specs.Folds.{tab}
@@ -16,10 +15,10 @@ use Rattle.terms.specs.Proposals.{Content, slotOf, transactionsOf}
 use Rattle.store.specs.Table.{heldAt, markAt, countAt, transactionAt, contentAt}
 use Rattle.store.specs.TableLaws.{count-le, content-transactions, certificate-absent, certificate-present}
 use Rattle.state.specs.ChainLaws.{holds-at}
-use borrow.Author.Tests.{ne-eqb, eq-eqb, le-leb}
+use borrow.Author.Tests.{ne-eqb, eq-eqb}
 use Rattle.store.specs.Writes.{nthOf, proposalOf}
-use Rattle.committee.specs.Changes.{listed, row}
-use Rattle.committee.specs.Chain.{isRound, holdsAt, blockAt}
+use Rattle.committee.specs.Changes.{listed}
+use Rattle.committee.specs.Chain.{holdsAt}
 use Rattle.lines.specs.Lines.{listingLine}
 use Rattle.records.specs.Listing.{contentLines}
 
@@ -68,12 +67,3 @@ unfolding contentLines
 lines-append k b [] m = refl
 lines-append k b (p ∷ l) m =
     rw (lines-append k b l m) (sym (append-assoc (listingLine k b (p .round) (p .author) (p .transactions)) (contentLines k b l) (contentLines k b m)))
-
-module _ (n : ℕ) (t : List ℕ) (k b r : ℕ) where
-  pub row-none : contentLines k b (row (blockAt n t k) r 0) ≡ []
-  unfolding row contentLines
-  row-none = refl
-
-  pub row-next : 1 ≤ r → r ≤ n → (m : ℕ) → contentLines k b (row (blockAt n t k) r (m + 1)) ≡ contentLines k b (row (blockAt n t k) r m) ++ contentLines k b (listed (holdsAt t k m r))
-  unfolding row blockAt isRound
-  row-next h l m = rw (add-one m, lines-append k b (row (blockAt n t k) r m) (listed (blockAt n t k .holds m r)), le-leb 1 r h, le-leb r n l) refl

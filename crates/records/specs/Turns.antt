@@ -1,21 +1,20 @@
--- What a record does: the state and the table after it, and the line that answers it.
+-- What a record does: the state and the table after it, and the lines that answer it.
 use mathlib.Core.Path.{_≡_}
-use mathlib.Core.Bool.{cond}
 use mathlib.Core.List.{List}
-use Prim.Native.Nat.{ℕ}
+use Prim.Native.Nat.{ℕ, _+_, _*_}
+use lib.ListN.{length}
 use Rattle.terms.specs.declared.Proposal.{Proposal}
 use Rattle.terms.specs.declared.Certificate.{Certificate}
 use Rattle.state.specs.declared.State.{State}
-use Rattle.state.specs.WellFormed.{wellFormed}
 use Rattle.member.specs.Open.{openOutcome, openTable}
 use Rattle.member.specs.Calls.{proposeOutcome, endorseOutcome, endorseTable, certifyOutcome, certifyTable, acceptOutcome, acceptTable, advanceOutcome}
 use Rattle.commit.specs.Commit.{commitOutcome, commitTableAfter}
 use Rattle.requests.specs.declared.Kind.{Kind}
 use Rattle.requests.specs.declared.Kind.the-variants.{Unreadable, Open, Propose, Endorse, Certify, Accept, Advance, Commit, Chain}
 use Rattle.requests.specs.declared.Reading.{Reading}
-use Rattle.lines.specs.Lines.{okLine, refusedLine}
+use Rattle.lines.specs.Lines.{refusedLine}
 use Rattle.lines.specs.Puts.{Puts}
-use Rattle.records.specs.Answers.{answerLine, committedLine}
+use Rattle.records.specs.Answers.{answerLine, committedLine, chainAnswer}
 
 -- the proposal and the certificate that a record names
 abbrev pub proposalIn : Reading → Proposal
@@ -49,17 +48,17 @@ module _ (s : State) (t : List ℕ) (q : Reading) where
   tableAfter Commit = commitTableAfter s t
   tableAfter Chain = t
 
-  -- the line that answers it; that of a chain comes after its listing
-  abbrev pub lineAfter : Kind → List ℕ
-  lineAfter Unreadable = refusedLine 24
-  lineAfter Open = answerLine (openOutcome s t (q .own) (q .sheet) .answer)
-  lineAfter Propose = answerLine (proposeOutcome s t (q .body) .answer)
-  lineAfter Endorse = answerLine (endorseOutcome s t (proposalIn q) .answer)
-  lineAfter Certify = answerLine (certifyOutcome s t (q .endorsers) .answer)
-  lineAfter Accept = answerLine (acceptOutcome s t (certificateIn q) .answer)
-  lineAfter Advance = answerLine (advanceOutcome s t .answer)
-  lineAfter Commit = committedLine (commitOutcome s t .answer)
-  lineAfter Chain = cond (wellFormed s t) okLine (refusedLine 1)
+  -- the lines that answer it
+  abbrev pub linesAfter : Kind → List ℕ
+  linesAfter Unreadable = refusedLine 24
+  linesAfter Open = answerLine (openOutcome s t (q .own) (q .sheet) .answer)
+  linesAfter Propose = answerLine (proposeOutcome s t (q .body) .answer)
+  linesAfter Endorse = answerLine (endorseOutcome s t (proposalIn q) .answer)
+  linesAfter Certify = answerLine (certifyOutcome s t (q .endorsers) .answer)
+  linesAfter Accept = answerLine (acceptOutcome s t (certificateIn q) .answer)
+  linesAfter Advance = answerLine (advanceOutcome s t .answer)
+  linesAfter Commit = committedLine (commitOutcome s t .answer)
+  linesAfter Chain = chainAnswer s t
 
   unfoldable pub servedState : State
   servedState = stateAfter (q .kind)
@@ -67,11 +66,11 @@ module _ (s : State) (t : List ℕ) (q : Reading) where
   unfoldable pub servedTable : List ℕ
   servedTable = tableAfter (q .kind)
 
-  unfoldable pub servedLine : List ℕ
-  servedLine = lineAfter (q .kind)
+  unfoldable pub servedLines : List ℕ
+  servedLines = linesAfter (q .kind)
 
-  -- the state and the table left, and the line put into a buffer from `at` on
+  -- the state and the table left, and the lines put into a buffer from `at` on
   pub record Served (state : State) (table : List ℕ) (x y : List ℕ) (at next : ℕ) : Type 0 where
     pub its-state : state ≡ servedState
     pub its-table : table ≡ servedTable
-    pub its-line : Puts x y at next servedLine 20
+    pub its-lines : Puts x y at next servedLines (length t * 9 + 20)

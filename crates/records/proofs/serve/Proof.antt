@@ -1,3 +1,4 @@
+use native.Mathlib.Omega.{arith}
 use mathlib.Core.Path.{refl}
 use Rattle.requests.specs.declared.Kind.the-variants.{Unreadable, Open, Propose, Endorse, Certify, Accept, Advance, Chain}
 use Rattle.records.specs.TurnLaws.{served-by, told-by, counted-by}
@@ -124,7 +125,7 @@ same-length c = search needs
 
 -- src/lib.rt:59:1
 returns : tie.Need-returns
-returns c = served-by Unreadable (c .before .before .before .before .enum-told .given .1) refl refl (c .before .before .put-refused .ensures)
+returns c = served-by Unreadable (c .before .before .before .before .enum-told .given .1) refl refl (omega arith) (c .before .before .put-refused .ensures)
 
 -- src/lib.rt:59:1
 same-length-2 : tie.Need-same-length-2
@@ -220,7 +221,7 @@ same-length-17 c = search needs
 
 -- src/lib.rt:59:1
 returns-9 : tie.Need-returns-9
-returns-9 c = served-by Chain (c .before .before .before .before .before .enum-told9 .given .1) refl refl (c .before .before .listed .ensures)
+returns-9 c = served-by Chain (c .before .before .before .before .before .enum-told9 .given .1) refl refl (omega arith) (c .before .before .listed .ensures)
 
 pub serve-spec : {M : Type 1} → statement M
 serve-spec =

@@ -1,0 +1,54 @@
+use lib.Seq.{length-take-le}
+use Prim.Native.Nat.{_≤_}
+use lib.ListN.{length}
+use mathlib.Core.Path.{ap, sym}
+use native.Mathlib.Omega.{arith}
+use Rattle.stream.specs.declared.Step.{Step}
+use Rattle.records.specs.StreamLaws.{through-step, step-within}
+use borrow.Author.Needs.{needs}
+use Rattle.records.proofs.turn.turn.Statement.{statement}
+use Rattle.records.proofs.turn.turn.Tie as tie
+use Rattle.records.proofs.turn.turn.Reads as reads
+use Rattle.records.proofs.turn.turn.Lts as lts
+use Rattle.records.proofs.turn.answered.Reads as answered-reads
+use Rattle.stream.proofs.next_step.Reads as next-step-reads
+
+-- src/turn.rt:40:9
+next-step-requires : tie.Need-next-step-requires
+next-step-requires c κs = search needs
+
+-- src/turn.rt:43:38
+slice-aggregate-answered : tie.Need-slice-aggregate-answered
+slice-aggregate-answered c =
+    let a = c .before .before .before .before .before .before .args in
+    let h : c .before .before .next-step .result .length ≤ length (a .hand .now) = omega (arith, step-within (a .skipping) (a .hand .now) .length-to, ap (λ (z : Step). z .length) (c .before .before .next-step .ensures)) in
+    sym (length-take-le (c .before .before .next-step .result .length) (a .hand .now) h)
+
+-- src/turn.rt:43:9
+answered-requires : tie.Need-answered-requires
+answered-requires c κs = search needs
+
+-- src/turn.rt:36:1
+same-length : tie.Need-same-length
+same-length c = search needs
+
+-- src/turn.rt:36:1
+same-length-2 : tie.Need-same-length-2
+same-length-2 c = search needs
+
+-- src/turn.rt:36:1
+returns : tie.Need-returns
+returns c =
+    let e = c .before .before .before .before .before .before .before .before .before .next-step .ensures in
+    (through-step _ _ e (c .before .before .before .before .before .answered .ensures), ap (λ (z : Step). z .skipping) e, ap (λ (z : Step). z .next) e)
+
+pub turn-spec : {M : Type 1} → statement M
+turn-spec =
+    tie.close
+    (tie.spec
+    next-step-requires
+    slice-aggregate-answered
+    answered-requires
+    same-length
+    same-length-2
+    returns)

@@ -1,0 +1,108 @@
+-- Laws of streams of records: one after another, and wherever the pieces of the input part.
+use mathlib.Core.Path.{_≡_, refl, sym, ap, _∙_}
+use mathlib.Core.Bool.{Bool, true, false, cond}
+use mathlib.Core.List.{List, [], _∷_, _++_, append-assoc, append-nil}
+use mathlib.Core.Option.{Option, some}
+use Prim.Native.Nat.{ℕ, _≤_}
+use native.Mathlib.Omega.{arith}
+use lib.ListN.{length, take, drop}
+use lib.Dec.{eqb, ltb}
+use Rattle.state.specs.declared.State.{State}
+use Rattle.requests.specs.declared.Reading.{Reading}
+use Rattle.stream.specs.declared.Step.{Step}
+use Rattle.stream.specs.declared.Event.{Event}
+use Rattle.stream.specs.declared.Event.the-variants as event
+use Rattle.stream.specs.Streams.{hasEnd}
+use Rattle.stream.specs.StreamLaws.{ended-short}
+use Rattle.stream.specs.Steps.{left, telling, passed, stepOf, lastOf}
+use Rattle.stream.specs.StepLaws.{step-told, last-told}
+use Rattle.lines.specs.Lines.{refusedLine}
+use Rattle.lines.specs.Puts.{Puts}
+use Rattle.records.specs.PutLaws.{puts-as, puts-none}
+use Rattle.records.specs.Turns.{servedState, servedTable, servedLines, Served}
+use Rattle.records.specs.Streams.{readingIn, answersTo, stateThrough, tableThrough, toldBy, Through}
+
+-- records and then others
+pub answers-append : (s : State) (t : List ℕ) (l m : List (Option (List ℕ))) → answersTo s t (l ++ m) ≡ answersTo s t l ++ answersTo (stateThrough s t l) (tableThrough s t l) m
+unfolding answersTo stateThrough tableThrough
+answers-append s t [] m = refl
+answers-append s t (o ∷ l) m =
+    let q = readingIn o in
+    rw (answers-append (servedState s t q) (servedTable s t q) l m)
+    (sym (append-assoc (servedLines s t q) (answersTo (servedState s t q) (servedTable s t q) l) (answersTo (stateThrough (servedState s t q) (servedTable s t q) l) (tableThrough (servedState s t q) (servedTable s t q) l) m)))
+
+-- what an event tells comes first
+telling-first : (e : Event) (b : List ℕ) (l : List (Option (List ℕ))) → telling e b l ≡ telling e b [] ++ l
+telling-first event.Nothing b l = refl
+telling-first event.Record b l = refl
+telling-first event.Unreadable b l = refl
+
+-- whatever comes after the bytes at hand, the answers to what was left before a turn are the lines that it puts, and then the answers to what is left after it
+pub turn-whole : (s : State) (t : List ℕ) (skipping : Bool) (hand more : List ℕ)
+    → answersTo s t (left skipping (hand ++ more))
+    ≡ answersTo s t (toldBy skipping hand) ++ answersTo (stateThrough s t (toldBy skipping hand)) (tableThrough s t (toldBy skipping hand)) (left (stepOf skipping hand .skipping) (drop (stepOf skipping hand .next) hand ++ more))
+turn-whole s t skipping hand more =
+    let r = stepOf skipping hand in
+    let l = left (r .skipping) (drop (r .next) hand ++ more) in
+    ap (answersTo s t) (step-told skipping hand more ∙ telling-first (r .event) (take (r .length) hand) l)
+    ∙ answers-append s t (toldBy skipping hand) l
+
+-- at the end of input, where the bytes at hand have no CRLF
+pub last-whole : (s : State) (t : List ℕ) (skipping : Bool) (hand : List ℕ) → hasEnd hand ≡ false → answersTo s t (left skipping hand) ≡ answersTo s t (telling (lastOf skipping hand) [] [])
+last-whole s t skipping hand e = ap (answersTo s t) (last-told skipping hand e)
+
+-- ---- what each event does
+
+module _ {s : State} {t : List ℕ} {state : State} {table : List ℕ} {x : List ℕ} {y : List ℕ} {at : ℕ} {next : ℕ} where
+  pub through-record : (b : List ℕ) {e : Event} {q : Reading} → e ≡ event.Record → q ≡ readingIn (some b) → Served s t q state table x y at next → Through s t (telling e b []) state table x y at next
+  unfolding stateThrough tableThrough answersTo
+  through-record b {e} {q} f g p =
+      let u = rw g at p in
+      rw f
+      (record {
+        its-state = u .its-state;
+        its-table = u .its-table;
+        its-lines = puts-as (append-nil (servedLines s t (readingIn (some b)))) (omega arith) (u .its-lines);
+      })
+
+  -- the event of a step
+  pub through-step : (skipping : Bool) (hand : List ℕ) {r : Step} → r ≡ stepOf skipping hand → Through s t (telling (r .event) (take (r .length) hand) []) state table x y at next → Through s t (toldBy skipping hand) state table x y at next
+  through-step skipping hand e p = rw (← e) p
+
+module _ {s : State} {t : List ℕ} {x : List ℕ} {y : List ℕ} {at : ℕ} {next : ℕ} where
+  pub through-unreadable : (b : List ℕ) {e : Event} → e ≡ event.Unreadable → Puts x y at next (refusedLine 24) 20 → Through s t (telling e b []) s t x y at next
+  unfolding stateThrough tableThrough answersTo servedState servedTable servedLines
+  through-unreadable b e p = rw e (record { its-state = refl; its-table = refl; its-lines = puts-as (append-nil (refusedLine 24)) (omega arith) p })
+
+pub through-nothing : {s : State} {t : List ℕ} {x : List ℕ} {at : ℕ} (b : List ℕ) {e : Event} → e ≡ event.Nothing → Through s t (telling e b []) s t x x at at
+unfolding stateThrough tableThrough answersTo
+through-nothing b e = rw e (record { its-state = refl; its-table = refl; its-lines = puts-none refl })
+
+-- ---- a step stays within the bytes at hand
+
+passed-within : (l : List ℕ) → passed l ≤ length l
+unfolding passed
+passed-within [] = omega arith
+passed-within (x ∷ []) = go (eqb x 13)
+  where
+    go : (b : Bool) → cond b 0 1 ≤ 1
+    go true = omega arith
+    go false = omega arith
+passed-within (x ∷ y ∷ l) = let h = passed-within (y ∷ l) in omega arith
+
+pub record StepWithin (skipping : Bool) (l : List ℕ) : Type 0 where
+  pub length-to : stepOf skipping l .length ≤ length l
+  pub next-to : stepOf skipping l .next ≤ length l
+
+pub step-within : (skipping : Bool) (l : List ℕ) → StepWithin skipping l
+unfolding stepOf
+step-within skipping l = by (hasEnd l) refl skipping
+  where
+    by : (x : Bool) → hasEnd l ≡ x → (b : Bool) → StepWithin b l
+    by true e b = let h = ended-short l e in record { length-to = rw e (omega arith); next-to = rw e (omega arith) }
+    by false e true = record { length-to = rw e (omega arith); next-to = rw e (passed-within l) }
+    by false e false = go (ltb (length l) 1024) refl
+      where
+        go : (c : Bool) → ltb (length l) 1024 ≡ c → StepWithin false l
+        go true q = record { length-to = rw (e, q) (omega arith); next-to = rw (e, q) (omega arith) }
+        go false q = record { length-to = rw (e, q) (omega arith); next-to = rw (e, q) (passed-within l) }

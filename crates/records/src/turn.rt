@@ -1,0 +1,65 @@
+// One turn through the bytes at hand of a stream of records: the record they begin with, if it ends there, is served.
+use crate::Reply;
+use state::State;
+use stream::Event;
+ghost use mathlib.Core.Path.{_≡_};
+ghost use mathlib.Core.List.{[]};
+ghost use Prim.Native.Nat.{_+_, _*_, _≤_};
+ghost use lib.ListN.{length};
+ghost use Rattle.stream.specs.Steps.{telling, stepOf};
+ghost use Rattle.records.specs.Streams.{toldBy, Through};
+
+// After a turn: the state, whether a record that was answered goes on, how many bytes are done with, and the next place of the buffer.
+pub struct Progress {
+    pub state: State,
+    pub skipping: bool,
+    pub taken: usize,
+    pub next: usize,
+}
+
+// What an event of the stream asks for; rec is its record.
+pub fn answered(
+    s: State,
+    t: &mut [u32],
+    event: Event,
+    rec: &[u8],
+    out: &mut [u8],
+    at: usize,
+) -> Reply
+    requires { ⌜ at + length (now t) * 9 + 20 ≤ length (now out) ⌝ }
+    ensures { λ r. ⌜ Through s (now (t .entry)) (telling event (now (rec .entry)) []) (r .state) (now (t .exit)) (now (out .entry)) (now (out .exit)) at (r .next) ⌝ }
+{
+    match event {
+        Event::Nothing => Reply { state: s, next: at },
+        Event::Record => crate::serve(s, t, requests::read(rec), out, at),
+        Event::Unreadable => Reply {
+            state: s,
+            next: lines::put_refused(out, at, 24),
+        },
+    }
+}
+
+// The turn.
+pub fn turn(
+    s: State,
+    t: &mut [u32],
+    skipping: bool,
+    hand: &[u8],
+    out: &mut [u8],
+    at: usize,
+) -> Progress
+    requires { ⌜ at + length (now t) * 9 + 20 ≤ length (now out) ⌝ }
+    ensures { λ r. ⌜ Through s (now (t .entry)) (toldBy skipping (now (hand .entry))) (r .state) (now (t .exit)) (now (out .entry)) (now (out .exit)) at (r .next) × (r .skipping ≡ stepOf skipping (now (hand .entry)) .skipping) × (r .taken ≡ stepOf skipping (now (hand .entry)) .next) ⌝ }
+{
+    let step = stream::next_step(skipping, hand);
+    let event = step.event;
+    let length = step.length;
+    let done = answered(s, t, event, &hand[..length], out, at);
+    let state = done.state;
+    Progress {
+        state,
+        skipping: step.skipping,
+        taken: step.next,
+        next: done.next,
+    }
+}
