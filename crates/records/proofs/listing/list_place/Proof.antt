@@ -1,7 +1,7 @@
 use native.Mathlib.Omega.{arith}
 use mathlib.Core.Path.{ap, sym}
 use Rattle.lines.specs.Lines.{listingLine}
-use Rattle.records.specs.ListingLaws.{proposal-few, proposal-shown}
+use Rattle.store.specs.RecordLaws.{proposal-few, proposal-shown}
 use Rattle.records.specs.PutLaws.{puts-as}
 use borrow.Author.Needs.{needs}
 use Rattle.records.proofs.listing.list_place.Statement.{statement}
