@@ -1,6 +1,6 @@
 -- Laws of tests over the numbers below a bound.
 use mathlib.Core.Path.{_≡_, refl, sym, _∙_}
-use mathlib.Core.Bool.{Bool, true, false, not, _&&_, _||_, and-false, or-true, false≢true, true≢false}
+use mathlib.Core.Bool.{Bool, true, false, not, _&&_, _||_, and-false, and-comm, or-true, false≢true, true≢false}
 use mathlib.Core.Logic.{⊎-elim}
 use native.Mathlib.Nat.{eq-or-lt-of-le, le-refl}
 use native.Mathlib.Decide.{ℕ-discrete}
@@ -44,6 +44,16 @@ pub all-same : (f g : ℕ → Bool) (n : ℕ) → ((i : ℕ) → i < n → f i �
 unfolding allTo
 all-same f g zero e = refl
 all-same f g (suc n) e = rw (all-same f g n (λ i h. e i (omega arith)), e n (omega arith)) refl
+
+-- those from z on hold
+pub all-high : (f : ℕ → Bool) (n z : ℕ) → z ≤ n → ((i : ℕ) → z ≤ i → f i ≡ true) → allTo f n ≡ allTo f z
+unfolding allTo
+all-high f zero z h high = let e : z ≡ 0 = omega arith in rw e refl
+all-high f (suc n) z h high = go (ℕ-discrete z (suc n)) (λ l. all-high f n z l high)
+  where
+    go : Dec (z ≡ suc n) → (z ≤ n → allTo f n ≡ allTo f z) → (allTo f n && f n) ≡ allTo f z
+    go (yes p) k = rw p refl
+    go (no p) k = rw (high n (omega arith), and-comm (allTo f n) true) (k (omega arith))
 
 pub any-more : (f : ℕ → Bool) (n : ℕ) → anyTo f (n + 1) ≡ (anyTo f n || f n)
 unfolding anyTo

@@ -7,6 +7,7 @@ pub mod PutLaws
 pub mod EndorseLaws
 pub mod MarkLaws
 pub mod Scan
+pub mod Limits
 pub mod ScanLaws
 pub mod FitLaws
 pub mod ClearLaws

@@ -11,12 +11,13 @@ use borrow.Author.Tests.{ltb-true, lt-ltb, le-ltb, leb-true, le-leb, not-true}
 use Rattle.base.specs.Bools.{both}
 use Rattle.base.specs.Folds.{allTo}
 use Rattle.base.specs.TestLaws.{all-at, all-hold}
+use Rattle.base.specs.UnionLaws.{in-none}
 use Rattle.terms.specs.declared.Transaction.the-variants.{Bond, Unbond, Entry}
 use Rattle.terms.specs.Transactions.{readTransaction, inRange, bondInRange}
 use Rattle.terms.specs.Proposals.{unfit, wrongSet}
 use Rattle.terms.specs.ProposalLaws.{unfit-tab}
 use Rattle.store.specs.Table.{heldSet, endorsedSet, heldAt, word, previousAt, countAt, markAt, transactionAt, contentAt}
-use Rattle.store.specs.TableLaws.{count-le, held-member, content-previous, content-transactions}
+use Rattle.store.specs.TableLaws.{count-le, held-in, held-member, content-previous, content-transactions}
 use Rattle.store.specs.WriteLaws.{count-same, previous-same}
 use Rattle.store.specs.Scan.{tripleFits, transactionFits, recordFits, placeFits, rowFits, rowsFit}
 
@@ -33,6 +34,11 @@ pub record RowFits (t : List ℕ) (allowance blocks r : ℕ) : Type 0 where
   pub held : heldSet t r < 65536
   pub endorsed : endorsedSet t r < 65536
   pub records : (m : ℕ) → heldAt t m r ≡ true → RecordFits t allowance blocks m r
+
+-- nothing to ask of a row where nothing is held
+pub free-row : (t : List ℕ) (allowance blocks r : ℕ) → heldSet t r ≡ 0 → allTo (placeFits t allowance blocks r) 16 ≡ true
+unfolding placeFits
+free-row t allowance blocks r e = all-hold (placeFits t allowance blocks r) 16 (λ m _. rw (held-in t m r, e, in-none m) refl)
 
 -- ---- what a record tells
 

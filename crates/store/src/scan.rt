@@ -2,60 +2,86 @@
 use terms::Member;
 use terms::Round;
 ghost use mathlib.Core.Path.{_≡_};
+ghost use mathlib.Core.Bool.{true, cond};
 ghost use Prim.Native.Nat.{_≤_};
+ghost use lib.Dec.{ltb};
 ghost use Rattle.base.specs.Folds.{allTo};
 ghost use Rattle.store.specs.Table.{Within, Row};
-ghost use Rattle.store.specs.Scan.{tripleFits, transactionFits, recordFits, placeFits, rowFits, rowsFit};
+ghost use Rattle.store.specs.Scan.{transactionFits, recordFits, placeFits, rowFits, rowsFit};
+ghost use Rattle.store.specs.Limits.{limitTable, limitOf, slotFits};
 
-// Are the three words a transaction in range?
-fn triple_fits(kind: u32, number: u32, amount: u32) -> bool
-    ensures { λ v. ⌜ v ≡ tripleFits kind number amount ⌝ }
+// The limits of a transaction's words: the greatest number, the least and the greatest amount, each for bonds, unbonds, entries, any other kind, and what is no transaction.
+fn limits() -> [u32; 15]
+    ensures { λ l. ⌜ l ≡ limitTable ⌝ }
 {
-    if kind == 0 {
-        return terms::bond_in_range(Member(number), amount);
-    }
-    if amount != 0 {
-        return false;
-    }
-    if kind == 1 {
-        return number < 16;
-    }
-    kind == 2
+    let any = 4294967295;
+    [15, 15, any, any, any, 1, 0, 0, 1, 0, 1000, 0, 0, 0, any]
 }
 
-// Is transaction k of a record in range?
-fn transaction_fits(t: &[u32], m: Member, r: Round, k: u32) -> bool
-    requires { ⌜ Within (now t) (m .0) (r .0) × (k ≤ 3) ⌝ }
-    ensures { λ v. ⌜ v ≡ transactionFits (now (t .entry)) (m .0) (r .0) k ⌝ }
+// Which of the five limits hold for a slot of this kind. A table and no branches: kinds come in any order.
+fn limit(there: bool, kind: u32) -> u32
+    ensures { λ v. ⌜ v ≡ limitOf there kind ⌝ }
+{
+    if !there {
+        return 4;
+    }
+    if 2 < kind {
+        return 3;
+    }
+    kind
+}
+
+// Are the three words a transaction in range, if one is there?
+fn slot_fits(l: &[u32; 15], there: bool, kind: u32, number: u32, amount: u32) -> bool
+    requires { ⌜ now l ≡ limitTable ⌝ }
+    ensures { λ v. ⌜ v ≡ slotFits there kind number amount ⌝ }
+{
+    let i = limit(there, kind) as usize;
+    if l[i] < number {
+        return false;
+    }
+    if amount < l[i + 5] {
+        return false;
+    }
+    amount <= l[i + 10]
+}
+
+// Is transaction k of a record of n in range, if it is there?
+fn transaction_fits(t: &[u32], l: &[u32; 15], m: Member, r: Round, n: u32, k: u32) -> bool
+    requires { ⌜ Within (now t) (m .0) (r .0) × (k ≤ 3) × (now l ≡ limitTable) ⌝ }
+    ensures { λ v. ⌜ v ≡ cond (ltb k n) (transactionFits (now (t .entry)) (m .0) (r .0) k) true ⌝ }
 {
     let kind = crate::record::word_at(t, m, r, 4 + k * 3);
     let number = crate::record::word_at(t, m, r, 5 + k * 3);
     let amount = crate::record::word_at(t, m, r, 6 + k * 3);
-    triple_fits(kind, number, amount)
+    slot_fits(l, k < n, kind, number, amount)
 }
 
-// Are the first n transactions of a record in range?
-fn transactions_fit(t: &[u32], m: Member, r: Round, n: u32) -> bool
-    requires { ⌜ Within (now t) (m .0) (r .0) × (n ≤ 4) ⌝ }
+// Are the first n transactions of a record in range? All four slots are looked at, however many there are.
+fn transactions_fit(t: &[u32], l: &[u32; 15], m: Member, r: Round, n: u32) -> bool
+    requires { ⌜ Within (now t) (m .0) (r .0) × (n ≤ 4) × (now l ≡ limitTable) ⌝ }
     ensures { λ v. ⌜ v ≡ allTo (transactionFits (now (t .entry)) (m .0) (r .0)) n ⌝ }
 {
-    for k in 0..n {
-        if !transaction_fits(t, m, r, k) {
+    if n == 0 {
+        return true;
+    }
+    for k in 0..4u32 {
+        if !transaction_fits(t, l, m, r, n, k) {
             return false;
         }
     }
     true
 }
 
-fn record_fits(t: &[u32], allowance: u32, blocks: u32, m: Member, r: Round) -> bool
-    requires { ⌜ Within (now t) (m .0) (r .0) ⌝ }
+fn record_fits(t: &[u32], l: &[u32; 15], allowance: u32, blocks: u32, m: Member, r: Round) -> bool
+    requires { ⌜ Within (now t) (m .0) (r .0) × (now l ≡ limitTable) ⌝ }
     ensures { λ v. ⌜ v ≡ recordFits (now (t .entry)) allowance blocks (m .0) (r .0) ⌝ }
 {
     if allowance < crate::record::word_at(t, m, r, 1) {
         return false;
     }
     let n = crate::record::count(t, m, r);
-    if !transactions_fit(t, m, r, n) {
+    if !transactions_fit(t, l, m, r, n) {
         return false;
     }
     if 65536 <= crate::record::word_at(t, m, r, 0) {
@@ -67,39 +93,43 @@ fn record_fits(t: &[u32], allowance: u32, blocks: u32, m: Member, r: Round) -> b
     crate::record::mark(t, m, r) <= blocks
 }
 
-fn place_fits(t: &[u32], allowance: u32, blocks: u32, m: Member, r: Round) -> bool
-    requires { ⌜ Within (now t) (m .0) (r .0) ⌝ }
+fn place_fits(t: &[u32], l: &[u32; 15], allowance: u32, blocks: u32, m: Member, r: Round) -> bool
+    requires { ⌜ Within (now t) (m .0) (r .0) × (now l ≡ limitTable) ⌝ }
     ensures { λ v. ⌜ v ≡ placeFits (now (t .entry)) allowance blocks (r .0) (m .0) ⌝ }
 {
     if !crate::held(t, m, r) {
         return true;
     }
-    record_fits(t, allowance, blocks, m, r)
+    record_fits(t, l, allowance, blocks, m, r)
 }
 
-fn places_fit(t: &[u32], allowance: u32, blocks: u32, r: Round) -> bool
-    requires { ⌜ Row (now t) (r .0) ⌝ }
+fn places_fit(t: &[u32], l: &[u32; 15], allowance: u32, blocks: u32, r: Round) -> bool
+    requires { ⌜ Row (now t) (r .0) × (now l ≡ limitTable) ⌝ }
     ensures { λ v. ⌜ v ≡ allTo (placeFits (now (t .entry)) allowance blocks (r .0)) 16 ⌝ }
 {
     for m in 0..16u32 {
-        if !place_fits(t, allowance, blocks, Member(m), r) {
+        if !place_fits(t, l, allowance, blocks, Member(m), r) {
             return false;
         }
     }
     true
 }
 
-fn row_fits(t: &[u32], allowance: u32, blocks: u32, r: Round) -> bool
-    requires { ⌜ Row (now t) (r .0) ⌝ }
+fn row_fits(t: &[u32], l: &[u32; 15], allowance: u32, blocks: u32, r: Round) -> bool
+    requires { ⌜ Row (now t) (r .0) × (now l ≡ limitTable) ⌝ }
     ensures { λ v. ⌜ v ≡ rowFits (now (t .entry)) allowance blocks (r .0) ⌝ }
 {
-    if 65536 <= crate::held_set(t, r) {
+    let held = crate::held_set(t, r);
+    if 65536 <= held {
         return false;
     }
     if 65536 <= crate::endorsed_set(t, r) {
         return false;
     }
-    places_fit(t, allowance, blocks, r)
+    if held == 0 {
+        return true;
+    }
+    places_fit(t, l, allowance, blocks, r)
 }
 
 // Are the rows of the rounds 1 to n well formed?
@@ -108,8 +138,9 @@ pub fn rows_fit(t: &[u32], allowance: u32, blocks: u32, n: Round) -> bool
     ensures { λ v. ⌜ v ≡ rowsFit (now (t .entry)) allowance blocks (n .0) ⌝ }
 {
     let end = n.0;
+    let l = limits();
     for r in 0..end {
-        if !row_fits(t, allowance, blocks, Round(r + 1)) {
+        if !row_fits(t, &l, allowance, blocks, Round(r + 1)) {
             return false;
         }
     }

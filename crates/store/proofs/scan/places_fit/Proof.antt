@@ -12,17 +12,17 @@ use Rattle.store.proofs.scan.places_fit.Tie as tie
 use Rattle.store.proofs.scan.place_fits.Reads as place-fits-reads
 
 abbrev Inv-loop : tie.InvT-loop
-Inv-loop t allowance blocks r m₀ m = (m ≤ 16) × (allTo (placeFits t allowance blocks (r .0)) m ≡ true)
+Inv-loop t l allowance blocks r m₀ m = (m ≤ 16) × (allTo (placeFits t allowance blocks (r .0)) m ≡ true)
 
 abbrev μ-loop : tie.MeasureT-loop
-μ-loop t allowance blocks r m₀ m = 16 - m
+μ-loop t l allowance blocks r m₀ m = 16 - m
 
 loop-holds : tie.Need-loop-holds Inv-loop μ-loop
 unfolding allTo
 loop-holds c = (omega arith, refl)
 
 place-fits-requires : tie.Need-place-fits-requires Inv-loop μ-loop
-place-fits-requires c κs = record { member = omega arith; row = omega arith }
+place-fits-requires c κs = (record { member = omega arith; row = omega arith }, c .before .before .before .pre .1)
 
 returns : tie.Need-returns Inv-loop μ-loop
 returns c = let a = c .before .before .before .before .before .args in sym (all-fails (placeFits (a .t .now) (a .allowance) (a .blocks) (a .r .0)) (16) (c .before .before .before .loop .m) (omega arith) (sym (c .before .place-fits .ensures) ∙ not-true _ (c .if1 .taken)))

@@ -24,7 +24,7 @@ count-requires : tie.Need-count-requires
 count-requires c κs = search needs
 
 transactions-fit-requires : tie.Need-transactions-fit-requires
-transactions-fit-requires c κs = let a = c .before .before .before .before .args in let h = count-le (a .t .now) (a .m .0) (a .r .0) in (c .before .before .before .before .pre, omega (arith, c .count .ensures))
+transactions-fit-requires c κs = let a = c .before .before .before .before .args in let h = count-le (a .t .now) (a .m .0) (a .r .0) in (c .before .before .before .before .pre .0, omega (arith, c .count .ensures), c .before .before .before .before .pre .1)
 
 returns-2 : tie.Need-returns-2
 unfolding recordFits

@@ -1,6 +1,7 @@
-use mathlib.Core.Path.{refl}
+use mathlib.Core.Path.{refl, sym, _∙_}
 use borrow.Author.Tests.{lt-ltb, le-ltb}
 use Rattle.store.specs.Scan.{rowFits}
+use Rattle.store.specs.ScanLaws.{free-row}
 use borrow.Author.Needs.{needs}
 use Rattle.store.proofs.scan.row_fits.Statement.{statement}
 use Rattle.store.proofs.scan.row_fits.Tie as tie
@@ -19,12 +20,16 @@ returns-2 : tie.Need-returns-2
 unfolding rowFits
 returns-2 c = rw (← c .before .before .before .held-set .ensures, lt-ltb _ _ (c .before .before .if1 .left), ← c .before .endorsed-set .ensures, le-ltb _ _ (c .if2 .taken)) refl
 
+returns-3 : tie.Need-returns-3
+unfolding rowFits
+returns-3 c = let a = c .before .before .before .before .before .before .args in rw (← c .before .before .before .before .held-set .ensures, lt-ltb _ _ (c .before .before .before .if1 .left), ← c .before .before .endorsed-set .ensures, lt-ltb _ _ (c .before .if2 .left)) (sym (free-row (a .t .now) (a .allowance) (a .blocks) (a .r .0) (sym (c .before .before .before .before .held-set .ensures) ∙ c .if3 .taken)))
+
 places-fit-requires : tie.Need-places-fit-requires
 places-fit-requires c κs = search needs
 
-returns-3 : tie.Need-returns-3
+returns-4 : tie.Need-returns-4
 unfolding rowFits
-returns-3 c = rw (← c .before .before .before .before .held-set .ensures, lt-ltb _ _ (c .before .before .before .if1 .left), ← c .before .before .endorsed-set .ensures, lt-ltb _ _ (c .before .if2 .left)) (c .places-fit .ensures)
+returns-4 c = rw (← c .before .before .before .before .before .held-set .ensures, lt-ltb _ _ (c .before .before .before .before .if1 .left), ← c .before .before .before .endorsed-set .ensures, lt-ltb _ _ (c .before .before .if2 .left)) (c .places-fit .ensures)
 
 pub row-fits-spec : {M : Type 1} → statement M
 row-fits-spec =
@@ -34,5 +39,6 @@ row-fits-spec =
     returns
     endorsed-set-requires
     returns-2
+    returns-3
     places-fit-requires
-    returns-3)
+    returns-4)

@@ -4,7 +4,7 @@ use borrow.Author.Needs.{needs}
 use Rattle.store.proofs.scan.transaction_fits.Statement.{statement}
 use Rattle.store.proofs.scan.transaction_fits.Tie as tie
 use Rattle.store.proofs.record.word_at.Reads as word-at-reads
-use Rattle.store.proofs.scan.triple_fits.Reads as triple-fits-reads
+use Rattle.store.proofs.scan.slot_fits.Reads as slot-fits-reads
 
 mul-word-at : tie.Need-mul-word-at
 mul-word-at c = search needs
@@ -33,12 +33,12 @@ add-word-at-3 c = search needs
 word-at-requires-3 : tie.Need-word-at-requires-3
 word-at-requires-3 c κs = search needs
 
-triple-fits-requires : tie.Need-triple-fits-requires
-triple-fits-requires c κs = search needs
+slot-fits-requires : tie.Need-slot-fits-requires
+slot-fits-requires c κs = search needs
 
 returns : tie.Need-returns
 unfolding transactionFits
-returns c = rw (← c .before .before .before .word-at .ensures, ← c .before .before .word-at2 .ensures, ← c .before .word-at3 .ensures) (c .triple-fits .ensures)
+returns c = rw (← c .before .before .before .word-at .ensures, ← c .before .before .word-at2 .ensures, ← c .before .word-at3 .ensures) (c .slot-fits .ensures)
 
 pub transaction-fits-spec : {M : Type 1} → statement M
 transaction-fits-spec =
@@ -53,5 +53,5 @@ transaction-fits-spec =
     mul-word-at-3
     add-word-at-3
     word-at-requires-3
-    triple-fits-requires
+    slot-fits-requires
     returns)
