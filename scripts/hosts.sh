@@ -1,0 +1,28 @@
+#!/bin/sh
+# hosts.sh [ARCHIVE]: builds and runs the hosts in C, C++ and Rust against the static library
+# (target/staticlib/libhost.a where none is given; `rt staticlib host` makes it).
+set -eu
+cd "$(dirname "$0")/.."
+archive=$(realpath "${1:-target/staticlib/libhost.a}")
+[ -f "$archive" ] || { echo "no archive $archive: run 'rt staticlib host'" >&2; exit 2; }
+out=$(mktemp -d)
+trap 'rm -rf "$out"' EXIT
+cp "$archive" "$out/libhost.a"
+
+strict="-Wall -Wextra -Werror -pedantic -Iinclude"
+gcc -std=c11 $strict -fsyntax-only -x c include/forgelilac.h
+g++ -std=c++14 $strict -fsyntax-only -x c++ include/forgelilac.h
+echo "header: C11 and C++14, no warning"
+
+gcc -std=c11 -O2 $strict examples/host.c "$out/libhost.a" -o "$out/host-c"
+g++ -std=c++14 -O2 $strict -x c++ examples/host.c -x none "$out/libhost.a" -o "$out/host-cc"
+rust="rustc --edition 2021 -O -D warnings -L $out -l static=host"
+$rust bindings/rust/example.rs -o "$out/host-rust"
+for host in host-c host-cc host-rust; do
+    "$out/$host" > "$out/output"
+    diff -u examples/host.expected "$out/output"
+    echo "$host: as examples/host.expected"
+done
+
+$rust --test bindings/rust/forgelilac.rs -o "$out/tests"
+"$out/tests" -q
