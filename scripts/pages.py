@@ -2,7 +2,7 @@
 
 A fenced block is run when its mark is one of these; what it must say stands in the next block:
   records   one record a line, CRLF ended here; then `answers`
-  sh        run at the top of the repository, with `runner` to call; then `output`
+  sh        run at the top of the repository, with `runner` to call and a folder $OUT; then `output`
   c, rust   a whole program, with header or bindings and the archive; then `output`
 Other blocks are not run.
 """
@@ -83,7 +83,7 @@ def run(mark, text, expected, work, runner, archive):
         wanted = expected.encode()
         if mark == "sh":
             path = f"{work}:{os.environ['PATH']}"
-            code, output = said(["sh", "-c", text], env={**os.environ, "PATH": path, "RUNNER": runner})
+            code, output = said(["sh", "-c", text], env={**os.environ, "PATH": path, "OUT": work})
             output = output.replace(b"\r\n", b"\n")
         else:
             code, output = run_program(mark, text, work, archive)
