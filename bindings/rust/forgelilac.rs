@@ -272,12 +272,25 @@ fn value(answer: u64) -> Result<u32, Refusal> {
     Ok(answer as u32)
 }
 
-/// Calls an exported function on an engine: state and table, then the further arguments.
+fn read(words: &[u32]) -> (*const u32, usize) {
+    (words.as_ptr(), words.len())
+}
+
+fn write(words: &mut [u32]) -> (*mut u32, usize) {
+    (words.as_mut_ptr(), words.len())
+}
+
+/// Calls an exported function: state, table, numbers, and after a semicolon one more stretch.
+/// Safe: the stretches are whole slices of distinct owners that outlive the call.
 macro_rules! call {
-    ($function:ident, $state:expr, $table:expr $(, $more:expr)*) => {
-        // Safe: both stretches are borrowed from one engine for the call, with their own lengths.
-        unsafe { abi::$function($state, STATE_WORDS, $table.0, $table.1 $(, $more)*) }
-    };
+    ($function:ident, $state:expr, $table:expr $(, $number:expr)*) => {{
+        let (state, table) = ($state, $table);
+        unsafe { abi::$function(state.0, state.1, table.0, table.1 $(, $number)*) }
+    }};
+    ($function:ident, $state:expr, $table:expr $(, $number:expr)*; $more:expr) => {{
+        let (state, table, more) = ($state, $table, $more);
+        unsafe { abi::$function(state.0, state.1, table.0, table.1 $(, $number)*, more.0, more.1) }
+    }};
 }
 
 /// One member's engine: a state and the table that belongs to it. It has no part outside
@@ -296,56 +309,41 @@ impl Engine {
     }
 
     /// Opens a member on a table of the host's; what lies beyond the used part never changes.
-    pub fn open_on(table: Vec<u32>, own: u32, sheet: &Sheet) -> Result<Engine, Refusal> {
-        let mut engine = Engine { state: [0; STATE_WORDS], table };
+    pub fn open_on(mut table: Vec<u32>, own: u32, sheet: &Sheet) -> Result<Engine, Refusal> {
+        let mut state = [0; STATE_WORDS];
         let words = sheet.words();
-        let (state, table) = (engine.state.as_mut_ptr(), engine.table_mut());
-        accepted(call!(forgelilac_open, state, table, own, words.as_ptr(), words.len()))?;
-        Ok(engine)
-    }
-
-    fn table(&self) -> (*const u32, usize) {
-        (self.table.as_ptr(), self.table.len())
-    }
-
-    fn table_mut(&mut self) -> (*mut u32, usize) {
-        (self.table.as_mut_ptr(), self.table.len())
+        accepted(call!(forgelilac_open, write(&mut state), write(&mut table), own; read(&words)))?;
+        Ok(Engine { state, table })
     }
 
     // ---- calls
 
     pub fn propose(&mut self, previous: Set, transactions: &[Transaction]) -> Result<(), Refusal> {
         let words = body(previous, transactions);
-        let (state, table) = (self.state.as_mut_ptr(), self.table());
-        accepted(call!(forgelilac_propose, state, table, words.as_ptr(), words.len()))
+        accepted(call!(forgelilac_propose, write(&mut self.state), read(&self.table); read(&words)))
     }
 
     pub fn endorse(&mut self, proposal: &Proposal) -> Result<(), Refusal> {
         let words = proposal.words();
-        let (state, table) = (self.state.as_ptr(), self.table_mut());
-        accepted(call!(forgelilac_endorse, state, table, words.as_ptr(), words.len()))
+        accepted(call!(forgelilac_endorse, read(&self.state), write(&mut self.table); read(&words)))
     }
 
     pub fn certify(&mut self, endorsers: Set) -> Result<(), Refusal> {
-        let (state, table) = (self.state.as_ptr(), self.table_mut());
-        accepted(call!(forgelilac_certify, state, table, endorsers.into()))
+        accepted(call!(forgelilac_certify, read(&self.state), write(&mut self.table), endorsers.into()))
     }
 
     pub fn accept(&mut self, certificate: &Certificate) -> Result<(), Refusal> {
         let words = certificate.words();
-        let (state, table) = (self.state.as_ptr(), self.table_mut());
-        accepted(call!(forgelilac_accept, state, table, words.as_ptr(), words.len()))
+        accepted(call!(forgelilac_accept, read(&self.state), write(&mut self.table); read(&words)))
     }
 
     pub fn advance(&mut self) -> Result<(), Refusal> {
-        let (state, table) = (self.state.as_mut_ptr(), self.table());
-        accepted(call!(forgelilac_advance, state, table))
+        accepted(call!(forgelilac_advance, write(&mut self.state), read(&self.table)))
     }
 
     /// The number of blocks added.
     pub fn commit(&mut self) -> Result<u32, Refusal> {
-        let (state, table) = (self.state.as_mut_ptr(), self.table_mut());
-        value(call!(forgelilac_commit, state, table))
+        value(call!(forgelilac_commit, write(&mut self.state), write(&mut self.table)))
     }
 
     // ---- reads
@@ -353,30 +351,26 @@ impl Engine {
     /// Sixteen weights, 0 for a non-member.
     pub fn committee(&self, round: u32) -> Result<[u32; MEMBERS], Refusal> {
         let mut out = [0; MEMBERS];
-        let (state, table) = (self.state.as_ptr(), self.table());
-        accepted(call!(forgelilac_committee, state, table, round, out.as_mut_ptr(), out.len()))?;
+        accepted(call!(forgelilac_committee, read(&self.state), read(&self.table), round; write(&mut out)))?;
         Ok(out)
     }
 
     /// A member's weight in thousandths of its committee's total.
     pub fn share(&self, member: u32, round: u32) -> Result<u32, Refusal> {
-        let (state, table) = (self.state.as_ptr(), self.table());
-        value(call!(forgelilac_share, state, table, member, round))
+        value(call!(forgelilac_share, read(&self.state), read(&self.table), member, round))
     }
 
     pub fn certificate(&self, author: u32, round: u32) -> Result<Held, Refusal> {
         let mut out = [0; CERTIFICATE_WORDS];
-        let (state, table) = (self.state.as_ptr(), self.table());
-        let (words, length) = (out.as_mut_ptr(), out.len());
-        accepted(call!(forgelilac_certificate, state, table, author, round, words, length))?;
+        let (state, table) = (read(&self.state), read(&self.table));
+        accepted(call!(forgelilac_certificate, state, table, author, round; write(&mut out)))?;
         let block = Some(out[PROPOSAL_WORDS]).filter(|&number| number != 0);
         Ok(Held { proposal: Proposal::of(&out), block })
     }
 
     /// The round of a block; blocks count from 1.
     pub fn block(&self, number: u32) -> Result<u32, Refusal> {
-        let (state, table) = (self.state.as_ptr(), self.table());
-        value(call!(forgelilac_block, state, table, number))
+        value(call!(forgelilac_block, read(&self.state), read(&self.table), number))
     }
 
     // ---- words of the state

@@ -223,7 +223,11 @@ def main():
     if len(sys.argv) != 3:
         sys.exit(__doc__)
     stream, answers = (open(path, "rb").read() for path in sys.argv[1:])
-    sys.stdout.write(Picture(read_run(stream, answers)).svg())
+    try:
+        run = read_run(stream, answers)
+    except ValueError as error:
+        sys.exit(f"draw.py: {error}")
+    sys.stdout.write(Picture(run).svg())
 
 
 if __name__ == "__main__":
