@@ -1,6 +1,7 @@
 #!/bin/sh
 # hosts.sh [ARCHIVE]: builds and runs the hosts in C, C++ and Rust against the static library
-# (target/staticlib/libhost.a where none is given; `rt staticlib host` makes it).
+# (target/staticlib/libhost.a where none is given; `rt staticlib host` makes it), measures the
+# stack that calls need, and runs the tests of the Rust bindings.
 set -eu
 cd "$(dirname "$0")/.."
 archive=$(realpath "${1:-target/staticlib/libhost.a}")
@@ -23,6 +24,9 @@ for host in host-c host-cc host-rust; do
     diff -u examples/host.expected "$out/output"
     echo "$host: as examples/host.expected"
 done
+
+gcc -std=c11 -O2 $strict examples/stack.c "$out/libhost.a" -lpthread -o "$out/stack"
+"$out/stack"
 
 $rust --test bindings/rust/forgelilac.rs -o "$out/tests"
 "$out/tests" -q

@@ -10,7 +10,8 @@ pub const MEMBERS: usize = 16;
 /// The largest ceiling, and the ceiling of a blank setting.
 pub const CEILING: u32 = 1_024;
 
-const STATE_WORDS: usize = 37;
+/// Words of a state.
+pub const STATE_WORDS: usize = 37;
 const BODY_WORDS: usize = 14;
 const PROPOSAL_WORDS: usize = 16;
 const CERTIFICATE_WORDS: usize = 17;
@@ -316,6 +317,17 @@ impl Engine {
         Ok(Engine { state, table })
     }
 
+    /// An engine as it was stored. Any words are safe: on a state that is not well formed every
+    /// call answers 1.
+    pub fn restore(state: [u32; STATE_WORDS], table: Vec<u32>) -> Engine {
+        Engine { state, table }
+    }
+
+    /// State and table, for storing.
+    pub fn words(&self) -> (&[u32; STATE_WORDS], &[u32]) {
+        (&self.state, &self.table)
+    }
+
     // ---- calls
 
     pub fn propose(&mut self, previous: Set, transactions: &[Transaction]) -> Result<(), Refusal> {
@@ -547,6 +559,22 @@ mod tests {
         assert_eq!(engine.share(16, 1), Err(Refusal::MemberRange));
         assert_eq!((engine.own(), engine.round(), engine.blocks()), (0, 1, 0));
         assert_eq!(engine.chain(), Ok(Vec::new()));
+    }
+
+    #[test]
+    fn a_stored_engine_goes_on() {
+        let mut engine = of_four(0);
+        engine.propose(0, &[entry(5)]).unwrap();
+        let stored = (*engine.words().0, engine.words().1.to_vec());
+        let mut again = Engine::restore(stored.0, stored.1.clone());
+        assert!(again == engine);
+        again.certify(0b1110).unwrap();
+
+        let mut damaged = Engine::restore([u32::MAX; STATE_WORDS], stored.1);
+        refuses(&mut damaged, 1, |e| e.certify(0b1110));
+        refuses(&mut damaged, 1, Engine::advance);
+        refuses(&mut damaged, 1, |e| e.committee(1));
+        refuses(&mut damaged, 1, |e| e.chain());
     }
 
     #[test]
