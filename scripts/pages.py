@@ -41,79 +41,72 @@ def examples_of(path):
             yield line, mark, text, following[2]
 
 
-def crlf(text):
-    return text.replace("\n", "\r\n").encode()
+class Workshop:
+    """A folder with the runner and the Rust bindings in it."""
+
+    def __init__(self, folder, runner, archive):
+        self.folder, self.archive = folder, archive
+        self.linked = os.path.exists(archive)
+        self.environment = {**os.environ, "PATH": f"{folder}:{os.environ['PATH']}", "OUT": folder}
+        os.symlink(runner, f"{folder}/runner")
+        shutil.copy("bindings/rust/forgelilac.rs", folder)
+
+    def said(self, command, text=""):
+        """Exit code and what was said, both streams together."""
+        done = subprocess.run(command, input=text.encode(), stdout=subprocess.PIPE,
+                              stderr=subprocess.STDOUT, env=self.environment)
+        return done.returncode, done.stdout.decode(errors="replace")
+
+    def records(self, text):
+        code, output = self.said(["runner"], text.replace("\n", "\r\n"))
+        bare = "\n" in output.replace("\r\n", "")
+        return code, "a line without CRLF\n" if bare else output.replace("\r\n", "\n")
+
+    def sh(self, text):
+        code, output = self.said(["sh", "-c", text])
+        return code, output.replace("\r\n", "\n")
+
+    def c(self, text):
+        link = [self.archive] if self.linked else ["-c"]
+        return self.program("program.c", text, ["gcc", "-std=c11", "-O2", "-Wall", "-Wextra", "-Werror",
+                                                "-pedantic", "-Iinclude"], link)
+
+    def rust(self, text):
+        folder, name = os.path.split(self.archive)
+        link = ["-L", folder, "-l", f"static={name[3:-2]}"] if self.linked else ["--emit=metadata"]
+        return self.program("program.rs", text, ["rustc", "--edition", "2021", "-O", "-D", "warnings"], link)
+
+    def program(self, name, text, command, link):
+        """Compiled and, where there is an archive, run; else nothing is said."""
+        with open(f"{self.folder}/{name}", "w", encoding="utf-8") as file:
+            file.write(text)
+        code, output = self.said(command + [f"{self.folder}/{name}", "-o", f"{self.folder}/program"] + link)
+        if code != 0:
+            return code, output
+        return self.said([f"{self.folder}/program"]) if self.linked else (0, None)
 
 
-def said(command, text=b"", **more):
-    done = subprocess.run(command, input=text, stdout=subprocess.PIPE, stderr=subprocess.STDOUT, **more)
-    return done.returncode, done.stdout
-
-
-def compile_command(mark, work, archive):
-    """The command that makes work/program, and whether it can be run."""
-    linked = os.path.exists(archive)
-    if mark == "c":
-        command = ["gcc", "-std=c11", "-O2", "-Wall", "-Wextra", "-Werror", "-pedantic", "-Iinclude",
-                   f"{work}/program.c", "-o", f"{work}/program"]
-        return command + ([archive] if linked else ["-c"]), linked
-    command = ["rustc", "--edition", "2021", "-O", "-D", "warnings",
-               f"{work}/program.rust", "-o", f"{work}/program"]
-    folder = os.path.dirname(archive)
-    library = os.path.basename(archive)[3:-2]
-    return command + (["-L", folder, "-l", f"static={library}"] if linked else ["--emit=metadata"]), linked
-
-
-def run_program(mark, text, work, archive):
-    with open(f"{work}/program.{mark}", "w", encoding="utf-8") as file:
-        file.write(text)
-    command, linked = compile_command(mark, work, archive)
-    code, output = said(command)
-    if code != 0:
-        return code, output
-    return said([f"{work}/program"]) if linked else (0, None)
-
-
-def run(mark, text, expected, work, runner, archive):
-    """None where the example says what it should, else what it said; '' where only compiled."""
-    if mark == "records":
-        code, output = said([runner], crlf(text))
-        wanted = crlf(expected)
-    else:
-        wanted = expected.encode()
-        if mark == "sh":
-            path = f"{work}:{os.environ['PATH']}"
-            code, output = said(["sh", "-c", text], env={**os.environ, "PATH": path, "OUT": work})
-            output = output.replace(b"\r\n", b"\n")
-        else:
-            code, output = run_program(mark, text, work, archive)
-    if output is None:
-        return ""
-    if code == 0 and output == wanted:
-        return None
-    return f"(exit {code})\n{output.decode(errors='replace')}"
+def run_pages(workshop, pages):
+    """How many examples of each mark ran, how many were wrong, how many only compiled."""
+    counts, wrong, compiled = dict.fromkeys(EXPECTED, 0), 0, 0
+    for page in pages:
+        for line, mark, text, expected in examples_of(page):
+            counts[mark] += 1
+            code, output = getattr(workshop, mark)(text)
+            if output is None:
+                compiled += 1
+            elif (code, output) != (0, expected):
+                wrong += 1
+                print(f"{page}:{line}: the page does not show what {mark} says (exit {code}):\n{output}")
+    return counts, wrong, compiled
 
 
 def main():
     runner, archive, pages = sys.argv[1], sys.argv[2], sys.argv[3:]
-    work = tempfile.mkdtemp()
-    counts, wrong, compiled = dict.fromkeys(EXPECTED, 0), 0, 0
-    try:
-        os.symlink(runner, f"{work}/runner")
-        shutil.copy("bindings/rust/forgelilac.rs", work)
-        for page in pages:
-            for line, mark, text, expected in examples_of(page):
-                counts[mark] += 1
-                answer = run(mark, text, expected, work, runner, archive)
-                if answer:
-                    wrong += 1
-                    print(f"{page}:{line}: {mark} does not say what the page shows, but {answer}")
-                elif answer == "":
-                    compiled += 1
-    finally:
-        shutil.rmtree(work)
-    print(", ".join(f"{count} {mark}" for mark, count in counts.items())
-          + f": {wrong} wrong" + (f" ({compiled} compiled only: no {archive})" if compiled else ""))
+    with tempfile.TemporaryDirectory() as folder:
+        counts, wrong, compiled = run_pages(Workshop(folder, runner, archive), pages)
+    print(", ".join(f"{count} {mark}" for mark, count in counts.items()) + f": {wrong} wrong"
+          + (f", {compiled} only compiled (no archive)" if compiled else ""))
     return 1 if wrong else 0
 
 
