@@ -85,7 +85,7 @@ enum forgelilac_refusal {
     FORGELILAC_SIGNED_TWICE = 14,      /* endorse: author is oneself; certify: oneself among them; accept: author among endorsers */
     FORGELILAC_NO_PROPOSAL = 15,       /* no proposal this round */
     FORGELILAC_SAME_HELD = 16,         /* the same certificate held */
-    FORGELILAC_OTHER_HELD = 17,        /* another held there */
+    FORGELILAC_OTHER_HELD = 17,        /* another certificate held there */
     FORGELILAC_AT_CEILING = 18,        /* at the ceiling */
     FORGELILAC_NO_COMMIT_ROUND = 19,   /* the present round is even or 1 */
     FORGELILAC_BLOCK_MADE = 20,        /* last block's round at least the round before */

@@ -57,7 +57,7 @@ refusals! {
     PreviousMissing = 11, "a named previous certificate not held";
     PreviousQuorum = 12, "previous set no quorum of the round before";
     SignersShort = 13, "signers short of a quorum";
-    SignedTwice = 14, "author is oneself, oneself among the endorsers, or author among them";
+    SignedTwice = 14, "endorse: author is oneself; certify: oneself among them; accept: author among endorsers";
     NoProposal = 15, "no proposal this round";
     SameHeld = 16, "the same certificate held";
     OtherHeld = 17, "another certificate held there";
