@@ -1,0 +1,120 @@
+/* How much stack the calls need: a run to the ceiling, each call in a thread of its own whose
+ * stack was painted before; what is no longer painted was used. Prints the most of each call. */
+#define _POSIX_C_SOURCE 200809L
+#include <pthread.h>
+#include <stdio.h>
+#include <stdlib.h>
+#include <string.h>
+
+#include "forgelilac.h"
+
+enum { CEILING = 64, MEMBERS = 4, ALL = (1 << MEMBERS) - 1, STACK = 1 << 20, PAINT = 0xa5 };
+enum call { NOTHING, OPEN, PROPOSE, ENDORSE, CERTIFY, ACCEPT, ADVANCE, COMMIT,
+            COMMITTEE, SHARE, CERTIFICATE, BLOCK, CALLS };
+static const char *const names[CALLS] = {"", "open", "propose", "endorse", "certify", "accept", "advance",
+                                         "commit", "committee", "share", "certificate", "block"};
+
+static uint32_t state[FORGELILAC_STATE_WORDS], table[FORGELILAC_TABLE_WORDS(CEILING)];
+static uint32_t words[FORGELILAC_SHEET_WORDS], out[FORGELILAC_CERTIFICATE_WORDS];
+static unsigned char *stack;
+static size_t used[CALLS];
+
+#define ENGINE state, sizeof state / 4, table, sizeof table / 4
+#define WORDS words, sizeof words / 4
+#define OUT out, sizeof out / 4
+
+static uint64_t high(uint32_t refusal) { return (uint64_t)refusal << 32; }
+
+/* The call, with its numbers at the start of words. */
+static uint64_t make(enum call call) {
+    switch (call) {
+    case OPEN: return high(forgelilac_open(ENGINE, 0, WORDS));
+    case PROPOSE: return high(forgelilac_propose(ENGINE, WORDS));
+    case ENDORSE: return high(forgelilac_endorse(ENGINE, WORDS));
+    case CERTIFY: return high(forgelilac_certify(ENGINE, words[0]));
+    case ACCEPT: return high(forgelilac_accept(ENGINE, WORDS));
+    case ADVANCE: return high(forgelilac_advance(ENGINE));
+    case COMMIT: return forgelilac_commit(ENGINE);
+    case COMMITTEE: return high(forgelilac_committee(ENGINE, words[0], OUT));
+    case SHARE: return forgelilac_share(ENGINE, words[0], words[1]);
+    case CERTIFICATE: return high(forgelilac_certificate(ENGINE, words[0], words[1], OUT));
+    case BLOCK: return forgelilac_block(ENGINE, words[0]);
+    default: return 0;
+    }
+}
+
+struct job { enum call call; uint64_t answer; };
+
+static void *work(void *argument) {
+    struct job *job = argument;
+    job->answer = make(job->call);
+    return NULL;
+}
+
+/* Makes a call that must be accepted, on a painted stack. */
+static void measure(enum call call) {
+    struct job job = {call, 0};
+    pthread_attr_t attributes;
+    pthread_t thread;
+    size_t clean = 0;
+    memset(stack, PAINT, STACK);
+    pthread_attr_init(&attributes);
+    pthread_attr_setstack(&attributes, stack, STACK);
+    if (pthread_create(&thread, &attributes, work, &job) != 0) abort();
+    pthread_join(thread, NULL);
+    while (clean < STACK && stack[clean] == PAINT) clean++;
+    if (STACK - clean > used[call]) used[call] = STACK - clean;
+    if (forgelilac_refusal_of(job.answer) == FORGELILAC_ACCEPTED) return;
+    fprintf(stderr, "%s refused with %u\n", names[call], (unsigned)forgelilac_refusal_of(job.answer));
+    exit(1);
+}
+
+static void body(uint32_t *at, uint32_t round, uint32_t author) {
+    forgelilac_begin_body(at, round == 1 ? 0 : ALL);
+    forgelilac_add_entry(at, round);
+    if (round % 5 == author) forgelilac_add_bond(at, author, 3);
+}
+
+static void sign(uint32_t round) {
+    body(words, round, 0);
+    measure(PROPOSE);
+    words[0] = ALL & ~1u;
+    measure(CERTIFY);
+    for (uint32_t author = 1; author < MEMBERS; author++) {
+        words[FORGELILAC_PROPOSAL_AUTHOR] = author;
+        words[FORGELILAC_PROPOSAL_ROUND] = round;
+        body(words + FORGELILAC_PROPOSAL_BODY, round, author);
+        words[FORGELILAC_CERTIFICATE_ENDORSERS] = ALL & ~(1u << author);
+        measure(ENDORSE);
+        measure(ACCEPT);
+    }
+}
+
+static void look(uint32_t round) {
+    words[0] = round;
+    measure(COMMITTEE);
+    words[0] = 1;
+    words[1] = round;
+    measure(SHARE);
+    measure(CERTIFICATE);
+    if (state[FORGELILAC_STATE_BLOCKS] > 0) measure(BLOCK);
+}
+
+int main(void) {
+    stack = aligned_alloc(4096, STACK);
+    if (stack == NULL) abort();
+    measure(NOTHING);
+    forgelilac_blank_sheet(words);
+    forgelilac_write_setting(words, FORGELILAC_LOOKBACK, 4);
+    forgelilac_write_setting(words, FORGELILAC_CEILING, CEILING);
+    measure(OPEN);
+    for (uint32_t round = 1; round <= CEILING; round++) {
+        sign(round);
+        if (round % 2 == 1 && round > 1) measure(COMMIT);
+        look(round);
+        if (round < CEILING) measure(ADVANCE);
+    }
+    for (int call = OPEN; call < CALLS; call++)
+        printf("%-12s%8zu bytes of stack\n", names[call], used[call] - used[NOTHING]);
+    return 0;
+}

@@ -1,0 +1,98 @@
+"""What a stream of records and a runner's answers tell of one member: nothing is decided here."""
+from collections import namedtuple
+
+Certificate = namedtuple("Certificate", "author round previous transactions")
+Block = namedtuple("Block", "number round places commit")
+
+
+def records_of(stream):
+    """The records, without CRLF; a rest without CRLF is a record as well."""
+    parts = stream.split(b"\r\n")
+    return [part.decode("latin-1") for part in parts[:-1] + [part for part in parts[-1:] if part]]
+
+
+def answered(stream, answers):
+    """(record, listing, answer) for each record: listed lines come before their ok."""
+    lines = iter(answers.decode("ascii").split("\r\n"))
+    for record in records_of(stream):
+        listing = []
+        for line in lines:
+            if line.startswith(("ok", "refused")):
+                yield record, listing, line
+                break
+            listing.append(line.split(","))
+        else:
+            raise ValueError("fewer answers than records")
+
+
+def members_of(number):
+    return [member for member in range(16) if int(number) >> member & 1]
+
+
+def triples_of(fields):
+    return list(zip(fields[0::3], fields[1::3], fields[2::3]))
+
+
+class Run:
+    """A member's run from its last accepted open on."""
+
+    def __init__(self, own):
+        self.own, self.round = own, 1
+        self.held = {}      # (round, author): Certificate
+        self.commits = []   # the round of the commit that made block 1, 2, ...
+        self.blocks = []
+        self.proposal = None
+
+    def hold(self, author, round, previous, transactions):
+        self.held[round, author] = Certificate(author, round, members_of(previous), transactions)
+
+    def take(self, name, fields, listing, answer):
+        """One accepted record."""
+        if name == "propose":
+            self.proposal = fields[0], triples_of(fields[1:])
+        elif name == "certify":
+            self.hold(self.own, self.round, *self.proposal)
+        elif name == "accept":
+            self.hold(int(fields[0]), int(fields[1]), fields[2], triples_of(fields[4:]))
+        elif name == "advance":
+            self.round += 1
+        elif name == "commit":
+            self.commits += [self.round] * int(answer.split(",")[1])
+        elif name == "chain":
+            self.blocks = self.blocks_of(listing)
+
+    def blocks_of(self, listing):
+        places = {}
+        for number, block_round, round, author, *_ in listing:
+            places.setdefault((int(number), int(block_round)), []).append((int(round), int(author)))
+        return [Block(number, round, at, self.commits[number - 1]) for (number, round), at in places.items()]
+
+    def anchor(self, block):
+        """A block's anchor is its one certificate of the block's round."""
+        return next(place for place in block.places if place[0] == block.round)
+
+    def block_of(self):
+        """The block at each place that is in one."""
+        return {place: block for block in self.blocks for place in block.places}
+
+    def rounds(self):
+        return range(1, max([self.round] + [round for round, _ in self.held]) + 1)
+
+    def members(self):
+        return sorted({author for _, author in self.held} | {self.own})
+
+
+def read_run(stream, answers):
+    run, listed = None, False
+    for record, listing, answer in answered(stream, answers):
+        if answer.startswith("refused"):
+            continue
+        name, *fields = record.split(",")
+        if name == "open":
+            run = Run(int(fields[0]))
+        else:
+            run.take(name, fields, listing, answer)
+        listed = name == "chain"
+    if run is None or not listed:
+        raise ValueError("the stream must end in an accepted chain")
+    return run
