@@ -8,6 +8,7 @@ use work::Work;
 ghost use mathlib.Core.Path.{_≡_};
 ghost use Prim.Native.Nat.{_+_, _*_, _≤_};
 ghost use lib.ListN.{length};
+ghost use Rattle.service.specs.Session.{Refilled, Advanced};
 
 // The work, where the bytes at hand end in the input buffer, and whether the input has ended.
 struct Session {
@@ -58,7 +59,7 @@ fn emptied(w: Work, from: usize) -> Work
 // Goes on with the bytes at hand; where more are wanted, reads them. The input has ended where none come.
 fn refill(w: Work, buf: &mut [u8], end: usize) -> Session
     requires { ⌜ (w .from ≤ end) × (end ≤ length (now buf)) × (length (now buf) ≤ 65536) ⌝ }
-    ensures { λ r. ⌜ (r .work .from ≤ r .end) × (r .end ≤ length (now (buf .entry))) × (r .work .next ≡ 0) ⌝ }
+    ensures { λ r. ⌜ (r .work .from ≤ r .end) × (r .end ≤ length (now (buf .entry))) × (r .work .next ≡ 0) × Refilled w end (now (buf .entry)) (now (buf .exit)) r ⌝ }
 {
     let from = w.from;
     if !w.waits {
@@ -80,7 +81,7 @@ fn refill(w: Work, buf: &mut [u8], end: usize) -> Session
 // Serves what is at hand, writes the answers out and goes on.
 fn advance(s: Session, t: &mut [u32], buf: &mut [u8], out: &mut [u8]) -> Session
     requires { ⌜ (s .work .from ≤ s .end) × (s .end ≤ length (now buf)) × (s .work .next ≡ 0) × (length (now t) ≤ 17680) × (length (now t) * 9 + 20 ≤ length (now out)) × (length (now buf) ≤ 65536) ⌝ }
-    ensures { λ r. ⌜ (r .work .from ≤ r .end) × (r .end ≤ length (now (buf .entry))) × (r .work .next ≡ 0) ⌝ }
+    ensures { λ r. ⌜ (r .work .from ≤ r .end) × (r .end ≤ length (now (buf .entry))) × (r .work .next ≡ 0) × Advanced s (now (t .entry)) (now (buf .entry)) r (now (t .exit)) (now (buf .exit)) (now (out .exit)) ⌝ }
 {
     let end = s.end;
     let before = s.work;

@@ -1,3 +1,4 @@
+use Rattle.service.specs.Session.{advanced}
 use mathlib.Core.Path.{sym}
 use native.Mathlib.Omega.{arith}
 use lib.Seq.{length-take-le}
@@ -54,7 +55,12 @@ same-length-3 c = search needs
 
 -- src/lib.rt:81:1
 returns : tie.Need-returns
-returns c = search needs
+returns c =
+    let a = c .before .before .before .before .before .before .before .before .before .before .before .before .before .before .before .before .before .before .args in
+    let f = c .before .before .before .before .before .before .before .before .before .before .fill in
+    let r = c .before .before .refill in
+    let e = r .ensures in
+    (e .0, e .1, e .2, advanced (a .s) (a .t .now) (a .buf .now) (f .result) _ (r .result) _ _ _ (f .ensures .0) (c .before .before .before .before .before .before .before .before .before .before .before .before .before .before .before .before .before .before .pre .2) (f .ensures .2) (f .ensures .3) (e .3))
 
 pub advance-spec : {M : Type 1} → statement M
 advance-spec =

@@ -71,7 +71,7 @@ list-place-requires : tie.Need-list-place-requires Inv-loop μ-loop
 list-place-requires c κs =
     let a = c .before .before .before .before .before .before .before .before .args in
     let x = c .before .before .loop in
-    let n = count-next (a .n .0 * 16 + 16) (x .inv .2 (c .before .loop-test .taken)) (omega arith) in
+    let n = count-next (a .n .0 * 16 + 16) (x .inv .2 (omega arith)) (omega arith) in
     (record { member = omega arith; row = omega arith }, omega (arith, n, c .before .before .before .before .before .before .before .before .pre .4, x .inv .3, x .inv .4 .past, x .inv .4 .room))
 
 -- src/listing.rt:52:18
