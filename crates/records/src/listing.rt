@@ -35,11 +35,11 @@ fn list_block(
     requires { ⌜ Row (now t) (n .0) × (n .0 ≤ 1024) × (2 * k + 2 < n .0) × Links (now t) 16 (n .0 * 16 + 16) (now head) (now next) × (at + blockCount (n .0) (now t) (k + 1) * 141 ≤ length (now out)) ⌝ }
     ensures { λ v. ⌜ Puts (now (out .entry)) (now (out .exit)) at v (blockLines (n .0) (now (t .entry)) k) (blockCount (n .0) (now (t .entry)) (k + 1) * 141) ⌝ }
 {
-    let end = n.0 * 16 + 16;
+    let last = n.0 * 16 + 15;
     let b = store::block_round(t, k + 1);
     let mut to = at;
     let mut p = head[(k + 1) as usize];
-    while p < end {
+    while p <= last {
         to = list_place(t, k + 1, Round(b), Member(p % 16), Round(p / 16), out, to);
         p = next[p as usize];
     }

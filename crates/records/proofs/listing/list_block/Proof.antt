@@ -19,18 +19,18 @@ use Rattle.records.proofs.listing.list_place.Reads as list-place-reads
 use Rattle.store.proofs.block_round.Reads as block-round-reads
 
 abbrev Inv-loop : tie.InvT-loop
-Inv-loop t head next k out₀ at end b to₀ p₀ out to p = (16 ≤ p) × (p ≤ end) × (p < end → Marked t (k + 1) p) × (length out ≡ length out₀) × Puts out₀ out at to (placesLines t (k + 1) p) (sumTo (inBlock t (k + 1)) p * 141)
+Inv-loop t head next k out₀ at last b to₀ p₀ out to p = (16 ≤ p) × (p ≤ last + 1) × (p ≤ last → Marked t (k + 1) p) × (length out ≡ length out₀) × Puts out₀ out at to (placesLines t (k + 1) p) (sumTo (inBlock t (k + 1)) p * 141)
 
 abbrev μ-loop : tie.MeasureT-loop
-μ-loop t head next k out₀ at end b to₀ p₀ out to p = end - p
+μ-loop t head next k out₀ at last b to₀ p₀ out to p = last + 1 - p
 
 -- src/listing.rt:46:15
-mul-end : tie.Need-mul-end Inv-loop μ-loop
-mul-end c = search needs
+mul-last : tie.Need-mul-last Inv-loop μ-loop
+mul-last c = search needs
 
 -- src/listing.rt:46:15
-add-end : tie.Need-add-end Inv-loop μ-loop
-add-end c = search needs
+add-last : tie.Need-add-last Inv-loop μ-loop
+add-last c = search needs
 
 -- src/listing.rt:47:35
 add-block-round : tie.Need-add-block-round Inv-loop μ-loop
@@ -60,7 +60,7 @@ element-copy-out-p c = search needs
 loop-holds : tie.Need-loop-holds Inv-loop μ-loop
 loop-holds c =
     let f = c .before .before .before .before .before .pre .3 .heads (c .before .before .before .before .before .args .k + 1) (omega arith) in
-    (f .from, f .to, f .here, refl, puts-none (places-first _ _ _ _ f))
+    (f .from, omega (arith, f .to), λ x. f .here (omega arith), refl, puts-none (places-first _ _ _ _ f))
 
 -- src/listing.rt:51:28
 add-list-place : tie.Need-add-list-place Inv-loop μ-loop
@@ -71,7 +71,7 @@ list-place-requires : tie.Need-list-place-requires Inv-loop μ-loop
 list-place-requires c κs =
     let a = c .before .before .before .before .before .before .before .before .args in
     let x = c .before .before .loop in
-    let n = count-next (a .n .0 * 16 + 16) (x .inv .2 (c .before .loop-test .taken)) (omega arith) in
+    let n = count-next (a .n .0 * 16 + 16) (x .inv .2 (omega arith)) (omega arith) in
     (record { member = omega arith; row = omega arith }, omega (arith, n, c .before .before .before .before .before .before .before .before .pre .4, x .inv .3, x .inv .4 .past, x .inv .4 .room))
 
 -- src/listing.rt:52:18
@@ -101,7 +101,7 @@ loop-again c =
     let x = c .before .before .before .before .before .before .loop in
     let m = x .inv .2 (omega arith) in
     let f = c .before .before .before .before .before .before .before .before .before .before .before .before .pre .3 .nexts (a .k + 1) (x .p) (omega arith) (omega arith) (omega arith) m in
-    (omega (arith, f .from), f .to, f .here, c .before .before .before .list-place .kept .1 .1 .1 .1 .1 .0 ∙ x .inv .3, puts-as (rw (c .before .before .before .before .before .before .before .before .block-round .ensures) (places-next _ _ _ _ _ (omega arith) m f)) (omega (arith, count-next _ m (f .from))) (puts-then (x .inv .4) (c .before .before .before .list-place .ensures)))
+    (omega (arith, f .from), omega (arith, f .to), λ y. f .here (omega arith), c .before .before .before .list-place .kept .1 .1 .1 .1 .1 .0 ∙ x .inv .3, puts-as (rw (c .before .before .before .before .before .before .before .before .block-round .ensures) (places-next _ _ _ _ _ (omega arith) m f)) (omega (arith, count-next _ m (f .from))) (puts-then (x .inv .4) (c .before .before .before .list-place .ensures)))
 
 -- src/listing.rt:34:1
 same-length : tie.Need-same-length Inv-loop μ-loop
@@ -121,8 +121,8 @@ list-block-spec =
     (tie.spec
     Inv-loop
     μ-loop
-    mul-end
-    add-end
+    mul-last
+    add-last
     add-block-round
     block-round-requires
     add-p

@@ -1,0 +1,28 @@
+// The largest ceiling and one above it: a ceiling of 1,024 opens, and one of 1,025 is out of range.
+use libc::STDOUT_FILENO;
+use sheet::Setting;
+use sheet::Sheet;
+use terms::Member;
+
+// Opens with a ceiling and writes the answer out.
+fn open(t: &mut [u32], ceiling: u32) {
+    let blank = Sheet::blank();
+    let weights = blank.weights;
+    let written = Sheet {
+        lookback: Setting::Blank,
+        ceiling: Setting::Written(ceiling),
+        allowance: Setting::Blank,
+        weights,
+    };
+    let o = member::open::open(member::open::closed(), t, Member(0), written);
+    let a = o.answer;
+    let mut out = [0u8; 20];
+    let n = records::answer::put_answer(a, &mut out, 0);
+    io::write_all(STDOUT_FILENO, &out[..n]);
+}
+
+fn main() {
+    let mut table = [0u32; 278800];
+    open(&mut table, 1024);
+    open(&mut table, 1025);
+}

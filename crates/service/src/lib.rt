@@ -1,0 +1,110 @@
+// The service: records come in on standard input, and the lines that answer them go out on standard output.
+// Its memory is fixed: a table for ceilings up to 64, and a buffer each for input and output.
+pub mod input;
+pub mod work;
+
+use libc::STDOUT_FILENO;
+use work::Work;
+ghost use mathlib.Core.Path.{_≡_};
+ghost use Prim.Native.Nat.{_+_, _*_, _≤_};
+ghost use lib.ListN.{length};
+ghost use Rattle.service.specs.Session.{Refilled, Advanced};
+
+// The work, where the bytes at hand end in the input buffer, and whether the input has ended.
+struct Session {
+    work: Work,
+    end: usize,
+    ended: bool,
+}
+
+// Writes out the first n bytes of the buffer. Where that fails, records are still served until the input ends.
+fn flush(out: &[u8], n: usize)
+    requires { ⌜ n ≤ length (now out) ⌝ }
+{
+    io::write_all(STDOUT_FILENO, &out[..n]);
+}
+
+// Before the first record there is no open member.
+fn start() -> Session
+    ensures { λ r. ⌜ (r .work .from ≡ 0) × (r .end ≡ 0) × (r .work .next ≡ 0) ⌝ }
+{
+    let work = Work {
+        state: member::open::closed(),
+        skipping: false,
+        from: 0,
+        next: 0,
+        waits: false,
+    };
+    Session {
+        work,
+        end: 0,
+        ended: false,
+    }
+}
+
+// The work with the output buffer empty again, and the bytes at hand from another place on.
+fn emptied(w: Work, from: usize) -> Work
+    ensures { λ r. ⌜ (r .from ≡ from) × (r .next ≡ 0) × (r .state ≡ w .state) × (r .skipping ≡ w .skipping) ⌝ }
+{
+    let state = w.state;
+    Work {
+        state,
+        skipping: w.skipping,
+        from,
+        next: 0,
+        waits: false,
+    }
+}
+
+// Goes on with the bytes at hand; where more are wanted, reads them. The input has ended where none come.
+fn refill(w: Work, buf: &mut [u8], end: usize) -> Session
+    requires { ⌜ (w .from ≤ end) × (end ≤ length (now buf)) × (length (now buf) ≤ 65536) ⌝ }
+    ensures { λ r. ⌜ (r .work .from ≤ r .end) × (r .end ≤ length (now (buf .entry))) × (r .work .next ≡ 0) × Refilled w end (now (buf .entry)) (now (buf .exit)) r ⌝ }
+{
+    let from = w.from;
+    if !w.waits {
+        return Session {
+            work: emptied(w, from),
+            end,
+            ended: false,
+        };
+    }
+    let n = input::keep(buf, from, end);
+    let got = input::more(buf, n);
+    Session {
+        work: emptied(w, 0),
+        end: n + got,
+        ended: got == 0,
+    }
+}
+
+// Serves what is at hand, writes the answers out and goes on.
+fn advance(s: Session, t: &mut [u32], buf: &mut [u8], out: &mut [u8]) -> Session
+    requires { ⌜ (s .work .from ≤ s .end) × (s .end ≤ length (now buf)) × (s .work .next ≡ 0) × (length (now t) ≤ 17680) × (length (now t) * 9 + 20 ≤ length (now out)) × (length (now buf) ≤ 65536) ⌝ }
+    ensures { λ r. ⌜ (r .work .from ≤ r .end) × (r .end ≤ length (now (buf .entry))) × (r .work .next ≡ 0) × Advanced s (now (t .entry)) (now (buf .entry)) r (now (t .exit)) (now (buf .exit)) (now (out .exit)) ⌝ }
+{
+    let end = s.end;
+    let before = s.work;
+    let w = work::fill(before, t, &buf[..end], out);
+    flush(out, w.next);
+    refill(w, buf, end)
+}
+
+// Serves until the input ends.
+pub fn run() {
+    let mut table = [0u32; 17680];
+    let mut buf = [0u8; 65536];
+    let mut out = [0u8; 262144];
+    let mut s = start();
+    let mut turns = u64::MAX;
+    while turns > 0 && !s.ended {
+        let after = advance(s, &mut table, &mut buf, &mut out);
+        s = after;
+        turns -= 1;
+    }
+    let end = s.end;
+    let w = s.work;
+    let state = w.state;
+    let n = work::finish(state, &mut table, w.skipping, &buf[..end], &mut out);
+    flush(&out, n);
+}
