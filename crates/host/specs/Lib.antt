@@ -1,0 +1,11 @@
+pub mod Words
+pub mod PasteLaws
+pub mod Bodies
+pub mod Proposals
+pub mod Sheets
+pub mod States
+pub mod ReadingLaws
+pub mod PutLaws
+pub mod Calls
+pub mod CallLaws
+pub mod AnswerLaws
