@@ -23,8 +23,8 @@ paste-append t b x y n m e h =
     let i : b + n + m ≡ b + (n + m) = omega arith in
     let p : take (b + n) u ≡ take b t ++ take n x = take-paste t b x n (omega arith) (omega arith) in
     let q : drop (b + n + m) u ≡ drop (b + (n + m)) t =
-        sym (drop-drop m (b + n) u) ∙ ap (drop m) (drop-paste t b x n (omega arith) (omega arith)) ∙ drop-drop m (b + n) t ∙ ap (λ (k : ℕ). drop k t) i in
+    sym (drop-drop m (b + n) u) ∙ ap (drop m) (drop-paste t b x n (omega arith) (omega arith)) ∙ drop-drop m (b + n) t ∙ ap (λ (k : ℕ). drop k t) i in
     let r : take n x ++ take m y ≡ take (n + m) (x ++ y) =
-        ap (λ (z : List ℕ). z ++ take m y) (take-all n x (omega arith)) ∙ sym (take-append-add x y m) ∙ ap (λ (k : ℕ). take (k + m) (x ++ y)) e in
+    ap (λ (z : List ℕ). z ++ take m y) (take-all n x (omega arith)) ∙ sym (take-append-add x y m) ∙ ap (λ (k : ℕ). take (k + m) (x ++ y)) e in
     ap₂ (λ (y₀ z : List ℕ). y₀ ++ take m y ++ z) p q
     ∙ ap (λ (z : List ℕ). z ++ drop (b + (n + m)) t) (append-assoc (take b t) (take n x) (take m y) ∙ ap (λ (z : List ℕ). take b t ++ z) r)

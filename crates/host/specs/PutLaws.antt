@@ -54,14 +54,14 @@ held-put p k t h =
 -- the pieces of a state's words, one after the other
 pub state-put : (s : State) (t : List ℕ) → 37 ≤ length t
     → paste
-        (paste
-        (paste (paste t 0 (s .own .0 ∷ s .settings .lookback ∷ s .settings .ceiling .0 ∷ s .settings .allowance ∷ []) 4) 4 (sixteen (s .settings .weights)) 16)
-        20
-        (s .round .0 ∷ cond (s .proposing) 1 0 ∷ s .blocks ∷ [])
-        3)
-        23
-        (bodyWords (keptOf s))
-        14
+    (paste
+    (paste (paste t 0 (s .own .0 ∷ s .settings .lookback ∷ s .settings .ceiling .0 ∷ s .settings .allowance ∷ []) 4) 4 (sixteen (s .settings .weights)) 16)
+    20
+    (s .round .0 ∷ cond (s .proposing) 1 0 ∷ s .blocks ∷ [])
+    3)
+    23
+    (bodyWords (keptOf s))
+    14
     ≡ paste t 0 (stateWords s) 37
 unfolding stateWords
 state-put s t h =

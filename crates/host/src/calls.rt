@@ -4,7 +4,12 @@ ghost use mathlib.Core.List.{[]};
 ghost use Rattle.host.specs.Calls.{plain, packed, Done, opens, propose, endorse, certify, accept, advance, commit, turn};
 
 #[no_mangle]
-pub extern "C" fn forgelilac_open(state: &mut [u32], table: &mut [u32], own: u32, sheet: &[u32]) -> u32
+pub extern "C" fn forgelilac_open(
+    state: &mut [u32],
+    table: &mut [u32],
+    own: u32,
+    sheet: &[u32],
+) -> u32
     ensures { λ r. ⌜ Done plain (turn (now (state .entry)) (now (table .entry)) [] (opens own (now (sheet .entry)))) r (now (state .exit)) (now (table .exit)) [] ⌝ }
 {
     if state.len() < 37 {
@@ -48,7 +53,8 @@ pub extern "C" fn forgelilac_endorse(state: &[u32], table: &mut [u32], proposal:
     let s = crate::states::state_in(state);
     let p = crate::proposals::proposal_in(proposal);
     let x = member::endorse::endorse(s, table, p);
-    crate::answers::number_of(x.answer)
+    let a = x.answer;
+    crate::answers::number_of(a)
 }
 
 #[no_mangle]
@@ -63,7 +69,8 @@ pub extern "C" fn forgelilac_certify(state: &[u32], table: &mut [u32], endorsers
     }
     let s = crate::states::state_in(state);
     let x = member::certify::certify(s, table, endorsers as u16);
-    crate::answers::number_of(x.answer)
+    let a = x.answer;
+    crate::answers::number_of(a)
 }
 
 #[no_mangle]
@@ -79,7 +86,8 @@ pub extern "C" fn forgelilac_accept(state: &[u32], table: &mut [u32], certificat
     let s = crate::states::state_in(state);
     let c = crate::proposals::certificate_in(certificate);
     let x = member::accept::accept(s, table, c);
-    crate::answers::number_of(x.answer)
+    let a = x.answer;
+    crate::answers::number_of(a)
 }
 
 #[no_mangle]

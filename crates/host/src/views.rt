@@ -46,7 +46,12 @@ fn show_certificate(out: &mut [u32], x: reads::CertificateRead) -> u32
 }
 
 #[no_mangle]
-pub extern "C" fn forgelilac_committee(state: &[u32], table: &[u32], round: u32, out: &mut [u32]) -> u32
+pub extern "C" fn forgelilac_committee(
+    state: &[u32],
+    table: &[u32],
+    round: u32,
+    out: &mut [u32],
+) -> u32
     ensures { λ r. ⌜ Done plain (turn (now (state .entry)) (now (table .entry)) (now (out .entry)) (committee round)) r (now (state .entry)) (now (table .entry)) (now (out .exit)) ⌝ }
 {
     if !crate::states::state_reads(state) {
@@ -73,7 +78,13 @@ pub extern "C" fn forgelilac_share(state: &[u32], table: &[u32], member: u32, ro
 }
 
 #[no_mangle]
-pub extern "C" fn forgelilac_certificate(state: &[u32], table: &[u32], author: u32, round: u32, out: &mut [u32]) -> u32
+pub extern "C" fn forgelilac_certificate(
+    state: &[u32],
+    table: &[u32],
+    author: u32,
+    round: u32,
+    out: &mut [u32],
+) -> u32
     ensures { λ r. ⌜ Done plain (turn (now (state .entry)) (now (table .entry)) (now (out .entry)) (certificate author round)) r (now (state .entry)) (now (table .entry)) (now (out .exit)) ⌝ }
 {
     if !crate::states::state_reads(state) {

@@ -3,7 +3,6 @@ use mathlib.Core.Path.{_≡_, ap, ap₂, _∙_}
 use mathlib.Core.Bool.{cond}
 use mathlib.Core.List.{List, [], _∷_}
 use Prim.Native.Nat.{ℕ}
-
 use lib.Seq.{paste}
 use native.Mathlib.Omega.{arith}
 use Rattle.terms.specs.declared.Body.{Body}
@@ -63,11 +62,11 @@ returns c =
     let s = a .s in
     c .before .before .put-body .ensures
     ∙ ap₂ (λ (z : List ℕ) (b : Body). paste z 23 (bodyWords b) 14)
-        (c .before .before .before .before .before .before .put2 .ensures
-        ∙ ap₂ (λ (z : List ℕ) (f : ℕ). paste z 20 (s .round .0 ∷ f ∷ s .blocks ∷ []) 3)
-            (c .before .before .before .before .before .before .before .before .before .before .before .put-weights .ensures ∙ ap (λ (z : List ℕ). paste z 4 (sixteen (s .settings .weights)) 16) (c .before .before .before .before .before .before .before .before .before .before .before .before .before .before .before .put .ensures))
-            (c .before .before .before .before .before .before .before .before .before .before .before .before .before .before .before .before .before .before .flag .ensures))
-        (c .before .before .before .before .before .before .before .before .before .before .before .before .before .before .before .before .before .before .before .kept .ensures)
+    (c .before .before .before .before .before .before .put2 .ensures
+    ∙ ap₂ (λ (z : List ℕ) (f : ℕ). paste z 20 (s .round .0 ∷ f ∷ s .blocks ∷ []) 3)
+    (c .before .before .before .before .before .before .before .before .before .before .before .put-weights .ensures ∙ ap (λ (z : List ℕ). paste z 4 (sixteen (s .settings .weights)) 16) (c .before .before .before .before .before .before .before .before .before .before .before .before .before .before .before .put .ensures))
+    (c .before .before .before .before .before .before .before .before .before .before .before .before .before .before .before .before .before .before .flag .ensures))
+    (c .before .before .before .before .before .before .before .before .before .before .before .before .before .before .before .before .before .before .before .kept .ensures)
     ∙ state-put s (a .w .now) (omega arith)
 
 pub put-state-spec : {M : Type 1} → statement M
