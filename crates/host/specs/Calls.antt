@@ -111,9 +111,13 @@ module _ (w t o : List ℕ) where
   readable (certificate a r) = stateReads w && leb 17 (length o)
   readable (block k) = stateReads w
 
-  -- where it cannot: 1, and nothing changes
+  -- refused with the number n: no value, and nothing changes
+  abbrev pub refused : ℕ → Turn
+  refused n = record { refusal = n; value = 0; state = w; table = t; out = o }
+
+  -- where it cannot be read: 1
   abbrev pub unread : Turn
-  unread = record { refusal = 1; value = 0; state = w; table = t; out = o }
+  unread = refused 1
 
   -- ---- where it can: the engine's answer
 

@@ -9,3 +9,4 @@ pub mod PutLaws
 pub mod Calls
 pub mod CallLaws
 pub mod AnswerLaws
+pub mod RefusalLaws
