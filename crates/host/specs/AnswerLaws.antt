@@ -18,8 +18,6 @@ use Rattle.committee.specs.Committees.{committeeOf}
 use Rattle.committee.specs.Chain.{chainOf}
 use Rattle.walk.specs.TotalBound.{committee-total}
 use Rattle.state.specs.declared.State.{State}
-use Rattle.state.specs.Formed.{Formed, formed}
-use Rattle.state.specs.NumberLaws.{number-passed}
 use Rattle.member.specs.declared.Answer.{Answer}
 use Rattle.member.specs.declared.Answer.the-variants.{Accepted, Refused}
 use Rattle.member.specs.declared.Outcome.{Outcome}
@@ -31,9 +29,9 @@ use Rattle.member.specs.Steps.{Call, opens, propose, advance, number, outcome, 
 use Rattle.member.specs.CallLaws.{answer-number, accepted-new}
 use Rattle.member.specs.Open.{openOutcome}
 use Rattle.member.specs.Calls.{proposeOutcome, advanceOutcome}
-use Rattle.rules.specs.Calls as rules
 use Rattle.commit.specs.declared.Outcome as committed
 use Rattle.commit.specs.Commit.{commitNumber, commitOutcome, addedWith, refusedWith, blocksThen}
+use Rattle.commit.specs.CheckLaws.{accepted}
 use Rattle.commit.specs.AnswerLaws.{answers-accepted, answers-refused}
 use Rattle.reads.specs.declared.CommitteeRead.{CommitteeRead}
 use Rattle.reads.specs.Reads.{committeeNumber, committeeAnswer}
@@ -70,15 +68,11 @@ module _ (s : State) (t : List ℕ) where
   pub advance-writable : {x : Outcome} → x ≡ advanceOutcome s t → Writable (x .answer) (x .state)
   advance-writable = writable-by advance (λ e. advance-passed s t e .0 .settings)
 
-  commit-formed : commitNumber s t ≡ 0 → Formed s t
-  unfolding commitNumber
-  commit-formed e = formed s t (number-passed s t rules.commit e .0)
-
   pub commit-writable : {x : committed.Outcome} → x ≡ commitOutcome s t → Writable (addedAnswer (x .answer)) (x .state)
   commit-writable {x} e = go (eqb (commitNumber s t) 0) refl
     where
       go : (b : Bool) → eqb (commitNumber s t) 0 ≡ b → Writable (addedAnswer (x .answer)) (x .state)
-      go true q = let n = eqb-true (commitNumber s t) 0 q in rw (e ∙ sym (answers-accepted s t n .0)) (λ a. narrow (s .settings) (commit-formed n .settings))
+      go true q = let n = eqb-true (commitNumber s t) 0 q in rw (e ∙ sym (answers-accepted s t n .0)) (λ a. narrow (s .settings) (accepted s t n .formed .settings))
       go false q =
           let n = eqb-false (commitNumber s t) 0 q in
           rw (e ∙ sym (answers-refused s t (commitNumber s t) refl n .0)) (λ a. absurd (n (not-accepted a)))

@@ -10,3 +10,7 @@ pub mod Calls
 pub mod CallLaws
 pub mod AnswerLaws
 pub mod RefusalLaws
+pub mod SameLaws
+pub mod TidyStates
+pub mod BackLaws
+pub mod NextLaws
