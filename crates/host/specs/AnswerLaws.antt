@@ -21,8 +21,7 @@ use Rattle.state.specs.declared.State.{State}
 use Rattle.member.specs.declared.Answer.{Answer}
 use Rattle.member.specs.declared.Answer.the-variants.{Accepted, Refused}
 use Rattle.member.specs.declared.Outcome.{Outcome}
-use Rattle.member.specs.Answers.{numberIn, answerOf}
-use Rattle.member.specs.AnswerLaws.{number-in}
+use Rattle.member.specs.Answers.{numberIn}
 use Rattle.member.specs.OpenLaws.{opened}
 use Rattle.member.specs.PassedLaws.{propose-passed, advance-passed}
 use Rattle.member.specs.Steps.{Call, opens, propose, advance, number, outcome, newState}
@@ -30,7 +29,7 @@ use Rattle.member.specs.CallLaws.{answer-number, accepted-new}
 use Rattle.member.specs.Open.{openOutcome}
 use Rattle.member.specs.Calls.{proposeOutcome, advanceOutcome}
 use Rattle.commit.specs.declared.Outcome as committed
-use Rattle.commit.specs.Commit.{commitNumber, commitOutcome, addedWith, refusedWith, blocksThen}
+use Rattle.commit.specs.Commit.{commitNumber, commitOutcome}
 use Rattle.commit.specs.CheckLaws.{accepted}
 use Rattle.commit.specs.AnswerLaws.{answers-accepted, answers-refused}
 use Rattle.reads.specs.declared.CommitteeRead.{CommitteeRead}

@@ -1,16 +1,15 @@
 -- The words of a state give it back.
-use mathlib.Core.Path.{_≡_, refl, sym, ap, _∙_}
-use mathlib.Core.Bool.{Bool, true, false, not, cond, _&&_, true≢false}
+use mathlib.Core.Path.{_≡_, refl, ap, _∙_}
+use mathlib.Core.Bool.{Bool, true, false, not, cond, _&&_}
 use mathlib.Core.List.{List, [], _∷_, _++_}
-use Prim.Native.Nat.{ℕ, zero, suc, _+_, _*_, _<_, _≤_}
+use Prim.Native.Nat.{ℕ, zero, suc, _+_, _<_, _≤_}
 use native.Mathlib.Omega.{arith}
-use lib.ListN.{length, getD, length-append}
+use lib.ListN.{length, length-append}
 use lib.Dec.{eqb, leb, ltb}
 use lib.Seq.{paste, length-paste}
-use borrow.Author.Tests.{le-leb, lt-ltb}
+use borrow.Author.Tests.{lt-ltb}
 use Rattle.base.specs.Paste.{paste-inside}
-use Rattle.base.specs.Folds.{allTo, tab}
-use Rattle.base.specs.FoldLaws.{tab-same}
+use Rattle.base.specs.Folds.{tab}
 use Rattle.base.specs.TestLaws.{all-hold}
 use Rattle.terms.specs.declared.Transaction.{Transaction}
 use Rattle.terms.specs.declared.Transaction.the-variants.{Bond, Unbond, Entry}
@@ -22,7 +21,7 @@ use Rattle.state.specs.declared.State.{State}
 use Rattle.member.specs.Open.{noBody}
 use Rattle.host.specs.Words.{word, sixteen}
 use Rattle.host.specs.PasteLaws.{length-sixteen}
-use Rattle.host.specs.Bodies.{isTriple, tripleReads, looked, bodyReads, slotIn, bodyIn, usedOf, tripleWords, usedWords, bodyWords}
+use Rattle.host.specs.Bodies.{isTriple, tripleReads, looked, bodyReads, slotIn, bodyIn, usedOf, usedWords, bodyWords}
 use Rattle.host.specs.States.{stateReads, settingsIn, keptIn, stateIn, keptOf, stateWords}
 use Rattle.host.specs.PutLaws.{length-body}
 use Rattle.host.specs.SameLaws.{Agree, state-same, state-reads-same, looked-le}

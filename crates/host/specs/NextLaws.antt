@@ -4,7 +4,7 @@ use mathlib.Core.Bool.{Bool, true, false, not, cond, true≢false}
 use mathlib.Core.List.{List}
 use Prim.Native.Nat.{ℕ, _+_, _*_, _<_, _≤_}
 use native.Mathlib.Omega.{arith}
-use lib.ListN.{length, getD}
+use lib.ListN.{length}
 use lib.Dec.{eqb, leb, ltb}
 use lib.Seq.{paste}
 use borrow.Author.Tests.{eqb-true, eqb-false, leb-true, not-true}
@@ -13,7 +13,6 @@ use Rattle.base.specs.Folds.{tab}
 use Rattle.base.specs.FoldLaws.{getD-tab, tab-same}
 use Rattle.terms.specs.declared.Slot.{Slot}
 use Rattle.terms.specs.declared.Transaction.{Transaction}
-use Rattle.terms.specs.declared.Member.{Member}
 use Rattle.terms.specs.Transactions.{readTransaction, noTransaction}
 use Rattle.terms.specs.Proposals.{slotOf}
 use Rattle.sheet.specs.declared.Sheet.{Sheet}
@@ -26,7 +25,7 @@ use Rattle.member.specs.Calls.{proposeOutcome, advanceOutcome}
 use Rattle.member.specs.Steps as steps
 use Rattle.member.specs.CallLaws.{answer-number, accepted-new}
 use Rattle.commit.specs.declared.Outcome as committed
-use Rattle.commit.specs.Commit.{commitNumber, commitOutcome, commitTableAfter, blocksThen, withBlocks}
+use Rattle.commit.specs.Commit.{commitNumber, commitOutcome, blocksThen, withBlocks}
 use Rattle.commit.specs.AnswerLaws.{answers-accepted, answers-refused}
 use Rattle.host.specs.Words.{word, sixteen}
 use Rattle.host.specs.Bodies.{loneBodyReads, slotIn, bodyIn, usedOf}

@@ -6,7 +6,7 @@ use Prim.Native.Nat.{ℕ, zero, suc, _+_, _*_, _≤_}
 use native.Mathlib.Omega.{arith}
 use native.Mathlib.Numerals.{add-one}
 use lib.ListN.{length, length-append}
-use lib.Seq.{paste, length-paste}
+use lib.Seq.{paste}
 use Rattle.terms.specs.declared.Body.{Body}
 use Rattle.terms.specs.declared.Proposal.{Proposal}
 use Rattle.state.specs.declared.State.{State}

@@ -1,16 +1,14 @@
 -- What words that can be read give: they are long enough, and their sets are sets of members.
-use mathlib.Core.Path.{_≡_, refl}
-use mathlib.Core.Bool.{Bool, true, false, cond, _&&_, true≢false}
+use mathlib.Core.Path.{_≡_}
+use mathlib.Core.Bool.{Bool, true, false, cond, true≢false}
 use mathlib.Core.List.{List}
 use mathlib.Core.Logic.{_≢_}
 use Prim.Native.Nat.{ℕ, _<_, _≤_}
-use native.Mathlib.Omega.{arith}
 use lib.ListN.{length, getD}
 use lib.Dec.{eqb, leb, ltb}
 use borrow.Author.Tests.{leb-true, ltb-true, ne-eqb}
 use Rattle.base.specs.Bools.{both}
-use Rattle.base.specs.Folds.{allTo}
-use Rattle.host.specs.Bodies.{tripleReads, looked, bodyReads, loneBodyReads}
+use Rattle.host.specs.Bodies.{bodyReads, loneBodyReads}
 use Rattle.host.specs.Proposals.{proposalReads, certificateReads}
 use Rattle.host.specs.Sheets.{sheetReads}
 use Rattle.host.specs.States.{stateReads}

@@ -24,7 +24,7 @@ use Rattle.host.specs.Bodies.{bodyIn}
 use Rattle.host.specs.Proposals.{proposalIn, certificateIn, heldWords}
 use Rattle.host.specs.Sheets.{sheetIn}
 use Rattle.host.specs.States.{stateIn}
-use Rattle.host.specs.Calls.{Turn, Call, opens, propose, endorse, certify, accept, advance, commit, committee, share, certificate, block, over, readable, refused, stepped, kept, given, committedBy, shareBy, blockBy, served, turn}
+use Rattle.host.specs.Calls.{Call, opens, propose, endorse, certify, accept, advance, commit, committee, share, certificate, block, over, readable, refused, stepped, kept, given, committedBy, shareBy, blockBy, served, turn}
 
 module _ (w t o : List ℕ) where
   -- ---- by the engine's answer

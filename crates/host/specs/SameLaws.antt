@@ -1,14 +1,13 @@
 -- Words that agree on a layout give the same: what lies beyond is no part of it.
 use mathlib.Core.Path.{_≡_, refl}
-use mathlib.Core.Bool.{Bool, true, cond, _&&_}
+use mathlib.Core.Bool.{cond}
 use mathlib.Core.List.{List}
 use Prim.Native.Nat.{ℕ, _+_, _*_, _<_, _≤_}
 use native.Mathlib.Omega.{arith}
 use native.Mathlib.Decide.{decLt}
 use lib.ListN.{length, getD}
-use lib.Dec.{eqb, leb, ltb}
+use lib.Dec.{ltb}
 use borrow.Author.Tests.{le-leb, lt-ltb, le-ltb}
-use Rattle.base.specs.Folds.{allTo, tab}
 use Rattle.base.specs.FoldLaws.{tab-same}
 use Rattle.base.specs.TestLaws.{all-same}
 use Rattle.host.specs.Words.{word}

@@ -1,7 +1,6 @@
 use borrow.Author.Tests.{eq-eqb, ne-eqb, lt-leb, le-leb}
 use mathlib.Core.Path.{refl}
 use Rattle.host.specs.Bodies.{isTriple}
-use borrow.Author.Needs.{needs}
 use Rattle.host.proofs.bodies.is_triple.Statement.{statement}
 use Rattle.host.proofs.bodies.is_triple.Tie as tie
 use Rattle.host.proofs.bodies.is_triple.Reads as reads

@@ -2,7 +2,6 @@ use borrow.Author.Tests.{lt-ltb, le-ltb}
 use mathlib.Core.Path.{refl}
 use native.Mathlib.Omega.{arith}
 use Rattle.host.specs.Bodies.{looked}
-use borrow.Author.Needs.{needs}
 use Rattle.host.proofs.bodies.looked_at.Statement.{statement}
 use Rattle.host.proofs.bodies.looked_at.Tie as tie
 use Rattle.host.proofs.bodies.looked_at.Reads as reads
