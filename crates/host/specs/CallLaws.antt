@@ -1,10 +1,13 @@
 -- Laws of calls: what cannot be read, and what can.
 use mathlib.Core.Path.{_≡_, refl, sym, _∙_}
 use mathlib.Core.Bool.{Bool, true, false, not, _&&_, and-false}
-use mathlib.Core.List.{List}
+use mathlib.Core.List.{List, []}
 use Prim.Native.Nat.{ℕ}
 use borrow.Author.Tests.{not-true, not-false}
-use Rattle.host.specs.Calls.{Turn, Done, Call, readable, unread, served, turn}
+use Rattle.member.specs.declared.Outcome.{Outcome}
+use Rattle.member.specs.Answers.{numberIn}
+use Rattle.host.specs.States.{stateWords}
+use Rattle.host.specs.Calls.{Turn, Done, Call, plain, over, readable, unread, kept, steppedBy, served, turn}
 
 -- a test that the code found to fail, and one that it found to hold
 pub not-read : {a : Bool} {b : Bool} → a ≡ b → not a ≡ true → b ≡ false
@@ -32,11 +35,16 @@ module _ {answer : Turn → ℕ} (w t o : List ℕ) (c : Call) {r : ℕ} where
   unfolding turn
   done-read e d = rw e d
 
--- by what the engine answers
+-- by what the engine answers, and the table that it leaves
 pub done-as : {A : Type 0} {answer : Turn → ℕ} (f : A → Turn) {x : A} {y : A} {r : ℕ} {s : List ℕ} {u : List ℕ} {z : List ℕ} → x ≡ y → Done answer (f x) r s u z → Done answer (f y) r s u z
 done-as f e d = rw e at d
 
--- and the table that it leaves
-pub done-with : {A : Type 0} {answer : Turn → ℕ} (f : A → List ℕ → Turn) {x : A} {y : A} {v : List ℕ} {v′ : List ℕ} {r : ℕ} {s : List ℕ} {u : List ℕ} {z : List ℕ}
-    → x ≡ y → v ≡ v′ → Done answer (f x v) r s u z → Done answer (f y v′) r s u z
-done-with f e h d = rw (e, h) at d
+module _ (w t : List ℕ) (c : Call) {x : Outcome} {y : Outcome} {r : ℕ} {u : List ℕ} {v : List ℕ} (k : readable w t [] c ≡ true) (e : x ≡ y) (h : u ≡ v) where
+  -- of a call that changes the table alone
+  pub kept-done : served w t [] c ≡ kept w t [] (y .answer) v → r ≡ numberIn (x .answer) → Done plain (turn w t [] c) r w u []
+  kept-done q p = done-read w t [] c k (rw (q, ← e) (record { its-answer = p; its-state = refl; its-table = h; its-out = refl }))
+
+  -- of a call that changes the state
+  pub stepped-done : {s : List ℕ} → served w t [] c ≡ steppedBy w t [] y v → (r ≡ numberIn (x .answer)) × (s ≡ over (x .answer) w (stateWords (x .state)) 37)
+      → Done plain (turn w t [] c) r s u []
+  stepped-done q p = done-read w t [] c k (rw (q, ← e) (record { its-answer = p .0; its-state = p .1; its-table = h; its-out = refl }))

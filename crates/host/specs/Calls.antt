@@ -49,18 +49,27 @@ pub record Done (answer : Turn → ℕ) (x : Turn) (r : ℕ) (state table out : 
   pub its-table : table ≡ x .table
   pub its-out : out ≡ x .out
 
--- every call, with the words that it is handed; own number, sheet; member, round; author, round; number of a block
+-- every call, with the numbers and the words that it is handed
 pub data Call : Type 0 where
+  -- own number, sheet
   opens : ℕ → List ℕ → Call
+  -- body
   propose : List ℕ → Call
+  -- proposal
   endorse : List ℕ → Call
+  -- endorsers
   certify : ℕ → Call
+  -- certificate
   accept : List ℕ → Call
   advance : Call
   commit : Call
+  -- round
   committee : ℕ → Call
+  -- member, round
   share : ℕ → ℕ → Call
+  -- author, round
   certificate : ℕ → ℕ → Call
+  -- number
   block : ℕ → Call
 
 -- ---- the engine's answers with a value

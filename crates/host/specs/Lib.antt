@@ -6,6 +6,7 @@ pub mod Sheets
 pub mod States
 pub mod ReadingLaws
 pub mod PutLaws
+pub mod FillLaws
 pub mod Calls
 pub mod CallLaws
 pub mod AnswerLaws
@@ -14,3 +15,4 @@ pub mod SameLaws
 pub mod TidyStates
 pub mod BackLaws
 pub mod NextLaws
+pub mod BeyondLaws

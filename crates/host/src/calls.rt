@@ -3,6 +3,7 @@ use terms::Member;
 ghost use mathlib.Core.List.{[]};
 ghost use Rattle.host.specs.Calls.{plain, packed, Done, opens, propose, endorse, certify, accept, advance, commit, turn};
 
+// Open: the state is written fresh, and the used part of the table cleared.
 #[no_mangle]
 pub extern "C" fn forgelilac_open(
     state: &mut [u32],
@@ -24,6 +25,7 @@ pub extern "C" fn forgelilac_open(
     crate::answers::settle(state, x)
 }
 
+// Propose: the proposal is kept in the state.
 #[no_mangle]
 pub extern "C" fn forgelilac_propose(state: &mut [u32], table: &[u32], body: &[u32]) -> u32
     ensures { λ r. ⌜ Done plain (turn (now (state .entry)) (now (table .entry)) [] (propose (now (body .entry)))) r (now (state .exit)) (now (table .entry)) [] ⌝ }
@@ -40,6 +42,7 @@ pub extern "C" fn forgelilac_propose(state: &mut [u32], table: &[u32], body: &[u
     crate::answers::settle(state, x)
 }
 
+// Endorse: the proposal's place is marked endorsed in the table.
 #[no_mangle]
 pub extern "C" fn forgelilac_endorse(state: &[u32], table: &mut [u32], proposal: &[u32]) -> u32
     ensures { λ r. ⌜ Done plain (turn (now (state .entry)) (now (table .entry)) [] (endorse (now (proposal .entry)))) r (now (state .entry)) (now (table .exit)) [] ⌝ }
@@ -57,6 +60,7 @@ pub extern "C" fn forgelilac_endorse(state: &[u32], table: &mut [u32], proposal:
     crate::answers::number_of(a)
 }
 
+// Certify: the certificate of the present proposal is held in the table.
 #[no_mangle]
 pub extern "C" fn forgelilac_certify(state: &[u32], table: &mut [u32], endorsers: u32) -> u32
     ensures { λ r. ⌜ Done plain (turn (now (state .entry)) (now (table .entry)) [] (certify endorsers)) r (now (state .entry)) (now (table .exit)) [] ⌝ }
@@ -73,6 +77,7 @@ pub extern "C" fn forgelilac_certify(state: &[u32], table: &mut [u32], endorsers
     crate::answers::number_of(a)
 }
 
+// Accept: the certificate is held in the table, and its endorsed mark cleared.
 #[no_mangle]
 pub extern "C" fn forgelilac_accept(state: &[u32], table: &mut [u32], certificate: &[u32]) -> u32
     ensures { λ r. ⌜ Done plain (turn (now (state .entry)) (now (table .entry)) [] (accept (now (certificate .entry)))) r (now (state .entry)) (now (table .exit)) [] ⌝ }
@@ -90,6 +95,7 @@ pub extern "C" fn forgelilac_accept(state: &[u32], table: &mut [u32], certificat
     crate::answers::number_of(a)
 }
 
+// Advance: next round, proposal dropped.
 #[no_mangle]
 pub extern "C" fn forgelilac_advance(state: &mut [u32], table: &[u32]) -> u32
     ensures { λ r. ⌜ Done plain (turn (now (state .entry)) (now (table .entry)) [] advance) r (now (state .exit)) (now (table .entry)) [] ⌝ }
@@ -102,6 +108,7 @@ pub extern "C" fn forgelilac_advance(state: &mut [u32], table: &[u32]) -> u32
     crate::answers::settle(state, x)
 }
 
+// Commit: blocks are made in the table; the value is the number of blocks added.
 #[no_mangle]
 pub extern "C" fn forgelilac_commit(state: &mut [u32], table: &mut [u32]) -> u64
     ensures { λ r. ⌜ Done packed (turn (now (state .entry)) (now (table .entry)) [] commit) r (now (state .exit)) (now (table .exit)) [] ⌝ }

@@ -45,6 +45,7 @@ fn show_certificate(out: &mut [u32], x: reads::CertificateRead) -> u32
     }
 }
 
+// Committee of a round: sixteen weights into out.
 #[no_mangle]
 pub extern "C" fn forgelilac_committee(
     state: &[u32],
@@ -65,6 +66,7 @@ pub extern "C" fn forgelilac_committee(
     show_committee(out, x)
 }
 
+// Share of a member: the value is the thousandths.
 #[no_mangle]
 pub extern "C" fn forgelilac_share(state: &[u32], table: &[u32], member: u32, round: u32) -> u64
     ensures { λ r. ⌜ Done packed (turn (now (state .entry)) (now (table .entry)) [] (share member round)) r (now (state .entry)) (now (table .entry)) [] ⌝ }
@@ -77,6 +79,7 @@ pub extern "C" fn forgelilac_share(state: &[u32], table: &[u32], member: u32, ro
     crate::answers::share_number(x)
 }
 
+// Certificate of a place: its proposal and the number of its block, 0 for none, into out.
 #[no_mangle]
 pub extern "C" fn forgelilac_certificate(
     state: &[u32],
@@ -98,6 +101,7 @@ pub extern "C" fn forgelilac_certificate(
     show_certificate(out, x)
 }
 
+// Block by number: the value is its round.
 #[no_mangle]
 pub extern "C" fn forgelilac_block(state: &[u32], table: &[u32], number: u32) -> u64
     ensures { λ r. ⌜ Done packed (turn (now (state .entry)) (now (table .entry)) [] (block number)) r (now (state .entry)) (now (table .entry)) [] ⌝ }

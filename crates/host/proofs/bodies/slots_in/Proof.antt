@@ -1,10 +1,7 @@
-use mathlib.Core.Path.{_≡_, refl, sym, _∙_}
+use mathlib.Core.Path.{refl}
 use native.Mathlib.Omega.{arith}
-use Prim.Native.Nat.{_<_, _-_, _≤_}
-use native.Mathlib.Numerals.{add-one}
-use lib.ListN.{take, length, length-set}
-use lib.Seq.{take-suc-set, take-all}
-use Rattle.base.specs.Folds.{tab}
+use Prim.Native.Nat.{_-_}
+use Rattle.host.specs.FillLaws.{Filling, filling-none, filling-more, filling-all}
 use Rattle.host.specs.Bodies.{slotIn}
 use borrow.Author.Needs.{needs}
 use Rattle.host.proofs.bodies.slots_in.Statement.{statement}
@@ -14,15 +11,14 @@ use Rattle.host.proofs.bodies.slots_in.Lts as lts
 use Rattle.host.proofs.bodies.slot_in.Reads as slot-in-reads
 
 abbrev Inv-loop : tie.InvT-loop
-Inv-loop w at slots₀ k₀ slots k = (k ≤ 4) × (take k slots ≡ tab (slotIn w at) k) × (length slots ≡ 4)
+Inv-loop w at slots₀ k₀ slots k = Filling (slotIn w at) 4 slots k
 
 abbrev μ-loop : tie.MeasureT-loop
 μ-loop w at slots₀ k₀ slots k = 4 - k
 
 -- src/bodies.rt:87:5
 loop-holds : tie.Need-loop-holds Inv-loop μ-loop
-unfolding tab
-loop-holds c = (omega arith, refl, refl)
+loop-holds c = filling-none refl
 
 -- src/bodies.rt:88:13
 slot-in-requires : tie.Need-slot-in-requires Inv-loop μ-loop
@@ -50,18 +46,11 @@ loop-less c = search needs
 
 -- src/bodies.rt:87:5
 loop-again : tie.Need-loop-again Inv-loop μ-loop
-unfolding tab
-loop-again c =
-    let l = c .before .before .loop in
-    let h : l .k < length (l .slots) = omega (arith, l .inv .2) in (
-      omega arith,
-      rw (add-one, take-suc-set (l .slots) (l .k) (c .slot-in .result) h, l .inv .1, c .slot-in .ensures),
-      simp length-set (l .inv .2),
-    )
+loop-again c = filling-more (c .before .before .loop .inv) (omega arith) (c .slot-in .ensures)
 
 -- src/bodies.rt:79:1
 returns : tie.Need-returns Inv-loop μ-loop
-returns c = let e : c .before .loop .k ≡ 4 = omega arith in sym (take-all 4 _ (omega arith)) ∙ rw e at (c .before .loop .inv .1)
+returns c = filling-all (c .before .loop .inv) (omega arith)
 
 pub slots-in-spec : {M : Type 1} → statement M
 slots-in-spec =

@@ -1,10 +1,9 @@
 use mathlib.Core.Path.{refl}
 use mathlib.Core.List.{[]}
-use Rattle.host.specs.CallLaws.{not-read, is-read, done-unread, done-read, done-as}
-use Rattle.host.specs.Calls.{advance, steppedBy}
+use Rattle.host.specs.CallLaws.{not-read, is-read, done-unread, stepped-done}
+use Rattle.host.specs.Calls.{advance}
 use Rattle.host.specs.ReadingLaws.{state-read}
 use Rattle.host.specs.AnswerLaws.{advance-writable}
-use Rattle.member.specs.declared.Outcome.{Outcome}
 use borrow.Author.Needs.{needs}
 use Rattle.host.proofs.calls.forgelilac_advance.Statement.{statement}
 use Rattle.host.proofs.calls.forgelilac_advance.Tie as tie
@@ -50,9 +49,7 @@ returns-2 : tie.Need-returns-2
 returns-2 c =
     let a = c .before .before .before .before .before .before .before .before .before .before .before .before .args in
     let x = rw (c .before .before .before .before .before .state-in .ensures) at (c .before .before .before .before .advance .ensures) in
-    let d = c .before .before .settle .ensures in
-    done-read (a .state .now) (a .table .now) [] advance (is-read (c .before .before .before .before .before .before .before .before .state-reads .ensures) (c .before .before .before .before .before .before .before .if1 .left))
-    (done-as (λ (o : Outcome). steppedBy (a .state .now) (a .table .now) [] o (a .table .now)) x (record { its-answer = d .0; its-state = d .1; its-table = refl; its-out = refl }))
+    stepped-done (a .state .now) (a .table .now) advance (is-read (c .before .before .before .before .before .before .before .before .state-reads .ensures) (c .before .before .before .before .before .before .before .if1 .left)) x refl refl (c .before .before .settle .ensures)
 
 pub forgelilac-advance-spec : {M : Type 1} → statement M
 forgelilac-advance-spec =

@@ -1,13 +1,11 @@
 use mathlib.Core.Path.{refl}
-use mathlib.Core.List.{List, []}
-use Prim.Native.Nat.{ℕ}
+use mathlib.Core.List.{[]}
 use lib.Dec.{ltb}
 use borrow.Author.Tests.{lt-ltb, le-ltb}
-use Rattle.host.specs.CallLaws.{not-read, is-read, left-unread, right-unread, both-read, done-unread, done-read, done-with}
+use Rattle.host.specs.CallLaws.{not-read, is-read, left-unread, right-unread, both-read, done-unread, kept-done}
 use Rattle.host.specs.States.{stateReads}
-use Rattle.host.specs.Calls.{certify, kept}
+use Rattle.host.specs.Calls.{certify}
 use Rattle.host.specs.ReadingLaws.{state-read}
-use Rattle.member.specs.declared.Outcome.{Outcome}
 use borrow.Author.Needs.{needs}
 use Rattle.host.proofs.calls.forgelilac_certify.Statement.{statement}
 use Rattle.host.proofs.calls.forgelilac_certify.Tie as tie
@@ -60,8 +58,7 @@ returns-3 c =
     let a = c .before .before .before .before .before .before .before .before .before .before .before .args in
     let e = is-read (c .before .before .before .before .before .before .before .before .state-reads .ensures) (c .before .before .before .before .before .before .before .if1 .left) in
     let x = rw (c .before .before .before .before .before .state-in .ensures) at (c .before .before .before .certify .ensures) in
-    done-read (a .state .now) (a .table .now) [] (certify (a .endorsers)) (both-read e (lt-ltb (a .endorsers) 65536 (c .before .before .before .before .before .before .if2 .left)))
-    (done-with (λ (o : Outcome) (u : List ℕ). kept (a .state .now) (a .table .now) [] (o .answer) u) (x .0) (x .1) (record { its-answer = c .number-of .ensures; its-state = refl; its-table = refl; its-out = refl }))
+    kept-done (a .state .now) (a .table .now) (certify (a .endorsers)) (both-read e (lt-ltb (a .endorsers) 65536 (c .before .before .before .before .before .before .if2 .left))) (x .0) (x .1) refl (c .number-of .ensures)
 
 pub forgelilac-certify-spec : {M : Type 1} → statement M
 forgelilac-certify-spec =

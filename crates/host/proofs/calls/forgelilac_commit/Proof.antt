@@ -1,7 +1,8 @@
+use Rattle.commit.specs.Commit.{commitTableAfter}
+use Rattle.host.specs.States.{stateIn}
 use mathlib.Core.Path.{refl}
-use mathlib.Core.List.{List, []}
-use Prim.Native.Nat.{ℕ}
-use Rattle.host.specs.CallLaws.{not-read, is-read, done-unread, done-read, done-with}
+use mathlib.Core.List.{[]}
+use Rattle.host.specs.CallLaws.{not-read, is-read, done-unread, done-read, done-as}
 use Rattle.host.specs.Calls.{commit, committedBy}
 use Rattle.host.specs.ReadingLaws.{state-read}
 use Rattle.host.specs.AnswerLaws.{commit-writable}
@@ -62,7 +63,7 @@ returns-2 c =
     let x = rw (c .before .before .before .before .before .before .before .before .state-in .ensures) at (c .before .before .before .before .before .before .commit .ensures) in
     let d = c .before .before .settle-commit .ensures in
     done-read (a .state .now) (a .table .now) [] commit (is-read (c .before .before .before .before .before .before .before .before .before .before .before .state-reads .ensures) (c .before .before .before .before .before .before .before .before .before .before .if1 .left))
-    (done-with (λ (o : Outcome) (u : List ℕ). committedBy (a .state .now) (a .table .now) [] o u) (x .0) (x .1) (record { its-answer = d .0; its-state = d .1; its-table = refl; its-out = refl }))
+    (done-as (λ (o : Outcome). committedBy (a .state .now) (a .table .now) [] o (commitTableAfter (stateIn (a .state .now)) (a .table .now))) (x .0) (record { its-answer = d .0; its-state = d .1; its-table = x .1; its-out = refl }))
 
 pub forgelilac-commit-spec : {M : Type 1} → statement M
 forgelilac-commit-spec =

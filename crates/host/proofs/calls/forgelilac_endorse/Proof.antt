@@ -1,12 +1,10 @@
 use mathlib.Core.Path.{refl}
-use mathlib.Core.List.{List, []}
-use Prim.Native.Nat.{ℕ}
-use Rattle.host.specs.CallLaws.{not-read, is-read, left-unread, right-unread, both-read, done-unread, done-read, done-with}
+use mathlib.Core.List.{[]}
+use Rattle.host.specs.CallLaws.{not-read, is-read, left-unread, right-unread, both-read, done-unread, kept-done}
 use Rattle.host.specs.Proposals.{proposalReads}
 use Rattle.host.specs.States.{stateReads}
-use Rattle.host.specs.Calls.{endorse, kept}
+use Rattle.host.specs.Calls.{endorse}
 use Rattle.host.specs.ReadingLaws.{state-read, proposal-read}
-use Rattle.member.specs.declared.Outcome.{Outcome}
 use borrow.Author.Needs.{needs}
 use Rattle.host.proofs.calls.forgelilac_endorse.Statement.{statement}
 use Rattle.host.proofs.calls.forgelilac_endorse.Tie as tie
@@ -66,8 +64,7 @@ returns-3 c =
     let e = is-read (c .before .before .before .before .before .before .before .before .before .before .state-reads .ensures) (c .before .before .before .before .before .before .before .before .before .if1 .left) in
     let f = is-read (c .before .before .before .before .before .before .before .before .proposal-reads .ensures) (c .before .before .before .before .before .before .before .if2 .left) in
     let x = rw (c .before .before .before .before .before .before .state-in .ensures, c .before .before .before .before .before .proposal-in .ensures) at (c .before .before .before .endorse .ensures) in
-    done-read (a .state .now) (a .table .now) [] (endorse (a .proposal .now)) (both-read e f)
-    (done-with (λ (o : Outcome) (u : List ℕ). kept (a .state .now) (a .table .now) [] (o .answer) u) (x .0) (x .1) (record { its-answer = c .number-of .ensures; its-state = refl; its-table = refl; its-out = refl }))
+    kept-done (a .state .now) (a .table .now) (endorse (a .proposal .now)) (both-read e f) (x .0) (x .1) refl (c .number-of .ensures)
 
 pub forgelilac-endorse-spec : {M : Type 1} → statement M
 forgelilac-endorse-spec =

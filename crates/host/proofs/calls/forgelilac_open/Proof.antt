@@ -1,15 +1,13 @@
 use mathlib.Core.Path.{refl}
-use mathlib.Core.List.{List, []}
-use Prim.Native.Nat.{ℕ}
+use mathlib.Core.List.{[]}
 use lib.Dec.{leb}
 use lib.ListN.{length}
 use borrow.Author.Tests.{lt-leb, le-leb}
-use Rattle.host.specs.CallLaws.{not-read, is-read, left-unread, right-unread, both-read, done-unread, done-read, done-with}
+use Rattle.host.specs.CallLaws.{not-read, is-read, left-unread, right-unread, both-read, done-unread, stepped-done}
 use Rattle.host.specs.Sheets.{sheetReads}
-use Rattle.host.specs.Calls.{opens, steppedBy}
+use Rattle.host.specs.Calls.{opens}
 use Rattle.host.specs.ReadingLaws.{sheet-read}
 use Rattle.host.specs.AnswerLaws.{open-writable}
-use Rattle.member.specs.declared.Outcome.{Outcome}
 use borrow.Author.Needs.{needs}
 use Rattle.host.proofs.calls.forgelilac_open.Statement.{statement}
 use Rattle.host.proofs.calls.forgelilac_open.Tie as tie
@@ -68,9 +66,7 @@ returns-3 c =
     let e = le-leb 37 (length (a .state .now)) (c .before .before .before .before .before .before .before .before .before .before .before .before .if1 .left) in
     let f = is-read (c .before .before .before .before .before .before .before .before .before .before .before .sheet-reads .ensures) (c .before .before .before .before .before .before .before .before .before .before .if2 .left) in
     let x = rw (c .before .before .before .before .before .before .before .before .before .sheet-in .ensures, c .before .before .before .before .before .before .before .before .closed .ensures) at (c .before .before .before .before .before .before .«open» .ensures) in
-    let d = c .before .before .settle .ensures in
-    done-read (a .state .now) (a .table .now) [] (opens (a .own) (a .sheet .now)) (both-read e f)
-    (done-with (λ (o : Outcome) (u : List ℕ). steppedBy (a .state .now) (a .table .now) [] o u) (x .0) (x .1) (record { its-answer = d .0; its-state = d .1; its-table = refl; its-out = refl }))
+    stepped-done (a .state .now) (a .table .now) (opens (a .own) (a .sheet .now)) (both-read e f) (x .0) (x .1) refl (c .before .before .settle .ensures)
 
 pub forgelilac-open-spec : {M : Type 1} → statement M
 forgelilac-open-spec =

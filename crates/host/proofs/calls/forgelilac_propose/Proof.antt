@@ -1,12 +1,11 @@
 use mathlib.Core.Path.{refl}
 use mathlib.Core.List.{[]}
-use Rattle.host.specs.CallLaws.{not-read, is-read, left-unread, right-unread, both-read, done-unread, done-read, done-as}
+use Rattle.host.specs.CallLaws.{not-read, is-read, left-unread, right-unread, both-read, done-unread, stepped-done}
 use Rattle.host.specs.Bodies.{loneBodyReads}
 use Rattle.host.specs.States.{stateReads}
-use Rattle.host.specs.Calls.{propose, steppedBy}
+use Rattle.host.specs.Calls.{propose}
 use Rattle.host.specs.ReadingLaws.{state-read, lone-body-read}
 use Rattle.host.specs.AnswerLaws.{propose-writable}
-use Rattle.member.specs.declared.Outcome.{Outcome}
 use borrow.Author.Needs.{needs}
 use Rattle.host.proofs.calls.forgelilac_propose.Statement.{statement}
 use Rattle.host.proofs.calls.forgelilac_propose.Tie as tie
@@ -76,9 +75,7 @@ returns-3 c =
     let e = is-read (c .before .before .before .before .before .before .before .before .before .before .before .state-reads .ensures) (c .before .before .before .before .before .before .before .before .before .before .if1 .left) in
     let f = is-read (c .before .before .before .before .before .before .before .before .before .lone-body-reads .ensures) (c .before .before .before .before .before .before .before .before .if2 .left) in
     let x = rw (c .before .before .before .before .before .before .state-in .ensures, c .before .before .before .before .before .body-in .ensures) at (c .before .before .before .before .propose .ensures) in
-    let d = c .before .before .settle .ensures in
-    done-read (a .state .now) (a .table .now) [] (propose (a .body .now)) (both-read e f)
-    (done-as (λ (o : Outcome). steppedBy (a .state .now) (a .table .now) [] o (a .table .now)) x (record { its-answer = d .0; its-state = d .1; its-table = refl; its-out = refl }))
+    stepped-done (a .state .now) (a .table .now) (propose (a .body .now)) (both-read e f) x refl refl (c .before .before .settle .ensures)
 
 pub forgelilac-propose-spec : {M : Type 1} → statement M
 forgelilac-propose-spec =

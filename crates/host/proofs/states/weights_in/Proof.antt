@@ -1,12 +1,8 @@
-use mathlib.Core.Path.{_≡_, refl, sym, _∙_}
+use mathlib.Core.Path.{refl}
 use native.Mathlib.Omega.{arith}
-use Prim.Native.Nat.{_<_, _-_, _≤_}
-use native.Mathlib.Numerals.{add-one}
-use lib.ListN.{take, length, length-set}
-use lib.Seq.{take-suc-set, take-all}
-use Rattle.base.specs.Folds.{tab}
+use Prim.Native.Nat.{_+_, _-_}
+use Rattle.host.specs.FillLaws.{Filling, filling-none, filling-more, filling-all}
 use Rattle.host.specs.Words.{word}
-use Prim.Native.Nat.{_+_}
 use borrow.Author.Needs.{needs}
 use Rattle.host.proofs.states.weights_in.Statement.{statement}
 use Rattle.host.proofs.states.weights_in.Tie as tie
@@ -15,15 +11,14 @@ use Rattle.host.proofs.states.weights_in.Lts as lts
 use Rattle.host.proofs.states.wide.Reads as wide-reads
 
 abbrev Inv-loop : tie.InvT-loop
-Inv-loop w x₀ i₀ x i = (i ≤ 16) × (take i x ≡ tab (λ k. word w (4 + k)) i) × (length x ≡ 16)
+Inv-loop w x₀ i₀ x i = Filling (λ k. word w (4 + k)) 16 x i
 
 abbrev μ-loop : tie.MeasureT-loop
 μ-loop w x₀ i₀ x i = 16 - i
 
 -- src/states.rt:45:5
 loop-holds : tie.Need-loop-holds Inv-loop μ-loop
-unfolding tab
-loop-holds c = (omega arith, refl, refl)
+loop-holds c = filling-none refl
 
 -- src/states.rt:46:23
 add-wide : tie.Need-add-wide Inv-loop μ-loop
@@ -59,18 +54,11 @@ loop-less c = search needs
 
 -- src/states.rt:45:5
 loop-again : tie.Need-loop-again Inv-loop μ-loop
-unfolding tab
-loop-again c =
-    let l = c .before .before .before .loop in
-    let h : l .i < length (l .x) = omega (arith, l .inv .2) in (
-      omega arith,
-      rw (add-one, take-suc-set (l .x) (l .i) _ h, l .inv .1, c .wide .ensures) refl,
-      simp length-set (l .inv .2),
-    )
+loop-again c = filling-more (c .before .before .before .loop .inv) (omega arith) (c .wide .ensures)
 
 -- src/states.rt:40:1
 returns : tie.Need-returns Inv-loop μ-loop
-returns c = let e : c .before .loop .i ≡ 16 = omega arith in sym (take-all 16 _ (omega arith)) ∙ rw e at (c .before .loop .inv .1)
+returns c = filling-all (c .before .loop .inv) (omega arith)
 
 pub weights-in-spec : {M : Type 1} → statement M
 weights-in-spec =
