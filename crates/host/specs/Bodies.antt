@@ -52,7 +52,7 @@ bodyIn w a = record { previous = word w a; count = word w (a + 1); slots = slots
 unfoldable pub usedOf : Body → ℕ → Transaction
 usedOf b k = cond (ltb k (b .count)) (slotOf b k) noTransaction
 
--- none is three zeros
+-- the three words of a transaction; those of none are zeros
 abbrev pub tripleWords : Transaction → List ℕ
 tripleWords x = kindOf x ∷ numberOf x ∷ amountOf x ∷ []
 

@@ -16,3 +16,4 @@ pub mod TidyStates
 pub mod BackLaws
 pub mod NextLaws
 pub mod BeyondLaws
+pub mod FormedLaws

@@ -7,7 +7,7 @@ use native.Mathlib.Omega.{arith}
 use lib.ListN.{length}
 use lib.Dec.{eqb, leb, ltb}
 use lib.Seq.{paste}
-use borrow.Author.Tests.{eqb-true, eqb-false, leb-true, not-true}
+use borrow.Author.Tests.{eqb-false, leb-true, not-true}
 use Rattle.base.specs.Bools.{both}
 use Rattle.base.specs.Folds.{tab}
 use Rattle.base.specs.FoldLaws.{getD-tab, tab-same}
@@ -18,21 +18,20 @@ use Rattle.terms.specs.Proposals.{slotOf}
 use Rattle.sheet.specs.declared.Sheet.{Sheet}
 use Rattle.sheet.specs.Sheets.{weightAt, filled}
 use Rattle.state.specs.declared.State.{State}
-use Rattle.member.specs.declared.Outcome.{Outcome}
 use Rattle.member.specs.Answers.{numberIn}
 use Rattle.member.specs.Open.{noBody, closedState, freshState, openOutcome}
 use Rattle.member.specs.Calls.{proposeOutcome, advanceOutcome}
 use Rattle.member.specs.Steps as steps
 use Rattle.member.specs.CallLaws.{answer-number, accepted-new}
-use Rattle.commit.specs.declared.Outcome as committed
-use Rattle.commit.specs.Commit.{commitNumber, commitOutcome, blocksThen, withBlocks}
-use Rattle.commit.specs.AnswerLaws.{answers-accepted, answers-refused}
+use Rattle.commit.specs.Commit.{commitOutcome, blocksThen, withBlocks}
+use Rattle.commit.specs.AnswerLaws.{answers-accepted}
 use Rattle.host.specs.Words.{word, sixteen}
 use Rattle.host.specs.Bodies.{loneBodyReads, slotIn, bodyIn, usedOf}
 use Rattle.host.specs.Proposals.{proposalReads, certificateReads}
 use Rattle.host.specs.Sheets.{sheetReads, sheetIn}
 use Rattle.host.specs.States.{stateReads, settingsIn, keptIn, stateIn, stateWords}
 use Rattle.host.specs.ReadingLaws.{StateRead, state-read, lone-body-read}
+use Rattle.host.specs.AnswerLaws.{commit-number}
 use Rattle.host.specs.TidyStates.{tidyBody, tidy}
 use Rattle.host.specs.BackLaws.{put-back, put-read}
 use Rattle.host.specs.Calls.{Call, opens, propose, endorse, certify, accept, advance, commit, committee, share, certificate, block, over, addedAnswer, readable, unread, served, turn}
@@ -88,13 +87,13 @@ unfolding stateIn
 blocks-tidy w k = tidy-by (withBlocks (stateIn w) k) (weights-tidy w) (kept-tidy w)
 
 -- the previous set of a proposal that is read
-sets : (w : List ℕ) → StateRead w → stateIn w .proposing ≡ true → stateIn w .body .previous < 65536
+pub sets : (w : List ℕ) → StateRead w → stateIn w .proposing ≡ true → stateIn w .body .previous < 65536
 unfolding stateIn keptIn bodyIn
 sets w r e =
     let n = not-true (eqb (word w 21) 0) e in
     rw n (r .previous (eqb-false (word w 21) 0 n))
 
-lone-set : (b : List ℕ) → loneBodyReads b ≡ true → bodyIn b 0 .previous < 65536
+pub lone-set : (b : List ℕ) → loneBodyReads b ≡ true → bodyIn b 0 .previous < 65536
 unfolding bodyIn
 lone-set b e = lone-body-read b e .1
 
@@ -132,14 +131,9 @@ module _ (w t : List ℕ) where
 
   commit-gives : numberIn (addedAnswer (commitOutcome (stateIn w) t .answer)) ≡ 0 → StateRead w
       → Gives (over (addedAnswer (commitOutcome (stateIn w) t .answer)) w (stateWords (commitOutcome (stateIn w) t .state)) 37) (commitOutcome (stateIn w) t .state)
-  commit-gives e r = go (eqb (commitNumber (stateIn w) t) 0) refl
-    where
-      go : (b : Bool) → eqb (commitNumber (stateIn w) t) 0 ≡ b
-          → Gives (over (addedAnswer (commitOutcome (stateIn w) t .answer)) w (stateWords (commitOutcome (stateIn w) t .state)) 37) (commitOutcome (stateIn w) t .state)
-      go true q = rw (← answers-accepted (stateIn w) t (eqb-true (commitNumber (stateIn w) t) 0 q) .0) (let k = blocksThen (stateIn w) t in put-gives w (withBlocks (stateIn w) k) (r .long) (sets w r) (blocks-tidy w k))
-      go false q =
-          let n = eqb-false (commitNumber (stateIn w) t) 0 q in
-          absurd (n (ap (λ (x : committed.Outcome). numberIn (addedAnswer (x .answer))) (answers-refused (stateIn w) t (commitNumber (stateIn w) t) refl n .0) ∙ e))
+  commit-gives e r =
+      let k = blocksThen (stateIn w) t in
+      rw (← answers-accepted (stateIn w) t (sym (commit-number (stateIn w) t) ∙ e) .0) (put-gives w (withBlocks (stateIn w) k) (r .long) (sets w r) (blocks-tidy w k))
 
   module _ (o : List ℕ) where
     served-gives : (c : Call) → readable w t o c ≡ true → served w t o c .refusal ≡ 0 → Gives (served w t o c .state) (nextState c)

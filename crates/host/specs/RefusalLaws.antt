@@ -1,11 +1,9 @@
 -- A refused call, whichever it is, gives no value and changes no word of state, table or out.
-use mathlib.Core.Path.{_≡_, refl, sym, ap, _∙_}
+use mathlib.Core.Path.{_≡_, refl, _∙_}
 use mathlib.Core.Bool.{Bool, true, false, cond}
 use mathlib.Core.List.{List}
 use mathlib.Core.Logic.{_≢_}
 use Prim.Native.Nat.{ℕ}
-use lib.Dec.{eqb}
-use borrow.Author.Tests.{eqb-true, eqb-false}
 use Rattle.state.specs.declared.State.{State}
 use Rattle.member.specs.declared.Answer.{Answer}
 use Rattle.member.specs.declared.Answer.the-variants.{Accepted, Refused}
@@ -13,9 +11,8 @@ use Rattle.member.specs.Answers.{numberIn}
 use Rattle.member.specs.Open.{closedState}
 use Rattle.member.specs.Steps as steps
 use Rattle.member.specs.CallLaws.{answer-number, refused-still}
-use Rattle.commit.specs.declared.Outcome.{Outcome}
 use Rattle.commit.specs.Commit.{commitNumber, commitOutcome, commitTableAfter}
-use Rattle.commit.specs.AnswerLaws.{answers-accepted, answers-refused}
+use Rattle.commit.specs.AnswerLaws.{answers-refused}
 use Rattle.reads.specs.declared.ShareRead as Shared
 use Rattle.reads.specs.declared.BlockRead as Blocked
 use Rattle.reads.specs.Reads.{committeeAnswer, shareAnswer, certificateAnswer, blockAnswer}
@@ -24,6 +21,7 @@ use Rattle.host.specs.Bodies.{bodyIn}
 use Rattle.host.specs.Proposals.{proposalIn, certificateIn, heldWords}
 use Rattle.host.specs.Sheets.{sheetIn}
 use Rattle.host.specs.States.{stateIn}
+use Rattle.host.specs.AnswerLaws.{commit-number}
 use Rattle.host.specs.Calls.{Call, opens, propose, endorse, certify, accept, advance, commit, committee, share, certificate, block, over, readable, refused, stepped, kept, given, committedBy, shareBy, blockBy, served, turn}
 
 module _ (w t o : List ℕ) where
@@ -62,12 +60,9 @@ module _ (w t o : List ℕ) where
   -- of commit
   commit-still : (s : State) → committedBy w t o (commitOutcome s t) (commitTableAfter s t) .refusal ≢ 0
       → committedBy w t o (commitOutcome s t) (commitTableAfter s t) ≡ refused w t o (committedBy w t o (commitOutcome s t) (commitTableAfter s t) .refusal)
-  commit-still s = go (eqb (commitNumber s t) 0) refl
-    where
-      go : (b : Bool) → eqb (commitNumber s t) 0 ≡ b → committedBy w t o (commitOutcome s t) (commitTableAfter s t) .refusal ≢ 0
-          → committedBy w t o (commitOutcome s t) (commitTableAfter s t) ≡ refused w t o (committedBy w t o (commitOutcome s t) (commitTableAfter s t) .refusal)
-      go true q h = let a = answers-accepted s t (eqb-true (commitNumber s t) 0 q) in absurd (h (ap (λ (x : Outcome). committedBy w t o x t .refusal) (sym (a .0))))
-      go false q h = let a = answers-refused s t (commitNumber s t) refl (eqb-false (commitNumber s t) 0 q) in rw (← a .0, ← a .1) refl
+  commit-still s h =
+      let a = answers-refused s t (commitNumber s t) refl (λ e. h (commit-number s t ∙ e)) in
+      rw (← a .0, ← a .1) refl
 
   served-still : (c : Call) → served w t o c .refusal ≢ 0 → served w t o c ≡ refused w t o (served w t o c .refusal)
   served-still (opens own sheet) h = stepped-still closedState (steps.opens (record { 0 = own }) (sheetIn sheet)) h
