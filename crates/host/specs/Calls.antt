@@ -1,0 +1,178 @@
+-- The calls and reads of a host: the complete answer, and what the stretches that it lends hold afterwards, refusals included.
+use mathlib.Core.Path.{_≡_}
+use mathlib.Core.Bool.{Bool, cond, _&&_}
+use mathlib.Core.List.{List}
+use Prim.Native.Nat.{ℕ, _+_, _*_}
+use lib.ListN.{length}
+use lib.Dec.{leb, ltb}
+use lib.Seq.{paste}
+use Rattle.state.specs.declared.State.{State}
+use Rattle.member.specs.declared.Answer.{Answer}
+use Rattle.member.specs.declared.Answer.the-variants.{Accepted, Refused}
+use Rattle.member.specs.declared.Outcome.{Outcome}
+use Rattle.member.specs.Answers.{numberIn}
+use Rattle.member.specs.Open.{closedState, openOutcome, openTable}
+use Rattle.member.specs.Calls.{proposeOutcome, endorseOutcome, endorseTable, certifyOutcome, certifyTable, acceptOutcome, acceptTable, advanceOutcome}
+use Rattle.commit.specs.declared.Committed as Made
+use Rattle.commit.specs.declared.Outcome as committed
+use Rattle.commit.specs.Commit.{commitOutcome, commitTableAfter}
+use Rattle.reads.specs.declared.CommitteeRead.{CommitteeRead}
+use Rattle.reads.specs.declared.ShareRead as Shared
+use Rattle.reads.specs.declared.CertificateRead.{CertificateRead}
+use Rattle.reads.specs.declared.BlockRead as Blocked
+use Rattle.reads.specs.Reads.{committeeAnswer, shareAnswer, certificateAnswer, blockAnswer}
+use Rattle.host.specs.Words.{sixteen}
+use Rattle.host.specs.Bodies.{loneBodyReads, bodyIn}
+use Rattle.host.specs.Proposals.{proposalReads, proposalIn, certificateReads, certificateIn, heldWords}
+use Rattle.host.specs.Sheets.{sheetReads, sheetIn}
+use Rattle.host.specs.States.{stateReads, stateIn, stateWords}
+
+-- what a call comes to: the number that refuses it, 0 for none, a value, and the words of the state, the table and the out stretch afterwards
+pub record Turn : Type 0 where
+  pub refusal : ℕ
+  pub value : ℕ
+  pub state : List ℕ
+  pub table : List ℕ
+  pub out : List ℕ
+
+-- the two forms of an answer: the refusal's number, or the value in the low 32 bits and the refusal's number in the high ones
+abbrev pub plain : Turn → ℕ
+plain x = x .refusal
+
+abbrev pub packed : Turn → ℕ
+packed x = x .value + x .refusal * 4294967296
+
+-- the answer r, and the stretches as they are afterwards, are those of a turn
+pub record Done (answer : Turn → ℕ) (x : Turn) (r : ℕ) (state table out : List ℕ) : Type 0 where
+  pub its-answer : r ≡ answer x
+  pub its-state : state ≡ x .state
+  pub its-table : table ≡ x .table
+  pub its-out : out ≡ x .out
+
+-- every call, with the numbers and the words that it is handed
+pub data Call : Type 0 where
+  -- own number, sheet
+  opens : ℕ → List ℕ → Call
+  -- body
+  propose : List ℕ → Call
+  -- proposal
+  endorse : List ℕ → Call
+  -- endorsers
+  certify : ℕ → Call
+  -- certificate
+  accept : List ℕ → Call
+  advance : Call
+  commit : Call
+  -- round
+  committee : ℕ → Call
+  -- member, round
+  share : ℕ → ℕ → Call
+  -- author, round
+  certificate : ℕ → ℕ → Call
+  -- number
+  block : ℕ → Call
+
+-- ---- the engine's answers with a value
+
+abbrev pub addedAnswer : Made.Committed → Answer
+addedAnswer (Made.the-variants.Added n) = Accepted
+addedAnswer (Made.the-variants.Refused n) = Refused n
+
+abbrev pub addedValue : Made.Committed → ℕ
+addedValue (Made.the-variants.Added n) = n
+addedValue (Made.the-variants.Refused n) = 0
+
+abbrev pub sharedAnswer : Shared.ShareRead → Answer
+sharedAnswer (Shared.the-variants.Thousandths n) = Accepted
+sharedAnswer (Shared.the-variants.Refused n) = Refused n
+
+abbrev pub sharedValue : Shared.ShareRead → ℕ
+sharedValue (Shared.the-variants.Thousandths n) = n
+sharedValue (Shared.the-variants.Refused n) = 0
+
+abbrev pub blockedAnswer : Blocked.BlockRead → Answer
+blockedAnswer (Blocked.the-variants.At r) = Accepted
+blockedAnswer (Blocked.the-variants.Refused n) = Refused n
+
+abbrev pub blockedValue : Blocked.BlockRead → ℕ
+blockedValue (Blocked.the-variants.At r) = r .0
+blockedValue (Blocked.the-variants.Refused n) = 0
+
+-- n words put over a stretch where a call is accepted
+abbrev pub over : Answer → List ℕ → List ℕ → ℕ → List ℕ
+over Accepted old new n = paste old 0 new n
+over (Refused m) old new n = old
+
+-- the state's words, the table and the out stretch that are lent; where there is no out stretch it is empty
+module _ (w t o : List ℕ) where
+  -- ---- can the call be read?
+
+  abbrev pub readable : Call → Bool
+  readable (opens own sheet) = leb 37 (length w) && sheetReads sheet
+  readable (propose b) = stateReads w && loneBodyReads b
+  readable (endorse p) = stateReads w && proposalReads p
+  readable (certify e) = stateReads w && ltb e 65536
+  readable (accept c) = stateReads w && certificateReads c
+  readable advance = stateReads w
+  readable commit = stateReads w
+  readable (committee r) = stateReads w && leb 16 (length o)
+  readable (share m r) = stateReads w
+  readable (certificate a r) = stateReads w && leb 17 (length o)
+  readable (block k) = stateReads w
+
+  -- refused with the number n: no value, and nothing changes
+  abbrev pub refused : ℕ → Turn
+  refused n = record { refusal = n; value = 0; state = w; table = t; out = o }
+
+  -- where it cannot be read: 1
+  abbrev pub unread : Turn
+  unread = refused 1
+
+  -- ---- where it can: the engine's answer
+
+  -- of a call that changes the state: all its words are written where the call is accepted
+  abbrev pub stepped : Answer → ℕ → State → List ℕ → Turn
+  stepped a v s u = record { refusal = numberIn a; value = v; state = over a w (stateWords s) 37; table = u; out = o }
+
+  -- of a call that changes the table alone
+  abbrev pub kept : Answer → List ℕ → Turn
+  kept a u = record { refusal = numberIn a; value = 0; state = w; table = u; out = o }
+
+  -- of a read
+  abbrev pub given : Answer → ℕ → List ℕ → Turn
+  given a v z = record { refusal = numberIn a; value = v; state = w; table = t; out = z }
+
+  abbrev pub steppedBy : Outcome → List ℕ → Turn
+  steppedBy x u = stepped (x .answer) 0 (x .state) u
+
+  abbrev pub committedBy : committed.Outcome → List ℕ → Turn
+  committedBy x u = stepped (addedAnswer (x .answer)) (addedValue (x .answer)) (x .state) u
+
+  abbrev pub committeeBy : CommitteeRead → Turn
+  committeeBy x = given (x .answer) 0 (over (x .answer) o (sixteen (x .weights)) 16)
+
+  abbrev pub certificateBy : CertificateRead → Turn
+  certificateBy x = given (x .answer) 0 (over (x .answer) o (heldWords (x .proposal) (x .block)) 17)
+
+  abbrev pub shareBy : Shared.ShareRead → Turn
+  shareBy x = given (sharedAnswer x) (sharedValue x) o
+
+  abbrev pub blockBy : Blocked.BlockRead → Turn
+  blockBy x = given (blockedAnswer x) (blockedValue x) o
+
+  abbrev pub served : Call → Turn
+  served (opens own sheet) = steppedBy (openOutcome closedState t (record { 0 = own }) (sheetIn sheet)) (openTable t (record { 0 = own }) (sheetIn sheet))
+  served (propose b) = steppedBy (proposeOutcome (stateIn w) t (bodyIn b 0)) t
+  served (endorse p) = kept (endorseOutcome (stateIn w) t (proposalIn p) .answer) (endorseTable (stateIn w) t (proposalIn p))
+  served (certify e) = kept (certifyOutcome (stateIn w) t e .answer) (certifyTable (stateIn w) t e)
+  served (accept c) = kept (acceptOutcome (stateIn w) t (certificateIn c) .answer) (acceptTable (stateIn w) t (certificateIn c))
+  served advance = steppedBy (advanceOutcome (stateIn w) t) t
+  served commit = committedBy (commitOutcome (stateIn w) t) (commitTableAfter (stateIn w) t)
+  served (committee r) = committeeBy (committeeAnswer (stateIn w) t r)
+  served (share m r) = shareBy (shareAnswer (stateIn w) t m r)
+  served (certificate a r) = certificateBy (certificateAnswer (stateIn w) t a r)
+  served (block k) = blockBy (blockAnswer (stateIn w) t k)
+
+  -- every call and read
+  unfoldable pub turn : Call → Turn
+  turn c = cond (readable c) (served c) unread

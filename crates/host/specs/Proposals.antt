@@ -1,0 +1,26 @@
+-- A proposal as sixteen words: author, round, body. A certificate as seventeen: proposal, endorsers.
+use mathlib.Core.Bool.{Bool, _&&_}
+use mathlib.Core.List.{List, [], _∷_, _++_}
+use Prim.Native.Nat.{ℕ}
+use lib.ListN.{length}
+use lib.Dec.{leb, ltb}
+use Rattle.terms.specs.declared.Proposal.{Proposal}
+use Rattle.terms.specs.declared.Certificate.{Certificate}
+use Rattle.host.specs.Words.{word}
+use Rattle.host.specs.Bodies.{bodyReads, bodyIn, bodyWords}
+
+unfoldable pub proposalReads : List ℕ → Bool
+proposalReads w = leb 16 (length w) && bodyReads w 2
+
+unfoldable pub proposalIn : List ℕ → Proposal
+proposalIn w = record { author = record { 0 = word w 0 }; round = record { 0 = word w 1 }; body = bodyIn w 2 }
+
+unfoldable pub certificateReads : List ℕ → Bool
+certificateReads w = leb 17 (length w) && (ltb (word w 16) 65536 && proposalReads w)
+
+unfoldable pub certificateIn : List ℕ → Certificate
+certificateIn w = record { proposal = proposalIn w; endorsers = word w 16 }
+
+-- a held certificate as it is read: its proposal, and the number of its block
+unfoldable pub heldWords : Proposal → ℕ → List ℕ
+heldWords p block = (p .author .0 ∷ p .round .0 ∷ []) ++ bodyWords (p .body) ++ (block ∷ [])

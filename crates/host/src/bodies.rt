@@ -1,0 +1,148 @@
+// A body as fourteen words: read, and put.
+use terms::Body;
+use terms::Member;
+use terms::Slot;
+use terms::Transaction;
+ghost use mathlib.Core.Path.{_≡_};
+ghost use Prim.Native.Nat.{_+_, _<_, _≤_};
+ghost use lib.ListN.{length, getD};
+ghost use lib.Seq.{paste};
+ghost use Rattle.base.specs.Folds.{allTo};
+ghost use Rattle.host.specs.Bodies.{isTriple, tripleReads, looked, bodyReads, loneBodyReads, slotIn, slotsIn, bodyIn, usedOf, tripleWords, bodyWords};
+
+// Are three words with this kind and amount a transaction?
+fn is_triple(kind: u32, amount: u32) -> bool
+    ensures { λ v. ⌜ v ≡ isTriple kind amount ⌝ }
+{
+    if kind == 0 {
+        return true;
+    }
+    if 2 < kind {
+        return false;
+    }
+    amount == 0
+}
+
+// Can the first n transactions of the body from `at` on be read?
+fn triples_read(w: &[u32], at: usize, n: u32) -> bool
+    requires { ⌜ (at + 14 ≤ length (now w)) × (n ≤ 4) ⌝ }
+    ensures { λ v. ⌜ v ≡ allTo (tripleReads (now (w .entry)) at) n ⌝ }
+{
+    for k in 0..n {
+        let i = at + 2 + k as usize * 3;
+        if !is_triple(w[i], w[i + 2]) {
+            return false;
+        }
+    }
+    true
+}
+
+// How many transactions of a count are looked at.
+fn looked_at(n: u32) -> u32
+    ensures { λ v. ⌜ (v ≡ looked n) × (v ≤ 4) ⌝ }
+{
+    if 4 < n {
+        return 4;
+    }
+    n
+}
+
+// Can the body from `at` on be read?
+pub fn body_reads(w: &[u32], at: usize) -> bool
+    requires { ⌜ at + 14 ≤ length (now w) ⌝ }
+    ensures { λ v. ⌜ v ≡ bodyReads (now (w .entry)) at ⌝ }
+{
+    if 65536 <= w[at] {
+        return false;
+    }
+    let n = looked_at(w[at + 1]);
+    triples_read(w, at, n)
+}
+
+// Can the words be read as a body?
+pub fn lone_body_reads(w: &[u32]) -> bool
+    ensures { λ v. ⌜ v ≡ loneBodyReads (now (w .entry)) ⌝ }
+{
+    if w.len() < 14 {
+        return false;
+    }
+    body_reads(w, 0)
+}
+
+// Slot k of the body from `at` on.
+fn slot_in(w: &[u32], at: usize, k: u32) -> Slot
+    requires { ⌜ (at + 14 ≤ length (now w)) × (k < 4) ⌝ }
+    ensures { λ v. ⌜ v ≡ slotIn (now (w .entry)) at k ⌝ }
+{
+    let i = at + 2 + k as usize * 3;
+    if k < w[at + 1] {
+        return Slot {
+            transaction: terms::told(w[i], w[i + 1], w[i + 2]),
+        };
+    }
+    Slot {
+        transaction: Transaction::Bond(Member(0), 0),
+    }
+}
+
+// The four slots of the body from `at` on.
+fn slots_in(w: &[u32], at: usize) -> [Slot; 4]
+    requires { ⌜ at + 14 ≤ length (now w) ⌝ }
+    ensures { λ v. ⌜ v ≡ slotsIn (now (w .entry)) at ⌝ }
+{
+    let none = Slot {
+        transaction: Transaction::Bond(Member(0), 0),
+    };
+    let mut slots = [none; 4];
+    for k in 0..4u32 {
+        let s = slot_in(w, at, k);
+        slots[k as usize] = s;
+    }
+    slots
+}
+
+// The body from `at` on.
+pub fn body_in(w: &[u32], at: usize) -> Body
+    requires { ⌜ (at + 14 ≤ length (now w)) × (getD (now w) at 0 < 65536) ⌝ }
+    ensures { λ v. ⌜ v ≡ bodyIn (now (w .entry)) at ⌝ }
+{
+    let slots = slots_in(w, at);
+    Body {
+        previous: w[at] as u16,
+        count: w[at + 1],
+        slots,
+    }
+}
+
+// Transaction k of a body, none beyond its count.
+fn used_at(b: Body, k: u32) -> Transaction
+    requires { ⌜ k < 4 ⌝ }
+    ensures { λ v. ⌜ v ≡ usedOf b k ⌝ }
+{
+    if k < b.count {
+        return terms::slot_at(b, k);
+    }
+    Transaction::Bond(Member(0), 0)
+}
+
+// Puts a transaction from `at` on.
+fn put_triple(w: &mut [u32], at: usize, x: Transaction)
+    requires { ⌜ at + 3 ≤ length (now w) ⌝ }
+    ensures { λ _. ⌜ now (w .exit) ≡ paste (now (w .entry)) at (tripleWords x) 3 ⌝ }
+{
+    let words = [terms::kind(x), terms::number(x), terms::amount(x)];
+    crate::words::put(w, at, &words);
+}
+
+// Puts a body from `at` on.
+pub fn put_body(w: &mut [u32], at: usize, b: Body)
+    requires { ⌜ at + 14 ≤ length (now w) ⌝ }
+    ensures { λ _. ⌜ now (w .exit) ≡ paste (now (w .entry)) at (bodyWords b) 14 ⌝ }
+{
+    let head = [b.previous as u32, b.count];
+    crate::words::put(w, at, &head);
+    for k in 0..4u32 {
+        let x = used_at(b, k);
+        put_triple(w, at + 2 + k as usize * 3, x);
+    }
+}
