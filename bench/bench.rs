@@ -198,7 +198,7 @@ fn sheet(ceiling: u32, lookback: u32) -> [u32; 38] {
 /// Reads what every call must read, and adds it up.
 #[inline(never)]
 fn floor(state: &[u32], table: &[u32]) -> u32 {
-    let mut sums = [0u32; 16];
+    let mut sums = [0u64; 8];
     let mut heads = state[..37].iter().fold(0u32, |sum, w| sum.wrapping_add(*w));
     for row in table.as_chunks::<ROW>().0[..state[2] as usize + 1].iter().skip(1) {
         heads = heads.wrapping_add(row[0]).wrapping_add(row[1]).wrapping_add(row[2]);
@@ -207,10 +207,12 @@ fn floor(state: &[u32], table: &[u32]) -> u32 {
         while held != 0 {
             let record = &records[held.trailing_zeros() as usize & 15];
             held &= held - 1;
-            (0..16).for_each(|k| sums[k] = sums[k].wrapping_add(record[k]));
+            // SAFETY: a record is sixteen words, which are eight pairs.
+            let pairs = unsafe { record.as_ptr().cast::<[u64; 8]>().read_unaligned() };
+            (0..8).for_each(|k| sums[k] = sums[k].wrapping_add(pairs[k]));
         }
     }
-    sums.iter().fold(heads, |sum, w| sum.wrapping_add(*w))
+    sums.iter().fold(heads, |sum, w| sum.wrapping_add(*w as u32))
 }
 
 #[inline(never)]
