@@ -5,7 +5,8 @@
 //! call: the answer, every word of state, table and out stretch, also beyond
 //! what the call may touch. A refused call must have changed nothing.
 //!
-//! Stretches of calls start from states grown by runs, and from such states
+//! First come single words at the edges of their ranges (`edges.rs`), then
+//! calls by chance. Their stretches start from states grown by runs, and from such states
 //! with words changed here and there. Whether a changed state is well formed
 //! is judged by `words.rs`, from the papers.
 //!
@@ -18,6 +19,7 @@ mod engine;
 #[cfg(plain)]
 mod engine;
 mod calls;
+mod edges;
 mod grow;
 #[path = "../../reference/reference.rs"]
 mod reference;
@@ -41,7 +43,10 @@ pub struct Node {
 impl Node {
     /// Words of a member; what is no part of the state is 0 or noise.
     fn of(member: Member, rng: &mut Rng) -> Node {
-        let (extra_state, extra_table) = (rng.below(4), rng.below(40));
+        // At times room for a row or two more.
+        let most = if rng.chance(300) { 600 } else { 40 };
+        let extra_table = rng.below(most);
+        let extra_state = rng.below(4);
         let noise = rng.chance(500);
         let length = table_words(member.settings.ceiling) + extra_table as usize;
         let mut table = vec![0; length];
@@ -64,7 +69,7 @@ impl Node {
     }
 
     /// Reads the member from the words again.
-    fn read_again(&mut self) {
+    pub fn read_again(&mut self) {
         self.twin = read_member(&self.state, &self.table);
     }
 }
@@ -192,7 +197,7 @@ impl Figures {
 
 // ------------------------------------------------------------ comparison ---
 
-struct Test {
+pub struct Test {
     rng: Rng,
     figures: Figures,
     before_state: Vec<u32>,
@@ -207,7 +212,7 @@ fn first_difference(what: &str, expected: &[u32], found: &[u32]) {
 
 impl Test {
     /// One call on a node, by both, compared.
-    fn call(&mut self, node: &mut Node, call: &Call, lengths: (usize, usize)) -> u64 {
+    pub fn call(&mut self, node: &mut Node, call: &Call, lengths: (usize, usize)) -> u64 {
         let (ns, nt) = lengths;
         let mut found_out = call.out().to_vec();
         let mut expected_out = found_out.clone();
@@ -343,6 +348,8 @@ fn main() {
     for ceiling in (0..2_000).chain([65_535, u32::MAX]) {
         assert_eq!(engine::table_words(ceiling), 272 * u64::from(ceiling) + 272);
     }
+    test.edges();
+    println!("edges: {} calls", test.figures.calls);
     while test.figures.calls < calls && test.figures.differences < 10 {
         test.stretch();
     }
