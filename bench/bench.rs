@@ -476,8 +476,8 @@ fn print_growth(ceiling: u32, pace: &Pace) {
     let states: Vec<States> = (0..5).map(|quarter| States::of(ceiling, ceiling * quarter / 4)).collect();
     for (job, call) in JOBS {
         let mut cases: Vec<Case> = states.iter().map(|states| states.case(job)).collect();
+        let held = f64::from(cases[4].member.held_in_all());
         let times: Vec<[f64; 3]> = cases.iter_mut().map(|case| case.measure(pace)).collect();
-        let held = f64::from(cases[4].member.held_in_all().max(1));
         for (which, by) in ["engine", "plain", "floor"].iter().enumerate() {
             let row: Vec<String> = times.iter().map(|time| format!("{:.0}", time[which])).collect();
             let slope = (times[4][which] - times[0][which]) / held;
