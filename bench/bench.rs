@@ -18,6 +18,10 @@
 //! one, and undone between the times from a list of the words that it
 //! changes. Nothing is copied within a time.
 //!
+//! Calls go round several states of the same shape with other transactions
+//! (sixteen of ceiling 64, four of 256, one of 1,024), so that no small state
+//! is learnt by heart by the processor.
+//!
 //! Every answer is compared with what is expected. Times are medians of
 //! batches; engine, plain and floor take turns, batch by batch.
 //!
@@ -92,9 +96,9 @@ const OWN: u32 = 0;
 const FREE: u32 = 15;
 
 impl Member {
-    fn open(ceiling: u32, lookback: u32) -> Member {
+    fn open(ceiling: u32, lookback: u32, seed: u64) -> Member {
         let lines = vec![Line([0; 16]); ROW * (ceiling as usize + 1) / 16];
-        let mut member = Member { state: [0; 37], lines, random: 1 };
+        let mut member = Member { state: [0; 37], lines, random: seed };
         let answer = with(&mut member, |s, t| plain::open(s, t, OWN, &sheet(ceiling, lookback)));
         assert_eq!(answer, 0);
         member
@@ -160,8 +164,8 @@ impl Member {
 
     /// A run to the given number of rounds. `commits` says in which odd
     /// rounds a commit is made.
-    fn run(ceiling: u32, lookback: u32, rounds: u32, commits: impl Fn(u32) -> bool) -> Member {
-        let mut member = Member::open(ceiling, lookback);
+    fn run(ceiling: u32, lookback: u32, rounds: u32, seed: u64, commits: impl Fn(u32) -> bool) -> Member {
+        let mut member = Member::open(ceiling, lookback, seed);
         for r in 1..rounds {
             let present = r == rounds - 1;
             member.fill(r, if present { &[OWN, FREE] } else { &[] });
@@ -343,33 +347,41 @@ impl Case {
         }
     }
 
+    fn floor(&mut self) {
+        if self.job == Job::Open {
+            floor_of_open(self.member.table());
+        } else {
+            let state = self.member.state;
+            black_box(floor(&state, black_box(self.member.table())));
+        }
+    }
+}
+
+/// Cases of the same shape, called in turn.
+struct Cases(Vec<Case>);
+
+impl Cases {
     /// The time of a batch of calls, undone.
-    fn batch(&mut self, f: &Functions, calls: u32) -> Duration {
-        let one_by_one = matches!(self.job, Job::Commit | Job::CommitMany);
-        let mut time = Duration::ZERO;
+    fn batch(&mut self, f: &Functions, calls: usize) -> Duration {
+        let one_by_one = matches!(self.0[0].job, Job::Commit | Job::CommitMany);
+        let (many, mut time) = (self.0.len(), Duration::ZERO);
         let start = Instant::now();
-        for _ in 0..calls {
+        for turn in 0..calls {
+            let case = black_box(&mut self.0[turn % many]);
             let begin = if one_by_one { Some(Instant::now()) } else { None };
-            let answer = black_box(&mut *self).call(f);
+            let answer = case.call(f);
             if let Some(begin) = begin {
                 time += begin.elapsed();
             }
-            assert_eq!(answer, self.expected);
-            self.undo();
+            assert_eq!(answer, case.expected);
+            case.undo();
         }
         if one_by_one { time } else { start.elapsed() }
     }
 
-    fn floor_batch(&mut self, calls: u32) -> Duration {
-        let start = Instant::now();
-        for _ in 0..calls {
-            if self.job == Job::Open {
-                floor_of_open(self.member.table());
-            } else {
-                let state = self.member.state;
-                black_box(floor(&state, black_box(self.member.table())));
-            }
-        }
+    fn floor_batch(&mut self, calls: usize) -> Duration {
+        let (many, start) = (self.0.len(), Instant::now());
+        (0..calls).for_each(|turn| self.0[turn % many].floor());
         start.elapsed()
     }
 
@@ -377,10 +389,11 @@ impl Case {
     fn measure(&mut self, pace: &Pace) -> [f64; 3] {
         let mut times = [(); 3].map(|()| Vec::new());
         let mut sizes = [1; 3];
+        let many = self.0.len();
         for (which, size) in sizes.iter_mut().enumerate() {
-            self.one(which, 2);
-            let once = self.one(which, 3).max(20.0);
-            *size = (pace.batch_nanoseconds / once).max(1.0) as u32;
+            self.one(which, many);
+            let once = self.one(which, many).max(20.0);
+            *size = ((pace.batch_nanoseconds / once) as usize).next_multiple_of(many).max(many);
         }
         for _ in 0..pace.batches {
             for which in 0..3 {
@@ -393,13 +406,17 @@ impl Case {
         })
     }
 
-    fn one(&mut self, which: usize, calls: u32) -> f64 {
+    fn one(&mut self, which: usize, calls: usize) -> f64 {
         let time = match which {
             0 => self.batch(&ENGINE, calls),
             1 => self.batch(&PLAIN, calls),
             _ => self.floor_batch(calls),
         };
-        time.as_nanos() as f64 / f64::from(calls)
+        time.as_nanos() as f64 / calls as f64
+    }
+
+    fn held(&mut self) -> u32 {
+        self.0[0].member.held_in_all()
     }
 }
 
@@ -410,11 +427,11 @@ struct Pace {
 
 // ---------------------------------------------------------------- tables ---
 
-/// The states of a ceiling with the first `rounds` rounds held: one for most
-/// calls, and one with (nearly) no blocks yet, for a commit that makes many.
+/// The states of a ceiling with the first `rounds` rounds held: those for most
+/// calls, and those with (nearly) no blocks yet, for a commit that makes many.
 struct States {
-    usual: Member,
-    unblocked: Member,
+    usual: Vec<Member>,
+    unblocked: Vec<Member>,
 }
 
 impl States {
@@ -422,14 +439,16 @@ impl States {
         let lookback = ceiling.min(1_000);
         // Rounds above the lookback are known only with some blocks.
         let early = |r| r + lookback < ceiling + 2;
+        let seeds = 1..=u64::from(1_024 / ceiling);
         States {
-            usual: Member::run(ceiling, 20, rounds, |_| true),
-            unblocked: Member::run(ceiling, lookback, rounds, early),
+            usual: seeds.clone().map(|seed| Member::run(ceiling, 20, rounds, seed, |_| true)).collect(),
+            unblocked: seeds.map(|seed| Member::run(ceiling, lookback, rounds, seed, early)).collect(),
         }
     }
 
-    fn case(&self, job: Job) -> Case {
-        Case::of(job, if job == Job::CommitMany { self.unblocked.clone() } else { self.usual.clone() })
+    fn cases(&self, job: Job) -> Cases {
+        let members = if job == Job::CommitMany { &self.unblocked } else { &self.usual };
+        Cases(members.iter().map(|member| Case::of(job, member.clone())).collect())
     }
 }
 
@@ -455,12 +474,12 @@ fn print_ceiling(ceiling: u32, pace: &Pace) {
     let states = states.map(|(rounds, name)| (States::of(ceiling, rounds), name));
     for (job, call) in JOBS {
         for (states, name) in &states {
-            let mut case = states.case(job);
-            let held = case.member.held_in_all();
-            let [engine, plain, floor] = case.measure(pace);
+            let mut cases = states.cases(job);
+            let held = cases.held();
+            let [engine, plain, floor] = cases.measure(pace);
             println!(
                 "| {call} | {name} | {held} | {} | {engine:.0} | {plain:.0} | {floor:.0} | {} | {} |",
-                answer_text(&case),
+                answer_text(&cases.0[0]),
                 digits(engine / plain),
                 digits(engine / floor)
             );
@@ -475,9 +494,9 @@ fn print_growth(ceiling: u32, pace: &Pace) {
     println!("|---|---|---:|---:|---:|---:|---:|---:|");
     let states: Vec<States> = (0..5).map(|quarter| States::of(ceiling, ceiling * quarter / 4)).collect();
     for (job, call) in JOBS {
-        let mut cases: Vec<Case> = states.iter().map(|states| states.case(job)).collect();
-        let held = f64::from(cases[4].member.held_in_all());
-        let times: Vec<[f64; 3]> = cases.iter_mut().map(|case| case.measure(pace)).collect();
+        let mut cases: Vec<Cases> = states.iter().map(|states| states.cases(job)).collect();
+        let held = f64::from(cases[4].held());
+        let times: Vec<[f64; 3]> = cases.iter_mut().map(|cases| cases.measure(pace)).collect();
         for (which, by) in ["engine", "plain", "floor"].iter().enumerate() {
             let row: Vec<String> = times.iter().map(|time| format!("{:.0}", time[which])).collect();
             let slope = (times[4][which] - times[0][which]) / held;
