@@ -111,7 +111,8 @@ impl Member {
     }
 
     fn below(&mut self, n: u32) -> u32 {
-        self.random = self.random.wrapping_mul(0x5851_f42d_4c95_7f2d).wrapping_add(0x1405_7b7e_f767_814f);
+        self.random =
+            self.random.wrapping_mul(0x5851_f42d_4c95_7f2d).wrapping_add(0x1405_7b7e_f767_814f);
         (self.random >> 33) as u32 % n
     }
 
@@ -164,7 +165,13 @@ impl Member {
 
     /// A run to the given number of rounds. `commits` says in which odd
     /// rounds a commit is made.
-    fn run(ceiling: u32, lookback: u32, rounds: u32, seed: u64, commits: impl Fn(u32) -> bool) -> Member {
+    fn run(
+        ceiling: u32,
+        lookback: u32,
+        rounds: u32,
+        seed: u64,
+        commits: impl Fn(u32) -> bool,
+    ) -> Member {
         let mut member = Member::open(ceiling, lookback, seed);
         for r in 1..rounds {
             let present = r == rounds - 1;
@@ -302,7 +309,9 @@ impl Case {
         let state = &mut self.member.state;
         let words = self.member.lines.len() * 16;
         // SAFETY: as in `table`; the state is another part of the member.
-        let table = unsafe { std::slice::from_raw_parts_mut(self.member.lines.as_mut_ptr().cast::<u32>(), words) };
+        let table = unsafe {
+            std::slice::from_raw_parts_mut(self.member.lines.as_mut_ptr().cast::<u32>(), words)
+        };
         let refusal = |number: u32| u64::from(number) << 32;
         let argument = &self.argument;
         match self.job {
@@ -376,7 +385,11 @@ impl Cases {
             assert_eq!(answer, case.expected);
             case.undo();
         }
-        if one_by_one { time } else { start.elapsed() }
+        if one_by_one {
+            time
+        } else {
+            start.elapsed()
+        }
     }
 
     fn floor_batch(&mut self, calls: usize) -> Duration {
@@ -441,8 +454,13 @@ impl States {
         let early = |r| r + lookback < ceiling + 2;
         let seeds = 1..=u64::from(1_024 / ceiling);
         States {
-            usual: seeds.clone().map(|seed| Member::run(ceiling, 20, rounds, seed, |_| true)).collect(),
-            unblocked: seeds.map(|seed| Member::run(ceiling, lookback, rounds, seed, early)).collect(),
+            usual: seeds
+                .clone()
+                .map(|seed| Member::run(ceiling, 20, rounds, seed, |_| true))
+                .collect(),
+            unblocked: seeds
+                .map(|seed| Member::run(ceiling, lookback, rounds, seed, early))
+                .collect(),
         }
     }
 
@@ -463,7 +481,13 @@ fn answer_text(case: &Case) -> String {
 
 /// About three digits.
 fn digits(value: f64) -> String {
-    if value < 10.0 { format!("{value:.2}") } else if value < 100.0 { format!("{value:.1}") } else { format!("{value:.0}") }
+    if value < 10.0 {
+        format!("{value:.2}")
+    } else if value < 100.0 {
+        format!("{value:.1}")
+    } else {
+        format!("{value:.0}")
+    }
 }
 
 fn print_ceiling(ceiling: u32, pace: &Pace) {
@@ -492,7 +516,8 @@ fn print_growth(ceiling: u32, pace: &Pace) {
     println!("Nanoseconds per call; the last column is what one more certificate costs.\n");
     println!("| call | by | 0 % | 25 % | 50 % | 75 % | 100 % | per certificate |");
     println!("|---|---|---:|---:|---:|---:|---:|---:|");
-    let states: Vec<States> = (0..5).map(|quarter| States::of(ceiling, ceiling * quarter / 4)).collect();
+    let states: Vec<States> =
+        (0..5).map(|quarter| States::of(ceiling, ceiling * quarter / 4)).collect();
     for (job, call) in JOBS {
         let mut cases: Vec<Cases> = states.iter().map(|states| states.cases(job)).collect();
         let held = f64::from(cases[4].held());

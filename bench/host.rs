@@ -4,16 +4,69 @@
 #![allow(dead_code)]
 
 extern "C" {
-    fn forgelilac_open(s: *mut u32, sn: usize, t: *mut u32, tn: usize, own: u32, sheet: *const u32, n: usize) -> u32;
-    fn forgelilac_propose(s: *mut u32, sn: usize, t: *const u32, tn: usize, body: *const u32, n: usize) -> u32;
-    fn forgelilac_endorse(s: *const u32, sn: usize, t: *mut u32, tn: usize, proposal: *const u32, n: usize) -> u32;
+    fn forgelilac_open(
+        s: *mut u32,
+        sn: usize,
+        t: *mut u32,
+        tn: usize,
+        own: u32,
+        sheet: *const u32,
+        n: usize,
+    ) -> u32;
+    fn forgelilac_propose(
+        s: *mut u32,
+        sn: usize,
+        t: *const u32,
+        tn: usize,
+        body: *const u32,
+        n: usize,
+    ) -> u32;
+    fn forgelilac_endorse(
+        s: *const u32,
+        sn: usize,
+        t: *mut u32,
+        tn: usize,
+        proposal: *const u32,
+        n: usize,
+    ) -> u32;
     fn forgelilac_certify(s: *const u32, sn: usize, t: *mut u32, tn: usize, endorsers: u32) -> u32;
-    fn forgelilac_accept(s: *const u32, sn: usize, t: *mut u32, tn: usize, certificate: *const u32, n: usize) -> u32;
+    fn forgelilac_accept(
+        s: *const u32,
+        sn: usize,
+        t: *mut u32,
+        tn: usize,
+        certificate: *const u32,
+        n: usize,
+    ) -> u32;
     fn forgelilac_advance(s: *mut u32, sn: usize, t: *const u32, tn: usize) -> u32;
     fn forgelilac_commit(s: *mut u32, sn: usize, t: *mut u32, tn: usize) -> u64;
-    fn forgelilac_committee(s: *const u32, sn: usize, t: *const u32, tn: usize, round: u32, out: *mut u32, n: usize) -> u32;
-    fn forgelilac_share(s: *const u32, sn: usize, t: *const u32, tn: usize, member: u32, round: u32) -> u64;
-    fn forgelilac_certificate(s: *const u32, sn: usize, t: *const u32, tn: usize, author: u32, round: u32, out: *mut u32, n: usize) -> u32;
+    fn forgelilac_committee(
+        s: *const u32,
+        sn: usize,
+        t: *const u32,
+        tn: usize,
+        round: u32,
+        out: *mut u32,
+        n: usize,
+    ) -> u32;
+    fn forgelilac_share(
+        s: *const u32,
+        sn: usize,
+        t: *const u32,
+        tn: usize,
+        member: u32,
+        round: u32,
+    ) -> u64;
+    fn forgelilac_certificate(
+        s: *const u32,
+        sn: usize,
+        t: *const u32,
+        tn: usize,
+        author: u32,
+        round: u32,
+        out: *mut u32,
+        n: usize,
+    ) -> u32;
     fn forgelilac_block(s: *const u32, sn: usize, t: *const u32, tn: usize, number: u32) -> u64;
     fn forgelilac_table_words(ceiling: u32) -> u64;
 }

@@ -68,8 +68,17 @@ pub enum Call {
 
 impl Call {
     pub const NAMES: [&'static str; 11] = [
-        "open", "propose", "endorse", "certify", "accept", "advance", "commit", "committee", "share",
-        "certificate", "block",
+        "open",
+        "propose",
+        "endorse",
+        "certify",
+        "accept",
+        "advance",
+        "commit",
+        "committee",
+        "share",
+        "certificate",
+        "block",
     ];
 
     pub fn kind(&self) -> usize {
@@ -173,7 +182,11 @@ fn members_in(committee: &Committee) -> Set {
 fn likely_endorsers(rng: &mut Rng, member: &Member, author: u32, round: u32) -> Set {
     let committee = member.committee_of(round).map_or(0xffff, members_in);
     let all = committee & !single(author & 15);
-    if rng.chance(150) { rng.thin(all, 700) } else { all }
+    if rng.chance(150) {
+        rng.thin(all, 700)
+    } else {
+        all
+    }
 }
 
 fn likely_round(rng: &mut Rng, member: &Member) -> u32 {
@@ -194,9 +207,15 @@ pub fn likely_proposal(rng: &mut Rng, member: &Member) -> Proposal {
     let in_range = 1 <= round && round <= member.settings.ceiling;
     let free = if in_range { committee & !member.held_authors(round) } else { committee };
     let others: Vec<u32> = members_of(free & !single(member.own)).collect();
-    let author = if others.is_empty() || rng.chance(30) { rng.between(0, 15) } else { rng.pick(&others) };
+    let author =
+        if others.is_empty() || rng.chance(30) { rng.between(0, 15) } else { rng.pick(&others) };
     let previous = if in_range { likely_previous(rng, member, round) } else { 1 };
-    Proposal { author, round, previous, transactions: some_transactions(rng, member.settings.allowance) }
+    Proposal {
+        author,
+        round,
+        previous,
+        transactions: some_transactions(rng, member.settings.allowance),
+    }
 }
 
 pub fn likely_certificate(rng: &mut Rng, member: &Member) -> Certificate {
@@ -240,17 +259,21 @@ pub fn likely_call(rng: &mut Rng, member: &Member, pool: &mut Pool) -> Call {
         }
         12..=20 => {
             let words = match pool.proposals.len() {
-                n if n > 0 && rng.chance(400) => pool.proposals[rng.below(n as u64) as usize].clone(),
+                n if n > 0 && rng.chance(400) => {
+                    pool.proposals[rng.below(n as u64) as usize].clone()
+                }
                 _ => proposal_words(&likely_proposal(rng, member)),
             };
             Call::Endorse { proposal: longer(rng, words) }
         }
-        0..=11 | 21..=29 if member.proposal.is_some() || rng.chance(200) => Call::Certify {
-            endorsers: u32::from(likely_endorsers(rng, member, own, r)),
-        },
+        0..=11 | 21..=29 if member.proposal.is_some() || rng.chance(200) => {
+            Call::Certify { endorsers: u32::from(likely_endorsers(rng, member, own, r)) }
+        }
         0..=11 | 21..=64 => {
             let words = match pool.certificates.len() {
-                n if n > 0 && rng.chance(250) => pool.certificates[rng.below(n as u64) as usize].clone(),
+                n if n > 0 && rng.chance(250) => {
+                    pool.certificates[rng.below(n as u64) as usize].clone()
+                }
                 _ => certificate_words(&likely_certificate(rng, member)),
             };
             Call::Accept { certificate: longer(rng, words) }
@@ -258,7 +281,9 @@ pub fn likely_call(rng: &mut Rng, member: &Member, pool: &mut Pool) -> Call {
         77..=84 if could_commit || rng.chance(200) => Call::Commit,
         // On, once most certificates of the round are there.
         65..=84 if ready * 3 > known * 2 || rng.chance(20) => Call::Advance,
-        65..=84 => Call::Accept { certificate: certificate_words(&likely_certificate(rng, member)) },
+        65..=84 => {
+            Call::Accept { certificate: certificate_words(&likely_certificate(rng, member)) }
+        }
         85..=88 => Call::Committee { round: likely_round(rng, member), out: out_stretch(rng, 16) },
         89..=92 => Call::Share { member: rng.between(0, 15), round: likely_round(rng, member) },
         93..=97 => Call::Certificate {
@@ -358,17 +383,21 @@ pub fn wild_call(rng: &mut Rng, member: &Member, pool: &mut Pool) -> Call {
             Call::Propose { body: spoil(rng, body, 0) }
         }
         2 | 3 => {
-            let words = if fit { proposal_words(&likely_proposal(rng, member)) } else { noise(rng, 16) };
+            let words =
+                if fit { proposal_words(&likely_proposal(rng, member)) } else { noise(rng, 16) };
             Call::Endorse { proposal: spoil(rng, words, 2) }
         }
         4 => {
-            let near = likely_endorsers(rng, member, member.own, member.round) ^ single(rng.between(0, 15));
+            let near = likely_endorsers(rng, member, member.own, member.round)
+                ^ single(rng.between(0, 15));
             Call::Certify { endorsers: if fit { u32::from(near) } else { rng.word() } }
         }
         5 | 6 => {
             let words = match pool.certificates.len() {
                 0 if !fit => noise(rng, 17),
-                n if n > 0 && rng.chance(300) => pool.certificates[rng.below(n as u64) as usize].clone(),
+                n if n > 0 && rng.chance(300) => {
+                    pool.certificates[rng.below(n as u64) as usize].clone()
+                }
                 _ => certificate_words(&likely_certificate(rng, member)),
             };
             Call::Accept { certificate: spoil(rng, words, 2) }
@@ -386,7 +415,11 @@ pub fn wild_call(rng: &mut Rng, member: &Member, pool: &mut Pool) -> Call {
 }
 
 fn rng_advance(rng: &mut Rng) -> Call {
-    if rng.chance(300) { Call::Advance } else { Call::Commit }
+    if rng.chance(300) {
+        Call::Advance
+    } else {
+        Call::Commit
+    }
 }
 
 fn wild_round(rng: &mut Rng, member: &Member) -> u32 {

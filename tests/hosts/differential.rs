@@ -12,14 +12,14 @@
 //!
 //! With `--cfg plain` the engine under test is bench/plain.rs.
 
+mod calls;
+mod edges;
 #[path = "../../bench/host.rs"]
 #[cfg(not(plain))]
 mod engine;
 #[path = "../../bench/plain.rs"]
 #[cfg(plain)]
 mod engine;
-mod calls;
-mod edges;
 mod grow;
 #[path = "../../reference/reference.rs"]
 mod reference;
@@ -85,7 +85,12 @@ fn wide(answer: Answer<u64>) -> u64 {
 }
 
 /// Makes the call on the twin; writes what it gives into `out`.
-fn by_reference(call: &Call, twin: &mut Option<Member>, lengths: (usize, usize), out: &mut [u32]) -> Answer<u64> {
+fn by_reference(
+    call: &Call,
+    twin: &mut Option<Member>,
+    lengths: (usize, usize),
+    out: &mut [u32],
+) -> Answer<u64> {
     if let Call::Open { own, sheet } = call {
         let sheet = read_sheet(sheet).filter(|_| lengths.0 >= STATE_WORDS).ok_or(1u32)?;
         let serves = (lengths.1 as u32 / ROW as u32).saturating_sub(1);
@@ -102,9 +107,15 @@ fn by_reference(call: &Call, twin: &mut Option<Member>, lengths: (usize, usize),
             let (previous, transactions) = read_body(body).ok_or(1u32)?;
             member.propose(previous, &transactions).map(|()| 0)
         }
-        Call::Endorse { proposal } => member.endorse(&read_proposal(proposal).ok_or(1u32)?).map(|()| 0),
-        Call::Certify { endorsers } => member.certify(read_set(*endorsers).ok_or(1u32)?).map(|()| 0),
-        Call::Accept { certificate } => member.accept(&read_certificate(certificate).ok_or(1u32)?).map(|()| 0),
+        Call::Endorse { proposal } => {
+            member.endorse(&read_proposal(proposal).ok_or(1u32)?).map(|()| 0)
+        }
+        Call::Certify { endorsers } => {
+            member.certify(read_set(*endorsers).ok_or(1u32)?).map(|()| 0)
+        }
+        Call::Accept { certificate } => {
+            member.accept(&read_certificate(certificate).ok_or(1u32)?).map(|()| 0)
+        }
         Call::Advance => member.advance().map(|()| 0),
         Call::Commit => member.commit().map(u64::from),
         Call::Committee { round, .. } => {
@@ -139,7 +150,9 @@ fn by_engine(call: &Call, state: &mut [u32], table: &mut [u32], out: &mut [u32])
         Call::Commit => engine::commit(state, table),
         Call::Committee { round, .. } => plain(engine::committee(state, table, *round, out)),
         Call::Share { member, round } => engine::share(state, table, *member, *round),
-        Call::Certificate { author, round, .. } => plain(engine::certificate(state, table, *author, *round, out)),
+        Call::Certificate { author, round, .. } => {
+            plain(engine::certificate(state, table, *author, *round, out))
+        }
         Call::Block { number } => engine::block(state, table, *number),
     }
 }
@@ -152,7 +165,8 @@ fn write_after(call: &Call, member: &Member, state: &mut [u32], table: &mut [u32
     if matches!(call, Call::Open { .. } | Call::Propose { .. } | Call::Advance | Call::Commit) {
         state[..STATE_WORDS].copy_from_slice(&state_words(member));
     }
-    if !matches!(call, Call::Open { .. } | Call::Propose { .. } | Call::Advance) && !call.is_read() {
+    if !matches!(call, Call::Open { .. } | Call::Propose { .. } | Call::Advance) && !call.is_read()
+    {
         write_table(member, table);
     }
 }
@@ -189,7 +203,10 @@ impl Figures {
             let list: Vec<String> = refusals.map(|n| format!("{n} x {}", answers[n])).collect();
             println!("; refused: {}", list.join(", "));
         }
-        println!("blocks made: {}, at most {} at once; largest ceiling {}", self.blocks, self.most_blocks, self.largest);
+        println!(
+            "blocks made: {}, at most {} at once; largest ceiling {}",
+            self.blocks, self.most_blocks, self.largest
+        );
         println!("changed states: {}, of them not well formed: {}", self.changed, self.malformed);
         println!("seed {seed}: {} calls, {} differences", self.calls, self.differences);
     }
@@ -225,7 +242,10 @@ impl Test {
         if let (Ok(_), Some(member)) = (answer, &node.twin) {
             write_after(call, member, state, table);
         }
-        let same = found == expected && *state == node.state && *table == node.table && found_out == expected_out;
+        let same = found == expected
+            && *state == node.state
+            && *table == node.table
+            && found_out == expected_out;
         if !same {
             self.figures.differences += 1;
             println!("DIFFERENCE at call {}: {call:?}, lengths {lengths:?}", self.figures.calls);
@@ -289,7 +309,8 @@ impl Test {
         let mut nodes: Vec<Node> = Vec::new();
         self.figures.largest = self.figures.largest.max(plan.ceiling);
         for own in &plan.owns {
-            let member = Member::open(*own, &plan.sheet, plan.ceiling).expect("a plan's sheet is fine");
+            let member =
+                Member::open(*own, &plan.sheet, plan.ceiling).expect("a plan's sheet is fine");
             let mut node = if plan.grown == 0 {
                 self.opened(&plan, *own)
             } else {

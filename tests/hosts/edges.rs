@@ -9,7 +9,8 @@ use crate::{Node, Test};
 fn each_call(member: &Member) -> Vec<Call> {
     let round = member.round;
     let previous = if round == 1 { 0 } else { member.held_authors(round - 1) };
-    let proposal = Proposal { author: (member.own + 1) % 16, round, previous, transactions: Vec::new() };
+    let proposal =
+        Proposal { author: (member.own + 1) % 16, round, previous, transactions: Vec::new() };
     let certificate = Certificate { proposal: proposal.clone(), endorsers: single(member.own) };
     vec![
         Call::Propose { body: body_words(&proposal).to_vec() },
@@ -94,7 +95,9 @@ impl Test {
         copy.state[4..20].fill(0);
         self.try_all(&copy, &member, whole);
         let needed = table_words(member.settings.ceiling);
-        for lengths in [(37, needed), (36, needed), (37, needed - 1), (37, ROW), (37, 0), (0, needed), (0, 0)] {
+        for lengths in
+            [(37, needed), (36, needed), (37, needed - 1), (37, ROW), (37, 0), (0, needed), (0, 0)]
+        {
             self.try_all(node, &member, lengths);
         }
     }
@@ -120,7 +123,9 @@ impl Test {
                         continue;
                     }
                     let proposal = Proposal { author, round, previous, transactions };
-                    member.accept(&Certificate { proposal, endorsers: everyone & !single(author) }).expect("fits");
+                    member
+                        .accept(&Certificate { proposal, endorsers: everyone & !single(author) })
+                        .expect("fits");
                 }
                 if round < rounds {
                     let _ = member.commit();

@@ -67,12 +67,21 @@ impl Plan {
         let large = ceiling > 40;
         let sheet = Sheet {
             lookback: Setting::Written(any_lookback(rng, ceiling)),
-            ceiling: if ceiling == 1_024 && rng.chance(500) { Setting::Blank } else { Setting::Written(ceiling) },
-            allowance: if rng.chance(300) { Setting::Blank } else { Setting::Written(rng.between(0, 4)) },
+            ceiling: if ceiling == 1_024 && rng.chance(500) {
+                Setting::Blank
+            } else {
+                Setting::Written(ceiling)
+            },
+            allowance: if rng.chance(300) {
+                Setting::Blank
+            } else {
+                Setting::Written(rng.between(0, 4))
+            },
             weights: any_weights(rng),
         };
         let weights = sheet.fill().expect("all in range").weights;
-        let mut owns: Vec<u32> = (0..16).filter(|&m| weights[m as usize] > 0 || rng.chance(100)).collect();
+        let mut owns: Vec<u32> =
+            (0..16).filter(|&m| weights[m as usize] > 0 || rng.chance(100)).collect();
         (1..owns.len()).rev().for_each(|i| owns.swap(i, rng.below(i as u64 + 1) as usize));
         owns.truncate(if large { 1 } else { rng.between(1, 4) as usize });
         let lookback = if rng.chance(100) { Setting::Blank } else { sheet.lookback };
@@ -96,7 +105,8 @@ pub fn grow(rng: &mut Rng, mut member: Member, to: u32, plan: &Plan) -> Member {
     loop {
         let round = member.round;
         let Some(committee) = member.committee_of(round) else { break };
-        let inside = (0..MEMBERS).filter(|&m| committee[m as usize] > 0).map(single).fold(0, |a, b| a | b);
+        let inside =
+            (0..MEMBERS).filter(|&m| committee[m as usize] > 0).map(single).fold(0, |a, b| a | b);
         let before = if round > 1 { member.held_authors(round - 1) } else { 0 };
         if inside == 0 || round > 1 && before == 0 {
             break;
@@ -107,11 +117,16 @@ pub fn grow(rng: &mut Rng, mut member: Member, to: u32, plan: &Plan) -> Member {
             }
             let thin = rng.thin(before, plan.thick);
             let previous = if thin == 0 { before } else { thin };
-            let transactions = (0..rng.between(0, member.settings.allowance)).map(|_| any_transaction(rng)).collect();
+            let transactions = (0..rng.between(0, member.settings.allowance))
+                .map(|_| any_transaction(rng))
+                .collect();
             let proposal = Proposal { author, round, previous, transactions };
             let endorsers = inside & !single(author);
             // Its own goes the way of propose and certify where it can.
-            if author == member.own && rng.chance(800) && member.propose(previous, &proposal.transactions).is_ok() {
+            if author == member.own
+                && rng.chance(800)
+                && member.propose(previous, &proposal.transactions).is_ok()
+            {
                 if rng.chance(900) {
                     member.certify(endorsers).expect("a quorum endorsed it");
                 }
@@ -183,8 +198,12 @@ pub fn change_word(rng: &mut Rng, member: &Member, state: &mut [u32], table: &mu
         (10, Some(at)) => table[at] = rng.pick(&[0, 1, 65_535, 65_536]),
         (11, Some(at)) => table[at + 1] = rng.pick(&[0, 1, 2, 3, 4, 5, 6, u32::MAX]),
         (12, Some(at)) => table[at + 4 + 3 * rng.below(4) as usize] = rng.between(0, 3),
-        (13, Some(at)) => table[at + 5 + 3 * rng.below(4) as usize] = rng.pick(&[0, 3, 15, 16, u32::MAX]),
-        (14, Some(at)) => table[at + 6 + 3 * rng.below(4) as usize] = rng.pick(&[0, 1, 1_000, 1_001, u32::MAX]),
+        (13, Some(at)) => {
+            table[at + 5 + 3 * rng.below(4) as usize] = rng.pick(&[0, 3, 15, 16, u32::MAX])
+        }
+        (14, Some(at)) => {
+            table[at + 6 + 3 * rng.below(4) as usize] = rng.pick(&[0, 1, 1_000, 1_001, u32::MAX])
+        }
         (15, Some(at)) => table[at + 3] = rng.word(),
         (16, _) => table[rng.below(ROW as u64) as usize] = rng.word(),
         (17, _) => table[row + 3 + rng.below(13) as usize] = rng.word(),

@@ -33,7 +33,11 @@ pub fn read_transaction(words: &[u32]) -> Option<Transaction> {
 pub fn read_transactions(count: u32, words: &[u32]) -> Option<Vec<Transaction>> {
     let mut all = Vec::new();
     for k in 0..count.min(5) as usize {
-        all.push(if k < 4 { read_transaction(&words[3 * k..3 * k + 3])? } else { Transaction::Entry { number: 0 } });
+        all.push(if k < 4 {
+            read_transaction(&words[3 * k..3 * k + 3])?
+        } else {
+            Transaction::Entry { number: 0 }
+        });
     }
     Some(all)
 }
@@ -87,7 +91,11 @@ fn read_settings(words: &[u32]) -> Option<Settings> {
         weights: weights.try_into().unwrap(),
     };
     let settings = sheet.fill().ok()?;
-    if total(&settings.weights) > 0 { Some(settings) } else { None }
+    if total(&settings.weights) > 0 {
+        Some(settings)
+    } else {
+        None
+    }
 }
 
 /// The member whose state the words are.
@@ -117,7 +125,11 @@ pub fn read_member(state: &[u32], table: &[u32]) -> Option<Member> {
 }
 
 /// Held certificates and endorsed places, by round, then author.
-fn read_places(table: &[u32], settings: &Settings, blocks: u32) -> Option<(Vec<Option<Held>>, Vec<bool>)> {
+fn read_places(
+    table: &[u32],
+    settings: &Settings,
+    blocks: u32,
+) -> Option<(Vec<Option<Held>>, Vec<bool>)> {
     let (mut held, mut endorsed) = (Vec::new(), Vec::new());
     for (round, row) in (0..).zip(table.chunks(ROW)).skip(1) {
         let (here, marked) = (read_set(row[0])?, read_set(row[1])?);
@@ -134,7 +146,10 @@ fn read_places(table: &[u32], settings: &Settings, blocks: u32) -> Option<(Vec<O
             if !proposal_fits(&proposal, settings) || record[2] > blocks {
                 return None;
             }
-            held.push(Some(Held { certificate: Certificate { proposal, endorsers: 0 }, block: record[2] }));
+            held.push(Some(Held {
+                certificate: Certificate { proposal, endorsers: 0 },
+                block: record[2],
+            }));
         }
     }
     Some((held, endorsed))
@@ -142,7 +157,12 @@ fn read_places(table: &[u32], settings: &Settings, blocks: u32) -> Option<(Vec<O
 
 /// Block rounds are even, rising and below the ceiling; a block's certificates
 /// are those marked with its number, by round, then author.
-fn read_chain(table: &[u32], settings: &Settings, blocks: u32, held: &[Option<Held>]) -> Option<Vec<Block>> {
+fn read_chain(
+    table: &[u32],
+    settings: &Settings,
+    blocks: u32,
+    held: &[Option<Held>],
+) -> Option<Vec<Block>> {
     let mut chain: Vec<Block> = Vec::new();
     for number in 1..=blocks as usize {
         let round = table[ROW * number + 2];
@@ -155,7 +175,9 @@ fn read_chain(table: &[u32], settings: &Settings, blocks: u32, held: &[Option<He
     for (place, here) in held.iter().enumerate() {
         if let Some(Held { block, .. }) = here {
             if *block > 0 {
-                chain[*block as usize - 1].certificates.push((place as u32 / 16 + 1, place as u32 % 16));
+                chain[*block as usize - 1]
+                    .certificates
+                    .push((place as u32 / 16 + 1, place as u32 % 16));
             }
         }
     }
@@ -207,7 +229,12 @@ pub fn certificate_words(c: &Certificate) -> Vec<u32> {
 pub fn state_words(member: &Member) -> [u32; STATE_WORDS] {
     let mut words = [0; STATE_WORDS];
     let settings = &member.settings;
-    words[..4].copy_from_slice(&[member.own, settings.lookback, settings.ceiling, settings.allowance]);
+    words[..4].copy_from_slice(&[
+        member.own,
+        settings.lookback,
+        settings.ceiling,
+        settings.allowance,
+    ]);
     for (m, weight) in settings.weights.iter().enumerate() {
         words[4 + m] = *weight as u32;
     }
@@ -224,7 +251,9 @@ pub fn state_words(member: &Member) -> [u32; STATE_WORDS] {
 /// part of the state stays, except in records of certificates that the table
 /// did not hold: all of their sixteen words are written.
 pub fn write_table(member: &Member, table: &mut [u32]) {
-    for (round, row) in (0..).zip(table.chunks_mut(ROW)).take(member.settings.ceiling as usize + 1).skip(1) {
+    for (round, row) in
+        (0..).zip(table.chunks_mut(ROW)).take(member.settings.ceiling as usize + 1).skip(1)
+    {
         let before = row[0];
         row[0] = u32::from(member.held_authors(round));
         row[1] = 0;
