@@ -182,7 +182,8 @@ struct Figures {
     differences: u64,
     blocks: u64,
     most_blocks: u64,
-    largest: u32,
+    /// Calls by ceiling: up to 40, up to 255, larger.
+    sizes: [u64; 3],
 }
 
 impl Figures {
@@ -203,10 +204,9 @@ impl Figures {
             let list: Vec<String> = refusals.map(|n| format!("{n} x {}", answers[n])).collect();
             println!("; refused: {}", list.join(", "));
         }
-        println!(
-            "blocks made: {}, at most {} at once; largest ceiling {}",
-            self.blocks, self.most_blocks, self.largest
-        );
+        println!("blocks made: {}, at most {} at once", self.blocks, self.most_blocks);
+        let [small, middle, large] = self.sizes;
+        println!("calls by ceiling: {small} up to 40, {middle} up to 255, {large} up to 1,024");
         println!("changed states: {}, of them not well formed: {}", self.changed, self.malformed);
         println!("seed {seed}: {} calls, {} differences", self.calls, self.differences);
     }
@@ -231,6 +231,11 @@ impl Test {
     /// One call on a node, by both, compared.
     pub fn call(&mut self, node: &mut Node, call: &Call, lengths: (usize, usize)) -> u64 {
         let (ns, nt) = lengths;
+        let size = match node.table.len() / ROW {
+            0..=42 => 0,
+            43..=256 => 1,
+            _ => 2,
+        };
         let mut found_out = call.out().to_vec();
         let mut expected_out = found_out.clone();
         self.before_state.clone_from(&node.state);
@@ -259,6 +264,7 @@ impl Test {
             node.table.clone_from(&self.before_table);
         }
         self.figures.count(call, expected);
+        self.figures.sizes[size] += 1;
         expected
     }
 
@@ -307,7 +313,6 @@ impl Test {
         let plan = Plan::any(&mut self.rng);
         let mut pool = Pool::default();
         let mut nodes: Vec<Node> = Vec::new();
-        self.figures.largest = self.figures.largest.max(plan.ceiling);
         for own in &plan.owns {
             let member =
                 Member::open(*own, &plan.sheet, plan.ceiling).expect("a plan's sheet is fine");
