@@ -207,14 +207,14 @@ pub struct Block {
 
 #[derive(Clone, Debug)]
 pub struct Member {
-    own: u32,
-    settings: Settings,
-    round: u32,
-    proposal: Option<Proposal>,
+    pub own: u32,
+    pub settings: Settings,
+    pub round: u32,
+    pub proposal: Option<Proposal>,
     /// Certificates by place; see `place`.
-    held: Vec<Option<Held>>,
-    endorsed: Vec<bool>,
-    chain: Vec<Block>,
+    pub held: Vec<Option<Held>>,
+    pub endorsed: Vec<bool>,
+    pub chain: Vec<Block>,
 }
 
 /// Places by round, then author: 16 to a round, the first round is 1.

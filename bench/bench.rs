@@ -1,0 +1,546 @@
+//! What each call and read costs: the engine (libhost.a), plain Rust
+//! (plain.rs) and a floor. `bench [quick]` prints Markdown.
+//!
+//! States. Sixteen members; every certificate has four transactions (entries,
+//! bonds, unbonds that are bonded again at once, so that all stay inside) and
+//! names all certificates of the round before. They are made by a real run:
+//! own certificates by propose and certify, others by accept, a commit in
+//! each odd round. "Full" holds all rounds up to the ceiling, "half" up to
+//! half of it. Two places of the present round are left free, one's own and
+//! member 15's, for the calls that fill a place. The present round is the one
+//! before the last that is held, which is odd, so that a commit can be made;
+//! in an empty state it is 1, and 3 for commit.
+//!
+//! Calls that change something are undone after each call by writing back the
+//! few words that they changed; that is part of the time, and takes some
+//! nanoseconds. An undone record stays written: no state has it any more.
+//! A commit may change a mark in every record: its calls are timed one by
+//! one, and undone between the times from a list of the words that it
+//! changes. Nothing is copied within a time.
+//!
+//! Calls go round several states of the same shape with other transactions
+//! (sixteen of ceiling 64, four of 256, one of 1,024), so that no small state
+//! is learnt by heart by the processor.
+//!
+//! Every answer is compared with what is expected. Times are medians of
+//! batches; engine, plain and floor take turns, batch by batch.
+//!
+//! The floor is one pass that reads the state, the headers of all rows and
+//! the records of held certificates, and adds them up. For open it is one
+//! pass that writes 0 to the table.
+
+#[path = "host.rs"]
+#[cfg(not(plain))]
+mod engine;
+#[path = "plain.rs"]
+#[cfg(plain)]
+mod engine;
+mod plain;
+
+use std::hint::black_box;
+use std::time::{Duration, Instant};
+
+const ROW: usize = 272;
+
+/// The functions of one implementation.
+struct Functions {
+    open: fn(&mut [u32], &mut [u32], u32, &[u32]) -> u32,
+    propose: fn(&mut [u32], &[u32], &[u32]) -> u32,
+    endorse: fn(&[u32], &mut [u32], &[u32]) -> u32,
+    certify: fn(&[u32], &mut [u32], u32) -> u32,
+    accept: fn(&[u32], &mut [u32], &[u32]) -> u32,
+    advance: fn(&mut [u32], &[u32]) -> u32,
+    commit: fn(&mut [u32], &mut [u32]) -> u64,
+    committee: fn(&[u32], &[u32], u32, &mut [u32]) -> u32,
+    share: fn(&[u32], &[u32], u32, u32) -> u64,
+    certificate: fn(&[u32], &[u32], u32, u32, &mut [u32]) -> u32,
+    block: fn(&[u32], &[u32], u32) -> u64,
+}
+
+macro_rules! functions {
+    ($module:ident) => {
+        Functions {
+            open: $module::open,
+            propose: $module::propose,
+            endorse: $module::endorse,
+            certify: $module::certify,
+            accept: $module::accept,
+            advance: $module::advance,
+            commit: $module::commit,
+            committee: $module::committee,
+            share: $module::share,
+            certificate: $module::certificate,
+            block: $module::block,
+        }
+    };
+}
+
+const ENGINE: Functions = functions!(engine);
+const PLAIN: Functions = functions!(plain);
+
+// ---------------------------------------------------------------- states ---
+
+/// A table whose records start at cache lines.
+#[derive(Clone, Copy)]
+#[repr(C, align(64))]
+struct Line([u32; 16]);
+
+#[derive(Clone)]
+struct Member {
+    state: [u32; 37],
+    lines: Vec<Line>,
+    random: u64,
+}
+
+const OWN: u32 = 0;
+const FREE: u32 = 15;
+
+impl Member {
+    fn open(ceiling: u32, lookback: u32, seed: u64) -> Member {
+        let lines = vec![Line([0; 16]); ROW * (ceiling as usize + 1) / 16];
+        let mut member = Member { state: [0; 37], lines, random: seed };
+        let answer = with(&mut member, |s, t| plain::open(s, t, OWN, &sheet(ceiling, lookback)));
+        assert_eq!(answer, 0);
+        member
+    }
+
+    fn table(&mut self) -> &mut [u32] {
+        let words = self.lines.len() * 16;
+        // SAFETY: a line is sixteen words and nothing else.
+        unsafe { std::slice::from_raw_parts_mut(self.lines.as_mut_ptr().cast(), words) }
+    }
+
+    fn below(&mut self, n: u32) -> u32 {
+        self.random =
+            self.random.wrapping_mul(0x5851_f42d_4c95_7f2d).wrapping_add(0x1405_7b7e_f767_814f);
+        (self.random >> 33) as u32 % n
+    }
+
+    fn held(&mut self, round: u32) -> u32 {
+        self.table()[ROW * round as usize]
+    }
+
+    fn held_in_all(&mut self) -> u32 {
+        (1..=self.state[2]).map(|r| self.held(r).count_ones()).sum()
+    }
+
+    /// A proposal of a round: author, round, body.
+    fn proposal(&mut self, author: u32, round: u32) -> [u32; 16] {
+        let mut words = [0; 16];
+        let previous = if round == 1 { 0 } else { self.held(round - 1) };
+        words[..4].copy_from_slice(&[author, round, previous, 4]);
+        for k in 0..4 {
+            let transaction = match self.below(4) {
+                0 => [0, self.below(16), 1 + self.below(10)],
+                _ => [2, self.below(1 << 20), 0],
+            };
+            words[4 + 3 * k..7 + 3 * k].copy_from_slice(&transaction);
+        }
+        if self.below(8) == 0 {
+            let m = self.below(16);
+            words[10..16].copy_from_slice(&[1, m, 0, 0, m, 1 + self.below(10)]);
+        }
+        words
+    }
+
+    fn certificate(&mut self, author: u32, round: u32) -> [u32; 17] {
+        let mut words = [0; 17];
+        words[..16].copy_from_slice(&self.proposal(author, round));
+        words[16] = 0xffff & !(1 << author);
+        words
+    }
+
+    /// Holds the certificates of a round, but for those in `free`.
+    fn fill(&mut self, round: u32, free: &[u32]) {
+        for author in (0..16).filter(|a| !free.contains(a)) {
+            let words = self.certificate(author, round);
+            let own = author == OWN && self.state[20] == round;
+            let answer = with(self, |s, t| match own {
+                true => plain::propose(s, t, &words[2..]) + plain::certify(s, t, words[16]),
+                false => plain::accept(s, t, &words),
+            });
+            assert_eq!(answer, 0);
+        }
+    }
+
+    /// A run to the given number of rounds. `commits` says in which odd
+    /// rounds a commit is made.
+    fn run(
+        ceiling: u32,
+        lookback: u32,
+        rounds: u32,
+        seed: u64,
+        commits: impl Fn(u32) -> bool,
+    ) -> Member {
+        let mut member = Member::open(ceiling, lookback, seed);
+        for r in 1..rounds {
+            let present = r == rounds - 1;
+            member.fill(r, if present { &[OWN, FREE] } else { &[] });
+            if present {
+                member.fill(rounds, &[]);
+                break;
+            }
+            if r % 2 == 1 && r > 1 && commits(r) {
+                assert!(with(&mut member, |s, t| plain::commit(s, t)) >> 32 == 0);
+            }
+            assert_eq!(with(&mut member, |s, t| plain::advance(s, t)), 0);
+        }
+        member
+    }
+}
+
+/// A use of state and table together.
+fn with<T>(member: &mut Member, f: impl FnOnce(&mut [u32], &mut [u32]) -> T) -> T {
+    let mut state = member.state;
+    let answer = f(&mut state, member.table());
+    member.state = state;
+    answer
+}
+
+fn sheet(ceiling: u32, lookback: u32) -> [u32; 38] {
+    let mut words = [1; 38];
+    (words[1], words[3], words[5]) = (lookback, ceiling, 4);
+    (3..19).for_each(|k| words[2 * k + 1] = 100 + k as u32);
+    words
+}
+
+// ----------------------------------------------------------------- floor ---
+
+/// Reads what every call must read, and adds it up.
+#[inline(never)]
+fn floor(state: &[u32], table: &[u32]) -> u32 {
+    let mut sums = [0u64; 8];
+    let mut heads = state[..37].iter().fold(0u32, |sum, w| sum.wrapping_add(*w));
+    for row in table.as_chunks::<ROW>().0[..state[2] as usize + 1].iter().skip(1) {
+        heads = heads.wrapping_add(row[0]).wrapping_add(row[1]).wrapping_add(row[2]);
+        let records = &row.as_chunks::<16>().0[1..];
+        let mut held = row[0];
+        while held != 0 {
+            let record = &records[held.trailing_zeros() as usize & 15];
+            held &= held - 1;
+            // SAFETY: a record is sixteen words, which are eight pairs.
+            let pairs = unsafe { record.as_ptr().cast::<[u64; 8]>().read_unaligned() };
+            (0..8).for_each(|k| sums[k] = sums[k].wrapping_add(pairs[k]));
+        }
+    }
+    sums.iter().fold(heads, |sum, w| sum.wrapping_add(*w as u32))
+}
+
+#[inline(never)]
+fn floor_of_open(table: &mut [u32]) {
+    table.fill(0);
+    black_box(table);
+}
+
+// ------------------------------------------------------------------ jobs ---
+
+#[derive(Clone, Copy, PartialEq)]
+enum Job {
+    Open,
+    Propose,
+    Endorse,
+    Certify,
+    Accept,
+    Advance,
+    Commit,
+    CommitMany,
+    Committee,
+    Share,
+    Certificate,
+    Block,
+}
+
+const JOBS: [(Job, &str); 12] = [
+    (Job::Open, "open"),
+    (Job::Propose, "propose"),
+    (Job::Endorse, "endorse"),
+    (Job::Certify, "certify"),
+    (Job::Accept, "accept"),
+    (Job::Advance, "advance"),
+    (Job::Commit, "commit, one block"),
+    (Job::CommitMany, "commit, many blocks"),
+    (Job::Committee, "read committee"),
+    (Job::Share, "read share"),
+    (Job::Certificate, "read certificate"),
+    (Job::Block, "read block"),
+];
+
+/// A state and a call on it that can be made again and again.
+struct Case {
+    job: Job,
+    member: Member,
+    argument: [u32; 17],
+    out: [u32; 17],
+    /// Words of the table that a commit changes, as they were.
+    undo: Vec<(usize, u32)>,
+    /// The answer: value below, refusal above.
+    expected: u64,
+}
+
+impl Case {
+    fn of(job: Job, mut member: Member) -> Case {
+        let r = member.state[20];
+        let empty = member.held(1) == 0;
+        let argument = match job {
+            Job::Propose | Job::Certify => member.certificate(OWN, r),
+            _ => member.certificate(FREE, r),
+        };
+        if job == Job::Certify {
+            assert_eq!(with(&mut member, |s, t| plain::propose(s, t, &argument[2..])), 0);
+        }
+        let is_commit = matches!(job, Job::Commit | Job::CommitMany);
+        if is_commit && empty {
+            member.state[20] = 3;
+        }
+        let mut case = Case { job, member, argument, out: [0; 17], undo: Vec::new(), expected: 0 };
+        let before = case.member.clone();
+        case.expected = case.call(&PLAIN);
+        let old = before.lines.iter().flat_map(|line| line.0).enumerate();
+        let changed = old.zip(case.member.table().iter()).filter(|((_, old), new)| old != *new);
+        case.undo = changed.map(|(old, _)| old).collect();
+        case.member = before;
+        case
+    }
+
+    /// The call alone.
+    #[inline(always)]
+    fn call(&mut self, f: &Functions) -> u64 {
+        let r = self.member.state[20];
+        let state = &mut self.member.state;
+        let words = self.member.lines.len() * 16;
+        // SAFETY: as in `table`; the state is another part of the member.
+        let table = unsafe {
+            std::slice::from_raw_parts_mut(self.member.lines.as_mut_ptr().cast::<u32>(), words)
+        };
+        let refusal = |number: u32| u64::from(number) << 32;
+        let argument = &self.argument;
+        match self.job {
+            Job::Open => {
+                let sheet = sheet(state[2], state[1]);
+                refusal((f.open)(state, table, OWN, &sheet))
+            }
+            Job::Propose => refusal((f.propose)(state, table, &argument[2..16])),
+            Job::Endorse => refusal((f.endorse)(state, table, &argument[..16])),
+            Job::Certify => refusal((f.certify)(state, table, 0xfffe)),
+            Job::Accept => refusal((f.accept)(state, table, argument)),
+            Job::Advance => refusal((f.advance)(state, table)),
+            Job::Commit | Job::CommitMany => (f.commit)(state, table),
+            Job::Committee => refusal((f.committee)(state, table, r, &mut self.out)),
+            Job::Share => (f.share)(state, table, 3, r),
+            Job::Certificate => refusal((f.certificate)(state, table, 7, r, &mut self.out)),
+            Job::Block => (f.block)(state, table, state[22]),
+        }
+    }
+
+    /// Writes back what the call has changed.
+    #[inline(always)]
+    fn undo(&mut self) {
+        let row = ROW * self.member.state[20] as usize;
+        match self.job {
+            Job::Propose => {
+                self.member.state[21] = 0;
+                self.member.state[23..].fill(0);
+            }
+            Job::Endorse => self.member.table()[row + 1] &= !(1 << FREE),
+            Job::Certify => self.member.table()[row] &= !(1 << OWN),
+            Job::Accept => self.member.table()[row] &= !(1 << FREE),
+            Job::Advance => self.member.state[20] -= 1,
+            Job::Commit | Job::CommitMany if self.expected >> 32 == 0 => {
+                self.member.state[22] -= self.expected as u32;
+                let undo = std::mem::take(&mut self.undo);
+                let table = self.member.table();
+                undo.iter().for_each(|&(at, word)| table[at] = word);
+                self.undo = undo;
+            }
+            _ => {}
+        }
+    }
+
+    fn floor(&mut self) {
+        if self.job == Job::Open {
+            floor_of_open(self.member.table());
+        } else {
+            let state = self.member.state;
+            black_box(floor(&state, black_box(self.member.table())));
+        }
+    }
+}
+
+/// Cases of the same shape, called in turn.
+struct Cases(Vec<Case>);
+
+impl Cases {
+    /// The time of a batch of calls, undone.
+    fn batch(&mut self, f: &Functions, calls: usize) -> Duration {
+        let one_by_one = matches!(self.0[0].job, Job::Commit | Job::CommitMany);
+        let (many, mut time) = (self.0.len(), Duration::ZERO);
+        let start = Instant::now();
+        for turn in 0..calls {
+            let case = black_box(&mut self.0[turn % many]);
+            let begin = if one_by_one { Some(Instant::now()) } else { None };
+            let answer = case.call(f);
+            if let Some(begin) = begin {
+                time += begin.elapsed();
+            }
+            assert_eq!(answer, case.expected);
+            case.undo();
+        }
+        if one_by_one {
+            time
+        } else {
+            start.elapsed()
+        }
+    }
+
+    fn floor_batch(&mut self, calls: usize) -> Duration {
+        let (many, start) = (self.0.len(), Instant::now());
+        (0..calls).for_each(|turn| self.0[turn % many].floor());
+        start.elapsed()
+    }
+
+    /// Nanoseconds per call: engine, plain, floor.
+    fn measure(&mut self, pace: &Pace) -> [f64; 3] {
+        let mut times = [(); 3].map(|()| Vec::new());
+        let mut sizes = [1; 3];
+        let many = self.0.len();
+        for (which, size) in sizes.iter_mut().enumerate() {
+            self.one(which, many);
+            let once = self.one(which, many).max(20.0);
+            *size = ((pace.batch_nanoseconds / once) as usize).next_multiple_of(many).max(many);
+        }
+        for _ in 0..pace.batches {
+            for which in 0..3 {
+                times[which].push(self.one(which, sizes[which]));
+            }
+        }
+        times.map(|mut all| {
+            all.sort_by(f64::total_cmp);
+            all[all.len() / 2]
+        })
+    }
+
+    fn one(&mut self, which: usize, calls: usize) -> f64 {
+        let time = match which {
+            0 => self.batch(&ENGINE, calls),
+            1 => self.batch(&PLAIN, calls),
+            _ => self.floor_batch(calls),
+        };
+        time.as_nanos() as f64 / calls as f64
+    }
+
+    fn held(&mut self) -> u32 {
+        self.0[0].member.held_in_all()
+    }
+}
+
+struct Pace {
+    batches: u32,
+    batch_nanoseconds: f64,
+}
+
+// ---------------------------------------------------------------- tables ---
+
+/// The states of a ceiling with the first `rounds` rounds held: those for most
+/// calls, and those with (nearly) no blocks yet, for a commit that makes many.
+struct States {
+    usual: Vec<Member>,
+    unblocked: Vec<Member>,
+}
+
+impl States {
+    fn of(ceiling: u32, rounds: u32) -> States {
+        let lookback = ceiling.min(1_000);
+        // Rounds above the lookback are known only with some blocks.
+        let early = |r| r + lookback < ceiling + 2;
+        let seeds = 1..=u64::from(1_024 / ceiling);
+        States {
+            usual: seeds
+                .clone()
+                .map(|seed| Member::run(ceiling, 20, rounds, seed, |_| true))
+                .collect(),
+            unblocked: seeds
+                .map(|seed| Member::run(ceiling, lookback, rounds, seed, early))
+                .collect(),
+        }
+    }
+
+    fn cases(&self, job: Job) -> Cases {
+        let members = if job == Job::CommitMany { &self.unblocked } else { &self.usual };
+        Cases(members.iter().map(|member| Case::of(job, member.clone())).collect())
+    }
+}
+
+fn answer_text(case: &Case) -> String {
+    let (value, refusal) = (case.expected as u32, case.expected >> 32);
+    match case.job {
+        _ if refusal > 0 => format!("refused, {refusal}"),
+        Job::Commit | Job::CommitMany => format!("{value} added"),
+        _ => "ok".to_string(),
+    }
+}
+
+/// About three digits.
+fn digits(value: f64) -> String {
+    if value < 10.0 {
+        format!("{value:.2}")
+    } else if value < 100.0 {
+        format!("{value:.1}")
+    } else {
+        format!("{value:.0}")
+    }
+}
+
+fn print_ceiling(ceiling: u32, pace: &Pace) {
+    println!("\n## Ceiling {ceiling}\n");
+    println!("| call | state | held | answer | engine ns | plain ns | floor ns | engine / plain | engine / floor |");
+    println!("|---|---|---:|---|---:|---:|---:|---:|---:|");
+    let states = [(0, "empty"), (ceiling / 2, "half"), (ceiling, "full")];
+    let states = states.map(|(rounds, name)| (States::of(ceiling, rounds), name));
+    for (job, call) in JOBS {
+        for (states, name) in &states {
+            let mut cases = states.cases(job);
+            let held = cases.held();
+            let [engine, plain, floor] = cases.measure(pace);
+            println!(
+                "| {call} | {name} | {held} | {} | {engine:.0} | {plain:.0} | {floor:.0} | {} | {} |",
+                answer_text(&cases.0[0]),
+                digits(engine / plain),
+                digits(engine / floor)
+            );
+        }
+    }
+}
+
+fn print_growth(ceiling: u32, pace: &Pace) {
+    println!("\n## Growth with held certificates, ceiling {ceiling}\n");
+    println!("Nanoseconds per call; the last column is what one more certificate costs.\n");
+    println!("| call | by | 0 % | 25 % | 50 % | 75 % | 100 % | per certificate |");
+    println!("|---|---|---:|---:|---:|---:|---:|---:|");
+    let states: Vec<States> =
+        (0..5).map(|quarter| States::of(ceiling, ceiling * quarter / 4)).collect();
+    for (job, call) in JOBS {
+        let mut cases: Vec<Cases> = states.iter().map(|states| states.cases(job)).collect();
+        let held = f64::from(cases[4].held());
+        let times: Vec<[f64; 3]> = cases.iter_mut().map(|cases| cases.measure(pace)).collect();
+        for (which, by) in ["engine", "plain", "floor"].iter().enumerate() {
+            let row: Vec<String> = times.iter().map(|time| format!("{:.0}", time[which])).collect();
+            let slope = (times[4][which] - times[0][which]) / held;
+            println!("| {call} | {by} | {} | {slope:.2} |", row.join(" | "));
+        }
+    }
+}
+
+fn main() {
+    let quick = std::env::args().nth(1).as_deref() == Some("quick");
+    let pace = if quick {
+        Pace { batches: 3, batch_nanoseconds: 2e5 }
+    } else {
+        Pace { batches: 15, batch_nanoseconds: 5e6 }
+    };
+    println!("# Cost of calls\n");
+    println!("Nanoseconds per call, median of {} batches.", pace.batches);
+    for ceiling in [64, 256, 1_024] {
+        print_ceiling(ceiling, &pace);
+    }
+    print_growth(1_024, &pace);
+}

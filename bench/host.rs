@@ -1,0 +1,134 @@
+//! The engine's host functions (libhost.a) as Rust functions on slices: a
+//! slice goes over as a pointer and a length in words.
+
+#![allow(dead_code)]
+
+extern "C" {
+    fn forgelilac_open(
+        s: *mut u32,
+        sn: usize,
+        t: *mut u32,
+        tn: usize,
+        own: u32,
+        sheet: *const u32,
+        n: usize,
+    ) -> u32;
+    fn forgelilac_propose(
+        s: *mut u32,
+        sn: usize,
+        t: *const u32,
+        tn: usize,
+        body: *const u32,
+        n: usize,
+    ) -> u32;
+    fn forgelilac_endorse(
+        s: *const u32,
+        sn: usize,
+        t: *mut u32,
+        tn: usize,
+        proposal: *const u32,
+        n: usize,
+    ) -> u32;
+    fn forgelilac_certify(s: *const u32, sn: usize, t: *mut u32, tn: usize, endorsers: u32) -> u32;
+    fn forgelilac_accept(
+        s: *const u32,
+        sn: usize,
+        t: *mut u32,
+        tn: usize,
+        certificate: *const u32,
+        n: usize,
+    ) -> u32;
+    fn forgelilac_advance(s: *mut u32, sn: usize, t: *const u32, tn: usize) -> u32;
+    fn forgelilac_commit(s: *mut u32, sn: usize, t: *mut u32, tn: usize) -> u64;
+    fn forgelilac_committee(
+        s: *const u32,
+        sn: usize,
+        t: *const u32,
+        tn: usize,
+        round: u32,
+        out: *mut u32,
+        n: usize,
+    ) -> u32;
+    fn forgelilac_share(
+        s: *const u32,
+        sn: usize,
+        t: *const u32,
+        tn: usize,
+        member: u32,
+        round: u32,
+    ) -> u64;
+    fn forgelilac_certificate(
+        s: *const u32,
+        sn: usize,
+        t: *const u32,
+        tn: usize,
+        author: u32,
+        round: u32,
+        out: *mut u32,
+        n: usize,
+    ) -> u32;
+    fn forgelilac_block(s: *const u32, sn: usize, t: *const u32, tn: usize, number: u32) -> u64;
+    fn forgelilac_table_words(ceiling: u32) -> u64;
+}
+
+// SAFETY, for all of them: the functions read and write only the stretches
+// that they are handed, for any content and any length, and keep no pointer.
+
+pub fn open(state: &mut [u32], table: &mut [u32], own: u32, sheet: &[u32]) -> u32 {
+    let (s, sn, t, tn) = (state.as_mut_ptr(), state.len(), table.as_mut_ptr(), table.len());
+    unsafe { forgelilac_open(s, sn, t, tn, own, sheet.as_ptr(), sheet.len()) }
+}
+
+pub fn propose(state: &mut [u32], table: &[u32], body: &[u32]) -> u32 {
+    let (s, sn, t, tn) = (state.as_mut_ptr(), state.len(), table.as_ptr(), table.len());
+    unsafe { forgelilac_propose(s, sn, t, tn, body.as_ptr(), body.len()) }
+}
+
+pub fn endorse(state: &[u32], table: &mut [u32], proposal: &[u32]) -> u32 {
+    let (s, sn, t, tn) = (state.as_ptr(), state.len(), table.as_mut_ptr(), table.len());
+    unsafe { forgelilac_endorse(s, sn, t, tn, proposal.as_ptr(), proposal.len()) }
+}
+
+pub fn certify(state: &[u32], table: &mut [u32], endorsers: u32) -> u32 {
+    let (s, sn, t, tn) = (state.as_ptr(), state.len(), table.as_mut_ptr(), table.len());
+    unsafe { forgelilac_certify(s, sn, t, tn, endorsers) }
+}
+
+pub fn accept(state: &[u32], table: &mut [u32], certificate: &[u32]) -> u32 {
+    let (s, sn, t, tn) = (state.as_ptr(), state.len(), table.as_mut_ptr(), table.len());
+    unsafe { forgelilac_accept(s, sn, t, tn, certificate.as_ptr(), certificate.len()) }
+}
+
+pub fn advance(state: &mut [u32], table: &[u32]) -> u32 {
+    let (s, sn, t, tn) = (state.as_mut_ptr(), state.len(), table.as_ptr(), table.len());
+    unsafe { forgelilac_advance(s, sn, t, tn) }
+}
+
+pub fn commit(state: &mut [u32], table: &mut [u32]) -> u64 {
+    let (s, sn, t, tn) = (state.as_mut_ptr(), state.len(), table.as_mut_ptr(), table.len());
+    unsafe { forgelilac_commit(s, sn, t, tn) }
+}
+
+pub fn committee(state: &[u32], table: &[u32], round: u32, out: &mut [u32]) -> u32 {
+    let (s, sn, t, tn) = (state.as_ptr(), state.len(), table.as_ptr(), table.len());
+    unsafe { forgelilac_committee(s, sn, t, tn, round, out.as_mut_ptr(), out.len()) }
+}
+
+pub fn share(state: &[u32], table: &[u32], member: u32, round: u32) -> u64 {
+    let (s, sn, t, tn) = (state.as_ptr(), state.len(), table.as_ptr(), table.len());
+    unsafe { forgelilac_share(s, sn, t, tn, member, round) }
+}
+
+pub fn certificate(state: &[u32], table: &[u32], author: u32, round: u32, out: &mut [u32]) -> u32 {
+    let (s, sn, t, tn) = (state.as_ptr(), state.len(), table.as_ptr(), table.len());
+    unsafe { forgelilac_certificate(s, sn, t, tn, author, round, out.as_mut_ptr(), out.len()) }
+}
+
+pub fn block(state: &[u32], table: &[u32], number: u32) -> u64 {
+    let (s, sn, t, tn) = (state.as_ptr(), state.len(), table.as_ptr(), table.len());
+    unsafe { forgelilac_block(s, sn, t, tn, number) }
+}
+
+pub fn table_words(ceiling: u32) -> u64 {
+    unsafe { forgelilac_table_words(ceiling) }
+}

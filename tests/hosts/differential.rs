@@ -1,0 +1,384 @@
+//! Host functions against the reference: `differential SEED [CALLS]`.
+//!
+//! Each call is made twice: by the engine on words, and by the reference on
+//! the member that the words before the call stand for. Compared after each
+//! call: the answer, every word of state, table and out stretch, also beyond
+//! what the call may touch. A refused call must have changed nothing.
+//!
+//! First come single words at the edges of their ranges (`edges.rs`), then
+//! calls by chance. Their stretches start from states grown by runs, and from such states
+//! with words changed here and there. Whether a changed state is well formed
+//! is judged by `words.rs`, from the papers.
+//!
+//! With `--cfg plain` the engine under test is bench/plain.rs.
+
+mod calls;
+mod edges;
+#[path = "../../bench/host.rs"]
+#[cfg(not(plain))]
+mod engine;
+#[path = "../../bench/plain.rs"]
+#[cfg(plain)]
+mod engine;
+mod grow;
+#[path = "../../reference/reference.rs"]
+mod reference;
+mod words;
+
+use calls::*;
+use grow::*;
+use reference::*;
+use words::*;
+
+// ---------------------------------------------------------------- nodes ---
+
+/// A member's words as a host keeps them, and the member that they stand for.
+#[derive(Clone)]
+pub struct Node {
+    pub state: Vec<u32>,
+    pub table: Vec<u32>,
+    pub twin: Option<Member>,
+}
+
+impl Node {
+    /// Words of a member; what is no part of the state is 0 or noise.
+    fn of(member: Member, rng: &mut Rng) -> Node {
+        // At times room for a row or two more.
+        let most = if rng.chance(300) { 600 } else { 40 };
+        let extra_table = rng.below(most);
+        let extra_state = rng.below(4);
+        let noise = rng.chance(500);
+        let length = table_words(member.settings.ceiling) + extra_table as usize;
+        let mut table = vec![0; length];
+        let mut state = state_words(&member).to_vec();
+        if noise {
+            let places = rng.below(length as u64 / 8);
+            for _ in 0..places {
+                table[rng.below(length as u64) as usize] = rng.word();
+            }
+            for row in table.chunks_mut(ROW) {
+                row[0] = 0;
+            }
+            if member.proposal.is_none() {
+                state[23..].fill_with(|| rng.word());
+            }
+        }
+        write_table(&member, &mut table);
+        (0..extra_state).for_each(|_| state.push(rng.word()));
+        Node { state, table, twin: Some(member) }
+    }
+
+    /// Reads the member from the words again.
+    pub fn read_again(&mut self) {
+        self.twin = read_member(&self.state, &self.table);
+    }
+}
+
+// ------------------------------------------------------------- one call ---
+
+/// The reference's answer, as the host gives it: refusal above, value below.
+fn wide(answer: Answer<u64>) -> u64 {
+    match answer {
+        Ok(value) => value,
+        Err(refusal) => u64::from(refusal) << 32,
+    }
+}
+
+/// Makes the call on the twin; writes what it gives into `out`.
+fn by_reference(
+    call: &Call,
+    twin: &mut Option<Member>,
+    lengths: (usize, usize),
+    out: &mut [u32],
+) -> Answer<u64> {
+    if let Call::Open { own, sheet } = call {
+        let sheet = read_sheet(sheet).filter(|_| lengths.0 >= STATE_WORDS).ok_or(1u32)?;
+        let serves = (lengths.1 as u32 / ROW as u32).saturating_sub(1);
+        *twin = Some(Member::open(*own, &sheet, serves)?);
+        return Ok(0);
+    }
+    let member = twin.as_mut().ok_or(1u32)?;
+    if lengths.0 < STATE_WORDS || lengths.1 < table_words(member.settings.ceiling) {
+        return Err(1);
+    }
+    match call {
+        Call::Open { .. } => unreachable!(),
+        Call::Propose { body } => {
+            let (previous, transactions) = read_body(body).ok_or(1u32)?;
+            member.propose(previous, &transactions).map(|()| 0)
+        }
+        Call::Endorse { proposal } => {
+            member.endorse(&read_proposal(proposal).ok_or(1u32)?).map(|()| 0)
+        }
+        Call::Certify { endorsers } => {
+            member.certify(read_set(*endorsers).ok_or(1u32)?).map(|()| 0)
+        }
+        Call::Accept { certificate } => {
+            member.accept(&read_certificate(certificate).ok_or(1u32)?).map(|()| 0)
+        }
+        Call::Advance => member.advance().map(|()| 0),
+        Call::Commit => member.commit().map(u64::from),
+        Call::Committee { round, .. } => {
+            let out = out.get_mut(..16).ok_or(1u32)?;
+            let weights = member.read_committee(*round)?;
+            out.iter_mut().zip(weights).for_each(|(word, weight)| *word = weight as u32);
+            Ok(0)
+        }
+        Call::Share { member: m, round } => member.read_share(*m, *round),
+        Call::Certificate { author, round, .. } => {
+            let out = out.get_mut(..17).ok_or(1u32)?;
+            let (proposal, block) = member.read_certificate(*author, *round)?;
+            out[..16].copy_from_slice(&proposal_words(proposal));
+            out[16] = block;
+            Ok(0)
+        }
+        Call::Block { number } => member.read_block(*number).map(u64::from),
+    }
+}
+
+/// Makes the call on the words. Answers without a value have the refusal
+/// number moved up, so that all answers look alike.
+fn by_engine(call: &Call, state: &mut [u32], table: &mut [u32], out: &mut [u32]) -> u64 {
+    let plain = |answer: u32| u64::from(answer) << 32;
+    match call {
+        Call::Open { own, sheet } => plain(engine::open(state, table, *own, sheet)),
+        Call::Propose { body } => plain(engine::propose(state, table, body)),
+        Call::Endorse { proposal } => plain(engine::endorse(state, table, proposal)),
+        Call::Certify { endorsers } => plain(engine::certify(state, table, *endorsers)),
+        Call::Accept { certificate } => plain(engine::accept(state, table, certificate)),
+        Call::Advance => plain(engine::advance(state, table)),
+        Call::Commit => engine::commit(state, table),
+        Call::Committee { round, .. } => plain(engine::committee(state, table, *round, out)),
+        Call::Share { member, round } => engine::share(state, table, *member, *round),
+        Call::Certificate { author, round, .. } => {
+            plain(engine::certificate(state, table, *author, *round, out))
+        }
+        Call::Block { number } => engine::block(state, table, *number),
+    }
+}
+
+/// What the words must be after an accepted call.
+fn write_after(call: &Call, member: &Member, state: &mut [u32], table: &mut [u32]) {
+    if matches!(call, Call::Open { .. }) {
+        table[..table_words(member.settings.ceiling)].fill(0);
+    }
+    if matches!(call, Call::Open { .. } | Call::Propose { .. } | Call::Advance | Call::Commit) {
+        state[..STATE_WORDS].copy_from_slice(&state_words(member));
+    }
+    if !matches!(call, Call::Open { .. } | Call::Propose { .. } | Call::Advance) && !call.is_read()
+    {
+        write_table(member, table);
+    }
+}
+
+// --------------------------------------------------------------- figures ---
+
+#[derive(Default)]
+struct Figures {
+    answers: [[u64; 32]; Call::NAMES.len()],
+    calls: u64,
+    malformed: u64,
+    changed: u64,
+    differences: u64,
+    blocks: u64,
+    most_blocks: u64,
+    /// Calls by ceiling: up to 40, up to 255, larger.
+    sizes: [u64; 3],
+}
+
+impl Figures {
+    fn count(&mut self, call: &Call, answer: u64) {
+        self.calls += 1;
+        self.answers[call.kind()][(answer >> 32) as usize & 31] += 1;
+        if matches!(call, Call::Commit) && answer >> 32 == 0 {
+            self.blocks += answer;
+            self.most_blocks = self.most_blocks.max(answer);
+        }
+    }
+
+    fn print(&self, seed: u64) {
+        for (name, answers) in Call::NAMES.iter().zip(&self.answers) {
+            let made: u64 = answers.iter().sum();
+            print!("{name}: {made} calls, {} accepted", answers[0]);
+            let refusals = (1..32).filter(|&n| answers[n] > 0);
+            let list: Vec<String> = refusals.map(|n| format!("{n} x {}", answers[n])).collect();
+            println!("; refused: {}", list.join(", "));
+        }
+        println!("blocks made: {}, at most {} at once", self.blocks, self.most_blocks);
+        let [small, middle, large] = self.sizes;
+        println!("calls by ceiling: {small} up to 40, {middle} up to 255, {large} up to 1,024");
+        println!("changed states: {}, of them not well formed: {}", self.changed, self.malformed);
+        println!("seed {seed}: {} calls, {} differences", self.calls, self.differences);
+    }
+}
+
+// ------------------------------------------------------------ comparison ---
+
+pub struct Test {
+    rng: Rng,
+    figures: Figures,
+    before_state: Vec<u32>,
+    before_table: Vec<u32>,
+}
+
+fn first_difference(what: &str, expected: &[u32], found: &[u32]) {
+    if let Some(at) = (0..expected.len()).find(|&i| expected[i] != found[i]) {
+        println!("  {what} word {at}: expected {}, found {}", expected[at], found[at]);
+    }
+}
+
+impl Test {
+    /// One call on a node, by both, compared.
+    pub fn call(&mut self, node: &mut Node, call: &Call, lengths: (usize, usize)) -> u64 {
+        let (ns, nt) = lengths;
+        let size = match node.table.len() / ROW {
+            0..=42 => 0,
+            43..=256 => 1,
+            _ => 2,
+        };
+        let mut found_out = call.out().to_vec();
+        let mut expected_out = found_out.clone();
+        self.before_state.clone_from(&node.state);
+        self.before_table.clone_from(&node.table);
+        let found = by_engine(call, &mut node.state[..ns], &mut node.table[..nt], &mut found_out);
+        let answer = by_reference(call, &mut node.twin, lengths, &mut expected_out);
+        let expected = wide(answer);
+        let (state, table) = (&mut self.before_state, &mut self.before_table);
+        if let (Ok(_), Some(member)) = (answer, &node.twin) {
+            write_after(call, member, state, table);
+        }
+        let same = found == expected
+            && *state == node.state
+            && *table == node.table
+            && found_out == expected_out;
+        if !same {
+            self.figures.differences += 1;
+            println!("DIFFERENCE at call {}: {call:?}, lengths {lengths:?}", self.figures.calls);
+            println!("  answer: expected {expected:#x}, found {found:#x}");
+            first_difference("state", state, &node.state);
+            first_difference("table", table, &node.table);
+            first_difference("out", &expected_out, &found_out);
+            println!("  state now: {:?}", node.state);
+            // Go on from what was expected.
+            node.state.clone_from(&self.before_state);
+            node.table.clone_from(&self.before_table);
+        }
+        self.figures.count(call, expected);
+        self.figures.sizes[size] += 1;
+        expected
+    }
+
+    /// The lengths handed over: mostly all of it, at times too little.
+    fn lengths(&mut self, node: &Node) -> (usize, usize) {
+        let (mut ns, mut nt) = (node.state.len(), node.table.len());
+        if self.rng.chance(8) {
+            ns = self.rng.below(STATE_WORDS as u64 + 1) as usize;
+        }
+        if self.rng.chance(12) {
+            let needed = node.twin.as_ref().map_or(nt, |m| table_words(m.settings.ceiling));
+            nt = match self.rng.below(3) {
+                0 => needed - 1,
+                1 => needed,
+                _ => self.rng.below(nt as u64 + 1) as usize,
+            };
+        }
+        (ns, nt)
+    }
+
+    /// Some calls on a copy of a node with words changed. Where the changed
+    /// state is well formed the copy may take the node's place.
+    fn changed(&mut self, node: &mut Node, pool: &mut Pool) {
+        let mut copy = node.clone();
+        let Some(hint) = node.twin.clone() else { return };
+        for _ in 0..1 + self.rng.below(3) {
+            change_word(&mut self.rng, &hint, &mut copy.state, &mut copy.table);
+        }
+        copy.read_again();
+        self.figures.changed += 1;
+        self.figures.malformed += u64::from(copy.twin.is_none());
+        let some = if copy.twin.is_none() { 2 } else { 6 };
+        for _ in 0..1 + self.rng.below(some) {
+            let hint = copy.twin.as_ref().unwrap_or(&hint);
+            let call = any_call(&mut self.rng, hint, pool);
+            let lengths = self.lengths(&copy);
+            self.call(&mut copy, &call, lengths);
+        }
+        if copy.twin.is_some() && self.rng.chance(100) {
+            *node = copy;
+        }
+    }
+
+    /// A stretch of calls on members with the same sheet.
+    fn stretch(&mut self) {
+        let plan = Plan::any(&mut self.rng);
+        let mut pool = Pool::default();
+        let mut nodes: Vec<Node> = Vec::new();
+        for own in &plan.owns {
+            let member =
+                Member::open(*own, &plan.sheet, plan.ceiling).expect("a plan's sheet is fine");
+            let mut node = if plan.grown == 0 {
+                self.opened(&plan, *own)
+            } else {
+                let grown = grow(&mut self.rng, member, plan.grown, &plan);
+                Node::of(grown, &mut self.rng)
+            };
+            if self.rng.chance(500) {
+                node.read_again();
+            }
+            nodes.push(node);
+        }
+        for _ in 0..plan.calls {
+            let node = &mut nodes[self.rng.below(plan.owns.len() as u64) as usize];
+            if self.rng.chance(plan.changes) {
+                self.changed(node, &mut pool);
+                continue;
+            }
+            if self.rng.chance(plan.rereads) {
+                node.read_again();
+                assert!(node.twin.is_some(), "a state reached by calls is not well formed");
+            }
+            let Some(twin) = &node.twin else { unreachable!("a node in a stretch is well formed") };
+            let call = likely_call(&mut self.rng, twin, &mut pool);
+            let lengths = self.lengths(node);
+            let answer = self.call(node, &call, lengths);
+            pool.note(&call, answer, node.twin.as_ref().unwrap());
+        }
+    }
+
+    /// A node opened by the engine over noise.
+    fn opened(&mut self, plan: &Plan, own: u32) -> Node {
+        let rng = &mut self.rng;
+        let length = table_words(plan.ceiling) + rng.below(30) as usize;
+        let state = (0..STATE_WORDS + rng.below(4) as usize).map(|_| rng.word()).collect();
+        let table = (0..length).map(|_| rng.word()).collect();
+        let mut node = Node { state, table, twin: None };
+        node.read_again();
+        let call = Call::Open { own, sheet: sheet_words(rng, &plan.sheet) };
+        let lengths = (node.state.len(), node.table.len());
+        self.call(&mut node, &call, lengths);
+        assert!(node.twin.is_some(), "a plan's open is accepted");
+        node
+    }
+}
+
+fn main() {
+    let mut arguments = std::env::args().skip(1);
+    let seed = arguments.next().map_or(1, |a| a.parse().expect("SEED is a number"));
+    let calls = arguments.next().map_or(1_000_000, |a| a.parse().expect("CALLS is a number"));
+    let mut test = Test {
+        rng: Rng::of(seed),
+        figures: Figures::default(),
+        before_state: Vec::new(),
+        before_table: Vec::new(),
+    };
+    for ceiling in (0..2_000).chain([65_535, u32::MAX]) {
+        assert_eq!(engine::table_words(ceiling), 272 * u64::from(ceiling) + 272);
+    }
+    test.edges();
+    println!("edges: {} calls", test.figures.calls);
+    while test.figures.calls < calls && test.figures.differences < 10 {
+        test.stretch();
+    }
+    test.figures.print(seed);
+    std::process::exit(i32::from(test.figures.differences > 0));
+}

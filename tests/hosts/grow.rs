@@ -1,0 +1,233 @@
+//! What a stretch of calls starts from: a sheet, members grown by runs of the
+//! reference, and changed words.
+
+use crate::calls::*;
+use crate::reference::*;
+use crate::words::*;
+
+/// The shape of a stretch.
+pub struct Plan {
+    pub sheet: Sheet,
+    pub ceiling: u32,
+    /// The members that have engines.
+    pub owns: Vec<u32>,
+    /// The round up to which members are grown before; 0 for opened ones.
+    pub grown: u32,
+    pub calls: u32,
+    /// In 1,000: how often words are changed, and the twin read again.
+    pub changes: u32,
+    pub rereads: u32,
+    /// In 1,000: how often a grown member commits when it can, and how much
+    /// of a previous set and of a round's authors it takes.
+    commits: u32,
+    thick: u32,
+    full: u32,
+}
+
+fn any_lookback(rng: &mut Rng, ceiling: u32) -> u32 {
+    match rng.below(8) {
+        0 => 1,
+        1 => 2,
+        2 => 3,
+        3 => rng.between(4, 8),
+        4 => 20,
+        5 => ceiling.min(1_000),
+        6 => rng.between(1, ceiling.min(1_000)),
+        _ => rng.pick(&[1, 5, 10, 1_000]),
+    }
+}
+
+fn any_weights(rng: &mut Rng) -> [Setting; 16] {
+    let most = rng.pick(&[1, 1, 2, 5, 1_000, 1_000_000]);
+    let inside = rng.pick(&[200, 400, 600, 1_000]);
+    let mut weights = [Setting::Blank; 16];
+    for weight in &mut weights {
+        if rng.chance(inside) {
+            *weight = Setting::Written(rng.between(1, most));
+        } else if rng.chance(500) {
+            *weight = Setting::Written(0);
+        }
+    }
+    if rng.chance(100) {
+        weights = [Setting::Blank; 16];
+    }
+    weights[rng.below(16) as usize] = Setting::Written(1);
+    weights
+}
+
+impl Plan {
+    pub fn any(rng: &mut Rng) -> Plan {
+        let ceiling = match rng.below(1_000) {
+            0..=749 => rng.between(3, 16),
+            750..=899 => rng.between(17, 40),
+            900..=959 => 64,
+            960..=984 => rng.pick(&[63, 128, 200, 255, 256]),
+            _ => rng.pick(&[257, 512, 1_000, 1_023, 1_024, 1_024]),
+        };
+        let large = ceiling > 40;
+        let sheet = Sheet {
+            lookback: Setting::Written(any_lookback(rng, ceiling)),
+            ceiling: if ceiling == 1_024 && rng.chance(500) {
+                Setting::Blank
+            } else {
+                Setting::Written(ceiling)
+            },
+            allowance: if rng.chance(300) {
+                Setting::Blank
+            } else {
+                Setting::Written(rng.between(0, 4))
+            },
+            weights: any_weights(rng),
+        };
+        let weights = sheet.fill().expect("all in range").weights;
+        let mut owns: Vec<u32> =
+            (0..16).filter(|&m| weights[m as usize] > 0 || rng.chance(100)).collect();
+        (1..owns.len()).rev().for_each(|i| owns.swap(i, rng.below(i as u64 + 1) as usize));
+        owns.truncate(if large { 1 } else { rng.between(1, 4) as usize });
+        let lookback = if rng.chance(100) { Setting::Blank } else { sheet.lookback };
+        Plan {
+            sheet: Sheet { lookback, ..sheet },
+            ceiling,
+            grown: if large || rng.chance(600) { rng.between(1, ceiling) } else { 0 },
+            calls: if large { rng.between(50, 250) } else { rng.between(20, 60 + 20 * ceiling) },
+            owns,
+            changes: rng.pick(&[0, 50, 150, 300]),
+            rereads: rng.pick(&[20, 100, 500]),
+            commits: rng.pick(&[0, 50, 300, 700, 1_000]),
+            thick: rng.pick(&[500, 800, 950, 1_000]),
+            full: rng.pick(&[300, 700, 1_000, 1_000]),
+        }
+    }
+}
+
+/// Runs a member on to a round, with certificates made up to fit it.
+pub fn grow(rng: &mut Rng, mut member: Member, to: u32, plan: &Plan) -> Member {
+    loop {
+        let round = member.round;
+        let Some(committee) = member.committee_of(round) else { break };
+        let inside =
+            (0..MEMBERS).filter(|&m| committee[m as usize] > 0).map(single).fold(0, |a, b| a | b);
+        let before = if round > 1 { member.held_authors(round - 1) } else { 0 };
+        if inside == 0 || round > 1 && before == 0 {
+            break;
+        }
+        for author in members_of(inside) {
+            if !rng.chance(plan.full) {
+                continue;
+            }
+            let thin = rng.thin(before, plan.thick);
+            let previous = if thin == 0 { before } else { thin };
+            let transactions = (0..rng.between(0, member.settings.allowance))
+                .map(|_| any_transaction(rng))
+                .collect();
+            let proposal = Proposal { author, round, previous, transactions };
+            let endorsers = inside & !single(author);
+            // Its own goes the way of propose and certify where it can.
+            if author == member.own
+                && rng.chance(800)
+                && member.propose(previous, &proposal.transactions).is_ok()
+            {
+                if rng.chance(900) {
+                    member.certify(endorsers).expect("a quorum endorsed it");
+                }
+                continue;
+            }
+            if rng.chance(20) && member.endorse(&proposal).is_ok() {
+                continue;
+            }
+            member.accept(&Certificate { proposal, endorsers }).expect("it was made to fit");
+        }
+        if rng.chance(plan.commits) {
+            let _ = member.commit();
+        }
+        if round >= to || member.advance().is_err() {
+            break;
+        }
+    }
+    member
+}
+
+// --------------------------------------------------------------- changes ---
+
+/// A place that is held, if there is one, near a place chosen by chance.
+fn held_place(rng: &mut Rng, member: &Member) -> Option<(u32, u32)> {
+    for _ in 0..20 {
+        let round = rng.between(1, member.round.max(2).min(member.settings.ceiling));
+        let held = member.held_authors(round);
+        if held != 0 {
+            let authors: Vec<u32> = members_of(held).collect();
+            return Some((rng.pick(&authors), round));
+        }
+    }
+    None
+}
+
+/// One bit, mostly a member's.
+fn any_bit(rng: &mut Rng) -> u32 {
+    let width = if rng.chance(900) { 16 } else { 32 };
+    1 << rng.below(width)
+}
+
+/// Changes one word of a state or table, at a telling place or at any.
+pub fn change_word(rng: &mut Rng, member: &Member, state: &mut [u32], table: &mut [u32]) {
+    let (ceiling, blocks) = (member.settings.ceiling, member.chain.len() as u32);
+    let near = if rng.chance(700) { member.round } else { ceiling };
+    let row = ROW * rng.between(1, near) as usize;
+    let record = held_place(rng, member).map(|(a, r)| ROW * r as usize + 16 + 16 * a as usize);
+    let sort = rng.below(22);
+    match (sort, record) {
+        (0, _) => table[rng.below(table.len() as u64) as usize] = rng.word(),
+        (1, _) => table[row] ^= 1 << rng.below(16),
+        (2, _) => table[row] = rng.pick(&[0, 65_535, 65_536, 1 << 31, 0x1_0001]),
+        (3, _) => table[row + 1] ^= any_bit(rng),
+        (4, _) => table[row + 1] = rng.pick(&[0, 65_535, 65_536, u32::MAX]),
+        (5, _) => {
+            let word = &mut table[ROW * rng.between(1, (blocks + 1).min(ceiling)) as usize + 2];
+            *word = match rng.below(6) {
+                0 => word.wrapping_add(1),
+                1 => word.wrapping_add(2),
+                2 => word.wrapping_sub(2),
+                3 => rng.pick(&[0, 1, ceiling, ceiling - 1, ceiling.wrapping_add(1)]),
+                4 => 2 * rng.between(0, ceiling / 2 + 1),
+                _ => rng.word(),
+            };
+        }
+        (6, Some(at)) | (7, Some(at)) => table[at + 2] = rng.between(0, blocks + 1),
+        (8, Some(at)) => table[at + 2] = rng.word(),
+        (9, Some(at)) => table[at] ^= any_bit(rng),
+        (10, Some(at)) => table[at] = rng.pick(&[0, 1, 65_535, 65_536]),
+        (11, Some(at)) => table[at + 1] = rng.pick(&[0, 1, 2, 3, 4, 5, 6, u32::MAX]),
+        (12, Some(at)) => table[at + 4 + 3 * rng.below(4) as usize] = rng.between(0, 3),
+        (13, Some(at)) => {
+            table[at + 5 + 3 * rng.below(4) as usize] = rng.pick(&[0, 3, 15, 16, u32::MAX])
+        }
+        (14, Some(at)) => {
+            table[at + 6 + 3 * rng.below(4) as usize] = rng.pick(&[0, 1, 1_000, 1_001, u32::MAX])
+        }
+        (15, Some(at)) => table[at + 3] = rng.word(),
+        (16, _) => table[rng.below(ROW as u64) as usize] = rng.word(),
+        (17, _) => table[row + 3 + rng.below(13) as usize] = rng.word(),
+        _ => change_state(rng, member, state),
+    }
+}
+
+fn change_state(rng: &mut Rng, member: &Member, state: &mut [u32]) {
+    let settings = &member.settings;
+    let (at, value) = match rng.below(16) {
+        0 => (0, rng.between(0, 16)),
+        1 => (1, rng.pick(&[0, 1, 2, 3, 1_000, 1_001])),
+        2 => (1, rng.between(1, settings.ceiling.min(1_000))),
+        3 => (2, rng.pick(&[2, 3, settings.ceiling - 1, settings.ceiling + 1, 1_024, 1_025])),
+        4 => (3, rng.between(0, 5)),
+        5 => (4 + rng.below(16) as usize, rng.pick(&[0, 1, 5, 1_000_000, 1_000_001, u32::MAX])),
+        6 | 7 | 8 => (20, rng.between(1, settings.ceiling)),
+        9 => (20, rng.pick(&[0, settings.ceiling, settings.ceiling + 1])),
+        10 => (21, rng.between(0, 2)),
+        11 => (22, (member.chain.len() as u32 + rng.between(0, 2)).saturating_sub(1)),
+        12 => (22, rng.word()),
+        13 => (23, rng.pick(&[0, 1, 65_535, 65_536])),
+        14 => (24, rng.between(0, 5)),
+        _ => (rng.below(state.len() as u64) as usize, rng.word()),
+    };
+    state[at] = value;
+}

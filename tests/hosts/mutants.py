@@ -1,0 +1,144 @@
+"""Spoils bench/plain.rs in one place at a time and counts which of the
+spoilt ones the comparison with the reference notices.
+
+    python3 tests/hosts/mutants.py [CALLS [SEED [TEXT]]]
+
+With TEXT only those whose old text holds it.
+"""
+import os, shutil, subprocess, sys
+
+# (text that stands once in plain.rs, what takes its place)
+MUTANTS = [
+    # states that are not well formed
+    ("state[0] < 16\n", "state[0] < 17\n"),
+    ("(1..=1000).contains(&state[1])", "(1..=1001).contains(&state[1])"),
+    ("(3..=1024).contains(&ceiling)", "(3..=1025).contains(&ceiling)"),
+    ("&& allowance <= 4\n", "&& allowance <= 5\n"),
+    ("all(|&w| w <= 1_000_000)", "all(|&w| w <= 1_000_001)"),
+    ("        && starting.iter().any(|&w| w > 0)\n", ""),
+    ("(1..=ceiling).contains(&round)", "(1..=ceiling + 1).contains(&round)"),
+    ("state[PROPOSED] <= 1\n", "state[PROPOSED] <= 2\n"),
+    ("&& (state[PROPOSED] == 0\n            ||", "&& (true\n            ||"),
+    ("                && (body[0] == 0) == (round == 1)\n", ""),
+    ("(round % 2 != 0) | ", ""),
+    ("(round <= last) | ", ""),
+    (" | (round >= ceiling)", ""),
+    ("(round >= ceiling)", "(round > ceiling)"),
+    ("if (held | endorsed) >= 1 << 16 {", "if held >= 1 << 16 {"),
+    ("if (held | endorsed) >= 1 << 16 {", "if endorsed >= 1 << 16 {"),
+    ("let (least, span) = if round == 1 { (0, 0) }", "let (least, span) = if round == 1 { (0, 65_535) }"),
+    ("else { (1, 65_534) }", "else { (0, 65_535) }"),
+    ("else { (1, 65_534) }", "else { (1, 65_535) }"),
+    ("flaws += u32::from(count > allowance);", "flaws += u32::from(count > 4);"),
+    ("flaws += u32::from(mark > blocks);", ""),
+    ("|= flawed_here[k]", "|= flawed_here[0]"),
+    ("lane(numbers[k] < 16)", "lane(numbers[k] < 17)"),
+    (".wrapping_sub(1) < 1_000)", ".wrapping_sub(1) < 1_001)"),
+    (".wrapping_sub(1) < 1_000)", " < 1_001)"),
+    ("| entry & none;", "| entry;"),
+    ("unbond & none)", "unbond)"),
+    ("&& words >= ROW", "&& words + 1 >= ROW"),
+    # arguments that cannot be read
+    ("    body[0] < 1 << 16\n        && body[2..]", "    body[2..]"),
+    ("|| body[0] < 1 << 16\n                && ", "|| "),
+    (".take(body[1].min(4) as usize)", ".take(4)"),
+    ("t[0] <= 2 && t[2] == 0", "t[0] <= 3 && t[2] == 0"),
+    ("t[0] <= 2 && t[2] == 0", "t[0] <= 2"),
+    ("if sheet.chunks_exact(2).any(|setting| setting[0] > 1) {", "if false {"),
+    ("    if endorsers >= 1 << 16 {\n        return Err(1);\n    }\n    let mut room = Changes::new();\n    let s = survey(state, table, Weights::Present",
+     "    let endorsers = endorsers & 0xffff;\n    let mut room = Changes::new();\n    let s = survey(state, table, Weights::Present"),
+    # committees
+    ("self.total().saturating_sub(1) / 3", "self.total() / 3"),
+    ("self.weight(set) >= self.total()", "self.weight(set) > self.total()"),
+    ("for _ in 0..(round / 2) % left", "for _ in 0..round % left"),
+    ("if change[m] & GONE == 0", "if true"),
+    ("*slot = if kind == 1 { GONE } else", "*slot = if kind == 1 { GONE | (*slot & !GONE) } else"),
+    ("let s = round - self.lookback();", "let s = round + 1 - self.lookback();"),
+    ("if s > self.last + 2 {", "if s > self.last + 1 {"),
+    ("if s > self.last + 2 {", "if s > self.last + 3 {"),
+    ("if self.block_round(middle + 1) < s {", "if self.block_round(middle + 1) <= s {"),
+    ("((2_000 * weight + total) / (2 * total))", "(1_000 * weight / total)"),
+    # calls
+    ("body[1] <= allowance &&", "body[1] <= 4 &&"),
+    ("if (body[0] == 0) != (round == 1) {", "if body[0] == 0 && round > 1 {"),
+    ("if s.state[PROPOSED] == 1 || s.has(s.own(), r) {", "if s.state[PROPOSED] == 1 {"),
+    ("if s.state[PROPOSED] == 1 || s.has(s.own(), r) {", "if s.has(s.own(), r) {"),
+    ("if s.committee(r)?.members() >> s.own() & 1 == 0 {", "if false {"),
+    ("if previous & !before.members() != 0 || ", "if "),
+    ("    if author == s.own() {\n        return Err(14);\n    }\n", ""),
+    ("if (row[0] | row[1]) >> author", "if row[0] >> author"),
+    ("if (row[0] | row[1]) >> author", "if row[1] >> author"),
+    ("s.check_previous(round, body[0], &s.committee(round - 1)?)?;", "s.check_previous(round, body[0], &s.committee(round)?)?;"),
+    ("if endorsers >> own & 1 == 1 {", "if false {"),
+    ("if endorsers >> author & 1 == 1 {", "if false {"),
+    ("if s.same(author, round, body) { 16 } else { 17 }", "16"),
+    ("&& record[4..4 + used] == body[2..2 + used]", ""),
+    ("    if round > 1 && body[0] & !s.held(round - 1) != 0 {\n        return Err(11);\n    }\n", ""),
+    ("    table[ROW * round as usize + 1] &= !(1 << author);\n", ""),
+    ("    record.fill(0);\n", ""),
+    ("    state[PROPOSED] = 0;\n", ""),
+    ("    state[PROPOSED] = 0;\n    state[BODY..STATE_WORDS].fill(0);\n", "    state[PROPOSED] = 0;\n"),
+    ("    clear_unused(&mut state[BODY..STATE_WORDS]);\n    Ok(())", "    Ok(())"),
+    ("        0 => state[BODY..STATE_WORDS].fill(0),\n", "        0 => {}\n"),
+    ("        _ => clear_unused(&mut state[BODY..STATE_WORDS]),\n", "        _ => {}\n"),
+    # commit
+    ("if r % 2 == 0 || r == 1 {", "if r % 2 == 0 {"),
+    ("if s.last >= r - 1 {", "if s.last > r - 1 {"),
+    ("if committee.weight(votes) <= committee.bound() {", "if committee.weight(votes) < committee.bound() {"),
+    ("let committee = s.committee(r)?;", "let committee = s.committee(r).and(s.committee(r - 1))?;"),
+    ("            history = 1 << leader;\n", ""),
+    ("if r % 2 == 0 && history >> leader", "if history >> leader"),
+    ("history = named & s.held(r);", "history = named;"),
+    ("for &(anchor, round) in anchors.iter().rev() {", "for &(anchor, round) in anchors {"),
+    ("                if record[2] == 0 {\n                    record[2] = block;\n                }\n", "                record[2] = block;\n"),
+    ("                named |= record[0];\n", "                named |= if record[2] == block { record[0] } else { 0 };\n"),
+    ("named & rows[r][0] & !visited[r]", "named & !visited[r]"),
+    ("let below = r.saturating_sub(s.lookback());", "let below = top.saturating_sub(s.lookback());"),
+    ("        rows[block as usize][2] = round;\n", ""),
+    ("state[BLOCKS] = blocks + taken as u32;", "state[BLOCKS] = blocks + 1;"),
+    ("    Ok(taken as u32)\n", "    Ok(1)\n"),
+    # reads
+    ("*out = s.committee(round)?.0;", "*out = s.committee(round)?.0.map(|w| w & 0xffff);"),
+    ("    clear_unused(&mut out[2..16]);\n", ""),
+    ("    out[16] = record[2];\n", ""),
+    ("if number == 0 || number > s.blocks() {", "if number > s.blocks() {"),
+    # order of checks
+    ("if author > 15 {\n            return Err(4);\n        }\n        if !self.in_range(round) {\n            return Err(5);\n        }",
+     "if !self.in_range(round) {\n            return Err(5);\n        }\n        if author > 15 {\n            return Err(4);\n        }"),
+    ("    if signers & !committee.members() != 0 {\n            return Err(9);\n        }\n", ""),
+    ("    if own > 15 {\n        return Err(4);\n    }\n    let mut fresh", "    let mut fresh"),
+    ("3..=6 => (0, 1_000_000, 1),", "3..=5 => (0, 1_000_000, 1),"),
+    ("table.get_mut(..used).ok_or(1u32)?.fill(0);", "table.get_mut(..used).ok_or(1u32)?;"),
+    ("table.get_mut(..used).ok_or(1u32)?.fill(0);", "if table.len() < used { return Err(1); } table.fill(0);"),
+]
+
+
+def main():
+    calls = sys.argv[1] if len(sys.argv) > 1 else "300000"
+    seed = sys.argv[2] if len(sys.argv) > 2 else "1"
+    wanted = [m for m in MUTANTS if len(sys.argv) < 4 or sys.argv[3] in m[0]]
+    here = os.path.dirname(os.path.abspath(__file__))
+    top = os.path.join(here, "..", "..")
+    copy = os.path.join(top, "target", "mutants")
+    shutil.rmtree(copy, ignore_errors=True)
+    os.makedirs(copy)
+    for folder in ("bench", "reference", "tests"):
+        shutil.copytree(os.path.join(top, folder), os.path.join(copy, folder))
+    plain = os.path.join(copy, "bench", "plain.rs")
+    text = open(plain).read()
+    missed = []
+    for old, new in wanted:
+        assert text.count(old) == 1, "stands %d times: %s" % (text.count(old), old)
+        with open(plain, "w") as f:
+            f.write(text.replace(old, new))
+        build = ["rustc", "--edition", "2021", "-A", "warnings", "-C", "opt-level=1", "--cfg", "plain",
+                 os.path.join(copy, "tests", "hosts", "differential.rs"), "-o", os.path.join(copy, "differential")]
+        subprocess.run(build, check=True)
+        run = subprocess.run([os.path.join(copy, "differential"), seed, calls], capture_output=True)
+        if run.returncode == 0:
+            missed.append((old, new))
+            print("not noticed: %r -> %r" % (old, new), flush=True)
+    print("%d mutants, %d noticed" % (len(wanted), len(wanted) - len(missed)))
+
+
+main()

@@ -1,0 +1,18 @@
+#!/bin/sh
+# run.sh [SEED [CALLS [ARCHIVE]]]: host functions against the reference.
+# ARCHIVE is the engine's static library (target/staticlib/libhost.a if not
+# given), or `plain` for bench/plain.rs.
+set -e
+top=$(cd "$(dirname "$0")/../.." && pwd)
+seed=${1:-1}
+calls=${2:-1000000}
+archive=${3:-$top/target/staticlib/libhost.a}
+if [ "$archive" = plain ]; then
+    set -- --cfg plain
+else
+    set -- -L "$(dirname "$archive")" -l static=host
+fi
+mkdir -p "$top/target/tests"
+rustc --edition 2021 -C opt-level=3 --check-cfg 'cfg(plain)' "$@" \
+    "$top/tests/hosts/differential.rs" -o "$top/target/tests/differential"
+exec "$top/target/tests/differential" "$seed" "$calls"

@@ -1,0 +1,279 @@
+//! State, table and argument words as values of the reference, and back.
+//!
+//! Written from document 01 (well formed states), docs/TABLES.md and the
+//! host's layouts. `None` stands for "refused with 1": words that cannot be
+//! read, or a state that is not well formed.
+
+use crate::reference::*;
+
+pub const STATE_WORDS: usize = 37;
+pub const ROW: usize = 272;
+
+pub fn table_words(ceiling: u32) -> usize {
+    ROW * (ceiling as usize + 1)
+}
+
+// ------------------------------------------------------------- reading ---
+
+pub fn read_set(word: u32) -> Option<Set> {
+    Set::try_from(word).ok()
+}
+
+pub fn read_transaction(words: &[u32]) -> Option<Transaction> {
+    match (words[0], words[1], words[2]) {
+        (0, member, amount) => Some(Transaction::Bond { member, amount }),
+        (1, member, 0) => Some(Transaction::Unbond { member }),
+        (2, number, 0) => Some(Transaction::Entry { number }),
+        _ => None,
+    }
+}
+
+/// The transactions of a body. A count above four is over every allowance:
+/// the four that stand there are read, and others stand in for the rest.
+pub fn read_transactions(count: u32, words: &[u32]) -> Option<Vec<Transaction>> {
+    let mut all = Vec::new();
+    for k in 0..count.min(5) as usize {
+        all.push(if k < 4 {
+            read_transaction(&words[3 * k..3 * k + 3])?
+        } else {
+            Transaction::Entry { number: 0 }
+        });
+    }
+    Some(all)
+}
+
+/// The previous set and the transactions of a body.
+pub fn read_body(words: &[u32]) -> Option<(Set, Vec<Transaction>)> {
+    let words = words.get(..14)?;
+    Some((read_set(words[0])?, read_transactions(words[1], &words[2..])?))
+}
+
+pub fn read_proposal(words: &[u32]) -> Option<Proposal> {
+    let words = words.get(..16)?;
+    let (previous, transactions) = read_body(&words[2..])?;
+    Some(Proposal { author: words[0], round: words[1], previous, transactions })
+}
+
+pub fn read_certificate(words: &[u32]) -> Option<Certificate> {
+    let words = words.get(..17)?;
+    Some(Certificate { proposal: read_proposal(words)?, endorsers: read_set(words[16])? })
+}
+
+pub fn read_sheet(words: &[u32]) -> Option<Sheet> {
+    let words = words.get(..38)?;
+    let mut settings = Vec::new();
+    for pair in words.chunks(2) {
+        settings.push(match pair[0] {
+            0 => Setting::Blank,
+            1 => Setting::Written(pair[1]),
+            _ => return None,
+        });
+    }
+    let weights = settings[3..].try_into().unwrap();
+    Some(Sheet { lookback: settings[0], ceiling: settings[1], allowance: settings[2], weights })
+}
+
+/// Transactions in range and within the allowance, previous set empty exactly
+/// in round 1.
+fn proposal_fits(p: &Proposal, settings: &Settings) -> bool {
+    p.transactions.len() <= settings.allowance as usize
+        && p.transactions.iter().all(Transaction::in_range)
+        && (p.previous == 0) == (p.round == 1)
+}
+
+fn read_settings(words: &[u32]) -> Option<Settings> {
+    let written = |k: usize| Setting::Written(words[1 + k]);
+    let weights: Vec<Setting> = (3..19).map(written).collect();
+    let sheet = Sheet {
+        lookback: written(0),
+        ceiling: written(1),
+        allowance: written(2),
+        weights: weights.try_into().unwrap(),
+    };
+    let settings = sheet.fill().ok()?;
+    if total(&settings.weights) > 0 {
+        Some(settings)
+    } else {
+        None
+    }
+}
+
+/// The member whose state the words are.
+pub fn read_member(state: &[u32], table: &[u32]) -> Option<Member> {
+    let state = state.get(..STATE_WORDS)?;
+    let settings = read_settings(state)?;
+    let (own, round, blocks) = (state[0], state[20], state[22]);
+    let ceiling = settings.ceiling;
+    if own >= MEMBERS || round < 1 || round > ceiling || blocks > ceiling {
+        return None;
+    }
+    let proposal = match state[21] {
+        0 => None,
+        1 => {
+            let (previous, transactions) = read_body(&state[23..])?;
+            Some(Proposal { author: own, round, previous, transactions })
+        }
+        _ => return None,
+    };
+    if !proposal.iter().all(|p| proposal_fits(p, &settings)) {
+        return None;
+    }
+    let table = table.get(..table_words(ceiling))?;
+    let (held, endorsed) = read_places(table, &settings, blocks)?;
+    let chain = read_chain(table, &settings, blocks, &held)?;
+    Some(Member { own, settings, round, proposal, held, endorsed, chain })
+}
+
+/// Held certificates and endorsed places, by round, then author.
+fn read_places(
+    table: &[u32],
+    settings: &Settings,
+    blocks: u32,
+) -> Option<(Vec<Option<Held>>, Vec<bool>)> {
+    let (mut held, mut endorsed) = (Vec::new(), Vec::new());
+    for (round, row) in (0..).zip(table.chunks(ROW)).skip(1) {
+        let (here, marked) = (read_set(row[0])?, read_set(row[1])?);
+        for author in 0..MEMBERS {
+            endorsed.push(in_set(marked, author));
+            if !in_set(here, author) {
+                held.push(None);
+                continue;
+            }
+            let record = &row[16 + 16 * author as usize..][..16];
+            let previous = read_set(record[0])?;
+            let transactions = read_transactions(record[1], &record[4..])?;
+            let proposal = Proposal { author, round, previous, transactions };
+            if !proposal_fits(&proposal, settings) || record[2] > blocks {
+                return None;
+            }
+            held.push(Some(Held {
+                certificate: Certificate { proposal, endorsers: 0 },
+                block: record[2],
+            }));
+        }
+    }
+    Some((held, endorsed))
+}
+
+/// Block rounds are even, rising and below the ceiling; a block's certificates
+/// are those marked with its number, by round, then author.
+fn read_chain(
+    table: &[u32],
+    settings: &Settings,
+    blocks: u32,
+    held: &[Option<Held>],
+) -> Option<Vec<Block>> {
+    let mut chain: Vec<Block> = Vec::new();
+    for number in 1..=blocks as usize {
+        let round = table[ROW * number + 2];
+        let last = chain.last().map_or(0, |b| b.round);
+        if round % 2 == 1 || round <= last || round >= settings.ceiling {
+            return None;
+        }
+        chain.push(Block { round, certificates: Vec::new(), after: [0; 16] });
+    }
+    for (place, here) in held.iter().enumerate() {
+        if let Some(Held { block, .. }) = here {
+            if *block > 0 {
+                chain[*block as usize - 1]
+                    .certificates
+                    .push((place as u32 / 16 + 1, place as u32 % 16));
+            }
+        }
+    }
+    let mut committee = settings.weights;
+    for block in &mut chain {
+        for &(round, author) in &block.certificates {
+            let place = (round - 1) * 16 + author;
+            let there = held[place as usize].as_ref().unwrap();
+            there.certificate.proposal.transactions.iter().for_each(|t| change(&mut committee, t));
+        }
+        block.after = committee;
+    }
+    Some(chain)
+}
+
+// ------------------------------------------------------------- writing ---
+
+pub fn transaction_words(transaction: &Transaction) -> [u32; 3] {
+    match *transaction {
+        Transaction::Bond { member, amount } => [0, member, amount],
+        Transaction::Unbond { member } => [1, member, 0],
+        Transaction::Entry { number } => [2, number, 0],
+    }
+}
+
+/// Previous set, count, four transactions, 0 beyond them.
+pub fn body_words(p: &Proposal) -> [u32; 14] {
+    let mut words = [0; 14];
+    words[0] = u32::from(p.previous);
+    words[1] = p.transactions.len() as u32;
+    for (k, t) in p.transactions.iter().enumerate() {
+        words[2 + 3 * k..5 + 3 * k].copy_from_slice(&transaction_words(t));
+    }
+    words
+}
+
+pub fn proposal_words(p: &Proposal) -> Vec<u32> {
+    let mut words = vec![p.author, p.round];
+    words.extend(body_words(p));
+    words
+}
+
+pub fn certificate_words(c: &Certificate) -> Vec<u32> {
+    let mut words = proposal_words(&c.proposal);
+    words.push(u32::from(c.endorsers));
+    words
+}
+
+pub fn state_words(member: &Member) -> [u32; STATE_WORDS] {
+    let mut words = [0; STATE_WORDS];
+    let settings = &member.settings;
+    words[..4].copy_from_slice(&[
+        member.own,
+        settings.lookback,
+        settings.ceiling,
+        settings.allowance,
+    ]);
+    for (m, weight) in settings.weights.iter().enumerate() {
+        words[4 + m] = *weight as u32;
+    }
+    words[20] = member.round;
+    words[22] = member.chain.len() as u32;
+    if let Some(p) = &member.proposal {
+        words[21] = 1;
+        words[23..].copy_from_slice(&body_words(p));
+    }
+    words
+}
+
+/// Writes a member's certificates, marks and blocks over a table. What is no
+/// part of the state stays, except in records of certificates that the table
+/// did not hold: all of their sixteen words are written.
+pub fn write_table(member: &Member, table: &mut [u32]) {
+    for (round, row) in
+        (0..).zip(table.chunks_mut(ROW)).take(member.settings.ceiling as usize + 1).skip(1)
+    {
+        let before = row[0];
+        row[0] = u32::from(member.held_authors(round));
+        row[1] = 0;
+        if let Some(block) = member.chain.get(round as usize - 1) {
+            row[2] = block.round;
+        }
+        for author in 0..MEMBERS {
+            row[1] |= u32::from(member.is_endorsed(author, round)) << author;
+            let Some(held) = member.held_at(author, round) else { continue };
+            let record = &mut row[16 + 16 * author as usize..][..16];
+            let p = &held.certificate.proposal;
+            if before >> author & 1 == 0 {
+                record.fill(0);
+            }
+            record[0] = u32::from(p.previous);
+            record[1] = p.transactions.len() as u32;
+            record[2] = held.block;
+            for (k, t) in p.transactions.iter().enumerate() {
+                record[4 + 3 * k..7 + 3 * k].copy_from_slice(&transaction_words(t));
+            }
+        }
+    }
+}
