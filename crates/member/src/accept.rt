@@ -10,6 +10,7 @@ ghost use lib.ListN.{drop};
 ghost use Rattle.rules.specs.Calls.{accepting};
 ghost use Rattle.state.specs.Formed.{Formed};
 ghost use Rattle.state.specs.View.{view};
+ghost use Rattle.state.specs.WellFormed.{wellFormed};
 ghost use Rattle.member.specs.PassedLaws.{Fits};
 ghost use Rattle.member.specs.Calls.{acceptNumber, acceptOutcome, acceptTable};
 
@@ -53,19 +54,22 @@ fn refusal_of(s: State, t: &[u32], c: Certificate) -> u32
 }
 
 // The number of the first check that refuses, 0 for none.
-pub fn accept_number(s: State, t: &[u32], c: Certificate) -> u32
+fn accept_number(formed: bool, s: State, t: &[u32], c: Certificate) -> u32
+    requires { ⌜ formed ≡ wellFormed s (now t) ⌝ }
     ensures { λ v. ⌜ v ≡ acceptNumber s (now (t .entry)) c ⌝ }
 {
-    if !state::well_formed(s, t) {
+    if !formed {
         return 1;
     }
     refusal_of(s, t, c)
 }
 
-pub fn accept(s: State, t: &mut [u32], c: Certificate) -> Outcome
+// The call, where it is known whether the state is well formed.
+pub fn accept_known(formed: bool, s: State, t: &mut [u32], c: Certificate) -> Outcome
+    requires { ⌜ formed ≡ wellFormed s (now t) ⌝ }
     ensures { λ o. ⌜ (o ≡ acceptOutcome s (now (t .entry)) c) × (now (t .exit) ≡ acceptTable s (now (t .entry)) c) ⌝ }
 {
-    let n = accept_number(s, t, c);
+    let n = accept_number(formed, s, t, c);
     if n != 0 {
         return Outcome {
             state: s,
@@ -79,4 +83,11 @@ pub fn accept(s: State, t: &mut [u32], c: Certificate) -> Outcome
         state: s,
         answer: Answer::Accepted,
     }
+}
+
+pub fn accept(s: State, t: &mut [u32], c: Certificate) -> Outcome
+    ensures { λ o. ⌜ (o ≡ acceptOutcome s (now (t .entry)) c) × (now (t .exit) ≡ acceptTable s (now (t .entry)) c) ⌝ }
+{
+    let formed = state::well_formed(s, t);
+    accept_known(formed, s, t, c)
 }

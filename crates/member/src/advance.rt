@@ -4,13 +4,15 @@ use crate::Outcome;
 use state::State;
 use terms::Round;
 ghost use mathlib.Core.Path.{_≡_};
+ghost use Rattle.state.specs.WellFormed.{wellFormed};
 ghost use Rattle.member.specs.Calls.{advanceNumber, advanceOutcome};
 
 // The number of the first check that refuses, 0 for none.
-pub fn advance_number(s: State, t: &[u32]) -> u32
+fn advance_number(formed: bool, s: State, t: &[u32]) -> u32
+    requires { ⌜ formed ≡ wellFormed s (now t) ⌝ }
     ensures { λ v. ⌜ v ≡ advanceNumber s (now (t .entry)) ⌝ }
 {
-    if !state::well_formed(s, t) {
+    if !formed {
         return 1;
     }
     if s.settings.ceiling.0 <= s.round.0 {
@@ -19,10 +21,12 @@ pub fn advance_number(s: State, t: &[u32]) -> u32
     0
 }
 
-pub fn advance(s: State, t: &[u32]) -> Outcome
+// The call, where it is known whether the state is well formed.
+pub fn advance_known(formed: bool, s: State, t: &[u32]) -> Outcome
+    requires { ⌜ formed ≡ wellFormed s (now t) ⌝ }
     ensures { λ o. ⌜ o ≡ advanceOutcome s (now (t .entry)) ⌝ }
 {
-    let n = advance_number(s, t);
+    let n = advance_number(formed, s, t);
     if n != 0 {
         return Outcome {
             state: s,
@@ -39,4 +43,11 @@ pub fn advance(s: State, t: &[u32]) -> Outcome
         state: next,
         answer: Answer::Accepted,
     }
+}
+
+pub fn advance(s: State, t: &[u32]) -> Outcome
+    ensures { λ o. ⌜ o ≡ advanceOutcome s (now (t .entry)) ⌝ }
+{
+    let formed = state::well_formed(s, t);
+    advance_known(formed, s, t)
 }

@@ -8,6 +8,7 @@ ghost use Rattle.base.specs.Checks.{refusal};
 ghost use Rattle.rules.specs.Calls.{certifying};
 ghost use Rattle.state.specs.Formed.{Formed};
 ghost use Rattle.state.specs.View.{view};
+ghost use Rattle.state.specs.WellFormed.{wellFormed};
 ghost use Rattle.member.specs.Calls.{certifyNumber, certifyOutcome, certifyTable};
 
 // The checks of a well-formed state: 15, 10, 14, and those of the signers.
@@ -29,19 +30,22 @@ fn refusal_of(s: State, t: &[u32], e: u16) -> u32
 }
 
 // The number of the first check that refuses, 0 for none.
-pub fn certify_number(s: State, t: &[u32], e: u16) -> u32
+fn certify_number(formed: bool, s: State, t: &[u32], e: u16) -> u32
+    requires { ⌜ formed ≡ wellFormed s (now t) ⌝ }
     ensures { λ v. ⌜ v ≡ certifyNumber s (now (t .entry)) e ⌝ }
 {
-    if !state::well_formed(s, t) {
+    if !formed {
         return 1;
     }
     refusal_of(s, t, e)
 }
 
-pub fn certify(s: State, t: &mut [u32], e: u16) -> Outcome
+// The call, where it is known whether the state is well formed.
+pub fn certify_known(formed: bool, s: State, t: &mut [u32], e: u16) -> Outcome
+    requires { ⌜ formed ≡ wellFormed s (now t) ⌝ }
     ensures { λ o. ⌜ (o ≡ certifyOutcome s (now (t .entry)) e) × (now (t .exit) ≡ certifyTable s (now (t .entry)) e) ⌝ }
 {
-    let n = certify_number(s, t, e);
+    let n = certify_number(formed, s, t, e);
     if n != 0 {
         return Outcome {
             state: s,
@@ -61,4 +65,11 @@ pub fn certify(s: State, t: &mut [u32], e: u16) -> Outcome
         state: s,
         answer: Answer::Accepted,
     }
+}
+
+pub fn certify(s: State, t: &mut [u32], e: u16) -> Outcome
+    ensures { λ o. ⌜ (o ≡ certifyOutcome s (now (t .entry)) e) × (now (t .exit) ≡ certifyTable s (now (t .entry)) e) ⌝ }
+{
+    let formed = state::well_formed(s, t);
+    certify_known(formed, s, t, e)
 }

@@ -15,6 +15,7 @@ ghost use Rattle.terms.specs.Proposals.{contentOf};
 ghost use Rattle.rules.specs.Calls.{endorsing};
 ghost use Rattle.state.specs.Formed.{Formed};
 ghost use Rattle.state.specs.View.{view};
+ghost use Rattle.state.specs.WellFormed.{wellFormed};
 ghost use Rattle.member.specs.PassedLaws.{Fits};
 ghost use Rattle.member.specs.Calls.{endorseNumber, endorseOutcome, endorseTable};
 
@@ -58,10 +59,11 @@ fn place_refusal(s: State, t: &[u32], p: Proposal) -> u32
 }
 
 // The number of the first check that refuses, 0 for none.
-pub fn endorse_number(s: State, t: &[u32], p: Proposal) -> u32
+fn endorse_number(formed: bool, s: State, t: &[u32], p: Proposal) -> u32
+    requires { ⌜ formed ≡ wellFormed s (now t) ⌝ }
     ensures { λ v. ⌜ v ≡ endorseNumber s (now (t .entry)) p ⌝ }
 {
-    if !state::well_formed(s, t) {
+    if !formed {
         return 1;
     }
     let n = crate::checks::form_refusal(s.settings, p);
@@ -71,10 +73,12 @@ pub fn endorse_number(s: State, t: &[u32], p: Proposal) -> u32
     place_refusal(s, t, p)
 }
 
-pub fn endorse(s: State, t: &mut [u32], p: Proposal) -> Outcome
+// The call, where it is known whether the state is well formed.
+pub fn endorse_known(formed: bool, s: State, t: &mut [u32], p: Proposal) -> Outcome
+    requires { ⌜ formed ≡ wellFormed s (now t) ⌝ }
     ensures { λ o. ⌜ (o ≡ endorseOutcome s (now (t .entry)) p) × (now (t .exit) ≡ endorseTable s (now (t .entry)) p) ⌝ }
 {
-    let n = endorse_number(s, t, p);
+    let n = endorse_number(formed, s, t, p);
     if n != 0 {
         return Outcome {
             state: s,
@@ -86,4 +90,11 @@ pub fn endorse(s: State, t: &mut [u32], p: Proposal) -> Outcome
         state: s,
         answer: Answer::Accepted,
     }
+}
+
+pub fn endorse(s: State, t: &mut [u32], p: Proposal) -> Outcome
+    ensures { λ o. ⌜ (o ≡ endorseOutcome s (now (t .entry)) p) × (now (t .exit) ≡ endorseTable s (now (t .entry)) p) ⌝ }
+{
+    let formed = state::well_formed(s, t);
+    endorse_known(formed, s, t, p)
 }

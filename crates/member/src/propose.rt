@@ -13,6 +13,7 @@ ghost use Rattle.terms.specs.Proposals.{contentWith};
 ghost use Rattle.rules.specs.Calls.{proposing};
 ghost use Rattle.state.specs.Formed.{Formed};
 ghost use Rattle.state.specs.View.{view};
+ghost use Rattle.state.specs.WellFormed.{wellFormed};
 ghost use Rattle.member.specs.Calls.{proposeNumber, proposeOutcome};
 
 // Check 10: is there a proposal, or is one's own place held?
@@ -49,10 +50,11 @@ fn committee_refusal(s: State, t: &[u32], b: Body) -> u32
 }
 
 // The number of the first check that refuses, 0 for none.
-pub fn propose_number(s: State, t: &[u32], b: Body) -> u32
+fn propose_number(formed: bool, s: State, t: &[u32], b: Body) -> u32
+    requires { ⌜ formed ≡ wellFormed s (now t) ⌝ }
     ensures { λ v. ⌜ v ≡ proposeNumber s (now (t .entry)) b ⌝ }
 {
-    if !state::well_formed(s, t) {
+    if !formed {
         return 1;
     }
     if terms::is_unfit(s.settings.allowance, b) {
@@ -67,10 +69,12 @@ pub fn propose_number(s: State, t: &[u32], b: Body) -> u32
     committee_refusal(s, t, b)
 }
 
-pub fn propose(s: State, t: &[u32], b: Body) -> Outcome
+// The call, where it is known whether the state is well formed.
+pub fn propose_known(formed: bool, s: State, t: &[u32], b: Body) -> Outcome
+    requires { ⌜ formed ≡ wellFormed s (now t) ⌝ }
     ensures { λ o. ⌜ o ≡ proposeOutcome s (now (t .entry)) b ⌝ }
 {
-    let n = propose_number(s, t, b);
+    let n = propose_number(formed, s, t, b);
     if n != 0 {
         return Outcome {
             state: s,
@@ -84,4 +88,11 @@ pub fn propose(s: State, t: &[u32], b: Body) -> Outcome
         state: next,
         answer: Answer::Accepted,
     }
+}
+
+pub fn propose(s: State, t: &[u32], b: Body) -> Outcome
+    ensures { λ o. ⌜ o ≡ proposeOutcome s (now (t .entry)) b ⌝ }
+{
+    let formed = state::well_formed(s, t);
+    propose_known(formed, s, t, b)
 }

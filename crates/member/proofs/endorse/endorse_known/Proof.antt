@@ -4,8 +4,8 @@ use Rattle.member.specs.PlaceLaws.{fits-within}
 use Rattle.member.specs.PassedLaws.{endorse-passed}
 use Rattle.member.specs.Calls.{endorseOutcome, endorseTable}
 use borrow.Author.Needs.{needs}
-use Rattle.member.proofs.endorse.endorse.Statement.{statement}
-use Rattle.member.proofs.endorse.endorse.Tie as tie
+use Rattle.member.proofs.endorse.endorse_known.Statement.{statement}
+use Rattle.member.proofs.endorse.endorse_known.Tie as tie
 
 endorse-number-requires : tie.Need-endorse-number-requires
 endorse-number-requires c κs = search needs
@@ -27,8 +27,8 @@ returns-2 : tie.Need-returns-2
 unfolding endorseOutcome endorseTable
 returns-2 c = (outcome-accepted (c .before .before .before .before .before .endorse-number .ensures) _ _ (c .before .before .before .before .if1 .left), c .before .before .set-endorsed .ensures ∙ sym (left-accepted _ _ _ (sym (c .before .before .before .before .before .endorse-number .ensures) ∙ c .before .before .before .before .if1 .left)))
 
-pub endorse-spec : {M : Type 1} → statement M
-endorse-spec =
+pub endorse-known-spec : {M : Type 1} → statement M
+endorse-known-spec =
     tie.close
     (tie.spec
     endorse-number-requires

@@ -4,8 +4,8 @@ use Rattle.member.specs.PlaceLaws.{own-within, few}
 use Rattle.member.specs.PassedLaws.{certify-passed}
 use Rattle.member.specs.Calls.{certifyOutcome, certifyTable}
 use borrow.Author.Needs.{needs}
-use Rattle.member.proofs.certify.certify.Statement.{statement}
-use Rattle.member.proofs.certify.certify.Tie as tie
+use Rattle.member.proofs.certify.certify_known.Statement.{statement}
+use Rattle.member.proofs.certify.certify_known.Tie as tie
 
 certify-number-requires : tie.Need-certify-number-requires
 certify-number-requires c κs = search needs
@@ -27,8 +27,8 @@ returns-2 : tie.Need-returns-2
 unfolding certifyOutcome certifyTable
 returns-2 c = (outcome-accepted (c .before .before .before .before .before .before .before .before .certify-number .ensures) _ _ (c .before .before .before .before .before .before .before .if1 .left), c .before .before .put-certificate .ensures ∙ sym (left-accepted _ _ _ (sym (c .before .before .before .before .before .before .before .before .certify-number .ensures) ∙ c .before .before .before .before .before .before .before .if1 .left)))
 
-pub certify-spec : {M : Type 1} → statement M
-certify-spec =
+pub certify-known-spec : {M : Type 1} → statement M
+certify-known-spec =
     tie.close
     (tie.spec
     certify-number-requires

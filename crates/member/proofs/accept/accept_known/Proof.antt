@@ -4,8 +4,8 @@ use Rattle.member.specs.PlaceLaws.{fits-within, within-put, few}
 use Rattle.member.specs.PassedLaws.{accept-passed}
 use Rattle.member.specs.Calls.{acceptOutcome, acceptTable}
 use borrow.Author.Needs.{needs}
-use Rattle.member.proofs.accept.accept.Statement.{statement}
-use Rattle.member.proofs.accept.accept.Tie as tie
+use Rattle.member.proofs.accept.accept_known.Statement.{statement}
+use Rattle.member.proofs.accept.accept_known.Tie as tie
 
 accept-number-requires : tie.Need-accept-number-requires
 accept-number-requires c κs = search needs
@@ -30,8 +30,8 @@ returns-2 : tie.Need-returns-2
 unfolding acceptOutcome acceptTable
 returns-2 c = (outcome-accepted (c .before .before .before .before .before .before .before .before .before .before .accept-number .ensures) _ _ (c .before .before .before .before .before .before .before .before .before .if1 .left), (rw (← c .before .before .before .before .before .before .put-certificate .ensures) (c .before .before .clear-endorsed .ensures)) ∙ sym (left-accepted _ _ _ (sym (c .before .before .before .before .before .before .before .before .before .before .accept-number .ensures) ∙ c .before .before .before .before .before .before .before .before .before .if1 .left)))
 
-pub accept-spec : {M : Type 1} → statement M
-accept-spec =
+pub accept-known-spec : {M : Type 1} → statement M
+accept-known-spec =
     tie.close
     (tie.spec
     accept-number-requires
