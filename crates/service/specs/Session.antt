@@ -1,17 +1,17 @@
 -- A session going on: nothing of the input is lost, whatever pieces it comes in.
 use mathlib.Core.Path.{_≡_, refl, sym, ap, _∙_}
-use mathlib.Core.Bool.{true, false}
+use mathlib.Core.Bool.{true, false, false≢true}
 use mathlib.Core.List.{List, [], _∷_, _++_, append-assoc, append-nil}
 use Prim.Native.Nat.{ℕ, zero, suc, _+_, _-_, _≤_}
 use native.Mathlib.Omega.{arith}
 use lib.ListN.{length, take, drop}
-use lib.Seq.{take-add, sets, sets-eq, take-append-seam}
-use Rattle.state.specs.declared.State.{State}
+use lib.Seq.{take-add, sets-eq, take-append-seam}
 use Rattle.stream.specs.Streams.{hasEnd}
 use Rattle.stream.specs.Steps.{left}
 use Rattle.stream.specs.StepLaws.{Waits}
 use Rattle.lines.specs.Puts.{Puts}
-use Rattle.records.specs.Streams.{answersTo}
+use Rattle.member.specs.Open.{closedState}
+use Rattle.records.specs.Streams.{answersTo, output}
 use Rattle.service.specs.declared.work.Work.{Work}
 use Rattle.service.specs.declared.Session.{Session}
 use Rattle.service.specs.Work.{Goes}
@@ -19,6 +19,10 @@ use Rattle.service.specs.Work.{Goes}
 -- the bytes at hand in an input buffer
 abbrev pub handIn : List ℕ → ℕ → ℕ → List ℕ
 handIn buf from end = drop from (take end buf)
+
+-- a buffer begins with these bytes
+abbrev pub Begins : List ℕ → List ℕ → Type 0
+Begins out l = take (length l) out ≡ l
 
 -- x is the input buffer before, y after bytes came behind those at hand; the input has ended where more were wanted and none came
 pub record Refilled (w : Work) (end : ℕ) (x y : List ℕ) (r : Session) : Type 0 where
@@ -32,7 +36,7 @@ pub record Refilled (w : Work) (end : ℕ) (x y : List ℕ) (r : Session) : Type
 pub record Advanced (s : Session) (t x : List ℕ) (r : Session) (t′ x′ out : List ℕ) : Type 0 where
   pub put : List ℕ
   pub came : List ℕ
-  pub written : take (length put) out ≡ put
+  pub written : Begins out put
   pub whole : (more : List ℕ) → answersTo (s .work .state) t (left (s .work .skipping) (handIn x (s .work .from) (s .end) ++ (came ++ more)))
       ≡ put ++ answersTo (r .work .state) t′ (left (r .work .skipping) (handIn x′ (r .work .from) (r .end) ++ more))
   pub ended : r .ended ≡ true → (came ≡ []) × (hasEnd (handIn x′ (r .work .from) (r .end)) ≡ false)
@@ -58,9 +62,8 @@ pub none-came : (n got : ℕ) (y : List ℕ) → got ≡ 0 → take got (drop n 
 none-came n got y e = rw e refl
 
 -- lines put from the start of a buffer are its first bytes
-put-first : {x : List ℕ} {y : List ℕ} {next : ℕ} {l : List ℕ} → length l ≤ length x → Puts x y 0 next l (length l) → take (length l) y ≡ l
-put-first {x} {y} {next} {l} h p =
-    rw (p .bytes, sets-eq l x 0 (omega arith)) (take-append-seam l (drop (0 + length l) x))
+pub put-first : {x : List ℕ} {y : List ℕ} {next : ℕ} {l : List ℕ} {m : ℕ} → next ≤ length x → Puts x y 0 next l m → Begins y l
+put-first {x} {y} {next} {l} h p = rw (p .bytes, sets-eq l x 0 (omega (arith, h, p .past))) (take-append-seam l (drop (0 + length l) x))
 
 pub advanced : (s : Session) (t x : List ℕ) (w : Work) (t′ : List ℕ) (r : Session) (x′ y out : List ℕ)
     → Goes (s .work .state) t (s .work .skipping) (handIn x (s .work .from) (s .end)) (w .state) t′ (w .skipping) (handIn x (w .from) (s .end)) y out (s .work .next) (w .next)
@@ -69,7 +72,7 @@ advanced s t x w t′ r x′ y out g z n f h =
     record {
       put = g .put;
       came = h .came;
-      written = put-first (omega (arith, z, n, g .puts .past)) (rw z at (g .puts));
+      written = put-first n (rw z at (g .puts));
       whole = λ more.
           g .whole (h .came ++ more)
           ∙ ap (λ (u : List ℕ). g .put ++ answersTo (w .state) t′ (left (w .skipping) u)) (sym (append-assoc (handIn x (w .from) (s .end)) (h .came) more))
@@ -77,4 +80,46 @@ advanced s t x w t′ r x′ y out g z n f h =
       ended = λ e.
           let c = h .ended e in
           (c .0, rw (h .hand, c .0, append-nil (handIn x (w .from) (s .end))) (f (c .1) .open-ended));
+    }
+
+-- ---- from the start of the stream
+
+-- t₀ is the table at the start, t and x the table and the input buffer now: what was read, and what was written out.
+-- Whatever comes after it, the output for the stream is what was written, and then the answers to what is left
+pub record SoFar (t₀ : List ℕ) (s : Session) (t x : List ℕ) : Type 0 where
+  pub read : List ℕ
+  pub written : List ℕ
+  pub whole : (more : List ℕ) → output closedState t₀ (read ++ more) ≡ written ++ answersTo (s .work .state) t (left (s .work .skipping) (handIn x (s .work .from) (s .end) ++ more))
+  pub ended : s .ended ≡ true → hasEnd (handIn x (s .work .from) (s .end)) ≡ false
+
+-- nothing read yet
+pub record Fresh (s : Session) : Type 0 where
+  pub state : s .work .state ≡ closedState
+  pub skipping : s .work .skipping ≡ false
+  pub from : s .work .from ≡ 0
+  pub next : s .work .next ≡ 0
+  pub end : s .end ≡ 0
+  pub ended : s .ended ≡ false
+
+pub so-far-none : (t x : List ℕ) (s : Session) → Fresh s → SoFar t s t x
+unfolding left
+so-far-none t x s f =
+    record {
+      read = [];
+      written = [];
+      whole = λ more. rw (f .state, f .skipping, f .from, f .end) refl;
+      ended = λ e. absurd (false≢true (sym (f .ended) ∙ e));
+    }
+
+pub so-far-next : (t₀ : List ℕ) (s : Session) (t x : List ℕ) (r : Session) (t′ x′ out : List ℕ) → SoFar t₀ s t x → Advanced s t x r t′ x′ out → SoFar t₀ r t′ x′
+so-far-next t₀ s t x r t′ x′ out g h =
+    record {
+      read = g .read ++ h .came;
+      written = g .written ++ h .put;
+      whole = λ more.
+          ap (output closedState t₀) (append-assoc (g .read) (h .came) more)
+          ∙ g .whole (h .came ++ more)
+          ∙ ap (λ (u : List ℕ). g .written ++ u) (h .whole more)
+          ∙ sym (append-assoc (g .written) (h .put) (answersTo (r .work .state) t′ (left (r .work .skipping) (handIn x′ (r .work .from) (r .end) ++ more))));
+      ended = λ e. h .ended e .1;
     }

@@ -6,9 +6,13 @@ pub mod work;
 use libc::STDOUT_FILENO;
 use work::Work;
 ghost use mathlib.Core.Path.{_≡_};
+ghost use mathlib.Core.Bool.{false};
 ghost use Prim.Native.Nat.{_+_, _*_, _≤_};
 ghost use lib.ListN.{length};
-ghost use Rattle.service.specs.Session.{Refilled, Advanced};
+ghost use Rattle.stream.specs.Streams.{hasEnd};
+ghost use Rattle.stream.specs.Steps.{left};
+ghost use Rattle.records.specs.Streams.{answersTo};
+ghost use Rattle.service.specs.Session.{handIn, Begins, Fresh, Refilled, Advanced, SoFar};
 
 // The work, where the bytes at hand end in the input buffer, and whether the input has ended.
 struct Session {
@@ -26,7 +30,7 @@ fn flush(out: &[u8], n: usize)
 
 // Before the first record there is no open member.
 fn start() -> Session
-    ensures { λ r. ⌜ (r .work .from ≡ 0) × (r .end ≡ 0) × (r .work .next ≡ 0) ⌝ }
+    ensures { λ r. ⌜ Fresh r ⌝ }
 {
     let work = Work {
         state: member::open::closed(),
@@ -91,20 +95,39 @@ fn advance(s: Session, t: &mut [u32], buf: &mut [u8], out: &mut [u8]) -> Session
 }
 
 // Serves until the input ends.
+fn serve_all(t: &mut [u32], buf: &mut [u8], out: &mut [u8]) -> Session
+    requires { ⌜ (length (now t) ≤ 17680) × (length (now t) * 9 + 20 ≤ length (now out)) × (length (now buf) ≤ 65536) ⌝ }
+    ensures { λ r. ⌜ (r .work .from ≤ r .end) × (r .end ≤ length (now (buf .entry))) × SoFar (now (t .entry)) r (now (t .exit)) (now (buf .exit)) ⌝ }
+{
+    let mut s = start();
+    let mut turns = u64::MAX;
+    while turns > 0 && !s.ended {
+        let after = advance(s, t, buf, out);
+        s = after;
+        turns -= 1;
+    }
+    s
+}
+
+// Answers what is left at the end of input.
+fn conclude(s: Session, t: &mut [u32], buf: &[u8], out: &mut [u8])
+    requires { ⌜ (s .work .from ≤ s .end) × (s .end ≤ length (now buf)) × (length (now t) * 9 + 20 ≤ length (now out)) ⌝ }
+    ensures { λ _. ⌜ (hasEnd (handIn (now (buf .entry)) (s .work .from) (s .end)) ≡ false → Begins (now (out .exit)) (answersTo (s .work .state) (now (t .entry)) (left (s .work .skipping) (handIn (now (buf .entry)) (s .work .from) (s .end))))) ⌝ }
+{
+    let end = s.end;
+    let w = s.work;
+    let from = w.from;
+    let state = w.state;
+    let hand = input::rest(&buf[..end], from);
+    let n = work::finish(state, t, w.skipping, hand, out);
+    flush(out, n);
+}
+
+// The service.
 pub fn run() {
     let mut table = [0u32; 17680];
     let mut buf = [0u8; 65536];
     let mut out = [0u8; 262144];
-    let mut s = start();
-    let mut turns = u64::MAX;
-    while turns > 0 && !s.ended {
-        let after = advance(s, &mut table, &mut buf, &mut out);
-        s = after;
-        turns -= 1;
-    }
-    let end = s.end;
-    let w = s.work;
-    let state = w.state;
-    let n = work::finish(state, &mut table, w.skipping, &buf[..end], &mut out);
-    flush(&out, n);
+    let s = serve_all(&mut table, &mut buf, &mut out);
+    conclude(s, &mut table, &buf, &mut out);
 }
