@@ -1,9 +1,10 @@
 #!/bin/sh
-# hosts.sh [ARCHIVE [SEEDS]]: builds and runs everything that hosts link, against the static
-# library (target/staticlib/libhost.a where none is given; `rt staticlib host` makes it): the
-# header, the examples in C, C++ and Rust, the stack that calls need, the tests of the Rust
-# bindings, and a replay of shuffled runs (seeds 1 to SEEDS, 20 where not given) that must
-# answer as the reference does.
+# hosts.sh [ARCHIVE [SEEDS [CALLS]]]: builds and runs everything that hosts link, against the
+# static library (target/staticlib/libhost.a where none is given; `rt staticlib host` makes it):
+# the header, the examples in C, C++ and Rust, the stack that calls need, the tests of the Rust
+# bindings, a replay of shuffled runs (seeds 1 to SEEDS, 20 where not given) that must answer as
+# the reference does, and CALLS (1,000,000) calls on grown and on damaged states, compared with
+# the reference word by word.
 set -eu
 cd "$(dirname "$0")/.."
 archive=${1:-target/staticlib/libhost.a}
@@ -38,3 +39,5 @@ $rust bindings/rust/replay.rs -o "$out/replay"
 mkdir "$out/streams"
 for seed in $(seq "${2:-20}"); do reference/bin/shuffle "$seed" > "$out/streams/$seed"; done
 "$out/replay" reference/example.stream reference/edges/*.stream "$out"/streams/*
+
+sh tests/hosts/run.sh 1 "${3:-1000000}" "$out/libhost.a"
