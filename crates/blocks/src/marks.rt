@@ -28,7 +28,8 @@ fn mark_row(t: &mut [u32], b: u32, s: u32, r: Round)
     }
 }
 
-// Puts what is in no block yet, of the history of the set s of round top, into block b. The walk ends where all that it reaches is seen.
+// Puts what is in no block yet, of the history of the set s of round top, into block b.
+// seen has what earlier walks reached, by round: where a walk reaches nothing else it ends.
 fn mark_history(t: &mut [u32], seen: &mut [u32; 1025], b: u32, s: u32, top: Round)
     requires { ⌜ (0 < b) × (top .0 ≤ 1024) × Row (now t) (top .0) × Seen (now t) (now seen) (now seen) ⌝ }
     ensures { λ _. ⌜ (now (t .exit) ≡ markHistory b (top .0) s (now (t .entry))) × Seen (now (t .exit)) (now (seen .exit)) (now (seen .exit)) ⌝ }
