@@ -2,8 +2,10 @@
 use terms::Member;
 use terms::Round;
 ghost use mathlib.Core.Path.{_≡_};
+ghost use Prim.Native.Nat.{_<_, _≤_};
 ghost use Rattle.store.specs.Table.{Within, Row};
 ghost use Rattle.blocks.specs.Blocks.{markPlace, markRow, markHistory, addBlock};
+ghost use Rattle.blocks.specs.Seen.{Seen};
 
 // Puts the certificate of a and round r into block b, if a is in s and it is in no block yet.
 fn mark_place(t: &mut [u32], b: u32, s: u32, r: Round, a: Member)
@@ -27,29 +29,33 @@ fn mark_row(t: &mut [u32], b: u32, s: u32, r: Round)
 }
 
 // Puts what is in no block yet, of the history of the set s of round top, into block b.
-fn mark_history(t: &mut [u32], b: u32, s: u32, top: Round)
-    requires { ⌜ Row (now t) (top .0) ⌝ }
-    ensures { λ _. ⌜ now (t .exit) ≡ markHistory b (top .0) s (now (t .entry)) ⌝ }
+// seen has what earlier walks reached, by round: where a walk reaches nothing else it ends.
+fn mark_history(t: &mut [u32], seen: &mut [u32; 1025], b: u32, s: u32, top: Round)
+    requires { ⌜ (0 < b) × (top .0 ≤ 1024) × Row (now t) (top .0) × Seen (now t) (now seen) (now seen) ⌝ }
+    ensures { λ _. ⌜ (now (t .exit) ≡ markHistory b (top .0) s (now (t .entry))) × Seen (now (t .exit)) (now (seen .exit)) (now (seen .exit)) ⌝ }
 {
     let mut r = top.0;
     let mut here = s;
     while 0 < r {
-        if here == 0 {
+        let q = r - 1;
+        let old = seen[r as usize];
+        if base::shared(here, old) == here {
             return;
         }
         let next = crate::history::step_down(t, here, Round(r));
         mark_row(t, b, here, Round(r));
+        seen[r as usize] = base::joined(old, here);
         here = next;
-        r -= 1;
+        r = q;
     }
 }
 
 // Makes block k, of the anchor of author a and round r.
-pub fn add_block(t: &mut [u32], k: u32, a: Member, r: Round)
-    requires { ⌜ Within (now t) (a .0) (r .0) × Row (now t) k ⌝ }
-    ensures { λ _. ⌜ now (t .exit) ≡ addBlock k (a .0) (r .0) (now (t .entry)) ⌝ }
+pub fn add_block(t: &mut [u32], seen: &mut [u32; 1025], k: u32, a: Member, r: Round)
+    requires { ⌜ Within (now t) (a .0) (r .0) × (r .0 ≤ 1024) × (0 < k) × Row (now t) k × Seen (now t) (now seen) (now seen) ⌝ }
+    ensures { λ _. ⌜ (now (t .exit) ≡ addBlock k (a .0) (r .0) (now (t .entry))) × Seen (now (t .exit)) (now (seen .exit)) (now (seen .exit)) ⌝ }
 {
     let s = base::just(a.0);
-    mark_history(t, k, s, r);
+    mark_history(t, seen, k, s, r);
     store::write::set_block(t, k, r);
 }

@@ -59,7 +59,7 @@ slice-aggregate-commit-blocks : tie.Need-slice-aggregate-commit-blocks
 slice-aggregate-commit-blocks c = let a = c .before .before .before .before .before .before .before .before .before .before .before .before .before .before .before .before .before .before .before .before .args in sym (leaders-length (a .s) (a .t .now) _ (leaders-filled (a .s) (a .t .now) _ _ (c .before .before .before .before .before .before .fill-leaders .ensures) (c .before .before .before .before .before .before .before .before .before .before .last-round .ensures)))
 
 commit-blocks-requires : tie.Need-commit-blocks-requires
-commit-blocks-requires c κs = let a = c .before .before .before .before .before .before .before .before .before .before .before .before .before .before .before .before .before .before .before .before .args in let f = formed (a .s) (a .t .now) (sym (c .before .before .before .before .before .before .before .before .before .before .before .before .before .before .before .before .before .well-formed .ensures) ∙ not-false (c .before .before .before .before .before .before .before .before .before .before .before .before .before .before .before .before .before .well-formed .result) (c .before .before .before .before .before .before .before .before .before .before .before .before .before .before .before .before .if1 .left)) in let w = timely (a .s) (a .t .now) f (sym (c .before .before .before .before .before .before .before .before .before .before .before .before .before .before .time-refusal .ensures) ∙ c .before .before .before .before .before .before .before .before .before .before .before .before .before .if2 .left) in let v = c .before .before .before .before .before .before .before .before .before .before .last-round .ensures in let e = leaders-filled (a .s) (a .t .now) _ _ (c .before .before .before .before .before .before .fill-leaders .ensures) (c .before .before .before .before .before .before .before .before .before .before .last-round .ensures) in let n = leaders-length (a .s) (a .t .now) _ e in (omega (arith, w .few), omega (arith, w .above), omega (arith, f .long, f .numbers .round-to), omega (arith, f .numbers .round-to, f .settings .ceiling-to), led-low (a .s) (a .t .now) f w (sym (c .before .before .before .vote-refusal .ensures) ∙ c .before .before .if3 .left) _ e)
+commit-blocks-requires c κs = let a = c .before .before .before .before .before .before .before .before .before .before .before .before .before .before .before .before .before .before .before .before .args in let f = formed (a .s) (a .t .now) (sym (c .before .before .before .before .before .before .before .before .before .before .before .before .before .before .before .before .before .well-formed .ensures) ∙ not-false (c .before .before .before .before .before .before .before .before .before .before .before .before .before .before .before .before .before .well-formed .result) (c .before .before .before .before .before .before .before .before .before .before .before .before .before .before .before .before .if1 .left)) in let w = timely (a .s) (a .t .now) f (sym (c .before .before .before .before .before .before .before .before .before .before .before .before .before .before .time-refusal .ensures) ∙ c .before .before .before .before .before .before .before .before .before .before .before .before .before .if2 .left) in let v = c .before .before .before .before .before .before .before .before .before .before .last-round .ensures in let e = leaders-filled (a .s) (a .t .now) _ _ (c .before .before .before .before .before .before .fill-leaders .ensures) (c .before .before .before .before .before .before .before .before .before .before .last-round .ensures) in let n = leaders-length (a .s) (a .t .now) _ e in (omega (arith, w .few), omega (arith, w .above), omega (arith, f .numbers .round-to, f .settings .ceiling-to), omega (arith, f .long, f .numbers .round-to), omega (arith, f .numbers .round-to, f .settings .ceiling-to), led-low (a .s) (a .t .now) f w (sym (c .before .before .before .vote-refusal .ensures) ∙ c .before .before .if3 .left) _ e)
 
 sub-t20-2 : tie.Need-sub-t20-2
 sub-t20-2 c = let a = c .before .before .before .before .before .before .before .before .before .before .before .before .before .before .before .before .before .before .before .before .before .before .before .before .args in let f = formed (a .s) (a .t .now) (sym (c .before .before .before .before .before .before .before .before .before .before .before .before .before .before .before .before .before .before .before .before .before .well-formed .ensures) ∙ not-false (c .before .before .before .before .before .before .before .before .before .before .before .before .before .before .before .before .before .before .before .before .before .well-formed .result) (c .before .before .before .before .before .before .before .before .before .before .before .before .before .before .before .before .before .before .before .before .if1 .left)) in let w = timely (a .s) (a .t .now) f (sym (c .before .before .before .before .before .before .before .before .before .before .before .before .before .before .before .before .before .before .time-refusal .ensures) ∙ c .before .before .before .before .before .before .before .before .before .before .before .before .before .before .before .before .before .if2 .left) in rw (c .before .before .before .commit-blocks .ensures .0) (blocks-more (a .s) (a .t .now) w _ (c .before .before .before .before .before .before .before .before .before .before .before .before .before .before .last-round .ensures) _)
