@@ -1,6 +1,7 @@
 pub mod Chain
 pub mod Changes
 pub mod ChangeLaws
+pub mod Effects
 pub mod Totals
 pub mod TotalLaws
 pub mod Committees

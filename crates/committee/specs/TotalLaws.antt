@@ -48,7 +48,7 @@ unbond-raises m c w =
     let l = sum-mono (weightIn (set w m 0)) (weightIn w) 16 (λ i h. set-at w m 0 i (weightIn w i) (λ e. omega arith) (omega arith)) in
     omega arith
 
-choice-raises : (b : Bool) (f g : List ℕ → List ℕ) (c : ℕ) → Raises f c → Raises g c → Raises (λ w. cond b (f w) (g w)) c
+pub choice-raises : (b : Bool) (f g : List ℕ → List ℕ) (c : ℕ) → Raises f c → Raises g c → Raises (λ w. cond b (f w) (g w)) c
 choice-raises true f g c h k = h
 choice-raises false f g c h k = k
 

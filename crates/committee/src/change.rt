@@ -1,59 +1,50 @@
-// What transactions do to the weights of a committee.
-use terms::Member;
-use terms::Transaction;
+// What transactions do to the weights of a committee. Sums and products and no branches: kinds come in any order.
 ghost use mathlib.Core.Path.{_≡_};
-ghost use Prim.Native.Nat.{_+_, _<_, _≤_};
-ghost use lib.ListN.{set};
-ghost use Rattle.terms.specs.declared.Transaction.the-variants.{Bond, Unbond};
-ghost use Rattle.sheet.specs.Ranges.{weightIn};
+ghost use mathlib.Core.Bool.{cond};
+ghost use Prim.Native.Nat.{_*_, _≤_};
+ghost use Rattle.terms.specs.Transactions.{readTransaction};
 ghost use Rattle.committee.specs.Changes.{change};
+ghost use Rattle.committee.specs.Effects.{effectOf, weightAfter};
 ghost use Rattle.committee.specs.Totals.{totalIn};
 
-// Adds to a member's weight; it joins if it had none.
-fn raise(w: &mut [u64; 16], m: Member, a: u32)
-    requires { ⌜ (m .0 < 16) × (weightIn (now w) (m .0) ≤ 4611686018427387904) ⌝ }
-    ensures { λ _. ⌜ now (w .exit) ≡ set (now (w .entry)) (m .0) (weightIn (now (w .entry)) (m .0) + a) ⌝ }
+// The effect of three words on a weight: 0 a bond's, 1 an unbond's, 2 none.
+fn effect(there: bool, kind: u32, number: u32) -> u32
+    ensures { λ e. ⌜ e ≡ effectOf there kind number ⌝ }
 {
-    let i = m.0 as usize;
-    w[i] = w[i] + a as u64;
+    if !there {
+        return 2;
+    }
+    if 15 < number {
+        return 2;
+    }
+    if 2 < kind {
+        return 2;
+    }
+    kind
 }
 
-// Removes a member.
-fn remove(w: &mut [u64; 16], m: Member)
-    requires { ⌜ m .0 < 16 ⌝ }
-    ensures { λ _. ⌜ now (w .exit) ≡ set (now (w .entry)) (m .0) 0 ⌝ }
+// All of x, or nothing.
+fn times(x: u64, k: u32) -> u64
+    requires { ⌜ k ≤ 1 ⌝ }
+    ensures { λ v. ⌜ (v ≡ x * k) × (v ≤ x) ⌝ }
 {
-    let i = m.0 as usize;
-    w[i] = 0;
+    x * k as u64
 }
 
-// A bond; a number that is no member's does nothing.
-pub fn bond(w: &mut [u64; 16], m: Member, a: u32)
+// The weight x after an effect: an unbond removes it, then a bond adds its amount.
+fn weight_after(e: u32, amount: u32, x: u64) -> u64
+    requires { ⌜ (e ≤ 2) × (x ≤ 4611686018427387904) ⌝ }
+    ensures { λ v. ⌜ v ≡ weightAfter e amount x ⌝ }
+{
+    times(x, 1 - e % 2) + times(amount as u64, (2 - e) / 2)
+}
+
+// The transaction that three words tell, applied to the weights, if it is there.
+pub fn apply(w: &mut [u64; 16], there: bool, kind: u32, number: u32, amount: u32)
     requires { ⌜ totalIn (now w) ≤ 4611686018427387904 ⌝ }
-    ensures { λ _. ⌜ now (w .exit) ≡ change (Bond m a) (now (w .entry)) ⌝ }
+    ensures { λ _. ⌜ now (w .exit) ≡ cond there (change (readTransaction kind number amount) (now (w .entry))) (now (w .entry)) ⌝ }
 {
-    if m.0 < 16 {
-        raise(w, m, a);
-    }
-}
-
-// An unbond; of a non-member it does nothing.
-pub fn unbond(w: &mut [u64; 16], m: Member)
-    ensures { λ _. ⌜ now (w .exit) ≡ change (Unbond m) (now (w .entry)) ⌝ }
-{
-    if m.0 < 16 {
-        remove(w, m);
-    }
-}
-
-// A transaction, applied to the weights.
-pub fn apply(w: &mut [u64; 16], x: Transaction)
-    requires { ⌜ totalIn (now w) ≤ 4611686018427387904 ⌝ }
-    ensures { λ _. ⌜ now (w .exit) ≡ change x (now (w .entry)) ⌝ }
-{
-    match x {
-        Transaction::Bond(m, a) => bond(w, m, a),
-        Transaction::Unbond(m) => unbond(w, m),
-        Transaction::Entry(n) => {}
-    }
+    let e = effect(there, kind, number);
+    let i = (number % 16) as usize;
+    w[i] = weight_after(e, amount, w[i]);
 }

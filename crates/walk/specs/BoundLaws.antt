@@ -7,7 +7,7 @@ use native.Mathlib.Omega.{arith}
 use native.Mathlib.Nat.{mul-le-mul-right}
 use native.Mathlib.Decide.{decLt}
 use lib.ListN.{getD}
-use lib.Dec.{eqb}
+use lib.Dec.{eqb, ltb}
 use borrow.Author.Tests.{eqb-true, eqb-false}
 use Rattle.base.specs.Folds.{foldTo, sumTo}
 use Rattle.terms.specs.Transactions.{amountOf}
@@ -17,8 +17,8 @@ use Rattle.committee.specs.Chain.{holdsAt, blockAt, chainOf}
 use Rattle.committee.specs.Changes.{change, changesOf, listed}
 use Rattle.committee.specs.Committees.{step, bondedFrom}
 use Rattle.committee.specs.Totals.{totalIn, Raises}
-use Rattle.committee.specs.TotalLaws.{still-raises, change-raises, raised, raises-more, raises-same, fold-raises, fold-raises-each, marks-once}
-use Rattle.walk.specs.Walk.{placeChange, placesChange, blockChange, afterBlocks}
+use Rattle.committee.specs.TotalLaws.{still-raises, choice-raises, change-raises, raised, raises-more, raises-same, fold-raises, fold-raises-each, marks-once}
+use Rattle.walk.specs.Walk.{slotChange, placeChange, placesChange, blockChange, afterBlocks}
 use Rattle.walk.specs.WalkLaws.{record-fold, place-absent, place-other, place-present, block-rows}
 use Rattle.walk.specs.ChainLaws.{bonded-fold, step-counts, step-waits}
 
@@ -99,8 +99,16 @@ module _ (t : List ℕ) (words : (i : ℕ) → getD t i 0 < 4294967296) where
   modest : (n : ℕ) → Modest t n 4294967295
   modest n m r k _ _ _ _ = amount-lt t m r words k
 
-  pub turns-light : (m r c : ℕ) (w : List ℕ) → c ≤ 4 → totalIn (foldTo (λ k. change (transactionAt t m r k)) c w) ≤ totalIn w + 17179869180
-  turns-light m r c w h = raised (foldTo (λ k. change (transactionAt t m r k)) c) 17179869180 (turns-raise t m r 4294967295 c h (λ k _. amount-lt t m r words k)) w
+  -- the slots below c
+  pub slots-light : (m r c : ℕ) (w : List ℕ) → c ≤ 4 → totalIn (foldTo (slotChange t m r) c w) ≤ totalIn w + 17179869180
+  unfolding slotChange
+  slots-light m r c w h =
+      let l = raised (foldTo (slotChange t m r) c) (c * 4294967295)
+      (fold-raises-each (slotChange t m r) 4294967295 c
+      (λ k _. choice-raises (ltb k (countAt t m r)) (change (transactionAt t m r k)) (λ v. v) 4294967295
+      (raises-more (change (transactionAt t m r k)) (amountOf (transactionAt t m r k)) 4294967295 (amount-lt t m r words k) (change-raises (transactionAt t m r k)))
+      (still-raises 4294967295))) w in
+      omega arith
 
   pub places-light : (k p : ℕ) (w : List ℕ) → p ≤ 16400 → totalIn (placesChange t k p w) ≤ totalIn w + 281474976645120
   places-light k p w h =

@@ -4,9 +4,13 @@ use mathlib.Core.List.{List}
 use Prim.Native.Nat.{ℕ, _+_, _-_, _/_, _%_}
 use lib.Dec.{eqb, ltb}
 use Rattle.base.specs.Folds.{foldTo, allTo}
-use Rattle.store.specs.Table.{blockRound}
+use Rattle.store.specs.Table.{blockRound, countAt, transactionAt}
 use Rattle.committee.specs.Chain.{holdsAt, blockAt, chainOf}
-use Rattle.committee.specs.Changes.{changesOf, listed, ordered}
+use Rattle.committee.specs.Changes.{change, changesOf, listed, ordered}
+
+-- slot k of the record of a place, if a transaction is there
+unfoldable pub slotChange : List ℕ → ℕ → ℕ → ℕ → List ℕ → List ℕ
+slotChange t m r k w = cond (ltb k (countAt t m r)) (change (transactionAt t m r k) w) w
 
 -- place p, if block k holds it; the place of member m and round r is number 16 r + m
 unfoldable pub placeChange : List ℕ → ℕ → ℕ → List ℕ → List ℕ

@@ -6,16 +6,17 @@ use mathlib.Core.Option.{none}
 use Prim.Native.Nat.{ℕ, suc, _+_, _-_, _*_, _/_, _%_, _<_, _≤_}
 use native.Mathlib.Omega.{arith}
 use native.Mathlib.Numerals.{add-one}
-use lib.Dec.{eqb}
-use borrow.Author.Tests.{eq-eqb, ne-eqb, le-leb}
+use lib.Dec.{eqb, ltb}
+use borrow.Author.Tests.{eq-eqb, ne-eqb, le-leb, lt-ltb, le-ltb}
 use Rattle.base.specs.Folds.{foldTo}
-use Rattle.base.specs.FoldLaws.{fold-more, fold-same, fold-high, fold-flat}
-use Rattle.store.specs.Table.{markAt, heldAt, countAt, transactionAt, contentAt}
-use Rattle.store.specs.TableLaws.{certificate-present, certificate-absent, content-transactions}
+use Rattle.base.specs.FoldLaws.{fold-more, fold-none, fold-same, fold-high, fold-flat}
+use Rattle.terms.specs.Transactions.{readTransaction}
+use Rattle.store.specs.Table.{word, markAt, heldAt, countAt, transactionAt, contentAt}
+use Rattle.store.specs.TableLaws.{count-le, certificate-present, certificate-absent, content-transactions}
 use Rattle.committee.specs.Chain.{isRound, holdsAt, blockAt, chainOf}
 use Rattle.committee.specs.Changes.{change, changes, changesOf, listed}
 use Rattle.committee.specs.ChangeLaws.{changes-tab, changes-none, changes-one, ordered-changes}
-use Rattle.walk.specs.Walk.{placeChange, placesChange, blockChange}
+use Rattle.walk.specs.Walk.{slotChange, placeChange, placesChange, blockChange}
 use Rattle.walk.specs.Links.{Marked, First}
 
 -- ---- a place
@@ -23,6 +24,24 @@ use Rattle.walk.specs.Links.{Marked, First}
 -- a record's transactions, one by one
 pub record-fold : (t : List ℕ) (m r : ℕ) (w : List ℕ) → changes (contentAt t m r .transactions) w ≡ foldTo (λ k. change (transactionAt t m r k)) (countAt t m r) w
 record-fold t m r w = rw (content-transactions t m r) (changes-tab (transactionAt t m r) (countAt t m r) w)
+
+module _ (t : List ℕ) (m r : ℕ) (w : List ℕ) where
+  -- the three words of a slot
+  pub slot-words : (k : ℕ) → slotChange t m r k w ≡ cond (ltb k (countAt t m r)) (change (readTransaction (word t m r (4 + k * 3)) (word t m r (5 + k * 3)) (word t m r (6 + k * 3))) w) w
+  unfolding slotChange transactionAt
+  slot-words k = refl
+
+  -- a record's transactions are those of its four slots that are there
+  pub record-slots : changes (contentAt t m r .transactions) w ≡ foldTo (slotChange t m r) 4 w
+  unfolding slotChange
+  record-slots =
+      record-fold t m r w
+      ∙ fold-same (λ k. change (transactionAt t m r k)) (slotChange t m r) (countAt t m r) w (λ k v h. rw (lt-ltb k (countAt t m r) h) refl)
+      ∙ sym (fold-high (slotChange t m r) 4 (countAt t m r) w (count-le t m r) (λ k v h _. rw (le-ltb k (countAt t m r) h) refl))
+
+  -- none, if it has none
+  pub record-empty : countAt t m r ≡ 0 → w ≡ changes (contentAt t m r .transactions) w
+  record-empty e = sym (record-fold t m r w ∙ rw e (fold-none (λ k. change (transactionAt t m r k)) w))
 
 module _ (t : List ℕ) (k m r : ℕ) (w : List ℕ) where
   -- a place that is not held changes nothing

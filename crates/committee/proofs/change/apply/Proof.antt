@@ -1,40 +1,46 @@
+use mathlib.Core.Path.{refl}
+use Prim.Native.Nat.{_%_}
+use native.Mathlib.Omega.{arith}
+use Rattle.base.specs.SumLaws.{sum-at}
+use Rattle.sheet.specs.Ranges.{weightIn}
+use Rattle.committee.specs.Effects.{effect-le, effect-changes}
 use borrow.Author.Needs.{needs}
 use Rattle.committee.proofs.change.apply.Statement.{statement}
 use Rattle.committee.proofs.change.apply.Tie as tie
 
-enum-known-x : tie.Need-enum-known-x
-enum-known-x c = search needs
+effect-requires : tie.Need-effect-requires
+effect-requires c κs = search needs
 
-bond-requires : tie.Need-bond-requires
-bond-requires c κs = search needs
+cast-i : tie.Need-cast-i
+cast-i c = search needs
 
-enum-known-x-2 : tie.Need-enum-known-x-2
-enum-known-x-2 c = search needs
+mul-weight-after : tie.Need-mul-weight-after
+mul-weight-after c = search needs
 
-unbond-requires : tie.Need-unbond-requires
-unbond-requires c κs = search needs
+element-copy-out-weight-after : tie.Need-element-copy-out-weight-after
+element-copy-out-weight-after c = search needs
 
-enum-known-x-3 : tie.Need-enum-known-x-3
-enum-known-x-3 c = search needs
+weight-after-requires : tie.Need-weight-after-requires
+weight-after-requires c κs = let a = c .before .before .args in let h = sum-at (weightIn (a .w .now)) 16 (a .number % 16) (omega arith) in (omega (arith, effect-le (a .there) (a .kind) (a .number), c .before .effect .ensures), omega arith)
+
+mul-w : tie.Need-mul-w
+mul-w c = search needs
+
+element-write-w : tie.Need-element-write-w
+element-write-w c = search needs
 
 returns : tie.Need-returns
-returns c = rw (c .before .before .before .x .given .1) (c .bond .ensures)
-
-returns-2 : tie.Need-returns-2
-returns-2 c = rw (c .before .before .before .x2 .given .1) (c .unbond .ensures)
-
-returns-3 : tie.Need-returns-3
-returns-3 c = search needs
+returns c = let a = c .before .before .before .args in rw (← effect-changes (a .number) (a .amount) (a .w .now) (a .there) (a .kind), c .weight-after .ensures, c .before .before .effect .ensures) refl
 
 pub apply-spec : {M : Type 1} → statement M
 apply-spec =
     tie.close
     (tie.spec
-    enum-known-x
-    bond-requires
-    enum-known-x-2
-    unbond-requires
-    enum-known-x-3
-    returns
-    returns-2
-    returns-3)
+    effect-requires
+    cast-i
+    mul-weight-after
+    element-copy-out-weight-after
+    weight-after-requires
+    mul-w
+    element-write-w
+    returns)
