@@ -8,6 +8,7 @@ use Rattle.base.specs.Checks.{Checks}
 use Rattle.agreement.specs.Rules.{last}
 use Rattle.agreement.specs.Commits.{anchorAt}
 use Rattle.committee.specs.Chain.{chainOf}
+use Rattle.committee.specs.Committees.{committeeOf}
 use Rattle.walk.specs.Walk.{lastRound}
 use Rattle.walk.specs.Fill.{leaderAt, fillTo}
 use Rattle.rules.specs.Tests.{unknown}
@@ -47,6 +48,10 @@ module _ (s : State) (t : List ℕ) where
   unfoldable pub leadersFor : List ℕ
   leadersFor =
       fillTo (leaderAt (s .settings) (chainOf (s .settings .ceiling .0) t (s .blocks))) (lastRound t (s .blocks)) (s .round .0 - 1 - lastRound t (s .blocks)) (replicate 1025 16)
+
+  -- the committee of the present round
+  abbrev pub committeeNow : List ℕ
+  committeeNow = committeeOf (s .settings) (chainOf (s .settings .ceiling .0) t (s .blocks)) (s .round .0)
 
   -- how many blocks there are after an accepted commit, the state and the table
   unfoldable pub blocksThen : ℕ

@@ -5,9 +5,10 @@ use terms::Round;
 ghost use mathlib.Core.Path.{_≡_};
 ghost use Prim.Native.Nat.{_-_, _<_};
 ghost use Rattle.base.specs.Checks.{refusal};
+ghost use Rattle.committee.specs.Totals.{Light};
 ghost use Rattle.state.specs.Formed.{Formed};
 ghost use Rattle.walk.specs.Walk.{lastRound};
-ghost use Rattle.commit.specs.Commit.{timeChecks, voteChecks, leadersFor};
+ghost use Rattle.commit.specs.Commit.{timeChecks, voteChecks, leadersFor, committeeNow};
 
 // Checks 19, 20, 8.
 pub fn time_refusal(s: State, t: &[u32]) -> u32
@@ -31,9 +32,9 @@ pub fn time_refusal(s: State, t: &[u32]) -> u32
     0
 }
 
-// Checks 21, 22, where l has the leaders by round.
-pub fn vote_refusal(s: State, t: &[u32], l: &[u32; 1025]) -> u32
-    requires { ⌜ Formed s (now t) × (1 < s .round .0) × (now l ≡ leadersFor s (now t)) × (lastRound (now t) (s .blocks) < s .round .0 - 1) ⌝ }
+// Checks 21, 22, where l has the leaders by round and w is the committee of the present round.
+pub fn vote_refusal(s: State, t: &[u32], l: &[u32; 1025], w: &[u64; 16]) -> u32
+    requires { ⌜ Formed s (now t) × (1 < s .round .0) × (now l ≡ leadersFor s (now t)) × (lastRound (now t) (s .blocks) < s .round .0 - 1) × (now w ≡ committeeNow s (now t)) × Light (now w) ⌝ }
     ensures { λ v. ⌜ v ≡ refusal (voteChecks s (now (t .entry))) ⌝ }
 {
     let r = s.round;
@@ -42,9 +43,8 @@ pub fn vote_refusal(s: State, t: &[u32], l: &[u32; 1025]) -> u32
     if !blocks::anchors::is_led(store::held_set(t, top), a) {
         return 21;
     }
-    let w = walk::committee_of(t, s.settings, s.blocks, r);
-    let bound = committee::fault_bound(committee::total_weight(&w));
-    let votes = crate::votes::votes_for(t, &w, r, Member(a));
+    let bound = committee::fault_bound(committee::total_weight(w));
+    let votes = crate::votes::votes_for(t, w, r, Member(a));
     if votes.0 <= bound.0 {
         return 22;
     }

@@ -44,8 +44,8 @@ pub fn commit(s: State, t: &mut [u32]) -> Outcome
     let last = walk::last_round(t, blocks);
     let top = Round(s.round.0 - 1);
     let mut leaders = [16u32; 1025];
-    walk::leaders::fill_leaders(t, settings, blocks, last, top, &mut leaders);
-    let fault = crate::checks::vote_refusal(s, t, &leaders);
+    let w = walk::leaders::fill_leaders(t, settings, blocks, last, top, &mut leaders);
+    let fault = crate::checks::vote_refusal(s, t, &leaders, &w);
     if fault != 0 {
         return refused(s, fault);
     }

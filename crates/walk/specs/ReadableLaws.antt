@@ -5,6 +5,7 @@ use mathlib.Core.List.{List}
 use Prim.Native.Nat.{ℕ, _+_, _-_, _*_, _<_, _≤_}
 use native.Mathlib.Omega.{arith}
 use native.Mathlib.Decide.{ℕ-discrete}
+use lib.ListN.{getD}
 use Rattle.base.specs.SumLaws.{sum-le}
 use Rattle.store.specs.Table.{Row, blockRound}
 use Rattle.sheet.specs.declared.Settings.{Settings}
@@ -12,8 +13,10 @@ use Rattle.sheet.specs.Ranges.{weightIn}
 use Rattle.sheet.specs.SheetLaws.{SettingsFit}
 use Rattle.committee.specs.Chain.{chainOf}
 use Rattle.committee.specs.Committees.{bondedFrom}
+use Rattle.committee.specs.Totals.{Light}
 use Rattle.walk.specs.Walk.{blockChange, blocksFit}
 use Rattle.walk.specs.ChainLaws.{last-none, last-some, fits-at, last-from, bonded-split, after-none, after-more}
+use Rattle.walk.specs.BoundLaws.{after-light}
 use Rattle.walk.specs.Readable.{Readable, Stands}
 
 -- settings in range, a table long enough and fitting blocks are enough
@@ -67,3 +70,10 @@ module _ {S : Settings} {t : List ℕ} {blocks : ℕ} where
       let q = s .passed in
       let e : k ≡ 0 = omega arith in
       s .weights ∙ rw e (after-none (S .ceiling .0) t (S .weights))
+
+  -- it is light, where each word of the table is a 32-bit number
+  pub stands-light : {q k : ℕ} {w : List ℕ} → ((i : ℕ) → getD t i 0 < 4294967296) → Readable S t blocks → Stands S t blocks q k w → Light w
+  stands-light {q} {k} {w} words a s =
+      let l = after-light t words (S .ceiling .0) k (S .weights) (a .ceiling) in
+      let h = a .light in
+      record { total = rw (s .weights) (omega arith) }

@@ -4,11 +4,13 @@ use terms::Round;
 ghost use mathlib.Core.Path.{_≡_};
 ghost use Prim.Native.Nat.{_+_, _-_, _*_, _≤_};
 ghost use Rattle.committee.specs.Chain.{chainOf};
+ghost use Rattle.committee.specs.Committees.{committeeOf};
+ghost use Rattle.committee.specs.Totals.{Light};
 ghost use Rattle.walk.specs.Fill.{leaderAt, fillTo};
 ghost use Rattle.walk.specs.Readable.{Readable};
 ghost use Rattle.walk.specs.Links.{Links};
 
-// The leaders of the rounds above m up to top, where the places of each block are linked and w is the starting committee.
+// The leaders of the rounds above m up to top, where the places of each block are linked; w is the starting committee, and then that of the round above top.
 fn fill_rounds(
     t: &[u32],
     head: &[u32; 512],
@@ -21,7 +23,7 @@ fn fill_rounds(
     l: &mut [u32; 1025],
 )
     requires { ⌜ Readable s (now t) blocks × Links (now t) 16 (s .ceiling .0 * 16 + 16) (now head) (now next) × (m .0 ≤ top .0) × (top .0 ≤ 1024) × (now w ≡ s .weights) ⌝ }
-    ensures { λ _. ⌜ now (l .exit) ≡ fillTo (leaderAt s (chainOf (s .ceiling .0) (now (t .entry)) blocks)) (m .0) (top .0 - m .0) (now (l .entry)) ⌝ }
+    ensures { λ _. ⌜ (now (l .exit) ≡ fillTo (leaderAt s (chainOf (s .ceiling .0) (now (t .entry)) blocks)) (m .0) (top .0 - m .0) (now (l .entry))) × (now (w .exit) ≡ committeeOf s (chainOf (s .ceiling .0) (now (t .entry)) blocks) (top .0 + 1)) × Light (now (w .exit)) ⌝ }
 {
     let mut k = 0;
     for q in m.0..top.0 {
@@ -29,12 +31,20 @@ fn fill_rounds(
         k = crate::advance::advance(t, head, next, s, blocks, k, r, w);
         l[q as usize + 1] = committee::leader::leader(w, r);
     }
+    crate::advance::advance(t, head, next, s, blocks, k, Round(top.0 + 1), w);
 }
 
-// Writes the number of the leader of each round above m up to top, 16 for none.
-pub fn fill_leaders(t: &[u32], s: Settings, blocks: u32, m: Round, top: Round, l: &mut [u32; 1025])
+// Writes the number of the leader of each round above m up to top, 16 for none; gives the committee of the round above top.
+pub fn fill_leaders(
+    t: &[u32],
+    s: Settings,
+    blocks: u32,
+    m: Round,
+    top: Round,
+    l: &mut [u32; 1025],
+) -> [u64; 16]
     requires { ⌜ Readable s (now t) blocks × (m .0 ≤ top .0) × (top .0 ≤ 1024) ⌝ }
-    ensures { λ _. ⌜ now (l .exit) ≡ fillTo (leaderAt s (chainOf (s .ceiling .0) (now (t .entry)) blocks)) (m .0) (top .0 - m .0) (now (l .entry)) ⌝ }
+    ensures { λ w. ⌜ (now (l .exit) ≡ fillTo (leaderAt s (chainOf (s .ceiling .0) (now (t .entry)) blocks)) (m .0) (top .0 - m .0) (now (l .entry))) × (w ≡ committeeOf s (chainOf (s .ceiling .0) (now (t .entry)) blocks) (top .0 + 1)) × Light w ⌝ }
 {
     let mut w = s.weights;
     let end = s.ceiling.0 * 16 + 16;
@@ -42,4 +52,5 @@ pub fn fill_leaders(t: &[u32], s: Settings, blocks: u32, m: Round, top: Round, l
     let mut next = [0u32; 16400];
     crate::links::link_rows(t, &mut head, &mut next, s.ceiling);
     fill_rounds(t, &head, &next, s, blocks, m, top, &mut w, l);
+    w
 }

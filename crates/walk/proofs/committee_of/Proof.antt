@@ -4,8 +4,7 @@ use Prim.Native.Nat.{ℕ}
 use lib.ListN.{length-replicate}
 use Rattle.committee.specs.CommitteeLaws.{committee-start}
 use Rattle.walk.specs.LinkLaws.{links-start}
-use Rattle.walk.specs.ReadableLaws.{stands-start}
-use Rattle.walk.specs.BoundLaws.{after-light}
+use Rattle.walk.specs.ReadableLaws.{stands-start, stands-light}
 use borrow.Author.Needs.{needs}
 use Rattle.walk.proofs.committee_of.Statement.{statement}
 use Rattle.walk.proofs.committee_of.Tie as tie
@@ -26,7 +25,7 @@ advance-requires : tie.Need-advance-requires
 advance-requires c κs = (c .before .before .before .before .before .before .before .before .before .before .before .before .pre, c .before .before .before .link-rows .ensures, stands-start _)
 
 returns-2 : tie.Need-returns-2
-returns-2 c = let a = c .before .before .before .before .before .before .before .before .before .before .before .before .before .args in let p = c .before .before .before .before .before .before .before .before .before .before .before .before .before .pre in let x = c .advance in (x .ensures .1, record { total = rw (x .ensures .0 .weights) (omega (arith, after-light (a .t .now) (λ j. c .before .before .before .before .before .before .before .before .before .before .before .before .shared-slice-known .given j .fits) (a .s .ceiling .0) (x .result) (a .s .weights) (p .ceiling))) })
+returns-2 c = let x = c .advance in (x .ensures .1, stands-light (λ j. c .before .before .before .before .before .before .before .before .before .before .before .before .shared-slice-known .given j .fits) (c .before .before .before .before .before .before .before .before .before .before .before .before .before .pre) (x .ensures .0))
 
 pub committee-of-spec : {M : Type 1} → statement M
 committee-of-spec =

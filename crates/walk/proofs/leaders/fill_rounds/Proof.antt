@@ -6,15 +6,15 @@ use Rattle.committee.specs.Chain.{chainOf}
 use Rattle.walk.specs.Fill.{leaderAt, fillTo}
 use Rattle.walk.specs.FillLaws.{fill-none, fill-more}
 use Rattle.walk.specs.Readable.{Stands}
-use Rattle.walk.specs.ReadableLaws.{stands-start, stands-up}
+use Rattle.walk.specs.ReadableLaws.{stands-start, stands-up, stands-light}
 use Rattle.walk.proofs.leaders.fill_rounds.Statement.{statement}
 use Rattle.walk.proofs.leaders.fill_rounds.Tie as tie
 
 abbrev Inv-loop : tie.InvT-loop
-Inv-loop t head next s blocks w₀ l₀ k₀ q₀ q-end w l k q = (q₀ ≤ q) × (q ≤ q-end) × Stands s t blocks (q - s .lookback) k w × (l ≡ fillTo (leaderAt s (chainOf (s .ceiling .0) t blocks)) q₀ (q - q₀) l₀)
+Inv-loop t head next s blocks top w₀ l₀ k₀ q₀ q-end w l k q = (q₀ ≤ q) × (q ≤ q-end) × Stands s t blocks (q - s .lookback) k w × (l ≡ fillTo (leaderAt s (chainOf (s .ceiling .0) t blocks)) q₀ (q - q₀) l₀)
 
 abbrev μ-loop : tie.MeasureT-loop
-μ-loop t head next s blocks w₀ l₀ k₀ q₀ q-end w l k q = q-end - q
+μ-loop t head next s blocks top w₀ l₀ k₀ q₀ q-end w l k q = q-end - q
 
 loop-holds : tie.Need-loop-holds Inv-loop μ-loop
 loop-holds c = (omega arith, omega arith, rw (c .before .pre .4) (stands-start _), fill-none _ _ _)
@@ -50,8 +50,14 @@ loop-again : tie.Need-loop-again Inv-loop μ-loop
 unfolding leaderAt
 loop-again c = let q = c .before .before .before .before .before .loop in (omega arith, omega arith, stands-up _ (omega arith) (c .before .before .advance .ensures .0), rw (fill-more _ _ _ _ (q .inv .0), ← c .before .before .advance .ensures .1, ← c .leader .ensures, ← q .inv .3) refl)
 
+add-t24 : tie.Need-add-t24 Inv-loop μ-loop
+add-t24 c = search needs
+
+advance-requires-2 : tie.Need-advance-requires-2 Inv-loop μ-loop
+advance-requires-2 c κs = let p = c .before .before .before .before .before .pre in let q = c .before .before .before .loop in (p .0, p .1, stands-up _ (omega arith) (q .inv .2))
+
 returns : tie.Need-returns Inv-loop μ-loop
-returns c = let q = c .before .loop in let e : q .q ≡ c .before .before .before .args .top .0 = omega arith in rw e at (q .inv .3)
+returns c = let q = c .before .before .before .before .loop in let p = c .before .before .before .before .before .before in let e : q .q ≡ p .args .top .0 = omega arith in (rw e at (q .inv .3), c .advance2 .ensures .1, stands-light (λ j. c .before .before .before .before .before .shared-slice-known .given j .fits) (p .pre .0) (c .advance2 .ensures .0))
 
 pub fill-rounds-spec : {M : Type 1} → statement M
 fill-rounds-spec =
@@ -70,4 +76,6 @@ fill-rounds-spec =
     add-q
     loop-less
     loop-again
+    add-t24
+    advance-requires-2
     returns)
