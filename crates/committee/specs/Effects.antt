@@ -8,9 +8,9 @@ use native.Mathlib.Decide.{decLt}
 use lib.ListN.{set}
 use lib.Seq.{set-getD}
 use lib.Dec.{ltb}
-use borrow.Author.Tests.{lt-ltb, le-ltb, ltb-false, ne-eqb}
-use Rattle.terms.specs.declared.Transaction.the-variants.{Entry}
+use borrow.Author.Tests.{lt-ltb, le-ltb, ltb-false}
 use Rattle.terms.specs.Transactions.{readTransaction}
+use Rattle.terms.specs.ProposalLaws.{read-bond, read-unbond, read-entry}
 use Rattle.sheet.specs.Ranges.{weightIn}
 use Rattle.committee.specs.Changes.{change}
 
@@ -44,26 +44,19 @@ still w i amount =
     let e : weightAfter 2 amount (weightIn w i) ≡ weightIn w i = omega arith in
     rw e (set-getD w i 0)
 
--- any kind above an unbond's is read as an entry
-entry : (k number amount : ℕ) → readTransaction (suc (suc k)) number amount ≡ Entry number
-unfolding readTransaction
-entry k number amount = rw (ne-eqb (suc (suc k)) 0 (λ e. omega arith), ne-eqb (suc (suc k)) 1 (λ e. omega arith)) refl
-
 module _ (number amount : ℕ) (w : List ℕ) where
   -- of a number that is no member's a transaction changes nothing
   outside : (kind : ℕ) → 16 ≤ number → w ≡ change (readTransaction kind number amount) w
-  unfolding readTransaction
-  outside zero h = rw (le-ltb number 16 h) refl
-  outside (suc zero) h = rw (le-ltb number 16 h) refl
-  outside (suc (suc k)) h = rw (entry k number amount) refl
+  outside zero h = rw (read-bond number amount, le-ltb number 16 h) refl
+  outside (suc zero) h = rw (read-unbond number amount, le-ltb number 16 h) refl
+  outside (suc (suc k)) h = rw (read-entry k number amount) refl
 
   -- of a member's it changes that weight
   inside : (kind : ℕ) → number < 16 → set w number (weightAfter (cond (ltb 2 kind) 2 kind) amount (weightIn w number)) ≡ change (readTransaction kind number amount) w
-  unfolding readTransaction
-  inside zero h = let e : weightAfter 0 amount (weightIn w number) ≡ weightIn w number + amount = omega arith in rw (lt-ltb number 16 h, e) refl
-  inside (suc zero) h = let e : weightAfter 1 amount (weightIn w number) ≡ 0 = omega arith in rw (lt-ltb number 16 h, e) refl
-  inside (suc (suc zero)) h = still w number amount
-  inside (suc (suc (suc k))) h = rw (entry (suc k) number amount, lt-ltb 2 (suc (suc (suc k))) (omega arith)) (still w number amount)
+  inside zero h = let e : weightAfter 0 amount (weightIn w number) ≡ weightIn w number + amount = omega arith in rw (read-bond number amount, lt-ltb number 16 h, e) refl
+  inside (suc zero) h = let e : weightAfter 1 amount (weightIn w number) ≡ 0 = omega arith in rw (read-unbond number amount, lt-ltb number 16 h, e) refl
+  inside (suc (suc zero)) h = rw (read-entry 0 number amount) (still w number amount)
+  inside (suc (suc (suc k))) h = rw (read-entry (suc k) number amount, lt-ltb 2 (suc (suc (suc k))) (omega arith)) (still w number amount)
 
   -- the weight of the number's remainder by sixteen, after its effect: the others stay
   pub effect-changes : (there : Bool) (kind : ℕ)

@@ -12,7 +12,7 @@ use Rattle.base.specs.SetLaws.{in-member}
 use Rattle.base.specs.Folds.{tab}
 use Rattle.base.specs.FoldLaws.{length-tab}
 use Rattle.base.specs.Sets.{isIn}
-use Rattle.terms.specs.Transactions.{amountOf}
+use Rattle.terms.specs.Transactions.{amountOf, readTransaction}
 use Rattle.terms.specs.Proposals.{Content}
 use Rattle.terms.specs.ProposalLaws.{read-amount}
 use Rattle.store.specs.Table.{heldSet, endorsedSet, heldAt, endorsedAt, word, previousAt, countAt, transactionAt, contentAt, certificateAt}
@@ -84,6 +84,10 @@ module _ (t : List ℕ) (m r : ℕ) where
   pub content-transactions : contentAt t m r .transactions ≡ tab (transactionAt t m r) (countAt t m r)
   unfolding contentAt
   content-transactions = refl
+
+  pub transaction-words : (k : ℕ) → transactionAt t m r k ≡ readTransaction (word t m r (4 + k * 3)) (word t m r (5 + k * 3)) (word t m r (6 + k * 3))
+  unfolding transactionAt
+  transaction-words k = refl
 
   pub content-few : length (contentAt t m r .transactions) ≤ 4
   content-few = rw (content-transactions, length-tab (transactionAt t m r) (countAt t m r)) count-le

@@ -7,7 +7,7 @@ use Prim.Native.Nat.{ℕ, zero, suc, _≤_, _<_}
 use native.Mathlib.Omega.{arith}
 use lib.ListN.{length, getD}
 use lib.Dec.{eqb, ltb, leb}
-use borrow.Author.Tests.{eq-eqb, eqb-true, leb-true, lt-ltb, not-false}
+use borrow.Author.Tests.{eq-eqb, ne-eqb, eqb-true, leb-true, lt-ltb, not-false}
 use Rattle.base.specs.Bools.{both}
 use Rattle.base.specs.Folds.{allTo, anyTo, tab}
 use Rattle.base.specs.FoldLaws.{length-tab}
@@ -26,6 +26,19 @@ unfolding readTransaction
 read-back (Bond m a) = refl
 read-back (Unbond m) = refl
 read-back (Entry n) = refl
+
+-- the kinds 0 and 1, and any other
+pub read-bond : (number amount : ℕ) → readTransaction 0 number amount ≡ Bond (record { 0 = number }) amount
+unfolding readTransaction
+read-bond number amount = refl
+
+pub read-unbond : (number amount : ℕ) → readTransaction 1 number amount ≡ Unbond (record { 0 = number })
+unfolding readTransaction
+read-unbond number amount = refl
+
+pub read-entry : (k number amount : ℕ) → readTransaction (suc (suc k)) number amount ≡ Entry number
+unfolding readTransaction
+read-entry k number amount = rw (ne-eqb (suc (suc k)) 0 (λ e. omega arith), ne-eqb (suc (suc k)) 1 (λ e. omega arith)) refl
 
 -- the amount of three numbers' transaction is not above the third
 pub read-amount : (kind number amount : ℕ) → amountOf (readTransaction kind number amount) ≤ amount

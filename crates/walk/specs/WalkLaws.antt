@@ -12,7 +12,7 @@ use Rattle.base.specs.Folds.{foldTo}
 use Rattle.base.specs.FoldLaws.{fold-more, fold-none, fold-same, fold-high, fold-flat}
 use Rattle.terms.specs.Transactions.{readTransaction}
 use Rattle.store.specs.Table.{word, markAt, heldAt, countAt, transactionAt, contentAt}
-use Rattle.store.specs.TableLaws.{count-le, certificate-present, certificate-absent, content-transactions}
+use Rattle.store.specs.TableLaws.{count-le, certificate-present, certificate-absent, content-transactions, transaction-words}
 use Rattle.committee.specs.Chain.{isRound, holdsAt, blockAt, chainOf}
 use Rattle.committee.specs.Changes.{change, changes, changesOf, listed}
 use Rattle.committee.specs.ChangeLaws.{changes-tab, changes-none, changes-one, ordered-changes}
@@ -28,8 +28,8 @@ record-fold t m r w = rw (content-transactions t m r) (changes-tab (transactionA
 module _ (t : List ℕ) (m r : ℕ) (w : List ℕ) where
   -- the three words of a slot
   pub slot-words : (k : ℕ) → slotChange t m r k w ≡ cond (ltb k (countAt t m r)) (change (readTransaction (word t m r (4 + k * 3)) (word t m r (5 + k * 3)) (word t m r (6 + k * 3))) w) w
-  unfolding slotChange transactionAt
-  slot-words k = refl
+  unfolding slotChange
+  slot-words k = rw (transaction-words t m r k) refl
 
   -- a record's transactions are those of its four slots that are there
   pub record-slots : changes (contentAt t m r .transactions) w ≡ foldTo (slotChange t m r) 4 w
