@@ -1,13 +1,13 @@
 -- One table of limits for the words of a transaction, by its kind.
 use mathlib.Core.Path.{_≡_, refl, sym, _∙_}
-use mathlib.Core.Bool.{Bool, true, false, cond, _&&_, and-false, and-comm}
+use mathlib.Core.Bool.{Bool, true, false, cond, and-false, and-comm}
 use mathlib.Core.List.{List, [], _∷_}
 use Prim.Native.Nat.{ℕ, zero, suc, _+_, _<_, _≤_}
 use native.Mathlib.Omega.{arith}
 use native.Mathlib.Decide.{ℕ-discrete}
 use lib.ListN.{getD}
 use lib.Dec.{eqb, leb, ltb}
-use borrow.Author.Tests.{le-ltb, lt-ltb, le-leb, lt-leb, ltb-false, ltb-true, ne-eqb, eq-eqb}
+use borrow.Author.Tests.{le-ltb, lt-ltb, le-leb, lt-leb, ltb-false, ne-eqb, eq-eqb}
 use Rattle.base.specs.Folds.{allTo}
 use Rattle.base.specs.TestLaws.{all-high, all-same}
 use Rattle.terms.specs.Transactions.{bondInRange}
