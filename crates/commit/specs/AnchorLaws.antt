@@ -19,7 +19,7 @@ use Rattle.store.specs.Table.{heldSet, contentAt}
 use Rattle.store.specs.TableLaws.{held-in, certificate-at, content-author, content-round}
 use Rattle.sheet.specs.Ranges.{weightIn}
 use Rattle.committee.specs.Chain.{chainOf}
-use Rattle.committee.specs.Committees.{committeeOf, boundOf}
+use Rattle.committee.specs.Committees.{boundOf}
 use Rattle.committee.specs.Leaders.{leaderOf, leaderNumber}
 use Rattle.committee.specs.LeaderLaws.{leader-odd}
 use Rattle.walk.specs.Walk.{lastRound}
@@ -30,7 +30,7 @@ use Rattle.state.specs.declared.State.{State}
 use Rattle.state.specs.View.{view}
 use Rattle.state.specs.ViewLaws.{dag-at, vote-dag}
 use Rattle.commit.specs.Votes.{votesAt, votesFor}
-use Rattle.commit.specs.Commit.{leadersFor}
+use Rattle.commit.specs.Commit.{committeeOn, leadersFor}
 
 module _ (s : State) (t : List ℕ) where
   abbrev chain : Chain Content
@@ -40,14 +40,10 @@ module _ (s : State) (t : List ℕ) where
   abbrev pub leaderOn : ℕ → ℕ
   leaderOn q = leaderAt (s .settings) chain q
 
-  -- the committee of round q
-  abbrev pub committeeOn : ℕ → List ℕ
-  committeeOn q = committeeOf (s .settings) chain q
-
   -- the anchor of round q is the leader's certificate, if it is held
   pub anchor-on : (q : ℕ) → 0 < q → q ≤ s .settings .ceiling .0 → anchorAt (view s t) q ≡ cond (isIn (heldSet t q) (leaderOn q)) (some (contentAt t (leaderOn q) q)) none
   unfolding anchorAt leaderAt
-  anchor-on q from to = go (leaderOf (weightIn (committeeOn q)) q)
+  anchor-on q from to = go (leaderOf (weightIn (committeeOn s t q)) q)
     where
       go : (o : Option ℕ) → byLeader (view s t) q o ≡ cond (isIn (heldSet t q) (leaderNumber o)) (some (contentAt t (leaderNumber o) q)) none
       go none = rw (not-in (heldSet t q) 16 (omega arith)) refl
@@ -55,10 +51,10 @@ module _ (s : State) (t : List ℕ) where
 
   -- check 22: the votes of the round above it weigh not more than the bound
   pub unvoted-on : (a q : ℕ) → suc q ≤ s .settings .ceiling .0
-      → unvoted (s .settings) (view s t) (contentAt t a q) ≡ not (ltb (boundOf (total 16 (weightIn (committeeOn (suc q))))) (votesFor t (committeeOn (suc q)) (suc q) a))
+      → unvoted (s .settings) (view s t) (contentAt t a q) ≡ not (ltb (boundOf (total 16 (weightIn (committeeOn s t (suc q))))) (votesFor t (committeeOn s t (suc q)) (suc q) a))
   unfolding unvoted votesFor votesAt
   unvoted-on a q to =
-      let w = weightIn (committeeOn (suc q)) in
+      let w = weightIn (committeeOn s t (suc q)) in
       rw (content-round t a q, content-author t a q)
       (ap (λ (z : ℕ). not (ltb (boundOf (total 16 w)) z))
       (sum-same _ _ 16 (λ i h. ap (λ (b : Bool). cond b (w i) 0) (vote-dag (s .settings .ceiling .0) t i (suc q) (omega arith) to (s .settings) a))))
@@ -70,7 +66,7 @@ module _ (s : State) (t : List ℕ) where
     where
       go : Dec (q % 2 ≡ 0) → q % 2 ≡ 0
       go (yes e) = e
-      go (no d) = absurd (omega (arith, ap leaderNumber (leader-odd (weightIn (committeeOn q)) q d)))
+      go (no d) = absurd (omega (arith, ap leaderNumber (leader-odd (weightIn (committeeOn s t q)) q d)))
 
   -- ---- the leaders that a commit uses
 

@@ -31,8 +31,8 @@ use Rattle.state.specs.WellFormed.{wellFormed}
 use Rattle.state.specs.Formed.{Formed, formed}
 use Rattle.state.specs.NumberLaws.{number-unformed, number-formed, number-passed}
 use Rattle.commit.specs.Votes.{votesFor}
-use Rattle.commit.specs.Commit.{timeChecks, voteChecks, commitNumber, leadersFor}
-use Rattle.commit.specs.AnchorLaws.{leaderOn, committeeOn, anchor-on, unvoted-on, leaders-on}
+use Rattle.commit.specs.Commit.{timeChecks, voteChecks, commitNumber, committeeOn, leadersFor}
+use Rattle.commit.specs.AnchorLaws.{leaderOn, anchor-on, unvoted-on, leaders-on}
 
 module _ (s : State) (t : List ℕ) where
   abbrev r : ℕ

@@ -49,9 +49,9 @@ module _ (s : State) (t : List ℕ) where
   leadersFor =
       fillTo (leaderAt (s .settings) (chainOf (s .settings .ceiling .0) t (s .blocks))) (lastRound t (s .blocks)) (s .round .0 - 1 - lastRound t (s .blocks)) (replicate 1025 16)
 
-  -- the committee of the present round
-  abbrev pub committeeNow : List ℕ
-  committeeNow = committeeOf (s .settings) (chainOf (s .settings .ceiling .0) t (s .blocks)) (s .round .0)
+  -- the committee of round q
+  abbrev pub committeeOn : ℕ → List ℕ
+  committeeOn q = committeeOf (s .settings) (chainOf (s .settings .ceiling .0) t (s .blocks)) q
 
   -- how many blocks there are after an accepted commit, the state and the table
   unfoldable pub blocksThen : ℕ

@@ -8,7 +8,7 @@ ghost use Rattle.base.specs.Checks.{refusal};
 ghost use Rattle.committee.specs.Totals.{Light};
 ghost use Rattle.state.specs.Formed.{Formed};
 ghost use Rattle.walk.specs.Walk.{lastRound};
-ghost use Rattle.commit.specs.Commit.{timeChecks, voteChecks, leadersFor, committeeNow};
+ghost use Rattle.commit.specs.Commit.{timeChecks, voteChecks, committeeOn, leadersFor};
 
 // Checks 19, 20, 8.
 pub fn time_refusal(s: State, t: &[u32]) -> u32
@@ -34,7 +34,7 @@ pub fn time_refusal(s: State, t: &[u32]) -> u32
 
 // Checks 21, 22, where l has the leaders by round and w is the committee of the present round.
 pub fn vote_refusal(s: State, t: &[u32], l: &[u32; 1025], w: &[u64; 16]) -> u32
-    requires { ⌜ Formed s (now t) × (1 < s .round .0) × (now l ≡ leadersFor s (now t)) × (lastRound (now t) (s .blocks) < s .round .0 - 1) × (now w ≡ committeeNow s (now t)) × Light (now w) ⌝ }
+    requires { ⌜ Formed s (now t) × (1 < s .round .0) × (now l ≡ leadersFor s (now t)) × (lastRound (now t) (s .blocks) < s .round .0 - 1) × (now w ≡ committeeOn s (now t) (s .round .0)) × Light (now w) ⌝ }
     ensures { λ v. ⌜ v ≡ refusal (voteChecks s (now (t .entry))) ⌝ }
 {
     let r = s.round;
