@@ -5,6 +5,8 @@ pub mod Counts
 pub mod CountLaws
 pub mod Answers
 pub mod Turns
+pub mod Formed
+pub mod FormedLaws
 pub mod PutLaws
 pub mod TurnLaws
 pub mod Streams

@@ -6,12 +6,14 @@ ghost use mathlib.Core.Path.{_≡_};
 ghost use mathlib.Core.List.{[]};
 ghost use Prim.Native.Nat.{_+_, _*_, _≤_};
 ghost use lib.ListN.{length};
+ghost use Rattle.state.specs.WellFormed.{wellFormed};
 ghost use Rattle.stream.specs.Steps.{telling, stepOf};
 ghost use Rattle.records.specs.Streams.{toldBy, Through};
 
-// After a turn: the state, whether a record that was answered goes on, how many bytes are done with, and the next place of the buffer.
+// After a turn: the state, whether it is well formed, whether a record that was answered goes on, how many bytes are done with, and the next place of the buffer.
 pub struct Progress {
     pub state: State,
+    pub formed: bool,
     pub skipping: bool,
     pub taken: usize,
     pub next: usize,
@@ -19,6 +21,7 @@ pub struct Progress {
 
 // What an event of the stream asks for; rec is its record.
 pub fn answered(
+    formed: bool,
     s: State,
     t: &mut [u32],
     event: Event,
@@ -26,14 +29,19 @@ pub fn answered(
     out: &mut [u8],
     at: usize,
 ) -> Reply
-    requires { ⌜ at + length (now t) * 9 + 20 ≤ length (now out) ⌝ }
-    ensures { λ r. ⌜ Through s (now (t .entry)) (telling event (now (rec .entry)) []) (r .state) (now (t .exit)) (now (out .entry)) (now (out .exit)) at (r .next) ⌝ }
+    requires { ⌜ (at + length (now t) * 9 + 20 ≤ length (now out)) × (formed ≡ wellFormed s (now t)) ⌝ }
+    ensures { λ r. ⌜ Through s (now (t .entry)) (telling event (now (rec .entry)) []) (r .state) (now (t .exit)) (now (out .entry)) (now (out .exit)) at (r .next) × (r .formed ≡ wellFormed (r .state) (now (t .exit))) ⌝ }
 {
     match event {
-        Event::Nothing => Reply { state: s, next: at },
-        Event::Record => crate::serve(s, t, requests::read(rec), out, at),
+        Event::Nothing => Reply {
+            state: s,
+            formed,
+            next: at,
+        },
+        Event::Record => crate::serve(formed, s, t, requests::read(rec), out, at),
         Event::Unreadable => Reply {
             state: s,
+            formed,
             next: lines::put_refused(out, at, 24),
         },
     }
@@ -41,6 +49,7 @@ pub fn answered(
 
 // The turn.
 pub fn turn(
+    formed: bool,
     s: State,
     t: &mut [u32],
     skipping: bool,
@@ -48,16 +57,17 @@ pub fn turn(
     out: &mut [u8],
     at: usize,
 ) -> Progress
-    requires { ⌜ at + length (now t) * 9 + 20 ≤ length (now out) ⌝ }
-    ensures { λ r. ⌜ Through s (now (t .entry)) (toldBy skipping (now (hand .entry))) (r .state) (now (t .exit)) (now (out .entry)) (now (out .exit)) at (r .next) × (r .skipping ≡ stepOf skipping (now (hand .entry)) .skipping) × (r .taken ≡ stepOf skipping (now (hand .entry)) .next) ⌝ }
+    requires { ⌜ (at + length (now t) * 9 + 20 ≤ length (now out)) × (formed ≡ wellFormed s (now t)) ⌝ }
+    ensures { λ r. ⌜ Through s (now (t .entry)) (toldBy skipping (now (hand .entry))) (r .state) (now (t .exit)) (now (out .entry)) (now (out .exit)) at (r .next) × (r .skipping ≡ stepOf skipping (now (hand .entry)) .skipping) × (r .taken ≡ stepOf skipping (now (hand .entry)) .next) × (r .formed ≡ wellFormed (r .state) (now (t .exit))) ⌝ }
 {
     let step = stream::next_step(skipping, hand);
     let event = step.event;
     let length = step.length;
-    let done = answered(s, t, event, &hand[..length], out, at);
+    let done = answered(formed, s, t, event, &hand[..length], out, at);
     let state = done.state;
     Progress {
         state,
+        formed: done.formed,
         skipping: step.skipping,
         taken: step.next,
         next: done.next,

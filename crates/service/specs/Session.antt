@@ -10,7 +10,9 @@ use Rattle.stream.specs.Streams.{hasEnd}
 use Rattle.stream.specs.Steps.{left}
 use Rattle.stream.specs.StepLaws.{Waits}
 use Rattle.lines.specs.Puts.{Puts}
+use Rattle.state.specs.WellFormed.{wellFormed}
 use Rattle.member.specs.Open.{closedState}
+use Rattle.records.specs.FormedLaws.{closed-unformed}
 use Rattle.records.specs.Streams.{answersTo, output}
 use Rattle.service.specs.declared.work.Work.{Work}
 use Rattle.service.specs.declared.Session.{Session}
@@ -29,6 +31,7 @@ pub record Refilled (w : Work) (end : ℕ) (x y : List ℕ) (r : Session) : Type
   pub came : List ℕ
   pub hand : handIn y (r .work .from) (r .end) ≡ handIn x (w .from) end ++ came
   pub state : r .work .state ≡ w .state
+  pub formed : r .work .formed ≡ w .formed
   pub skipping : r .work .skipping ≡ w .skipping
   pub ended : r .ended ≡ true → (came ≡ []) × (w .waits ≡ true)
 
@@ -40,6 +43,10 @@ pub record Advanced (s : Session) (t x : List ℕ) (r : Session) (t′ x′ out 
   pub whole : (more : List ℕ) → answersTo (s .work .state) t (left (s .work .skipping) (handIn x (s .work .from) (s .end) ++ (came ++ more)))
       ≡ put ++ answersTo (r .work .state) t′ (left (r .work .skipping) (handIn x′ (r .work .from) (r .end) ++ more))
   pub ended : r .ended ≡ true → (came ≡ []) × (hasEnd (handIn x′ (r .work .from) (r .end)) ≡ false)
+
+-- bytes that come leave it well formed or not
+pub refilled-formed : {w : Work} {end : ℕ} {x : List ℕ} {y : List ℕ} {r : Session} (t : List ℕ) → Refilled w end x y r → w .formed ≡ wellFormed (w .state) t → r .work .formed ≡ wellFormed (r .work .state) t
+refilled-formed t h e = rw (h .state, h .formed) e
 
 drop-take : (a e : ℕ) (l : List ℕ) → drop a (take e l) ≡ take (e - a) (drop a l)
 drop-take zero e l = let q : e - 0 ≡ e = omega arith in rw q refl
@@ -95,11 +102,16 @@ pub record SoFar (t₀ : List ℕ) (s : Session) (t x : List ℕ) : Type 0 where
 -- nothing read yet
 pub record Fresh (s : Session) : Type 0 where
   pub state : s .work .state ≡ closedState
+  pub formed : s .work .formed ≡ false
   pub skipping : s .work .skipping ≡ false
   pub from : s .work .from ≡ 0
   pub next : s .work .next ≡ 0
   pub end : s .end ≡ 0
   pub ended : s .ended ≡ false
+
+-- the state is not well formed then, whatever the table
+pub fresh-formed : (t : List ℕ) (s : Session) → Fresh s → s .work .formed ≡ wellFormed (s .work .state) t
+fresh-formed t s f = rw (f .state, f .formed) (sym (closed-unformed t))
 
 pub so-far-none : (t x : List ℕ) (s : Session) → Fresh s → SoFar t s t x
 unfolding left

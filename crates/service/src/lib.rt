@@ -9,6 +9,7 @@ ghost use mathlib.Core.Path.{_≡_};
 ghost use mathlib.Core.Bool.{false};
 ghost use Prim.Native.Nat.{_+_, _*_, _≤_};
 ghost use lib.ListN.{length};
+ghost use Rattle.state.specs.WellFormed.{wellFormed};
 ghost use Rattle.stream.specs.Streams.{hasEnd};
 ghost use Rattle.stream.specs.Steps.{left};
 ghost use Rattle.records.specs.Streams.{answersTo};
@@ -34,6 +35,7 @@ fn start() -> Session
 {
     let work = Work {
         state: member::open::closed(),
+        formed: false,
         skipping: false,
         from: 0,
         next: 0,
@@ -48,11 +50,12 @@ fn start() -> Session
 
 // The work with the output buffer empty again, and the bytes at hand from another place on.
 fn emptied(w: Work, from: usize) -> Work
-    ensures { λ r. ⌜ (r .from ≡ from) × (r .next ≡ 0) × (r .state ≡ w .state) × (r .skipping ≡ w .skipping) ⌝ }
+    ensures { λ r. ⌜ (r .from ≡ from) × (r .next ≡ 0) × (r .state ≡ w .state) × (r .formed ≡ w .formed) × (r .skipping ≡ w .skipping) ⌝ }
 {
     let state = w.state;
     Work {
         state,
+        formed: w.formed,
         skipping: w.skipping,
         from,
         next: 0,
@@ -84,8 +87,8 @@ fn refill(w: Work, buf: &mut [u8], end: usize) -> Session
 
 // Serves what is at hand, writes the answers out and goes on.
 fn advance(s: Session, t: &mut [u32], buf: &mut [u8], out: &mut [u8]) -> Session
-    requires { ⌜ (s .work .from ≤ s .end) × (s .end ≤ length (now buf)) × (s .work .next ≡ 0) × (length (now t) ≤ 17680) × (length (now t) * 9 + 20 ≤ length (now out)) × (length (now buf) ≤ 65536) ⌝ }
-    ensures { λ r. ⌜ (r .work .from ≤ r .end) × (r .end ≤ length (now (buf .entry))) × (r .work .next ≡ 0) × Advanced s (now (t .entry)) (now (buf .entry)) r (now (t .exit)) (now (buf .exit)) (now (out .exit)) ⌝ }
+    requires { ⌜ (s .work .from ≤ s .end) × (s .end ≤ length (now buf)) × (s .work .next ≡ 0) × (length (now t) ≤ 17680) × (length (now t) * 9 + 20 ≤ length (now out)) × (length (now buf) ≤ 65536) × (s .work .formed ≡ wellFormed (s .work .state) (now t)) ⌝ }
+    ensures { λ r. ⌜ (r .work .from ≤ r .end) × (r .end ≤ length (now (buf .entry))) × (r .work .next ≡ 0) × Advanced s (now (t .entry)) (now (buf .entry)) r (now (t .exit)) (now (buf .exit)) (now (out .exit)) × (r .work .formed ≡ wellFormed (r .work .state) (now (t .exit))) ⌝ }
 {
     let end = s.end;
     let before = s.work;
@@ -97,7 +100,7 @@ fn advance(s: Session, t: &mut [u32], buf: &mut [u8], out: &mut [u8]) -> Session
 // Serves until the input ends.
 fn serve_all(t: &mut [u32], buf: &mut [u8], out: &mut [u8]) -> Session
     requires { ⌜ (length (now t) ≤ 17680) × (length (now t) * 9 + 20 ≤ length (now out)) × (length (now buf) ≤ 65536) ⌝ }
-    ensures { λ r. ⌜ (r .work .from ≤ r .end) × (r .end ≤ length (now (buf .entry))) × SoFar (now (t .entry)) r (now (t .exit)) (now (buf .exit)) ⌝ }
+    ensures { λ r. ⌜ (r .work .from ≤ r .end) × (r .end ≤ length (now (buf .entry))) × SoFar (now (t .entry)) r (now (t .exit)) (now (buf .exit)) × (r .work .formed ≡ wellFormed (r .work .state) (now (t .exit))) ⌝ }
 {
     let mut s = start();
     let mut turns = u64::MAX;
@@ -111,7 +114,7 @@ fn serve_all(t: &mut [u32], buf: &mut [u8], out: &mut [u8]) -> Session
 
 // Answers what is left at the end of input.
 fn conclude(s: Session, t: &mut [u32], buf: &[u8], out: &mut [u8])
-    requires { ⌜ (s .work .from ≤ s .end) × (s .end ≤ length (now buf)) × (length (now t) * 9 + 20 ≤ length (now out)) ⌝ }
+    requires { ⌜ (s .work .from ≤ s .end) × (s .end ≤ length (now buf)) × (length (now t) * 9 + 20 ≤ length (now out)) × (s .work .formed ≡ wellFormed (s .work .state) (now t)) ⌝ }
     ensures { λ _. ⌜ (hasEnd (handIn (now (buf .entry)) (s .work .from) (s .end)) ≡ false → Begins (now (out .exit)) (answersTo (s .work .state) (now (t .entry)) (left (s .work .skipping) (handIn (now (buf .entry)) (s .work .from) (s .end))))) ⌝ }
 {
     let end = s.end;
@@ -119,7 +122,7 @@ fn conclude(s: Session, t: &mut [u32], buf: &[u8], out: &mut [u8])
     let from = w.from;
     let state = w.state;
     let hand = input::rest(&buf[..end], from);
-    let n = work::finish(state, t, w.skipping, hand, out);
+    let n = work::finish(w.formed, state, t, w.skipping, hand, out);
     flush(out, n);
 }
 

@@ -17,11 +17,6 @@ use Rattle.records.proofs.listed.Lts as lts
 use Rattle.lines.proofs.put_ok.Reads as put-ok-reads
 use Rattle.lines.proofs.put_refused.Reads as put-refused-reads
 use Rattle.records.proofs.listing.list_chain.Reads as list-chain-reads
-use Rattle.state.proofs.well_formed.Reads as well-formed-reads
-
--- src/lib.rt:50:9
-well-formed-requires : tie.Need-well-formed-requires
-well-formed-requires c κs = search needs
 
 -- src/lib.rt:51:9
 put-refused-requires : tie.Need-put-refused-requires
@@ -34,24 +29,24 @@ same-length c = search needs
 -- src/lib.rt:51:9
 returns : tie.Need-returns
 returns c =
-    let a = c .before .before .before .before .before .before .before .before .args in
+    let a = c .before .before .before .before .before .before .before .args in
     let l = chainLines (a .s .settings .ceiling .0) (view (a .s) (a .t .now) .chain) ++ okLine in
-    puts-as (ap (λ b. cond b l (refusedLine 1)) (sym (c .before .before .before .before .before .well-formed .ensures) ∙ not-true _ (c .before .before .before .before .if1 .taken))) (omega arith) (c .before .before .put-refused .ensures)
+    puts-as (ap (λ b. cond b l (refusedLine 1)) (sym (c .before .before .before .before .before .before .before .pre .1) ∙ not-true _ (c .before .before .before .before .if1 .taken))) (omega arith) (c .before .before .put-refused .ensures)
 
 -- src/lib.rt:54:9
 list-chain-requires : tie.Need-list-chain-requires
 list-chain-requires c κs =
-    let a = c .before .before .before .before .before .before .args in
-    let f = formed (a .s) (a .t .now) (sym (c .before .before .before .well-formed .ensures) ∙ not-false _ (c .before .before .if1 .left)) in
-    (f .long, f .settings .ceiling-to, f .room, omega (arith, f .long, c .before .before .before .before .before .before .pre))
+    let a = c .before .before .before .before .before .args in
+    let f = formed (a .s) (a .t .now) (sym (c .before .before .before .before .before .pre .1) ∙ not-false _ (c .before .before .if1 .left)) in
+    (f .long, f .settings .ceiling-to, f .room, omega (arith, f .long, c .before .before .before .before .before .pre .0))
 
 -- src/lib.rt:55:5
 put-ok-requires : tie.Need-put-ok-requires
 put-ok-requires c κs =
-    let a = c .before .before .before .before .before .before .before .before .before .before .args in
-    let f = formed (a .s) (a .t .now) (sym (c .before .before .before .before .before .before .before .well-formed .ensures) ∙ not-false _ (c .before .before .before .before .before .before .if1 .left)) in
+    let a = c .before .before .before .before .before .before .before .before .before .args in
+    let f = formed (a .s) (a .t .now) (sym (c .before .before .before .before .before .before .before .before .before .pre .1) ∙ not-false _ (c .before .before .before .before .before .before .if1 .left)) in
     let p = c .before .before .before .list-chain in
-    omega (arith, f .long, c .before .before .before .before .before .before .before .before .before .before .pre, p .ensures .past, p .ensures .room, p .kept .1 .1 .1 .0)
+    omega (arith, f .long, c .before .before .before .before .before .before .before .before .before .pre .0, p .ensures .past, p .ensures .room, p .kept .1 .1 .1 .0)
 
 -- src/lib.rt:46:1
 same-length-2 : tie.Need-same-length-2
@@ -60,8 +55,8 @@ same-length-2 c = search needs
 -- src/lib.rt:46:1
 returns-2 : tie.Need-returns-2
 returns-2 c =
-    let a = c .before .before .before .before .before .before .before .before .before .before .before .before .before .args in
-    let e = sym (c .before .before .before .before .before .before .before .before .before .before .well-formed .ensures) ∙ not-false _ (c .before .before .before .before .before .before .before .before .before .if1 .left) in
+    let a = c .before .before .before .before .before .before .before .before .before .before .before .before .args in
+    let e = sym (c .before .before .before .before .before .before .before .before .before .before .before .before .pre .1) ∙ not-false _ (c .before .before .before .before .before .before .before .before .before .if1 .left) in
     let f = formed (a .s) (a .t .now) e in
     let l = chainLines (a .s .settings .ceiling .0) (view (a .s) (a .t .now) .chain) ++ okLine in
     puts-as (ap (λ b. cond b l (refusedLine 1)) e) (omega (arith, f .long)) (puts-then (c .before .before .before .before .before .before .list-chain .ensures) (c .before .before .put-ok .ensures))
@@ -70,7 +65,6 @@ pub listed-spec : {M : Type 1} → statement M
 listed-spec =
     tie.close
     (tie.spec
-    well-formed-requires
     put-refused-requires
     same-length
     returns

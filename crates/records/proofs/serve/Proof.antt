@@ -9,12 +9,12 @@ use Rattle.records.proofs.serve.Reads as reads
 use Rattle.records.proofs.serve.Lts as lts
 use Rattle.commit.proofs.commit.Reads as commit-reads
 use Rattle.lines.proofs.put_refused.Reads as put-refused-reads
-use Rattle.member.proofs.accept.accept.Reads as accept-reads
-use Rattle.member.proofs.advance.advance.Reads as advance-reads
-use Rattle.member.proofs.certify.certify.Reads as certify-reads
-use Rattle.member.proofs.endorse.endorse.Reads as endorse-reads
+use Rattle.member.proofs.accept.accept_known.Reads as accept-known-reads
+use Rattle.member.proofs.advance.advance_known.Reads as advance-known-reads
+use Rattle.member.proofs.certify.certify_known.Reads as certify-known-reads
+use Rattle.member.proofs.endorse.endorse_known.Reads as endorse-known-reads
 use Rattle.member.proofs.open.open.Reads as open-reads
-use Rattle.member.proofs.propose.propose.Reads as propose-reads
+use Rattle.member.proofs.propose.propose_known.Reads as propose-known-reads
 use Rattle.records.proofs.counted.Reads as counted-reads
 use Rattle.records.proofs.listed.Reads as listed-reads
 use Rattle.records.proofs.told.Reads as told-reads
@@ -44,8 +44,8 @@ enum-told-3 : tie.Need-enum-told-3
 enum-told-3 c = search needs
 
 -- src/lib.rt:73:31
-propose-requires : tie.Need-propose-requires
-propose-requires c κs = search needs
+propose-known-requires : tie.Need-propose-known-requires
+propose-known-requires c κs = search needs
 
 -- src/lib.rt:73:26
 told-requires-2 : tie.Need-told-requires-2
@@ -56,8 +56,8 @@ enum-told-4 : tie.Need-enum-told-4
 enum-told-4 c = search needs
 
 -- src/lib.rt:74:31
-endorse-requires : tie.Need-endorse-requires
-endorse-requires c κs = search needs
+endorse-known-requires : tie.Need-endorse-known-requires
+endorse-known-requires c κs = search needs
 
 -- src/lib.rt:74:26
 told-requires-3 : tie.Need-told-requires-3
@@ -68,8 +68,8 @@ enum-told-5 : tie.Need-enum-told-5
 enum-told-5 c = search needs
 
 -- src/lib.rt:75:31
-certify-requires : tie.Need-certify-requires
-certify-requires c κs = search needs
+certify-known-requires : tie.Need-certify-known-requires
+certify-known-requires c κs = search needs
 
 -- src/lib.rt:75:26
 told-requires-4 : tie.Need-told-requires-4
@@ -80,8 +80,8 @@ enum-told-6 : tie.Need-enum-told-6
 enum-told-6 c = search needs
 
 -- src/lib.rt:76:30
-accept-requires : tie.Need-accept-requires
-accept-requires c κs = search needs
+accept-known-requires : tie.Need-accept-known-requires
+accept-known-requires c κs = search needs
 
 -- src/lib.rt:76:25
 told-requires-5 : tie.Need-told-requires-5
@@ -92,8 +92,8 @@ enum-told-7 : tie.Need-enum-told-7
 enum-told-7 c = search needs
 
 -- src/lib.rt:77:31
-advance-requires : tie.Need-advance-requires
-advance-requires c κs = search needs
+advance-known-requires : tie.Need-advance-known-requires
+advance-known-requires c κs = search needs
 
 -- src/lib.rt:77:26
 told-requires-6 : tie.Need-told-requires-6
@@ -125,7 +125,7 @@ same-length c = search needs
 
 -- src/lib.rt:59:1
 returns : tie.Need-returns
-returns c = served-by Unreadable (c .before .before .before .before .enum-told .given .1) refl refl (omega arith) (c .before .before .put-refused .ensures)
+returns c = served-by Unreadable (c .before .before .before .before .enum-told .given .1) refl refl (c .before .before .before .before .before .before .before .before .before .before .before .before .pre .1) (omega arith) (c .before .before .put-refused .ensures) (omega (arith, c .before .before .before .before .before .before .before .before .before .before .before .before .good .1 .0)) (omega (arith, c .before .before .before .before .before .before .before .before .before .before .before .before .good .1 .1 .1 .0))
 
 -- src/lib.rt:59:1
 same-length-2 : tie.Need-same-length-2
@@ -137,7 +137,7 @@ same-length-3 c = search needs
 
 -- src/lib.rt:59:1
 returns-2 : tie.Need-returns-2
-returns-2 c = told-by Open (c .before .before .before .before .before .before .before .before .enum-told2 .given .1) (c .before .before .before .before .before .before .«open» .ensures .0) refl refl (c .before .before .before .before .before .before .«open» .ensures .1) (c .before .before .told .ensures)
+returns-2 c = told-by Open (c .before .before .before .before .before .before .before .before .enum-told2 .given .1) (c .before .before .before .before .before .before .«open» .ensures .0) refl refl refl (c .before .before .before .before .before .before .«open» .ensures .1) (c .before .before .before .before .before .before .before .before .before .before .before .before .before .before .before .before .pre .1) (c .before .before .told .ensures) (omega (arith, c .before .before .before .before .before .before .before .before .before .before .before .before .before .before .before .before .good .1 .0)) (omega (arith, c .before .before .before .before .before .before .before .before .before .before .before .before .before .before .before .before .good .1 .1 .1 .0))
 
 -- src/lib.rt:59:1
 same-length-4 : tie.Need-same-length-4
@@ -149,7 +149,7 @@ same-length-5 c = search needs
 
 -- src/lib.rt:59:1
 returns-3 : tie.Need-returns-3
-returns-3 c = told-by Propose (c .before .before .before .before .before .before .enum-told3 .given .1) (c .before .before .before .before .propose .ensures) refl refl refl (c .before .before .told2 .ensures)
+returns-3 c = told-by Propose (c .before .before .before .before .before .before .enum-told3 .given .1) (c .before .before .before .before .propose-known .ensures) refl refl refl refl (c .before .before .before .before .before .before .before .before .before .before .before .before .before .before .pre .1) (c .before .before .told2 .ensures) (omega (arith, c .before .before .before .before .before .before .before .before .before .before .before .before .before .before .good .1 .0)) (omega (arith, c .before .before .before .before .before .before .before .before .before .before .before .before .before .before .good .1 .1 .1 .0))
 
 -- src/lib.rt:59:1
 same-length-6 : tie.Need-same-length-6
@@ -161,7 +161,7 @@ same-length-7 c = search needs
 
 -- src/lib.rt:59:1
 returns-4 : tie.Need-returns-4
-returns-4 c = told-by Endorse (c .before .before .before .before .before .before .before .before .enum-told4 .given .1) (c .before .before .before .before .before .before .endorse .ensures .0) refl refl (c .before .before .before .before .before .before .endorse .ensures .1) (c .before .before .told3 .ensures)
+returns-4 c = told-by Endorse (c .before .before .before .before .before .before .before .before .enum-told4 .given .1) (c .before .before .before .before .before .before .endorse-known .ensures .0) refl refl refl (c .before .before .before .before .before .before .endorse-known .ensures .1) (c .before .before .before .before .before .before .before .before .before .before .before .before .before .before .before .before .pre .1) (c .before .before .told3 .ensures) (omega (arith, c .before .before .before .before .before .before .before .before .before .before .before .before .before .before .before .before .good .1 .0)) (omega (arith, c .before .before .before .before .before .before .before .before .before .before .before .before .before .before .before .before .good .1 .1 .1 .0))
 
 -- src/lib.rt:59:1
 same-length-8 : tie.Need-same-length-8
@@ -173,7 +173,7 @@ same-length-9 c = search needs
 
 -- src/lib.rt:59:1
 returns-5 : tie.Need-returns-5
-returns-5 c = told-by Certify (c .before .before .before .before .before .before .before .before .enum-told5 .given .1) (c .before .before .before .before .before .before .certify .ensures .0) refl refl (c .before .before .before .before .before .before .certify .ensures .1) (c .before .before .told4 .ensures)
+returns-5 c = told-by Certify (c .before .before .before .before .before .before .before .before .enum-told5 .given .1) (c .before .before .before .before .before .before .certify-known .ensures .0) refl refl refl (c .before .before .before .before .before .before .certify-known .ensures .1) (c .before .before .before .before .before .before .before .before .before .before .before .before .before .before .before .before .pre .1) (c .before .before .told4 .ensures) (omega (arith, c .before .before .before .before .before .before .before .before .before .before .before .before .before .before .before .before .good .1 .0)) (omega (arith, c .before .before .before .before .before .before .before .before .before .before .before .before .before .before .before .before .good .1 .1 .1 .0))
 
 -- src/lib.rt:59:1
 same-length-10 : tie.Need-same-length-10
@@ -185,7 +185,7 @@ same-length-11 c = search needs
 
 -- src/lib.rt:59:1
 returns-6 : tie.Need-returns-6
-returns-6 c = told-by Accept (c .before .before .before .before .before .before .before .before .enum-told6 .given .1) (c .before .before .before .before .before .before .accept .ensures .0) refl refl (c .before .before .before .before .before .before .accept .ensures .1) (c .before .before .told5 .ensures)
+returns-6 c = told-by Accept (c .before .before .before .before .before .before .before .before .enum-told6 .given .1) (c .before .before .before .before .before .before .accept-known .ensures .0) refl refl refl (c .before .before .before .before .before .before .accept-known .ensures .1) (c .before .before .before .before .before .before .before .before .before .before .before .before .before .before .before .before .pre .1) (c .before .before .told5 .ensures) (omega (arith, c .before .before .before .before .before .before .before .before .before .before .before .before .before .before .before .before .good .1 .0)) (omega (arith, c .before .before .before .before .before .before .before .before .before .before .before .before .before .before .before .before .good .1 .1 .1 .0))
 
 -- src/lib.rt:59:1
 same-length-12 : tie.Need-same-length-12
@@ -197,7 +197,7 @@ same-length-13 c = search needs
 
 -- src/lib.rt:59:1
 returns-7 : tie.Need-returns-7
-returns-7 c = told-by Advance (c .before .before .before .before .before .before .enum-told7 .given .1) (c .before .before .before .before .advance .ensures) refl refl refl (c .before .before .told6 .ensures)
+returns-7 c = told-by Advance (c .before .before .before .before .before .before .enum-told7 .given .1) (c .before .before .before .before .advance-known .ensures) refl refl refl refl (c .before .before .before .before .before .before .before .before .before .before .before .before .before .before .pre .1) (c .before .before .told6 .ensures) (omega (arith, c .before .before .before .before .before .before .before .before .before .before .before .before .before .before .good .1 .0)) (omega (arith, c .before .before .before .before .before .before .before .before .before .before .before .before .before .before .good .1 .1 .1 .0))
 
 -- src/lib.rt:59:1
 same-length-14 : tie.Need-same-length-14
@@ -209,7 +209,7 @@ same-length-15 c = search needs
 
 -- src/lib.rt:59:1
 returns-8 : tie.Need-returns-8
-returns-8 c = counted-by (c .before .before .before .before .before .before .before .before .enum-told8 .given .1) (c .before .before .before .before .before .before .commit .ensures .0) (c .before .before .before .before .before .before .commit .ensures .1) (c .before .before .counted .ensures)
+returns-8 c = counted-by (c .before .before .before .before .before .before .before .before .enum-told8 .given .1) (c .before .before .before .before .before .before .commit .ensures .0) (c .before .before .before .before .before .before .commit .ensures .1) (c .before .before .before .before .before .before .before .before .before .before .before .before .before .before .before .before .pre .1) (c .before .before .counted .ensures) (omega (arith, c .before .before .before .before .before .before .before .before .before .before .before .before .before .before .before .before .good .1 .0)) (omega (arith, c .before .before .before .before .before .before .before .before .before .before .before .before .before .before .before .before .good .1 .1 .1 .0))
 
 -- src/lib.rt:59:1
 same-length-16 : tie.Need-same-length-16
@@ -221,7 +221,7 @@ same-length-17 c = search needs
 
 -- src/lib.rt:59:1
 returns-9 : tie.Need-returns-9
-returns-9 c = served-by Chain (c .before .before .before .before .before .enum-told9 .given .1) refl refl (omega arith) (c .before .before .listed .ensures)
+returns-9 c = served-by Chain (c .before .before .before .before .before .enum-told9 .given .1) refl refl (c .before .before .before .before .before .before .before .before .before .before .before .before .before .pre .1) (omega arith) (c .before .before .listed .ensures) (omega (arith, c .before .before .before .before .before .before .before .before .before .before .before .before .before .good .1 .0)) (omega (arith, c .before .before .before .before .before .before .before .before .before .before .before .before .before .good .1 .1 .1 .0))
 
 pub serve-spec : {M : Type 1} → statement M
 serve-spec =
@@ -233,19 +233,19 @@ serve-spec =
     open-requires
     told-requires
     enum-told-3
-    propose-requires
+    propose-known-requires
     told-requires-2
     enum-told-4
-    endorse-requires
+    endorse-known-requires
     told-requires-3
     enum-told-5
-    certify-requires
+    certify-known-requires
     told-requires-4
     enum-told-6
-    accept-requires
+    accept-known-requires
     told-requires-5
     enum-told-7
-    advance-requires
+    advance-known-requires
     told-requires-6
     enum-told-8
     commit-requires

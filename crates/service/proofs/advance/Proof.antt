@@ -1,4 +1,4 @@
-use Rattle.service.specs.Session.{advanced}
+use Rattle.service.specs.Session.{advanced, refilled-formed}
 use mathlib.Core.Path.{sym}
 use native.Mathlib.Omega.{arith}
 use lib.Seq.{length-take-le}
@@ -27,7 +27,7 @@ fill-requires c κs =
     let a = c .before .before .before .before .before .before .before .args in
     let p = c .before .before .before .before .before .before .before .pre in
     let l = length-take-le (a .s .end) (a .buf .now) (p .1) in
-    (rw l (p .0), rw l (omega (arith, p .1, p .5)), p .3, p .4, omega (arith, p .2))
+    (rw l (p .0), rw l (omega (arith, p .1, p .5)), p .3, p .4, omega (arith, p .2), p .6)
 
 -- src/lib.rt:88:5
 flush-requires : tie.Need-flush-requires
@@ -60,7 +60,7 @@ returns c =
     let f = c .before .before .before .before .before .before .before .before .before .before .fill in
     let r = c .before .before .refill in
     let e = r .ensures in
-    (e .0, e .1, e .2, advanced (a .s) (a .t .now) (a .buf .now) (f .result) _ (r .result) _ _ _ (f .ensures .0) (c .before .before .before .before .before .before .before .before .before .before .before .before .before .before .before .before .before .before .pre .2) (f .ensures .2) (f .ensures .3) (e .3))
+    (e .0, e .1, e .2, advanced (a .s) (a .t .now) (a .buf .now) (f .result) _ (r .result) _ _ _ (f .ensures .0) (c .before .before .before .before .before .before .before .before .before .before .before .before .before .before .before .before .before .before .pre .2) (f .ensures .2) (f .ensures .3) (e .3), refilled-formed _ (e .3) (f .ensures .4))
 
 pub advance-spec : {M : Type 1} → statement M
 advance-spec =

@@ -27,7 +27,7 @@ returns c =
     let a = c .before .before .before .before .args in
     let e = c .emptied .ensures in
     let p = c .before .before .before .before .pre in
-    (omega (arith, e .0, p .0), p .1, e .1, record { came = []; hand = refilled-none (a .buf .now) (a .w .from) (a .end) (e .0); state = e .2; skipping = e .3; ended = λ q. absurd (false≢true q) })
+    (omega (arith, e .0, p .0), p .1, e .1, record { came = []; hand = refilled-none (a .buf .now) (a .w .from) (a .end) (e .0); state = e .2; formed = e .3; skipping = e .4; ended = λ q. absurd (false≢true q) })
 
 -- src/lib.rt:71:9
 keep-requires : tie.Need-keep-requires
@@ -61,7 +61,7 @@ returns-2 c =
     let y = m .last .0 in
     let h : k .result + m .result ≤ length (a .buf .now) = rw (k .kept .0) at (m .ensures .0) in
     let f = refilled-hand (a .buf .now) y (a .w .from) (a .end) (k .result) (m .result) (k .ensures .0) (m .ensures .1 ∙ ap (λ (z : ℕ). take z (k .last .0)) (k .ensures .0) ∙ k .ensures .1) in
-    (omega (arith, e .0), h, e .1, record { came = take (m .result) (drop (k .result) y); hand = rw (e .0) f; state = e .2; skipping = e .3; ended = λ q. (none-came (k .result) (m .result) y (eqb-true (m .result) 0 q), not-false _ (c .before .before .before .before .before .before .before .before .before .if1 .left)) })
+    (omega (arith, e .0), h, e .1, record { came = take (m .result) (drop (k .result) y); hand = rw (e .0) f; state = e .2; formed = e .3; skipping = e .4; ended = λ q. (none-came (k .result) (m .result) y (eqb-true (m .result) 0 q), not-false _ (c .before .before .before .before .before .before .before .before .before .if1 .left)) })
 
 pub refill-spec : {M : Type 1} → statement M
 refill-spec =

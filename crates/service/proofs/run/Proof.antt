@@ -49,7 +49,7 @@ conclude-requires c κs =
     let e = u .ensures in
     let t : length (u .last .0) ≡ 17680 = u .kept .0 ∙ length-replicate {A = ℕ} 17680 0 in
     let o : length (u .last .1 .1 .0) ≡ 262144 = u .kept .1 .1 .0 ∙ length-replicate {A = ℕ} 262144 0 in
-    (e .0, rw (u .kept .1 .0) (e .1), omega (arith, t, o))
+    (e .0, rw (u .kept .1 .0) (e .1), omega (arith, t, o), e .3)
 
 -- src/lib.rt:127:1
 returns : tie.Need-returns

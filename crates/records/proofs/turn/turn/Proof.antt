@@ -40,7 +40,7 @@ same-length-2 c = search needs
 returns : tie.Need-returns
 returns c =
     let e = c .before .before .before .before .before .before .before .before .before .next-step .ensures in
-    (through-step _ _ e (c .before .before .before .before .before .answered .ensures), ap (λ (z : Step). z .skipping) e, ap (λ (z : Step). z .next) e)
+    (through-step _ _ e (c .before .before .before .before .before .answered .ensures .0), ap (λ (z : Step). z .skipping) e, ap (λ (z : Step). z .next) e, c .before .before .before .before .before .answered .ensures .1)
 
 pub turn-spec : {M : Type 1} → statement M
 turn-spec =

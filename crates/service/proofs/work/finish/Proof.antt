@@ -38,8 +38,8 @@ same-length-2 c = search needs
 returns : tie.Need-returns
 returns c =
     let a = c .before .before .before .before .before .before .before .before .before .before .before .before .args in
-    let p = c .before .before .before .before .answered .ensures .its-lines in
-    (omega (arith, c .before .before .before .before .before .before .before .before .before .before .before .before .pre, p .past, p .room), λ e. puts-as (last-whole _ _ _ _ e ∙ ap (λ (z : Event). answersTo (a .s) (a .t .now) (telling z [] [])) (sym (c .before .before .before .before .before .before .before .before .last .ensures))) (omega arith) p)
+    let p = c .before .before .before .before .answered .ensures .0 .its-lines in
+    (omega (arith, c .before .before .before .before .before .before .before .before .before .before .before .before .pre .0, p .past, p .room), λ e. puts-as (last-whole _ _ _ _ e ∙ ap (λ (z : Event). answersTo (a .s) (a .t .now) (telling z [] [])) (sym (c .before .before .before .before .before .before .before .before .last .ensures))) (omega arith) p)
 
 pub finish-spec : {M : Type 1} → statement M
 finish-spec =
