@@ -18,9 +18,9 @@ use terms::Proposal;
 ghost use mathlib.Core.Path.{_≡_};
 ghost use Prim.Native.Nat.{_+_, _*_, _≤_};
 ghost use lib.ListN.{length};
+ghost use Rattle.state.specs.WellFormed.{wellFormed};
 ghost use Rattle.lines.specs.Puts.{Puts};
 ghost use Rattle.records.specs.Answers.{answerLine, committedLine, chainAnswer};
-ghost use Rattle.state.specs.WellFormed.{wellFormed};
 ghost use Rattle.records.specs.Formed.{formedBy};
 ghost use Rattle.records.specs.Turns.{Served};
 
