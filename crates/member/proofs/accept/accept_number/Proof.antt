@@ -7,7 +7,6 @@ use borrow.Author.Needs.{needs}
 use Rattle.member.proofs.accept.accept_number.Statement.{statement}
 use Rattle.member.proofs.accept.accept_number.Tie as tie
 
-
 returns : tie.Need-returns
 unfolding acceptNumber
 returns c = sym (number-unformed _ _ _ (sym (c .before .before .pre) ∙ not-true _ (c .if1 .taken)))

@@ -7,7 +7,6 @@ use borrow.Author.Needs.{needs}
 use Rattle.member.proofs.advance.advance_number.Statement.{statement}
 use Rattle.member.proofs.advance.advance_number.Tie as tie
 
-
 returns : tie.Need-returns
 unfolding advanceNumber
 returns c = sym (number-unformed _ _ _ (sym (c .before .pre) ∙ not-true _ (c .if1 .taken)))

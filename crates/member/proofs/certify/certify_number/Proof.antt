@@ -7,7 +7,6 @@ use borrow.Author.Needs.{needs}
 use Rattle.member.proofs.certify.certify_number.Statement.{statement}
 use Rattle.member.proofs.certify.certify_number.Tie as tie
 
-
 returns : tie.Need-returns
 unfolding certifyNumber
 returns c = sym (number-unformed _ _ _ (sym (c .before .before .pre) ∙ not-true _ (c .if1 .taken)))

@@ -13,7 +13,6 @@ use borrow.Author.Needs.{needs}
 use Rattle.member.proofs.endorse.endorse_number.Statement.{statement}
 use Rattle.member.proofs.endorse.endorse_number.Tie as tie
 
-
 returns : tie.Need-returns
 unfolding endorseNumber
 returns c = sym (number-unformed _ _ _ (sym (c .before .before .pre) ∙ not-true _ (c .if1 .taken)))

@@ -8,7 +8,6 @@ use borrow.Author.Needs.{needs}
 use Rattle.member.proofs.propose.propose_number.Statement.{statement}
 use Rattle.member.proofs.propose.propose_number.Tie as tie
 
-
 returns : tie.Need-returns
 unfolding proposeNumber
 returns c = sym (number-unformed _ _ _ (sym (c .before .before .pre) ∙ not-true _ (c .if1 .taken)))
