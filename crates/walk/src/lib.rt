@@ -8,6 +8,7 @@ pub mod links;
 use sheet::Settings;
 use terms::Round;
 ghost use mathlib.Core.Path.{_≡_};
+ghost use mathlib.Core.Bool.{true};
 ghost use Prim.Native.Nat.{_<_, _≤_};
 ghost use Rattle.store.specs.Table.{Row};
 ghost use Rattle.committee.specs.Chain.{chainOf};
@@ -56,13 +57,27 @@ pub fn blocks_fit(t: &[u32], blocks: u32, n: Round) -> bool
     true
 }
 
+// Does no block change the committee of round r?
+fn is_starting(t: &[u32], s: Settings, blocks: u32, r: Round) -> bool
+    requires { ⌜ Readable s (now t) blocks ⌝ }
+    ensures { λ v. ⌜ (v ≡ true → committeeOf s (chainOf (s .ceiling .0) (now (t .entry)) blocks) (r .0) ≡ s .weights) ⌝ }
+{
+    if r.0 <= s.lookback {
+        return true;
+    }
+    if blocks == 0 {
+        return true;
+    }
+    r.0 - s.lookback <= store::block_round(t, 1)
+}
+
 // The committee of round r.
 pub fn committee_of(t: &[u32], s: Settings, blocks: u32, r: Round) -> [u64; 16]
     requires { ⌜ Readable s (now t) blocks ⌝ }
     ensures { λ w. ⌜ (w ≡ committeeOf s (chainOf (s .ceiling .0) (now (t .entry)) blocks) (r .0)) × Light w ⌝ }
 {
     let mut w = s.weights;
-    if r.0 <= s.lookback {
+    if is_starting(t, s, blocks, r) {
         return w;
     }
     let end = s.ceiling.0 * 16 + 16;
