@@ -26,7 +26,7 @@ at-marked {t} {k} m r h e f =
     record { held = rw (i, q) e; mark = rw (i, q) f }
 
 -- nothing linked yet
-pub links-start : (t next : List ℕ) (e : ℕ) → length next ≡ 16400 → Links t e e (replicate 512 e) next
+pub links-start : (t next : List ℕ) (e : ℕ) → e ≤ length next → Links t e e (replicate 512 e) next
 links-start t next e l =
     record {
       head-size = length-replicate 512 e;
@@ -77,11 +77,11 @@ module _ {t head next : List ℕ} {e : ℕ} where
       (λ k p l x y z. let q : p ≡ r * 16 + m = omega arith in let u = marked-at m r h (rw q at z) in let v = f (u .0) in let w = u .1 in omega arith)
 
   -- a place of block b
-  pub links-next : (p b : ℕ) → p < 16400 → b < 512 → Marked t b p → Links t (p + 1) e head next → Links t p e (set head b p) (set next p (getD head b 0))
+  pub links-next : (p b : ℕ) → p < length next → b < 512 → Marked t b p → Links t (p + 1) e head next → Links t p e (set head b p) (set next p (getD head b 0))
   links-next p b h l z s =
       record {
         head-size = length-set head b p ∙ s .head-size;
-        next-size = length-set next p (getD head b 0) ∙ s .next-size;
+        next-size = rw (length-set next p (getD head b 0)) (s .next-size);
         within = omega (arith, s .within);
         heads = λ k x. first k x (ℕ-discrete k b);
         nexts = λ k q x y u v. after k q x y u v (ℕ-discrete q p);
@@ -96,5 +96,5 @@ module _ {t head next : List ℕ} {e : ℕ} where
           (first-down p (omega arith) (λ i u v w. d (one-block i p (omega arith) w z)) (s .heads k x))
 
       after : (k q : ℕ) → k < 512 → p ≤ q → q < e → Marked t k q → Dec (q ≡ p) → First t k (q + 1) e (getD (set next p (getD head b 0)) q 0)
-      after k q x y u v (yes d) = rw (one-block q p d v z, d, getD-set-same next p (getD head b 0) 0 (omega (arith, s .next-size))) (s .heads b l)
+      after k q x y u v (yes d) = rw (one-block q p d v z, d, getD-set-same next p (getD head b 0) 0 h) (s .heads b l)
       after k q x y u v (no d) = rw (getD-set-other next p q (getD head b 0) 0 d) (s .nexts k q x (omega arith) u v)

@@ -21,7 +21,7 @@ pub record First (t : List ℕ) (k a e p : ℕ) : Type 0 where
 -- the places from a on and below e are linked
 pub record Links (t : List ℕ) (a e : ℕ) (head next : List ℕ) : Type 0 where
   pub head-size : length head ≡ 512
-  pub next-size : length next ≡ 16400
+  pub next-size : e ≤ length next
   pub within : a ≤ e
   pub heads : (k : ℕ) → k < 512 → First t k a e (getD head k 0)
   pub nexts : (k p : ℕ) → k < 512 → a ≤ p → p < e → Marked t k p → First t k (p + 1) e (getD next p 0)

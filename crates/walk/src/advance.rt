@@ -20,7 +20,7 @@ fn number(k: u32, blocks: u32) -> u32
 fn advance_to(
     t: &[u32],
     head: &[u32; 512],
-    next: &[u32; 16400],
+    next: &[u32],
     s: Settings,
     blocks: u32,
     k: u32,
@@ -46,7 +46,7 @@ fn advance_to(
 pub fn advance(
     t: &[u32],
     head: &[u32; 512],
-    next: &[u32; 16400],
+    next: &[u32],
     s: Settings,
     blocks: u32,
     k: u32,

@@ -38,7 +38,7 @@ fn apply_record(t: &[u32], m: Member, r: Round, w: &mut [u64; 16])
 pub fn apply_block(
     t: &[u32],
     head: &[u32; 512],
-    next: &[u32; 16400],
+    next: &[u32],
     b: u32,
     n: Round,
     w: &mut [u64; 16],

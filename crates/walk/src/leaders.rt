@@ -14,7 +14,7 @@ ghost use Rattle.walk.specs.Links.{Links};
 fn fill_rounds(
     t: &[u32],
     head: &[u32; 512],
-    next: &[u32; 16400],
+    next: &[u32],
     s: Settings,
     blocks: u32,
     m: Round,

@@ -9,7 +9,8 @@ use sheet::Settings;
 use terms::Round;
 ghost use mathlib.Core.Path.{_≡_};
 ghost use mathlib.Core.Bool.{true};
-ghost use Prim.Native.Nat.{_<_, _≤_};
+ghost use Prim.Native.Nat.{_+_, _*_, _<_, _≤_};
+ghost use lib.ListN.{length};
 ghost use Rattle.store.specs.Table.{Row};
 ghost use Rattle.committee.specs.Chain.{chainOf};
 ghost use Rattle.committee.specs.Committees.{committeeOf, knownBy};
@@ -71,21 +72,33 @@ fn is_starting(t: &[u32], s: Settings, blocks: u32, r: Round) -> bool
     r.0 - s.lookback <= store::block_round(t, 1)
 }
 
+// The committee of round r by a walk over the blocks; next has a word for each place.
+fn walked(t: &[u32], s: Settings, blocks: u32, r: Round, next: &mut [u32]) -> [u64; 16]
+    requires { ⌜ Readable s (now t) blocks × (s .ceiling .0 * 16 + 16 ≤ length (now next)) ⌝ }
+    ensures { λ w. ⌜ (w ≡ committeeOf s (chainOf (s .ceiling .0) (now (t .entry)) blocks) (r .0)) × Light w ⌝ }
+{
+    let mut w = s.weights;
+    let end = s.ceiling.0 * 16 + 16;
+    let mut head = [end; 512];
+    crate::links::link_rows(t, &mut head, next, s.ceiling);
+    crate::advance::advance(t, &head, next, s, blocks, 0, r, &mut w);
+    w
+}
+
 // The committee of round r.
 pub fn committee_of(t: &[u32], s: Settings, blocks: u32, r: Round) -> [u64; 16]
     requires { ⌜ Readable s (now t) blocks ⌝ }
     ensures { λ w. ⌜ (w ≡ committeeOf s (chainOf (s .ceiling .0) (now (t .entry)) blocks) (r .0)) × Light w ⌝ }
 {
-    let mut w = s.weights;
     if is_starting(t, s, blocks, r) {
-        return w;
+        return s.weights;
     }
-    let end = s.ceiling.0 * 16 + 16;
-    let mut head = [end; 512];
-    let mut next = [0u32; 16400];
-    crate::links::link_rows(t, &mut head, &mut next, s.ceiling);
-    crate::advance::advance(t, &head, &next, s, blocks, 0, r, &mut w);
-    w
+    if s.ceiling.0 <= 64 {
+        let mut few = [0u32; 1040];
+        return walked(t, s, blocks, r, &mut few);
+    }
+    let mut many = [0u32; 16400];
+    walked(t, s, blocks, r, &mut many)
 }
 
 // Does the chain tell the committee of round r?

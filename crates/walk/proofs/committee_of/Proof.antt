@@ -2,8 +2,6 @@ use mathlib.Core.Path.{sym}
 use native.Mathlib.Omega.{arith}
 use Prim.Native.Nat.{ℕ}
 use lib.ListN.{length-replicate}
-use Rattle.walk.specs.LinkLaws.{links-start}
-use Rattle.walk.specs.ReadableLaws.{stands-start, stands-light}
 use borrow.Author.Needs.{needs}
 use Rattle.walk.proofs.committee_of.Statement.{statement}
 use Rattle.walk.proofs.committee_of.Tie as tie
@@ -12,23 +10,35 @@ is-starting-requires : tie.Need-is-starting-requires
 is-starting-requires c κs = search needs
 
 returns : tie.Need-returns
-returns c = (sym (c .before .is-starting .ensures (c .if1 .taken)), record { total = omega arith })
+returns c = (sym (c .before .before .is-starting .ensures (c .before .if1 .taken)), record { total = omega arith })
 
-mul-end : tie.Need-mul-end
-mul-end c = search needs
+slice-aggregate-walked : tie.Need-slice-aggregate-walked
+slice-aggregate-walked c = search needs
 
-add-end : tie.Need-add-end
-add-end c = search needs
-
-link-rows-requires : tie.Need-link-rows-requires
-link-rows-requires c κs = (omega arith, omega arith, links-start _ _ _ (length-replicate {A = ℕ} 16400 0))
-
-advance-requires : tie.Need-advance-requires
-advance-requires c κs = (c .before .before .before .before .before .before .before .before .before .before .before .pre, c .before .before .before .link-rows .ensures, stands-start _)
+walked-requires : tie.Need-walked-requires
+walked-requires c κs = (c .before .before .before .before .before .before .pre, let l = length-replicate {A = ℕ} 1040 0 in omega arith)
 
 returns-2 : tie.Need-returns-2
-returns-2 c = let x = c .advance in (x .ensures .1, stands-light (λ j. c .before .before .before .before .before .before .before .before .before .before .before .shared-slice-known .given j .fits) (c .before .before .before .before .before .before .before .before .before .before .before .before .pre) (x .ensures .0))
+returns-2 c = c .before .walked .ensures
+
+slice-aggregate-walked-2 : tie.Need-slice-aggregate-walked-2
+slice-aggregate-walked-2 c = search needs
+
+walked-requires-2 : tie.Need-walked-requires-2
+walked-requires-2 c κs = (c .before .before .before .before .before .before .pre, let l = length-replicate {A = ℕ} 16400 0 in omega arith)
+
+returns-3 : tie.Need-returns-3
+returns-3 c = c .before .walked2 .ensures
 
 pub committee-of-spec : {M : Type 1} → statement M
 committee-of-spec =
-    tie.close (tie.spec is-starting-requires returns mul-end add-end link-rows-requires advance-requires returns-2)
+    tie.close
+    (tie.spec
+    is-starting-requires
+    returns
+    slice-aggregate-walked
+    walked-requires
+    returns-2
+    slice-aggregate-walked-2
+    walked-requires-2
+    returns-3)

@@ -17,13 +17,13 @@ abbrev μ-loop : tie.MeasureT-loop
 μ-loop t head next s blocks top w₀ l₀ k₀ q₀ q-end w l k q = q-end - q
 
 loop-holds : tie.Need-loop-holds Inv-loop μ-loop
-loop-holds c = (omega arith, omega arith, rw (c .before .pre .4) (stands-start _), fill-none _ _ _)
+loop-holds c = (omega arith, omega arith, rw (c .before .before .pre .4) (stands-start _), fill-none _ _ _)
 
 add-l : tie.Need-add-l Inv-loop μ-loop
 add-l c = search needs
 
 advance-requires : tie.Need-advance-requires Inv-loop μ-loop
-advance-requires c κs = let p = c .before .before .before .before .pre in let q = c .before .before .loop in (p .0, p .1, stands-up _ (omega arith) (q .inv .2))
+advance-requires c κs = let p = c .before .before .before .before .before .pre in let q = c .before .before .loop in (p .0, p .1, stands-up _ (omega arith) (q .inv .2))
 
 leader-requires : tie.Need-leader-requires Inv-loop μ-loop
 leader-requires c κs = search needs
@@ -54,10 +54,10 @@ add-t24 : tie.Need-add-t24 Inv-loop μ-loop
 add-t24 c = search needs
 
 advance-requires-2 : tie.Need-advance-requires-2 Inv-loop μ-loop
-advance-requires-2 c κs = let p = c .before .before .before .before .before .pre in let q = c .before .before .before .loop in (p .0, p .1, stands-up _ (omega arith) (q .inv .2))
+advance-requires-2 c κs = let p = c .before .before .before .before .before .before .pre in let q = c .before .before .before .loop in (p .0, p .1, stands-up _ (omega arith) (q .inv .2))
 
 returns : tie.Need-returns Inv-loop μ-loop
-returns c = let q = c .before .before .before .before .loop in let p = c .before .before .before .before .before .before in let e : q .q ≡ p .args .top .0 = omega arith in (rw e at (q .inv .3), c .advance2 .ensures .1, stands-light (λ j. c .before .before .before .before .before .shared-slice-known .given j .fits) (p .pre .0) (c .advance2 .ensures .0))
+returns c = let q = c .before .before .before .before .loop in let p = c .before .before .before .before .before .before .before in let e : q .q ≡ p .args .top .0 = omega arith in (rw e at (q .inv .3), c .advance2 .ensures .1, stands-light (λ j. c .before .before .before .before .before .before .shared-slice-known .given j .fits) (p .pre .0) (c .advance2 .ensures .0))
 
 pub fill-rounds-spec : {M : Type 1} → statement M
 fill-rounds-spec =
