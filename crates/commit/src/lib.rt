@@ -5,6 +5,7 @@ mod votes;
 use state::State;
 use terms::Round;
 ghost use mathlib.Core.Path.{_≡_};
+ghost use Rattle.state.specs.WellFormed.{wellFormed};
 ghost use Rattle.commit.specs.Commit.{refusedWith, commitOutcome, commitTableAfter};
 
 // Accepted with the number of blocks added, or refused with the number of the first check that refuses.
@@ -29,10 +30,12 @@ fn refused(s: State, n: u32) -> Outcome
     }
 }
 
-pub fn commit(s: State, t: &mut [u32]) -> Outcome
+// The call, where it is known whether the state is well formed.
+pub fn commit_known(formed: bool, s: State, t: &mut [u32]) -> Outcome
+    requires { ⌜ formed ≡ wellFormed s (now t) ⌝ }
     ensures { λ o. ⌜ (o ≡ commitOutcome s (now (t .entry))) × (now (t .exit) ≡ commitTableAfter s (now (t .entry))) ⌝ }
 {
-    if !state::well_formed(s, t) {
+    if !formed {
         return refused(s, 1);
     }
     let late = crate::checks::time_refusal(s, t);
@@ -56,4 +59,11 @@ pub fn commit(s: State, t: &mut [u32]) -> Outcome
         state: next,
         answer: Committed::Added(k - blocks),
     }
+}
+
+pub fn commit(s: State, t: &mut [u32]) -> Outcome
+    ensures { λ o. ⌜ (o ≡ commitOutcome s (now (t .entry))) × (now (t .exit) ≡ commitTableAfter s (now (t .entry))) ⌝ }
+{
+    let formed = state::well_formed(s, t);
+    commit_known(formed, s, t)
 }

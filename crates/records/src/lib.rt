@@ -3,6 +3,7 @@ pub mod answer;
 pub mod listing;
 pub mod turn;
 
+use commit::commit_known;
 use member::Answer;
 use member::accept::accept_known;
 use member::advance::advance_known;
@@ -117,7 +118,7 @@ pub fn serve(formed: bool, s: State, t: &mut [u32], q: Reading, out: &mut [u8], 
         Kind::Certify => told(formed, certify_known(formed, s, t, endorsers), out, at),
         Kind::Accept => told(formed, accept_known(formed, s, t, c), out, at),
         Kind::Advance => told(formed, advance_known(formed, s, t), out, at),
-        Kind::Commit => counted(formed, commit::commit(s, t), out, at),
+        Kind::Commit => counted(formed, commit_known(formed, s, t), out, at),
         Kind::Chain => Reply {
             state: s,
             formed,

@@ -7,7 +7,7 @@ use Rattle.records.proofs.serve.Statement.{statement}
 use Rattle.records.proofs.serve.Tie as tie
 use Rattle.records.proofs.serve.Reads as reads
 use Rattle.records.proofs.serve.Lts as lts
-use Rattle.commit.proofs.commit.Reads as commit-reads
+use Rattle.commit.proofs.commit_known.Reads as commit-known-reads
 use Rattle.lines.proofs.put_refused.Reads as put-refused-reads
 use Rattle.member.proofs.accept.accept_known.Reads as accept-known-reads
 use Rattle.member.proofs.advance.advance_known.Reads as advance-known-reads
@@ -104,8 +104,8 @@ enum-told-8 : tie.Need-enum-told-8
 enum-told-8 c = search needs
 
 -- src/lib.rt:78:33
-commit-requires : tie.Need-commit-requires
-commit-requires c κs = search needs
+commit-known-requires : tie.Need-commit-known-requires
+commit-known-requires c κs = search needs
 
 -- src/lib.rt:78:25
 counted-requires : tie.Need-counted-requires
@@ -209,7 +209,7 @@ same-length-15 c = search needs
 
 -- src/lib.rt:59:1
 returns-8 : tie.Need-returns-8
-returns-8 c = counted-by (c .before .before .before .before .before .before .before .before .enum-told8 .given .1) (c .before .before .before .before .before .before .commit .ensures .0) (c .before .before .before .before .before .before .commit .ensures .1) (c .before .before .before .before .before .before .before .before .before .before .before .before .before .before .before .before .pre .1) (c .before .before .counted .ensures) (omega (arith, c .before .before .before .before .before .before .before .before .before .before .before .before .before .before .before .before .good .1 .0)) (omega (arith, c .before .before .before .before .before .before .before .before .before .before .before .before .before .before .before .before .good .1 .1 .1 .0))
+returns-8 c = counted-by (c .before .before .before .before .before .before .before .before .enum-told8 .given .1) (c .before .before .before .before .before .before .commit-known .ensures .0) (c .before .before .before .before .before .before .commit-known .ensures .1) (c .before .before .before .before .before .before .before .before .before .before .before .before .before .before .before .before .pre .1) (c .before .before .counted .ensures) (omega (arith, c .before .before .before .before .before .before .before .before .before .before .before .before .before .before .before .before .good .1 .0)) (omega (arith, c .before .before .before .before .before .before .before .before .before .before .before .before .before .before .before .before .good .1 .1 .1 .0))
 
 -- src/lib.rt:59:1
 same-length-16 : tie.Need-same-length-16
@@ -248,7 +248,7 @@ serve-spec =
     advance-known-requires
     told-requires-6
     enum-told-8
-    commit-requires
+    commit-known-requires
     counted-requires
     enum-told-9
     listed-requires
