@@ -35,14 +35,7 @@ fn apply_record(t: &[u32], m: Member, r: Round, w: &mut [u64; 16])
 }
 
 // Block b, where the ceiling is n.
-pub fn apply_block(
-    t: &[u32],
-    head: &[u32; 512],
-    next: &[u32],
-    b: u32,
-    n: Round,
-    w: &mut [u64; 16],
-)
+pub fn apply_block(t: &[u32], head: &[u32; 512], next: &[u32], b: u32, n: Round, w: &mut [u64; 16])
     requires { ⌜ Row (now t) (n .0) × (n .0 ≤ 1024) × (1 ≤ b) × (b < 512) × Links (now t) 16 (n .0 * 16 + 16) (now head) (now next) × (totalIn (now w) ≤ 562949953421312) ⌝ }
     ensures { λ _. ⌜ now (w .exit) ≡ blockChange (n .0) (now (t .entry)) (b - 1) (now (w .entry)) ⌝ }
 {

@@ -21,15 +21,17 @@ mul-end c = search needs
 add-end : tie.Need-add-end
 add-end c = search needs
 
--- src/listing.rt:87:5
+slice-aggregate-link-rows : tie.Need-slice-aggregate-link-rows
+slice-aggregate-link-rows c = search needs
+
 link-rows-requires : tie.Need-link-rows-requires
-link-rows-requires c κs = (omega arith, omega arith, links-start _ _ _ (length-replicate {A = ℕ} 16400 0))
+link-rows-requires c κs = (omega arith, omega arith, links-start _ _ _ (let l = length-replicate {A = ℕ} 16400 0 in omega arith))
 
 -- src/listing.rt:88:5
 list-blocks-requires : tie.Need-list-blocks-requires
 list-blocks-requires c κs =
-    let p = c .before .before .before .before .before .before .before .before .before .pre in
-    (p .0, p .1, p .2, c .before .before .before .link-rows .ensures, p .3)
+    let p = c .before .before .before .before .before .before .before .before .before .before .pre in
+    (p .0, p .1, p .2, c .before .before .before .before .link-rows .ensures, p .3)
 
 -- src/listing.rt:80:1
 same-length : tie.Need-same-length
@@ -38,10 +40,10 @@ same-length c = search needs
 -- src/listing.rt:80:1
 returns : tie.Need-returns
 returns c =
-    let a = c .before .before .before .before .before .before .before .before .before .before .before .before .args in
+    let a = c .before .before .before .before .before .before .before .before .before .before .before .before .before .args in
     puts-as refl (omega (arith, count-all (a .n .0) (a .t .now) (a .blocks))) (c .before .before .list-blocks .ensures)
 
 pub list-chain-spec : {M : Type 1} → statement M
 list-chain-spec =
     tie.close
-    (tie.spec mul-end add-end link-rows-requires list-blocks-requires same-length returns)
+    (tie.spec mul-end add-end slice-aggregate-link-rows link-rows-requires list-blocks-requires same-length returns)
