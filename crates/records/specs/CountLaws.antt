@@ -2,26 +2,16 @@
 use mathlib.Core.Path.{_≡_, refl, _∙_, sym}
 use mathlib.Core.Bool.{Bool, true, false, cond}
 use mathlib.Core.List.{List}
-use Prim.Native.Nat.{ℕ, zero, suc, _+_, _*_, _/_, _%_, _<_, _≤_}
+use Prim.Native.Nat.{ℕ, _+_, _*_, _/_, _%_, _<_, _≤_}
 use native.Mathlib.Omega.{arith}
 use native.Mathlib.Decide.{ℕ-discrete, decLt}
 use lib.Dec.{eqb, leb}
 use borrow.Author.Tests.{eq-eqb, ne-eqb, le-leb, lt-leb}
 use Rattle.base.specs.Folds.{sumTo}
-use Rattle.base.specs.SumLaws.{sum-more, sum-same, sum-add, sum-le}
+use Rattle.base.specs.SumLaws.{sum-more, sum-same, sum-add, sum-le, sum-up}
 use Rattle.store.specs.Table.{markAt}
 use Rattle.walk.specs.Links.{Marked}
 use Rattle.records.specs.Counts.{inBlock, inFirst, blockCount, chainCount}
-
--- more numbers make a larger sum
-sum-up : (f : ℕ → ℕ) (p q : ℕ) → p ≤ q → sumTo f p ≤ sumTo f q
-unfolding sumTo
-sum-up f p zero h = let e : p ≡ 0 = omega arith in rw e (omega arith)
-sum-up f p (suc q) h = go (ℕ-discrete p (suc q)) (λ l. sum-up f p q l)
-  where
-    go : Dec (p ≡ suc q) → (p ≤ q → sumTo f p ≤ sumTo f q) → sumTo f p ≤ sumTo f q + f q
-    go (yes e) k = rw e (omega arith)
-    go (no e) k = let l = k (omega arith) in omega arith
 
 -- a marked place counts
 marked-one : {t : List ℕ} {k p : ℕ} → Marked t k p → inBlock t k p ≡ 1
