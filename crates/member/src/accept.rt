@@ -10,6 +10,7 @@ ghost use lib.ListN.{drop};
 ghost use Rattle.rules.specs.Calls.{accepting};
 ghost use Rattle.state.specs.Formed.{Formed};
 ghost use Rattle.state.specs.View.{view};
+ghost use Rattle.state.specs.Known.{Known};
 ghost use Rattle.state.specs.WellFormed.{wellFormed};
 ghost use Rattle.member.specs.PassedLaws.{Fits};
 ghost use Rattle.member.specs.Calls.{acceptNumber, acceptOutcome, acceptTable};
@@ -64,9 +65,9 @@ fn accept_number(formed: bool, s: State, t: &[u32], c: Certificate) -> u32
     refusal_of(s, t, c)
 }
 
-// The call, where it is known whether the state is well formed.
-pub fn accept_known(formed: bool, s: State, t: &mut [u32], c: Certificate) -> Outcome
-    requires { ⌜ formed ≡ wellFormed s (now t) ⌝ }
+// The call, where it is known whether the state is well formed, and committees may be kept.
+pub fn accept_known(formed: bool, kept: &[u64], s: State, t: &mut [u32], c: Certificate) -> Outcome
+    requires { ⌜ Known s (now t) formed (now kept) ⌝ }
     ensures { λ o. ⌜ (o ≡ acceptOutcome s (now (t .entry)) c) × (now (t .exit) ≡ acceptTable s (now (t .entry)) c) ⌝ }
 {
     let n = accept_number(formed, s, t, c);
@@ -89,5 +90,6 @@ pub fn accept(s: State, t: &mut [u32], c: Certificate) -> Outcome
     ensures { λ o. ⌜ (o ≡ acceptOutcome s (now (t .entry)) c) × (now (t .exit) ≡ acceptTable s (now (t .entry)) c) ⌝ }
 {
     let formed = state::well_formed(s, t);
-    accept_known(formed, s, t, c)
+    let none = [0u64; 1];
+    accept_known(formed, &none[..0], s, t, c)
 }

@@ -8,6 +8,7 @@ ghost use Rattle.base.specs.Checks.{refusal};
 ghost use Rattle.rules.specs.Calls.{certifying};
 ghost use Rattle.state.specs.Formed.{Formed};
 ghost use Rattle.state.specs.View.{view};
+ghost use Rattle.state.specs.Known.{Known};
 ghost use Rattle.state.specs.WellFormed.{wellFormed};
 ghost use Rattle.member.specs.Calls.{certifyNumber, certifyOutcome, certifyTable};
 
@@ -40,9 +41,9 @@ fn certify_number(formed: bool, s: State, t: &[u32], e: u16) -> u32
     refusal_of(s, t, e)
 }
 
-// The call, where it is known whether the state is well formed.
-pub fn certify_known(formed: bool, s: State, t: &mut [u32], e: u16) -> Outcome
-    requires { ⌜ formed ≡ wellFormed s (now t) ⌝ }
+// The call, where it is known whether the state is well formed, and committees may be kept.
+pub fn certify_known(formed: bool, kept: &[u64], s: State, t: &mut [u32], e: u16) -> Outcome
+    requires { ⌜ Known s (now t) formed (now kept) ⌝ }
     ensures { λ o. ⌜ (o ≡ certifyOutcome s (now (t .entry)) e) × (now (t .exit) ≡ certifyTable s (now (t .entry)) e) ⌝ }
 {
     let n = certify_number(formed, s, t, e);
@@ -71,5 +72,6 @@ pub fn certify(s: State, t: &mut [u32], e: u16) -> Outcome
     ensures { λ o. ⌜ (o ≡ certifyOutcome s (now (t .entry)) e) × (now (t .exit) ≡ certifyTable s (now (t .entry)) e) ⌝ }
 {
     let formed = state::well_formed(s, t);
-    certify_known(formed, s, t, e)
+    let none = [0u64; 1];
+    certify_known(formed, &none[..0], s, t, e)
 }

@@ -15,6 +15,7 @@ ghost use Rattle.terms.specs.Proposals.{contentOf};
 ghost use Rattle.rules.specs.Calls.{endorsing};
 ghost use Rattle.state.specs.Formed.{Formed};
 ghost use Rattle.state.specs.View.{view};
+ghost use Rattle.state.specs.Known.{Known};
 ghost use Rattle.state.specs.WellFormed.{wellFormed};
 ghost use Rattle.member.specs.PassedLaws.{Fits};
 ghost use Rattle.member.specs.Calls.{endorseNumber, endorseOutcome, endorseTable};
@@ -73,9 +74,9 @@ fn endorse_number(formed: bool, s: State, t: &[u32], p: Proposal) -> u32
     place_refusal(s, t, p)
 }
 
-// The call, where it is known whether the state is well formed.
-pub fn endorse_known(formed: bool, s: State, t: &mut [u32], p: Proposal) -> Outcome
-    requires { ⌜ formed ≡ wellFormed s (now t) ⌝ }
+// The call, where it is known whether the state is well formed, and committees may be kept.
+pub fn endorse_known(formed: bool, kept: &[u64], s: State, t: &mut [u32], p: Proposal) -> Outcome
+    requires { ⌜ Known s (now t) formed (now kept) ⌝ }
     ensures { λ o. ⌜ (o ≡ endorseOutcome s (now (t .entry)) p) × (now (t .exit) ≡ endorseTable s (now (t .entry)) p) ⌝ }
 {
     let n = endorse_number(formed, s, t, p);
@@ -96,5 +97,6 @@ pub fn endorse(s: State, t: &mut [u32], p: Proposal) -> Outcome
     ensures { λ o. ⌜ (o ≡ endorseOutcome s (now (t .entry)) p) × (now (t .exit) ≡ endorseTable s (now (t .entry)) p) ⌝ }
 {
     let formed = state::well_formed(s, t);
-    endorse_known(formed, s, t, p)
+    let none = [0u64; 1];
+    endorse_known(formed, &none[..0], s, t, p)
 }

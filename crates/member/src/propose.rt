@@ -13,6 +13,7 @@ ghost use Rattle.terms.specs.Proposals.{contentWith};
 ghost use Rattle.rules.specs.Calls.{proposing};
 ghost use Rattle.state.specs.Formed.{Formed};
 ghost use Rattle.state.specs.View.{view};
+ghost use Rattle.state.specs.Known.{Known};
 ghost use Rattle.state.specs.WellFormed.{wellFormed};
 ghost use Rattle.member.specs.Calls.{proposeNumber, proposeOutcome};
 
@@ -69,9 +70,9 @@ fn propose_number(formed: bool, s: State, t: &[u32], b: Body) -> u32
     committee_refusal(s, t, b)
 }
 
-// The call, where it is known whether the state is well formed.
-pub fn propose_known(formed: bool, s: State, t: &[u32], b: Body) -> Outcome
-    requires { ⌜ formed ≡ wellFormed s (now t) ⌝ }
+// The call, where it is known whether the state is well formed, and committees may be kept.
+pub fn propose_known(formed: bool, kept: &[u64], s: State, t: &[u32], b: Body) -> Outcome
+    requires { ⌜ Known s (now t) formed (now kept) ⌝ }
     ensures { λ o. ⌜ o ≡ proposeOutcome s (now (t .entry)) b ⌝ }
 {
     let n = propose_number(formed, s, t, b);
@@ -94,5 +95,6 @@ pub fn propose(s: State, t: &[u32], b: Body) -> Outcome
     ensures { λ o. ⌜ o ≡ proposeOutcome s (now (t .entry)) b ⌝ }
 {
     let formed = state::well_formed(s, t);
-    propose_known(formed, s, t, b)
+    let none = [0u64; 1];
+    propose_known(formed, &none[..0], s, t, b)
 }

@@ -1,4 +1,6 @@
 pub mod WellFormed
+pub mod Known
+pub mod KnownLaws
 pub mod View
 pub mod Number
 pub mod States

@@ -9,3 +9,4 @@ pub mod BoundLaws
 pub mod TotalBound
 pub mod Fill
 pub mod FillLaws
+pub mod Keeps

@@ -8,7 +8,7 @@ use Rattle.member.proofs.accept.accept_known.Statement.{statement}
 use Rattle.member.proofs.accept.accept_known.Tie as tie
 
 accept-number-requires : tie.Need-accept-number-requires
-accept-number-requires c κs = search needs
+accept-number-requires c κs = c .before .before .before .pre .form
 
 same-length : tie.Need-same-length
 same-length c = search needs
@@ -18,10 +18,10 @@ unfolding acceptOutcome acceptTable
 returns c = (outcome-refused (c .before .accept-number .ensures) _ _ (c .if1 .taken), sym (left-refused _ _ _ (λ z. c .if1 .taken (c .before .accept-number .ensures ∙ z))))
 
 put-certificate-requires : tie.Need-put-certificate-requires
-put-certificate-requires c κs = let x = accept-passed (c .before .before .before .before .before .before .args .s) (c .before .before .before .before .before .before .args .t .now) (c .before .before .before .before .before .before .args .c) (sym (c .before .before .before .accept-number .ensures) ∙ c .before .before .if1 .left) in (fits-within _ _ _ (x .0) (x .1 .0), few _ _ _ _ (x .0) (x .1 .0 .body))
+put-certificate-requires c κs = let x = accept-passed (c .before .before .before .before .before .before .before .args .s) (c .before .before .before .before .before .before .before .args .t .now) (c .before .before .before .before .before .before .before .args .c) (sym (c .before .before .before .accept-number .ensures) ∙ c .before .before .if1 .left) in (fits-within _ _ _ (x .0) (x .1 .0), few _ _ _ _ (x .0) (x .1 .0 .body))
 
 clear-endorsed-requires : tie.Need-clear-endorsed-requires
-clear-endorsed-requires c κs = let x = accept-passed (c .before .before .before .before .before .before .before .before .before .before .args .s) (c .before .before .before .before .before .before .before .before .before .before .args .t .now) (c .before .before .before .before .before .before .before .before .before .before .args .c) (sym (c .before .before .before .before .before .before .before .accept-number .ensures) ∙ c .before .before .before .before .before .before .if1 .left) in rw (c .before .before .before .put-certificate .ensures) (within-put (c .before .before .before .before .before .before .before .before .before .before .args .s) (c .before .before .before .before .before .before .before .before .before .before .args .t .now) (c .before .before .before .before .before .before .before .before .before .before .args .c .proposal) (fits-within _ _ _ (x .0) (x .1 .0)))
+clear-endorsed-requires c κs = let x = accept-passed (c .before .before .before .before .before .before .before .before .before .before .before .args .s) (c .before .before .before .before .before .before .before .before .before .before .before .args .t .now) (c .before .before .before .before .before .before .before .before .before .before .before .args .c) (sym (c .before .before .before .before .before .before .before .accept-number .ensures) ∙ c .before .before .before .before .before .before .if1 .left) in rw (c .before .before .before .put-certificate .ensures) (within-put (c .before .before .before .before .before .before .before .before .before .before .before .args .s) (c .before .before .before .before .before .before .before .before .before .before .before .args .t .now) (c .before .before .before .before .before .before .before .before .before .before .before .args .c .proposal) (fits-within _ _ _ (x .0) (x .1 .0)))
 
 same-length-2 : tie.Need-same-length-2
 same-length-2 c = search needs

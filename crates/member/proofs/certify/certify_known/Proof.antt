@@ -8,7 +8,7 @@ use Rattle.member.proofs.certify.certify_known.Statement.{statement}
 use Rattle.member.proofs.certify.certify_known.Tie as tie
 
 certify-number-requires : tie.Need-certify-number-requires
-certify-number-requires c κs = search needs
+certify-number-requires c κs = c .before .before .before .pre .form
 
 same-length : tie.Need-same-length
 same-length c = search needs
@@ -18,7 +18,7 @@ unfolding certifyOutcome certifyTable
 returns c = (outcome-refused (c .before .certify-number .ensures) _ _ (c .if1 .taken), sym (left-refused _ _ _ (λ z. c .if1 .taken (c .before .certify-number .ensures ∙ z))))
 
 put-certificate-requires : tie.Need-put-certificate-requires
-put-certificate-requires c κs = let x = certify-passed (c .before .before .before .before .before .before .before .before .args .s) (c .before .before .before .before .before .before .before .before .args .t .now) (c .before .before .before .before .before .before .before .before .args .e) (sym (c .before .before .before .before .before .certify-number .ensures) ∙ c .before .before .before .before .if1 .left) in (own-within _ _ (x .0), few _ _ _ _ (x .0) (x .0 .proposal (x .1)))
+put-certificate-requires c κs = let x = certify-passed (c .before .before .before .before .before .before .before .before .before .args .s) (c .before .before .before .before .before .before .before .before .before .args .t .now) (c .before .before .before .before .before .before .before .before .before .args .e) (sym (c .before .before .before .before .before .certify-number .ensures) ∙ c .before .before .before .before .if1 .left) in (own-within _ _ (x .0), few _ _ _ _ (x .0) (x .0 .proposal (x .1)))
 
 same-length-2 : tie.Need-same-length-2
 same-length-2 c = search needs

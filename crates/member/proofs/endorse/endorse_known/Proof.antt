@@ -8,7 +8,7 @@ use Rattle.member.proofs.endorse.endorse_known.Statement.{statement}
 use Rattle.member.proofs.endorse.endorse_known.Tie as tie
 
 endorse-number-requires : tie.Need-endorse-number-requires
-endorse-number-requires c κs = search needs
+endorse-number-requires c κs = c .before .before .before .pre .form
 
 same-length : tie.Need-same-length
 same-length c = search needs
@@ -18,7 +18,7 @@ unfolding endorseOutcome endorseTable
 returns c = (outcome-refused (c .before .endorse-number .ensures) _ _ (c .if1 .taken), sym (left-refused _ _ _ (λ z. c .if1 .taken (c .before .endorse-number .ensures ∙ z))))
 
 set-endorsed-requires : tie.Need-set-endorsed-requires
-set-endorsed-requires c κs = let x = endorse-passed (c .before .before .before .before .before .args .s) (c .before .before .before .before .before .args .t .now) (c .before .before .before .before .before .args .p) (sym (c .before .before .endorse-number .ensures) ∙ c .before .if1 .left) in fits-within _ _ _ (x .0) (x .1)
+set-endorsed-requires c κs = let x = endorse-passed (c .before .before .before .before .before .before .args .s) (c .before .before .before .before .before .before .args .t .now) (c .before .before .before .before .before .before .args .p) (sym (c .before .before .endorse-number .ensures) ∙ c .before .if1 .left) in fits-within _ _ _ (x .0) (x .1)
 
 same-length-2 : tie.Need-same-length-2
 same-length-2 c = search needs

@@ -1,0 +1,34 @@
+use native.Mathlib.Omega.{arith}
+use Rattle.state.specs.KnownLaws.{known-alone}
+use borrow.Author.Needs.{needs}
+use Rattle.member.proofs.certify.certify.Statement.{statement}
+use Rattle.member.proofs.certify.certify.Tie as tie
+
+well-formed-requires : tie.Need-well-formed-requires
+well-formed-requires c κs = search needs
+
+array-share-prefix-none : tie.Need-array-share-prefix-none
+array-share-prefix-none c = search needs
+
+slice-aggregate-certify-known : tie.Need-slice-aggregate-certify-known
+slice-aggregate-certify-known c = search needs
+
+certify-known-requires : tie.Need-certify-known-requires
+certify-known-requires c κs = known-alone _ (omega arith) (c .before .before .well-formed .ensures)
+
+same-length : tie.Need-same-length
+same-length c = search needs
+
+returns : tie.Need-returns
+returns c = search needs
+
+pub certify-spec : {M : Type 1} → statement M
+certify-spec =
+    tie.close
+    (tie.spec
+    well-formed-requires
+    array-share-prefix-none
+    slice-aggregate-certify-known
+    certify-known-requires
+    same-length
+    returns)
