@@ -8,13 +8,12 @@ ghost use Rattle.base.specs.Checks.{refusal};
 ghost use Rattle.rules.specs.Calls.{certifying};
 ghost use Rattle.state.specs.Formed.{Formed};
 ghost use Rattle.state.specs.View.{view};
-ghost use Rattle.state.specs.Known.{Known};
-ghost use Rattle.state.specs.WellFormed.{wellFormed};
+ghost use Rattle.state.specs.Known.{Kept, Known};
 ghost use Rattle.member.specs.Calls.{certifyNumber, certifyOutcome, certifyTable};
 
 // The checks of a well-formed state: 15, 10, 14, and those of the signers.
-fn refusal_of(s: State, t: &[u32], e: u16) -> u32
-    requires { ⌜ Formed s (now t) ⌝ }
+fn refusal_of(kept: &[u64], s: State, t: &[u32], e: u16) -> u32
+    requires { ⌜ Formed s (now t) × Kept s (now t) (now kept) ⌝ }
     ensures { λ v. ⌜ v ≡ refusal (certifying (s .settings) (s .own .0) (view s (now (t .entry))) e (view s (now (t .entry)) .proposal)) ⌝ }
 {
     if !s.proposing {
@@ -27,18 +26,18 @@ fn refusal_of(s: State, t: &[u32], e: u16) -> u32
         return 14;
     }
     let signers = base::with(e as u32, s.own.0);
-    crate::checks::signer_refusal(s, t, s.round, signers)
+    crate::checks::signer_refusal(kept, s, t, s.round, signers)
 }
 
 // The number of the first check that refuses, 0 for none.
-fn certify_number(formed: bool, s: State, t: &[u32], e: u16) -> u32
-    requires { ⌜ formed ≡ wellFormed s (now t) ⌝ }
+fn certify_number(formed: bool, kept: &[u64], s: State, t: &[u32], e: u16) -> u32
+    requires { ⌜ Known s (now t) formed (now kept) ⌝ }
     ensures { λ v. ⌜ v ≡ certifyNumber s (now (t .entry)) e ⌝ }
 {
     if !formed {
         return 1;
     }
-    refusal_of(s, t, e)
+    refusal_of(kept, s, t, e)
 }
 
 // The call, where it is known whether the state is well formed, and committees may be kept.
@@ -46,7 +45,7 @@ pub fn certify_known(formed: bool, kept: &[u64], s: State, t: &mut [u32], e: u16
     requires { ⌜ Known s (now t) formed (now kept) ⌝ }
     ensures { λ o. ⌜ (o ≡ certifyOutcome s (now (t .entry)) e) × (now (t .exit) ≡ certifyTable s (now (t .entry)) e) ⌝ }
 {
-    let n = certify_number(formed, s, t, e);
+    let n = certify_number(formed, kept, s, t, e);
     if n != 0 {
         return Outcome {
             state: s,

@@ -12,6 +12,7 @@ ghost use Rattle.base.specs.Sets.{isIn};
 ghost use Rattle.committee.specs.Committees.{quorum};
 ghost use Rattle.rules.specs.Tests.{badRound, above, committeeIn, missing};
 ghost use Rattle.state.specs.Formed.{Formed};
+ghost use Rattle.state.specs.Known.{Kept};
 ghost use Rattle.state.specs.View.{view};
 ghost use Rattle.member.specs.Pieces.{formChecks, previousChecks, signerChecks};
 
@@ -60,41 +61,41 @@ pub fn lacks_previous(s: State, t: &[u32], p: Proposal) -> bool
 }
 
 // Check 12 above round 1: is the previous set no quorum of the round before?
-pub fn lacks_quorum(s: State, t: &[u32], p: Proposal) -> bool
-    requires { ⌜ Formed s (now t) × (0 < p .round .0) × (p .round .0 ≤ s .settings .ceiling .0) ⌝ }
+pub fn lacks_quorum(kept: &[u64], s: State, t: &[u32], p: Proposal) -> bool
+    requires { ⌜ Formed s (now t) × (0 < p .round .0) × (p .round .0 ≤ s .settings .ceiling .0) × Kept s (now t) (now kept) ⌝ }
     ensures { λ v. ⌜ v ≡ above (p .round .0) (not (quorum (committeeIn (s .settings) (view s (now (t .entry))) (p .round .0 - 1)) (isIn (p .body .previous)))) ⌝ }
 {
     let r = p.round.0;
     if r == 1 {
         return false;
     }
-    let w = walk::committee_of(t, s.settings, s.blocks, Round(r - 1));
+    let w = walk::kept::committee(kept, t, s.settings, s.blocks, Round(r - 1));
     !committee::is_quorum(&w, p.body.previous as u32)
 }
 
 // Checks 11 and 12 of a proposal.
-pub fn previous_refusal(s: State, t: &[u32], p: Proposal) -> u32
-    requires { ⌜ Formed s (now t) × (0 < p .round .0) × (p .round .0 ≤ s .settings .ceiling .0) ⌝ }
+pub fn previous_refusal(kept: &[u64], s: State, t: &[u32], p: Proposal) -> u32
+    requires { ⌜ Formed s (now t) × (0 < p .round .0) × (p .round .0 ≤ s .settings .ceiling .0) × Kept s (now t) (now kept) ⌝ }
     ensures { λ v. ⌜ v ≡ refusal (previousChecks (s .settings) (view s (now (t .entry))) (contentOf p)) ⌝ }
 {
     if lacks_previous(s, t, p) {
         return 11;
     }
-    if lacks_quorum(s, t, p) {
+    if lacks_quorum(kept, s, t, p) {
         return 12;
     }
     0
 }
 
 // Checks 8, 9, 13 of the signers of a certificate of round r.
-pub fn signer_refusal(s: State, t: &[u32], r: Round, signers: u32) -> u32
-    requires { ⌜ Formed s (now t) ⌝ }
+pub fn signer_refusal(kept: &[u64], s: State, t: &[u32], r: Round, signers: u32) -> u32
+    requires { ⌜ Formed s (now t) × Kept s (now t) (now kept) ⌝ }
     ensures { λ v. ⌜ v ≡ refusal (signerChecks (s .settings) (view s (now (t .entry))) (r .0) signers) ⌝ }
 {
     if !walk::known(t, s.settings, s.blocks, r) {
         return 8;
     }
-    let w = walk::committee_of(t, s.settings, s.blocks, r);
+    let w = walk::kept::committee(kept, t, s.settings, s.blocks, r);
     if committee::has_outsider(&w, signers) {
         return 9;
     }

@@ -15,8 +15,7 @@ ghost use Rattle.terms.specs.Proposals.{contentOf};
 ghost use Rattle.rules.specs.Calls.{endorsing};
 ghost use Rattle.state.specs.Formed.{Formed};
 ghost use Rattle.state.specs.View.{view};
-ghost use Rattle.state.specs.Known.{Known};
-ghost use Rattle.state.specs.WellFormed.{wellFormed};
+ghost use Rattle.state.specs.Known.{Kept, Known};
 ghost use Rattle.member.specs.PassedLaws.{Fits};
 ghost use Rattle.member.specs.Calls.{endorseNumber, endorseOutcome, endorseTable};
 
@@ -43,8 +42,8 @@ fn is_unknown(s: State, t: &[u32], r: Round) -> bool
 }
 
 // Checks 14, 10, 8, 11, 12.
-fn place_refusal(s: State, t: &[u32], p: Proposal) -> u32
-    requires { ⌜ Formed s (now t) × Fits s p ⌝ }
+fn place_refusal(kept: &[u64], s: State, t: &[u32], p: Proposal) -> u32
+    requires { ⌜ Formed s (now t) × Fits s p × Kept s (now t) (now kept) ⌝ }
     ensures { λ v. ⌜ v ≡ refusal (drop 4 (endorsing (s .settings) (s .own .0) (view s (now (t .entry))) (contentOf p))) ⌝ }
 {
     if p.author.0 == s.own.0 {
@@ -56,12 +55,12 @@ fn place_refusal(s: State, t: &[u32], p: Proposal) -> u32
     if is_unknown(s, t, p.round) {
         return 8;
     }
-    crate::checks::previous_refusal(s, t, p)
+    crate::checks::previous_refusal(kept, s, t, p)
 }
 
 // The number of the first check that refuses, 0 for none.
-fn endorse_number(formed: bool, s: State, t: &[u32], p: Proposal) -> u32
-    requires { ⌜ formed ≡ wellFormed s (now t) ⌝ }
+fn endorse_number(formed: bool, kept: &[u64], s: State, t: &[u32], p: Proposal) -> u32
+    requires { ⌜ Known s (now t) formed (now kept) ⌝ }
     ensures { λ v. ⌜ v ≡ endorseNumber s (now (t .entry)) p ⌝ }
 {
     if !formed {
@@ -71,7 +70,7 @@ fn endorse_number(formed: bool, s: State, t: &[u32], p: Proposal) -> u32
     if n != 0 {
         return n;
     }
-    place_refusal(s, t, p)
+    place_refusal(kept, s, t, p)
 }
 
 // The call, where it is known whether the state is well formed, and committees may be kept.
@@ -79,7 +78,7 @@ pub fn endorse_known(formed: bool, kept: &[u64], s: State, t: &mut [u32], p: Pro
     requires { ⌜ Known s (now t) formed (now kept) ⌝ }
     ensures { λ o. ⌜ (o ≡ endorseOutcome s (now (t .entry)) p) × (now (t .exit) ≡ endorseTable s (now (t .entry)) p) ⌝ }
 {
-    let n = endorse_number(formed, s, t, p);
+    let n = endorse_number(formed, kept, s, t, p);
     if n != 0 {
         return Outcome {
             state: s,

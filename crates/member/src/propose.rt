@@ -13,8 +13,7 @@ ghost use Rattle.terms.specs.Proposals.{contentWith};
 ghost use Rattle.rules.specs.Calls.{proposing};
 ghost use Rattle.state.specs.Formed.{Formed};
 ghost use Rattle.state.specs.View.{view};
-ghost use Rattle.state.specs.Known.{Known};
-ghost use Rattle.state.specs.WellFormed.{wellFormed};
+ghost use Rattle.state.specs.Known.{Kept, Known};
 ghost use Rattle.member.specs.Calls.{proposeNumber, proposeOutcome};
 
 // Check 10: is there a proposal, or is one's own place held?
@@ -29,15 +28,15 @@ fn is_taken(s: State, t: &[u32]) -> bool
 }
 
 // Checks 8, 9, 11, 12.
-fn committee_refusal(s: State, t: &[u32], b: Body) -> u32
-    requires { ⌜ Formed s (now t) ⌝ }
+fn committee_refusal(kept: &[u64], s: State, t: &[u32], b: Body) -> u32
+    requires { ⌜ Formed s (now t) × Kept s (now t) (now kept) ⌝ }
     ensures { λ v. ⌜ v ≡ refusal (drop 3 (proposing (s .settings) (s .own .0) (view s (now (t .entry))) (contentWith (s .own .0) (s .round .0) b))) ⌝ }
 {
     let r = s.round;
     if !walk::known(t, s.settings, s.blocks, r) {
         return 8;
     }
-    let w = walk::committee_of(t, s.settings, s.blocks, r);
+    let w = walk::kept::committee(kept, t, s.settings, s.blocks, r);
     if !committee::is_member(&w, s.own) {
         return 9;
     }
@@ -47,12 +46,12 @@ fn committee_refusal(s: State, t: &[u32], b: Body) -> u32
         round: r,
         body: b,
     };
-    crate::checks::previous_refusal(s, t, p)
+    crate::checks::previous_refusal(kept, s, t, p)
 }
 
 // The number of the first check that refuses, 0 for none.
-fn propose_number(formed: bool, s: State, t: &[u32], b: Body) -> u32
-    requires { ⌜ formed ≡ wellFormed s (now t) ⌝ }
+fn propose_number(formed: bool, kept: &[u64], s: State, t: &[u32], b: Body) -> u32
+    requires { ⌜ Known s (now t) formed (now kept) ⌝ }
     ensures { λ v. ⌜ v ≡ proposeNumber s (now (t .entry)) b ⌝ }
 {
     if !formed {
@@ -67,7 +66,7 @@ fn propose_number(formed: bool, s: State, t: &[u32], b: Body) -> u32
     if is_taken(s, t) {
         return 10;
     }
-    committee_refusal(s, t, b)
+    committee_refusal(kept, s, t, b)
 }
 
 // The call, where it is known whether the state is well formed, and committees may be kept.
@@ -75,7 +74,7 @@ pub fn propose_known(formed: bool, kept: &[u64], s: State, t: &[u32], b: Body) -
     requires { ⌜ Known s (now t) formed (now kept) ⌝ }
     ensures { λ o. ⌜ o ≡ proposeOutcome s (now (t .entry)) b ⌝ }
 {
-    let n = propose_number(formed, s, t, b);
+    let n = propose_number(formed, kept, s, t, b);
     if n != 0 {
         return Outcome {
             state: s,

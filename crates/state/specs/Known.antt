@@ -8,6 +8,10 @@ use Rattle.state.specs.declared.State.{State}
 use Rattle.state.specs.View.{view}
 use Rattle.state.specs.WellFormed.{wellFormed}
 
+-- committees kept for the rounds of a state
+abbrev pub Kept : State → List ℕ → List ℕ → Type 0
+Kept s t kept = Keeps (s .settings) (view s t .chain) kept
+
 pub record Known (s : State) (t : List ℕ) (formed : Bool) (kept : List ℕ) : Type 0 where
   pub form : formed ≡ wellFormed s t
-  pub committees : wellFormed s t ≡ true → Keeps (s .settings) (view s t .chain) kept
+  pub committees : wellFormed s t ≡ true → Kept s t kept

@@ -8,7 +8,7 @@ use Rattle.member.proofs.accept.accept_known.Statement.{statement}
 use Rattle.member.proofs.accept.accept_known.Tie as tie
 
 accept-number-requires : tie.Need-accept-number-requires
-accept-number-requires c κs = c .before .before .before .pre .form
+accept-number-requires c κs = c .before .before .before .pre
 
 same-length : tie.Need-same-length
 same-length c = search needs

@@ -8,7 +8,7 @@ use Rattle.member.proofs.certify.certify_known.Statement.{statement}
 use Rattle.member.proofs.certify.certify_known.Tie as tie
 
 certify-number-requires : tie.Need-certify-number-requires
-certify-number-requires c κs = c .before .before .before .pre .form
+certify-number-requires c κs = c .before .before .before .pre
 
 same-length : tie.Need-same-length
 same-length c = search needs

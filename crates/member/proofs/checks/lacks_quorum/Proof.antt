@@ -15,8 +15,8 @@ returns c = sym (above-first _ _ (c .if1 .taken))
 sub-is-quorum : tie.Need-sub-is-quorum
 sub-is-quorum c = search needs
 
-committee-of-requires : tie.Need-committee-of-requires
-committee-of-requires c κs = readable _ _ (c .before .before .pre .0)
+committee-requires : tie.Need-committee-requires
+committee-requires c κs = let p = c .before .before .before .pre in (readable _ _ (p .0), p .3)
 
 cast-is-quorum : tie.Need-cast-is-quorum
 cast-is-quorum c = search needs
@@ -25,7 +25,7 @@ is-quorum-requires : tie.Need-is-quorum-requires
 is-quorum-requires c κs = search needs
 
 returns-2 : tie.Need-returns-2
-returns-2 c = sym (above-later _ _ (c .before .before .before .before .if1 .left) ∙ ap (λ w. not (quorum (weightIn w) (isIn (c .before .before .before .before .before .before .args .p .body .previous)))) (sym (c .before .before .before .committee-of .ensures .0)) ∙ ap not (sym (c .is-quorum .ensures)))
+returns-2 c = sym (above-later _ _ (c .before .before .before .before .if1 .left) ∙ ap (λ w. not (quorum (weightIn w) (isIn (c .before .before .before .before .before .before .before .args .p .body .previous)))) (sym (c .before .before .before .committee .ensures .0)) ∙ ap not (sym (c .is-quorum .ensures)))
 
 pub lacks-quorum-spec : {M : Type 1} → statement M
 lacks-quorum-spec =
@@ -33,7 +33,7 @@ lacks-quorum-spec =
     (tie.spec
     returns
     sub-is-quorum
-    committee-of-requires
+    committee-requires
     cast-is-quorum
     is-quorum-requires
     returns-2)

@@ -8,7 +8,7 @@ use Rattle.member.proofs.endorse.endorse_known.Statement.{statement}
 use Rattle.member.proofs.endorse.endorse_known.Tie as tie
 
 endorse-number-requires : tie.Need-endorse-number-requires
-endorse-number-requires c κs = c .before .before .before .pre .form
+endorse-number-requires c κs = c .before .before .before .pre
 
 same-length : tie.Need-same-length
 same-length c = search needs

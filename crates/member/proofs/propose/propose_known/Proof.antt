@@ -5,7 +5,7 @@ use Rattle.member.proofs.propose.propose_known.Statement.{statement}
 use Rattle.member.proofs.propose.propose_known.Tie as tie
 
 propose-number-requires : tie.Need-propose-number-requires
-propose-number-requires c κs = c .before .before .pre .form
+propose-number-requires c κs = c .before .before .pre
 
 returns : tie.Need-returns
 unfolding proposeOutcome
