@@ -4,17 +4,19 @@ use state::State;
 use terms::Proposal;
 use terms::Round;
 ghost use mathlib.Core.Path.{_≡_};
-ghost use Prim.Native.Nat.{_-_, _<_, _≤_};
+ghost use Prim.Native.Nat.{_<_, _≤_};
 ghost use Rattle.base.specs.Checks.{refusal};
 ghost use Rattle.terms.specs.Proposals.{contentOf};
 ghost use mathlib.Core.Bool.{not};
 ghost use Rattle.base.specs.Sets.{isIn};
+ghost use Rattle.sheet.specs.Ranges.{weightIn};
 ghost use Rattle.committee.specs.Committees.{quorum};
-ghost use Rattle.rules.specs.Tests.{badRound, above, committeeIn, missing};
+ghost use Rattle.committee.specs.Totals.{Light};
+ghost use Rattle.rules.specs.Tests.{badRound, above, missing};
 ghost use Rattle.state.specs.Formed.{Formed};
 ghost use Rattle.state.specs.Known.{Kept};
 ghost use Rattle.state.specs.View.{view};
-ghost use Rattle.member.specs.Pieces.{formChecks, previousChecks, signerChecks};
+ghost use Rattle.member.specs.Pieces.{formChecks, signerChecks};
 
 // Is the round 0 or over the ceiling?
 pub fn is_bad_round(s: Settings, r: Round) -> bool
@@ -60,31 +62,15 @@ pub fn lacks_previous(s: State, t: &[u32], p: Proposal) -> bool
     !base::is_subset(p.body.previous as u32, held)
 }
 
-// Check 12 above round 1: is the previous set no quorum of the round before?
-pub fn lacks_quorum(kept: &[u64], s: State, t: &[u32], p: Proposal) -> bool
-    requires { ⌜ Formed s (now t) × (0 < p .round .0) × (p .round .0 ≤ s .settings .ceiling .0) × Kept s (now t) (now kept) ⌝ }
-    ensures { λ v. ⌜ v ≡ above (p .round .0) (not (quorum (committeeIn (s .settings) (view s (now (t .entry))) (p .round .0 - 1)) (isIn (p .body .previous)))) ⌝ }
+// Check 12 above round 1: is the previous set no quorum of w, the committee of the round before?
+pub fn is_thin(w: &[u64; 16], p: Proposal) -> bool
+    requires { ⌜ Light (now w) ⌝ }
+    ensures { λ v. ⌜ v ≡ above (p .round .0) (not (quorum (weightIn (now (w .entry))) (isIn (p .body .previous)))) ⌝ }
 {
-    let r = p.round.0;
-    if r == 1 {
+    if p.round.0 == 1 {
         return false;
     }
-    let w = walk::kept::committee(kept, t, s.settings, s.blocks, Round(r - 1));
-    !committee::is_quorum(&w, p.body.previous as u32)
-}
-
-// Checks 11 and 12 of a proposal.
-pub fn previous_refusal(kept: &[u64], s: State, t: &[u32], p: Proposal) -> u32
-    requires { ⌜ Formed s (now t) × (0 < p .round .0) × (p .round .0 ≤ s .settings .ceiling .0) × Kept s (now t) (now kept) ⌝ }
-    ensures { λ v. ⌜ v ≡ refusal (previousChecks (s .settings) (view s (now (t .entry))) (contentOf p)) ⌝ }
-{
-    if lacks_previous(s, t, p) {
-        return 11;
-    }
-    if lacks_quorum(kept, s, t, p) {
-        return 12;
-    }
-    0
+    !committee::is_quorum(w, p.body.previous as u32)
 }
 
 // Checks 8, 9, 13 of the signers of a certificate of round r.

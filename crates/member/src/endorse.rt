@@ -5,11 +5,13 @@ use state::State;
 use terms::Proposal;
 use terms::Round;
 ghost use mathlib.Core.Path.{_≡_};
-ghost use mathlib.Core.Bool.{_||_};
-ghost use Prim.Native.Nat.{_-_, _<_};
+ghost use mathlib.Core.Bool.{not, _||_};
+ghost use Prim.Native.Nat.{_-_, _<_, _≤_};
 ghost use lib.ListN.{drop};
 ghost use Rattle.store.specs.Table.{Within, heldAt, endorsedAt};
-ghost use Rattle.rules.specs.Tests.{above, unknown};
+ghost use Rattle.base.specs.Sets.{isIn};
+ghost use Rattle.committee.specs.Committees.{quorum};
+ghost use Rattle.rules.specs.Tests.{above, committeeIn, unknown};
 ghost use Rattle.base.specs.Checks.{refusal};
 ghost use Rattle.terms.specs.Proposals.{contentOf};
 ghost use Rattle.rules.specs.Calls.{endorsing};
@@ -17,6 +19,7 @@ ghost use Rattle.state.specs.Formed.{Formed};
 ghost use Rattle.state.specs.View.{view};
 ghost use Rattle.state.specs.Known.{Kept, Known};
 ghost use Rattle.member.specs.PassedLaws.{Fits};
+ghost use Rattle.member.specs.Pieces.{previousChecks};
 ghost use Rattle.member.specs.Calls.{endorseNumber, endorseOutcome, endorseTable};
 
 // Check 10: is the place held or already endorsed?
@@ -41,6 +44,30 @@ fn is_unknown(s: State, t: &[u32], r: Round) -> bool
     !walk::known(t, s.settings, s.blocks, Round(r.0 - 1))
 }
 
+// Check 12 above round 1: is the previous set no quorum of the round before?
+fn lacks_quorum(kept: &[u64], s: State, t: &[u32], p: Proposal) -> bool
+    requires { ⌜ Formed s (now t) × (0 < p .round .0) × (p .round .0 ≤ s .settings .ceiling .0) × Kept s (now t) (now kept) ⌝ }
+    ensures { λ v. ⌜ v ≡ above (p .round .0) (not (quorum (committeeIn (s .settings) (view s (now (t .entry))) (p .round .0 - 1)) (isIn (p .body .previous)))) ⌝ }
+{
+    let before = Round(p.round.0 - 1);
+    let w = walk::kept::committee(kept, t, s.settings, s.blocks, before);
+    crate::checks::is_thin(&w, p)
+}
+
+// Checks 11 and 12.
+fn previous_refusal(kept: &[u64], s: State, t: &[u32], p: Proposal) -> u32
+    requires { ⌜ Formed s (now t) × (0 < p .round .0) × (p .round .0 ≤ s .settings .ceiling .0) × Kept s (now t) (now kept) ⌝ }
+    ensures { λ v. ⌜ v ≡ refusal (previousChecks (s .settings) (view s (now (t .entry))) (contentOf p)) ⌝ }
+{
+    if crate::checks::lacks_previous(s, t, p) {
+        return 11;
+    }
+    if lacks_quorum(kept, s, t, p) {
+        return 12;
+    }
+    0
+}
+
 // Checks 14, 10, 8, 11, 12.
 fn place_refusal(kept: &[u64], s: State, t: &[u32], p: Proposal) -> u32
     requires { ⌜ Formed s (now t) × Fits s p × Kept s (now t) (now kept) ⌝ }
@@ -55,7 +82,7 @@ fn place_refusal(kept: &[u64], s: State, t: &[u32], p: Proposal) -> u32
     if is_unknown(s, t, p.round) {
         return 8;
     }
-    crate::checks::previous_refusal(kept, s, t, p)
+    previous_refusal(kept, s, t, p)
 }
 
 // The number of the first check that refuses, 0 for none.

@@ -36,8 +36,9 @@ fn committee_refusal(kept: &[u64], s: State, t: &[u32], b: Body) -> u32
     if !walk::known(t, s.settings, s.blocks, r) {
         return 8;
     }
-    let w = walk::kept::committee(kept, t, s.settings, s.blocks, r);
-    if !committee::is_member(&w, s.own) {
+    let c = walk::kept::committees(kept, t, s.settings, s.blocks, r);
+    let at = c.at;
+    if !committee::is_member(&at, s.own) {
         return 9;
     }
     let author = s.own;
@@ -46,7 +47,14 @@ fn committee_refusal(kept: &[u64], s: State, t: &[u32], b: Body) -> u32
         round: r,
         body: b,
     };
-    crate::checks::previous_refusal(kept, s, t, p)
+    if crate::checks::lacks_previous(s, t, p) {
+        return 11;
+    }
+    let before = c.before;
+    if crate::checks::is_thin(&before, p) {
+        return 12;
+    }
+    0
 }
 
 // The number of the first check that refuses, 0 for none.

@@ -11,3 +11,4 @@ pub mod Fill
 pub mod FillLaws
 pub mod Keeps
 pub mod KeepLaws
+pub mod Pairs

@@ -64,6 +64,16 @@ module _ {S : Settings} {t : List ℕ} {blocks : ℕ} where
       let p = x .passed in
       x .weights ∙ sym (bonded-split (S .ceiling .0) t blocks (a .rounds) (S .weights) s k blocks (x .within) (omega arith) (omega arith) f)
 
+  -- where the first block's round is not below that of round r, no block changes the committees up to r
+  pub committee-starts : Readable S t blocks → (r q : ℕ) → q ≤ r → (0 < blocks → r - S .lookback ≤ blockRound t 1) → committeeOf S (chainOf (S .ceiling .0) t blocks) q ≡ S .weights
+  committee-starts a r q h f = go (decLt (S .lookback) q)
+    where
+      go : Dec (S .lookback < q) → committeeOf S (chainOf (S .ceiling .0) t blocks) q ≡ S .weights
+      go (yes l) =
+          committee-bonded S (chainOf (S .ceiling .0) t blocks) q l
+          ∙ sym (stands-bonded (q - S .lookback) (omega arith) a (λ k. omega (arith, f k)) (stands-start (q - S .lookback - 1)))
+      go (no l) = committee-start S (chainOf (S .ceiling .0) t blocks) q (omega arith)
+
   -- before the first block's round it is the starting one
   pub stands-first : {k : ℕ} {w : List ℕ} → Readable S t blocks → Stands S t blocks 0 k w → w ≡ S .weights
   stands-first {k} {w} a s =

@@ -1,5 +1,6 @@
 // Committees kept by round beside the table, so that a call need not walk over it.
 // The committee of round r has the words 16 r to 16 r + 15, for each round up to the ceiling that there is room for.
+use crate::Pair;
 use sheet::Settings;
 use terms::Round;
 ghost use mathlib.Core.Path.{_≡_};
@@ -12,6 +13,7 @@ ghost use Rattle.committee.specs.Committees.{committeeOf};
 ghost use Rattle.committee.specs.Totals.{Light};
 ghost use Rattle.walk.specs.Keeps.{Keeps};
 ghost use Rattle.walk.specs.Links.{Links};
+ghost use Rattle.walk.specs.Pairs.{PairOf};
 ghost use Rattle.walk.specs.Readable.{Readable};
 
 // The words of round r.
@@ -38,18 +40,30 @@ fn put(w: [u64; 16], r: Round, kept: &mut [u64])
     }
 }
 
-// The committee of round r: the one kept, or else by a walk.
+// The committees of round r and of the one before it: those kept, or else by a walk.
+pub fn committees(kept: &[u64], t: &[u32], s: Settings, blocks: u32, r: Round) -> Pair
+    requires { ⌜ Readable s (now t) blocks × Keeps s (chainOf (s .ceiling .0) (now t) blocks) (now kept) ⌝ }
+    ensures { λ p. ⌜ PairOf s (chainOf (s .ceiling .0) (now (t .entry)) blocks) (r .0) p ⌝ }
+{
+    if s.ceiling.0 < r.0 {
+        return crate::committees_of(t, s, blocks, r);
+    }
+    if kept.len() < r.0 as usize * 16 + 16 {
+        return crate::committees_of(t, s, blocks, r);
+    }
+    Pair {
+        before: kept_at(kept, crate::before(r)),
+        at: kept_at(kept, r),
+    }
+}
+
+// The committee of round r.
 pub fn committee(kept: &[u64], t: &[u32], s: Settings, blocks: u32, r: Round) -> [u64; 16]
     requires { ⌜ Readable s (now t) blocks × Keeps s (chainOf (s .ceiling .0) (now t) blocks) (now kept) ⌝ }
     ensures { λ w. ⌜ (w ≡ committeeOf s (chainOf (s .ceiling .0) (now (t .entry)) blocks) (r .0)) × Light w ⌝ }
 {
-    if s.ceiling.0 < r.0 {
-        return crate::committee_of(t, s, blocks, r);
-    }
-    if kept.len() < r.0 as usize * 16 + 16 {
-        return crate::committee_of(t, s, blocks, r);
-    }
-    kept_at(kept, r)
+    let p = committees(kept, t, s, blocks, r);
+    p.at
 }
 
 // The rounds up to the ceiling, going up with one running committee; w is the starting one.

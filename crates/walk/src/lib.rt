@@ -10,13 +10,14 @@ use sheet::Settings;
 use terms::Round;
 ghost use mathlib.Core.Path.{_≡_};
 ghost use mathlib.Core.Bool.{true};
-ghost use Prim.Native.Nat.{_+_, _*_, _<_, _≤_};
+ghost use Prim.Native.Nat.{ℕ, _+_, _-_, _*_, _<_, _≤_};
 ghost use lib.ListN.{length};
 ghost use Rattle.store.specs.Table.{Row};
 ghost use Rattle.committee.specs.Chain.{chainOf};
 ghost use Rattle.committee.specs.Committees.{committeeOf, knownBy};
 ghost use Rattle.committee.specs.Totals.{Light};
 ghost use Rattle.walk.specs.Walk.{lastRound, blockFits, blocksFit};
+ghost use Rattle.walk.specs.Pairs.{PairOf};
 ghost use Rattle.walk.specs.Readable.{Readable};
 
 // The round of the newest of the first k blocks, 0 for none.
@@ -59,10 +60,16 @@ pub fn blocks_fit(t: &[u32], blocks: u32, n: Round) -> bool
     true
 }
 
+// The committees of a round and of the one before it.
+pub struct Pair {
+    pub before: [u64; 16],
+    pub at: [u64; 16],
+}
+
 // Does no block change the committee of round r?
 fn is_starting(t: &[u32], s: Settings, blocks: u32, r: Round) -> bool
     requires { ⌜ Readable s (now t) blocks ⌝ }
-    ensures { λ v. ⌜ (v ≡ true → committeeOf s (chainOf (s .ceiling .0) (now (t .entry)) blocks) (r .0) ≡ s .weights) ⌝ }
+    ensures { λ v. ⌜ (v ≡ true → (q : ℕ) → q ≤ r .0 → committeeOf s (chainOf (s .ceiling .0) (now (t .entry)) blocks) q ≡ s .weights) ⌝ }
 {
     if r.0 <= s.lookback {
         return true;
@@ -73,26 +80,42 @@ fn is_starting(t: &[u32], s: Settings, blocks: u32, r: Round) -> bool
     r.0 - s.lookback <= store::block_round(t, 1)
 }
 
-// The committee of round r by a walk over the blocks; next has a word for each place.
-fn walked(t: &[u32], s: Settings, blocks: u32, r: Round, next: &mut [u32]) -> [u64; 16]
+// The round before r; 0 has none and stays.
+fn before(r: Round) -> Round
+    ensures { λ v. ⌜ v .0 ≡ r .0 - 1 ⌝ }
+{
+    if r.0 == 0 {
+        return r;
+    }
+    Round(r.0 - 1)
+}
+
+// Both committees by a walk over the blocks; next has a word for each place.
+fn walked(t: &[u32], s: Settings, blocks: u32, r: Round, next: &mut [u32]) -> Pair
     requires { ⌜ Readable s (now t) blocks × (s .ceiling .0 * 16 + 16 ≤ length (now next)) ⌝ }
-    ensures { λ w. ⌜ (w ≡ committeeOf s (chainOf (s .ceiling .0) (now (t .entry)) blocks) (r .0)) × Light w ⌝ }
+    ensures { λ p. ⌜ PairOf s (chainOf (s .ceiling .0) (now (t .entry)) blocks) (r .0) p ⌝ }
 {
     let mut w = s.weights;
     let end = s.ceiling.0 * 16 + 16;
     let mut head = [end; 512];
     crate::links::link_rows(t, &mut head, next, s.ceiling);
-    crate::advance::advance(t, &head, next, s, blocks, 0, r, &mut w);
-    w
+    let k = crate::advance::advance(t, &head, next, s, blocks, 0, before(r), &mut w);
+    let first = w;
+    crate::advance::advance(t, &head, next, s, blocks, k, r, &mut w);
+    Pair {
+        before: first,
+        at: w,
+    }
 }
 
-// The committee of round r.
-pub fn committee_of(t: &[u32], s: Settings, blocks: u32, r: Round) -> [u64; 16]
+// Both committees.
+pub fn committees_of(t: &[u32], s: Settings, blocks: u32, r: Round) -> Pair
     requires { ⌜ Readable s (now t) blocks ⌝ }
-    ensures { λ w. ⌜ (w ≡ committeeOf s (chainOf (s .ceiling .0) (now (t .entry)) blocks) (r .0)) × Light w ⌝ }
+    ensures { λ p. ⌜ PairOf s (chainOf (s .ceiling .0) (now (t .entry)) blocks) (r .0) p ⌝ }
 {
     if is_starting(t, s, blocks, r) {
-        return s.weights;
+        let w = s.weights;
+        return Pair { before: w, at: w };
     }
     if s.ceiling.0 <= 64 {
         let mut few = [0u32; 1040];
@@ -100,6 +123,15 @@ pub fn committee_of(t: &[u32], s: Settings, blocks: u32, r: Round) -> [u64; 16]
     }
     let mut many = [0u32; 16400];
     walked(t, s, blocks, r, &mut many)
+}
+
+// The committee of round r.
+pub fn committee_of(t: &[u32], s: Settings, blocks: u32, r: Round) -> [u64; 16]
+    requires { ⌜ Readable s (now t) blocks ⌝ }
+    ensures { λ w. ⌜ (w ≡ committeeOf s (chainOf (s .ceiling .0) (now (t .entry)) blocks) (r .0)) × Light w ⌝ }
+{
+    let p = committees_of(t, s, blocks, r);
+    p.at
 }
 
 // Does the chain tell the committee of round r?

@@ -1,6 +1,8 @@
+use mathlib.Core.Path.{_≡_}
 use native.Mathlib.Omega.{arith}
+use Prim.Native.Nat.{_-_}
 use Rattle.walk.specs.LinkLaws.{links-start}
-use Rattle.walk.specs.ReadableLaws.{stands-start, stands-light}
+use Rattle.walk.specs.ReadableLaws.{stands-start, stands-up, stands-light}
 use borrow.Author.Needs.{needs}
 use Rattle.walk.proofs.walked.Statement.{statement}
 use Rattle.walk.proofs.walked.Tie as tie
@@ -14,15 +16,26 @@ add-end c = search needs
 link-rows-requires : tie.Need-link-rows-requires
 link-rows-requires c κs = (omega arith, omega arith, links-start _ _ _ (c .before .before .before .before .before .before .pre .1))
 
+before-requires : tie.Need-before-requires
+before-requires c κs = search needs
+
 advance-requires : tie.Need-advance-requires
-advance-requires c κs = (c .before .before .before .before .before .before .before .before .before .before .before .before .pre .0, c .before .before .before .before .before .link-rows .ensures, stands-start _)
+advance-requires c κs = (c .before .before .before .before .before .before .before .before .before .before .before .before .before .pre .0, c .before .before .before .before .before .before .link-rows .ensures, stands-start _)
+
+advance-requires-2 : tie.Need-advance-requires-2
+advance-requires-2 c κs = (c .before .before .before .before .before .before .before .before .before .before .before .before .before .before .before .before .before .pre .0, c .before .before .before .before .before .before .before .before .before .before .link-rows .ensures, stands-up _ (omega (arith, c .before .before .before .before .before .before2 .ensures)) (c .before .before .before .advance .ensures .0))
 
 same-length : tie.Need-same-length
 same-length c = search needs
 
 returns : tie.Need-returns
-returns c = let x = c .advance in (x .ensures .1, stands-light (λ j. c .before .before .before .before .before .before .before .before .before .before .before .before .shared-slice-known .given j .fits) (c .before .before .before .before .before .before .before .before .before .before .before .before .before .pre .0) (x .ensures .0))
+returns c =
+    let x = c .before .before .before .before .advance .ensures in
+    let y = c .advance2 .ensures in
+    let words = c .before .before .before .before .before .before .before .before .before .before .before .before .before .before .before .before .before .shared-slice-known in
+    let a = c .before .before .before .before .before .before .before .before .before .before .before .before .before .before .before .before .before .before .pre .0 in
+    record { before = rw (← c .before .before .before .before .before .before .before2 .ensures) (x .1); at = y .1; light-before = stands-light (λ j. words .given j .fits) a (x .0); light-at = stands-light (λ j. words .given j .fits) a (y .0) }
 
 pub walked-spec : {M : Type 1} → statement M
 walked-spec =
-    tie.close (tie.spec mul-end add-end link-rows-requires advance-requires same-length returns)
+    tie.close (tie.spec mul-end add-end link-rows-requires before-requires advance-requires advance-requires-2 same-length returns)

@@ -1,8 +1,8 @@
 use mathlib.Core.Path.{sym, _∙_}
 use Rattle.base.specs.Checks.{passes-all, refuses, passes}
 use borrow.Author.Needs.{needs}
-use Rattle.member.proofs.checks.previous_refusal.Statement.{statement}
-use Rattle.member.proofs.checks.previous_refusal.Tie as tie
+use Rattle.member.proofs.endorse.previous_refusal.Statement.{statement}
+use Rattle.member.proofs.endorse.previous_refusal.Tie as tie
 
 lacks-previous-requires : tie.Need-lacks-previous-requires
 lacks-previous-requires c κs = search needs

@@ -3,14 +3,17 @@ use native.Mathlib.Omega.{arith}
 use Prim.Native.Nat.{ℕ}
 use lib.ListN.{length-replicate}
 use borrow.Author.Needs.{needs}
-use Rattle.walk.proofs.committee_of.Statement.{statement}
-use Rattle.walk.proofs.committee_of.Tie as tie
+use Rattle.walk.proofs.committees_of.Statement.{statement}
+use Rattle.walk.proofs.committees_of.Tie as tie
 
 is-starting-requires : tie.Need-is-starting-requires
 is-starting-requires c κs = search needs
 
 returns : tie.Need-returns
-returns c = (sym (c .before .before .is-starting .ensures (c .before .if1 .taken)), record { total = omega arith })
+returns c =
+    let e = c .before .before .is-starting .ensures (c .before .if1 .taken) in
+    let light = c .before .before .before .before .pre .light in
+    record { before = sym (e _ (omega arith)); at = sym (e _ (omega arith)); light-before = record { total = omega arith }; light-at = record { total = omega arith } }
 
 slice-aggregate-walked : tie.Need-slice-aggregate-walked
 slice-aggregate-walked c = search needs
@@ -30,8 +33,8 @@ walked-requires-2 c κs = (c .before .before .before .before .before .before .pr
 returns-3 : tie.Need-returns-3
 returns-3 c = c .before .walked2 .ensures
 
-pub committee-of-spec : {M : Type 1} → statement M
-committee-of-spec =
+pub committees-of-spec : {M : Type 1} → statement M
+committees-of-spec =
     tie.close
     (tie.spec
     is-starting-requires
