@@ -117,3 +117,6 @@ module _ (t : List ℕ) (words : (i : ℕ) → getD t i 0 < 4294967296) where
 
   pub after-light : (n k : ℕ) (w : List ℕ) → n ≤ 1024 → totalIn (afterBlocks n t k w) ≤ totalIn w + 281474976645120
   after-light n k w h = let p = after-raises t n 4294967295 (modest n) k w in omega arith
+
+  pub bonded-light : (n k s : ℕ) (w : List ℕ) → n ≤ 1024 → totalIn (bondedFrom n w (chainOf n t k) s) ≤ totalIn w + 281474976645120
+  bonded-light n k s w h = let p = bonded-raises t n 4294967295 (modest n) s k w in omega arith

@@ -10,3 +10,4 @@ pub mod TotalBound
 pub mod Fill
 pub mod FillLaws
 pub mod Keeps
+pub mod KeepLaws

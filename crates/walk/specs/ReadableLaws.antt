@@ -4,7 +4,7 @@ use mathlib.Core.Bool.{true}
 use mathlib.Core.List.{List}
 use Prim.Native.Nat.{ℕ, _+_, _-_, _*_, _<_, _≤_}
 use native.Mathlib.Omega.{arith}
-use native.Mathlib.Decide.{ℕ-discrete}
+use native.Mathlib.Decide.{ℕ-discrete, decLt}
 use lib.ListN.{getD}
 use Rattle.base.specs.SumLaws.{sum-le}
 use Rattle.store.specs.Table.{Row, blockRound}
@@ -12,11 +12,12 @@ use Rattle.sheet.specs.declared.Settings.{Settings}
 use Rattle.sheet.specs.Ranges.{weightIn}
 use Rattle.sheet.specs.SheetLaws.{SettingsFit}
 use Rattle.committee.specs.Chain.{chainOf}
-use Rattle.committee.specs.Committees.{bondedFrom}
+use Rattle.committee.specs.Committees.{bondedFrom, committeeOf}
+use Rattle.committee.specs.CommitteeLaws.{committee-start, committee-bonded}
 use Rattle.committee.specs.Totals.{Light}
 use Rattle.walk.specs.Walk.{blockChange, blocksFit}
 use Rattle.walk.specs.ChainLaws.{last-none, last-some, fits-at, last-from, bonded-split, after-none, after-more}
-use Rattle.walk.specs.BoundLaws.{after-light}
+use Rattle.walk.specs.BoundLaws.{after-light, bonded-light}
 use Rattle.walk.specs.Readable.{Readable, Stands}
 
 -- settings in range, a table long enough and fitting blocks are enough
@@ -77,3 +78,14 @@ module _ {S : Settings} {t : List ℕ} {blocks : ℕ} where
       let l = after-light t words (S .ceiling .0) k (S .weights) (a .ceiling) in
       let h = a .light in
       record { total = rw (s .weights) (omega arith) }
+
+-- and so is every committee
+pub committee-light : (S : Settings) (t : List ℕ) (blocks r : ℕ) → ((i : ℕ) → getD t i 0 < 4294967296) → Readable S t blocks → Light (committeeOf S (chainOf (S .ceiling .0) t blocks) r)
+committee-light S t blocks r words a = go (decLt (S .lookback) r)
+  where
+    go : Dec (S .lookback < r) → Light (committeeOf S (chainOf (S .ceiling .0) t blocks) r)
+    go (yes h) =
+        let l = bonded-light t words (S .ceiling .0) blocks (r - S .lookback) (S .weights) (a .ceiling) in
+        let s = a .light in
+        record { total = rw (committee-bonded S (chainOf (S .ceiling .0) t blocks) r h) (omega arith) }
+    go (no h) = let s = a .light in record { total = rw (committee-start S (chainOf (S .ceiling .0) t blocks) r (omega arith)) (omega arith) }

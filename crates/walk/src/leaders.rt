@@ -3,6 +3,7 @@ use sheet::Settings;
 use terms::Round;
 ghost use mathlib.Core.Path.{_≡_};
 ghost use Prim.Native.Nat.{_+_, _-_, _*_, _≤_};
+ghost use lib.ListN.{length};
 ghost use Rattle.committee.specs.Chain.{chainOf};
 ghost use Rattle.committee.specs.Committees.{committeeOf};
 ghost use Rattle.committee.specs.Totals.{Light};
@@ -34,6 +35,27 @@ fn fill_rounds(
     crate::advance::advance(t, head, next, s, blocks, k, Round(top.0 + 1), w);
 }
 
+// The same, where next has a word for each place; gives that committee.
+fn filled_by(
+    t: &[u32],
+    s: Settings,
+    blocks: u32,
+    m: Round,
+    top: Round,
+    next: &mut [u32],
+    l: &mut [u32; 1025],
+) -> [u64; 16]
+    requires { ⌜ Readable s (now t) blocks × (m .0 ≤ top .0) × (top .0 ≤ 1024) × (s .ceiling .0 * 16 + 16 ≤ length (now next)) ⌝ }
+    ensures { λ w. ⌜ (now (l .exit) ≡ fillTo (leaderAt s (chainOf (s .ceiling .0) (now (t .entry)) blocks)) (m .0) (top .0 - m .0) (now (l .entry))) × (w ≡ committeeOf s (chainOf (s .ceiling .0) (now (t .entry)) blocks) (top .0 + 1)) × Light w ⌝ }
+{
+    let mut w = s.weights;
+    let end = s.ceiling.0 * 16 + 16;
+    let mut head = [end; 512];
+    crate::links::link_rows(t, &mut head, next, s.ceiling);
+    fill_rounds(t, &head, next, s, blocks, m, top, &mut w, l);
+    w
+}
+
 // Writes the number of the leader of each round above m up to top, 16 for none; gives the committee of the round above top.
 pub fn fill_leaders(
     t: &[u32],
@@ -46,11 +68,10 @@ pub fn fill_leaders(
     requires { ⌜ Readable s (now t) blocks × (m .0 ≤ top .0) × (top .0 ≤ 1024) ⌝ }
     ensures { λ w. ⌜ (now (l .exit) ≡ fillTo (leaderAt s (chainOf (s .ceiling .0) (now (t .entry)) blocks)) (m .0) (top .0 - m .0) (now (l .entry))) × (w ≡ committeeOf s (chainOf (s .ceiling .0) (now (t .entry)) blocks) (top .0 + 1)) × Light w ⌝ }
 {
-    let mut w = s.weights;
-    let end = s.ceiling.0 * 16 + 16;
-    let mut head = [end; 512];
-    let mut next = [0u32; 16400];
-    crate::links::link_rows(t, &mut head, &mut next, s.ceiling);
-    fill_rounds(t, &head, &next, s, blocks, m, top, &mut w, l);
-    w
+    if s.ceiling.0 <= 64 {
+        let mut few = [0u32; 1040];
+        return filled_by(t, s, blocks, m, top, &mut few, l);
+    }
+    let mut many = [0u32; 16400];
+    filled_by(t, s, blocks, m, top, &mut many, l)
 }

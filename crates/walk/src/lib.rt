@@ -2,6 +2,7 @@
 // Its cost is that of one pass over the header of each row and each held certificate, and of one look at each certificate in a block.
 pub mod advance;
 pub mod block;
+pub mod kept;
 pub mod leaders;
 pub mod links;
 

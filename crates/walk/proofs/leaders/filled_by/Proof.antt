@@ -1,0 +1,28 @@
+use native.Mathlib.Omega.{arith}
+use Rattle.walk.specs.LinkLaws.{links-start}
+use borrow.Author.Needs.{needs}
+use Rattle.walk.proofs.leaders.filled_by.Statement.{statement}
+use Rattle.walk.proofs.leaders.filled_by.Tie as tie
+
+mul-end : tie.Need-mul-end
+mul-end c = search needs
+
+add-end : tie.Need-add-end
+add-end c = search needs
+
+link-rows-requires : tie.Need-link-rows-requires
+link-rows-requires c κs = (omega arith, omega arith, links-start _ _ _ (c .before .before .before .before .before .before .pre .3))
+
+fill-rounds-requires : tie.Need-fill-rounds-requires
+fill-rounds-requires c κs = search needs
+
+same-length : tie.Need-same-length
+same-length c = search needs
+
+returns : tie.Need-returns
+returns c = search needs
+
+pub filled-by-spec : {M : Type 1} → statement M
+filled-by-spec =
+    tie.close
+    (tie.spec mul-end add-end link-rows-requires fill-rounds-requires same-length returns)

@@ -1,0 +1,55 @@
+-- Laws of kept committees: one round more, and all of them.
+use mathlib.Core.Path.{_≡_, sym, ap, _∙_}
+use mathlib.Core.List.{List}
+use Prim.Native.Nat.{ℕ, _+_, _*_, _<_, _≤_}
+use native.Mathlib.Omega.{arith}
+use native.Mathlib.Decide.{ℕ-discrete}
+use native.Mathlib.Numerals.{add-one}
+use lib.ListN.{length, getD, set}
+use lib.Seq.{paste, paste-suc, take-all, ext-getD, length-paste}
+use Rattle.base.specs.Paste.{part, same-part, paste-below, paste-inside}
+use Rattle.agreement.specs.Rules.{Chain}
+use Rattle.terms.specs.Proposals.{Content}
+use Rattle.sheet.specs.declared.Settings.{Settings}
+use Rattle.committee.specs.Committees.{committeeOf}
+use Rattle.walk.specs.Keeps.{Keeps}
+
+-- one word more written over the front
+pub paste-front : (d s : List ℕ) (j : ℕ) → j < length d → j < length s → set (paste d 0 s j) j (getD s j 0) ≡ paste d 0 s (j + 1)
+paste-front d s j h l =
+    let z : 0 + j ≡ j = omega arith in
+    ap (λ (n : ℕ). set (paste d 0 s j) n (getD s j 0)) (sym z) ∙ rw (add-one j) (paste-suc d 0 s j 0 (omega arith) l)
+
+-- sixteen words written over sixteen
+pub paste-whole : (d s : List ℕ) → length d ≡ 16 → length s ≡ 16 → paste d 0 s 16 ≡ s
+paste-whole d s h l =
+    let p = length-paste d 0 s 16 (omega arith) (omega arith) in
+    ext-getD 0 (paste d 0 s 16) s (omega arith) (λ i lt. let e : 0 + i ≡ i = omega arith in rw e at (paste-inside d 0 s 16 (omega arith) l i (omega arith)))
+
+module _ (S : Settings) (c : Chain Content) where
+  -- the rounds below q are kept
+  pub record KeepsTo (q : ℕ) (kept : List ℕ) : Type 0 where
+    pub committee : (r : ℕ) → r < q → r * 16 + 16 ≤ length kept → part kept (r * 16) 16 ≡ committeeOf S c r
+
+  pub keeps-none : (kept : List ℕ) → KeepsTo 0 kept
+  keeps-none kept = record { committee = λ r h l. absurd (omega arith) }
+
+  -- round q, where there is room for it
+  pub keeps-more : {q : ℕ} {kept : List ℕ} (w : List ℕ) → q * 16 + 16 ≤ length kept → length w ≡ 16 → w ≡ committeeOf S c q → KeepsTo q kept → KeepsTo (q + 1) (paste kept (q * 16) w 16)
+  keeps-more {q} {kept} w room h e k = record { committee = λ r u l. go r u l (ℕ-discrete r q) }
+    where
+      size : length (paste kept (q * 16) w 16) ≡ length kept
+      size = length-paste kept (q * 16) w 16 room (omega arith)
+
+      go : (r : ℕ) → r < q + 1 → r * 16 + 16 ≤ length (paste kept (q * 16) w 16) → Dec (r ≡ q) → part (paste kept (q * 16) w 16) (r * 16) 16 ≡ committeeOf S c r
+      go r u l (yes d) =
+          rw d (same-part (paste kept (q * 16) w 16) w (q * 16) 0 16 (omega (arith, size)) (omega arith) (λ i lt. let z : 0 + i ≡ i = omega arith in rw z (paste-inside kept (q * 16) w 16 room h i lt))
+          ∙ take-all 16 w (omega arith)
+          ∙ e)
+      go r u l (no d) =
+          same-part (paste kept (q * 16) w 16) kept (r * 16) (r * 16) 16 l (omega (arith, size)) (λ i lt. paste-below kept (q * 16) w 16 room h (r * 16 + i) (omega arith))
+          ∙ k .committee r (omega arith) (omega (arith, size))
+
+  -- all of them, or no room for more
+  pub keeps-all : {q : ℕ} {kept : List ℕ} → KeepsTo q kept → ((r : ℕ) → r ≤ S .ceiling .0 → r * 16 + 16 ≤ length kept → r < q) → Keeps S c kept
+  keeps-all k h = record { committee = λ r u l. k .committee r (h r u l) l }
