@@ -1,4 +1,4 @@
--- Laws of what is known beside a state, before an open and after a commit.
+-- Laws of what is known beside a state: one that is not well formed, and one after a commit.
 use mathlib.Core.Path.{_≡_, refl, sym, ap, _∙_}
 use mathlib.Core.Bool.{Bool, true, false, false≢true}
 use mathlib.Core.List.{List}
@@ -18,7 +18,11 @@ use Rattle.commit.specs.AnswerLaws.{answers-refused, answers-accepted}
 use Rattle.commit.specs.CheckLaws.{accepted}
 use Rattle.commit.specs.KeptLaws.{formed-commit}
 
--- the state before an open is not well formed
+-- beside a state that is not well formed nothing need be kept
+pub known-unformed : {s : State} {t : List ℕ} {b : Bool} (kept : List ℕ) → b ≡ wellFormed s t → b ≡ false → Known s t b kept
+known-unformed kept w n = record { form = w; committees = λ e. absurd (false≢true (sym n ∙ w ∙ e)) }
+
+-- such is the state before an open
 closed-unformed : (t : List ℕ) → wellFormed closedState t ≡ false
 closed-unformed t = go (wellFormed closedState t) refl
   where
@@ -26,9 +30,8 @@ closed-unformed t = go (wellFormed closedState t) refl
     go true e = let h = formed closedState t e .numbers .round-from in absurd (omega arith)
     go false e = refl
 
--- so nothing need be kept
 pub known-closed : (t kept : List ℕ) → Known closedState t false kept
-known-closed t kept = record { form = sym (closed-unformed t); committees = λ e. absurd (false≢true (sym (closed-unformed t) ∙ e)) }
+known-closed t kept = known-unformed kept (sym (closed-unformed t)) refl
 
 abbrev isAdded : Committed → Bool
 isAdded (Added n) = true

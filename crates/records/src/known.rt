@@ -23,5 +23,6 @@ pub fn renew(formed: bool, s: State, t: &[u32], kept: &mut [u64])
 {
     if formed {
         let settings = s.settings;
+        walk::kept::keep(t, settings, s.blocks, kept);
     }
 }

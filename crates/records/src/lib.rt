@@ -143,7 +143,7 @@ pub fn serve(
     let author = q.author;
     let round = q.round;
     let body = q.body;
-    let endorsers = q.endorsers;
+    let e = q.endorsers;
     let p = Proposal {
         author,
         round,
@@ -151,7 +151,7 @@ pub fn serve(
     };
     let c = Certificate {
         proposal: p,
-        endorsers,
+        endorsers: e,
     };
     match kind {
         Kind::Unreadable => Reply {
@@ -162,7 +162,7 @@ pub fn serve(
         Kind::Open => opened(formed, kept, s, t, own, q.sheet, out, at),
         Kind::Propose => told(formed, propose_known(formed, kept, s, t, body), out, at),
         Kind::Endorse => told(formed, endorse_known(formed, kept, s, t, p), out, at),
-        Kind::Certify => told(formed, certify_known(formed, kept, s, t, endorsers), out, at),
+        Kind::Certify => told(formed, certify_known(formed, kept, s, t, e), out, at),
         Kind::Accept => told(formed, accept_known(formed, kept, s, t, c), out, at),
         Kind::Advance => told(formed, advance_known(formed, s, t), out, at),
         Kind::Commit => committed(formed, kept, s, t, out, at),
