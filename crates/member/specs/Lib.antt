@@ -10,3 +10,4 @@ pub mod CallLaws
 pub mod PieceLaws
 pub mod PlaceLaws
 pub mod NextLaws
+pub mod KnownLaws

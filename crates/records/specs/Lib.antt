@@ -5,8 +5,7 @@ pub mod Counts
 pub mod CountLaws
 pub mod Answers
 pub mod Turns
-pub mod Formed
-pub mod FormedLaws
+pub mod KnownLaws
 pub mod PutLaws
 pub mod TurnLaws
 pub mod Streams

@@ -1,10 +1,11 @@
 // Records served: the call that a record asks for, and the lines that answer it.
 pub mod answer;
+pub mod known;
 pub mod listing;
 pub mod turn;
 
+use commit::Committed;
 use commit::commit_known;
-use member::Answer;
 use member::accept::accept_known;
 use member::advance::advance_known;
 use member::certify::certify_known;
@@ -13,16 +14,21 @@ use member::open::open;
 use member::propose::propose_known;
 use requests::Kind;
 use requests::Reading;
+use sheet::Sheet;
 use state::State;
 use terms::Certificate;
+use terms::Member;
 use terms::Proposal;
 ghost use mathlib.Core.Path.{_≡_};
 ghost use Prim.Native.Nat.{_+_, _*_, _≤_};
 ghost use lib.ListN.{length};
+ghost use Rattle.state.specs.Known.{Known};
 ghost use Rattle.state.specs.WellFormed.{wellFormed};
+ghost use Rattle.member.specs.KnownLaws.{formedBy};
+ghost use Rattle.member.specs.Open.{openOutcome, openTable};
+ghost use Rattle.commit.specs.Commit.{commitOutcome, commitTableAfter};
 ghost use Rattle.lines.specs.Puts.{Puts};
 ghost use Rattle.records.specs.Answers.{answerLine, committedLine, chainAnswer};
-ghost use Rattle.records.specs.Formed.{formedBy};
 ghost use Rattle.records.specs.Turns.{Served};
 
 // The state after a record, whether it is well formed, and the next place of the buffer.
@@ -32,16 +38,6 @@ pub struct Reply {
     pub next: usize,
 }
 
-// Is the state after a call well formed? An accepted call leaves a well-formed state, a refused one the state as it was.
-fn formed_by(formed: bool, a: Answer) -> bool
-    ensures { λ r. ⌜ r ≡ formedBy formed a ⌝ }
-{
-    match a {
-        Answer::Accepted => true,
-        Answer::Refused(n) => formed,
-    }
-}
-
 // What a call of a member leaves and answers.
 fn told(formed: bool, o: member::Outcome, out: &mut [u8], at: usize) -> Reply
     requires { ⌜ at + 20 ≤ length (now out) ⌝ }
@@ -49,7 +45,7 @@ fn told(formed: bool, o: member::Outcome, out: &mut [u8], at: usize) -> Reply
 {
     let state = o.state;
     let a = o.answer;
-    let then = formed_by(formed, a);
+    let then = crate::known::formed_by(formed, a);
     let next = crate::answer::put_answer(a, out, at);
     Reply {
         state,
@@ -73,6 +69,49 @@ fn counted(formed: bool, o: commit::Outcome, out: &mut [u8], at: usize) -> Reply
     }
 }
 
+// Open; the committees are kept anew.
+fn opened(
+    formed: bool,
+    kept: &mut [u64],
+    s: State,
+    t: &mut [u32],
+    own: Member,
+    written: Sheet,
+    out: &mut [u8],
+    at: usize,
+) -> Reply
+    requires { ⌜ (at + 20 ≤ length (now out)) × (formed ≡ wellFormed s (now t)) ⌝ }
+    ensures { λ r. ⌜ (r .state ≡ openOutcome s (now (t .entry)) own written .state) × (now (t .exit) ≡ openTable (now (t .entry)) own written) × Puts (now (out .entry)) (now (out .exit)) at (r .next) (answerLine (openOutcome s (now (t .entry)) own written .answer)) 20 × Known (r .state) (now (t .exit)) (r .formed) (now (kept .exit)) ⌝ }
+{
+    let r = told(formed, open(s, t, own, written), out, at);
+    let state = r.state;
+    crate::known::renew(r.formed, state, t, kept);
+    r
+}
+
+// Commit; where it has added blocks, the committees are kept anew.
+fn committed(
+    formed: bool,
+    kept: &mut [u64],
+    s: State,
+    t: &mut [u32],
+    out: &mut [u8],
+    at: usize,
+) -> Reply
+    requires { ⌜ (at + 20 ≤ length (now out)) × Known s (now t) formed (now kept) ⌝ }
+    ensures { λ r. ⌜ (r .state ≡ commitOutcome s (now (t .entry)) .state) × (now (t .exit) ≡ commitTableAfter s (now (t .entry))) × Puts (now (out .entry)) (now (out .exit)) at (r .next) (committedLine (commitOutcome s (now (t .entry)) .answer)) 20 × Known (r .state) (now (t .exit)) (r .formed) (now (kept .exit)) ⌝ }
+{
+    let o = commit_known(formed, s, t);
+    let state = o.state;
+    let a = o.answer;
+    let r = counted(formed, o, out, at);
+    if let Committed::Refused(n) = a {
+        return r;
+    }
+    crate::known::renew(formed, state, t, kept);
+    r
+}
+
 // The lines of a chain, and the answer after them.
 fn listed(formed: bool, s: State, t: &[u32], out: &mut [u8], at: usize) -> usize
     requires { ⌜ (at + length (now t) * 9 + 20 ≤ length (now out)) × (formed ≡ wellFormed s (now t)) ⌝ }
@@ -86,17 +125,25 @@ fn listed(formed: bool, s: State, t: &[u32], out: &mut [u8], at: usize) -> usize
     lines::put_ok(out, next)
 }
 
-// Serves a record: its call, and the lines that answer it. It is known whether the state is well formed.
-pub fn serve(formed: bool, s: State, t: &mut [u32], q: Reading, out: &mut [u8], at: usize) -> Reply
-    requires { ⌜ (at + length (now t) * 9 + 20 ≤ length (now out)) × (formed ≡ wellFormed s (now t)) ⌝ }
-    ensures { λ r. ⌜ Served s (now (t .entry)) q (r .state) (now (t .exit)) (now (out .entry)) (now (out .exit)) at (r .next) × (r .formed ≡ wellFormed (r .state) (now (t .exit))) ⌝ }
+// Serves a record: its call, and the lines that answer it. It is known whether the state is well formed, and committees are kept.
+pub fn serve(
+    formed: bool,
+    kept: &mut [u64],
+    s: State,
+    t: &mut [u32],
+    q: Reading,
+    out: &mut [u8],
+    at: usize,
+) -> Reply
+    requires { ⌜ (at + length (now t) * 9 + 20 ≤ length (now out)) × Known s (now t) formed (now kept) ⌝ }
+    ensures { λ r. ⌜ Served s (now (t .entry)) q (r .state) (now (t .exit)) (now (out .entry)) (now (out .exit)) at (r .next) × Known (r .state) (now (t .exit)) (r .formed) (now (kept .exit)) ⌝ }
 {
     let kind = q.kind;
     let own = q.own;
     let author = q.author;
     let round = q.round;
     let body = q.body;
-    let endorsers = q.endorsers;
+    let e = q.endorsers;
     let p = Proposal {
         author,
         round,
@@ -104,7 +151,7 @@ pub fn serve(formed: bool, s: State, t: &mut [u32], q: Reading, out: &mut [u8], 
     };
     let c = Certificate {
         proposal: p,
-        endorsers,
+        endorsers: e,
     };
     match kind {
         Kind::Unreadable => Reply {
@@ -112,13 +159,13 @@ pub fn serve(formed: bool, s: State, t: &mut [u32], q: Reading, out: &mut [u8], 
             formed,
             next: lines::put_refused(out, at, 24),
         },
-        Kind::Open => told(formed, open(s, t, own, q.sheet), out, at),
-        Kind::Propose => told(formed, propose_known(formed, s, t, body), out, at),
-        Kind::Endorse => told(formed, endorse_known(formed, s, t, p), out, at),
-        Kind::Certify => told(formed, certify_known(formed, s, t, endorsers), out, at),
-        Kind::Accept => told(formed, accept_known(formed, s, t, c), out, at),
+        Kind::Open => opened(formed, kept, s, t, own, q.sheet, out, at),
+        Kind::Propose => told(formed, propose_known(formed, kept, s, t, body), out, at),
+        Kind::Endorse => told(formed, endorse_known(formed, kept, s, t, p), out, at),
+        Kind::Certify => told(formed, certify_known(formed, kept, s, t, e), out, at),
+        Kind::Accept => told(formed, accept_known(formed, kept, s, t, c), out, at),
         Kind::Advance => told(formed, advance_known(formed, s, t), out, at),
-        Kind::Commit => counted(formed, commit_known(formed, s, t), out, at),
+        Kind::Commit => committed(formed, kept, s, t, out, at),
         Kind::Chain => Reply {
             state: s,
             formed,

@@ -26,7 +26,7 @@ fn list_place(t: &[u32], k: u32, b: Round, m: Member, r: Round, out: &mut [u8], 
 fn list_block(
     t: &[u32],
     head: &[u32; 512],
-    next: &[u32; 16400],
+    next: &[u32],
     n: Round,
     k: u32,
     out: &mut [u8],
@@ -50,7 +50,7 @@ fn list_block(
 fn list_blocks(
     t: &[u32],
     head: &[u32; 512],
-    next: &[u32; 16400],
+    next: &[u32],
     n: Round,
     blocks: u32,
     out: &mut [u8],
@@ -68,14 +68,26 @@ fn list_blocks(
     to
 }
 
+// The chain of so many blocks, where the ceiling is n; next has a word for each place.
+fn listed_by(t: &[u32], n: Round, blocks: u32, next: &mut [u32], out: &mut [u8], at: usize) -> usize
+    requires { ⌜ Row (now t) (n .0) × (n .0 ≤ 1024) × (2 * blocks < n .0) × (n .0 * 16 + 16 ≤ length (now next)) × (at + (n .0 * 16 + 16) * 141 ≤ length (now out)) ⌝ }
+    ensures { λ v. ⌜ Puts (now (out .entry)) (now (out .exit)) at v (chainLines (n .0) (chainOf (n .0) (now (t .entry)) blocks)) ((n .0 * 16 + 16) * 141) ⌝ }
+{
+    let end = n.0 * 16 + 16;
+    let mut head = [end; 512];
+    walk::links::link_rows(t, &mut head, next, n);
+    list_blocks(t, &head, next, n, blocks, out, at)
+}
+
 // The chain of so many blocks, where the ceiling is n.
 pub fn list_chain(t: &[u32], n: Round, blocks: u32, out: &mut [u8], at: usize) -> usize
     requires { ⌜ Row (now t) (n .0) × (n .0 ≤ 1024) × (2 * blocks < n .0) × (at + (n .0 * 16 + 16) * 141 ≤ length (now out)) ⌝ }
     ensures { λ v. ⌜ Puts (now (out .entry)) (now (out .exit)) at v (chainLines (n .0) (chainOf (n .0) (now (t .entry)) blocks)) ((n .0 * 16 + 16) * 141) ⌝ }
 {
-    let end = n.0 * 16 + 16;
-    let mut head = [end; 512];
-    let mut next = [0u32; 16400];
-    walk::links::link_rows(t, &mut head, &mut next, n);
-    list_blocks(t, &head, &next, n, blocks, out, at)
+    if n.0 <= 64 {
+        let mut few = [0u32; 1040];
+        return listed_by(t, n, blocks, &mut few, out, at);
+    }
+    let mut many = [0u32; 16400];
+    listed_by(t, n, blocks, &mut many, out, at)
 }

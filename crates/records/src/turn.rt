@@ -6,7 +6,7 @@ ghost use mathlib.Core.Path.{_≡_};
 ghost use mathlib.Core.List.{[]};
 ghost use Prim.Native.Nat.{_+_, _*_, _≤_};
 ghost use lib.ListN.{length};
-ghost use Rattle.state.specs.WellFormed.{wellFormed};
+ghost use Rattle.state.specs.Known.{Known};
 ghost use Rattle.stream.specs.Steps.{telling, stepOf};
 ghost use Rattle.records.specs.Streams.{toldBy, Through};
 
@@ -22,6 +22,7 @@ pub struct Progress {
 // What an event of the stream asks for; rec is its record.
 pub fn answered(
     formed: bool,
+    kept: &mut [u64],
     s: State,
     t: &mut [u32],
     event: Event,
@@ -29,8 +30,8 @@ pub fn answered(
     out: &mut [u8],
     at: usize,
 ) -> Reply
-    requires { ⌜ (at + length (now t) * 9 + 20 ≤ length (now out)) × (formed ≡ wellFormed s (now t)) ⌝ }
-    ensures { λ r. ⌜ Through s (now (t .entry)) (telling event (now (rec .entry)) []) (r .state) (now (t .exit)) (now (out .entry)) (now (out .exit)) at (r .next) × (r .formed ≡ wellFormed (r .state) (now (t .exit))) ⌝ }
+    requires { ⌜ (at + length (now t) * 9 + 20 ≤ length (now out)) × Known s (now t) formed (now kept) ⌝ }
+    ensures { λ r. ⌜ Through s (now (t .entry)) (telling event (now (rec .entry)) []) (r .state) (now (t .exit)) (now (out .entry)) (now (out .exit)) at (r .next) × Known (r .state) (now (t .exit)) (r .formed) (now (kept .exit)) ⌝ }
 {
     match event {
         Event::Nothing => Reply {
@@ -38,7 +39,7 @@ pub fn answered(
             formed,
             next: at,
         },
-        Event::Record => crate::serve(formed, s, t, requests::read(rec), out, at),
+        Event::Record => crate::serve(formed, kept, s, t, requests::read(rec), out, at),
         Event::Unreadable => Reply {
             state: s,
             formed,
@@ -50,6 +51,7 @@ pub fn answered(
 // The turn.
 pub fn turn(
     formed: bool,
+    kept: &mut [u64],
     s: State,
     t: &mut [u32],
     skipping: bool,
@@ -57,13 +59,13 @@ pub fn turn(
     out: &mut [u8],
     at: usize,
 ) -> Progress
-    requires { ⌜ (at + length (now t) * 9 + 20 ≤ length (now out)) × (formed ≡ wellFormed s (now t)) ⌝ }
-    ensures { λ r. ⌜ Through s (now (t .entry)) (toldBy skipping (now (hand .entry))) (r .state) (now (t .exit)) (now (out .entry)) (now (out .exit)) at (r .next) × (r .skipping ≡ stepOf skipping (now (hand .entry)) .skipping) × (r .taken ≡ stepOf skipping (now (hand .entry)) .next) × (r .formed ≡ wellFormed (r .state) (now (t .exit))) ⌝ }
+    requires { ⌜ (at + length (now t) * 9 + 20 ≤ length (now out)) × Known s (now t) formed (now kept) ⌝ }
+    ensures { λ r. ⌜ Through s (now (t .entry)) (toldBy skipping (now (hand .entry))) (r .state) (now (t .exit)) (now (out .entry)) (now (out .exit)) at (r .next) × (r .skipping ≡ stepOf skipping (now (hand .entry)) .skipping) × (r .taken ≡ stepOf skipping (now (hand .entry)) .next) × Known (r .state) (now (t .exit)) (r .formed) (now (kept .exit)) ⌝ }
 {
     let step = stream::next_step(skipping, hand);
     let event = step.event;
     let length = step.length;
-    let done = answered(formed, s, t, event, &hand[..length], out, at);
+    let done = answered(formed, kept, s, t, event, &hand[..length], out, at);
     let state = done.state;
     Progress {
         state,

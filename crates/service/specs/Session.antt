@@ -10,9 +10,9 @@ use Rattle.stream.specs.Streams.{hasEnd}
 use Rattle.stream.specs.Steps.{left}
 use Rattle.stream.specs.StepLaws.{Waits}
 use Rattle.lines.specs.Puts.{Puts}
-use Rattle.state.specs.WellFormed.{wellFormed}
+use Rattle.state.specs.Known.{Known}
 use Rattle.member.specs.Open.{closedState}
-use Rattle.records.specs.FormedLaws.{closed-unformed}
+use Rattle.records.specs.KnownLaws.{known-closed}
 use Rattle.records.specs.Streams.{answersTo, output}
 use Rattle.service.specs.declared.work.Work.{Work}
 use Rattle.service.specs.declared.Session.{Session}
@@ -44,9 +44,9 @@ pub record Advanced (s : Session) (t x : List ℕ) (r : Session) (t′ x′ out 
       ≡ put ++ answersTo (r .work .state) t′ (left (r .work .skipping) (handIn x′ (r .work .from) (r .end) ++ more))
   pub ended : r .ended ≡ true → (came ≡ []) × (hasEnd (handIn x′ (r .work .from) (r .end)) ≡ false)
 
--- bytes that come leave it well formed or not
-pub refilled-formed : {w : Work} {end : ℕ} {x : List ℕ} {y : List ℕ} {r : Session} (t : List ℕ) → Refilled w end x y r → w .formed ≡ wellFormed (w .state) t → r .work .formed ≡ wellFormed (r .work .state) t
-refilled-formed t h e = rw (h .state, h .formed) e
+-- bytes that come leave what is known
+pub refilled-known : {w : Work} {end : ℕ} {x : List ℕ} {y : List ℕ} {r : Session} {t : List ℕ} {kept : List ℕ} → Refilled w end x y r → Known (w .state) t (w .formed) kept → Known (r .work .state) t (r .work .formed) kept
+refilled-known h k = rw (h .state, h .formed) k
 
 drop-take : (a e : ℕ) (l : List ℕ) → drop a (take e l) ≡ take (e - a) (drop a l)
 drop-take zero e l = let q : e - 0 ≡ e = omega arith in rw q refl
@@ -109,9 +109,9 @@ pub record Fresh (s : Session) : Type 0 where
   pub end : s .end ≡ 0
   pub ended : s .ended ≡ false
 
--- the state is not well formed then, whatever the table
-pub fresh-formed : (t : List ℕ) (s : Session) → Fresh s → s .work .formed ≡ wellFormed (s .work .state) t
-fresh-formed t s f = rw (f .state, f .formed) (sym (closed-unformed t))
+-- the state is not well formed then, whatever the table, and nothing need be kept
+pub fresh-known : (t kept : List ℕ) (s : Session) → Fresh s → Known (s .work .state) t (s .work .formed) kept
+fresh-known t kept s f = rw (f .state, f .formed) (known-closed t kept)
 
 pub so-far-none : (t x : List ℕ) (s : Session) → Fresh s → SoFar t s t x
 unfolding left

@@ -1,5 +1,5 @@
 // The service: records come in on standard input, and the lines that answer them go out on standard output.
-// Its memory is fixed: a table for ceilings up to 64, and a buffer each for input and output.
+// Its memory is fixed: a table for ceilings up to 64, the committees of its rounds, and a buffer each for input and output.
 pub mod input;
 pub mod work;
 
@@ -9,7 +9,7 @@ ghost use mathlib.Core.Path.{_≡_};
 ghost use mathlib.Core.Bool.{false};
 ghost use Prim.Native.Nat.{_+_, _*_, _≤_};
 ghost use lib.ListN.{length};
-ghost use Rattle.state.specs.WellFormed.{wellFormed};
+ghost use Rattle.state.specs.Known.{Known};
 ghost use Rattle.stream.specs.Streams.{hasEnd};
 ghost use Rattle.stream.specs.Steps.{left};
 ghost use Rattle.records.specs.Streams.{answersTo};
@@ -86,26 +86,26 @@ fn refill(w: Work, buf: &mut [u8], end: usize) -> Session
 }
 
 // Serves what is at hand, writes the answers out and goes on.
-fn advance(s: Session, t: &mut [u32], buf: &mut [u8], out: &mut [u8]) -> Session
-    requires { ⌜ (s .work .from ≤ s .end) × (s .end ≤ length (now buf)) × (s .work .next ≡ 0) × (length (now t) ≤ 17680) × (length (now t) * 9 + 20 ≤ length (now out)) × (length (now buf) ≤ 65536) × (s .work .formed ≡ wellFormed (s .work .state) (now t)) ⌝ }
-    ensures { λ r. ⌜ (r .work .from ≤ r .end) × (r .end ≤ length (now (buf .entry))) × (r .work .next ≡ 0) × Advanced s (now (t .entry)) (now (buf .entry)) r (now (t .exit)) (now (buf .exit)) (now (out .exit)) × (r .work .formed ≡ wellFormed (r .work .state) (now (t .exit))) ⌝ }
+fn advance(s: Session, kept: &mut [u64], t: &mut [u32], buf: &mut [u8], out: &mut [u8]) -> Session
+    requires { ⌜ (s .work .from ≤ s .end) × (s .end ≤ length (now buf)) × (s .work .next ≡ 0) × (length (now t) ≤ 17680) × (length (now t) * 9 + 20 ≤ length (now out)) × (length (now buf) ≤ 65536) × Known (s .work .state) (now t) (s .work .formed) (now kept) ⌝ }
+    ensures { λ r. ⌜ (r .work .from ≤ r .end) × (r .end ≤ length (now (buf .entry))) × (r .work .next ≡ 0) × Advanced s (now (t .entry)) (now (buf .entry)) r (now (t .exit)) (now (buf .exit)) (now (out .exit)) × Known (r .work .state) (now (t .exit)) (r .work .formed) (now (kept .exit)) ⌝ }
 {
     let end = s.end;
     let before = s.work;
-    let w = work::fill(before, t, &buf[..end], out);
+    let w = work::fill(before, kept, t, &buf[..end], out);
     flush(out, w.next);
     refill(w, buf, end)
 }
 
 // Serves until the input ends.
-fn serve_all(t: &mut [u32], buf: &mut [u8], out: &mut [u8]) -> Session
+fn serve_all(kept: &mut [u64], t: &mut [u32], buf: &mut [u8], out: &mut [u8]) -> Session
     requires { ⌜ (length (now t) ≤ 17680) × (length (now t) * 9 + 20 ≤ length (now out)) × (length (now buf) ≤ 65536) ⌝ }
-    ensures { λ r. ⌜ (r .work .from ≤ r .end) × (r .end ≤ length (now (buf .entry))) × SoFar (now (t .entry)) r (now (t .exit)) (now (buf .exit)) × (r .work .formed ≡ wellFormed (r .work .state) (now (t .exit))) ⌝ }
+    ensures { λ r. ⌜ (r .work .from ≤ r .end) × (r .end ≤ length (now (buf .entry))) × SoFar (now (t .entry)) r (now (t .exit)) (now (buf .exit)) × Known (r .work .state) (now (t .exit)) (r .work .formed) (now (kept .exit)) ⌝ }
 {
     let mut s = start();
     let mut turns = u64::MAX;
     while turns > 0 && !s.ended {
-        let after = advance(s, t, buf, out);
+        let after = advance(s, kept, t, buf, out);
         s = after;
         turns -= 1;
     }
@@ -113,8 +113,8 @@ fn serve_all(t: &mut [u32], buf: &mut [u8], out: &mut [u8]) -> Session
 }
 
 // Answers what is left at the end of input.
-fn conclude(s: Session, t: &mut [u32], buf: &[u8], out: &mut [u8])
-    requires { ⌜ (s .work .from ≤ s .end) × (s .end ≤ length (now buf)) × (length (now t) * 9 + 20 ≤ length (now out)) × (s .work .formed ≡ wellFormed (s .work .state) (now t)) ⌝ }
+fn conclude(s: Session, kept: &mut [u64], t: &mut [u32], buf: &[u8], out: &mut [u8])
+    requires { ⌜ (s .work .from ≤ s .end) × (s .end ≤ length (now buf)) × (length (now t) * 9 + 20 ≤ length (now out)) × Known (s .work .state) (now t) (s .work .formed) (now kept) ⌝ }
     ensures { λ _. ⌜ (hasEnd (handIn (now (buf .entry)) (s .work .from) (s .end)) ≡ false → Begins (now (out .exit)) (answersTo (s .work .state) (now (t .entry)) (left (s .work .skipping) (handIn (now (buf .entry)) (s .work .from) (s .end))))) ⌝ }
 {
     let end = s.end;
@@ -122,15 +122,16 @@ fn conclude(s: Session, t: &mut [u32], buf: &[u8], out: &mut [u8])
     let from = w.from;
     let state = w.state;
     let hand = input::rest(&buf[..end], from);
-    let n = work::finish(w.formed, state, t, w.skipping, hand, out);
+    let n = work::finish(w.formed, kept, state, t, w.skipping, hand, out);
     flush(out, n);
 }
 
 // The service.
 pub fn run() {
+    let mut kept = [0u64; 1040];
     let mut table = [0u32; 17680];
     let mut buf = [0u8; 65536];
     let mut out = [0u8; 262144];
-    let s = serve_all(&mut table, &mut buf, &mut out);
-    conclude(s, &mut table, &buf, &mut out);
+    let s = serve_all(&mut kept, &mut table, &mut buf, &mut out);
+    conclude(s, &mut kept, &mut table, &buf, &mut out);
 }

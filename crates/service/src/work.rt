@@ -6,7 +6,7 @@ ghost use mathlib.Core.Path.{_≡_};
 ghost use mathlib.Core.Bool.{true, false};
 ghost use Prim.Native.Nat.{_+_, _*_, _≤_};
 ghost use lib.ListN.{length, take, drop};
-ghost use Rattle.state.specs.WellFormed.{wellFormed};
+ghost use Rattle.state.specs.Known.{Known};
 ghost use Rattle.stream.specs.Streams.{hasEnd};
 ghost use Rattle.stream.specs.StepLaws.{Waits};
 ghost use Rattle.lines.specs.Puts.{Puts};
@@ -25,9 +25,9 @@ pub struct Work {
 }
 
 // Turns until more bytes or more room are wanted.
-pub fn fill(w: Work, t: &mut [u32], hand: &[u8], out: &mut [u8]) -> Work
-    requires { ⌜ (w .from ≤ length (now hand)) × (length (now hand) ≤ 65536) × (length (now t) ≤ 17680) × (length (now t) * 9 + 20 ≤ length (now out)) × (w .next ≤ length (now out)) × (w .formed ≡ wellFormed (w .state) (now t)) ⌝ }
-    ensures { λ r. ⌜ Goes (w .state) (now (t .entry)) (w .skipping) (drop (w .from) (now (hand .entry))) (r .state) (now (t .exit)) (r .skipping) (drop (r .from) (now (hand .entry))) (now (out .entry)) (now (out .exit)) (w .next) (r .next) × (r .from ≤ length (now (hand .entry))) × (r .next ≤ length (now (out .entry))) × (r .waits ≡ true → Waits (drop (r .from) (now (hand .entry)))) × (r .formed ≡ wellFormed (r .state) (now (t .exit))) ⌝ }
+pub fn fill(w: Work, kept: &mut [u64], t: &mut [u32], hand: &[u8], out: &mut [u8]) -> Work
+    requires { ⌜ (w .from ≤ length (now hand)) × (length (now hand) ≤ 65536) × (length (now t) ≤ 17680) × (length (now t) * 9 + 20 ≤ length (now out)) × (w .next ≤ length (now out)) × Known (w .state) (now t) (w .formed) (now kept) ⌝ }
+    ensures { λ r. ⌜ Goes (w .state) (now (t .entry)) (w .skipping) (drop (w .from) (now (hand .entry))) (r .state) (now (t .exit)) (r .skipping) (drop (r .from) (now (hand .entry))) (now (out .entry)) (now (out .exit)) (w .next) (r .next) × (r .from ≤ length (now (hand .entry))) × (r .next ≤ length (now (out .entry))) × (r .waits ≡ true → Waits (drop (r .from) (now (hand .entry)))) × Known (r .state) (now (t .exit)) (r .formed) (now (kept .exit)) ⌝ }
 {
     let last = out.len() - (t.len() * 9 + 20);
     let mut state = w.state;
@@ -37,7 +37,7 @@ pub fn fill(w: Work, t: &mut [u32], hand: &[u8], out: &mut [u8]) -> Work
     let mut next = w.next;
     while next <= last {
         let left = crate::input::rest(hand, from);
-        let p = records::turn::turn(formed, state, t, skipping, left, out, next);
+        let p = records::turn::turn(formed, kept, state, t, skipping, left, out, next);
         let after = p.state;
         state = after;
         formed = p.formed;
@@ -68,16 +68,17 @@ pub fn fill(w: Work, t: &mut [u32], hand: &[u8], out: &mut [u8]) -> Work
 // At the end of input: what the bytes that are left are answered. Gives the next place of the output buffer.
 pub fn finish(
     formed: bool,
+    kept: &mut [u64],
     s: State,
     t: &mut [u32],
     skipping: bool,
     hand: &[u8],
     out: &mut [u8],
 ) -> usize
-    requires { ⌜ (length (now t) * 9 + 20 ≤ length (now out)) × (formed ≡ wellFormed s (now t)) ⌝ }
+    requires { ⌜ (length (now t) * 9 + 20 ≤ length (now out)) × Known s (now t) formed (now kept) ⌝ }
     ensures { λ r. ⌜ (r ≤ length (now (out .entry))) × (hasEnd (now (hand .entry)) ≡ false → Puts (now (out .entry)) (now (out .exit)) 0 r (answersTo s (now (t .entry)) (left skipping (now (hand .entry)))) (length (now (t .entry)) * 9 + 20)) ⌝ }
 {
     let event = stream::last(skipping, hand);
-    let reply = records::turn::answered(formed, s, t, event, &hand[..0], out, 0);
+    let reply = records::turn::answered(formed, kept, s, t, event, &hand[..0], out, 0);
     reply.next
 }

@@ -1,227 +1,203 @@
 use native.Mathlib.Omega.{arith}
 use mathlib.Core.Path.{refl}
-use Rattle.requests.specs.declared.Kind.the-variants.{Unreadable, Open, Propose, Endorse, Certify, Accept, Advance, Chain}
-use Rattle.records.specs.TurnLaws.{served-by, told-by, counted-by}
+use Rattle.requests.specs.declared.Kind.the-variants.{Unreadable, Open, Propose, Endorse, Certify, Accept, Advance, Commit, Chain}
+use Rattle.member.specs.Steps as steps
+use Rattle.records.specs.TurnLaws.{served-by, told-by}
+use Rattle.records.specs.Turns.{proposalIn, certificateIn}
 use borrow.Author.Needs.{needs}
 use Rattle.records.proofs.serve.Statement.{statement}
 use Rattle.records.proofs.serve.Tie as tie
 use Rattle.records.proofs.serve.Reads as reads
 use Rattle.records.proofs.serve.Lts as lts
-use Rattle.commit.proofs.commit_known.Reads as commit-known-reads
 use Rattle.lines.proofs.put_refused.Reads as put-refused-reads
 use Rattle.member.proofs.accept.accept_known.Reads as accept-known-reads
 use Rattle.member.proofs.advance.advance_known.Reads as advance-known-reads
 use Rattle.member.proofs.certify.certify_known.Reads as certify-known-reads
 use Rattle.member.proofs.endorse.endorse_known.Reads as endorse-known-reads
-use Rattle.member.proofs.open.open.Reads as open-reads
 use Rattle.member.proofs.propose.propose_known.Reads as propose-known-reads
-use Rattle.records.proofs.counted.Reads as counted-reads
+use Rattle.records.proofs.committed.Reads as committed-reads
 use Rattle.records.proofs.listed.Reads as listed-reads
+use Rattle.records.proofs.opened.Reads as opened-reads
 use Rattle.records.proofs.told.Reads as told-reads
 
--- src/lib.rt:71:71
 enum-told : tie.Need-enum-told
 enum-told c = search needs
 
--- src/lib.rt:71:52
 put-refused-requires : tie.Need-put-refused-requires
 put-refused-requires c κs = search needs
 
--- src/lib.rt:72:50
 enum-told-2 : tie.Need-enum-told-2
 enum-told-2 c = search needs
 
--- src/lib.rt:72:28
-open-requires : tie.Need-open-requires
-open-requires c κs = search needs
+opened-requires : tie.Need-opened-requires
+opened-requires c κs = search needs
 
--- src/lib.rt:72:23
-told-requires : tie.Need-told-requires
-told-requires c κs = search needs
-
--- src/lib.rt:73:59
 enum-told-3 : tie.Need-enum-told-3
 enum-told-3 c = search needs
 
--- src/lib.rt:73:31
 propose-known-requires : tie.Need-propose-known-requires
 propose-known-requires c κs = search needs
 
--- src/lib.rt:73:26
-told-requires-2 : tie.Need-told-requires-2
-told-requires-2 c κs = search needs
+told-requires : tie.Need-told-requires
+told-requires c κs = search needs
 
--- src/lib.rt:74:59
 enum-told-4 : tie.Need-enum-told-4
 enum-told-4 c = search needs
 
--- src/lib.rt:74:31
 endorse-known-requires : tie.Need-endorse-known-requires
 endorse-known-requires c κs = search needs
 
--- src/lib.rt:74:26
-told-requires-3 : tie.Need-told-requires-3
-told-requires-3 c κs = search needs
+told-requires-2 : tie.Need-told-requires-2
+told-requires-2 c κs = search needs
 
--- src/lib.rt:75:59
 enum-told-5 : tie.Need-enum-told-5
 enum-told-5 c = search needs
 
--- src/lib.rt:75:31
 certify-known-requires : tie.Need-certify-known-requires
 certify-known-requires c κs = search needs
 
--- src/lib.rt:75:26
-told-requires-4 : tie.Need-told-requires-4
-told-requires-4 c κs = search needs
+told-requires-3 : tie.Need-told-requires-3
+told-requires-3 c κs = search needs
 
--- src/lib.rt:76:56
 enum-told-6 : tie.Need-enum-told-6
 enum-told-6 c = search needs
 
--- src/lib.rt:76:30
 accept-known-requires : tie.Need-accept-known-requires
 accept-known-requires c κs = search needs
 
--- src/lib.rt:76:25
-told-requires-5 : tie.Need-told-requires-5
-told-requires-5 c κs = search needs
+told-requires-4 : tie.Need-told-requires-4
+told-requires-4 c κs = search needs
 
--- src/lib.rt:77:59
 enum-told-7 : tie.Need-enum-told-7
 enum-told-7 c = search needs
 
--- src/lib.rt:77:31
 advance-known-requires : tie.Need-advance-known-requires
 advance-known-requires c κs = search needs
 
--- src/lib.rt:77:26
-told-requires-6 : tie.Need-told-requires-6
-told-requires-6 c κs = search needs
+told-requires-5 : tie.Need-told-requires-5
+told-requires-5 c κs = search needs
 
--- src/lib.rt:78:51
 enum-told-8 : tie.Need-enum-told-8
 enum-told-8 c = search needs
 
--- src/lib.rt:78:33
-commit-known-requires : tie.Need-commit-known-requires
-commit-known-requires c κs = search needs
+committed-requires : tie.Need-committed-requires
+committed-requires c κs = search needs
 
--- src/lib.rt:78:25
-counted-requires : tie.Need-counted-requires
-counted-requires c κs = search needs
-
--- src/lib.rt:79:57
 enum-told-9 : tie.Need-enum-told-9
 enum-told-9 c = search needs
 
--- src/lib.rt:79:47
 listed-requires : tie.Need-listed-requires
-listed-requires c κs = search needs
+listed-requires c κs = (c .before .before .before .before .before .before .before .before .before .before .before .pre .0, c .before .before .before .before .before .before .before .before .before .before .before .pre .1 .form)
 
--- src/lib.rt:59:1
 same-length : tie.Need-same-length
 same-length c = search needs
 
--- src/lib.rt:59:1
 returns : tie.Need-returns
-returns c = served-by Unreadable (c .before .before .before .before .enum-told .given .1) refl refl (c .before .before .before .before .before .before .before .before .before .before .before .before .pre .1) (omega arith) (c .before .before .put-refused .ensures) (omega (arith, c .before .before .before .before .before .before .before .before .before .before .before .before .good .1 .0)) (omega (arith, c .before .before .before .before .before .before .before .before .before .before .before .before .good .1 .1 .1 .0))
+returns c = (served-by Unreadable (c .before .before .before .before .enum-told .given .1) refl refl (omega arith) (c .before .before .put-refused .ensures), c .before .before .before .before .before .before .before .before .before .before .before .before .before .pre .1)
 
--- src/lib.rt:59:1
 same-length-2 : tie.Need-same-length-2
 same-length-2 c = search needs
 
--- src/lib.rt:59:1
 same-length-3 : tie.Need-same-length-3
 same-length-3 c = search needs
 
--- src/lib.rt:59:1
-returns-2 : tie.Need-returns-2
-returns-2 c = told-by Open (c .before .before .before .before .before .before .before .before .enum-told2 .given .1) (c .before .before .before .before .before .before .«open» .ensures .0) refl refl refl (c .before .before .before .before .before .before .«open» .ensures .1) (c .before .before .before .before .before .before .before .before .before .before .before .before .before .before .before .before .pre .1) (c .before .before .told .ensures) (omega (arith, c .before .before .before .before .before .before .before .before .before .before .before .before .before .before .before .before .good .1 .0)) (omega (arith, c .before .before .before .before .before .before .before .before .before .before .before .before .before .before .before .before .good .1 .1 .1 .0))
-
--- src/lib.rt:59:1
 same-length-4 : tie.Need-same-length-4
 same-length-4 c = search needs
 
--- src/lib.rt:59:1
+returns-2 : tie.Need-returns-2
+returns-2 c =
+    let e = c .before .before .before .before .before .before .opened .ensures in
+    (served-by Open (c .before .before .before .before .before .before .before .before .before .before .enum-told2 .given .1) (e .0) (e .1) (omega arith) (e .2), e .3)
+
 same-length-5 : tie.Need-same-length-5
 same-length-5 c = search needs
 
--- src/lib.rt:59:1
-returns-3 : tie.Need-returns-3
-returns-3 c = told-by Propose (c .before .before .before .before .before .before .enum-told3 .given .1) (c .before .before .before .before .propose-known .ensures) refl refl refl refl (c .before .before .before .before .before .before .before .before .before .before .before .before .before .before .pre .1) (c .before .before .told2 .ensures) (omega (arith, c .before .before .before .before .before .before .before .before .before .before .before .before .before .before .good .1 .0)) (omega (arith, c .before .before .before .before .before .before .before .before .before .before .before .before .before .before .good .1 .1 .1 .0))
-
--- src/lib.rt:59:1
 same-length-6 : tie.Need-same-length-6
 same-length-6 c = search needs
 
--- src/lib.rt:59:1
 same-length-7 : tie.Need-same-length-7
 same-length-7 c = search needs
 
--- src/lib.rt:59:1
-returns-4 : tie.Need-returns-4
-returns-4 c = told-by Endorse (c .before .before .before .before .before .before .before .before .enum-told4 .given .1) (c .before .before .before .before .before .before .endorse-known .ensures .0) refl refl refl (c .before .before .before .before .before .before .endorse-known .ensures .1) (c .before .before .before .before .before .before .before .before .before .before .before .before .before .before .before .before .pre .1) (c .before .before .told3 .ensures) (omega (arith, c .before .before .before .before .before .before .before .before .before .before .before .before .before .before .before .before .good .1 .0)) (omega (arith, c .before .before .before .before .before .before .before .before .before .before .before .before .before .before .before .before .good .1 .1 .1 .0))
+returns-3 : tie.Need-returns-3
+returns-3 c =
+    let a = c .before .before .before .before .before .before .before .before .before .before .before .before .before .before .before .before .args in
+    told-by Propose (steps.propose (a .q .body)) (c .before .before .before .before .before .before .before .enum-told3 .given .1) refl (omega (arith, c .before .before .before .before .before .before .before .before .before .before .before .before .before .before .before .before .good .1 .1 .1 .1 .0)) refl refl refl (c .before .before .before .before .before .before .before .before .before .before .before .before .before .before .before .before .pre .1) (c .before .before .before .before .propose-known .ensures) refl (c .before .before .told .ensures)
 
--- src/lib.rt:59:1
 same-length-8 : tie.Need-same-length-8
 same-length-8 c = search needs
 
--- src/lib.rt:59:1
 same-length-9 : tie.Need-same-length-9
 same-length-9 c = search needs
 
--- src/lib.rt:59:1
-returns-5 : tie.Need-returns-5
-returns-5 c = told-by Certify (c .before .before .before .before .before .before .before .before .enum-told5 .given .1) (c .before .before .before .before .before .before .certify-known .ensures .0) refl refl refl (c .before .before .before .before .before .before .certify-known .ensures .1) (c .before .before .before .before .before .before .before .before .before .before .before .before .before .before .before .before .pre .1) (c .before .before .told4 .ensures) (omega (arith, c .before .before .before .before .before .before .before .before .before .before .before .before .before .before .before .before .good .1 .0)) (omega (arith, c .before .before .before .before .before .before .before .before .before .before .before .before .before .before .before .before .good .1 .1 .1 .0))
-
--- src/lib.rt:59:1
 same-length-10 : tie.Need-same-length-10
 same-length-10 c = search needs
 
--- src/lib.rt:59:1
+returns-4 : tie.Need-returns-4
+returns-4 c =
+    let a = c .before .before .before .before .before .before .before .before .before .before .before .before .before .before .before .before .before .before .args in
+    told-by Endorse (steps.endorse (proposalIn (a .q))) (c .before .before .before .before .before .before .before .before .before .enum-told4 .given .1) refl (omega (arith, c .before .before .before .before .before .before .before .before .before .before .before .before .before .before .before .before .before .before .good .1 .1 .1 .1 .0)) refl refl refl (c .before .before .before .before .before .before .before .before .before .before .before .before .before .before .before .before .before .before .pre .1) (c .before .before .before .before .before .before .endorse-known .ensures .0) (c .before .before .before .before .before .before .endorse-known .ensures .1) (c .before .before .told2 .ensures)
+
 same-length-11 : tie.Need-same-length-11
 same-length-11 c = search needs
 
--- src/lib.rt:59:1
-returns-6 : tie.Need-returns-6
-returns-6 c = told-by Accept (c .before .before .before .before .before .before .before .before .enum-told6 .given .1) (c .before .before .before .before .before .before .accept-known .ensures .0) refl refl refl (c .before .before .before .before .before .before .accept-known .ensures .1) (c .before .before .before .before .before .before .before .before .before .before .before .before .before .before .before .before .pre .1) (c .before .before .told5 .ensures) (omega (arith, c .before .before .before .before .before .before .before .before .before .before .before .before .before .before .before .before .good .1 .0)) (omega (arith, c .before .before .before .before .before .before .before .before .before .before .before .before .before .before .before .before .good .1 .1 .1 .0))
-
--- src/lib.rt:59:1
 same-length-12 : tie.Need-same-length-12
 same-length-12 c = search needs
 
--- src/lib.rt:59:1
 same-length-13 : tie.Need-same-length-13
 same-length-13 c = search needs
 
--- src/lib.rt:59:1
-returns-7 : tie.Need-returns-7
-returns-7 c = told-by Advance (c .before .before .before .before .before .before .enum-told7 .given .1) (c .before .before .before .before .advance-known .ensures) refl refl refl refl (c .before .before .before .before .before .before .before .before .before .before .before .before .before .before .pre .1) (c .before .before .told6 .ensures) (omega (arith, c .before .before .before .before .before .before .before .before .before .before .before .before .before .before .good .1 .0)) (omega (arith, c .before .before .before .before .before .before .before .before .before .before .before .before .before .before .good .1 .1 .1 .0))
+returns-5 : tie.Need-returns-5
+returns-5 c =
+    let a = c .before .before .before .before .before .before .before .before .before .before .before .before .before .before .before .before .before .before .args in
+    told-by Certify (steps.certify (a .q .endorsers)) (c .before .before .before .before .before .before .before .before .before .enum-told5 .given .1) refl (omega (arith, c .before .before .before .before .before .before .before .before .before .before .before .before .before .before .before .before .before .before .good .1 .1 .0)) refl refl refl (c .before .before .before .before .before .before .before .before .before .before .before .before .before .before .before .before .before .before .pre .1) (c .before .before .before .before .before .before .certify-known .ensures .0) (c .before .before .before .before .before .before .certify-known .ensures .1) (c .before .before .told3 .ensures)
 
--- src/lib.rt:59:1
 same-length-14 : tie.Need-same-length-14
 same-length-14 c = search needs
 
--- src/lib.rt:59:1
 same-length-15 : tie.Need-same-length-15
 same-length-15 c = search needs
 
--- src/lib.rt:59:1
-returns-8 : tie.Need-returns-8
-returns-8 c = counted-by (c .before .before .before .before .before .before .before .before .enum-told8 .given .1) (c .before .before .before .before .before .before .commit-known .ensures .0) (c .before .before .before .before .before .before .commit-known .ensures .1) (c .before .before .before .before .before .before .before .before .before .before .before .before .before .before .before .before .pre .1) (c .before .before .counted .ensures) (omega (arith, c .before .before .before .before .before .before .before .before .before .before .before .before .before .before .before .before .good .1 .0)) (omega (arith, c .before .before .before .before .before .before .before .before .before .before .before .before .before .before .before .before .good .1 .1 .1 .0))
-
--- src/lib.rt:59:1
 same-length-16 : tie.Need-same-length-16
 same-length-16 c = search needs
 
--- src/lib.rt:59:1
+returns-6 : tie.Need-returns-6
+returns-6 c =
+    let a = c .before .before .before .before .before .before .before .before .before .before .before .before .before .before .before .before .before .before .args in
+    told-by Accept (steps.accept (certificateIn (a .q))) (c .before .before .before .before .before .before .before .before .before .enum-told6 .given .1) refl (omega (arith, c .before .before .before .before .before .before .before .before .before .before .before .before .before .before .before .before .before .before .good .1 .1 .1 .1 .0)) refl refl refl (c .before .before .before .before .before .before .before .before .before .before .before .before .before .before .before .before .before .before .pre .1) (c .before .before .before .before .before .before .accept-known .ensures .0) (c .before .before .before .before .before .before .accept-known .ensures .1) (c .before .before .told4 .ensures)
+
 same-length-17 : tie.Need-same-length-17
 same-length-17 c = search needs
 
--- src/lib.rt:59:1
+same-length-18 : tie.Need-same-length-18
+same-length-18 c = search needs
+
+returns-7 : tie.Need-returns-7
+returns-7 c =
+    let a = c .before .before .before .before .before .before .before .before .before .before .before .before .before .before .before .args in
+    told-by Advance (steps.advance) (c .before .before .before .before .before .before .enum-told7 .given .1) refl (omega arith) refl refl refl (c .before .before .before .before .before .before .before .before .before .before .before .before .before .before .before .pre .1) (c .before .before .before .before .advance-known .ensures) refl (c .before .before .told5 .ensures)
+
+same-length-19 : tie.Need-same-length-19
+same-length-19 c = search needs
+
+same-length-20 : tie.Need-same-length-20
+same-length-20 c = search needs
+
+same-length-21 : tie.Need-same-length-21
+same-length-21 c = search needs
+
+returns-8 : tie.Need-returns-8
+returns-8 c =
+    let e = c .before .before .before .before .before .before .committed .ensures in
+    (served-by Commit (c .before .before .before .before .before .before .before .before .before .before .enum-told8 .given .1) (e .0) (e .1) (omega arith) (e .2), e .3)
+
+same-length-22 : tie.Need-same-length-22
+same-length-22 c = search needs
+
+same-length-23 : tie.Need-same-length-23
+same-length-23 c = search needs
+
 returns-9 : tie.Need-returns-9
-returns-9 c = served-by Chain (c .before .before .before .before .before .enum-told9 .given .1) refl refl (c .before .before .before .before .before .before .before .before .before .before .before .before .before .pre .1) (omega arith) (c .before .before .listed .ensures) (omega (arith, c .before .before .before .before .before .before .before .before .before .before .before .before .before .good .1 .0)) (omega (arith, c .before .before .before .before .before .before .before .before .before .before .before .before .before .good .1 .1 .1 .0))
+returns-9 c = (served-by Chain (c .before .before .before .before .before .enum-told9 .given .1) refl refl (omega arith) (c .before .before .listed .ensures), c .before .before .before .before .before .before .before .before .before .before .before .before .before .before .pre .1)
 
 pub serve-spec : {M : Type 1} → statement M
 serve-spec =
@@ -230,51 +206,55 @@ serve-spec =
     enum-told
     put-refused-requires
     enum-told-2
-    open-requires
-    told-requires
+    opened-requires
     enum-told-3
     propose-known-requires
-    told-requires-2
+    told-requires
     enum-told-4
     endorse-known-requires
-    told-requires-3
+    told-requires-2
     enum-told-5
     certify-known-requires
-    told-requires-4
+    told-requires-3
     enum-told-6
     accept-known-requires
-    told-requires-5
+    told-requires-4
     enum-told-7
     advance-known-requires
-    told-requires-6
+    told-requires-5
     enum-told-8
-    commit-known-requires
-    counted-requires
+    committed-requires
     enum-told-9
     listed-requires
     same-length
     returns
     same-length-2
     same-length-3
-    returns-2
     same-length-4
+    returns-2
     same-length-5
-    returns-3
     same-length-6
     same-length-7
-    returns-4
+    returns-3
     same-length-8
     same-length-9
-    returns-5
     same-length-10
+    returns-4
     same-length-11
-    returns-6
     same-length-12
     same-length-13
-    returns-7
+    returns-5
     same-length-14
     same-length-15
-    returns-8
     same-length-16
+    returns-6
     same-length-17
+    same-length-18
+    returns-7
+    same-length-19
+    same-length-20
+    same-length-21
+    returns-8
+    same-length-22
+    same-length-23
     returns-9)

@@ -13,14 +13,14 @@ use Rattle.service.proofs.work.finish.Reads as finish-reads
 -- src/lib.rt:121:28
 slice-aggregate-rest : tie.Need-slice-aggregate-rest
 slice-aggregate-rest c =
-    let a = c .before .before .before .before .before .before .args in
-    sym (length-take-le (a .s .end) (a .buf .now) (c .before .before .before .before .before .before .pre .1))
+    let a = c .before .before .before .before .before .before .before .args in
+    sym (length-take-le (a .s .end) (a .buf .now) (c .before .before .before .before .before .before .before .pre .1))
 
 -- src/lib.rt:121:9
 rest-requires : tie.Need-rest-requires
 rest-requires c κs =
-    let a = c .before .before .before .before .before .before .args in
-    rw (length-take-le (a .s .end) (a .buf .now) (c .before .before .before .before .before .before .pre .1)) (c .before .before .before .before .before .before .pre .0)
+    let a = c .before .before .before .before .before .before .before .args in
+    rw (length-take-le (a .s .end) (a .buf .now) (c .before .before .before .before .before .before .before .pre .1)) (c .before .before .before .before .before .before .before .pre .0)
 
 -- src/lib.rt:122:9
 finish-requires : tie.Need-finish-requires
@@ -38,11 +38,14 @@ same-length c = search needs
 same-length-2 : tie.Need-same-length-2
 same-length-2 c = search needs
 
+same-length-3 : tie.Need-same-length-3
+same-length-3 c = search needs
+
 -- src/lib.rt:113:1
 returns : tie.Need-returns
 returns c =
-    let f = c .before .before .before .before .before .before .finish .ensures in
-    let q = c .before .before .before .before .before .before .before .before .before .rest .ensures in
+    let f = c .before .before .before .before .before .before .before .before .finish .ensures in
+    let q = c .before .before .before .before .before .before .before .before .before .before .before .before .rest .ensures in
     λ e. put-first (f .0) (rw q at (f .1 (rw q e)))
 
 pub conclude-spec : {M : Type 1} → statement M
@@ -55,4 +58,5 @@ conclude-spec =
     flush-requires
     same-length
     same-length-2
+    same-length-3
     returns)

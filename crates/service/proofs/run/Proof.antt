@@ -22,6 +22,9 @@ slice-aggregate-serve-all-2 c = search needs
 slice-aggregate-serve-all-3 : tie.Need-slice-aggregate-serve-all-3
 slice-aggregate-serve-all-3 c = search needs
 
+slice-aggregate-serve-all-4 : tie.Need-slice-aggregate-serve-all-4
+slice-aggregate-serve-all-4 c = search needs
+
 -- src/lib.rt:131:9
 serve-all-requires : tie.Need-serve-all-requires
 serve-all-requires c κs =
@@ -42,14 +45,17 @@ slice-aggregate-conclude-2 c = search needs
 slice-aggregate-conclude-3 : tie.Need-slice-aggregate-conclude-3
 slice-aggregate-conclude-3 c = search needs
 
+slice-aggregate-conclude-4 : tie.Need-slice-aggregate-conclude-4
+slice-aggregate-conclude-4 c = search needs
+
 -- src/lib.rt:132:5
 conclude-requires : tie.Need-conclude-requires
 conclude-requires c κs =
-    let u = c .before .before .before .before .before .before .serve-all in
+    let u = c .before .before .before .before .before .before .before .before .serve-all in
     let e = u .ensures in
-    let t : length (u .last .0) ≡ 17680 = u .kept .0 ∙ length-replicate {A = ℕ} 17680 0 in
-    let o : length (u .last .1 .1 .0) ≡ 262144 = u .kept .1 .1 .0 ∙ length-replicate {A = ℕ} 262144 0 in
-    (e .0, rw (u .kept .1 .0) (e .1), omega (arith, t, o), e .3)
+    let t : length (u .last .1 .0) ≡ 17680 = u .kept .1 .0 ∙ length-replicate {A = ℕ} 17680 0 in
+    let o : length (u .last .1 .1 .1 .0) ≡ 262144 = u .kept .1 .1 .1 .0 ∙ length-replicate {A = ℕ} 262144 0 in
+    (e .0, rw (u .kept .1 .1 .0) (e .1), omega (arith, t, o), e .3)
 
 -- src/lib.rt:127:1
 returns : tie.Need-returns
@@ -62,9 +68,11 @@ run-spec =
     slice-aggregate-serve-all
     slice-aggregate-serve-all-2
     slice-aggregate-serve-all-3
+    slice-aggregate-serve-all-4
     serve-all-requires
     slice-aggregate-conclude
     slice-aggregate-conclude-2
     slice-aggregate-conclude-3
+    slice-aggregate-conclude-4
     conclude-requires
     returns)

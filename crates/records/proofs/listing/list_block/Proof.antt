@@ -59,7 +59,7 @@ element-copy-out-p c = search needs
 -- src/listing.rt:50:5
 loop-holds : tie.Need-loop-holds Inv-loop μ-loop
 loop-holds c =
-    let f = c .before .before .before .before .before .pre .3 .heads (c .before .before .before .before .before .args .k + 1) (omega arith) in
+    let f = c .before .before .before .before .before .before .pre .3 .heads (c .before .before .before .before .before .before .args .k + 1) (omega arith) in
     (f .from, omega (arith, f .to), λ x. f .here (omega arith), refl, puts-none (places-first _ _ _ _ f))
 
 -- src/listing.rt:51:28
@@ -69,10 +69,10 @@ add-list-place c = search needs
 -- src/listing.rt:51:9
 list-place-requires : tie.Need-list-place-requires Inv-loop μ-loop
 list-place-requires c κs =
-    let a = c .before .before .before .before .before .before .before .before .args in
+    let a = c .before .before .before .before .before .before .before .before .before .args in
     let x = c .before .before .loop in
     let n = count-next (a .n .0 * 16 + 16) (x .inv .2 (omega arith)) (omega arith) in
-    (record { member = omega arith; row = omega arith }, omega (arith, n, c .before .before .before .before .before .before .before .before .pre .4, x .inv .3, x .inv .4 .past, x .inv .4 .room))
+    (record { member = omega arith; row = omega arith }, omega (arith, n, c .before .before .before .before .before .before .before .before .before .pre .4, x .inv .3, x .inv .4 .past, x .inv .4 .room))
 
 -- src/listing.rt:52:18
 cast-p-2 : tie.Need-cast-p-2 Inv-loop μ-loop
@@ -83,24 +83,24 @@ mul-p-2 : tie.Need-mul-p-2 Inv-loop μ-loop
 mul-p-2 c = search needs
 
 -- src/listing.rt:52:13
-element-copy-out-p-2 : tie.Need-element-copy-out-p-2 Inv-loop μ-loop
-element-copy-out-p-2 c = search needs
+shared-slice-read-p : tie.Need-shared-slice-read-p Inv-loop μ-loop
+shared-slice-read-p c = search needs
 
 -- src/listing.rt:50:5
 loop-less : tie.Need-loop-less Inv-loop μ-loop
 loop-less c =
-    let a = c .before .before .before .before .before .before .before .before .before .before .before .before .args in
+    let a = c .before .before .before .before .before .before .before .before .before .before .before .before .before .args in
     let x = c .before .before .before .before .before .before .loop in
-    let f = c .before .before .before .before .before .before .before .before .before .before .before .before .pre .3 .nexts (a .k + 1) (x .p) (omega arith) (omega arith) (omega arith) (x .inv .2 (omega arith)) in
+    let f = c .before .before .before .before .before .before .before .before .before .before .before .before .before .pre .3 .nexts (a .k + 1) (x .p) (omega arith) (omega arith) (omega arith) (x .inv .2 (omega arith)) in
     omega (arith, f .from)
 
 -- src/listing.rt:50:5
 loop-again : tie.Need-loop-again Inv-loop μ-loop
 loop-again c =
-    let a = c .before .before .before .before .before .before .before .before .before .before .before .before .args in
+    let a = c .before .before .before .before .before .before .before .before .before .before .before .before .before .args in
     let x = c .before .before .before .before .before .before .loop in
     let m = x .inv .2 (omega arith) in
-    let f = c .before .before .before .before .before .before .before .before .before .before .before .before .pre .3 .nexts (a .k + 1) (x .p) (omega arith) (omega arith) (omega arith) m in
+    let f = c .before .before .before .before .before .before .before .before .before .before .before .before .before .pre .3 .nexts (a .k + 1) (x .p) (omega arith) (omega arith) (omega arith) m in
     (omega (arith, f .from), omega (arith, f .to), λ y. f .here (omega arith), c .before .before .before .list-place .kept .1 .1 .1 .1 .1 .0 ∙ x .inv .3, puts-as (rw (c .before .before .before .before .before .before .before .before .block-round .ensures) (places-next _ _ _ _ _ (omega arith) m f)) (omega (arith, count-next _ m (f .from))) (puts-then (x .inv .4) (c .before .before .before .list-place .ensures)))
 
 -- src/listing.rt:34:1
@@ -111,7 +111,7 @@ same-length c = c .before .loop .inv .3
 returns : tie.Need-returns Inv-loop μ-loop
 returns c =
     let x = c .before .loop in
-    let a = c .before .before .before .before .before .before .before .args in
+    let a = c .before .before .before .before .before .before .before .before .args in
     let e : x .p ≡ a .n .0 * 16 + 16 = omega arith in
     puts-as (block-places (a .n .0) _ (a .k)) (omega arith) (rw e at (x .inv .4))
 
@@ -134,7 +134,7 @@ list-block-spec =
     list-place-requires
     cast-p-2
     mul-p-2
-    element-copy-out-p-2
+    shared-slice-read-p
     loop-less
     loop-again
     same-length

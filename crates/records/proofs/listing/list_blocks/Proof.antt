@@ -29,9 +29,9 @@ loop-holds c = (omega arith, refl, puts-none (chain-none _ _))
 -- src/listing.rt:73:9
 list-block-requires : tie.Need-list-block-requires Inv-loop μ-loop
 list-block-requires c κs =
-    let a = c .before .before .before .before .before .args in
+    let a = c .before .before .before .before .before .before .args in
     let x = c .before .before .loop in
-    let p = c .before .before .before .before .before .pre in
+    let p = c .before .before .before .before .before .before .pre in
     let m = count-more (a .n .0) (a .t .now) (x .k) in
     let l = count-all (a .n .0) (a .t .now) (x .k + 1) in
     (p .0, p .1, omega arith, p .3, omega (arith, m, l, p .4, x .inv .1, x .inv .2 .past, x .inv .2 .room))
@@ -47,7 +47,7 @@ loop-less c = search needs
 -- src/listing.rt:72:5
 loop-again : tie.Need-loop-again Inv-loop μ-loop
 loop-again c =
-    let a = c .before .before .before .before .before .before .before .before .args in
+    let a = c .before .before .before .before .before .before .before .before .before .args in
     let x = c .before .before .before .before .before .loop in
     (omega arith, c .before .before .list-block .kept .1 .1 .1 .1 .1 .0 ∙ x .inv .1, puts-as (chain-next _ _ (x .k)) (omega (arith, count-more (a .n .0) (a .t .now) (x .k))) (puts-then (x .inv .2) (c .before .before .list-block .ensures)))
 
@@ -59,7 +59,7 @@ same-length c = c .before .loop .inv .1
 returns : tie.Need-returns Inv-loop μ-loop
 returns c =
     let x = c .before .loop in
-    let e : x .k ≡ c .before .before .before .before .args .blocks = omega arith in
+    let e : x .k ≡ c .before .before .before .before .before .args .blocks = omega arith in
     rw e at (x .inv .2)
 
 pub list-blocks-spec : {M : Type 1} → statement M

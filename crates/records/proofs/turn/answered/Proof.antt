@@ -34,7 +34,7 @@ put-refused-requires c κs = search needs
 
 -- src/turn.rt:23:1
 returns : tie.Need-returns
-returns c = (through-nothing _ (c .enum-told .given .1), c .before .before .before .before .before .pre .1)
+returns c = (through-nothing _ (c .enum-told .given .1), c .before .before .before .before .before .before .pre .1)
 
 -- src/turn.rt:23:1
 same-length : tie.Need-same-length
@@ -45,16 +45,20 @@ same-length-2 : tie.Need-same-length-2
 same-length-2 c = search needs
 
 -- src/turn.rt:23:1
-returns-2 : tie.Need-returns-2
-returns-2 c = (through-record _ (c .before .before .before .before .before .before .before .before .enum-told2 .given .1) (c .before .before .before .before .before .before .read .ensures) (c .before .before .before .before .serve .ensures .0), c .before .before .before .before .serve .ensures .1)
-
--- src/turn.rt:23:1
 same-length-3 : tie.Need-same-length-3
 same-length-3 c = search needs
 
 -- src/turn.rt:23:1
+returns-2 : tie.Need-returns-2
+returns-2 c = (through-record _ (c .before .before .before .before .before .before .before .before .before .before .before .enum-told2 .given .1) (c .before .before .before .before .before .before .before .before .read .ensures) (c .before .before .before .before .before .before .serve .ensures .0), c .before .before .before .before .before .before .serve .ensures .1)
+
+-- src/turn.rt:23:1
+same-length-4 : tie.Need-same-length-4
+same-length-4 c = search needs
+
+-- src/turn.rt:23:1
 returns-3 : tie.Need-returns-3
-returns-3 c = (through-unreadable _ (c .before .before .before .before .enum-told3 .given .1) (c .before .before .put-refused .ensures), c .before .before .before .before .before .before .before .before .before .pre .1)
+returns-3 c = (through-unreadable _ (c .before .before .before .before .enum-told3 .given .1) (c .before .before .put-refused .ensures), c .before .before .before .before .before .before .before .before .before .before .pre .1)
 
 pub answered-spec : {M : Type 1} → statement M
 answered-spec =
@@ -69,6 +73,7 @@ answered-spec =
     returns
     same-length
     same-length-2
-    returns-2
     same-length-3
+    returns-2
+    same-length-4
     returns-3)

@@ -20,9 +20,9 @@ next-step-requires c κs = search needs
 -- src/turn.rt:43:38
 slice-aggregate-answered : tie.Need-slice-aggregate-answered
 slice-aggregate-answered c =
-    let a = c .before .before .before .before .before .before .args in
-    let h : c .before .before .next-step .result .length ≤ length (a .hand .now) = omega (arith, step-within (a .skipping) (a .hand .now) .length-to, ap (λ (z : Step). z .length) (c .before .before .next-step .ensures)) in
-    sym (length-take-le (c .before .before .next-step .result .length) (a .hand .now) h)
+    let a = c .before .before .before .before .before .before .before .before .args in
+    let h : c .before .before .before .next-step .result .length ≤ length (a .hand .now) = omega (arith, step-within (a .skipping) (a .hand .now) .length-to, ap (λ (z : Step). z .length) (c .before .before .before .next-step .ensures)) in
+    sym (length-take-le (c .before .before .before .next-step .result .length) (a .hand .now) h)
 
 -- src/turn.rt:43:9
 answered-requires : tie.Need-answered-requires
@@ -36,11 +36,14 @@ same-length c = search needs
 same-length-2 : tie.Need-same-length-2
 same-length-2 c = search needs
 
+same-length-3 : tie.Need-same-length-3
+same-length-3 c = search needs
+
 -- src/turn.rt:36:1
 returns : tie.Need-returns
 returns c =
-    let e = c .before .before .before .before .before .before .before .before .before .next-step .ensures in
-    (through-step _ _ e (c .before .before .before .before .before .answered .ensures .0), ap (λ (z : Step). z .skipping) e, ap (λ (z : Step). z .next) e, c .before .before .before .before .before .answered .ensures .1)
+    let e = c .before .before .before .before .before .before .before .before .before .before .before .before .next-step .ensures in
+    (through-step _ _ e (c .before .before .before .before .before .before .before .answered .ensures .0), ap (λ (z : Step). z .skipping) e, ap (λ (z : Step). z .next) e, c .before .before .before .before .before .before .before .answered .ensures .1)
 
 pub turn-spec : {M : Type 1} → statement M
 turn-spec =
@@ -51,4 +54,5 @@ turn-spec =
     answered-requires
     same-length
     same-length-2
+    same-length-3
     returns)

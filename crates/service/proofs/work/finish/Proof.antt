@@ -34,12 +34,15 @@ same-length c = search needs
 same-length-2 : tie.Need-same-length-2
 same-length-2 c = search needs
 
+same-length-3 : tie.Need-same-length-3
+same-length-3 c = search needs
+
 -- src/work.rt:62:1
 returns : tie.Need-returns
 returns c =
-    let a = c .before .before .before .before .before .before .before .before .before .before .before .before .args in
-    let p = c .before .before .before .before .answered .ensures .0 .its-lines in
-    (omega (arith, c .before .before .before .before .before .before .before .before .before .before .before .before .pre .0, p .past, p .room), λ e. puts-as (last-whole _ _ _ _ e ∙ ap (λ (z : Event). answersTo (a .s) (a .t .now) (telling z [] [])) (sym (c .before .before .before .before .before .before .before .before .last .ensures))) (omega arith) p)
+    let a = c .before .before .before .before .before .before .before .before .before .before .before .before .before .before .before .before .args in
+    let p = c .before .before .before .before .before .before .answered .ensures .0 .its-lines in
+    (omega (arith, c .before .before .before .before .before .before .before .before .before .before .before .before .before .before .before .before .pre .0, p .past, p .room), λ e. puts-as (last-whole _ _ _ _ e ∙ ap (λ (z : Event). answersTo (a .s) (a .t .now) (telling z [] [])) (sym (c .before .before .before .before .before .before .before .before .before .before .before .last .ensures))) (omega arith) p)
 
 pub finish-spec : {M : Type 1} → statement M
 finish-spec =
@@ -50,4 +53,5 @@ finish-spec =
     answered-requires
     same-length
     same-length-2
+    same-length-3
     returns)
