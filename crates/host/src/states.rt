@@ -67,7 +67,7 @@ fn kept_in(w: &[u32]) -> Body
     ensures { λ v. ⌜ v ≡ keptIn (now (w .entry)) ⌝ }
 {
     if w[21] == 0 {
-        return member::open::no_body();
+        return terms::bare_body(0);
     }
     crate::bodies::body_in(w, 23)
 }
@@ -103,7 +103,7 @@ fn kept(s: State) -> Body
     if s.proposing {
         return s.body;
     }
-    member::open::no_body()
+    terms::bare_body(0)
 }
 
 // Puts a state.

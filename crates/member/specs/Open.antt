@@ -7,7 +7,7 @@ use lib.Dec.{ltb}
 use Rattle.base.specs.Checks.{Checks, refusal}
 use Rattle.terms.specs.declared.Member.{Member}
 use Rattle.terms.specs.declared.Body.{Body}
-use Rattle.terms.specs.Transactions.{noTransaction}
+use Rattle.terms.specs.Proposals.{bareBody}
 use Rattle.store.specs.Table.{used}
 use Rattle.store.specs.Writes.{clearUsed}
 use Rattle.sheet.specs.declared.Settings.{Settings}
@@ -21,7 +21,7 @@ use Rattle.member.specs.Answers.{left, outcomeOf}
 
 -- no proposal
 abbrev pub noBody : Body
-noBody = record { previous = 0; count = 0; slots = replicate 4 (record { transaction = noTransaction }) }
+noBody = bareBody 0
 
 -- the state before an open: it is not well formed
 abbrev pub closedState : State

@@ -34,7 +34,7 @@ pub fn advance_known(formed: bool, s: State, t: &[u32]) -> Outcome
         };
     }
     let then = Round(s.round.0 + 1);
-    let none = crate::open::no_body();
+    let none = terms::bare_body(0);
     let mut next = s;
     next.round = then;
     next.proposing = false;

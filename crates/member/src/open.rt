@@ -4,27 +4,10 @@ use crate::Outcome;
 use sheet::Settings;
 use sheet::Sheet;
 use state::State;
-use terms::Body;
 use terms::Member;
 use terms::Round;
-use terms::Slot;
-use terms::Transaction;
 ghost use mathlib.Core.Path.{_≡_};
-ghost use Rattle.member.specs.Open.{noBody, closedState, freshState, openNumber, openOutcome, openTable};
-
-// No proposal.
-pub fn no_body() -> Body
-    ensures { λ b. ⌜ b ≡ noBody ⌝ }
-{
-    let slot = Slot {
-        transaction: Transaction::Bond(Member(0), 0),
-    };
-    Body {
-        previous: 0,
-        count: 0,
-        slots: [slot; 4],
-    }
-}
+ghost use Rattle.member.specs.Open.{closedState, freshState, openNumber, openOutcome, openTable};
 
 // The state before an open: it is not well formed, so every call but open answers 1.
 pub fn closed() -> State
@@ -40,7 +23,7 @@ pub fn closed() -> State
         },
         round: Round(0),
         proposing: false,
-        body: no_body(),
+        body: terms::bare_body(0),
         blocks: 0,
     }
 }
@@ -54,7 +37,7 @@ fn fresh(own: Member, settings: Settings) -> State
         settings,
         round: Round(1),
         proposing: false,
-        body: no_body(),
+        body: terms::bare_body(0),
         blocks: 0,
     }
 }

@@ -125,7 +125,7 @@ pub fn certificate(s: State, t: &[u32], m: Member, r: Round) -> CertificateRead
             proposal: Proposal {
                 author: Member(0),
                 round: Round(0),
-                body: member::open::no_body(),
+                body: terms::bare_body(0),
             },
             block: 0,
         };

@@ -9,11 +9,16 @@ use lib.ListN.{length, length-append}
 use borrow.Author.Tests.{le-ltb}
 use Rattle.terms.specs.declared.Transaction.{Transaction}
 use Rattle.terms.specs.declared.Body.{Body}
-use Rattle.terms.specs.Proposals.{transactionsOf, unfit}
+use Rattle.terms.specs.Proposals.{bareBody, transactionsOf, unfit}
 use Rattle.terms.specs.ProposalLaws.{length-transactions, four-slots, unfit-over}
 use Rattle.requests.specs.Triples.{before}
 use Rattle.requests.specs.Bodies.{bodyOf, push, pushAll, onto}
 use Rattle.requests.specs.Readings.{triplesOf}
+
+-- no transactions
+pub bare-of : (p : ℕ) → bareBody p ≡ bodyOf p []
+unfolding bodyOf
+bare-of p = refl
 
 push-body : (p : ℕ) (l : List Transaction) (x : Transaction) → push (bodyOf p l) x ≡ bodyOf p (l ++ (x ∷ []))
 unfolding push bodyOf

@@ -42,7 +42,7 @@ fn open_of(own: Member, sheet: Sheet) -> Reading
         sheet: sheet,
         author: Member(0),
         round: Round(0),
-        body: crate::triple::no_body(0),
+        body: terms::bare_body(0),
         endorsers: 0,
     }
 }
@@ -51,7 +51,7 @@ fn open_of(own: Member, sheet: Sheet) -> Reading
 fn plain(kind: Kind) -> Reading
     ensures { λ r. ⌜ r ≡ plainReading kind ⌝ }
 {
-    let none = crate::triple::no_body(0);
+    let none = terms::bare_body(0);
     call_of(kind, Member(0), Round(0), none, 0)
 }
 
@@ -78,7 +78,7 @@ fn read_triples(rec: &[u8], at: usize, previous: u16) -> Triples
     requires { ⌜ (at ≤ length (now rec) + 1) × (length (now rec) ≤ 1022) ⌝ }
     ensures { λ r. ⌜ r ≡ triplesOf previous (atKind (fieldsFrom (now (rec .entry)) at)) ⌝ }
 {
-    let none = crate::triple::no_body(previous);
+    let none = terms::bare_body(previous);
     crate::triple::from_kind(rec, at, none)
 }
 
@@ -207,7 +207,7 @@ pub fn read_certify(rec: &[u8], at: usize) -> Reading
     if e.next <= rec.len() {
         return unreadable();
     }
-    let none = crate::triple::no_body(0);
+    let none = terms::bare_body(0);
     call_of(Kind::Certify, Member(0), Round(0), none, endorsers as u16)
 }
 

@@ -1,35 +1,19 @@
 // Triples: kind, number and amount of a transaction, repeated until the record ends.
 use fields::number::Number;
 use terms::Body;
-use terms::Member;
 use terms::Slot;
 use terms::Transaction;
 ghost use mathlib.Core.Path.{_≡_};
-ghost use mathlib.Core.List.{[]};
 ghost use Prim.Native.Nat.{_<_};
 ghost use Rattle.fields.specs.Fields.{fieldsFrom};
 ghost use Rattle.fields.specs.Steps.{found};
 ghost use Rattle.requests.specs.Triples.{kindNamed, transaction, atKind, atNumber, atAmount};
-ghost use Rattle.requests.specs.Bodies.{bodyOf, push, onto, addedTo, Going, refusedTriples};
+ghost use Rattle.requests.specs.Bodies.{push, onto, addedTo, Going, refusedTriples};
 
 // What a run of triples comes to: a body, if all of them are readable.
 pub struct Triples {
     pub ok: bool,
     pub body: Body,
-}
-
-// A body with a previous set and no transactions.
-pub fn no_body(previous: u16) -> Body
-    ensures { λ r. ⌜ r ≡ bodyOf previous [] ⌝ }
-{
-    let slot = Slot {
-        transaction: Transaction::Bond(Member(0), 0),
-    };
-    Body {
-        previous: previous,
-        count: 0,
-        slots: [slot; 4],
-    }
 }
 
 // An unreadable run.
@@ -38,7 +22,7 @@ fn refused() -> Triples
 {
     Triples {
         ok: false,
-        body: no_body(0),
+        body: terms::bare_body(0),
     }
 }
 

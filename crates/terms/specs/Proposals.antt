@@ -2,7 +2,7 @@
 use mathlib.Core.Bool.{Bool, true, false, not, cond, _&&_, _||_}
 use mathlib.Core.List.{List, [], _∷_}
 use Prim.Native.Nat.{ℕ}
-use lib.ListN.{getD, length}
+use lib.ListN.{getD, length, replicate}
 use lib.Dec.{eqb, ltb}
 use Rattle.base.specs.Folds.{tab}
 use Rattle.base.specs.Sets.{isEmpty}
@@ -18,6 +18,10 @@ pub record Content : Type 0 where
   -- authors of certificates one round earlier
   pub previous : ℕ
   pub transactions : List Transaction
+
+-- a body with a previous set and no transactions
+abbrev pub bareBody : ℕ → Body
+bareBody p = record { previous = p; count = 0; slots = replicate 4 (record { transaction = noTransaction }) }
 
 -- slot k of a body
 unfoldable pub slotOf : Body → ℕ → Transaction

@@ -5,7 +5,7 @@ ghost use Prim.Native.Nat.{_<_, _≤_};
 ghost use lib.Dec.{leb, ltb};
 ghost use Rattle.base.specs.Folds.{allTo};
 ghost use Rattle.terms.specs.Transactions.{kindOf, numberOf, amountOf, readTransaction, sameTransaction, bondInRange, inRange};
-ghost use Rattle.terms.specs.Proposals.{slotOf, transactionsOf, unfit, wrongSet};
+ghost use Rattle.terms.specs.Proposals.{bareBody, slotOf, transactionsOf, unfit, wrongSet};
 
 // A member's number: 0 to 15.
 pub struct Member(pub u32);
@@ -42,6 +42,20 @@ pub struct Proposal {
 pub struct Certificate {
     pub proposal: Proposal,
     pub endorsers: u16,
+}
+
+// A body with a previous set and no transactions.
+pub fn bare_body(previous: u16) -> Body
+    ensures { λ b. ⌜ b ≡ bareBody previous ⌝ }
+{
+    let slot = Slot {
+        transaction: Transaction::Bond(Member(0), 0),
+    };
+    Body {
+        previous,
+        count: 0,
+        slots: [slot; 4],
+    }
 }
 
 // A transaction's kind as a number: 0 bond, 1 unbond, 2 entry.

@@ -7,11 +7,11 @@ use Rattle.reads.proofs.certificate.Tie as tie
 certificate-number-requires : tie.Need-certificate-number-requires
 certificate-number-requires c κs = search needs
 
-no-body-requires : tie.Need-no-body-requires
-no-body-requires c κs = search needs
+bare-body-requires : tie.Need-bare-body-requires
+bare-body-requires c κs = search needs
 
 returns : tie.Need-returns
-returns c = rw (c .no-body .ensures) (certificate-refused _ _ _ _ (c .before .before .certificate-number .ensures) (c .before .if1 .taken))
+returns c = rw (c .bare-body .ensures) (certificate-refused _ _ _ _ (c .before .before .certificate-number .ensures) (c .before .if1 .taken))
 
 proposal-at-requires : tie.Need-proposal-at-requires
 proposal-at-requires c κs = place-within _ _ (certificate-passed _ _ _ _ (sym (c .before .certificate-number .ensures) ∙ c .if1 .left))
@@ -27,7 +27,7 @@ certificate-spec =
     tie.close
     (tie.spec
     certificate-number-requires
-    no-body-requires
+    bare-body-requires
     returns
     proposal-at-requires
     mark-requires

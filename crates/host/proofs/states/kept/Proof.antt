@@ -5,7 +5,6 @@ use Rattle.host.proofs.states.kept.Statement.{statement}
 use Rattle.host.proofs.states.kept.Tie as tie
 use Rattle.host.proofs.states.kept.Reads as reads
 use Rattle.host.proofs.states.kept.Lts as lts
-use Rattle.member.proofs.open.no_body.Reads as no-body-reads
 
 -- src/states.rt:89:9
 returns : tie.Need-returns
@@ -13,13 +12,13 @@ unfolding keptOf
 returns c = rw (c .before .if1 .taken) refl
 
 -- src/states.rt:91:5
-no-body-requires : tie.Need-no-body-requires
-no-body-requires c κs = search needs
+bare-body-requires : tie.Need-bare-body-requires
+bare-body-requires c κs = search needs
 
 -- src/states.rt:85:1
 returns-2 : tie.Need-returns-2
 unfolding keptOf
-returns-2 c = rw (c .before .if1 .left) (c .no-body .ensures)
+returns-2 c = rw (c .before .if1 .left) (c .bare-body .ensures)
 
 pub kept-spec : {M : Type 1} → statement M
-kept-spec = tie.close (tie.spec returns no-body-requires returns-2)
+kept-spec = tie.close (tie.spec returns bare-body-requires returns-2)

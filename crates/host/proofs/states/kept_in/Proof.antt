@@ -7,20 +7,19 @@ use Rattle.host.proofs.states.kept_in.Tie as tie
 use Rattle.host.proofs.states.kept_in.Reads as reads
 use Rattle.host.proofs.states.kept_in.Lts as lts
 use Rattle.host.proofs.bodies.body_in.Reads as body-in-reads
-use Rattle.member.proofs.open.no_body.Reads as no-body-reads
 
 -- src/states.rt:62:8
 shared-slice-read-if1 : tie.Need-shared-slice-read-if1
 shared-slice-read-if1 c = search needs
 
 -- src/states.rt:63:9
-no-body-requires : tie.Need-no-body-requires
-no-body-requires c κs = search needs
+bare-body-requires : tie.Need-bare-body-requires
+bare-body-requires c κs = search needs
 
 -- src/states.rt:63:9
 returns : tie.Need-returns
 unfolding keptIn
-returns c = rw (eq-eqb _ 0 (c .before .if1 .taken)) (c .no-body .ensures)
+returns c = rw (eq-eqb _ 0 (c .before .if1 .taken)) (c .bare-body .ensures)
 
 -- src/states.rt:65:5
 body-in-requires : tie.Need-body-in-requires
@@ -33,4 +32,4 @@ returns-2 c = rw (ne-eqb _ 0 (c .before .if1 .left)) (c .body-in .ensures)
 
 pub kept-in-spec : {M : Type 1} → statement M
 kept-in-spec =
-    tie.close (tie.spec shared-slice-read-if1 no-body-requires returns body-in-requires returns-2)
+    tie.close (tie.spec shared-slice-read-if1 bare-body-requires returns body-in-requires returns-2)

@@ -17,13 +17,13 @@ returns c = outcome-refused (c .before .advance-number .ensures) _ _ (c .if1 .ta
 add-t10 : tie.Need-add-t10
 add-t10 c = let p = advance-passed _ _ (sym (c .before .before .advance-number .ensures) ∙ c .before .if1 .left) in let f = p .0 .settings in omega arith
 
-no-body-requires : tie.Need-no-body-requires
-no-body-requires c κs = search needs
+bare-body-requires : tie.Need-bare-body-requires
+bare-body-requires c κs = search needs
 
 returns-2 : tie.Need-returns-2
 unfolding advanceOutcome
-returns-2 c = rw (c .no-body .ensures) (outcome-accepted (c .before .before .before .advance-number .ensures) _ _ (c .before .before .if1 .left))
+returns-2 c = rw (c .bare-body .ensures) (outcome-accepted (c .before .before .before .advance-number .ensures) _ _ (c .before .before .if1 .left))
 
 pub advance-known-spec : {M : Type 1} → statement M
 advance-known-spec =
-    tie.close (tie.spec advance-number-requires returns add-t10 no-body-requires returns-2)
+    tie.close (tie.spec advance-number-requires returns add-t10 bare-body-requires returns-2)

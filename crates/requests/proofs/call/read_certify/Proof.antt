@@ -2,6 +2,7 @@ use Rattle.requests.specs.RequestLaws.{number-goes, number-stops, number
 use mathlib.Core.Path.{_≡_, refl, sym, ap, _∙_}
 use native.Mathlib.Omega.{arith}
 use Rattle.requests.specs.Readings.{readingOf}
+use Rattle.requests.specs.BodyLaws.{bare-of}
 use borrow.Author.Needs.{needs}
 use Rattle.requests.proofs.call.read_certify.Statement.{statement}
 use Rattle.requests.proofs.call.read_certify.Tie as tie
@@ -10,7 +11,6 @@ use Rattle.requests.proofs.call.read_certify.Lts as lts
 use Rattle.requests.proofs.call.call_of.Reads as call-of-reads
 use Rattle.requests.proofs.call.unreadable.Reads as unreadable-reads
 use Rattle.fields.proofs.number.number_at.Reads as number-at-reads
-use Rattle.requests.proofs.triple.no_body.Reads as no-body-reads
 
 -- src/call.rt:170:9
 number-at-requires : tie.Need-number-at-requires
@@ -43,8 +43,8 @@ returns-2 c =
     c .unreadable2 .ensures ∙ sym (ap readingOf (number-goes _ _ _ _ (c .before .before .before .before .before .before .number-at .ensures .0) (c .before .before .before .before .before .before .number-at .ensures .1) (c .before .before .before .before .x .given .1) ∙ end-past _ _ _ (c .before .if1 .taken)))
 
 -- src/call.rt:178:9
-no-body-requires : tie.Need-no-body-requires
-no-body-requires c κs = search needs
+bare-body-requires : tie.Need-bare-body-requires
+bare-body-requires c κs = search needs
 
 -- src/call.rt:179:55
 cast-call-of : tie.Need-cast-call-of
@@ -58,7 +58,7 @@ call-of-requires c κs = search needs
 
 -- src/call.rt:166:1
 returns-3 : tie.Need-returns-3
-returns-3 c = rw (c .before .no-body .ensures) at (c .call-of .ensures) ∙ sym (ap readingOf (number-goes _ _ _ _ (c .before .before .before .before .before .before .before .number-at .ensures .0) (c .before .before .before .before .before .before .before .number-at .ensures .1) (c .before .before .before .before .before .x .given .1) ∙ end-here _ _ _ (c .before .before .if1 .left)))
+returns-3 c = rw (c .before .bare-body .ensures ∙ bare-of 0) at (c .call-of .ensures) ∙ sym (ap readingOf (number-goes _ _ _ _ (c .before .before .before .before .before .before .before .number-at .ensures .0) (c .before .before .before .before .before .before .before .number-at .ensures .1) (c .before .before .before .before .before .x .given .1) ∙ end-here _ _ _ (c .before .before .if1 .left)))
 
 pub read-certify-spec : {M : Type 1} → statement M
 read-certify-spec =
@@ -71,7 +71,7 @@ read-certify-spec =
     returns
     unreadable-requires-2
     returns-2
-    no-body-requires
+    bare-body-requires
     cast-call-of
     call-of-requires
     returns-3)

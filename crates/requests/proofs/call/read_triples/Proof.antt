@@ -4,30 +4,29 @@ use Rattle.requests.specs.Triples.{atKind}
 use mathlib.Core.Path.{_≡_, refl, sym, ap, _∙_}
 use native.Mathlib.Omega.{arith}
 use Rattle.requests.specs.Bodies.{bodyOf, onto}
-use Rattle.requests.specs.BodyLaws.{onto-none, body-length}
+use Rattle.requests.specs.BodyLaws.{bare-of, onto-none, body-length}
 use borrow.Author.Needs.{needs}
 use Rattle.requests.proofs.call.read_triples.Statement.{statement}
 use Rattle.requests.proofs.call.read_triples.Tie as tie
 use Rattle.requests.proofs.call.read_triples.Reads as reads
 use Rattle.requests.proofs.call.read_triples.Lts as lts
 use Rattle.requests.proofs.triple.from_kind.Reads as from-kind-reads
-use Rattle.requests.proofs.triple.no_body.Reads as no-body-reads
 
 -- src/call.rt:66:9
-no-body-requires : tie.Need-no-body-requires
-no-body-requires c κs = search needs
+bare-body-requires : tie.Need-bare-body-requires
+bare-body-requires c κs = search needs
 
 -- src/call.rt:67:5
 from-kind-requires : tie.Need-from-kind-requires
 from-kind-requires c κs =
-    let n = ap (λ b. b .count) (c .no-body .ensures) ∙ body-length (c .before .before .args .previous) [] in
+    let n = ap (λ b. b .count) (c .bare-body .ensures ∙ bare-of _) ∙ body-length (c .before .before .args .previous) [] in
     omega arith
 
 -- src/call.rt:62:1
 returns : tie.Need-returns
 returns c =
     let a = c .before .before .before .args in
-    c .from-kind .ensures ∙ onto-none _ (a .previous) (atKind (fieldsFrom (a .rec .now) (a .at))) (c .before .no-body .ensures)
+    c .from-kind .ensures ∙ onto-none _ (a .previous) (atKind (fieldsFrom (a .rec .now) (a .at))) (c .before .bare-body .ensures ∙ bare-of _)
 
 pub read-triples-spec : {M : Type 1} → statement M
-read-triples-spec = tie.close (tie.spec no-body-requires from-kind-requires returns)
+read-triples-spec = tie.close (tie.spec bare-body-requires from-kind-requires returns)
