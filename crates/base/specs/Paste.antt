@@ -5,7 +5,7 @@ use Prim.Native.Nat.{ℕ, suc, _+_, _-_, _<_, _≤_}
 use native.Mathlib.Omega.{arith}
 use native.Mathlib.Numerals.{add-one}
 use lib.ListN.{length, getD, take, drop, set, replicate, length-replicate, replicate-append-replicate, List·getD-append, length-take, length-drop}
-use lib.Seq.{paste, drop-cons, set-at, append-snoc, length-paste-head, getD-append-add, getD-take, getD-drop, length-take-le, ext-getD}
+use lib.Seq.{paste, paste-suc, length-paste, drop-cons, set-at, append-snoc, length-paste-head, getD-append-add, getD-take, getD-drop, length-take-le, ext-getD}
 
 module _ (t : List ℕ) (b : ℕ) (w : List ℕ) (n : ℕ) (hb : b + n ≤ length t) (hw : length w ≡ n) where
   head : length (take b t ++ take n w) ≡ b + n
@@ -33,6 +33,18 @@ module _ (t : List ℕ) (b : ℕ) (w : List ℕ) (n : ℕ) (hb : b + n ≤ lengt
       ∙ getD-append-add (take b t ++ take n w) (drop (b + n) t) (j - (b + n)) 0
       ∙ getD-drop (b + n) t (j - (b + n)) 0
       ∙ ap (λ (i : ℕ). getD t i 0) f
+
+-- one element more written over the front
+pub paste-front : (d s : List ℕ) (j : ℕ) → j < length d → j < length s → set (paste d 0 s j) j (getD s j 0) ≡ paste d 0 s (j + 1)
+paste-front d s j h l =
+    let z : 0 + j ≡ j = omega arith in
+    ap (λ (n : ℕ). set (paste d 0 s j) n (getD s j 0)) (sym z) ∙ rw (add-one j) (paste-suc d 0 s j 0 (omega arith) l)
+
+-- all of it written over
+pub paste-whole : (d s : List ℕ) (n : ℕ) → length d ≡ n → length s ≡ n → paste d 0 s n ≡ s
+paste-whole d s n h l =
+    let p = length-paste d 0 s n (omega arith) (omega arith) in
+    ext-getD 0 (paste d 0 s n) s (omega arith) (λ i lt. let z : 0 + i ≡ i = omega arith in rw z at (paste-inside d 0 s n (omega arith) l i (omega arith)))
 
 -- the stretch of n elements from b on
 abbrev pub part : List ℕ → ℕ → ℕ → List ℕ

@@ -1,30 +1,17 @@
 -- Laws of kept committees: one round more, and all of them.
-use mathlib.Core.Path.{_≡_, sym, ap, _∙_}
+use mathlib.Core.Path.{_≡_, _∙_}
 use mathlib.Core.List.{List}
 use Prim.Native.Nat.{ℕ, _+_, _*_, _<_, _≤_}
 use native.Mathlib.Omega.{arith}
 use native.Mathlib.Decide.{ℕ-discrete}
-use native.Mathlib.Numerals.{add-one}
-use lib.ListN.{length, getD, set}
-use lib.Seq.{paste, paste-suc, take-all, ext-getD, length-paste}
+use lib.ListN.{length}
+use lib.Seq.{paste, take-all, length-paste}
 use Rattle.base.specs.Paste.{part, same-part, paste-below, paste-inside}
 use Rattle.agreement.specs.Rules.{Chain}
 use Rattle.terms.specs.Proposals.{Content}
 use Rattle.sheet.specs.declared.Settings.{Settings}
 use Rattle.committee.specs.Committees.{committeeOf}
 use Rattle.walk.specs.Keeps.{Keeps}
-
--- one word more written over the front
-pub paste-front : (d s : List ℕ) (j : ℕ) → j < length d → j < length s → set (paste d 0 s j) j (getD s j 0) ≡ paste d 0 s (j + 1)
-paste-front d s j h l =
-    let z : 0 + j ≡ j = omega arith in
-    ap (λ (n : ℕ). set (paste d 0 s j) n (getD s j 0)) (sym z) ∙ rw (add-one j) (paste-suc d 0 s j 0 (omega arith) l)
-
--- sixteen words written over sixteen
-pub paste-whole : (d s : List ℕ) → length d ≡ 16 → length s ≡ 16 → paste d 0 s 16 ≡ s
-paste-whole d s h l =
-    let p = length-paste d 0 s 16 (omega arith) (omega arith) in
-    ext-getD 0 (paste d 0 s 16) s (omega arith) (λ i lt. let e : 0 + i ≡ i = omega arith in rw e at (paste-inside d 0 s 16 (omega arith) l i (omega arith)))
 
 module _ (S : Settings) (c : Chain Content) where
   -- the rounds below q are kept

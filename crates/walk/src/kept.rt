@@ -52,7 +52,7 @@ pub fn committees(kept: &[u64], t: &[u32], s: Settings, blocks: u32, r: Round) -
         return crate::committees_of(t, s, blocks, r);
     }
     Pair {
-        before: kept_at(kept, crate::before(r)),
+        before: kept_at(kept, crate::round_before(r)),
         at: kept_at(kept, r),
     }
 }

@@ -20,6 +20,12 @@ ghost use Rattle.walk.specs.Walk.{lastRound, blockFits, blocksFit};
 ghost use Rattle.walk.specs.Pairs.{PairOf};
 ghost use Rattle.walk.specs.Readable.{Readable};
 
+// The committees of a round and of the one before it.
+pub struct Pair {
+    pub before: [u64; 16],
+    pub at: [u64; 16],
+}
+
 // The round of the newest of the first k blocks, 0 for none.
 pub fn last_round(t: &[u32], k: u32) -> Round
     requires { ⌜ Row (now t) k ⌝ }
@@ -60,12 +66,6 @@ pub fn blocks_fit(t: &[u32], blocks: u32, n: Round) -> bool
     true
 }
 
-// The committees of a round and of the one before it.
-pub struct Pair {
-    pub before: [u64; 16],
-    pub at: [u64; 16],
-}
-
 // Does no block change the committee of round r?
 fn is_starting(t: &[u32], s: Settings, blocks: u32, r: Round) -> bool
     requires { ⌜ Readable s (now t) blocks ⌝ }
@@ -81,7 +81,7 @@ fn is_starting(t: &[u32], s: Settings, blocks: u32, r: Round) -> bool
 }
 
 // The round before r; 0 has none and stays.
-fn before(r: Round) -> Round
+fn round_before(r: Round) -> Round
     ensures { λ v. ⌜ v .0 ≡ r .0 - 1 ⌝ }
 {
     if r.0 == 0 {
@@ -99,13 +99,10 @@ fn walked(t: &[u32], s: Settings, blocks: u32, r: Round, next: &mut [u32]) -> Pa
     let end = s.ceiling.0 * 16 + 16;
     let mut head = [end; 512];
     crate::links::link_rows(t, &mut head, next, s.ceiling);
-    let k = crate::advance::advance(t, &head, next, s, blocks, 0, before(r), &mut w);
-    let first = w;
+    let k = crate::advance::advance(t, &head, next, s, blocks, 0, round_before(r), &mut w);
+    let before = w;
     crate::advance::advance(t, &head, next, s, blocks, k, r, &mut w);
-    Pair {
-        before: first,
-        at: w,
-    }
+    Pair { before, at: w }
 }
 
 // Both committees.

@@ -27,8 +27,8 @@ committees-of-requires-2 c κs = search needs
 returns-2 : tie.Need-returns-2
 returns-2 c = search needs
 
-before-requires : tie.Need-before-requires
-before-requires c κs = search needs
+round-before-requires : tie.Need-round-before-requires
+round-before-requires c κs = search needs
 
 kept-at-requires : tie.Need-kept-at-requires
 kept-at-requires c κs = search needs
@@ -41,7 +41,7 @@ returns-3 c =
     let a = c .before .before .before .before .before .before .before .before .before .before .args in
     let p = c .before .before .before .before .before .before .before .before .before .before .pre in
     let words = c .before .before .before .before .before .before .before .before .shared-slice-known2 in
-    let q = c .before .before .before2 .ensures in
+    let q = c .before .before .round-before .ensures in
     let e = rw q at (c .before .kept-at .ensures) ∙ p .1 .committee (a .r .0 - 1) (omega arith) (omega arith) in
     let f = c .kept-at2 .ensures ∙ p .1 .committee (a .r .0) (omega arith) (omega arith) in
     record {
@@ -62,7 +62,7 @@ committees-spec =
     add-if2
     committees-of-requires-2
     returns-2
-    before-requires
+    round-before-requires
     kept-at-requires
     kept-at-requires-2
     returns-3)

@@ -3,8 +3,7 @@ use Prim.Native.Nat.{ℕ, _-_, _*_, _≤_}
 use native.Mathlib.Omega.{arith}
 use lib.ListN.{length, replicate, length-set, length-replicate}
 use lib.Seq.{paste, paste-zero}
-use Rattle.base.specs.Paste.{part, length-part, getD-part}
-use Rattle.walk.specs.KeepLaws.{paste-front, paste-whole}
+use Rattle.base.specs.Paste.{paste-front, paste-whole, part, length-part, getD-part}
 use borrow.Author.Needs.{needs}
 use Rattle.walk.proofs.kept.kept_at.Statement.{statement}
 use Rattle.walk.proofs.kept.kept_at.Tie as tie
@@ -62,7 +61,7 @@ returns c =
     let a = c .before .before .before .args in
     let x = c .before .loop in
     let e : x .i ≡ 16 = omega arith in
-    rw e at (x .inv .1) ∙ paste-whole (replicate 16 0) _ (length-replicate {A = ℕ} 16 0) (length-part (a .kept .now) (a .r .0 * 16) 16 (omega arith))
+    rw e at (x .inv .1) ∙ paste-whole (replicate 16 0) _ 16 (length-replicate {A = ℕ} 16 0) (length-part (a .kept .now) (a .r .0 * 16) 16 (omega arith))
 
 pub kept-at-spec : {M : Type 1} → statement M
 kept-at-spec =
