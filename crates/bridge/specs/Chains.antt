@@ -35,7 +35,7 @@ unfoldable pub roundsIn : List ℕ → ℕ → List ℕ
 roundsIn t zero = []
 roundsIn t (suc n) = blockRound t (suc n) ∷ roundsIn t n
 
-rounds-length : (t : List ℕ) (n : ℕ) → length (roundsIn t n) ≡ n
+pub rounds-length : (t : List ℕ) (n : ℕ) → length (roundsIn t n) ≡ n
 unfolding roundsIn
 rounds-length t zero = refl
 rounds-length t (suc n) = ap suc (rounds-length t n)

@@ -3,7 +3,7 @@ use mathlib.Core.Path.{_≡_, refl, ap}
 use mathlib.Core.Bool.{true}
 use mathlib.Core.List.{List}
 use mathlib.Core.Logic.{⊎-elim}
-use Prim.Native.Nat.{ℕ, zero, suc, _+_, _-_, _%_, _<_, _≤_}
+use Prim.Native.Nat.{ℕ, _+_, _-_, _%_, _<_, _≤_}
 use native.Mathlib.Decide.{ℕ-discrete, decLt}
 use native.Mathlib.Omega.{arith}
 use lib.ListN.{getD, length, drop}
@@ -13,7 +13,7 @@ use Rattle.store.specs.TableLaws.{held-member}
 use Rattle.store.specs.MarkLaws.{beyond-marked}
 use Rattle.store.specs.Scan.{rowsFit}
 use Rattle.store.specs.FitLaws.{rows-marked}
-use Rattle.committee.specs.Chain.{chainOf}
+use Rattle.committee.specs.ChainLaws.{chain-length}
 use Rattle.walk.specs.Walk.{lastRound}
 use Rattle.walk.specs.ChainLaws.{BlockFits, fits-at, last-none, last-some}
 use Rattle.blocks.specs.TakenLaws.{taken-left}
@@ -26,11 +26,6 @@ use Rattle.commit.specs.Commit.{commitNumber, leadersFor, blocksThen, co
 use Rattle.commit.specs.AnchorLaws.{leaderOn, leader-even, leaders-on, leaders-length}
 use Rattle.commit.specs.CheckLaws.{Accepted, accepted}
 use Rattle.commit.specs.CommitLaws.{only-marks}
-
-chain-length : (n : ℕ) (t : List ℕ) (k : ℕ) → length (chainOf n t k) ≡ k
-unfolding chainOf
-chain-length n t zero = refl
-chain-length n t (suc k) = ap suc (chain-length n t k)
 
 module _ (s : State) (t : List ℕ) (ok : commitNumber s t ≡ 0) where
   abbrev n : ℕ

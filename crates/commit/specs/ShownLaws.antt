@@ -1,29 +1,28 @@
 -- What a state and its table show, as the theory's commit wants it.
-use mathlib.Core.Path.{_≡_, refl, sym, ap, _∙_}
+use mathlib.Core.Path.{_≡_, refl, sym, ap, ap₂, _∙_}
 use mathlib.Core.Bool.{Bool, true, false, cond}
 use mathlib.Core.List.{List, _∷_}
 use mathlib.Core.Option.{Option, none, some}
 use Prim.Native.Nat.{ℕ, zero, suc, _≤_}
 use native.Mathlib.Omega.{arith}
 use lib.Dec.{eqb}
-use lib.ListN.{length}
 use Rattle.base.specs.Bools.{cond-same}
 use Rattle.base.specs.Sets.{isIn}
 use Rattle.agreement.specs.Dag.{isHeld}
 use Rattle.agreement.specs.DagLaws.{held-by}
 use Rattle.agreement.specs.Marks.{Fits}
 use Rattle.terms.specs.Proposals.{Content}
-use Rattle.store.specs.Table.{markAt, blockRound, certificateAt}
+use Rattle.store.specs.Table.{markAt, certificateAt}
 use Rattle.store.specs.TableLaws.{content-previous}
 use Rattle.store.specs.ScanLaws.{rows-held}
-use Rattle.committee.specs.Chain.{isRound, holdsAt, blockAt, chainOf}
+use Rattle.committee.specs.Chain.{isRound, holdsAt, chainOf}
+use Rattle.committee.specs.ChainLaws.{holds-at, block-by, chain-none, chain-more}
 use Rattle.rules.specs.Tests.{Member}
 use Rattle.bridge.specs.Histories.{Shows}
-use Rattle.bridge.specs.Chains.{roundsIn, marksIn, chainIn}
+use Rattle.bridge.specs.Chains.{roundsIn, rounds-length, marksIn, chainIn}
 use Rattle.state.specs.declared.State.{State}
 use Rattle.state.specs.View.{dagOf, view}
 use Rattle.state.specs.ViewLaws.{InDag, in-dag, held-dag}
-use Rattle.state.specs.ChainLaws.{holds-at}
 use Rattle.state.specs.Formed.{Formed}
 use Rattle.agreement.specs.Marks as marks
 
@@ -60,11 +59,6 @@ module _ (s : State) (t : List ℕ) where
   -- ---- the chain that marks and block rounds tell
 
   module _ (u : List ℕ) (e : dagOf n u ≡ v .dag) where
-    count : (k : ℕ) → length (roundsIn u k) ≡ k
-    unfolding roundsIn
-    count zero = refl
-    count (suc k) = ap suc (count k)
-
     block-shown : (k a r : ℕ) → cond (isRound n r) (holdsAt u k a r) none ≡ cond (eqb (marksIn v u a r) k) (v .dag a r) none
     unfolding dagOf marksIn
     block-shown k a r =
@@ -78,8 +72,8 @@ module _ (s : State) (t : List ℕ) where
 
     -- is the one that the table shows
     pub chain-shown : (k : ℕ) → chainOf n u k ≡ chainIn v u k
-    unfolding chainOf blockAt roundsIn marks.chainOf
-    chain-shown zero = refl
+    unfolding roundsIn marks.chainOf
+    chain-shown zero = chain-none n u
     chain-shown (suc k) =
-        rw (count k)
-        (λ i. record { round = blockRound u (suc k); holds = λ a r. block-shown (suc k) a r i } ∷ chain-shown k i)
+        rw (rounds-length u k)
+        (chain-more n u k ∙ ap₂ _∷_ (block-by n u (suc k) _ refl (block-shown (suc k))) (chain-shown k))

@@ -1,12 +1,12 @@
 -- The rules of document 01 are lawful, whatever the settings.
-use mathlib.Core.Path.{_≡_, refl}
+use mathlib.Core.Path.{_≡_, refl, _∙_}
 use mathlib.Core.Bool.{Bool, true, false, _&&_, cond}
 use mathlib.Core.Option.{Option, none, some, Option·none-ne-some}
 use mathlib.Core.List.{List, _∷_}
 use Prim.Native.Nat.{ℕ, _+_, _-_, _*_, _%_, _≤_, _<_}
 use native.Mathlib.Omega.{arith}
 use lib.Dec.{eqb, leb}
-use borrow.Author.Tests.{eqb-true, leb-true, le-leb, le-ltb}
+use borrow.Author.Tests.{eqb-true, leb-true, le-leb}
 use Rattle.base.specs.Bools.{both}
 use Rattle.agreement.specs.Weights.{total}
 use Rattle.agreement.specs.Rules.{Block, Chain, last}
@@ -14,7 +14,8 @@ use Rattle.agreement.specs.Laws.{Lawful}
 use Rattle.terms.specs.Proposals.{Content}
 use Rattle.sheet.specs.declared.Settings.{Settings}
 use Rattle.sheet.specs.Ranges.{weightIn}
-use Rattle.committee.specs.Committees.{step, bondedFrom, committeeOf, knownBy, boundOf}
+use Rattle.committee.specs.Committees.{bondedFrom, committeeOf, knownBy, boundOf}
+use Rattle.committee.specs.BondedLaws.{step-waits, bonded-step}
 use Rattle.committee.specs.Leaders.{leaderOf}
 use Rattle.committee.specs.Instance.{rules}
 
@@ -41,8 +42,7 @@ bound-low w h = omega arith
 
 -- a block changes no committee of its own round or below
 bonded-same : (n : ℕ) (w : List ℕ) (b : Block Content) (c : Chain Content) (s : ℕ) → s ≤ b .round → bondedFrom n w (b ∷ c) s ≡ bondedFrom n w c s
-unfolding bondedFrom step
-bonded-same n w b c s h = rw (le-ltb (b .round) s h) refl
+bonded-same n w b c s h = bonded-step n s b c w ∙ step-waits n s b c (bondedFrom n w c s) h
 
 module _ (S : Settings) where
   known-low : (c : Chain Content) {r s : ℕ} → r ≤ s → knownBy S c s ≡ true → knownBy S c r ≡ true

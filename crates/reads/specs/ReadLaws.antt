@@ -19,6 +19,7 @@ use Rattle.agreement.specs.Weights.{total}
 use Rattle.agreement.specs.Dag.{isHeld}
 use Rattle.committee.specs.Committees.{shareOf}
 use Rattle.committee.specs.Leaders.{members}
+use Rattle.committee.specs.ChainLaws.{chain-length}
 use Rattle.rules.specs.Tests.{badRound, unknown, committeeIn}
 use Rattle.rules.specs.Reads as rules
 use Rattle.base.specs.Passed.{passed}
@@ -37,7 +38,7 @@ use Rattle.reads.specs.declared.CertificateRead.{CertificateRead}
 use Rattle.reads.specs.declared.BlockRead.{BlockRead}
 use Rattle.reads.specs.declared.BlockRead.the-variants as block
 use Rattle.reads.specs.Reads.{noProposal, shown, committeeNumber, committeeAnswer, shareNumber, shareAnswer, certificateNumber, certificateAnswer, blockNumber, blockAnswer}
-use Rattle.reads.specs.BlockLaws.{chain-length, chain-round, mark-number}
+use Rattle.reads.specs.BlockLaws.{chain-round, mark-number}
 
 -- a held certificate of a well-formed state, at the place of member m and round r
 pub record HeldThere (s : State) (t : List ℕ) (m r : ℕ) : Type 0 where

@@ -6,12 +6,13 @@ use Prim.Native.Nat.{ℕ, zero, suc, _+_, _*_, _/_, _%_, _<_, _≤_}
 use native.Mathlib.Omega.{arith}
 use native.Mathlib.Decide.{ℕ-discrete}
 use native.Mathlib.Numerals.{add-one}
-use lib.ListN.{length}
 use lib.Dec.{ltb}
-use borrow.Author.Tests.{le-leb, lt-ltb, le-ltb}
+use borrow.Author.Tests.{lt-ltb, le-ltb}
 use Rattle.store.specs.Table.{heldAt, contentAt, blockRound}
-use Rattle.committee.specs.Changes.{listed, row, rows, ordered}
-use Rattle.committee.specs.Chain.{isRound, holdsAt, blockAt, chainOf}
+use Rattle.committee.specs.Changes.{listed, row, rows}
+use Rattle.committee.specs.OrderLaws.{row-none, row-more, rows-none, rows-more, ordered-rows}
+use Rattle.committee.specs.Chain.{holdsAt, blockAt, chainOf}
+use Rattle.committee.specs.ChainLaws.{block-round, block-inside, chain-none, chain-more, chain-length}
 use Rattle.walk.specs.Links.{Marked, First}
 use Rattle.lines.specs.Lines.{listingLine}
 use Rattle.records.specs.Listing.{contentLines, chainLines, blockLines}
@@ -71,41 +72,35 @@ module _ (t : List ℕ) (k : ℕ) where
   -- ---- by round, then author, where the ceiling is n
 
   row-places : (n r m : ℕ) → 1 ≤ r → r ≤ n → m ≤ 16 → placesLines t k (r * 16 + m) ≡ placesLines t k (r * 16) ++ contentLines k (blockRound t k) (row (blockAt n t k) r m)
-  unfolding row contentLines placesLines blockAt isRound
-  row-places n r zero l u h = let e : r * 16 + 0 ≡ r * 16 = omega arith in rw e (sym (append-nil (placesLines t k (r * 16))))
+  unfolding contentLines placesLines
+  row-places n r zero l u h = let e : r * 16 + 0 ≡ r * 16 = omega arith in rw (e, row-none (blockAt n t k) r) (sym (append-nil (placesLines t k (r * 16))))
   row-places n r (suc m) l u h =
       let e : r * 16 + suc m ≡ suc (r * 16 + m) = omega arith in
       let i : (r * 16 + m) % 16 ≡ m = omega arith in
       let j : (r * 16 + m) / 16 ≡ r = omega arith in
       let z = listed (holdsAt t k m r) in
       let b = blockRound t k in
-      rw (e, place-high (r * 16 + m) (omega arith), i, j, row-places n r m l u (omega arith), le-leb 1 r l, le-leb r n u, lines-append k b (row (blockAt n t k) r m) z)
+      rw (e, place-high (r * 16 + m) (omega arith), i, j, row-places n r m l u (omega arith), row-more (blockAt n t k) r m, block-inside n t k m r l u, lines-append k b (row (blockAt n t k) r m) z)
       (append-assoc (placesLines t k (r * 16)) (contentLines k b (row (blockAt n t k) r m)) (contentLines k b z))
 
   rows-places : (n r : ℕ) → r ≤ n → placesLines t k (r * 16 + 16) ≡ contentLines k (blockRound t k) (rows (blockAt n t k) r)
-  unfolding rows contentLines
-  rows-places n zero u = places-low
+  unfolding contentLines
+  rows-places n zero u = rw (rows-none (blockAt n t k)) places-low
   rows-places n (suc r) u =
       let e : suc r * 16 ≡ r * 16 + 16 = omega arith in
       row-places n (suc r) 16 (omega arith) u (omega arith)
-      ∙ rw (e, rows-places n r (omega arith)) (sym (lines-append k (blockRound t k) (rows (blockAt n t k) r) (row (blockAt n t k) (suc r) 16)))
+      ∙ rw (e, rows-places n r (omega arith), rows-more (blockAt n t k) r) (sym (lines-append k (blockRound t k) (rows (blockAt n t k) r) (row (blockAt n t k) (suc r) 16)))
 
 module _ (n : ℕ) (t : List ℕ) where
   -- a block place by place
   pub block-places : (k : ℕ) → blockLines n t k ≡ placesLines t (k + 1) (n * 16 + 16)
-  unfolding ordered
-  block-places k = sym (rows-places t (k + 1) n n (omega arith))
-
-  chain-length : (k : ℕ) → length (chainOf n t k) ≡ k
-  unfolding chainOf
-  chain-length zero = refl
-  chain-length (suc k) = rw (chain-length k) refl
+  block-places k = rw (ordered-rows (blockAt n t (k + 1)) n (chainOf n t k)) (sym (rows-places t (k + 1) n n (omega arith)))
 
   -- a chain block by block
-  pub chain-none : chainLines n (chainOf n t 0) ≡ []
-  unfolding chainLines chainOf
-  chain-none = refl
+  pub lines-none : chainLines n (chainOf n t 0) ≡ []
+  unfolding chainLines
+  lines-none = rw (chain-none n t) refl
 
-  pub chain-next : (k : ℕ) → chainLines n (chainOf n t (k + 1)) ≡ chainLines n (chainOf n t k) ++ blockLines n t k
-  unfolding chainLines chainOf blockAt
-  chain-next k = rw (add-one k, chain-length k, add-one k) refl
+  pub lines-next : (k : ℕ) → chainLines n (chainOf n t (k + 1)) ≡ chainLines n (chainOf n t k) ++ blockLines n t k
+  unfolding chainLines
+  lines-next k = rw (add-one k, chain-more n t k, chain-length n t k, add-one k, block-round n t (suc k)) refl

@@ -1,17 +1,14 @@
 -- Laws of the lines of a listing: certificate by certificate.
 use mathlib.Core.Path.{_≡_, refl, sym}
-use mathlib.Core.Bool.{Bool, true, false, cond}
+use mathlib.Core.Bool.{true, false}
 use mathlib.Core.List.{List, [], _∷_, _++_, append-assoc, append-nil}
-use mathlib.Core.Option.{none}
 use Prim.Native.Nat.{ℕ}
-use lib.Dec.{eqb}
 use Rattle.terms.specs.Proposals.{Content}
 use Rattle.store.specs.Table.{heldAt, markAt, contentAt}
-use Rattle.store.specs.TableLaws.{content-author, content-round, certificate-absent, certificate-present}
-use Rattle.state.specs.ChainLaws.{holds-at}
-use borrow.Author.Tests.{ne-eqb, eq-eqb}
+use Rattle.store.specs.TableLaws.{content-author, content-round}
 use Rattle.committee.specs.Changes.{listed}
 use Rattle.committee.specs.Chain.{holdsAt}
+use Rattle.committee.specs.ChainLaws.{holds-present, holds-other, holds-absent}
 use Rattle.lines.specs.Lines.{listingLine}
 use Rattle.records.specs.Listing.{contentLines}
 
@@ -19,19 +16,15 @@ use Rattle.records.specs.Listing.{contentLines}
 module _ (t : List ℕ) (k b m r : ℕ) where
   pub place-absent : heldAt t m r ≡ false → contentLines k b (listed (holdsAt t k m r)) ≡ []
   unfolding contentLines
-  place-absent e = rw (holds-at t k m r, certificate-absent t m r e) (go (eqb (markAt t m r) k))
-    where
-      go : (c : Bool) → contentLines k b (listed (cond c none none)) ≡ []
-      go true = refl
-      go false = refl
+  place-absent e = rw (holds-absent t k m r e) refl
 
   pub place-other : (markAt t m r ≡ k → ⊥) → contentLines k b (listed (holdsAt t k m r)) ≡ []
   unfolding contentLines
-  place-other e = rw (holds-at t k m r, ne-eqb (markAt t m r) k e) refl
+  place-other e = rw (holds-other t k m r e) refl
 
   pub place-present : heldAt t m r ≡ true → markAt t m r ≡ k → contentLines k b (listed (holdsAt t k m r)) ≡ listingLine k b r m (contentAt t m r .transactions)
   unfolding contentLines
-  place-present e q = rw (holds-at t k m r, eq-eqb (markAt t m r) k q, certificate-present t m r e, content-round t m r, content-author t m r) (append-nil (listingLine k b r m (contentAt t m r .transactions)))
+  place-present e q = rw (holds-present t k m r e q, content-round t m r, content-author t m r) (append-nil (listingLine k b r m (contentAt t m r .transactions)))
 
 -- certificate by certificate of a row
 pub lines-append : (k b : ℕ) (l m : List Content) → contentLines k b (l ++ m) ≡ contentLines k b l ++ contentLines k b m

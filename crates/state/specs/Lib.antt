@@ -4,7 +4,6 @@ pub mod KnownLaws
 pub mod View
 pub mod Number
 pub mod States
-pub mod ChainLaws
 pub mod RoundLaws
 pub mod Formed
 pub mod Walkable

@@ -16,11 +16,11 @@ use Rattle.store.specs.PutLaws.{length-put}
 use Rattle.store.specs.EndorseLaws.{set-endorsed, clear-endorsed}
 use Rattle.sheet.specs.declared.Settings.{Settings}
 use Rattle.committee.specs.Instance.{rules}
+use Rattle.committee.specs.ChainLaws.{chain-none}
 use Rattle.rules.specs.Tests as tests
 use Rattle.state.specs.declared.State.{State}
 use Rattle.state.specs.States.{proposed, advanced, fresh}
 use Rattle.state.specs.View.{proposalOf, view}
-use Rattle.state.specs.ChainLaws.{chain-none}
 use Rattle.state.specs.ViewLaws.{proposal-none, proposal-some}
 use Rattle.state.specs.WriteLaws.{Storable, within, dag-put, endorsed-of-put, chain-put, dag-endorse, chain-endorse, endorsed-of-set, endorsed-of-clear, dag-cleared, endorsed-of-cleared}
 

@@ -15,11 +15,11 @@ use Rattle.store.specs.Table.{heldSet, heldAt, endorsedAt, previousAt, contentA
 use Rattle.store.specs.TableLaws.{held-in, held-member, certificate-present, certificate-absent, held-certificate, content-author, content-round, content-previous}
 use Rattle.sheet.specs.declared.Settings.{Settings}
 use Rattle.committee.specs.Chain.{isRound}
+use Rattle.committee.specs.ChainLaws.{is-round, round-parts}
 use Rattle.committee.specs.Instance.{rules}
 use Rattle.rules.specs.Tests.{isSame, missing}
 use Rattle.state.specs.declared.State.{State}
 use Rattle.state.specs.View.{dagOf, endorsedOf, proposalOf, view}
-use Rattle.state.specs.ChainLaws.{is-round, round-parts}
 
 -- the certificate p of the view, at the place of author a and round r
 pub record InDag (n : ℕ) (t : List ℕ) (a r : ℕ) (p : Content) : Type 0 where

@@ -23,9 +23,9 @@ use Rattle.store.specs.EndorseLaws.{OnlyEndorsed, block-round-endorse, mark-end
 use Rattle.store.specs.ClearLaws.{endorsed-cleared, certificate-cleared}
 use Rattle.sheet.specs.declared.Settings.{Settings}
 use Rattle.committee.specs.Chain.{isRound, holdsAt, chainOf}
+use Rattle.committee.specs.ChainLaws.{is-round, round-parts, holds-at, chain-same}
 use Rattle.committee.specs.Instance.{rules}
 use Rattle.state.specs.View.{dagOf, endorsedOf}
-use Rattle.state.specs.ChainLaws.{is-round, round-parts, holds-at, chain-same}
 use Rattle.state.specs.ViewLaws.{dag-at}
 
 -- a proposal for which a table with n rounds has a place

@@ -1,5 +1,5 @@
 -- Laws of the chain in the table: the bonded committee block by block, and block rounds that rise.
-use mathlib.Core.Path.{_≡_, refl, ap}
+use mathlib.Core.Path.{_≡_, refl}
 use mathlib.Core.Bool.{_&&_, true}
 use mathlib.Core.List.{List}
 use Prim.Native.Nat.{ℕ, zero, suc, _+_, _*_, _%_, _<_, _≤_}
@@ -7,7 +7,7 @@ use native.Mathlib.Omega.{arith}
 use native.Mathlib.Decide.{ℕ-discrete}
 use native.Mathlib.Numerals.{add-one}
 use lib.Dec.{eqb, ltb, eqb·suc-zero}
-use borrow.Author.Tests.{ne-eqb, lt-ltb, le-ltb, ltb-true, eqb-true}
+use borrow.Author.Tests.{ne-eqb, ltb-true, eqb-true}
 use Rattle.base.specs.Bools.{both}
 use Rattle.base.specs.Folds.{foldTo}
 use Rattle.base.specs.FoldLaws.{fold-more}
@@ -15,7 +15,9 @@ use Rattle.base.specs.TestLaws.{all-at}
 use Rattle.agreement.specs.Rules.{last}
 use Rattle.store.specs.Table.{blockRound}
 use Rattle.committee.specs.Chain.{blockAt, chainOf}
+use Rattle.committee.specs.ChainLaws.{block-round, chain-last}
 use Rattle.committee.specs.Committees.{step, bondedFrom}
+use Rattle.committee.specs.BondedLaws.{step-counts, step-waits, bonded-none, bonded-more}
 use Rattle.walk.specs.Walk.{blockChange, afterBlocks, lastRound, blockFits, blocksFit}
 
 -- ---- the last round
@@ -29,34 +31,18 @@ unfolding lastRound
 last-some t k h = rw (ne-eqb k 0 h) refl
 
 pub last-chain : (n : ℕ) (t : List ℕ) (k : ℕ) → last (chainOf n t k) ≡ lastRound t k
-unfolding chainOf blockAt lastRound
-last-chain n t zero = refl
-last-chain n t (suc k) = rw (eqb·suc-zero k) refl
+unfolding lastRound
+last-chain n t k = chain-last n t k
 
--- ---- the bonded committee
+-- ---- a block
 
--- block by block, oldest first
-pub bonded-fold : (n : ℕ) (t w : List ℕ) (k s : ℕ) → bondedFrom n w (chainOf n t k) s ≡ foldTo (λ j. step n s (blockAt n t (j + 1)) (chainOf n t j)) k w
-unfolding bondedFrom chainOf foldTo
-bonded-fold n t w zero s = refl
-bonded-fold n t w (suc k) s = rw (← add-one k) (ap (step n s (blockAt n t (k + 1)) (chainOf n t k)) (bonded-fold n t w k s))
+-- of a round below s it counts, of another it does not
+pub block-counts : (n s k : ℕ) (t w : List ℕ) → blockRound t (k + 1) < s → step n s (blockAt n t (k + 1)) (chainOf n t k) w ≡ blockChange n t k w
+unfolding blockChange
+block-counts n s k t w h = step-counts n s (blockAt n t (k + 1)) (chainOf n t k) w (rw (block-round n t (k + 1)) h)
 
-bonded-none : (n : ℕ) (t w : List ℕ) (s : ℕ) → bondedFrom n w (chainOf n t 0) s ≡ w
-unfolding bondedFrom chainOf
-bonded-none n t w s = refl
-
-bonded-more : (n : ℕ) (t w : List ℕ) (k s : ℕ) → bondedFrom n w (chainOf n t (k + 1)) s ≡ step n s (blockAt n t (k + 1)) (chainOf n t k) (bondedFrom n w (chainOf n t k) s)
-unfolding bondedFrom chainOf
-bonded-more n t w k s = rw (add-one k) refl
-
--- a block of a round below s counts, another does not
-pub step-counts : (n s k : ℕ) (t w : List ℕ) → blockRound t (k + 1) < s → step n s (blockAt n t (k + 1)) (chainOf n t k) w ≡ blockChange n t k w
-unfolding step blockAt blockChange
-step-counts n s k t w h = rw (lt-ltb (blockRound t (k + 1)) s h) refl
-
-pub step-waits : (n s k : ℕ) (t w : List ℕ) → s ≤ blockRound t (k + 1) → step n s (blockAt n t (k + 1)) (chainOf n t k) w ≡ w
-unfolding step blockAt
-step-waits n s k t w h = rw (le-ltb (blockRound t (k + 1)) s h) refl
+pub block-waits : (n s k : ℕ) (t w : List ℕ) → s ≤ blockRound t (k + 1) → step n s (blockAt n t (k + 1)) (chainOf n t k) w ≡ w
+block-waits n s k t w h = step-waits n s (blockAt n t (k + 1)) (chainOf n t k) w (rw (block-round n t (k + 1)) h)
 
 -- ---- rounds that rise
 
@@ -110,7 +96,7 @@ module _ (n : ℕ) (t : List ℕ) (blocks : ℕ) (fit : blocksFit n t blocks ≡
   bonded-all w s (suc k) h l =
       let q = fits-at k (omega arith) in
       let b : blockRound t (k + 1) < s = rw (last-next k) at l in
-      rw (← add-one k, bonded-more n t w k s, step-counts n s k t (bondedFrom n w (chainOf n t k) s) b, bonded-all w s k (omega arith) (omega arith)) refl
+      rw (← add-one k, bonded-more n t w k s, block-counts n s k t (bondedFrom n w (chainOf n t k) s) b, bonded-all w s k (omega arith) (omega arith)) refl
 
   -- the first j count where the round of block j is below s, and that of the next is not
   pub bonded-split : (w : List ℕ) (s j k : ℕ) → j ≤ k → k ≤ blocks → lastRound t j < s → (j < k → s ≤ blockRound t (j + 1)) → bondedFrom n w (chainOf n t k) s ≡ afterBlocks n t j w
@@ -122,7 +108,7 @@ module _ (n : ℕ) (t : List ℕ) (blocks : ℕ) (fit : blocksFit n t blocks ≡
       go (no e) g =
           let u = last-up (suc j) (suc k) (omega arith) l in
           let x : s ≤ blockRound t (k + 1) = omega (arith, f (omega arith), last-next j, last-next k) in
-          rw (← add-one k, bonded-more n t w k s, step-waits n s k t (bondedFrom n w (chainOf n t k) s) x) (g (omega arith))
+          rw (← add-one k, bonded-more n t w k s, block-waits n s k t (bondedFrom n w (chainOf n t k) s) x) (g (omega arith))
 
 -- ---- one block more
 

@@ -2,18 +2,18 @@
 use mathlib.Core.Path.{_≡_, refl, sym, _∙_}
 use mathlib.Core.Bool.{Bool, true, false, cond}
 use mathlib.Core.List.{List}
-use mathlib.Core.Option.{none}
 use Prim.Native.Nat.{ℕ, suc, _+_, _-_, _*_, _/_, _%_, _<_, _≤_}
 use native.Mathlib.Omega.{arith}
 use native.Mathlib.Numerals.{add-one}
-use lib.Dec.{eqb, ltb}
-use borrow.Author.Tests.{eq-eqb, ne-eqb, le-leb, lt-ltb, le-ltb}
+use lib.Dec.{ltb}
+use borrow.Author.Tests.{lt-ltb, le-ltb}
 use Rattle.base.specs.Folds.{foldTo}
 use Rattle.base.specs.FoldLaws.{fold-more, fold-none, fold-same, fold-high, fold-flat}
 use Rattle.terms.specs.Transactions.{readTransaction}
 use Rattle.store.specs.Table.{word, markAt, heldAt, countAt, transactionAt, contentAt}
-use Rattle.store.specs.TableLaws.{count-le, certificate-present, certificate-absent, content-transactions, transaction-words}
-use Rattle.committee.specs.Chain.{isRound, holdsAt, blockAt, chainOf}
+use Rattle.store.specs.TableLaws.{count-le, content-transactions, transaction-words}
+use Rattle.committee.specs.Chain.{holdsAt, blockAt, chainOf}
+use Rattle.committee.specs.ChainLaws.{holds-present, holds-other, holds-absent, block-inside}
 use Rattle.committee.specs.Changes.{change, changes, changesOf, listed}
 use Rattle.committee.specs.ChangeLaws.{changes-tab, changes-none, changes-one, ordered-changes}
 use Rattle.walk.specs.Walk.{slotChange, placeChange, placesChange, blockChange}
@@ -46,21 +46,14 @@ module _ (t : List ℕ) (m r : ℕ) (w : List ℕ) where
 module _ (t : List ℕ) (k m r : ℕ) (w : List ℕ) where
   -- a place that is not held changes nothing
   pub place-absent : heldAt t m r ≡ false → changesOf (listed (holdsAt t k m r)) w ≡ w
-  unfolding holdsAt
-  place-absent e = rw (certificate-absent t m r e) (go (eqb (markAt t m r) k))
-    where
-      go : (b : Bool) → changesOf (listed (cond b none none)) w ≡ w
-      go true = changes-none w
-      go false = changes-none w
+  place-absent e = rw (holds-absent t k m r e) (changes-none w)
 
   -- neither does one with another mark
   pub place-other : (markAt t m r ≡ k → ⊥) → changesOf (listed (holdsAt t k m r)) w ≡ w
-  unfolding holdsAt
-  place-other e = rw (ne-eqb (markAt t m r) k e) (changes-none w)
+  place-other e = rw (holds-other t k m r e) (changes-none w)
 
   pub place-present : heldAt t m r ≡ true → markAt t m r ≡ k → changesOf (listed (holdsAt t k m r)) w ≡ changes (contentAt t m r .transactions) w
-  unfolding holdsAt
-  place-present e q = rw (eq-eqb (markAt t m r) k q, certificate-present t m r e) (changes-one (contentAt t m r) w)
+  place-present e q = rw (holds-present t k m r e q) (changes-one (contentAt t m r) w)
 
 -- a place that is not marked changes nothing
 place-unmarked : (t : List ℕ) (k p : ℕ) (w : List ℕ) → (Marked t k p → ⊥) → placeChange t k p w ≡ w
@@ -98,11 +91,12 @@ places-next t k e p q w h x f =
 
 -- by round, then author
 pub block-rows : (t : List ℕ) (k n : ℕ) (w : List ℕ) → blockChange n t k w ≡ foldTo (λ r. foldTo (λ m. changesOf (listed (holdsAt t (k + 1) m (r + 1)))) 16) n w
-unfolding blockChange blockAt isRound
+unfolding blockChange
 block-rows t k n w =
     ordered-changes n (blockAt n t (k + 1)) (chainOf n t k) w
     ∙ fold-same (λ r. foldTo (λ m. changesOf (listed (blockAt n t (k + 1) .holds m (suc r)))) 16) (λ r. foldTo (λ m. changesOf (listed (holdsAt t (k + 1) m (r + 1)))) 16) n w
-    (λ r v h. rw (le-leb 1 (suc r) (omega arith), le-leb (suc r) n (omega arith), add-one r) refl)
+    (λ r v h. fold-same (λ m. changesOf (listed (blockAt n t (k + 1) .holds m (suc r)))) (λ m. changesOf (listed (holdsAt t (k + 1) m (r + 1)))) 16 v
+    (λ m u _. rw (add-one r, block-inside n t (k + 1) m (suc r) (omega arith) h) refl))
 
 -- place by place
 pub block-places : (t : List ℕ) (k n : ℕ) (w : List ℕ) → blockChange n t k w ≡ placesChange t (k + 1) (n * 16 + 16) w

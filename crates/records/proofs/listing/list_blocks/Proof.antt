@@ -8,7 +8,7 @@ use Rattle.lines.specs.Puts.{Puts, puts-then}
 use Rattle.records.specs.Listing.{chainLines}
 use Rattle.records.specs.Counts.{blockCount, chainCount}
 use Rattle.records.specs.CountLaws.{count-more, count-all}
-use Rattle.records.specs.BlockLaws.{chain-none, chain-next}
+use Rattle.records.specs.BlockLaws.{lines-none, lines-next}
 use Rattle.records.specs.PutLaws.{puts-none, puts-as}
 use Rattle.records.proofs.listing.list_blocks.Statement.{statement}
 use Rattle.records.proofs.listing.list_blocks.Tie as tie
@@ -24,7 +24,7 @@ abbrev μ-loop : tie.MeasureT-loop
 
 -- src/listing.rt:72:5
 loop-holds : tie.Need-loop-holds Inv-loop μ-loop
-loop-holds c = (omega arith, refl, puts-none (chain-none _ _))
+loop-holds c = (omega arith, refl, puts-none (lines-none _ _))
 
 -- src/listing.rt:73:9
 list-block-requires : tie.Need-list-block-requires Inv-loop μ-loop
@@ -49,7 +49,7 @@ loop-again : tie.Need-loop-again Inv-loop μ-loop
 loop-again c =
     let a = c .before .before .before .before .before .before .before .before .before .args in
     let x = c .before .before .before .before .before .loop in
-    (omega arith, c .before .before .list-block .kept .1 .1 .1 .1 .1 .0 ∙ x .inv .1, puts-as (chain-next _ _ (x .k)) (omega (arith, count-more (a .n .0) (a .t .now) (x .k))) (puts-then (x .inv .2) (c .before .before .list-block .ensures)))
+    (omega arith, c .before .before .list-block .kept .1 .1 .1 .1 .1 .0 ∙ x .inv .1, puts-as (lines-next _ _ (x .k)) (omega (arith, count-more (a .n .0) (a .t .now) (x .k))) (puts-then (x .inv .2) (c .before .before .list-block .ensures)))
 
 -- src/listing.rt:58:1
 same-length : tie.Need-same-length Inv-loop μ-loop
