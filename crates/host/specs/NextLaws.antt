@@ -15,8 +15,10 @@ use Rattle.terms.specs.declared.Slot.{Slot}
 use Rattle.terms.specs.declared.Transaction.{Transaction}
 use Rattle.terms.specs.Transactions.{readTransaction, noTransaction}
 use Rattle.terms.specs.Proposals.{slotOf}
+use Rattle.terms.specs.ProposalLaws.{slot-tab}
 use Rattle.sheet.specs.declared.Sheet.{Sheet}
 use Rattle.sheet.specs.Sheets.{weightAt, filled}
+use Rattle.sheet.specs.SheetLaws.{filled-weights}
 use Rattle.state.specs.declared.State.{State}
 use Rattle.member.specs.Answers.{numberIn}
 use Rattle.member.specs.Open.{noBody, closedState, freshState, openOutcome}
@@ -47,8 +49,8 @@ unfolding tidy
 tidy-by s e h = rw (e, h) refl
 
 slot-of-body : (w : List ℕ) (a k : ℕ) → k < 4 → slotOf (bodyIn w a) k ≡ slotIn w a k .transaction
-unfolding slotOf bodyIn
-slot-of-body w a k h = ap (λ (z : Slot). z .transaction) (getD-tab (slotIn w a) 4 k (record { transaction = noTransaction }) h)
+unfolding bodyIn
+slot-of-body w a k h = slot-tab (word w a) (word w (a + 1)) (slotIn w a) k h
 
 slot-tidy : (w : List ℕ) (a k : ℕ) → k < 4 → _≡_ {A = Slot} (record { transaction = usedOf (bodyIn w a) k }) (slotIn w a k)
 unfolding usedOf bodyIn slotIn
@@ -79,8 +81,7 @@ unfolding stateIn settingsIn
 weights-tidy w = sixteen-tab (λ i. word w (4 + i))
 
 filled-tidy : (a : Sheet) → sixteen (filled a .weights) ≡ filled a .weights
-unfolding filled
-filled-tidy a = sixteen-tab (weightAt (a .weights))
+filled-tidy a = rw (filled-weights a) (sixteen-tab (weightAt (a .weights)))
 
 blocks-tidy : (w : List ℕ) (k : ℕ) → tidy (withBlocks (stateIn w) k) ≡ withBlocks (stateIn w) k
 unfolding stateIn

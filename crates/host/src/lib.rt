@@ -1,9 +1,9 @@
 // The engine for a host: every call and read over stretches of words that the host lends.
-pub mod answers;
-pub mod bodies;
-pub mod calls;
-pub mod proposals;
-pub mod sheets;
-pub mod states;
-pub mod views;
-pub mod words;
+mod answers;
+mod bodies;
+mod calls;
+mod proposals;
+mod sheets;
+mod states;
+mod views;
+mod words;

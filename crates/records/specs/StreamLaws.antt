@@ -1,20 +1,18 @@
 -- Laws of streams of records: one after another, and wherever the pieces of the input part.
 use mathlib.Core.Path.{_≡_, refl, sym, ap, _∙_}
-use mathlib.Core.Bool.{Bool, true, false, cond}
+use mathlib.Core.Bool.{Bool, false}
 use mathlib.Core.List.{List, [], _∷_, _++_, append-assoc, append-nil}
 use mathlib.Core.Option.{Option, some}
-use Prim.Native.Nat.{ℕ, _≤_}
+use Prim.Native.Nat.{ℕ}
 use native.Mathlib.Omega.{arith}
-use lib.ListN.{length, take, drop}
-use lib.Dec.{eqb, ltb}
+use lib.ListN.{take, drop}
 use Rattle.state.specs.declared.State.{State}
 use Rattle.requests.specs.declared.Reading.{Reading}
 use Rattle.stream.specs.declared.Step.{Step}
 use Rattle.stream.specs.declared.Event.{Event}
 use Rattle.stream.specs.declared.Event.the-variants as event
 use Rattle.stream.specs.Streams.{hasEnd}
-use Rattle.stream.specs.StreamLaws.{ended-short}
-use Rattle.stream.specs.Steps.{left, telling, passed, stepOf, lastOf}
+use Rattle.stream.specs.Steps.{left, telling, stepOf, lastOf}
 use Rattle.stream.specs.StepLaws.{step-told, last-told}
 use Rattle.lines.specs.Lines.{refusedLine}
 use Rattle.lines.specs.Puts.{Puts}
@@ -77,32 +75,3 @@ module _ {s : State} {t : List ℕ} {x : List ℕ} {y : List ℕ} {at : ℕ} {ne
 pub through-nothing : {s : State} {t : List ℕ} {x : List ℕ} {at : ℕ} (b : List ℕ) {e : Event} → e ≡ event.Nothing → Through s t (telling e b []) s t x x at at
 unfolding stateThrough tableThrough answersTo
 through-nothing b e = rw e (record { its-state = refl; its-table = refl; its-lines = puts-none refl })
-
--- ---- a step stays within the bytes at hand
-
-passed-within : (l : List ℕ) → passed l ≤ length l
-unfolding passed
-passed-within [] = omega arith
-passed-within (x ∷ []) = go (eqb x 13)
-  where
-    go : (b : Bool) → cond b 0 1 ≤ 1
-    go true = omega arith
-    go false = omega arith
-passed-within (x ∷ y ∷ l) = let h = passed-within (y ∷ l) in omega arith
-
-pub record StepWithin (skipping : Bool) (l : List ℕ) : Type 0 where
-  pub length-to : stepOf skipping l .length ≤ length l
-  pub next-to : stepOf skipping l .next ≤ length l
-
-pub step-within : (skipping : Bool) (l : List ℕ) → StepWithin skipping l
-unfolding stepOf
-step-within skipping l = by (hasEnd l) refl skipping
-  where
-    by : (x : Bool) → hasEnd l ≡ x → (b : Bool) → StepWithin b l
-    by true e b = let h = ended-short l e in record { length-to = rw e (omega arith); next-to = rw e (omega arith) }
-    by false e true = record { length-to = rw e (omega arith); next-to = rw e (passed-within l) }
-    by false e false = go (ltb (length l) 1024) refl
-      where
-        go : (c : Bool) → ltb (length l) 1024 ≡ c → StepWithin false l
-        go true q = record { length-to = rw (e, q) (omega arith); next-to = rw (e, q) (omega arith) }
-        go false q = record { length-to = rw (e, q) (omega arith); next-to = rw (e, q) (passed-within l) }

@@ -1,7 +1,7 @@
 // Records served: the call that a record asks for, and the lines that answer it.
 pub mod answer;
-pub mod known;
-pub mod listing;
+mod known;
+mod listing;
 pub mod turn;
 
 use commit::Committed;

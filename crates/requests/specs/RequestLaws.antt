@@ -1,6 +1,6 @@
 -- Laws of requests: what one field more comes to, and readings of requests.
 use mathlib.Core.Path.{_≡_, refl, ap, sym, _∙_}
-use mathlib.Core.Bool.{true, false, true≢false, false≢true}
+use mathlib.Core.Bool.{Bool, true, false, cond, true≢false, false≢true}
 use mathlib.Core.List.{List, [], _∷_}
 use mathlib.Core.Option.{Option, none, some}
 use native.Mathlib.Omega.{arith}
@@ -18,7 +18,7 @@ use Rattle.requests.specs.declared.setting.SettingRead.the-variants.{NoS
 use Rattle.requests.specs.declared.setting.Weights.{Weights}
 use Rattle.fields.specs.Fields.{fieldsFrom}
 use Rattle.fields.specs.FieldLaws.{from-step, from-none}
-use Rattle.fields.specs.Numbers.{given, numberTo}
+use Rattle.fields.specs.Numbers.{given, numberTo, number, set}
 use Rattle.requests.specs.Settings.{setting}
 use Rattle.fields.specs.NumberLaws.{number-le}
 use Rattle.fields.specs.Steps.{found, firstBy, rest, Stepped}
@@ -26,7 +26,7 @@ use Rattle.fields.specs.StepLaws.{found-of, found-none}
 use Rattle.requests.specs.SettingLaws.{setting-of, setting-none}
 use Rattle.requests.specs.Triples.{atKind}
 use Rattle.requests.specs.Bodies.{bodyOf}
-use Rattle.requests.specs.Requests.{Request, unreadable, nextBy, atEnd, triplesThen, cellsIn, weightsThen}
+use Rattle.requests.specs.Requests.{Request, unreadable, endorse, accept, nextBy, atEnd, triplesThen, cellsIn, weightsThen, endorseOf, acceptOf}
 use Rattle.requests.specs.Readings.{callReading, plainReading, readingOf, endReading, triplesOf, triplesReading, settingFound, weightsOf}
 use Rattle.requests.specs.declared.triple.Triples.{Triples}
 
@@ -65,6 +65,18 @@ module _ (s : List ℕ) (at : ℕ) (k : Setting → List (List ℕ) → Request)
 
   pub setting-stops : r ≡ NoSetting → nextBy setting (fieldsFrom s at) k ≡ unreadable
   setting-stops q = next-fails setting k (fieldsFrom s at) (setting-none _ (sym e ∙ q))
+
+-- an accept and an endorse part after the previous set
+pub part-late : (b : Bool) (fs : List (List ℕ)) → cond b (acceptOf fs) (endorseOf fs)
+    ≡ nextBy number fs (λ a fs. nextBy number fs (λ r fs. nextBy set fs (λ p fs. cond b (nextBy set fs (λ e fs. triplesThen fs (λ l. accept a r p e l))) (triplesThen fs (λ l. endorse a r p l)))))
+part-late true fs = refl
+part-late false fs = refl
+
+pub part-accept : (b : Bool) (fs : List (List ℕ)) → b ≡ true → cond b (acceptOf fs) (endorseOf fs) ≡ acceptOf fs
+part-accept b fs e = rw e refl
+
+pub part-endorse : (b : Bool) (fs : List (List ℕ)) → b ≡ false → cond b (acceptOf fs) (endorseOf fs) ≡ endorseOf fs
+part-endorse b fs e = rw e refl
 
 -- the weights
 module _ (fs : List (List ℕ)) (k : List Cell → Request) {w : Weights} (e : w ≡ weightsOf (cellsIn 16 fs)) where

@@ -9,6 +9,7 @@ use terms::Body;
 use terms::Member;
 use terms::Round;
 ghost use mathlib.Core.Path.{_≡_};
+ghost use mathlib.Core.Bool.{cond};
 ghost use Prim.Native.Nat.{_+_, _≤_};
 ghost use lib.ListN.{length};
 ghost use Rattle.requests.specs.declared.Kind.the-variants.{Unreadable};
@@ -163,10 +164,10 @@ pub fn read_propose(rec: &[u8], at: usize) -> Reading
     )
 }
 
-// endorse, author, round, previous, triples
-pub fn read_endorse(rec: &[u8], at: usize) -> Reading
+// The fields of an endorse, or of an accept, which has endorsers too.
+fn read_proposal(rec: &[u8], at: usize, certified: bool) -> Reading
     requires { ⌜ (at ≤ length (now rec) + 1) × (length (now rec) ≤ 1022) ⌝ }
-    ensures { λ r. ⌜ r ≡ readingOf (endorseOf (fieldsFrom (now (rec .entry)) at)) ⌝ }
+    ensures { λ r. ⌜ r ≡ readingOf (cond certified (acceptOf (fieldsFrom (now (rec .entry)) at)) (endorseOf (fieldsFrom (now (rec .entry)) at))) ⌝ }
 {
     let a = fields::number::number_at(rec, at, crate::MOST);
     let x = a.number;
@@ -183,15 +184,39 @@ pub fn read_endorse(rec: &[u8], at: usize) -> Reading
     let Number::Of(previous) = z else {
         return unreadable();
     };
+    if !certified {
+        return with_triples(
+            rec,
+            p.next,
+            Kind::Endorse,
+            Member(author),
+            Round(round),
+            previous as u16,
+            0,
+        );
+    }
+    let e = fields::number::number_at(rec, p.next, crate::MOST_SET);
+    let v = e.number;
+    let Number::Of(endorsers) = v else {
+        return unreadable();
+    };
     with_triples(
         rec,
-        p.next,
-        Kind::Endorse,
+        e.next,
+        Kind::Accept,
         Member(author),
         Round(round),
         previous as u16,
-        0,
+        endorsers as u16,
     )
+}
+
+// endorse, author, round, previous, triples
+pub fn read_endorse(rec: &[u8], at: usize) -> Reading
+    requires { ⌜ (at ≤ length (now rec) + 1) × (length (now rec) ≤ 1022) ⌝ }
+    ensures { λ r. ⌜ r ≡ readingOf (endorseOf (fieldsFrom (now (rec .entry)) at)) ⌝ }
+{
+    read_proposal(rec, at, false)
 }
 
 // certify, endorsers
@@ -216,33 +241,5 @@ pub fn read_accept(rec: &[u8], at: usize) -> Reading
     requires { ⌜ (at ≤ length (now rec) + 1) × (length (now rec) ≤ 1022) ⌝ }
     ensures { λ r. ⌜ r ≡ readingOf (acceptOf (fieldsFrom (now (rec .entry)) at)) ⌝ }
 {
-    let a = fields::number::number_at(rec, at, crate::MOST);
-    let x = a.number;
-    let Number::Of(author) = x else {
-        return unreadable();
-    };
-    let r = fields::number::number_at(rec, a.next, crate::MOST);
-    let y = r.number;
-    let Number::Of(round) = y else {
-        return unreadable();
-    };
-    let p = fields::number::number_at(rec, r.next, crate::MOST_SET);
-    let z = p.number;
-    let Number::Of(previous) = z else {
-        return unreadable();
-    };
-    let e = fields::number::number_at(rec, p.next, crate::MOST_SET);
-    let v = e.number;
-    let Number::Of(endorsers) = v else {
-        return unreadable();
-    };
-    with_triples(
-        rec,
-        e.next,
-        Kind::Accept,
-        Member(author),
-        Round(round),
-        previous as u16,
-        endorsers as u16,
-    )
+    read_proposal(rec, at, true)
 }

@@ -7,9 +7,10 @@ use native.Mathlib.Omega.{arith}
 use lib.ListN.{length, drop, length-drop}
 use Rattle.state.specs.declared.State.{State}
 use Rattle.stream.specs.Steps.{left, stepOf}
+use Rattle.stream.specs.StepLaws.{step-within}
 use Rattle.lines.specs.Puts.{Puts, puts-then}
 use Rattle.records.specs.Streams.{answersTo, stateThrough, tableThrough, toldBy, Through}
-use Rattle.records.specs.StreamLaws.{turn-whole, step-within}
+use Rattle.records.specs.StreamLaws.{turn-whole}
 
 -- from a state, a table, whether a record that was answered goes on, and the bytes at hand, to those after the work; x is the output buffer before and y after it
 pub record Goes (s : State) (t : List ℕ) (skipping : Bool) (hand : List ℕ) (s′ : State) (t′ : List ℕ) (skipping′ : Bool) (hand′ : List ℕ) (x y : List ℕ) (at next : ℕ) : Type 0 where

@@ -57,6 +57,11 @@ some-weight S h =
     go true e = refl
     go false e = absurd (true≢false e)
 
+-- the filled weights, member by member
+pub filled-weights : (s : Sheet) → filled s .weights ≡ tab (weightAt (s .weights)) 16
+unfolding filled
+filled-weights s = refl
+
 -- sheets with equal filled settings are the same to opening: its checks of a sheet are those of the filled settings
 pub same-sheets : (s u : Sheet) → filled s ≡ filled u → settingChecks (filled s) ≡ settingChecks (filled u)
 same-sheets s u e = ap settingChecks e

@@ -87,3 +87,14 @@ unfolding passed
 passed-most [] = omega arith
 passed-most (x ∷ []) = omega arith
 passed-most (x ∷ y ∷ s) = let h = passed-most (y ∷ s) in omega arith
+
+-- no more bytes than there are
+pub passed-within : (l : List ℕ) → passed l ≤ length l
+unfolding passed
+passed-within [] = omega arith
+passed-within (x ∷ []) = go (eqb x 13)
+  where
+    go : (b : Bool) → cond b 0 1 ≤ 1
+    go true = omega arith
+    go false = omega arith
+passed-within (x ∷ y ∷ l) = let h = passed-within (y ∷ l) in omega arith

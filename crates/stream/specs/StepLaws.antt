@@ -7,14 +7,14 @@ use Prim.Native.Nat.{ℕ, _+_, _≤_, _<_}
 use native.Mathlib.Omega.{arith}
 use native.Mathlib.Decide.{decLt}
 use lib.ListN.{drop, take, length, length-append}
-use lib.Dec.{leb}
+use lib.Dec.{leb, ltb}
 use borrow.Author.Tests.{lt-ltb, le-ltb, lt-leb}
 use Rattle.stream.specs.declared.Event.the-variants.{Nothing, Record, Unreadable}
 use Rattle.stream.specs.declared.Step.{Step}
 use Rattle.stream.specs.Streams.{recordsOf, fitting, readables, untilEnd, hasEnd, afterEnd}
 use Rattle.stream.specs.StreamLaws.{records-step, until-take, ended-short, after-none, short-ended, whole-open}
 use Rattle.stream.specs.Steps.{left, telling, passed, endedStep, openStep, stepOf, lastOf}
-use Rattle.stream.specs.PieceLaws.{EndsIn, ends-in, after-passed, until-long, passed-most}
+use Rattle.stream.specs.PieceLaws.{EndsIn, ends-in, after-passed, until-long, passed-most, passed-within}
 
 -- the step, by whether a CRLF is at hand
 pub step-ended : (b : Bool) (s : List ℕ) → length (untilEnd s) < length s → stepOf b s ≡ endedStep b (length (untilEnd s))
@@ -97,6 +97,24 @@ step-waits b l h = go (hasEnd l) refl b h
             let q = rw (le-ltb (length l) 1024 m) at h in
             let p = passed-most l in
             absurd (omega arith)
+
+-- a step stays within the bytes at hand
+pub record StepWithin (skipping : Bool) (l : List ℕ) : Type 0 where
+  pub length-to : stepOf skipping l .length ≤ length l
+  pub next-to : stepOf skipping l .next ≤ length l
+
+pub step-within : (skipping : Bool) (l : List ℕ) → StepWithin skipping l
+unfolding stepOf
+step-within skipping l = by (hasEnd l) refl skipping
+  where
+    by : (x : Bool) → hasEnd l ≡ x → (b : Bool) → StepWithin b l
+    by true e b = let h = ended-short l e in record { length-to = rw e (omega arith); next-to = rw e (omega arith) }
+    by false e true = record { length-to = rw e (omega arith); next-to = rw e (passed-within l) }
+    by false e false = go (ltb (length l) 1024) refl
+      where
+        go : (c : Bool) → ltb (length l) 1024 ≡ c → StepWithin false l
+        go true q = record { length-to = rw (e, q) (omega arith); next-to = rw (e, q) (omega arith) }
+        go false q = record { length-to = rw (e, q) (omega arith); next-to = rw (e, q) (passed-within l) }
 
 -- at the end of input, bytes without a CRLF are an unreadable record, if there are any
 pub last-told : (b : Bool) (l : List ℕ) → hasEnd l ≡ false → left b l ≡ telling (lastOf b l) [] []

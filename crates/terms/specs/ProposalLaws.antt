@@ -10,13 +10,14 @@ use lib.Dec.{eqb, ltb, leb}
 use borrow.Author.Tests.{eq-eqb, ne-eqb, eqb-true, leb-true, lt-ltb, not-false}
 use Rattle.base.specs.Bools.{both}
 use Rattle.base.specs.Folds.{allTo, anyTo, tab}
-use Rattle.base.specs.FoldLaws.{length-tab}
+use Rattle.base.specs.FoldLaws.{length-tab, getD-tab}
 use Rattle.base.specs.TestLaws.{any-true}
 use Rattle.base.specs.Sets.{isIn, isEmpty}
 use Rattle.base.specs.UnionLaws.{in-none, empty-in}
 use Rattle.terms.specs.declared.Transaction.{Transaction}
 use Rattle.terms.specs.declared.Transaction.the-variants.{Bond, Unbond, Entry}
 use Rattle.terms.specs.Transactions.{kindOf, numberOf, amountOf, readTransaction, noTransaction, sameTransaction, bondInRange, inRange}
+use Rattle.terms.specs.declared.Slot.{Slot}
 use Rattle.terms.specs.declared.Body.{Body}
 use Rattle.terms.specs.Proposals.{Content, slotOf, transactionsOf, sameTransactions, same, allInRange, unfit, wrongSet}
 
@@ -153,6 +154,11 @@ transactions-tab b = refl
 
 pub length-transactions : (b : Body) → length (transactionsOf b) ≡ b .count
 length-transactions b = rw (transactions-tab b) (length-tab (slotOf b) (b .count))
+
+-- the slots of a body that are filled place by place
+pub slot-tab : (v n : ℕ) (f : ℕ → Slot) (k : ℕ) → k < 4 → slotOf (record { previous = v; count = n; slots = tab f 4 }) k ≡ f k .transaction
+unfolding slotOf
+slot-tab v n f k h = ap (λ (z : Slot). z .transaction) (getD-tab f 4 k (record { transaction = noTransaction }) h)
 
 -- four slots hold the transactions of a list that is not longer
 pub four-slots : (v : ℕ) (l : List Transaction) → length l ≤ 4

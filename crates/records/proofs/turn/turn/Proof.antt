@@ -4,7 +4,8 @@ use lib.ListN.{length}
 use mathlib.Core.Path.{ap, sym}
 use native.Mathlib.Omega.{arith}
 use Rattle.stream.specs.declared.Step.{Step}
-use Rattle.records.specs.StreamLaws.{through-step, step-within}
+use Rattle.stream.specs.StepLaws.{step-within}
+use Rattle.records.specs.StreamLaws.{through-step}
 use borrow.Author.Needs.{needs}
 use Rattle.records.proofs.turn.turn.Statement.{statement}
 use Rattle.records.proofs.turn.turn.Tie as tie
