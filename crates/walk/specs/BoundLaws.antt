@@ -14,14 +14,15 @@ use Rattle.terms.specs.Transactions.{amountOf}
 use Rattle.store.specs.Table.{blockRound, heldAt, markAt, countAt, transactionAt}
 use Rattle.store.specs.TableLaws.{count-le, amount-lt}
 use Rattle.committee.specs.Chain.{holdsAt, blockAt, chainOf}
+use Rattle.committee.specs.ChainLaws.{block-round}
 use Rattle.committee.specs.Changes.{change, changesOf, listed}
 use Rattle.committee.specs.Committees.{step, bondedFrom}
-use Rattle.committee.specs.BondedLaws.{bonded-fold}
+use Rattle.committee.specs.BondedLaws.{step-waits, bonded-fold}
 use Rattle.committee.specs.Totals.{totalIn, Raises}
 use Rattle.committee.specs.TotalLaws.{still-raises, choice-raises, change-raises, raised, raises-more, raises-same, fold-raises, fold-raises-each, marks-once}
 use Rattle.walk.specs.Walk.{slotChange, placeChange, placesChange, blockChange, afterBlocks}
 use Rattle.walk.specs.WalkLaws.{record-fold, place-absent, place-other, place-present, block-rows}
-use Rattle.walk.specs.ChainLaws.{block-counts, block-waits}
+use Rattle.walk.specs.ChainLaws.{block-counts}
 
 -- the amounts of held transactions are at most a, in the rounds 1 to n
 abbrev pub Modest : List ℕ → ℕ → ℕ → Type 0
@@ -62,7 +63,7 @@ module _ (t : List ℕ) (n a : ℕ) (modest : Modest t n a) where
 
       go : Dec (blockRound t (k + 1) < s) → Raises (step n s (blockAt n t (k + 1)) (chainOf n t k)) c
       go (yes h) = raises-same (step n s (blockAt n t (k + 1)) (chainOf n t k)) (blockChange n t k) c (λ w. block-counts n s k t w h) (block-raises k)
-      go (no h) = raises-same (step n s (blockAt n t (k + 1)) (chainOf n t k)) (λ w. w) c (λ w. block-waits n s k t w (omega arith)) (still-raises c)
+      go (no h) = raises-same (step n s (blockAt n t (k + 1)) (chainOf n t k)) (λ w. w) c (λ w. step-waits n s (blockAt n t (k + 1)) (chainOf n t k) w (rw (block-round n t (k + 1)) (omega arith))) (still-raises c)
 
   -- each place counts once at most
   once : (f : ℕ → List ℕ → List ℕ) → ((k : ℕ) → Raises (f k) (sumTo (λ r. sumTo (λ m. cond (eqb (markAt t m (r + 1)) (k + 1)) (4 * a) 0) 16) n)) → (k : ℕ) → Raises (foldTo f k) (n * (16 * (4 * a)))

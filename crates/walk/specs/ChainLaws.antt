@@ -36,13 +36,10 @@ last-chain n t k = chain-last n t k
 
 -- ---- a block
 
--- of a round below s it counts, of another it does not
+-- of a round below s it counts
 pub block-counts : (n s k : ℕ) (t w : List ℕ) → blockRound t (k + 1) < s → step n s (blockAt n t (k + 1)) (chainOf n t k) w ≡ blockChange n t k w
 unfolding blockChange
 block-counts n s k t w h = step-counts n s (blockAt n t (k + 1)) (chainOf n t k) w (rw (block-round n t (k + 1)) h)
-
-pub block-waits : (n s k : ℕ) (t w : List ℕ) → s ≤ blockRound t (k + 1) → step n s (blockAt n t (k + 1)) (chainOf n t k) w ≡ w
-block-waits n s k t w h = step-waits n s (blockAt n t (k + 1)) (chainOf n t k) w (rw (block-round n t (k + 1)) h)
 
 -- ---- rounds that rise
 
@@ -108,7 +105,7 @@ module _ (n : ℕ) (t : List ℕ) (blocks : ℕ) (fit : blocksFit n t blocks ≡
       go (no e) g =
           let u = last-up (suc j) (suc k) (omega arith) l in
           let x : s ≤ blockRound t (k + 1) = omega (arith, f (omega arith), last-next j, last-next k) in
-          rw (← add-one k, bonded-more n t w k s, block-waits n s k t (bondedFrom n w (chainOf n t k) s) x) (g (omega arith))
+          rw (← add-one k, bonded-more n t w k s, step-waits n s (blockAt n t (k + 1)) (chainOf n t k) (bondedFrom n w (chainOf n t k) s) (rw (block-round n t (k + 1)) x)) (g (omega arith))
 
 -- ---- one block more
 
