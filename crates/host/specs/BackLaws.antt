@@ -8,6 +8,7 @@ use lib.ListN.{length, length-append}
 use lib.Dec.{eqb, leb, ltb}
 use lib.Seq.{paste, length-paste}
 use borrow.Author.Tests.{lt-ltb}
+use Rattle.base.specs.Bools.{cond-same}
 use Rattle.base.specs.Paste.{paste-inside}
 use Rattle.base.specs.Folds.{tab}
 use Rattle.base.specs.TestLaws.{all-hold}
@@ -21,10 +22,10 @@ use Rattle.state.specs.declared.State.{State}
 use Rattle.member.specs.Open.{noBody}
 use Rattle.host.specs.Words.{word, sixteen}
 use Rattle.host.specs.PasteLaws.{length-sixteen}
-use Rattle.host.specs.Bodies.{isTriple, tripleReads, looked, bodyReads, slotIn, bodyIn, usedOf, usedWords, bodyWords}
+use Rattle.host.specs.Bodies.{isTriple, tripleReads, bodyReads, slotIn, bodyIn, usedOf, usedWords, bodyWords}
 use Rattle.host.specs.States.{stateReads, settingsIn, keptIn, stateIn, keptOf, stateWords}
 use Rattle.host.specs.PutLaws.{length-body}
-use Rattle.host.specs.SameLaws.{Agree, state-same, state-reads-same, looked-le}
+use Rattle.host.specs.SameLaws.{Agree, state-same, state-reads-same}
 use Rattle.host.specs.TidyStates.{tidyBody, tidy}
 
 -- ---- a transaction
@@ -92,12 +93,15 @@ words-back : (s : State) → stateIn (stateWords s) ≡ tidy s
 unfolding stateIn tidy
 words-back s = let n = numbers-back s in rw (head-back s, kept-back s, flag-back s, there-back (s .proposing), n .0, n .1 .0, n .1 .1) refl
 
+either : (b : Bool) {x : Bool} → x ≡ true → cond b x true ≡ true
+either b e = rw e (cond-same b true)
+
 triple-read : (s : State) (k : ℕ) → k < 4 → tripleReads (stateWords s) 23 k ≡ true
 unfolding tripleReads stateWords bodyWords usedWords sixteen tab
-triple-read s zero h = triple-reads (usedOf (keptOf s) 0)
-triple-read s (suc zero) h = triple-reads (usedOf (keptOf s) 1)
-triple-read s (suc (suc zero)) h = triple-reads (usedOf (keptOf s) 2)
-triple-read s (suc (suc (suc zero))) h = triple-reads (usedOf (keptOf s) 3)
+triple-read s zero h = either (ltb 0 (keptOf s .count)) (triple-reads (usedOf (keptOf s) 0))
+triple-read s (suc zero) h = either (ltb 1 (keptOf s .count)) (triple-reads (usedOf (keptOf s) 1))
+triple-read s (suc (suc zero)) h = either (ltb 2 (keptOf s .count)) (triple-reads (usedOf (keptOf s) 2))
+triple-read s (suc (suc (suc zero))) h = either (ltb 3 (keptOf s .count)) (triple-reads (usedOf (keptOf s) 3))
 triple-read s (suc (suc (suc (suc k)))) h = absurd (omega arith)
 
 set-back : (s : State) → word (stateWords s) 23 ≡ keptOf s .previous
@@ -106,9 +110,7 @@ set-back s = refl
 
 body-read : (s : State) → keptOf s .previous < 65536 → bodyReads (stateWords s) 23 ≡ true
 unfolding bodyReads
-body-read s h =
-    let n = looked (word (stateWords s) 24) in
-    rw (set-back s, lt-ltb (keptOf s .previous) 65536 h) (all-hold (tripleReads (stateWords s) 23) n (λ k l. triple-read s k (let m = looked-le (word (stateWords s) 24) in omega arith)))
+body-read s h = rw (set-back s, lt-ltb (keptOf s .previous) 65536 h) (all-hold (tripleReads (stateWords s) 23) 4 (triple-read s))
 
 words-read : (s : State) → (s .proposing ≡ true → s .body .previous < 65536) → stateReads (stateWords s) ≡ true
 unfolding stateReads

@@ -1,5 +1,5 @@
 -- A body as fourteen words: previous set, count, four transactions of three words each (kind, number, amount).
-use mathlib.Core.Bool.{Bool, cond, _&&_, _||_}
+use mathlib.Core.Bool.{Bool, true, cond, _&&_, _||_}
 use mathlib.Core.List.{List, [], _∷_, _++_}
 use Prim.Native.Nat.{ℕ, zero, suc, _+_, _*_}
 use lib.ListN.{length}
@@ -18,17 +18,13 @@ use Rattle.host.specs.Words.{word}
 unfoldable pub isTriple : ℕ → ℕ → Bool
 isTriple kind amount = eqb kind 0 || (leb kind 2 && eqb amount 0)
 
--- transaction k of the body from word a on
+-- transaction k of the body from word a on; what lies beyond the count is not looked at
 unfoldable pub tripleReads : List ℕ → ℕ → ℕ → Bool
-tripleReads w a k = isTriple (word w (a + 2 + k * 3)) (word w (a + 2 + k * 3 + 2))
+tripleReads w a k = cond (ltb k (word w (a + 1))) (isTriple (word w (a + 2 + k * 3)) (word w (a + 2 + k * 3 + 2))) true
 
--- at most four transactions are looked at
-unfoldable pub looked : ℕ → ℕ
-looked n = cond (ltb 4 n) 4 n
-
--- the previous set is a set of members, and so for each transaction that is looked at
+-- the previous set is a set of members, and so for each of four transactions
 unfoldable pub bodyReads : List ℕ → ℕ → Bool
-bodyReads w a = ltb (word w a) 65536 && allTo (tripleReads w a) (looked (word w (a + 1)))
+bodyReads w a = ltb (word w a) 65536 && allTo (tripleReads w a) 4
 
 -- a body by itself
 unfoldable pub loneBodyReads : List ℕ → Bool

@@ -1,30 +1,19 @@
 -- Words that agree on a layout give the same: what lies beyond is no part of it.
 use mathlib.Core.Path.{_≡_, refl}
-use mathlib.Core.Bool.{cond}
 use mathlib.Core.List.{List}
 use Prim.Native.Nat.{ℕ, _+_, _*_, _<_, _≤_}
 use native.Mathlib.Omega.{arith}
-use native.Mathlib.Decide.{decLt}
 use lib.ListN.{length, getD}
-use lib.Dec.{ltb}
-use borrow.Author.Tests.{le-leb, lt-ltb, le-ltb}
+use borrow.Author.Tests.{le-leb}
 use Rattle.base.specs.FoldLaws.{tab-same}
 use Rattle.base.specs.TestLaws.{all-same}
 use Rattle.host.specs.Words.{word}
-use Rattle.host.specs.Bodies.{tripleReads, looked, bodyReads, slotIn, bodyIn}
+use Rattle.host.specs.Bodies.{tripleReads, bodyReads, slotIn, bodyIn}
 use Rattle.host.specs.States.{stateReads, settingsIn, keptIn, stateIn}
 
 -- the first n words are the same
 abbrev pub Agree : ℕ → List ℕ → List ℕ → Type 0
 Agree n u v = (k : ℕ) → k < n → getD u k 0 ≡ getD v k 0
-
-pub looked-le : (n : ℕ) → looked n ≤ 4
-unfolding looked
-looked-le n = go (decLt 4 n)
-  where
-    go : Dec (4 < n) → cond (ltb 4 n) 4 n ≤ 4
-    go (yes h) = rw (lt-ltb 4 n h) (omega arith)
-    go (no h) = let l : n ≤ 4 = omega arith in rw (le-ltb 4 n l) l
 
 module _ (n : ℕ) (u v : List ℕ) (e : Agree n u v) where
   module _ (a : ℕ) (l : a + 14 ≤ n) where
@@ -34,7 +23,7 @@ module _ (n : ℕ) (u v : List ℕ) (e : Agree n u v) where
 
     triple-same : (k : ℕ) → k < 4 → tripleReads u a k ≡ tripleReads v a k
     unfolding tripleReads
-    triple-same k h = rw (e (a + 2 + k * 3) (omega arith), e (a + 2 + k * 3 + 2) (omega arith)) refl
+    triple-same k h = rw (e (a + 1) (omega arith), e (a + 2 + k * 3) (omega arith), e (a + 2 + k * 3 + 2) (omega arith)) refl
 
     pub body-same : bodyIn u a ≡ bodyIn v a
     unfolding bodyIn
@@ -42,8 +31,7 @@ module _ (n : ℕ) (u v : List ℕ) (e : Agree n u v) where
 
     pub body-reads-same : bodyReads u a ≡ bodyReads v a
     unfolding bodyReads
-    body-reads-same =
-        rw (e a (omega arith), e (a + 1) (omega arith), all-same (tripleReads u a) (tripleReads v a) (looked (word v (a + 1))) (λ k h. triple-same k (let m = looked-le (word v (a + 1)) in omega arith))) refl
+    body-reads-same = rw (e a (omega arith), all-same (tripleReads u a) (tripleReads v a) 4 triple-same) refl
 
 -- two stretches that agree on the 37 words of a state
 module _ (u v : List ℕ) (e : Agree 37 u v) where

@@ -7,8 +7,7 @@ ghost use mathlib.Core.Path.{_≡_};
 ghost use Prim.Native.Nat.{_+_, _<_, _≤_};
 ghost use lib.ListN.{length, getD};
 ghost use lib.Seq.{paste};
-ghost use Rattle.base.specs.Folds.{allTo};
-ghost use Rattle.host.specs.Bodies.{isTriple, tripleReads, looked, bodyReads, loneBodyReads, slotIn, slotsIn, bodyIn, usedOf, tripleWords, bodyWords};
+ghost use Rattle.host.specs.Bodies.{isTriple, tripleReads, bodyReads, loneBodyReads, slotIn, slotsIn, bodyIn, usedOf, tripleWords, bodyWords};
 
 // Are three words with this kind and amount a transaction?
 fn is_triple(kind: u32, amount: u32) -> bool
@@ -23,28 +22,16 @@ fn is_triple(kind: u32, amount: u32) -> bool
     amount == 0
 }
 
-// Can the first n transactions of the body from `at` on be read?
-fn triples_read(w: &[u32], at: usize, n: u32) -> bool
-    requires { ⌜ (at + 14 ≤ length (now w)) × (n ≤ 4) ⌝ }
-    ensures { λ v. ⌜ v ≡ allTo (tripleReads (now (w .entry)) at) n ⌝ }
+// Can transaction k of the body from `at` on be read? What lies beyond the count is not looked at.
+fn triple_reads(w: &[u32], at: usize, k: u32) -> bool
+    requires { ⌜ (at + 14 ≤ length (now w)) × (k < 4) ⌝ }
+    ensures { λ v. ⌜ v ≡ tripleReads (now (w .entry)) at k ⌝ }
 {
-    for k in 0..n {
+    if k < w[at + 1] {
         let i = at + 2 + k as usize * 3;
-        if !is_triple(w[i], w[i + 2]) {
-            return false;
-        }
+        return is_triple(w[i], w[i + 2]);
     }
     true
-}
-
-// How many transactions of a count are looked at.
-fn looked_at(n: u32) -> u32
-    ensures { λ v. ⌜ (v ≡ looked n) × (v ≤ 4) ⌝ }
-{
-    if 4 < n {
-        return 4;
-    }
-    n
 }
 
 // Can the body from `at` on be read?
@@ -55,8 +42,12 @@ pub fn body_reads(w: &[u32], at: usize) -> bool
     if 65536 <= w[at] {
         return false;
     }
-    let n = looked_at(w[at + 1]);
-    triples_read(w, at, n)
+    for k in 0..4u32 {
+        if !triple_reads(w, at, k) {
+            return false;
+        }
+    }
+    true
 }
 
 // Can the words be read as a body?
