@@ -30,6 +30,11 @@ module _ {R : Rules} (s : View R) where
   unfoldable pub anchorIn : List ℕ → ℕ → Option P
   anchorIn l r = cond (ltb (getD l r 0) 16) (s .dag (getD l r 0) r) none
 
+  -- where the list has a
+  pub anchor-in : (l : List ℕ) (r a : ℕ) → getD l r 0 ≡ a → anchorIn l r ≡ cond (ltb a 16) (s .dag a r) none
+  unfolding anchorIn
+  anchor-in l r a e = rw e refl
+
   abbrev pub onto : Option P → List P → List P
   onto none l = l
   onto (some q) l = q ∷ l

@@ -35,6 +35,14 @@ unfoldable pub roundsIn : List ℕ → ℕ → List ℕ
 roundsIn t zero = []
 roundsIn t (suc n) = blockRound t (suc n) ∷ roundsIn t n
 
+pub rounds-none : (t : List ℕ) → roundsIn t 0 ≡ []
+unfolding roundsIn
+rounds-none t = refl
+
+pub rounds-more : (t : List ℕ) (n : ℕ) → roundsIn t (suc n) ≡ blockRound t (suc n) ∷ roundsIn t n
+unfolding roundsIn
+rounds-more t n = refl
+
 pub rounds-length : (t : List ℕ) (n : ℕ) → length (roundsIn t n) ≡ n
 unfolding roundsIn
 rounds-length t zero = refl
@@ -48,6 +56,10 @@ rounds-same t u (suc n) f = ap₂ _∷_ (f (suc n) (omega arith) (omega arith)) 
 module _ {R : Rules} (s : View R) where
   unfoldable pub marksIn : List ℕ → ℕ → ℕ → ℕ
   marksIn t a q = cond (isHeld (s .dag a q)) (markAt t a q) 0
+
+  pub marks-in : (t : List ℕ) (a q : ℕ) → marksIn t a q ≡ cond (isHeld (s .dag a q)) (markAt t a q) 0
+  unfolding marksIn
+  marks-in t a q = refl
 
   abbrev pub chainIn : List ℕ → ℕ → Chain (R .P)
   chainIn t n = chainOf (s .dag) (marksIn t) (roundsIn t n)

@@ -24,8 +24,9 @@ use Rattle.committee.specs.Leaders.{leaderOf, leaderNumber}
 use Rattle.committee.specs.LeaderLaws.{leader-odd}
 use Rattle.walk.specs.Walk.{lastRound}
 use Rattle.walk.specs.Fill.{leaderAt, fillTo}
-use Rattle.walk.specs.FillLaws.{fill-at, fill-length}
+use Rattle.walk.specs.FillLaws.{leader-at, fill-at, fill-length}
 use Rattle.rules.specs.Tests.{unvoted}
+use Rattle.rules.specs.TestLaws.{unvoted-not}
 use Rattle.state.specs.declared.State.{State}
 use Rattle.state.specs.View.{view}
 use Rattle.state.specs.ViewLaws.{dag-at, vote-dag}
@@ -42,8 +43,8 @@ module _ (s : State) (t : List ℕ) where
 
   -- the anchor of round q is the leader's certificate, if it is held
   pub anchor-on : (q : ℕ) → 0 < q → q ≤ s .settings .ceiling .0 → anchorAt (view s t) q ≡ cond (isIn (heldSet t q) (leaderOn q)) (some (contentAt t (leaderOn q) q)) none
-  unfolding anchorAt leaderAt
-  anchor-on q from to = go (leaderOf (weightIn (committeeOn s t q)) q)
+  unfolding anchorAt
+  anchor-on q from to = rw (leader-at (s .settings) chain q) (go (leaderOf (weightIn (committeeOn s t q)) q))
     where
       go : (o : Option ℕ) → byLeader (view s t) q o ≡ cond (isIn (heldSet t q) (leaderNumber o)) (some (contentAt t (leaderNumber o) q)) none
       go none = rw (not-in (heldSet t q) 16 (omega arith)) refl
@@ -52,21 +53,21 @@ module _ (s : State) (t : List ℕ) where
   -- check 22: the votes of the round above it weigh not more than the bound
   pub unvoted-on : (a q : ℕ) → suc q ≤ s .settings .ceiling .0
       → unvoted (s .settings) (view s t) (contentAt t a q) ≡ not (ltb (boundOf (total 16 (weightIn (committeeOn s t (suc q))))) (votesFor t (committeeOn s t (suc q)) (suc q) a))
-  unfolding unvoted votesFor votesAt
+  unfolding votesFor votesAt
   unvoted-on a q to =
       let w = weightIn (committeeOn s t (suc q)) in
-      rw (content-round t a q, content-author t a q)
+      unvoted-not (s .settings) (view s t) (contentAt t a q)
+      ∙ rw (content-round t a q, content-author t a q)
       (ap (λ (z : ℕ). not (ltb (boundOf (total 16 w)) z))
       (sum-same _ _ 16 (λ i h. ap (λ (b : Bool). cond b (w i) 0) (vote-dag (s .settings .ceiling .0) t i (suc q) (omega arith) to (s .settings) a))))
 
   -- only even rounds have leaders
   pub leader-even : (q : ℕ) → leaderOn q < 16 → q % 2 ≡ 0
-  unfolding leaderAt
   leader-even q h = go (ℕ-discrete (q % 2) 0)
     where
       go : Dec (q % 2 ≡ 0) → q % 2 ≡ 0
       go (yes e) = e
-      go (no d) = absurd (omega (arith, ap leaderNumber (leader-odd (weightIn (committeeOn s t q)) q d)))
+      go (no d) = absurd (omega (arith, leader-at (s .settings) chain q ∙ ap leaderNumber (leader-odd (weightIn (committeeOn s t q)) q d)))
 
   -- ---- the leaders that a commit uses
 

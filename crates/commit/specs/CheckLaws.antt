@@ -24,6 +24,7 @@ use Rattle.committee.specs.Committees.{knownBy, boundOf}
 use Rattle.walk.specs.Walk.{lastRound}
 use Rattle.walk.specs.ChainLaws.{last-chain, last-from}
 use Rattle.rules.specs.Tests.{unknown}
+use Rattle.rules.specs.TestLaws.{unknown-not}
 use Rattle.rules.specs.Calls as rules
 use Rattle.state.specs.declared.State.{State}
 use Rattle.state.specs.View.{view}
@@ -65,12 +66,10 @@ module _ (s : State) (t : List ℕ) where
         new-round = passes 19 _ in-round ∙ passes 20 _ (rw (last-chain (s .settings .ceiling .0) t (s .blocks)) (lt-leb (r - 1) m above))
 
         pub round-unknown : knownBy (s .settings) chain r ≡ false → 8 ≡ refusal (timeChecks s t)
-        unfolding unknown
-        round-unknown e = sym (new-round ∙ refuses 8 _ (rw e refl))
+        round-unknown e = sym (new-round ∙ refuses 8 _ (unknown-not (s .settings) (view s t) r ∙ ap not e))
 
         pub round-timely : knownBy (s .settings) chain r ≡ true → 0 ≡ refusal (timeChecks s t)
-        unfolding unknown
-        round-timely e = sym (new-round ∙ passes 8 _ (rw e refl) ∙ passes-all)
+        round-timely e = sym (new-round ∙ passes 8 _ (unknown-not (s .settings) (view s t) r ∙ ap not e) ∙ passes-all)
 
   -- what they let pass
   pub record Timely : Type 0 where

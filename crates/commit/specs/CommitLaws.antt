@@ -1,6 +1,6 @@
 -- An accepted commit is the commit of the rules: the view that its state and table show.
-use mathlib.Core.Path.{_≡_, refl, sym, ap, ap₂, _∙_, fun-ext}
-use mathlib.Core.Bool.{Bool, true, false, cond, _&&_}
+use mathlib.Core.Path.{_≡_, refl, sym, ap₂, _∙_}
+use mathlib.Core.Bool.{Bool, true, false, cond}
 use mathlib.Core.List.{List}
 use mathlib.Core.Option.{Option, none, some}
 use Prim.Native.Nat.{ℕ, _-_, _<_, _≤_}
@@ -16,19 +16,19 @@ use Rattle.terms.specs.Proposals.{Content}
 use Rattle.store.specs.Table.{used, heldSet, contentAt}
 use Rattle.store.specs.TableLaws.{held-in, content-author, content-round, certificate-present, certificate-absent}
 use Rattle.store.specs.MarkLaws.{OnlyMarks, certificate-marked, endorsed-marked}
-use Rattle.committee.specs.Chain.{isRound, chainOf}
+use Rattle.committee.specs.Chain.{chainOf}
 use Rattle.walk.specs.Walk.{lastRound}
 use Rattle.walk.specs.ChainLaws.{last-chain}
 use Rattle.blocks.specs.Blocks.{commitTable, commitCount}
 use Rattle.blocks.specs.CommitLaws.{commit-stage}
-use Rattle.bridge.specs.Anchors.{anchorIn, Ready}
+use Rattle.bridge.specs.Anchors.{anchorIn, anchor-in, Ready}
 use Rattle.bridge.specs.Chains.{chainIn, commit-chain}
 use Rattle.rules.specs.Tests.{Member}
 use Rattle.rules.specs.Calls.{after}
 use Rattle.rules.specs.CallLaws.{after-commit}
 use Rattle.state.specs.declared.State.{State}
-use Rattle.state.specs.View.{dagOf, endorsedOf, proposalOf, view}
-use Rattle.state.specs.ViewLaws.{dag-at}
+use Rattle.state.specs.View.{dagOf, endorsedOf, view}
+use Rattle.state.specs.ViewLaws.{dag-at, dag-same, endorsed-same, proposal-same}
 use Rattle.commit.specs.Commit.{commitNumber, leadersFor, blocksThen, committedState, committedTable}
 use Rattle.commit.specs.AnchorLaws.{leaderOn, anchor-on, leaders-on, leaders-length}
 use Rattle.commit.specs.CheckLaws.{accepted}
@@ -38,8 +38,7 @@ use Rattle.rules.specs.Calls as rules
 -- the anchor of a round is the certificate of the leader that the list has
 leader-anchor : (s : State) (t : List ℕ) (q : ℕ) → 0 < q → q ≤ s .settings .ceiling .0 → getD (leadersFor s t) q 0 ≡ leaderOn s t q
     → anchorAt (view s t) q ≡ anchorIn (view s t) (leadersFor s t) q
-unfolding anchorIn
-leader-anchor s t q from to e = rw e (anchor-on s t q from to ∙ go (isIn (heldSet t q) a) refl)
+leader-anchor s t q from to e = anchor-on s t q from to ∙ go (isIn (heldSet t q) a) refl ∙ sym (anchor-in (view s t) (leadersFor s t) q a e)
   where
     a : ℕ
     a = leaderOn s t q
@@ -110,12 +109,10 @@ module _ (s : State) (t : List ℕ) (ok : commitNumber s t ≡ 0) where
 
   -- so certificates and endorsed places stay
   pub dag-kept : dagOf n (committedTable s t) ≡ dagOf n t
-  unfolding dagOf
-  dag-kept = fun-ext (λ b. fun-ext (λ q. ap (λ (o : Option Content). cond (isRound n q) o none) (certificate-marked only-marks b q)))
+  dag-kept = dag-same n t (committedTable s t) (certificate-marked only-marks)
 
   pub endorsed-kept : endorsedOf n (committedTable s t) ≡ endorsedOf n t
-  unfolding endorsedOf
-  endorsed-kept = fun-ext (λ b. fun-ext (λ q. ap (λ (z : Bool). isRound n q && z) (endorsed-marked only-marks b q)))
+  endorsed-kept = endorsed-same n t (committedTable s t) (endorsed-marked only-marks)
 
   chain-then : chainOf n (committedTable s t) (blocksThen s t) ≡ committed v x
   unfolding committedTable blocksThen
@@ -127,6 +124,6 @@ module _ (s : State) (t : List ℕ) (ok : commitNumber s t ≡ 0) where
 
   -- the view that the state and the table show then is the rules' next view
   pub view-commit : view (committedState s t) (committedTable s t) ≡ after (s .settings) (s .own .0) v rules.commit
-  unfolding proposalOf
   view-commit =
-      (λ i. record { round = r; proposal = proposalOf s; dag = dag-kept i; endorsed = endorsed-kept i; chain = chain-then i }) ∙ sym (after-commit (s .settings) (s .own .0) v x anchor-held)
+      let e = proposal-same s (committedState s t) refl refl refl refl in
+      (λ i. record { round = r; proposal = e i; dag = dag-kept i; endorsed = endorsed-kept i; chain = chain-then i }) ∙ sym (after-commit (s .settings) (s .own .0) v x anchor-held)

@@ -19,10 +19,10 @@ use Rattle.committee.specs.Chain.{isRound, holdsAt, chainOf}
 use Rattle.committee.specs.ChainLaws.{holds-at, block-by, chain-none, chain-more}
 use Rattle.rules.specs.Tests.{Member}
 use Rattle.bridge.specs.Histories.{Shows}
-use Rattle.bridge.specs.Chains.{roundsIn, rounds-length, marksIn, chainIn}
+use Rattle.bridge.specs.Chains.{rounds-none, rounds-more, rounds-length, marksIn, marks-in, chainIn}
 use Rattle.state.specs.declared.State.{State}
 use Rattle.state.specs.View.{dagOf, view}
-use Rattle.state.specs.ViewLaws.{InDag, in-dag, held-dag}
+use Rattle.state.specs.ViewLaws.{InDag, dag-place, in-dag, held-dag}
 use Rattle.state.specs.Formed.{Formed}
 use Rattle.agreement.specs.Marks as marks
 
@@ -49,8 +49,11 @@ module _ (s : State) (t : List ℕ) where
 
   -- every mark of a held certificate names a block
   pub marks-fit : Formed s t → Fits v (marksIn v t) (s .blocks)
-  unfolding marksIn
-  marks-fit f = record { range = λ a q. range a q (isHeld (v .dag a q)) refl; only-held = λ a q h. rw h refl }
+  marks-fit f =
+      record {
+        range = λ a q. rw (marks-in v t a q) (range a q (isHeld (v .dag a q)) refl);
+        only-held = λ a q h. marks-in v t a q ∙ ap (λ (b : Bool). cond b (markAt t a q) 0) h;
+      }
     where
       range : (a q : ℕ) (b : Bool) → isHeld (v .dag a q) ≡ b → cond b (markAt t a q) 0 ≤ s .blocks
       range a q true e = let d = inside a q e .1 in rows-held t (s .settings .allowance) (s .blocks) n (f .rows) q (d .from) (d .to) .records a (d .held) .mark
@@ -60,10 +63,10 @@ module _ (s : State) (t : List ℕ) where
 
   module _ (u : List ℕ) (e : dagOf n u ≡ v .dag) where
     block-shown : (k a r : ℕ) → cond (isRound n r) (holdsAt u k a r) none ≡ cond (eqb (marksIn v u a r) k) (v .dag a r) none
-    unfolding dagOf marksIn
     block-shown k a r =
         rw (holds-at u k a r) (go (isRound n r) (certificateAt u a r))
-        ∙ ap (λ (d : ℕ → ℕ → Option Content). cond (eqb (cond (isHeld (d a r)) (markAt u a r) 0) k) (d a r) none) e
+        ∙ ap (λ (o : Option Content). cond (eqb (cond (isHeld o) (markAt u a r) 0) k) o none) (sym (dag-place n u a r) ∙ ap (λ (d : ℕ → ℕ → Option Content). d a r) e)
+        ∙ ap (λ (z : ℕ). cond (eqb z k) (v .dag a r) none) (sym (marks-in v u a r))
       where
         go : (b : Bool) (o : Option Content) → cond b (cond (eqb (markAt u a r) k) o none) none ≡ cond (eqb (cond (isHeld (cond b o none)) (markAt u a r) 0) k) (cond b o none) none
         go false o = sym (cond-same (eqb 0 k) none)
@@ -72,8 +75,8 @@ module _ (s : State) (t : List ℕ) where
 
     -- is the one that the table shows
     pub chain-shown : (k : ℕ) → chainOf n u k ≡ chainIn v u k
-    unfolding roundsIn marks.chainOf
-    chain-shown zero = chain-none n u
+    unfolding marks.chainOf
+    chain-shown zero = rw (rounds-none u) (chain-none n u)
     chain-shown (suc k) =
-        rw (rounds-length u k)
+        rw (rounds-more u k, rounds-length u k)
         (chain-more n u k ∙ ap₂ _∷_ (block-by n u (suc k) _ refl (block-shown (suc k))) (chain-shown k))

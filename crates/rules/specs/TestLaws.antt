@@ -1,5 +1,5 @@
--- What the tests say where they let a call pass.
-use mathlib.Core.Path.{_≡_, refl}
+-- What the tests say, and what they give where they let a call pass.
+use mathlib.Core.Path.{_≡_, refl, sym, _∙_}
 use mathlib.Core.Bool.{Bool, true, false, not, _&&_}
 use mathlib.Core.Logic.{_≢_}
 use Prim.Native.Nat.{ℕ, zero, suc, _≤_}
@@ -7,10 +7,13 @@ use native.Mathlib.Omega.{arith}
 use lib.Dec.{eqb, ltb}
 use borrow.Author.Tests.{eqb-true, eqb-false, ltb-false, not-false}
 use Rattle.base.specs.Bools.{neither}
+use Rattle.agreement.specs.Weights.{weigh, total}
 use Rattle.agreement.specs.View.{Knows}
+use Rattle.agreement.specs.Anchors.{votes}
+use Rattle.terms.specs.Proposals.{Content}
 use Rattle.sheet.specs.declared.Settings.{Settings}
-use Rattle.committee.specs.Committees.{knownBy}
-use Rattle.rules.specs.Tests.{Member, badRound, above, unknown}
+use Rattle.committee.specs.Committees.{knownBy, boundOf}
+use Rattle.rules.specs.Tests.{Member, badRound, above, committeeIn, unknown, unvoted}
 
 -- a test that is made above round 1 only, above round 1
 pub later : (r : ℕ) (b : Bool) → r ≢ 1 → above r b ≡ false → b ≡ false
@@ -32,7 +35,17 @@ round-fits S r h =
     positive zero e = absurd (eqb-false 0 0 e refl)
     positive (suc n) e = omega arith
 
--- a round that passes check 8
-pub is-known : (S : Settings) (s : Member S) (r : ℕ) → unknown S s r ≡ false → Knows s r
+-- check 8
+pub unknown-not : (S : Settings) (m : Member S) (r : ℕ) → unknown S m r ≡ not (knownBy S (m .chain) r)
 unfolding unknown
-is-known S s r h = not-false (knownBy S (s .chain) r) h
+unknown-not S m r = refl
+
+-- a round that passes it
+pub is-known : (S : Settings) (s : Member S) (r : ℕ) → unknown S s r ≡ false → Knows s r
+is-known S s r h = not-false (knownBy S (s .chain) r) (sym (unknown-not S s r) ∙ h)
+
+-- check 22, where w is the committee of the round above the anchor
+pub unvoted-not : (S : Settings) (m : Member S) (x : Content)
+    → let w = committeeIn S m (suc (x .round)) in unvoted S m x ≡ not (ltb (boundOf (total 16 w)) (weigh 16 w (votes m x)))
+unfolding unvoted
+unvoted-not S m x = refl

@@ -1,5 +1,5 @@
 -- What the view holds, by what the table says.
-use mathlib.Core.Path.{_≡_, refl, sym, ap, _∙_}
+use mathlib.Core.Path.{_≡_, refl, sym, ap, _∙_, fun-ext}
 use mathlib.Core.Bool.{Bool, true, false, not, cond, _&&_, and-true, Bool·not-not}
 use mathlib.Core.List.{List}
 use mathlib.Core.Option.{Option, none, some}
@@ -32,6 +32,10 @@ pub record InDag (n : ℕ) (t : List ℕ) (a r : ℕ) (p : Content) : Type 0 whe
   pub content : p ≡ contentAt t a r
 
 module _ (n : ℕ) (t : List ℕ) (a r : ℕ) where
+  pub dag-place : dagOf n t a r ≡ cond (isRound n r) (certificateAt t a r) none
+  unfolding dagOf
+  dag-place = refl
+
   pub dag-outside : isRound n r ≡ false → dagOf n t a r ≡ none
   unfolding dagOf
   dag-outside e = rw e refl
@@ -83,7 +87,23 @@ module _ (n : ℕ) (t : List ℕ) (a r : ℕ) where
     pub vote-dag : (S : Settings) (b : ℕ) → vote (rules S) b (dagOf n t a r) ≡ (heldAt t a r && isIn (previousAt t a r) b)
     vote-dag S b = by-record (vote (rules S) b) (isIn (previousAt t a r) b) refl (rw (content-previous t a r) refl)
 
+-- ---- tables that say the same
+
+module _ (n : ℕ) (t u : List ℕ) where
+  pub dag-same : ((a r : ℕ) → certificateAt u a r ≡ certificateAt t a r) → dagOf n u ≡ dagOf n t
+  unfolding dagOf
+  dag-same e = fun-ext (λ a. fun-ext (λ r. ap (λ (o : Option Content). cond (isRound n r) o none) (e a r)))
+
+  pub endorsed-same : ((a r : ℕ) → endorsedAt u a r ≡ endorsedAt t a r) → endorsedOf n u ≡ endorsedOf n t
+  unfolding endorsedOf
+  endorsed-same e = fun-ext (λ a. fun-ext (λ r. ap (λ (z : Bool). isRound n r && z) (e a r)))
+
 -- ---- the proposal
+
+-- states that differ elsewhere have the same one
+pub proposal-same : (s u : State) → u .own ≡ s .own → u .round ≡ s .round → u .proposing ≡ s .proposing → u .body ≡ s .body → proposalOf u ≡ proposalOf s
+unfolding proposalOf
+proposal-same s u o r p b = λ i. cond (p i) (some (contentWith (o i .0) (r i .0) (b i))) none
 
 module _ (s : State) where
   pub proposal-none : s .proposing ≡ false → proposalOf s ≡ none

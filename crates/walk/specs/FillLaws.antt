@@ -1,4 +1,4 @@
--- Laws of a list that is filled by round.
+-- Laws of the leaders by round, and of a list that is filled by round.
 use mathlib.Core.Path.{_≡_, refl, _∙_}
 use mathlib.Core.List.{List}
 use Prim.Native.Nat.{ℕ, zero, suc, _+_, _-_, _≤_, _<_}
@@ -6,7 +6,18 @@ use native.Mathlib.Decide.{ℕ-discrete}
 use native.Mathlib.Omega.{arith}
 use lib.ListN.{getD, set, length, length-set}
 use lib.Seq.{getD-set-same, getD-set-other}
-use Rattle.walk.specs.Fill.{fillTo}
+use Rattle.agreement.specs.Rules.{Chain}
+use Rattle.terms.specs.Proposals.{Content}
+use Rattle.sheet.specs.declared.Settings.{Settings}
+use Rattle.sheet.specs.Ranges.{weightIn}
+use Rattle.committee.specs.Committees.{committeeOf}
+use Rattle.committee.specs.Leaders.{leaderOf, leaderNumber}
+use Rattle.walk.specs.Fill.{leaderAt, fillTo}
+
+-- the leader of a round is that of its committee
+pub leader-at : (S : Settings) (c : Chain Content) (r : ℕ) → leaderAt S c r ≡ leaderNumber (leaderOf (weightIn (committeeOf S c r)) r)
+unfolding leaderAt
+leader-at S c r = refl
 
 module _ (g : ℕ → ℕ) (m : ℕ) (l : List ℕ) where
   pub fill-length : (n : ℕ) → length (fillTo g m n l) ≡ length l
