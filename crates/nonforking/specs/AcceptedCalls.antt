@@ -7,7 +7,7 @@ use Rattle.rules.specs.Calls as rules
 use Rattle.rules.specs.CallLaws.{after-read}
 use Rattle.state.specs.WellFormed.{wellFormed}
 use Rattle.state.specs.View.{view}
-use Rattle.state.specs.Formed.{Formed, formed, whole}
+use Rattle.state.specs.Formed.{Formed, whole}
 use Rattle.member.specs.Steps as steps
 use Rattle.member.specs.PassedLaws.{certify-passed}
 use Rattle.member.specs.NextLaws.{view-next, formed-next}
@@ -32,18 +32,18 @@ module _ (e : Engine) where
   leaves : (c : Call) {x : Engine} → after e c ≡ x → Next e c x → Next e c (after e c)
   leaves c q n = subst (Next e c) (sym q) n
 
-  -- a call of member, where none of its changes is to own number or settings
+  -- a call of member that keeps own number and settings
   step-next : (c : Call) (d : steps.Call) → after e c ≡ renewed e d → steps.previousIn state d < 65536 → steps.number state table d ≡ 0
       → renewed e d .state .own .0 ≡ state .own .0 → renewed e d .state .settings ≡ state .settings → renewed e d .state .body .previous < 65536
       → viewAt (state .settings) (renewed e d) ≡ rules.after (state .settings) (state .own .0) (viewAt (state .settings) e) (ruled c) → Next e c (after e c)
   step-next c d q small a o s low v =
       leaves c q (record { own = o; settings = s; formed = whole (renewed e d .state) (renewed e d .table) (formed-next state table d small a); small = low; becomes = v })
 
-  module _ (w : wellFormed state table ≡ true) (f : Formed state table) (low : state .body .previous < 65536) where
-    -- an accepted certify has a proposal
-    pub proposal-there : (d : ℕ) → number e (certify d) ≡ 0 → state .proposing ≡ true
-    proposal-there d a = certify-passed state table d a .1
+  -- an accepted certify has a proposal
+  pub proposal-there : wellFormed state table ≡ true → Formed state table → state .body .previous < 65536 → (d : ℕ) → number e (certify d) ≡ 0 → state .proposing ≡ true
+  proposal-there w f low d a = certify-passed state table d a .1
 
+  module _ (w : wellFormed state table ≡ true) (low : state .body .previous < 65536) where
     read-next : (c : Call) → ruled c ≡ rules.read → after e c ≡ e → Next e c (after e c)
     read-next c q r =
         leaves c r
@@ -59,29 +59,25 @@ module _ (e : Engine) where
     commit-next a =
         leaves commit (commit-accepted e a) (record { own = refl; settings = refl; formed = commit-kept state table a; small = low; becomes = commit-view state table a })
 
-    each : (c : Call) → InRange c → NoOpen e c → number e c ≡ 0 → Next e c (after e c)
-    each (opens own sheet) r o a = absurd (o own sheet refl a)
-    each (propose b) r o a =
+    pub accepted-next : (c : Call) → InRange c → NoOpen e c → number e c ≡ 0 → Next e c (after e c)
+    accepted-next (opens own sheet) r o a = absurd (o own sheet refl a)
+    accepted-next (propose b) r o a =
         let d = steps.propose b in
         step-next (propose b) d (step-accepted e d a) r a refl refl r (view-next state table d r a)
-    each (endorse p) r o a =
+    accepted-next (endorse p) r o a =
         let d = steps.endorse p in
         step-next (endorse p) d (step-accepted e d a) r a refl refl low (view-next state table d r a)
-    each (certify d) r o a =
+    accepted-next (certify d) r o a =
         let x = steps.certify d in
         step-next (certify d) x (step-accepted e x a) low a refl refl low (view-next state table x low a)
-    each (accept c) r o a =
+    accepted-next (accept c) r o a =
         let d = steps.accept c in
         step-next (accept c) d (step-accepted e d a) (r .0) a refl refl low (view-next state table d (r .0) a)
-    each advance r o a =
+    accepted-next advance r o a =
         let d = steps.advance in
         step-next advance d (step-accepted e d a) (omega arith) a refl refl (omega arith) (view-next state table d (omega arith) a)
-    each commit r o a = commit-next a
-    each (committee x) r o a = read-next (committee x) refl refl
-    each (share m x) r o a = read-next (share m x) refl refl
-    each (certificate m x) r o a = read-next (certificate m x) refl refl
-    each (block n) r o a = read-next (block n) refl refl
-
-pub accepted-next : (e : Engine) → wellFormed (e .state) (e .table) ≡ true → e .state .body .previous < 65536
-    → (c : Call) → InRange c → NoOpen e c → number e c ≡ 0 → Next e c (after e c)
-accepted-next e w low = each e w (formed (e .state) (e .table) w) low
+    accepted-next commit r o a = commit-next a
+    accepted-next (committee x) r o a = read-next (committee x) refl refl
+    accepted-next (share m x) r o a = read-next (share m x) refl refl
+    accepted-next (certificate m x) r o a = read-next (certificate m x) refl refl
+    accepted-next (block n) r o a = read-next (block n) refl refl
