@@ -1,12 +1,6 @@
 -- What a call leaves: the old where it is refused, the new where it is accepted.
 use mathlib.Core.Path.{_≡_, refl}
 use mathlib.Core.Logic.{_≢_}
-use Rattle.sheet.specs.declared.Sheet.{Sheet}
-use Rattle.sheet.specs.Sheets.{filled}
-use Rattle.terms.specs.declared.Member.{Member}
-use Rattle.store.specs.Writes.{clearUsed}
-use Rattle.state.specs.States.{fresh}
-use Rattle.member.specs.Open.{noBody}
 use Rattle.member.specs.Steps as steps
 use Rattle.member.specs.CallLaws.{refused-still, accepted-new}
 use Rattle.commit.specs.Commit.{commitNumber, committedState, committedTable}
@@ -31,10 +25,6 @@ module _ (e : Engine) where
 
   pub step-accepted : (c : steps.Call) → steps.number state table c ≡ 0 → stepped c ≡ renewed c
   step-accepted c a = let k = accepted-new state table c a in rw (k .0, k .1) refl
-
-  pub open-accepted : (own : Member) (sheet : Sheet) → number e (opens own sheet) ≡ 0
-      → after e (opens own sheet) ≡ record { state = fresh own (filled sheet) noBody; table = clearUsed table (filled sheet .ceiling .0) }
-  open-accepted own sheet a = step-accepted (steps.opens own sheet) a
 
   -- ---- commit
 

@@ -13,10 +13,11 @@ use Rattle.state.specs.Formed.{whole}
 use Rattle.state.specs.KeptLaws.{open-formed}
 use Rattle.state.specs.StepLaws.{view-open}
 use Rattle.member.specs.Open.{noBody, openNumber}
+use Rattle.member.specs.Steps.{opens}
 use Rattle.member.specs.OpenLaws.{Opened, opened}
 use Rattle.nonforking.specs.Engine.{Engine}
 use Rattle.nonforking.specs.Statement.{Members, engineAfter}
-use Rattle.nonforking.specs.EngineLaws.{open-accepted}
+use Rattle.nonforking.specs.EngineLaws.{step-accepted}
 use Rattle.nonforking.specs.Views.{viewAt, Good}
 
 -- the settings are in range and correct members have numbers 0 to 15
@@ -40,7 +41,7 @@ module _ (X : Members) (k : ℕ) (ck : X .correct k ≡ true) where
   begins : engineAfter X [] k ≡ begun
   unfolding engineAfter
   begins =
-      open-accepted (before k) (record { 0 = k }) (sheet k) (X .accepted k ck)
+      step-accepted (before k) (opens (record { 0 = k }) (sheet k)) (X .accepted k ck)
       ∙ ap (λ (S : Settings). record { state = fresh (record { 0 = k }) S noBody; table = clearUsed (before k .table) (S .ceiling .0) }) (X .equal k ck)
 
   pub start-good : Good settings k (engineAfter X [] k)
