@@ -135,6 +135,11 @@ module _ (s : State) (t : List ℕ) where
 
   -- ---- all of them
 
+  -- the number on a well-formed state: by the rules' checks
+  pub number-by : wellFormed s t ≡ true → commitNumber s t ≡ refusal (rules.checks (s .settings) (s .own .0) (view s t) rules.commit)
+  unfolding commitNumber
+  number-by e = number-formed s t rules.commit e
+
   pub number-late : wellFormed s t ≡ true → refusal (timeChecks s t) ≢ 0 → commitNumber s t ≡ refusal (timeChecks s t)
   unfolding commitNumber
   number-late e n = number-formed s t rules.commit e ∙ first-refuses (timeChecks s t) (voteChecks s t) (omega arith)

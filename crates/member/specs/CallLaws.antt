@@ -1,18 +1,49 @@
--- Laws over all calls: the answer tells the number, a refused call changes nothing, and nothing beyond the used part changes.
+-- Laws over all calls: the rules tell the number, the answer tells it, a refused call changes nothing, and nothing beyond the used part changes.
 use mathlib.Core.Path.{_≡_, refl, sym, ap, _∙_}
+use mathlib.Core.Bool.{true}
 use mathlib.Core.List.{List}
 use mathlib.Core.Logic.{_≢_}
+use mathlib.Core.Option.{Option, none, some, Option·some-injective, Option·none-ne-some}
 use Prim.Native.Nat.{ℕ}
+use Rattle.base.specs.Checks.{refusal}
+use Rattle.terms.specs.Proposals.{contentOf, transactionsOf}
+use Rattle.rules.specs.Calls as rules
 use Rattle.state.specs.declared.State.{State}
+use Rattle.state.specs.View.{view}
+use Rattle.state.specs.WellFormed.{wellFormed}
+use Rattle.state.specs.Number.{numberOf}
+use Rattle.state.specs.NumberLaws.{number-formed}
 use Rattle.member.specs.declared.Answer.the-variants.{Accepted, Refused}
 use Rattle.member.specs.declared.Outcome.{Outcome}
 use Rattle.member.specs.Answers.{numberIn, left, outcomeOf}
 use Rattle.member.specs.AnswerLaws.{left-accepted, left-refused, left-same, outcome-accepted, outcome-refused, outcome-number}
 use Rattle.member.specs.Open.{openOutcome, openTable}
-use Rattle.member.specs.Calls.{proposeOutcome, endorseOutcome, endorseTable, certifyOutcome, certifyTable, acceptOutcome, acceptTable, advanceOutcome}
+use Rattle.member.specs.Calls.{proposeNumber, proposeOutcome, endorseNumber, endorseOutcome, endorseTable, certifyNumber, certifyOutcome, certifyTable, acceptNumber, acceptOutcome, acceptTable, advanceNumber, advanceOutcome}
 use Rattle.member.specs.Steps.{Call, opens, propose, endorse, certify, accept, advance, number, outcome, tableAfter, newState, newTable}
 
+-- the call of the rules that a call is; open is none
+abbrev pub ruledBy : Call → Option rules.Call
+ruledBy (opens own sheet) = none
+ruledBy (propose b) = some (rules.propose (b .previous) (transactionsOf b))
+ruledBy (endorse p) = some (rules.endorse (contentOf p))
+ruledBy (certify e) = some (rules.certify e)
+ruledBy (accept c) = some (rules.accept (contentOf (c .proposal)) (c .endorsers))
+ruledBy advance = some rules.advance
+
 module _ (s : State) (t : List ℕ) where
+  -- the number on a well-formed state: by the rules' checks
+  pub number-by : (c : Call) (k : rules.Call) → ruledBy c ≡ some k → wellFormed s t ≡ true → number s t c ≡ refusal (rules.checks (s .settings) (s .own .0) (view s t) k)
+  unfolding proposeNumber endorseNumber certifyNumber acceptNumber advanceNumber
+  number-by c k q w = go c q ∙ number-formed s t k w
+    where
+      go : (d : Call) → ruledBy d ≡ some k → number s t d ≡ numberOf s t k
+      go (opens own sheet) h = absurd (Option·none-ne-some k h)
+      go (propose b) h = ap (numberOf s t) (Option·some-injective _ k h)
+      go (endorse p) h = ap (numberOf s t) (Option·some-injective _ k h)
+      go (certify e) h = ap (numberOf s t) (Option·some-injective _ k h)
+      go (accept a) h = ap (numberOf s t) (Option·some-injective _ k h)
+      go advance h = ap (numberOf s t) (Option·some-injective _ k h)
+
   -- answer and state: by the number
   pub outcome-by : (c : Call) → outcome s t c ≡ outcomeOf (number s t c) (newState s t c) s
   unfolding openOutcome proposeOutcome endorseOutcome certifyOutcome acceptOutcome advanceOutcome

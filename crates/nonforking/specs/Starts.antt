@@ -4,23 +4,20 @@ use mathlib.Core.Bool.{true, false}
 use mathlib.Core.List.{[]}
 use Prim.Native.Nat.{ℕ, _<_}
 use native.Mathlib.Omega.{arith}
-use lib.ListN.{length}
-use borrow.Author.Tests.{ltb-false}
-use Rattle.base.specs.Checks.{numbered}
-use Rattle.store.specs.Table.{used, Row}
 use Rattle.store.specs.Writes.{clearUsed}
 use Rattle.sheet.specs.declared.Settings.{Settings}
-use Rattle.sheet.specs.Ranges.{outOfRange, weightless}
+use Rattle.sheet.specs.Ranges.{outOfRange}
 use Rattle.rules.specs.Calls.{freshView}
-use Rattle.base.specs.Passed.{passed}
 use Rattle.state.specs.States.{fresh}
 use Rattle.state.specs.Formed.{whole}
 use Rattle.state.specs.KeptLaws.{open-formed}
 use Rattle.state.specs.StepLaws.{view-open}
-use Rattle.member.specs.Open.{noBody, opening, openNumber}
+use Rattle.member.specs.Open.{noBody, openNumber}
+use Rattle.member.specs.Steps.{opens}
+use Rattle.member.specs.OpenLaws.{Opened, opened}
 use Rattle.nonforking.specs.Engine.{Engine}
 use Rattle.nonforking.specs.Statement.{Members, engineAfter}
-use Rattle.nonforking.specs.EngineLaws.{open-accepted}
+use Rattle.nonforking.specs.EngineLaws.{step-accepted}
 use Rattle.nonforking.specs.Views.{viewAt, Good}
 
 -- the settings are in range and correct members have numbers 0 to 15
@@ -31,20 +28,11 @@ pub record Fit (X : Members) : Type 0 where
 module _ (X : Members) (k : ℕ) (ck : X .correct k ≡ true) where
   open Members X using (before, sheet, settings)
 
-  record Passed : Type 0 where
-    pub member : k < 16
-    pub in-range : outOfRange settings ≡ false
-    pub weighty : weightless settings ≡ false
-    pub long : Row (before k .table) (settings .ceiling .0)
-
   -- what the checks of open let pass
-  open-passed : Passed
-  unfolding openNumber numbered
+  open-passed : Opened (before k .table) (record { 0 = k }) settings
   open-passed =
-      passed (opening (before k .table) (record { 0 = k }) settings) refl
-      (subst (λ (S : Settings). openNumber (before k .table) (record { 0 = k }) S ≡ 0) (X .equal k ck) (X .accepted k ck)) λ h4 h2 h3 h1.
-      let m = ltb-false 15 k h4 in
-      record { member = omega arith; in-range = h2; weighty = h3; long = ltb-false (length (before k .table)) (used (settings .ceiling .0)) h1 }
+      opened (before k .table) (record { 0 = k }) settings
+      (subst (λ (S : Settings). openNumber (before k .table) (record { 0 = k }) S ≡ 0) (X .equal k ck) (X .accepted k ck))
 
   -- the engine that the open leaves
   abbrev begun : Engine
@@ -53,7 +41,7 @@ module _ (X : Members) (k : ℕ) (ck : X .correct k ≡ true) where
   begins : engineAfter X [] k ≡ begun
   unfolding engineAfter
   begins =
-      open-accepted (before k) (record { 0 = k }) (sheet k) (X .accepted k ck)
+      step-accepted (before k) (opens (record { 0 = k }) (sheet k)) (X .accepted k ck)
       ∙ ap (λ (S : Settings). record { state = fresh (record { 0 = k }) S noBody; table = clearUsed (before k .table) (S .ceiling .0) }) (X .equal k ck)
 
   pub start-good : Good settings k (engineAfter X [] k)

@@ -2,6 +2,7 @@
 use mathlib.Core.Path.{_≡_, refl, sym, _∙_}
 use mathlib.Core.Bool.{Bool, true, false, true≢false, false≢true}
 use mathlib.Core.Logic.{_≢_}
+use mathlib.Core.Option.{some}
 use Prim.Native.Nat.{ℕ}
 use Rattle.base.specs.Checks.{refusal, passes-all}
 use Rattle.rules.specs.Calls as rules
@@ -9,9 +10,9 @@ use Rattle.rules.specs.Calls.{verdict, result}
 use Rattle.rules.specs.CallLaws.{verdict-checks, after-read, result-refused, result-accepted}
 use Rattle.state.specs.WellFormed.{wellFormed}
 use Rattle.state.specs.View.{view}
-use Rattle.state.specs.NumberLaws.{number-formed}
-use Rattle.member.specs.Calls.{proposeNumber, endorseNumber, certifyNumber, acceptNumber, advanceNumber}
-use Rattle.commit.specs.Commit.{commitNumber}
+use Rattle.member.specs.Steps as steps
+use Rattle.member.specs.CallLaws.{ruledBy, number-by}
+use Rattle.commit.specs.CheckLaws as commits
 use Rattle.nonforking.specs.Engine.{Engine, Call, opens, propose, endorse, certify, accept, advance, commit, committee, share, certificate, block, number}
 use Rattle.nonforking.specs.Views.{viewAt, ruled}
 
@@ -40,15 +41,18 @@ module _ (e : Engine) (formed : wellFormed (e .state) (e .table) ≡ true) where
   by-checks : (c : rules.Call) {n : ℕ} → n ≡ refusal (rules.checks (state .settings) (state .own .0) (view state table) c) → n ≡ verdict (state .settings) (state .own .0) (viewAt (state .settings) e) c
   by-checks c h = h ∙ sym (verdict-checks (state .settings) (state .own .0) (view state table) c)
 
+  -- a call of member
+  step-verdict : (d : steps.Call) (c : rules.Call) → ruledBy d ≡ some c → steps.number state table d ≡ verdict (state .settings) (state .own .0) (viewAt (state .settings) e) c
+  step-verdict d c q = by-checks c (number-by state table d c q formed)
+
   pub number-verdict : (c : Call) → isRead (ruled c) ≡ false → number e c ≡ verdict (state .settings) (state .own .0) (viewAt (state .settings) e) (ruled c)
-  unfolding proposeNumber endorseNumber certifyNumber acceptNumber advanceNumber commitNumber
   number-verdict (opens own sheet) h = absurd (true≢false h)
-  number-verdict (propose b) h = by-checks (ruled (propose b)) (number-formed state table (ruled (propose b)) formed)
-  number-verdict (endorse p) h = by-checks (ruled (endorse p)) (number-formed state table (ruled (endorse p)) formed)
-  number-verdict (certify d) h = by-checks (ruled (certify d)) (number-formed state table (ruled (certify d)) formed)
-  number-verdict (accept c) h = by-checks (ruled (accept c)) (number-formed state table (ruled (accept c)) formed)
-  number-verdict advance h = by-checks (ruled advance) (number-formed state table (ruled advance) formed)
-  number-verdict commit h = by-checks (ruled commit) (number-formed state table (ruled commit) formed)
+  number-verdict (propose b) h = step-verdict (steps.propose b) (ruled (propose b)) refl
+  number-verdict (endorse p) h = step-verdict (steps.endorse p) (ruled (endorse p)) refl
+  number-verdict (certify d) h = step-verdict (steps.certify d) (ruled (certify d)) refl
+  number-verdict (accept c) h = step-verdict (steps.accept c) (ruled (accept c)) refl
+  number-verdict advance h = step-verdict steps.advance (ruled advance) refl
+  number-verdict commit h = by-checks (ruled commit) (commits.number-by state table formed)
   number-verdict (committee r) h = absurd (true≢false h)
   number-verdict (share m r) h = absurd (true≢false h)
   number-verdict (certificate m r) h = absurd (true≢false h)
@@ -61,9 +65,6 @@ module _ (e : Engine) (formed : wellFormed (e .state) (e .table) ≡ true) where
       go : (b : Bool) → isRead (ruled c) ≡ b → verdict (state .settings) (state .own .0) (viewAt (state .settings) e) (ruled c) ≡ 0
       go true h = rw (is-read (ruled c) h) (sym (by-checks rules.read (sym passes-all)))
       go false h = sym (number-verdict c h) ∙ a
-
-  pub accepted-checks : (c : Call) → number e c ≡ 0 → refusal (rules.checks (state .settings) (state .own .0) (viewAt (state .settings) e) (ruled c)) ≡ 0
-  accepted-checks c a = sym (verdict-checks (state .settings) (state .own .0) (view state table) (ruled c)) ∙ accepted-verdict c a
 
   -- by the rules too a refused call leaves the view
   pub refused-result : (c : Call) → number e c ≢ 0 → result (state .settings) (state .own .0) (viewAt (state .settings) e) (ruled c) ≡ viewAt (state .settings) e
