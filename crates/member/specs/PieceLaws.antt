@@ -1,44 +1,19 @@
 -- The parts of the calls' checks, by what the code asks of the table.
-use mathlib.Core.Path.{_≡_, refl, sym, _∙_}
-use mathlib.Core.Bool.{Bool, true, false, not}
+use mathlib.Core.Path.{_≡_, sym, _∙_}
+use mathlib.Core.Bool.{Bool, not}
 use mathlib.Core.List.{List}
 use mathlib.Core.Logic.{_≢_}
 use Prim.Native.Nat.{ℕ, _-_, _<_, _≤_}
 use native.Mathlib.Omega.{arith}
-use lib.Dec.{ltb}
-use borrow.Author.Tests.{eq-eqb, ne-eqb}
-use Rattle.sheet.specs.declared.Settings.{Settings}
 use Rattle.base.specs.Sets.{isSubset}
 use Rattle.terms.specs.declared.Proposal.{Proposal}
 use Rattle.terms.specs.Proposals.{contentOf}
 use Rattle.store.specs.Table.{heldSet}
-use Rattle.committee.specs.Committees.{knownBy}
-use Rattle.rules.specs.Tests.{Member, badRound, above, unknown, missing}
+use Rattle.rules.specs.Tests.{above, missing}
+use Rattle.rules.specs.TestLaws.{above-later}
 use Rattle.state.specs.declared.State.{State}
 use Rattle.state.specs.View.{view}
 use Rattle.state.specs.ViewLaws.{missing-held}
-
--- a test that is made above round 1 only
-pub above-first : (r : ℕ) (b : Bool) → r ≡ 1 → above r b ≡ false
-unfolding above
-above-first r b e = rw (eq-eqb r 1 e) refl
-
-pub above-later : (r : ℕ) (b : Bool) → r ≢ 1 → above r b ≡ b
-unfolding above
-above-later r b n = rw (ne-eqb r 1 n) refl
-
-pub unknown-not : (S : Settings) (m : Member S) (r : ℕ) → unknown S m r ≡ not (knownBy S (m .chain) r)
-unfolding unknown
-unknown-not S m r = refl
-
--- a round that is 0, and another
-pub bad-zero : (S : Settings) (r : ℕ) → r ≡ 0 → badRound S r ≡ true
-unfolding badRound
-bad-zero S r e = rw (eq-eqb r 0 e) refl
-
-pub bad-over : (S : Settings) (r : ℕ) → r ≢ 0 → badRound S r ≡ ltb (S .ceiling .0) r
-unfolding badRound
-bad-over S r n = rw (ne-eqb r 0 n) refl
 
 -- a test of a committee, by the weights that the code has computed
 pub asked : {b v : Bool} (f : List ℕ → Bool) {w w′ : List ℕ} → w ≡ w′ → b ≡ f w → b ≡ v → f w′ ≡ v

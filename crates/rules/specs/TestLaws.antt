@@ -1,11 +1,11 @@
 -- What the tests say, and what they give where they let a call pass.
 use mathlib.Core.Path.{_≡_, refl, sym, _∙_}
-use mathlib.Core.Bool.{Bool, true, false, not, _&&_}
+use mathlib.Core.Bool.{Bool, true, false, not}
 use mathlib.Core.Logic.{_≢_}
 use Prim.Native.Nat.{ℕ, zero, suc, _≤_}
 use native.Mathlib.Omega.{arith}
 use lib.Dec.{eqb, ltb}
-use borrow.Author.Tests.{eqb-true, eqb-false, ltb-false, not-false}
+use borrow.Author.Tests.{eq-eqb, ne-eqb, eqb-false, ltb-false, not-false}
 use Rattle.base.specs.Bools.{neither}
 use Rattle.agreement.specs.Weights.{weigh, total}
 use Rattle.agreement.specs.View.{Knows}
@@ -15,16 +15,28 @@ use Rattle.sheet.specs.declared.Settings.{Settings}
 use Rattle.committee.specs.Committees.{knownBy, boundOf}
 use Rattle.rules.specs.Tests.{Member, badRound, above, committeeIn, unknown, unvoted}
 
--- a test that is made above round 1 only, above round 1
-pub later : (r : ℕ) (b : Bool) → r ≢ 1 → above r b ≡ false → b ≡ false
+-- a test that is made above round 1 only
+pub above-first : (r : ℕ) (b : Bool) → r ≡ 1 → above r b ≡ false
 unfolding above
-later r b n h = go (eqb r 1) refl h
-  where
-    go : (t : Bool) → eqb r 1 ≡ t → (not t && b) ≡ false → b ≡ false
-    go true e k = absurd (n (eqb-true r 1 e))
-    go false e k = k
+above-first r b e = rw (eq-eqb r 1 e) refl
 
--- a round that passes check 5
+pub above-later : (r : ℕ) (b : Bool) → r ≢ 1 → above r b ≡ b
+unfolding above
+above-later r b n = rw (ne-eqb r 1 n) refl
+
+pub later : (r : ℕ) (b : Bool) → r ≢ 1 → above r b ≡ false → b ≡ false
+later r b n h = sym (above-later r b n) ∙ h
+
+-- check 5: a round that is 0, and another
+pub bad-zero : (S : Settings) (r : ℕ) → r ≡ 0 → badRound S r ≡ true
+unfolding badRound
+bad-zero S r e = rw (eq-eqb r 0 e) refl
+
+pub bad-over : (S : Settings) (r : ℕ) → r ≢ 0 → badRound S r ≡ ltb (S .ceiling .0) r
+unfolding badRound
+bad-over S r n = rw (ne-eqb r 0 n) refl
+
+-- a round that passes it
 pub round-fits : (S : Settings) (r : ℕ) → badRound S r ≡ false → (1 ≤ r) × (r ≤ S .ceiling .0)
 unfolding badRound
 round-fits S r h =

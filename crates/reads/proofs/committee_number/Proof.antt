@@ -4,7 +4,7 @@ use borrow.Author.Tests.{not-false}
 use Rattle.base.specs.Checks.{refuses, passes, passes-all}
 use Rattle.state.specs.Formed.{formed}
 use Rattle.state.specs.Walkable.{readable}
-use Rattle.member.specs.PieceLaws.{unknown-not}
+use Rattle.rules.specs.TestLaws.{unknown-not}
 use Rattle.reads.specs.Reads.{committeeNumber}
 use borrow.Author.Needs.{needs}
 use Rattle.reads.proofs.committee_number.Statement.{statement}

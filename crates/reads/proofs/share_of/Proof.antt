@@ -8,7 +8,8 @@ use Rattle.base.specs.Checks.{refuses, passes, passes-all}
 use Rattle.sheet.specs.Ranges.{weightIn}
 use Rattle.committee.specs.Leaders.{members}
 use Rattle.state.specs.Walkable.{readable}
-use Rattle.member.specs.PieceLaws.{unknown-not, asked}
+use Rattle.rules.specs.TestLaws.{unknown-not}
+use Rattle.member.specs.PieceLaws.{asked}
 use Rattle.reads.specs.ReadLaws.{share-refused, share-given, share-checks}
 use borrow.Author.Needs.{needs}
 use Rattle.reads.proofs.share_of.Statement.{statement}

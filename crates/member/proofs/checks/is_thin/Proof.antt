@@ -1,6 +1,6 @@
 use mathlib.Core.Path.{sym, ap, _∙_}
 use mathlib.Core.Bool.{not}
-use Rattle.member.specs.PieceLaws.{above-first, above-later}
+use Rattle.rules.specs.TestLaws.{above-first, above-later}
 use borrow.Author.Needs.{needs}
 use Rattle.member.proofs.checks.is_thin.Statement.{statement}
 use Rattle.member.proofs.checks.is_thin.Tie as tie

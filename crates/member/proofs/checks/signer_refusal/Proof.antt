@@ -2,7 +2,8 @@ use mathlib.Core.Path.{sym, ap, _∙_}
 use mathlib.Core.Bool.{not}
 use Rattle.base.specs.Checks.{passes-all, refuses, passes}
 use Rattle.state.specs.Walkable.{readable}
-use Rattle.member.specs.PieceLaws.{unknown-not, asked}
+use Rattle.rules.specs.TestLaws.{unknown-not}
+use Rattle.member.specs.PieceLaws.{asked}
 use Rattle.base.specs.Sets.{isIn}
 use Rattle.sheet.specs.Ranges.{weightIn}
 use Rattle.committee.specs.Committees.{outsider, short}

@@ -7,7 +7,8 @@ use Rattle.committee.specs.Committees.{quorum}
 use Rattle.committee.specs.Leaders.{members}
 use Rattle.rules.specs.Tests.{above}
 use Rattle.state.specs.Walkable.{readable}
-use Rattle.member.specs.PieceLaws.{unknown-not, asked}
+use Rattle.rules.specs.TestLaws.{unknown-not}
+use Rattle.member.specs.PieceLaws.{asked}
 use borrow.Author.Needs.{needs}
 use Rattle.member.proofs.propose.committee_refusal.Statement.{statement}
 use Rattle.member.proofs.propose.committee_refusal.Tie as tie
