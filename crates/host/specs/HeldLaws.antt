@@ -1,6 +1,6 @@
 -- What the certificate read shows is the held certificate as accept takes it: a host can pass it on as it is.
 use mathlib.Core.Path.{_≡_, refl, sym, ap, _∙_}
-use mathlib.Core.Bool.{Bool, true, false, cond, _&&_}
+use mathlib.Core.Bool.{Bool, true, false, cond}
 use mathlib.Core.List.{List, [], _∷_, _++_}
 use Prim.Native.Nat.{ℕ, zero, suc, _+_, _<_, _≤_}
 use native.Mathlib.Omega.{arith}
@@ -17,13 +17,12 @@ use Rattle.terms.specs.declared.Transaction.{Transaction}
 use Rattle.terms.specs.declared.Body.{Body}
 use Rattle.terms.specs.declared.Proposal.{Proposal}
 use Rattle.terms.specs.declared.Certificate.{Certificate}
-use Rattle.terms.specs.Proposals.{Content, slotOf, transactionsOf, contentOf}
+use Rattle.terms.specs.Proposals.{slotOf, transactionsOf, contentOf}
 use Rattle.terms.specs.ProposalLaws.{slot-tab}
 use Rattle.store.specs.Table.{contentAt, endorsersAt, markAt}
 use Rattle.store.specs.Writes.{proposalOf}
 use Rattle.store.specs.TableLaws.{content-previous, previous-lt, endorsers-lt}
 use Rattle.store.specs.RecordLaws.{proposal-few, proposal-content}
-use Rattle.reads.specs.Reads.{certificateAnswer}
 use Rattle.reads.specs.ReadLaws.{certificate-given}
 use Rattle.host.specs.Words.{word}
 use Rattle.host.specs.Bodies.{tripleReads, bodyReads, slotIn, bodyIn, usedOf, usedWords, bodyWords}

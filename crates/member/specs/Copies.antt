@@ -1,5 +1,5 @@
 -- A later copy of a held certificate, with whatever endorsers, its author not among them: 16, and nothing changes.
-use mathlib.Core.Path.{_≡_, refl, sym, ap, ap₂, _∙_}
+use mathlib.Core.Path.{_≡_, refl, ap, ap₂, _∙_}
 use mathlib.Core.Bool.{true, false}
 use mathlib.Core.List.{List}
 use Prim.Native.Nat.{ℕ, _<_, _≤_}
@@ -8,12 +8,12 @@ use borrow.Author.Tests.{le-ltb}
 use Rattle.base.specs.Checks.{refusal, passes, refuses}
 use Rattle.base.specs.Sets.{isIn}
 use Rattle.terms.specs.declared.Certificate.{Certificate}
-use Rattle.terms.specs.Proposals.{Content, contentOf, same, wrongSet, unfit}
+use Rattle.terms.specs.Proposals.{Content, contentOf}
 use Rattle.terms.specs.ProposalLaws.{content-self}
 use Rattle.store.specs.Table.{heldAt, contentAt}
-use Rattle.store.specs.TableLaws.{held-member, content-author, content-round, content-previous}
+use Rattle.store.specs.TableLaws.{held-member, content-author, content-round}
 use Rattle.store.specs.ScanLaws.{rows-held, transactions-fit, previous-fits}
-use Rattle.rules.specs.Tests.{badRound, isSame}
+use Rattle.rules.specs.Tests.{isSame}
 use Rattle.rules.specs.Calls as rules
 use Rattle.rules.specs.TestLaws.{bad-over}
 use Rattle.state.specs.declared.State.{State}
