@@ -270,7 +270,7 @@ struct Case {
     job: Job,
     member: Member,
     argument: [u32; 17],
-    out: [u32; 17],
+    out: [u32; 18],
     /// Words of the table that a commit changes, as they were.
     undo: Vec<(usize, u32)>,
     /// The answer: value below, refusal above.
@@ -292,7 +292,7 @@ impl Case {
         if is_commit && empty {
             member.state[20] = 3;
         }
-        let mut case = Case { job, member, argument, out: [0; 17], undo: Vec::new(), expected: 0 };
+        let mut case = Case { job, member, argument, out: [0; 18], undo: Vec::new(), expected: 0 };
         let before = case.member.clone();
         case.expected = case.call(&PLAIN);
         let old = before.lines.iter().flat_map(|line| line.0).enumerate();

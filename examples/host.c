@@ -34,7 +34,7 @@ static void open_member(struct engine *e, uint32_t own) {
 
 /* The authors whose certificates of a round are held. */
 static uint32_t held(const struct engine *e, uint32_t round) {
-    uint32_t out[FORGELILAC_CERTIFICATE_WORDS], set = 0;
+    uint32_t out[FORGELILAC_HELD_WORDS], set = 0;
     for (uint32_t author = 0; author < FORGELILAC_MEMBERS; author++)
         if (forgelilac_certificate(ENGINE(e), author, round, WORDS(out)) == FORGELILAC_ACCEPTED)
             set |= UINT32_C(1) << author;
@@ -71,15 +71,29 @@ static void commit(struct engine *e) {
 }
 
 static void print_block(const struct engine *e, uint32_t number) {
-    uint32_t out[FORGELILAC_CERTIFICATE_WORDS];
+    uint32_t out[FORGELILAC_HELD_WORDS];
     uint32_t last = forgelilac_value_of(forgelilac_block(ENGINE(e), number));
     printf("  block %u, block round %u:", (unsigned)number, (unsigned)last);
     for (uint32_t round = 1; round <= last; round++)
         for (uint32_t author = 0; author < FORGELILAC_MEMBERS; author++)
             if (forgelilac_certificate(ENGINE(e), author, round, WORDS(out)) == 0 &&
-                out[FORGELILAC_CERTIFICATE_BLOCK] == number)
+                out[FORGELILAC_HELD_BLOCK] == number)
                 printf(" %u/%u", (unsigned)round, (unsigned)author);
     printf("\n");
+}
+
+/* Who endorsed what: the certificates of a round as a member holds them. */
+static void print_endorsers(const struct engine *e, uint32_t round) {
+    uint32_t out[FORGELILAC_HELD_WORDS];
+    printf("endorsers in round %u, as member %u holds them\n", (unsigned)round,
+           (unsigned)e->state[FORGELILAC_STATE_OWN]);
+    for (uint32_t author = 0; author < FORGELILAC_MEMBERS; author++) {
+        if (forgelilac_certificate(ENGINE(e), author, round, WORDS(out)) != 0) continue;
+        printf("  %u/%u:", (unsigned)round, (unsigned)author);
+        for (uint32_t m = 0; m < FORGELILAC_MEMBERS; m++)
+            if (out[FORGELILAC_HELD_ENDORSERS] >> m & 1) printf(" %u", (unsigned)m);
+        printf("\n");
+    }
 }
 
 static void print_end(void) {
@@ -89,6 +103,7 @@ static void print_end(void) {
         for (uint32_t b = 1; b <= engines[m].state[FORGELILAC_STATE_BLOCKS]; b++)
             print_block(&engines[m], b);
     }
+    print_endorsers(&engines[0], LAST_ROUND);
     printf("shares in round %d, in thousandths: [", LAST_ROUND);
     for (uint32_t m = 0; m < MEMBERS; m++) {
         uint64_t share = forgelilac_share(ENGINE(&engines[0]), m, LAST_ROUND);

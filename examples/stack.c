@@ -15,7 +15,7 @@ static const char *const names[CALLS] = {"", "open", "propose", "endorse", "cert
                                          "commit", "committee", "share", "certificate", "block"};
 
 static uint32_t state[FORGELILAC_STATE_WORDS], table[FORGELILAC_TABLE_WORDS(CEILING)];
-static uint32_t words[FORGELILAC_SHEET_WORDS], out[FORGELILAC_CERTIFICATE_WORDS];
+static uint32_t words[FORGELILAC_SHEET_WORDS], out[FORGELILAC_HELD_WORDS];
 static unsigned char *stack;
 static size_t used[CALLS];
 

@@ -21,7 +21,8 @@ extern "C" {
 #define FORGELILAC_STATE_WORDS 37
 #define FORGELILAC_BODY_WORDS 14
 #define FORGELILAC_PROPOSAL_WORDS 16
-#define FORGELILAC_CERTIFICATE_WORDS 17
+#define FORGELILAC_CERTIFICATE_WORDS 17 /* as accept takes it */
+#define FORGELILAC_HELD_WORDS 18        /* as the certificate read gives it */
 #define FORGELILAC_SHEET_WORDS 38
 #define FORGELILAC_COMMITTEE_WORDS 16
 /* A table for a state of this ceiling; forgelilac_table_words as a constant. */
@@ -39,7 +40,7 @@ extern "C" {
 #define FORGELILAC_STATE_BLOCKS 22    /* number of blocks */
 #define FORGELILAC_STATE_BODY 23      /* body of the proposal */
 
-/* ---- words of a body, a proposal, a certificate */
+/* ---- words of a body, a proposal, a certificate, a held certificate */
 
 #define FORGELILAC_BODY_PREVIOUS 0
 #define FORGELILAC_BODY_COUNT 1
@@ -47,8 +48,9 @@ extern "C" {
 #define FORGELILAC_PROPOSAL_AUTHOR 0
 #define FORGELILAC_PROPOSAL_ROUND 1
 #define FORGELILAC_PROPOSAL_BODY 2
-#define FORGELILAC_CERTIFICATE_ENDORSERS 16 /* a certificate handed to accept */
-#define FORGELILAC_CERTIFICATE_BLOCK 16     /* a certificate read: its block, 0 for none */
+#define FORGELILAC_CERTIFICATE_ENDORSERS 16
+#define FORGELILAC_HELD_ENDORSERS 16 /* those that it was first stored with */
+#define FORGELILAC_HELD_BLOCK 17     /* number of its block, 0 for none */
 
 enum forgelilac_kind {
     FORGELILAC_BOND = 0,   /* number: member, amount: 1 to 1,000 */
@@ -126,7 +128,8 @@ uint32_t forgelilac_committee(const uint32_t *state, size_t state_words,
 uint64_t forgelilac_share(const uint32_t *state, size_t state_words,
                           const uint32_t *table, size_t table_words,
                           uint32_t member, uint32_t round);
-/* Proposal into out, then the number of its block, 0 for none. */
+/* A held certificate into out: proposal, the endorsers that it was first stored with, the
+ * number of its block, 0 for none. The first 17 words are a certificate as accept takes it. */
 uint32_t forgelilac_certificate(const uint32_t *state, size_t state_words,
                                 const uint32_t *table, size_t table_words,
                                 uint32_t author, uint32_t round,

@@ -1,4 +1,5 @@
-//! Ordering engine: reference rules, written from document 01 alone.
+//! Ordering engine: reference rules, written from document 01 and the points
+//! that change it alone.
 //!
 //! Plain on purpose. A refusal is the paper's number, so `Err(12)` below is
 //! the paper's "12". Each call comes as a pair: `may_...` makes the checks in
@@ -190,6 +191,7 @@ pub fn change(committee: &mut Committee, transaction: &Transaction) {
 
 #[derive(Clone, Debug)]
 pub struct Held {
+    /// With the endorsers it was first stored with.
     pub certificate: Certificate,
     /// The number of its block, 0 for none.
     pub block: u32,
@@ -616,8 +618,9 @@ impl Member {
         Ok(thousandths(committee[member as usize], total(&committee)))
     }
 
-    /// The proposal and the number of its block, 0 for none.
-    pub fn read_certificate(&self, author: u32, round: u32) -> Answer<(&Proposal, u32)> {
+    /// The proposal, the endorsers it was first stored with, and the number of
+    /// its block, 0 for none.
+    pub fn read_certificate(&self, author: u32, round: u32) -> Answer<(&Proposal, Set, u32)> {
         if author >= MEMBERS {
             return Err(4);
         }
@@ -625,7 +628,7 @@ impl Member {
             return Err(5);
         }
         let held = self.held_at(author, round).ok_or(23u32)?;
-        Ok((&held.certificate.proposal, held.block))
+        Ok((&held.certificate.proposal, held.certificate.endorsers, held.block))
     }
 
     /// The round of a block, by number from 1.

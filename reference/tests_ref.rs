@@ -222,9 +222,9 @@ fn slip_blocks_newest_first() {
     let rounds: Vec<_> = (1..=4).map(|n| m.read_block(n).unwrap()).collect();
     assert_eq!(rounds, [2, 4, 6, 8]);
     for r in 1..=8 {
-        assert_eq!(m.read_certificate(0, r).unwrap().1, r.div_ceil(2));
+        assert_eq!(m.read_certificate(0, r).unwrap().2, r.div_ceil(2));
     }
-    assert_eq!(m.read_certificate(0, 9).unwrap().1, 0);
+    assert_eq!(m.read_certificate(0, 9).unwrap().2, 0);
     assert_eq!(m.read_block(0), Err(23));
     assert_eq!(m.read_block(5), Err(23));
     assert_eq!(m.commit(), Err(20));
@@ -253,6 +253,56 @@ fn slip_endorsers_compared() {
     assert_eq!(m.accept(&certificate(1, 2, 15, 13, &[entry(0)])), Err(17));
 }
 
+#[test]
+fn endorsers_are_those_first_stored() {
+    // By certify the set handed to it, the author not added; three of four are a quorum.
+    let mut author = Member::open(0, &Sheet::all_blank(), 1_024).unwrap();
+    author.propose(0, &[entry(1)]).unwrap();
+    author.certify(6).unwrap();
+    let p = proposal(0, 1, 0, &[entry(1)]);
+    assert_eq!(author.read_certificate(0, 1), Ok((&p, 6, 0)));
+    // By accept the certificate's, another set here.
+    let mut other = Member::open(1, &Sheet::all_blank(), 1_024).unwrap();
+    other.accept(&certificate(0, 1, 0, 12, &[entry(1)])).unwrap();
+    assert_eq!(other.read_certificate(0, 1), Ok((&p, 12, 0)));
+    // A later copy with others, a quorum or not, inside or not, changes nothing.
+    for (m, first) in [(&mut author, 6), (&mut other, 12)] {
+        for endorsers in [0, 2, 6, 12, 14, 0x8000, 0xfffe] {
+            assert_eq!(m.accept(&certificate(0, 1, 0, endorsers, &[entry(1)])), Err(16));
+        }
+        for endorsers in [1, 7, 0xffff] {
+            assert_eq!(m.accept(&certificate(0, 1, 0, endorsers, &[entry(1)])), Err(14));
+        }
+        assert_eq!(m.accept(&certificate(0, 1, 0, first, &[])), Err(17));
+        assert_eq!(m.read_certificate(0, 1), Ok((&p, first, 0)));
+    }
+}
+
+#[test]
+fn a_block_leaves_endorsers_alone() {
+    // The same certificates, stored with other endorsers: the same chain.
+    let run = |endorsers: fn(u32) -> Set| {
+        let mut m = Member::open(0, &Sheet::all_blank(), 1_024).unwrap();
+        for r in 1..=3 {
+            for a in 0..4 {
+                let previous = if r == 1 { 0 } else { 15 };
+                m.accept(&certificate(a, r, previous, endorsers(a), &[entry(a)])).unwrap();
+            }
+            if r < 3 {
+                m.advance().unwrap();
+            }
+        }
+        assert_eq!(m.commit(), Ok(1));
+        for (r, a) in (1..=3).flat_map(|r| (0..4).map(move |a| (r, a))) {
+            assert_eq!(m.read_certificate(a, r).unwrap().1, endorsers(a));
+        }
+        m.chain()[0].certificates.clone()
+    };
+    let all = run(|a| 15 & !single(a));
+    assert_eq!(all, [(1, 0), (1, 1), (1, 2), (1, 3), (2, 1)]);
+    assert_eq!(all, run(|a| 15 & !single(a) & !single((a + 1) % 4)));
+}
+
 // ------------------------------------------------------ small runs by hand ---
 
 #[test]
@@ -263,8 +313,8 @@ fn order_within_a_block() {
     }
     assert_eq!(m.commit(), Ok(1));
     assert_eq!(m.chain()[0].certificates, [(1, 0), (1, 1), (1, 2), (1, 3), (2, 1)]);
-    assert_eq!(m.read_certificate(0, 2), Ok((&proposal(0, 2, 15, &[]), 0)));
-    assert_eq!(m.read_certificate(2, 1), Ok((&proposal(2, 1, 0, &[entry(2)]), 1)));
+    assert_eq!(m.read_certificate(0, 2), Ok((&proposal(0, 2, 15, &[]), 14, 0)));
+    assert_eq!(m.read_certificate(2, 1), Ok((&proposal(2, 1, 0, &[entry(2)]), 11, 1)));
 }
 
 #[test]

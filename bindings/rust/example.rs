@@ -25,6 +25,11 @@ fn transactions(member: u32, round: u32) -> Vec<Transaction> {
     all
 }
 
+/// The members of a set, by rising number.
+fn members(set: Set) -> impl Iterator<Item = u32> {
+    (0..forgelilac::MEMBERS as u32).filter(move |member| set >> member & 1 == 1)
+}
+
 /// The authors whose certificates of a round are held.
 fn held(engine: &Engine, round: u32) -> Set {
     let holds = |author: &u32| engine.certificate(*author, round).is_ok();
@@ -70,6 +75,17 @@ fn print_chain(engine: &Engine) -> Result<(), Refusal> {
     Ok(())
 }
 
+/// Who endorsed what: the certificates of a round as a member holds them.
+fn print_endorsers(engine: &Engine, round: u32) -> Result<(), Refusal> {
+    println!("endorsers in round {round}, as member {} holds them", engine.own());
+    for author in members(held(engine, round)) {
+        let endorsers = members(engine.certificate(author, round)?.endorsers);
+        let list: String = endorsers.map(|member| format!(" {member}")).collect();
+        println!("  {round}/{author}:{list}");
+    }
+    Ok(())
+}
+
 fn main() -> Result<(), Refusal> {
     let mut engines = (0..3).map(|own| Engine::open(own, &sheet())).collect::<Result<Vec<_>, _>>()?;
     for round in 1..=LAST_ROUND {
@@ -88,6 +104,7 @@ fn main() -> Result<(), Refusal> {
     for engine in &engines {
         print_chain(engine)?;
     }
+    print_endorsers(&engines[0], LAST_ROUND)?;
     let shares = (0..3).map(|member| engines[0].share(member, LAST_ROUND)).collect::<Result<Vec<_>, _>>()?;
     println!("shares in round {LAST_ROUND}, in thousandths: {shares:?}");
     Ok(())

@@ -15,6 +15,7 @@ pub const STATE_WORDS: usize = 37;
 const BODY_WORDS: usize = 14;
 const PROPOSAL_WORDS: usize = 16;
 const CERTIFICATE_WORDS: usize = 17;
+const HELD_WORDS: usize = 18;
 const SHEET_WORDS: usize = 38;
 /// Transactions that a body has words for.
 const SLOTS: usize = 4;
@@ -170,8 +171,26 @@ impl Certificate {
 #[derive(Clone, PartialEq, Eq, Debug)]
 pub struct Held {
     pub proposal: Proposal,
+    /// Those that it was first stored with; another member may have stored others.
+    pub endorsers: Set,
     /// The number of its block, nothing where it is in none.
     pub block: Option<u32>,
+}
+
+impl Held {
+    /// As accept takes it, for passing on.
+    pub fn certificate(self) -> Certificate {
+        Certificate { proposal: self.proposal, endorsers: self.endorsers }
+    }
+
+    /// Of words that the engine wrote.
+    fn of(words: &[u32; HELD_WORDS]) -> Held {
+        Held {
+            proposal: Proposal::of(words),
+            endorsers: words[PROPOSAL_WORDS] as Set,
+            block: Some(words[CERTIFICATE_WORDS]).filter(|&number| number != 0),
+        }
+    }
 }
 
 /// A block as it is read: its round, and (round, author) of each certificate.
@@ -372,12 +391,12 @@ impl Engine {
         value(call!(forgelilac_share, read(&self.state), read(&self.table), member, round))
     }
 
+    /// The certificate held at a place: proposal, endorsers, block.
     pub fn certificate(&self, author: u32, round: u32) -> Result<Held, Refusal> {
-        let mut out = [0; CERTIFICATE_WORDS];
+        let mut out = [0; HELD_WORDS];
         let (state, table) = (read(&self.state), read(&self.table));
         accepted(call!(forgelilac_certificate, state, table, author, round; write(&mut out)))?;
-        let block = Some(out[PROPOSAL_WORDS]).filter(|&number| number != 0);
-        Ok(Held { proposal: Proposal::of(&out), block })
+        Ok(Held::of(&out))
     }
 
     /// The round of a block; blocks count from 1.
@@ -521,8 +540,107 @@ mod tests {
             let mut other = of_four(1);
             other.endorse(&proposal).unwrap();
             other.accept(&Certificate { proposal: proposal.clone(), endorsers: 0b1011 }).unwrap();
-            assert_eq!(other.certificate(2, 1), Ok(Held { proposal, block: None }));
+            assert_eq!(other.certificate(2, 1), Ok(Held { proposal, endorsers: 0b1011, block: None }));
         }
+    }
+
+    /// Member 0 of four, its certificate of round 1 endorsed by 1 and 2; and that certificate.
+    fn endorsed_by_two() -> (Engine, Certificate) {
+        let mut engine = of_four(0);
+        engine.propose(0, &[entry(5)]).unwrap();
+        engine.certify(0b0110).unwrap();
+        let proposal = engine.proposal().unwrap();
+        (engine, Certificate { proposal, endorsers: 0b0110 })
+    }
+
+    #[test]
+    fn endorsers_stay_those_first_stored() {
+        let (author, certificate) = endorsed_by_two();
+        assert_eq!(author.certificate(0, 1).unwrap().endorsers, 0b0110);
+        assert_eq!(author.certificate(0, 1).unwrap().certificate(), certificate);
+
+        // Another member has it with other endorsers: the same certificate.
+        let copy = |endorsers| Certificate { endorsers, ..certificate.clone() };
+        let mut other = of_four(1);
+        other.accept(&copy(0b1100)).unwrap();
+        assert_eq!(other.certificate(0, 1).unwrap().endorsers, 0b1100);
+        for mut engine in [author, other] {
+            // A quorum, too few, none, outsiders.
+            for endorsers in [0b1110, 0b0110, 0b1100, 0b0010, 0, 0xfffe, 0x8000] {
+                refuses(&mut engine, 16, |e| e.accept(&copy(endorsers)));
+            }
+            // With its author.
+            for endorsers in [0b0001, 0b0111, 0xffff] {
+                refuses(&mut engine, 14, |e| e.accept(&copy(endorsers)));
+            }
+            let mut another = copy(0b0110);
+            another.proposal.transactions.clear();
+            refuses(&mut engine, 17, |e| e.accept(&another));
+        }
+    }
+
+    #[test]
+    fn a_held_certificate_is_passed_on_as_it_is() {
+        let (author, certificate) = endorsed_by_two();
+        let mut out = [7; HELD_WORDS + 1];
+        let mut other = of_four(3);
+        let (state, table) = (read(&author.state), read(&author.table));
+        assert_eq!(call!(forgelilac_certificate, state, table, 0, 1; write(&mut out[..17])), 1);
+        assert_eq!(out, [7; HELD_WORDS + 1]);
+        assert_eq!(call!(forgelilac_certificate, state, table, 0, 1; write(&mut out)), 0);
+        assert_eq!(out[..CERTIFICATE_WORDS], certificate.words());
+        assert_eq!(out[CERTIFICATE_WORDS..], [0, 7]);
+        let (state, table) = (read(&other.state), write(&mut other.table));
+        assert_eq!(call!(forgelilac_accept, state, table; read(&out)), 0);
+        assert_eq!(other.certificate(0, 1), author.certificate(0, 1));
+    }
+
+    /// Word 3 of the record of an author in round 1.
+    fn endorsers_of(engine: &mut Engine, author: usize) -> &mut u32 {
+        &mut engine.table[272 + 16 + 16 * author + 3]
+    }
+
+    #[test]
+    fn no_author_is_among_its_own_endorsers() {
+        let (engine, certificate) = endorsed_by_two();
+        for word in [1, 0xffff, 0x1_0000, 0x1_0006, u32::MAX] {
+            let mut damaged = engine.clone();
+            *endorsers_of(&mut damaged, 0) = word;
+            refuses(&mut damaged, 1, |e| e.certificate(0, 1));
+            refuses(&mut damaged, 1, |e| e.accept(&certificate));
+            refuses(&mut damaged, 1, Engine::advance);
+            refuses(&mut damaged, 1, |e| e.block(1));
+        }
+        // Outsiders, too few, none: well formed.
+        for word in [0xfffe, 0x8000, 2, 0] {
+            let mut changed = engine.clone();
+            *endorsers_of(&mut changed, 0) = word;
+            assert_eq!(u32::from(changed.certificate(0, 1).unwrap().endorsers), word);
+            refuses(&mut changed, 16, |e| e.accept(&certificate));
+            changed.advance().unwrap();
+        }
+        // Of a place that is not held the word is not looked at, and a put writes over it.
+        let mut free = engine.clone();
+        *endorsers_of(&mut free, 1) = u32::MAX;
+        let proposal = Proposal { author: 1, round: 1, previous: 0, transactions: Vec::new() };
+        free.accept(&Certificate { proposal, endorsers: 0b1001 }).unwrap();
+        assert_eq!(*endorsers_of(&mut free, 1), 0b1001);
+    }
+
+    /// A table of before endorsers were kept has 0 in their word.
+    #[test]
+    fn certificates_stored_before_show_no_endorsers() {
+        let (mut old, certificate) = endorsed_by_two();
+        *endorsers_of(&mut old, 0) = 0;
+        let held = old.certificate(0, 1).unwrap();
+        assert_eq!((held.endorsers, &held.proposal), (0, &certificate.proposal));
+        refuses(&mut of_four(1), 13, |e| e.accept(&held.clone().certificate()));
+        refuses(&mut old, 16, |e| e.accept(&certificate));
+        // Where the author alone is a quorum, none are needed.
+        let mut author = alone();
+        author.propose(0, &[]).unwrap();
+        author.certify(0).unwrap();
+        alone().accept(&author.certificate(0, 1).unwrap().certificate()).unwrap();
     }
 
     #[test]

@@ -114,8 +114,9 @@ impl Replay {
             for author in 0..=MEMBERS as u32 {
                 let share = self.engine.share(author, round).map(u64::from);
                 self.same(share, member.read_share(author, round));
-                let held = member.read_certificate(author, round).map(|(one, block)| Held {
+                let held = member.read_certificate(author, round).map(|(one, endorsers, block)| Held {
                     proposal: proposal(one),
+                    endorsers,
                     block: Some(block).filter(|&number| number != 0),
                 });
                 self.same(self.engine.certificate(author, round), held);

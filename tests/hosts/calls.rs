@@ -179,14 +179,53 @@ fn members_in(committee: &Committee) -> Set {
     (0..MEMBERS).filter(|&m| committee[m as usize] > 0).map(single).fold(0, |a, b| a | b)
 }
 
-fn likely_endorsers(rng: &mut Rng, member: &Member, author: u32, round: u32) -> Set {
-    let committee = member.committee_of(round).map_or(0xffff, members_in);
-    let all = committee & !single(author & 15);
-    if rng.chance(150) {
-        rng.thin(all, 700)
-    } else {
-        all
+/// Endorsers that are a quorum with the author: all inside but for some that
+/// can be spared.
+pub fn some_quorum(rng: &mut Rng, committee: &Committee, author: u32) -> Set {
+    let mut endorsers = members_in(committee) & !single(author);
+    let keep = rng.pick(&[0, 500, 900]);
+    for m in members_of(endorsers) {
+        let fewer = endorsers & !single(m);
+        if is_quorum(fewer | single(author), committee) && !rng.chance(keep) {
+            endorsers = fewer;
+        }
     }
+    endorsers
+}
+
+fn likely_endorsers(rng: &mut Rng, member: &Member, author: u32, round: u32) -> Set {
+    let Some(committee) = member.committee_of(round) else { return !single(author & 15) };
+    let all = members_in(committee) & !single(author & 15);
+    match rng.below(20) {
+        0..=2 => rng.thin(all, 700),
+        3..=8 => some_quorum(rng, committee, author & 15),
+        _ => all,
+    }
+}
+
+/// A certificate that is held, with other endorsers: thinned, any others, all
+/// or none. One in four has its author among them.
+fn copy_of_held(rng: &mut Rng, member: &Member) -> Option<Certificate> {
+    let round = likely_round(rng, member).clamp(1, member.settings.ceiling);
+    let authors: Vec<u32> = members_of(member.held_authors(round)).collect();
+    if authors.is_empty() {
+        return None;
+    }
+    let author = rng.pick(&authors);
+    let mut copy = member.held_at(author, round).unwrap().certificate.clone();
+    copy.endorsers = match rng.below(5) {
+        0 => rng.thin(copy.endorsers, 500),
+        1 => copy.endorsers ^ single(rng.between(0, 15)),
+        2 => rng.next() as Set,
+        3 => 0xffff,
+        _ => 0,
+    };
+    if rng.chance(250) {
+        copy.endorsers |= single(author);
+    } else {
+        copy.endorsers &= !single(author);
+    }
+    Some(copy)
 }
 
 fn likely_round(rng: &mut Rng, member: &Member) -> u32 {
@@ -270,8 +309,10 @@ pub fn likely_call(rng: &mut Rng, member: &Member, pool: &mut Pool) -> Call {
             Call::Certify { endorsers: u32::from(likely_endorsers(rng, member, own, r)) }
         }
         0..=11 | 21..=64 => {
-            let words = match pool.certificates.len() {
-                n if n > 0 && rng.chance(250) => {
+            let copy = if rng.chance(120) { copy_of_held(rng, member) } else { None };
+            let words = match (copy, pool.certificates.len()) {
+                (Some(copy), _) => certificate_words(&copy),
+                (None, n) if n > 0 && rng.chance(250) => {
                     pool.certificates[rng.below(n as u64) as usize].clone()
                 }
                 _ => certificate_words(&likely_certificate(rng, member)),
@@ -289,7 +330,7 @@ pub fn likely_call(rng: &mut Rng, member: &Member, pool: &mut Pool) -> Call {
         93..=97 => Call::Certificate {
             author: rng.between(0, 15),
             round: rng.between(1, r),
-            out: out_stretch(rng, 17),
+            out: out_stretch(rng, 18),
         },
         _ => Call::Block { number: rng.between(0, member.chain.len() as u32 + 1) },
     }
@@ -408,7 +449,7 @@ pub fn wild_call(rng: &mut Rng, member: &Member, pool: &mut Pool) -> Call {
         10 => Call::Certificate {
             author: rng.between(0, 17),
             round: wild_round(rng, member),
-            out: out_stretch(rng, 17),
+            out: out_stretch(rng, 18),
         },
         _ => Call::Block { number: rng.word() },
     }

@@ -126,10 +126,10 @@ fn by_reference(
         }
         Call::Share { member: m, round } => member.read_share(*m, *round),
         Call::Certificate { author, round, .. } => {
-            let out = out.get_mut(..17).ok_or(1u32)?;
-            let (proposal, block) = member.read_certificate(*author, *round)?;
+            let out = out.get_mut(..18).ok_or(1u32)?;
+            let (proposal, endorsers, block) = member.read_certificate(*author, *round)?;
             out[..16].copy_from_slice(&proposal_words(proposal));
-            out[16] = block;
+            (out[16], out[17]) = (u32::from(endorsers), block);
             Ok(0)
         }
         Call::Block { number } => member.read_block(*number).map(u64::from),

@@ -20,10 +20,38 @@ fn each_call(member: &Member) -> Vec<Call> {
         Call::Commit,
         Call::Committee { round, out: vec![7; 16] },
         Call::Share { member: member.own, round },
-        Call::Certificate { author: member.own, round: 1, out: vec![7; 17] },
+        Call::Certificate { author: member.own, round: 1, out: vec![7; 18] },
         Call::Block { number: 1 },
         Call::Advance,
     ]
+}
+
+/// Reads of a place, and certificates for it with endorsers of all sorts: a
+/// quorum, too few, outsiders, the author among them. Where the place is held
+/// they are copies of what is there.
+fn calls_on_place(member: &Member, author: u32, round: u32) -> Vec<Call> {
+    let previous = member.held_authors(round - 1);
+    let fresh = Proposal { author, round, previous, transactions: Vec::new() };
+    let held = member.held_at(author, round).map(|held| held.certificate.proposal.clone());
+    let proposal = held.unwrap_or(fresh);
+    let starting = &member.settings.weights;
+    let inside: Set = (0..MEMBERS).filter(|&m| starting[m as usize] > 0).map(single).sum();
+    let (all, quorum) = (!single(author), inside & !single(author));
+    let few = quorum & quorum.wrapping_sub(1);
+    let mut calls: Vec<Call> =
+        (16..20).map(|n| Call::Certificate { author, round, out: vec![7; n] }).collect();
+    for endorsers in [quorum, few, 0, all, single(author), quorum | single(author), 0xffff] {
+        let certificate = Certificate { proposal: proposal.clone(), endorsers };
+        calls.push(Call::Accept { certificate: certificate_words(&certificate) });
+    }
+    calls.push(Call::Certify { endorsers: u32::from(inside & !single(member.own)) });
+    calls
+}
+
+/// Endorsers of a held record: sets without the author, sets with it, no sets.
+fn endorser_edges(author: u32) -> [u32; 9] {
+    let (own, all) = (1 << author, 65_535);
+    [0, all & !own, own << 1, own, all, 65_536, 65_536 | all & !own, u32::MAX & !own, u32::MAX]
 }
 
 const STATE_EDGES: [(usize, &[u32]); 15] = [
@@ -62,23 +90,44 @@ const TABLE_EDGES: [(usize, &[u32]); 12] = [
 
 impl Test {
     /// Each call on a copy of the node.
-    fn try_all(&mut self, node: &Node, hint: &Member, lengths: (usize, usize)) {
-        for call in each_call(hint) {
+    fn try_all(&mut self, node: &Node, calls: &[Call], lengths: (usize, usize)) {
+        for call in calls {
             let mut copy = node.clone();
             copy.read_again();
-            self.call(&mut copy, &call, lengths);
+            self.call(&mut copy, call, lengths);
+        }
+    }
+
+    /// The word of endorsers, in held places and in free ones.
+    fn try_endorsers(&mut self, node: &Node, member: &Member) {
+        let whole = (node.state.len(), node.table.len());
+        let ceiling = member.settings.ceiling;
+        let rounds = [1, 2, 3, member.round, ceiling];
+        // A large state holds nothing, and a few of its places will do.
+        let rounds = if ceiling > 64 { &rounds[3..] } else { &rounds };
+        for &round in rounds {
+            for author in [0, 1, 5, 15] {
+                let mut calls = each_call(member);
+                calls.extend(calls_on_place(member, author, round));
+                for value in endorser_edges(author) {
+                    let mut copy = node.clone();
+                    copy.table[ROW * round as usize + 16 + 16 * author as usize + 3] = value;
+                    self.try_all(&copy, &calls, whole);
+                }
+            }
         }
     }
 
     fn try_edges(&mut self, node: &Node) {
         let member = node.twin.clone().expect("well formed to begin with");
         let whole = (node.state.len(), node.table.len());
-        self.try_all(node, &member, whole);
+        let calls = each_call(&member);
+        self.try_all(node, &calls, whole);
         for (at, values) in STATE_EDGES {
             for &value in values {
                 let mut copy = node.clone();
                 copy.state[at] = value;
-                self.try_all(&copy, &member, whole);
+                self.try_all(&copy, &calls, whole);
             }
         }
         for (at, values) in TABLE_EDGES {
@@ -86,19 +135,20 @@ impl Test {
                 for &value in values {
                     let mut copy = node.clone();
                     copy.table[ROW * row + at] = value;
-                    self.try_all(&copy, &member, whole);
+                    self.try_all(&copy, &calls, whole);
                 }
             }
         }
+        self.try_endorsers(node, &member);
         // No weight at all; lengths just right and just short.
         let mut copy = node.clone();
         copy.state[4..20].fill(0);
-        self.try_all(&copy, &member, whole);
+        self.try_all(&copy, &calls, whole);
         let needed = table_words(member.settings.ceiling);
         for lengths in
             [(37, needed), (36, needed), (37, needed - 1), (37, ROW), (37, 0), (0, needed), (0, 0)]
         {
-            self.try_all(node, &member, lengths);
+            self.try_all(node, &calls, lengths);
         }
     }
 

@@ -104,7 +104,7 @@ impl Plan {
 pub fn grow(rng: &mut Rng, mut member: Member, to: u32, plan: &Plan) -> Member {
     loop {
         let round = member.round;
-        let Some(committee) = member.committee_of(round) else { break };
+        let Some(&committee) = member.committee_of(round) else { break };
         let inside =
             (0..MEMBERS).filter(|&m| committee[m as usize] > 0).map(single).fold(0, |a, b| a | b);
         let before = if round > 1 { member.held_authors(round - 1) } else { 0 };
@@ -121,7 +121,7 @@ pub fn grow(rng: &mut Rng, mut member: Member, to: u32, plan: &Plan) -> Member {
                 .map(|_| any_transaction(rng))
                 .collect();
             let proposal = Proposal { author, round, previous, transactions };
-            let endorsers = inside & !single(author);
+            let endorsers = some_quorum(rng, &committee, author);
             // Its own goes the way of propose and certify where it can.
             if author == member.own
                 && rng.chance(800)
@@ -174,7 +174,7 @@ pub fn change_word(rng: &mut Rng, member: &Member, state: &mut [u32], table: &mu
     let near = if rng.chance(700) { member.round } else { ceiling };
     let row = ROW * rng.between(1, near) as usize;
     let record = held_place(rng, member).map(|(a, r)| ROW * r as usize + 16 + 16 * a as usize);
-    let sort = rng.below(22);
+    let sort = rng.below(25);
     match (sort, record) {
         (0, _) => table[rng.below(table.len() as u64) as usize] = rng.word(),
         (1, _) => table[row] ^= 1 << rng.below(16),
@@ -205,8 +205,15 @@ pub fn change_word(rng: &mut Rng, member: &Member, state: &mut [u32], table: &mu
             table[at + 6 + 3 * rng.below(4) as usize] = rng.pick(&[0, 1, 1_000, 1_001, u32::MAX])
         }
         (15, Some(at)) => table[at + 3] = rng.word(),
-        (16, _) => table[rng.below(ROW as u64) as usize] = rng.word(),
-        (17, _) => table[row + 3 + rng.below(13) as usize] = rng.word(),
+        (16, Some(at)) => table[at + 3] ^= any_bit(rng),
+        (17, Some(at)) => {
+            // All but the author, and at times one more.
+            let author = 1 << ((at % ROW - 16) / 16);
+            table[at + 3] = 0xffff & !author | rng.pick(&[0, 0, author, 1 << 16]);
+        }
+        (18, _) => table[row + 16 + 16 * rng.below(16) as usize + 3] = rng.word(),
+        (19, _) => table[rng.below(ROW as u64) as usize] = rng.word(),
+        (20, _) => table[row + 3 + rng.below(13) as usize] = rng.word(),
         _ => change_state(rng, member, state),
     }
 }

@@ -100,8 +100,39 @@ MUTANTS = [
     # reads
     ("*out = s.committee(round)?.0;", "*out = s.committee(round)?.0.map(|w| w & 0xffff);"),
     ("    clear_unused(&mut out[2..16]);\n", ""),
-    ("    out[16] = record[2];\n", ""),
+    ("    out[17] = record[2];\n", ""),
     ("if number == 0 || number > s.blocks() {", "if number > s.blocks() {"),
+    # endorsers
+    ("(0xffff << 16 | 1 << a)", "(0xffff << 16)"),
+    ("(0xffff << 16 | 1 << a)", "(0xffff << 16 | 1 << ((a + 1) & 15))"),
+    ("(0xffff << 16 | 1 << a)", "(1 << a)"),
+    ("(0xffff << 16 | 1 << a)", "(0xfffe << 16 | 1 << a)"),
+    ("    record[3] = endorsers;\n", ""),
+    ("first_chunk().unwrap(), endorsers);", "first_chunk().unwrap(), endorsers | 1 << own);"),
+    ("first_chunk().unwrap(), endorsers);", "first_chunk().unwrap(), 0);"),
+    ("write_record(table, author, round, body, endorsers);", "write_record(table, author, round, body, endorsers | 1 << author);"),
+    ("write_record(table, author, round, body, endorsers);", "write_record(table, author, round, body, 0);"),
+    ("        return Err(if s.same(author, round, body) { 16 } else { 17 });\n",
+     "        let same = s.same(author, round, body);\n"
+     "        if same {\n            table[ROW * round as usize + 19 + 16 * author as usize] = endorsers;\n        }\n"
+     "        return Err(if same { 16 } else { 17 });\n"),
+    ("        return Err(if s.same(author, round, body) { 16 } else { 17 });\n",
+     "        let same = s.same(author, round, body);\n"
+     "        if same {\n            table[ROW * round as usize + 19 + 16 * author as usize] |= endorsers;\n        }\n"
+     "        return Err(if same { 16 } else { 17 });\n"),
+    ("if s.same(author, round, body) { 16 } else { 17 }",
+     "if s.same(author, round, body) && s.record(author, round)[3] == endorsers { 16 } else { 17 }"),
+    ("    if s.has(author, round) {\n        return Err(if",
+     "    if s.has(author, round) {\n        s.check_signers(round, endorsers | 1 << author)?;\n        return Err(if"),
+    ("    out[16] = record[3];\n", "    out[16] = s.record(s.own(), round)[3];\n"),
+    ("    out[16] = record[3];\n", "    out[16] = s.record(author ^ 1, round)[3];\n"),
+    ("    out[16] = record[3];\n", "    out[16] = record[0];\n"),
+    ("    out[16] = record[3];\n", "    out[16] = record[3] | 1 << author;\n"),
+    ("    out[16] = record[3];\n    out[17] = record[2];\n", "    out[16] = record[2];\n    out[17] = record[3];\n"),
+    ("    let out: &mut [u32; 18] = out.first_chunk_mut().ok_or(1u32)?;\n",
+     "    let mut spare = [0; 18];\n    if out.len() < 17 {\n        return Err(1);\n    }\n"
+     "    let out = if out.len() == 17 { &mut spare } else { out.first_chunk_mut().unwrap() };\n"),
+    ("                    record[2] = block;\n", "                    record[2] = block;\n                    record[3] = 0;\n"),
     # order of checks
     ("if author > 15 {\n            return Err(4);\n        }\n        if !self.in_range(round) {\n            return Err(5);\n        }",
      "if !self.in_range(round) {\n            return Err(5);\n        }\n        if author > 15 {\n            return Err(4);\n        }"),

@@ -1,8 +1,8 @@
 //! State, table and argument words as values of the reference, and back.
 //!
-//! Written from document 01 (well formed states), docs/TABLES.md and the
-//! host's layouts. `None` stands for "refused with 1": words that cannot be
-//! read, or a state that is not well formed.
+//! Written from document 01 and point 1 (well formed states), docs/TABLES.md
+//! and the host's layouts. `None` stands for "refused with 1": words that
+//! cannot be read, or a state that is not well formed.
 
 use crate::reference::*;
 
@@ -124,6 +124,12 @@ pub fn read_member(state: &[u32], table: &[u32]) -> Option<Member> {
     Some(Member { own, settings, round, proposal, held, endorsed, chain })
 }
 
+/// The endorsers in a held record: a set of members, its author not among
+/// them. Outsiders and too few are well formed.
+fn read_endorsers(word: u32, author: u32) -> Option<Set> {
+    read_set(word).filter(|&endorsers| !in_set(endorsers, author))
+}
+
 /// Held certificates and endorsed places, by round, then author.
 fn read_places(
     table: &[u32],
@@ -146,10 +152,9 @@ fn read_places(
             if !proposal_fits(&proposal, settings) || record[2] > blocks {
                 return None;
             }
-            held.push(Some(Held {
-                certificate: Certificate { proposal, endorsers: 0 },
-                block: record[2],
-            }));
+            let endorsers = read_endorsers(record[3], author)?;
+            let certificate = Certificate { proposal, endorsers };
+            held.push(Some(Held { certificate, block: record[2] }));
         }
     }
     Some((held, endorsed))
@@ -271,6 +276,7 @@ pub fn write_table(member: &Member, table: &mut [u32]) {
             record[0] = u32::from(p.previous);
             record[1] = p.transactions.len() as u32;
             record[2] = held.block;
+            record[3] = u32::from(held.certificate.endorsers);
             for (k, t) in p.transactions.iter().enumerate() {
                 record[4 + 3 * k..7 + 3 * k].copy_from_slice(&transaction_words(t));
             }

@@ -86,7 +86,7 @@ module _ (s : State) (t : List ℕ) where
   pub certificate-number : (m r : ℕ) → numberIn (certificateAnswer s t m r .answer) ≡ certificateNumber s t m r
   certificate-number m r =
       let f : CertificateRead → ℕ = λ x. numberIn (x .answer) in
-      told-number (certificateNumber s t m r) (f (certificateAnswer s t m r)) (λ e. ap f (sym (certificate-given s t m r refl e refl refl))) (λ h. ap f (sym (certificate-refused s t m r refl h)))
+      told-number (certificateNumber s t m r) (f (certificateAnswer s t m r)) (λ e. ap f (sym (certificate-given s t m r refl e refl refl refl))) (λ h. ap f (sym (certificate-refused s t m r refl h)))
 
   pub commit-writable : {x : committed.Outcome} → x ≡ commitOutcome s t → Writable (addedAnswer (x .answer)) (x .state)
   commit-writable e a =

@@ -30,7 +30,7 @@ use Rattle.host.specs.TidyStates.{tidyBody, tidy}
 
 -- ---- a transaction
 
-used-back : (b : Body) (k : ℕ) → cond (ltb k (b .count)) (readTransaction (kindOf (usedOf b k)) (numberOf (usedOf b k)) (amountOf (usedOf b k))) noTransaction ≡ usedOf b k
+pub used-back : (b : Body) (k : ℕ) → cond (ltb k (b .count)) (readTransaction (kindOf (usedOf b k)) (numberOf (usedOf b k)) (amountOf (usedOf b k))) noTransaction ≡ usedOf b k
 unfolding usedOf
 used-back b k = rw (read-back (usedOf b k)) (go (ltb k (b .count)))
   where
@@ -38,7 +38,7 @@ used-back b k = rw (read-back (usedOf b k)) (go (ltb k (b .count)))
     go true = refl
     go false = refl
 
-triple-reads : (x : Transaction) → isTriple (kindOf x) (amountOf x) ≡ true
+pub triple-reads : (x : Transaction) → isTriple (kindOf x) (amountOf x) ≡ true
 unfolding isTriple
 triple-reads (Bond m a) = refl
 triple-reads (Unbond m) = refl
@@ -93,7 +93,7 @@ words-back : (s : State) → stateIn (stateWords s) ≡ tidy s
 unfolding stateIn tidy
 words-back s = let n = numbers-back s in rw (head-back s, kept-back s, flag-back s, there-back (s .proposing), n .0, n .1 .0, n .1 .1) refl
 
-either : (b : Bool) {x : Bool} → x ≡ true → cond b x true ≡ true
+pub either : (b : Bool) {x : Bool} → x ≡ true → cond b x true ≡ true
 either b e = rw e (cond-same b true)
 
 triple-read : (s : State) (k : ℕ) → k < 4 → tripleReads (stateWords s) 23 k ≡ true

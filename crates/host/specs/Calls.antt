@@ -117,7 +117,7 @@ module _ (w t o : List ℕ) where
   readable commit = stateReads w
   readable (committee r) = stateReads w && leb 16 (length o)
   readable (share m r) = stateReads w
-  readable (certificate a r) = stateReads w && leb 17 (length o)
+  readable (certificate a r) = stateReads w && leb 18 (length o)
   readable (block k) = stateReads w
 
   -- refused with the number n: no value, and nothing changes
@@ -152,7 +152,7 @@ module _ (w t o : List ℕ) where
   committeeBy x = given (x .answer) 0 (over (x .answer) o (sixteen (x .weights)) 16)
 
   abbrev pub certificateBy : CertificateRead → Turn
-  certificateBy x = given (x .answer) 0 (over (x .answer) o (heldWords (x .proposal) (x .block)) 17)
+  certificateBy x = given (x .answer) 0 (over (x .answer) o (heldWords (x .proposal) (x .endorsers) (x .block)) 18)
 
   abbrev pub shareBy : Shared.ShareRead → Turn
   shareBy x = given (sharedAnswer x) (sharedValue x) o

@@ -6,6 +6,7 @@ use Prim.Native.Nat.{ℕ, _<_}
 use native.Mathlib.Omega.{arith}
 use lib.ListN.{getD}
 use lib.Dec.{ltb}
+use borrow.Author.Tests.{ltb-true}
 use Rattle.base.specs.Bools.{both}
 use Rattle.state.specs.declared.State.{State}
 use Rattle.state.specs.WellFormed.{wellFormed}
@@ -36,14 +37,14 @@ proposal-set : (p : List ℕ) → getD p 2 0 < 65536 → proposalIn p .body .pre
 unfolding proposalIn bodyIn
 proposal-set p h = h
 
-certificate-set : (c : List ℕ) → getD c 2 0 < 65536 → certificateIn c .proposal .body .previous < 65536
+certificate-sets : (c : List ℕ) → getD c 2 0 < 65536 → getD c 16 0 < 65536 → (certificateIn c .proposal .body .previous < 65536) × (certificateIn c .endorsers < 65536)
 unfolding certificateIn
-certificate-set c h = proposal-set c h
+certificate-sets c h d = (proposal-set c h, d)
 
 module _ (t : List ℕ) (s : State) where
   -- ---- a member's call
 
-  module _ (c : steps.Call) (e : numberIn (steps.outcome s t c .answer) ≡ 0) (small : steps.number s t c ≡ 0 → steps.previousIn s c < 65536) where
+  module _ (c : steps.Call) (e : numberIn (steps.outcome s t c .answer) ≡ 0) (small : steps.number s t c ≡ 0 → steps.SetsFit s c) where
     accepted-number : steps.number s t c ≡ 0
     accepted-number = sym (answer-number s t c) ∙ e
 
@@ -83,15 +84,17 @@ module _ (t : List ℕ) (s : State) where
 
 module _ (w t o : List ℕ) where
   served-formed : (c : Call) → readable w t o c ≡ true → served w t o c .refusal ≡ 0 → wellFormed (nextState w t c) (served w t o c .table) ≡ true
-  served-formed (opens own sheet) r e = stepped-formed t closedState (steps.opens (record { 0 = own }) (sheetIn sheet)) e (λ n. omega arith)
-  served-formed (propose b) r e = stepped-formed t (stateIn w) (steps.propose (bodyIn b 0)) e (λ n. lone-set b (both (stateReads w) (loneBodyReads b) r .1))
+  served-formed (opens own sheet) r e = stepped-formed t closedState (steps.opens (record { 0 = own }) (sheetIn sheet)) e (λ n. (omega arith, omega arith))
+  served-formed (propose b) r e = stepped-formed t (stateIn w) (steps.propose (bodyIn b 0)) e (λ n. (lone-set b (both (stateReads w) (loneBodyReads b) r .1), omega arith))
   served-formed (endorse p) r e =
-      kept-formed t (stateIn w) (steps.endorse (proposalIn p)) e (λ n. proposal-set p (proposal-read p (both (stateReads w) (proposalReads p) r .1) .previous))
+      kept-formed t (stateIn w) (steps.endorse (proposalIn p)) e (λ n. (proposal-set p (proposal-read p (both (stateReads w) (proposalReads p) r .1) .previous), omega arith))
   served-formed (certify i) r e =
-      kept-formed t (stateIn w) (steps.certify i) e (λ n. sets w (state-read w (both (stateReads w) (ltb i 65536) r .0)) (certify-passed (stateIn w) t i n .1))
+      let k = both (stateReads w) (ltb i 65536) r in
+      kept-formed t (stateIn w) (steps.certify i) e (λ n. (sets w (state-read w (k .0)) (certify-passed (stateIn w) t i n .1), ltb-true i 65536 (k .1)))
   served-formed (accept c) r e =
-      kept-formed t (stateIn w) (steps.accept (certificateIn c)) e (λ n. certificate-set c (certificate-read c (both (stateReads w) (certificateReads c) r .1) .previous))
-  served-formed advance r e = stepped-formed t (stateIn w) steps.advance e (λ n. omega arith)
+      let k = certificate-read c (both (stateReads w) (certificateReads c) r .1) in
+      kept-formed t (stateIn w) (steps.accept (certificateIn c)) e (λ n. certificate-sets c (k .previous) (k .endorsers))
+  served-formed advance r e = stepped-formed t (stateIn w) steps.advance e (λ n. (omega arith, omega arith))
   served-formed commit r e = commit-formed t (stateIn w) e
   served-formed (committee n) r e = committee-formed t (stateIn w) n e
   served-formed (share m n) r e = share-formed t (stateIn w) m n e

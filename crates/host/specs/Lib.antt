@@ -17,3 +17,4 @@ pub mod BackLaws
 pub mod NextLaws
 pub mod BeyondLaws
 pub mod FormedLaws
+pub mod HeldLaws

@@ -157,7 +157,7 @@ module _ (w t : List ℕ) where
     served-gives commit r e = commit-gives e (state-read w r)
     served-gives (committee n) r e = as-was (both (stateReads w) (leb 16 (length o)) r .0)
     served-gives (share m n) r e = as-was r
-    served-gives (certificate a n) r e = as-was (both (stateReads w) (leb 17 (length o)) r .0)
+    served-gives (certificate a n) r e = as-was (both (stateReads w) (leb 18 (length o)) r .0)
     served-gives (block k) r e = as-was r
 
     -- every accepted call

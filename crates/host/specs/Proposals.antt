@@ -21,6 +21,6 @@ certificateReads w = leb 17 (length w) && (ltb (word w 16) 65536 && proposalRead
 unfoldable pub certificateIn : List ℕ → Certificate
 certificateIn w = record { proposal = proposalIn w; endorsers = word w 16 }
 
--- a held certificate as it is read: its proposal, and the number of its block
-unfoldable pub heldWords : Proposal → ℕ → List ℕ
-heldWords p block = (p .author .0 ∷ p .round .0 ∷ []) ++ bodyWords (p .body) ++ (block ∷ [])
+-- a held certificate as it is read: the seventeen words of the certificate, then the number of its block
+unfoldable pub heldWords : Proposal → ℕ → ℕ → List ℕ
+heldWords p endorsers block = (p .author .0 ∷ p .round .0 ∷ []) ++ bodyWords (p .body) ++ (endorsers ∷ block ∷ [])

@@ -42,14 +42,14 @@ module _ (b : Body) where
   unfolding bodyWords
   body-put t a h = paste-append t a (b .previous ∷ b .count ∷ []) (usedWords b 4) 2 12 refl (omega arith)
 
-pub held-put : (p : Proposal) (k : ℕ) (t : List ℕ) → 17 ≤ length t
-    → paste (paste (paste t 0 (p .author .0 ∷ p .round .0 ∷ []) 2) 2 (bodyWords (p .body)) 14) 16 (k ∷ []) 1 ≡ paste t 0 (heldWords p k) 17
+pub held-put : (p : Proposal) (d k : ℕ) (t : List ℕ) → 18 ≤ length t
+    → paste (paste (paste t 0 (p .author .0 ∷ p .round .0 ∷ []) 2) 2 (bodyWords (p .body)) 14) 16 (d ∷ k ∷ []) 2 ≡ paste t 0 (heldWords p d k) 18
 unfolding heldWords
-held-put p k t h =
+held-put p d k t h =
     let head = p .author .0 ∷ p .round .0 ∷ [] in
     let l = length-body (p .body) in
-    ap (λ (z : List ℕ). paste z 16 (k ∷ []) 1) (paste-append t 0 head (bodyWords (p .body)) 2 14 refl (omega arith))
-    ∙ paste-append t 0 (head ++ bodyWords (p .body)) (k ∷ []) 16 1 (length-append head (bodyWords (p .body)) ∙ ap (λ (z : ℕ). 2 + z) l) (omega arith)
+    ap (λ (z : List ℕ). paste z 16 (d ∷ k ∷ []) 2) (paste-append t 0 head (bodyWords (p .body)) 2 14 refl (omega arith))
+    ∙ paste-append t 0 (head ++ bodyWords (p .body)) (d ∷ k ∷ []) 16 2 (length-append head (bodyWords (p .body)) ∙ ap (λ (z : ℕ). 2 + z) l) (omega arith)
 
 -- the pieces of a state's words, one after the other
 pub state-put : (s : State) (t : List ℕ) → 37 ≤ length t

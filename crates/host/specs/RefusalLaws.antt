@@ -74,7 +74,7 @@ module _ (w t o : List ℕ) where
   served-still commit h = commit-still (stateIn w) h
   served-still (committee r) h = let x = committeeAnswer (stateIn w) t r in given-refused (x .answer) (sixteen (x .weights)) 16 h
   served-still (share m r) h = share-refused (shareAnswer (stateIn w) t m r) h
-  served-still (certificate a r) h = let x = certificateAnswer (stateIn w) t a r in given-refused (x .answer) (heldWords (x .proposal) (x .block)) 17 h
+  served-still (certificate a r) h = let x = certificateAnswer (stateIn w) t a r in given-refused (x .answer) (heldWords (x .proposal) (x .endorsers) (x .block)) 18 h
   served-still (block k) h = block-refused (blockAnswer (stateIn w) t k) h
 
   -- every call

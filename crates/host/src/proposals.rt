@@ -58,14 +58,14 @@ pub fn certificate_in(w: &[u32]) -> Certificate
     }
 }
 
-// Puts a proposal and the number of its block.
-pub fn put_held(w: &mut [u32], p: Proposal, block: u32)
-    requires { ⌜ 17 ≤ length (now w) ⌝ }
-    ensures { λ _. ⌜ now (w .exit) ≡ paste (now (w .entry)) 0 (heldWords p block) 17 ⌝ }
+// Puts a held certificate, and the number of its block.
+pub fn put_held(w: &mut [u32], p: Proposal, endorsers: u16, block: u32)
+    requires { ⌜ 18 ≤ length (now w) ⌝ }
+    ensures { λ _. ⌜ now (w .exit) ≡ paste (now (w .entry)) 0 (heldWords p endorsers block) 18 ⌝ }
 {
     let head = [p.author.0, p.round.0];
     let b = p.body;
-    let last = [block];
+    let last = [endorsers as u32, block];
     crate::words::put(w, 0, &head);
     crate::bodies::put_body(w, 2, b);
     crate::words::put(w, 16, &last);

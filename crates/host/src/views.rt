@@ -31,14 +31,14 @@ fn show_committee(out: &mut [u32], x: reads::CommitteeRead) -> u32
 
 // Writes a held certificate, where the read is accepted.
 fn show_certificate(out: &mut [u32], x: reads::CertificateRead) -> u32
-    requires { ⌜ 17 ≤ length (now out) ⌝ }
-    ensures { λ r. ⌜ (r ≡ numberIn (x .answer)) × (now (out .exit) ≡ over (x .answer) (now (out .entry)) (heldWords (x .proposal) (x .block)) 17) ⌝ }
+    requires { ⌜ 18 ≤ length (now out) ⌝ }
+    ensures { λ r. ⌜ (r ≡ numberIn (x .answer)) × (now (out .exit) ≡ over (x .answer) (now (out .entry)) (heldWords (x .proposal) (x .endorsers) (x .block)) 18) ⌝ }
 {
     let p = x.proposal;
     let a = x.answer;
     match a {
         Answer::Accepted => {
-            crate::proposals::put_held(out, p, x.block);
+            crate::proposals::put_held(out, p, x.endorsers, x.block);
             0
         }
         Answer::Refused(n) => n,
@@ -79,7 +79,7 @@ pub extern "C" fn forgelilac_share(state: &[u32], table: &[u32], member: u32, ro
     crate::answers::share_number(x)
 }
 
-// Certificate of a place: its proposal and the number of its block, 0 for none, into out.
+// Certificate of a place: its proposal, its endorsers and the number of its block, 0 for none, into out.
 #[no_mangle]
 pub extern "C" fn forgelilac_certificate(
     state: &[u32],
@@ -93,7 +93,7 @@ pub extern "C" fn forgelilac_certificate(
     if !crate::states::state_reads(state) {
         return 1;
     }
-    if out.len() < 17 {
+    if out.len() < 18 {
         return 1;
     }
     let s = crate::states::state_in(state);

@@ -34,7 +34,7 @@ module _ (s : State) (t : List ℕ) where
   unfoldable pub endorseTable : Proposal → List ℕ
   endorseTable p = left (endorseNumber p) (setEndorsed t (p .author .0) (p .round .0)) t
 
-  -- ---- certify: the certificate is held
+  -- ---- certify: the certificate is held, with its endorsers
 
   unfoldable pub certifyNumber : ℕ → ℕ
   certifyNumber e = numberOf s t (rules.certify e)
@@ -43,9 +43,9 @@ module _ (s : State) (t : List ℕ) where
   certifyOutcome e = outcomeOf (certifyNumber e) s s
 
   unfoldable pub certifyTable : ℕ → List ℕ
-  certifyTable e = left (certifyNumber e) (putCertificate t (contentWith (s .own .0) (s .round .0) (s .body))) t
+  certifyTable e = left (certifyNumber e) (putCertificate t (contentWith (s .own .0) (s .round .0) (s .body)) e) t
 
-  -- ---- accept: held, and its endorsed mark cleared
+  -- ---- accept: held with its endorsers, and its endorsed mark cleared
 
   unfoldable pub acceptNumber : Certificate → ℕ
   acceptNumber c = numberOf s t (rules.accept (contentOf (c .proposal)) (c .endorsers))
@@ -54,7 +54,7 @@ module _ (s : State) (t : List ℕ) where
   acceptOutcome c = outcomeOf (acceptNumber c) s s
 
   unfoldable pub acceptTable : Certificate → List ℕ
-  acceptTable c = left (acceptNumber c) (clearEndorsed (putCertificate t (contentOf (c .proposal))) (c .proposal .author .0) (c .proposal .round .0)) t
+  acceptTable c = left (acceptNumber c) (clearEndorsed (putCertificate t (contentOf (c .proposal)) (c .endorsers)) (c .proposal .author .0) (c .proposal .round .0)) t
 
   -- ---- advance: next round, proposal dropped
 

@@ -17,7 +17,7 @@ use Rattle.state.specs.Known.{Known}
 use Rattle.member.specs.declared.Answer.{Answer}
 use Rattle.member.specs.declared.Answer.the-variants.{Accepted, Refused}
 use Rattle.member.specs.PassedLaws.{propose-passed, endorse-passed, certify-passed, accept-passed, advance-passed}
-use Rattle.member.specs.Steps.{Call, opens, propose, endorse, certify, accept, advance, number, outcome, tableAfter, newState, newTable, previousIn}
+use Rattle.member.specs.Steps.{Call, opens, propose, endorse, certify, accept, advance, number, outcome, tableAfter, newState, newTable, SetsFit}
 use Rattle.member.specs.CallLaws.{refused-still, accepted-new}
 use Rattle.member.specs.NextLaws.{view-next, formed-next}
 
@@ -37,7 +37,7 @@ isOpen advance = false
 
 module _ (s : State) (t : List ℕ) where
   -- any call
-  pub formed-call : (c : Call) → previousIn s c < 65536 → wellFormed (outcome s t c .state) (tableAfter s t c) ≡ formedBy (wellFormed s t) (outcome s t c .answer)
+  pub formed-call : (c : Call) → SetsFit s c → wellFormed (outcome s t c .state) (tableAfter s t c) ≡ formedBy (wellFormed s t) (outcome s t c .answer)
   formed-call c small = go (ℕ-discrete (number s t c) 0)
     where
       go : Dec (number s t c ≡ 0) → wellFormed (outcome s t c .state) (tableAfter s t c) ≡ formedBy (wellFormed s t) (outcome s t c .answer)
@@ -54,7 +54,7 @@ module _ (s : State) (t : List ℕ) where
   formed-first advance o e = advance-passed s t e .0
 
   -- and leaves settings and chain as they were
-  keeps-next : (c : Call) → isOpen c ≡ false → previousIn s c < 65536 → number s t c ≡ 0 → {kept : List ℕ}
+  keeps-next : (c : Call) → isOpen c ≡ false → SetsFit s c → number s t c ≡ 0 → {kept : List ℕ}
       → Keeps (s .settings) (view s t .chain) kept → Keeps (newState s t c .settings) (view (newState s t c) (newTable s t c) .chain) kept
   keeps-next (opens own sheet) o small e k = absurd (false≢true (sym o))
   keeps-next (propose b) o small e k = k
@@ -68,7 +68,7 @@ module _ (s : State) (t : List ℕ) where
   keeps-next advance o small e k = k
 
   -- any call other than open: the committees kept stay true
-  pub known-call : (c : Call) → isOpen c ≡ false → previousIn s c < 65536 → {formed : Bool} {kept : List ℕ}
+  pub known-call : (c : Call) → isOpen c ≡ false → SetsFit s c → {formed : Bool} {kept : List ℕ}
       → Known s t formed kept → Known (outcome s t c .state) (tableAfter s t c) (formedBy formed (outcome s t c .answer)) kept
   known-call c o small {formed} {kept} k = go (ℕ-discrete (number s t c) 0)
     where

@@ -11,3 +11,4 @@ pub mod PieceLaws
 pub mod PlaceLaws
 pub mod NextLaws
 pub mod KnownLaws
+pub mod Copies

@@ -7,6 +7,7 @@ use Prim.Native.Nat.{ℕ, _<_, _≤_}
 use native.Mathlib.Omega.{arith}
 use borrow.Author.Tests.{ltb-false, leb-false}
 use Rattle.base.specs.Checks.{refusal, numbered}
+use Rattle.base.specs.Sets.{isIn}
 use Rattle.agreement.specs.Dag.{isHeld}
 use Rattle.terms.specs.declared.Body.{Body}
 use Rattle.terms.specs.declared.Proposal.{Proposal}
@@ -48,21 +49,21 @@ module _ (s : State) (t : List ℕ) where
             record { author = omega arith; from = r .0; to = r .1; body = body-fits (s .settings .allowance) (p .round .0) (p .body) h6 h7 },
       )
 
-  -- there is a proposal, and one's own place is free
-  pub certify-passed : (i : ℕ) → certifyNumber s t i ≡ 0 → Formed s t × (s .proposing ≡ true) × (heldAt t (s .own .0) (s .round .0) ≡ false)
+  -- there is a proposal, one's own place is free, and one is not among the endorsers
+  pub certify-passed : (i : ℕ) → certifyNumber s t i ≡ 0 → Formed s t × (s .proposing ≡ true) × (heldAt t (s .own .0) (s .round .0) ≡ false) × (isIn i (s .own .0) ≡ false)
   unfolding certifyNumber numbered
   certify-passed i e =
       let n = number-passed s t (rules.certify i) e in
       let f = formed s t (n .0) in
       let p = go (view s t .proposal) (n .1) in
-      (f, sym (held-proposal s) ∙ p .0, sym (held-dag (s .settings .ceiling .0) t (s .own .0) (s .round .0) (f .numbers .round-from) (f .numbers .round-to)) ∙ p .1)
+      (f, sym (held-proposal s) ∙ p .0, sym (held-dag (s .settings .ceiling .0) t (s .own .0) (s .round .0) (f .numbers .round-from) (f .numbers .round-to)) ∙ p .1, p .2)
     where
-      go : (o : Option Content) → refusal (rules.certifying (s .settings) (s .own .0) (view s t) i o) ≡ 0 → (isHeld o ≡ true) × (isHeld (view s t .dag (s .own .0) (s .round .0)) ≡ false)
+      go : (o : Option Content) → refusal (rules.certifying (s .settings) (s .own .0) (view s t) i o) ≡ 0 → (isHeld o ≡ true) × (isHeld (view s t .dag (s .own .0) (s .round .0)) ≡ false) × (isIn i (s .own .0) ≡ false)
       go none h = passed _ refl h λ h15. absurd (true≢false h15)
-      go (some p) h = passed _ refl h λ h10 h14 h8 h9 h13. (refl, h10)
+      go (some p) h = passed _ refl h λ h10 h14 h8 h9 h13. (refl, h10, h14)
 
-  -- its place is free
-  pub accept-passed : (c : Certificate) → acceptNumber s t c ≡ 0 → Formed s t × (Fits s (c .proposal) × (heldAt t (c .proposal .author .0) (c .proposal .round .0) ≡ false))
+  -- its place is free, and its author is not among its endorsers
+  pub accept-passed : (c : Certificate) → acceptNumber s t c ≡ 0 → Formed s t × (Fits s (c .proposal) × (heldAt t (c .proposal .author .0) (c .proposal .round .0) ≡ false) × (isIn (c .endorsers) (c .proposal .author .0) ≡ false))
   unfolding acceptNumber numbered
   accept-passed c e =
       let p = c .proposal in
@@ -73,6 +74,7 @@ module _ (s : State) (t : List ℕ) where
             let r = round-fits (s .settings) (p .round .0) h5 in (
               record { author = omega arith; from = r .0; to = r .1; body = body-fits (s .settings .allowance) (p .round .0) (p .body) h6 h7 },
               sym (held-dag (s .settings .ceiling .0) t (p .author .0) (p .round .0) (r .0) (r .1)) ∙ h17,
+              h14,
             ),
       )
 

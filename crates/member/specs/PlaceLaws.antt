@@ -101,8 +101,8 @@ module _ (s : State) (t : List ℕ) where
   pub few : (b : Body) (r : ℕ) → Formed s t → BodyFits (s .settings .allowance) r b → b .count ≤ 4
   few b r f h = let n = f .settings .allowance-to in let k = h .few in omega arith
 
-  pub within-put : (p : Proposal) → Within t (p .author .0) (p .round .0) → Within (putCertificate t (contentOf p)) (p .author .0) (p .round .0)
-  within-put p w = let l = length-put t (contentOf p) w in let h = w .row in record { member = w .member; row = omega arith }
+  pub within-put : (p : Proposal) (d : ℕ) → Within t (p .author .0) (p .round .0) → Within (putCertificate t (contentOf p) d) (p .author .0) (p .round .0)
+  within-put p d w = let l = length-put t (contentOf p) d w in let h = w .row in record { member = w .member; row = omega arith }
 
   -- ---- certify
 

@@ -1,6 +1,6 @@
 -- All calls but commit and the reads, with any values: the number that refuses, the answer and the state, and the table, as the contracts have them.
 use mathlib.Core.List.{List}
-use Prim.Native.Nat.{ℕ}
+use Prim.Native.Nat.{ℕ, _<_}
 use Rattle.terms.specs.declared.Member.{Member}
 use Rattle.terms.specs.declared.Body.{Body}
 use Rattle.terms.specs.declared.Proposal.{Proposal}
@@ -70,8 +70,8 @@ module _ (s : State) (t : List ℕ) where
   newTable (opens own sheet) = clearUsed t (filled sheet .ceiling .0)
   newTable (propose b) = t
   newTable (endorse p) = setEndorsed t (p .author .0) (p .round .0)
-  newTable (certify e) = putCertificate t (contentWith (s .own .0) (s .round .0) (s .body))
-  newTable (accept c) = clearEndorsed (putCertificate t (contentOf (c .proposal))) (c .proposal .author .0) (c .proposal .round .0)
+  newTable (certify e) = putCertificate t (contentWith (s .own .0) (s .round .0) (s .body)) e
+  newTable (accept c) = clearEndorsed (putCertificate t (contentOf (c .proposal)) (c .endorsers)) (c .proposal .author .0) (c .proposal .round .0)
   newTable advance = t
 
   -- the rules' next view
@@ -91,3 +91,16 @@ previousIn s (endorse p) = p .body .previous
 previousIn s (certify e) = s .body .previous
 previousIn s (accept c) = c .proposal .body .previous
 previousIn s advance = 0
+
+-- the endorsers of the certificate that a call holds; a machine's are below 65,536
+abbrev pub endorsersIn : Call → ℕ
+endorsersIn (opens own sheet) = 0
+endorsersIn (propose b) = 0
+endorsersIn (endorse p) = 0
+endorsersIn (certify e) = e
+endorsersIn (accept c) = c .endorsers
+endorsersIn advance = 0
+
+-- sets of members are 16-bit numbers
+abbrev pub SetsFit : State → Call → Type 0
+SetsFit s c = (previousIn s c < 65536) × (endorsersIn c < 65536)

@@ -77,7 +77,7 @@ pub fn accept_known(formed: bool, kept: &[u64], s: State, t: &mut [u32], c: Cert
         };
     }
     let p = c.proposal;
-    store::write::put_certificate(t, p);
+    store::write::put_certificate(t, p, c.endorsers);
     store::write::clear_endorsed(t, p.author, p.round);
     Outcome {
         state: s,

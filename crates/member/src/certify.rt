@@ -60,7 +60,7 @@ pub fn certify_known(formed: bool, kept: &[u64], s: State, t: &mut [u32], e: u16
         round,
         body,
     };
-    store::write::put_certificate(t, p);
+    store::write::put_certificate(t, p, e);
     Outcome {
         state: s,
         answer: Answer::Accepted,

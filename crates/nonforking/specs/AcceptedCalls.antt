@@ -33,7 +33,7 @@ module _ (e : Engine) where
   leaves c q n = subst (Next e c) (sym q) n
 
   -- a call of member that keeps own number and settings
-  step-next : (c : Call) (d : steps.Call) → after e c ≡ renewed e d → steps.previousIn state d < 65536 → steps.number state table d ≡ 0
+  step-next : (c : Call) (d : steps.Call) → after e c ≡ renewed e d → steps.SetsFit state d → steps.number state table d ≡ 0
       → renewed e d .state .own .0 ≡ state .own .0 → renewed e d .state .settings ≡ state .settings → renewed e d .state .body .previous < 65536
       → viewAt (state .settings) (renewed e d) ≡ rules.after (state .settings) (state .own .0) (viewAt (state .settings) e) (ruled c) → Next e c (after e c)
   step-next c d q small a o s low v =
@@ -63,19 +63,19 @@ module _ (e : Engine) where
     accepted-next (opens own sheet) r o a = absurd (o own sheet refl a)
     accepted-next (propose b) r o a =
         let d = steps.propose b in
-        step-next (propose b) d (step-accepted e d a) r a refl refl r (view-next state table d r a)
+        step-next (propose b) d (step-accepted e d a) (r, omega arith) a refl refl r (view-next state table d (r, omega arith) a)
     accepted-next (endorse p) r o a =
         let d = steps.endorse p in
-        step-next (endorse p) d (step-accepted e d a) r a refl refl low (view-next state table d r a)
+        step-next (endorse p) d (step-accepted e d a) (r, omega arith) a refl refl low (view-next state table d (r, omega arith) a)
     accepted-next (certify d) r o a =
         let x = steps.certify d in
-        step-next (certify d) x (step-accepted e x a) low a refl refl low (view-next state table x low a)
+        step-next (certify d) x (step-accepted e x a) (low, r) a refl refl low (view-next state table x (low, r) a)
     accepted-next (accept c) r o a =
         let d = steps.accept c in
-        step-next (accept c) d (step-accepted e d a) (r .0) a refl refl low (view-next state table d (r .0) a)
+        step-next (accept c) d (step-accepted e d a) r a refl refl low (view-next state table d r a)
     accepted-next advance r o a =
         let d = steps.advance in
-        step-next advance d (step-accepted e d a) (omega arith) a refl refl (omega arith) (view-next state table d (omega arith) a)
+        step-next advance d (step-accepted e d a) (omega arith, omega arith) a refl refl (omega arith) (view-next state table d (omega arith, omega arith) a)
     accepted-next commit r o a = commit-next a
     accepted-next (committee x) r o a = read-next (committee x) refl refl
     accepted-next (share m x) r o a = read-next (share m x) refl refl

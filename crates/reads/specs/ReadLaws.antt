@@ -10,7 +10,7 @@ use lib.Dec.{eqb, ltb}
 use borrow.Author.Tests.{eq-eqb, ne-eqb, ltb-false, lt-ltb, le-ltb, not-false}
 use Rattle.base.specs.Checks.{refusal, numbered, passes, refuses, passes-all}
 use Rattle.terms.specs.declared.Proposal.{Proposal}
-use Rattle.store.specs.Table.{Row, Within, heldAt, markAt, contentAt, blockRound}
+use Rattle.store.specs.Table.{Row, Within, heldAt, markAt, endorsersAt, contentAt, blockRound}
 use Rattle.store.specs.TableLaws.{certificate-present}
 use Rattle.store.specs.ScanLaws.{rows-held}
 use Rattle.store.specs.Writes.{proposalOf}
@@ -121,21 +121,22 @@ module _ (s : State) (t : List ℕ) where
   place-within k = record { member = k .member; row = omega (arith, k .well .long, k .to) }
 
   module _ (m r : ℕ) {n : ℕ} (q : n ≡ certificateNumber s t m r) where
-    pub certificate-refused : n ≢ 0 → _≡_ {A = CertificateRead} (record { answer = Refused n; proposal = noProposal; block = 0 }) (certificateAnswer s t m r)
+    pub certificate-refused : n ≢ 0 → _≡_ {A = CertificateRead} (record { answer = Refused n; proposal = noProposal; endorsers = 0; block = 0 }) (certificateAnswer s t m r)
     unfolding certificateAnswer
     certificate-refused h =
         rw (
           ← q,
           answer-refused n h,
           left-refused n (shown (view s t .dag m r)) noProposal h,
+          left-refused n (endorsersAt t m r) 0 h,
           left-refused n (rules.blockNumber (view s t .chain) m r) 0 h,
         )
         refl
 
-    pub certificate-given : {p : Proposal} {b : ℕ} → n ≡ 0 → p ≡ proposalOf (contentAt t m r) → b ≡ markAt t m r
-        → _≡_ {A = CertificateRead} (record { answer = Accepted; proposal = p; block = b }) (certificateAnswer s t m r)
+    pub certificate-given : {p : Proposal} {d : ℕ} {b : ℕ} → n ≡ 0 → p ≡ proposalOf (contentAt t m r) → d ≡ endorsersAt t m r → b ≡ markAt t m r
+        → _≡_ {A = CertificateRead} (record { answer = Accepted; proposal = p; endorsers = d; block = b }) (certificateAnswer s t m r)
     unfolding certificateAnswer
-    certificate-given e i j =
+    certificate-given e i g j =
         let k = certificate-passed m r (sym q ∙ e) in
         let c = s .settings .ceiling .0 in
         let d = dag-at c t m r (k .from) (k .to) ∙ certificate-present t m r (k .held) in
@@ -144,10 +145,12 @@ module _ (s : State) (t : List ℕ) where
           ← q,
           answer-accepted n e,
           left-accepted n (shown (view s t .dag m r)) noProposal e,
+          left-accepted n (endorsersAt t m r) 0 e,
           left-accepted n (rules.blockNumber (view s t .chain) m r) 0 e,
           d,
           mark-number c t m r (k .from) (k .to) (k .held) (s .blocks) (w .mark),
           i,
+          g,
           j,
         )
         refl

@@ -8,6 +8,7 @@ use lib.Dec.{eqb}
 use Rattle.base.specs.Checks.{refusal}
 use Rattle.terms.specs.declared.Proposal.{Proposal}
 use Rattle.terms.specs.Proposals.{Content}
+use Rattle.store.specs.Table.{endorsersAt}
 use Rattle.store.specs.Writes.{proposalOf}
 use Rattle.rules.specs.Reads as rules
 use Rattle.state.specs.declared.State.{State}
@@ -46,7 +47,7 @@ module _ (s : State) (t : List ℕ) where
   unfoldable pub shareAnswer : ℕ → ℕ → ShareRead
   shareAnswer m r = cond (eqb (shareNumber m r) 0) (share.Thousandths (rules.shareRead (s .settings) (view s t) m r)) (share.Refused (shareNumber m r))
 
-  -- certificate (4, 5, 23 none there): the proposal and the number of its block, 0 for none
+  -- certificate (4, 5, 23 none there): the proposal, the endorsers that it was stored with, and the number of its block, 0 for none
   unfoldable pub certificateNumber : ℕ → ℕ → ℕ
   certificateNumber m r = refusal (guarded s t (rules.readingCertificate (s .settings) (view s t) m r))
 
@@ -55,6 +56,7 @@ module _ (s : State) (t : List ℕ) where
       record {
         answer = answerOf (certificateNumber m r);
         proposal = left (certificateNumber m r) (shown (view s t .dag m r)) noProposal;
+        endorsers = left (certificateNumber m r) (endorsersAt t m r) 0;
         block = left (certificateNumber m r) (rules.blockNumber (view s t .chain) m r) 0;
       }
 

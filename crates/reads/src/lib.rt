@@ -21,10 +21,11 @@ pub enum ShareRead {
     Refused(u32),
 }
 
-// A held certificate: its proposal, and the number of its block, 0 for none; nothing where the read is refused.
+// A held certificate: its proposal, the endorsers that it was stored with, and the number of its block, 0 for none; nothing where the read is refused.
 pub struct CertificateRead {
     pub answer: Answer,
     pub proposal: Proposal,
+    pub endorsers: u16,
     pub block: u32,
 }
 
@@ -127,12 +128,14 @@ pub fn certificate(s: State, t: &[u32], m: Member, r: Round) -> CertificateRead
                 round: Round(0),
                 body: terms::bare_body(0),
             },
+            endorsers: 0,
             block: 0,
         };
     }
     CertificateRead {
         answer: Answer::Accepted,
         proposal: store::record::proposal_at(t, m, r),
+        endorsers: store::record::endorsers(t, m, r),
         block: store::record::mark(t, m, r),
     }
 }

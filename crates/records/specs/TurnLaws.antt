@@ -29,7 +29,7 @@ module _ {s : State} {t : List ℕ} {q : Reading} {state : State} {table : List 
   served-by k e i g h p = record { its-state = rw e i; its-table = rw e g; its-lines = rw e (puts-as refl h p) }
 
   -- by the outcome of a member's call c other than open; b is whether the state was well formed, f whether it is then
-  pub told-by : (k : Kind) (c : steps.Call) {o : called.Outcome} {b : Bool} {f : Bool} {kept : List ℕ} → q .kind ≡ k → isOpen c ≡ false → steps.previousIn s c < 65536
+  pub told-by : (k : Kind) (c : steps.Call) {o : called.Outcome} {b : Bool} {f : Bool} {kept : List ℕ} → q .kind ≡ k → isOpen c ≡ false → steps.SetsFit s c
       → steps.outcome s t c .state ≡ stateAfter s t q k → steps.tableAfter s t c ≡ tableAfter s t q k → answerLine (steps.outcome s t c .answer) ≡ linesAfter s t q k
       → Known s t b kept → o ≡ steps.outcome s t c → table ≡ steps.tableAfter s t c → (state ≡ o .state) × (f ≡ formedBy b (o .answer)) × Puts x y at next (answerLine (o .answer)) 20
       → Served s t q state table x y at next × Known state table f kept
@@ -42,7 +42,7 @@ module _ (s : State) (t : List ℕ) (b : Bool) {state : State} {table : List ℕ
   module _ (own : Member) (sheet : Sheet) {o : called.Outcome} (h : o ≡ openOutcome s t own sheet) (d : table ≡ openTable t own sheet)
       (p : (state ≡ o .state) × (f ≡ formedBy b (o .answer)) × Puts x y at next (answerLine (o .answer)) 20) where
     pub opened-formed : b ≡ wellFormed s t → f ≡ wellFormed state table
-    opened-formed w = rw (p .0, p .1, d, h, w) (sym (formed-call s t (steps.opens own sheet) (omega arith)))
+    opened-formed w = rw (p .0, p .1, d, h, w) (sym (formed-call s t (steps.opens own sheet) (omega arith, omega arith)))
 
     pub opened-by : {kept : List ℕ} → Known state table f kept
         → (state ≡ openOutcome s t own sheet .state) × (table ≡ openTable t own sheet) × Puts x y at next (answerLine (openOutcome s t own sheet .answer)) 20 × Known state table f kept

@@ -5,6 +5,7 @@ use mathlib.Core.List.{List}
 use Prim.Native.Nat.{ℕ, _+_, _<_, _≤_}
 use native.Mathlib.Omega.{arith}
 use lib.ListN.{length}
+use Rattle.base.specs.Sets.{isIn}
 use Rattle.terms.specs.declared.Body.{Body}
 use Rattle.terms.specs.declared.Member.{Member}
 use Rattle.terms.specs.declared.Round.{Round}
@@ -71,14 +72,14 @@ module _ (s : State) (t : List ℕ) (f : Formed s t) where
     pub clear-kept : Formed s (clearEndorsed t a q)
     clear-kept = marked (clear-endorsed t a q) (rows-clear-endorsed t a q at (s .settings .allowance) (s .blocks) (s .settings .ceiling .0) (f .rows))
 
-  -- a certificate held that passes checks 6 and 7
-  pub put-kept : (p : Content) → Storable (s .settings .ceiling .0) p → unfit (s .settings .allowance) (p .transactions) ≡ false → wrongSet (p .round) (p .previous) ≡ false
-      → Formed s (putCertificate t p)
-  put-kept p k fit right =
+  -- a certificate held that passes checks 6 and 7, its author not among its endorsers
+  pub put-kept : (p : Content) (d : ℕ) → d < 65536 → isIn d (p .author) ≡ false → Storable (s .settings .ceiling .0) p → unfit (s .settings .allowance) (p .transactions) ≡ false → wrongSet (p .round) (p .previous) ≡ false
+      → Formed s (putCertificate t p d)
+  put-kept p d low apart k fit right =
       let i = within t (f .long) k in
-      written (putCertificate t p) (length-put t p i)
-      (rows-put t p i (s .settings .allowance) (s .blocks) (f .settings .allowance-to) fit right (k .small) (s .settings .ceiling .0) (f .rows))
-      (block-round-put t p i)
+      written (putCertificate t p d) (length-put t p d i)
+      (rows-put t p d i (s .settings .allowance) (s .blocks) (f .settings .allowance-to) fit right (k .small) low apart (s .settings .ceiling .0) (f .rows))
+      (block-round-put t p d i)
 
 -- ---- open: a fresh state and a cleared table
 

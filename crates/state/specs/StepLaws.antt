@@ -42,26 +42,26 @@ module _ (s : State) (t : List ℕ) where
         let o = set-endorsed t (p .author) (p .round) in
         λ i. record { round = s .round .0; proposal = proposalOf s; dag = dag-endorse n o i; endorsed = endorsed-of-set (s .settings) n t p long k i; chain = chain-endorse n o (s .blocks) i }
 
-    module _ (free : heldAt t (p .author) (p .round) ≡ false) where
+    module _ (d : ℕ) (free : heldAt t (p .author) (p .round) ≡ false) where
       -- the certificate is held
-      pub view-certify : view s (putCertificate t p) ≡ afterCertify (view s t) p
+      pub view-certify : view s (putCertificate t p d) ≡ afterCertify (view s t) p
       view-certify =
           let S = s .settings in
           let n = S .ceiling .0 in
-          λ i. record { round = s .round .0; proposal = proposalOf s; dag = dag-put n t p long k free S i; endorsed = endorsed-of-put n t p long k i; chain = chain-put n t p long k free (s .blocks) i }
+          λ i. record { round = s .round .0; proposal = proposalOf s; dag = dag-put n t p d long k free S i; endorsed = endorsed-of-put n t p d long k i; chain = chain-put n t p d long k free (s .blocks) i }
 
       -- and its endorsed mark cleared
-      pub view-accept : view s (clearEndorsed (putCertificate t p) (p .author) (p .round)) ≡ afterAccept (view s t) p
+      pub view-accept : view s (clearEndorsed (putCertificate t p d) (p .author) (p .round)) ≡ afterAccept (view s t) p
       view-accept =
           let S = s .settings in
           let n = S .ceiling .0 in
-          let u = putCertificate t p in
+          let u = putCertificate t p d in
           let o = clear-endorsed u (p .author) (p .round) in
-          let long′ : Row u n = rw (length-put t p (within t long k)) long in
-          let d = dag-endorse n o ∙ dag-put n t p long k free S in
-          let e = endorsed-of-clear S n u p long′ k ∙ ap (mark (rules S) false p) (endorsed-of-put n t p long k) in
-          let c = chain-endorse n o (s .blocks) ∙ chain-put n t p long k free (s .blocks) in
-          λ i. record { round = s .round .0; proposal = proposalOf s; dag = d i; endorsed = e i; chain = c i }
+          let long′ : Row u n = rw (length-put t p d (within t long k)) long in
+          let g = dag-endorse n o ∙ dag-put n t p d long k free S in
+          let e = endorsed-of-clear S n u p long′ k ∙ ap (mark (rules S) false p) (endorsed-of-put n t p d long k) in
+          let c = chain-endorse n o (s .blocks) ∙ chain-put n t p d long k free (s .blocks) in
+          λ i. record { round = s .round .0; proposal = proposalOf s; dag = g i; endorsed = e i; chain = c i }
 
 -- a fresh state has round 1 and nothing else
 pub view-open : (own : Member) (S : Settings) (b : Body) (t : List ℕ)

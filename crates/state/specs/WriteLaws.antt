@@ -90,18 +90,18 @@ holds-same t u k a r c e = go (heldAt t a r) refl
 
 -- ---- a certificate put at a free place
 
-module _ (n : ℕ) (t : List ℕ) (p : Content) (long : Row t n) (k : Storable n p) where
+module _ (n : ℕ) (t : List ℕ) (p : Content) (d : ℕ) (long : Row t n) (k : Storable n p) where
   at : Within t (p .author) (p .round)
   at = within t long k
 
-  pub endorsed-of-put : endorsedOf n (putCertificate t p) ≡ endorsedOf n t
+  pub endorsed-of-put : endorsedOf n (putCertificate t p d) ≡ endorsedOf n t
   unfolding endorsedOf
-  endorsed-of-put = by-places (endorsedOf n (putCertificate t p)) (endorsedOf n t) (λ a r. rw (endorsed-put t p at a r) refl)
+  endorsed-of-put = by-places (endorsedOf n (putCertificate t p d)) (endorsedOf n t) (λ a r. rw (endorsed-put t p d at a r) refl)
 
   module _ (free : heldAt t (p .author) (p .round) ≡ false) where
-    pub dag-put : (S : Settings) → dagOf n (putCertificate t p) ≡ put (rules S) p (dagOf n t)
+    pub dag-put : (S : Settings) → dagOf n (putCertificate t p d) ≡ put (rules S) p (dagOf n t)
     unfolding dagOf
-    dag-put S = by-places (dagOf n (putCertificate t p)) (put (rules S) p (dagOf n t)) (λ a r. rw (put-at S p (dagOf n t) empty a r, certificate-put t p at (k .few) (k .small) a r) (here a r (samePlace a r (p .author) (p .round)) refl))
+    dag-put S = by-places (dagOf n (putCertificate t p d)) (put (rules S) p (dagOf n t)) (λ a r. rw (put-at S p (dagOf n t) empty a r, certificate-put t p d at (k .few) (k .small) a r) (here a r (samePlace a r (p .author) (p .round)) refl))
       where
         empty : dagOf n t (p .author) (p .round) ≡ none
         empty = dag-at n t (p .author) (p .round) (k .from) (k .to) ∙ certificate-absent t (p .author) (p .round) free
@@ -112,15 +112,15 @@ module _ (n : ℕ) (t : List ℕ) (p : Content) (long : Row t n) (k : Storable n
         here a r false e = refl
 
     -- a new certificate is in no block
-    pub chain-put : (b : ℕ) → chainOf n (putCertificate t p) b ≡ chainOf n t b
-    chain-put b = chain-same n t (putCertificate t p) b (λ j _ _. block-round-put t p at j) (λ j a r z _. here j a r z (samePlace a r (p .author) (p .round)) refl)
+    pub chain-put : (b : ℕ) → chainOf n (putCertificate t p d) b ≡ chainOf n t b
+    chain-put b = chain-same n t (putCertificate t p d) b (λ j _ _. block-round-put t p d at j) (λ j a r z _. here j a r z (samePlace a r (p .author) (p .round)) refl)
       where
-        here : (j a r : ℕ) → 0 < j → (b : Bool) → samePlace a r (p .author) (p .round) ≡ b → holdsAt (putCertificate t p) j a r ≡ holdsAt t j a r
+        here : (j a r : ℕ) → 0 < j → (b : Bool) → samePlace a r (p .author) (p .round) ≡ b → holdsAt (putCertificate t p d) j a r ≡ holdsAt t j a r
         here j a r z true e =
             let i = same-place a r (p .author) (p .round) e in
             rw (i .0, i .1)
-            (holds-at (putCertificate t p) j (p .author) (p .round) ∙ rw (mark-put t p at, ne-eqb 0 j (omega arith)) (sym (free-holds-none t j (p .author) (p .round) free)))
-        here j a r z false e = holds-same t (putCertificate t p) j a r (certificate-put t p at (k .few) (k .small) a r ∙ rw e refl) (λ h. mark-kept t p at a r (held-member t a r h) e)
+            (holds-at (putCertificate t p d) j (p .author) (p .round) ∙ rw (mark-put t p d at, ne-eqb 0 j (omega arith)) (sym (free-holds-none t j (p .author) (p .round) free)))
+        here j a r z false e = holds-same t (putCertificate t p d) j a r (certificate-put t p d at (k .few) (k .small) a r ∙ rw e refl) (λ h. mark-kept t p d at a r (held-member t a r h) e)
 
 -- ---- an endorsed mark set or cleared
 

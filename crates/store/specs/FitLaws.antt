@@ -10,6 +10,7 @@ use lib.ListN.{length}
 use borrow.Author.Tests.{ltb-false, not-false}
 use Rattle.base.specs.Folds.{allTo}
 use Rattle.base.specs.TestLaws.{all-at}
+use Rattle.base.specs.Sets.{isIn}
 use Rattle.base.specs.SetLaws.{add-lt}
 use Rattle.terms.specs.declared.Transaction.{Transaction}
 use Rattle.terms.specs.declared.Transaction.the-variants.{Bond, Unbond, Entry}
@@ -20,7 +21,7 @@ use Rattle.store.specs.Table.{Within, heldSet, endorsedSet, heldAt, mark
 use Rattle.store.specs.TableLaws.{held-member}
 use Rattle.store.specs.Writes.{nthOf, putCertificate, setEndorsed, clearEndorsed, setMark, setBlock}
 use Rattle.store.specs.WriteLaws.{samePlace, same-place}
-use Rattle.store.specs.PutLaws.{record-previous, record-count, tab-nth, word-at-place, word-elsewhere, triple-put, held-set-put-same, held-set-put-other, endorsed-set-put, held-put, mark-put, mark-kept, previous-put, count-put}
+use Rattle.store.specs.PutLaws.{record-previous, record-count, record-endorsers, endorsers-put, tab-nth, word-at-place, word-elsewhere, triple-put, held-set-put-same, held-set-put-other, endorsed-set-put, held-put, mark-put, mark-kept, previous-put, count-put}
 use Rattle.store.specs.EndorseLaws.{OnlyEndorsed, held-set-endorse, held-endorse, word-endorse, mark-endorse, set-endorsed, clear-endorsed, endorsed-set-lt, endorsed-clear-lt}
 use Rattle.store.specs.MarkLaws.{OnlyMarks, only-all, only-mark, only-block, held-set-marked, endorsed-set-marked, held-marked, word-marked, mark-set, mark-block}
 use Rattle.store.specs.Scan.{tripleFits, transactionFits, rowsFit}
@@ -49,43 +50,45 @@ fit-parts a p e = go (ltb a (length (p .transactions))) refl (sym (unfit-tab a (
         let i = not-false (allTo (λ k. inRange (nthOf p k)) (length (p .transactions))) h in
         (ltb-false a (length (p .transactions)) l, λ k j. all-at (λ k. inRange (nthOf p k)) (length (p .transactions)) k j i)
 
-module _ (t : List ℕ) (p : Content) (at : Within t (p .author) (p .round)) (a b : ℕ)
-    (few : a ≤ 4) (fit : unfit a (p .transactions) ≡ false) (right : wrongSet (p .round) (p .previous) ≡ false) (small : p .previous < 65536) where
-  record-put : RecordFits (putCertificate t p) a b (p .author) (p .round)
+module _ (t : List ℕ) (p : Content) (d : ℕ) (at : Within t (p .author) (p .round)) (a b : ℕ)
+    (few : a ≤ 4) (fit : unfit a (p .transactions) ≡ false) (right : wrongSet (p .round) (p .previous) ≡ false) (small : p .previous < 65536) (low : d < 65536) (apart : isIn d (p .author) ≡ false) where
+  record-put : RecordFits (putCertificate t p d) a b (p .author) (p .round)
   unfolding transactionFits
   record-put =
       let z = fit-parts a p fit in
       let l = z .0 in
-      let c = count-put t p at (omega arith) small in
+      let c = count-put t p d at (omega arith) small in
       record {
-        count = rw (word-at-place t p at 1 (omega arith), record-count p) l;
-        triples = λ k h. triple-put t p at tripleFits k (omega arith) ∙ triple-fits (nthOf p k) ∙ z .1 k (omega arith);
-        small = rw (word-at-place t p at 0 (omega arith), record-previous p) small;
-        previous = rw (previous-put t p at (omega arith) small) right;
-        mark = rw (mark-put t p at) (omega arith);
+        count = rw (word-at-place t p d at 1 (omega arith), record-count p d) l;
+        triples = λ k h. triple-put t p d at tripleFits k (omega arith) ∙ triple-fits (nthOf p k) ∙ z .1 k (omega arith);
+        small = rw (word-at-place t p d at 0 (omega arith), record-previous p d) small;
+        previous = rw (previous-put t p d at (omega arith) small) right;
+        mark = rw (mark-put t p d at) (omega arith);
+        endorsers = rw (word-at-place t p d at 3 (omega arith), record-endorsers p d) low;
+        apart = rw (endorsers-put t p d at low) apart;
       }
 
-  row-put : (r : ℕ) → RowFits t a b r → RowFits (putCertificate t p) a b r
+  row-put : (r : ℕ) → RowFits t a b r → RowFits (putCertificate t p d) a b r
   row-put r w =
       record {
         held = by (ℕ-discrete r (p .round)) (w .held);
-        endorsed = rw (endorsed-set-put t p at r) (w .endorsed);
+        endorsed = rw (endorsed-set-put t p d at r) (w .endorsed);
         records = λ m h. go m h (samePlace m r (p .author) (p .round)) refl;
       }
     where
-      by : Dec (r ≡ p .round) → heldSet t r < 65536 → heldSet (putCertificate t p) r < 65536
-      by (yes e) h = rw (e, held-set-put-same t p at) (add-lt 16 (p .author) (heldSet t (p .round)) (at .member) (rw e at h))
-      by (no n) h = rw (held-set-put-other t p at r n) h
+      by : Dec (r ≡ p .round) → heldSet t r < 65536 → heldSet (putCertificate t p d) r < 65536
+      by (yes e) h = rw (e, held-set-put-same t p d at) (add-lt 16 (p .author) (heldSet t (p .round)) (at .member) (rw e at h))
+      by (no n) h = rw (held-set-put-other t p d at r n) h
 
-      go : (m : ℕ) → heldAt (putCertificate t p) m r ≡ true → (z : Bool) → samePlace m r (p .author) (p .round) ≡ z → RecordFits (putCertificate t p) a b m r
+      go : (m : ℕ) → heldAt (putCertificate t p d) m r ≡ true → (z : Bool) → samePlace m r (p .author) (p .round) ≡ z → RecordFits (putCertificate t p d) a b m r
       go m h true e = let z = same-place m r (p .author) (p .round) e in rw (z .0, z .1) record-put
       go m h false e =
-          let i = held-member (putCertificate t p) m r h in
-          let f = w .records m (rw (held-put t p at m r, e) at h) in
-          record-same (λ k l _. word-elsewhere t p at m r i e k l) (rw (mark-kept t p at m r i e) (f .mark)) f
+          let i = held-member (putCertificate t p d) m r h in
+          let f = w .records m (rw (held-put t p d at m r, e) at h) in
+          record-same (λ k l _. word-elsewhere t p d at m r i e k l) (rw (mark-kept t p d at m r i e) (f .mark)) f
 
-  pub rows-put : (n : ℕ) → rowsFit t a b n ≡ true → rowsFit (putCertificate t p) a b n ≡ true
-  rows-put n e = rows-kept t (putCertificate t p) a b b n e (λ r _ _. row-put r)
+  pub rows-put : (n : ℕ) → rowsFit t a b n ≡ true → rowsFit (putCertificate t p d) a b n ≡ true
+  rows-put n e = rows-kept t (putCertificate t p d) a b b n e (λ r _ _. row-put r)
 
 -- ---- an endorsed mark
 

@@ -70,3 +70,8 @@ module _ (t : List ℕ) (m r : ℕ) {p : Proposal} (e : p ≡ proposalOf (conten
   pub proposal-shown : transactionsOf (p .body) ≡ contentAt t m r .transactions
   unfolding proposalOf nthOf
   proposal-shown = rw e (four-slots (contentAt t m r .previous) (contentAt t m r .transactions) (content-few t m r))
+
+  -- and proposes what the record holds
+  pub proposal-content : contentOf p ≡ contentAt t m r
+  unfolding proposalOf contentAt
+  proposal-content = rw (proposal-shown, e) refl

@@ -11,15 +11,16 @@ use borrow.Author.Tests.{ltb-true, lt-ltb, le-ltb, leb-true, le-leb, not-true}
 use Rattle.base.specs.Bools.{both}
 use Rattle.base.specs.Folds.{allTo}
 use Rattle.base.specs.TestLaws.{all-at, all-hold}
+use Rattle.base.specs.Sets.{isIn}
 use Rattle.base.specs.UnionLaws.{in-none}
 use Rattle.terms.specs.declared.Transaction.the-variants.{Bond, Unbond, Entry}
 use Rattle.terms.specs.Transactions.{readTransaction, inRange, bondInRange}
 use Rattle.terms.specs.Proposals.{unfit, wrongSet}
 use Rattle.terms.specs.ProposalLaws.{unfit-tab}
-use Rattle.store.specs.Table.{heldSet, endorsedSet, heldAt, word, previousAt, countAt, markAt, transactionAt, contentAt}
+use Rattle.store.specs.Table.{heldSet, endorsedSet, heldAt, word, previousAt, countAt, markAt, endorsersAt, transactionAt, contentAt}
 use Rattle.store.specs.TableLaws.{count-le, held-in, held-member, content-previous, content-transactions}
-use Rattle.store.specs.WriteLaws.{count-same, previous-same}
-use Rattle.store.specs.Scan.{tripleFits, transactionFits, recordFits, placeFits, rowFits, rowsFit}
+use Rattle.store.specs.WriteLaws.{count-same, previous-same, endorsers-same}
+use Rattle.store.specs.Scan.{tripleFits, transactionFits, endorsersFit, recordFits, placeFits, rowFits, rowsFit}
 
 -- a held record: the laws below say what its words tell
 pub record RecordFits (t : List ℕ) (allowance blocks m r : ℕ) : Type 0 where
@@ -28,6 +29,8 @@ pub record RecordFits (t : List ℕ) (allowance blocks m r : ℕ) : Type 0 where
   pub small : word t m r 0 < 65536
   pub previous : wrongSet r (previousAt t m r) ≡ false
   pub mark : markAt t m r ≤ blocks
+  pub endorsers : word t m r 3 < 65536
+  pub apart : isIn (endorsersAt t m r) m ≡ false
 
 -- a row: its sets are sets of members, and each held record fits
 pub record RowFits (t : List ℕ) (allowance blocks r : ℕ) : Type 0 where
@@ -97,28 +100,34 @@ record-same {t} {u} {m = m} {r = r} e l w =
       small = rw (e 0 (omega arith) (omega arith)) (w .small);
       previous = rw (previous-same t u m r e) (w .previous);
       mark = l;
+      endorsers = rw (e 3 (omega arith) (omega arith)) (w .endorsers);
+      apart = rw (endorsers-same t u m r e) (w .apart);
     }
 
 -- ---- the tests by their parts
 
 module _ (t : List ℕ) (allowance blocks : ℕ) where
   record-parts : (m r : ℕ) → recordFits t allowance blocks m r ≡ true → RecordFits t allowance blocks m r
-  unfolding recordFits
+  unfolding recordFits endorsersFit
   record-parts m r e =
       let a = both (leb (word t m r 1) allowance) _ e in
       let b = both (allTo (transactionFits t m r) (countAt t m r)) _ (a .1) in
       let c = both (ltb (word t m r 0) 65536) _ (b .1) in
       let d = both (not (wrongSet r (previousAt t m r))) _ (c .1) in
+      let f = both (leb (markAt t m r) blocks) _ (d .1) in
+      let g = both (ltb (word t m r 3) 65536) (not (isIn (endorsersAt t m r) m)) (f .1) in
       record {
         count = leb-true (word t m r 1) allowance (a .0);
         triples = λ k h. all-at (transactionFits t m r) (countAt t m r) k h (b .0);
         small = ltb-true (word t m r 0) 65536 (c .0);
         previous = not-true (wrongSet r (previousAt t m r)) (d .0);
-        mark = leb-true (markAt t m r) blocks (d .1);
+        mark = leb-true (markAt t m r) blocks (f .0);
+        endorsers = ltb-true (word t m r 3) 65536 (g .0);
+        apart = not-true (isIn (endorsersAt t m r) m) (g .1);
       }
 
   record-whole : (m r : ℕ) → RecordFits t allowance blocks m r → recordFits t allowance blocks m r ≡ true
-  unfolding recordFits
+  unfolding recordFits endorsersFit
   record-whole m r w =
       rw (
         le-leb (word t m r 1) allowance (w .count),
@@ -126,6 +135,8 @@ module _ (t : List ℕ) (allowance blocks : ℕ) where
         lt-ltb (word t m r 0) 65536 (w .small),
         w .previous,
         le-leb (markAt t m r) blocks (w .mark),
+        lt-ltb (word t m r 3) 65536 (w .endorsers),
+        w .apart,
       )
       refl
 

@@ -60,6 +60,10 @@ countAt t m r = cond (ltb 4 (word t m r 1)) 4 (word t m r 1)
 unfoldable pub markAt : List ℕ → ℕ → ℕ → ℕ
 markAt t m r = word t m r 2
 
+-- the endorsers that it was stored with
+unfoldable pub endorsersAt : List ℕ → ℕ → ℕ → ℕ
+endorsersAt t m r = word t m r 3 % 65536
+
 -- its transaction k
 unfoldable pub transactionAt : List ℕ → ℕ → ℕ → ℕ → Transaction
 transactionAt t m r k = readTransaction (word t m r (4 + k * 3)) (word t m r (5 + k * 3)) (word t m r (6 + k * 3))

@@ -15,7 +15,7 @@ use Rattle.base.specs.Sets.{isIn}
 use Rattle.terms.specs.Transactions.{amountOf, readTransaction}
 use Rattle.terms.specs.Proposals.{Content}
 use Rattle.terms.specs.ProposalLaws.{read-amount}
-use Rattle.store.specs.Table.{heldSet, endorsedSet, heldAt, endorsedAt, word, previousAt, countAt, transactionAt, contentAt, certificateAt}
+use Rattle.store.specs.Table.{heldSet, endorsedSet, heldAt, endorsedAt, word, previousAt, countAt, transactionAt, contentAt, certificateAt, endorsersAt}
 
 module _ (t : List ℕ) (m r : ℕ) where
   -- no record tells more than four transactions
@@ -30,6 +30,10 @@ module _ (t : List ℕ) (m r : ℕ) where
   pub previous-lt : previousAt t m r < 65536
   unfolding previousAt
   previous-lt = omega arith
+
+  pub endorsers-lt : endorsersAt t m r < 65536
+  unfolding endorsersAt
+  endorsers-lt = omega arith
 
   pub held-in : heldAt t m r ≡ isIn (heldSet t r) m
   unfolding heldAt

@@ -17,7 +17,7 @@ use Rattle.base.specs.FoldLaws.{tab-same}
 use Rattle.base.specs.Sets.{isIn, add}
 use Rattle.base.specs.SetLaws.{in-add}
 use Rattle.base.specs.Paste.{paste-below, paste-inside, paste-above}
-use Rattle.store.specs.Table.{Within, heldSet, heldAt, word, previousAt, countAt, transactionAt, contentAt, certificateAt}
+use Rattle.store.specs.Table.{Within, heldSet, heldAt, word, previousAt, countAt, endorsersAt, transactionAt, contentAt, certificateAt}
 use Rattle.store.specs.TableLaws.{count-le, held-member}
 use Rattle.store.specs.Writes.{putRecord}
 
@@ -27,6 +27,9 @@ samePlace m r a q = eqb m a && eqb r q
 
 pub same-place : (m r a q : ℕ) → samePlace m r a q ≡ true → (m ≡ a) × (r ≡ q)
 same-place m r a q e = let z = both (eqb m a) (eqb r q) e in (eqb-true m a (z .0), eqb-true r q (z .1))
+
+pub place-self : (m r : ℕ) → samePlace m r m r ≡ true
+place-self m r = rw (eq-eqb m m refl, eq-eqb r r refl) refl
 
 pub other-place : (m r a q : ℕ) → samePlace m r a q ≡ false → m ≡ a → r ≡ q → ⊥
 other-place m r a q e x y = absurd (true≢false (sym (rw (eq-eqb m a x, eq-eqb r q y) refl) ∙ e))
@@ -48,6 +51,10 @@ module _ (t u : List ℕ) (m r : ℕ) (e : (k : ℕ) → k < 16 → k ≢ 2 → 
   pub previous-same : previousAt u m r ≡ previousAt t m r
   unfolding previousAt
   previous-same = rw (e 0 (omega arith) (omega arith)) refl
+
+  pub endorsers-same : endorsersAt u m r ≡ endorsersAt t m r
+  unfolding endorsersAt
+  endorsers-same = rw (e 3 (omega arith) (omega arith)) refl
 
   pub transaction-same : (k : ℕ) → k < 4 → transactionAt u m r k ≡ transactionAt t m r k
   unfolding transactionAt

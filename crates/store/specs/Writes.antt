@@ -18,12 +18,12 @@ nthOf p k = getD (p .transactions) k noTransaction
 unfoldable pub putTransaction : List ℕ → ℕ → Transaction → List ℕ
 putTransaction w k x = set (set (set w k (kindOf x)) (k + 1) (numberOf x)) (k + 2) (amountOf x)
 
--- the record of a proposal of at most four transactions, in no block
-unfoldable pub recordOf : Content → List ℕ
-recordOf p =
+-- the record of a certificate of at most four transactions with the endorsers d, in no block
+unfoldable pub recordOf : Content → ℕ → List ℕ
+recordOf p d =
     putTransaction
     (putTransaction
-    (putTransaction (putTransaction (set (set (replicate 16 0) 0 (p .previous)) 1 (length (p .transactions))) 4 (nthOf p 0)) 7 (nthOf p 1))
+    (putTransaction (putTransaction (set (set (set (replicate 16 0) 0 (p .previous)) 1 (length (p .transactions))) 3 d) 4 (nthOf p 0)) 7 (nthOf p 1))
     10
     (nthOf p 2))
     13
@@ -33,9 +33,9 @@ recordOf p =
 unfoldable pub putRecord : List ℕ → ℕ → ℕ → List ℕ → List ℕ
 putRecord t m r w = set (paste t (r * 272 + m * 16 + 16) w 16) (r * 272) (add (heldSet t r) m)
 
--- a certificate put at its place, in no block
-unfoldable pub putCertificate : List ℕ → Content → List ℕ
-putCertificate t p = putRecord t (p .author) (p .round) (recordOf p)
+-- a certificate put at its place with its endorsers, in no block
+unfoldable pub putCertificate : List ℕ → Content → ℕ → List ℕ
+putCertificate t p d = putRecord t (p .author) (p .round) (recordOf p d)
 
 unfoldable pub setEndorsed : List ℕ → ℕ → ℕ → List ℕ
 setEndorsed t m r = set t (r * 272 + 1) (add (endorsedSet t r) m)

@@ -10,7 +10,7 @@ ghost use Prim.Native.Nat.{_<_, _≤_};
 ghost use Rattle.base.specs.Folds.{allTo};
 ghost use Rattle.terms.specs.Transactions.{sameTransaction};
 ghost use Rattle.terms.specs.Proposals.{slotOf, contentOf, same};
-ghost use Rattle.store.specs.Table.{Within, word, previousAt, countAt, markAt, transactionAt, contentAt};
+ghost use Rattle.store.specs.Table.{Within, word, previousAt, countAt, markAt, endorsersAt, transactionAt, contentAt};
 ghost use Rattle.store.specs.Writes.{nthOf, proposalOf};
 
 // Word k of a record.
@@ -47,6 +47,14 @@ pub fn mark(t: &[u32], m: Member, r: Round) -> u32
     ensures { λ v. ⌜ v ≡ markAt (now (t .entry)) (m .0) (r .0) ⌝ }
 {
     word_at(t, m, r, 2)
+}
+
+// The endorsers that a record was stored with.
+pub fn endorsers(t: &[u32], m: Member, r: Round) -> u16
+    requires { ⌜ Within (now t) (m .0) (r .0) ⌝ }
+    ensures { λ v. ⌜ v ≡ endorsersAt (now (t .entry)) (m .0) (r .0) ⌝ }
+{
+    (word_at(t, m, r, 3) % 65536) as u16
 }
 
 // Transaction k of a record.

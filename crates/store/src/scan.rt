@@ -7,7 +7,7 @@ ghost use Prim.Native.Nat.{_≤_};
 ghost use lib.Dec.{ltb};
 ghost use Rattle.base.specs.Folds.{allTo};
 ghost use Rattle.store.specs.Table.{Within, Row};
-ghost use Rattle.store.specs.Scan.{transactionFits, recordFits, placeFits, rowFits, rowsFit};
+ghost use Rattle.store.specs.Scan.{transactionFits, endorsersFit, recordFits, placeFits, rowFits, rowsFit};
 ghost use Rattle.store.specs.Limits.{limitTable, limitOf, slotFits};
 
 // The limits of a transaction's words: the greatest number, the least and the greatest amount, each for bonds, unbonds, entries, any other kind, and what is no transaction.
@@ -73,6 +73,18 @@ fn transactions_fit(t: &[u32], l: &[u32; 15], m: Member, r: Round, n: u32) -> bo
     true
 }
 
+// Are the endorsers of a record a set of members, the author not among them?
+fn endorsers_fit(t: &[u32], m: Member, r: Round) -> bool
+    requires { ⌜ Within (now t) (m .0) (r .0) ⌝ }
+    ensures { λ v. ⌜ v ≡ endorsersFit (now (t .entry)) (m .0) (r .0) ⌝ }
+{
+    let endorsers = crate::record::word_at(t, m, r, 3);
+    if 65536 <= endorsers {
+        return false;
+    }
+    !base::has(endorsers, m.0)
+}
+
 fn record_fits(t: &[u32], l: &[u32; 15], allowance: u32, blocks: u32, m: Member, r: Round) -> bool
     requires { ⌜ Within (now t) (m .0) (r .0) × (now l ≡ limitTable) ⌝ }
     ensures { λ v. ⌜ v ≡ recordFits (now (t .entry)) allowance blocks (m .0) (r .0) ⌝ }
@@ -90,7 +102,10 @@ fn record_fits(t: &[u32], l: &[u32; 15], allowance: u32, blocks: u32, m: Member,
     if terms::is_wrong_set(r, crate::record::previous(t, m, r)) {
         return false;
     }
-    crate::record::mark(t, m, r) <= blocks
+    if blocks < crate::record::mark(t, m, r) {
+        return false;
+    }
+    endorsers_fit(t, m, r)
 }
 
 fn place_fits(t: &[u32], l: &[u32; 15], allowance: u32, blocks: u32, m: Member, r: Round) -> bool

@@ -35,10 +35,10 @@ fn put_transaction(w: [u32; 16], k: usize, x: Transaction) -> [u32; 16]
     v
 }
 
-// The record of a proposal, in no block.
-fn record_of(p: Proposal) -> [u32; 16]
+// The record of a certificate, in no block.
+fn record_of(p: Proposal, endorsers: u16) -> [u32; 16]
     requires { ⌜ p .body .count ≤ 4 ⌝ }
-    ensures { λ v. ⌜ v ≡ recordOf (contentOf p) ⌝ }
+    ensures { λ v. ⌜ v ≡ recordOf (contentOf p) endorsers ⌝ }
 {
     let b = p.body;
     let a = p.author;
@@ -46,6 +46,7 @@ fn record_of(p: Proposal) -> [u32; 16]
     let mut w = [0u32; 16];
     w[0] = b.previous as u32;
     w[1] = b.count;
+    w[3] = endorsers as u32;
     let w0 = put_transaction(w, 4, slot(b, 0, a, r));
     let w1 = put_transaction(w0, 7, slot(b, 1, a, r));
     let w2 = put_transaction(w1, 10, slot(b, 2, a, r));
@@ -62,15 +63,15 @@ fn put_words(t: &mut [u32], b: usize, w: [u32; 16])
     }
 }
 
-// Puts a certificate at its place, in no block.
-pub fn put_certificate(t: &mut [u32], p: Proposal)
+// Puts a certificate at its place with its endorsers, in no block.
+pub fn put_certificate(t: &mut [u32], p: Proposal, endorsers: u16)
     requires { ⌜ Within (now t) (p .author .0) (p .round .0) × (p .body .count ≤ 4) ⌝ }
-    ensures { λ _. ⌜ now (t .exit) ≡ putCertificate (now (t .entry)) (contentOf p) ⌝ }
+    ensures { λ _. ⌜ now (t .exit) ≡ putCertificate (now (t .entry)) (contentOf p) endorsers ⌝ }
 {
     let m = p.author.0;
     let at = p.round.0 as usize * 272;
     let place = at + m as usize * 16 + 16;
-    let w = record_of(p);
+    let w = record_of(p, endorsers);
     let held = base::with(t[at], m);
     put_words(t, place, w);
     t[at] = held;

@@ -16,11 +16,14 @@ returns c = rw (c .bare-body .ensures) (certificate-refused _ _ _ _ (c .before .
 proposal-at-requires : tie.Need-proposal-at-requires
 proposal-at-requires c κs = place-within _ _ (certificate-passed _ _ _ _ (sym (c .before .certificate-number .ensures) ∙ c .if1 .left))
 
+endorsers-requires : tie.Need-endorsers-requires
+endorsers-requires c κs = place-within _ _ (certificate-passed _ _ _ _ (sym (c .before .before .certificate-number .ensures) ∙ c .before .if1 .left))
+
 mark-requires : tie.Need-mark-requires
-mark-requires c κs = place-within _ _ (certificate-passed _ _ _ _ (sym (c .before .before .certificate-number .ensures) ∙ c .before .if1 .left))
+mark-requires c κs = place-within _ _ (certificate-passed _ _ _ _ (sym (c .before .before .before .certificate-number .ensures) ∙ c .before .before .if1 .left))
 
 returns-2 : tie.Need-returns-2
-returns-2 c = certificate-given _ _ _ _ (c .before .before .before .certificate-number .ensures) (c .before .before .if1 .left) (c .before .proposal-at .ensures) (c .mark .ensures)
+returns-2 c = certificate-given _ _ _ _ (c .before .before .before .before .certificate-number .ensures) (c .before .before .before .if1 .left) (c .before .before .proposal-at .ensures) (c .before .endorsers .ensures) (c .mark .ensures)
 
 pub certificate-spec : {M : Type 1} → statement M
 certificate-spec =
@@ -30,5 +33,6 @@ certificate-spec =
     bare-body-requires
     returns
     proposal-at-requires
+    endorsers-requires
     mark-requires
     returns-2)

@@ -121,7 +121,7 @@ same-length-7 c = search needs
 returns-3 : tie.Need-returns-3
 returns-3 c =
     let a = c .before .before .before .before .before .before .before .before .before .before .before .before .before .before .before .before .args in
-    told-by Propose (steps.propose (a .q .body)) (c .before .before .before .before .before .before .before .enum-told3 .given .1) refl (omega (arith, c .before .before .before .before .before .before .before .before .before .before .before .before .before .before .before .before .good .1 .1 .1 .1 .0)) refl refl refl (c .before .before .before .before .before .before .before .before .before .before .before .before .before .before .before .before .pre .1) (c .before .before .before .before .propose-known .ensures) refl (c .before .before .told .ensures)
+    told-by Propose (steps.propose (a .q .body)) (c .before .before .before .before .before .before .before .enum-told3 .given .1) refl (omega (arith, c .before .before .before .before .before .before .before .before .before .before .before .before .before .before .before .before .good .1 .1 .1 .1 .0), omega arith) refl refl refl (c .before .before .before .before .before .before .before .before .before .before .before .before .before .before .before .before .pre .1) (c .before .before .before .before .propose-known .ensures) refl (c .before .before .told .ensures)
 
 same-length-8 : tie.Need-same-length-8
 same-length-8 c = search needs
@@ -135,7 +135,7 @@ same-length-10 c = search needs
 returns-4 : tie.Need-returns-4
 returns-4 c =
     let a = c .before .before .before .before .before .before .before .before .before .before .before .before .before .before .before .before .before .before .args in
-    told-by Endorse (steps.endorse (proposalIn (a .q))) (c .before .before .before .before .before .before .before .before .before .enum-told4 .given .1) refl (omega (arith, c .before .before .before .before .before .before .before .before .before .before .before .before .before .before .before .before .before .before .good .1 .1 .1 .1 .0)) refl refl refl (c .before .before .before .before .before .before .before .before .before .before .before .before .before .before .before .before .before .before .pre .1) (c .before .before .before .before .before .before .endorse-known .ensures .0) (c .before .before .before .before .before .before .endorse-known .ensures .1) (c .before .before .told2 .ensures)
+    told-by Endorse (steps.endorse (proposalIn (a .q))) (c .before .before .before .before .before .before .before .before .before .enum-told4 .given .1) refl (omega (arith, c .before .before .before .before .before .before .before .before .before .before .before .before .before .before .before .before .before .before .good .1 .1 .1 .1 .0), omega arith) refl refl refl (c .before .before .before .before .before .before .before .before .before .before .before .before .before .before .before .before .before .before .pre .1) (c .before .before .before .before .before .before .endorse-known .ensures .0) (c .before .before .before .before .before .before .endorse-known .ensures .1) (c .before .before .told2 .ensures)
 
 same-length-11 : tie.Need-same-length-11
 same-length-11 c = search needs
@@ -149,7 +149,7 @@ same-length-13 c = search needs
 returns-5 : tie.Need-returns-5
 returns-5 c =
     let a = c .before .before .before .before .before .before .before .before .before .before .before .before .before .before .before .before .before .before .args in
-    told-by Certify (steps.certify (a .q .endorsers)) (c .before .before .before .before .before .before .before .before .before .enum-told5 .given .1) refl (omega (arith, c .before .before .before .before .before .before .before .before .before .before .before .before .before .before .before .before .before .before .good .1 .1 .0)) refl refl refl (c .before .before .before .before .before .before .before .before .before .before .before .before .before .before .before .before .before .before .pre .1) (c .before .before .before .before .before .before .certify-known .ensures .0) (c .before .before .before .before .before .before .certify-known .ensures .1) (c .before .before .told3 .ensures)
+    told-by Certify (steps.certify (a .q .endorsers)) (c .before .before .before .before .before .before .before .before .before .enum-told5 .given .1) refl (omega (arith, c .before .before .before .before .before .before .before .before .before .before .before .before .before .before .before .before .before .before .good .1 .1 .0), omega (arith, c .before .before .before .before .before .before .before .before .before .before .before .before .before .before .before .before .before .before .good .1 .1 .1 .1 .0)) refl refl refl (c .before .before .before .before .before .before .before .before .before .before .before .before .before .before .before .before .before .before .pre .1) (c .before .before .before .before .before .before .certify-known .ensures .0) (c .before .before .before .before .before .before .certify-known .ensures .1) (c .before .before .told3 .ensures)
 
 same-length-14 : tie.Need-same-length-14
 same-length-14 c = search needs
@@ -163,7 +163,7 @@ same-length-16 c = search needs
 returns-6 : tie.Need-returns-6
 returns-6 c =
     let a = c .before .before .before .before .before .before .before .before .before .before .before .before .before .before .before .before .before .before .args in
-    told-by Accept (steps.accept (certificateIn (a .q))) (c .before .before .before .before .before .before .before .before .before .enum-told6 .given .1) refl (omega (arith, c .before .before .before .before .before .before .before .before .before .before .before .before .before .before .before .before .before .before .good .1 .1 .1 .1 .0)) refl refl refl (c .before .before .before .before .before .before .before .before .before .before .before .before .before .before .before .before .before .before .pre .1) (c .before .before .before .before .before .before .accept-known .ensures .0) (c .before .before .before .before .before .before .accept-known .ensures .1) (c .before .before .told4 .ensures)
+    told-by Accept (steps.accept (certificateIn (a .q))) (c .before .before .before .before .before .before .before .before .before .enum-told6 .given .1) refl (omega (arith, c .before .before .before .before .before .before .before .before .before .before .before .before .before .before .before .before .before .before .good .1 .1 .1 .1 .0), omega (arith, c .before .before .before .before .before .before .before .before .before .before .before .before .before .before .before .before .before .before .good .1 .1 .1 .1 .0)) refl refl refl (c .before .before .before .before .before .before .before .before .before .before .before .before .before .before .before .before .before .before .pre .1) (c .before .before .before .before .before .before .accept-known .ensures .0) (c .before .before .before .before .before .before .accept-known .ensures .1) (c .before .before .told4 .ensures)
 
 same-length-17 : tie.Need-same-length-17
 same-length-17 c = search needs
@@ -174,7 +174,7 @@ same-length-18 c = search needs
 returns-7 : tie.Need-returns-7
 returns-7 c =
     let a = c .before .before .before .before .before .before .before .before .before .before .before .before .before .before .before .args in
-    told-by Advance (steps.advance) (c .before .before .before .before .before .before .enum-told7 .given .1) refl (omega arith) refl refl refl (c .before .before .before .before .before .before .before .before .before .before .before .before .before .before .before .pre .1) (c .before .before .before .before .advance-known .ensures) refl (c .before .before .told5 .ensures)
+    told-by Advance (steps.advance) (c .before .before .before .before .before .before .enum-told7 .given .1) refl (omega arith, omega arith) refl refl refl (c .before .before .before .before .before .before .before .before .before .before .before .before .before .before .before .pre .1) (c .before .before .before .before .advance-known .ensures) refl (c .before .before .told5 .ensures)
 
 same-length-19 : tie.Need-same-length-19
 same-length-19 c = search needs

@@ -42,8 +42,8 @@ returns : tie.Need-returns
 returns c =
     let a = c .before .before .before .before .before .before .before .before .before .before .before .before .before .before .before .before .args in
     c .before .before .put2 .ensures
-    ∙ ap (λ (z : List ℕ). paste z 16 (a .block ∷ []) 1) (c .before .before .before .before .before .before .before .put-body .ensures ∙ ap (λ (z : List ℕ). paste z 2 (bodyWords (a .p .body)) 14) (c .before .before .before .before .before .before .before .before .before .before .before .put .ensures))
-    ∙ held-put (a .p) (a .block) (a .w .now) (omega arith)
+    ∙ ap (λ (z : List ℕ). paste z 16 (a .endorsers ∷ a .block ∷ []) 2) (c .before .before .before .before .before .before .before .put-body .ensures ∙ ap (λ (z : List ℕ). paste z 2 (bodyWords (a .p .body)) 14) (c .before .before .before .before .before .before .before .before .before .before .before .put .ensures))
+    ∙ held-put (a .p) (a .endorsers) (a .block) (a .w .now) (omega arith)
 
 pub put-held-spec : {M : Type 1} → statement M
 put-held-spec =

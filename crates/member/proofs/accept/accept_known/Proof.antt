@@ -21,7 +21,7 @@ put-certificate-requires : tie.Need-put-certificate-requires
 put-certificate-requires c κs = let x = accept-passed (c .before .before .before .before .before .before .before .args .s) (c .before .before .before .before .before .before .before .args .t .now) (c .before .before .before .before .before .before .before .args .c) (sym (c .before .before .before .accept-number .ensures) ∙ c .before .before .if1 .left) in (fits-within _ _ _ (x .0) (x .1 .0), few _ _ _ _ (x .0) (x .1 .0 .body))
 
 clear-endorsed-requires : tie.Need-clear-endorsed-requires
-clear-endorsed-requires c κs = let x = accept-passed (c .before .before .before .before .before .before .before .before .before .before .before .args .s) (c .before .before .before .before .before .before .before .before .before .before .before .args .t .now) (c .before .before .before .before .before .before .before .before .before .before .before .args .c) (sym (c .before .before .before .before .before .before .before .accept-number .ensures) ∙ c .before .before .before .before .before .before .if1 .left) in rw (c .before .before .before .put-certificate .ensures) (within-put (c .before .before .before .before .before .before .before .before .before .before .before .args .s) (c .before .before .before .before .before .before .before .before .before .before .before .args .t .now) (c .before .before .before .before .before .before .before .before .before .before .before .args .c .proposal) (fits-within _ _ _ (x .0) (x .1 .0)))
+clear-endorsed-requires c κs = let x = accept-passed (c .before .before .before .before .before .before .before .before .before .before .before .args .s) (c .before .before .before .before .before .before .before .before .before .before .before .args .t .now) (c .before .before .before .before .before .before .before .before .before .before .before .args .c) (sym (c .before .before .before .before .before .before .before .accept-number .ensures) ∙ c .before .before .before .before .before .before .if1 .left) in rw (c .before .before .before .put-certificate .ensures) (within-put (c .before .before .before .before .before .before .before .before .before .before .before .args .s) (c .before .before .before .before .before .before .before .before .before .before .before .args .t .now) (c .before .before .before .before .before .before .before .before .before .before .before .args .c .proposal) (c .before .before .before .before .before .before .before .before .before .before .before .args .c .endorsers) (fits-within _ _ _ (x .0) (x .1 .0)))
 
 same-length-2 : tie.Need-same-length-2
 same-length-2 c = search needs

@@ -1,17 +1,67 @@
-use Rattle.store.specs.Scan.{recordFits}
-use Rattle.store.specs.TableLaws.{count-le}
+use mathlib.Core.Path.{_≡_, refl, sym, _∙_}
+use mathlib.Core.Bool.{Bool, not, _&&_}
 use native.Mathlib.Omega.{arith}
-use mathlib.Core.Path.{refl, sym, _∙_}
+use lib.Dec.{leb, ltb}
 use borrow.Author.Tests.{lt-ltb, le-ltb, le-leb, lt-leb, not-true, not-false}
 use borrow.Author.Needs.{needs}
+use Rattle.base.specs.Folds.{allTo}
+use Rattle.terms.specs.Proposals.{wrongSet}
+use Rattle.store.specs.Table.{word, countAt, previousAt, markAt}
+use Rattle.store.specs.Scan.{transactionFits, endorsersFit, recordFits}
+use Rattle.store.specs.TableLaws.{count-le}
 use Rattle.store.proofs.scan.record_fits.Statement.{statement}
 use Rattle.store.proofs.scan.record_fits.Tie as tie
-use Rattle.store.proofs.record.count.Reads as count-reads
-use Rattle.store.proofs.record.mark.Reads as mark-reads
-use Rattle.store.proofs.record.previous.Reads as previous-reads
-use Rattle.store.proofs.record.word_at.Reads as word-at-reads
-use Rattle.store.proofs.scan.transactions_fit.Reads as transactions-fit-reads
-use Rattle.terms.proofs.is_wrong_set.Reads as is-wrong-set-reads
+
+-- the tests of the record, from the last one on to all of them
+abbrev last : tie.Start → Bool
+last s = let a = s .args in endorsersFit (a .t .now) (a .m .0) (a .r .0)
+
+abbrev last2 : tie.Start → Bool
+last2 s = let a = s .args in leb (markAt (a .t .now) (a .m .0) (a .r .0)) (a .blocks) && last s
+
+abbrev last3 : tie.Start → Bool
+last3 s = let a = s .args in not (wrongSet (a .r .0) (previousAt (a .t .now) (a .m .0) (a .r .0))) && last2 s
+
+abbrev last4 : tie.Start → Bool
+last4 s = let a = s .args in ltb (word (a .t .now) (a .m .0) (a .r .0) 0) 65536 && last3 s
+
+abbrev last5 : tie.Start → Bool
+last5 s = let a = s .args in allTo (transactionFits (a .t .now) (a .m .0) (a .r .0)) (countAt (a .t .now) (a .m .0) (a .r .0)) && last4 s
+
+abbrev fits : tie.Start → Bool
+fits s = let a = s .args in recordFits (a .t .now) (a .allowance) (a .blocks) (a .m .0) (a .r .0)
+
+-- where the first tests pass, the others are left
+abbrev entry1 : tie.Else1 → tie.Start
+entry1 c = c .before .before .before
+
+abbrev entry2 : tie.Else2 → tie.Start
+entry2 c = entry1 (c .before .before .before)
+
+abbrev entry3 : tie.Else3 → tie.Start
+entry3 c = entry2 (c .before .before)
+
+abbrev entry4 : tie.Else4 → tie.Start
+entry4 c = entry3 (c .before .before .before)
+
+abbrev entry5 : tie.Else5 → tie.Start
+entry5 c = entry4 (c .before .before)
+
+passed1 : (c : tie.Else1) → fits (entry1 c) ≡ last5 (entry1 c)
+unfolding recordFits
+passed1 c = rw (← c .before .word-at .ensures, le-leb _ _ (c .if1 .left)) refl
+
+passed2 : (c : tie.Else2) → fits (entry2 c) ≡ last4 (entry2 c)
+passed2 c = passed1 (c .before .before .before) ∙ rw (← c .before .before .count .ensures, sym (c .before .transactions-fit .ensures) ∙ not-false _ (c .if2 .left)) refl
+
+passed3 : (c : tie.Else3) → fits (entry3 c) ≡ last3 (entry3 c)
+passed3 c = passed2 (c .before .before) ∙ rw (← c .before .word-at2 .ensures, lt-ltb _ _ (c .if3 .left)) refl
+
+passed4 : (c : tie.Else4) → fits (entry4 c) ≡ last2 (entry4 c)
+passed4 c = passed3 (c .before .before .before) ∙ rw (← c .before .before .previous .ensures, sym (c .before .is-wrong-set .ensures) ∙ c .if4 .left) refl
+
+passed5 : (c : tie.Else5) → fits (entry5 c) ≡ last (entry5 c)
+passed5 c = passed4 (c .before .before) ∙ rw (← c .before .mark .ensures, le-leb _ _ (c .if5 .left)) refl
 
 word-at-requires : tie.Need-word-at-requires
 word-at-requires c κs = search needs
@@ -24,18 +74,19 @@ count-requires : tie.Need-count-requires
 count-requires c κs = search needs
 
 transactions-fit-requires : tie.Need-transactions-fit-requires
-transactions-fit-requires c κs = let a = c .before .before .before .before .args in let h = count-le (a .t .now) (a .m .0) (a .r .0) in (c .before .before .before .before .pre .0, omega (arith, c .count .ensures), c .before .before .before .before .pre .1)
+transactions-fit-requires c κs =
+    let s = entry1 (c .before) in
+    let h = count-le (s .args .t .now) (s .args .m .0) (s .args .r .0) in
+    (s .pre .0, omega (arith, c .count .ensures), s .pre .1)
 
 returns-2 : tie.Need-returns-2
-unfolding recordFits
-returns-2 c = rw (← c .before .before .before .before .word-at .ensures, le-leb _ _ (c .before .before .before .if1 .left), ← c .before .before .count .ensures, sym (c .before .transactions-fit .ensures) ∙ not-true _ (c .if2 .taken)) refl
+returns-2 c = sym (passed1 (c .before .before .before) ∙ rw (← c .before .before .count .ensures, sym (c .before .transactions-fit .ensures) ∙ not-true _ (c .if2 .taken)) refl)
 
 word-at-requires-2 : tie.Need-word-at-requires-2
 word-at-requires-2 c κs = search needs
 
 returns-3 : tie.Need-returns-3
-unfolding recordFits
-returns-3 c = rw (← c .before .before .before .before .before .before .word-at .ensures, le-leb _ _ (c .before .before .before .before .before .if1 .left), ← c .before .before .before .before .count .ensures, sym (c .before .before .before .transactions-fit .ensures) ∙ not-false _ (c .before .before .if2 .left), ← c .before .word-at2 .ensures, le-ltb _ _ (c .if3 .taken)) refl
+returns-3 c = sym (passed2 (c .before .before) ∙ rw (← c .before .word-at2 .ensures, le-ltb _ _ (c .if3 .taken)) refl)
 
 previous-requires : tie.Need-previous-requires
 previous-requires c κs = search needs
@@ -44,15 +95,19 @@ is-wrong-set-requires : tie.Need-is-wrong-set-requires
 is-wrong-set-requires c κs = search needs
 
 returns-4 : tie.Need-returns-4
-unfolding recordFits
-returns-4 c = rw (← c .before .before .before .before .before .before .before .before .before .word-at .ensures, le-leb _ _ (c .before .before .before .before .before .before .before .before .if1 .left), ← c .before .before .before .before .before .before .before .count .ensures, sym (c .before .before .before .before .before .before .transactions-fit .ensures) ∙ not-false _ (c .before .before .before .before .before .if2 .left), ← c .before .before .before .before .word-at2 .ensures, lt-ltb _ _ (c .before .before .before .if3 .left), ← c .before .before .previous .ensures, sym (c .before .is-wrong-set .ensures) ∙ c .if4 .taken) refl
+returns-4 c = sym (passed3 (c .before .before .before) ∙ rw (← c .before .before .previous .ensures, sym (c .before .is-wrong-set .ensures) ∙ c .if4 .taken) refl)
 
 mark-requires : tie.Need-mark-requires
 mark-requires c κs = search needs
 
 returns-5 : tie.Need-returns-5
-unfolding recordFits
-returns-5 c = rw (← c .before .before .before .before .before .before .before .before .before .before .word-at .ensures, le-leb _ _ (c .before .before .before .before .before .before .before .before .before .if1 .left), ← c .before .before .before .before .before .before .before .before .count .ensures, sym (c .before .before .before .before .before .before .before .transactions-fit .ensures) ∙ not-false _ (c .before .before .before .before .before .before .if2 .left), ← c .before .before .before .before .before .word-at2 .ensures, lt-ltb _ _ (c .before .before .before .before .if3 .left), ← c .before .before .before .previous .ensures, sym (c .before .before .is-wrong-set .ensures) ∙ c .before .if4 .left, ← c .mark .ensures) refl
+returns-5 c = sym (passed4 (c .before .before) ∙ rw (← c .before .mark .ensures, lt-leb _ _ (c .if5 .taken)) refl)
+
+endorsers-fit-requires : tie.Need-endorsers-fit-requires
+endorsers-fit-requires c κs = search needs
+
+returns-6 : tie.Need-returns-6
+returns-6 c = c .endorsers-fit .ensures ∙ sym (passed5 (c .before))
 
 pub record-fits-spec : {M : Type 1} → statement M
 record-fits-spec =
@@ -69,4 +124,6 @@ record-fits-spec =
     is-wrong-set-requires
     returns-4
     mark-requires
-    returns-5)
+    returns-5
+    endorsers-fit-requires
+    returns-6)

@@ -16,6 +16,9 @@ array-write-w c = search needs
 array-write-w-2 : tie.Need-array-write-w-2
 array-write-w-2 c = search needs
 
+array-write-w-3 : tie.Need-array-write-w-3
+array-write-w-3 c = search needs
+
 slot-requires : tie.Need-slot-requires
 slot-requires c κs = search needs
 
@@ -51,6 +54,7 @@ record-of-spec =
     cast-w
     array-write-w
     array-write-w-2
+    array-write-w-3
     slot-requires
     put-transaction-requires
     slot-requires-2
