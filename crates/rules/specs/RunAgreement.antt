@@ -18,7 +18,7 @@ use Rattle.agreement.specs.EngineAgreement.{signed-in, engines-never-fork, engi
 use Rattle.agreement.specs.Listing.{lists-comparable}
 use Rattle.terms.specs.Proposals.{Content}
 use Rattle.sheet.specs.declared.Settings.{Settings}
-use Rattle.committee.specs.Changes.{ordered}
+use Rattle.committee.specs.Committees.{ordered}
 use Rattle.committee.specs.Lawful.{lawful}
 use Rattle.rules.specs.Tests.{Member, signersOf}
 use Rattle.rules.specs.Calls as Calls
@@ -99,7 +99,7 @@ module _ {S : Settings} {F : Implementation S} (X : Group S F) where
   pub runs-agree : (l : Entries X) → Run X l → Agreed X l
   runs-agree l r =
       record {
-        chains = λ i j ci cj. lists-comparable (ordered (S .ceiling .0)) (never-fork l r i j ci cj);
+        chains = λ i j ci cj. lists-comparable (ordered S) (never-fork l r i j ci cj);
         committees = λ i j n ci cj ki kj m. ap (λ (w : ℕ → ℕ). w m) (engines-committees (engines X) start (lawful S) (X .good) fresh l (legal l r) i j n ci cj ki kj);
       }
 

@@ -26,6 +26,12 @@ pub struct Pair {
     pub at: [u64; 16],
 }
 
+// How many blocks are applied, and of how many the starts are known.
+pub struct Applied {
+    pub blocks: u32,
+    pub starts: u32,
+}
+
 // The round of the newest of the first k blocks, 0 for none.
 pub fn last_round(t: &[u32], k: u32) -> Round
     requires { ⌜ Row (now t) k ⌝ }
@@ -99,9 +105,11 @@ fn walked(t: &[u32], s: Settings, blocks: u32, r: Round, next: &mut [u32]) -> Pa
     let end = s.ceiling.0 * 16 + 16;
     let mut head = [end; 512];
     crate::links::link_rows(t, &mut head, next, s.ceiling);
-    let k = crate::advance::advance(t, &head, next, s, blocks, 0, round_before(r), &mut w);
+    let mut starts = [16u32; 512];
+    let none = crate::advance::none();
+    let x = crate::advance::advance(t, &head, next, s, blocks, none, round_before(r), &mut w, &mut starts);
     let before = w;
-    crate::advance::advance(t, &head, next, s, blocks, k, r, &mut w);
+    crate::advance::advance(t, &head, next, s, blocks, x, r, &mut w, &mut starts);
     Pair { before, at: w }
 }
 
