@@ -160,16 +160,18 @@ module _ {A : Type 0} {t : List ℕ} {k : ℕ} {f g : ℕ → A → A} (s : Same
         let h = c .first .from in
         rows-skip a 0 (p / 16 - 1) x (omega arith) (λ i u v. c .first .skipped i (omega arith) (omega arith)) ∙ rows-none a x
 
-    -- from the row of one place to that of the next one after it
-    pub rows-next : (a p q : ℕ) (x : A) → a ≤ 16 → 16 ≤ p → p / 16 * 16 + 16 ≤ e → Linked t next k (p / 16 * 16) e p → Linked t next k (p / 16 * 16 + 16) e q
-        → rowsOver f a (q / 16 - 1) x ≡ rowOver g next a p (rowsOver f a (p / 16 - 1) x)
-    rows-next a p q x h low l c d =
+    -- from the row of one place to that of the next one after it: that row is done
+    pub rows-turn : (a p q : ℕ) (x : A) → 16 ≤ p → Linked t next k (p / 16 * 16 + 16) e q → rowsOver f a (q / 16 - 1) x ≡ turnsOver f a (p / 16) (rowsOver f a (p / 16 - 1) x)
+    rows-turn a p q x low d =
         let i = d .first .from in
         let j : p / 16 - 1 + 1 ≡ p / 16 = omega arith in
         let m : rowsOver f a (p / 16) x ≡ turnsOver f a (p / 16) (rowsOver f a (p / 16 - 1) x) = rw j at (rows-more a (p / 16 - 1) x) in
-        rows-skip a (p / 16) (q / 16 - 1) x (omega arith) (λ v b u. d .first .skipped v (omega arith) (omega arith))
-        ∙ m
-        ∙ sym (row-turns a p (rowsOver f a (p / 16 - 1) x) h l c)
+        rows-skip a (p / 16) (q / 16 - 1) x (omega arith) (λ v b u. d .first .skipped v (omega arith) (omega arith)) ∙ m
+
+    -- going by the links
+    pub rows-next : (a p q : ℕ) (x : A) → a ≤ 16 → 16 ≤ p → p / 16 * 16 + 16 ≤ e → Linked t next k (p / 16 * 16) e p → Linked t next k (p / 16 * 16 + 16) e q
+        → rowsOver f a (q / 16 - 1) x ≡ rowOver g next a p (rowsOver f a (p / 16 - 1) x)
+    rows-next a p q x h low l c d = rows-turn a p q x low d ∙ sym (row-turns a p (rowsOver f a (p / 16 - 1) x) h l c)
 
 -- the first place after a run is linked too
 module _ {t next : List ℕ} {k e : ℕ} (z : ℕ) where

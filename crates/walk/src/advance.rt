@@ -49,7 +49,7 @@ fn fill_starts(
 }
 
 // The block after the first ones of x.
-fn apply_next(
+pub fn apply_next(
     t: &[u32],
     head: &[u32; 512],
     next: &[u32],

@@ -5,6 +5,7 @@ pub mod block;
 pub mod kept;
 pub mod leaders;
 pub mod links;
+pub mod starts;
 
 use sheet::Settings;
 use terms::Round;
