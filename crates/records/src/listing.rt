@@ -104,7 +104,14 @@ fn list_blocks(
 }
 
 // The chain of so many blocks; next has a word for each place.
-fn listed_by(t: &[u32], s: Settings, blocks: u32, next: &mut [u32], out: &mut [u8], at: usize) -> usize
+fn listed_by(
+    t: &[u32],
+    s: Settings,
+    blocks: u32,
+    next: &mut [u32],
+    out: &mut [u8],
+    at: usize,
+) -> usize
     requires { ⌜ Readable s (now t) blocks × (s .ceiling .0 * 16 + 16 ≤ length (now next)) × (at + (s .ceiling .0 * 16 + 16) * 141 ≤ length (now out)) ⌝ }
     ensures { λ v. ⌜ Puts (now (out .entry)) (now (out .exit)) at v (chainLines s (chainOf (s .ceiling .0) (now (t .entry)) blocks)) ((s .ceiling .0 * 16 + 16) * 141) ⌝ }
 {

@@ -115,5 +115,15 @@ pub fn advance(
     if r.0 <= s.lookback {
         return x;
     }
-    advance_to(t, head, next, s, blocks, x, Round(r.0 - s.lookback), w, starts)
+    advance_to(
+        t,
+        head,
+        next,
+        s,
+        blocks,
+        x,
+        Round(r.0 - s.lookback),
+        w,
+        starts,
+    )
 }

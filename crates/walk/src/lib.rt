@@ -108,7 +108,17 @@ fn walked(t: &[u32], s: Settings, blocks: u32, r: Round, next: &mut [u32]) -> Pa
     crate::links::link_rows(t, &mut head, next, s.ceiling);
     let mut starts = [16u32; 512];
     let none = crate::advance::none();
-    let x = crate::advance::advance(t, &head, next, s, blocks, none, round_before(r), &mut w, &mut starts);
+    let x = crate::advance::advance(
+        t,
+        &head,
+        next,
+        s,
+        blocks,
+        none,
+        round_before(r),
+        &mut w,
+        &mut starts,
+    );
     let before = w;
     crate::advance::advance(t, &head, next, s, blocks, x, r, &mut w, &mut starts);
     Pair { before, at: w }

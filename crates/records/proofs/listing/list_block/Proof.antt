@@ -46,7 +46,7 @@ element-copy-out-p : tie.Need-element-copy-out-p Inv-loop μ-loop
 element-copy-out-p c = search needs
 
 loop-holds : tie.Need-loop-holds Inv-loop μ-loop
-loop-holds c = 
+loop-holds c =
     let s = c .before .before .before .before .before .before in
     let l = linked-head {k = s .args .k + 1} (omega (arith, s .pre .1, s .pre .2)) (s .pre .4) in
     let h = l .first .from in
@@ -56,7 +56,7 @@ add-list-row : tie.Need-add-list-row Inv-loop μ-loop
 add-list-row c = search needs
 
 list-row-requires : tie.Need-list-row-requires Inv-loop μ-loop
-list-row-requires c κs = 
+list-row-requires c κs =
     let s = c .before .before .before .before .before .before .before .before .before in
     let x = c .before .before .loop in
     let r = row-next (s .args .t .now) (s .args .k + 1) (x .p / 16) (s .args .n .0 * 16 + 16) (omega arith) in
@@ -72,14 +72,14 @@ run-end-requires : tie.Need-run-end-requires Inv-loop μ-loop
 run-end-requires c κs = let x = c .before .before .before .before .before .loop in omega (arith, x .inv .1 .size)
 
 loop-less : tie.Need-loop-less Inv-loop μ-loop
-loop-less c = 
+loop-less c =
     let x = c .before .before .before .before .before .before .loop in
     let d = end-linked (x .p / 16 * 16 + 16) 16 (x .p / 16 * 16) (x .p) (omega arith) (omega arith) (omega arith) (x .inv .1) in
     let h = d .first .from in
     omega (arith, c .run-end .ensures)
 
 loop-again : tie.Need-loop-again Inv-loop μ-loop
-loop-again c = 
+loop-again c =
     let s = c .before .before .before .before .before .before .before .before .before .before .before .before .before in
     let x = c .before .before .before .before .before .before .loop in
     let t = s .args .t .now in
@@ -94,7 +94,7 @@ same-length : tie.Need-same-length Inv-loop μ-loop
 same-length c = c .before .loop .inv .2
 
 returns : tie.Need-returns Inv-loop μ-loop
-returns c = 
+returns c =
     let s = c .before .before .before .before .before .before .before .before in
     let x = c .before .loop in
     let h = x .inv .1 .first .to in

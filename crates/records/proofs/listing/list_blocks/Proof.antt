@@ -33,7 +33,7 @@ element-copy-out-list-block : tie.Need-element-copy-out-list-block Inv-loop μ-l
 element-copy-out-list-block c = let a = c .before .before .before .before .before .pre .0 in omega (arith, a .few, a .ceiling)
 
 list-block-requires : tie.Need-list-block-requires Inv-loop μ-loop
-list-block-requires c κs = 
+list-block-requires c κs =
     let s = c .before .before .before .before .before .before .before in
     let x = c .before .before .before .loop in
     let a = s .pre .0 in
@@ -49,7 +49,7 @@ loop-less : tie.Need-loop-less Inv-loop μ-loop
 loop-less c = search needs
 
 loop-again : tie.Need-loop-again Inv-loop μ-loop
-loop-again c = 
+loop-again c =
     let s = c .before .before .before .before .before .before .before .before .before .before in
     let x = c .before .before .before .before .before .before .loop in
     let b = rw (← s .pre .2 (x .k) (omega arith)) at (block-rows (s .args .s) (s .args .t .now) (x .k)) in
@@ -60,7 +60,7 @@ same-length : tie.Need-same-length Inv-loop μ-loop
 same-length c = c .before .loop .inv .1
 
 returns : tie.Need-returns Inv-loop μ-loop
-returns c = 
+returns c =
     let x = c .before .loop in
     let e : x .k ≡ c .before .before .before .before .before .args .blocks = omega arith in
     rw e at (x .inv .2)

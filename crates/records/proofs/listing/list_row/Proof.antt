@@ -29,7 +29,7 @@ add-t11 : tie.Need-add-t11 Inv-loop μ-loop
 add-t11 c = search needs
 
 list-turn-requires : tie.Need-list-turn-requires Inv-loop μ-loop
-list-turn-requires c κs = 
+list-turn-requires c κs =
     let s = c .before .before .before .before .before in
     let x = c .before .before .loop in
     let f : ℕ → ℕ = λ j. inBlock (s .args .t .now) (s .args .k) (s .args .r .0 * 16 + (s .args .a + j) % 16) in
@@ -46,7 +46,7 @@ loop-less c = search needs
 
 loop-again : tie.Need-loop-again Inv-loop μ-loop
 unfolding addLines
-loop-again c = 
+loop-again c =
     let s = c .before .before .before .before .before .before .before .before in
     let x = c .before .before .before .before .before .loop in
     let f : ℕ → ℕ = λ j. inBlock (s .args .t .now) (s .args .k) (s .args .r .0 * 16 + (s .args .a + j) % 16) in
@@ -58,7 +58,7 @@ same-length c = c .before .loop .inv .1
 
 returns : tie.Need-returns Inv-loop μ-loop
 unfolding turnsOver
-returns c = 
+returns c =
     let s = c .before .before .before .before in
     let x = c .before .loop in
     let i : x .i ≡ 16 = omega arith in

@@ -20,7 +20,7 @@ returns-2 : tie.Need-returns-2
 returns-2 c = let s = c .before .before .before .before .before .before in puts-none (line-other (s .args .t .now) (s .args .k) (s .args .m .0) (s .args .r .0) (s .pre .0 .member) (λ e. c .if2 .taken (c .before .mark .ensures ∙ e)))
 
 list-place-requires : tie.Need-list-place-requires
-list-place-requires c κs = 
+list-place-requires c κs =
     let s = c .before .before .before .before .before .before .before in
     let n = count-present (s .args .t .now) (s .args .k) (s .args .m .0) (s .args .r .0) (s .pre .0 .member) (sym (c .before .before .mark .ensures) ∙ c .before .if2 .left) in
     (s .pre .0, omega (arith, n, s .pre .2))
@@ -29,7 +29,7 @@ same-length : tie.Need-same-length
 same-length c = search needs
 
 returns-3 : tie.Need-returns-3
-returns-3 c = 
+returns-3 c =
     let s = c .before .before .before .before .before .before .before .before .before .before in
     let a = s .args in
     let q = sym (c .before .before .before .before .before .mark .ensures) ∙ c .before .before .before .before .if2 .left in

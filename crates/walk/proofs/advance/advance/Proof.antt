@@ -8,7 +8,7 @@ use Rattle.walk.proofs.advance.advance.Statement.{statement}
 use Rattle.walk.proofs.advance.advance.Tie as tie
 
 returns : tie.Need-returns
-returns c = 
+returns c =
     let a = c .before .before .before .before .before .args in
     let p = c .before .before .before .before .before .pre in
     let e : a .r .0 - a .s .lookback - 1 ≡ 0 = omega arith in

@@ -53,7 +53,7 @@ loop-less : tie.Need-loop-less Inv-loop μ-loop
 loop-less c = search needs
 
 loop-again : tie.Need-loop-again Inv-loop μ-loop
-loop-again c = 
+loop-again c =
     let x = c .before .before .before .before .before .before .before .before .before .before .loop in
     let d = c .before .before .before .before .before .advance .ensures in
     let e = c .before .before .put .ensures in

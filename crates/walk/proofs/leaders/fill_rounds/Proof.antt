@@ -53,7 +53,7 @@ loop-less c = search needs
 
 loop-again : tie.Need-loop-again Inv-loop μ-loop
 unfolding leaderAt leaderBy
-loop-again c = 
+loop-again c =
     let q = c .before .before .before .before .before .before .loop in
     let d = c .before .before .advance .ensures in
     (omega arith, omega arith, running-up _ (omega arith) (d .0), rw (fill-more _ _ _ _ (q .inv .0), ← d .1, ← c .leader .ensures, ← q .inv .3) refl)
@@ -65,7 +65,7 @@ advance-requires-2 : tie.Need-advance-requires-2 Inv-loop μ-loop
 advance-requires-2 c κs = let p = c .before .before .before .before .before .before .before .before .pre in (p .0, p .1, running-up _ (omega arith) (c .before .before .before .before .loop .inv .2))
 
 returns : tie.Need-returns Inv-loop μ-loop
-returns c = 
+returns c =
     let q = c .before .before .before .before .before .loop in
     let s = c .before .before .before .before .before .before .before .before .before in
     let e : q .q ≡ s .args .top .0 = omega arith in
