@@ -60,7 +60,7 @@ pub extern "C" fn forgelilac_endorse(state: &[u32], table: &mut [u32], proposal:
     crate::answers::number_of(a)
 }
 
-// Certify: the certificate of the present proposal is held in the table.
+// Certify: the certificate of the present proposal is held in the table, with these endorsers.
 #[no_mangle]
 pub extern "C" fn forgelilac_certify(state: &[u32], table: &mut [u32], endorsers: u32) -> u32
     ensures { λ r. ⌜ Done plain (turn (now (state .entry)) (now (table .entry)) [] (certify endorsers)) r (now (state .entry)) (now (table .exit)) [] ⌝ }
@@ -77,7 +77,7 @@ pub extern "C" fn forgelilac_certify(state: &[u32], table: &mut [u32], endorsers
     crate::answers::number_of(a)
 }
 
-// Accept: the certificate is held in the table, and its endorsed mark cleared.
+// Accept: the certificate is held in the table with its endorsers, and its endorsed mark cleared.
 #[no_mangle]
 pub extern "C" fn forgelilac_accept(state: &[u32], table: &mut [u32], certificate: &[u32]) -> u32
     ensures { λ r. ⌜ Done plain (turn (now (state .entry)) (now (table .entry)) [] (accept (now (certificate .entry)))) r (now (state .entry)) (now (table .exit)) [] ⌝ }

@@ -1,4 +1,4 @@
-// Accept: a certificate is held, and its endorsed mark cleared.
+// Accept: a certificate is held with its endorsers, and its endorsed mark cleared.
 use crate::Answer;
 use crate::Outcome;
 use state::State;

@@ -1,4 +1,4 @@
-// Certify: the proposal of the present round becomes a certificate, which is held. The proposal stays.
+// Certify: the proposal of the present round becomes a certificate, which is held with its endorsers. The proposal stays.
 use crate::Answer;
 use crate::Outcome;
 use state::State;

@@ -29,7 +29,7 @@ use Rattle.nonforking.specs.Statement.{InRange, Takes, certifies, accept
 use Rattle.nonforking.specs.EngineLaws.{step-accepted, commit-accepted, refused-same}
 use Rattle.nonforking.specs.Views.{NoOpen, Good}
 use Rattle.nonforking.specs.Sequences.{afterCalls, AllInRange, NoOpens, Opening, opening}
-use Rattle.nonforking.specs.Reached.{Reached, IsOpen, is, is-not, is-open, reached}
+use Rattle.nonforking.specs.Reached.{Reached, OpenCase, an-open, no-open, open-case, reached}
 use Rattle.nonforking.specs.Steps.{good-after}
 use Rattle.nonforking.specs.Kept.{Holds, Stored}
 
@@ -219,16 +219,16 @@ stored-by x c l i a r p d to h older = by (ℕ-discrete (number e c) 0)
     before : NoOpen e c → e .state .settings ≡ after e c .state .settings → Holds (e .table) a r p d → Stored (opening x) (c ∷ l) p d
     before o q y = inr (o, older (rw q to) y)
 
-    accepted : number e c ≡ 0 → IsOpen c → Stored (opening x) (c ∷ l) p d
-    accepted n (is own sheet q) = absurd (nothing-held e own sheet (rw q at n) a r (rw q at to) (rw q at (h .held)))
-    accepted n (is-not o) = go (took-or-held e (g .good) a r p d c (i .0) (o e) n h)
+    accepted : number e c ≡ 0 → OpenCase c → Stored (opening x) (c ∷ l) p d
+    accepted n (an-open own sheet q) = absurd (nothing-held e own sheet (rw q at n) a r (rw q at to) (rw q at (h .held)))
+    accepted n (no-open o) = go (took-or-held e (g .good) a r p d c (i .0) (o e) n h)
       where
         go : Takes e c p d ⊎ Holds (e .table) a r p d → Stored (opening x) (c ∷ l) p d
         go (inl k) = inl (n, k)
         go (inr y) = before (o e) (g .good .settings ∙ sym (good-after (g .good) c (i .0) (o e) .settings)) y
 
     by : Dec (number e c ≡ 0) → Stored (opening x) (c ∷ l) p d
-    by (yes n) = accepted n (is-open c)
+    by (yes n) = accepted n (open-case c)
     by (no n) = before (λ own sheet q m. n m) (ap (λ (z : Engine). z .state .settings) (sym (refused-same e c n))) (subst (λ (z : Engine). Holds (z .table) a r p d) (refused-same e c n) h)
 
 pub held-stored : (x : Opening) (l : List Call) → AllInRange l → (a r : ℕ) (p : Content) (d : ℕ) → r ≤ afterCalls (opening x) l .state .settings .ceiling .0

@@ -26,10 +26,10 @@ pub record Reached (e : Engine) : Type 0 where
   pub own : ℕ
   pub good : Good (filled sheet) own e
 
--- a call is an open or none
-pub data IsOpen (c : Call) : Type 0 where
-  is : (own : Member) (sheet : Sheet) → c ≡ opens own sheet → IsOpen c
-  is-not : ((e : Engine) → NoOpen e c) → IsOpen c
+-- every call is an open or none
+pub data OpenCase (c : Call) : Type 0 where
+  an-open : (own : Member) (sheet : Sheet) → c ≡ opens own sheet → OpenCase c
+  no-open : ((e : Engine) → NoOpen e c) → OpenCase c
 
 abbrev openBit : Call → Bool
 openBit (opens own sheet) = true
@@ -44,21 +44,21 @@ openBit (share m r) = false
 openBit (certificate m r) = false
 openBit (block n) = false
 
-other : (c : Call) → openBit c ≡ false → IsOpen c
-other c h = is-not (λ e own sheet q n. true≢false (ap openBit (sym q) ∙ h))
+other : (c : Call) → openBit c ≡ false → OpenCase c
+other c h = no-open (λ e own sheet q n. true≢false (ap openBit (sym q) ∙ h))
 
-pub is-open : (c : Call) → IsOpen c
-is-open (opens own sheet) = is own sheet refl
-is-open (propose b) = other (propose b) refl
-is-open (endorse p) = other (endorse p) refl
-is-open (certify d) = other (certify d) refl
-is-open (accept c) = other (accept c) refl
-is-open advance = other advance refl
-is-open commit = other commit refl
-is-open (committee r) = other (committee r) refl
-is-open (share m r) = other (share m r) refl
-is-open (certificate m r) = other (certificate m r) refl
-is-open (block n) = other (block n) refl
+pub open-case : (c : Call) → OpenCase c
+open-case (opens own sheet) = an-open own sheet refl
+open-case (propose b) = other (propose b) refl
+open-case (endorse p) = other (endorse p) refl
+open-case (certify d) = other (certify d) refl
+open-case (accept c) = other (accept c) refl
+open-case advance = other advance refl
+open-case commit = other commit refl
+open-case (committee r) = other (committee r) refl
+open-case (share m r) = other (share m r) refl
+open-case (certificate m r) = other (certificate m r) refl
+open-case (block n) = other (block n) refl
 
 -- an accepted open
 begins : (e : Engine) (own : Member) (sheet : Sheet) → number e (opens own sheet) ≡ 0 → Reached (after e (opens own sheet))
@@ -77,11 +77,11 @@ begins e own sheet a =
     }
 
 reached-after : (e : Engine) → Reached e → (c : Call) → InRange c → Reached (after e c)
-reached-after e r c i = by (is-open c)
+reached-after e r c i = by (open-case c)
   where
-    by : IsOpen c → Reached (after e c)
-    by (is-not o) = record { sheet = r .sheet; own = r .own; good = good-after (r .good) c i (o e) }
-    by (is own sheet q) = rw q (go (ℕ-discrete (number e (opens own sheet)) 0))
+    by : OpenCase c → Reached (after e c)
+    by (no-open o) = record { sheet = r .sheet; own = r .own; good = good-after (r .good) c i (o e) }
+    by (an-open own sheet q) = rw q (go (ℕ-discrete (number e (opens own sheet)) 0))
       where
         go : Dec (number e (opens own sheet) ≡ 0) → Reached (after e (opens own sheet))
         go (yes a) = begins e own sheet a

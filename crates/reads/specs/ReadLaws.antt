@@ -23,7 +23,7 @@ use Rattle.committee.specs.ChainLaws.{chain-length}
 use Rattle.rules.specs.Tests.{badRound, unknown, committeeIn}
 use Rattle.rules.specs.Reads as rules
 use Rattle.base.specs.Passed.{passed}
-use Rattle.rules.specs.TestLaws.{round-fits}
+use Rattle.rules.specs.TestLaws.{bad-over, round-fits}
 use Rattle.state.specs.declared.State.{State}
 use Rattle.state.specs.View.{view}
 use Rattle.state.specs.ViewLaws.{dag-at, held-dag}
@@ -116,6 +116,17 @@ module _ (s : State) (t : List ℕ) where
         to = k .1;
         held = sym (held-dag (s .settings .ceiling .0) t m r (k .0) (k .1)) ∙ not-false _ h23;
       }
+
+  -- and where one is held the read is accepted
+  pub certificate-accepted : {m r : ℕ} → HeldThere s t m r → certificateNumber s t m r ≡ 0
+  unfolding certificateNumber
+  certificate-accepted {m} {r} k =
+      let c = s .settings .ceiling .0 in
+      passes 1 _ (ap not (whole s t (k .well)))
+      ∙ passes 4 _ (le-ltb 15 m (omega (arith, k .member)))
+      ∙ passes 5 _ (bad-over (s .settings) r (λ z. omega (arith, k .from)) ∙ le-ltb c r (k .to))
+      ∙ passes 23 _ (ap not (held-dag c t m r (k .from) (k .to) ∙ k .held))
+      ∙ passes-all
 
   pub place-within : {m r : ℕ} → HeldThere s t m r → Within t m r
   place-within k = record { member = k .member; row = omega (arith, k .well .long, k .to) }
