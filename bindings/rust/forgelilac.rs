@@ -201,8 +201,12 @@ pub struct Block {
 }
 
 /// The leader of an even round, by the weights of its committee: of the m members by rising
-/// number, the one at position (round / 2) mod m. An empty committee has none.
+/// number, the one at position (round / 2) mod m. An empty committee has none, and so has an
+/// odd round.
 pub fn leader(round: u32, weights: &[u32; MEMBERS]) -> Option<u32> {
+    if round % 2 != 0 || round == 0 {
+        return None;
+    }
     let members: Vec<u32> = (0..).zip(weights).filter(|(_, &weight)| weight > 0).map(|(member, _)| member).collect();
     let position = (round as usize / 2).checked_rem(members.len())?;
     Some(members[position])
