@@ -70,15 +70,29 @@ static void commit(struct engine *e) {
     if (refusal != FORGELILAC_NO_COMMIT_ROUND) must("commit", refusal);
 }
 
+/* The leader of a block's round, by the committee read: of the m members by rising number, the
+ * one at position (round / 2) mod m. 0 where there is none: then numbers just rise. */
+static uint32_t leader(const struct engine *e, uint32_t round) {
+    uint32_t weights[FORGELILAC_COMMITTEE_WORDS], members[FORGELILAC_MEMBERS], count = 0;
+    must("committee", forgelilac_committee(ENGINE(e), round, WORDS(weights)));
+    for (uint32_t m = 0; m < FORGELILAC_MEMBERS; m++)
+        if (weights[m] != 0) members[count++] = m;
+    return count == 0 ? 0 : members[round / 2 % count];
+}
+
+/* Rounds rise; within a round numbers rise from the leader's, with 0 after 15. */
 static void print_block(const struct engine *e, uint32_t number) {
     uint32_t out[FORGELILAC_HELD_WORDS];
     uint32_t last = forgelilac_value_of(forgelilac_block(ENGINE(e), number));
+    uint32_t first = leader(e, last);
     printf("  block %u, block round %u:", (unsigned)number, (unsigned)last);
     for (uint32_t round = 1; round <= last; round++)
-        for (uint32_t author = 0; author < FORGELILAC_MEMBERS; author++)
+        for (uint32_t i = 0; i < FORGELILAC_MEMBERS; i++) {
+            uint32_t author = (first + i) % FORGELILAC_MEMBERS;
             if (forgelilac_certificate(ENGINE(e), author, round, WORDS(out)) == 0 &&
                 out[FORGELILAC_HELD_BLOCK] == number)
                 printf(" %u/%u", (unsigned)round, (unsigned)author);
+        }
     printf("\n");
 }
 

@@ -50,7 +50,7 @@ extern "C" {
 #define FORGELILAC_PROPOSAL_BODY 2
 #define FORGELILAC_CERTIFICATE_ENDORSERS 16
 #define FORGELILAC_HELD_ENDORSERS 16 /* those that it was first stored with */
-#define FORGELILAC_HELD_BLOCK 17     /* number of its block, 0 for none */
+#define FORGELILAC_HELD_BLOCK 17     /* number of its block, 0 for none; see forgelilac_block */
 
 enum forgelilac_kind {
     FORGELILAC_BOND = 0,   /* number: member, amount: 1 to 1,000 */
@@ -134,7 +134,9 @@ uint32_t forgelilac_certificate(const uint32_t *state, size_t state_words,
                                 const uint32_t *table, size_t table_words,
                                 uint32_t author, uint32_t round,
                                 uint32_t *out, size_t out_words);
-/* Low half: the block's round. High half: refusal number. Blocks count from 1. */
+/* Low half: the block's round. High half: refusal number. Blocks count from 1. A block's
+ * certificates are those with its number: rounds rise; within a round numbers rise from that of
+ * the leader of the block's round, with 0 after 15 (docs/HOSTS.md, "Order inside a block"). */
 uint64_t forgelilac_block(const uint32_t *state, size_t state_words,
                           const uint32_t *table, size_t table_words, uint32_t number);
 /* The words that a table for this ceiling needs. No refusal. */

@@ -1,8 +1,8 @@
 //! `edge_stream DIRECTORY` writes edge.stream, edge.expected and
 //! edge.comments there, and some tail-N.stream with tail-N.expected.
 //!
-//! The expected answers stand here as written by hand from document 01; the
-//! reference runner is not asked.
+//! The expected answers stand here as written by hand from document 01 and the
+//! points that change it; the reference runner is not asked.
 
 use std::fmt::Write as _;
 use std::fs;
@@ -357,8 +357,8 @@ fn main() {
     e.record(b"commit", &["ok,1"], "");
     e.record(
         b"chain",
-        &["1,2,1,0,E,7,0,B,4,5", "1,2,2,1", "2,4,1,1,E,1,0", "2,4,1,2", "2,4,2,0", "2,4,2,2", "2,4,3,0", "2,4,3,2", "2,4,4,2", "ok"],
-        "by round, then author; nothing twice; member 3's certificate of round 3 is in no history",
+        &["1,2,1,0,E,7,0,B,4,5", "1,2,2,1", "2,4,1,2", "2,4,1,1,E,1,0", "2,4,2,2", "2,4,2,0", "2,4,3,2", "2,4,3,0", "2,4,4,2", "ok"],
+        "rounds rise, within a round numbers from the leader's, 2; nothing twice; member 3's certificate of round 3 is in no history",
     );
 
     e.part("ceiling 3");
@@ -491,8 +491,8 @@ fn main() {
     e.record(b"commit", &["ok,1"], "one vote of weight 10 is more than the bound 7");
     e.record(
         b"chain",
-        &["1,2,1,0,B,0,5", "1,2,1,1", "1,2,1,2", "1,2,1,3", "1,2,2,1", "2,4,2,0", "2,4,2,2", "2,4,3,0", "2,4,3,2", "2,4,4,2,B,1,10,B,0,4", "3,6,5,0", "3,6,6,3", "ok"],
-        "",
+        &["1,2,1,1", "1,2,1,2", "1,2,1,3", "1,2,1,0,B,0,5", "1,2,2,1", "2,4,2,2", "2,4,2,0", "2,4,3,2", "2,4,3,0", "2,4,4,2,B,1,10,B,0,4", "3,6,5,0", "3,6,6,3", "ok"],
+        "leaders of 2, 4 and 6 are 1, 2 and 3",
     );
 
     e.part("an empty committee");
@@ -562,8 +562,8 @@ fn main() {
     e.record(b"commit", &["ok,2"], "rounds 2 and 6");
     e.record(
         b"chain",
-        &["1,2,1,0", "1,2,1,1", "1,2,1,2", "1,2,1,3", "1,2,2,1", "2,6,2,0", "2,6,2,2", "2,6,3,0", "2,6,3,1", "2,6,3,2", "2,6,4,0", "2,6,5,0", "2,6,6,3", "ok"],
-        "the certificate of member 2 in round 4 is in no block",
+        &["1,2,1,1", "1,2,1,2", "1,2,1,3", "1,2,1,0", "1,2,2,1", "2,6,2,0", "2,6,2,2", "2,6,3,0", "2,6,3,1", "2,6,3,2", "2,6,4,0", "2,6,5,0", "2,6,6,3", "ok"],
+        "the certificate of member 2 in round 4 is in no block; from 3 on, with 3 missing, numbers read 0, 1, 2",
     );
 
     e.part("the history of the latest one taken counts, not that of the first");
@@ -588,10 +588,147 @@ fn main() {
     e.record(b"commit", &["ok,2"], "rounds 4 and 6");
     e.record(
         b"chain",
-        &["1,4,1,0", "1,4,1,1", "1,4,1,2", "1,4,1,3", "1,4,2,0", "1,4,2,2", "1,4,3,0", "1,4,4,2", "2,6,2,1", "2,6,3,1", "2,6,4,0", "2,6,5,0", "2,6,6,3", "ok"],
-        "the anchor of 2 comes in as a plain certificate",
+        &["1,4,1,2", "1,4,1,3", "1,4,1,0", "1,4,1,1", "1,4,2,2", "1,4,2,0", "1,4,3,0", "1,4,4,2", "2,6,2,1", "2,6,3,1", "2,6,4,0", "2,6,5,0", "2,6,6,3", "ok"],
+        "the anchor of 2 comes in as a plain certificate; one leader for all rounds of a block",
     );
     e.no(17, "accept,1,2,1,5", "a certificate in a block is held as ever");
+
+    e.part("order inside a block: with anchor author 2 and members 0 to 3, a full round reads 2, 3, 0, 1");
+    e.ok(&open("0", "", "64", "", &[]), "leaders of 2 and 4 are 1 and 2");
+    for text in ["accept,3,1,0,7,U,0,0", "accept,0,1,0,14,E,10,0", "accept,2,1,0,11,E,12,0", "accept,1,1,0,13,E,11,0"] {
+        e.ok(text, "round 1; the block of 2 unbonds member 0, from round 23 on");
+    }
+    for text in ["accept,1,2,15,13", "accept,3,2,15,7", "accept,0,2,15,14", "accept,2,2,15,11"] {
+        e.ok(text, "round 2");
+    }
+    for text in ["accept,3,3,15,7,E,33,0", "accept,2,3,15,11,E,32,0", "accept,1,3,15,13,E,31,0", "accept,0,3,15,14,E,30,0"] {
+        e.ok(text, "round 3");
+    }
+    e.ok("accept,2,4,15,11", "the anchor of 4");
+    e.ok("accept,0,5,4,14", "a vote");
+    e.ok("accept,1,5,4,13", "a vote");
+    for _ in 0..4 {
+        e.ok("advance", "");
+    }
+    e.record(b"commit", &["ok,2"], "rounds 2 and 4");
+    e.record(
+        b"chain",
+        &[
+            "1,2,1,1,E,11,0", "1,2,1,2,E,12,0", "1,2,1,3,U,0,0", "1,2,1,0,E,10,0", "1,2,2,1",
+            "2,4,2,2", "2,4,2,3", "2,4,2,0", "2,4,3,2,E,32,0", "2,4,3,3,E,33,0", "2,4,3,0,E,30,0", "2,4,3,1,E,31,0", "2,4,4,2", "ok",
+        ],
+        "each block from its own leader; that of 4 by the committee of round 4, which still has member 0",
+    );
+
+    e.part("order inside a block: 0 after 15");
+    let weights = ["", "", "0", "0", "", "", "", "", "", "", "", "", "", "", "1", "1"];
+    e.ok(&open("0", "", "64", "", &weights), "members 0, 1, 14, 15; leaders of 2, 4, 6 are 1, 14, 15");
+    let others = [(0, 49_154), (1, 49_153), (14, 32_771), (15, 16_387)];
+    for round in 1..=5 {
+        let previous = if round == 1 { 0 } else { 49_155 };
+        for (author, endorsers) in others {
+            e.ok(&format!("accept,{author},{round},{previous},{endorsers}"), "a full round");
+        }
+    }
+    e.ok("accept,15,6,49155,16387", "the anchor of 6");
+    e.ok("accept,0,7,32768,49154", "a vote");
+    e.ok("accept,1,7,32768,49153", "a vote");
+    for _ in 0..6 {
+        e.ok("advance", "");
+    }
+    e.record(b"commit", &["ok,3"], "rounds 2, 4 and 6");
+    e.record(
+        b"chain",
+        &[
+            "1,2,1,1", "1,2,1,14", "1,2,1,15", "1,2,1,0", "1,2,2,1",
+            "2,4,2,14", "2,4,2,15", "2,4,2,0", "2,4,3,14", "2,4,3,15", "2,4,3,0", "2,4,3,1", "2,4,4,14",
+            "3,6,4,15", "3,6,4,0", "3,6,4,1", "3,6,5,15", "3,6,5,0", "3,6,5,1", "3,6,5,14", "3,6,6,15", "ok",
+        ],
+        "14, 15, 0, 1 and 15, 0, 1, 14",
+    );
+
+    e.part("order inside a block: the leader by the committee of the block's round, lookback rounds behind its chain");
+    e.ok(&open("0", "2", "64", "", &[]), "lookback 2, members 0 to 3 of weight 1");
+    for text in ["accept,0,1,0,14", "accept,1,1,0,13", "accept,2,1,0,11", "accept,3,1,0,7,U,0,0"] {
+        e.ok(text, "round 1; member 0 is out from round 5 on");
+    }
+    for text in ["accept,0,2,15,14", "accept,1,2,15,13", "accept,2,2,15,11", "accept,3,2,15,7"] {
+        e.ok(text, "round 2");
+    }
+    for text in ["accept,0,3,15,14,B,7,1", "accept,1,3,15,13", "accept,2,3,15,11", "accept,3,3,15,7"] {
+        e.ok(text, "round 3; member 7 is in from round 7 on");
+    }
+    e.ok("advance", "");
+    e.ok("advance", "to round 3");
+    e.record(b"commit", &["ok,1"], "the block of round 2");
+    for text in ["accept,0,4,15,14", "accept,1,4,15,13", "accept,2,4,15,11", "accept,3,4,15,7"] {
+        e.ok(text, "round 4: the leader is 2, of 0, 1, 2, 3");
+    }
+    for text in ["accept,1,5,15,12", "accept,2,5,15,10", "accept,3,5,15,6"] {
+        e.ok(text, "round 5: members 1, 2, 3");
+    }
+    e.ok("advance", "");
+    e.ok("advance", "to round 5");
+    e.record(b"commit", &["ok,1"], "the block of round 4");
+    for text in ["accept,1,6,14,12", "accept,2,6,14,10", "accept,3,6,14,6"] {
+        e.ok(text, "round 6: the leader is 1, of 1, 2, 3");
+    }
+    for text in ["accept,2,7,14,10", "accept,3,7,14,6"] {
+        e.ok(text, "round 7: members 1, 2, 3, 7");
+    }
+    e.ok("advance", "");
+    e.ok("advance", "to round 7");
+    e.record(b"commit", &["ok,1"], "the block of round 6");
+    e.record(
+        b"chain",
+        &[
+            "1,2,1,1", "1,2,1,2", "1,2,1,3,U,0,0", "1,2,1,0", "1,2,2,1",
+            "2,4,2,2", "2,4,2,3", "2,4,2,0", "2,4,3,2", "2,4,3,3", "2,4,3,0,B,7,1", "2,4,3,1", "2,4,4,2",
+            "3,6,4,1", "3,6,4,3", "3,6,4,0", "3,6,5,1", "3,6,5,2", "3,6,5,3", "3,6,6,1", "ok",
+        ],
+        "from 1, 2 and 1; by the chain so far it would be from 1, 3 and 7, by the starting weights from 1, 2 and 3",
+    );
+
+    e.part("order inside a block decides committees: bonds and unbonds of one member in one round");
+    e.ok(&open("0", "1", "64", "", &[]), "lookback 1; the leader of 2 is member 1, so round 1 reads 1, 2, 3, 0");
+    e.ok("accept,0,1,0,14,B,0,5,B,4,5", "last: bonds 0 and 4");
+    e.ok("accept,1,1,0,13,U,4,0", "first: unbonds 4, which is no member yet");
+    e.ok("accept,2,1,0,11", "");
+    e.ok("accept,3,1,0,7,U,0,0", "before 0: unbonds 0");
+    e.ok("accept,1,2,15,13", "the anchor of 2");
+    e.ok("accept,0,3,2,14", "a vote");
+    e.ok("accept,2,3,2,11", "a vote");
+    e.ok("advance", "");
+    e.ok("advance", "to round 3");
+    e.record(b"commit", &["ok,1"], "weights 5, 1, 1, 1, 5 from round 4 on; by round, then author, they would be 0, 1, 1, 1, 0");
+    e.record(b"chain", &["1,2,1,1,U,4,0", "1,2,1,2", "1,2,1,3,U,0,0", "1,2,1,0,B,0,5,B,4,5", "1,2,2,1", "ok"], "");
+    e.no(13, "accept,1,4,1,12", "3 of 13, the quorum is 9");
+    e.ok("accept,4,4,1,1", "10 of 13");
+    e.ok("accept,2,4,1,17", "the leader of 4: of 0, 1, 2, 3, 4 the one at position 2 mod 5; of 1, 2, 3 it would be 3");
+    e.ok("advance", "");
+    e.ok("advance", "to round 5");
+    e.no(22, "commit", "");
+    e.ok("accept,0,5,4,16", "a vote of weight 5");
+    e.record(b"commit", &["ok,1"], "5 is more than the bound 4");
+    e.record(
+        b"chain",
+        &["1,2,1,1,U,4,0", "1,2,1,2", "1,2,1,3,U,0,0", "1,2,1,0,B,0,5,B,4,5", "1,2,2,1", "2,4,3,0", "2,4,4,2", "ok"],
+        "",
+    );
+    e.ok(&open("0", "1", "64", "", &[]), "the reverse");
+    e.ok("accept,0,1,0,14,U,4,0", "last: unbonds 4");
+    e.ok("accept,1,1,0,13,B,4,5", "first: bonds 4");
+    e.ok("accept,2,1,0,11,U,3,0", "unbonds 3");
+    e.ok("accept,3,1,0,7,B,3,5", "bonds 3, after 2 in either order");
+    e.ok("accept,1,2,15,13", "the anchor of 2");
+    e.ok("accept,0,3,2,14", "a vote");
+    e.ok("accept,2,3,2,11", "a vote");
+    e.ok("advance", "");
+    e.ok("advance", "to round 3");
+    e.record(b"commit", &["ok,1"], "weights 1, 1, 1, 5 from round 4 on");
+    e.no(9, "accept,4,4,1,1", "member 4 came and left");
+    e.no(13, "accept,0,4,1,6", "3 of 8, the quorum is 6");
+    e.ok("accept,0,4,1,8", "6 of 8");
 
     e.part("the last record, without its CRLF");
     e.stream.extend_from_slice(b"advance");

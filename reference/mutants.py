@@ -12,7 +12,7 @@ base = os.path.dirname(os.path.abspath(__file__))
 SAME = {4, 12, 45, 46, 49, 52}
 M=[
 ('reference.rs','if votes <= fault_bound(total(committee))','if votes < fault_bound(total(committee))'),
-('reference.rs','self.chain.partition_point(|b| b.round < s)','self.chain.partition_point(|b| b.round <= s)'),
+('reference.rs','chain.partition_point(|b| b.round < s)','chain.partition_point(|b| b.round <= s)'),
 ('reference.rs','s > self.last_block_round() + 2','s > self.last_block_round() + 1'),
 ('reference.rs','s > self.last_block_round() + 2','s > self.last_block_round() + 3'),
 ('reference.rs','if r <= self.settings.lookback {','if r < self.settings.lookback {'),
@@ -40,7 +40,7 @@ M=[
 ('reference.rs','transactions.len() <= self.settings.allowance as usize','transactions.len() < self.settings.allowance as usize + 2'),
 ('reference.rs','Transaction::Unbond { member } => committee[member as usize] = 0,','Transaction::Unbond { .. } => {}'),
 ('reference.rs','                    if held.block == 0 {','                    if held.block == 0 || r == 1 {'),
-('reference.rs','for a in members_of(history[r as usize]) {\n                    let held = self','for a in members_of(history[r as usize]).collect::<Vec<_>>().into_iter().rev() {\n                    let held = self'),
+('reference.rs','(round, (author + MEMBERS - first) % MEMBERS)','(round, (first + MEMBERS - author) % MEMBERS)'),
 ('reference.rs','votes += committee[a as usize];','votes += 1;'),
 ('reference.rs','members_of(set).map(|m| committee[m as usize]).sum()','members_of(set).map(|m| committee[m as usize].min(1)).sum()'),
 ('reference.rs','if in_set(held.certificate.proposal.previous, anchor) {','{'),
@@ -49,7 +49,7 @@ M=[
 ('reference.rs','(1..=1_000).contains(&amount)','(0..=1_000).contains(&amount)'),
 ('reference.rs','(1..=1_000).contains(&amount)','(1..=1_001).contains(&amount)'),
 ('reference.rs','            Transaction::Unbond { member } => member < MEMBERS,','            Transaction::Unbond { .. } => true,'),
-('reference.rs','let mut after = match self.chain.last() {\n                Some(block) => block.after,','let mut after = match self.chain.last() {\n                Some(_) => self.settings.weights,'),
+('reference.rs','below.last().map_or(settings.weights, |b| b.after)','settings.weights'),
 ('reference.rs','if self.is_held(leader, round) { Some(leader) } else { None }','Some(leader)'),
 ('runner_ref.rs','text.len() + 2 > LONGEST','text.len() + 2 >= LONGEST'),
 ('runner_ref.rs','kept.len() + part.len() > LONGEST','kept.len() + part.len() >= LONGEST'),
@@ -122,6 +122,32 @@ M=[
         Ok(())''','''        self.held[place(self.own, self.round)] = Some(Held { certificate, block: 0 });
         self.proposal = None;
         Ok(())'''),
+# order inside a block: that of document 01; of it alone the committees, the listing
+('reference.rs','let first = leader.unwrap_or(0);','let first = leader.map_or(0, |_| 0);'),
+('reference.rs','for &(r, a) in &certificates {','let mut before = certificates.clone();\n        before.sort();\n        for &(r, a) in &before {'),
+('reference.rs','        Block { round, certificates, after }\n','        certificates.sort();\n        Block { round, certificates, after }\n'),
+# rounds fall; numbers before rounds; one after the leader; back down from 0
+('reference.rs','(round, (author + MEMBERS - first) % MEMBERS)','(u32::MAX - round, (author + MEMBERS - first) % MEMBERS)'),
+('reference.rs','(round, (author + MEMBERS - first) % MEMBERS)','((author + MEMBERS - first) % MEMBERS, round)'),
+('reference.rs','let first = leader.unwrap_or(0);','let first = leader.map_or(0, |l| (l + 1) % MEMBERS);'),
+('reference.rs','(round, (author + MEMBERS - first) % MEMBERS)','(round, if author < first { 2 * MEMBERS - author } else { author })'),
+# another number for each round
+('reference.rs','(round, (author + MEMBERS - first) % MEMBERS)','(round, (author + 65 * MEMBERS - first - round) % MEMBERS)'),
+# by the chain so far, by that with the block, by the starting weights
+('reference.rs','leader(round, bonded_by(settings, below, round - settings.lookback))','leader(round, bonded_by(settings, below, round))'),
+('reference.rs','        put_in_order(&mut certificates, block_leader(settings, below, round));\n','''        let mut with = below.last().map_or(settings.weights, |b| b.after);
+        for &(r, a) in certificates.iter() {
+            for t in &held[place(a, r)].as_ref().unwrap().certificate.proposal.transactions {
+                change(&mut with, t);
+            }
+        }
+        put_in_order(&mut certificates, leader(round, &with));
+'''),
+('reference.rs','leader(round, bonded_by(settings, below, round - settings.lookback))','leader(round, &settings.weights)'),
+# the leader of the next even round; the first member of the committee
+('reference.rs','leader(round, bonded_by(settings, below, round - settings.lookback))','leader(round + 2, bonded_by(settings, below, round - settings.lookback))'),
+('reference.rs','leader(round, bonded_by(settings, below, round - settings.lookback))','leader(0, bonded_by(settings, below, round - settings.lookback))'),
+('reference.rs','        leader(round, &settings.weights)\n','        leader(0, &settings.weights)\n'),
 ]
 work = os.path.join(base, 'mutants')
 os.makedirs(work, exist_ok=True)

@@ -1,7 +1,9 @@
 #!/usr/bin/env python3
-"""A second writing of the rules and the runner of document 01, as a check on
-the first: no caches, everything worked out from the state each time it is
-asked, dictionaries and sets throughout. Slow on purpose.
+"""A second writing of the rules and the runner of document 01 with the points
+that change it, as a check on the first: no caches, everything worked out from
+the state each time it is asked, dictionaries and sets throughout. Slow on
+purpose. The order inside a block starts with the author of its anchor here,
+with the leader of its round in the first writing.
 
     naive.py < stream > answers
 """
@@ -40,7 +42,7 @@ class Engine:
         self.own, self.round, self.proposal = own, 1, None
         self.held = {}       # (author, round) -> (previous, transactions)
         self.endorsed = set()
-        self.blocks = []     # (round, [(certificate round, author)])
+        self.blocks = []     # (round, [(certificate round, author)]), in order
 
     # committees
     def last(self):
@@ -178,7 +180,9 @@ class Engine:
         for place in reversed(taken):
             used = {c for _, certificates in self.blocks for c in certificates}
             fresh = {(cr, a) for a, cr in self.history(place)} - used
-            self.blocks.append((place[1], sorted(fresh)))
+            turn = [(place[0] + i) % 16 for i in range(16)]
+            self.blocks.append((place[1], [(cr, a) for cr in range(1, place[1] + 1)
+                                           for a in turn if (cr, a) in fresh]))
         return len(taken)
 
     def chain(self):

@@ -201,10 +201,57 @@ pub struct Held {
 pub struct Block {
     /// The round of its anchor.
     pub round: u32,
-    /// (round, author), by round, then author.
+    /// (round, author), in the order of `put_in_order`.
     pub certificates: Vec<(u32, u32)>,
     /// The starting committee changed by all blocks up to and with this one.
     pub after: Committee,
+}
+
+/// The order inside a block (point 2): rounds rise; within a round numbers
+/// rise from that of the leader of the block's round, with 0 after 15. Where
+/// that round has no leader, numbers just rise.
+pub fn put_in_order(certificates: &mut [(u32, u32)], leader: Option<u32>) {
+    let first = leader.unwrap_or(0);
+    certificates.sort_by_key(|&(round, author)| (round, (author + MEMBERS - first) % MEMBERS));
+}
+
+/// The starting committee changed by all blocks of a chain of rounds below s.
+pub fn bonded_by<'a>(settings: &'a Settings, chain: &'a [Block], s: u32) -> &'a Committee {
+    let below = chain.partition_point(|b| b.round < s);
+    if below == 0 { &settings.weights } else { &chain[below - 1].after }
+}
+
+/// The leader of a block's round, by the chain below the block. A block of its
+/// round or a later one changes no committee of its round, so the whole chain
+/// tells the same. Where the leader's certificate is held it is the anchor.
+pub fn block_leader(settings: &Settings, below: &[Block], round: u32) -> Option<u32> {
+    if round <= settings.lookback {
+        leader(round, &settings.weights)
+    } else {
+        leader(round, bonded_by(settings, below, round - settings.lookback))
+    }
+}
+
+impl Block {
+    /// The block of these certificates on the chain below it: in order, and
+    /// with what their transactions, applied in that order, make of the weights.
+    pub fn on(
+        below: &[Block],
+        settings: &Settings,
+        round: u32,
+        mut certificates: Vec<(u32, u32)>,
+        held: &[Option<Held>],
+    ) -> Block {
+        put_in_order(&mut certificates, block_leader(settings, below, round));
+        let mut after = below.last().map_or(settings.weights, |b| b.after);
+        for &(r, a) in &certificates {
+            let there = held[place(a, r)].as_ref().expect("a block's certificates are held");
+            for t in &there.certificate.proposal.transactions {
+                change(&mut after, t);
+            }
+        }
+        Block { round, certificates, after }
+    }
 }
 
 #[derive(Clone, Debug)]
@@ -307,8 +354,7 @@ impl Member {
         if s > self.last_block_round() + 2 {
             return None;
         }
-        let below = self.chain.partition_point(|b| b.round < s);
-        Some(if below == 0 { &self.settings.weights } else { &self.chain[below - 1].after })
+        Some(bonded_by(&self.settings, &self.chain, s))
     }
 
     /// The committee of a round, nothing when it is not known.
@@ -576,10 +622,6 @@ impl Member {
         let count = taken.len() as u32;
         for (round, history) in taken.into_iter().rev() {
             let number = self.chain.len() as u32 + 1;
-            let mut after = match self.chain.last() {
-                Some(block) => block.after,
-                None => self.settings.weights,
-            };
             let mut certificates = Vec::new();
             for r in 1..=round {
                 for a in members_of(history[r as usize]) {
@@ -587,13 +629,10 @@ impl Member {
                     if held.block == 0 {
                         held.block = number;
                         certificates.push((r, a));
-                        for t in &held.certificate.proposal.transactions {
-                            change(&mut after, t);
-                        }
                     }
                 }
             }
-            self.chain.push(Block { round, certificates, after });
+            self.chain.push(Block::on(&self.chain, &self.settings, round, certificates, &self.held));
         }
         Ok(count)
     }

@@ -10,9 +10,14 @@
 //! - chaos: calls with random values, whatever the answer.
 //! - malformed: mostly unreadable records between a few readable ones.
 //!
+//! In two of five network and puppet stretches one or two members are
+//! contested: bonded by some authors and unbonded by others in the same round,
+//! with a small lookback, so that the order inside a block decides committees.
+//!
 //! Wrong and unreadable records are mixed into all of them. `shuffle SEED
 //! agree` also compares, on standard error, the chains of the correct members
-//! of network stretches.
+//! of network stretches. `shuffle SEED members DIRECTORY` writes there, of one
+//! network stretch, the stream of each correct member.
 
 #![allow(dead_code)]
 
@@ -243,6 +248,23 @@ fn random_sheet(rng: &mut Rng) -> Sheet {
     sheet
 }
 
+/// A sheet for a stretch in which members contest: changed committees are due
+/// soon, transactions are allowed, and there are several authors to a round.
+fn contest_sheet(rng: &mut Rng) -> Sheet {
+    use Setting::{Blank, Written};
+    let mut sheet = random_sheet(rng);
+    sheet.lookback = Written(rng.pick(&[1, 2, 2, 3, 3, 4, 5, 6, 8, 12]));
+    sheet.ceiling = Written(rng.between(16, 64));
+    sheet.allowance = rng.pick(&[Blank, Written(1), Written(2), Written(3)]);
+    if sheet.fill().unwrap().weights.iter().filter(|&&w| w > 0).count() < 3 {
+        for m in 0..16 {
+            sheet.weights[m] = Written(rng.pick(&[0, 1, 1, 2]));
+        }
+        sheet.weights[rng.below(16) as usize] = Written(1);
+    }
+    sheet
+}
+
 fn bad_open(rng: &mut Rng) -> Record {
     use Setting::{Blank, Written};
     let mut sheet = random_sheet(rng);
@@ -276,11 +298,31 @@ struct Market {
     leaving: Set,
     /// Of 1,000 possible transactions, how many are there.
     busy: u32,
+    /// Who is bonded by some authors and unbonded by others in the same round,
+    /// so that the order inside a block decides; of 1,000 transactions, how
+    /// many do so.
+    contested: Set,
+    contests: u32,
+}
+
+/// A market where one or two members are contested, more often than not such
+/// as started outside.
+fn contest_market(rng: &mut Rng, present: Set, started: Set, keep: Set) -> Market {
+    let among = if present & !started != 0 && rng.chance(600) { present & !started } else { present };
+    let mut market = random_market(rng, present, keep);
+    for _ in 0..rng.between(1, 2) {
+        market.contested |= rng.member_of(among).map_or(0, single);
+    }
+    market.contests = rng.pick(&[300, 500, 800]);
+    market.busy = market.busy.max(300);
+    market
 }
 
 fn random_market(rng: &mut Rng, present: Set, keep: Set) -> Market {
     let wild = rng.chance(120);
     Market {
+        contested: 0,
+        contests: 0,
         bonds: rng.pick(&[0, 200, 400, 700]),
         unbonds: rng.pick(&[0, 0, 30, 150, 300]),
         amount: rng.pick(&[1, 2, 5, 20, 1_000]),
@@ -294,6 +336,15 @@ fn random_transactions(rng: &mut Rng, market: &Market, allowance: u32) -> Vec<Tr
     let mut all = Vec::new();
     for _ in 0..allowance {
         if !rng.chance(market.busy) {
+            continue;
+        }
+        if market.contested != 0 && rng.chance(market.contests) {
+            let member = rng.member_of(market.contested).unwrap();
+            all.push(if rng.chance(500) {
+                Transaction::Unbond { member }
+            } else {
+                Transaction::Bond { member, amount: rng.between(1, market.amount) }
+            });
             continue;
         }
         let sort = rng.below(1_000) as u32;
@@ -571,6 +622,8 @@ struct Node {
     correct: bool,
     /// The engine; the stream's own engine stands in for the chosen member.
     runner: Runner,
+    /// What it was called with; kept where the streams of all are asked for.
+    bytes: Vec<u8>,
     waiting_proposals: Vec<Rc<Proposal>>,
     waiting_certificates: Vec<Rc<Certificate>>,
     progress: bool,
@@ -597,6 +650,8 @@ struct Network<'a> {
     chosen: u32,
     present: Set,
     correct: Set,
+    /// The streams of all members are asked for.
+    all: bool,
     forge: bool,
     equivocate: u32,
     market: Market,
@@ -629,6 +684,11 @@ impl Network<'_> {
         let outcome = if i == self.chosen {
             self.stream.call(record)
         } else {
+            if self.all {
+                let text = text_of(record);
+                self.node(i).bytes.extend_from_slice(&text);
+                self.node(i).bytes.extend_from_slice(b"\r\n");
+            }
             let mut lines = Vec::new();
             self.node(i).runner.answer(Some(record), &mut lines)
         };
@@ -1002,8 +1062,23 @@ fn random_set(rng: &mut Rng) -> Set {
     rng.next() as Set
 }
 
-fn network(rng: &mut Rng, stream: &mut Stream, report: bool) {
-    let sheet = random_sheet(rng);
+/// What is asked of a network stretch beside the chosen member's records.
+#[derive(Clone, Copy)]
+enum Asked {
+    Nothing,
+    /// Whether the chains agree, on standard error.
+    Report,
+    /// The streams of all correct members.
+    All,
+}
+
+/// The streams of the correct members, where they are asked for and the
+/// promise is due.
+type Streams = Option<Vec<(u32, Vec<u8>)>>;
+
+fn network(rng: &mut Rng, stream: &mut Stream, asked: Asked) -> Streams {
+    let contest = rng.chance(400);
+    let sheet = if contest { contest_sheet(rng) } else { random_sheet(rng) };
     let settings = sheet.fill().unwrap();
     let weights = settings.weights;
     let started: Set = (0..16).filter(|&m| weights[m as usize] > 0).map(single).fold(0, |a, b| a | b);
@@ -1017,7 +1092,8 @@ fn network(rng: &mut Rng, stream: &mut Stream, report: bool) {
     let mut faulty_weight = 0;
     let mut numbers: Vec<u32> = (0..16).collect();
     rng.shuffle(&mut numbers);
-    let close = settings.lookback <= 2; // each anchor has to be committed
+    // Each anchor has to be committed, or should be.
+    let close = settings.lookback <= 2 || contest && rng.chance(600);
     let want_faulty = rng.chance(if close { 250 } else { 650 });
     for m in numbers {
         let w = weights[m as usize];
@@ -1060,10 +1136,14 @@ fn network(rng: &mut Rng, stream: &mut Stream, report: bool) {
             continue;
         }
         let mut runner = Runner::default();
-        runner.answer(Some(&Record::Open { own: m, sheet }), &mut Vec::new());
+        let open = Record::Open { own: m, sheet };
+        runner.answer(Some(&open), &mut Vec::new());
+        let mut bytes = text_of(&open);
+        bytes.extend_from_slice(b"\r\n");
         nodes.push(Some(Node {
             correct: in_set(correct, m),
             runner,
+            bytes,
             waiting_proposals: Vec::new(),
             waiting_certificates: Vec::new(),
             progress: false,
@@ -1079,7 +1159,11 @@ fn network(rng: &mut Rng, stream: &mut Stream, report: bool) {
     }
     stream.call(&Record::Open { own: chosen, sheet });
     let slow = if rng.chance(300) { random_set(rng) & random_set(rng) & random_set(rng) } else { 0 };
-    let market = random_market(rng, present, started & correct);
+    let market = if contest {
+        contest_market(rng, present, started, started & correct)
+    } else {
+        random_market(rng, present, started & correct)
+    };
     let equivocate = rng.pick(&[0, 300, 800]);
     let late = rng.pick(&[0, 20, 60, 150]);
     let twice = rng.pick(&[0, 30, 150]);
@@ -1093,6 +1177,7 @@ fn network(rng: &mut Rng, stream: &mut Stream, report: bool) {
         chosen,
         present,
         correct: correct & present,
+        all: matches!(asked, Asked::All),
         forge,
         equivocate,
         market,
@@ -1107,15 +1192,31 @@ fn network(rng: &mut Rng, stream: &mut Stream, report: bool) {
         last_change: 0,
     };
     network.run();
-    if report {
+    if let Asked::Report = asked {
         let blocks: Vec<usize> = members_of(network.correct).map(|i| network.member(i).chain().len()).collect();
         match network.agree() {
             None => eprintln!("agree void {blocks:?}"),
             Some(yes) => eprintln!("agree {yes} {blocks:?}"),
         }
     }
-    let (rng, stream, pool) = (network.rng, network.stream, network.pool);
+    let due = network.all && network.agree().is_some();
+    let (rng, stream, pool, nodes) = (network.rng, network.stream, network.pool, network.nodes);
     finish(rng, stream, &pool, &market);
+    if !due {
+        return None;
+    }
+    let mut streams = Vec::new();
+    for (m, node) in (0..).zip(nodes) {
+        match node {
+            _ if m == chosen => streams.push((m, stream.bytes.clone())),
+            Some(mut node) if node.correct => {
+                node.bytes.extend_from_slice(b"chain\r\n");
+                streams.push((m, node.bytes));
+            }
+            _ => {}
+        }
+    }
+    Some(streams)
 }
 
 /// The rest of the rounds, with a commit now and then, and the chain.
@@ -1152,9 +1253,10 @@ fn fitting_endorsers(rng: &mut Rng, author: u32, committee: &Committee) -> Set {
 }
 
 fn puppet(rng: &mut Rng, stream: &mut Stream) {
-    let mut sheet = random_sheet(rng);
+    let contest = rng.chance(400);
+    let mut sheet = if contest { contest_sheet(rng) } else { random_sheet(rng) };
     // A braid: few members, each names one or two, few rounds vote.
-    let braid = rng.chance(300);
+    let braid = rng.chance(if contest { 100 } else { 400 });
     if braid {
         sheet.lookback = Setting::Written(rng.between(10, 70));
         sheet.ceiling = Setting::Written(rng.between(16, 64));
@@ -1167,11 +1269,16 @@ fn puppet(rng: &mut Rng, stream: &mut Stream) {
     let started: Set = (0..16).filter(|&m| settings.weights[m as usize] > 0).map(single).fold(0, |a, b| a | b);
     let own = if rng.chance(850) { rng.member_of(started).unwrap() } else { rng.between(0, 15) };
     stream.call(&Record::Open { own, sheet });
-    let market = random_market(rng, 0xffff, started);
+    let market = if contest {
+        contest_market(rng, 0xffff, started, started)
+    } else {
+        random_market(rng, 0xffff, started)
+    };
     let mut pool = Pool::default();
     let density = rng.pick(&[400, 600, 800, 950]);
     let links = rng.pick(&[40, 100, 200, 400, 900]);
-    let close = settings.lookback <= 3; // an anchor left out may end the run
+    // An anchor left out may end the run, and with it what is contested.
+    let close = settings.lookback <= 3 || contest && rng.chance(700);
     let voting = if close { 1_000 } else { rng.pick(&[200, 500, 800]) }; // odd rounds that vote
     let shun = rng.pick(&[0, 500, 900]); // in the others, how many leave out the leader
     let leading = if close { 1_000 } else { rng.pick(&[300, 700, 900, 1_000]) };
@@ -1349,10 +1456,22 @@ fn malformed(rng: &mut Rng, stream: &mut Stream) {
 
 // ----------------------------------------------------------------- main ---
 
+impl Rng {
+    fn of(seed: u64) -> Rng {
+        Rng(seed.wrapping_mul(0xd134_2543_de82_ef95) ^ 0x5851_f42d_4c95_7f2d)
+    }
+}
+
+impl Stream {
+    fn new() -> Stream {
+        Stream { bytes: Vec::new(), runner: Runner::default(), answers: Vec::new() }
+    }
+}
+
 fn generate(seed: u64, sort: Option<&str>, report: bool) -> Vec<u8> {
-    let mut rng = Rng(seed.wrapping_mul(0xd134_2543_de82_ef95) ^ 0x5851_f42d_4c95_7f2d);
-    let rng = &mut rng;
-    let mut stream = Stream { bytes: Vec::new(), runner: Runner::default(), answers: Vec::new() };
+    let rng = &mut Rng::of(seed);
+    let mut stream = Stream::new();
+    let asked = if report { Asked::Report } else { Asked::Nothing };
 
     // Before an open.
     if rng.chance(300) {
@@ -1381,7 +1500,9 @@ fn generate(seed: u64, sort: Option<&str>, report: bool) -> Vec<u8> {
             _ => drawn,
         };
         match drawn {
-            0..=8 => network(rng, &mut stream, report),
+            0..=8 => {
+                network(rng, &mut stream, asked);
+            }
             9..=15 => puppet(rng, &mut stream),
             16 | 17 => chaos(rng, &mut stream),
             _ => malformed(rng, &mut stream),
@@ -1399,14 +1520,38 @@ fn generate(seed: u64, sort: Option<&str>, report: bool) -> Vec<u8> {
     stream.bytes
 }
 
+/// One network stretch: the streams of its correct members, as N.stream.
+fn write_members(seed: u64, directory: &str) -> std::io::Result<()> {
+    match network(&mut Rng::of(seed), &mut Stream::new(), Asked::All) {
+        None => println!("void"),
+        Some(streams) => {
+            for (member, bytes) in &streams {
+                std::fs::write(format!("{directory}/{member}.stream"), bytes)?;
+            }
+            println!("due");
+        }
+    }
+    Ok(())
+}
+
 fn main() {
     let mut args = std::env::args().skip(1);
     let seed = args.next().and_then(|s| s.parse::<u64>().ok());
     let Some(seed) = seed else {
         eprintln!("use: shuffle SEED [network | puppet | chaos | malformed] [agree] > stream");
+        eprintln!("     shuffle SEED members DIRECTORY");
         std::process::exit(2);
     };
     let rest: Vec<String> = args.collect();
+    if let [name, directory] = &rest[..] {
+        if name == "members" {
+            if let Err(e) = write_members(seed, directory) {
+                eprintln!("{e}");
+                std::process::exit(2);
+            }
+            return;
+        }
+    }
     let report = rest.iter().any(|s| s == "agree");
     let sort = rest.iter().map(String::as_str).find(|s| *s != "agree");
     let bytes = generate(seed, sort, report);

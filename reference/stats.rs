@@ -1,11 +1,16 @@
 //! `stats STREAM...` runs streams through the reference and counts, for each
 //! sort of record, how often each answer came; commits also by their count.
+//! Of the chains at the end of each stretch it counts what the order inside a
+//! block has changed: blocks whose certificates do not go by round, then
+//! author, as in document 01, and committees, leaders and quorum weights that
+//! the same blocks would not give in that order.
 
 #![allow(dead_code)]
 
 #[path = "runner_ref.rs"]
 mod runner_ref;
 
+use runner_ref::reference::{change, leader, quorum_weight, total, Committee, Member};
 use runner_ref::{for_each_record, read_record, Outcome, Record, Runner};
 use std::collections::BTreeMap;
 
@@ -23,20 +28,76 @@ fn name(record: Option<&Record>) -> &'static str {
     }
 }
 
+/// Chains against those of the order of document 01.
+#[derive(Default)]
+struct Order {
+    blocks: u64,
+    turned: u64,
+    committees: u64,
+    other: u64,
+    leaders: u64,
+    quorums: u64,
+}
+
+impl Order {
+    fn count(&mut self, member: &Member) {
+        let settings = member.settings();
+        let mut after = settings.weights;
+        let mut afters: Vec<(u32, Committee)> = Vec::new();
+        for block in member.chain() {
+            let mut before = block.certificates.clone();
+            before.sort();
+            self.blocks += 1;
+            self.turned += u64::from(before != block.certificates);
+            for (round, author) in before {
+                let held = member.held_at(author, round).expect("a block's certificates are held");
+                held.certificate.proposal.transactions.iter().for_each(|t| change(&mut after, t));
+            }
+            afters.push((block.round, after));
+        }
+        for r in settings.lookback + 1..=settings.ceiling {
+            let Some(committee) = member.committee_of(r) else { break };
+            let below = afters.partition_point(|(round, _)| *round < r - settings.lookback);
+            let before = if below == 0 { &settings.weights } else { &afters[below - 1].1 };
+            self.committees += 1;
+            self.other += u64::from(before != committee);
+            self.leaders += u64::from(r % 2 == 0 && leader(r, before) != leader(r, committee));
+            self.quorums += u64::from(quorum_weight(total(before)) != quorum_weight(total(committee)));
+        }
+    }
+
+    fn add(&mut self, other: &Order) {
+        self.blocks += other.blocks;
+        self.turned += other.turned;
+        self.committees += other.committees;
+        self.other += other.other;
+        self.leaders += other.leaders;
+        self.quorums += other.quorums;
+    }
+}
+
 fn main() {
     let mut answers: BTreeMap<&str, BTreeMap<u32, u64>> = BTreeMap::new();
     let mut counts: BTreeMap<u32, u64> = BTreeMap::new();
     let (mut streams, mut with_one, mut with_two, mut records, mut bytes) = (0, 0, 0, 0u64, 0);
+    let (mut order, mut turned, mut other) = (Order::default(), 0, 0);
     for path in std::env::args().skip(1) {
         let stream = std::fs::read(&path).expect("a stream");
         let mut runner = Runner::default();
         let mut lines = Vec::new();
         let (mut one, mut two) = (0, 0);
+        let mut here = Order::default();
         bytes += stream.len();
         streams += 1;
         for_each_record(&mut &stream[..], |text| {
             let record = text.and_then(read_record);
             lines.clear();
+            if let (Some(Record::Open { .. }), Some(member)) = (&record, &runner.member) {
+                if let Outcome::Accepted = runner.clone().answer(record.as_ref(), &mut lines) {
+                    here.count(member);
+                }
+                lines.clear();
+            }
             let outcome = runner.answer(record.as_ref(), &mut lines);
             let number = match outcome {
                 Outcome::Accepted => 0,
@@ -53,6 +114,10 @@ fn main() {
             Ok(())
         })
         .unwrap();
+        runner.member.iter().for_each(|member| here.count(member));
+        order.add(&here);
+        turned += u32::from(here.turned > 0);
+        other += u32::from(here.other > 0);
         with_one += u32::from(one > 0);
         with_two += u32::from(two > 0);
     }
@@ -62,6 +127,12 @@ fn main() {
     let two: u64 = counts.range(2..).map(|(_, n)| n).sum();
     println!("commits of 1 block or more {one}, of 2 or more {two}");
     println!("commits by count {counts:?}");
+    println!("blocks {}, not by round, then author {} (streams {turned})", order.blocks, order.turned);
+    println!(
+        "committees after blocks {}, other than in that order {} (streams {other}), \
+         with other leaders {}, with other quorum weights {}",
+        order.committees, order.other, order.leaders, order.quorums
+    );
     for (call, by_number) in &answers {
         print!("{call}:");
         for (number, times) in by_number {

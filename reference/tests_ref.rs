@@ -1,6 +1,7 @@
 //! `rustc --test tests_ref.rs`: the cases marked P in document 01, the slips
-//! it wants ruled out, the example, small runs worked out by hand, and the
-//! shortcuts of the reference compared with the plain definitions.
+//! it wants ruled out, the example, small runs worked out by hand, the order
+//! inside a block, and the shortcuts of the reference compared with the plain
+//! definitions.
 
 #![allow(dead_code)]
 
@@ -299,7 +300,7 @@ fn a_block_leaves_endorsers_alone() {
         m.chain()[0].certificates.clone()
     };
     let all = run(|a| 15 & !single(a));
-    assert_eq!(all, [(1, 0), (1, 1), (1, 2), (1, 3), (2, 1)]);
+    assert_eq!(all, [(1, 1), (1, 2), (1, 3), (1, 0), (2, 1)]);
     assert_eq!(all, run(|a| 15 & !single(a) & !single((a + 1) % 4)));
 }
 
@@ -312,9 +313,85 @@ fn order_within_a_block() {
         m.accept(&certificate(a, 3, 15, 15 & !single(a), &[])).unwrap();
     }
     assert_eq!(m.commit(), Ok(1));
-    assert_eq!(m.chain()[0].certificates, [(1, 0), (1, 1), (1, 2), (1, 3), (2, 1)]);
+    assert_eq!(m.chain()[0].certificates, [(1, 1), (1, 2), (1, 3), (1, 0), (2, 1)]);
     assert_eq!(m.read_certificate(0, 2), Ok((&proposal(0, 2, 15, &[]), 14, 0)));
     assert_eq!(m.read_certificate(2, 1), Ok((&proposal(2, 1, 0, &[entry(2)]), 11, 1)));
+}
+
+// ------------------------------------------------- order inside a block ---
+
+#[test]
+fn a_full_round_reads_2_3_0_1() {
+    let order = |leader, members: &[u32]| {
+        let mut all: Vec<(u32, u32)> = [3, 1, 2].iter().flat_map(|&r| members.iter().map(move |&m| (r, m))).collect();
+        put_in_order(&mut all, leader);
+        assert!(all.chunks(members.len()).zip(1..).all(|(row, r)| row.iter().all(|c| c.0 == r)), "rounds rise");
+        let rows: Vec<Vec<u32>> = all.chunks(members.len()).map(|row| row.iter().map(|c| c.1).collect()).collect();
+        assert!(rows.iter().all(|row| *row == rows[0]), "one leader for all rounds");
+        rows[0].clone()
+    };
+    assert_eq!(order(Some(2), &[0, 1, 2, 3]), [2, 3, 0, 1]);
+    assert_eq!(order(Some(0), &[0, 1, 2, 3]), [0, 1, 2, 3]);
+    assert_eq!(order(None, &[0, 1, 2, 3]), [0, 1, 2, 3]);
+    assert_eq!(order(Some(15), &[15, 14, 1, 0]), [15, 0, 1, 14]);
+    assert_eq!(order(Some(14), &[15, 14, 1, 0]), [14, 15, 0, 1]);
+    // The leader need not be there.
+    assert_eq!(order(Some(2), &[0, 1, 3]), [3, 0, 1]);
+    assert_eq!(order(Some(9), &[0, 1, 3]), [0, 1, 3]);
+}
+
+#[test]
+fn order_decides_committees() {
+    // The leader of 2 is member 1, so round 1 reads 1, 2, 3, 0.
+    let after = |of_0: &[Transaction], of_1: &[Transaction]| {
+        let mut m = Member::open(0, &sheet(Written(1), Blank, Blank, &[]), 1_024).unwrap();
+        for a in 0..4 {
+            let transactions = if a == 0 { of_0 } else if a == 1 { of_1 } else { &[] };
+            m.accept(&certificate(a, 1, 0, 15 & !single(a), transactions)).unwrap();
+        }
+        m.accept(&certificate(1, 2, 15, 13, &[])).unwrap();
+        for a in [0, 2] {
+            m.accept(&certificate(a, 3, 2, 15 & !single(a), &[])).unwrap();
+        }
+        m.advance().unwrap();
+        m.advance().unwrap();
+        assert_eq!(m.commit(), Ok(1));
+        m.read_committee(4).unwrap()
+    };
+    assert_eq!(after(&[bond(2, 5)], &[unbond(2)])[2], 5);
+    assert_eq!(after(&[unbond(2)], &[bond(2, 5)])[2], 0);
+    assert_eq!(after(&[unbond(2), bond(2, 7)], &[bond(2, 5)])[2], 7);
+    assert_eq!(after(&[bond(2, 5)], &[bond(2, 7)])[2], 13);
+}
+
+/// A chain that no run makes: the block of round 2 unbonds everybody, so with
+/// lookback 1 round 4 has no leader; certificates of any round may be marked.
+#[test]
+fn without_a_leader_numbers_just_rise() {
+    let settings = sheet(Written(1), Written(8), Blank, &[0, 0, 1, 0]).fill().unwrap();
+    let mut held: Vec<Option<Held>> = vec![None; 8 * 16];
+    let mut hold = |a: u32, r: u32, transactions: Vec<Transaction>| {
+        let certificate = certificate(a, r, u16::from(r > 1), 0, &transactions);
+        held[((r - 1) * 16 + a) as usize] = Some(Held { certificate, block: 1 });
+    };
+    for a in 0..4 {
+        hold(a, 1, if a == 1 { vec![unbond(2)] } else { vec![] });
+        hold(a, 5, if a == 3 { vec![bond(3, 2)] } else { vec![] });
+        hold(a, 7, vec![]);
+    }
+    let row = |r| (0..4).map(move |a| (r, a)).collect::<Vec<_>>();
+    let mut chain: Vec<Block> = Vec::new();
+    for (round, r) in [(2, 1), (4, 5), (6, 7)] {
+        let block = Block::on(&chain, &settings, round, row(r), &held);
+        chain.push(block);
+    }
+    assert_eq!(block_leader(&settings, &chain, 2), Some(2));
+    assert_eq!(chain[0].certificates, [(1, 2), (1, 3), (1, 0), (1, 1)]);
+    assert_eq!(total(&chain[0].after), 0);
+    assert_eq!(block_leader(&settings, &chain, 4), None);
+    assert_eq!(chain[1].certificates, [(5, 0), (5, 1), (5, 2), (5, 3)]);
+    assert_eq!(block_leader(&settings, &chain, 6), Some(3));
+    assert_eq!(chain[2].certificates, [(7, 3), (7, 0), (7, 1), (7, 2)]);
 }
 
 #[test]
@@ -433,16 +510,32 @@ impl Rng {
     }
 }
 
-fn plain_bonded(m: &Member, s: u32) -> Committee {
+/// The first `below` blocks, as far as their rounds are below s, each in its
+/// own order; nothing is kept.
+fn plain_bonded(m: &Member, below: usize, s: u32) -> Committee {
     let mut c = m.settings().weights;
-    for block in m.chain().iter().filter(|b| b.round < s) {
-        for &(r, a) in &block.certificates {
+    for k in (0..below).filter(|&k| m.chain()[k].round < s) {
+        for (r, a) in plain_block(m, k) {
             for t in &m.held_at(a, r).unwrap().certificate.proposal.transactions {
                 change(&mut c, t);
             }
         }
     }
     c
+}
+
+/// The certificates marked with the number of the block after the first k, by
+/// keys that count up: of key q the round is q / 16 and the member
+/// (q + first) mod 16, first being the leader's number and 16 for none.
+fn plain_block(m: &Member, k: usize) -> Vec<(u32, u32)> {
+    let (round, lookback) = (m.chain()[k].round, m.settings().lookback);
+    let committee =
+        if round <= lookback { m.settings().weights } else { plain_bonded(m, k, round - lookback) };
+    let first = leader(round, &committee).unwrap_or(16);
+    (16..=16 * m.settings().ceiling + 15)
+        .map(|q| (q / 16, (q + first) % 16))
+        .filter(|&(r, a)| m.held_at(a, r).is_some_and(|held| held.block == k as u32 + 1))
+        .collect()
 }
 
 fn plain_history(m: &Member, author: u32, round: u32) -> BTreeSet<(u32, u32)> {
@@ -461,7 +554,7 @@ fn plain_history(m: &Member, author: u32, round: u32) -> BTreeSet<(u32, u32)> {
 #[test]
 fn shortcuts() {
     let mut rng = Rng(0x1234_5678_9abc_def1);
-    let mut blocks = 0;
+    let (mut blocks, mut turned) = (0, 0);
     for _ in 0..300 {
         let weights: Vec<u32> = (0..16).map(|_| rng.below(4) as u32).collect();
         let lookback = 1 + rng.below(8) as u32;
@@ -506,7 +599,7 @@ fn shortcuts() {
             let known = s <= m.last_block_round() + 2;
             assert_eq!(m.bonded_committee(s).is_some(), known);
             if known {
-                assert_eq!(*m.bonded_committee(s).unwrap(), plain_bonded(&m, s));
+                assert_eq!(*m.bonded_committee(s).unwrap(), plain_bonded(&m, m.chain().len(), s));
             }
         }
         for r in 1..=24 {
@@ -520,16 +613,18 @@ fn shortcuts() {
         for (i, block) in m.chain().iter().enumerate() {
             assert!(block.round % 2 == 0 && block.round > last && block.round < 24);
             last = block.round;
-            let mut marked = Vec::new();
-            for r in 1..=24 {
-                for a in members_of(m.held_authors(r)) {
-                    if m.held_at(a, r).unwrap().block == i as u32 + 1 {
-                        marked.push((r, a));
-                    }
-                }
-            }
-            assert_eq!(marked, block.certificates);
+            assert_eq!(plain_block(&m, i), block.certificates);
+            // The anchor is its only certificate of its round, and the last.
+            let (anchor, others) = block.certificates.split_last().unwrap();
+            assert_eq!(anchor.0, block.round);
+            assert!(others.iter().all(|c| c.0 < block.round));
+            let first = block_leader(m.settings(), &m.chain()[..i], block.round);
+            assert_eq!(first, Some(anchor.1));
+            assert_eq!(first, leader(block.round, m.committee_of(block.round).unwrap()));
+            let mut before = block.certificates.clone();
+            before.sort();
+            turned += u32::from(before != block.certificates);
         }
     }
-    assert!(blocks > 300, "{blocks}");
+    assert!(blocks > 300 && turned > 150, "{blocks} {turned}");
 }

@@ -193,11 +193,23 @@ impl Held {
     }
 }
 
-/// A block as it is read: its round, and (round, author) of each certificate.
+/// A block as it is read: its round, and (round, author) of each certificate, in order.
 #[derive(Clone, PartialEq, Eq, Debug)]
 pub struct Block {
     pub round: u32,
     pub certificates: Vec<(u32, u32)>,
+}
+
+/// The leader of an even round, by the weights of its committee: of the m members by rising
+/// number, the one at position (round / 2) mod m. An empty committee has none, and so has an
+/// odd round.
+pub fn leader(round: u32, weights: &[u32; MEMBERS]) -> Option<u32> {
+    if round % 2 != 0 || round == 0 {
+        return None;
+    }
+    let members: Vec<u32> = (0..).zip(weights).filter(|(_, &weight)| weight > 0).map(|(member, _)| member).collect();
+    let position = (round as usize / 2).checked_rem(members.len())?;
+    Some(members[position])
 }
 
 /// The settings: `None` is blank. `Sheet::default()` is all blank.
@@ -428,8 +440,10 @@ impl Engine {
         (self.state[21] == 1).then(|| Proposal::of(&words))
     }
 
-    /// The chain, by one certificate read for each place up to the last block's round. Within a
-    /// block: by round, then author.
+    /// The chain, by one certificate read for each place up to the last block's round and one
+    /// committee read for each block. Inside a block rounds rise; within a round numbers rise from
+    /// that of the leader of the block's round, with 0 after 15. Where that round has no leader,
+    /// numbers just rise.
     pub fn chain(&self) -> Result<Vec<Block>, Refusal> {
         let rounds = (1..=self.blocks()).map(|number| self.block(number));
         let empty = |round| Block { round, certificates: Vec::new() };
@@ -443,6 +457,14 @@ impl Engine {
                 Ok(_) | Err(Refusal::NoneThere) => {}
                 Err(refusal) => return Err(refusal),
             }
+        }
+        for block in &mut chain {
+            // Never 8: the committee of a round up to the last block's is known. Blocks of the
+            // block's round and above change none of its weights, so the whole chain tells what
+            // the chain below the block told.
+            let first = leader(block.round, &self.committee(block.round)?).unwrap_or(0);
+            let members = MEMBERS as u32;
+            block.certificates.sort_by_key(|&(round, author)| (round, (author + members - first) % members));
         }
         Ok(chain)
     }
@@ -494,6 +516,101 @@ mod tests {
         assert_eq!(engine.certificate(0, 1).unwrap().proposal.transactions, [entry(7)]);
         assert_eq!(engine.certificate(0, 3).unwrap().block, None);
         refuses(&mut engine, 20, Engine::commit);
+    }
+
+    /// A certificate that the other three of four endorse.
+    fn of_all_four(author: u32, round: u32, previous: Set, transactions: &[Transaction]) -> Certificate {
+        let proposal = Proposal { author, round, previous, transactions: transactions.to_vec() };
+        Certificate { proposal, endorsers: 0b1111 & !(1 << author) }
+    }
+
+    #[test]
+    fn a_full_round_reads_2_3_0_1() {
+        let mut engine = of_four(0);
+        for round in 1..=5 {
+            for author in [3, 0, 2, 1] {
+                let previous = if round == 1 { 0 } else { 0b1111 };
+                engine.accept(&of_all_four(author, round, previous, &[])).unwrap();
+            }
+            if round < 5 {
+                engine.advance().unwrap();
+            }
+        }
+        assert_eq!(engine.commit(), Ok(2));
+        let rounds = |numbers: &[(u32, &[u32])]| -> Vec<(u32, u32)> {
+            numbers.iter().flat_map(|&(round, all)| all.iter().map(move |&author| (round, author))).collect()
+        };
+        let first = Block { round: 2, certificates: rounds(&[(1, &[1, 2, 3, 0]), (2, &[1])]) };
+        let second = Block { round: 4, certificates: rounds(&[(2, &[2, 3, 0]), (3, &[2, 3, 0, 1]), (4, &[2])]) };
+        assert_eq!(engine.chain(), Ok(vec![first, second]));
+    }
+
+    #[test]
+    fn leaders_by_the_committee_read() {
+        let weights = ones(&[0, 1, 14, 15]);
+        let leaders: Vec<_> = [2, 4, 6, 8].map(|round| leader(round, &weights)).into();
+        assert_eq!(leaders, [Some(1), Some(14), Some(15), Some(0)]);
+        assert_eq!(leader(2, &ones(&[])), None);
+    }
+
+    fn ones(members: &[usize]) -> [u32; MEMBERS] {
+        let mut weights = [0; MEMBERS];
+        members.iter().for_each(|&member| weights[member] = 1);
+        weights
+    }
+
+    /// What is no state of a run, and well formed: records written into the table by hand.
+    fn write_record(engine: &mut Engine, author: usize, round: usize, block: u32, transaction: [u32; 3]) {
+        engine.table[272 * round] |= 1 << author;
+        let record = &mut engine.table[272 * round + 16 + 16 * author..][..16];
+        record.fill(0);
+        record[..4].copy_from_slice(&[(round > 1).into(), 1, block, 0]);
+        record[4..7].copy_from_slice(&transaction);
+    }
+
+    #[test]
+    fn where_a_round_has_no_leader_numbers_just_rise() {
+        let mut sheet = Sheet { lookback: Some(1), ceiling: Some(8), ..Sheet::default() };
+        sheet.weights[..4].copy_from_slice(&[Some(0), Some(0), Some(1), Some(0)]);
+        let mut engine = Engine::open(0, &sheet).unwrap();
+        let (entry, unbond_2, bond_3) = ([2, 7, 0], [1, 2, 0], [0, 3, 1]);
+        for author in 0..4 {
+            write_record(&mut engine, author, 1, 1, if author == 1 { unbond_2 } else { entry });
+            write_record(&mut engine, author, 3, 2, if author == 0 { bond_3 } else { entry });
+            write_record(&mut engine, author, 5, 3, entry);
+        }
+        engine.state[22] = 3;
+        (1..=3).for_each(|number| engine.table[272 * number + 2] = 2 * number as u32);
+        assert_eq!(engine.committee(4), Ok([0; MEMBERS]));
+        assert_eq!(engine.committee(6), Ok(ones(&[3])));
+        // Leaders 2, none and 3; no block has an anchor.
+        let orders = [[2, 3, 0, 1], [0, 1, 2, 3], [3, 0, 1, 2]];
+        let blocks = orders.iter().zip([1, 3, 5]).map(|(order, round)| Block {
+            round: round + 1,
+            certificates: order.iter().map(|&author| (round, author)).collect(),
+        });
+        assert_eq!(engine.chain(), Ok(blocks.collect()));
+    }
+
+    /// Member 4 is bonded by 0 and unbonded by 1 in the same round; or the other way.
+    #[test]
+    fn order_decides_committees() {
+        let weight_of_4 = |of_0, of_1| {
+            let mut engine = Engine::open(0, &Sheet { lookback: Some(1), ceiling: Some(8), ..Sheet::default() }).unwrap();
+            engine.accept(&of_all_four(0, 1, 0, &[of_0])).unwrap();
+            engine.accept(&of_all_four(1, 1, 0, &[of_1])).unwrap();
+            engine.accept(&of_all_four(1, 2, 0b0011, &[])).unwrap();
+            engine.accept(&of_all_four(0, 3, 0b0010, &[])).unwrap();
+            engine.accept(&of_all_four(2, 3, 0b0010, &[])).unwrap();
+            engine.advance().unwrap();
+            engine.advance().unwrap();
+            assert_eq!(engine.commit(), Ok(1));
+            assert_eq!(engine.chain().unwrap()[0].certificates, [(1, 1), (1, 0), (2, 1)]);
+            engine.committee(4).unwrap()[4]
+        };
+        let (bond, unbond) = (Transaction::Bond { member: 4, amount: 5 }, Transaction::Unbond { member: 4 });
+        assert_eq!(weight_of_4(bond, unbond), 5);
+        assert_eq!(weight_of_4(unbond, bond), 0);
     }
 
     #[test]

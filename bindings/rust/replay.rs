@@ -1,6 +1,7 @@
 //! `replay STREAM...`: plays streams of records to an engine through the bindings and to the
 //! reference rules at once. Every answer must be the same, and at each chain record and at the
-//! end of a stream every read, with arguments in and out of range.
+//! end of a stream every read, with arguments in and out of range; the chain that the bindings
+//! read must be the reference's listing, to the byte.
 
 mod forgelilac;
 #[path = "../../reference/runner_ref.rs"]
@@ -9,7 +10,7 @@ mod runner_ref;
 use forgelilac::{table_words, Certificate, Engine, Held, Proposal, Refusal, Sheet, Transaction, MEMBERS, STATE_WORDS};
 use runner_ref::reference::{self, Setting};
 use runner_ref::{for_each_record, read_record, Outcome, Record, Runner, SERVES};
-use std::fmt::Debug;
+use std::fmt::{Debug, Write};
 
 fn sheet(sheet: &reference::Sheet) -> Sheet {
     let of = |setting| match setting {
@@ -41,6 +42,26 @@ fn proposal(proposal: &reference::Proposal) -> Proposal {
     }
 }
 
+/// The chain as a runner lists it, by reads of the bindings.
+fn listing(engine: &Engine) -> Result<String, Refusal> {
+    let mut lines = String::new();
+    for (number, block) in (1..).zip(engine.chain()?) {
+        for (round, author) in block.certificates {
+            write!(lines, "{number},{},{round},{author}", block.round).unwrap();
+            for transaction in engine.certificate(author, round)?.proposal.transactions {
+                match transaction {
+                    Transaction::Bond { member, amount } => write!(lines, ",B,{member},{amount}"),
+                    Transaction::Unbond { member } => write!(lines, ",U,{member},0"),
+                    Transaction::Entry { number } => write!(lines, ",E,{number},0"),
+                }
+                .unwrap();
+            }
+            lines.push_str("\r\n");
+        }
+    }
+    Ok(lines)
+}
+
 fn outcome(answer: Result<(), Refusal>) -> Outcome {
     answer.map_or_else(|refusal| Outcome::Refused(refusal.number()), |()| Outcome::Accepted)
 }
@@ -51,12 +72,15 @@ struct Replay {
     runner: Runner,
     records: u64,
     reads: u64,
+    /// Blocks listed, and those that do not go by round, then author.
+    blocks: u64,
+    turned: u64,
 }
 
 impl Replay {
     fn new() -> Replay {
         let closed = Engine::restore([u32::MAX; STATE_WORDS], Vec::new());
-        Replay { engine: closed, runner: Runner::default(), records: 0, reads: 0 }
+        Replay { engine: closed, runner: Runner::default(), records: 0, reads: 0, blocks: 0, turned: 0 }
     }
 
     fn open(&mut self, own: u32, settings: &reference::Sheet) -> Outcome {
@@ -127,11 +151,17 @@ impl Replay {
         }
         let chain = self.engine.chain().map(|blocks| blocks.into_iter().map(|b| (b.round, b.certificates)).collect());
         self.same(chain, Ok(member.chain().iter().map(|b| (b.round, b.certificates.clone())).collect::<Vec<_>>()));
+        let mut listed = Vec::new();
+        self.runner.answer(Some(&Record::Chain), &mut listed);
+        let listed = String::from_utf8(listed).expect("a listing is plain text");
+        self.same(listing(&self.engine).map(|lines| lines + "ok\r\n"), Ok(listed));
+        self.blocks += member.chain().len() as u64;
+        self.turned += member.chain().iter().filter(|block| !block.certificates.is_sorted()).count() as u64;
     }
 }
 
 fn main() -> std::io::Result<()> {
-    let (mut streams, mut records, mut reads) = (0, 0, 0);
+    let (mut streams, mut records, mut reads, mut blocks, mut turned) = (0, 0, 0, 0, 0);
     for path in std::env::args().skip(1) {
         let mut replay = Replay::new();
         let mut input = std::io::BufReader::new(std::fs::File::open(path)?);
@@ -145,7 +175,10 @@ fn main() -> std::io::Result<()> {
         streams += 1;
         records += replay.records;
         reads += replay.reads;
+        blocks += replay.blocks;
+        turned += replay.turned;
     }
     println!("{streams} streams, {records} records, {reads} reads: the same as the reference");
+    println!("{blocks} blocks listed, {turned} of them not by round, then author");
     Ok(())
 }

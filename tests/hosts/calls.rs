@@ -472,6 +472,17 @@ fn wild_round(rng: &mut Rng, member: &Member) -> u32 {
     }
 }
 
+/// For a made-up chain: calls that ask what the blocks have made of the weights.
+pub fn call_on_chain(rng: &mut Rng, member: &Member, pool: &mut Pool) -> Call {
+    let round = rng.between(1, member.settings.ceiling);
+    match rng.below(10) {
+        0..=4 => Call::Committee { round, out: out_stretch(rng, 16) },
+        5 => Call::Share { member: rng.between(0, 15), round },
+        6..=8 => Call::Commit,
+        _ => any_call(rng, member, pool),
+    }
+}
+
 /// For a changed state: every sort of call about as often.
 pub fn any_call(rng: &mut Rng, member: &Member, pool: &mut Pool) -> Call {
     match rng.below(5) {

@@ -6,9 +6,9 @@
 //! what the call may touch. A refused call must have changed nothing.
 //!
 //! First come single words at the edges of their ranges (`edges.rs`), then
-//! calls by chance. Their stretches start from states grown by runs, and from such states
-//! with words changed here and there. Whether a changed state is well formed
-//! is judged by `words.rs`, from the papers.
+//! calls by chance. Their stretches start from states grown by runs, from such states
+//! with words changed here and there, and with chains made up on what they hold. Whether
+//! a changed state is well formed is judged by `words.rs`, from the papers.
 //!
 //! With `--cfg plain` the engine under test is bench/plain.rs.
 
@@ -182,6 +182,16 @@ struct Figures {
     differences: u64,
     blocks: u64,
     most_blocks: u64,
+    /// Chains made up; their blocks, those whose round has no leader, those
+    /// whose leader has no certificate of the block's round in them.
+    chains: u64,
+    made_up: u64,
+    leaderless: u64,
+    unanchored: u64,
+    /// Committees read, and those that the same blocks would not give in the
+    /// order of document 01, by round, then author.
+    committees: u64,
+    other: u64,
     /// Calls by ceiling: up to 40, up to 255, larger.
     sizes: [u64; 3],
 }
@@ -196,6 +206,35 @@ impl Figures {
         }
     }
 
+    /// A committee was read: would it be another by round, then author?
+    fn count_committee(&mut self, member: &Member, round: u32) {
+        let settings = &member.settings;
+        let mut before = settings.weights;
+        let below = round.saturating_sub(settings.lookback);
+        for block in member.chain.iter().filter(|b| b.round < below) {
+            let mut certificates = block.certificates.clone();
+            certificates.sort();
+            for (r, a) in certificates {
+                let held = member.held_at(a, r).expect("a block's certificates are held");
+                held.certificate.proposal.transactions.iter().for_each(|t| change(&mut before, t));
+            }
+        }
+        self.committees += 1;
+        self.other += u64::from(member.committee_of(round) != Some(&before));
+    }
+
+    fn count_chain(&mut self, member: &Member) {
+        self.chains += 1;
+        for (k, block) in member.chain.iter().enumerate() {
+            self.made_up += 1;
+            match block_leader(&member.settings, &member.chain[..k], block.round) {
+                None => self.leaderless += 1,
+                Some(a) if !block.certificates.contains(&(block.round, a)) => self.unanchored += 1,
+                Some(_) => {}
+            }
+        }
+    }
+
     fn print(&self, seed: u64) {
         for (name, answers) in Call::NAMES.iter().zip(&self.answers) {
             let made: u64 = answers.iter().sum();
@@ -205,6 +244,14 @@ impl Figures {
             println!("; refused: {}", list.join(", "));
         }
         println!("blocks made: {}, at most {} at once", self.blocks, self.most_blocks);
+        println!(
+            "chains made up: {}, with {} blocks: {} of a round without a leader, {} without its leader's certificate",
+            self.chains, self.made_up, self.leaderless, self.unanchored
+        );
+        println!(
+            "committees read: {}, other than by round, then author: {}",
+            self.committees, self.other
+        );
         let [small, middle, large] = self.sizes;
         println!("calls by ceiling: {small} up to 40, {middle} up to 255, {large} up to 1,024");
         println!("changed states: {}, of them not well formed: {}", self.changed, self.malformed);
@@ -264,6 +311,9 @@ impl Test {
             node.table.clone_from(&self.before_table);
         }
         self.figures.count(call, expected);
+        if let (Call::Committee { round, .. }, Ok(_), Some(member)) = (call, answer, &node.twin) {
+            self.figures.count_committee(member, *round);
+        }
         self.figures.sizes[size] += 1;
         expected
     }
@@ -290,20 +340,32 @@ impl Test {
     fn changed(&mut self, node: &mut Node, pool: &mut Pool) {
         let mut copy = node.clone();
         let Some(hint) = node.twin.clone() else { return };
-        for _ in 0..1 + self.rng.below(3) {
-            change_word(&mut self.rng, &hint, &mut copy.state, &mut copy.table);
+        let made_up = self.rng.chance(250);
+        if made_up {
+            make_up_chain(&mut self.rng, &hint, &mut copy.state, &mut copy.table);
+        } else {
+            for _ in 0..1 + self.rng.below(3) {
+                change_word(&mut self.rng, &hint, &mut copy.state, &mut copy.table);
+            }
         }
         copy.read_again();
         self.figures.changed += 1;
         self.figures.malformed += u64::from(copy.twin.is_none());
+        if made_up {
+            self.figures.count_chain(copy.twin.as_ref().expect("a chain made up is well formed"));
+        }
         let some = if copy.twin.is_none() { 2 } else { 6 };
         for _ in 0..1 + self.rng.below(some) {
             let hint = copy.twin.as_ref().unwrap_or(&hint);
-            let call = any_call(&mut self.rng, hint, pool);
+            let call = if made_up {
+                call_on_chain(&mut self.rng, hint, pool)
+            } else {
+                any_call(&mut self.rng, hint, pool)
+            };
             let lengths = self.lengths(&copy);
             self.call(&mut copy, &call, lengths);
         }
-        if copy.twin.is_some() && self.rng.chance(100) {
+        if copy.twin.is_some() && self.rng.chance(if made_up { 10 } else { 100 }) {
             *node = copy;
         }
     }

@@ -22,6 +22,10 @@ pub struct Plan {
     commits: u32,
     thick: u32,
     full: u32,
+    /// In 1,000: how often a grown member's transactions are about the
+    /// contested, whom some authors of a round bond and others unbond.
+    contests: u32,
+    contested: u32,
 }
 
 fn any_lookback(rng: &mut Rng, ceiling: u32) -> u32 {
@@ -96,7 +100,26 @@ impl Plan {
             commits: rng.pick(&[0, 50, 300, 700, 1_000]),
             thick: rng.pick(&[500, 800, 950, 1_000]),
             full: rng.pick(&[300, 700, 1_000, 1_000]),
+            contests: rng.pick(&[0, 0, 300, 700]),
+            contested: rng.between(0, 15),
         }
+    }
+
+    fn transaction(&self, rng: &mut Rng) -> Transaction {
+        if rng.chance(self.contests) {
+            contest(rng, self.contested)
+        } else {
+            any_transaction(rng)
+        }
+    }
+}
+
+/// A bond or an unbond of a member.
+fn contest(rng: &mut Rng, member: u32) -> Transaction {
+    if rng.chance(500) {
+        Transaction::Unbond { member }
+    } else {
+        Transaction::Bond { member, amount: rng.pick(&[1, 2, 5, 1_000]) }
     }
 }
 
@@ -118,7 +141,7 @@ pub fn grow(rng: &mut Rng, mut member: Member, to: u32, plan: &Plan) -> Member {
             let thin = rng.thin(before, plan.thick);
             let previous = if thin == 0 { before } else { thin };
             let transactions = (0..rng.between(0, member.settings.allowance))
-                .map(|_| any_transaction(rng))
+                .map(|_| plan.transaction(rng))
                 .collect();
             let proposal = Proposal { author, round, previous, transactions };
             let endorsers = some_quorum(rng, &committee, author);
@@ -215,6 +238,55 @@ pub fn change_word(rng: &mut Rng, member: &Member, state: &mut [u32], table: &mu
         (19, _) => table[rng.below(ROW as u64) as usize] = rng.word(),
         (20, _) => table[row + 3 + rng.below(13) as usize] = rng.word(),
         _ => change_state(rng, member, state),
+    }
+}
+
+/// A chain that no run makes, on the certificates that are held: any even,
+/// rising block rounds; marks in any rows, far below a block or above it; few
+/// members bonded and unbonded by many authors, so that committees are empty
+/// now and then; a short lookback. Such a state is well formed.
+pub fn make_up_chain(rng: &mut Rng, member: &Member, state: &mut [u32], table: &mut [u32]) {
+    let settings = &member.settings;
+    let ceiling = settings.ceiling;
+    let round = rng.between(1, ceiling);
+    let top = if rng.chance(700) { round.saturating_sub(2) } else { ceiling };
+    let (some, mut blocks) = (rng.pick(&[100, 400, 900, 1_000]), 0);
+    for block_round in (2..ceiling).step_by(2) {
+        if block_round <= top && rng.chance(some) {
+            blocks += 1;
+            table[ROW * blocks + 2] = block_round;
+        }
+    }
+    state[1] = rng.pick(&[1, 1, 2, 3, 4, 7, 20]);
+    state[3] = settings.allowance.max(rng.between(1, 4));
+    state[20] = round;
+    state[21] = 0;
+    state[22] = blocks as u32;
+    let few: Vec<u32> = (0..rng.pick(&[1, 1, 2, 3])).map(|_| rng.between(0, 15)).collect();
+    if rng.chance(700) {
+        state[4..20].fill(0);
+        state[4 + rng.pick(&few) as usize] = 1;
+    }
+    let (marked, contests) = (rng.pick(&[300, 900, 1_000]), rng.pick(&[0, 300, 800, 1_000]));
+    let spread = rng.below(3);
+    for row in 1..=ceiling {
+        for author in members_of(member.held_authors(row)) {
+            let record = &mut table[ROW * row as usize + 16 + 16 * author as usize..][..16];
+            record[2] = match spread {
+                _ if blocks == 0 || !rng.chance(marked) => 0,
+                0 => rng.between(1, blocks as u32),
+                1 => (row / 2 + rng.between(0, 2)).clamp(1, blocks as u32),
+                _ => rng.pick(&[1, blocks as u32]),
+            };
+            if rng.chance(contests) {
+                record[1] = rng.between(1, state[3]);
+                for k in 0..record[1] as usize {
+                    let member = rng.pick(&few);
+                    let transaction = contest(rng, member);
+                    record[4 + 3 * k..7 + 3 * k].copy_from_slice(&transaction_words(&transaction));
+                }
+            }
+        }
     }
 }
 

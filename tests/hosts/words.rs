@@ -1,7 +1,7 @@
 //! State, table and argument words as values of the reference, and back.
 //!
-//! Written from document 01 and point 1 (well formed states), docs/TABLES.md
-//! and the host's layouts. `None` stands for "refused with 1": words that
+//! Written from document 01, points 1 (well formed states) and 2 (order inside
+//! a block), docs/TABLES.md and the host's layouts. `None` stands for "refused with 1": words that
 //! cannot be read, or a state that is not well formed.
 
 use crate::reference::*;
@@ -161,39 +161,35 @@ fn read_places(
 }
 
 /// Block rounds are even, rising and below the ceiling; a block's certificates
-/// are those marked with its number, by round, then author.
+/// are those marked with its number, in the order of the rules, whatever rows
+/// they stand in and whether or not the leader of its round is among them.
 fn read_chain(
     table: &[u32],
     settings: &Settings,
     blocks: u32,
     held: &[Option<Held>],
 ) -> Option<Vec<Block>> {
-    let mut chain: Vec<Block> = Vec::new();
+    let mut rounds = Vec::new();
     for number in 1..=blocks as usize {
         let round = table[ROW * number + 2];
-        let last = chain.last().map_or(0, |b| b.round);
+        let last = rounds.last().copied().unwrap_or(0);
         if round % 2 == 1 || round <= last || round >= settings.ceiling {
             return None;
         }
-        chain.push(Block { round, certificates: Vec::new(), after: [0; 16] });
+        rounds.push(round);
     }
-    for (place, here) in held.iter().enumerate() {
+    let mut marked: Vec<Vec<(u32, u32)>> = vec![Vec::new(); blocks as usize];
+    for (place, here) in (0..).zip(held) {
         if let Some(Held { block, .. }) = here {
             if *block > 0 {
-                chain[*block as usize - 1]
-                    .certificates
-                    .push((place as u32 / 16 + 1, place as u32 % 16));
+                marked[*block as usize - 1].push((place / 16 + 1, place % 16));
             }
         }
     }
-    let mut committee = settings.weights;
-    for block in &mut chain {
-        for &(round, author) in &block.certificates {
-            let place = (round - 1) * 16 + author;
-            let there = held[place as usize].as_ref().unwrap();
-            there.certificate.proposal.transactions.iter().for_each(|t| change(&mut committee, t));
-        }
-        block.after = committee;
+    let mut chain: Vec<Block> = Vec::new();
+    for (round, certificates) in rounds.into_iter().zip(marked) {
+        let block = Block::on(&chain, settings, round, certificates, held);
+        chain.push(block);
     }
     Some(chain)
 }

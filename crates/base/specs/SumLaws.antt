@@ -1,8 +1,8 @@
 -- Laws of sums over the numbers below a bound.
-use mathlib.Core.Path.{_≡_, refl, sym}
+use mathlib.Core.Path.{_≡_, refl, sym, ap, _∙_}
 use mathlib.Core.Bool.{cond}
 use native.Mathlib.Decide.{ℕ-discrete, decLt}
-use Prim.Native.Nat.{ℕ, zero, suc, _+_, _*_, _<_, _≤_}
+use Prim.Native.Nat.{ℕ, zero, suc, _+_, _*_, _%_, _<_, _≤_}
 use native.Mathlib.Omega.{arith}
 use native.Mathlib.Nat.{suc-mul}
 use native.Mathlib.Numerals.{add-one}
@@ -90,3 +90,21 @@ pub sum-swap : (f : ℕ → ℕ → ℕ) (m n : ℕ) → sumTo (λ k. sumTo (f k
 unfolding sumTo
 sum-swap f zero n = sym (sum-none n)
 sum-swap f (suc m) n = rw (sum-swap f m n) (sym (sum-add (λ r. sumTo (λ k. f k r) m) (f m) n))
+
+-- the sum from one further on: the first part less, one more at the end
+sum-shift : (f : ℕ → ℕ) (n : ℕ) → f 0 + sumTo (λ i. f (suc i)) n ≡ sumTo f (suc n)
+unfolding sumTo
+sum-shift f zero = omega arith
+sum-shift f (suc n) = let h : f 0 + sumTo (λ i. f (suc i)) n ≡ sumTo f n + f n = sum-shift f n in omega arith
+
+-- sixteen parts, from any one of them round
+pub sum-turned : (f : ℕ → ℕ) (a : ℕ) → sumTo (λ i. f ((a + i) % 16)) 16 ≡ sumTo f 16
+sum-turned f zero = sum-same (λ i. f ((0 + i) % 16)) f 16 (λ i h. ap f (omega arith))
+sum-turned f (suc a) =
+    let g : ℕ → ℕ = λ i. f ((a + i) % 16) in
+    let p : sumTo (λ i. f ((suc a + i) % 16)) 16 ≡ sumTo (λ i. g (suc i)) 16 = sum-same (λ i. f ((suc a + i) % 16)) (λ i. g (suc i)) 16 (λ i h. ap f (omega arith)) in
+    let q = sum-shift g 16 in
+    let r = sum-more g 16 in
+    let e : g 16 ≡ g 0 = ap f (omega arith) in
+    let k = sum-turned f a in
+    omega arith

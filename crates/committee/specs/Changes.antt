@@ -2,10 +2,10 @@
 use mathlib.Core.List.{List, [], _∷_, _++_}
 use mathlib.Core.Option.{Option, none, some}
 use mathlib.Core.Bool.{cond}
-use Prim.Native.Nat.{ℕ, zero, suc, _+_}
+use Prim.Native.Nat.{ℕ, zero, suc, _+_, _%_}
 use lib.ListN.{set}
 use lib.Dec.{ltb}
-use Rattle.agreement.specs.Rules.{Block, Chain}
+use Rattle.agreement.specs.Rules.{Block}
 use Rattle.terms.specs.declared.Transaction.{Transaction}
 use Rattle.terms.specs.declared.Transaction.the-variants.{Bond, Unbond, Entry}
 use Rattle.terms.specs.Proposals.{Content}
@@ -31,16 +31,12 @@ abbrev pub listed : Option Content → List Content
 listed none = []
 listed (some p) = p ∷ []
 
--- the certificates of round r by the members below n
-unfoldable pub row : Block Content → ℕ → ℕ → List Content
-row b r zero = []
-row b r (suc n) = row b r n ++ listed (b .holds n r)
+-- the certificates of round r by n members: numbers rise from that of a, with 0 after 15
+unfoldable pub row : Block Content → ℕ → ℕ → ℕ → List Content
+row b a r zero = []
+row b a r (suc n) = row b a r n ++ listed (b .holds ((a + n) % 16) r)
 
--- those of the rounds 1 to n, by round, then author
-unfoldable pub rows : Block Content → ℕ → List Content
-rows b zero = []
-rows b (suc n) = rows b n ++ row b (suc n) 16
-
--- the order inside a block: its certificates, where the ceiling is n and c is the chain below it
-unfoldable pub ordered : ℕ → Block Content → Chain Content → List Content
-ordered n b c = rows b n
+-- those of the rounds 1 to n, by round
+unfoldable pub rows : Block Content → ℕ → ℕ → List Content
+rows b a zero = []
+rows b a (suc n) = rows b a n ++ row b a (suc n) 16

@@ -10,16 +10,16 @@ use Rattle.terms.specs.Proposals.{Content}
 use Rattle.sheet.specs.declared.Settings.{Settings}
 use Rattle.base.specs.SumLaws.{sum-mono, sum-up}
 use Rattle.agreement.specs.Weights.{weigh, total}
-use Rattle.committee.specs.Committees.{bondedFrom, committeeOf, boundOf, outsider, short, quorum, shareOf}
+use Rattle.committee.specs.Committees.{committeeBy, bondedFrom, committeeOf, boundOf, outsider, short, quorum, shareOf}
 
 -- up to the lookback the committee is the starting one
 pub committee-start : (S : Settings) (c : Chain Content) (r : ℕ) → r ≤ S .lookback → committeeOf S c r ≡ S .weights
-unfolding committeeOf
+unfolding committeeOf committeeBy
 committee-start S c r h = rw (le-leb r (S .lookback) h) refl
 
 -- above it, the bonded one of the round that many rounds before
-pub committee-bonded : (S : Settings) (c : Chain Content) (r : ℕ) → S .lookback < r → committeeOf S c r ≡ bondedFrom (S .ceiling .0) (S .weights) c (r - S .lookback)
-unfolding committeeOf
+pub committee-bonded : (S : Settings) (c : Chain Content) (r : ℕ) → S .lookback < r → committeeOf S c r ≡ bondedFrom S c (r - S .lookback)
+unfolding committeeOf committeeBy
 committee-bonded S c r h = rw (lt-leb r (S .lookback) h) refl
 
 -- the members below i that are in a set weigh no more than all

@@ -8,20 +8,42 @@ use Rattle.agreement.specs.Weights.{weigh, total}
 use Rattle.agreement.specs.Rules.{Block, Chain, last}
 use Rattle.terms.specs.Proposals.{Content}
 use Rattle.sheet.specs.declared.Settings.{Settings}
-use Rattle.committee.specs.Changes.{changesOf, ordered}
+use Rattle.sheet.specs.Ranges.{weightIn}
+use Rattle.committee.specs.Changes.{changesOf, rows}
+use Rattle.committee.specs.Leaders.{leaderOf, leaderNumber}
 
--- what the block b on the chain c does to the bonded committee of round s
-unfoldable pub step : ℕ → ℕ → Block Content → Chain Content → List ℕ → List ℕ
-step n s b c w = cond (ltb (b .round) s) (changesOf (ordered n b c) w) w
+-- the committee of round r, where v is the bonded one of r minus lookback
+unfoldable pub committeeBy : Settings → ℕ → List ℕ → List ℕ
+committeeBy S r v = cond (leb r (S .lookback)) (S .weights) v
 
--- the bonded committee of round s: the starting one changed by all blocks of rounds below s, in order
-unfoldable pub bondedFrom : ℕ → List ℕ → Chain Content → ℕ → List ℕ
-bondedFrom n w [] s = w
-bondedFrom n w (b ∷ c) s = step n s b c (bondedFrom n w c s)
+-- the number of the leader of round r by its committee w, 16 for none
+unfoldable pub leaderBy : List ℕ → ℕ → ℕ
+leaderBy w r = leaderNumber (leaderOf (weightIn w) r)
+
+-- what the block b, whose rows start with member a, does to the bonded committee of round s
+unfoldable pub stepFrom : Settings → ℕ → Block Content → ℕ → List ℕ → List ℕ
+stepFrom S s b a w = cond (ltb (b .round) s) (changesOf (rows b a (S .ceiling .0)) w) w
+
+-- the bonded committee of round s: the starting one changed by all blocks of rounds below s, in order; the rows of each start with the leader of its round
+unfoldable pub bondedFrom : Settings → Chain Content → ℕ → List ℕ
+bondedFrom S [] s = S .weights
+bondedFrom S (b ∷ c) s = stepFrom S s b (leaderBy (committeeBy S (b .round) (bondedFrom S c (b .round - S .lookback))) (b .round)) (bondedFrom S c s)
 
 -- the committee of round r
 unfoldable pub committeeOf : Settings → Chain Content → ℕ → List ℕ
-committeeOf S c r = cond (leb r (S .lookback)) (S .weights) (bondedFrom (S .ceiling .0) (S .weights) c (r - S .lookback))
+committeeOf S c r = committeeBy S r (bondedFrom S c (r - S .lookback))
+
+-- the leader of the round of the block b, where c is the chain below it; 16 for none: then numbers just rise, since 0 comes after 15
+unfoldable pub startOf : Settings → Block Content → Chain Content → ℕ
+startOf S b c = leaderBy (committeeOf S c (b .round)) (b .round)
+
+-- the order inside a block: rounds rise, and within a round numbers rise from that of the leader of the block's round, with 0 after 15
+unfoldable pub ordered : Settings → Block Content → Chain Content → List Content
+ordered S b c = rows b (startOf S b c) (S .ceiling .0)
+
+-- what the block b on the chain c does to the bonded committee of round s
+unfoldable pub step : Settings → ℕ → Block Content → Chain Content → List ℕ → List ℕ
+step S s b c w = stepFrom S s b (startOf S b c) w
 
 -- the chain tells the committee of round r: the bonded one of r minus lookback is known
 unfoldable pub knownBy : Settings → Chain Content → ℕ → Bool

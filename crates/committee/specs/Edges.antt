@@ -1,13 +1,13 @@
--- The cases that document 01 marks P, as one table under a common theorem.
+-- The cases that document 01 marks P, and those of the change requests, as one table under a common theorem.
 use mathlib.Core.Path.{_≡_, refl}
-use mathlib.Core.Bool.{Bool, true, false, cond, _&&_}
+use mathlib.Core.Bool.{Bool, true, false, cond, _&&_, _||_}
 use mathlib.Core.Option.{none, some}
 use mathlib.Core.List.{List, [], _∷_}
-use Prim.Native.Nat.{ℕ}
+use Prim.Native.Nat.{ℕ, zero, suc}
 use lib.ListN.{set}
-use lib.Dec.{eqb}
+use lib.Dec.{eqb, ltb}
 use Rattle.base.specs.Folds.{sumTo, tab}
-use Rattle.agreement.specs.Rules.{Chain}
+use Rattle.agreement.specs.Rules.{Block, Chain}
 use Rattle.terms.specs.declared.Transaction.{Transaction}
 use Rattle.terms.specs.declared.Transaction.the-variants.{Bond, Unbond}
 use Rattle.terms.specs.Proposals.{Content}
@@ -16,8 +16,8 @@ use Rattle.sheet.specs.declared.Settings.{Settings}
 use Rattle.sheet.specs.declared.Sheet.{Sheet}
 use Rattle.sheet.specs.Sheets.{blankSheet, blankWeight, weightAt, filled}
 use Rattle.sheet.specs.Ranges.{weightIn}
-use Rattle.committee.specs.Changes.{changes, changesOf, row, rows, ordered}
-use Rattle.committee.specs.Committees.{step, bondedFrom, committeeOf, knownBy, boundOf, quorumWeight, shareOf}
+use Rattle.committee.specs.Changes.{changes, changesOf, row, rows}
+use Rattle.committee.specs.Committees.{committeeBy, leaderBy, stepFrom, bondedFrom, committeeOf, startOf, ordered, knownBy, boundOf, quorumWeight, shareOf}
 use Rattle.committee.specs.Leaders.{countBelow, memberBelow, memberAt, leaderOf, leaderNumber}
 
 -- ---- what the cases speak of
@@ -40,6 +40,20 @@ unbond m = Unbond (record { 0 = m })
 unfoldable pub bonding : Chain Content
 bonding = record { round = 2; holds = λ a r. cond (eqb a 0 && eqb r 1) (some (record { author = 0; round = 1; previous = 0; transactions = bond 5 7 ∷ [] })) none } ∷ []
 
+-- four members of weight 1, rounds up to 6
+unfoldable pub four : Settings
+four = record { lookback = blank .lookback; ceiling = record { 0 = 6 }; allowance = blank .allowance; weights = blank .weights }
+
+-- the block of round 4, whose anchor is member 2's: a full round of members 0 to 3, and the anchor
+unfoldable pub full : Block Content
+full = record { round = 4; holds = λ a r. cond ((ltb a 4 && eqb r 3) || (eqb a 2 && eqb r 4)) (some (record { author = a; round = r; previous = 15; transactions = [] })) none }
+
+-- the author of the certificate at place k of a list, 16 for none
+unfoldable pub authorAt : List Content → ℕ → ℕ
+authorAt [] k = 16
+authorAt (p ∷ l) zero = p .author
+authorAt (p ∷ l) (suc k) = authorAt l k
+
 unfoldable pub truth : Bool → ℕ
 truth true = 1
 truth false = 0
@@ -57,6 +71,8 @@ cases =
     ∷ (shareOf 1 16, 63)
     ∷ (weightIn (changes (unbond 2 ∷ bond 2 5 ∷ []) (blank .weights)) 2, 5) ∷ (weightIn (changes (bond 2 5 ∷ unbond 2 ∷ []) (blank .weights)) 2, 0)
     ∷ (weightIn (blank .weights) 3, 1) ∷ (weightIn (filled written .weights) 3, 0)
+    ∷ (authorAt (ordered four full []) 0, 2) ∷ (authorAt (ordered four full []) 1, 3) ∷ (authorAt (ordered four full []) 2, 0) ∷ (authorAt (ordered four full []) 3, 1)
+    ∷ (authorAt (ordered four full []) 4, 2) ∷ (authorAt (ordered four full []) 5, 16)
     ∷ []
 
 -- both numbers of each row are equal
@@ -65,5 +81,5 @@ agree [] = true
 agree (x ∷ l) = eqb (x .0) (x .1) && agree l
 
 pub edges : agree cases ≡ true
-unfolding agree cases blank written bond unbond bonding truth boundOf quorumWeight knownBy committeeOf bondedFrom step ordered rows row changesOf changes leaderOf memberAt memberBelow countBelow shareOf filled weightAt blankWeight tab sumTo
+unfolding agree cases blank written bond unbond bonding four full authorAt truth startOf ordered boundOf quorumWeight knownBy committeeOf committeeBy leaderBy stepFrom bondedFrom rows row changesOf changes leaderOf memberAt memberBelow countBelow shareOf filled weightAt blankWeight tab sumTo
 edges = refl

@@ -11,10 +11,11 @@ use Rattle.base.specs.Bools.{both}
 use Rattle.agreement.specs.Weights.{total}
 use Rattle.agreement.specs.Rules.{Block, Chain, last}
 use Rattle.agreement.specs.Laws.{Lawful}
+use Rattle.agreement.specs.Prefixes.{_≼_, same, grown}
 use Rattle.terms.specs.Proposals.{Content}
 use Rattle.sheet.specs.declared.Settings.{Settings}
 use Rattle.sheet.specs.Ranges.{weightIn}
-use Rattle.committee.specs.Committees.{bondedFrom, committeeOf, knownBy, boundOf}
+use Rattle.committee.specs.Committees.{committeeBy, bondedFrom, committeeOf, knownBy, boundOf}
 use Rattle.committee.specs.BondedLaws.{step-waits, bonded-step}
 use Rattle.committee.specs.Leaders.{leaderOf}
 use Rattle.committee.specs.Instance.{rules}
@@ -41,8 +42,8 @@ unfolding boundOf
 bound-low w h = omega arith
 
 -- a block changes no committee of its own round or below
-bonded-same : (n : ℕ) (w : List ℕ) (b : Block Content) (c : Chain Content) (s : ℕ) → s ≤ b .round → bondedFrom n w (b ∷ c) s ≡ bondedFrom n w c s
-bonded-same n w b c s h = bonded-step n s b c w ∙ step-waits n s b c (bondedFrom n w c s) h
+bonded-same : (S : Settings) (b : Block Content) (c : Chain Content) (s : ℕ) → s ≤ b .round → bondedFrom S (b ∷ c) s ≡ bondedFrom S c s
+bonded-same S b c s h = bonded-step S s b c ∙ step-waits S s b c (bondedFrom S c s) h
 
 module _ (S : Settings) where
   known-low : (c : Chain Content) {r s : ℕ} → r ≤ s → knownBy S c s ≡ true → knownBy S c r ≡ true
@@ -54,11 +55,21 @@ module _ (S : Settings) where
   known-still b c r l k = let h = leb-true r (S .lookback + (last c + 2)) k in le-leb r (S .lookback + (b .round + 2)) (omega arith)
 
   committee-same : (b : Block Content) (c : Chain Content) (r : ℕ) → last c + 2 ≤ b .round → knownBy S c r ≡ true → weightIn (committeeOf S (b ∷ c) r) ≡ weightIn (committeeOf S c r)
-  unfolding committeeOf knownBy
+  unfolding committeeOf committeeBy knownBy
   committee-same b c r l k =
       let q = leb-true r (S .lookback + (last c + 2)) k in
       let h : r - S .lookback ≤ b .round = omega arith in
-      rw (bonded-same (S .ceiling .0) (S .weights) b c (r - S .lookback) h) refl
+      rw (bonded-same S b c (r - S .lookback) h) refl
+
+  -- the blocks from b on do not change the committee of b's round: the chain below b tells it, and so does every chain that b is in
+  rises : {b : Block Content} {c d : Chain Content} → (b ∷ c) ≼ d → b .round ≤ last d
+  rises same = omega arith
+  rises (grown g l h) = omega (arith, rises h)
+
+  pub committee-below : {b : Block Content} {c d : Chain Content} → (b ∷ c) ≼ d → committeeOf S d (b .round) ≡ committeeOf S c (b .round)
+  unfolding committeeOf
+  committee-below {b} {c} same = rw (bonded-same S b c (b .round - S .lookback) (omega arith)) refl
+  committee-below {b} {c} (grown g {d = d} l h) = rw (bonded-same S g d (b .round - S .lookback) (omega (arith, rises h))) (committee-below h)
 
   pub lawful : Lawful (rules S)
   lawful =

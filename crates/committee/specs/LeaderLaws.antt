@@ -6,7 +6,7 @@ use mathlib.Core.Option.{none, some}
 use Prim.Native.Nat.{ℕ, zero, suc, _+_, _/_, _%_, _≤_, _<_}
 use native.Mathlib.Omega.{arith}
 use native.Mathlib.Decide.{ℕ-discrete, decLt}
-use lib.Dec.{eqb, ltb}
+use lib.Dec.{eqb, leb, ltb}
 use borrow.Author.Tests.{eq-eqb, ne-eqb, le-leb, lt-leb, lt-ltb, le-ltb}
 use Rattle.base.specs.Folds.{foldTo, sumTo}
 use Rattle.base.specs.SumLaws.{sum-same, sum-more, sum-up}
@@ -14,7 +14,7 @@ use Rattle.base.specs.Sets.{isIn, add}
 use Rattle.base.specs.SetLaws.{in-add}
 use Rattle.base.specs.UnionLaws.{in-none}
 use Rattle.sheet.specs.Ranges.{weightIn}
-use Rattle.committee.specs.Leaders.{countBelow, memberBelow, memberAt, members, leaderOf, joined, memberSet}
+use Rattle.committee.specs.Leaders.{countBelow, memberBelow, memberAt, members, leaderOf, leaderNumber, joined, memberSet}
 
 -- ---- counting
 
@@ -136,3 +136,22 @@ leader-early w r h = rw (lt-leb 2 r h, and-false (eqb (r % 2) 0)) refl
 pub leader-set : (w : List ℕ) (r : ℕ) → r % 2 ≡ 0 → 2 ≤ r → leaderOf (weightIn w) r ≡ memberAt (isIn (memberSet w)) (r / 2 % countBelow (isIn (memberSet w)) 16)
 unfolding leaderOf
 leader-set w r e h = rw (set-at w (r / 2 % countBelow (isIn (memberSet w)) 16), set-count w, eq-eqb (r % 2) 0 e, le-leb 2 r h) refl
+
+-- ---- a leader's number
+
+below-le : (set : ℕ → Bool) (n k : ℕ) → n ≤ 16 → leaderNumber (memberBelow set n k) ≤ 16
+unfolding memberBelow
+below-le set zero k h = omega arith
+below-le set (suc n) k h = go (set n && eqb (countBelow set n) k) (below-le set n k (omega arith))
+  where
+    go : (b : Bool) → leaderNumber (memberBelow set n k) ≤ 16 → leaderNumber (cond b (some n) (memberBelow set n k)) ≤ 16
+    go true l = omega arith
+    go false l = l
+
+pub leader-le : (w : ℕ → ℕ) (r : ℕ) → leaderNumber (leaderOf w r) ≤ 16
+unfolding leaderOf memberAt
+leader-le w r = go (eqb (r % 2) 0 && leb 2 r)
+  where
+    go : (b : Bool) → leaderNumber (cond b (memberBelow (members w) 16 (r / 2 % countBelow (members w) 16)) none) ≤ 16
+    go true = below-le (members w) 16 (r / 2 % countBelow (members w) 16) (omega arith)
+    go false = omega arith

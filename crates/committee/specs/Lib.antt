@@ -2,14 +2,14 @@ pub mod Chain
 pub mod ChainLaws
 pub mod Changes
 pub mod ChangeLaws
-pub mod OrderLaws
 pub mod Effects
 pub mod Totals
 pub mod TotalLaws
+pub mod Leaders
 pub mod Committees
+pub mod OrderLaws
 pub mod CommitteeLaws
 pub mod BondedLaws
-pub mod Leaders
 pub mod LeaderLaws
 pub mod Instance
 pub mod Lawful

@@ -8,7 +8,7 @@ use Rattle.agreement.specs.Rules.{Block}
 use Rattle.agreement.specs.Listing.{lists-prefix}
 use Rattle.agreement.specs.Prefixes.{_≼_, blockAt, block-stays}
 use Rattle.terms.specs.Proposals.{Content}
-use Rattle.committee.specs.Changes.{ordered}
+use Rattle.committee.specs.Committees.{ordered}
 use Rattle.rules.specs.Runs.{Entries, chainAfter}
 use Rattle.rules.specs.RunAgreement as agreement
 use Rattle.state.specs.WellFormed.{wellFormed}
@@ -52,5 +52,5 @@ module _ (X : Members) where
     pub chain-kept : Prefix (engineAfter X l i) (engineAfter X (m ++ l) i)
     chain-kept =
         let z = opens-fit X i c in
-        let x = lists-prefix (ordered (settings .ceiling .0)) (grows z) in
+        let x = lists-prefix (ordered settings) (grows z) in
         (x .0, listed-shown X (m ++ l) r z i c ∙ x .1 ∙ ap (λ (y : List (ℕ × List Content)). y ++ x .0) (sym (listed-shown X l (earlier m l r) z i c)))

@@ -18,8 +18,7 @@ use Rattle.sheet.specs.declared.Sheet.{Sheet}
 use Rattle.sheet.specs.declared.Settings.{Settings}
 use Rattle.sheet.specs.Sheets.{filled}
 use Rattle.sheet.specs.Ranges.{weightIn}
-use Rattle.committee.specs.Changes.{ordered}
-use Rattle.committee.specs.Committees.{committeeOf, knownBy, boundOf}
+use Rattle.committee.specs.Committees.{committeeOf, ordered, knownBy, boundOf}
 use Rattle.committee.specs.Chain.{chainOf}
 use Rattle.nonforking.specs.Engine.{Engine, Call, opens, propose, endorse, certify, accept, advance, commit, committee, share, certificate, block, number, after}
 
@@ -29,9 +28,9 @@ use Rattle.nonforking.specs.Engine.{Engine, Call, opens, propose, endors
 abbrev pub chain : Engine → Chain Content
 chain e = chainOf (e .state .settings .ceiling .0) (e .table) (e .state .blocks)
 
--- its chain as it is listed, oldest block first: each with its block round and its certificates by round, then author
+-- its chain as it is listed, oldest block first: each with its block round and its certificates in the block's order: by round, and within a round numbers rise from that of the leader of the block's round
 abbrev pub listed : Engine → List (ℕ × List Content)
-listed e = listing (ordered (e .state .settings .ceiling .0)) (chain e)
+listed e = listing (ordered (e .state .settings)) (chain e)
 
 -- its chain is a prefix of that of d, which lists the same blocks with the same certificates in the same order, and perhaps more
 abbrev pub Prefix : Engine → Engine → Type 0

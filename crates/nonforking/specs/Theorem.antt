@@ -7,8 +7,7 @@ use Prim.Native.Nat.{ℕ}
 use Rattle.agreement.specs.Listing.{listing, Lists}
 use Rattle.terms.specs.Proposals.{Content}
 use Rattle.sheet.specs.Ranges.{weightIn}
-use Rattle.committee.specs.Changes.{ordered}
-use Rattle.committee.specs.Committees.{committeeOf, knownBy}
+use Rattle.committee.specs.Committees.{committeeOf, ordered, knownBy}
 use Rattle.rules.specs.Runs as runs
 use Rattle.rules.specs.Runs.{chainAfter}
 use Rattle.rules.specs.RunAgreement as agreement
@@ -30,8 +29,8 @@ module _ (X : Members) where
       pub chain-shown : chain (engineAfter X l i) ≡ chainAfter (group X z) (mirror X z l) i
       chain-shown = shown X z (λ T x. chain (engineAfter X l i) ≡ x) mirrors refl
 
-      pub listed-shown : listed (engineAfter X l i) ≡ listing (ordered (settings .ceiling .0)) (chainAfter (group X z) (mirror X z l) i)
-      listed-shown = shown X z (λ T x. listed (engineAfter X l i) ≡ listing (ordered (T .ceiling .0)) x) mirrors refl
+      pub listed-shown : listed (engineAfter X l i) ≡ listing (ordered settings) (chainAfter (group X z) (mirror X z l) i)
+      listed-shown = shown X z (λ T x. listed (engineAfter X l i) ≡ listing (ordered T) x) mirrors refl
 
       pub weights-shown : (q m : ℕ) → weights (engineAfter X l i) q m ≡ weightIn (committeeOf settings (chainAfter (group X z) (mirror X z l) i) q) m
       weights-shown q m = shown X z (λ T x. weights (engineAfter X l i) q m ≡ weightIn (committeeOf T x q) m) mirrors refl
@@ -43,14 +42,14 @@ module _ (X : Members) where
     agreed = runs-agree (group X z) (mirror X z l) (run-ruled X z l r)
 
     prefix-shown : (i j : ℕ) (ci : correct i ≡ true) (cj : correct j ≡ true)
-        → Lists (ordered (settings .ceiling .0)) (chainAfter (group X z) (mirror X z l) i) (chainAfter (group X z) (mirror X z l) j) → Prefix (engineAfter X l i) (engineAfter X l j)
+        → Lists (ordered settings) (chainAfter (group X z) (mirror X z l) i) (chainAfter (group X z) (mirror X z l) j) → Prefix (engineAfter X l i) (engineAfter X l j)
     prefix-shown i j ci cj x = (x .0, listed-shown j cj ∙ x .1 ∙ ap (λ (y : List (ℕ × List Content)). y ++ x .0) (sym (listed-shown i ci)))
 
     chains-agree : (i j : ℕ) → correct i ≡ true → correct j ≡ true → Prefix (engineAfter X l i) (engineAfter X l j) ⊎ Prefix (engineAfter X l j) (engineAfter X l i)
     chains-agree i j ci cj = go (agreed .chains i j ci cj)
       where
-        go : Lists (ordered (settings .ceiling .0)) (chainAfter (group X z) (mirror X z l) i) (chainAfter (group X z) (mirror X z l) j)
-            ⊎ Lists (ordered (settings .ceiling .0)) (chainAfter (group X z) (mirror X z l) j) (chainAfter (group X z) (mirror X z l) i)
+        go : Lists (ordered settings) (chainAfter (group X z) (mirror X z l) i) (chainAfter (group X z) (mirror X z l) j)
+            ⊎ Lists (ordered settings) (chainAfter (group X z) (mirror X z l) j) (chainAfter (group X z) (mirror X z l) i)
             → Prefix (engineAfter X l i) (engineAfter X l j) ⊎ Prefix (engineAfter X l j) (engineAfter X l i)
         go (inl x) = inl (prefix-shown i j ci cj x)
         go (inr x) = inr (prefix-shown j i cj ci x)

@@ -123,7 +123,7 @@ listedAt a r previous l = record { author = a; round = r; previous = previous; t
 
 -- the block that members 0 and 1 list
 abbrev made : List (ℕ × List Content)
-made = (2, listedAt 0 1 0 (Bond (record { 0 = 2 }) 5 ∷ []) ∷ listedAt 1 1 0 [] ∷ listedAt 3 1 0 [] ∷ listedAt 1 2 11 [] ∷ []) ∷ []
+made = (2, listedAt 1 1 0 [] ∷ listedAt 3 1 0 [] ∷ listedAt 0 1 0 (Bond (record { 0 = 2 }) 5 ∷ []) ∷ listedAt 1 2 11 [] ∷ []) ∷ []
 
 pub record Witness : Type 0 where
   pub premises : Run members calls

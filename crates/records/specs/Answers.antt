@@ -23,4 +23,4 @@ committedLine (Made.the-variants.Refused n) = refusedLine n
 
 -- of chain: the lines of the chain that the state shows, then ok
 abbrev pub chainAnswer : State → List ℕ → List ℕ
-chainAnswer s t = cond (wellFormed s t) (chainLines (s .settings .ceiling .0) (view s t .chain) ++ okLine) (refusedLine 1)
+chainAnswer s t = cond (wellFormed s t) (chainLines (s .settings) (view s t .chain) ++ okLine) (refusedLine 1)

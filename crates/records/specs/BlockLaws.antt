@@ -1,106 +1,130 @@
--- Laws of the lines of a chain: block by block, and each block place by place.
-use mathlib.Core.Path.{_≡_, refl, sym, _∙_}
-use mathlib.Core.Bool.{Bool, true, false, cond}
+-- Laws of the lines of a chain: block by block, each block row by row, and each row place by place. The place of member m and round r is number 16 r + m.
+use mathlib.Core.Path.{_≡_, refl, sym, ap, _∙_}
+use mathlib.Core.Bool.{Bool, true, false}
 use mathlib.Core.List.{List, [], _++_, append-assoc, append-nil}
 use Prim.Native.Nat.{ℕ, zero, suc, _+_, _*_, _/_, _%_, _<_, _≤_}
 use native.Mathlib.Omega.{arith}
-use native.Mathlib.Decide.{ℕ-discrete}
 use native.Mathlib.Numerals.{add-one}
-use lib.Dec.{ltb}
-use borrow.Author.Tests.{lt-ltb, le-ltb}
-use Rattle.store.specs.Table.{heldAt, contentAt, blockRound}
+use borrow.Author.Tests.{eq-eqb}
+use Rattle.lines.specs.Lines.{listingLine}
+use Rattle.base.specs.Folds.{foldTo}
+use Rattle.store.specs.Table.{heldAt, markAt, contentAt, blockRound}
+use Rattle.sheet.specs.declared.Settings.{Settings}
 use Rattle.committee.specs.Changes.{listed, row, rows}
 use Rattle.committee.specs.OrderLaws.{row-none, row-more, rows-none, rows-more, ordered-rows}
 use Rattle.committee.specs.Chain.{holdsAt, blockAt, chainOf}
 use Rattle.committee.specs.ChainLaws.{block-round, block-inside, chain-none, chain-more, chain-length}
-use Rattle.walk.specs.Links.{Marked, First}
-use Rattle.lines.specs.Lines.{listingLine}
+use Rattle.committee.specs.Committees.{startOf}
+use Rattle.walk.specs.Walk.{startAt}
+use Rattle.walk.specs.Links.{Marked}
+use Rattle.walk.specs.Runs.{turnsOver, rowsOver}
+use Rattle.walk.specs.RunLaws.{SameAt}
 use Rattle.records.specs.Listing.{contentLines, chainLines, blockLines}
 use Rattle.records.specs.ListingLaws.{lines-append, place-absent, place-other, place-present}
+use Rattle.records.specs.Counts.{inBlock}
 
--- the lines of block k at a place, of round 1 or above, and at the places below p; the place of member m and round r is number 16 r + m
+-- the lines of block k at a place
 unfoldable pub placeLines : List ℕ → ℕ → ℕ → List ℕ
-placeLines t k p = cond (ltb p 16) [] (contentLines k (blockRound t k) (listed (holdsAt t k (p % 16) (p / 16))))
+placeLines t k p = contentLines k (blockRound t k) (listed (holdsAt t k (p % 16) (p / 16)))
 
-unfoldable pub placesLines : List ℕ → ℕ → ℕ → List ℕ
-placesLines t k zero = []
-placesLines t k (suc p) = placesLines t k p ++ placeLines t k p
+-- after those before
+unfoldable pub addLines : List ℕ → ℕ → ℕ → List ℕ → List ℕ
+addLines t k p l = l ++ placeLines t k p
+
+-- the lines of the row of round r, from member a on, with 0 after 15
+abbrev pub rowLines : List ℕ → ℕ → ℕ → ℕ → List ℕ
+rowLines t k a r = turnsOver (addLines t k) a r []
+
+-- lists put one after the other, after one more
+fold-append : (h : ℕ → List ℕ) (n : ℕ) (x : List ℕ) → foldTo (λ i l. l ++ h i) n x ≡ x ++ foldTo (λ i l. l ++ h i) n []
+unfolding foldTo
+fold-append h zero x = sym (append-nil x)
+fold-append h (suc n) x = rw (fold-append h n x) (append-assoc x (foldTo (λ i l. l ++ h i) n []) (h n))
 
 module _ (t : List ℕ) (k : ℕ) where
-  place-low : (p : ℕ) → p < 16 → placeLines t k p ≡ []
-  unfolding placeLines
-  place-low p h = rw (lt-ltb p 16 h) refl
-
-  place-high : (p : ℕ) → 16 ≤ p → placeLines t k p ≡ contentLines k (blockRound t k) (listed (holdsAt t k (p % 16) (p / 16)))
-  unfolding placeLines
-  place-high p h = rw (le-ltb p 16 h) refl
-
   -- a place that is not marked has no line
-  place-unmarked : (p : ℕ) → 16 ≤ p → (Marked t k p → ⊥) → placeLines t k p ≡ []
-  place-unmarked p l f = place-high p l ∙ go (heldAt t (p % 16) (p / 16)) refl
+  place-unmarked : (p : ℕ) → (Marked t k p → ⊥) → placeLines t k p ≡ []
+  unfolding placeLines
+  place-unmarked p f = go (heldAt t (p % 16) (p / 16)) refl
     where
       go : (h : Bool) → heldAt t (p % 16) (p / 16) ≡ h → contentLines k (blockRound t k) (listed (holdsAt t k (p % 16) (p / 16))) ≡ []
       go true e = place-other t k (blockRound t k) (p % 16) (p / 16) (λ q. f (record { held = e; mark = q }))
       go false e = place-absent t k (blockRound t k) (p % 16) (p / 16) e
 
-  -- places that are passed over
-  places-skip : (a p : ℕ) → a ≤ p → ((i : ℕ) → a ≤ i → i < p → placeLines t k i ≡ []) → placesLines t k p ≡ placesLines t k a
-  unfolding placesLines
-  places-skip a zero h f = let e : a ≡ 0 = omega arith in rw e refl
-  places-skip a (suc p) h f = go (ℕ-discrete a (suc p)) (λ l. places-skip a p l (λ i x y. f i x (omega arith)))
-    where
-      go : Dec (a ≡ suc p) → (a ≤ p → placesLines t k p ≡ placesLines t k a) → placesLines t k p ++ placeLines t k p ≡ placesLines t k a
-      go (yes e) g = rw e refl
-      go (no e) g = rw (f p (omega arith) (omega arith)) (append-nil (placesLines t k p) ∙ g (omega arith))
+  pub same-at : SameAt t k (addLines t k) (addLines t k)
+  unfolding addLines
+  same-at = record { marked = λ p l m. refl; other = λ p l n. rw (place-unmarked p n) (append-nil l) }
 
-  places-low : placesLines t k 16 ≡ []
-  unfolding placesLines
-  places-low = places-skip 0 16 (omega arith) (λ i _ h. place-low i h)
+  -- a row after the lines before it
+  pub row-after : (a r : ℕ) (x : List ℕ) → turnsOver (addLines t k) a r x ≡ x ++ rowLines t k a r
+  unfolding turnsOver addLines
+  row-after a r x = fold-append (λ i. placeLines t k (r * 16 + (a + i) % 16)) 16 x
 
-  -- up to the first place there are none
-  pub places-first : (e p : ℕ) → First t k 16 e p → placesLines t k p ≡ []
-  places-first e p f = places-skip 16 p (f .from) (λ i x y. place-unmarked i x (f .skipped i x y)) ∙ places-low
+  -- ---- by round, then numbers from that of a on, where the ceiling is n
 
-  -- from one place to the next
-  pub places-next : (e p q : ℕ) → 16 ≤ p → Marked t k p → First t k (p + 1) e q
-      → placesLines t k q ≡ placesLines t k p ++ listingLine k (blockRound t k) (p / 16) (p % 16) (contentAt t (p % 16) (p / 16) .transactions)
-  unfolding placesLines
-  places-next e p q h x f =
-      places-skip (p + 1) q (f .from) (λ i y z. place-unmarked i (omega arith) (f .skipped i y z))
-      ∙ rw (add-one p, place-high p h, place-present t k (blockRound t k) (p % 16) (p / 16) (x .held) (x .mark)) refl
+  row-lines : (n a r m : ℕ) → 1 ≤ r → r ≤ n → m ≤ 16 → contentLines k (blockRound t k) (row (blockAt n t k) a r m) ≡ foldTo (λ i l. l ++ placeLines t k (r * 16 + (a + i) % 16)) m []
+  unfolding contentLines foldTo placeLines
+  row-lines n a r zero l u h = rw (row-none (blockAt n t k) a r) refl
+  row-lines n a r (suc m) l u h =
+      let i : (r * 16 + (a + m) % 16) % 16 ≡ (a + m) % 16 = omega arith in
+      let j : (r * 16 + (a + m) % 16) / 16 ≡ r = omega arith in
+      let z = listed (holdsAt t k ((a + m) % 16) r) in
+      rw (row-more (blockAt n t k) a r m, block-inside n t k ((a + m) % 16) r l u, lines-append k (blockRound t k) (row (blockAt n t k) a r m) z, row-lines n a r m l u (omega arith), i, j) refl
 
-  -- ---- by round, then author, where the ceiling is n
+  rows-lines : (n a m : ℕ) → m ≤ n → contentLines k (blockRound t k) (rows (blockAt n t k) a m) ≡ rowsOver (addLines t k) a m []
+  unfolding contentLines rowsOver turnsOver addLines foldTo
+  rows-lines n a zero u = rw (rows-none (blockAt n t k) a) refl
+  rows-lines n a (suc m) u =
+      rw (
+        rows-more (blockAt n t k) a m,
+        lines-append k (blockRound t k) (rows (blockAt n t k) a m) (row (blockAt n t k) a (suc m) 16),
+        rows-lines n a m (omega arith),
+        row-lines n a (suc m) 16 (omega arith) u (omega arith),
+        ← add-one m,
+      )
+      (sym (row-after a (m + 1) (rowsOver (addLines t k) a m [])))
 
-  row-places : (n r m : ℕ) → 1 ≤ r → r ≤ n → m ≤ 16 → placesLines t k (r * 16 + m) ≡ placesLines t k (r * 16) ++ contentLines k (blockRound t k) (row (blockAt n t k) r m)
-  unfolding contentLines placesLines
-  row-places n r zero l u h = let e : r * 16 + 0 ≡ r * 16 = omega arith in rw (e, row-none (blockAt n t k) r) (sym (append-nil (placesLines t k (r * 16))))
-  row-places n r (suc m) l u h =
-      let e : r * 16 + suc m ≡ suc (r * 16 + m) = omega arith in
-      let i : (r * 16 + m) % 16 ≡ m = omega arith in
-      let j : (r * 16 + m) / 16 ≡ r = omega arith in
-      let z = listed (holdsAt t k m r) in
-      let b = blockRound t k in
-      rw (e, place-high (r * 16 + m) (omega arith), i, j, row-places n r m l u (omega arith), row-more (blockAt n t k) r m, block-inside n t k m r l u, lines-append k b (row (blockAt n t k) r m) z)
-      (append-assoc (placesLines t k (r * 16)) (contentLines k b (row (blockAt n t k) r m)) (contentLines k b z))
-
-  rows-places : (n r : ℕ) → r ≤ n → placesLines t k (r * 16 + 16) ≡ contentLines k (blockRound t k) (rows (blockAt n t k) r)
-  unfolding contentLines
-  rows-places n zero u = rw (rows-none (blockAt n t k)) places-low
-  rows-places n (suc r) u =
-      let e : suc r * 16 ≡ r * 16 + 16 = omega arith in
-      row-places n (suc r) 16 (omega arith) u (omega arith)
-      ∙ rw (e, rows-places n r (omega arith), rows-more (blockAt n t k) r) (sym (lines-append k (blockRound t k) (rows (blockAt n t k) r) (row (blockAt n t k) (suc r) 16)))
-
-module _ (n : ℕ) (t : List ℕ) where
-  -- a block place by place
-  pub block-places : (k : ℕ) → blockLines n t k ≡ placesLines t (k + 1) (n * 16 + 16)
-  block-places k = rw (ordered-rows (blockAt n t (k + 1)) n (chainOf n t k)) (sym (rows-places t (k + 1) n n (omega arith)))
+module _ (S : Settings) (t : List ℕ) where
+  -- a block row by row
+  pub block-rows : (k : ℕ) → blockLines S t k ≡ rowsOver (addLines t (k + 1)) (startAt S t k) (S .ceiling .0) []
+  unfolding startAt
+  block-rows k =
+      let n = S .ceiling .0 in
+      rw (ordered-rows S (blockAt n t (k + 1)) (chainOf n t k)) (rows-lines t (k + 1) n (startOf S (blockAt n t (k + 1)) (chainOf n t k)) n (omega arith))
 
   -- a chain block by block
-  pub lines-none : chainLines n (chainOf n t 0) ≡ []
+  pub lines-none : chainLines S (chainOf (S .ceiling .0) t 0) ≡ []
   unfolding chainLines
-  lines-none = rw (chain-none n t) refl
+  lines-none = rw (chain-none (S .ceiling .0) t) refl
 
-  pub lines-next : (k : ℕ) → chainLines n (chainOf n t (k + 1)) ≡ chainLines n (chainOf n t k) ++ blockLines n t k
+  pub lines-next : (k : ℕ) → chainLines S (chainOf (S .ceiling .0) t (k + 1)) ≡ chainLines S (chainOf (S .ceiling .0) t k) ++ blockLines S t k
   unfolding chainLines
-  lines-next k = rw (add-one k, chain-more n t k, chain-length n t k, add-one k, block-round n t (suc k)) refl
+  lines-next k = let n = S .ceiling .0 in rw (add-one k, chain-more n t k, chain-length n t k, add-one k, block-round n t (suc k)) refl
+
+-- ---- the place of member m and round r
+
+module _ (t : List ℕ) (k m r : ℕ) (h : m < 16) where
+  place-at : placeLines t k (r * 16 + m) ≡ contentLines k (blockRound t k) (listed (holdsAt t k m r))
+  unfolding placeLines
+  place-at =
+      let i : (r * 16 + m) % 16 ≡ m = omega arith in
+      let j : (r * 16 + m) / 16 ≡ r = omega arith in
+      rw (i, j) refl
+
+  -- it has no line where block k does not hold it
+  pub line-absent : heldAt t m r ≡ false → placeLines t k (r * 16 + m) ≡ []
+  line-absent e = place-at ∙ place-absent t k (blockRound t k) m r e
+
+  pub line-other : (markAt t m r ≡ k → ⊥) → placeLines t k (r * 16 + m) ≡ []
+  line-other e = place-at ∙ place-other t k (blockRound t k) m r e
+
+  -- and one where it does
+  pub line-present : heldAt t m r ≡ true → markAt t m r ≡ k → placeLines t k (r * 16 + m) ≡ listingLine k (blockRound t k) r m (contentAt t m r .transactions)
+  line-present e q = place-at ∙ place-present t k (blockRound t k) m r e q
+
+  pub count-present : markAt t m r ≡ k → inBlock t k (r * 16 + m) ≡ 1
+  unfolding inBlock
+  count-present q =
+      let i : (r * 16 + m) % 16 ≡ m = omega arith in
+      let j : (r * 16 + m) / 16 ≡ r = omega arith in
+      rw (i, j, eq-eqb (markAt t m r) k q) refl

@@ -2,28 +2,29 @@
 use mathlib.Core.Path.{_≡_, refl, _∙_, sym}
 use mathlib.Core.Bool.{Bool, true, false, cond}
 use mathlib.Core.List.{List}
-use Prim.Native.Nat.{ℕ, _+_, _*_, _/_, _%_, _<_, _≤_}
+use Prim.Native.Nat.{ℕ, zero, suc, _+_, _*_, _/_, _%_, _<_, _≤_}
 use native.Mathlib.Omega.{arith}
 use native.Mathlib.Decide.{ℕ-discrete, decLt}
 use lib.Dec.{eqb, leb}
 use borrow.Author.Tests.{eq-eqb, ne-eqb, le-leb, lt-leb}
 use Rattle.base.specs.Folds.{sumTo}
-use Rattle.base.specs.SumLaws.{sum-more, sum-same, sum-add, sum-le, sum-up}
+use Rattle.base.specs.SumLaws.{sum-same, sum-add, sum-le, sum-up, sum-turned}
 use Rattle.store.specs.Table.{markAt}
-use Rattle.walk.specs.Links.{Marked}
-use Rattle.records.specs.Counts.{inBlock, inFirst, blockCount, chainCount}
+use Rattle.records.specs.Counts.{inBlock, inFirst, blockCount, chainCount, rowCount}
 
--- a marked place counts
-marked-one : {t : List ℕ} {k p : ℕ} → Marked t k p → inBlock t k p ≡ 1
-unfolding inBlock
-marked-one {t} {k} {p} x = rw (eq-eqb (markAt t (p % 16) (p / 16)) k (x .mark)) refl
+-- so many places from p on, after those below it
+sum-join : (f : ℕ → ℕ) (p n : ℕ) → sumTo f (p + n) ≡ sumTo f p + sumTo (λ i. f (p + i)) n
+unfolding sumTo
+sum-join f p zero = let e : p + 0 ≡ p = omega arith in rw e (omega arith)
+sum-join f p (suc n) = let e : p + suc n ≡ suc (p + n) = omega arith in rw (e, sum-join f p n) (omega arith)
 
-pub count-next : {t : List ℕ} {k p : ℕ} (q : ℕ) → Marked t k p → p + 1 ≤ q → sumTo (inBlock t k) p + 1 ≤ sumTo (inBlock t k) q
-count-next {t} {k} {p} q x h =
-    let l = sum-up (inBlock t k) (p + 1) q h in
-    let e = sum-more (inBlock t k) p in
-    let o = marked-one x in
-    omega arith
+-- the row of round r after the rows below it
+pub row-next : (t : List ℕ) (k r q : ℕ) → r * 16 + 16 ≤ q → sumTo (inBlock t k) (r * 16) + rowCount t k r ≤ sumTo (inBlock t k) q
+row-next t k r q h = let e = sum-join (inBlock t k) (r * 16) 16 in let l = sum-up (inBlock t k) (r * 16 + 16) q h in omega arith
+
+-- from any member round
+pub row-turned : (t : List ℕ) (k a r : ℕ) → sumTo (λ i. inBlock t k (r * 16 + (a + i) % 16)) 16 ≡ rowCount t k r
+row-turned t k a r = sum-turned (λ i. inBlock t k (r * 16 + i)) a
 
 -- the places of one block more
 first-next : (t : List ℕ) (k p : ℕ) → inFirst t k p + inBlock t (k + 1) p ≡ inFirst t (k + 1) p

@@ -19,3 +19,7 @@ blockCount n t k = sumTo (inBlock t k) (n * 16 + 16)
 
 abbrev pub chainCount : ℕ → List ℕ → ℕ → ℕ
 chainCount n t k = sumTo (inFirst t k) (n * 16 + 16)
+
+-- so many of the places of round r
+abbrev pub rowCount : List ℕ → ℕ → ℕ → ℕ
+rowCount t k r = sumTo (λ i. inBlock t k (r * 16 + i)) 16

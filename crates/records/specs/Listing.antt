@@ -6,7 +6,8 @@ use Rattle.agreement.specs.Rules.{Chain}
 use Rattle.terms.specs.Proposals.{Content}
 use Rattle.store.specs.Table.{blockRound}
 use Rattle.committee.specs.Chain.{blockAt, chainOf}
-use Rattle.committee.specs.Changes.{ordered}
+use Rattle.sheet.specs.declared.Settings.{Settings}
+use Rattle.committee.specs.Committees.{ordered}
 use Rattle.lines.specs.Lines.{listingLine}
 
 -- the lines of certificates of block k, of round b, in order
@@ -14,11 +15,11 @@ unfoldable pub contentLines : ℕ → ℕ → List Content → List ℕ
 contentLines k b [] = []
 contentLines k b (p ∷ l) = listingLine k b (p .round) (p .author) (p .transactions) ++ contentLines k b l
 
--- those of a chain, whose newest block comes first, where the ceiling is n: block by block from 1, each in its order
-unfoldable pub chainLines : ℕ → Chain Content → List ℕ
-chainLines n [] = []
-chainLines n (b ∷ c) = chainLines n c ++ contentLines (length c + 1) (b .round) (ordered n b c)
+-- those of a chain, whose newest block comes first: block by block from 1, each in its order
+unfoldable pub chainLines : Settings → Chain Content → List ℕ
+chainLines S [] = []
+chainLines S (b ∷ c) = chainLines S c ++ contentLines (length c + 1) (b .round) (ordered S b c)
 
 -- those of the block after the first k of a table
-abbrev pub blockLines : ℕ → List ℕ → ℕ → List ℕ
-blockLines n t k = contentLines (k + 1) (blockRound t (k + 1)) (ordered n (blockAt n t (k + 1)) (chainOf n t k))
+abbrev pub blockLines : Settings → List ℕ → ℕ → List ℕ
+blockLines S t k = contentLines (k + 1) (blockRound t (k + 1)) (ordered S (blockAt (S .ceiling .0) t (k + 1)) (chainOf (S .ceiling .0) t k))

@@ -121,7 +121,7 @@ fn listed(formed: bool, s: State, t: &[u32], out: &mut [u8], at: usize) -> usize
         return lines::put_refused(out, at, 1);
     }
     let settings = s.settings;
-    let next = crate::listing::list_chain(t, settings.ceiling, s.blocks, out, at);
+    let next = crate::listing::list_chain(t, settings, s.blocks, out, at);
     lines::put_ok(out, next)
 }
 

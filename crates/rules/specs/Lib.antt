@@ -19,6 +19,7 @@ pub mod Rounds
 pub mod Implementations
 pub mod Runs
 pub mod RunAgreement
+pub mod AnchorStarts
 pub mod RuleRuns
 -- The premises can be met
 pub mod RunTests

@@ -11,14 +11,14 @@ use Rattle.base.specs.Sets.{mem, isIn, add}
 use Rattle.base.specs.SetLaws.{in-member, is-in, mem-add}
 use Rattle.agreement.specs.Rules.{Block}
 use Rattle.agreement.specs.View.{Among}
-use Rattle.agreement.specs.Invariants.{FaultTolerant, Agree}
+use Rattle.agreement.specs.Invariants.{Invariant, FaultTolerant, Agree}
 use Rattle.agreement.specs.Prefixes.{_≼_, blockAt, block-stays}
 use Rattle.agreement.specs.Engines.{states, log, Legal, SignedIn}
-use Rattle.agreement.specs.EngineAgreement.{signed-in, engines-never-fork, engines-committees, engines-grow}
+use Rattle.agreement.specs.EngineAgreement.{signed-in, engines-sound, engines-never-fork, engines-committees, engines-grow}
 use Rattle.agreement.specs.Listing.{lists-comparable}
 use Rattle.terms.specs.Proposals.{Content}
 use Rattle.sheet.specs.declared.Settings.{Settings}
-use Rattle.committee.specs.Changes.{ordered}
+use Rattle.committee.specs.Committees.{ordered}
 use Rattle.committee.specs.Lawful.{lawful}
 use Rattle.rules.specs.Tests.{Member, signersOf}
 use Rattle.rules.specs.Calls as Calls
@@ -91,6 +91,11 @@ module _ {S : Settings} {F : Implementation S} (X : Group S F) where
   legal [] r = tt
   legal (e ∷ l) r = (r .0 .by, (r .0 .handed, λ a p d t. signed-by l p d (r .0 .signed a p d t)), tolerant (e ∷ l) r (r .1), legal l (r .2))
 
+  -- what the theory says of a correct member holds in every state of a run
+  pub run-invariant : (l : Entries X) → Run X l → (i : ℕ) → correct i ≡ true
+      → Invariant correct (log (engines X) start l) i (viewAfter X l i) (log (engines X) start l i)
+  run-invariant l r i c = engines-sound (engines X) start (lawful S) (X .good) fresh l (legal l r) .members i c
+
   -- the chains of correct members never fork
   pub never-fork : (l : Entries X) → Run X l → Agree correct (viewAfter X l)
   never-fork l r = engines-never-fork (engines X) start (lawful S) (X .good) fresh l (legal l r)
@@ -99,7 +104,7 @@ module _ {S : Settings} {F : Implementation S} (X : Group S F) where
   pub runs-agree : (l : Entries X) → Run X l → Agreed X l
   runs-agree l r =
       record {
-        chains = λ i j ci cj. lists-comparable (ordered (S .ceiling .0)) (never-fork l r i j ci cj);
+        chains = λ i j ci cj. lists-comparable (ordered S) (never-fork l r i j ci cj);
         committees = λ i j n ci cj ki kj m. ap (λ (w : ℕ → ℕ). w m) (engines-committees (engines X) start (lawful S) (X .good) fresh l (legal l r) i j n ci cj ki kj);
       }
 

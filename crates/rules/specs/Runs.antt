@@ -13,7 +13,7 @@ use Rattle.agreement.specs.Engines.{Engine, Entry, states}
 use Rattle.agreement.specs.Listing.{Lists}
 use Rattle.terms.specs.Proposals.{Content}
 use Rattle.sheet.specs.declared.Settings.{Settings}
-use Rattle.committee.specs.Changes.{ordered}
+use Rattle.committee.specs.Committees.{ordered}
 use Rattle.committee.specs.Instance.{rules}
 use Rattle.rules.specs.Tests.{Member, committeeIn}
 use Rattle.rules.specs.Calls as Calls
@@ -82,6 +82,6 @@ module _ {S : Settings} {F : Implementation S} (X : Group S F) where
   -- of two correct members' chains one lists what the other lists and perhaps more, and whoever knows a round knows the same weights
   pub record Agreed (l : Entries) : Type 0 where
     pub chains : (i j : ℕ) → correct i ≡ true → correct j ≡ true
-        → Lists (ordered (S .ceiling .0)) (chainAfter l i) (chainAfter l j) ⊎ Lists (ordered (S .ceiling .0)) (chainAfter l j) (chainAfter l i)
+        → Lists (ordered S) (chainAfter l i) (chainAfter l j) ⊎ Lists (ordered S) (chainAfter l j) (chainAfter l i)
     pub committees : (i j r : ℕ) → correct i ≡ true → correct j ≡ true → Knows (viewAfter l i) r → Knows (viewAfter l j) r
         → (m : ℕ) → committeeIn S (viewAfter l i) r m ≡ committeeIn S (viewAfter l j) r m

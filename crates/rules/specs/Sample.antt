@@ -20,8 +20,8 @@ use Rattle.terms.specs.Transactions.{bondInRange, sameTransaction}
 use Rattle.terms.specs.Proposals.{Content, unfit, allInRange, wrongSet, same, sameTransactions}
 use Rattle.sheet.specs.declared.Settings.{Settings}
 use Rattle.sheet.specs.Ranges.{outside, outOfRange}
-use Rattle.committee.specs.Changes.{changes, changesOf, row, rows, ordered}
-use Rattle.committee.specs.Committees.{step, bondedFrom, committeeOf, knownBy, boundOf, quorumWeight, outsider, short, quorum}
+use Rattle.committee.specs.Changes.{changes, changesOf, row, rows}
+use Rattle.committee.specs.Committees.{committeeBy, leaderBy, stepFrom, bondedFrom, committeeOf, startOf, ordered, knownBy, boundOf, quorumWeight, outsider, short, quorum}
 use Rattle.committee.specs.Leaders.{countBelow, memberBelow, memberAt, leaderOf}
 use Rattle.rules.specs.Tests.{committeeIn, badRound, signersOf, above, unknown, missing, unvoted}
 use Rattle.rules.specs.AcceptedMoves.{setFits}
@@ -91,12 +91,12 @@ calls =
 
 -- the block that members 0 and 1 list
 abbrev block : List (ℕ × List Content)
-block = (2, at 0 1 0 bond ∷ at 1 1 0 [] ∷ at 3 1 0 [] ∷ at 1 2 11 [] ∷ []) ∷ []
+block = (2, at 1 1 0 [] ∷ at 3 1 0 [] ∷ at 0 1 0 bond ∷ at 1 2 11 [] ∷ []) ∷ []
 
 pub record Sample : Type 0 where
   pub premises : isRun members (λ k s c. setFits c) calls ≡ true
-  pub listed-by-0 : listing (ordered 6) (chainAfter members calls 0) ≡ block
-  pub listed-by-1 : listing (ordered 6) (chainAfter members calls 1) ≡ block
+  pub listed-by-0 : listing (ordered sheet) (chainAfter members calls 0) ≡ block
+  pub listed-by-1 : listing (ordered sheet) (chainAfter members calls 1) ≡ block
   -- the bond is out in round 3 and in from round 4
   pub weight-before : committeeIn sheet (viewAfter members calls 0) 3 2 ≡ 1
   pub weight-after : committeeIn sheet (viewAfter members calls 0) 4 2 ≡ 6
@@ -104,7 +104,7 @@ pub record Sample : Type 0 where
   pub refused-at-last : verdict sheet 0 (viewAfter members calls 0) commit ≡ 20
 
 pub sample : Sample
-unfolding states result verdict after put mark isPlace refusal unfit allInRange bondInRange wrongSet isEmpty unknown knownBy committeeOf bondedFrom step ordered rows row changesOf changes above missing quorum outsider short quorumWeight boundOf anyTo sumTo isIn mem add signersOf badRound same sameTransactions sameTransaction unvoted anchorAt leaderOf memberAt memberBelow countBelow used blockOf blocksOf taken committed level inHistory listing isMade isSigned isBounded isFair isRun allTo
+unfolding states result verdict after put mark isPlace refusal unfit allInRange bondInRange wrongSet isEmpty unknown knownBy committeeOf committeeBy leaderBy stepFrom bondedFrom startOf ordered rows row changesOf changes above missing quorum outsider short quorumWeight boundOf anyTo sumTo isIn mem add signersOf badRound same sameTransactions sameTransaction unvoted anchorAt leaderOf memberAt memberBelow countBelow used blockOf blocksOf taken committed level inHistory listing isMade isSigned isBounded isFair isRun allTo
 sample = record { premises = refl; listed-by-0 = refl; listed-by-1 = refl; weight-before = refl; weight-after = refl; refused-at-last = refl }
 
 pub sample-run : Run members calls

@@ -2,14 +2,16 @@
 use mathlib.Core.Path.{_≡_, refl, _∙_}
 use mathlib.Core.Bool.{Bool, true, false, cond}
 use mathlib.Core.List.{List}
-use Prim.Native.Nat.{ℕ, _+_, _-_, _*_, _/_, _%_, _<_, _≤_}
+use Prim.Native.Nat.{ℕ, zero, suc, _+_, _*_, _/_, _%_, _<_, _≤_}
 use native.Mathlib.Omega.{arith}
 use native.Mathlib.Nat.{mul-le-mul-right}
 use native.Mathlib.Decide.{decLt}
 use lib.ListN.{getD}
-use lib.Dec.{eqb, ltb}
+use lib.Dec.{eqb, leb, ltb}
 use borrow.Author.Tests.{eqb-true, eqb-false}
 use Rattle.base.specs.Folds.{foldTo, sumTo}
+use Rattle.base.specs.SumLaws.{sum-turned, sum-same, sum-le}
+use Rattle.sheet.specs.declared.Settings.{Settings}
 use Rattle.terms.specs.Transactions.{amountOf}
 use Rattle.store.specs.Table.{blockRound, heldAt, markAt, countAt, transactionAt}
 use Rattle.store.specs.TableLaws.{count-le, amount-lt}
@@ -20,8 +22,9 @@ use Rattle.committee.specs.Committees.{step, bondedFrom}
 use Rattle.committee.specs.BondedLaws.{step-waits, bonded-fold}
 use Rattle.committee.specs.Totals.{totalIn, Raises}
 use Rattle.committee.specs.TotalLaws.{still-raises, choice-raises, change-raises, raised, raises-more, raises-same, fold-raises, fold-raises-each, marks-once}
-use Rattle.walk.specs.Walk.{slotChange, placeChange, placesChange, blockChange, afterBlocks}
-use Rattle.walk.specs.WalkLaws.{record-fold, place-absent, place-other, place-present, block-rows}
+use Rattle.walk.specs.Walk.{slotChange, placeChange, recordChange, startAt, blockChange, afterBlocks}
+use Rattle.walk.specs.Runs.{runOver, turnsOver, rowsOver}
+use Rattle.walk.specs.WalkLaws.{record-fold, record-slots, place-absent, place-other, place-present, block-rows}
 use Rattle.walk.specs.ChainLaws.{block-counts}
 
 -- the amounts of held transactions are at most a, in the rounds 1 to n
@@ -47,24 +50,6 @@ module _ (t : List ℕ) (n a : ℕ) (modest : Modest t n a) where
           (λ w. place-present t k m r w e (eqb-true (markAt t m r) k q) ∙ record-fold t m r w)
           (turns-raise t m r a (countAt t m r) (count-le t m r) (λ j i. modest m r j h l e i))
 
-  -- what block k + 1 may raise it by
-  block-raises : (k : ℕ) → Raises (blockChange n t k) (sumTo (λ r. sumTo (λ m. cond (eqb (markAt t m (r + 1)) (k + 1)) (4 * a) 0) 16) n)
-  block-raises k =
-      raises-same (blockChange n t k) (foldTo (λ r. foldTo (λ m. changesOf (listed (holdsAt t (k + 1) m (r + 1)))) 16) n) (sumTo (λ r. sumTo (λ m. cond (eqb (markAt t m (r + 1)) (k + 1)) (4 * a) 0) 16) n)
-      (block-rows t k n)
-      (fold-raises (λ r. foldTo (λ m. changesOf (listed (holdsAt t (k + 1) m (r + 1)))) 16) (λ r. sumTo (λ m. cond (eqb (markAt t m (r + 1)) (k + 1)) (4 * a) 0) 16) n
-      (λ r h. fold-raises (λ m. changesOf (listed (holdsAt t (k + 1) m (r + 1)))) (λ m. cond (eqb (markAt t m (r + 1)) (k + 1)) (4 * a) 0) 16 (λ m _. place-raises (k + 1) m (r + 1) (omega arith) (omega arith))))
-
-  step-raises : (s k : ℕ) → Raises (step n s (blockAt n t (k + 1)) (chainOf n t k)) (sumTo (λ r. sumTo (λ m. cond (eqb (markAt t m (r + 1)) (k + 1)) (4 * a) 0) 16) n)
-  step-raises s k = go (decLt (blockRound t (k + 1)) s)
-    where
-      c : ℕ
-      c = sumTo (λ r. sumTo (λ m. cond (eqb (markAt t m (r + 1)) (k + 1)) (4 * a) 0) 16) n
-
-      go : Dec (blockRound t (k + 1) < s) → Raises (step n s (blockAt n t (k + 1)) (chainOf n t k)) c
-      go (yes h) = raises-same (step n s (blockAt n t (k + 1)) (chainOf n t k)) (blockChange n t k) c (λ w. block-counts n s k t w h) (block-raises k)
-      go (no h) = raises-same (step n s (blockAt n t (k + 1)) (chainOf n t k)) (λ w. w) c (λ w. step-waits n s (blockAt n t (k + 1)) (chainOf n t k) w (rw (block-round n t (k + 1)) (omega arith))) (still-raises c)
-
   -- each place counts once at most
   once : (f : ℕ → List ℕ → List ℕ) → ((k : ℕ) → Raises (f k) (sumTo (λ r. sumTo (λ m. cond (eqb (markAt t m (r + 1)) (k + 1)) (4 * a) 0) 16) n)) → (k : ℕ) → Raises (foldTo f k) (n * (16 * (4 * a)))
   once f h k =
@@ -72,28 +57,60 @@ module _ (t : List ℕ) (n a : ℕ) (modest : Modest t n a) where
       (marks-once (λ m r. markAt t m (r + 1)) (4 * a) k n)
       (fold-raises f (λ j. sumTo (λ r. sumTo (λ m. cond (eqb (markAt t m (r + 1)) (j + 1)) (4 * a) 0) 16) n) k (λ j _. h j))
 
-  -- the bonded committee
-  pub bonded-raises : (s k : ℕ) (w : List ℕ) → totalIn (bondedFrom n w (chainOf n t k) s) ≤ totalIn w + n * (16 * (4 * a))
-  bonded-raises s k w =
-      rw (bonded-fold n t w k s)
-      (raised (foldTo (λ j. step n s (blockAt n t (j + 1)) (chainOf n t j)) k) (n * (16 * (4 * a))) (once (λ j. step n s (blockAt n t (j + 1)) (chainOf n t j)) (step-raises s) k) w)
+  -- what the rows of block k up to m may raise it by: wherever they start
+  rows-raise : (k s m : ℕ) → m ≤ n → Raises (rowsOver (placeChange t k) s m) (sumTo (λ r. sumTo (λ i. cond (eqb (markAt t i (r + 1)) k) (4 * a) 0) 16) m)
+  unfolding rowsOver turnsOver placeChange
+  rows-raise k s m u =
+      rw (← sum-same (λ r. sumTo (λ i. cond (eqb (markAt t ((s + i) % 16) (r + 1)) k) (4 * a) 0) 16) (λ r. sumTo (λ i. cond (eqb (markAt t i (r + 1)) k) (4 * a) 0) 16) m (λ r _. sum-turned (λ i. cond (eqb (markAt t i (r + 1)) k) (4 * a) 0) s))
+      (fold-raises (λ r. foldTo (λ i. changesOf (listed (holdsAt t k (((r + 1) * 16 + (s + i) % 16) % 16) (((r + 1) * 16 + (s + i) % 16) / 16)))) 16) (λ r. sumTo (λ i. cond (eqb (markAt t ((s + i) % 16) (r + 1)) k) (4 * a) 0) 16) m
+      (λ r h. fold-raises (λ i. changesOf (listed (holdsAt t k (((r + 1) * 16 + (s + i) % 16) % 16) (((r + 1) * 16 + (s + i) % 16) / 16)))) (λ i. cond (eqb (markAt t ((s + i) % 16) (r + 1)) k) (4 * a) 0) 16
+      (λ i _.
+      let x : ((r + 1) * 16 + (s + i) % 16) % 16 ≡ (s + i) % 16 = omega arith in
+      let y : ((r + 1) * 16 + (s + i) % 16) / 16 ≡ r + 1 = omega arith in
+      rw (x, y) (place-raises k ((s + i) % 16) (r + 1) (omega arith) (omega arith)))))
 
-  -- the weights after the first k blocks
-  after-raises : (k : ℕ) (w : List ℕ) → totalIn (afterBlocks n t k w) ≤ totalIn w + n * (16 * (4 * a))
-  unfolding afterBlocks
-  after-raises k w = raised (foldTo (blockChange n t) k) (n * (16 * (4 * a))) (once (blockChange n t) block-raises k) w
-
-  -- the places below p
-  places-raise : (k p : ℕ) → p ≤ n * 16 + 16 → Raises (placesChange t k p) ((p - 16) * (4 * a))
-  unfolding placesChange placeChange
-  places-raise k p h =
-      fold-raises-each (λ i. changesOf (listed (holdsAt t k ((i + 16) % 16) ((i + 16) / 16)))) (4 * a) (p - 16)
-      (λ i l. raises-more (changesOf (listed (holdsAt t k ((i + 16) % 16) ((i + 16) / 16)))) (cond (eqb (markAt t ((i + 16) % 16) ((i + 16) / 16)) k) (4 * a) 0) (4 * a)
-      (most (eqb (markAt t ((i + 16) % 16) ((i + 16) / 16)) k)) (place-raises k ((i + 16) % 16) ((i + 16) / 16) (omega arith) (omega arith)))
+  -- at most all of their places
+  rows-most : (k s m : ℕ) → m ≤ n → Raises (rowsOver (placeChange t k) s m) (m * (16 * (4 * a)))
+  rows-most k s m u =
+      raises-more (rowsOver (placeChange t k) s m) (sumTo (λ r. sumTo (λ i. cond (eqb (markAt t i (r + 1)) k) (4 * a) 0) 16) m) (m * (16 * (4 * a)))
+      (sum-le (λ r. sumTo (λ i. cond (eqb (markAt t i (r + 1)) k) (4 * a) 0) 16) (16 * (4 * a)) m (λ r _. sum-le (λ i. cond (eqb (markAt t i (r + 1)) k) (4 * a) 0) (4 * a) 16 (λ i _. most (eqb (markAt t i (r + 1)) k))))
+      (rows-raise k s m u)
     where
       most : (b : Bool) → cond b (4 * a) 0 ≤ 4 * a
       most true = omega arith
       most false = omega arith
+
+module _ (t : List ℕ) (S : Settings) (a : ℕ) (modest : Modest t (S .ceiling .0) a) where
+  abbrev n : ℕ
+  n = S .ceiling .0
+
+  -- what block k + 1 may raise it by
+  block-raises : (k : ℕ) → Raises (blockChange S t k) (sumTo (λ r. sumTo (λ m. cond (eqb (markAt t m (r + 1)) (k + 1)) (4 * a) 0) 16) n)
+  block-raises k =
+      raises-same (blockChange S t k) (rowsOver (placeChange t (k + 1)) (startAt S t k) n) (sumTo (λ r. sumTo (λ m. cond (eqb (markAt t m (r + 1)) (k + 1)) (4 * a) 0) 16) n)
+      (block-rows S t k)
+      (rows-raise t n a modest (k + 1) (startAt S t k) n (omega arith))
+
+  step-raises : (s k : ℕ) → Raises (step S s (blockAt n t (k + 1)) (chainOf n t k)) (sumTo (λ r. sumTo (λ m. cond (eqb (markAt t m (r + 1)) (k + 1)) (4 * a) 0) 16) n)
+  step-raises s k = go (decLt (blockRound t (k + 1)) s)
+    where
+      c : ℕ
+      c = sumTo (λ r. sumTo (λ m. cond (eqb (markAt t m (r + 1)) (k + 1)) (4 * a) 0) 16) n
+
+      go : Dec (blockRound t (k + 1) < s) → Raises (step S s (blockAt n t (k + 1)) (chainOf n t k)) c
+      go (yes h) = raises-same (step S s (blockAt n t (k + 1)) (chainOf n t k)) (blockChange S t k) c (λ w. block-counts S s k t w h) (block-raises k)
+      go (no h) = raises-same (step S s (blockAt n t (k + 1)) (chainOf n t k)) (λ w. w) c (λ w. step-waits S s (blockAt n t (k + 1)) (chainOf n t k) w (rw (block-round n t (k + 1)) (omega arith))) (still-raises c)
+
+  -- the bonded committee
+  pub bonded-raises : (s k : ℕ) → totalIn (bondedFrom S (chainOf n t k) s) ≤ totalIn (S .weights) + n * (16 * (4 * a))
+  bonded-raises s k =
+      rw (bonded-fold S n t k s)
+      (raised (foldTo (λ j. step S s (blockAt n t (j + 1)) (chainOf n t j)) k) (n * (16 * (4 * a))) (once t n a modest (λ j. step S s (blockAt n t (j + 1)) (chainOf n t j)) (step-raises s) k) (S .weights))
+
+  -- the weights after the first k blocks
+  after-raises : (k : ℕ) (w : List ℕ) → totalIn (afterBlocks S t k w) ≤ totalIn w + n * (16 * (4 * a))
+  unfolding afterBlocks
+  after-raises k w = raised (foldTo (blockChange S t) k) (n * (16 * (4 * a))) (once t n a modest (blockChange S t) block-raises k) w
 
 -- ---- where each word is a 32-bit number
 
@@ -112,13 +129,40 @@ module _ (t : List ℕ) (words : (i : ℕ) → getD t i 0 < 4294967296) where
       (still-raises 4294967295))) w in
       omega arith
 
-  pub places-light : (k p : ℕ) (w : List ℕ) → p ≤ 16400 → totalIn (placesChange t k p w) ≤ totalIn w + 281474976645120
-  places-light k p w h =
-      let r = raised (placesChange t k p) ((p - 16) * 17179869180) (places-raise t 1024 4294967295 (modest 1024) k p h) w in
+  -- a record
+  pub record-light : (p : ℕ) (w : List ℕ) → totalIn (recordChange t p w) ≤ totalIn w + 17179869180
+  unfolding recordChange
+  record-light p w = rw (record-slots t (p % 16) (p / 16) w) (slots-light (p % 16) (p / 16) 4 w (omega arith))
+
+  pub turn-light : (y p : ℕ) (w : List ℕ) → totalIn (cond (leb y p) (recordChange t p w) w) ≤ totalIn w + 17179869180
+  turn-light y p w = go (leb y p)
+    where
+      go : (b : Bool) → totalIn (cond b (recordChange t p w) w) ≤ totalIn w + 17179869180
+      go true = record-light p w
+      go false = omega arith
+
+  -- a run of at most n places
+  pub run-light : (next : List ℕ) (y z n q : ℕ) (w : List ℕ) → totalIn (runOver (recordChange t) next y z n q w) ≤ totalIn w + n * 17179869180
+  unfolding runOver
+  run-light next y z zero q w = omega arith
+  run-light next y z (suc n) q w = go (ltb q z) (run-light next y z n (getD next q 0) (cond (leb y q) (recordChange t q w) w))
+    where
+      v : List ℕ
+      v = cond (leb y q) (recordChange t q w) w
+
+      go : (b : Bool) → totalIn (runOver (recordChange t) next y z n (getD next q 0) v) ≤ totalIn v + n * 17179869180
+          → totalIn (cond b (runOver (recordChange t) next y z n (getD next q 0) v) w) ≤ totalIn w + suc n * 17179869180
+      go true i = let j = turn-light y q w in omega arith
+      go false i = omega arith
+
+  -- the rows of a block up to m
+  pub rows-light : (k s m : ℕ) (w : List ℕ) → m ≤ 1024 → totalIn (rowsOver (placeChange t k) s m w) ≤ totalIn w + 281474976645120
+  rows-light k s m w h =
+      let r = raised (rowsOver (placeChange t k) s m) (m * (16 * (4 * 4294967295))) (rows-most t 1024 4294967295 (modest 1024) k s m h) w in
       omega arith
 
-  pub after-light : (n k : ℕ) (w : List ℕ) → n ≤ 1024 → totalIn (afterBlocks n t k w) ≤ totalIn w + 281474976645120
-  after-light n k w h = let p = after-raises t n 4294967295 (modest n) k w in omega arith
+  pub after-light : (S : Settings) (k : ℕ) (w : List ℕ) → S .ceiling .0 ≤ 1024 → totalIn (afterBlocks S t k w) ≤ totalIn w + 281474976645120
+  after-light S k w h = let p = after-raises t S 4294967295 (modest (S .ceiling .0)) k w in omega arith
 
-  pub bonded-light : (n k s : ℕ) (w : List ℕ) → n ≤ 1024 → totalIn (bondedFrom n w (chainOf n t k) s) ≤ totalIn w + 281474976645120
-  bonded-light n k s w h = let p = bonded-raises t n 4294967295 (modest n) s k w in omega arith
+  pub bonded-light : (S : Settings) (k s : ℕ) → S .ceiling .0 ≤ 1024 → totalIn (bondedFrom S (chainOf (S .ceiling .0) t k) s) ≤ totalIn (S .weights) + 281474976645120
+  bonded-light S k s h = let p = bonded-raises t S 4294967295 (modest (S .ceiling .0)) s k in omega arith

@@ -1,10 +1,10 @@
 -- Laws of the chain in the table: the bonded committee block by block, and block rounds that rise.
-use mathlib.Core.Path.{_≡_, refl}
+use mathlib.Core.Path.{_≡_, refl, sym, _∙_}
 use mathlib.Core.Bool.{_&&_, true}
 use mathlib.Core.List.{List}
-use Prim.Native.Nat.{ℕ, zero, suc, _+_, _*_, _%_, _<_, _≤_}
+use Prim.Native.Nat.{ℕ, zero, suc, _+_, _-_, _*_, _%_, _<_, _≤_}
 use native.Mathlib.Omega.{arith}
-use native.Mathlib.Decide.{ℕ-discrete}
+use native.Mathlib.Decide.{ℕ-discrete, decLt}
 use native.Mathlib.Numerals.{add-one}
 use lib.Dec.{eqb, ltb, eqb·suc-zero}
 use borrow.Author.Tests.{ne-eqb, ltb-true, eqb-true}
@@ -16,9 +16,11 @@ use Rattle.agreement.specs.Rules.{last}
 use Rattle.store.specs.Table.{blockRound}
 use Rattle.committee.specs.Chain.{blockAt, chainOf}
 use Rattle.committee.specs.ChainLaws.{block-round, chain-last}
-use Rattle.committee.specs.Committees.{step, bondedFrom}
+use Rattle.sheet.specs.declared.Settings.{Settings}
+use Rattle.committee.specs.Committees.{step, bondedFrom, committeeOf, leaderBy, startOf}
+use Rattle.committee.specs.CommitteeLaws.{committee-start, committee-bonded}
 use Rattle.committee.specs.BondedLaws.{step-counts, step-waits, bonded-none, bonded-more}
-use Rattle.walk.specs.Walk.{blockChange, afterBlocks, lastRound, blockFits, blocksFit}
+use Rattle.walk.specs.Walk.{startAt, blockChange, afterBlocks, lastRound, blockFits, blocksFit}
 
 -- ---- the last round
 
@@ -37,9 +39,9 @@ last-chain n t k = chain-last n t k
 -- ---- a block
 
 -- of a round below s it counts
-pub block-counts : (n s k : ℕ) (t w : List ℕ) → blockRound t (k + 1) < s → step n s (blockAt n t (k + 1)) (chainOf n t k) w ≡ blockChange n t k w
+pub block-counts : (S : Settings) (s k : ℕ) (t w : List ℕ) → blockRound t (k + 1) < s → step S s (blockAt (S .ceiling .0) t (k + 1)) (chainOf (S .ceiling .0) t k) w ≡ blockChange S t k w
 unfolding blockChange
-block-counts n s k t w h = step-counts n s (blockAt n t (k + 1)) (chainOf n t k) w (rw (block-round n t (k + 1)) h)
+block-counts S s k t w h = let n = S .ceiling .0 in step-counts S s (blockAt n t (k + 1)) (chainOf n t k) w (rw (block-round n t (k + 1)) h)
 
 -- ---- rounds that rise
 
@@ -86,33 +88,79 @@ module _ (n : ℕ) (t : List ℕ) (blocks : ℕ) (fit : blocksFit n t blocks ≡
       go (yes e) f = rw e (omega arith)
       go (no e) f = let p = f (omega arith) in let q = fits-at k (omega arith) in rw (last-next k) (omega arith)
 
-  -- where the newest block's round is below s, all count
-  bonded-all : (w : List ℕ) (s k : ℕ) → k ≤ blocks → lastRound t k < s → bondedFrom n w (chainOf n t k) s ≡ afterBlocks n t k w
-  unfolding afterBlocks foldTo
-  bonded-all w s zero h l = bonded-none n t w s
-  bonded-all w s (suc k) h l =
-      let q = fits-at k (omega arith) in
-      let b : blockRound t (k + 1) < s = rw (last-next k) at l in
-      rw (← add-one k, bonded-more n t w k s, block-counts n s k t (bondedFrom n w (chainOf n t k) s) b, bonded-all w s k (omega arith) (omega arith)) refl
-
-  -- the first j count where the round of block j is below s, and that of the next is not
-  pub bonded-split : (w : List ℕ) (s j k : ℕ) → j ≤ k → k ≤ blocks → lastRound t j < s → (j < k → s ≤ blockRound t (j + 1)) → bondedFrom n w (chainOf n t k) s ≡ afterBlocks n t j w
-  bonded-split w s j zero h l b f = let e : j ≡ 0 = omega arith in rw e (bonded-all w s 0 (omega arith) (rw e at b))
-  bonded-split w s j (suc k) h l b f = go (ℕ-discrete j (suc k)) (λ q. bonded-split w s j k q (omega arith) b (λ x. f (omega arith)))
-    where
-      go : Dec (j ≡ suc k) → (j ≤ k → bondedFrom n w (chainOf n t k) s ≡ afterBlocks n t j w) → bondedFrom n w (chainOf n t (suc k)) s ≡ afterBlocks n t j w
-      go (yes e) g = rw (← e) (bonded-all w s j (omega arith) b)
-      go (no e) g =
-          let u = last-up (suc j) (suc k) (omega arith) l in
-          let x : s ≤ blockRound t (k + 1) = omega (arith, f (omega arith), last-next j, last-next k) in
-          rw (← add-one k, bonded-more n t w k s, step-waits n s (blockAt n t (k + 1)) (chainOf n t k) (bondedFrom n w (chainOf n t k) s) (rw (block-round n t (k + 1)) x)) (g (omega arith))
-
 -- ---- one block more
 
-pub after-none : (n : ℕ) (t w : List ℕ) → afterBlocks n t 0 w ≡ w
+pub after-none : (S : Settings) (t w : List ℕ) → afterBlocks S t 0 w ≡ w
 unfolding afterBlocks foldTo
-after-none n t w = refl
+after-none S t w = refl
 
-pub after-more : (n : ℕ) (t : List ℕ) (k : ℕ) (w : List ℕ) → afterBlocks n t (k + 1) w ≡ blockChange n t k (afterBlocks n t k w)
+pub after-more : (S : Settings) (t : List ℕ) (k : ℕ) (w : List ℕ) → afterBlocks S t (k + 1) w ≡ blockChange S t k (afterBlocks S t k w)
 unfolding afterBlocks
-after-more n t k w = fold-more (blockChange n t) k w
+after-more S t k w = fold-more (blockChange S t) k w
+
+-- ---- the bonded committee
+
+module _ (S : Settings) (t : List ℕ) (blocks : ℕ) (fit : blocksFit (S .ceiling .0) t blocks ≡ true) where
+  abbrev n : ℕ
+  n = S .ceiling .0
+
+  -- where the newest block's round is below s, all count
+  bonded-all : (s k : ℕ) → k ≤ blocks → lastRound t k < s → bondedFrom S (chainOf n t k) s ≡ afterBlocks S t k (S .weights)
+  unfolding afterBlocks foldTo
+  bonded-all s zero h l = bonded-none S n t s
+  bonded-all s (suc k) h l =
+      let q = fits-at n t blocks fit k (omega arith) in
+      let b : blockRound t (k + 1) < s = rw (last-next n t blocks fit k) at l in
+      rw (← add-one k, bonded-more S n t k s, block-counts S s k t (bondedFrom S (chainOf n t k) s) b, bonded-all s k (omega arith) (omega arith)) refl
+
+  -- the first j count where the round of block j is below s, and that of the next is not
+  pub bonded-split : (s j k : ℕ) → j ≤ k → k ≤ blocks → lastRound t j < s → (j < k → s ≤ blockRound t (j + 1)) → bondedFrom S (chainOf n t k) s ≡ afterBlocks S t j (S .weights)
+  bonded-split s j zero h l b f = let e : j ≡ 0 = omega arith in rw e (bonded-all s 0 (omega arith) (rw e at b))
+  bonded-split s j (suc k) h l b f = go (ℕ-discrete j (suc k)) (λ q. bonded-split s j k q (omega arith) b (λ x. f (omega arith)))
+    where
+      go : Dec (j ≡ suc k) → (j ≤ k → bondedFrom S (chainOf n t k) s ≡ afterBlocks S t j (S .weights)) → bondedFrom S (chainOf n t (suc k)) s ≡ afterBlocks S t j (S .weights)
+      go (yes e) g = rw (← e) (bonded-all s j (omega arith) b)
+      go (no e) g =
+          let u = last-up n t blocks fit (suc j) (suc k) (omega arith) l in
+          let x : s ≤ blockRound t (k + 1) = omega (arith, f (omega arith), last-next n t blocks fit j, last-next n t blocks fit k) in
+          rw (← add-one k, bonded-more S n t k s, step-waits S s (blockAt n t (k + 1)) (chainOf n t k) (bondedFrom S (chainOf n t k) s) (rw (block-round n t (k + 1)) x)) (g (omega arith))
+
+  -- blocks from round s on do not count: the chain of the first j tells what the whole chain tells
+  pub bonded-below : (s j k : ℕ) → j ≤ k → k ≤ blocks → (j < k → s ≤ blockRound t (j + 1)) → bondedFrom S (chainOf n t k) s ≡ bondedFrom S (chainOf n t j) s
+  bonded-below s j zero h l f = let e : j ≡ 0 = omega arith in rw e refl
+  bonded-below s j (suc k) h l f = go (ℕ-discrete j (suc k)) (λ q. bonded-below s j k q (omega arith) (λ x. f (omega arith)))
+    where
+      go : Dec (j ≡ suc k) → (j ≤ k → bondedFrom S (chainOf n t k) s ≡ bondedFrom S (chainOf n t j) s) → bondedFrom S (chainOf n t (suc k)) s ≡ bondedFrom S (chainOf n t j) s
+      go (yes e) g = rw e refl
+      go (no e) g =
+          let u = last-up n t blocks fit (suc j) (suc k) (omega arith) l in
+          let x : s ≤ blockRound t (k + 1) = omega (arith, f (omega arith), last-next n t blocks fit j, last-next n t blocks fit k) in
+          rw (← add-one k, bonded-more S n t k s, step-waits S s (blockAt n t (k + 1)) (chainOf n t k) (bondedFrom S (chainOf n t k) s) (rw (block-round n t (k + 1)) x)) (g (omega arith))
+
+  -- so the order of a block starts with the leader of its round, as the whole chain tells it
+  pub start-whole : (k : ℕ) → k < blocks → startAt S t k ≡ leaderBy (committeeOf S (chainOf n t blocks) (blockRound t (k + 1))) (blockRound t (k + 1))
+  unfolding startAt startOf committeeOf
+  start-whole k h =
+      let r = blockRound t (k + 1) in
+      let e = bonded-below (r - S .lookback) k blocks (omega arith) (omega arith) (λ _. omega arith) in
+      rw (block-round n t (k + 1), e) refl
+
+  -- and as the first k blocks tell it, where no block from there on has a round below its own less the lookback
+  pub start-now : (k i : ℕ) → k ≤ i → i < blocks → (0 < k → lastRound t k + S .lookback < blockRound t (i + 1)) → blockRound t (i + 1) ≤ blockRound t (k + 1) + S .lookback
+      → startAt S t i ≡ leaderBy (afterBlocks S t k (S .weights)) (blockRound t (i + 1))
+  unfolding startAt startOf
+  start-now k i h l ahead near = rw (block-round n t (i + 1), go (decLt (S .lookback) (blockRound t (i + 1)))) refl
+    where
+      go : Dec (S .lookback < blockRound t (i + 1)) → committeeOf S (chainOf n t i) (blockRound t (i + 1)) ≡ afterBlocks S t k (S .weights)
+      go (yes d) =
+          committee-bonded S (chainOf n t i) (blockRound t (i + 1)) d
+          ∙ bonded-split (blockRound t (i + 1) - S .lookback) k i h (omega arith) (passed (ℕ-discrete k 0)) (λ _. omega arith)
+        where
+          passed : Dec (k ≡ 0) → lastRound t k < blockRound t (i + 1) - S .lookback
+          passed (yes z) = rw (z, last-none t) (omega arith)
+          passed (no z) = omega (arith, ahead (omega arith))
+      go (no d) = committee-start S (chainOf n t i) (blockRound t (i + 1)) (omega arith) ∙ first (ℕ-discrete k 0)
+        where
+          first : Dec (k ≡ 0) → S .weights ≡ afterBlocks S t k (S .weights)
+          first (yes z) = rw z (sym (after-none S t (S .weights)))
+          first (no z) = absurd (omega (arith, ahead (omega arith)))

@@ -5,13 +5,11 @@ use lib.ListN.{set}
 use Rattle.agreement.specs.Rules.{Chain}
 use Rattle.terms.specs.Proposals.{Content}
 use Rattle.sheet.specs.declared.Settings.{Settings}
-use Rattle.sheet.specs.Ranges.{weightIn}
-use Rattle.committee.specs.Committees.{committeeOf}
-use Rattle.committee.specs.Leaders.{leaderOf, leaderNumber}
+use Rattle.committee.specs.Committees.{committeeOf, leaderBy}
 
 -- the number of the leader of round r, 16 for none
 unfoldable pub leaderAt : Settings → Chain Content → ℕ → ℕ
-leaderAt S c r = leaderNumber (leaderOf (weightIn (committeeOf S c r)) r)
+leaderAt S c r = leaderBy (committeeOf S c r) r
 
 -- the values of g at the n rounds above m, written over l
 unfoldable pub fillTo : (ℕ → ℕ) → ℕ → ℕ → List ℕ → List ℕ

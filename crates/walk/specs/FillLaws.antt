@@ -10,13 +10,13 @@ use Rattle.agreement.specs.Rules.{Chain}
 use Rattle.terms.specs.Proposals.{Content}
 use Rattle.sheet.specs.declared.Settings.{Settings}
 use Rattle.sheet.specs.Ranges.{weightIn}
-use Rattle.committee.specs.Committees.{committeeOf}
+use Rattle.committee.specs.Committees.{committeeOf, leaderBy}
 use Rattle.committee.specs.Leaders.{leaderOf, leaderNumber}
 use Rattle.walk.specs.Fill.{leaderAt, fillTo}
 
 -- the leader of a round is that of its committee
 pub leader-at : (S : Settings) (c : Chain Content) (r : ℕ) → leaderAt S c r ≡ leaderNumber (leaderOf (weightIn (committeeOf S c r)) r)
-unfolding leaderAt
+unfolding leaderAt leaderBy
 leader-at S c r = refl
 
 module _ (g : ℕ → ℕ) (m : ℕ) (l : List ℕ) where

@@ -1,10 +1,14 @@
 pub mod Walk
 pub mod Links
 pub mod LinkLaws
+pub mod Runs
+pub mod RunLaws
 pub mod WalkLaws
 pub mod ChainLaws
 pub mod Readable
 pub mod ReadableLaws
+pub mod Starts
+pub mod StartLaws
 pub mod BoundLaws
 pub mod TotalBound
 pub mod Fill

@@ -19,4 +19,4 @@ pub record Readable (S : Settings) (t : List ℕ) (blocks : ℕ) : Type 0 where
 pub record Stands (S : Settings) (t : List ℕ) (blocks q k : ℕ) (w : List ℕ) : Type 0 where
   pub within : k ≤ blocks
   pub passed : lastRound t k ≤ q
-  pub weights : w ≡ afterBlocks (S .ceiling .0) t k (S .weights)
+  pub weights : w ≡ afterBlocks S t k (S .weights)

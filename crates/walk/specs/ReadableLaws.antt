@@ -15,7 +15,7 @@ use Rattle.committee.specs.Chain.{chainOf}
 use Rattle.committee.specs.Committees.{bondedFrom, committeeOf}
 use Rattle.committee.specs.CommitteeLaws.{committee-start, committee-bonded}
 use Rattle.committee.specs.Totals.{Light}
-use Rattle.walk.specs.Walk.{blockChange, blocksFit}
+use Rattle.walk.specs.Walk.{blockChange, lastRound, blocksFit}
 use Rattle.walk.specs.ChainLaws.{last-none, last-some, fits-at, last-from, bonded-split, after-none, after-more}
 use Rattle.walk.specs.BoundLaws.{after-light, bonded-light}
 use Rattle.walk.specs.Readable.{Readable, Stands}
@@ -43,26 +43,43 @@ readable S t blocks f l e =
 
 module _ {S : Settings} {t : List ℕ} {blocks : ℕ} where
   pub stands-start : (q : ℕ) → Stands S t blocks q 0 (S .weights)
-  stands-start q = record { within = omega arith; passed = omega (arith, last-none t); weights = sym (after-none (S .ceiling .0) t (S .weights)) }
+  stands-start q = record { within = omega arith; passed = omega (arith, last-none t); weights = sym (after-none S t (S .weights)) }
 
   pub stands-up : {q k : ℕ} {w : List ℕ} (q′ : ℕ) → q ≤ q′ → Stands S t blocks q k w → Stands S t blocks q′ k w
   stands-up q′ h s = record { within = s .within; passed = let p = s .passed in omega arith; weights = s .weights }
 
+  -- with another bound
+  pub stands-at : {q k : ℕ} {w : List ℕ} (q′ : ℕ) → lastRound t k ≤ q′ → Stands S t blocks q k w → Stands S t blocks q′ k w
+  stands-at q′ h s = record { within = s .within; passed = h; weights = s .weights }
+
+  -- no block has a round above the ceiling
+  pub stands-any : {q k : ℕ} {w : List ℕ} → Readable S t blocks → Stands S t blocks q k w → Stands S t blocks 1024 k w
+  stands-any {k = k} a s = stands-at 1024 (go (ℕ-discrete k 0)) s
+    where
+      go : Dec (k ≡ 0) → lastRound t k ≤ 1024
+      go (yes z) = rw (z, last-none t) (omega arith)
+      go (no z) =
+          let i : k - 1 + 1 ≡ k = omega arith in
+          let l = s .within in
+          let b = rw i at (fits-at (S .ceiling .0) t blocks (a .rounds) (k - 1) (omega arith) .below) in
+          let c = a .ceiling in
+          rw (last-some t k z) (omega arith)
+
   -- one block more
-  pub stands-next : {q k : ℕ} {w : List ℕ} (v : List ℕ) → k < blocks → blockRound t (k + 1) ≤ q → v ≡ blockChange (S .ceiling .0) t k w → Stands S t blocks q k w → Stands S t blocks q (k + 1) v
+  pub stands-next : {q k : ℕ} {w : List ℕ} (v : List ℕ) → k < blocks → blockRound t (k + 1) ≤ q → v ≡ blockChange S t k w → Stands S t blocks q k w → Stands S t blocks q (k + 1) v
   stands-next {q} {k} {w} v h l e s =
       record {
         within = omega arith;
         passed = rw (last-some t (k + 1) (λ z. omega arith)) l;
-        weights = rw (e, after-more (S .ceiling .0) t k (S .weights), s .weights) refl;
+        weights = rw (e, after-more S t k (S .weights), s .weights) refl;
       }
 
   -- where no block of a round below s is left, it is the bonded committee of that round
   pub stands-bonded : {k : ℕ} {w : List ℕ} (s : ℕ) → 1 ≤ s → Readable S t blocks → (k < blocks → s ≤ blockRound t (k + 1)) → Stands S t blocks (s - 1) k w
-      → w ≡ bondedFrom (S .ceiling .0) (S .weights) (chainOf (S .ceiling .0) t blocks) s
+      → w ≡ bondedFrom S (chainOf (S .ceiling .0) t blocks) s
   stands-bonded {k} {w} s h a f x =
       let p = x .passed in
-      x .weights ∙ sym (bonded-split (S .ceiling .0) t blocks (a .rounds) (S .weights) s k blocks (x .within) (omega arith) (omega arith) f)
+      x .weights ∙ sym (bonded-split S t blocks (a .rounds) s k blocks (x .within) (omega arith) (omega arith) f)
 
   -- where the first block's round is not below that of round r, no block changes the committees up to r
   pub committee-starts : Readable S t blocks → (r q : ℕ) → q ≤ r → (0 < blocks → r - S .lookback ≤ blockRound t 1) → committeeOf S (chainOf (S .ceiling .0) t blocks) q ≡ S .weights
@@ -80,12 +97,12 @@ module _ {S : Settings} {t : List ℕ} {blocks : ℕ} where
       let p = last-from (S .ceiling .0) t blocks (a .rounds) k (s .within) in
       let q = s .passed in
       let e : k ≡ 0 = omega arith in
-      s .weights ∙ rw e (after-none (S .ceiling .0) t (S .weights))
+      s .weights ∙ rw e (after-none S t (S .weights))
 
   -- it is light, where each word of the table is a 32-bit number
   pub stands-light : {q k : ℕ} {w : List ℕ} → ((i : ℕ) → getD t i 0 < 4294967296) → Readable S t blocks → Stands S t blocks q k w → Light w
   stands-light {q} {k} {w} words a s =
-      let l = after-light t words (S .ceiling .0) k (S .weights) (a .ceiling) in
+      let l = after-light t words S k (S .weights) (a .ceiling) in
       let h = a .light in
       record { total = rw (s .weights) (omega arith) }
 
@@ -95,7 +112,7 @@ committee-light S t blocks r words a = go (decLt (S .lookback) r)
   where
     go : Dec (S .lookback < r) → Light (committeeOf S (chainOf (S .ceiling .0) t blocks) r)
     go (yes h) =
-        let l = bonded-light t words (S .ceiling .0) blocks (r - S .lookback) (S .weights) (a .ceiling) in
+        let l = bonded-light t words S blocks (r - S .lookback) (a .ceiling) in
         let s = a .light in
         record { total = rw (committee-bonded S (chainOf (S .ceiling .0) t blocks) r h) (omega arith) }
     go (no h) = let s = a .light in record { total = rw (committee-start S (chainOf (S .ceiling .0) t blocks) r (omega arith)) (omega arith) }

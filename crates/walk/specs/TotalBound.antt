@@ -44,7 +44,7 @@ committee-total S t blocks r f e = go (decLt (S .lookback) r)
     go : Dec (S .lookback < r) → totalIn (committeeOf S (chainOf (S .ceiling .0) t blocks) r) ≤ 81536000
     go (yes h) =
         rw (committee-bonded S (chainOf (S .ceiling .0) t blocks) r h)
-        (let p = bonded-raises t (S .ceiling .0) 1000 (modest-rows t (S .allowance) blocks (S .ceiling .0) e) (r - S .lookback) blocks (S .weights) in
+        (let p = bonded-raises t S 1000 (modest-rows t (S .allowance) blocks (S .ceiling .0) e) (r - S .lookback) blocks in
         let c = f .ceiling-to in
         let s = start in
         omega arith)

@@ -4,9 +4,11 @@ use mathlib.Core.List.{List}
 use Prim.Native.Nat.{ℕ, _+_, _-_, _/_, _%_}
 use lib.Dec.{eqb, ltb}
 use Rattle.base.specs.Folds.{foldTo, allTo}
-use Rattle.store.specs.Table.{blockRound, countAt, transactionAt}
+use Rattle.store.specs.Table.{blockRound, countAt, transactionAt, contentAt}
 use Rattle.committee.specs.Chain.{holdsAt, blockAt, chainOf}
-use Rattle.committee.specs.Changes.{change, changesOf, listed, ordered}
+use Rattle.sheet.specs.declared.Settings.{Settings}
+use Rattle.committee.specs.Changes.{change, changes, changesOf, listed}
+use Rattle.committee.specs.Committees.{startOf, ordered}
 
 -- slot k of the record of a place, if a transaction is there
 unfoldable pub slotChange : List ℕ → ℕ → ℕ → ℕ → List ℕ → List ℕ
@@ -16,17 +18,21 @@ slotChange t m r k w = cond (ltb k (countAt t m r)) (change (transactionAt t m r
 unfoldable pub placeChange : List ℕ → ℕ → ℕ → List ℕ → List ℕ
 placeChange t k p w = changesOf (listed (holdsAt t k (p % 16) (p / 16))) w
 
--- the places from round 1 on and below p that block k holds
-unfoldable pub placesChange : List ℕ → ℕ → ℕ → List ℕ → List ℕ
-placesChange t k p w = foldTo (λ i. placeChange t k (i + 16)) (p - 16) w
+-- the transactions of the record of place p
+unfoldable pub recordChange : List ℕ → ℕ → List ℕ → List ℕ
+recordChange t p w = changes (contentAt t (p % 16) (p / 16) .transactions) w
 
--- the block after the first k, where the ceiling is n
-unfoldable pub blockChange : ℕ → List ℕ → ℕ → List ℕ → List ℕ
-blockChange n t k w = changesOf (ordered n (blockAt n t (k + 1)) (chainOf n t k)) w
+-- the leader of the round of the block after the first k, 16 for none
+unfoldable pub startAt : Settings → List ℕ → ℕ → ℕ
+startAt S t k = startOf S (blockAt (S .ceiling .0) t (k + 1)) (chainOf (S .ceiling .0) t k)
+
+-- the block after the first k
+unfoldable pub blockChange : Settings → List ℕ → ℕ → List ℕ → List ℕ
+blockChange S t k w = changesOf (ordered S (blockAt (S .ceiling .0) t (k + 1)) (chainOf (S .ceiling .0) t k)) w
 
 -- the first k blocks, oldest first
-unfoldable pub afterBlocks : ℕ → List ℕ → ℕ → List ℕ → List ℕ
-afterBlocks n t k w = foldTo (blockChange n t) k w
+unfoldable pub afterBlocks : Settings → List ℕ → ℕ → List ℕ → List ℕ
+afterBlocks S t k w = foldTo (blockChange S t) k w
 
 -- the round of the newest of the first k blocks, 0 for none
 unfoldable pub lastRound : List ℕ → ℕ → ℕ

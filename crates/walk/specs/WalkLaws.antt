@@ -1,23 +1,26 @@
--- Laws of the walk: places, and a block place by place.
+-- Laws of the walk: records and places, and a block row by row.
 use mathlib.Core.Path.{_≡_, refl, sym, _∙_}
 use mathlib.Core.Bool.{Bool, true, false, cond}
 use mathlib.Core.List.{List}
 use Prim.Native.Nat.{ℕ, suc, _+_, _-_, _*_, _/_, _%_, _<_, _≤_}
 use native.Mathlib.Omega.{arith}
-use native.Mathlib.Numerals.{add-one}
 use lib.Dec.{ltb}
 use borrow.Author.Tests.{lt-ltb, le-ltb}
 use Rattle.base.specs.Folds.{foldTo}
-use Rattle.base.specs.FoldLaws.{fold-more, fold-none, fold-same, fold-high, fold-flat}
+use Rattle.base.specs.FoldLaws.{fold-none, fold-same, fold-high}
 use Rattle.terms.specs.Transactions.{readTransaction}
 use Rattle.store.specs.Table.{word, markAt, heldAt, countAt, transactionAt, contentAt}
 use Rattle.store.specs.TableLaws.{count-le, content-transactions, transaction-words}
 use Rattle.committee.specs.Chain.{holdsAt, blockAt, chainOf}
 use Rattle.committee.specs.ChainLaws.{holds-present, holds-other, holds-absent, block-inside}
 use Rattle.committee.specs.Changes.{change, changes, changesOf, listed}
-use Rattle.committee.specs.ChangeLaws.{changes-tab, changes-none, changes-one, ordered-changes}
-use Rattle.walk.specs.Walk.{slotChange, placeChange, placesChange, blockChange}
-use Rattle.walk.specs.Links.{Marked, First}
+use Rattle.committee.specs.ChangeLaws.{changes-tab, changes-none, changes-one, rows-changes}
+use Rattle.committee.specs.OrderLaws.{ordered-rows}
+use Rattle.sheet.specs.declared.Settings.{Settings}
+use Rattle.walk.specs.Walk.{slotChange, placeChange, recordChange, startAt, blockChange}
+use Rattle.walk.specs.Links.{Marked}
+use Rattle.walk.specs.Runs.{turnsOver, rowsOver}
+use Rattle.walk.specs.RunLaws.{SameAt}
 
 -- ---- a place
 
@@ -64,46 +67,28 @@ place-unmarked t k p w n = go (heldAt t (p % 16) (p / 16)) refl
     go true e = place-other t k (p % 16) (p / 16) w (λ q. n (record { held = e; mark = q }))
     go false e = place-absent t k (p % 16) (p / 16) w e
 
--- ---- places in order
-
--- places that are passed over
-places-skip : (t : List ℕ) (k a p : ℕ) (w : List ℕ) → a ≤ p → ((i : ℕ) → a ≤ i → i < p → Marked t k i → ⊥) → placesChange t k p w ≡ placesChange t k a w
-unfolding placesChange
-places-skip t k a p w h n =
-    fold-high (λ i. placeChange t k (i + 16)) (p - 16) (a - 16) w (omega arith) (λ i v x y. place-unmarked t k (i + 16) v (n (i + 16) (omega arith) (omega arith)))
-
--- up to the first place nothing changes
-pub places-first : (t : List ℕ) (k e p : ℕ) (w : List ℕ) → First t k 16 e p → w ≡ placesChange t k p w
-unfolding placesChange foldTo
-places-first t k e p w f = sym (places-skip t k 16 p w (f .from) (f .skipped))
-
--- from one place to the next
-pub places-next : (t : List ℕ) (k e p q : ℕ) (w : List ℕ) → 16 ≤ p → Marked t k p → First t k (p + 1) e q
-    → placesChange t k q w ≡ changes (contentAt t (p % 16) (p / 16) .transactions) (placesChange t k p w)
-unfolding placesChange placeChange
-places-next t k e p q w h x f =
-    let i : p + 1 - 16 ≡ p - 16 + 1 = omega arith in
-    let j : p - 16 + 16 ≡ p = omega arith in
-    places-skip t k (p + 1) q w (f .from) (f .skipped)
-    ∙ rw (i, fold-more (λ i. placeChange t k (i + 16)) (p - 16) w, j) (place-present t k (p % 16) (p / 16) (placesChange t k p w) (x .held) (x .mark))
+-- going by the records of a block's places is going by what it holds
+pub same-at : (t : List ℕ) (k : ℕ) → SameAt t k (placeChange t k) (recordChange t)
+unfolding placeChange recordChange
+same-at t k =
+    record {
+      marked = λ p w x. sym (place-present t k (p % 16) (p / 16) w (x .held) (x .mark));
+      other = λ p w n. place-unmarked t k p w n;
+    }
 
 -- ---- a block
 
--- by round, then author
-pub block-rows : (t : List ℕ) (k n : ℕ) (w : List ℕ) → blockChange n t k w ≡ foldTo (λ r. foldTo (λ m. changesOf (listed (holdsAt t (k + 1) m (r + 1)))) 16) n w
-unfolding blockChange
-block-rows t k n w =
-    ordered-changes n (blockAt n t (k + 1)) (chainOf n t k) w
-    ∙ fold-same (λ r. foldTo (λ m. changesOf (listed (blockAt n t (k + 1) .holds m (suc r)))) 16) (λ r. foldTo (λ m. changesOf (listed (holdsAt t (k + 1) m (r + 1)))) 16) n w
-    (λ r v h. fold-same (λ m. changesOf (listed (blockAt n t (k + 1) .holds m (suc r)))) (λ m. changesOf (listed (holdsAt t (k + 1) m (r + 1)))) 16 v
-    (λ m u _. rw (add-one r, block-inside n t (k + 1) m (suc r) (omega arith) h) refl))
-
--- place by place
-pub block-places : (t : List ℕ) (k n : ℕ) (w : List ℕ) → blockChange n t k w ≡ placesChange t (k + 1) (n * 16 + 16) w
-unfolding placesChange placeChange
-block-places t k n w =
-    let e : n * 16 + 16 - 16 ≡ n * 16 = omega arith in
-    block-rows t k n w
-    ∙ fold-flat (λ r m. changesOf (listed (holdsAt t (k + 1) m (r + 1)))) n w
-    ∙ rw e (fold-same (λ i. changesOf (listed (holdsAt t (k + 1) (i % 16) (i / 16 + 1)))) (λ i. changesOf (listed (holdsAt t (k + 1) ((i + 16) % 16) ((i + 16) / 16)))) (n * 16) w
-    (λ i v _. let a : (i + 16) % 16 ≡ i % 16 = omega arith in let b : (i + 16) / 16 ≡ i / 16 + 1 = omega arith in rw (a, b) refl))
+-- by round, then numbers from that of its start on
+pub block-rows : (S : Settings) (t : List ℕ) (k : ℕ) (w : List ℕ) → blockChange S t k w ≡ rowsOver (placeChange t (k + 1)) (startAt S t k) (S .ceiling .0) w
+unfolding blockChange startAt rowsOver turnsOver placeChange
+block-rows S t k w =
+    let n = S .ceiling .0 in
+    let a = startAt S t k in
+    rw (ordered-rows S (blockAt n t (k + 1)) (chainOf n t k)) (rows-changes (blockAt n t (k + 1)) a n w)
+    ∙ fold-same (λ r. foldTo (λ m. changesOf (listed (blockAt n t (k + 1) .holds ((a + m) % 16) (suc r)))) 16)
+    (λ r. foldTo (λ m. changesOf (listed (holdsAt t (k + 1) (((r + 1) * 16 + (a + m) % 16) % 16) (((r + 1) * 16 + (a + m) % 16) / 16)))) 16) n w
+    (λ r v h. fold-same (λ m. changesOf (listed (blockAt n t (k + 1) .holds ((a + m) % 16) (suc r)))) (λ m. changesOf (listed (holdsAt t (k + 1) (((r + 1) * 16 + (a + m) % 16) % 16) (((r + 1) * 16 + (a + m) % 16) / 16)))) 16 v
+    (λ m u _.
+    let i : ((r + 1) * 16 + (a + m) % 16) % 16 ≡ (a + m) % 16 = omega arith in
+    let j : ((r + 1) * 16 + (a + m) % 16) / 16 ≡ suc r = omega arith in
+    rw (i, j, block-inside n t (k + 1) ((a + m) % 16) (suc r) (omega arith) h) refl))

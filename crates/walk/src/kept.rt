@@ -15,6 +15,7 @@ ghost use Rattle.walk.specs.Keeps.{Keeps};
 ghost use Rattle.walk.specs.Links.{Links};
 ghost use Rattle.walk.specs.Pairs.{PairOf};
 ghost use Rattle.walk.specs.Readable.{Readable};
+ghost use Rattle.walk.specs.Starts.{Started};
 
 // The words of round r.
 fn kept_at(kept: &[u64], r: Round) -> [u64; 16]
@@ -74,18 +75,19 @@ fn keep_rounds(
     s: Settings,
     blocks: u32,
     w: &mut [u64; 16],
+    starts: &mut [u32; 512],
     kept: &mut [u64],
 )
-    requires { ⌜ Readable s (now t) blocks × Links (now t) 16 (s .ceiling .0 * 16 + 16) (now head) (now next) × (now w ≡ s .weights) ⌝ }
+    requires { ⌜ Readable s (now t) blocks × Links (now t) 16 (s .ceiling .0 * 16 + 16) (now head) (now next) × (now w ≡ s .weights) × Started s (now t) blocks 0 0 (now starts) ⌝ }
     ensures { λ _. ⌜ Keeps s (chainOf (s .ceiling .0) (now (t .entry)) blocks) (now (kept .exit)) ⌝ }
 {
-    let mut k = 0;
+    let mut x = crate::advance::none();
     for q in 0..s.ceiling.0 + 1 {
         let r = Round(q);
         if kept.len() < q as usize * 16 + 16 {
             return;
         }
-        k = crate::advance::advance(t, head, next, s, blocks, k, r, w);
+        x = crate::advance::advance(t, head, next, s, blocks, x, r, w, starts);
         put(*w, r, kept);
     }
 }
@@ -99,7 +101,8 @@ fn kept_by(t: &[u32], s: Settings, blocks: u32, next: &mut [u32], kept: &mut [u6
     let end = s.ceiling.0 * 16 + 16;
     let mut head = [end; 512];
     crate::links::link_rows(t, &mut head, next, s.ceiling);
-    keep_rounds(t, &head, next, s, blocks, &mut w, kept);
+    let mut starts = [16u32; 512];
+    keep_rounds(t, &head, next, s, blocks, &mut w, &mut starts, kept);
 }
 
 // Keeps the committees.

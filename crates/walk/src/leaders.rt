@@ -9,6 +9,7 @@ ghost use Rattle.committee.specs.Committees.{committeeOf};
 ghost use Rattle.committee.specs.Totals.{Light};
 ghost use Rattle.walk.specs.Fill.{leaderAt, fillTo};
 ghost use Rattle.walk.specs.Readable.{Readable};
+ghost use Rattle.walk.specs.Starts.{Started};
 ghost use Rattle.walk.specs.Links.{Links};
 
 // The leaders of the rounds above m up to top, where the places of each block are linked; w is the starting committee, and then that of the round above top.
@@ -21,18 +22,19 @@ fn fill_rounds(
     m: Round,
     top: Round,
     w: &mut [u64; 16],
+    starts: &mut [u32; 512],
     l: &mut [u32; 1025],
 )
-    requires { ⌜ Readable s (now t) blocks × Links (now t) 16 (s .ceiling .0 * 16 + 16) (now head) (now next) × (m .0 ≤ top .0) × (top .0 ≤ 1024) × (now w ≡ s .weights) ⌝ }
+    requires { ⌜ Readable s (now t) blocks × Links (now t) 16 (s .ceiling .0 * 16 + 16) (now head) (now next) × (m .0 ≤ top .0) × (top .0 ≤ 1024) × (now w ≡ s .weights) × Started s (now t) blocks 0 0 (now starts) ⌝ }
     ensures { λ _. ⌜ (now (l .exit) ≡ fillTo (leaderAt s (chainOf (s .ceiling .0) (now (t .entry)) blocks)) (m .0) (top .0 - m .0) (now (l .entry))) × (now (w .exit) ≡ committeeOf s (chainOf (s .ceiling .0) (now (t .entry)) blocks) (top .0 + 1)) × Light (now (w .exit)) ⌝ }
 {
-    let mut k = 0;
+    let mut x = crate::advance::none();
     for q in m.0..top.0 {
         let r = Round(q + 1);
-        k = crate::advance::advance(t, head, next, s, blocks, k, r, w);
+        x = crate::advance::advance(t, head, next, s, blocks, x, r, w, starts);
         l[q as usize + 1] = committee::leader::leader(w, r);
     }
-    crate::advance::advance(t, head, next, s, blocks, k, Round(top.0 + 1), w);
+    crate::advance::advance(t, head, next, s, blocks, x, Round(top.0 + 1), w, starts);
 }
 
 // The same, where next has a word for each place; gives that committee.
@@ -52,7 +54,8 @@ fn filled_by(
     let end = s.ceiling.0 * 16 + 16;
     let mut head = [end; 512];
     crate::links::link_rows(t, &mut head, next, s.ceiling);
-    fill_rounds(t, &head, next, s, blocks, m, top, &mut w, l);
+    let mut starts = [16u32; 512];
+    fill_rounds(t, &head, next, s, blocks, m, top, &mut w, &mut starts, l);
     w
 }
 

@@ -5,6 +5,7 @@ pub mod block;
 pub mod kept;
 pub mod leaders;
 pub mod links;
+pub mod starts;
 
 use sheet::Settings;
 use terms::Round;
@@ -24,6 +25,12 @@ ghost use Rattle.walk.specs.Readable.{Readable};
 pub struct Pair {
     pub before: [u64; 16],
     pub at: [u64; 16],
+}
+
+// How many blocks are applied, and of how many the starts are known.
+pub struct Applied {
+    pub blocks: u32,
+    pub starts: u32,
 }
 
 // The round of the newest of the first k blocks, 0 for none.
@@ -99,9 +106,21 @@ fn walked(t: &[u32], s: Settings, blocks: u32, r: Round, next: &mut [u32]) -> Pa
     let end = s.ceiling.0 * 16 + 16;
     let mut head = [end; 512];
     crate::links::link_rows(t, &mut head, next, s.ceiling);
-    let k = crate::advance::advance(t, &head, next, s, blocks, 0, round_before(r), &mut w);
+    let mut starts = [16u32; 512];
+    let none = crate::advance::none();
+    let x = crate::advance::advance(
+        t,
+        &head,
+        next,
+        s,
+        blocks,
+        none,
+        round_before(r),
+        &mut w,
+        &mut starts,
+    );
     let before = w;
-    crate::advance::advance(t, &head, next, s, blocks, k, r, &mut w);
+    crate::advance::advance(t, &head, next, s, blocks, x, r, &mut w, &mut starts);
     Pair { before, at: w }
 }
 

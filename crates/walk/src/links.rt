@@ -7,6 +7,7 @@ ghost use Prim.Native.Nat.{ℕ, _+_, _*_, _<_, _≤_};
 ghost use lib.ListN.{getD, set, length};
 ghost use Rattle.store.specs.Table.{Row, Within};
 ghost use Rattle.walk.specs.Links.{Links};
+ghost use Rattle.walk.specs.Runs.{runEnd};
 
 // Place p becomes the first one of block k.
 fn link(head: &mut [u32; 512], next: &mut [u32], k: u32, p: u32)
@@ -54,4 +55,19 @@ pub fn link_rows(t: &[u32], head: &mut [u32; 512], next: &mut [u32], n: Round)
     for i in 0..end {
         link_row(t, head, next, Round(end - i));
     }
+}
+
+// The first place from z on, going by next from place p of the same row.
+pub fn run_end(next: &[u32], z: u32, p: u32) -> u32
+    requires { ⌜ z ≤ length (now next) ⌝ }
+    ensures { λ v. ⌜ v ≡ runEnd (now (next .entry)) z 16 p ⌝ }
+{
+    let mut q = p;
+    for i in 0..16u32 {
+        if z <= q {
+            return q;
+        }
+        q = next[q as usize];
+    }
+    q
 }

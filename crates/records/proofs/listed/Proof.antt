@@ -5,6 +5,7 @@ use native.Mathlib.Omega.{arith}
 use borrow.Author.Tests.{not-true, not-false}
 use Rattle.state.specs.View.{view}
 use Rattle.state.specs.Formed.{formed}
+use Rattle.state.specs.Walkable.{readable}
 use Rattle.lines.specs.Lines.{okLine, refusedLine}
 use Rattle.lines.specs.Puts.{puts-then}
 use Rattle.records.specs.Listing.{chainLines}
@@ -30,7 +31,7 @@ same-length c = search needs
 returns : tie.Need-returns
 returns c =
     let a = c .before .before .before .before .before .before .before .args in
-    let l = chainLines (a .s .settings .ceiling .0) (view (a .s) (a .t .now) .chain) ++ okLine in
+    let l = chainLines (a .s .settings) (view (a .s) (a .t .now) .chain) ++ okLine in
     puts-as (ap (λ b. cond b l (refusedLine 1)) (sym (c .before .before .before .before .before .before .before .pre .1) ∙ not-true _ (c .before .before .before .before .if1 .taken))) (omega arith) (c .before .before .put-refused .ensures)
 
 -- src/lib.rt:54:9
@@ -38,7 +39,7 @@ list-chain-requires : tie.Need-list-chain-requires
 list-chain-requires c κs =
     let a = c .before .before .before .before .before .args in
     let f = formed (a .s) (a .t .now) (sym (c .before .before .before .before .before .pre .1) ∙ not-false _ (c .before .before .if1 .left)) in
-    (f .long, f .settings .ceiling-to, f .room, omega (arith, f .long, c .before .before .before .before .before .pre .0))
+    (readable (a .s) (a .t .now) f, omega (arith, f .long, c .before .before .before .before .before .pre .0))
 
 -- src/lib.rt:55:5
 put-ok-requires : tie.Need-put-ok-requires
@@ -58,7 +59,7 @@ returns-2 c =
     let a = c .before .before .before .before .before .before .before .before .before .before .before .before .args in
     let e = sym (c .before .before .before .before .before .before .before .before .before .before .before .before .pre .1) ∙ not-false _ (c .before .before .before .before .before .before .before .before .before .if1 .left) in
     let f = formed (a .s) (a .t .now) e in
-    let l = chainLines (a .s .settings .ceiling .0) (view (a .s) (a .t .now) .chain) ++ okLine in
+    let l = chainLines (a .s .settings) (view (a .s) (a .t .now) .chain) ++ okLine in
     puts-as (ap (λ b. cond b l (refusedLine 1)) e) (omega (arith, f .long)) (puts-then (c .before .before .before .before .before .before .list-chain .ensures) (c .before .before .put-ok .ensures))
 
 pub listed-spec : {M : Type 1} → statement M

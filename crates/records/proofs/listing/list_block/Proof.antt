@@ -1,119 +1,106 @@
-use borrow.Author.Needs.{needs}
 use mathlib.Core.Path.{_≡_, refl, sym, _∙_}
+use mathlib.Core.List.{[]}
+use Prim.Native.Nat.{_+_, _-_, _*_, _/_, _≤_}
 use native.Mathlib.Omega.{arith}
-use Prim.Native.Nat.{_+_, _*_, _-_, _<_, _≤_}
 use lib.ListN.{length}
+use borrow.Author.Needs.{needs}
 use Rattle.base.specs.Folds.{sumTo}
-use Rattle.store.specs.Table.{blockRound}
-use Rattle.walk.specs.Links.{Marked}
 use Rattle.lines.specs.Puts.{Puts, puts-then}
+use Rattle.walk.specs.Runs.{rowsOver, Linked}
+use Rattle.walk.specs.RunLaws.{linked-head, linked-up, rows-first, rows-turn, end-linked}
 use Rattle.records.specs.Counts.{inBlock}
-use Rattle.records.specs.CountLaws.{count-next}
-use Rattle.records.specs.BlockLaws.{placesLines, places-first, places-next, block-places}
+use Rattle.records.specs.CountLaws.{row-next}
+use Rattle.records.specs.BlockLaws.{addLines, same-at, row-after}
 use Rattle.records.specs.PutLaws.{puts-none, puts-as}
 use Rattle.records.proofs.listing.list_block.Statement.{statement}
 use Rattle.records.proofs.listing.list_block.Tie as tie
-use Rattle.records.proofs.listing.list_block.Reads as reads
-use Rattle.records.proofs.listing.list_block.Lts as lts
-use Rattle.records.proofs.listing.list_place.Reads as list-place-reads
-use Rattle.store.proofs.block_round.Reads as block-round-reads
 
 abbrev Inv-loop : tie.InvT-loop
-Inv-loop t head next k out₀ at last b to₀ p₀ out to p = (16 ≤ p) × (p ≤ last + 1) × (p ≤ last → Marked t (k + 1) p) × (length out ≡ length out₀) × Puts out₀ out at to (placesLines t (k + 1) p) (sumTo (inBlock t (k + 1)) p * 141)
+Inv-loop t head next k a out₀ at end b to₀ p₀ out to p = (16 ≤ p) × Linked t next (k + 1) (p / 16 * 16) end p × (length out ≡ length out₀) × Puts out₀ out at to (rowsOver (addLines t (k + 1)) a (p / 16 - 1) []) (sumTo (inBlock t (k + 1)) (p / 16 * 16) * 141)
 
 abbrev μ-loop : tie.MeasureT-loop
-μ-loop t head next k out₀ at last b to₀ p₀ out to p = last + 1 - p
+μ-loop t head next k a out₀ at end b to₀ p₀ out to p = end - p
 
--- src/listing.rt:46:15
-mul-last : tie.Need-mul-last Inv-loop μ-loop
-mul-last c = search needs
+mul-end : tie.Need-mul-end Inv-loop μ-loop
+mul-end c = search needs
 
--- src/listing.rt:46:15
-add-last : tie.Need-add-last Inv-loop μ-loop
-add-last c = search needs
+add-end : tie.Need-add-end Inv-loop μ-loop
+add-end c = search needs
 
--- src/listing.rt:47:35
 add-block-round : tie.Need-add-block-round Inv-loop μ-loop
 add-block-round c = search needs
 
--- src/listing.rt:47:9
 block-round-requires : tie.Need-block-round-requires Inv-loop μ-loop
 block-round-requires c κs = search needs
 
--- src/listing.rt:49:23
 add-p : tie.Need-add-p Inv-loop μ-loop
 add-p c = search needs
 
--- src/listing.rt:49:22
 cast-p : tie.Need-cast-p Inv-loop μ-loop
 cast-p c = search needs
 
--- src/listing.rt:49:17
 mul-p : tie.Need-mul-p Inv-loop μ-loop
 mul-p c = search needs
 
--- src/listing.rt:49:17
 element-copy-out-p : tie.Need-element-copy-out-p Inv-loop μ-loop
 element-copy-out-p c = search needs
 
--- src/listing.rt:50:5
 loop-holds : tie.Need-loop-holds Inv-loop μ-loop
 loop-holds c =
-    let f = c .before .before .before .before .before .before .pre .3 .heads (c .before .before .before .before .before .before .args .k + 1) (omega arith) in
-    (f .from, omega (arith, f .to), λ x. f .here (omega arith), refl, puts-none (places-first _ _ _ _ f))
+    let s = c .before .before .before .before .before .before in
+    let l = linked-head {k = s .args .k + 1} (omega (arith, s .pre .1, s .pre .2)) (s .pre .4) in
+    let h = l .first .from in
+    (h, linked-up _ (omega arith) (omega arith) l, refl, puts-none (rows-first (same-at (s .args .t .now) (s .args .k + 1)) (s .args .a) _ [] l))
 
--- src/listing.rt:51:28
-add-list-place : tie.Need-add-list-place Inv-loop μ-loop
-add-list-place c = search needs
+add-list-row : tie.Need-add-list-row Inv-loop μ-loop
+add-list-row c = search needs
 
--- src/listing.rt:51:9
-list-place-requires : tie.Need-list-place-requires Inv-loop μ-loop
-list-place-requires c κs =
-    let a = c .before .before .before .before .before .before .before .before .before .args in
+list-row-requires : tie.Need-list-row-requires Inv-loop μ-loop
+list-row-requires c κs =
+    let s = c .before .before .before .before .before .before .before .before .before in
     let x = c .before .before .loop in
-    let n = count-next (a .n .0 * 16 + 16) (x .inv .2 (omega arith)) (omega arith) in
-    (record { member = omega arith; row = omega arith }, omega (arith, n, c .before .before .before .before .before .before .before .before .before .pre .4, x .inv .3, x .inv .4 .past, x .inv .4 .room))
+    let r = row-next (s .args .t .now) (s .args .k + 1) (x .p / 16) (s .args .n .0 * 16 + 16) (omega arith) in
+    (omega (arith, s .pre .0), omega arith, s .pre .3, c .before .before .before .before .block-round .ensures, omega (arith, r, s .pre .5, x .inv .2, x .inv .3 .past, x .inv .3 .room))
 
--- src/listing.rt:52:18
-cast-p-2 : tie.Need-cast-p-2 Inv-loop μ-loop
-cast-p-2 c = search needs
+mul-run-end : tie.Need-mul-run-end Inv-loop μ-loop
+mul-run-end c = search needs
 
--- src/listing.rt:52:13
-mul-p-2 : tie.Need-mul-p-2 Inv-loop μ-loop
-mul-p-2 c = search needs
+add-run-end : tie.Need-add-run-end Inv-loop μ-loop
+add-run-end c = search needs
 
--- src/listing.rt:52:13
-shared-slice-read-p : tie.Need-shared-slice-read-p Inv-loop μ-loop
-shared-slice-read-p c = search needs
+run-end-requires : tie.Need-run-end-requires Inv-loop μ-loop
+run-end-requires c κs = let x = c .before .before .before .before .before .loop in omega (arith, x .inv .1 .size)
 
--- src/listing.rt:50:5
 loop-less : tie.Need-loop-less Inv-loop μ-loop
 loop-less c =
-    let a = c .before .before .before .before .before .before .before .before .before .before .before .before .before .args in
     let x = c .before .before .before .before .before .before .loop in
-    let f = c .before .before .before .before .before .before .before .before .before .before .before .before .before .pre .3 .nexts (a .k + 1) (x .p) (omega arith) (omega arith) (omega arith) (x .inv .2 (omega arith)) in
-    omega (arith, f .from)
+    let d = end-linked (x .p / 16 * 16 + 16) 16 (x .p / 16 * 16) (x .p) (omega arith) (omega arith) (omega arith) (x .inv .1) in
+    let h = d .first .from in
+    omega (arith, c .run-end .ensures)
 
--- src/listing.rt:50:5
 loop-again : tie.Need-loop-again Inv-loop μ-loop
 loop-again c =
-    let a = c .before .before .before .before .before .before .before .before .before .before .before .before .before .args in
+    let s = c .before .before .before .before .before .before .before .before .before .before .before .before .before in
     let x = c .before .before .before .before .before .before .loop in
-    let m = x .inv .2 (omega arith) in
-    let f = c .before .before .before .before .before .before .before .before .before .before .before .before .before .pre .3 .nexts (a .k + 1) (x .p) (omega arith) (omega arith) (omega arith) m in
-    (omega (arith, f .from), omega (arith, f .to), λ y. f .here (omega arith), c .before .before .before .list-place .kept .1 .1 .1 .1 .1 .0 ∙ x .inv .3, puts-as (rw (c .before .before .before .before .before .before .before .before .block-round .ensures) (places-next _ _ _ _ _ (omega arith) m f)) (omega (arith, count-next _ m (f .from))) (puts-then (x .inv .4) (c .before .before .before .list-place .ensures)))
+    let t = s .args .t .now in
+    let k = s .args .k + 1 in
+    let d = rw (← c .run-end .ensures) at (end-linked (x .p / 16 * 16 + 16) 16 (x .p / 16 * 16) (x .p) (omega arith) (omega arith) (omega arith) (x .inv .1)) in
+    let h = d .first .from in
+    let e = rows-turn (same-at t k) (s .args .a) (x .p) (c .run-end .result) [] (x .inv .0) d in
+    let r = row-next t k (x .p / 16) (c .run-end .result / 16 * 16) (omega arith) in
+    (omega arith, linked-up _ (omega arith) (omega arith) d, c .before .before .before .list-row .kept .1 .1 .1 .1 .1 .0 ∙ x .inv .2, puts-as (e ∙ row-after t k (s .args .a) (x .p / 16) _) (omega (arith, r)) (puts-then (x .inv .3) (c .before .before .before .list-row .ensures)))
 
--- src/listing.rt:34:1
 same-length : tie.Need-same-length Inv-loop μ-loop
-same-length c = c .before .loop .inv .3
+same-length c = c .before .loop .inv .2
 
--- src/listing.rt:34:1
 returns : tie.Need-returns Inv-loop μ-loop
 returns c =
+    let s = c .before .before .before .before .before .before .before .before in
     let x = c .before .loop in
-    let a = c .before .before .before .before .before .before .before .before .args in
-    let e : x .p ≡ a .n .0 * 16 + 16 = omega arith in
-    puts-as (block-places (a .n .0) _ (a .k)) (omega arith) (rw e at (x .inv .4))
+    let h = x .inv .1 .first .to in
+    let i : x .p / 16 - 1 ≡ s .args .n .0 = omega arith in
+    let j : x .p / 16 * 16 ≡ s .args .n .0 * 16 + 16 = omega arith in
+    rw (i, j) at (x .inv .3)
 
 pub list-block-spec : {M : Type 1} → statement M
 list-block-spec =
@@ -121,8 +108,8 @@ list-block-spec =
     (tie.spec
     Inv-loop
     μ-loop
-    mul-last
-    add-last
+    mul-end
+    add-end
     add-block-round
     block-round-requires
     add-p
@@ -130,11 +117,11 @@ list-block-spec =
     mul-p
     element-copy-out-p
     loop-holds
-    add-list-place
-    list-place-requires
-    cast-p-2
-    mul-p-2
-    shared-slice-read-p
+    add-list-row
+    list-row-requires
+    mul-run-end
+    add-run-end
+    run-end-requires
     loop-less
     loop-again
     same-length

@@ -1,61 +1,64 @@
-use borrow.Author.Needs.{needs}
-use mathlib.Core.Path.{_≡_, refl, _∙_}
+use mathlib.Core.Path.{_≡_, refl, sym, _∙_}
+use Prim.Native.Nat.{_+_, _-_, _*_, _≤_}
 use native.Mathlib.Omega.{arith}
-use Prim.Native.Nat.{_+_, _*_, _-_, _≤_}
 use lib.ListN.{length}
+use borrow.Author.Needs.{needs}
 use Rattle.committee.specs.Chain.{chainOf}
+use Rattle.walk.specs.StartLaws.{start-le}
 use Rattle.lines.specs.Puts.{Puts, puts-then}
 use Rattle.records.specs.Listing.{chainLines}
 use Rattle.records.specs.Counts.{blockCount, chainCount}
 use Rattle.records.specs.CountLaws.{count-more, count-all}
-use Rattle.records.specs.BlockLaws.{lines-none, lines-next}
+use Rattle.records.specs.BlockLaws.{block-rows, lines-none, lines-next}
 use Rattle.records.specs.PutLaws.{puts-none, puts-as}
 use Rattle.records.proofs.listing.list_blocks.Statement.{statement}
 use Rattle.records.proofs.listing.list_blocks.Tie as tie
-use Rattle.records.proofs.listing.list_blocks.Reads as reads
-use Rattle.records.proofs.listing.list_blocks.Lts as lts
-use Rattle.records.proofs.listing.list_block.Reads as list-block-reads
 
 abbrev Inv-loop : tie.InvT-loop
-Inv-loop t head next n blocks out₀ at to₀ k₀ out to k = (k ≤ blocks) × (length out ≡ length out₀) × Puts out₀ out at to (chainLines (n .0) (chainOf (n .0) t k)) (chainCount (n .0) t k * 141)
+Inv-loop t head next s blocks starts out₀ at to₀ k₀ out to k = (k ≤ blocks) × (length out ≡ length out₀) × Puts out₀ out at to (chainLines s (chainOf (s .ceiling .0) t k)) (chainCount (s .ceiling .0) t k * 141)
 
 abbrev μ-loop : tie.MeasureT-loop
-μ-loop t head next n blocks out₀ at to₀ k₀ out to k = blocks - k
+μ-loop t head next s blocks starts out₀ at to₀ k₀ out to k = blocks - k
 
--- src/listing.rt:72:5
 loop-holds : tie.Need-loop-holds Inv-loop μ-loop
 loop-holds c = (omega arith, refl, puts-none (lines-none _ _))
 
--- src/listing.rt:73:9
+cast-list-block : tie.Need-cast-list-block Inv-loop μ-loop
+cast-list-block c = search needs
+
+mul-list-block : tie.Need-mul-list-block Inv-loop μ-loop
+mul-list-block c = search needs
+
+element-copy-out-list-block : tie.Need-element-copy-out-list-block Inv-loop μ-loop
+element-copy-out-list-block c = let a = c .before .before .before .before .before .pre .0 in omega (arith, a .few, a .ceiling)
+
 list-block-requires : tie.Need-list-block-requires Inv-loop μ-loop
 list-block-requires c κs =
-    let a = c .before .before .before .before .before .before .args in
-    let x = c .before .before .loop in
-    let p = c .before .before .before .before .before .before .pre in
-    let m = count-more (a .n .0) (a .t .now) (x .k) in
-    let l = count-all (a .n .0) (a .t .now) (x .k + 1) in
-    (p .0, p .1, omega arith, p .3, omega (arith, m, l, p .4, x .inv .1, x .inv .2 .past, x .inv .2 .room))
+    let s = c .before .before .before .before .before .before .before in
+    let x = c .before .before .before .loop in
+    let a = s .pre .0 in
+    let n = s .args .s .ceiling .0 in
+    let m = count-more n (s .args .t .now) (x .k) in
+    let l = count-all n (s .args .t .now) (x .k + 1) in
+    (a .long, a .ceiling, omega (arith, a .few), rw (s .pre .2 (x .k) (omega arith)) (start-le (s .args .s) (s .args .t .now) (x .k)), s .pre .1, omega (arith, m, l, s .pre .3, x .inv .1, x .inv .2 .past, x .inv .2 .room))
 
--- src/listing.rt:74:9
 add-k : tie.Need-add-k Inv-loop μ-loop
 add-k c = search needs
 
--- src/listing.rt:72:5
 loop-less : tie.Need-loop-less Inv-loop μ-loop
 loop-less c = search needs
 
--- src/listing.rt:72:5
 loop-again : tie.Need-loop-again Inv-loop μ-loop
 loop-again c =
-    let a = c .before .before .before .before .before .before .before .before .before .args in
-    let x = c .before .before .before .before .before .loop in
-    (omega arith, c .before .before .list-block .kept .1 .1 .1 .1 .1 .0 ∙ x .inv .1, puts-as (lines-next _ _ (x .k)) (omega (arith, count-more (a .n .0) (a .t .now) (x .k))) (puts-then (x .inv .2) (c .before .before .list-block .ensures)))
+    let s = c .before .before .before .before .before .before .before .before .before .before in
+    let x = c .before .before .before .before .before .before .loop in
+    let b = rw (← s .pre .2 (x .k) (omega arith)) at (block-rows (s .args .s) (s .args .t .now) (x .k)) in
+    let e = rw b at (lines-next (s .args .s) (s .args .t .now) (x .k)) in
+    (omega arith, c .before .before .list-block .kept .1 .1 .1 .1 .1 .1 .0 ∙ x .inv .1, puts-as e (omega (arith, count-more (s .args .s .ceiling .0) (s .args .t .now) (x .k))) (puts-then (x .inv .2) (c .before .before .list-block .ensures)))
 
--- src/listing.rt:58:1
 same-length : tie.Need-same-length Inv-loop μ-loop
 same-length c = c .before .loop .inv .1
 
--- src/listing.rt:58:1
 returns : tie.Need-returns Inv-loop μ-loop
 returns c =
     let x = c .before .loop in
@@ -69,6 +72,9 @@ list-blocks-spec =
     Inv-loop
     μ-loop
     loop-holds
+    cast-list-block
+    mul-list-block
+    element-copy-out-list-block
     list-block-requires
     add-k
     loop-less

@@ -8,16 +8,20 @@ use Rattle.walk.proofs.advance.advance.Statement.{statement}
 use Rattle.walk.proofs.advance.advance.Tie as tie
 
 returns : tie.Need-returns
-returns c = let a = c .before .before .before .before .before .args in let p = c .before .before .before .before .before .pre in let e : a .r .0 - a .s .lookback - 1 ≡ 0 = omega arith in (p .2, rw (committee-start (a .s) _ (a .r .0) (c .if1 .taken)) (stands-first (p .0) (rw e at (p .2))))
+returns c =
+    let a = c .before .before .before .before .before .args in
+    let p = c .before .before .before .before .before .pre in
+    let e : a .r .0 - a .s .lookback - 1 ≡ 0 = omega arith in
+    (p .2, rw (committee-start (a .s) _ (a .r .0) (c .if1 .taken)) (stands-first (p .0) (rw e at (p .2 .stands))))
 
-sub-t10 : tie.Need-sub-t10
-sub-t10 c = search needs
+sub-t11 : tie.Need-sub-t11
+sub-t11 c = search needs
 
 advance-to-requires : tie.Need-advance-to-requires
-advance-to-requires c κs = let p = c .before .before .before .before .before .before .before .before .pre in (p .0, p .1, omega arith, p .2)
+advance-to-requires c κs = search needs
 
 returns-2 : tie.Need-returns-2
-returns-2 c = let a = c .before .before .before .before .before .before .before .before .before .args in (c .advance-to .ensures .0, rw (committee-bonded (a .s) _ (a .r .0) (c .before .before .before .before .if1 .left)) (c .advance-to .ensures .1))
+returns-2 c = let a = c .before .before .before .before .before .before .before .before .before .before .args in (c .advance-to .ensures .0, rw (committee-bonded (a .s) _ (a .r .0) (c .before .before .before .before .before .if1 .left)) (c .advance-to .ensures .1))
 
 pub advance-spec : {M : Type 1} → statement M
-advance-spec = tie.close (tie.spec returns sub-t10 advance-to-requires returns-2)
+advance-spec = tie.close (tie.spec returns sub-t11 advance-to-requires returns-2)

@@ -1,45 +1,54 @@
-use borrow.Author.Needs.{needs}
-use mathlib.Core.Path.{_≡_}
-use native.Mathlib.Omega.{arith}
+use mathlib.Core.Path.{_≡_, refl}
 use Prim.Native.Nat.{_-_}
-use Rattle.walk.specs.Readable.{Stands}
-use Rattle.walk.specs.ReadableLaws.{stands-next, stands-bonded}
-use Rattle.walk.specs.BoundLaws.{after-light}
+use native.Mathlib.Omega.{arith}
+use borrow.Author.Needs.{needs}
+use Rattle.walk.specs.Starts.{Running}
+use Rattle.walk.specs.StartLaws.{running-below}
+use Rattle.walk.specs.ReadableLaws.{stands-any, stands-bonded}
 use Rattle.walk.proofs.advance.advance_to.Statement.{statement}
 use Rattle.walk.proofs.advance.advance_to.Tie as tie
 
 abbrev Inv-loop : tie.InvT-loop
-Inv-loop t head next s blocks k q w₀ j₀ w j = Stands s t blocks (q .0 - 1) j w
+Inv-loop t head next s blocks q w₀ starts₀ y₀ w starts y = Running s t blocks (q .0 - 1) y w starts
 
 abbrev μ-loop : tie.MeasureT-loop
-μ-loop t head next s blocks k q w₀ j₀ w j = blocks - j
+μ-loop t head next s blocks q w₀ starts₀ y₀ w starts y = blocks - y .blocks
 
 loop-holds : tie.Need-loop-holds Inv-loop μ-loop
 loop-holds c = c .before .before .pre .3
 
-number-requires : tie.Need-number-requires Inv-loop μ-loop
-number-requires c κs = search needs
+add-block-round : tie.Need-add-block-round Inv-loop μ-loop
+add-block-round c = search needs
 
 block-round-requires : tie.Need-block-round-requires Inv-loop μ-loop
-block-round-requires c κs = search needs
+block-round-requires c κs = let a = c .before .before .before .before .before .before .pre .0 in omega (arith, a .long, a .few)
 
 returns : tie.Need-returns Inv-loop μ-loop
-returns c = let a = c .before .before .before .before .before .before .before .before .args in let j = c .before .before .before .before .before .loop in (j .inv, stands-bonded (a .q .0) (omega arith) (c .before .before .before .before .before .before .before .before .pre .0) (λ h. rw (← c .before .before .before .number .ensures, ← c .before .before .block-round .ensures) (c .if1 .taken)) (j .inv))
+returns c =
+    let s = c .before .before .before .before .before .before .before .before .before in
+    let x = c .before .before .before .before .before .before .loop in
+    (x .inv, stands-bonded (s .args .q .0) (s .pre .2) (s .pre .0) (λ h. rw (← c .before .before .block-round .ensures) (c .if2 .taken)) (x .inv .stands))
 
-apply-block-requires : tie.Need-apply-block-requires Inv-loop μ-loop
-apply-block-requires c κs = let a = c .before .before .before .before .before .before .before .before .before .args in let p = c .before .before .before .before .before .before .before .before .before .pre in let j = c .before .before .before .before .before .before .loop in let l = after-light (a .t .now) (λ j. c .before .before .before .before .before .before .before .before .shared-slice-known .given j .fits) (a .s .ceiling .0) (j .j) (a .s .weights) (omega arith) in (omega arith, omega arith, omega (arith, c .before .before .before .before .number .ensures), omega (arith, c .before .before .before .before .number .ensures), p .1, rw (j .inv .weights) (omega arith))
-
-add-j : tie.Need-add-j Inv-loop μ-loop
-add-j c = search needs
+apply-next-requires : tie.Need-apply-next-requires Inv-loop μ-loop
+apply-next-requires c κs =
+    let s = c .before .before .before .before .before .before .before .before .before .before .before in
+    let x = c .before .before .before .before .before .before .before .before .loop in
+    (s .pre .0, s .pre .1, omega arith, record { stands = stands-any (s .pre .0) (x .inv .stands); started = x .inv .started })
 
 loop-less : tie.Need-loop-less Inv-loop μ-loop
-loop-less c = search needs
+loop-less c = omega (arith, c .apply-next .ensures .0)
 
 loop-again : tie.Need-loop-again Inv-loop μ-loop
-loop-again c = let j = c .before .before .before .before .before .before .before .loop in let e : c .before .before .before .before .before .number .result - 1 ≡ j .j = omega (arith, c .before .before .before .before .before .number .ensures) in stands-next _ (omega arith) (rw (← c .before .before .before .before .before .number .ensures, ← c .before .before .before .before .block-round .ensures) (omega arith)) (rw e at (c .apply-block .ensures)) (j .inv)
+loop-again c =
+    let s = c .before .before .before .before .before .before .before .before .before .before .before .before in
+    let x = c .before .before .before .before .before .before .before .before .before .loop in
+    running-below (x .y .blocks) (s .args .q .0) (c .apply-next .ensures .0) (rw (← c .before .before .before .before .before .block-round .ensures) (omega (arith, c .before .before .before .if2 .left))) (c .apply-next .ensures .1)
 
 returns-2 : tie.Need-returns-2 Inv-loop μ-loop
-returns-2 c = let a = c .before .before .before .before .args in let j = c .before .loop in (j .inv, stands-bonded (a .q .0) (omega arith) (c .before .before .before .before .pre .0) (λ h. absurd (omega arith)) (j .inv))
+returns-2 c =
+    let s = c .before .before .before .before .before in
+    let x = c .before .before .loop in
+    (x .inv, stands-bonded (s .args .q .0) (s .pre .2) (s .pre .0) (λ h. absurd (omega arith)) (x .inv .stands))
 
 pub advance-to-spec : {M : Type 1} → statement M
 advance-to-spec =
@@ -48,11 +57,10 @@ advance-to-spec =
     Inv-loop
     μ-loop
     loop-holds
-    number-requires
+    add-block-round
     block-round-requires
     returns
-    apply-block-requires
-    add-j
+    apply-next-requires
     loop-less
     loop-again
     returns-2)

@@ -1,19 +1,21 @@
-use borrow.Author.Needs.{needs}
-use mathlib.Core.Path.{_≡_, refl}
+use mathlib.Core.Path.{_≡_, refl, sym, _∙_}
+use Prim.Native.Nat.{_+_, _-_, _*_, _/_, _≤_, _<_}
 use native.Mathlib.Omega.{arith}
-use Prim.Native.Nat.{_+_, _-_, _*_, _≤_, _<_}
-use Rattle.walk.specs.Walk.{placesChange}
-use Rattle.walk.specs.WalkLaws.{places-first, places-next, block-places}
-use Rattle.walk.specs.Links.{Marked}
-use Rattle.walk.specs.BoundLaws.{places-light}
+use borrow.Author.Needs.{needs}
+use Rattle.walk.specs.Walk.{placeChange}
+use Rattle.walk.specs.WalkLaws.{same-at}
+use Rattle.walk.specs.Runs.{rowsOver, Linked}
+use Rattle.walk.specs.RunLaws.{linked-head, linked-up, rows-first, rows-next, end-linked}
+use Rattle.walk.specs.BoundLaws.{rows-light}
 use Rattle.walk.proofs.block.apply_block.Statement.{statement}
 use Rattle.walk.proofs.block.apply_block.Tie as tie
 
+-- the rows below that of p are done, and p is the first place of its row
 abbrev Inv-loop : tie.InvT-loop
-Inv-loop t head next b w₀ end p₀ w p = (16 ≤ p) × (p ≤ end) × (p < end → Marked t b p) × (w ≡ placesChange t b p w₀)
+Inv-loop t head next b a w₀ end p₀ w p = (16 ≤ p) × Linked t next b (p / 16 * 16) end p × (w ≡ rowsOver (placeChange t b) a (p / 16 - 1) w₀)
 
 abbrev μ-loop : tie.MeasureT-loop
-μ-loop t head next b w₀ end p₀ w p = end - p
+μ-loop t head next b a w₀ end p₀ w p = end - p
 
 mul-end : tie.Need-mul-end Inv-loop μ-loop
 mul-end c = search needs
@@ -28,28 +30,44 @@ element-copy-out-p : tie.Need-element-copy-out-p Inv-loop μ-loop
 element-copy-out-p c = search needs
 
 loop-holds : tie.Need-loop-holds Inv-loop μ-loop
-loop-holds c = let a = c .before .before .before .before .args in let f = c .before .before .before .before .pre .4 .heads (a .b) (omega arith) in (f .from, f .to, f .here, places-first _ _ _ _ _ f)
+loop-holds c =
+    let s = c .before .before .before .before in
+    let l = linked-head (s .pre .2) (s .pre .4) in
+    let h = l .first .from in
+    (h, linked-up _ (omega arith) (omega arith) l, sym (rows-first (same-at (s .args .t .now) (s .args .b)) (s .args .a) _ (s .args .w .now) l))
 
-apply-record-requires : tie.Need-apply-record-requires Inv-loop μ-loop
-apply-record-requires c κs = let a = c .before .before .before .before .before .before .before .args in let x = c .before .before .loop in (record { member = omega arith; row = omega arith }, rw (x .inv .3) (omega (arith, places-light (a .t .now) (λ j. c .before .before .before .before .before .before .shared-slice-known .given j .fits) (a .b) (x .p) (a .w .now) (omega arith))))
-
-cast-p : tie.Need-cast-p Inv-loop μ-loop
-cast-p c = search needs
-
-mul-p-2 : tie.Need-mul-p-2 Inv-loop μ-loop
-mul-p-2 c = search needs
-
-shared-slice-read-p : tie.Need-shared-slice-read-p Inv-loop μ-loop
-shared-slice-read-p c = omega (arith, c .before .before .before .before .before .before .before .before .before .pre .4 .next-size)
+apply-row-requires : tie.Need-apply-row-requires Inv-loop μ-loop
+apply-row-requires c κs =
+    let s = c .before .before .before .before .before .before .before in
+    let x = c .before .before .loop in
+    let words = c .before .before .before .before .before .before .shared-slice-known in
+    let l = rows-light (s .args .t .now) (λ j. words .given j .fits) (s .args .b) (s .args .a) (x .p / 16 - 1) (s .args .w .now) (omega arith) in
+    let z = x .inv .1 .size in
+    (s .pre .3, omega arith, omega arith, omega (arith, s .pre .0), rw (x .inv .2) (omega (arith, l)))
 
 loop-less : tie.Need-loop-less Inv-loop μ-loop
-loop-less c = let x = c .before .before .before .before .loop in let f = c .before .before .before .before .before .before .before .before .before .pre .4 .nexts (c .before .before .before .before .before .before .before .before .before .args .b) (x .p) (omega arith) (omega arith) (omega arith) (x .inv .2 (omega arith)) in omega (arith, f .from)
+loop-less c =
+    let x = c .before .before .before .loop in
+    let d = end-linked (x .p / 16 * 16 + 16) 16 (x .p / 16 * 16) (x .p) (omega arith) (omega arith) (omega arith) (x .inv .1) in
+    let h = d .first .from in
+    omega (arith, c .apply-row .ensures .1)
 
 loop-again : tie.Need-loop-again Inv-loop μ-loop
-loop-again c = let a = c .before .before .before .before .before .before .before .before .before .args in let x = c .before .before .before .before .loop in let f = c .before .before .before .before .before .before .before .before .before .pre .4 .nexts (a .b) (x .p) (omega arith) (omega arith) (omega arith) (x .inv .2 (omega arith)) in (omega (arith, f .from), f .to, f .here, rw (c .before .apply-record .ensures, places-next (a .t .now) (a .b) _ (x .p) _ (a .w .now) (omega arith) (x .inv .2 (omega arith)) f, x .inv .3) refl)
+loop-again c =
+    let s = c .before .before .before .before .before .before .before .before in
+    let x = c .before .before .before .loop in
+    let d = rw (← c .apply-row .ensures .1) at (end-linked (x .p / 16 * 16 + 16) 16 (x .p / 16 * 16) (x .p) (omega arith) (omega arith) (omega arith) (x .inv .1)) in
+    let h = d .first .from in
+    let e = rows-next (same-at (s .args .t .now) (s .args .b)) (s .args .a) (x .p) (c .apply-row .result) (s .args .w .now) (s .pre .3) (x .inv .0) (omega arith) (x .inv .1) d in
+    (omega arith, linked-up _ (omega arith) (omega arith) d, rw (c .apply-row .ensures .0, x .inv .2) (sym e))
 
 returns : tie.Need-returns Inv-loop μ-loop
-returns c = let a = c .before .before .before .before .before .before .args in let x = c .before .loop in let e : x .p ≡ a .n .0 * 16 + 16 = omega arith in let i : a .b - 1 + 1 ≡ a .b = omega arith in rw (block-places (a .t .now) (a .b - 1) (a .n .0) (a .w .now), i, ← e) (x .inv .3)
+returns c =
+    let s = c .before .before .before .before .before .before in
+    let x = c .before .loop in
+    let h = x .inv .1 .first .to in
+    let e : x .p / 16 - 1 ≡ s .args .n .0 = omega arith in
+    rw e at (x .inv .2)
 
 pub apply-block-spec : {M : Type 1} → statement M
 apply-block-spec =
@@ -62,10 +80,7 @@ apply-block-spec =
     mul-p
     element-copy-out-p
     loop-holds
-    apply-record-requires
-    cast-p
-    mul-p-2
-    shared-slice-read-p
+    apply-row-requires
     loop-less
     loop-again
     returns)

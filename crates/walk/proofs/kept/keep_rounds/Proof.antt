@@ -4,23 +4,26 @@ use Prim.Native.Nat.{_-_, _≤_}
 use lib.ListN.{length}
 use Rattle.committee.specs.Chain.{chainOf}
 use Rattle.walk.specs.KeepLaws.{KeepsTo, keeps-none, keeps-more, keeps-all}
-use Rattle.walk.specs.Readable.{Stands}
-use Rattle.walk.specs.ReadableLaws.{stands-start, stands-up}
+use Rattle.walk.specs.Starts.{Running}
+use Rattle.walk.specs.StartLaws.{running-none, running-up}
 use borrow.Author.Needs.{needs}
 use Rattle.walk.proofs.kept.keep_rounds.Statement.{statement}
 use Rattle.walk.proofs.kept.keep_rounds.Tie as tie
 
 abbrev Inv-loop : tie.InvT-loop
-Inv-loop t head next s blocks w₀ kept₀ k₀ q₀ q-end w kept k q = (q ≤ q-end) × Stands s t blocks (q - s .lookback - 1) k w × KeepsTo s (chainOf (s .ceiling .0) t blocks) q kept × (length kept ≡ length kept₀)
+Inv-loop t head next s blocks w₀ starts₀ kept₀ x₀ q₀ q-end w starts kept x q = (q ≤ q-end) × Running s t blocks (q - s .lookback - 1) x w starts × KeepsTo s (chainOf (s .ceiling .0) t blocks) q kept × (length kept ≡ length kept₀)
 
 abbrev μ-loop : tie.MeasureT-loop
-μ-loop t head next s blocks w₀ kept₀ k₀ q₀ q-end w kept k q = q-end - q
+μ-loop t head next s blocks w₀ starts₀ kept₀ x₀ q₀ q-end w starts kept x q = q-end - q
+
+none-requires : tie.Need-none-requires Inv-loop μ-loop
+none-requires c κs = search needs
 
 add-q-end : tie.Need-add-q-end Inv-loop μ-loop
 add-q-end c = search needs
 
 loop-holds : tie.Need-loop-holds Inv-loop μ-loop
-loop-holds c = (omega arith, rw (c .before .before .before .before .pre .2) (stands-start _), keeps-none _ _ _, refl)
+loop-holds c = let s = c .before .before .before .before .before in (omega arith, running-none _ (c .before .none .ensures) (s .pre .2) (s .pre .3), keeps-none _ _ _, refl)
 
 cast-if1 : tie.Need-cast-if1 Inv-loop μ-loop
 cast-if1 c = search needs
@@ -38,7 +41,7 @@ returns : tie.Need-returns Inv-loop μ-loop
 returns c = keeps-all _ _ (c .before .before .loop .inv .2) (λ r u l. omega arith)
 
 advance-requires : tie.Need-advance-requires Inv-loop μ-loop
-advance-requires c κs = let p = c .before .before .before .before .before .before .before .before .pre in (p .0, p .1, c .before .before .before .loop .inv .1)
+advance-requires c κs = let p = c .before .before .before .before .before .before .before .before .before .before .pre in (p .0, p .1, c .before .before .before .before .loop .inv .1)
 
 put-requires : tie.Need-put-requires Inv-loop μ-loop
 put-requires c κs = search needs
@@ -51,10 +54,10 @@ loop-less c = search needs
 
 loop-again : tie.Need-loop-again Inv-loop μ-loop
 loop-again c =
-    let x = c .before .before .before .before .before .before .before .before .before .loop in
+    let x = c .before .before .before .before .before .before .before .before .before .before .loop in
     let d = c .before .before .before .before .before .advance .ensures in
     let e = c .before .before .put .ensures in
-    (omega arith, stands-up _ (omega arith) (d .0), rw (e .1) (keeps-more _ _ _ (omega arith) (e .0) (d .1) (x .inv .2)), omega (arith, x .inv .3))
+    (omega arith, running-up _ (omega arith) (d .0), rw (e .1) (keeps-more _ _ _ (omega arith) (e .0) (d .1) (x .inv .2)), omega (arith, x .inv .3))
 
 same-length-2 : tie.Need-same-length-2 Inv-loop μ-loop
 same-length-2 c = c .before .loop .inv .3
@@ -68,6 +71,7 @@ keep-rounds-spec =
     (tie.spec
     Inv-loop
     μ-loop
+    none-requires
     add-q-end
     loop-holds
     cast-if1

@@ -1,3 +1,5 @@
+use mathlib.Core.Path.{refl}
+use Rattle.walk.specs.StartLaws.{started-none}
 use native.Mathlib.Omega.{arith}
 use Rattle.walk.specs.LinkLaws.{links-start}
 use borrow.Author.Needs.{needs}
@@ -14,7 +16,7 @@ link-rows-requires : tie.Need-link-rows-requires
 link-rows-requires c κs = (omega arith, omega arith, links-start _ _ _ (c .before .before .before .before .before .before .before .pre .1))
 
 keep-rounds-requires : tie.Need-keep-rounds-requires
-keep-rounds-requires c κs = search needs
+keep-rounds-requires c κs = (c .before .before .before .before .before .before .before .before .before .before .before .before .before .before .before .pre .0, c .before .before .before .before .before .before .before .link-rows .ensures, refl, started-none 16)
 
 same-length : tie.Need-same-length
 same-length c = search needs

@@ -1,29 +1,34 @@
-use borrow.Author.Needs.{needs}
 use mathlib.Core.Path.{_≡_, refl}
 use native.Mathlib.Omega.{arith}
 use Prim.Native.Nat.{_-_, _≤_}
 use Rattle.committee.specs.Chain.{chainOf}
+use Rattle.committee.specs.Committees.{leaderBy}
 use Rattle.walk.specs.Fill.{leaderAt, fillTo}
 use Rattle.walk.specs.FillLaws.{fill-none, fill-more}
-use Rattle.walk.specs.Readable.{Stands}
-use Rattle.walk.specs.ReadableLaws.{stands-start, stands-up, stands-light}
+use Rattle.walk.specs.Starts.{Running}
+use Rattle.walk.specs.StartLaws.{running-none, running-up}
+use Rattle.walk.specs.ReadableLaws.{stands-light}
+use borrow.Author.Needs.{needs}
 use Rattle.walk.proofs.leaders.fill_rounds.Statement.{statement}
 use Rattle.walk.proofs.leaders.fill_rounds.Tie as tie
 
 abbrev Inv-loop : tie.InvT-loop
-Inv-loop t head next s blocks top w₀ l₀ k₀ q₀ q-end w l k q = (q₀ ≤ q) × (q ≤ q-end) × Stands s t blocks (q - s .lookback) k w × (l ≡ fillTo (leaderAt s (chainOf (s .ceiling .0) t blocks)) q₀ (q - q₀) l₀)
+Inv-loop t head next s blocks top w₀ starts₀ l₀ x₀ q₀ q-end w starts l x q = (q₀ ≤ q) × (q ≤ q-end) × Running s t blocks (q - s .lookback) x w starts × (l ≡ fillTo (leaderAt s (chainOf (s .ceiling .0) t blocks)) q₀ (q - q₀) l₀)
 
 abbrev μ-loop : tie.MeasureT-loop
-μ-loop t head next s blocks top w₀ l₀ k₀ q₀ q-end w l k q = q-end - q
+μ-loop t head next s blocks top w₀ starts₀ l₀ x₀ q₀ q-end w starts l x q = q-end - q
+
+none-requires : tie.Need-none-requires Inv-loop μ-loop
+none-requires c κs = search needs
 
 loop-holds : tie.Need-loop-holds Inv-loop μ-loop
-loop-holds c = (omega arith, omega arith, rw (c .before .before .pre .4) (stands-start _), fill-none _ _ _)
+loop-holds c = let s = c .before .before .before in (omega arith, omega arith, running-none _ (c .none .ensures) (s .pre .4) (s .pre .5), fill-none _ _ _)
 
 add-l : tie.Need-add-l Inv-loop μ-loop
 add-l c = search needs
 
 advance-requires : tie.Need-advance-requires Inv-loop μ-loop
-advance-requires c κs = let p = c .before .before .before .before .before .pre in let q = c .before .before .loop in (p .0, p .1, stands-up _ (omega arith) (q .inv .2))
+advance-requires c κs = let p = c .before .before .before .before .before .before .before .pre in (p .0, p .1, running-up _ (omega arith) (c .before .before .before .loop .inv .2))
 
 leader-requires : tie.Need-leader-requires Inv-loop μ-loop
 leader-requires c κs = search needs
@@ -47,17 +52,24 @@ loop-less : tie.Need-loop-less Inv-loop μ-loop
 loop-less c = search needs
 
 loop-again : tie.Need-loop-again Inv-loop μ-loop
-unfolding leaderAt
-loop-again c = let q = c .before .before .before .before .before .loop in (omega arith, omega arith, stands-up _ (omega arith) (c .before .before .advance .ensures .0), rw (fill-more _ _ _ _ (q .inv .0), ← c .before .before .advance .ensures .1, ← c .leader .ensures, ← q .inv .3) refl)
+unfolding leaderAt leaderBy
+loop-again c =
+    let q = c .before .before .before .before .before .before .loop in
+    let d = c .before .before .advance .ensures in
+    (omega arith, omega arith, running-up _ (omega arith) (d .0), rw (fill-more _ _ _ _ (q .inv .0), ← d .1, ← c .leader .ensures, ← q .inv .3) refl)
 
-add-t24 : tie.Need-add-t24 Inv-loop μ-loop
-add-t24 c = search needs
+add-t26 : tie.Need-add-t26 Inv-loop μ-loop
+add-t26 c = search needs
 
 advance-requires-2 : tie.Need-advance-requires-2 Inv-loop μ-loop
-advance-requires-2 c κs = let p = c .before .before .before .before .before .before .pre in let q = c .before .before .before .loop in (p .0, p .1, stands-up _ (omega arith) (q .inv .2))
+advance-requires-2 c κs = let p = c .before .before .before .before .before .before .before .before .pre in (p .0, p .1, running-up _ (omega arith) (c .before .before .before .before .loop .inv .2))
 
 returns : tie.Need-returns Inv-loop μ-loop
-returns c = let q = c .before .before .before .before .loop in let p = c .before .before .before .before .before .before .before in let e : q .q ≡ p .args .top .0 = omega arith in (rw e at (q .inv .3), c .advance2 .ensures .1, stands-light (λ j. c .before .before .before .before .before .before .shared-slice-known .given j .fits) (p .pre .0) (c .advance2 .ensures .0))
+returns c =
+    let q = c .before .before .before .before .before .loop in
+    let s = c .before .before .before .before .before .before .before .before .before in
+    let e : q .q ≡ s .args .top .0 = omega arith in
+    (rw e at (q .inv .3), c .advance2 .ensures .1, stands-light (λ j. c .before .before .before .before .before .before .before .before .shared-slice-known .given j .fits) (s .pre .0) (c .advance2 .ensures .0 .stands))
 
 pub fill-rounds-spec : {M : Type 1} → statement M
 fill-rounds-spec =
@@ -65,6 +77,7 @@ fill-rounds-spec =
     (tie.spec
     Inv-loop
     μ-loop
+    none-requires
     loop-holds
     add-l
     advance-requires
@@ -76,6 +89,6 @@ fill-rounds-spec =
     add-q
     loop-less
     loop-again
-    add-t24
+    add-t26
     advance-requires-2
     returns)

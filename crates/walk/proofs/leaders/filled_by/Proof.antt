@@ -1,3 +1,5 @@
+use mathlib.Core.Path.{refl}
+use Rattle.walk.specs.StartLaws.{started-none}
 use native.Mathlib.Omega.{arith}
 use Rattle.walk.specs.LinkLaws.{links-start}
 use borrow.Author.Needs.{needs}
@@ -14,7 +16,7 @@ link-rows-requires : tie.Need-link-rows-requires
 link-rows-requires c κs = (omega arith, omega arith, links-start _ _ _ (c .before .before .before .before .before .before .pre .3))
 
 fill-rounds-requires : tie.Need-fill-rounds-requires
-fill-rounds-requires c κs = search needs
+fill-rounds-requires c κs = let p = c .before .before .before .before .before .before .before .before .before .before .before .before .before .before .pre in (p .0, c .before .before .before .before .before .before .before .link-rows .ensures, p .1, p .2, refl, started-none 16)
 
 same-length : tie.Need-same-length
 same-length c = search needs
