@@ -48,6 +48,10 @@ four = record { lookback = blank .lookback; ceiling = record { 0 = 6 }; allowanc
 unfoldable pub full : Block Content
 full = record { round = 4; holds = λ a r. cond ((ltb a 4 && eqb r 3) || (eqb a 2 && eqb r 4)) (some (record { author = a; round = r; previous = 15; transactions = [] })) none }
 
+-- nobody has a weight: the committee is empty
+unfoldable pub nobody : Settings
+nobody = record { lookback = blank .lookback; ceiling = record { 0 = 6 }; allowance = blank .allowance; weights = tab (λ i. 0) 16 }
+
 -- the author of the certificate at place k of a list, 16 for none
 unfoldable pub authorAt : List Content → ℕ → ℕ
 authorAt [] k = 16
@@ -73,6 +77,7 @@ cases =
     ∷ (weightIn (blank .weights) 3, 1) ∷ (weightIn (filled written .weights) 3, 0)
     ∷ (authorAt (ordered four full []) 0, 2) ∷ (authorAt (ordered four full []) 1, 3) ∷ (authorAt (ordered four full []) 2, 0) ∷ (authorAt (ordered four full []) 3, 1)
     ∷ (authorAt (ordered four full []) 4, 2) ∷ (authorAt (ordered four full []) 5, 16)
+    ∷ (authorAt (ordered nobody full []) 0, 0) ∷ (authorAt (ordered nobody full []) 1, 1) ∷ (authorAt (ordered nobody full []) 2, 2) ∷ (authorAt (ordered nobody full []) 3, 3)
     ∷ []
 
 -- both numbers of each row are equal
@@ -81,5 +86,5 @@ agree [] = true
 agree (x ∷ l) = eqb (x .0) (x .1) && agree l
 
 pub edges : agree cases ≡ true
-unfolding agree cases blank written bond unbond bonding four full authorAt truth startOf ordered boundOf quorumWeight knownBy committeeOf committeeBy leaderBy stepFrom bondedFrom rows row changesOf changes leaderOf memberAt memberBelow countBelow shareOf filled weightAt blankWeight tab sumTo
+unfolding agree cases blank written bond unbond bonding four full nobody authorAt truth startOf ordered boundOf quorumWeight knownBy committeeOf committeeBy leaderBy stepFrom bondedFrom rows row changesOf changes leaderOf memberAt memberBelow countBelow shareOf filled weightAt blankWeight tab sumTo
 edges = refl

@@ -4,10 +4,13 @@ use mathlib.Core.List.{List, [], _++_, append-assoc, append-nil}
 use Prim.Native.Nat.{ℕ, zero, suc, _+_, _*_, _/_, _%_, _≤_}
 use native.Mathlib.Omega.{arith}
 use Rattle.agreement.specs.Rules.{Block, Chain}
+use mathlib.Core.Option.{none}
 use Rattle.sheet.specs.declared.Settings.{Settings}
+use Rattle.sheet.specs.Ranges.{weightIn}
 use Rattle.terms.specs.Proposals.{Content}
 use Rattle.committee.specs.Changes.{listed, row, rows}
-use Rattle.committee.specs.Committees.{startOf, ordered}
+use Rattle.committee.specs.Committees.{leaderBy, committeeOf, startOf, ordered}
+use Rattle.committee.specs.Leaders.{leaderOf}
 
 module _ (b : Block Content) (a : ℕ) where
   pub row-none : (r : ℕ) → row b a r 0 ≡ []
@@ -41,6 +44,11 @@ pub rows-rise : (b : Block Content) (n : ℕ) → rows b 16 n ≡ rows b 0 n
 unfolding rows
 rows-rise b zero = refl
 rows-rise b (suc n) = rw (rows-rise b n, row-rises b (suc n) 16 (omega arith)) refl
+
+-- so where the block's round has no leader
+pub ordered-unled : (S : Settings) (b : Block Content) (c : Chain Content) → leaderOf (weightIn (committeeOf S c (b .round))) (b .round) ≡ none → ordered S b c ≡ rows b 0 (S .ceiling .0)
+unfolding ordered startOf leaderBy
+ordered-unled S b c e = rw e (rows-rise b (S .ceiling .0))
 
 -- ---- by keys: key q stands for round q / 16 and member (q + a) % 16, and the order inside a block is that of rising keys
 

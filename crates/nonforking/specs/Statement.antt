@@ -28,7 +28,7 @@ use Rattle.nonforking.specs.Engine.{Engine, Call, opens, propose, endors
 abbrev pub chain : Engine → Chain Content
 chain e = chainOf (e .state .settings .ceiling .0) (e .table) (e .state .blocks)
 
--- its chain as it is listed, oldest block first: each with its block round and its certificates in the block's order: by round, and within a round numbers rise from that of the leader of the block's round
+-- its chain as it is listed, oldest block first: each with its block round and its certificates in the block's order: by round, and within a round numbers rise from that of the leader of the block's round, with 0 after 15
 abbrev pub listed : Engine → List (ℕ × List Content)
 listed e = listing (ordered (e .state .settings)) (chain e)
 

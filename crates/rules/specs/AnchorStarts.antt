@@ -4,7 +4,7 @@ use mathlib.Core.Bool.{Bool, true}
 use mathlib.Core.Option.{Option, none, some}
 use mathlib.Core.List.{List, [], _∷_, _++_}
 use mathlib.Core.Logic.{inl, inr, _≢_}
-use Prim.Native.Nat.{ℕ, _≤_}
+use Prim.Native.Nat.{ℕ, _≤_, _<_}
 use native.Mathlib.Omega.{arith}
 use Rattle.agreement.specs.Rules.{Block, Chain, last}
 use Rattle.agreement.specs.View.{Log}
@@ -36,6 +36,8 @@ pub record StartsWithAnchor (S : Settings) (d : Chain Content) (b : Block Conten
   pub in-block : b .holds (startOf S b c) (b .round) ≡ some anchor
   -- and nobody else's of that round is
   pub alone : (m : ℕ) → m ≢ startOf S b c → b .holds m (b .round) ≡ none
+  -- nor any of a round above: the anchor is the last certificate of its block
+  pub top : (m r : ℕ) → b .round < r → b .holds m r ≡ none
 
 module _ (S : Settings) {correct : ℕ → Bool} {G : Log (rules S)} {k : ℕ} {s : Member S} {l : List Content} (I : Invariant correct G k s l) where
   -- a history goes down in rounds, from its certificate on
@@ -68,6 +70,7 @@ module _ (S : Settings) {correct : ℕ → Bool} {G : Log (rules S)} {k : ℕ} {
         at = placed .1;
         in-block = rw start inside;
         alone = λ m n. only m n (b .holds m (b .round)) refl;
+        top = λ m r h. above m r h (b .holds m r) refl;
       }
     where
       below : Linked s (b ∷ c) × ((b ∷ c) ≼ (newer ++ (b ∷ c)))
@@ -96,6 +99,10 @@ module _ (S : Settings) {correct : ℕ → Bool} {G : Log (rules S)} {k : ℕ} {
       only m n (some p) h =
           let f = link .content m (b .round) p .0 h in
           absurd (n (sym (f .by) ∙ ap (λ (z : Content). z .author) (reach-same (f .reached) (f .at ∙ sym (placed .1))) ∙ placed .0 ∙ sym start))
+
+      above : (m r : ℕ) → b .round < r → (o : Option Content) → b .holds m r ≡ o → o ≡ none
+      above m r l none h = refl
+      above m r l (some p) h = let f = link .content m r p .0 h in absurd (omega (arith, l, f .at, reach-low (f .reached), placed .1))
 
 module _ {S : Settings} {F : Implementation S} (X : Group S F) where
   -- so it is of every block of every correct member in a run

@@ -1,17 +1,16 @@
 -- Laws of places one after the other: going by the links is going place by place.
 use mathlib.Core.Path.{_≡_, refl, sym, ap, _∙_}
-use mathlib.Core.Bool.{Bool, true, false, cond}
+use mathlib.Core.Bool.{cond}
 use mathlib.Core.List.{List}
 use Prim.Native.Nat.{ℕ, zero, suc, _+_, _-_, _*_, _/_, _%_, _<_, _≤_}
 use native.Mathlib.Omega.{arith}
 use native.Mathlib.Decide.{decLt}
-use native.Mathlib.Numerals.{add-one}
 use lib.ListN.{getD}
-use lib.Dec.{leb, ltb}
+use lib.Dec.{leb}
 use borrow.Author.Tests.{lt-ltb, le-ltb, le-leb, lt-leb}
 use Rattle.base.specs.Folds.{foldTo}
 use Rattle.base.specs.FoldLaws.{fold-more, fold-none, fold-same, fold-high, fold-join}
-use Rattle.walk.specs.Links.{Marked, First, Links}
+use Rattle.walk.specs.Links.{Marked, Links}
 use Rattle.walk.specs.Runs.{runOver, rowOver, turnsOver, rowsOver, runEnd, Linked}
 
 -- ---- one place of a run

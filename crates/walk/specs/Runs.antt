@@ -1,7 +1,7 @@
 -- Places one after the other: those of a block are linked by next, rising; each of its rows is taken from a member on, with 0 after 15. The place of member m and round r is number 16 r + m.
 use mathlib.Core.Bool.{cond}
 use mathlib.Core.List.{List}
-use Prim.Native.Nat.{ℕ, zero, suc, _+_, _-_, _*_, _/_, _%_, _<_, _≤_}
+use Prim.Native.Nat.{ℕ, zero, suc, _+_, _*_, _/_, _%_, _<_, _≤_}
 use lib.ListN.{getD, length}
 use lib.Dec.{leb, ltb}
 use Rattle.base.specs.Folds.{foldTo}

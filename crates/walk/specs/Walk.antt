@@ -1,7 +1,7 @@
 -- The walk over the table that finds a committee: what each level of it does, and when block rounds are in order.
 use mathlib.Core.Bool.{Bool, cond, _&&_}
 use mathlib.Core.List.{List}
-use Prim.Native.Nat.{ℕ, _+_, _-_, _/_, _%_}
+use Prim.Native.Nat.{ℕ, _+_, _/_, _%_}
 use lib.Dec.{eqb, ltb}
 use Rattle.base.specs.Folds.{foldTo, allTo}
 use Rattle.store.specs.Table.{blockRound, countAt, transactionAt, contentAt}

@@ -1,5 +1,5 @@
 // The committee of a round, from the chain in the table.
-// Its cost is that of one pass over the header of each row and each held certificate, and of one look at each certificate in a block.
+// Its cost is that of one pass over the header of each row and each held certificate, of one leader for each block, and of at most two looks at each certificate in a block.
 pub mod advance;
 pub mod block;
 pub mod kept;
