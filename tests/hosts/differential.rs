@@ -284,6 +284,7 @@ impl Figures {
 // ------------------------------------------------------------ comparison ---
 
 pub struct Test {
+    seed: u64,
     rng: Rng,
     figures: Figures,
     before_state: Vec<u32>,
@@ -297,7 +298,13 @@ fn first_difference(what: &str, expected: &[u32], found: &[u32]) {
 }
 
 impl Test {
-    /// One call on a node, by both, compared.
+    /// Says what was seen; the status tells whether there was a difference.
+    fn end(&self) -> ! {
+        self.figures.print(self.seed);
+        std::process::exit(i32::from(self.figures.differences > 0))
+    }
+
+    /// One call on a node, by both, compared. The tenth difference is the last.
     pub fn call(&mut self, node: &mut Node, call: &Call, lengths: (usize, usize)) -> u64 {
         let (ns, nt) = lengths;
         let size = match node.table.len() / ROW {
@@ -328,6 +335,9 @@ impl Test {
             first_difference("table", table, &node.table);
             first_difference("out", &expected_out, &found_out);
             println!("  state now: {:?}", node.state);
+            if self.figures.differences == 10 {
+                self.end();
+            }
             // Go on from what was expected.
             node.state.clone_from(&self.before_state);
             node.table.clone_from(&self.before_table);
@@ -457,6 +467,7 @@ fn main() {
     let calls = arguments.next().map_or(1_000_000, |a| a.parse().expect("CALLS is a number"));
     let most = arguments.next().map_or(80, |a| a.parse().expect("TOTAL is a number"));
     let mut test = Test {
+        seed,
         rng: Rng::of(seed),
         figures: Figures::default(),
         before_state: Vec::new(),
@@ -471,9 +482,8 @@ fn main() {
     test.shares(most);
     println!("shares, every pair up to total {most}: {} calls", test.figures.calls - before);
     let calls = calls + test.figures.calls - before;
-    while test.figures.calls < calls && test.figures.differences < 10 {
+    while test.figures.calls < calls {
         test.stretch();
     }
-    test.figures.print(seed);
-    std::process::exit(i32::from(test.figures.differences > 0));
+    test.end()
 }
