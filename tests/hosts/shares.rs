@@ -50,20 +50,20 @@ fn telling(rng: &mut Rng, least: u64, most: u64) -> (u64, u64) {
     }
 }
 
-/// `rest` over the members of `others`, in uneven parts of at most `most`.
+/// Spreads `rest` over some members, at most `most` each; some get nothing.
 fn spread(rng: &mut Rng, weights: &mut Committee, others: Set, mut rest: u64, most: u64) {
     let mut left: Vec<u32> = members_of(others).collect();
     while !left.is_empty() {
         let m = left.swap_remove(rng.below(left.len() as u64) as usize);
-        let low = rest.saturating_sub(most * left.len() as u64);
+        let after = left.len() as u64;
+        // What the members after it cannot take is its own.
+        let low = rest.saturating_sub(most * after);
         let high = most.min(rest);
-        // Mostly about an even part.
-        let part = if rng.chance(700) { (2 * rest / (left.len() as u64 + 1)).clamp(low, high) } else { high };
-        weights[m as usize] = low + rng.below(part - low + 1);
-        if left.is_empty() {
-            weights[m as usize] = rest;
-        }
-        rest -= weights[m as usize];
+        let even = (2 * rest / (after + 1)).clamp(low, high);
+        let part = if rng.chance(700) { even } else { high };
+        let weight = if after == 0 { rest } else { low + rng.below(part - low + 1) };
+        weights[m as usize] = weight;
+        rest -= weight;
     }
 }
 
@@ -123,8 +123,8 @@ impl Test {
     }
 
     /// Every weight of every total: an open of two members gives two. The
-    /// weights of a total n add up to n (n + 1) / 2, so no opens of more
-    /// members are fewer.
+    /// weights 1 to n add up to n (n + 1) / 2 and an open takes n of it, so
+    /// opens of more members would not be fewer.
     fn every_pair(&mut self, most: u64) {
         let mut node = Test::small_node();
         for n in 1..=most {
@@ -155,6 +155,7 @@ impl Test {
         }
     }
 
+    /// The shares of all in round 4 of a bonded member; false where there is none.
     fn read_bonded(&mut self, weights: &Committee, ceiling: u32) -> bool {
         let Some(member) = bonded(&mut self.rng, weights, ceiling) else { return false };
         let mut table = vec![0; table_words(ceiling)];
@@ -183,7 +184,7 @@ impl Test {
             }
             let member = rng.between(0, 15);
             let mut weights = [0; 16];
-            // The starting weights are full, but for a light member's.
+            // The others start with the largest weight; bonds are the rest.
             let others = EVERYONE & !single(member);
             let Some(rest) = (n - w).checked_sub(15 * MOST) else { continue };
             spread(rng, &mut weights, others, rest, rest);
