@@ -1,6 +1,7 @@
 #!/bin/sh
-# check.sh [LAST [FIRST]]: the tests, the example, the edge streams, and seeds
-# FIRST to LAST (1 to 50 if not given), the reference against naive.py.
+# check.sh [LAST [FIRST]]: the tests, the example, the edge streams, shares of
+# every weight of totals to 1,000 and as many by chance, and seeds FIRST to LAST
+# (1 to 50 if not given), the reference against naive.py.
 # A runner given in RUNNER is compared with the reference as well.
 cd "$(dirname "$0")" || exit 2
 bin/tests_ref -q || exit 1
@@ -13,6 +14,9 @@ for runner in bin/runner_ref "python3 naive.py" $RUNNER; do
     done
 done
 mkdir -p out
+python3 pairs.py 1000 > out/pairs
+bin/shares < out/pairs > out/shares
+python3 naive.py shares < out/pairs | cmp - out/shares || differs shares
 for seed in $(seq "${2:-1}" "${1:-50}"); do
     bin/shuffle "$seed" > out/stream
     bin/runner_ref < out/stream > out/expected

@@ -1,6 +1,8 @@
 #!/usr/bin/env python3
 """Spoils the reference in one place at a time and counts which streams
-notice: the edge stream and the shuffled streams of seeds 1 to N.
+notice: the edge stream and the shuffled streams of seeds 1 to N. No record
+reads a share: wrong rules of shares are given pairs of weight and total, and
+what they answer is compared with naive.py.
 
     mutants.py N        (build.sh first; works in the directory mutants)
 
@@ -149,6 +151,28 @@ M=[
 ('reference.rs','leader(round, bonded_by(settings, below, round - settings.lookback))','leader(0, bonded_by(settings, below, round - settings.lookback))'),
 ('reference.rs','        leader(round, &settings.weights)\n','        leader(0, &settings.weights)\n'),
 ]
+# wrong rules of shares
+S=[
+# halves upward, downward, to the odd one
+('Ordering::Equal => if below % 2 == 0 { below } else { above },','Ordering::Equal => above,'),
+('Ordering::Equal => if below % 2 == 0 { below } else { above },','Ordering::Equal => below,'),
+('if below % 2 == 0 { below }','if below % 2 == 1 { below }'),
+# even by the weight, by the total's half, by the rest
+('if below % 2 == 0 { below }','if weight % 2 == 0 { below }'),
+('if below % 2 == 0 { below }','if n / 2 % 2 == 0 { below }'),
+('if below % 2 == 0 { below }','if rest % 2 == 0 { below }'),
+# a rest above the half dropped, any rest upward, all to the even one
+('Ordering::Greater => above,','Ordering::Greater => below,'),
+('Ordering::Less => below,','Ordering::Less => if rest == 0 { below } else { above },'),
+('Ordering::Greater => above,','Ordering::Greater => if below % 2 == 0 { below } else { above },'),
+# the half of n rounded down; halves of one rest beside, on both sides
+('(2 * rest).cmp(&n)','rest.cmp(&(n / 2))'),
+('(2 * rest).cmp(&n)','(2 * rest + 1).cmp(&n)'),
+('(2 * rest).cmp(&n)','(2 * rest).cmp(&(n + 1))'),
+# hundredths, 32 bits
+('(1_000 * weight / n, 1_000 * weight % n)','(100 * weight / n, 100 * weight % n)'),
+('(1_000 * weight / n, 1_000 * weight % n)','((1_000 * weight & 0xffff_ffff) / n, (1_000 * weight & 0xffff_ffff) % n)'),
+]
 work = os.path.join(base, 'mutants')
 os.makedirs(work, exist_ok=True)
 good = os.path.join(base, 'bin', 'runner_ref')
@@ -167,29 +191,50 @@ edge = open(os.path.join(base, 'edges', 'edge.stream'), 'rb').read()
 edge_expected = open(os.path.join(base, 'edges', 'edge.expected'), 'rb').read()
 
 
-def one(i):
-    name, old, new = M[i]
-    place = os.path.join(work, str(i))
+pairs = subprocess.run([sys.executable, os.path.join(base, 'pairs.py'), '300'],
+                       capture_output=True).stdout
+shares = subprocess.run([sys.executable, os.path.join(base, 'naive.py'), 'shares'],
+                        input=pairs, capture_output=True).stdout.split()
+
+
+def spoilt(place, program, name, old, new):
+    """The program built with the change; None and why where there is none."""
+    place = os.path.join(work, place)
     os.makedirs(place, exist_ok=True)
-    for source in ('reference.rs', 'runner_ref.rs'):
+    for source in ('reference.rs', program):
         shutil.copy(os.path.join(base, source), place)
     text = open(os.path.join(place, name)).read()
     if text.count(old) != 1:
-        return 'the text to spoil is there %d times' % text.count(old)
+        return None, 'the text to spoil is there %d times' % text.count(old)
     open(os.path.join(place, name), 'w').write(text.replace(old, new))
     runner = os.path.join(place, 'runner')
     built = subprocess.run(['rustc', '--edition', '2021', '-O', '-Awarnings',
-                            os.path.join(place, 'runner_ref.rs'), '-o', runner],
+                            os.path.join(place, program), '-o', runner],
                            capture_output=True, text=True)
-    if built.returncode:
-        return 'does not build'
+    return (None, 'does not build') if built.returncode else (runner, '')
+
+
+def one(i):
+    runner, why = spoilt(str(i), 'runner_ref.rs', *M[i])
+    if runner is None:
+        return why
     noticed = sum(answers(runner, s) != expected for s, expected in streams)
     in_edge = answers(runner, edge) != edge_expected
     return 'edge stream %s, %d of %d seeds%s' % ('yes' if in_edge else 'no', noticed,
                                                  len(streams), ' (same)' if i in SAME else '')
 
 
+def one_share(i):
+    program, why = spoilt('share%d' % i, 'shares.rs', 'reference.rs', *S[i])
+    if program is None:
+        return why
+    found = answers(program, pairs).split()
+    return '%d of %d pairs' % (sum(a != b for a, b in zip(found, shares)), len(shares))
+
+
 with ThreadPoolExecutor(4) as pool:
+    for i, result in enumerate(pool.map(one_share, range(len(S)))):
+        print('share', i, repr(S[i][0][:44]), '->', repr(S[i][1][:44]), ':', result, flush=True)
     for i, result in enumerate(pool.map(one, range(len(M)))):
         print(i, M[i][0], repr(M[i][1][:44]), '->', repr(M[i][2][:44]), ':', result, flush=True)
 shutil.rmtree(work)

@@ -6,9 +6,11 @@ purpose. The order inside a block starts with the author of its anchor here,
 with the leader of its round in the first writing.
 
     naive.py < stream > answers
+    naive.py shares < pairs > shares      (no record reads a share)
 """
 import re
 import sys
+from fractions import Fraction
 
 RANGES = [(1, 1000, 20), (3, 1024, 1024), (0, 4, 4)] + \
          [(0, 1000000, 1)] * 4 + [(0, 1000000, 0)] * 12
@@ -271,4 +273,17 @@ def main():
     sys.stdout.buffer.write(''.join(line + '\r\n' for line in out).encode('latin-1'))
 
 
-main()
+def share(weight, n):
+    """round goes to the even one of two that are equally near."""
+    return round(Fraction(1000 * weight, n))
+
+
+def shares():
+    for line in sys.stdin:
+        print(share(*map(int, line.split())))
+
+
+if sys.argv[1:] == ['shares']:
+    shares()
+else:
+    main()

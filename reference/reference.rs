@@ -8,6 +8,8 @@
 
 #![allow(dead_code)]
 
+use std::cmp::Ordering;
+
 /// Refusal numbers are those of the paper.
 pub type Answer<T> = Result<T, u32>;
 
@@ -172,10 +174,16 @@ pub fn leader(round: u32, committee: &Committee) -> Option<u32> {
     Some(members[(round / 2) as usize % members.len()])
 }
 
-/// Weight in thousandths of the total, to the nearest, halves upward.
-/// Only asked of a committee with a member in it.
+/// Weight in thousandths of the total (point 3): the nearest; of two that are
+/// equally near, the even one. Only asked of a committee with a member in it.
 pub fn thousandths(weight: u64, n: u64) -> u64 {
-    (2 * 1_000 * weight + n) / (2 * n)
+    let (below, rest) = (1_000 * weight / n, 1_000 * weight % n);
+    let above = below + 1;
+    match (2 * rest).cmp(&n) {
+        Ordering::Less => below,
+        Ordering::Greater => above,
+        Ordering::Equal => if below % 2 == 0 { below } else { above },
+    }
 }
 
 /// What one transaction of a block does to the bonded committee.

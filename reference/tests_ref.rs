@@ -102,13 +102,69 @@ fn p_leaders() {
 fn p_share() {
     let m = Member::open(0, &ones(16), 1_024).unwrap();
     for member in 0..16 {
-        assert_eq!(m.read_share(member, 1), Ok(63));
+        assert_eq!(m.read_share(member, 1), Ok(62));
     }
-    assert_eq!(thousandths(1, 3), 333);
-    assert_eq!(thousandths(2, 3), 667);
-    assert_eq!(thousandths(1, 1), 1_000);
-    assert_eq!(thousandths(1, 2_000), 1); // a half, upward
-    assert_eq!(thousandths(1, 2_001), 0);
+    let m = Member::open(0, &sheet(Blank, Blank, Blank, &[1, 3, 5, 7]), 1_024).unwrap();
+    let shares: Vec<_> = (0..4).map(|member| m.read_share(member, 1).unwrap()).collect();
+    assert_eq!(shares, [62, 188, 312, 438]);
+}
+
+#[test]
+fn shares_by_hand() {
+    // weight, total, share
+    let table = [
+        // 62.5, 187.5, 312.5, 437.5, 562.5, 937.5
+        (1, 16, 62), (3, 16, 188), (5, 16, 312), (7, 16, 438), (9, 16, 562), (15, 16, 938),
+        // whole numbers
+        (1, 1, 1_000), (16, 16, 1_000), (8, 16, 500), (2, 16, 125), (2, 2_000, 1), (1, 1_000, 1),
+        // 31.25, 93.75, 12.5, 37.5
+        (1, 32, 31), (3, 32, 94), (1, 80, 12), (3, 80, 38),
+        // 0.5, 1.5, 2.5, 998.5, 999.5
+        (1, 2_000, 0), (3, 2_000, 2), (5, 2_000, 2), (1_997, 2_000, 998), (1_999, 2_000, 1_000),
+        // just beside a half
+        (1, 2_001, 0), (1, 1_999, 1), (3, 2_001, 1), (3, 1_999, 2), (1, 17, 59), (1, 15, 67),
+        (1, 3, 333), (2, 3, 667), (1, 7, 143), (6, 7, 857),
+        // the largest totals: 16 members alike; one with all the bonds, the others without
+        (1_000_000, 16_000_000, 62), (5_096_000, 81_536_000, 62),
+        (66_536_000, 81_536_000, 816), (1_000_000, 81_536_000, 12), (81_536_000, 81_536_000, 1_000),
+        // of 81,536,000: 122,304 is 1.5, one less and one more are beside it; 40,768 is 0.5
+        (122_304, 81_536_000, 2), (122_303, 81_536_000, 1), (122_305, 81_536_000, 2),
+        (203_840, 81_536_000, 2), (203_839, 81_536_000, 2), (203_841, 81_536_000, 3),
+        (40_768, 81_536_000, 0), (40_769, 81_536_000, 1),
+    ];
+    for (weight, n, share) in table {
+        assert_eq!(thousandths(weight, n), share, "{weight} of {n}");
+    }
+}
+
+/// Every weight of every total to 2,000: by search, the one of 0 to 1,000 that
+/// is nearest, and of two that are equally near the even one.
+#[test]
+fn shares_by_search() {
+    for n in 1..=2_000u64 {
+        let mut share = 0;
+        for weight in 1..=n {
+            // Twice n times the distance; shares of larger weights are not smaller.
+            let off = |s: u64| (2_000 * weight).abs_diff(2 * n * s);
+            while share < 1_000 && off(share + 1) < off(share) {
+                share += 1;
+            }
+            let tie = share < 1_000 && off(share + 1) == off(share);
+            let nearest = if tie && share % 2 == 1 { share + 1 } else { share };
+            assert_eq!(thousandths(weight, n), nearest, "{weight} of {n}");
+            // A half comes of multiples of 16 alone.
+            assert!(!tie || n % 16 == 0);
+        }
+    }
+}
+
+#[test]
+fn a_share_of_0_is_a_members() {
+    let m = Member::open(0, &sheet(Blank, Blank, Blank, &[1, 1_999, 0, 0]), 1_024).unwrap();
+    assert_eq!(m.read_share(0, 1), Ok(0));
+    assert_eq!(m.read_share(1, 1), Ok(1_000));
+    assert_eq!(m.read_share(2, 1), Err(9));
+    assert!(m.may_propose(0, &[]).is_ok());
 }
 
 #[test]

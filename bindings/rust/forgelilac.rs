@@ -398,7 +398,9 @@ impl Engine {
         Ok(out)
     }
 
-    /// A member's weight in thousandths of its committee's total.
+    /// A member's weight in thousandths of its committee's total, to the nearest; an exact half
+    /// goes to the even one: 1 of 16 (62.5) gives 62, 3 of 16 (187.5) gives 188. A member may
+    /// have 0 (1 of 2,000); a non-member is refused.
     pub fn share(&self, member: u32, round: u32) -> Result<u32, Refusal> {
         value(call!(forgelilac_share, read(&self.state), read(&self.table), member, round))
     }
@@ -794,6 +796,24 @@ mod tests {
         assert_eq!(engine.share(16, 1), Err(Refusal::MemberRange));
         assert_eq!((engine.own(), engine.round(), engine.blocks()), (0, 1, 0));
         assert_eq!(engine.chain(), Ok(Vec::new()));
+    }
+
+    #[test]
+    fn a_half_goes_to_the_even_thousandth() {
+        let shares = |weights: &[u32]| -> Vec<u32> {
+            let mut sheet = Sheet { ceiling: Some(8), weights: [Some(0); MEMBERS], ..Sheet::default() };
+            for (setting, weight) in sheet.weights.iter_mut().zip(weights) {
+                *setting = Some(*weight);
+            }
+            let engine = Engine::open(0, &sheet).unwrap();
+            (0..weights.len() as u32).map(|member| engine.share(member, 1).unwrap()).collect()
+        };
+        assert_eq!(shares(&[1; 16]), [62; 16]);
+        assert_eq!(shares(&[1_000_000; 16]), [62; 16]);
+        assert_eq!(shares(&[1, 3, 5, 7]), [62, 188, 312, 438]);
+        assert_eq!(shares(&[1, 3, 5, 1_991]), [0, 2, 2, 996]);
+        assert_eq!(shares(&[1, 2]), [333, 667]);
+        assert_eq!(shares(&[7]), [1_000]);
     }
 
     #[test]

@@ -1,4 +1,4 @@
-//! Host functions against the reference: `differential SEED [CALLS]`.
+//! Host functions against the reference: `differential SEED [CALLS [TOTAL]]`.
 //!
 //! Each call is made twice: by the engine on words, and by the reference on
 //! the member that the words before the call stand for. Compared after each
@@ -6,6 +6,7 @@
 //! what the call may touch. A refused call must have changed nothing.
 //!
 //! First come single words at the edges of their ranges (`edges.rs`), then
+//! shares, among them every weight of every total up to TOTAL (`shares.rs`), then
 //! calls by chance. Their stretches start from states grown by runs, from such states
 //! with words changed here and there, and with chains made up on what they hold. Whether
 //! a changed state is well formed is judged by `words.rs`, from the papers.
@@ -23,6 +24,7 @@ mod engine;
 mod grow;
 #[path = "../../reference/reference.rs"]
 mod reference;
+mod shares;
 mod words;
 
 use calls::*;
@@ -192,6 +194,12 @@ struct Figures {
     /// order of document 01, by round, then author.
     committees: u64,
     other: u64,
+    /// Shares read; of them exact halves that go down and that go up, reads
+    /// of 0, and the largest total.
+    shares: u64,
+    halves: [u64; 2],
+    zeros: u64,
+    most_weight: u64,
     /// Calls by ceiling: up to 40, up to 255, larger.
     sizes: [u64; 3],
 }
@@ -223,6 +231,15 @@ impl Figures {
         self.other += u64::from(member.committee_of(round) != Some(&before));
     }
 
+    fn count_share(&mut self, weight: u64, n: u64, share: u64) {
+        self.shares += 1;
+        if 2_000 * weight % (2 * n) == n {
+            self.halves[usize::from(n * share > 1_000 * weight)] += 1;
+        }
+        self.zeros += u64::from(share == 0);
+        self.most_weight = self.most_weight.max(n);
+    }
+
     fn count_chain(&mut self, member: &Member) {
         self.chains += 1;
         for (k, block) in member.chain.iter().enumerate() {
@@ -252,6 +269,11 @@ impl Figures {
             "committees read: {}, other than by round, then author: {}",
             self.committees, self.other
         );
+        let [down, up] = self.halves;
+        println!(
+            "shares read: {}, of them exact halves: {down} down, {up} up; reads of 0: {}; largest total: {}",
+            self.shares, self.zeros, self.most_weight
+        );
         let [small, middle, large] = self.sizes;
         println!("calls by ceiling: {small} up to 40, {middle} up to 255, {large} up to 1,024");
         println!("changed states: {}, of them not well formed: {}", self.changed, self.malformed);
@@ -262,6 +284,7 @@ impl Figures {
 // ------------------------------------------------------------ comparison ---
 
 pub struct Test {
+    seed: u64,
     rng: Rng,
     figures: Figures,
     before_state: Vec<u32>,
@@ -275,7 +298,13 @@ fn first_difference(what: &str, expected: &[u32], found: &[u32]) {
 }
 
 impl Test {
-    /// One call on a node, by both, compared.
+    /// Says what was seen; the status tells whether there was a difference.
+    fn end(&self) -> ! {
+        self.figures.print(self.seed);
+        std::process::exit(i32::from(self.figures.differences > 0))
+    }
+
+    /// One call on a node, by both, compared. The tenth difference is the last.
     pub fn call(&mut self, node: &mut Node, call: &Call, lengths: (usize, usize)) -> u64 {
         let (ns, nt) = lengths;
         let size = match node.table.len() / ROW {
@@ -306,6 +335,9 @@ impl Test {
             first_difference("table", table, &node.table);
             first_difference("out", &expected_out, &found_out);
             println!("  state now: {:?}", node.state);
+            if self.figures.differences == 10 {
+                self.end();
+            }
             // Go on from what was expected.
             node.state.clone_from(&self.before_state);
             node.table.clone_from(&self.before_table);
@@ -313,6 +345,12 @@ impl Test {
         self.figures.count(call, expected);
         if let (Call::Committee { round, .. }, Ok(_), Some(member)) = (call, answer, &node.twin) {
             self.figures.count_committee(member, *round);
+        }
+        if let (Call::Share { member: m, round }, Ok(share), Some(member)) =
+            (call, answer, &node.twin)
+        {
+            let committee = member.committee_of(*round).expect("a share was read");
+            self.figures.count_share(committee[*m as usize], total(committee), share);
         }
         self.figures.sizes[size] += 1;
         expected
@@ -427,7 +465,9 @@ fn main() {
     let mut arguments = std::env::args().skip(1);
     let seed = arguments.next().map_or(1, |a| a.parse().expect("SEED is a number"));
     let calls = arguments.next().map_or(1_000_000, |a| a.parse().expect("CALLS is a number"));
+    let most = arguments.next().map_or(80, |a| a.parse().expect("TOTAL is a number"));
     let mut test = Test {
+        seed,
         rng: Rng::of(seed),
         figures: Figures::default(),
         before_state: Vec::new(),
@@ -438,9 +478,12 @@ fn main() {
     }
     test.edges();
     println!("edges: {} calls", test.figures.calls);
-    while test.figures.calls < calls && test.figures.differences < 10 {
+    let before = test.figures.calls;
+    test.shares(most);
+    println!("shares, every pair up to total {most}: {} calls", test.figures.calls - before);
+    let calls = calls + test.figures.calls - before;
+    while test.figures.calls < calls {
         test.stretch();
     }
-    test.figures.print(seed);
-    std::process::exit(i32::from(test.figures.differences > 0));
+    test.end()
 }

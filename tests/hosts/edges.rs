@@ -2,6 +2,7 @@
 
 use crate::calls::*;
 use crate::reference::*;
+use crate::shares::*;
 use crate::words::*;
 use crate::{Node, Test};
 
@@ -152,8 +153,29 @@ impl Test {
         }
     }
 
+    /// Every share of totals that have exact halves, and of sixteen alike:
+    /// all members are read, also those outside.
+    fn share_edges(&mut self) {
+        let mut node = Test::small_node();
+        for n in [16, 32, 80, 2_000] {
+            for w in n / 2..=n {
+                self.open_and_read(&mut node, &two(w, n - w), 0xffff);
+            }
+        }
+        for each in [1, 2, 5, 125, 999_999, 1_000_000] {
+            self.open_and_read(&mut node, &[each; 16], 0xffff);
+        }
+        // All odd sixteenths that add up; 0.5, 1.5 and 2.5 in one committee.
+        for some in [&[1, 3, 5, 7][..], &[1, 15], &[3, 13], &[1, 3, 5, 1_991], &[1, 1_999]] {
+            let mut weights = [0; 16];
+            weights[..some.len()].copy_from_slice(some);
+            self.open_and_read(&mut node, &weights, 0xffff);
+        }
+    }
+
     /// Edges of small states, and of the largest with room for one row more.
     pub fn edges(&mut self) {
+        self.share_edges();
         for (ceiling, rounds) in [(3, 1), (3, 3), (6, 5), (64, 5), (1_024, 1)] {
             let mut weights = [Setting::Written(0); 16];
             let some: &[usize] = if rounds == 1 { &[0] } else { &[0, 1, 5] };

@@ -56,7 +56,26 @@ MUTANTS = [
     ("if round > self.last + 2 + self.lookback() {", "if round > self.last + 1 + self.lookback() {"),
     ("if round > self.last + 2 + self.lookback() {", "if round > self.last + 3 + self.lookback() {"),
     ("if block_round >= s {", "if block_round > s {"),
-    ("((2_000 * weight + total) / (2 * total))", "(1_000 * weight / total)"),
+    # shares: halves upward, downward, to the odd one; even by the weight, by the rest
+    ("2 * rest > total || 2 * rest == total && share % 2 == 1", "2 * rest >= total"),
+    ("2 * rest > total || 2 * rest == total && share % 2 == 1", "2 * rest > total"),
+    ("2 * rest == total && share % 2 == 1", "2 * rest == total && share % 2 == 0"),
+    ("2 * rest == total && share % 2 == 1", "2 * rest == total && weight % 2 == 1"),
+    ("2 * rest == total && share % 2 == 1", "2 * rest == total && rest % 2 == 1"),
+    # a rest above the half dropped, any rest upward, all to the even one
+    ("2 * rest > total || 2 * rest == total && share % 2 == 1", "2 * rest == total && share % 2 == 1"),
+    ("2 * rest > total || 2 * rest == total && share % 2 == 1", "rest > 0"),
+    ("2 * rest > total || 2 * rest == total && share % 2 == 1", "rest > 0 && share % 2 == 1"),
+    # one beside the half
+    ("2 * rest > total || 2 * rest == total", "2 * rest > total + 1 || 2 * rest == total"),
+    ("2 * rest > total || 2 * rest == total", "2 * rest + 1 > total && rest > total / 2 || 2 * rest + 1 >= total"),
+    ("2 * rest == total && share % 2 == 1", "rest == total / 2 && share % 2 == 1"),
+    # 32 bits; starting weights; 0 refused, 0 for those outside, 999 at most
+    ("(1_000 * weight / total, 1_000 * weight % total)", "((1_000 * weight & 0xffff_ffff) / total, (1_000 * weight & 0xffff_ffff) % total)"),
+    ("    let (share, rest) =", "    let total = s.state[4..20].iter().map(|&w| u64::from(w)).sum::<u64>();\n    let (share, rest) ="),
+    ("    Ok((share + u64::from(up)) as u32)\n", "    if share + u64::from(up) == 0 {\n        return Err(9);\n    }\n    Ok((share + u64::from(up)) as u32)\n"),
+    ("    if weight == 0 {\n        return Err(9);\n    }\n", "    if weight == 0 {\n        return Ok(0);\n    }\n"),
+    ("    Ok((share + u64::from(up)) as u32)\n", "    Ok(999.min(share + u64::from(up)) as u32)\n"),
     # calls
     ("body[1] <= allowance &&", "body[1] <= 4 &&"),
     ("if (body[0] == 0) != (round == 1) {", "if body[0] == 0 && round > 1 {"),

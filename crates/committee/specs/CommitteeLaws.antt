@@ -1,16 +1,15 @@
 -- Laws of weights, fault bounds and quorums.
 use mathlib.Core.Path.{_≡_, refl}
 use mathlib.Core.Bool.{Bool, true, false, not, cond}
-use Prim.Native.Nat.{ℕ, _+_, _-_, _*_, _/_, _≤_, _<_}
+use Prim.Native.Nat.{ℕ, _-_, _*_, _≤_, _<_}
 use native.Mathlib.Omega.{arith}
-use native.Mathlib.Nat.{div-lt-iff-lt-mul}
 use borrow.Author.Tests.{le-leb, lt-leb}
 use Rattle.agreement.specs.Rules.{Chain}
 use Rattle.terms.specs.Proposals.{Content}
 use Rattle.sheet.specs.declared.Settings.{Settings}
 use Rattle.base.specs.SumLaws.{sum-mono, sum-up}
 use Rattle.agreement.specs.Weights.{weigh, total}
-use Rattle.committee.specs.Committees.{committeeBy, bondedFrom, committeeOf, boundOf, outsider, short, quorum, shareOf}
+use Rattle.committee.specs.Committees.{committeeBy, bondedFrom, committeeOf, boundOf, outsider, short, quorum}
 
 -- up to the lookback the committee is the starting one
 pub committee-start : (S : Settings) (c : Chain Content) (r : ℕ) → r ≤ S .lookback → committeeOf S c r ≡ S .weights
@@ -45,12 +44,3 @@ quorum-not w set e = rw e refl
 pub quorum-inside : (w : ℕ → ℕ) (set : ℕ → Bool) → outsider w set ≡ false → quorum w set ≡ not (short w set)
 unfolding quorum
 quorum-inside w set e = rw e refl
-
--- a share is at most a thousand thousandths
-pub share-le : (w n : ℕ) → 0 < n → w ≤ n → shareOf w n ≤ 1000
-unfolding shareOf
-share-le w n h l =
-    let p : 0 < 2 * n = omega arith in
-    let q : 2000 * w + n < 1001 * (2 * n) = omega arith in
-    let r : (2000 * w + n) / (2 * n) < 1001 = div-lt-iff-lt-mul p .1 q in
-    omega arith

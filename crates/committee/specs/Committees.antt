@@ -1,7 +1,7 @@
 -- Committees, fault bounds and quorums. A committee is sixteen weights, 0 for a non-member.
 use mathlib.Core.Bool.{Bool, cond, not, _&&_, _||_}
 use mathlib.Core.List.{List, [], _∷_}
-use Prim.Native.Nat.{ℕ, _+_, _-_, _*_, _/_}
+use Prim.Native.Nat.{ℕ, _+_, _-_, _/_}
 use lib.Dec.{leb, ltb}
 use Rattle.base.specs.Folds.{anyTo}
 use Rattle.agreement.specs.Weights.{weigh, total}
@@ -68,7 +68,3 @@ short w set = ltb (weigh 16 w set) (quorumWeight (total 16 w))
 -- the set is a quorum: inside the committee, and of enough weight
 unfoldable pub quorum : (ℕ → ℕ) → (ℕ → Bool) → Bool
 quorum w set = not (outsider w set || short w set)
-
--- a weight in thousandths of the total n, to the nearest, halves upward
-unfoldable pub shareOf : ℕ → ℕ → ℕ
-shareOf w n = (2000 * w + n) / (2 * n)

@@ -17,7 +17,8 @@ use Rattle.sheet.specs.declared.Sheet.{Sheet}
 use Rattle.sheet.specs.Sheets.{blankSheet, blankWeight, weightAt, filled}
 use Rattle.sheet.specs.Ranges.{weightIn}
 use Rattle.committee.specs.Changes.{changes, changesOf, row, rows}
-use Rattle.committee.specs.Committees.{committeeBy, leaderBy, stepFrom, bondedFrom, committeeOf, startOf, ordered, knownBy, boundOf, quorumWeight, shareOf}
+use Rattle.committee.specs.Committees.{committeeBy, leaderBy, stepFrom, bondedFrom, committeeOf, startOf, ordered, knownBy, boundOf, quorumWeight}
+use Rattle.committee.specs.Shares.{evenNeighbour, rounded, nearest, shareOf}
 use Rattle.committee.specs.Leaders.{countBelow, memberBelow, memberAt, leaderOf, leaderNumber}
 
 -- ---- what the cases speak of
@@ -72,7 +73,7 @@ cases =
     ∷ (weightIn (committeeOf blank bonding 22) 5, 0) ∷ (weightIn (committeeOf blank bonding 23) 5, 7)
     ∷ (leaderNumber (leaderOf (weightIn (blank .weights)) 2), 1) ∷ (leaderNumber (leaderOf (weightIn (blank .weights)) 4), 2)
     ∷ (leaderNumber (leaderOf (weightIn (blank .weights)) 6), 3) ∷ (leaderNumber (leaderOf (weightIn (blank .weights)) 8), 0)
-    ∷ (shareOf 1 16, 63)
+    ∷ (shareOf 1 16, 62) ∷ (shareOf 3 16, 188)
     ∷ (weightIn (changes (unbond 2 ∷ bond 2 5 ∷ []) (blank .weights)) 2, 5) ∷ (weightIn (changes (bond 2 5 ∷ unbond 2 ∷ []) (blank .weights)) 2, 0)
     ∷ (weightIn (blank .weights) 3, 1) ∷ (weightIn (filled written .weights) 3, 0)
     ∷ (authorAt (ordered four full []) 0, 2) ∷ (authorAt (ordered four full []) 1, 3) ∷ (authorAt (ordered four full []) 2, 0) ∷ (authorAt (ordered four full []) 3, 1)
@@ -86,5 +87,5 @@ agree [] = true
 agree (x ∷ l) = eqb (x .0) (x .1) && agree l
 
 pub edges : agree cases ≡ true
-unfolding agree cases blank written bond unbond bonding four full nobody authorAt truth startOf ordered boundOf quorumWeight knownBy committeeOf committeeBy leaderBy stepFrom bondedFrom rows row changesOf changes leaderOf memberAt memberBelow countBelow shareOf filled weightAt blankWeight tab sumTo
+unfolding agree cases blank written bond unbond bonding four full nobody authorAt truth startOf ordered boundOf quorumWeight knownBy committeeOf committeeBy leaderBy stepFrom bondedFrom rows row changesOf changes leaderOf memberAt memberBelow countBelow shareOf nearest rounded evenNeighbour filled weightAt blankWeight tab sumTo
 edges = refl

@@ -7,6 +7,8 @@ pub mod Totals
 pub mod TotalLaws
 pub mod Leaders
 pub mod Committees
+pub mod Shares
+pub mod ShareLaws
 pub mod OrderLaws
 pub mod CommitteeLaws
 pub mod BondedLaws

@@ -1,18 +1,20 @@
 // Committees: sixteen weights, 0 for a non-member. Their weight, fault bound and quorums, and a member's share.
 pub mod change;
 pub mod leader;
+pub mod rounding;
 
 use sheet::Weight;
 use terms::Member;
 ghost use mathlib.Core.Path.{_≡_};
 ghost use mathlib.Core.Bool.{cond, not, _&&_};
-ghost use Prim.Native.Nat.{_+_, _*_, _<_, _≤_};
+ghost use Prim.Native.Nat.{_<_};
 ghost use lib.Dec.{ltb};
 ghost use Rattle.base.specs.Sets.{isIn};
 ghost use Rattle.agreement.specs.Weights.{weigh, total};
 ghost use Rattle.sheet.specs.Ranges.{weightIn};
-ghost use Rattle.committee.specs.Committees.{boundOf, outsider, short, quorum, shareOf};
+ghost use Rattle.committee.specs.Committees.{boundOf, outsider, short, quorum};
 ghost use Rattle.committee.specs.Leaders.{members};
+ghost use Rattle.committee.specs.Shares.{shareOf};
 ghost use Rattle.committee.specs.Totals.{Light};
 
 // Is m a member of the committee?
@@ -114,20 +116,11 @@ pub fn is_quorum(w: &[u64; 16], set: u32) -> bool
     !is_short(w, set)
 }
 
-// Twice a weight in thousandths of n, before the division, with n more: so halves go upward.
-fn numerator(x: Weight, n: Weight) -> Weight
-    requires { ⌜ (0 < n .0) × (x .0 ≤ n .0) × (n .0 ≤ 562949953421312) ⌝ }
-    ensures { λ v. ⌜ v .0 ≡ 2000 * x .0 + n .0 ⌝ }
-{
-    Weight(2000 * x.0 + n.0)
-}
-
-// A member's share: its weight in thousandths of the total, to the nearest, halves upward.
+// A member's share: its weight in thousandths of the total, to the nearest, an exact half to the even neighbour.
 pub fn share(w: &[u64; 16], m: Member) -> u32
     requires { ⌜ (m .0 < 16) × (0 < weightIn (now w) (m .0)) × Light (now w) ⌝ }
     ensures { λ v. ⌜ v ≡ shareOf (weightIn (now (w .entry)) (m .0)) (total 16 (weightIn (now (w .entry)))) ⌝ }
 {
     let n = total_weight(w);
-    let x = numerator(Weight(w[m.0 as usize]), n);
-    (x.0 / (2 * n.0)) as u32
+    rounding::thousandths(Weight(w[m.0 as usize]), n)
 }

@@ -17,7 +17,7 @@ use Rattle.store.specs.Writes.{proposalOf}
 use Rattle.sheet.specs.Ranges.{weightIn}
 use Rattle.agreement.specs.Weights.{total}
 use Rattle.agreement.specs.Dag.{isHeld}
-use Rattle.committee.specs.Committees.{shareOf}
+use Rattle.committee.specs.Shares.{shareOf}
 use Rattle.committee.specs.Leaders.{members}
 use Rattle.committee.specs.ChainLaws.{chain-length}
 use Rattle.rules.specs.Tests.{badRound, unknown, committeeIn}

@@ -1,0 +1,20 @@
+-- Shares: weights in thousandths of a total, to the nearest, an exact half to the even neighbour.
+use mathlib.Core.Bool.{cond}
+use Prim.Native.Nat.{ℕ, _+_, _*_, _/_, _%_}
+use lib.Dec.{ltb}
+
+-- the even one of q and q + 1
+unfoldable pub evenNeighbour : ℕ → ℕ
+evenNeighbour q = q + q % 2
+
+-- a division by n that gave the whole part q and the rest r: a rest below half of n is dropped, one above it makes one more, an exact half gives the even neighbour
+unfoldable pub rounded : ℕ → ℕ → ℕ → ℕ
+rounded q r n = cond (ltb (2 * r) n) q (cond (ltb n (2 * r)) (q + 1) (evenNeighbour q))
+
+-- a / n to the nearest whole number
+unfoldable pub nearest : ℕ → ℕ → ℕ
+nearest a n = rounded (a / n) (a % n) n
+
+-- the share of weight w in the total n, in thousandths
+unfoldable pub shareOf : ℕ → ℕ → ℕ
+shareOf w n = nearest (1000 * w) n

@@ -1,0 +1,30 @@
+// Thousandths: to the nearest, an exact half to the even neighbour.
+use sheet::Weight;
+ghost use mathlib.Core.Path.{_≡_};
+ghost use Prim.Native.Nat.{_<_, _≤_};
+ghost use Rattle.committee.specs.Shares.{rounded, shareOf};
+
+// What a division by n comes to, whose whole part is q and whose rest is r.
+fn round(q: u64, r: u64, n: u64) -> u64
+    requires { ⌜ (q ≤ 1000) × (r < n) × (n ≤ 562949953421312) ⌝ }
+    ensures { λ v. ⌜ v ≡ rounded q r n ⌝ }
+{
+    if 2 * r < n {
+        return q;
+    }
+    if n < 2 * r {
+        return q + 1;
+    }
+    q + q % 2
+}
+
+// A weight in thousandths of the total n.
+pub fn thousandths(x: Weight, n: Weight) -> u32
+    requires { ⌜ (0 < n .0) × (x .0 ≤ n .0) × (n .0 ≤ 562949953421312) ⌝ }
+    ensures { λ v. ⌜ v ≡ shareOf (x .0) (n .0) ⌝ }
+{
+    let a = 1000 * x.0;
+    let q = a / n.0;
+    let r = a - q * n.0;
+    round(q, r, n.0) as u32
+}
