@@ -3,7 +3,7 @@
 Rooms stand bottom up, each on those that its broad arrows point to; so do the crates of a room, by
 thin arrows. Arrows that follow from others are left out. A crate that depends on one of a later room
 is a mistake. --check draws nothing: exit 1 where docs/map.svg is not current, or where
-docs/ARCHITECTURE.md names what is not there.
+docs/ARCHITECTURE.md names what is not there or lacks a crate.
 """
 import os
 import re
@@ -16,7 +16,7 @@ sys.path.insert(1, os.path.join(TOP, "tools", "draw"))
 from draw import COLOURS, FAINT, PAPER, QUIET, STYLE, box, text
 from floors import Pass, floors_of
 from names import missing_names
-from rooms import House, heights_of, read_rooms
+from rooms import House, read_rooms
 
 PICTURE, PAGE = os.path.join(TOP, "docs", "map.svg"), os.path.join(TOP, "docs", "ARCHITECTURE.md")
 WIDTH, MARGIN, HEADING = 1000, 16, 70
@@ -176,7 +176,7 @@ class Picture:
             bottom -= height + APART
 
     def pictures_of(self, level):
-        """The rooms of a level, with at most so many crates side by side in all."""
+        """The rooms of a level, with as many crates side by side as there is room for."""
         most = {index: MOST for index in level}
         while True:
             pictures = [RoomPicture(self.house.rooms[index], self.house.below_inside(index), most[index],
