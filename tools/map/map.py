@@ -19,14 +19,13 @@ from names import missing_names
 from rooms import House, read_rooms
 
 PICTURE, PAGE = os.path.join(TOP, "docs", "map.svg"), os.path.join(TOP, "docs", "ARCHITECTURE.md")
-WIDTH, MARGIN, HEADING = 1000, 16, 70
+WIDTH, MARGIN, HEADING = 1000, 16, (320, 130)       # the heading: title and legend
 PAD, GAP, PASS, STOREY = 12, 14, 8, 27      # inside a room, between crates, for a passing line, between floors
 ASIDE, APART = 14, 31                       # between rooms side by side, between levels
 LABEL, WIDEST, MOST = 23, 390, 6            # a room's name, a crate at most, crates side by side at most
 SMALL, LINE, LINES = 11.5, 14.5, 3          # a crate's words: size, line height, lines at most
 MORE = [("#e5e5ec", "#55536a"), ("#d7eff5", "#1d6f86"), ("#f3e4d8", "#8a5230")]      # rooms have more colours than blocks
-TITLE = "The crates, and what stands on what"
-LEGEND = "Broad arrow: a room stands on another, and on all that stands beneath that. Thin arrow: a crate stands on one of its room."
+TITLE = "The crates in their rooms"
 
 
 def wide(words, size=SMALL):
@@ -63,6 +62,16 @@ def shortened(head, room):
 
 def head_down(x, y, colour, size):
     return f'<path d="M{x - size:g} {y - 1.6 * size:g}L{x + size:g} {y - 1.6 * size:g}L{x:g} {y:g}Z" fill="{colour}"/>'
+
+
+def broad(x, to, y, end):
+    """The arrow between rooms."""
+    return f'<path d="M{x:g} {y:g}L{to:g} {end - 12:g}" stroke="{FAINT}" stroke-width="7"/>' + head_down(to, end, FAINT, 11)
+
+
+def thin(path, x, end, ink):
+    """The arrow between crates."""
+    return f'<path d="{path}" fill="none" stroke="{ink}" stroke-width="1.4" stroke-opacity="0.75"/>' + head_down(x, end, ink, 4)
 
 
 def spread(places, left, right):
@@ -146,8 +155,7 @@ class RoomPicture:
                 x, _, y = self.at[one]
             end, top = into[line[-1]][index], self.at[line[-1]][1] - 1
             path += self.curve(x, y, end, top - 5)
-            yield f'<path d="{path}" fill="none" stroke="{ink}" stroke-width="1.4" stroke-opacity="0.75"/>'
-            yield head_down(end, top, ink, 4)
+            yield thin(path, end, top, ink)
 
     def curve(self, x, y, to, down):
         return f"C{x:g} {(y + down) / 2:g} {to:g} {(y + down) / 2:g} {to:g} {down:g}"
@@ -166,7 +174,7 @@ class Picture:
                 one.widen(free * max(1, one.columns) / columns)
             heights.append(max(one.height for one in pictures))
             self.rooms.update(zip(level, pictures))
-        self.height = HEADING + sum(heights) + APART * (len(levels) - 1) + MARGIN
+        self.height = self.over(levels[-1]) + sum(heights) + APART * (len(levels) - 1) + MARGIN
         bottom = self.height - MARGIN
         for level, height in zip(levels, heights):
             x = MARGIN
@@ -174,6 +182,25 @@ class Picture:
                 one.put(x, bottom)
                 x += one.width + ASIDE
             bottom -= height + APART
+
+    def over(self, level):
+        """Space above the top level: little where its first rooms are low enough for the heading."""
+        rooms, width = [self.rooms[index] for index in level], 0
+        highest = max(one.height for one in rooms)
+        for one in rooms:
+            if highest - one.height < HEADING[1]:
+                break
+            width += one.width + ASIDE
+        return MARGIN if width > HEADING[0] else HEADING[1]
+
+    def heading(self):
+        left = MARGIN + PAD
+        yield text(left, 38, TITLE, "title")
+        yield broad(left + 8, left + 8, 56, 80)
+        yield text(left + 30, 72, "a room stands on another,", "quiet")
+        yield text(left + 30, 88, "and on all beneath that one", "quiet")
+        yield thin(f"M{left + 8} 100V115", left + 8, 120, QUIET)
+        yield text(left + 30, 114, "a crate stands on one of its room", "quiet")
 
     def pictures_of(self, level):
         """The rooms of a level, with as many crates side by side as there is room for."""
@@ -198,16 +225,13 @@ class Picture:
                 left, right = max(high.x, low.x), min(high.x + high.width, low.x + low.width)
                 x = (left + right) / 2 if left < right else (low.x + low.width / 2)
                 start, end = high.y + high.height + 3, low.y - 3
-                yield (f'<path d="M{high.x + high.width / 2 if left >= right else x:g} {start:g}L{x:g} {end - 12:g}" '
-                       f'stroke="{FAINT}" stroke-width="7"/>')
-                yield head_down(x, end, FAINT, 11)
+                yield broad(x if left < right else high.x + high.width / 2, x, start, end)
 
     def svg(self):
         parts = [f'<svg xmlns="http://www.w3.org/2000/svg" width="{WIDTH}" height="{self.height:g}" '
                  f'viewBox="0 0 {WIDTH} {self.height:g}" role="img">', f"<title>{TITLE}</title>",
                  f"<style>{STYLE}</style>", f'<rect width="{WIDTH}" height="{self.height:g}" fill="{PAPER}"/>',
-                 text(MARGIN + PAD, 32, TITLE, "title"), text(MARGIN + PAD, 54, LEGEND, "quiet")]
-        parts += self.arrows()
+                 *self.heading(), *self.arrows()]
         for one in self.rooms.values():
             parts += one.svg()
         return "\n".join(parts + ["</svg>", ""])
