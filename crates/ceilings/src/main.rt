@@ -1,4 +1,4 @@
-// The largest ceiling and one above it: a ceiling of 1,024 opens, and one of 1,025 is out of range.
+// The largest ceiling and one above it: 1,024 opens, and 1,025 is out of range (scope document: Edges).
 use libc::STDOUT_FILENO;
 use sheet::Setting;
 use sheet::Sheet;

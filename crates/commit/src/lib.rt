@@ -1,4 +1,4 @@
-// Commit: the anchor of the round before, and those that its history takes, make blocks, oldest first.
+// Commit: the anchor of the round before, and those that its history takes, make blocks, oldest first (scope document: Commit).
 mod checks;
 mod votes;
 

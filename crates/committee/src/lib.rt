@@ -1,4 +1,4 @@
-// Committees: sixteen weights, 0 for a non-member. Their weight, fault bound and quorums, and a member's share.
+// Committees as sixteen weights: fault bound, quorums, leaders, and a member's share (scope document: Committees, quorums, leaders).
 pub mod change;
 pub mod leader;
 pub mod rounding;

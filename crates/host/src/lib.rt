@@ -1,4 +1,4 @@
-// The engine for a host: every call and read over stretches of words that the host lends.
+// The engine for a host: every call and read, over words that it lends.
 mod answers;
 mod bodies;
 mod calls;

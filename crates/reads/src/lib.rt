@@ -1,4 +1,4 @@
-// The reads: committee, share, certificate, block. They change nothing.
+// The reads: committee, share, certificate, block. They change nothing (scope document: Reads).
 use member::Answer;
 use state::State;
 use terms::Member;

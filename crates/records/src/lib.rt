@@ -1,4 +1,4 @@
-// Records served: the call that a record asks for, and the lines that answer it.
+// Records served: the call that a record asks for, and the lines that answer it (scope document: The runner).
 pub mod answer;
 mod known;
 mod listing;

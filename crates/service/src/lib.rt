@@ -1,4 +1,4 @@
-// The service: records come in on standard input, and the lines that answer them go out on standard output.
+// The runner's loop: records come in on standard input, and the lines that answer them go out on standard output (scope document: The runner).
 // Its memory is fixed: a table for ceilings up to 64, the committees of its rounds, and a buffer each for input and output.
 pub mod input;
 pub mod work;

@@ -1,4 +1,4 @@
-// A member's state, and whether it is well formed.
+// A member's state, the view that it shows, and whether it is well formed (scope document: A member's state).
 use sheet::Settings;
 use terms::Body;
 use terms::Member;

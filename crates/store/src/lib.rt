@@ -1,4 +1,4 @@
-// The certificate store: places, certificates, endorsed marks, commit marks and block rounds in a lent table of words.
+// The certificate store: places, certificates, endorsed marks, commit marks and block rounds in a lent table of words (scope document: A member's state).
 // Row r has 272 words: held set, endorsed set, round of block r, 13 words kept for later, sixteen records of 16 words by author.
 // A record: previous set, count of transactions, commit mark, endorsers, four times kind, number, amount.
 pub mod record;

@@ -1,4 +1,4 @@
-// Where records end in a stream of bytes that comes piece by piece.
+// Where records end in a stream of bytes that comes piece by piece (scope document: The runner).
 ghost use mathlib.Core.Path.{_≡_};
 ghost use lib.ListN.{length};
 ghost use Rattle.stream.specs.Streams.{untilEnd};

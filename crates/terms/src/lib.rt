@@ -1,4 +1,4 @@
-// Members, rounds, transactions, proposals and certificates, as they are handed in.
+// Members, rounds, transactions, proposals and certificates, as they are handed in (scope document: Terms and sheet).
 ghost use mathlib.Core.Path.{_≡_};
 ghost use mathlib.Core.Bool.{_&&_};
 ghost use Prim.Native.Nat.{_<_, _≤_};

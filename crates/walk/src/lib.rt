@@ -1,4 +1,4 @@
-// The committee of a round, from the chain in the table.
+// The committees and leaders of rounds, from the chain in the table (scope document: Committees, quorums, leaders).
 // Its cost is that of one pass over the header of each row and each held certificate, of one leader for each block, and of at most two looks at each certificate in a block.
 pub mod advance;
 pub mod block;
