@@ -1,10 +1,11 @@
 #!/bin/sh
 # pages.sh [PAGE...]: runs every marked example of the pages (docs/*.md where none is given)
-# and compares what it says with what the page shows.
+# and compares what it says with what the page shows; first, that docs/TRUST.md is current.
 #   RUNNER   the runner (target/bin/runner, else reference/bin/runner_ref, built where missing)
 #   ARCHIVE  the static library (target/staticlib/libhost.a); without it C and Rust are only compiled
 set -eu
 cd "$(dirname "$0")/.."
+python3 tools/trust/trust.py --check
 if [ -z "${RUNNER:-}" ]; then
     RUNNER=target/bin/runner
     [ -x "$RUNNER" ] || RUNNER=reference/bin/runner_ref
