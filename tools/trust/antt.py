@@ -71,6 +71,7 @@ class Item:
 @dataclass
 class Params:
     first: int
+    where: int  # the last line of its head
     last: int
     tokens: list
 
@@ -461,8 +462,9 @@ def read_block(module, lines, context):
             context = context + [read_open(rest[1:], start)]
         elif word == "module":
             where = find(rest, {"where"})
-            inside = after_line(chunk, rest[min(where, len(rest) - 1)].line)
-            params = Params(start, last, rest[2:where])
+            end = rest[min(where, len(rest) - 1)].line
+            inside = after_line(chunk, end)
+            params = Params(start, end, last, rest[2:where])
             items += read_block(module, inside, context + [params])
             item = None
         elif word == "unfolding":

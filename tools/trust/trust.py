@@ -265,7 +265,7 @@ def items_of(listing, crate):
                 found = listing.tree.lookup(module, parts)
                 if isinstance(found, antt.Item) and listing.tree.home[id(found)] is module and found is not item:
                     own.update({name: True for name in found.names[:1]})
-            around = [f"{part.first}" if isinstance(part, antt.Params) else f"{part.line}" for part in item.context]
+            around = [f"{part.first}-{part.where}" if isinstance(part, antt.Params) else f"{part.line}" for part in item.context]
             needed = "listed" if id(item) in listing.items else "cited" if id(item) in cited else "-"
             print("\t".join([module.path, listing.tree.kind(item), str(item.first), str(item.last), needed, " ".join(item.names), " ".join(own) or "-", " ".join(around) or "-"]))
 
