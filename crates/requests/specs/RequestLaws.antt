@@ -58,6 +58,10 @@ module _ (m : ℕ) (s : List ℕ) (at : ℕ) (k : ℕ → List (List ℕ) → Re
   pub number-stops : r ≡ NoNumber → nextBy (numberTo m) (fieldsFrom s at) k ≡ unreadable
   number-stops q = next-fails (numberTo m) k (fieldsFrom s at) (found-none _ (sym e ∙ q))
 
+  pub number-by : (o : Option ℕ) {next : ℕ} → Stepped s at next → r ≡ found o → nextBy (numberTo m) (fieldsFrom s at) k ≡ given o unreadable (λ n. k n (fieldsFrom s next))
+  number-by none t q = number-stops q
+  number-by (some n) t q = number-goes t q
+
 -- a step over a setting
 module _ (s : List ℕ) (at : ℕ) (k : Setting → List (List ℕ) → Request) {r : SettingRead} (e : r ≡ settingFound (firstBy setting (fieldsFrom s at))) where
   pub setting-goes : {x : Setting} {next : ℕ} → Stepped s at next → r ≡ Is x → nextBy setting (fieldsFrom s at) k ≡ k x (fieldsFrom s next)
@@ -65,6 +69,10 @@ module _ (s : List ℕ) (at : ℕ) (k : Setting → List (List ℕ) → Request)
 
   pub setting-stops : r ≡ NoSetting → nextBy setting (fieldsFrom s at) k ≡ unreadable
   setting-stops q = next-fails setting k (fieldsFrom s at) (setting-none _ (sym e ∙ q))
+
+  pub setting-by : (o : Option Setting) {next : ℕ} → Stepped s at next → r ≡ settingFound o → nextBy setting (fieldsFrom s at) k ≡ given o unreadable (λ x. k x (fieldsFrom s next))
+  setting-by none t q = setting-stops q
+  setting-by (some x) t q = setting-goes t q
 
 -- an accept and an endorse part after the previous set
 pub part-late : (b : Bool) (fs : List (List ℕ)) → cond b (acceptOf fs) (endorseOf fs)
