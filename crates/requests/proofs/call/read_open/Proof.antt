@@ -1,17 +1,16 @@
-use mathlib.Core.Path.{_≡_, sym, ap, _∙_}
+use mathlib.Core.Path.{_≡_, _∙_}
 use mathlib.Core.List.{List}
 use mathlib.Core.Option.{Option, none, some}
 use Prim.Native.Nat.{ℕ}
 use borrow.Author.Tests.{not-true, not-false}
 use Rattle.sheet.specs.declared.Setting.{Setting}
-use Rattle.requests.specs.declared.Reading.{Reading}
 use Rattle.fields.specs.Fields.{fieldsFrom}
 use Rattle.fields.specs.Numbers.{given}
 use Rattle.fields.specs.Steps.{found}
 use Rattle.requests.specs.Settings.{setting}
 use Rattle.requests.specs.Requests.{Request, unreadable, openAs, nextBy, weightsThen, openOf}
-use Rattle.requests.specs.Readings.{readingOf, settingFound}
-use Rattle.requests.specs.RequestLaws.{number-by, setting-by, weights-go, weights-stop}
+use Rattle.requests.specs.Readings.{settingFound}
+use Rattle.requests.specs.RequestLaws.{number-by, setting-by, weights-go, weights-stop, reads}
 use borrow.Author.Needs.{needs}
 use Rattle.requests.proofs.call.read_open.Statement.{statement}
 use Rattle.requests.proofs.call.read_open.Tie as tie
@@ -32,10 +31,6 @@ lookbackLeft o fs = nextBy setting fs (ceilingLeft o)
 -- an open comes to what k makes of what was read, and of the fields from n on
 abbrev Told : {A : Type 0} → tie.Start → Option A → ℕ → (A → List (List ℕ) → Request) → Type 0
 Told s o n k = let r = s .args .rec .now in openOf (fieldsFrom r (s .args .at)) ≡ given o unreadable (λ x. k x (fieldsFrom r n))
-
--- a reading of what an open comes to
-reads : {r : Reading} {p q : Request} → r ≡ readingOf q → p ≡ q → r ≡ readingOf p
-reads e h = e ∙ sym (ap readingOf h)
 
 -- the own number
 abbrev start1 : tie.After-number-at → tie.Start
@@ -115,7 +110,7 @@ unreadable-requires : tie.Need-unreadable-requires
 unreadable-requires c κs = search needs
 
 returns : tie.Need-returns
-returns c = let t = c .before in reads (c .unreadable .ensures) (told1 (t .before .before) none (t .enum-told .given .1))
+returns c = let t = c .before in reads (told1 (t .before .before) none (t .enum-told .given .1)) (c .unreadable .ensures)
 
 setting-at-requires : tie.Need-setting-at-requires
 setting-at-requires c κs = search needs
@@ -130,7 +125,7 @@ unreadable-requires-2 : tie.Need-unreadable-requires-2
 unreadable-requires-2 c κs = search needs
 
 returns-2 : tie.Need-returns-2
-returns-2 c = let t = c .before in reads (c .unreadable2 .ensures) (told2 (t .before .before) none (t .enum-told2 .given .1))
+returns-2 c = let t = c .before in reads (told2 (t .before .before) none (t .enum-told2 .given .1)) (c .unreadable2 .ensures)
 
 setting-at-requires-2 : tie.Need-setting-at-requires-2
 setting-at-requires-2 c κs = search needs
@@ -145,7 +140,7 @@ unreadable-requires-3 : tie.Need-unreadable-requires-3
 unreadable-requires-3 c κs = search needs
 
 returns-3 : tie.Need-returns-3
-returns-3 c = let t = c .before in reads (c .unreadable3 .ensures) (told3 (t .before .before) none (t .enum-told3 .given .1))
+returns-3 c = let t = c .before in reads (told3 (t .before .before) none (t .enum-told3 .given .1)) (c .unreadable3 .ensures)
 
 setting-at-requires-3 : tie.Need-setting-at-requires-3
 setting-at-requires-3 c κs = search needs
@@ -160,7 +155,7 @@ unreadable-requires-4 : tie.Need-unreadable-requires-4
 unreadable-requires-4 c κs = search needs
 
 returns-4 : tie.Need-returns-4
-returns-4 c = let t = c .before in reads (c .unreadable4 .ensures) (told4 (t .before .before) none (t .enum-told4 .given .1))
+returns-4 c = let t = c .before in reads (told4 (t .before .before) none (t .enum-told4 .given .1)) (c .unreadable4 .ensures)
 
 weights-at-requires : tie.Need-weights-at-requires
 weights-at-requires c κs = search needs
@@ -169,13 +164,13 @@ unreadable-requires-5 : tie.Need-unreadable-requires-5
 unreadable-requires-5 c κs = search needs
 
 returns-5 : tie.Need-returns-5
-returns-5 c = let t = c .before in let w = t .before .before in reads (c .unreadable5 .ensures) (told5 w ∙ weights-stop _ _ (w .weights-at .ensures) (not-true _ (t .if1 .taken)))
+returns-5 c = let t = c .before in let w = t .before .before in reads (told5 w ∙ weights-stop _ _ (w .weights-at .ensures) (not-true _ (t .if1 .taken))) (c .unreadable5 .ensures)
 
 open-of-requires : tie.Need-open-of-requires
 open-of-requires c κs = search needs
 
 returns-6 : tie.Need-returns-6
-returns-6 c = let t = c .before .before in let w = t .before .before in reads (c .open-of .ensures) (told5 w ∙ weights-go _ _ (w .weights-at .ensures) (not-false _ (t .if1 .left)))
+returns-6 c = let t = c .before .before in let w = t .before .before in reads (told5 w ∙ weights-go _ _ (w .weights-at .ensures) (not-false _ (t .if1 .left))) (c .open-of .ensures)
 
 pub read-open-spec : {M : Type 1} → statement M
 read-open-spec =
