@@ -28,9 +28,11 @@ ceilingLeft o l fs = nextBy setting fs (allowanceLeft o l)
 abbrev lookbackLeft : ℕ → List (List ℕ) → Request
 lookbackLeft o fs = nextBy setting fs (ceilingLeft o)
 
--- an open comes to what k makes of what was read, and of the fields from n on
+-- an open is unreadable where o is none, and else what k makes of what was read and of the fields from n on
 abbrev Told : {A : Type 0} → tie.Start → Option A → ℕ → (A → List (List ℕ) → Request) → Type 0
 Told s o n k = let r = s .args .rec .now in openOf (fieldsFrom r (s .args .at)) ≡ given o unreadable (λ x. k x (fieldsFrom r n))
+
+-- For each field: where the one before it was read, the call that read that one, the start, what is left after the field, and what it decides.
 
 -- the own number
 abbrev start1 : tie.After-number-at → tie.Start

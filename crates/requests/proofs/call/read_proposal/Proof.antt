@@ -39,9 +39,11 @@ roundLeft b a fs = nextBy number fs (previousLeft b a)
 abbrev whole : tie.Start → Request
 whole s = let fs = fieldsFrom (s .args .rec .now) (s .args .at) in cond (s .args .certified) (acceptOf fs) (endorseOf fs)
 
--- it comes to what k makes of the number that was read, and of the fields from n on
+-- it is unreadable where o is none, and else what k makes of the number that was read and of the fields from n on
 abbrev Told : tie.Start → Option ℕ → ℕ → (ℕ → List (List ℕ) → Request) → Type 0
 Told s o n k = whole s ≡ given o unreadable (λ x. k x (fieldsFrom (s .args .rec .now) n))
+
+-- For each field: where the one before it was read, the call that read that one, the start, what is left after the field, and what it decides.
 
 -- the author
 abbrev start1 : tie.After-number-at → tie.Start
@@ -101,7 +103,7 @@ either c e =
 abbrev endorsed : tie.Then1 → tie.After-z
 endorsed c = c .before .before
 
--- an accept's endorsers
+-- the previous set, as an accept sees it, and the endorsers
 abbrev accepted : tie.After-number-at4 → tie.After-z
 accepted c = c .before .before .before
 
