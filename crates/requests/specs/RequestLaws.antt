@@ -11,10 +11,10 @@ use Rattle.sheet.specs.declared.Setting.{Setting}
 use Rattle.sheet.specs.declared.Cell.{Cell}
 use Rattle.requests.specs.declared.Kind.{Kind}
 use Rattle.requests.specs.declared.Kind.the-variants.{Unreadable}
+use Rattle.requests.specs.declared.Reading.{Reading}
 use Rattle.fields.specs.declared.number.Number.{Number}
 use Rattle.fields.specs.declared.number.Number.the-variants.{NoNumber, Of}
 use Rattle.requests.specs.declared.setting.SettingRead.{SettingRead}
-use Rattle.requests.specs.declared.setting.SettingRead.the-variants.{NoSetting, Is}
 use Rattle.requests.specs.declared.setting.Weights.{Weights}
 use Rattle.fields.specs.Fields.{fieldsFrom}
 use Rattle.fields.specs.FieldLaws.{from-step, from-none}
@@ -58,25 +58,21 @@ module _ (m : ℕ) (s : List ℕ) (at : ℕ) (k : ℕ → List (List ℕ) → Re
   pub number-stops : r ≡ NoNumber → nextBy (numberTo m) (fieldsFrom s at) k ≡ unreadable
   number-stops q = next-fails (numberTo m) k (fieldsFrom s at) (found-none _ (sym e ∙ q))
 
+  pub number-by : (o : Option ℕ) {next : ℕ} → Stepped s at next → r ≡ found o → nextBy (numberTo m) (fieldsFrom s at) k ≡ given o unreadable (λ n. k n (fieldsFrom s next))
+  number-by none t q = number-stops q
+  number-by (some n) t q = number-goes t q
+
 -- a step over a setting
 module _ (s : List ℕ) (at : ℕ) (k : Setting → List (List ℕ) → Request) {r : SettingRead} (e : r ≡ settingFound (firstBy setting (fieldsFrom s at))) where
-  pub setting-goes : {x : Setting} {next : ℕ} → Stepped s at next → r ≡ Is x → nextBy setting (fieldsFrom s at) k ≡ k x (fieldsFrom s next)
-  setting-goes {x} {next} t q = next-goes setting k (fieldsFrom s at) x (setting-of _ x (sym e ∙ q)) ∙ ap (k x) (sym (t .fields-after))
-
-  pub setting-stops : r ≡ NoSetting → nextBy setting (fieldsFrom s at) k ≡ unreadable
-  setting-stops q = next-fails setting k (fieldsFrom s at) (setting-none _ (sym e ∙ q))
+  pub setting-by : (o : Option Setting) {next : ℕ} → Stepped s at next → r ≡ settingFound o → nextBy setting (fieldsFrom s at) k ≡ given o unreadable (λ x. k x (fieldsFrom s next))
+  setting-by none t q = next-fails setting k (fieldsFrom s at) (setting-none _ (sym e ∙ q))
+  setting-by (some x) t q = next-goes setting k (fieldsFrom s at) x (setting-of _ x (sym e ∙ q)) ∙ ap (k x) (sym (t .fields-after))
 
 -- an accept and an endorse part after the previous set
 pub part-late : (b : Bool) (fs : List (List ℕ)) → cond b (acceptOf fs) (endorseOf fs)
     ≡ nextBy number fs (λ a fs. nextBy number fs (λ r fs. nextBy set fs (λ p fs. cond b (nextBy set fs (λ e fs. triplesThen fs (λ l. accept a r p e l))) (triplesThen fs (λ l. endorse a r p l)))))
 part-late true fs = refl
 part-late false fs = refl
-
-pub part-accept : (b : Bool) (fs : List (List ℕ)) → b ≡ true → cond b (acceptOf fs) (endorseOf fs) ≡ acceptOf fs
-part-accept b fs e = rw e refl
-
-pub part-endorse : (b : Bool) (fs : List (List ℕ)) → b ≡ false → cond b (acceptOf fs) (endorseOf fs) ≡ endorseOf fs
-part-endorse b fs e = rw e refl
 
 -- the weights
 module _ (fs : List (List ℕ)) (k : List Cell → Request) {w : Weights} (e : w ≡ weightsOf (cellsIn 16 fs)) where
@@ -95,6 +91,10 @@ module _ (fs : List (List ℕ)) (k : List Cell → Request) {w : Weights} (e : w
       go : (o : Option (List Cell)) → weightsOf o .ok ≡ false → given o unreadable k ≡ unreadable
       go none h = refl
       go (some l) h = absurd (true≢false h)
+
+-- a reading, by what the request comes to
+pub reads : {r : Reading} {p q : Request} → p ≡ q → r ≡ readingOf q → r ≡ readingOf p
+reads h e = e ∙ sym (ap readingOf h)
 
 -- the reading of a call that ends in triples
 pub triples-reading : (K : Kind) (a r p e : ℕ) (fs : List (List ℕ)) (k : List Transaction → Request) → ((l : List Transaction) → readingOf (k l) ≡ callReading K a r (bodyOf p l) e) → triplesReading K a r p e (atKind fs) ≡ readingOf (triplesThen fs k)
