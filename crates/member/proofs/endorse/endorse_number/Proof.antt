@@ -1,11 +1,9 @@
 use mathlib.Core.Path.{_≡_, sym, _∙_}
-use mathlib.Core.Bool.{true}
 use lib.ListN.{drop}
 use borrow.Author.Tests.{not-true, not-false}
 use Rattle.base.specs.Checks.{Checks, refusal}
 use Rattle.terms.specs.Proposals.{contentOf}
 use Rattle.rules.specs.Calls.{endorsing}
-use Rattle.state.specs.Formed.{formed}
 use Rattle.state.specs.KnownLaws.{known-both}
 use Rattle.state.specs.NumberLaws.{number-unformed, number-formed}
 use Rattle.state.specs.View.{view}
