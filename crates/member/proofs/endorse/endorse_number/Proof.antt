@@ -1,36 +1,63 @@
-use mathlib.Core.Path.{sym, _∙_}
-use borrow.Author.Tests.{not-true, not-false}
-use Rattle.state.specs.NumberLaws.{number-unformed, number-formed}
-use Rattle.state.specs.Formed.{formed}
-use Rattle.member.specs.PlaceLaws.{form-fits, piece-refused, piece-passed, form-numbered}
-use Rattle.rules.specs.Calls.{endorsing}
-use Rattle.member.specs.Calls.{endorseNumber}
-use Rattle.terms.specs.Proposals.{contentOf}
-use Rattle.state.specs.View.{view}
-use Rattle.member.specs.Pieces.{formChecks}
+use mathlib.Core.Path.{_≡_, sym, _∙_}
 use lib.ListN.{drop}
+use borrow.Author.Tests.{not-true, not-false}
+use Rattle.base.specs.Checks.{Checks, refusal}
+use Rattle.terms.specs.Proposals.{contentOf}
+use Rattle.rules.specs.Calls.{endorsing}
 use Rattle.state.specs.KnownLaws.{known-both}
-use borrow.Author.Needs.{needs}
+use Rattle.state.specs.NumberLaws.{number-unformed, number-formed}
+use Rattle.state.specs.View.{view}
+use Rattle.member.specs.Calls.{endorseNumber}
+use Rattle.member.specs.Pieces.{formChecks}
+use Rattle.member.specs.PlaceLaws.{form-fits, piece-refused, piece-passed, form-numbered}
 use Rattle.member.proofs.endorse.endorse_number.Statement.{statement}
 use Rattle.member.proofs.endorse.endorse_number.Tie as tie
+
+-- the checks of a well-formed state, those of the form among them
+abbrev whole : tie.Start → Checks
+whole s = let a = s .args in endorsing (a .s .settings) (a .s .own .0) (view (a .s) (a .t .now)) (contentOf (a .p))
+
+abbrev form : tie.Start → Checks
+form s = formChecks (s .args .s .settings) (contentOf (s .args .p))
+
+-- ---- 1
+
+abbrev entry₁ : tie.Else1 → tie.Start
+entry₁ c = c .before .before .before
+
+past₁ : (c : tie.Else1) → let a = entry₁ c .args in endorseNumber (a .s) (a .t .now) (a .p) ≡ refusal (whole (entry₁ c))
+unfolding endorseNumber
+past₁ c = number-formed _ _ _ (sym (entry₁ c .pre .form) ∙ not-false _ (c .if1 .left))
 
 returns : tie.Need-returns
 unfolding endorseNumber
 returns c = sym (number-unformed _ _ _ (sym (c .before .before .before .pre .form) ∙ not-true _ (c .if1 .taken)))
 
+-- ---- 4, 5, 6, 7, and then those of the place
+
+abbrev entry₂ : tie.After-form-refusal → tie.Start
+entry₂ c = entry₁ (c .before)
+
+past₂ : (c : tie.Else2) → let s = entry₂ (c .before) in let a = s .args in endorseNumber (a .s) (a .t .now) (a .p) ≡ refusal (drop 4 (whole s))
+past₂ c =
+    let s = entry₂ (c .before) in
+    let n = form-numbered (s .args .s) (s .args .t .now) (s .args .p) in
+    past₁ (c .before .before) ∙ piece-passed (form s) (drop 4 (whole s)) (c .before .form-refusal .ensures) n (c .if2 .left)
+
 form-refusal-requires : tie.Need-form-refusal-requires
-form-refusal-requires c κs = let f = formed (c .before .before .before .args .s) (c .before .before .before .args .t .now) (sym (c .before .before .before .pre .form) ∙ not-false _ (c .if1 .left)) in f .settings .allowance-to
+form-refusal-requires c κs = known-both (entry₁ c .pre) (not-false _ (c .if1 .left)) .0 .settings .allowance-to
 
 returns-2 : tie.Need-returns-2
-unfolding endorseNumber
-returns-2 c = piece-refused (formChecks (c .before .before .before .before .before .args .s .settings) (contentOf (c .before .before .before .before .before .args .p))) (drop 4 (endorsing (c .before .before .before .before .before .args .s .settings) (c .before .before .before .before .before .args .s .own .0) (view (c .before .before .before .before .before .args .s) (c .before .before .before .before .before .args .t .now)) (contentOf (c .before .before .before .before .before .args .p)))) (c .before .form-refusal .ensures) (c .if2 .taken) ∙ sym (number-formed _ _ _ (sym (c .before .before .before .before .before .pre .form) ∙ not-false _ (c .before .before .if1 .left)))
+returns-2 c = let s = entry₂ (c .before) in piece-refused (form s) (drop 4 (whole s)) (c .before .form-refusal .ensures) (c .if2 .taken) ∙ sym (past₁ (c .before .before))
 
 place-refusal-requires : tie.Need-place-refusal-requires
-place-refusal-requires c κs = let k = known-both (c .before .before .before .before .before .pre) (not-false _ (c .before .before .if1 .left)) in (k .0, form-fits (c .before .before .before .before .before .args .s) (c .before .before .before .before .before .args .t .now) (c .before .before .before .before .before .args .p) (sym (c .before .form-refusal .ensures) ∙ c .if2 .left), k .1)
+place-refusal-requires c κs =
+    let s = entry₂ (c .before) in
+    let k = known-both (s .pre) (not-false _ (c .before .before .if1 .left)) in
+    (k .0, form-fits (s .args .s) (s .args .t .now) (s .args .p) (sym (c .before .form-refusal .ensures) ∙ c .if2 .left), k .1)
 
 returns-3 : tie.Need-returns-3
-unfolding endorseNumber
-returns-3 c = c .place-refusal .ensures ∙ sym (number-formed _ _ _ (sym (c .before .before .before .before .before .before .pre .form) ∙ not-false _ (c .before .before .before .if1 .left)) ∙ piece-passed (formChecks (c .before .before .before .before .before .before .args .s .settings) (contentOf (c .before .before .before .before .before .before .args .p))) (drop 4 (endorsing (c .before .before .before .before .before .before .args .s .settings) (c .before .before .before .before .before .before .args .s .own .0) (view (c .before .before .before .before .before .before .args .s) (c .before .before .before .before .before .before .args .t .now)) (contentOf (c .before .before .before .before .before .before .args .p)))) (c .before .before .form-refusal .ensures) (form-numbered (c .before .before .before .before .before .before .args .s) (c .before .before .before .before .before .before .args .t .now) (c .before .before .before .before .before .before .args .p)) (c .before .if2 .left))
+returns-3 c = c .place-refusal .ensures ∙ sym (past₂ (c .before))
 
 pub endorse-number-spec : {M : Type 1} → statement M
 endorse-number-spec =

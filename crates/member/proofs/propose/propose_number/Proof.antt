@@ -1,24 +1,67 @@
-use mathlib.Core.Path.{sym, _∙_}
+use mathlib.Core.Path.{_≡_, sym, _∙_}
+use Prim.Native.Nat.{ℕ}
+use lib.ListN.{drop}
 use borrow.Author.Tests.{not-true, not-false}
-use Rattle.base.specs.Checks.{refuses, passes}
-use Rattle.state.specs.NumberLaws.{number-unformed, number-formed}
-use Rattle.state.specs.Formed.{formed}
-use Rattle.member.specs.Calls.{proposeNumber}
+use Rattle.base.specs.Checks.{Checks, refusal, refuses, passes}
+use Rattle.terms.specs.Proposals.{contentWith}
+use Rattle.rules.specs.Calls.{proposing}
+use Rattle.state.specs.Formed.{Formed}
+use Rattle.state.specs.Known.{Kept}
 use Rattle.state.specs.KnownLaws.{known-both}
+use Rattle.state.specs.NumberLaws.{number-unformed, number-formed}
+use Rattle.state.specs.View.{view}
+use Rattle.member.specs.Calls.{proposeNumber}
 use borrow.Author.Needs.{needs}
 use Rattle.member.proofs.propose.propose_number.Statement.{statement}
 use Rattle.member.proofs.propose.propose_number.Tie as tie
+
+-- the number, and the checks of a well-formed state
+abbrev number : tie.Start → ℕ
+number s = let a = s .args in proposeNumber (a .s) (a .t .now) (a .b)
+
+abbrev whole : tie.Start → Checks
+whole s = let a = s .args in proposing (a .s .settings) (a .s .own .0) (view (a .s) (a .t .now)) (contentWith (a .s .own .0) (a .s .round .0) (a .b))
+
+-- ---- 1
+
+abbrev entry₁ : tie.Else1 → tie.Start
+entry₁ c = c .before .before .before
+
+well : (c : tie.Else1) → let a = entry₁ c .args in Formed (a .s) (a .t .now) × Kept (a .s) (a .t .now) (a .kept .now)
+well c = known-both (entry₁ c .pre) (not-false _ (c .if1 .left))
+
+past₁ : (c : tie.Else1) → number (entry₁ c) ≡ refusal (whole (entry₁ c))
+unfolding proposeNumber
+past₁ c = number-formed _ _ _ (sym (entry₁ c .pre .form) ∙ not-false _ (c .if1 .left))
 
 returns : tie.Need-returns
 unfolding proposeNumber
 returns c = sym (number-unformed _ _ _ (sym (c .before .before .before .pre .form) ∙ not-true _ (c .if1 .taken)))
 
+-- ---- 6
+
+abbrev start₂ : tie.Else2 → tie.Else1
+start₂ c = c .before .before
+
+abbrev entry₂ : tie.Else2 → tie.Start
+entry₂ c = entry₁ (start₂ c)
+
+past₂ : (c : tie.Else2) → number (entry₂ c) ≡ refusal (drop 1 (whole (entry₂ c)))
+past₂ c = past₁ (start₂ c) ∙ passes _ _ (sym (c .before .is-unfit .ensures) ∙ c .if2 .left)
+
 is-unfit-requires : tie.Need-is-unfit-requires
-is-unfit-requires c κs = let f = formed (c .before .before .before .args .s) (c .before .before .before .args .t .now) (sym (c .before .before .before .pre .form) ∙ not-false _ (c .if1 .left)) in f .settings .allowance-to
+is-unfit-requires c κs = well c .0 .settings .allowance-to
 
 returns-2 : tie.Need-returns-2
-unfolding proposeNumber
-returns-2 c = sym (number-formed _ _ _ (sym (c .before .before .before .before .before .pre .form) ∙ not-false _ (c .before .before .if1 .left)) ∙ refuses _ _ (sym (c .before .is-unfit .ensures) ∙ c .if2 .taken))
+returns-2 c = sym (past₁ (c .before .before) ∙ refuses _ _ (sym (c .before .is-unfit .ensures) ∙ c .if2 .taken))
+
+-- ---- 7
+
+abbrev fit : tie.After-is-wrong-set → tie.Else2
+fit c = c .before .before
+
+past₃ : (c : tie.Else3) → let s = entry₂ (fit (c .before)) in number s ≡ refusal (drop 2 (whole s))
+past₃ c = past₂ (fit (c .before)) ∙ passes _ _ (sym (c .before .is-wrong-set .ensures) ∙ c .if3 .left)
 
 cast-is-wrong-set : tie.Need-cast-is-wrong-set
 cast-is-wrong-set c = search needs
@@ -27,22 +70,27 @@ is-wrong-set-requires : tie.Need-is-wrong-set-requires
 is-wrong-set-requires c κs = search needs
 
 returns-3 : tie.Need-returns-3
-unfolding proposeNumber
-returns-3 c = sym (number-formed _ _ _ (sym (c .before .before .before .before .before .before .before .before .pre .form) ∙ not-false _ (c .before .before .before .before .before .if1 .left)) ∙ passes _ _ (sym (c .before .before .before .before .is-unfit .ensures) ∙ c .before .before .before .if2 .left) ∙ refuses _ _ (sym (c .before .is-wrong-set .ensures) ∙ c .if3 .taken))
+returns-3 c = sym (past₂ (fit (c .before)) ∙ refuses _ _ (sym (c .before .is-wrong-set .ensures) ∙ c .if3 .taken))
+
+-- ---- 10, and then those of the committees
+
+abbrev start₃ : tie.Else3 → tie.Else1
+start₃ c = start₂ (fit (c .before))
+
+past₄ : (c : tie.Else4) → let s = entry₁ (start₃ (c .before .before)) in number s ≡ refusal (drop 3 (whole s))
+past₄ c = past₃ (c .before .before) ∙ passes _ _ (sym (c .before .is-taken .ensures) ∙ c .if4 .left)
 
 is-taken-requires : tie.Need-is-taken-requires
-is-taken-requires c κs = formed _ _ (sym (c .before .before .before .before .before .before .before .before .pre .form) ∙ not-false _ (c .before .before .before .before .before .if1 .left))
+is-taken-requires c κs = well (start₃ c) .0
 
 returns-4 : tie.Need-returns-4
-unfolding proposeNumber
-returns-4 c = sym (number-formed _ _ _ (sym (c .before .before .before .before .before .before .before .before .before .before .pre .form) ∙ not-false _ (c .before .before .before .before .before .before .before .if1 .left)) ∙ passes _ _ (sym (c .before .before .before .before .before .before .is-unfit .ensures) ∙ c .before .before .before .before .before .if2 .left) ∙ passes _ _ (sym (c .before .before .before .is-wrong-set .ensures) ∙ c .before .before .if3 .left) ∙ refuses _ _ (sym (c .before .is-taken .ensures) ∙ c .if4 .taken))
+returns-4 c = sym (past₃ (c .before .before) ∙ refuses _ _ (sym (c .before .is-taken .ensures) ∙ c .if4 .taken))
 
 committee-refusal-requires : tie.Need-committee-refusal-requires
-committee-refusal-requires c κs = known-both (c .before .before .before .before .before .before .before .before .before .before .pre) (not-false _ (c .before .before .before .before .before .before .before .if1 .left))
+committee-refusal-requires c κs = well (start₃ (c .before .before))
 
 returns-5 : tie.Need-returns-5
-unfolding proposeNumber
-returns-5 c = c .committee-refusal .ensures ∙ sym (number-formed _ _ _ (sym (c .before .before .before .before .before .before .before .before .before .before .before .pre .form) ∙ not-false _ (c .before .before .before .before .before .before .before .before .if1 .left)) ∙ passes _ _ (sym (c .before .before .before .before .before .before .before .is-unfit .ensures) ∙ c .before .before .before .before .before .before .if2 .left) ∙ passes _ _ (sym (c .before .before .before .before .is-wrong-set .ensures) ∙ c .before .before .before .if3 .left) ∙ passes _ _ (sym (c .before .before .is-taken .ensures) ∙ c .before .if4 .left))
+returns-5 c = c .committee-refusal .ensures ∙ sym (past₄ (c .before))
 
 pub propose-number-spec : {M : Type 1} → statement M
 propose-number-spec =
