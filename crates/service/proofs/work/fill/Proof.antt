@@ -49,7 +49,7 @@ rest c = c .before .before .before .before
 abbrev turn : Test → Turn
 turn c = c .before .before .before .before .before .before .before .before
 
--- the loop's values, and the call's, as the place after `turn` sees them
+-- the loop's head, as the place after `turn` sees it
 abbrev top : Turn → Head
 top c = head (rest c)
 
