@@ -5,7 +5,6 @@ use Prim.Native.Nat.{ℕ, _+_, _-_, _≤_}
 use native.Mathlib.Omega.{arith}
 use borrow.Author.Tests.{not-true, not-false}
 use Rattle.base.specs.Checks.{refusal}
-use Rattle.walk.specs.Walk.{lastRound}
 use Rattle.walk.specs.ReadableLaws.{readable}
 use Rattle.state.specs.declared.State.{State}
 use Rattle.state.specs.WellFormed.{wellFormed}

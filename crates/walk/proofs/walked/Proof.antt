@@ -1,6 +1,5 @@
-use mathlib.Core.Path.{_≡_, refl}
+use mathlib.Core.Path.{refl}
 use native.Mathlib.Omega.{arith}
-use Prim.Native.Nat.{_-_}
 use Rattle.walk.specs.LinkLaws.{links-start}
 use Rattle.walk.specs.ReadableLaws.{stands-light}
 use Rattle.walk.specs.StartLaws.{started-none, running-none, running-up}

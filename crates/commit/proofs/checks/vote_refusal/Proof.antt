@@ -19,7 +19,7 @@ use borrow.Author.Needs.{needs}
 use Rattle.commit.proofs.checks.vote_refusal.Statement.{statement}
 use Rattle.commit.proofs.checks.vote_refusal.Tie as tie
 
--- the entry, as the place after `is_led` sees it, and that place, as those after `fault_bound` and at the second test see it
+-- the places that the proofs speak of, each seen from a later one: the entry, the first test passed, the votes counted
 abbrev entry : tie.After-is-led → tie.Start
 entry c = c .before .before .before .before .before .before .before
 
