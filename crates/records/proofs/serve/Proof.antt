@@ -7,18 +7,10 @@ use Rattle.records.specs.Turns.{proposalIn, certificateIn}
 use borrow.Author.Needs.{needs}
 use Rattle.records.proofs.serve.Statement.{statement}
 use Rattle.records.proofs.serve.Tie as tie
-use Rattle.records.proofs.serve.Reads as reads
-use Rattle.records.proofs.serve.Lts as lts
-use Rattle.lines.proofs.put_refused.Reads as put-refused-reads
-use Rattle.member.proofs.accept.accept_known.Reads as accept-known-reads
-use Rattle.member.proofs.advance.advance_known.Reads as advance-known-reads
-use Rattle.member.proofs.certify.certify_known.Reads as certify-known-reads
-use Rattle.member.proofs.endorse.endorse_known.Reads as endorse-known-reads
-use Rattle.member.proofs.propose.propose_known.Reads as propose-known-reads
-use Rattle.records.proofs.committed.Reads as committed-reads
-use Rattle.records.proofs.listed.Reads as listed-reads
-use Rattle.records.proofs.opened.Reads as opened-reads
-use Rattle.records.proofs.told.Reads as told-reads
+
+-- the entry, as each arm of the match sees it; at a return, u is the place after the answer, m the one after the call, e the one where the kind is told
+abbrev entry : tie.After-body → tie.Start
+entry c = c .before .before .before .before .before .before .before
 
 enum-told : tie.Need-enum-told
 enum-told c = search needs
@@ -87,13 +79,16 @@ enum-told-9 : tie.Need-enum-told-9
 enum-told-9 c = search needs
 
 listed-requires : tie.Need-listed-requires
-listed-requires c κs = (c .before .before .before .before .before .before .before .before .before .before .before .pre .0, c .before .before .before .before .before .before .before .before .before .before .before .pre .1 .form)
+listed-requires c κs = let p = entry (c .before .before .before .before) .pre in (p .0, p .1 .form)
 
 same-length : tie.Need-same-length
 same-length c = search needs
 
 returns : tie.Need-returns
-returns c = (served-by Unreadable (c .before .before .before .before .enum-told .given .1) refl refl (omega arith) (c .before .before .put-refused .ensures), c .before .before .before .before .before .before .before .before .before .before .before .before .before .pre .1)
+returns c =
+    let u = c .before .before in
+    let e = u .before .before in
+    (served-by Unreadable (e .enum-told .given .1) refl refl (omega arith) (u .put-refused .ensures), entry (e .before .before) .pre .1)
 
 same-length-2 : tie.Need-same-length-2
 same-length-2 c = search needs
@@ -106,8 +101,10 @@ same-length-4 c = search needs
 
 returns-2 : tie.Need-returns-2
 returns-2 c =
-    let e = c .before .before .before .before .before .before .opened .ensures in
-    (served-by Open (c .before .before .before .before .before .before .before .before .before .before .enum-told2 .given .1) (e .0) (e .1) (omega arith) (e .2), e .3)
+    let u = c .before .before .before .before .before .before in
+    let e = u .before .before .before .before in
+    let p = u .opened .ensures in
+    (served-by Open (e .enum-told2 .given .1) (p .0) (p .1) (omega arith) (p .2), p .3)
 
 same-length-5 : tie.Need-same-length-5
 same-length-5 c = search needs
@@ -120,8 +117,13 @@ same-length-7 c = search needs
 
 returns-3 : tie.Need-returns-3
 returns-3 c =
-    let a = c .before .before .before .before .before .before .before .before .before .before .before .before .before .before .before .before .args in
-    told-by Propose (steps.propose (a .q .body)) (c .before .before .before .before .before .before .before .enum-told3 .given .1) refl (omega (arith, c .before .before .before .before .before .before .before .before .before .before .before .before .before .before .before .before .good .1 .1 .1 .1 .0), omega arith) refl refl refl (c .before .before .before .before .before .before .before .before .before .before .before .before .before .before .before .before .pre .1) (c .before .before .before .before .propose-known .ensures) refl (c .before .before .told .ensures)
+    let u = c .before .before in
+    let m = u .before .before in
+    let e = m .before .before .before in
+    let s = entry (e .before .before) in
+    let g = s .good .1 .1 in
+    let h = m .propose-known .ensures in
+    told-by Propose (steps.propose (s .args .q .body)) (e .enum-told3 .given .1) refl (omega (arith, g .1 .1 .0), omega arith) refl refl refl (s .pre .1) h refl (u .told .ensures)
 
 same-length-8 : tie.Need-same-length-8
 same-length-8 c = search needs
@@ -134,8 +136,13 @@ same-length-10 c = search needs
 
 returns-4 : tie.Need-returns-4
 returns-4 c =
-    let a = c .before .before .before .before .before .before .before .before .before .before .before .before .before .before .before .before .before .before .args in
-    told-by Endorse (steps.endorse (proposalIn (a .q))) (c .before .before .before .before .before .before .before .before .before .enum-told4 .given .1) refl (omega (arith, c .before .before .before .before .before .before .before .before .before .before .before .before .before .before .before .before .before .before .good .1 .1 .1 .1 .0), omega arith) refl refl refl (c .before .before .before .before .before .before .before .before .before .before .before .before .before .before .before .before .before .before .pre .1) (c .before .before .before .before .before .before .endorse-known .ensures .0) (c .before .before .before .before .before .before .endorse-known .ensures .1) (c .before .before .told2 .ensures)
+    let u = c .before .before in
+    let m = u .before .before .before .before in
+    let e = m .before .before .before in
+    let s = entry (e .before .before) in
+    let g = s .good .1 .1 in
+    let h = m .endorse-known .ensures in
+    told-by Endorse (steps.endorse (proposalIn (s .args .q))) (e .enum-told4 .given .1) refl (omega (arith, g .1 .1 .0), omega arith) refl refl refl (s .pre .1) (h .0) (h .1) (u .told2 .ensures)
 
 same-length-11 : tie.Need-same-length-11
 same-length-11 c = search needs
@@ -148,8 +155,13 @@ same-length-13 c = search needs
 
 returns-5 : tie.Need-returns-5
 returns-5 c =
-    let a = c .before .before .before .before .before .before .before .before .before .before .before .before .before .before .before .before .before .before .args in
-    told-by Certify (steps.certify (a .q .endorsers)) (c .before .before .before .before .before .before .before .before .before .enum-told5 .given .1) refl (omega (arith, c .before .before .before .before .before .before .before .before .before .before .before .before .before .before .before .before .before .before .good .1 .1 .0), omega (arith, c .before .before .before .before .before .before .before .before .before .before .before .before .before .before .before .before .before .before .good .1 .1 .1 .1 .0)) refl refl refl (c .before .before .before .before .before .before .before .before .before .before .before .before .before .before .before .before .before .before .pre .1) (c .before .before .before .before .before .before .certify-known .ensures .0) (c .before .before .before .before .before .before .certify-known .ensures .1) (c .before .before .told3 .ensures)
+    let u = c .before .before in
+    let m = u .before .before .before .before in
+    let e = m .before .before .before in
+    let s = entry (e .before .before) in
+    let g = s .good .1 .1 in
+    let h = m .certify-known .ensures in
+    told-by Certify (steps.certify (s .args .q .endorsers)) (e .enum-told5 .given .1) refl (omega (arith, g .0), omega (arith, g .1 .1 .0)) refl refl refl (s .pre .1) (h .0) (h .1) (u .told3 .ensures)
 
 same-length-14 : tie.Need-same-length-14
 same-length-14 c = search needs
@@ -162,8 +174,13 @@ same-length-16 c = search needs
 
 returns-6 : tie.Need-returns-6
 returns-6 c =
-    let a = c .before .before .before .before .before .before .before .before .before .before .before .before .before .before .before .before .before .before .args in
-    told-by Accept (steps.accept (certificateIn (a .q))) (c .before .before .before .before .before .before .before .before .before .enum-told6 .given .1) refl (omega (arith, c .before .before .before .before .before .before .before .before .before .before .before .before .before .before .before .before .before .before .good .1 .1 .1 .1 .0), omega (arith, c .before .before .before .before .before .before .before .before .before .before .before .before .before .before .before .before .before .before .good .1 .1 .1 .1 .0)) refl refl refl (c .before .before .before .before .before .before .before .before .before .before .before .before .before .before .before .before .before .before .pre .1) (c .before .before .before .before .before .before .accept-known .ensures .0) (c .before .before .before .before .before .before .accept-known .ensures .1) (c .before .before .told4 .ensures)
+    let u = c .before .before in
+    let m = u .before .before .before .before in
+    let e = m .before .before .before in
+    let s = entry (e .before .before) in
+    let g = s .good .1 .1 in
+    let h = m .accept-known .ensures in
+    told-by Accept (steps.accept (certificateIn (s .args .q))) (e .enum-told6 .given .1) refl (omega (arith, g .1 .1 .0), omega (arith, g .1 .1 .0)) refl refl refl (s .pre .1) (h .0) (h .1) (u .told4 .ensures)
 
 same-length-17 : tie.Need-same-length-17
 same-length-17 c = search needs
@@ -173,8 +190,11 @@ same-length-18 c = search needs
 
 returns-7 : tie.Need-returns-7
 returns-7 c =
-    let a = c .before .before .before .before .before .before .before .before .before .before .before .before .before .before .before .args in
-    told-by Advance (steps.advance) (c .before .before .before .before .before .before .enum-told7 .given .1) refl (omega arith, omega arith) refl refl refl (c .before .before .before .before .before .before .before .before .before .before .before .before .before .before .before .pre .1) (c .before .before .before .before .advance-known .ensures) refl (c .before .before .told5 .ensures)
+    let u = c .before .before in
+    let m = u .before .before in
+    let e = m .before .before in
+    let s = entry (e .before .before) in
+    told-by Advance steps.advance (e .enum-told7 .given .1) refl (omega arith, omega arith) refl refl refl (s .pre .1) (m .advance-known .ensures) refl (u .told5 .ensures)
 
 same-length-19 : tie.Need-same-length-19
 same-length-19 c = search needs
@@ -187,8 +207,10 @@ same-length-21 c = search needs
 
 returns-8 : tie.Need-returns-8
 returns-8 c =
-    let e = c .before .before .before .before .before .before .committed .ensures in
-    (served-by Commit (c .before .before .before .before .before .before .before .before .before .before .enum-told8 .given .1) (e .0) (e .1) (omega arith) (e .2), e .3)
+    let u = c .before .before .before .before .before .before in
+    let e = u .before .before .before .before in
+    let p = u .committed .ensures in
+    (served-by Commit (e .enum-told8 .given .1) (p .0) (p .1) (omega arith) (p .2), p .3)
 
 same-length-22 : tie.Need-same-length-22
 same-length-22 c = search needs
@@ -197,7 +219,10 @@ same-length-23 : tie.Need-same-length-23
 same-length-23 c = search needs
 
 returns-9 : tie.Need-returns-9
-returns-9 c = (served-by Chain (c .before .before .before .before .before .enum-told9 .given .1) refl refl (omega arith) (c .before .before .listed .ensures), c .before .before .before .before .before .before .before .before .before .before .before .before .before .before .pre .1)
+returns-9 c =
+    let u = c .before .before in
+    let e = u .before .before .before in
+    (served-by Chain (e .enum-told9 .given .1) refl refl (omega arith) (u .listed .ensures), entry (e .before .before) .pre .1)
 
 pub serve-spec : {M : Type 1} → statement M
 serve-spec =

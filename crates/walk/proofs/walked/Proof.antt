@@ -1,12 +1,34 @@
-use mathlib.Core.Path.{_≡_, refl}
+use mathlib.Core.Path.{refl}
 use native.Mathlib.Omega.{arith}
-use Prim.Native.Nat.{_-_}
 use Rattle.walk.specs.LinkLaws.{links-start}
 use Rattle.walk.specs.ReadableLaws.{stands-light}
 use Rattle.walk.specs.StartLaws.{started-none, running-none, running-up}
 use borrow.Author.Needs.{needs}
 use Rattle.walk.proofs.walked.Statement.{statement}
 use Rattle.walk.proofs.walked.Tie as tie
+
+-- the places that the proofs speak of, each seen from the next: the table's words known, the rows linked, none applied, the round before known, one committee walked to
+abbrev words : tie.After-link-rows-arg → tie.After-shared-slice-known
+words c = c .before .before .before .before .before
+
+abbrev linked : tie.After-none → tie.After-link-rows
+linked c = c .before .before .before
+
+abbrev none : tie.After-round-before → tie.After-none
+none c = c .before .before .before
+
+abbrev rounded : tie.After-starts → tie.After-round-before
+rounded c = c .before .before
+
+abbrev once : tie.After-starts2 → tie.After-advance
+once c = c .before .before .before .before
+
+-- the first two, as the first `advance` sees them
+abbrev links : tie.After-starts → tie.After-link-rows
+links c = linked (none (rounded c))
+
+abbrev known : tie.After-starts → tie.After-shared-slice-known
+known c = words (links c .before)
 
 mul-end : tie.Need-mul-end
 mul-end c = search needs
@@ -15,7 +37,7 @@ add-end : tie.Need-add-end
 add-end c = search needs
 
 link-rows-requires : tie.Need-link-rows-requires
-link-rows-requires c κs = (omega arith, omega arith, links-start _ _ _ (c .before .before .before .before .before .before .pre .1))
+link-rows-requires c κs = (omega arith, omega arith, links-start _ _ _ (words c .before .pre .1))
 
 none-requires : tie.Need-none-requires
 none-requires c κs = search needs
@@ -24,25 +46,29 @@ round-before-requires : tie.Need-round-before-requires
 round-before-requires c κs = search needs
 
 advance-requires : tie.Need-advance-requires
-advance-requires c κs = (c .before .before .before .before .before .before .before .before .before .before .before .before .before .before .before .pre .0, c .before .before .before .before .before .before .before .before .link-rows .ensures, running-none _ (c .before .before .before .before .before .none .ensures) refl (started-none 16))
+advance-requires c κs = (known c .before .pre .0, links c .link-rows .ensures, running-none _ (none (rounded c) .none .ensures) refl (started-none 16))
 
 advance-requires-2 : tie.Need-advance-requires-2
-advance-requires-2 c κs = (c .before .before .before .before .before .before .before .before .before .before .before .before .before .before .before .before .before .before .before .before .pre .0, c .before .before .before .before .before .before .before .before .before .before .before .before .before .link-rows .ensures, running-up _ (omega (arith, c .before .before .before .before .before .before .before .round-before .ensures)) (c .before .before .before .before .advance .ensures .0))
+advance-requires-2 c κs =
+    let x = once c in
+    let b = x .before in
+    (known b .before .pre .0, links b .link-rows .ensures, running-up _ (omega (arith, rounded b .round-before .ensures)) (x .advance .ensures .0))
 
 same-length : tie.Need-same-length
 same-length c = search needs
 
 returns : tie.Need-returns
 returns c =
-    let x = c .before .before .before .before .before .advance .ensures in
+    let m = once (c .before) in
+    let x = m .advance .ensures in
     let y = c .advance2 .ensures in
-    let words = c .before .before .before .before .before .before .before .before .before .before .before .before .before .before .before .before .before .before .before .before .shared-slice-known in
-    let a = c .before .before .before .before .before .before .before .before .before .before .before .before .before .before .before .before .before .before .before .before .before .pre .0 in
+    let k = known (m .before) in
+    let a = k .before .pre .0 in
     record {
-      before = rw (← c .before .before .before .before .before .before .before .before .round-before .ensures) (x .1);
+      before = rw (← rounded (m .before) .round-before .ensures) (x .1);
       at = y .1;
-      light-before = stands-light (λ j. words .given j .fits) a (x .0 .stands);
-      light-at = stands-light (λ j. words .given j .fits) a (y .0 .stands);
+      light-before = stands-light (λ j. k .shared-slice-known .given j .fits) a (x .0 .stands);
+      light-at = stands-light (λ j. k .shared-slice-known .given j .fits) a (y .0 .stands);
     }
 
 pub walked-spec : {M : Type 1} → statement M

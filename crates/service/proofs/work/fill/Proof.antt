@@ -1,106 +1,142 @@
 use borrow.Author.Needs.{needs}
-use mathlib.Core.Path.{_≡_, refl, _∙_, sym, ap}
+use mathlib.Core.Path.{_≡_, refl, _∙_, sym}
+use mathlib.Core.Bool.{false≢true}
 use native.Mathlib.Omega.{arith}
 use Prim.Native.Nat.{_+_, _*_, _-_, _≤_}
-use lib.ListN.{length, drop, length-drop}
+use lib.ListN.{length, drop}
 use lib.Seq.{drop-drop}
-use mathlib.Core.Bool.{true, false≢true}
 use Rattle.state.specs.Known.{Known}
 use Rattle.stream.specs.StepLaws.{step-waits}
 use Rattle.service.specs.Work.{Goes, goes-none, goes-next, puts-in, taken-within}
 use Rattle.service.proofs.work.fill.Statement.{statement}
 use Rattle.service.proofs.work.fill.Tie as tie
-use Rattle.service.proofs.work.fill.Reads as reads
-use Rattle.service.proofs.work.fill.Lts as lts
-use Rattle.records.proofs.turn.turn.Reads as turn-reads
-use Rattle.service.proofs.input.rest.Reads as rest-reads
 
 abbrev Inv-loop : tie.InvT-loop
-Inv-loop kept₀ t₀ hand out₀ last state₀ formed₀ skipping₀ from₀ next₀ kept t out state formed skipping from next = (from ≤ length hand) × (next ≤ length out₀) × (length t ≡ length t₀) × (length out ≡ length out₀) × Goes state₀ t₀ skipping₀ (drop from₀ hand) state t skipping (drop from hand) out₀ out next₀ next × Known state t formed kept × (length kept ≡ length kept₀)
+Inv-loop kept₀ t₀ hand out₀ last state₀ formed₀ skipping₀ from₀ next₀ kept t out state formed skipping from next =
+    (from ≤ length hand) × (next ≤ length out₀) × (length t ≡ length t₀) × (length out ≡ length out₀)
+    × Goes state₀ t₀ skipping₀ (drop from₀ hand) state t skipping (drop from hand) out₀ out next₀ next
+    × Known state t formed kept × (length kept ≡ length kept₀)
 
 abbrev μ-loop : tie.MeasureT-loop
 μ-loop kept₀ t₀ hand out₀ last state₀ formed₀ skipping₀ from₀ next₀ kept t out state formed skipping from next = length hand - from
 
--- src/work.rt:30:29
+-- the places that the proofs speak of: the entry, the loop's head, after `rest`, after `turn`, and before the test of what it took
+abbrev Entry : Type 0
+Entry = tie.Start Inv-loop μ-loop
+
+abbrev Head : Type 0
+Head = tie.At-loop Inv-loop μ-loop
+
+abbrev Rest : Type 0
+Rest = tie.After-rest Inv-loop μ-loop
+
+abbrev Turn : Type 0
+Turn = tie.After-turn Inv-loop μ-loop
+
+abbrev Test : Type 0
+Test = tie.After-struct-known Inv-loop μ-loop
+
+-- each, as the next one sees it
+abbrev entry : Head → Entry
+entry c = c .before .before .before .before .before .before
+
+abbrev head : Rest → Head
+head c = c .before .before
+
+abbrev rest : Turn → Rest
+rest c = c .before .before .before .before
+
+abbrev turn : Test → Turn
+turn c = c .before .before .before .before .before .before .before .before
+
+-- the loop's head, as the place after `turn` sees it
+abbrev top : Turn → Head
+top c = head (rest c)
+
+-- the output has room for a turn's answer
+room : (c : Rest) → let x = head c .loop in x .next + (length (x .t) * 9 + 20) ≤ length (entry (head c) .args .out .now)
+room c =
+    let h = head c in
+    let a = entry h .args in
+    let g : h .loop .next ≤ length (a .out .now) - (length (a .t .now) * 9 + 20) = c .before .loop-test .taken in
+    omega (arith, g, entry h .pre .3, h .loop .inv .2)
+
+-- what a turn takes is at hand, and what it puts is within the output
+takes : (c : Turn) → c .turn .result .taken ≤ length (entry (top c) .args .hand .now) - top c .loop .from
+takes c = taken-within _ (entry (top c) .args .hand .now) (top c .loop .from) (rest c .rest .ensures) (c .turn .ensures .2)
+
+puts : (c : Turn) → c .turn .result .next ≤ length (entry (top c) .args .out .now)
+puts c = puts-in (room (rest c)) (c .turn .ensures .0 .its-lines)
+
+-- no length changes
+kept-length : (c : Turn) → length (c .turn .last .1 .0) ≡ length (entry (top c) .args .kept .now)
+kept-length c = c .turn .kept .1 .0 ∙ top c .loop .inv .6
+
+table-length : (c : Turn) → length (c .turn .last .1 .1 .1 .0) ≡ length (entry (top c) .args .t .now)
+table-length c = c .turn .kept .1 .1 .1 .0 ∙ top c .loop .inv .2
+
+out-length : (c : Turn) → length (c .turn .last .1 .1 .1 .1 .1 .1 .0) ≡ length (entry (top c) .args .out .now)
+out-length c = c .turn .kept .1 .1 .1 .1 .1 .1 .0 ∙ top c .loop .inv .3
+
 mul-last : tie.Need-mul-last Inv-loop μ-loop
 mul-last c = search needs
 
--- src/work.rt:30:29
 add-last : tie.Need-add-last Inv-loop μ-loop
 add-last c = search needs
 
--- src/work.rt:30:16
 sub-last : tie.Need-sub-last Inv-loop μ-loop
 sub-last c = search needs
 
--- src/work.rt:35:5
 loop-holds : tie.Need-loop-holds Inv-loop μ-loop
 loop-holds c =
     let p = c .before .before .before .before .before .pre in
     (p .0, p .4, refl, refl, goes-none, p .5, refl)
 
--- src/work.rt:36:13
 rest-requires : tie.Need-rest-requires Inv-loop μ-loop
 rest-requires c κs = c .before .loop .inv .0
 
--- src/work.rt:37:13
 turn-requires : tie.Need-turn-requires Inv-loop μ-loop
 turn-requires c κs =
-    let x = c .before .before .before .before .before .loop in
-    (omega (arith, c .before .before .before .before .before .before .before .before .before .before .before .pre .3, x .inv .2, x .inv .3), x .inv .5)
+    let r = c .before .before .before in
+    let x = head r .loop in
+    (omega (arith, room r, x .inv .3), x .inv .5)
 
--- src/work.rt:43:13
 same-length : tie.Need-same-length Inv-loop μ-loop
-same-length c = c .before .before .before .before .before .before .before .before .before .turn .kept .1 .0 ∙ c .before .before .before .before .before .before .before .before .before .before .before .before .before .before .before .loop .inv .6
+same-length c = kept-length (turn (c .before))
 
--- src/work.rt:43:13
 same-length-2 : tie.Need-same-length-2 Inv-loop μ-loop
-same-length-2 c = c .before .before .before .before .before .before .before .before .before .turn .kept .1 .1 .1 .0 ∙ c .before .before .before .before .before .before .before .before .before .before .before .before .before .before .before .loop .inv .2
+same-length-2 c = table-length (turn (c .before))
 
--- src/work.rt:26:1
 same-length-3 : tie.Need-same-length-3 Inv-loop μ-loop
-same-length-3 c = c .before .before .before .before .before .before .before .before .before .turn .kept .1 .1 .1 .1 .1 .1 .0 ∙ c .before .before .before .before .before .before .before .before .before .before .before .before .before .before .before .loop .inv .3
+same-length-3 c = out-length (turn (c .before))
 
--- src/work.rt:43:13
 returns : tie.Need-returns Inv-loop μ-loop
 returns c =
-    let a = c .before .before .before .before .before .before .before .before .before .before .before .before .before .before .before .before .before .before .before .before .before .args in
-    let u = c .before .before .before .before .before .before .before .before .before .turn in
-    let x = c .before .before .before .before .before .before .before .before .before .before .before .before .before .before .before .loop in
-    let q = c .before .before .before .before .before .before .before .before .before .before .before .before .before .rest .ensures in
-    let g : x .next ≤ length (a .out .now) - (length (a .t .now) * 9 + 20) = c .before .before .before .before .before .before .before .before .before .before .before .before .before .before .loop-test .taken in
-    let h : x .next + (length (x .t) * 9 + 20) ≤ length (a .out .now) = omega (arith, g, c .before .before .before .before .before .before .before .before .before .before .before .before .before .before .before .before .before .before .before .before .before .pre .3, x .inv .2) in
-    (rw (c .if1 .taken) at (goes-next (u .result .taken) q (x .inv .4) (u .ensures .0, u .ensures .1, u .ensures .2)), x .inv .0, puts-in h (u .ensures .0 .its-lines), λ _. rw q at (step-waits _ _ (sym (u .ensures .2) ∙ c .if1 .taken)), u .ensures .3)
+    let m = turn (c .before) in
+    let u = m .turn in
+    let x = top m .loop in
+    let q = rest m .rest .ensures in
+    let z = sym (c .if1 .taken) ∙ u .ensures .2 in
+    (goes-next 0 q (x .inv .4) (u .ensures .0, u .ensures .1, z), x .inv .0, puts m, λ _. rw q at (step-waits _ _ (sym z)), u .ensures .3)
 
--- src/work.rt:51:9
 add-from : tie.Need-add-from Inv-loop μ-loop
 add-from c =
-    let x = c .before .before .before .before .before .before .before .before .before .before .before .before .before .before .before .before .loop in
-    let h = c .before .before .before .before .before .before .before .before .before .before .before .before .before .before .before .before .before .before .before .before .before .before .args .hand .now in
-    let w : c .before .before .before .before .before .before .before .before .before .before .turn .result .taken ≤ length h - x .from = taken-within _ h (x .from) (c .before .before .before .before .before .before .before .before .before .before .before .before .before .before .rest .ensures) (c .before .before .before .before .before .before .before .before .before .before .turn .ensures .2) in
-    omega (arith, w, x .inv .0, c .before .before .before .before .before .before .before .before .before .before .before .before .before .before .before .before .before .before .before .before .before .before .pre .1)
+    let m = turn (c .before .before) in
+    omega (arith, takes m, top m .loop .inv .0, entry (top m) .pre .1)
 
--- src/work.rt:35:5
 loop-less : tie.Need-loop-less Inv-loop μ-loop
 loop-less c =
-    let x = c .before .before .before .before .before .before .before .before .before .before .before .before .before .before .before .before .loop in
-    let h = c .before .before .before .before .before .before .before .before .before .before .before .before .before .before .before .before .before .before .before .before .before .before .args .hand .now in
-    let w : c .before .before .before .before .before .before .before .before .before .before .turn .result .taken ≤ length h - x .from = taken-within _ h (x .from) (c .before .before .before .before .before .before .before .before .before .before .before .before .before .before .rest .ensures) (c .before .before .before .before .before .before .before .before .before .before .turn .ensures .2) in
-    omega (arith, w, x .inv .0, c .before .if1 .left)
+    let m = turn (c .before .before) in
+    omega (arith, takes m, top m .loop .inv .0, c .before .if1 .left)
 
--- src/work.rt:35:5
 loop-again : tie.Need-loop-again Inv-loop μ-loop
 loop-again c =
-    let a = c .before .before .before .before .before .before .before .before .before .before .before .before .before .before .before .before .before .before .before .before .before .before .args in
-    let u = c .before .before .before .before .before .before .before .before .before .before .turn in
-    let x = c .before .before .before .before .before .before .before .before .before .before .before .before .before .before .before .before .loop in
-    let q = c .before .before .before .before .before .before .before .before .before .before .before .before .before .before .rest .ensures in
-    let w : u .result .taken ≤ length (a .hand .now) - x .from = taken-within _ (a .hand .now) (x .from) q (u .ensures .2) in
-    let g : x .next ≤ length (a .out .now) - (length (a .t .now) * 9 + 20) = c .before .before .before .before .before .before .before .before .before .before .before .before .before .before .before .loop-test .taken in
-    let h : x .next + (length (x .t) * 9 + 20) ≤ length (a .out .now) = omega (arith, g, c .before .before .before .before .before .before .before .before .before .before .before .before .before .before .before .before .before .before .before .before .before .before .pre .3, x .inv .2) in
-    (omega (arith, w, x .inv .0), puts-in h (u .ensures .0 .its-lines), u .kept .1 .1 .1 .0 ∙ x .inv .2, u .kept .1 .1 .1 .1 .1 .1 .0 ∙ x .inv .3, rw (drop-drop (u .result .taken) (x .from) (a .hand .now)) at (goes-next (u .result .taken) q (x .inv .4) (u .ensures .0, u .ensures .1, u .ensures .2)), u .ensures .3, u .kept .1 .0 ∙ x .inv .6)
+    let m = turn (c .before .before) in
+    let u = m .turn in
+    let x = top m .loop in
+    let g = goes-next (u .result .taken) (rest m .rest .ensures) (x .inv .4) (u .ensures .0, u .ensures .1, u .ensures .2) in
+    (omega (arith, takes m, x .inv .0), puts m, table-length m, out-length m, rw (drop-drop (u .result .taken) (x .from) (entry (top m) .args .hand .now)) at g, u .ensures .3, kept-length m)
 
--- src/work.rt:26:1
 same-length-4 : tie.Need-same-length-4 Inv-loop μ-loop
 same-length-4 c = c .before .loop .inv .6
 
@@ -110,7 +146,6 @@ same-length-5 c = c .before .loop .inv .2
 same-length-6 : tie.Need-same-length-6 Inv-loop μ-loop
 same-length-6 c = c .before .loop .inv .3
 
--- src/work.rt:26:1
 returns-2 : tie.Need-returns-2 Inv-loop μ-loop
 returns-2 c =
     let x = c .before .loop in
