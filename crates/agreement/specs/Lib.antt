@@ -30,26 +30,9 @@ pub mod Invariants
 pub mod Moves
 pub mod Runs
 -- The argument
-pub mod WeightLaws
-pub mod QuorumIntersection
-pub mod KnownCommittees
-pub mod DagLaws
-pub mod NonEquivocation
-pub mod AnchorPaths
-pub mod NonForking
-pub mod PlaceLaws
-pub mod Growth
-pub mod Signatures
-pub mod Preservation
-pub mod Agreement
 pub mod Engines
-pub mod EngineAgreement
 -- What an engine computes, and that it is what the theory asks
 pub mod Histories
-pub mod HistoryLaws
 pub mod Commits
-pub mod BlockLaws
-pub mod CommitLaws
 pub mod Marks
-pub mod MarkLaws
 pub mod Listing

@@ -17,7 +17,7 @@ fn open(t: &mut [u32], ceiling: u32) {
     let o = member::open::open(member::open::closed(), t, Member(0), written);
     let a = o.answer;
     let mut out = [0u8; 20];
-    let n = records::answer::put_answer(a, &mut out, 0);
+    let n = answering::answer::put_answer(a, &mut out, 0);
     io::write_all(STDOUT_FILENO, &out[..n]);
 }
 

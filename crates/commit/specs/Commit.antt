@@ -9,13 +9,13 @@ use Rattle.agreement.specs.Rules.{last}
 use Rattle.agreement.specs.Commits.{anchorAt}
 use Rattle.committee.specs.Chain.{chainOf}
 use Rattle.committee.specs.Committees.{committeeOf}
-use Rattle.walk.specs.Walk.{lastRound}
-use Rattle.walk.specs.Fill.{leaderAt, fillTo}
+use Rattle.bonded.specs.BlockChanges.{lastRound}
+use Rattle.bonded.specs.Fill.{leaderAt, fillTo}
 use Rattle.rules.specs.Tests.{unknown}
 use Rattle.rules.specs.Calls as rules
 use Rattle.state.specs.declared.State.{State}
 use Rattle.state.specs.View.{view}
-use Rattle.state.specs.Number.{numberOf}
+use Rattle.state.specs.Refusals.{refusalOf}
 use Rattle.blocks.specs.Blocks.{commitTable, commitCount}
 use Rattle.commit.specs.declared.Committed.the-variants.{Added, Refused}
 use Rattle.commit.specs.declared.Outcome.{Outcome}
@@ -41,8 +41,8 @@ module _ (s : State) (t : List ℕ) where
   voteChecks = rules.voting (s .settings) (view s t) (anchorAt (view s t) (s .round .0 - 1))
 
   -- the number of the first check that refuses, 0 for none
-  unfoldable pub commitNumber : ℕ
-  commitNumber = numberOf s t rules.commit
+  unfoldable pub commitRefusal : ℕ
+  commitRefusal = refusalOf s t rules.commit
 
   -- the leaders of the rounds above the last block's, below the present one, by round, 16 for none
   unfoldable pub leadersFor : List ℕ
@@ -65,7 +65,7 @@ module _ (s : State) (t : List ℕ) where
 
   -- a refused commit changes nothing
   unfoldable pub commitOutcome : Outcome
-  commitOutcome = cond (eqb commitNumber 0) (addedWith s blocksThen) (refusedWith s commitNumber)
+  commitOutcome = cond (eqb commitRefusal 0) (addedWith s blocksThen) (refusedWith s commitRefusal)
 
   unfoldable pub commitTableAfter : List ℕ
-  commitTableAfter = cond (eqb commitNumber 0) committedTable t
+  commitTableAfter = cond (eqb commitRefusal 0) committedTable t

@@ -31,7 +31,7 @@ fn refused(s: State, n: u32) -> Outcome
 }
 
 // The call, where it is known whether the state is well formed.
-pub fn commit_known(formed: bool, s: State, t: &mut [u32]) -> Outcome
+pub fn commit_cached(formed: bool, s: State, t: &mut [u32]) -> Outcome
     requires { ⌜ formed ≡ wellFormed s (now t) ⌝ }
     ensures { λ o. ⌜ (o ≡ commitOutcome s (now (t .entry))) × (now (t .exit) ≡ commitTableAfter s (now (t .entry))) ⌝ }
 {
@@ -44,10 +44,10 @@ pub fn commit_known(formed: bool, s: State, t: &mut [u32]) -> Outcome
     }
     let settings = s.settings;
     let blocks = s.blocks;
-    let last = walk::last_round(t, blocks);
+    let last = bonded::last_round(t, blocks);
     let top = Round(s.round.0 - 1);
     let mut leaders = [16u32; 1025];
-    let w = walk::leaders::fill_leaders(t, settings, blocks, last, top, &mut leaders);
+    let w = bonded::leaders::fill_leaders(t, settings, blocks, last, top, &mut leaders);
     let fault = crate::checks::vote_refusal(s, t, &leaders, &w);
     if fault != 0 {
         return refused(s, fault);
@@ -65,5 +65,5 @@ pub fn commit(s: State, t: &mut [u32]) -> Outcome
     ensures { λ o. ⌜ (o ≡ commitOutcome s (now (t .entry))) × (now (t .exit) ≡ commitTableAfter s (now (t .entry))) ⌝ }
 {
     let formed = state::well_formed(s, t);
-    commit_known(formed, s, t)
+    commit_cached(formed, s, t)
 }

@@ -10,7 +10,7 @@ use Rattle.state.specs.declared.State.{State}
 use Rattle.member.specs.declared.Answer.{Answer}
 use Rattle.member.specs.declared.Answer.the-variants.{Accepted, Refused}
 use Rattle.member.specs.declared.Outcome.{Outcome}
-use Rattle.member.specs.Answers.{numberIn}
+use Rattle.member.specs.Answers.{refusalIn}
 use Rattle.member.specs.Open.{closedState, openOutcome, openTable}
 use Rattle.member.specs.Calls.{proposeOutcome, endorseOutcome, endorseTable, certifyOutcome, certifyTable, acceptOutcome, acceptTable, advanceOutcome}
 use Rattle.commit.specs.declared.Committed as Made
@@ -28,7 +28,7 @@ use Rattle.host.specs.Sheets.{sheetReads, sheetIn}
 use Rattle.host.specs.States.{stateReads, stateIn, stateWords}
 
 -- what a call comes to: the number that refuses it, 0 for none, a value, and the words of the state, the table and the out stretch afterwards
-pub record Turn : Type 0 where
+pub record Result : Type 0 where
   pub refusal : ℕ
   pub value : ℕ
   pub state : List ℕ
@@ -36,14 +36,14 @@ pub record Turn : Type 0 where
   pub out : List ℕ
 
 -- the two forms of an answer: the refusal's number, or the value in the low 32 bits and the refusal's number in the high ones
-abbrev pub plain : Turn → ℕ
+abbrev pub plain : Result → ℕ
 plain x = x .refusal
 
-abbrev pub packed : Turn → ℕ
+abbrev pub packed : Result → ℕ
 packed x = x .value + x .refusal * 4294967296
 
 -- the answer r, and the stretches as they are afterwards, are those of a turn
-pub record Done (answer : Turn → ℕ) (x : Turn) (r : ℕ) (state table out : List ℕ) : Type 0 where
+pub record Done (answer : Result → ℕ) (x : Result) (r : ℕ) (state table out : List ℕ) : Type 0 where
   pub its-answer : r ≡ answer x
   pub its-state : state ≡ x .state
   pub its-table : table ≡ x .table
@@ -121,46 +121,46 @@ module _ (w t o : List ℕ) where
   readable (block k) = stateReads w
 
   -- refused with the number n: no value, and nothing changes
-  abbrev pub refused : ℕ → Turn
+  abbrev pub refused : ℕ → Result
   refused n = record { refusal = n; value = 0; state = w; table = t; out = o }
 
   -- where it cannot be read: 1
-  abbrev pub unread : Turn
+  abbrev pub unread : Result
   unread = refused 1
 
   -- ---- where it can: the engine's answer
 
   -- of a call that changes the state: all its words are written where the call is accepted
-  abbrev pub stepped : Answer → ℕ → State → List ℕ → Turn
-  stepped a v s u = record { refusal = numberIn a; value = v; state = over a w (stateWords s) 37; table = u; out = o }
+  abbrev pub stepped : Answer → ℕ → State → List ℕ → Result
+  stepped a v s u = record { refusal = refusalIn a; value = v; state = over a w (stateWords s) 37; table = u; out = o }
 
   -- of a call that changes the table alone
-  abbrev pub kept : Answer → List ℕ → Turn
-  kept a u = record { refusal = numberIn a; value = 0; state = w; table = u; out = o }
+  abbrev pub kept : Answer → List ℕ → Result
+  kept a u = record { refusal = refusalIn a; value = 0; state = w; table = u; out = o }
 
   -- of a read
-  abbrev pub given : Answer → ℕ → List ℕ → Turn
-  given a v z = record { refusal = numberIn a; value = v; state = w; table = t; out = z }
+  abbrev pub given : Answer → ℕ → List ℕ → Result
+  given a v z = record { refusal = refusalIn a; value = v; state = w; table = t; out = z }
 
-  abbrev pub steppedBy : Outcome → List ℕ → Turn
+  abbrev pub steppedBy : Outcome → List ℕ → Result
   steppedBy x u = stepped (x .answer) 0 (x .state) u
 
-  abbrev pub committedBy : committed.Outcome → List ℕ → Turn
+  abbrev pub committedBy : committed.Outcome → List ℕ → Result
   committedBy x u = stepped (addedAnswer (x .answer)) (addedValue (x .answer)) (x .state) u
 
-  abbrev pub committeeBy : CommitteeRead → Turn
+  abbrev pub committeeBy : CommitteeRead → Result
   committeeBy x = given (x .answer) 0 (over (x .answer) o (sixteen (x .weights)) 16)
 
-  abbrev pub certificateBy : CertificateRead → Turn
+  abbrev pub certificateBy : CertificateRead → Result
   certificateBy x = given (x .answer) 0 (over (x .answer) o (heldWords (x .proposal) (x .endorsers) (x .block)) 18)
 
-  abbrev pub shareBy : Shared.ShareRead → Turn
+  abbrev pub shareBy : Shared.ShareRead → Result
   shareBy x = given (sharedAnswer x) (sharedValue x) o
 
-  abbrev pub blockBy : Blocked.BlockRead → Turn
+  abbrev pub blockBy : Blocked.BlockRead → Result
   blockBy x = given (blockedAnswer x) (blockedValue x) o
 
-  abbrev pub served : Call → Turn
+  abbrev pub served : Call → Result
   served (opens own sheet) = steppedBy (openOutcome closedState t (record { 0 = own }) (sheetIn sheet)) (openTable t (record { 0 = own }) (sheetIn sheet))
   served (propose b) = steppedBy (proposeOutcome (stateIn w) t (bodyIn b 0)) t
   served (endorse p) = kept (endorseOutcome (stateIn w) t (proposalIn p) .answer) (endorseTable (stateIn w) t (proposalIn p))
@@ -174,5 +174,5 @@ module _ (w t o : List ℕ) where
   served (block k) = blockBy (blockAnswer (stateIn w) t k)
 
   -- every call and read
-  unfoldable pub turn : Call → Turn
+  unfoldable pub turn : Call → Result
   turn c = cond (readable c) (served c) unread

@@ -68,7 +68,7 @@ fn slot_in(w: &[u32], at: usize, k: u32) -> Slot
     let i = at + 2 + k as usize * 3;
     if k < w[at + 1] {
         return Slot {
-            transaction: terms::told(w[i], w[i + 1], w[i + 2]),
+            transaction: terms::read_transaction(w[i], w[i + 1], w[i + 2]),
         };
     }
     Slot {

@@ -8,7 +8,7 @@ ghost use Prim.Native.Nat.{_≤_};
 ghost use lib.ListN.{length};
 ghost use lib.Seq.{paste};
 ghost use Rattle.host.specs.Proposals.{proposalReads, proposalIn, certificateReads, certificateIn, heldWords};
-ghost use Rattle.host.specs.ReadingLaws.{ProposalRead, CertificateRead};
+ghost use Rattle.host.specs.Readings.{ProposalRead, CertificateRead};
 
 // Can the words be read as a proposal?
 pub fn proposal_reads(w: &[u32]) -> bool

@@ -11,7 +11,7 @@ ghost use lib.ListN.{length};
 ghost use lib.Seq.{paste};
 ghost use Rattle.host.specs.Words.{Narrow};
 ghost use Rattle.host.specs.States.{stateReads, weightsIn, settingsIn, keptIn, stateIn, keptOf, stateWords};
-ghost use Rattle.host.specs.ReadingLaws.{StateRead};
+ghost use Rattle.host.specs.Readings.{StateRead};
 
 // Can the words be read as a state?
 pub fn state_reads(w: &[u32]) -> bool

@@ -7,16 +7,16 @@ ghost use mathlib.Core.List.{[]};
 ghost use Prim.Native.Nat.{_≤_};
 ghost use lib.ListN.{length};
 ghost use Rattle.store.specs.Table.{used};
-ghost use Rattle.member.specs.Answers.{numberIn};
+ghost use Rattle.member.specs.Answers.{refusalIn};
 ghost use Rattle.host.specs.Words.{sixteen};
 ghost use Rattle.host.specs.Proposals.{heldWords};
-ghost use Rattle.host.specs.AnswerLaws.{Shown};
+ghost use Rattle.host.specs.Answers.{Shown};
 ghost use Rattle.host.specs.Calls.{plain, packed, Done, committee, share, certificate, block, over, turn};
 
 // Writes the weights of a committee, where the read is accepted.
 fn show_committee(out: &mut [u32], x: reads::CommitteeRead) -> u32
     requires { ⌜ (16 ≤ length (now out)) × Shown (x .answer) (x .weights) ⌝ }
-    ensures { λ r. ⌜ (r ≡ numberIn (x .answer)) × (now (out .exit) ≡ over (x .answer) (now (out .entry)) (sixteen (x .weights)) 16) ⌝ }
+    ensures { λ r. ⌜ (r ≡ refusalIn (x .answer)) × (now (out .exit) ≡ over (x .answer) (now (out .entry)) (sixteen (x .weights)) 16) ⌝ }
 {
     let weights = x.weights;
     let a = x.answer;
@@ -32,7 +32,7 @@ fn show_committee(out: &mut [u32], x: reads::CommitteeRead) -> u32
 // Writes a held certificate, where the read is accepted.
 fn show_certificate(out: &mut [u32], x: reads::CertificateRead) -> u32
     requires { ⌜ 18 ≤ length (now out) ⌝ }
-    ensures { λ r. ⌜ (r ≡ numberIn (x .answer)) × (now (out .exit) ≡ over (x .answer) (now (out .entry)) (heldWords (x .proposal) (x .endorsers) (x .block)) 18) ⌝ }
+    ensures { λ r. ⌜ (r ≡ refusalIn (x .answer)) × (now (out .exit) ≡ over (x .answer) (now (out .entry)) (heldWords (x .proposal) (x .endorsers) (x .block)) 18) ⌝ }
 {
     let p = x.proposal;
     let a = x.answer;

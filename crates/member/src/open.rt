@@ -7,7 +7,7 @@ use state::State;
 use terms::Member;
 use terms::Round;
 ghost use mathlib.Core.Path.{_≡_};
-ghost use Rattle.member.specs.Open.{closedState, freshState, openNumber, openOutcome, openTable};
+ghost use Rattle.member.specs.Open.{closedState, freshState, openRefusal, openOutcome, openTable};
 
 // The state before an open: it is not well formed, so every call but open answers 1.
 pub fn closed() -> State
@@ -44,7 +44,7 @@ fn fresh(own: Member, settings: Settings) -> State
 
 // The number of the first check that refuses, 0 for none: 4 member above 15; 2 setting out of range; 3 no positive weight; 1 lent table too short.
 pub fn open_number(t: &[u32], own: Member, settings: Settings) -> u32
-    ensures { λ v. ⌜ v ≡ openNumber (now (t .entry)) own settings ⌝ }
+    ensures { λ v. ⌜ v ≡ openRefusal (now (t .entry)) own settings ⌝ }
 {
     if 15 < own.0 {
         return 4;

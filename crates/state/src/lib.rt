@@ -38,10 +38,10 @@ fn body_fits(allowance: u32, r: Round, b: Body) -> bool
     requires { ⌜ allowance ≤ 4 ⌝ }
     ensures { λ v. ⌜ v ≡ bodyFits allowance (r .0) b ⌝ }
 {
-    if terms::is_unfit(allowance, b) {
+    if terms::has_bad_transactions(allowance, b) {
         return false;
     }
-    !terms::is_wrong_set(r, b.previous as u32)
+    !terms::is_bad_previous_set(r, b.previous as u32)
 }
 
 fn proposal_fits(s: State) -> bool
@@ -87,5 +87,5 @@ pub fn well_formed(s: State, t: &[u32]) -> bool
     if !store::scan::rows_fit(t, settings.allowance, blocks, n) {
         return false;
     }
-    walk::blocks_fit(t, blocks, n)
+    bonded::blocks_fit(t, blocks, n)
 }

@@ -6,7 +6,7 @@ use lib.Dec.{eqb, leb, ltb}
 use Rattle.base.specs.Folds.{allTo}
 use Rattle.base.specs.Sets.{isIn}
 use Rattle.terms.specs.Transactions.{bondInRange}
-use Rattle.terms.specs.Proposals.{wrongSet}
+use Rattle.terms.specs.Proposals.{badPreviousSet}
 use Rattle.store.specs.Table.{heldSet, endorsedSet, heldAt, word, countAt, previousAt, markAt, endorsersAt}
 
 -- three words that are a transaction in range: an unknown kind is none, and only a bond has an amount
@@ -25,7 +25,7 @@ unfoldable pub recordFits : List ℕ → ℕ → ℕ → ℕ → ℕ → Bool
 recordFits t allowance blocks m r =
     leb (word t m r 1) allowance
     && (allTo (transactionFits t m r) (countAt t m r)
-    && (ltb (word t m r 0) 65536 && (not (wrongSet r (previousAt t m r)) && (leb (markAt t m r) blocks && endorsersFit t m r))))
+    && (ltb (word t m r 0) 65536 && (not (badPreviousSet r (previousAt t m r)) && (leb (markAt t m r) blocks && endorsersFit t m r))))
 
 unfoldable pub placeFits : List ℕ → ℕ → ℕ → ℕ → ℕ → Bool
 placeFits t allowance blocks r m = cond (heldAt t m r) (recordFits t allowance blocks m r) true

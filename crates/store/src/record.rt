@@ -65,7 +65,7 @@ pub fn transaction_at(t: &[u32], m: Member, r: Round, k: u32) -> Transaction
     let kind = word_at(t, m, r, 4 + k * 3);
     let number = word_at(t, m, r, 5 + k * 3);
     let amount = word_at(t, m, r, 6 + k * 3);
-    terms::told(kind, number, amount)
+    terms::read_transaction(kind, number, amount)
 }
 
 // Slot k of what a record tells, nothing beyond its transactions.

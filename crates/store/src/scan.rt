@@ -99,7 +99,7 @@ fn record_fits(t: &[u32], l: &[u32; 15], allowance: u32, blocks: u32, m: Member,
     if 65536 <= crate::record::word_at(t, m, r, 0) {
         return false;
     }
-    if terms::is_wrong_set(r, crate::record::previous(t, m, r)) {
+    if terms::is_bad_previous_set(r, crate::record::previous(t, m, r)) {
         return false;
     }
     if blocks < crate::record::mark(t, m, r) {

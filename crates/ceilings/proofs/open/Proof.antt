@@ -11,7 +11,7 @@ use Rattle.ceilings.proofs.open.Lts as lts
 use Rattle.io.proofs.write_all.Reads as write-all-reads
 use Rattle.member.proofs.open.closed.Reads as closed-reads
 use Rattle.member.proofs.open.open.Reads as open-reads
-use Rattle.records.proofs.answer.put_answer.Reads as put-answer-reads
+use Rattle.answering.proofs.answer.put_answer.Reads as put-answer-reads
 use Rattle.sheet.proofs.Sheet.blank.Reads as blank-reads
 
 -- src/main.rt:9:9

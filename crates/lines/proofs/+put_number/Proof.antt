@@ -6,8 +6,9 @@ use mathlib.Core.Path.{_≡_, refl, sym, ap, _∙_}
 use native.Mathlib.Omega.{arith}
 use Prim.Native.Nat.{_+_, _/_, _%_, _≤_}
 use lib.ListN.{length}
-use Rattle.lines.specs.Puts.{Puts, puts-more}
-use Rattle.lines.specs.LineLaws.{decimal-small, decimal-more, decimal-fits, decimal-tenth}
+use Rattle.lines.specs.Puts.{Puts}
+use Rattle.lines.proofs.PutLaws.{puts-more}
+use Rattle.lines.proofs.LineLaws.{decimal-small, decimal-more, decimal-fits, decimal-tenth}
 use borrow.Author.Needs.{needs}
 use Prim.Native.Nat.{ℕ, _<_}
 use borrow.Fn.Kinds.{In}

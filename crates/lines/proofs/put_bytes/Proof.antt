@@ -2,7 +2,8 @@ use mathlib.Core.Path.{_≡_, refl, sym, ap, _∙_}
 use native.Mathlib.Omega.{arith}
 use Prim.Native.Nat.{_+_, _-_, _<_, _≤_}
 use lib.ListN.{length, take, length-set}
-use Rattle.lines.specs.Puts.{Puts, puts-copy, puts-all}
+use Rattle.lines.specs.Puts.{Puts}
+use Rattle.lines.proofs.PutLaws.{puts-copy, puts-all}
 use borrow.Author.Needs.{needs}
 use Rattle.lines.proofs.put_bytes.Statement.{statement}
 use Rattle.lines.proofs.put_bytes.Tie as tie

@@ -4,10 +4,11 @@ use Prim.Native.Nat.{_+_, _*_, _-_, _≤_}
 use lib.ListN.{length}
 use Rattle.base.specs.Folds.{tab}
 use Rattle.terms.specs.Proposals.{slotOf}
-use Rattle.terms.specs.ProposalLaws.{transactions-tab}
+use Rattle.terms.proofs.ProposalLaws.{transactions-tab}
 use Rattle.lines.specs.Lines.{triplesFields}
-use Rattle.lines.specs.Puts.{Puts, puts-then, puts-within}
-use Rattle.lines.specs.LineLaws.{triples-none, triples-next}
+use Rattle.lines.specs.Puts.{Puts}
+use Rattle.lines.proofs.PutLaws.{puts-then, puts-within}
+use Rattle.lines.proofs.LineLaws.{triples-none, triples-next}
 use borrow.Author.Needs.{needs}
 use Rattle.lines.proofs.put_triples.Statement.{statement}
 use Rattle.lines.proofs.put_triples.Tie as tie

@@ -1,8 +1,8 @@
 use mathlib.Core.Path.{sym, _∙_}
 use native.Mathlib.Omega.{arith}
 use borrow.Author.Tests.{not-true, not-false}
-use Rattle.state.specs.Formed.{formed}
-use Rattle.reads.specs.ReadLaws.{block-refused, block-unformed, block-row, block-zero, block-over, block-given}
+use Rattle.state.proofs.FormedLaws.{formed}
+use Rattle.reads.proofs.ReadLaws.{block-refused, block-unformed, block-row, block-zero, block-over, block-given}
 use borrow.Author.Needs.{needs}
 use Rattle.reads.proofs.block.Statement.{statement}
 use Rattle.reads.proofs.block.Tie as tie

@@ -1,8 +1,8 @@
 use mathlib.Core.Path.{sym, _∙_}
 use native.Mathlib.Omega.{arith}
 use borrow.Author.Tests.{not-true, not-false}
-use Rattle.state.specs.Formed.{formed}
-use Rattle.reads.specs.ReadLaws.{share-refused, share-unformed, share-nobody}
+use Rattle.state.proofs.FormedLaws.{formed}
+use Rattle.reads.proofs.ReadLaws.{share-refused, share-unformed, share-nobody}
 use borrow.Author.Needs.{needs}
 use Rattle.reads.proofs.share.Statement.{statement}
 use Rattle.reads.proofs.share.Tie as tie

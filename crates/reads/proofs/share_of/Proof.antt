@@ -5,16 +5,17 @@ use Prim.Native.Nat.{ℕ}
 use native.Mathlib.Omega.{arith}
 use lib.ListN.{drop}
 use borrow.Author.Tests.{not-false, ltb-true}
-use Rattle.base.specs.Checks.{Checks, refusal, refuses, passes, passes-all}
+use Rattle.base.specs.Checks.{Checks, refusal}
+use Rattle.base.proofs.CheckLaws.{refuses, passes, passes-all}
 use Rattle.sheet.specs.Ranges.{weightIn}
 use Rattle.committee.specs.Leaders.{members}
 use Rattle.rules.specs.Tests.{badRound, unknown, committeeIn}
-use Rattle.rules.specs.TestLaws.{unknown-not}
+use Rattle.rules.proofs.TestLaws.{unknown-not}
 use Rattle.state.specs.View.{view}
-use Rattle.state.specs.Walkable.{readable}
-use Rattle.member.specs.PieceLaws.{asked}
-use Rattle.reads.specs.Reads.{shareNumber}
-use Rattle.reads.specs.ReadLaws.{share-refused, share-given, share-checks}
+use Rattle.state.proofs.Walkable.{readable}
+use Rattle.member.proofs.SharedCheckLaws.{asked}
+use Rattle.reads.specs.Reads.{shareRefusal}
+use Rattle.reads.proofs.ReadLaws.{share-refused, share-given, share-checks}
 use borrow.Author.Needs.{needs}
 use Rattle.reads.proofs.share_of.Statement.{statement}
 use Rattle.reads.proofs.share_of.Tie as tie
@@ -25,7 +26,7 @@ entry c = c .before .before
 
 -- the number, and the checks that make it: 9, and 5, 8, 9
 abbrev number : tie.Start → ℕ
-number s = let a = s .args in shareNumber (a .s) (a .t .now) (a .m .0) (a .r .0)
+number s = let a = s .args in shareRefusal (a .s) (a .t .now) (a .m .0) (a .r .0)
 
 abbrev nobody : tie.Start → Checks
 nobody s = let a = s .args in (not (members (committeeIn (a .s .settings) (view (a .s) (a .t .now)) (a .r .0)) (a .m .0)), 9) ∷ []

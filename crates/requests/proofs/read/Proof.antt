@@ -3,8 +3,8 @@ use native.Mathlib.Omega.{arith}
 use Rattle.requests.specs.Readings.{readingOf}
 use Rattle.requests.specs.declared.Kind.the-variants.{Advance, Commit, Chain}
 use Rattle.requests.specs.Requests.{advance, commit, chain}
-use Rattle.requests.specs.RequestLaws.{end-reading}
-use Rattle.requests.specs.DamagedRequests.{request-long, request-by}
+use Rattle.requests.proofs.RequestLaws.{end-reading}
+use Rattle.requests.proofs.DamagedRequests.{request-long, request-by}
 use borrow.Author.Needs.{needs}
 use Rattle.requests.proofs.read.Statement.{statement}
 use Rattle.requests.proofs.read.Tie as tie

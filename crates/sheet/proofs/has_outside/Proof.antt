@@ -4,7 +4,7 @@ use native.Mathlib.Omega.{arith}
 use Prim.Native.Nat.{_-_, _≤_}
 use mathlib.Core.Bool.{false}
 use Rattle.base.specs.Folds.{anyTo}
-use Rattle.base.specs.TestLaws.{any-more, true-any}
+use Rattle.base.proofs.TestLaws.{any-more, true-any}
 use Rattle.sheet.specs.Ranges.{weightIn, outside}
 use Rattle.sheet.proofs.has_outside.Statement.{statement}
 use Rattle.sheet.proofs.has_outside.Tie as tie

@@ -5,7 +5,7 @@ use Prim.Native.Nat.{_-_, _≤_}
 use borrow.Author.Tests.{lt-ltb, le-ltb}
 use mathlib.Core.Bool.{false, not}
 use Rattle.base.specs.Folds.{anyTo}
-use Rattle.base.specs.TestLaws.{any-more, true-any}
+use Rattle.base.proofs.TestLaws.{any-more, true-any}
 use lib.Dec.{ltb}
 use Rattle.sheet.specs.Ranges.{weightIn, weightless}
 use Rattle.sheet.proofs.is_weightless.Statement.{statement}

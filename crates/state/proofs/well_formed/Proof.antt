@@ -2,8 +2,8 @@ use mathlib.Core.Path.{refl, sym, _∙_}
 use native.Mathlib.Omega.{arith}
 use borrow.Author.Tests.{not-true, not-false, le-leb, lt-leb}
 use Rattle.state.specs.WellFormed.{wellFormed}
-use Rattle.sheet.specs.SheetLaws.{settings-fit}
-use Rattle.state.specs.Formed.{head-parts}
+use Rattle.sheet.proofs.SheetLaws.{settings-fit}
+use Rattle.state.proofs.FormedLaws.{head-parts}
 use borrow.Author.Needs.{needs}
 use Rattle.state.proofs.well_formed.Statement.{statement}
 use Rattle.state.proofs.well_formed.Tie as tie

@@ -1,4 +1,4 @@
-use Rattle.terms.specs.ProposalLaws.{same-amounts}
+use Rattle.terms.proofs.ProposalLaws.{same-amounts}
 use borrow.Author.Tests.{eq-eqb, ne-eqb}
 use mathlib.Core.Path.{sym, _∙_}
 use borrow.Author.Tests.{eq-eqb, ne-eqb}

@@ -5,7 +5,7 @@ use Prim.Native.Nat.{ℕ, _-_}
 use native.Mathlib.Omega.{arith}
 use borrow.Author.Tests.{not-true, not-false}
 use Rattle.base.specs.Sets.{isIn}
-use Rattle.base.specs.SetLaws.{in-member}
+use Rattle.base.proofs.SetLaws.{in-member}
 use Rattle.agreement.specs.Weights.{total}
 use Rattle.store.specs.Table.{heldSet}
 use Rattle.sheet.specs.Ranges.{weightIn}
@@ -13,14 +13,14 @@ use Rattle.committee.specs.Committees.{boundOf}
 use Rattle.state.specs.declared.State.{State}
 use Rattle.commit.specs.Votes.{votesFor}
 use Rattle.commit.specs.Commit.{committeeOn}
-use Rattle.commit.specs.AnchorLaws.{leaderOn}
-use Rattle.commit.specs.CheckLaws.{led-on, anchor-none, votes-few, votes-enough}
+use Rattle.commit.proofs.AnchorLaws.{leaderOn}
+use Rattle.commit.proofs.CheckLaws.{led-on, anchor-none, votes-few, votes-enough}
 use borrow.Author.Needs.{needs}
 use Rattle.commit.proofs.checks.vote_refusal.Statement.{statement}
 use Rattle.commit.proofs.checks.vote_refusal.Tie as tie
 
 -- the places that the proofs speak of, each seen from a later one: the entry, the first test passed, the votes counted
-abbrev entry : tie.After-is-led → tie.Start
+abbrev entry : tie.After-is-held-leader → tie.Start
 entry c = c .before .before .before .before .before .before .before
 
 abbrev asked : tie.After-fault-bound → tie.Else1
@@ -30,23 +30,23 @@ abbrev counted : tie.After-struct-known4 → tie.After-votes-for
 counted c = c .before .before
 
 -- the state and the table of the call, its round, and the leader of the round before it
-abbrev S : tie.After-is-led → State
+abbrev S : tie.After-is-held-leader → State
 S c = entry c .args .s
 
-abbrev T : tie.After-is-led → List ℕ
+abbrev T : tie.After-is-held-leader → List ℕ
 T c = entry c .args .t .now
 
-abbrev R : tie.After-is-led → ℕ
+abbrev R : tie.After-is-held-leader → ℕ
 R c = S c .round .0
 
-abbrev A : tie.After-is-led → ℕ
+abbrev A : tie.After-is-held-leader → ℕ
 A c = leaderOn (S c) (T c) (R c - 1)
 
 -- what `is_led` answers is whether the leader's certificate is held
-held : (c : tie.After-is-led) {b : Bool} → c .is-led .result ≡ b → isIn (heldSet (T c) (R c - 1)) (A c) ≡ b
+held : (c : tie.After-is-held-leader) {b : Bool} → c .is-held-leader .result ≡ b → isIn (heldSet (T c) (R c - 1)) (A c) ≡ b
 held c h =
     let p = entry c .pre in
-    rw (c .before .held-set .ensures, led-on _ _ (p .0) (p .1) _ (p .2) (p .3)) at (sym (c .is-led .ensures) ∙ h)
+    rw (c .before .held-set .ensures, led-on _ _ (p .0) (p .1) _ (p .2) (p .3)) at (sym (c .is-held-leader .ensures) ∙ h)
 
 -- the two numbers of the second test, by the definitions
 votes : (c : tie.After-votes-for) → let a = asked (c .before) .before in c .votes-for .result .0 ≡ votesFor (T a) (committeeOn (S a) (T a) (R a)) (R a) (A a)
@@ -75,8 +75,8 @@ element-copy-out-a c = search needs
 held-set-requires : tie.Need-held-set-requires
 held-set-requires c κs = search needs
 
-is-led-requires : tie.Need-is-led-requires
-is-led-requires c κs = search needs
+is-held-leader-requires : tie.Need-is-held-leader-requires
+is-held-leader-requires c κs = search needs
 
 returns : tie.Need-returns
 returns c = let p = entry (c .before) .pre in anchor-none _ _ (p .0) (p .1) (held (c .before) (not-true _ (c .if1 .taken)))
@@ -92,7 +92,7 @@ votes-for-requires c κs =
     let a = asked c in
     let p = entry (a .before) .pre in
     let f = p .0 in
-    (omega (arith, f .long, f .numbers .round-to), in-member _ _ (sym (a .before .is-led .ensures) ∙ not-false _ (a .if1 .left)), p .5)
+    (omega (arith, f .long, f .numbers .round-to), in-member _ _ (sym (a .before .is-held-leader .ensures) ∙ not-false _ (a .if1 .left)), p .5)
 
 returns-2 : tie.Need-returns-2
 returns-2 c =
@@ -117,7 +117,7 @@ vote-refusal-spec =
     mul-a
     element-copy-out-a
     held-set-requires
-    is-led-requires
+    is-held-leader-requires
     returns
     total-weight-requires
     fault-bound-requires

@@ -1,9 +1,9 @@
 use mathlib.Core.Path.{refl}
 use Prim.Native.Nat.{_%_}
 use native.Mathlib.Omega.{arith}
-use Rattle.base.specs.SumLaws.{sum-at}
+use Rattle.base.proofs.SumLaws.{sum-at}
 use Rattle.sheet.specs.Ranges.{weightIn}
-use Rattle.committee.specs.Effects.{effect-le, effect-changes}
+use Rattle.committee.proofs.EffectLaws.{effect-le, effect-changes}
 use borrow.Author.Needs.{needs}
 use Rattle.committee.proofs.change.apply.Statement.{statement}
 use Rattle.committee.proofs.change.apply.Tie as tie

@@ -1,4 +1,4 @@
-use Rattle.committee.specs.Effects.{at-most}
+use Rattle.committee.proofs.EffectLaws.{at-most}
 use native.Mathlib.Omega.{arith}
 use mathlib.Core.Path.{refl}
 use Rattle.committee.proofs.change.times.Statement.{statement}

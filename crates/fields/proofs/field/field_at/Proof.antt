@@ -3,7 +3,7 @@ use Prim.Native.Nat.{_-_}
 use native.Mathlib.Omega.{arith}
 use lib.ListN.{length, drop}
 use Rattle.fields.specs.Fields.{untilComma}
-use Rattle.fields.specs.FieldLaws.{take-until}
+use Rattle.fields.proofs.FieldLaws.{take-until}
 use borrow.Author.Needs.{needs}
 use Rattle.fields.proofs.field.field_at.Statement.{statement}
 use Rattle.fields.proofs.field.field_at.Tie as tie

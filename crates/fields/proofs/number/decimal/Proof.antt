@@ -5,8 +5,8 @@ use native.Mathlib.Omega.{arith}
 use Prim.Native.Nat.{_+_, _-_, _*_, _<_, _≤_}
 use lib.ListN.{length, drop, getD}
 use Rattle.fields.specs.Numbers.{plain, allDigits, value, numberTo}
-use Rattle.fields.specs.NumberLaws.{value-le, digit-low, digit-high, digit, digits-at, value-at, digits-end, value-end, number-zeros, number-other, number-large, number-is}
-use Rattle.fields.specs.Steps.{found}
+use Rattle.fields.proofs.NumberLaws.{value-le, digit-low, digit-high, digit, digits-at, value-at, digits-end, value-end, number-zeros, number-other, number-large, number-is}
+use Rattle.fields.specs.Cursor.{found}
 use borrow.Author.Needs.{needs}
 use Rattle.fields.proofs.number.decimal.Statement.{statement}
 use Rattle.fields.proofs.number.decimal.Tie as tie

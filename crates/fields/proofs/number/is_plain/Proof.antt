@@ -1,4 +1,4 @@
-use Rattle.fields.specs.NumberLaws.{plain-none, plain-one, plain-more}
+use Rattle.fields.proofs.NumberLaws.{plain-none, plain-one, plain-more}
 use mathlib.Core.Path.{_≡_, refl, sym, ap, _∙_}
 use native.Mathlib.Omega.{arith}
 use borrow.Author.Needs.{needs}

@@ -1,8 +1,8 @@
 use mathlib.Core.Path.{_≡_, refl, sym, ap, _∙_}
 use native.Mathlib.Omega.{arith}
-use Rattle.fields.specs.Steps.{found}
+use Rattle.fields.specs.Cursor.{found}
 use Rattle.fields.specs.Numbers.{numberTo}
-use Rattle.fields.specs.StepLaws.{stepped, stays, first-there, first-past}
+use Rattle.fields.proofs.CursorLaws.{stepped, stays, first-there, first-past}
 use borrow.Author.Needs.{needs}
 use Rattle.fields.proofs.number.number_at.Statement.{statement}
 use Rattle.fields.proofs.number.number_at.Tie as tie

@@ -5,7 +5,7 @@ use Prim.Native.Nat.{_-_, _<_, _≤_}
 use lib.ListN.{length, drop}
 use borrow.Author.Tests.{eq-eqb, ne-eqb}
 use Rattle.fields.specs.Words.{sameBytes}
-use Rattle.fields.specs.WordLaws.{other-length, same-at, same-end}
+use Rattle.fields.proofs.WordLaws.{other-length, same-at, same-end}
 use borrow.Author.Needs.{needs}
 use Rattle.fields.proofs.word.is_same.Statement.{statement}
 use Rattle.fields.proofs.word.is_same.Tie as tie

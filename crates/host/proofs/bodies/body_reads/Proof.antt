@@ -4,7 +4,7 @@ use Prim.Native.Nat.{_-_, _≤_}
 use native.Mathlib.Omega.{arith}
 use borrow.Author.Tests.{lt-ltb, le-ltb, not-true, not-false}
 use Rattle.base.specs.Folds.{allTo}
-use Rattle.base.specs.TestLaws.{all-more, all-fails}
+use Rattle.base.proofs.TestLaws.{all-more, all-fails}
 use Rattle.host.specs.Bodies.{tripleReads, bodyReads}
 use borrow.Author.Needs.{needs}
 use Rattle.host.proofs.bodies.body_reads.Statement.{statement}

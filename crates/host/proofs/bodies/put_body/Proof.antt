@@ -6,7 +6,7 @@ use lib.ListN.{length}
 use lib.Seq.{paste, paste-zero}
 use Rattle.terms.specs.declared.Transaction.{Transaction}
 use Rattle.host.specs.Bodies.{usedWords, tripleWords}
-use Rattle.host.specs.PutLaws.{used-step, body-put}
+use Rattle.host.proofs.PutLaws.{used-step, body-put}
 use borrow.Author.Needs.{needs}
 use Rattle.host.proofs.bodies.put_body.Statement.{statement}
 use Rattle.host.proofs.bodies.put_body.Tie as tie

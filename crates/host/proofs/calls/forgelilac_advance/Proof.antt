@@ -1,9 +1,9 @@
 use mathlib.Core.Path.{refl}
 use mathlib.Core.List.{[]}
-use Rattle.host.specs.CallLaws.{not-read, is-read, done-unread, stepped-done}
+use Rattle.host.proofs.CallLaws.{not-read, is-read, done-unread, stepped-done}
 use Rattle.host.specs.Calls.{advance}
-use Rattle.host.specs.ReadingLaws.{state-read}
-use Rattle.host.specs.AnswerLaws.{advance-writable}
+use Rattle.host.proofs.ReadingLaws.{state-read}
+use Rattle.host.proofs.AnswerLaws.{advance-writable}
 use borrow.Author.Needs.{needs}
 use Rattle.host.proofs.calls.forgelilac_advance.Statement.{statement}
 use Rattle.host.proofs.calls.forgelilac_advance.Tie as tie

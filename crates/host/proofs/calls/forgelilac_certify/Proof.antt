@@ -2,10 +2,10 @@ use mathlib.Core.Path.{refl}
 use mathlib.Core.List.{[]}
 use lib.Dec.{ltb}
 use borrow.Author.Tests.{lt-ltb, le-ltb}
-use Rattle.host.specs.CallLaws.{not-read, is-read, left-unread, right-unread, both-read, done-unread, kept-done}
+use Rattle.host.proofs.CallLaws.{not-read, is-read, left-unread, right-unread, both-read, done-unread, kept-done}
 use Rattle.host.specs.States.{stateReads}
 use Rattle.host.specs.Calls.{certify}
-use Rattle.host.specs.ReadingLaws.{state-read}
+use Rattle.host.proofs.ReadingLaws.{state-read}
 use borrow.Author.Needs.{needs}
 use Rattle.host.proofs.calls.forgelilac_certify.Statement.{statement}
 use Rattle.host.proofs.calls.forgelilac_certify.Tie as tie

@@ -2,10 +2,10 @@ use Rattle.commit.specs.Commit.{commitTableAfter}
 use Rattle.host.specs.States.{stateIn}
 use mathlib.Core.Path.{refl}
 use mathlib.Core.List.{[]}
-use Rattle.host.specs.CallLaws.{not-read, is-read, done-unread, done-read, done-as}
+use Rattle.host.proofs.CallLaws.{not-read, is-read, done-unread, done-read, done-as}
 use Rattle.host.specs.Calls.{commit, committedBy}
-use Rattle.host.specs.ReadingLaws.{state-read}
-use Rattle.host.specs.AnswerLaws.{commit-writable}
+use Rattle.host.proofs.ReadingLaws.{state-read}
+use Rattle.host.proofs.AnswerLaws.{commit-writable}
 use Rattle.commit.specs.declared.Outcome.{Outcome}
 use borrow.Author.Needs.{needs}
 use Rattle.host.proofs.calls.forgelilac_commit.Statement.{statement}

@@ -3,11 +3,11 @@ use mathlib.Core.List.{[]}
 use lib.Dec.{leb}
 use lib.ListN.{length}
 use borrow.Author.Tests.{lt-leb, le-leb}
-use Rattle.host.specs.CallLaws.{not-read, is-read, left-unread, right-unread, both-read, done-unread, stepped-done}
+use Rattle.host.proofs.CallLaws.{not-read, is-read, left-unread, right-unread, both-read, done-unread, stepped-done}
 use Rattle.host.specs.Sheets.{sheetReads}
 use Rattle.host.specs.Calls.{opens}
-use Rattle.host.specs.ReadingLaws.{sheet-read}
-use Rattle.host.specs.AnswerLaws.{open-writable}
+use Rattle.host.proofs.ReadingLaws.{sheet-read}
+use Rattle.host.proofs.AnswerLaws.{open-writable}
 use borrow.Author.Needs.{needs}
 use Rattle.host.proofs.calls.forgelilac_open.Statement.{statement}
 use Rattle.host.proofs.calls.forgelilac_open.Tie as tie

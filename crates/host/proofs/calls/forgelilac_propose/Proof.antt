@@ -1,11 +1,11 @@
 use mathlib.Core.Path.{refl}
 use mathlib.Core.List.{[]}
-use Rattle.host.specs.CallLaws.{not-read, is-read, left-unread, right-unread, both-read, done-unread, stepped-done}
+use Rattle.host.proofs.CallLaws.{not-read, is-read, left-unread, right-unread, both-read, done-unread, stepped-done}
 use Rattle.host.specs.Bodies.{loneBodyReads}
 use Rattle.host.specs.States.{stateReads}
 use Rattle.host.specs.Calls.{propose}
-use Rattle.host.specs.ReadingLaws.{state-read, lone-body-read}
-use Rattle.host.specs.AnswerLaws.{propose-writable}
+use Rattle.host.proofs.ReadingLaws.{state-read, lone-body-read}
+use Rattle.host.proofs.AnswerLaws.{propose-writable}
 use borrow.Author.Needs.{needs}
 use Rattle.host.proofs.calls.forgelilac_propose.Statement.{statement}
 use Rattle.host.proofs.calls.forgelilac_propose.Tie as tie

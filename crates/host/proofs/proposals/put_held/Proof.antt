@@ -4,7 +4,7 @@ use Prim.Native.Nat.{ℕ}
 use lib.Seq.{paste}
 use native.Mathlib.Omega.{arith}
 use Rattle.host.specs.Bodies.{bodyWords}
-use Rattle.host.specs.PutLaws.{held-put}
+use Rattle.host.proofs.PutLaws.{held-put}
 use borrow.Author.Needs.{needs}
 use Rattle.host.proofs.proposals.put_held.Statement.{statement}
 use Rattle.host.proofs.proposals.put_held.Tie as tie

@@ -6,7 +6,7 @@ use lib.Seq.{paste}
 use native.Mathlib.Omega.{arith}
 use Rattle.terms.specs.declared.Body.{Body}
 use Rattle.host.specs.Bodies.{bodyWords}
-use Rattle.host.specs.PutLaws.{state-put}
+use Rattle.host.proofs.PutLaws.{state-put}
 use borrow.Author.Needs.{needs}
 use Rattle.host.proofs.states.put_state.Statement.{statement}
 use Rattle.host.proofs.states.put_state.Tie as tie

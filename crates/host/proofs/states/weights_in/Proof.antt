@@ -1,7 +1,7 @@
 use mathlib.Core.Path.{refl}
 use native.Mathlib.Omega.{arith}
 use Prim.Native.Nat.{_+_, _-_}
-use Rattle.host.specs.FillLaws.{Filling, filling-none, filling-more, filling-all}
+use Rattle.host.proofs.FillLaws.{Filling, filling-none, filling-more, filling-all}
 use Rattle.host.specs.Words.{word}
 use borrow.Author.Needs.{needs}
 use Rattle.host.proofs.states.weights_in.Statement.{statement}

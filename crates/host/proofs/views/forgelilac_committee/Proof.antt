@@ -2,11 +2,11 @@ use mathlib.Core.Path.{refl}
 use lib.Dec.{leb}
 use lib.ListN.{length}
 use borrow.Author.Tests.{lt-leb, le-leb}
-use Rattle.host.specs.CallLaws.{not-read, is-read, left-unread, right-unread, both-read, done-unread, done-read, done-as}
+use Rattle.host.proofs.CallLaws.{not-read, is-read, left-unread, right-unread, both-read, done-unread, done-read, done-as}
 use Rattle.host.specs.States.{stateReads}
 use Rattle.host.specs.Calls.{committee, committeeBy}
-use Rattle.host.specs.ReadingLaws.{state-read}
-use Rattle.host.specs.AnswerLaws.{committee-shown}
+use Rattle.host.proofs.ReadingLaws.{state-read}
+use Rattle.host.proofs.AnswerLaws.{committee-shown}
 use borrow.Author.Needs.{needs}
 use Rattle.host.proofs.views.forgelilac_committee.Statement.{statement}
 use Rattle.host.proofs.views.forgelilac_committee.Tie as tie

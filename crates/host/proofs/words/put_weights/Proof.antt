@@ -1,5 +1,5 @@
 use Rattle.host.specs.Words.{sixteen}
-use Rattle.host.specs.PasteLaws.{length-sixteen, in-sixteen}
+use Rattle.host.proofs.PasteLaws.{length-sixteen, in-sixteen}
 use mathlib.Core.Path.{_≡_, refl}
 use Prim.Native.Nat.{ℕ, _-_, _≤_}
 use native.Mathlib.Omega.{arith}

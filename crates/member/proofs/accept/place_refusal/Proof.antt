@@ -2,14 +2,15 @@ use mathlib.Core.Path.{_≡_, sym, _∙_}
 use mathlib.Core.Bool.{true}
 use mathlib.Core.List.{[], _∷_, _++_}
 use lib.ListN.{drop}
-use Rattle.base.specs.Checks.{Checks, refusal, passes-all, refuses, passes}
+use Rattle.base.specs.Checks.{Checks, refusal}
+use Rattle.base.proofs.CheckLaws.{passes-all, refuses, passes}
 use Rattle.terms.specs.Proposals.{contentOf}
 use Rattle.store.specs.Table.{heldAt}
 use Rattle.rules.specs.Calls.{accepting}
 use Rattle.rules.specs.Tests.{above, missing}
 use Rattle.state.specs.View.{view}
-use Rattle.member.specs.Pieces.{signerChecks}
-use Rattle.member.specs.PlaceLaws.{fits-within, place-same, place-other, place-free, piece-refused, piece-passed, signers-numbered}
+use Rattle.member.specs.SharedChecks.{signerChecks}
+use Rattle.member.proofs.PlaceLaws.{fits-within, place-same, place-other, place-free, piece-refused, piece-passed, signers-numbered}
 use borrow.Author.Needs.{needs}
 use Rattle.member.proofs.accept.place_refusal.Statement.{statement}
 use Rattle.member.proofs.accept.place_refusal.Tie as tie

@@ -1,12 +1,13 @@
 use mathlib.Core.Path.{_≡_, sym, _∙_}
 use lib.ListN.{drop}
-use Rattle.base.specs.Checks.{Checks, refusal, refuses, passes}
+use Rattle.base.specs.Checks.{Checks, refusal}
+use Rattle.base.proofs.CheckLaws.{refuses, passes}
 use Rattle.terms.specs.Proposals.{contentOf}
 use Rattle.rules.specs.Calls.{accepting}
 use Rattle.state.specs.View.{view}
-use Rattle.member.specs.Pieces.{formChecks}
-use Rattle.member.specs.PassedLaws.{Fits}
-use Rattle.member.specs.PlaceLaws.{form-fits, piece-refused, piece-passed, form-numbered}
+use Rattle.member.specs.SharedChecks.{formChecks}
+use Rattle.member.specs.SharedChecks.{Fits}
+use Rattle.member.proofs.PlaceLaws.{form-fits, piece-refused, piece-passed, form-numbered}
 use borrow.Author.Needs.{needs}
 use Rattle.member.proofs.accept.refusal_of.Statement.{statement}
 use Rattle.member.proofs.accept.refusal_of.Tie as tie

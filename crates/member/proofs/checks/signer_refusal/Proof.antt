@@ -3,16 +3,17 @@ use mathlib.Core.Bool.{not}
 use mathlib.Core.List.{List}
 use Prim.Native.Nat.{ℕ}
 use lib.ListN.{drop}
-use Rattle.base.specs.Checks.{Checks, refusal, passes-all, refuses, passes}
+use Rattle.base.specs.Checks.{Checks, refusal}
+use Rattle.base.proofs.CheckLaws.{passes-all, refuses, passes}
 use Rattle.base.specs.Sets.{isIn}
 use Rattle.sheet.specs.Ranges.{weightIn}
 use Rattle.committee.specs.Committees.{outsider, short}
 use Rattle.rules.specs.Tests.{committeeIn, unknown}
-use Rattle.rules.specs.TestLaws.{unknown-not}
+use Rattle.rules.proofs.TestLaws.{unknown-not}
 use Rattle.state.specs.View.{view}
-use Rattle.state.specs.Walkable.{readable}
-use Rattle.member.specs.PieceLaws.{asked}
-use Rattle.member.specs.Pieces.{signerChecks}
+use Rattle.state.proofs.Walkable.{readable}
+use Rattle.member.proofs.SharedCheckLaws.{asked}
+use Rattle.member.specs.SharedChecks.{signerChecks}
 use borrow.Author.Needs.{needs}
 use Rattle.member.proofs.checks.signer_refusal.Statement.{statement}
 use Rattle.member.proofs.checks.signer_refusal.Tie as tie

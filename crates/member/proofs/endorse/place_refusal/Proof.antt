@@ -2,12 +2,13 @@ use mathlib.Core.Path.{_≡_, sym, _∙_}
 use mathlib.Core.Bool.{_||_}
 use lib.ListN.{drop}
 use borrow.Author.Tests.{eq-eqb, ne-eqb}
-use Rattle.base.specs.Checks.{Checks, refusal, refuses, passes}
+use Rattle.base.specs.Checks.{Checks, refusal}
+use Rattle.base.proofs.CheckLaws.{refuses, passes}
 use Rattle.agreement.specs.Dag.{isHeld}
 use Rattle.terms.specs.Proposals.{contentOf}
 use Rattle.rules.specs.Calls.{endorsing}
 use Rattle.state.specs.View.{view}
-use Rattle.member.specs.PlaceLaws.{fits-within, place-taken}
+use Rattle.member.proofs.PlaceLaws.{fits-within, place-taken}
 use Rattle.member.proofs.endorse.place_refusal.Statement.{statement}
 use Rattle.member.proofs.endorse.place_refusal.Tie as tie
 

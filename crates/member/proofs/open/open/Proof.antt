@@ -1,7 +1,7 @@
 use mathlib.Core.Path.{sym, _∙_}
 use Rattle.member.specs.Open.{openOutcome, openTable}
-use Rattle.member.specs.AnswerLaws.{left-accepted, left-refused, outcome-accepted, outcome-refused}
-use Rattle.member.specs.OpenLaws.{opened}
+use Rattle.member.proofs.AnswerLaws.{left-accepted, left-refused, outcome-accepted, outcome-refused}
+use Rattle.member.proofs.OpenLaws.{opened}
 use borrow.Author.Needs.{needs}
 use Rattle.member.proofs.open.open.Statement.{statement}
 use Rattle.member.proofs.open.open.Tie as tie

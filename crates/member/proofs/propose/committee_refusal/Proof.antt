@@ -2,18 +2,19 @@ use mathlib.Core.Path.{_≡_, refl, sym, ap, _∙_}
 use mathlib.Core.Bool.{not}
 use Prim.Native.Nat.{_-_}
 use lib.ListN.{drop}
-use Rattle.base.specs.Checks.{Checks, refusal, passes-all, refuses, passes}
+use Rattle.base.specs.Checks.{Checks, refusal}
+use Rattle.base.proofs.CheckLaws.{passes-all, refuses, passes}
 use Rattle.base.specs.Sets.{isIn}
 use Rattle.terms.specs.Proposals.{contentWith}
 use Rattle.sheet.specs.Ranges.{weightIn}
 use Rattle.committee.specs.Committees.{quorum}
 use Rattle.committee.specs.Leaders.{members}
 use Rattle.rules.specs.Tests.{above, committeeIn, unknown}
-use Rattle.rules.specs.TestLaws.{unknown-not}
+use Rattle.rules.proofs.TestLaws.{unknown-not}
 use Rattle.rules.specs.Calls.{proposing}
 use Rattle.state.specs.View.{view}
-use Rattle.state.specs.Walkable.{readable}
-use Rattle.member.specs.PieceLaws.{asked}
+use Rattle.state.proofs.Walkable.{readable}
+use Rattle.member.proofs.SharedCheckLaws.{asked}
 use Rattle.member.proofs.propose.committee_refusal.Statement.{statement}
 use Rattle.member.proofs.propose.committee_refusal.Tie as tie
 
@@ -87,17 +88,17 @@ returns-3 c = sym (past₂ (member (c .before)) ∙ refuses _ _ (sym (c .before 
 abbrev pair₃ : tie.Else3 → tie.After-committees
 pair₃ c = pair (member (c .before) .before)
 
-abbrev linked : tie.After-is-thin → tie.Else3
+abbrev linked : tie.After-lacks-previous-quorum → tie.Else3
 linked c = c .before .before .before
 
-by-thin : (c : tie.After-is-thin) → let a = entry₃ (linked c) .args in
-    above (a .s .round .0) (not (quorum (committeeIn (a .s .settings) (view (a .s) (a .t .now)) (a .s .round .0 - 1)) (isIn (a .b .previous)))) ≡ c .is-thin .result
+by-thin : (c : tie.After-lacks-previous-quorum) → let a = entry₃ (linked c) .args in
+    above (a .s .round .0) (not (quorum (committeeIn (a .s .settings) (view (a .s) (a .t .now)) (a .s .round .0 - 1)) (isIn (a .b .previous)))) ≡ c .lacks-previous-quorum .result
 by-thin c =
     let a = entry₃ (linked c) .args in
-    asked (λ w. above (a .s .round .0) (not (quorum (weightIn w) (isIn (a .b .previous))))) (pair₃ (linked c) .committees .ensures .before) (c .is-thin .ensures) refl
+    asked (λ w. above (a .s .round .0) (not (quorum (weightIn w) (isIn (a .b .previous))))) (pair₃ (linked c) .committees .ensures .before) (c .lacks-previous-quorum .ensures) refl
 
-is-thin-requires : tie.Need-is-thin-requires
-is-thin-requires c κs = pair₃ (c .before .before) .committees .ensures .light-before
+lacks-previous-quorum-requires : tie.Need-lacks-previous-quorum-requires
+lacks-previous-quorum-requires c κs = pair₃ (c .before .before) .committees .ensures .light-before
 
 returns-4 : tie.Need-returns-4
 returns-4 c = sym (past₃ (linked (c .before)) ∙ refuses _ _ (by-thin (c .before) ∙ c .if4 .taken))
@@ -116,6 +117,6 @@ committee-refusal-spec =
     returns-2
     lacks-previous-requires
     returns-3
-    is-thin-requires
+    lacks-previous-quorum-requires
     returns-4
     returns-5)

@@ -1,8 +1,8 @@
-use Rattle.requests.specs.RequestLaws.{number-goes, number-stops, number-fits, end-past, end-here}
+use Rattle.requests.proofs.RequestLaws.{number-goes, number-stops, number-fits, end-past, end-here}
 use mathlib.Core.Path.{_≡_, refl, sym, ap, _∙_}
 use native.Mathlib.Omega.{arith}
 use Rattle.requests.specs.Readings.{readingOf}
-use Rattle.requests.specs.BodyLaws.{bare-of}
+use Rattle.requests.proofs.BodyLaws.{bare-of}
 use borrow.Author.Needs.{needs}
 use Rattle.requests.proofs.call.read_certify.Statement.{statement}
 use Rattle.requests.proofs.call.read_certify.Tie as tie

@@ -1,4 +1,4 @@
-use Rattle.fields.specs.FieldLaws.{from-step, from-none}
+use Rattle.fields.proofs.FieldLaws.{from-step, from-none}
 use borrow.Author.Needs.{needs}
 use Rattle.requests.proofs.call.read_end.Statement.{statement}
 use Rattle.requests.proofs.call.read_end.Tie as tie

@@ -1,4 +1,4 @@
-use Rattle.requests.specs.RequestLaws.{number-goes, number-stops, number-fits, triples-reading}
+use Rattle.requests.proofs.RequestLaws.{number-goes, number-stops, number-fits, triples-reading}
 use mathlib.Core.Path.{_≡_, refl, sym, ap, _∙_}
 use native.Mathlib.Omega.{arith}
 use Rattle.requests.specs.Readings.{readingOf}

@@ -4,7 +4,7 @@ use Rattle.requests.specs.Triples.{atKind}
 use mathlib.Core.Path.{_≡_, refl, sym, ap, _∙_}
 use native.Mathlib.Omega.{arith}
 use Rattle.requests.specs.Bodies.{bodyOf, onto}
-use Rattle.requests.specs.BodyLaws.{bare-of, onto-none, body-length}
+use Rattle.requests.proofs.BodyLaws.{bare-of, onto-none, body-length}
 use borrow.Author.Needs.{needs}
 use Rattle.requests.proofs.call.read_triples.Statement.{statement}
 use Rattle.requests.proofs.call.read_triples.Tie as tie

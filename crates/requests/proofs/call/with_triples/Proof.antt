@@ -2,7 +2,7 @@ use mathlib.Core.Path.{_≡_, refl, sym, ap, _∙_}
 use borrow.Author.Tests.{not-true, not-false}
 use Rattle.fields.specs.Fields.{fieldsFrom}
 use Rattle.requests.specs.Triples.{atKind}
-use Rattle.requests.specs.RequestLaws.{triples-stop, triples-go}
+use Rattle.requests.proofs.RequestLaws.{triples-stop, triples-go}
 use borrow.Author.Needs.{needs}
 use Rattle.requests.proofs.call.with_triples.Statement.{statement}
 use Rattle.requests.proofs.call.with_triples.Tie as tie

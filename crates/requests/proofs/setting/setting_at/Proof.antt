@@ -2,7 +2,7 @@ use mathlib.Core.Path.{_≡_, refl, sym, ap, _∙_}
 use native.Mathlib.Omega.{arith}
 use Rattle.requests.specs.Readings.{settingFound}
 use Rattle.requests.specs.Settings.{setting}
-use Rattle.fields.specs.StepLaws.{stepped, stays, first-there, first-past}
+use Rattle.fields.proofs.CursorLaws.{stepped, stays, first-there, first-past}
 use borrow.Author.Needs.{needs}
 use Rattle.requests.proofs.setting.setting_at.Statement.{statement}
 use Rattle.requests.proofs.setting.setting_at.Tie as tie

@@ -1,7 +1,7 @@
 use mathlib.Core.Path.{_≡_, refl, sym, ap, _∙_}
-use Rattle.fields.specs.StepLaws.{found-of, found-none}
+use Rattle.fields.proofs.CursorLaws.{found-of, found-none}
 use Rattle.requests.specs.Readings.{settingFound}
-use Rattle.requests.specs.SettingLaws.{blank-field, written-field, no-field}
+use Rattle.requests.proofs.SettingLaws.{blank-field, written-field, no-field}
 use borrow.Author.Needs.{needs}
 use Rattle.requests.proofs.setting.setting_in.Statement.{statement}
 use Rattle.requests.proofs.setting.setting_in.Tie as tie

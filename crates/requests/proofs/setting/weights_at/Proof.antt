@@ -8,7 +8,7 @@ use lib.Seq.{take-suc-set, take-all}
 use Rattle.fields.specs.Fields.{fieldsFrom}
 use Rattle.requests.specs.Requests.{cellsIn}
 use Rattle.requests.specs.Readings.{weightsOf}
-use Rattle.requests.specs.SettingLaws.{following, following-all, cells-more, cells-stop, cells-end, cells-past}
+use Rattle.requests.proofs.SettingLaws.{following, following-all, cells-more, cells-stop, cells-end, cells-past}
 use borrow.Author.Needs.{needs}
 use Rattle.requests.proofs.setting.weights_at.Statement.{statement}
 use Rattle.requests.proofs.setting.weights_at.Tie as tie

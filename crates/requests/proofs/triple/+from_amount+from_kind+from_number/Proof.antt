@@ -8,9 +8,9 @@ use Rattle.fields.specs.Numbers.{number}
 use Rattle.fields.specs.Fields.{fieldsFrom}
 use Rattle.requests.specs.Triples.{transaction, atKind, atAmount}
 use Rattle.requests.specs.Bodies.{onto}
-use Rattle.requests.specs.BodyLaws.{onto-end}
-use Rattle.fields.specs.StepLaws.{found-of, found-none, read-there}
-use Rattle.requests.specs.TripleLaws.{kind-past, kind-fails, kind-goes, number-fails, number-goes, amount-fails, amount-refused, amount-pushed, amount-count}
+use Rattle.requests.proofs.BodyLaws.{onto-end}
+use Rattle.fields.proofs.CursorLaws.{found-of, found-none, read-there}
+use Rattle.requests.proofs.TripleLaws.{kind-past, kind-fails, kind-goes, number-fails, number-goes, amount-fails, amount-refused, amount-pushed, amount-count}
 use borrow.Author.Needs.{needs}
 use Prim.Native.Nat.{ℕ, _<_}
 use borrow.Fn.Kinds.{In}

@@ -1,6 +1,6 @@
 use mathlib.Core.Path.{_≡_, refl, sym, ap, _∙_}
-use Rattle.fields.specs.Steps.{found}
-use Rattle.fields.specs.WordLaws.{names, names-not, names-none}
+use Rattle.fields.specs.Cursor.{found}
+use Rattle.fields.proofs.WordLaws.{names, names-not, names-none}
 use borrow.Author.Needs.{needs}
 use Rattle.requests.proofs.triple.kind_named.Statement.{statement}
 use Rattle.requests.proofs.triple.kind_named.Tie as tie

@@ -1,7 +1,7 @@
-use Rattle.store.specs.RecordLaws.{proposal-by}
+use Rattle.store.proofs.RecordLaws.{proposal-by}
 use native.Mathlib.Omega.{arith}
 use Rattle.store.specs.Writes.{proposalOf}
-use Rattle.store.specs.TableLaws.{previous-lt}
+use Rattle.store.proofs.TableLaws.{previous-lt}
 use mathlib.Core.Path.{refl}
 use borrow.Author.Needs.{needs}
 use Rattle.store.proofs.record.proposal_at.Statement.{statement}

@@ -30,12 +30,12 @@ add-word-at-3 c = search needs
 word-at-requires-3 : tie.Need-word-at-requires-3
 word-at-requires-3 c κs = search needs
 
-told-requires : tie.Need-told-requires
-told-requires c κs = search needs
+read-transaction-requires : tie.Need-read-transaction-requires
+read-transaction-requires c κs = search needs
 
 returns : tie.Need-returns
 unfolding transactionAt
-returns c = simp (c .told .ensures, c .before .word-at3 .ensures, c .before .before .word-at2 .ensures, c .before .before .before .word-at .ensures)
+returns c = simp (c .read-transaction .ensures, c .before .word-at3 .ensures, c .before .before .word-at2 .ensures, c .before .before .before .word-at .ensures)
 
 pub transaction-at-spec : {M : Type 1} → statement M
 transaction-at-spec =
@@ -50,5 +50,5 @@ transaction-at-spec =
     mul-word-at-3
     add-word-at-3
     word-at-requires-3
-    told-requires
+    read-transaction-requires
     returns)

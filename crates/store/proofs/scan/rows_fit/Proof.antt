@@ -5,7 +5,7 @@ use Prim.Native.Nat.{_+_, _-_, _≤_}
 use borrow.Author.Tests.{not-true, not-false}
 use mathlib.Core.Bool.{true}
 use Rattle.base.specs.Folds.{allTo}
-use Rattle.base.specs.TestLaws.{all-more, all-fails}
+use Rattle.base.proofs.TestLaws.{all-more, all-fails}
 use Rattle.store.specs.Scan.{rowFits, rowsFit}
 use Rattle.store.specs.Limits.{limitTable}
 use Rattle.store.proofs.scan.rows_fit.Statement.{statement}

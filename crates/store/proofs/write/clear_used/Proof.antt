@@ -6,7 +6,7 @@ use mathlib.Core.Path.{_≡_, refl, sym, ap, _∙_}
 use mathlib.Core.List.{_++_}
 use lib.ListN.{length, drop, replicate, length-set}
 use Rattle.store.specs.Writes.{clearUsed}
-use Rattle.base.specs.Paste.{cleared-more}
+use Rattle.base.proofs.PasteLaws.{cleared-more}
 use Rattle.store.proofs.write.clear_used.Statement.{statement}
 use Rattle.store.proofs.write.clear_used.Tie as tie
 

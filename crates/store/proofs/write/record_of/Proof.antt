@@ -1,4 +1,4 @@
-use Rattle.terms.specs.ProposalLaws.{length-transactions}
+use Rattle.terms.proofs.ProposalLaws.{length-transactions}
 use Rattle.store.specs.Writes.{recordOf}
 use mathlib.Core.Path.{refl}
 use borrow.Author.Needs.{needs}

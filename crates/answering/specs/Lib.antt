@@ -1,0 +1,5 @@
+pub mod Listing
+pub mod Counts
+pub mod Answers
+pub mod Records
+pub mod Streams

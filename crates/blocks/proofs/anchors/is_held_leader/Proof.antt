@@ -1,0 +1,18 @@
+use mathlib.Core.Path.{sym}
+use Rattle.base.proofs.SetLaws.{not-in}
+use borrow.Author.Needs.{needs}
+use Rattle.blocks.proofs.anchors.is_held_leader.Statement.{statement}
+use Rattle.blocks.proofs.anchors.is_held_leader.Tie as tie
+use Rattle.base.proofs.has.Reads as has-reads
+
+returns : tie.Need-returns
+returns c = sym (not-in (c .before .args .u) (c .before .args .a) (c .if1 .taken))
+
+has-requires : tie.Need-has-requires
+has-requires c κs = search needs
+
+returns-2 : tie.Need-returns-2
+returns-2 c = search needs
+
+pub is-held-leader-spec : {M : Type 1} → statement M
+is-held-leader-spec = tie.close (tie.spec returns has-requires returns-2)

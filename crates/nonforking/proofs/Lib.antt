@@ -1,0 +1,17 @@
+pub mod EngineLaws
+pub mod VerdictLaws
+pub mod CommitFacts
+pub mod AcceptedCalls
+pub mod CallRefinement
+pub mod StartLaws
+pub mod Mirrors
+pub mod RunMirrors
+pub mod Theorem
+pub mod Lasting
+pub mod AnchorStarts
+pub mod ReachedLaws
+pub mod StoredLaws
+pub mod ShownLaws
+pub mod Converses
+pub mod PlainTests
+pub mod Witness

@@ -1,0 +1,177 @@
+use borrow.Author.Needs.{needs}
+use mathlib.Core.Path.{_≡_, refl, _∙_, sym}
+use mathlib.Core.Bool.{false≢true}
+use native.Mathlib.Omega.{arith}
+use Prim.Native.Nat.{_+_, _*_, _-_, _≤_}
+use lib.ListN.{length, drop}
+use lib.Seq.{drop-drop}
+use Rattle.state.specs.Cached.{Cached}
+use Rattle.framing.proofs.FramingLaws.{step-waits}
+use Rattle.runner.specs.Work.{AllAnswered}
+use Rattle.runner.proofs.WorkLaws.{goes-none, goes-next, puts-in, taken-within}
+use Rattle.runner.proofs.work.fill.Statement.{statement}
+use Rattle.runner.proofs.work.fill.Tie as tie
+
+abbrev Inv-loop : tie.InvT-loop
+Inv-loop kept₀ t₀ hand out₀ last state₀ formed₀ skipping₀ from₀ next₀ kept t out state formed skipping from next =
+    (from ≤ length hand) × (next ≤ length out₀) × (length t ≡ length t₀) × (length out ≡ length out₀)
+    × AllAnswered state₀ t₀ skipping₀ (drop from₀ hand) state t skipping (drop from hand) out₀ out next₀ next
+    × Cached state t formed kept × (length kept ≡ length kept₀)
+
+abbrev μ-loop : tie.MeasureT-loop
+μ-loop kept₀ t₀ hand out₀ last state₀ formed₀ skipping₀ from₀ next₀ kept t out state formed skipping from next = length hand - from
+
+-- the places that the proofs speak of: the entry, the loop's head, after `rest`, after `next-record`, and before the test of what it took
+abbrev Entry : Type 0
+Entry = tie.Start Inv-loop μ-loop
+
+abbrev Head : Type 0
+Head = tie.At-loop Inv-loop μ-loop
+
+abbrev Rest : Type 0
+Rest = tie.After-rest Inv-loop μ-loop
+
+abbrev Turn : Type 0
+Turn = tie.After-next-record Inv-loop μ-loop
+
+abbrev Test : Type 0
+Test = tie.After-struct-known Inv-loop μ-loop
+
+-- each, as the next one sees it
+abbrev entry : Head → Entry
+entry c = c .before .before .before .before .before .before
+
+abbrev head : Rest → Head
+head c = c .before .before
+
+abbrev rest : Turn → Rest
+rest c = c .before .before .before .before
+
+abbrev next-record : Test → Turn
+next-record c = c .before .before .before .before .before .before .before .before
+
+-- the loop's head, as the place after `next-record` sees it
+abbrev top : Turn → Head
+top c = head (rest c)
+
+-- the output has room for a next-record's answer
+room : (c : Rest) → let x = head c .loop in x .next + (length (x .t) * 9 + 20) ≤ length (entry (head c) .args .out .now)
+room c =
+    let h = head c in
+    let a = entry h .args in
+    let g : h .loop .next ≤ length (a .out .now) - (length (a .t .now) * 9 + 20) = c .before .loop-test .taken in
+    omega (arith, g, entry h .pre .3, h .loop .inv .2)
+
+-- what a next-record takes is at hand, and what it puts is within the output
+takes : (c : Turn) → c .next-record .result .taken ≤ length (entry (top c) .args .hand .now) - top c .loop .from
+takes c = taken-within _ (entry (top c) .args .hand .now) (top c .loop .from) (rest c .rest .ensures) (c .next-record .ensures .2)
+
+puts : (c : Turn) → c .next-record .result .next ≤ length (entry (top c) .args .out .now)
+puts c = puts-in (room (rest c)) (c .next-record .ensures .0 .its-lines)
+
+-- no length changes
+kept-length : (c : Turn) → length (c .next-record .last .1 .0) ≡ length (entry (top c) .args .cache .now)
+kept-length c = c .next-record .kept .1 .0 ∙ top c .loop .inv .6
+
+table-length : (c : Turn) → length (c .next-record .last .1 .1 .1 .0) ≡ length (entry (top c) .args .t .now)
+table-length c = c .next-record .kept .1 .1 .1 .0 ∙ top c .loop .inv .2
+
+out-length : (c : Turn) → length (c .next-record .last .1 .1 .1 .1 .1 .1 .0) ≡ length (entry (top c) .args .out .now)
+out-length c = c .next-record .kept .1 .1 .1 .1 .1 .1 .0 ∙ top c .loop .inv .3
+
+mul-last : tie.Need-mul-last Inv-loop μ-loop
+mul-last c = search needs
+
+add-last : tie.Need-add-last Inv-loop μ-loop
+add-last c = search needs
+
+sub-last : tie.Need-sub-last Inv-loop μ-loop
+sub-last c = search needs
+
+loop-holds : tie.Need-loop-holds Inv-loop μ-loop
+loop-holds c =
+    let p = c .before .before .before .before .before .pre in
+    (p .0, p .4, refl, refl, goes-none, p .5, refl)
+
+rest-requires : tie.Need-rest-requires Inv-loop μ-loop
+rest-requires c κs = c .before .loop .inv .0
+
+next-record-requires : tie.Need-next-record-requires Inv-loop μ-loop
+next-record-requires c κs =
+    let r = c .before .before .before in
+    let x = head r .loop in
+    (omega (arith, room r, x .inv .3), x .inv .5)
+
+same-length : tie.Need-same-length Inv-loop μ-loop
+same-length c = kept-length (next-record (c .before))
+
+same-length-2 : tie.Need-same-length-2 Inv-loop μ-loop
+same-length-2 c = table-length (next-record (c .before))
+
+same-length-3 : tie.Need-same-length-3 Inv-loop μ-loop
+same-length-3 c = out-length (next-record (c .before))
+
+returns : tie.Need-returns Inv-loop μ-loop
+returns c =
+    let m = next-record (c .before) in
+    let u = m .next-record in
+    let x = top m .loop in
+    let q = rest m .rest .ensures in
+    let z = sym (c .if1 .taken) ∙ u .ensures .2 in
+    (goes-next 0 q (x .inv .4) (u .ensures .0, u .ensures .1, z), x .inv .0, puts m, λ _. rw q at (step-waits _ _ (sym z)), u .ensures .3)
+
+add-from : tie.Need-add-from Inv-loop μ-loop
+add-from c =
+    let m = next-record (c .before .before) in
+    omega (arith, takes m, top m .loop .inv .0, entry (top m) .pre .1)
+
+loop-less : tie.Need-loop-less Inv-loop μ-loop
+loop-less c =
+    let m = next-record (c .before .before) in
+    omega (arith, takes m, top m .loop .inv .0, c .before .if1 .left)
+
+loop-again : tie.Need-loop-again Inv-loop μ-loop
+loop-again c =
+    let m = next-record (c .before .before) in
+    let u = m .next-record in
+    let x = top m .loop in
+    let g = goes-next (u .result .taken) (rest m .rest .ensures) (x .inv .4) (u .ensures .0, u .ensures .1, u .ensures .2) in
+    (omega (arith, takes m, x .inv .0), puts m, table-length m, out-length m, rw (drop-drop (u .result .taken) (x .from) (entry (top m) .args .hand .now)) at g, u .ensures .3, kept-length m)
+
+same-length-4 : tie.Need-same-length-4 Inv-loop μ-loop
+same-length-4 c = c .before .loop .inv .6
+
+same-length-5 : tie.Need-same-length-5 Inv-loop μ-loop
+same-length-5 c = c .before .loop .inv .2
+
+same-length-6 : tie.Need-same-length-6 Inv-loop μ-loop
+same-length-6 c = c .before .loop .inv .3
+
+returns-2 : tie.Need-returns-2 Inv-loop μ-loop
+returns-2 c =
+    let x = c .before .loop in
+    (x .inv .4, x .inv .0, x .inv .1, λ e. absurd (false≢true e), x .inv .5)
+
+pub fill-spec : {M : Type 1} → statement M
+fill-spec =
+    tie.close
+    (tie.spec
+    Inv-loop
+    μ-loop
+    mul-last
+    add-last
+    sub-last
+    loop-holds
+    rest-requires
+    next-record-requires
+    same-length
+    same-length-2
+    same-length-3
+    returns
+    add-from
+    loop-less
+    loop-again
+    same-length-4
+    same-length-5
+    same-length-6
+    returns-2)
