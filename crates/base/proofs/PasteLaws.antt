@@ -6,7 +6,7 @@ use native.Mathlib.Omega.{arith}
 use native.Mathlib.Numerals.{add-one}
 use lib.ListN.{length, getD, take, drop, set, replicate, length-replicate, replicate-append-replicate, List·getD-append, length-take, length-drop}
 use lib.Seq.{paste, paste-suc, length-paste, drop-cons, set-at, append-snoc, length-paste-head, getD-append-add, getD-take, getD-drop, length-take-le, ext-getD}
-use Rattle.base.specs.Paste.{part}
+use Rattle.base.specs.Parts.{part}
 
 module _ (t : List ℕ) (b : ℕ) (w : List ℕ) (n : ℕ) (hb : b + n ≤ length t) (hw : length w ≡ n) where
   head : length (take b t ++ take n w) ≡ b + n

@@ -1,4 +1,4 @@
 pub mod Checks
 pub mod Folds
 pub mod Sets
-pub mod Paste
+pub mod Parts

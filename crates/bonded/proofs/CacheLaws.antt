@@ -6,7 +6,7 @@ use native.Mathlib.Omega.{arith}
 use native.Mathlib.Decide.{ℕ-discrete}
 use lib.ListN.{length}
 use lib.Seq.{paste, take-all, length-paste}
-use Rattle.base.specs.Paste.{part}
+use Rattle.base.specs.Parts.{part}
 use Rattle.base.proofs.PasteLaws.{same-part, paste-below, paste-inside}
 use Rattle.agreement.specs.Rules.{Chain}
 use Rattle.terms.specs.Proposals.{Content}

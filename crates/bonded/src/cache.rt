@@ -7,7 +7,7 @@ ghost use mathlib.Core.Path.{_≡_};
 ghost use Prim.Native.Nat.{_+_, _*_, _≤_};
 ghost use lib.ListN.{length};
 ghost use lib.Seq.{paste};
-ghost use Rattle.base.specs.Paste.{part};
+ghost use Rattle.base.specs.Parts.{part};
 ghost use Rattle.committee.specs.Chain.{chainOf};
 ghost use Rattle.committee.specs.Committees.{committeeOf};
 ghost use Rattle.committee.specs.Totals.{TotalBounded};

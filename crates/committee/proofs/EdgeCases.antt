@@ -1,4 +1,4 @@
--- Laws of the cases that document 01 marks P, and those of the change requests, as one table under a common theorem.
+-- The cases that the scope document marks P, and those of the change requests, hold.
 use mathlib.Core.Path.{_≡_, refl}
 use mathlib.Core.Bool.{true}
 use Rattle.base.specs.Folds.{sumTo, tab}

@@ -1,4 +1,4 @@
--- The rules of document 01 are lawful, whatever the settings.
+-- The rules of the scope document are lawful, whatever the settings.
 use mathlib.Core.Path.{_≡_, refl, _∙_}
 use mathlib.Core.Bool.{Bool, true, false, _&&_, cond}
 use mathlib.Core.Option.{Option, none, some, Option·none-ne-some}

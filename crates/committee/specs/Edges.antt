@@ -1,4 +1,4 @@
--- The cases that document 01 marks P, and those of the change requests, as one table under a common theorem.
+-- The cases that the scope document marks P, and those of the change requests, as one table.
 use mathlib.Core.Bool.{Bool, true, false, cond, _&&_, _||_}
 use mathlib.Core.Option.{none, some}
 use mathlib.Core.List.{List, [], _∷_}

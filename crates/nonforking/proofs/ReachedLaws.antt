@@ -1,4 +1,4 @@
--- Laws of what every engine is that a sequence of calls from an opening reaches.
+-- Every engine that a sequence of calls from an opening reaches is well formed, with the settings of a sheet.
 use mathlib.Core.Path.{_≡_, refl, sym, ap, _∙_, subst}
 use mathlib.Core.Bool.{Bool, true, false, true≢false}
 use mathlib.Core.List.{List, [], _∷_}

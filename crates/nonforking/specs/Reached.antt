@@ -1,4 +1,4 @@
--- What every engine is that a sequence of calls from an opening reaches.
+-- What is asked of an engine that a sequence of calls from an opening reaches.
 use mathlib.Core.Path.{_≡_}
 use Prim.Native.Nat.{ℕ}
 use Rattle.terms.specs.declared.Member.{Member}

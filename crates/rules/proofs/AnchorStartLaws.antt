@@ -1,4 +1,4 @@
--- Laws of in every state of a run, the order inside a block starts with the author of the block's anchor.
+-- In every state of a run, the order inside a block starts with the author of the block's anchor.
 use mathlib.Core.Path.{_≡_, refl, sym, ap, _∙_, subst}
 use mathlib.Core.Bool.{Bool, true}
 use mathlib.Core.Option.{Option, none, some}

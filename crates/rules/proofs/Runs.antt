@@ -1,4 +1,4 @@
--- Runs: lists of calls of correct members, with document 01's premises on signers and on weight, and what is claimed of them.
+-- Runs: lists of calls of correct members, with the scope document's premises on signers and on weight, and what is claimed of them.
 use mathlib.Core.Path.{_≡_}
 use mathlib.Core.Bool.{Bool, true}
 use mathlib.Core.List.{List, [], _∷_}

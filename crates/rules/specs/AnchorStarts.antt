@@ -1,4 +1,4 @@
--- In every state of a run, the order inside a block starts with the author of the block's anchor.
+-- What it is that the order inside a block starts with the author of the block's anchor.
 use mathlib.Core.Path.{_≡_}
 use mathlib.Core.Option.{none, some}
 use mathlib.Core.Logic.{_≢_}

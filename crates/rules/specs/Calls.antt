@@ -1,4 +1,4 @@
--- The calls of a member: the checks in document 01's order with its numbers, and the view after an accepted call.
+-- The calls of a member: the checks in the scope document's order with its numbers, and the view after an accepted call.
 use mathlib.Core.Bool.{true, false, not, _||_, cond}
 use mathlib.Core.Option.{Option, none, some}
 use mathlib.Core.List.{List, [], _∷_}

@@ -1,6 +1,6 @@
--- The rules of document 01 over a member's view, and demand 3 for every engine that does what they say.
+-- The rules of the scope document over a member's view, and demand 3 for every engine that does what they say.
 
--- What a reader holds beside document 01
+-- What a reader holds beside the scope document
 pub mod Tests
 pub mod Calls
 pub mod Reads

@@ -1,4 +1,4 @@
--- Laws of what work on the bytes at hand does: whatever comes after them, the answers to what was left are the lines that it put, and then the answers to what is left.
+-- Laws of work on the bytes at hand.
 use mathlib.Core.Path.{_≡_, refl, sym, ap, _∙_}
 use mathlib.Core.Bool.{Bool}
 use mathlib.Core.List.{List, [], _++_, append-assoc}

@@ -1,4 +1,4 @@
--- Laws of what the calls use of a well-formed state: its conditions and what follows from them, as a record of inequalities and facts.
+-- A well-formed state has what the calls use of it, and a state that has it is well formed.
 use mathlib.Core.Path.{_≡_, refl}
 use mathlib.Core.Bool.{Bool, true, false, not, cond, _&&_}
 use mathlib.Core.List.{List}

@@ -1,4 +1,4 @@
--- When a state is well formed: document 01's paragraph, condition by condition.
+-- When a state is well formed: the scope document's paragraph, condition by condition.
 use mathlib.Core.Bool.{Bool, true, not, cond, _&&_}
 use mathlib.Core.List.{List}
 use Prim.Native.Nat.{ℕ}

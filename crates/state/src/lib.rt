@@ -68,7 +68,7 @@ fn head_fits(s: State) -> bool
     !sheet::is_weightless(settings)
 }
 
-// Are the state and the table what document 01 asks of them?
+// Are the state and the table what the scope document asks of them?
 pub fn well_formed(s: State, t: &[u32]) -> bool
     ensures { λ v. ⌜ v ≡ wellFormed s (now (t .entry)) ⌝ }
 {

@@ -1,4 +1,4 @@
--- Laws of one table of limits for the words of a transaction, by its kind.
+-- Laws of the limits for the words of a transaction.
 use mathlib.Core.Path.{_≡_, refl, sym, _∙_}
 use mathlib.Core.Bool.{Bool, true, false, cond, and-false, and-comm}
 use Prim.Native.Nat.{ℕ, zero, suc, _+_, _<_, _≤_}

@@ -4,7 +4,7 @@ use native.Mathlib.Omega.{arith}
 use lib.ListN.{length, replicate, length-set, length-replicate}
 use lib.Seq.{paste, paste-zero}
 use Rattle.base.proofs.PasteLaws.{paste-front, paste-whole, length-part, getD-part}
-use Rattle.base.specs.Paste.{part}
+use Rattle.base.specs.Parts.{part}
 use borrow.Author.Needs.{needs}
 use Rattle.bonded.proofs.cache.cached_at.Statement.{statement}
 use Rattle.bonded.proofs.cache.cached_at.Tie as tie

@@ -1,4 +1,4 @@
--- What a list reads after a stretch of it is written over: below, inside and above the stretch.
+-- A stretch of a list.
 use mathlib.Core.List.{List}
 use Prim.Native.Nat.{ℕ}
 use lib.ListN.{take, drop}
