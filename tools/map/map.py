@@ -3,8 +3,7 @@
 Rooms stand bottom up, each on those that its broad arrows point to; so do the crates of a room, by
 thin arrows. Arrows that follow from others are left out. A crate that depends on one of a later room
 is a mistake. --check draws nothing: exit 1 where docs/map.svg is not current, where
-docs/ARCHITECTURE.md lacks a crate, or where it, docs/PROMISES.md, docs/AGREEMENT.md or
-docs/DECISIONS.md names what is not there.
+docs/ARCHITECTURE.md lacks a crate, or where one of PAGES names what is not there.
 """
 import os
 import re
@@ -20,7 +19,8 @@ from names import Names, missing_crates, missing_names
 from rooms import House, read_rooms
 
 PICTURE = os.path.join(TOP, "docs", "map.svg")
-PAGES = [os.path.join(TOP, "docs", page) for page in ("ARCHITECTURE.md", "PROMISES.md", "AGREEMENT.md", "DECISIONS.md")]
+PAGES = [os.path.join(TOP, page) for page in ("docs/ARCHITECTURE.md", "docs/PROMISES.md", "docs/AGREEMENT.md", "docs/DECISIONS.md",
+                                              "README.md", "CONTRIBUTING.md")]
 WIDTH, MARGIN, HEADING = 1000, 16, (320, 130)       # the heading: title and legend
 PAD, GAP, PASS, STOREY = 12, 14, 8, 27      # inside a room, between crates, for a passing line, between floors
 ASIDE, APART = 14, 31                       # between rooms side by side, between levels

@@ -23,6 +23,7 @@ BEFORE = re.compile(rf"({LISTED}) \(([\w.]+(?:(?:/[\w.]+)+(?=[),:;])|(?=\))))") 
 BEHIND = re.compile(rf"`([\w.]+(?:/[\w.]+)+)` \(({LISTED})\)")       # a file, and names in it
 PLACE = re.compile(r"(?<![\w/.-])(\w+)/([\w./-]*\w)(?![\w/*-])")   # a folder, a file or an edit
 WORD = re.compile(r"[\w./-]+(?:::[\w-]+)*")
+BUILT = "target"        # a folder that is there after a check only
 RATTLE = {"requires", "ensures", "pub"}
 CODE = re.compile(r"\b(?:fn|struct|enum|mod|const) (\w+)")
 
@@ -64,7 +65,7 @@ class Names:
     def places(self, line):
         """Crates' files and edits in a line that are not there."""
         for crate, rest in PLACE.findall(line):
-            if not (self.paths(f"{crate}/{rest}") or self.paths(f"crates/{crate}/must-fail/{rest}.edit")):
+            if crate != BUILT and not (self.paths(f"{crate}/{rest}") or self.paths(f"crates/{crate}/must-fail/{rest}.edit")):
                 yield f"{crate}/{rest}"
 
     def missing(self, line):
