@@ -2,8 +2,8 @@
 
 Rooms stand bottom up, each on those that its broad arrows point to; so do the crates of a room, by
 thin arrows. Arrows that follow from others are left out. A crate that depends on one of a later room
-is a mistake. --check draws nothing: exit 1 where docs/map.svg is not current, or where
-docs/ARCHITECTURE.md names what is not there or lacks a crate.
+is a mistake. --check draws nothing: exit 1 where docs/map.svg is not current, where
+docs/ARCHITECTURE.md lacks a crate, or where one of PAGES names what is not there.
 """
 import os
 import re
@@ -15,10 +15,12 @@ sys.path.insert(1, os.path.join(TOP, "tools", "draw"))
 
 from draw import COLOURS, FAINT, PAPER, QUIET, STYLE, box, text
 from floors import Pass, floors_of
-from names import missing_names
+from names import Names, missing_crates, missing_names
 from rooms import House, read_rooms
 
-PICTURE, PAGE = os.path.join(TOP, "docs", "map.svg"), os.path.join(TOP, "docs", "ARCHITECTURE.md")
+PICTURE = os.path.join(TOP, "docs", "map.svg")
+PAGES = [os.path.join(TOP, page) for page in ("docs/ARCHITECTURE.md", "docs/PROMISES.md", "docs/AGREEMENT.md", "docs/DECISIONS.md",
+                                              "README.md", "CONTRIBUTING.md")]
 WIDTH, MARGIN, HEADING = 1000, 16, (320, 130)       # the heading: title and legend
 PAD, GAP, PASS, STOREY = 12, 14, 8, 27      # inside a room, between crates, for a passing line, between floors
 ASIDE, APART = 14, 31                       # between rooms side by side, between levels
@@ -246,7 +248,10 @@ def check(house, picture):
         shown = None
     if shown != picture:
         yield "docs/map.svg is not current: python3 tools/map/map.py draws it"
-    yield from missing_names(TOP, PAGE, house.place)
+    yield from missing_crates(TOP, PAGES[0], house.place)
+    names = Names(TOP, house.place)
+    for page in PAGES:
+        yield from missing_names(TOP, page, names)
 
 
 def main():

@@ -11,7 +11,8 @@ so that whatever a definition uses stands above it.
 
   trust.py               the list, with files, lines and first lines
   trust.py --page        writes docs/TRUST.md
-  trust.py --check       exits 1 where docs/TRUST.md is not what --page would write
+  trust.py --check       exits 1 where docs/TRUST.md is not what --page would write, README.md has other sizes of specs/,
+                         a law stands in specs/ or a definition of the list in proofs/
   trust.py --where       definitions of the list that stand in a file named ..Laws or in proofs/
   trust.py --mixed       for each file of specs/: definitions of the list, other definitions, laws
   trust.py --items CRATE for each file of specs/ of a crate, its items: a row each, with tabs between
@@ -30,10 +31,11 @@ import rt as source
 import tree
 
 HOST = "no_mangle"
-RUNNER = ["service::serve_all", "service::advance", "service::conclude"]
+RUNNER = ["runner::serve_all", "runner::serve_pass", "runner::conclude"]
 THEOREM = "nonforking.Theorem.demand-3"
 STATEMENT = "nonforking.Statement"
 PAGE = "docs/TRUST.md"
+README = "README.md"
 
 HEAD = """# What to believe
 
@@ -41,9 +43,11 @@ Made by `tools/trust/trust.py --page`; `scripts/pages.sh` checks that it is curr
 
 A proof says that code does what a definition says. Whether the definition says what is wanted, only a reader can tell. This page lists every definition that must be read for that, and no other: what the contracts of the library and of the runner unfold to, and what demand 3 unfolds to.
 
+{specs}
+
 | | |
 |---|---|
-| proved | each function that a host links: on any words and lengths, its answer and every word that it leaves are those of its contract (`Done`). The runner: the bytes that it writes are those that `output` gives for the bytes that it reads (`SoFar`, `Advanced`, `Begins`). Demand 3: `DemandThree`, over every list of calls |
+| proved | each function that a host links: on any words and lengths, its answer and every word that it leaves are those of its contract (`Done`). The runner: the bytes that it writes are those that `output` gives for the bytes that it reads (`SessionInvariant`, `PassServed`, `StartsWith`). Demand 3: `DemandThree`, over every list of calls |
 | assumed by the proofs | the prover; the compiler's back end; the C library's read and write, and that the operating system delivers what they pass on |
 | assumed by demand 3 | signatures are genuine (`Signed` in `Fair`); in every committee that a correct member knows, faulty members weigh at most the fault bound (`WithinBound`) |
 | not listed | laws: whatever they say is proved. Definitions that only proofs use. Rattle's libraries, of which the last section lists the names used |
@@ -179,7 +183,7 @@ class List:
     def totals(self):
         specs = [item for item in self.items.values() if isinstance(item, antt.Item)]
         declared = [item for item in self.items.values() if not isinstance(item, antt.Item)]
-        whole = sum(len(item.text.split("\n")) for item in specs)
+        whole = sum(map(text_lines, specs))
         every = sum(len(module.lines) - (module.lines[-1] == "") for module in self.specs())
         return {"definitions": sum(len(item.names) for item in specs), "lines": sum(map(self.lines, specs)), "with comments": whole,
                 "every": every, "share": 100 * whole / every,
@@ -189,14 +193,48 @@ class List:
     def specs(self):
         return self.tree.specs()
 
+    def others(self):
+        """The items of specs/ that are not in the list: those that contracts cite, and the rest."""
+        cited = self.cited()
+        rest = [item for module in self.specs() for item in module.items if id(item) not in self.items]
+        return [item for item in rest if id(item) in cited], [item for item in rest if id(item) not in cited]
+
+    def laws_in_specs(self):
+        return [item for module in self.specs() for item in module.items if self.tree.kind(item) == "law"]
+
+
+def text_lines(item):
+    """Lines with comments."""
+    return len(item.text.split("\n"))
+
 
 def described(item):
     return f": {item.comment}" if item.comment else ""
 
 
+def roughly(lines):
+    return f"about {round(lines, -2):,}"
+
+
+def sizes(totals):
+    """What README.md says of specs/."""
+    return f"{roughly(totals['every'])} lines, {roughly(totals['with comments'])} of them"
+
+
+def specs_held(listing):
+    """What the lines of specs/ are."""
+    totals, (cited, rest) = listing.totals(), listing.others()
+    laws = len(listing.laws_in_specs())
+    kinds = [f"{totals['with comments']:,} are the {totals['definitions']} definitions of this list",
+             f"{sum(map(text_lines, cited)):,} the {sum(len(item.names) for item in cited)} that contracts of inner functions cite besides",
+             f"{sum(map(text_lines, rest)):,} the {sum(len(item.names) for item in rest)} of the theory, of what is claimed beside demand 3 and of the table of P cases"]
+    return (f"The folders specs/ have {totals['every']:,} lines. With their comments " + ", ".join(kinds[:2]) + " and " + kinds[2] +
+            "; the others are imports, heads of files and blank lines. " + (f"{laws} laws stand there." if laws else "No law stands there."))
+
+
 def summary(totals):
     return [f"{totals['definitions']} definitions, {totals['lines']} lines ({totals['with comments']} with their comments): "
-            f"{totals['share']:.0f} % of the lines of specs/ (about {round(totals['every'], -2):,}).",
+            f"{totals['share']:.0f} % of the lines of specs/ ({roughly(totals['every'])}).",
             f"{totals['declared']} types that the code declares, {totals['declared lines']} lines.",
             f"Of the definitions the host's contracts unfold to {totals['h']}, the runner's to {totals['r']}, demand 3 to {totals['3']}."]
 
@@ -212,7 +250,7 @@ def printed(listing):
 
 
 def page(listing):
-    text = [HEAD, "## Roots\n"]
+    text = [HEAD.replace("{specs}", specs_held(listing)), "## Roots\n"]
     for mark, what in (("h", "the host's contracts"), ("r", "the runner's contracts"), ("3", "demand 3")):
         names = dict.fromkeys(name for name, _ in listing.roots[mark])
         text.append(f"- ({mark}) {what}: {', '.join(f'`{name}`' for name in names)}")
@@ -240,6 +278,19 @@ def page(listing):
 def misplaced(listing):
     return [(path, item) for path, _, items in listing.files() for item in items
             if Path(path).stem.endswith("Laws") or path.split("/")[2] == "proofs"]
+
+
+def wrong(listing):
+    """What is not as it should be."""
+    there = Path(PAGE).read_text(encoding="utf-8") if Path(PAGE).exists() else ""
+    if there != page(listing):
+        yield f"{PAGE} is not current: python3 tools/trust/trust.py --page"
+    if sizes(listing.totals()) not in Path(README).read_text(encoding="utf-8"):
+        yield f"{README} does not say of specs/: {sizes(listing.totals())}"
+    for path, item in misplaced(listing):
+        yield f"{path}:{item.start}: {' '.join(item.names)} is a definition of the list, and belongs in specs/"
+    for item in listing.laws_in_specs():
+        yield f"{listing.path(item)}:{item.start}: {' '.join(item.names)} is a law, and belongs in proofs/"
 
 
 def mixed(listing):
@@ -287,10 +338,10 @@ def main(arguments):
     if option == "--page":
         Path(PAGE).write_text(page(listing), encoding="utf-8")
     elif option == "--check":
-        there = Path(PAGE).read_text(encoding="utf-8") if Path(PAGE).exists() else ""
-        if there != page(listing):
-            print(f"{PAGE} is not current: python3 tools/trust/trust.py --page")
-            return 1
+        found = list(wrong(listing))
+        for one in found:
+            print(f"trust.py: {one}")
+        return 1 if found else 0
     elif option == "--where":
         for path, item in misplaced(listing):
             print(f"{path}:{item.start} {' '.join(item.names)}")
