@@ -1,5 +1,5 @@
 -- Laws of shares: to the nearest thousandth, an exact half to the even one, at most a thousand.
-use mathlib.Core.Path.{_≡_, refl}
+use mathlib.Core.Path.{_≡_, refl, sym}
 use mathlib.Core.Bool.{Bool, true, false, cond}
 use Prim.Native.Nat.{ℕ, zero, suc, _+_, _-_, _*_, _/_, _%_, _≤_, _<_}
 use native.Mathlib.Decide.{decLt}
@@ -70,3 +70,40 @@ share-near w n h = nearest-near (1000 * w) n h
 pub share-le : (w n : ℕ) → 0 < n → w ≤ n → shareOf w n ≤ 1000
 unfolding shareOf
 share-le w n h l = nearest-le (1000 * w) n 1000 h (omega arith)
+
+-- a number one above another, both near to a / n: an exact half lies between them
+between : (a n s : ℕ) → Near a n s → Near a n (s + 1) → 2 * a ≡ 2 * (n * s) + n
+between a n s x y = omega (arith, x .below, y .above)
+
+near-le : (a n s t : ℕ) → 0 < n → Near a n s → Near a n t → s ≤ t + 1
+near-le a n s t h x y =
+    let u : n * s < n * (t + 2) = omega (arith, x .above, y .below) in
+    omega (arith, lt-of-mul-lt-mul-left n u)
+
+-- nothing else is near to a / n, and even where a / n is an exact half
+pub nearest-only : (a n s : ℕ) → 0 < n → Near a n s → ((q : ℕ) → 2 * a ≡ 2 * (n * q) + n → s % 2 ≡ 0) → s ≡ nearest a n
+nearest-only a n s h x e = go (nearest a n) (nearest-near a n h) (λ q. half-even a q n h)
+  where
+    go : (t : ℕ) → Near a n t → ((q : ℕ) → 2 * a ≡ 2 * (n * q) + n → t % 2 ≡ 0) → s ≡ t
+    go t y f = by (decLt s t) (decLt t s)
+      where
+        by : Dec (s < t) → Dec (t < s) → s ≡ t
+        by (yes i) d =
+            let j : t ≡ s + 1 = omega (arith, near-le a n t s h y x) in
+            let k : Near a n (s + 1) = rw (sym j) y in
+            let m = between a n s x k in absurd (omega (arith, e s m, f s m))
+        by (no i) (yes d) =
+            let j : s ≡ t + 1 = omega (arith, near-le a n s t h x y) in
+            let k : Near a n (t + 1) = rw (sym j) x in
+            let m = between a n t y k in absurd (omega (arith, e t m, f t m))
+        by (no i) (no d) = omega arith
+
+-- where the true share is an exact half, the share is even
+pub share-even : (w q n : ℕ) → 0 < n → 2 * (1000 * w) ≡ 2 * (n * q) + n → shareOf w n % 2 ≡ 0
+unfolding shareOf
+share-even w q n h e = half-even (1000 * w) q n h e
+
+-- and nothing else is: near to the true share, and even where that is an exact half
+pub share-only : (w n s : ℕ) → 0 < n → Near (1000 * w) n s → ((q : ℕ) → 2 * (1000 * w) ≡ 2 * (n * q) + n → s % 2 ≡ 0) → s ≡ shareOf w n
+unfolding shareOf
+share-only w n s h x e = nearest-only (1000 * w) n s h x e

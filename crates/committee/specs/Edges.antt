@@ -68,7 +68,7 @@ cases =
     ∷ (weightIn (committeeOf blank bonding 22) 5, 0) ∷ (weightIn (committeeOf blank bonding 23) 5, 7)
     ∷ (leaderNumber (leaderOf (weightIn (blank .weights)) 2), 1) ∷ (leaderNumber (leaderOf (weightIn (blank .weights)) 4), 2)
     ∷ (leaderNumber (leaderOf (weightIn (blank .weights)) 6), 3) ∷ (leaderNumber (leaderOf (weightIn (blank .weights)) 8), 0)
-    ∷ (shareOf 1 16, 62) ∷ (shareOf 3 16, 188)
+    ∷ (shareOf 1 16, 62) ∷ (shareOf 3 16, 188) ∷ (shareOf 1 2000, 0)
     ∷ (weightIn (changes (unbond 2 ∷ bond 2 5 ∷ []) (blank .weights)) 2, 5) ∷ (weightIn (changes (bond 2 5 ∷ unbond 2 ∷ []) (blank .weights)) 2, 0)
     ∷ (weightIn (blank .weights) 3, 1) ∷ (weightIn (filled written .weights) 3, 0)
     ∷ (authorAt (ordered four full []) 0, 2) ∷ (authorAt (ordered four full []) 1, 3) ∷ (authorAt (ordered four full []) 2, 0) ∷ (authorAt (ordered four full []) 3, 1)
