@@ -1,3 +1,4 @@
+-- The argument: the chains of correct members never fork
 pub mod PrefixLaws
 pub mod WeightLaws
 pub mod QuorumIntersection
@@ -11,7 +12,9 @@ pub mod Growth
 pub mod Signatures
 pub mod Preservation
 pub mod Agreement
+-- Engines that do what the rules say
 pub mod EngineAgreement
+-- What an engine computes is what the theory asks
 pub mod HistoryLaws
 pub mod BlockLaws
 pub mod CommitLaws

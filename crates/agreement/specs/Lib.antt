@@ -1,6 +1,6 @@
 -- Agreement: over abstract rules, the chains of correct members never fork, whoever knows a round knows the same committee, and a chain only grows.
 --
--- The files stand in the order of the argument. What the rules compute is data (Rules), and only theorems take laws (Laws), so that every definition
+-- Definitions stand here, the argument in proofs/, its files in their order. What the rules compute is data (Rules), and only theorems take laws (Laws), so that every definition
 -- that a contract cites means something in any state, also in one that no run reaches.
 --
 -- Parameters, and the later changes that each of them covers, so that nothing here is proved again:
@@ -29,9 +29,9 @@ pub mod Prefixes
 pub mod Invariants
 pub mod Moves
 pub mod Runs
--- The argument
+-- Engines: members that keep their view in any form
 pub mod Engines
--- What an engine computes, and that it is what the theory asks
+-- What an engine computes
 pub mod Histories
 pub mod Commits
 pub mod Marks

@@ -37,7 +37,7 @@ module _ {s : State} {t : List ℕ} {q : Reading} {state : State} {table : List 
   told-by k c {o} e n small i g l w h d p =
       (served-by k e (p .0 ∙ ap (λ (z : called.Outcome). z .state) h ∙ i) (d ∙ g) (omega arith) (puts-as {n = 20} (sym l ∙ ap (λ (z : called.Outcome). answerLine (z .answer)) (sym h)) (omega arith) (p .2)), rw (p .0, p .1, d, h) (cached-call s t c n small w))
 
--- ---- where the committees are cache anew
+-- ---- where the committees are cached anew
 
 module _ (s : State) (t : List ℕ) (b : Bool) {state : State} {table : List ℕ} {f : Bool} {x : List ℕ} {y : List ℕ} {at : ℕ} {next : ℕ} where
   module _ (own : Member) (sheet : Sheet) {o : called.Outcome} (h : o ≡ openOutcome s t own sheet) (d : table ≡ openTable t own sheet)

@@ -69,7 +69,7 @@ fn counted(formed: bool, o: commit::Outcome, out: &mut [u8], at: usize) -> Reply
     }
 }
 
-// Open; the committees are cache anew.
+// Open; the committees are cached anew.
 fn opened(
     formed: bool,
     cache: &mut [u64],
@@ -89,7 +89,7 @@ fn opened(
     r
 }
 
-// Commit; where it has added blocks, the committees are cache anew.
+// Commit; where it has added blocks, the committees are cached anew.
 fn committed(
     formed: bool,
     cache: &mut [u64],
@@ -125,7 +125,7 @@ fn listed(formed: bool, s: State, t: &[u32], out: &mut [u8], at: usize) -> usize
     lines::put_ok(out, next)
 }
 
-// Serves a record: its call, and the lines that answer it. It is known whether the state is well formed, and committees are cache.
+// Serves a record: its call, and the lines that answer it. It is known whether the state is well formed, and committees are cached.
 pub fn serve(
     formed: bool,
     cache: &mut [u64],

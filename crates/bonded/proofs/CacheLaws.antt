@@ -1,4 +1,4 @@
--- Laws of cache committees: one round more, and all of them.
+-- Laws of cached committees: one round more, and all of them.
 use mathlib.Core.Path.{_≡_, _∙_}
 use mathlib.Core.List.{List}
 use Prim.Native.Nat.{ℕ, _+_, _*_, _<_, _≤_}
@@ -15,7 +15,7 @@ use Rattle.committee.specs.Committees.{committeeOf}
 use Rattle.bonded.specs.Caches.{Caches}
 
 module _ (S : Settings) (c : Chain Content) where
-  -- the rounds below q are cache
+  -- the rounds below q are cached
   pub record CachesTo (q : ℕ) (cache : List ℕ) : Type 0 where
     pub committee : (r : ℕ) → r < q → r * 16 + 16 ≤ length cache → part cache (r * 16) 16 ≡ committeeOf S c r
 

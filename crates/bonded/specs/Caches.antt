@@ -1,4 +1,4 @@
--- Committees cache by round beside the table: sixteen words for each round from 0 to the ceiling, as far as there is room.
+-- Committees cached by round beside the table: sixteen words for each round from 0 to the ceiling, as far as there is room.
 use mathlib.Core.Path.{_≡_}
 use mathlib.Core.List.{List}
 use Prim.Native.Nat.{ℕ, _+_, _*_, _≤_}

@@ -1,4 +1,4 @@
-// Committees cache by round beside the table, so that a call need not walk over it.
+// Committees cached by round beside the table, so that a call need not walk over it.
 // The committee of round r has the words 16 r to 16 r + 15, for each round up to the ceiling that there is room for.
 use crate::Pair;
 use sheet::Settings;
@@ -41,7 +41,7 @@ fn put_committee(w: [u64; 16], r: Round, cache: &mut [u64])
     }
 }
 
-// The committees of round r and of the one before it: those cache, or else by a walk.
+// The committees of round r and of the one before it: those cached, or else by a walk.
 pub fn committees(cache: &[u64], t: &[u32], s: Settings, blocks: u32, r: Round) -> Pair
     requires { ⌜ ChainInTable s (now t) blocks × Caches s (chainOf (s .ceiling .0) (now t) blocks) (now cache) ⌝ }
     ensures { λ p. ⌜ PairOf s (chainOf (s .ceiling .0) (now (t .entry)) blocks) (r .0) p ⌝ }

@@ -62,7 +62,7 @@ module _ (s : State) (t : List ℕ) where
       rw (ap (λ (v : tests.MemberView (s .settings)). v .chain) (view-next s t (accept c) small e ∙ after-accept (s .settings) (s .own .0) (view s t) (contentOf (c .proposal)) (c .endorsers))) k
   keeps-next advance o small e k = k
 
-  -- any call other than open: the committees cache stay true
+  -- any call other than open: the cached committees stay true
   pub cached-call : (c : Call) → isOpen c ≡ false → SetsFit s c → {formed : Bool} {cache : List ℕ}
       → Cached s t formed cache → Cached (outcome s t c .state) (tableAfter s t c) (formedBy formed (outcome s t c .answer)) cache
   cached-call c o small {formed} {cache} k = go (ℕ-discrete (number s t c) 0)

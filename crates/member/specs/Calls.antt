@@ -15,7 +15,7 @@ use Rattle.member.specs.Answers.{ifAccepted, outcomeOf}
 use Rattle.member.specs.Open.{noBody}
 
 module _ (s : State) (t : List ℕ) where
-  -- ---- propose: the proposal is cache
+  -- ---- propose: the proposal is kept
 
   unfoldable pub proposeRefusal : Body → ℕ
   proposeRefusal b = refusalOf s t (rules.propose (b .previous) (transactionsOf b))

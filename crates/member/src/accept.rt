@@ -64,7 +64,7 @@ fn accept_refusal(formed: bool, cache: &[u64], s: State, t: &[u32], c: Certifica
     refusal_of(cache, s, t, c)
 }
 
-// The call, where it is known whether the state is well formed, and committees may be cache.
+// The call, where it is known whether the state is well formed, and committees may be cached.
 pub fn accept_cached(
     formed: bool,
     cache: &[u64],

@@ -40,7 +40,7 @@ fn certify_refusal(formed: bool, cache: &[u64], s: State, t: &[u32], e: u16) -> 
     refusal_of(cache, s, t, e)
 }
 
-// The call, where it is known whether the state is well formed, and committees may be cache.
+// The call, where it is known whether the state is well formed, and committees may be cached.
 pub fn certify_cached(formed: bool, cache: &[u64], s: State, t: &mut [u32], e: u16) -> Outcome
     requires { ⌜ Cached s (now t) formed (now cache) ⌝ }
     ensures { λ o. ⌜ (o ≡ certifyOutcome s (now (t .entry)) e) × (now (t .exit) ≡ certifyTable s (now (t .entry)) e) ⌝ }

@@ -100,7 +100,7 @@ fn endorse_refusal(formed: bool, cache: &[u64], s: State, t: &[u32], p: Proposal
     place_refusal(cache, s, t, p)
 }
 
-// The call, where it is known whether the state is well formed, and committees may be cache.
+// The call, where it is known whether the state is well formed, and committees may be cached.
 pub fn endorse_cached(formed: bool, cache: &[u64], s: State, t: &mut [u32], p: Proposal) -> Outcome
     requires { ⌜ Cached s (now t) formed (now cache) ⌝ }
     ensures { λ o. ⌜ (o ≡ endorseOutcome s (now (t .entry)) p) × (now (t .exit) ≡ endorseTable s (now (t .entry)) p) ⌝ }

@@ -1,4 +1,4 @@
-// Propose: a proposal for the present round is cache. Author and round are one's own.
+// Propose: a proposal for the present round is kept. Author and round are one's own.
 use crate::Answer;
 use crate::Outcome;
 use state::State;
@@ -77,7 +77,7 @@ fn propose_refusal(formed: bool, cache: &[u64], s: State, t: &[u32], b: Body) ->
     committee_refusal(cache, s, t, b)
 }
 
-// The call, where it is known whether the state is well formed, and committees may be cache.
+// The call, where it is known whether the state is well formed, and committees may be cached.
 pub fn propose_cached(formed: bool, cache: &[u64], s: State, t: &[u32], b: Body) -> Outcome
     requires { ⌜ Cached s (now t) formed (now cache) ⌝ }
     ensures { λ o. ⌜ o ≡ proposeOutcome s (now (t .entry)) b ⌝ }

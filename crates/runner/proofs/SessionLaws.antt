@@ -32,7 +32,7 @@ drop-take (suc a) (suc e) [] = empty (suc e - suc a)
     empty (suc k) = refl
 drop-take (suc a) (suc e) (x ∷ l) = let q : suc e - suc a ≡ e - a = omega arith in rw q (drop-take a e l)
 
--- bytes cache at the front, and others behind them
+-- bytes kept at the front, and others behind them
 pub refilled-hand : (x y : List ℕ) (from end n got : ℕ) → n ≡ end - from → take n y ≡ take (end - from) (drop from x) → handIn y 0 (n + got) ≡ handIn x from end ++ take got (drop n y)
 refilled-hand x y from end n got e h = take-add n got y ∙ rw (drop-take from end x, h) refl
 
@@ -63,7 +63,7 @@ advanced s t x w t′ r x′ y out g z n f h =
           (c .0, rw (h .hand, c .0, append-nil (handIn x (w .from) (s .end))) (f (c .1) .open-ended));
     }
 
--- the state is not well formed then, whatever the table, and nothing need be cache
+-- the state is not well formed then, whatever the table, and nothing need be cached
 pub fresh-known : (t cache : List ℕ) (s : Session) → Fresh s → Cached (s .work .state) t (s .work .formed) cache
 fresh-known t cache s f = rw (f .state, f .formed) (known-closed t cache)
 

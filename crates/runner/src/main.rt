@@ -63,7 +63,7 @@ fn emptied(w: Work, from: usize) -> Work
     }
 }
 
-// AllAnswered on with the bytes at hand; where more are wanted, reads them. The input has ended where none come.
+// Goes on with the bytes at hand; where more are wanted, reads them. The input has ended where none come.
 fn refill(w: Work, buf: &mut [u8], end: usize) -> Session
     requires { ⌜ (w .from ≤ end) × (end ≤ length (now buf)) × (length (now buf) ≤ 65536) ⌝ }
     ensures { λ r. ⌜ (r .work .from ≤ r .end) × (r .end ≤ length (now (buf .entry))) × (r .work .next ≡ 0) × BufferRefilled w end (now (buf .entry)) (now (buf .exit)) r ⌝ }

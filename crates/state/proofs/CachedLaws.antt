@@ -11,7 +11,7 @@ use Rattle.state.specs.Formed.{Formed}
 use Rattle.state.proofs.FormedLaws.{formed}
 use Rattle.state.specs.Cached.{CachesFor, Cached}
 
--- no committee cache
+-- no committee cached
 pub known-alone : {s : State} {t : List ℕ} {formed : Bool} (cache : List ℕ) → length cache < 16 → formed ≡ wellFormed s t → Cached s t formed cache
 known-alone cache h e = record { form = e; committees = λ _. record { committee = λ r _ l. absurd (omega arith) } }
 

@@ -25,7 +25,7 @@ use Rattle.state.proofs.ViewLaws.{proposal-none, proposal-some}
 use Rattle.state.proofs.WriteLaws.{Storable, within, dag-put, endorsed-of-put, chain-put, dag-endorse, chain-endorse, endorsed-of-set, endorsed-of-clear, dag-cleared, endorsed-of-cleared}
 
 module _ (s : State) (t : List ℕ) where
-  -- the proposal is cache
+  -- the proposal is kept
   pub view-propose : (b : Body) → view (proposed s b) t ≡ afterPropose (view s t) (contentWith (s .own .0) (s .round .0) b)
   view-propose b = λ i. record { round = s .round .0; proposal = proposal-some (proposed s b) refl i; dag = view s t .dag; endorsed = view s t .endorsed; chain = view s t .chain }
 

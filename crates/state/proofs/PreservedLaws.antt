@@ -43,7 +43,7 @@ module _ (s : State) (t : List ℕ) (f : Formed s t) where
       formed-by (moved s r proposing b) t (f .in-range) (f .weighty)
       (record { own = f .numbers .own; round-from = from; round-to = to; blocks-to = f .numbers .blocks-to }) p (f .long) (f .rows) (f .rounds)
 
-  -- a proposal that fits is cache
+  -- a proposal that fits is kept
   pub propose-kept : (b : Body) → BodyFits (s .settings .allowance) (s .round .0) b → Formed (proposed s b) t
   propose-kept b p = moved-kept (s .round) true b (f .numbers .round-from) (f .numbers .round-to) (λ _. p)
 

@@ -8,7 +8,7 @@ use Rattle.state.specs.declared.State.{State}
 use Rattle.state.specs.View.{view}
 use Rattle.state.specs.WellFormed.{wellFormed}
 
--- committees cache for the rounds of a state
+-- committees cached for the rounds of a state
 abbrev pub CachesFor : State → List ℕ → List ℕ → Type 0
 CachesFor s t cache = Caches (s .settings) (view s t .chain) cache
 

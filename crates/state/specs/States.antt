@@ -11,7 +11,7 @@ use Rattle.state.specs.declared.State.{State}
 abbrev pub moved : State → Round → Bool → Body → State
 moved s r proposing b = record { own = s .own; settings = s .settings; round = r; proposing = proposing; body = b; blocks = s .blocks }
 
--- propose: the proposal is cache
+-- propose: the proposal is kept
 abbrev pub proposed : State → Body → State
 proposed s b = moved s (s .round) true b
 

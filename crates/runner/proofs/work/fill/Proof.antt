@@ -54,7 +54,7 @@ next-record c = c .before .before .before .before .before .before .before .befor
 abbrev top : Turn → Head
 top c = head (rest c)
 
--- the output has room for a next-record's answer
+-- the output has room for the next record's answer
 room : (c : Rest) → let x = head c .loop in x .next + (length (x .t) * 9 + 20) ≤ length (entry (head c) .args .out .now)
 room c =
     let h = head c in
@@ -62,7 +62,7 @@ room c =
     let g : h .loop .next ≤ length (a .out .now) - (length (a .t .now) * 9 + 20) = c .before .loop-test .taken in
     omega (arith, g, entry h .pre .3, h .loop .inv .2)
 
--- what a next-record takes is at hand, and what it puts is within the output
+-- what the next record takes is at hand, and what it puts is within the output
 takes : (c : Turn) → c .next-record .result .taken ≤ length (entry (top c) .args .hand .now) - top c .loop .from
 takes c = taken-within _ (entry (top c) .args .hand .now) (top c .loop .from) (rest c .rest .ensures) (c .next-record .ensures .2)
 
