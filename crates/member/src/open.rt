@@ -43,7 +43,7 @@ fn fresh(own: Member, settings: Settings) -> State
 }
 
 // The number of the first check that refuses, 0 for none: 4 member above 15; 2 setting out of range; 3 no positive weight; 1 lent table too short.
-pub fn open_number(t: &[u32], own: Member, settings: Settings) -> u32
+pub fn open_refusal(t: &[u32], own: Member, settings: Settings) -> u32
     ensures { λ v. ⌜ v ≡ openRefusal (now (t .entry)) own settings ⌝ }
 {
     if 15 < own.0 {
@@ -66,7 +66,7 @@ pub fn open(s: State, t: &mut [u32], own: Member, written: Sheet) -> Outcome
     ensures { λ o. ⌜ (o ≡ openOutcome s (now (t .entry)) own written) × (now (t .exit) ≡ openTable (now (t .entry)) own written) ⌝ }
 {
     let settings = sheet::fill(written);
-    let n = open_number(t, own, settings);
+    let n = open_refusal(t, own, settings);
     if n != 0 {
         return Outcome {
             state: s,

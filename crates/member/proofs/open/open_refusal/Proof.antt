@@ -3,8 +3,8 @@ use borrow.Author.Tests.{lt-ltb, le-ltb}
 use Rattle.base.proofs.CheckLaws.{refuses, passes, passes-all}
 use Rattle.member.specs.Open.{openRefusal}
 use borrow.Author.Needs.{needs}
-use Rattle.member.proofs.open.open_number.Statement.{statement}
-use Rattle.member.proofs.open.open_number.Tie as tie
+use Rattle.member.proofs.open.open_refusal.Statement.{statement}
+use Rattle.member.proofs.open.open_refusal.Tie as tie
 
 returns : tie.Need-returns
 unfolding openRefusal
@@ -41,8 +41,8 @@ returns-5 : tie.Need-returns-5
 unfolding openRefusal
 returns-5 c = sym (passes 4 _ (le-ltb _ _ (c .before .before .before .before .before .before .if1 .left)) ∙ passes 2 _ (sym (c .before .before .before .before .before .is-out-of-range .ensures) ∙ c .before .before .before .before .if2 .left) ∙ passes 3 _ (sym (c .before .before .before .is-weightless .ensures) ∙ c .before .before .if3 .left) ∙ passes 1 _ (le-ltb _ _ (c .if4 .left)) ∙ passes-all)
 
-pub open-number-spec : {M : Type 1} → statement M
-open-number-spec =
+pub open-refusal-spec : {M : Type 1} → statement M
+open-refusal-spec =
     tie.close
     (tie.spec
     returns
