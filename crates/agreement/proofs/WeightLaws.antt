@@ -3,8 +3,7 @@ use mathlib.Core.Path.{_≡_, refl, sym, _∙_}
 use mathlib.Core.Bool.{Bool, true, false, not, cond, false≢true}
 use Prim.Native.Nat.{ℕ, _+_, _*_, _≤_, _<_}
 use native.Mathlib.Omega.{arith}
-use Rattle.base.proofs.SumLaws.{sum-same}
-use Rattle.base.proofs.SumLaws.{sum-add, sum-at, sum-less, sum-mono}
+use Rattle.base.proofs.SumLaws.{sum-same, sum-add, sum-at, sum-less, sum-mono}
 use Rattle.agreement.specs.Weights.{weigh, total, outside}
 
 -- a set and its outside weigh the total together

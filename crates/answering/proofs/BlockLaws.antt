@@ -19,10 +19,9 @@ use Rattle.bonded.specs.BlockChanges.{startAt}
 use Rattle.bonded.specs.Links.{Marked}
 use Rattle.bonded.specs.Runs.{turnsOver, rowsOver}
 use Rattle.bonded.proofs.RunLaws.{SameAt}
-use Rattle.answering.specs.Listing.{contentLines, chainLines, blockLines}
+use Rattle.answering.specs.Listing.{contentLines, chainLines, blockLines, placeLines, addLines, rowLines}
 use Rattle.answering.proofs.ListingLaws.{lines-append, place-absent, place-other, place-present}
 use Rattle.answering.specs.Counts.{inBlock}
-use Rattle.answering.specs.Listing.{placeLines, addLines, rowLines}
 
 -- lists put one after the other, after one more
 fold-append : (h : ℕ → List ℕ) (n : ℕ) (x : List ℕ) → foldTo (λ i l. l ++ h i) n x ≡ x ++ foldTo (λ i l. l ++ h i) n []

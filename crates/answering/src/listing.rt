@@ -15,8 +15,7 @@ ghost use Rattle.bonded.specs.ChainInTable.{ChainInTable};
 ghost use Rattle.bonded.specs.Runs.{rowsOver};
 ghost use Rattle.lines.specs.Lines.{listingLine};
 ghost use Rattle.lines.specs.Puts.{Puts};
-ghost use Rattle.answering.specs.Listing.{chainLines};
-ghost use Rattle.answering.specs.Listing.{placeLines, addLines, rowLines};
+ghost use Rattle.answering.specs.Listing.{chainLines, placeLines, addLines, rowLines};
 ghost use Rattle.answering.specs.Counts.{inBlock, rowCount, blockCount, chainCount};
 
 // The certificate of block k, of round b, at a place.

@@ -9,8 +9,7 @@ use lib.ListN.{getD}
 use Rattle.base.proofs.SumLaws.{sum-le}
 use Rattle.store.specs.Table.{Row, blockRound}
 use Rattle.sheet.specs.declared.Settings.{Settings}
-use Rattle.sheet.specs.Ranges.{weightIn}
-use Rattle.sheet.specs.Ranges.{SettingsFit}
+use Rattle.sheet.specs.Ranges.{weightIn, SettingsFit}
 use Rattle.committee.specs.Chain.{chainOf}
 use Rattle.committee.specs.Committees.{bondedFrom, committeeOf}
 use Rattle.committee.proofs.CommitteeLaws.{committee-start, committee-bonded}

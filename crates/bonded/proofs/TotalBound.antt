@@ -19,8 +19,7 @@ use Rattle.store.proofs.TableLaws.{content-transactions}
 use Rattle.store.specs.Scan.{rowsFit}
 use Rattle.store.proofs.ScanLaws.{transactions-fit, rows-held}
 use Rattle.sheet.specs.declared.Settings.{Settings}
-use Rattle.sheet.specs.Ranges.{weightIn}
-use Rattle.sheet.specs.Ranges.{SettingsFit}
+use Rattle.sheet.specs.Ranges.{weightIn, SettingsFit}
 use Rattle.committee.specs.Chain.{chainOf}
 use Rattle.committee.specs.Committees.{committeeOf}
 use Rattle.committee.proofs.CommitteeLaws.{committee-start, committee-bonded}

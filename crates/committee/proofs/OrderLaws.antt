@@ -8,10 +8,9 @@ use mathlib.Core.Option.{none}
 use Rattle.sheet.specs.declared.Settings.{Settings}
 use Rattle.sheet.specs.Ranges.{weightIn}
 use Rattle.terms.specs.Proposals.{Content}
-use Rattle.committee.specs.Changes.{listed, row, rows}
+use Rattle.committee.specs.Changes.{listed, row, rows, byKeys}
 use Rattle.committee.specs.Committees.{leaderBy, committeeOf, startOf, ordered}
 use Rattle.committee.specs.Leaders.{leaderOf}
-use Rattle.committee.specs.Changes.{byKeys}
 
 module _ (b : Block Content) (a : ℕ) where
   pub row-none : (r : ℕ) → row b a r 0 ≡ []

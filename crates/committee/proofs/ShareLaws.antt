@@ -7,8 +7,7 @@ use native.Mathlib.Omega.{arith}
 use native.Mathlib.Nat.{div-add-mod, mod-lt, mul-le-mul-left, lt-of-mul-lt-mul-left}
 use lib.Dec.{ltb}
 use borrow.Author.Tests.{ltb-true, ltb-false, le-ltb}
-use Rattle.committee.specs.Shares.{evenNeighbour, rounded, nearest, shareOf}
-use Rattle.committee.specs.Shares.{Near}
+use Rattle.committee.specs.Shares.{evenNeighbour, rounded, nearest, shareOf, Near}
 
 even-near : (q r n : ℕ) → 2 * r ≡ n → (d : ℕ) → d < 2 → Near (n * q + r) n (q + d)
 even-near q r n e zero k = record { above = omega arith; below = omega arith }

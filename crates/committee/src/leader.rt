@@ -4,7 +4,7 @@ use terms::Round;
 ghost use mathlib.Core.Path.{_≡_};
 ghost use mathlib.Core.Bool.{cond};
 ghost use Prim.Native.Nat.{_<_};
-ghost use Rattle.base.specs.Sets.{isIn, add};
+ghost use Rattle.base.specs.Sets.{isIn};
 ghost use Rattle.sheet.specs.Ranges.{weightIn};
 ghost use Rattle.committee.specs.Leaders.{countBelow, memberAt, members, joined, memberSet, leaderOf, leaderNumber};
 

@@ -13,9 +13,8 @@ use Rattle.framing.specs.declared.Event.the-variants.{Nothing, Record, U
 use Rattle.framing.specs.declared.Step.{Step}
 use Rattle.framing.specs.Streams.{recordsOf, fitting, readables, untilEnd, hasEnd, afterEnd}
 use Rattle.framing.proofs.StreamLaws.{records-step, until-take, ended-short, after-none, short-ended, whole-open}
-use Rattle.framing.specs.Framing.{remaining, telling, passed, endedStep, openStep, stepOf, lastOf}
+use Rattle.framing.specs.Framing.{remaining, telling, passed, endedStep, openStep, stepOf, lastOf, Waits}
 use Rattle.framing.proofs.ChunkLaws.{EndsIn, ends-in, after-passed, until-long, passed-most, passed-within}
-use Rattle.framing.specs.Framing.{Waits}
 
 -- the step, by whether a CRLF is at hand
 pub step-ended : (b : Bool) (s : List ℕ) → length (untilEnd s) < length s → stepOf b s ≡ endedStep b (length (untilEnd s))

@@ -11,8 +11,7 @@ use Rattle.terms.specs.declared.Body.{Body}
 use Rattle.sheet.specs.declared.Sheet.{Sheet}
 use Rattle.sheet.specs.declared.Settings.{Settings}
 use Rattle.sheet.specs.Sheets.{filled}
-use Rattle.sheet.specs.Ranges.{weightIn}
-use Rattle.sheet.specs.Ranges.{SettingsFit}
+use Rattle.sheet.specs.Ranges.{weightIn, SettingsFit}
 use Rattle.sheet.proofs.SheetLaws.{settings-fit}
 use Rattle.committee.specs.Committees.{committeeOf}
 use Rattle.committee.specs.Chain.{chainOf}

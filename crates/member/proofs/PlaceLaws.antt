@@ -26,8 +26,7 @@ use Rattle.state.specs.Formed.{BodyFits, Formed}
 use Rattle.state.proofs.FormedLaws.{body-fits}
 use Rattle.state.specs.View.{view}
 use Rattle.state.proofs.ViewLaws.{held-dag, same-dag, endorsed-at, proposal-none, proposal-some, held-proposal}
-use Rattle.member.specs.SharedChecks.{formChecks, signerChecks}
-use Rattle.member.specs.SharedChecks.{Fits}
+use Rattle.member.specs.SharedChecks.{formChecks, signerChecks, Fits}
 
 -- ---- a piece and the checks after it
 

@@ -10,7 +10,6 @@ use Rattle.sheet.specs.Ranges.{weightIn}
 use Rattle.committee.specs.Committees.{committeeOf, ordered, knownBy}
 use Rattle.rules.proofs.Runs as runs
 use Rattle.rules.proofs.Runs.{chainAfter}
-use Rattle.rules.proofs.RunAgreement as agreement
 use Rattle.rules.proofs.RunAgreement.{runs-agree}
 use Rattle.nonforking.specs.Statement.{chain, listed, Knows, weights, Members, Entry, engineAfter, Run, Prefix, Agreed, DemandThree}
 use Rattle.nonforking.proofs.StartLaws.{Fit, opens-fit}

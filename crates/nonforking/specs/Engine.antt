@@ -15,8 +15,7 @@ use Rattle.state.specs.declared.State.{State}
 use Rattle.state.specs.View.{view}
 use Rattle.state.specs.Refusals.{guarded}
 use Rattle.member.specs.Open.{openRefusal, openOutcome, openTable}
-use Rattle.member.specs.Calls.{proposeRefusal, proposeOutcome, endorseRefusal, endorseOutcome, endorseTable, certifyRefusal, certifyOutcome, certifyTable}
-use Rattle.member.specs.Calls.{acceptRefusal, acceptOutcome, acceptTable, advanceRefusal, advanceOutcome}
+use Rattle.member.specs.Calls.{proposeRefusal, proposeOutcome, endorseRefusal, endorseOutcome, endorseTable, certifyRefusal, certifyOutcome, certifyTable, acceptRefusal, acceptOutcome, acceptTable, advanceRefusal, advanceOutcome}
 use Rattle.commit.specs.Commit.{commitRefusal, commitOutcome, commitTableAfter}
 
 -- what a member's host keeps between calls

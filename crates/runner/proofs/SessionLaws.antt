@@ -6,8 +6,7 @@ use Prim.Native.Nat.{ℕ, zero, suc, _+_, _-_, _≤_}
 use native.Mathlib.Omega.{arith}
 use lib.ListN.{length, take, drop}
 use lib.Seq.{take-add, sets-eq, take-append-seam}
-use Rattle.framing.specs.Framing.{remaining}
-use Rattle.framing.specs.Framing.{Waits}
+use Rattle.framing.specs.Framing.{remaining, Waits}
 use Rattle.lines.specs.Puts.{Puts}
 use Rattle.state.specs.Cached.{Cached}
 use Rattle.member.specs.Open.{closedState}

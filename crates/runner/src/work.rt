@@ -8,9 +8,8 @@ ghost use Prim.Native.Nat.{_+_, _*_, _≤_};
 ghost use lib.ListN.{length, take, drop};
 ghost use Rattle.state.specs.Cached.{Cached};
 ghost use Rattle.framing.specs.Streams.{hasEnd};
-ghost use Rattle.framing.specs.Framing.{Waits};
+ghost use Rattle.framing.specs.Framing.{Waits, remaining};
 ghost use Rattle.lines.specs.Puts.{Puts};
-ghost use Rattle.framing.specs.Framing.{remaining};
 ghost use Rattle.answering.specs.Streams.{answersTo};
 ghost use Rattle.runner.specs.Work.{AllAnswered};
 

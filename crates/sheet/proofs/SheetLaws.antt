@@ -13,8 +13,7 @@ use Rattle.sheet.specs.declared.Cell.{Cell}
 use Rattle.sheet.specs.declared.Sheet.{Sheet}
 use Rattle.sheet.specs.declared.Settings.{Settings}
 use Rattle.sheet.specs.Sheets.{weightAt, filled}
-use Rattle.sheet.specs.Ranges.{weightIn, outside, outOfRange, weightless, settingChecks}
-use Rattle.sheet.specs.Ranges.{SettingsFit}
+use Rattle.sheet.specs.Ranges.{weightIn, outside, outOfRange, weightless, settingChecks, SettingsFit}
 
 inside : (x a b : ℕ) → outside x a b ≡ false → (a ≤ x) × (x ≤ b)
 unfolding outside

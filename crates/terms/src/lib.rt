@@ -1,8 +1,6 @@
 // Members, rounds, transactions, proposals and certificates, as they are handed in (scope document: Terms and sheet).
 ghost use mathlib.Core.Path.{_≡_};
-ghost use mathlib.Core.Bool.{_&&_};
 ghost use Prim.Native.Nat.{_<_, _≤_};
-ghost use lib.Dec.{leb, ltb};
 ghost use Rattle.base.specs.Folds.{allTo};
 ghost use Rattle.terms.specs.Transactions.{kindOf, numberOf, amountOf, readTransaction, sameTransaction, bondInRange, inRange};
 ghost use Rattle.terms.specs.Proposals.{bareBody, slotOf, transactionsOf, badTransactions, badPreviousSet};

@@ -3,33 +3,22 @@ use Rattle.answering.proofs.RecordLaws.{committed-by}
 use borrow.Author.Needs.{needs}
 use Rattle.answering.proofs.committed.Statement.{statement}
 use Rattle.answering.proofs.committed.Tie as tie
-use Rattle.answering.proofs.committed.Reads as reads
-use Rattle.answering.proofs.committed.Lts as lts
-use Rattle.commit.proofs.commit_cached.Reads as commit-cached-reads
-use Rattle.answering.proofs.counted.Reads as counted-reads
-use Rattle.answering.proofs.cached.renew.Reads as renew-reads
 
--- src/lib.rt:104:9
 commit-cached-requires : tie.Need-commit-cached-requires
 commit-cached-requires c κs = search needs
 
--- src/lib.rt:107:9
 counted-requires : tie.Need-counted-requires
 counted-requires c κs = search needs
 
--- src/lib.rt:108:31
 enum-known-a : tie.Need-enum-known-a
 enum-known-a c = search needs
 
--- src/lib.rt:109:9
 same-length : tie.Need-same-length
 same-length c = search needs
 
--- src/lib.rt:109:9
 same-length-2 : tie.Need-same-length-2
 same-length-2 c = search needs
 
--- src/lib.rt:109:9
 returns : tie.Need-returns
 returns c =
     let e = c .before .before .before .before .before .before .before .before .before .before .commit-cached .ensures in
@@ -38,23 +27,18 @@ returns c =
 enum-told : tie.Need-enum-told
 enum-told c = search needs
 
--- src/lib.rt:111:5
 renew-requires : tie.Need-renew-requires
 renew-requires c κs = formed-commits _ _ (c .before .before .before .before .before .before .before .before .before .before .before .commit-cached .ensures .0) (c .before .before .before .before .before .before .before .before .before .before .before .commit-cached .ensures .1) (c .before .before .before .before .before .before .before .before .before .before .before .before .before .before .before .before .pre .1 .form)
 
--- src/lib.rt:93:1
 same-length-3 : tie.Need-same-length-3
 same-length-3 c = search needs
 
--- src/lib.rt:93:1
 same-length-4 : tie.Need-same-length-4
 same-length-4 c = search needs
 
--- src/lib.rt:93:1
 same-length-5 : tie.Need-same-length-5
 same-length-5 c = search needs
 
--- src/lib.rt:93:1
 returns-2 : tie.Need-returns-2
 returns-2 c =
     let e = c .before .before .before .before .before .before .before .before .before .before .before .before .before .before .commit-cached .ensures in

@@ -1,4 +1,4 @@
-use mathlib.Core.Path.{_∙_, sym, ap, refl}
+use mathlib.Core.Path.{_∙_, sym, ap}
 use mathlib.Core.Bool.{cond}
 use mathlib.Core.List.{_++_}
 use native.Mathlib.Omega.{arith}
@@ -13,35 +13,25 @@ use Rattle.answering.proofs.PutLaws.{puts-as}
 use borrow.Author.Needs.{needs}
 use Rattle.answering.proofs.listed.Statement.{statement}
 use Rattle.answering.proofs.listed.Tie as tie
-use Rattle.answering.proofs.listed.Reads as reads
-use Rattle.answering.proofs.listed.Lts as lts
-use Rattle.lines.proofs.put_ok.Reads as put-ok-reads
-use Rattle.lines.proofs.put_refused.Reads as put-refused-reads
-use Rattle.answering.proofs.listing.list_chain.Reads as list-chain-reads
 
--- src/lib.rt:51:9
 put-refused-requires : tie.Need-put-refused-requires
 put-refused-requires c κs = search needs
 
--- src/lib.rt:51:9
 same-length : tie.Need-same-length
 same-length c = search needs
 
--- src/lib.rt:51:9
 returns : tie.Need-returns
 returns c =
     let a = c .before .before .before .before .before .before .before .args in
     let l = chainLines (a .s .settings) (view (a .s) (a .t .now) .chain) ++ okLine in
     puts-as (ap (λ b. cond b l (refusedLine 1)) (sym (c .before .before .before .before .before .before .before .pre .1) ∙ not-true _ (c .before .before .before .before .if1 .taken))) (omega arith) (c .before .before .put-refused .ensures)
 
--- src/lib.rt:54:9
 list-chain-requires : tie.Need-list-chain-requires
 list-chain-requires c κs =
     let a = c .before .before .before .before .before .args in
     let f = formed (a .s) (a .t .now) (sym (c .before .before .before .before .before .pre .1) ∙ not-false _ (c .before .before .if1 .left)) in
     (readable (a .s) (a .t .now) f, omega (arith, f .long, c .before .before .before .before .before .pre .0))
 
--- src/lib.rt:55:5
 put-ok-requires : tie.Need-put-ok-requires
 put-ok-requires c κs =
     let a = c .before .before .before .before .before .before .before .before .before .args in
@@ -49,11 +39,9 @@ put-ok-requires c κs =
     let p = c .before .before .before .list-chain in
     omega (arith, f .long, c .before .before .before .before .before .before .before .before .before .pre .0, p .ensures .past, p .ensures .room, p .kept .1 .1 .1 .0)
 
--- src/lib.rt:46:1
 same-length-2 : tie.Need-same-length-2
 same-length-2 c = search needs
 
--- src/lib.rt:46:1
 returns-2 : tie.Need-returns-2
 returns-2 c =
     let a = c .before .before .before .before .before .before .before .before .before .before .before .before .args in

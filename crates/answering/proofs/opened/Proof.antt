@@ -2,37 +2,25 @@ use Rattle.answering.proofs.RecordLaws.{opened-formed, opened-by}
 use borrow.Author.Needs.{needs}
 use Rattle.answering.proofs.opened.Statement.{statement}
 use Rattle.answering.proofs.opened.Tie as tie
-use Rattle.answering.proofs.opened.Reads as reads
-use Rattle.answering.proofs.opened.Lts as lts
-use Rattle.member.proofs.open.open.Reads as open-reads
-use Rattle.answering.proofs.cached.renew.Reads as renew-reads
-use Rattle.answering.proofs.replied.Reads as replied-reads
 
--- src/lib.rt:86:26
 open-requires : tie.Need-open-requires
 open-requires c κs = search needs
 
--- src/lib.rt:86:9
 replied-requires : tie.Need-replied-requires
 replied-requires c κs = search needs
 
--- src/lib.rt:88:5
 renew-requires : tie.Need-renew-requires
 renew-requires c κs = opened-formed _ _ _ _ _ (c .before .before .before .before .before .before .before .before .before .«open» .ensures .0) (c .before .before .before .before .before .before .before .before .before .«open» .ensures .1) (c .before .before .before .before .before .replied .ensures) (c .before .before .before .before .before .before .before .before .before .before .before .before .before .before .pre .1)
 
--- src/lib.rt:73:1
 same-length : tie.Need-same-length
 same-length c = search needs
 
--- src/lib.rt:73:1
 same-length-2 : tie.Need-same-length-2
 same-length-2 c = search needs
 
--- src/lib.rt:73:1
 same-length-3 : tie.Need-same-length-3
 same-length-3 c = search needs
 
--- src/lib.rt:73:1
 returns : tie.Need-returns
 returns c = opened-by _ _ _ _ _ (c .before .before .before .before .before .before .before .before .before .before .before .before .«open» .ensures .0) (c .before .before .before .before .before .before .before .before .before .before .before .before .«open» .ensures .1) (c .before .before .before .before .before .before .before .before .replied .ensures) (c .before .before .renew .ensures)
 

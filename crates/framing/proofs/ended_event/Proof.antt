@@ -2,18 +2,13 @@ use borrow.Author.Tests.{le-leb, lt-leb}
 use borrow.Author.Needs.{needs}
 use Rattle.framing.proofs.ended_event.Statement.{statement}
 use Rattle.framing.proofs.ended_event.Tie as tie
-use Rattle.framing.proofs.ended_event.Reads as reads
-use Rattle.framing.proofs.ended_event.Lts as lts
 
--- src/lib.rt:64:9
 returns : tie.Need-returns
 returns c = search needs
 
--- src/lib.rt:67:9
 returns-2 : tie.Need-returns-2
 returns-2 c = simp (c .before .if1 .left, le-leb _ _ (c .if2 .taken))
 
--- src/lib.rt:60:1
 returns-3 : tie.Need-returns-3
 returns-3 c = simp (c .before .if1 .left, lt-leb _ _ (c .if2 .left))
 

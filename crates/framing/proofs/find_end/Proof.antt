@@ -1,8 +1,8 @@
-use mathlib.Core.Path.{_≡_, refl, sym, ap, _∙_}
+use mathlib.Core.Path.{_≡_, refl, sym}
 use mathlib.Core.Bool.{true, false, and-false}
 use mathlib.Core.Logic.{⊎-elim}
 use native.Mathlib.Omega.{arith}
-use Prim.Native.Nat.{_+_, _-_, _<_, _≤_}
+use Prim.Native.Nat.{_+_, _-_, _<_}
 use lib.ListN.{length, drop, getD}
 use lib.Dec.{eqb}
 use borrow.Author.Tests.{eq-eqb, ne-eqb}
@@ -11,8 +11,6 @@ use Rattle.framing.proofs.StreamLaws.{end-here, end-later, end-none, en
 use borrow.Author.Needs.{needs}
 use Rattle.framing.proofs.find_end.Statement.{statement}
 use Rattle.framing.proofs.find_end.Tie as tie
-use Rattle.framing.proofs.find_end.Reads as reads
-use Rattle.framing.proofs.find_end.Lts as lts
 
 abbrev Inv-loop : tie.InvT-loop
 Inv-loop s n i₀ i = (i < length s) × (length (untilEnd s) ≡ i + length (untilEnd (drop i s)))
@@ -20,31 +18,24 @@ Inv-loop s n i₀ i = (i < length s) × (length (untilEnd s) ≡ i + length (unt
 abbrev μ-loop : tie.MeasureT-loop
 μ-loop s n i₀ i = length s - i
 
--- src/lib.rt:31:9
 returns : tie.Need-returns Inv-loop μ-loop
 returns c = sym (end-empty _ (c .if1 .taken))
 
--- src/lib.rt:34:5
 loop-holds : tie.Need-loop-holds Inv-loop μ-loop
 loop-holds c = (omega arith, omega arith)
 
--- src/lib.rt:34:15
 sub-loop : tie.Need-sub-loop Inv-loop μ-loop
 sub-loop c = search needs
 
--- src/lib.rt:35:12
 shared-slice-read-if2 : tie.Need-shared-slice-read-if2 Inv-loop μ-loop
 shared-slice-read-if2 c = search needs
 
--- src/lib.rt:36:18
 add-if3 : tie.Need-add-if3 Inv-loop μ-loop
 add-if3 c = search needs
 
--- src/lib.rt:36:16
 shared-slice-read-if3 : tie.Need-shared-slice-read-if3 Inv-loop μ-loop
 shared-slice-read-if3 c = search needs
 
--- src/lib.rt:37:17
 returns-2 : tie.Need-returns-2 Inv-loop μ-loop
 returns-2 c =
     let s = c .before .before .before .before .before .before .before .args .s .now in
@@ -53,15 +44,12 @@ returns-2 c =
     let h = end-here s (l .i) (omega arith) e in
     omega (arith, l .inv .1)
 
--- src/lib.rt:40:9
 add-i : tie.Need-add-i Inv-loop μ-loop
 add-i c = search needs
 
--- src/lib.rt:34:5
 loop-less : tie.Need-loop-less Inv-loop μ-loop
 loop-less c = search needs
 
--- src/lib.rt:34:5
 loop-again : tie.Need-loop-again Inv-loop μ-loop
 loop-again c =
     let s = c .before .before .before .before .before .args .s .now in
@@ -70,7 +58,6 @@ loop-again c =
     let h = end-later s (l .i) (omega arith) e in
     (omega arith, omega (arith, l .inv .1))
 
--- src/lib.rt:26:1
 returns-3 : tie.Need-returns-3 Inv-loop μ-loop
 returns-3 c =
     let s = c .before .before .before .args .s .now in

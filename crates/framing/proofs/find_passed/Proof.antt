@@ -1,4 +1,4 @@
-use mathlib.Core.Path.{_≡_, refl, sym, ap, _∙_}
+use mathlib.Core.Path.{_≡_, sym, _∙_}
 use native.Mathlib.Omega.{arith}
 use Prim.Native.Nat.{suc, _-_}
 use lib.ListN.{length}
@@ -6,33 +6,25 @@ use Rattle.framing.proofs.ChunkLaws.{passed-none, passed-kept, passed-a
 use borrow.Author.Needs.{needs}
 use Rattle.framing.proofs.find_passed.Statement.{statement}
 use Rattle.framing.proofs.find_passed.Tie as tie
-use Rattle.framing.proofs.find_passed.Reads as reads
-use Rattle.framing.proofs.find_passed.Lts as lts
 
--- src/lib.rt:51:9
 returns : tie.Need-returns
 returns c = sym (passed-none _ (c .if1 .taken))
 
--- src/lib.rt:53:10
 sub-if2 : tie.Need-sub-if2
 sub-if2 c = search needs
 
--- src/lib.rt:53:8
 shared-slice-read-if2 : tie.Need-shared-slice-read-if2
 shared-slice-read-if2 c = search needs
 
--- src/lib.rt:54:16
 sub-result : tie.Need-sub-result
 sub-result c = search needs
 
--- src/lib.rt:54:9
 returns-2 : tie.Need-returns-2
 returns-2 c =
     let s = c .before .before .before .args .s .now in
     let e : length s ≡ suc (length s - 1) = omega arith in
     sym (passed-kept s (length s - 1) e (c .if2 .taken))
 
--- src/lib.rt:46:1
 returns-3 : tie.Need-returns-3
 returns-3 c =
     let s = c .before .before .before .args .s .now in

@@ -3,19 +3,13 @@ use lib.Seq.{length-take-le}
 use borrow.Author.Needs.{needs}
 use Rattle.runner.proofs.flush.Statement.{statement}
 use Rattle.runner.proofs.flush.Tie as tie
-use Rattle.runner.proofs.flush.Reads as reads
-use Rattle.runner.proofs.flush.Lts as lts
-use Rattle.io.proofs.write_all.Reads as write-all-reads
 
--- src/main.rt:22:34
 slice-aggregate-write-all : tie.Need-slice-aggregate-write-all
 slice-aggregate-write-all c = sym (length-take-le (c .before .before .args .n) (c .before .before .args .out .now) (c .before .before .pre))
 
--- src/main.rt:22:5
 write-all-requires : tie.Need-write-all-requires
 write-all-requires c κs = search needs
 
--- src/main.rt:19:1
 returns : tie.Need-returns
 returns c = search needs
 

@@ -1,27 +1,18 @@
 use mathlib.Core.Path.{ap, _∙_}
-use mathlib.Core.List.{[], List}
+use mathlib.Core.List.{[]}
 use mathlib.Core.Bool.{false≢true}
-use Prim.Native.Nat.{ℕ}
-use lib.ListN.{take, drop}
+use Prim.Native.Nat.{ℕ, _+_, _≤_}
+use lib.ListN.{take, drop, length}
 use borrow.Author.Tests.{eqb-true, not-false}
 use Rattle.runner.proofs.SessionLaws.{refilled-hand, refilled-none, none-came}
-use Prim.Native.Nat.{_+_, _≤_}
-use lib.ListN.{length}
 use native.Mathlib.Omega.{arith}
 use borrow.Author.Needs.{needs}
 use Rattle.runner.proofs.refill.Statement.{statement}
 use Rattle.runner.proofs.refill.Tie as tie
-use Rattle.runner.proofs.refill.Reads as reads
-use Rattle.runner.proofs.refill.Lts as lts
-use Rattle.runner.proofs.emptied.Reads as emptied-reads
-use Rattle.runner.proofs.input.move_to_front.Reads as move-to-front-reads
-use Rattle.runner.proofs.input.more.Reads as more-reads
 
--- src/main.rt:66:19
 emptied-requires : tie.Need-emptied-requires
 emptied-requires c κs = search needs
 
--- src/main.rt:65:9
 returns : tie.Need-returns
 returns c =
     let a = c .before .before .before .before .args in
@@ -29,29 +20,23 @@ returns c =
     let p = c .before .before .before .before .pre in
     (omega (arith, e .0, p .0), p .1, e .1, record { came = []; hand = refilled-none (a .buf .now) (a .w .from) (a .end) (e .0); state = e .2; formed = e .3; skipping = e .4; ended = λ q. absurd (false≢true q) })
 
--- src/main.rt:71:9
 move-to-front-requires : tie.Need-move-to-front-requires
 move-to-front-requires c κs = search needs
 
--- src/main.rt:72:9
 more-requires : tie.Need-more-requires
 more-requires c κs = search needs
 
--- src/main.rt:74:15
 emptied-requires-2 : tie.Need-emptied-requires-2
 emptied-requires-2 c κs = search needs
 
--- src/main.rt:75:14
 add-t14 : tie.Need-add-t14
 add-t14 c =
     let h : c .before .before .before .before .before .before .before .move-to-front .result + c .before .before .before .more .result ≤ length (c .before .before .before .before .before .before .before .before .before .before .before .before .args .buf .now) = rw (c .before .before .before .before .before .before .before .move-to-front .kept .0) at (c .before .before .before .more .ensures .0) in
     omega (arith, h, c .before .before .before .before .before .before .before .before .before .before .before .before .pre .2)
 
--- src/main.rt:59:1
 same-length : tie.Need-same-length
 same-length c = search needs
 
--- src/main.rt:59:1
 returns-2 : tie.Need-returns-2
 returns-2 c =
     let a = c .before .before .before .before .before .before .before .before .before .before .before .before .args in

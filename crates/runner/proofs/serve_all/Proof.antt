@@ -8,10 +8,6 @@ use Rattle.runner.specs.Session.{SessionInvariant}
 use Rattle.runner.proofs.SessionLaws.{fresh-known, so-far-none, so-far-next}
 use Rattle.runner.proofs.serve_all.Statement.{statement}
 use Rattle.runner.proofs.serve_all.Tie as tie
-use Rattle.runner.proofs.serve_all.Reads as reads
-use Rattle.runner.proofs.serve_all.Lts as lts
-use Rattle.runner.proofs.serve_pass.Reads as serve-pass-reads
-use Rattle.runner.proofs.start.Reads as start-reads
 
 abbrev Inv-loop : tie.InvT-loop
 Inv-loop kept₀ t₀ buf₀ out₀ s₀ turns₀ kept t buf out s turns = (s .work .from ≤ s .end) × (s .end ≤ length buf₀) × (s .work .next ≡ 0) × (length t ≡ length t₀) × (length buf ≡ length buf₀) × (length out ≡ length out₀) × SessionInvariant t₀ s t buf × Cached (s .work .state) t (s .work .formed) kept × (length kept ≡ length kept₀)
@@ -19,32 +15,26 @@ Inv-loop kept₀ t₀ buf₀ out₀ s₀ turns₀ kept t buf out s turns = (s .w
 abbrev μ-loop : tie.MeasureT-loop
 μ-loop kept₀ t₀ buf₀ out₀ s₀ turns₀ kept t buf out s turns = turns
 
--- src/main.rt:102:9
 start-requires : tie.Need-start-requires Inv-loop μ-loop
 start-requires c κs = search needs
 
--- src/main.rt:104:5
 loop-holds : tie.Need-loop-holds Inv-loop μ-loop
 loop-holds c =
     let f = c .start .ensures in
     (omega (arith, f .from, f .end), omega (arith, f .end), f .next, refl, refl, refl, so-far-none _ _ _ f, fresh-known _ _ _ f, refl)
 
--- src/main.rt:105:13
 serve-pass-requires : tie.Need-serve-pass-requires Inv-loop μ-loop
 serve-pass-requires c κs =
     let x = c .before .before .before .before .before .before .before .loop in
     let p = c .before .before .before .before .before .before .before .before .before .before .before .before .before .pre in
     (x .inv .0, omega (arith, x .inv .1, x .inv .4), x .inv .2, omega (arith, p .0, x .inv .3), omega (arith, p .1, x .inv .3, x .inv .5), omega (arith, p .2, x .inv .4), x .inv .7)
 
--- src/main.rt:107:9
 sub-turns : tie.Need-sub-turns Inv-loop μ-loop
 sub-turns c = search needs
 
--- src/main.rt:104:5
 loop-less : tie.Need-loop-less Inv-loop μ-loop
 loop-less c = search needs
 
--- src/main.rt:104:5
 loop-again : tie.Need-loop-again Inv-loop μ-loop
 loop-again c =
     let u = c .before .before .before .before .before .before .before .before .serve-pass in
@@ -52,33 +42,26 @@ loop-again c =
     let e = u .ensures in
     (e .0, rw (x .inv .4) at (e .1), e .2, u .kept .1 .1 .0 ∙ x .inv .3, u .kept .1 .1 .1 .0 ∙ x .inv .4, u .kept .1 .1 .1 .1 .0 ∙ x .inv .5, so-far-next _ _ _ _ _ _ _ _ (x .inv .6) (e .3), e .4, u .kept .1 .0 ∙ x .inv .8)
 
--- src/main.rt:98:1
 same-length : tie.Need-same-length Inv-loop μ-loop
 same-length c = c .before .before .before .loop .inv .8
 
--- src/main.rt:98:1
 same-length-2 : tie.Need-same-length-2 Inv-loop μ-loop
 same-length-2 c = c .before .before .before .loop .inv .3
 
--- src/main.rt:98:1
 same-length-3 : tie.Need-same-length-3 Inv-loop μ-loop
 same-length-3 c = c .before .before .before .loop .inv .4
 
--- src/main.rt:98:1
 same-length-4 : tie.Need-same-length-4 Inv-loop μ-loop
 same-length-4 c = c .before .before .before .loop .inv .5
 
--- src/main.rt:98:1
 returns : tie.Need-returns Inv-loop μ-loop
 returns c =
     let x = c .before .before .before .loop in
     (x .inv .0, x .inv .1, x .inv .6, x .inv .7)
 
--- src/main.rt:98:1
 same-length-5 : tie.Need-same-length-5 Inv-loop μ-loop
 same-length-5 c = c .before .loop .inv .8
 
--- src/main.rt:98:1
 same-length-6 : tie.Need-same-length-6 Inv-loop μ-loop
 same-length-6 c = c .before .loop .inv .3
 
@@ -88,7 +71,6 @@ same-length-7 c = c .before .loop .inv .4
 same-length-8 : tie.Need-same-length-8 Inv-loop μ-loop
 same-length-8 c = c .before .loop .inv .5
 
--- src/main.rt:98:1
 returns-2 : tie.Need-returns-2 Inv-loop μ-loop
 returns-2 c =
     let x = c .before .loop in

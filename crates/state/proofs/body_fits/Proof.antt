@@ -1,13 +1,8 @@
 use mathlib.Core.Path.{refl, sym, _∙_}
-use borrow.Author.Tests.{not-true, not-false}
 use Rattle.state.specs.WellFormed.{bodyFits}
 use borrow.Author.Needs.{needs}
 use Rattle.state.proofs.body_fits.Statement.{statement}
 use Rattle.state.proofs.body_fits.Tie as tie
-use Rattle.state.proofs.body_fits.Reads as reads
-use Rattle.state.proofs.body_fits.Lts as lts
-use Rattle.terms.proofs.has_bad_transactions.Reads as has-bad-transactions-reads
-use Rattle.terms.proofs.is_bad_previous_set.Reads as is-bad-previous-set-reads
 
 has-bad-transactions-requires : tie.Need-has-bad-transactions-requires
 has-bad-transactions-requires c κs = search needs

@@ -7,11 +7,6 @@ use Rattle.state.proofs.FormedLaws.{head-parts}
 use borrow.Author.Needs.{needs}
 use Rattle.state.proofs.well_formed.Statement.{statement}
 use Rattle.state.proofs.well_formed.Tie as tie
-use Rattle.state.proofs.well_formed.Reads as reads
-use Rattle.state.proofs.well_formed.Lts as lts
-use Rattle.state.proofs.head_fits.Reads as head-fits-reads
-use Rattle.state.proofs.proposal_fits.Reads as proposal-fits-reads
-use Rattle.store.proofs.scan.rows_fit.Reads as rows-fit-reads
 
 cast-if1 : tie.Need-cast-if1
 cast-if1 c = search needs

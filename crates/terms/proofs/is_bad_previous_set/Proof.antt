@@ -4,7 +4,6 @@ use Rattle.terms.specs.Proposals.{badPreviousSet}
 use borrow.Author.Needs.{needs}
 use Rattle.terms.proofs.is_bad_previous_set.Statement.{statement}
 use Rattle.terms.proofs.is_bad_previous_set.Tie as tie
-use Rattle.base.proofs.is_empty.Reads as is-empty-reads
 
 is-empty-requires : tie.Need-is-empty-requires
 is-empty-requires c κs = search needs

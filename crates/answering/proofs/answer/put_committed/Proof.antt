@@ -5,40 +5,28 @@ use Rattle.answering.proofs.PutLaws.{puts-as}
 use borrow.Author.Needs.{needs}
 use Rattle.answering.proofs.answer.put_committed.Statement.{statement}
 use Rattle.answering.proofs.answer.put_committed.Tie as tie
-use Rattle.answering.proofs.answer.put_committed.Reads as reads
-use Rattle.answering.proofs.answer.put_committed.Lts as lts
-use Rattle.lines.proofs.put_count.Reads as put-count-reads
-use Rattle.lines.proofs.put_refused.Reads as put-refused-reads
 
--- src/answer.rt:26:26
 enum-known-a : tie.Need-enum-known-a
 enum-known-a c = search needs
 
--- src/answer.rt:26:32
 put-count-requires : tie.Need-put-count-requires
 put-count-requires c κs = search needs
 
--- src/answer.rt:27:28
 enum-known-a-2 : tie.Need-enum-known-a-2
 enum-known-a-2 c = search needs
 
--- src/answer.rt:27:34
 put-refused-requires : tie.Need-put-refused-requires
 put-refused-requires c κs = search needs
 
--- src/answer.rt:21:1
 same-length : tie.Need-same-length
 same-length c = search needs
 
--- src/answer.rt:21:1
 returns : tie.Need-returns
 returns c = puts-as (ap committedLine (c .before .before .before .before .before .a .given .1)) (omega arith) (c .before .before .put-count .ensures)
 
--- src/answer.rt:21:1
 same-length-2 : tie.Need-same-length-2
 same-length-2 c = search needs
 
--- src/answer.rt:21:1
 returns-2 : tie.Need-returns-2
 returns-2 c = puts-as (ap committedLine (c .before .before .before .before .before .a2 .given .1)) (omega arith) (c .before .before .put-refused .ensures)
 

@@ -1,4 +1,4 @@
-use mathlib.Core.Path.{_≡_, refl, sym, _∙_}
+use mathlib.Core.Path.{_≡_, refl, _∙_}
 use Prim.Native.Nat.{_+_, _-_, _*_, _≤_}
 use native.Mathlib.Omega.{arith}
 use lib.ListN.{length}
@@ -8,7 +8,7 @@ use Rattle.bonded.proofs.StartLaws.{start-le}
 use Rattle.lines.specs.Puts.{Puts}
 use Rattle.lines.proofs.PutLaws.{puts-then}
 use Rattle.answering.specs.Listing.{chainLines}
-use Rattle.answering.specs.Counts.{blockCount, chainCount}
+use Rattle.answering.specs.Counts.{chainCount}
 use Rattle.answering.proofs.CountLaws.{count-more, count-all}
 use Rattle.answering.proofs.BlockLaws.{block-rows, lines-none, lines-next}
 use Rattle.answering.proofs.PutLaws.{puts-none, puts-as}

@@ -1,7 +1,6 @@
 use mathlib.Core.Path.{refl}
 use native.Mathlib.Omega.{arith}
 use Rattle.bonded.proofs.LinkLaws.{links-start}
-use Rattle.bonded.proofs.StartLaws.{started-none}
 use Rattle.answering.proofs.CountLaws.{count-all}
 use Rattle.answering.proofs.PutLaws.{puts-as}
 use borrow.Author.Needs.{needs}

@@ -3,7 +3,6 @@ use Rattle.base.proofs.SetLaws.{not-in}
 use borrow.Author.Needs.{needs}
 use Rattle.blocks.proofs.anchors.is_held_leader.Statement.{statement}
 use Rattle.blocks.proofs.anchors.is_held_leader.Tie as tie
-use Rattle.base.proofs.has.Reads as has-reads
 
 returns : tie.Need-returns
 returns c = sym (not-in (c .before .args .u) (c .before .args .a) (c .if1 .taken))

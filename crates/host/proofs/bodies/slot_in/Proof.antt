@@ -4,76 +4,56 @@ use Rattle.host.specs.Bodies.{slotIn}
 use borrow.Author.Needs.{needs}
 use Rattle.host.proofs.bodies.slot_in.Statement.{statement}
 use Rattle.host.proofs.bodies.slot_in.Tie as tie
-use Rattle.host.proofs.bodies.slot_in.Reads as reads
-use Rattle.host.proofs.bodies.slot_in.Lts as lts
-use Rattle.terms.proofs.read_transaction.Reads as read-transaction-reads
 
--- src/bodies.rt:67:13
 add-i : tie.Need-add-i
 add-i c = search needs
 
--- src/bodies.rt:67:22
 mul-i : tie.Need-mul-i
 mul-i c = search needs
 
--- src/bodies.rt:67:13
 add-i-2 : tie.Need-add-i-2
 add-i-2 c = search needs
 
--- src/bodies.rt:68:14
 add-if1 : tie.Need-add-if1
 add-if1 c = search needs
 
--- src/bodies.rt:68:12
 mul-if1 : tie.Need-mul-if1
 mul-if1 c = search needs
 
--- src/bodies.rt:68:12
 shared-slice-read-if1 : tie.Need-shared-slice-read-if1
 shared-slice-read-if1 c = search needs
 
--- src/bodies.rt:70:38
 mul-read-transaction : tie.Need-mul-read-transaction
 mul-read-transaction c = search needs
 
--- src/bodies.rt:70:38
 shared-slice-read-read-transaction : tie.Need-shared-slice-read-read-transaction
 shared-slice-read-read-transaction c = search needs
 
--- src/bodies.rt:70:46
 add-read-transaction : tie.Need-add-read-transaction
 add-read-transaction c = search needs
 
--- src/bodies.rt:70:44
 mul-read-transaction-2 : tie.Need-mul-read-transaction-2
 mul-read-transaction-2 c = search needs
 
--- src/bodies.rt:70:44
 shared-slice-read-read-transaction-2 : tie.Need-shared-slice-read-read-transaction-2
 shared-slice-read-read-transaction-2 c = search needs
 
--- src/bodies.rt:70:56
 add-read-transaction-2 : tie.Need-add-read-transaction-2
 add-read-transaction-2 c = search needs
 
--- src/bodies.rt:70:54
 mul-read-transaction-3 : tie.Need-mul-read-transaction-3
 mul-read-transaction-3 c = search needs
 
--- src/bodies.rt:70:54
 shared-slice-read-read-transaction-3 : tie.Need-shared-slice-read-read-transaction-3
 shared-slice-read-read-transaction-3 c = search needs
 
--- src/bodies.rt:70:26
 read-transaction-requires : tie.Need-read-transaction-requires
 read-transaction-requires c κs = search needs
 
--- src/bodies.rt:69:9
 returns : tie.Need-returns
 unfolding slotIn
 returns c = rw (lt-ltb _ _ (c .before .before .before .before .if1 .taken), c .read-transaction .ensures) refl
 
--- src/bodies.rt:63:1
 returns-2 : tie.Need-returns-2
 unfolding slotIn
 returns-2 c = rw (le-ltb _ _ (c .if1 .left)) refl

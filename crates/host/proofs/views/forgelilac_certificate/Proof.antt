@@ -9,46 +9,32 @@ use Rattle.host.proofs.ReadingLaws.{state-read}
 use borrow.Author.Needs.{needs}
 use Rattle.host.proofs.views.forgelilac_certificate.Statement.{statement}
 use Rattle.host.proofs.views.forgelilac_certificate.Tie as tie
-use Rattle.host.proofs.views.forgelilac_certificate.Reads as reads
-use Rattle.host.proofs.views.forgelilac_certificate.Lts as lts
-use Rattle.host.proofs.states.state_in.Reads as state-in-reads
-use Rattle.host.proofs.states.state_reads.Reads as state-reads-reads
-use Rattle.host.proofs.views.show_certificate.Reads as show-certificate-reads
-use Rattle.reads.proofs.certificate.Reads as certificate-reads
 
--- src/views.rt:79:9
 state-reads-requires : tie.Need-state-reads-requires
 state-reads-requires c κs = search needs
 
--- src/views.rt:80:9
 returns : tie.Need-returns
 returns c =
     let a = c .before .before .before .before .before .args in
     done-unread (a .state .now) (a .table .now) (a .out .now) (certificate (a .author) (a .round)) (left-unread (leb 18 (length (a .out .now))) (not-read (c .before .state-reads .ensures) (c .if1 .taken))) refl
 
--- src/views.rt:83:9
 returns-2 : tie.Need-returns-2
 returns-2 c =
     let a = c .before .before .before .before .before .before .args in
     done-unread (a .state .now) (a .table .now) (a .out .now) (certificate (a .author) (a .round)) (right-unread (stateReads (a .state .now)) (lt-leb 18 (length (a .out .now)) (c .if2 .taken))) refl
 
--- src/views.rt:85:9
 state-in-requires : tie.Need-state-in-requires
 state-in-requires c κs = state-read _ (is-read (c .before .before .state-reads .ensures) (c .before .if1 .left))
 
--- src/views.rt:86:9
 certificate-requires : tie.Need-certificate-requires
 certificate-requires c κs = search needs
 
--- src/views.rt:87:5
 show-certificate-requires : tie.Need-show-certificate-requires
 show-certificate-requires c κs = search needs
 
--- src/views.rt:75:1
 same-length : tie.Need-same-length
 same-length c = search needs
 
--- src/views.rt:75:1
 returns-3 : tie.Need-returns-3
 returns-3 c =
     let a = c .before .before .before .before .before .before .before .before .before .before .before .before .args in

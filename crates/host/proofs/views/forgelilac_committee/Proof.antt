@@ -10,46 +10,32 @@ use Rattle.host.proofs.AnswerLaws.{committee-shown}
 use borrow.Author.Needs.{needs}
 use Rattle.host.proofs.views.forgelilac_committee.Statement.{statement}
 use Rattle.host.proofs.views.forgelilac_committee.Tie as tie
-use Rattle.host.proofs.views.forgelilac_committee.Reads as reads
-use Rattle.host.proofs.views.forgelilac_committee.Lts as lts
-use Rattle.host.proofs.states.state_in.Reads as state-in-reads
-use Rattle.host.proofs.states.state_reads.Reads as state-reads-reads
-use Rattle.host.proofs.views.show_committee.Reads as show-committee-reads
-use Rattle.reads.proofs.committee.Reads as committee-reads
 
--- src/views.rt:52:9
 state-reads-requires : tie.Need-state-reads-requires
 state-reads-requires c κs = search needs
 
--- src/views.rt:53:9
 returns : tie.Need-returns
 returns c =
     let a = c .before .before .before .before .before .args in
     done-unread (a .state .now) (a .table .now) (a .out .now) (committee (a .round)) (left-unread (leb 16 (length (a .out .now))) (not-read (c .before .state-reads .ensures) (c .if1 .taken))) refl
 
--- src/views.rt:56:9
 returns-2 : tie.Need-returns-2
 returns-2 c =
     let a = c .before .before .before .before .before .before .args in
     done-unread (a .state .now) (a .table .now) (a .out .now) (committee (a .round)) (right-unread (stateReads (a .state .now)) (lt-leb 16 (length (a .out .now)) (c .if2 .taken))) refl
 
--- src/views.rt:58:9
 state-in-requires : tie.Need-state-in-requires
 state-in-requires c κs = state-read _ (is-read (c .before .before .state-reads .ensures) (c .before .if1 .left))
 
--- src/views.rt:59:9
 committee-requires : tie.Need-committee-requires
 committee-requires c κs = search needs
 
--- src/views.rt:60:5
 show-committee-requires : tie.Need-show-committee-requires
 show-committee-requires c κs = (c .before .before .before .if2 .left, committee-shown _ _ _ (c .before .committee .ensures))
 
--- src/views.rt:48:1
 same-length : tie.Need-same-length
 same-length c = search needs
 
--- src/views.rt:48:1
 returns-3 : tie.Need-returns-3
 returns-3 c =
     let a = c .before .before .before .before .before .before .before .before .before .before .before .before .args in

@@ -5,8 +5,7 @@ use Rattle.base.proofs.CheckLaws.{refuses, passes}
 use Rattle.terms.specs.Proposals.{contentOf}
 use Rattle.rules.specs.Calls.{accepting}
 use Rattle.state.specs.View.{view}
-use Rattle.member.specs.SharedChecks.{formChecks}
-use Rattle.member.specs.SharedChecks.{Fits}
+use Rattle.member.specs.SharedChecks.{formChecks, Fits}
 use Rattle.member.proofs.PlaceLaws.{form-fits, piece-refused, piece-passed, form-numbered}
 use borrow.Author.Needs.{needs}
 use Rattle.member.proofs.accept.refusal_of.Statement.{statement}

@@ -3,7 +3,6 @@ use borrow.Author.Tests.{not-true, not-false, le-leb, lt-leb}
 use Rattle.base.proofs.CheckLaws.{refuses, passes, passes-all}
 use Rattle.state.proofs.RefusalLaws.{number-unformed, number-formed}
 use Rattle.member.specs.Calls.{advanceRefusal}
-use borrow.Author.Needs.{needs}
 use Rattle.member.proofs.advance.advance_refusal.Statement.{statement}
 use Rattle.member.proofs.advance.advance_refusal.Tie as tie
 

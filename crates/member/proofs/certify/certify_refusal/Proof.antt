@@ -1,10 +1,8 @@
 use mathlib.Core.Path.{sym, _∙_}
 use borrow.Author.Tests.{not-true, not-false}
 use Rattle.state.proofs.RefusalLaws.{number-unformed, number-formed}
-use Rattle.state.proofs.FormedLaws.{formed}
 use Rattle.member.specs.Calls.{certifyRefusal}
 use Rattle.state.proofs.CachedLaws.{known-both}
-use borrow.Author.Needs.{needs}
 use Rattle.member.proofs.certify.certify_refusal.Statement.{statement}
 use Rattle.member.proofs.certify.certify_refusal.Tie as tie
 

@@ -1,6 +1,5 @@
 use Rattle.member.proofs.AnswerLaws.{outcome-accepted, outcome-refused}
 use Rattle.member.specs.Calls.{proposeOutcome}
-use borrow.Author.Needs.{needs}
 use Rattle.member.proofs.propose.propose_cached.Statement.{statement}
 use Rattle.member.proofs.propose.propose_cached.Tie as tie
 

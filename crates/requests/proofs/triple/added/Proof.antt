@@ -1,34 +1,23 @@
-use mathlib.Core.Path.{_≡_, refl, sym, ap, _∙_}
 use mathlib.Core.Logic.{⊎-elim}
 use borrow.Author.Tests.{eq-eqb, ne-eqb}
 use Rattle.requests.specs.Triples.{transaction}
 use borrow.Author.Needs.{needs}
 use Rattle.requests.proofs.triple.added.Statement.{statement}
 use Rattle.requests.proofs.triple.added.Tie as tie
-use Rattle.requests.proofs.triple.added.Reads as reads
-use Rattle.requests.proofs.triple.added.Lts as lts
-use Rattle.requests.proofs.triple.pushed.Reads as pushed-reads
-use Rattle.requests.proofs.triple.refused.Reads as refused-reads
-use Rattle.terms.proofs.read_transaction.Reads as read-transaction-reads
 
--- src/triple.rt:84:13
 refused-requires : tie.Need-refused-requires
 refused-requires c κs = search needs
 
--- src/triple.rt:84:13
 returns : tie.Need-returns
 unfolding transaction
 returns c = simp (ne-eqb _ _ (c .before .before .if1 .taken), ne-eqb _ _ (c .before .if2 .taken), c .refused .ensures)
 
--- src/triple.rt:87:9
 read-transaction-requires : tie.Need-read-transaction-requires
 read-transaction-requires c κs = search needs
 
--- src/triple.rt:90:15
 pushed-requires : tie.Need-pushed-requires
 pushed-requires c κs = search needs
 
--- src/triple.rt:78:1
 returns-2 : tie.Need-returns-2
 unfolding transaction
 returns-2 c =

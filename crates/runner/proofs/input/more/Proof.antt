@@ -5,41 +5,28 @@ use Rattle.runner.proofs.InputLaws.{came-within}
 use borrow.Author.Needs.{needs}
 use Rattle.runner.proofs.input.more.Statement.{statement}
 use Rattle.runner.proofs.input.more.Tie as tie
-use Rattle.runner.proofs.input.more.Reads as reads
-use Rattle.runner.proofs.input.more.Lts as lts
-use Rattle.io.proofs.count.Reads as count-reads
-use Rattle.libc.proofs.read.Reads as read-reads
-use Rattle.runner.proofs.input.rest.Reads as rest-reads
 
--- src/input.rt:34:40
 sub-read : tie.Need-sub-read
 sub-read c = search needs
 
--- src/input.rt:34:40
 part-read-start : tie.Need-part-read-start
 part-read-start c = search needs
 
--- src/input.rt:34:40
 part-read-end : tie.Need-part-read-end
 part-read-end c = search needs
 
--- src/input.rt:34:9
 read-requires : tie.Need-read-requires
 read-requires c κs = search needs
 
--- src/input.rt:35:9
 rest-requires : tie.Need-rest-requires
 rest-requires c κs = search needs
 
--- src/input.rt:36:5
 count-requires : tie.Need-count-requires
 count-requires c κs = search needs
 
--- src/input.rt:30:1
 same-length : tie.Need-same-length
 same-length c = search needs
 
--- src/input.rt:30:1
 returns : tie.Need-returns
 returns c =
     let a = c .before .before .before .before .before .before .before .before .args in

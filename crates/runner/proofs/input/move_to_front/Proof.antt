@@ -1,13 +1,10 @@
-use mathlib.Core.Path.{refl}
+use mathlib.Core.Path.{refl, _≡_}
 use borrow.Author.Needs.{needs}
 use native.Mathlib.Omega.{arith}
-use mathlib.Core.Path.{_≡_}
 use Prim.Native.Nat.{_-_, _≤_}
 use Rattle.runner.proofs.InputLaws.{Moves, moves-none, moves-next}
 use Rattle.runner.proofs.input.move_to_front.Statement.{statement}
 use Rattle.runner.proofs.input.move_to_front.Tie as tie
-use Rattle.runner.proofs.input.move_to_front.Reads as reads
-use Rattle.runner.proofs.input.move_to_front.Lts as lts
 
 abbrev Inv-loop : tie.InvT-loop
 Inv-loop buf₀ from end n i₀ buf i = (i ≤ n) × Moves buf₀ buf from i
@@ -15,43 +12,33 @@ Inv-loop buf₀ from end n i₀ buf i = (i ≤ n) × Moves buf₀ buf from i
 abbrev μ-loop : tie.MeasureT-loop
 μ-loop buf₀ from end n i₀ buf i = n - i
 
--- src/input.rt:12:13
 sub-n : tie.Need-sub-n Inv-loop μ-loop
 sub-n c = search needs
 
--- src/input.rt:14:5
 loop-holds : tie.Need-loop-holds Inv-loop μ-loop
 loop-holds c = (omega arith, moves-none _ _)
 
--- src/input.rt:15:22
 add-buf : tie.Need-add-buf Inv-loop μ-loop
 add-buf c = search needs
 
--- src/input.rt:15:18
 slice-read-buf : tie.Need-slice-read-buf Inv-loop μ-loop
 slice-read-buf c = omega (arith, c .before .before .loop .inv .1 .size)
 
--- src/input.rt:15:9
 slice-write-buf : tie.Need-slice-write-buf Inv-loop μ-loop
 slice-write-buf c = omega (arith, c .before .before .loop .inv .1 .size)
 
--- src/input.rt:16:9
 add-i : tie.Need-add-i Inv-loop μ-loop
 add-i c = search needs
 
--- src/input.rt:14:5
 loop-less : tie.Need-loop-less Inv-loop μ-loop
 loop-less c = search needs
 
--- src/input.rt:14:5
 loop-again : tie.Need-loop-again Inv-loop μ-loop
 loop-again c = (omega arith, moves-next _ _ (omega arith) (c .before .before .loop .inv .1))
 
--- src/input.rt:8:1
 same-length : tie.Need-same-length Inv-loop μ-loop
 same-length c = c .before .loop .inv .1 .size
 
--- src/input.rt:8:1
 returns : tie.Need-returns Inv-loop μ-loop
 returns c =
     let x = c .before .loop in

@@ -5,22 +5,16 @@ use Prim.Native.Nat.{_-_, _≤_}
 use borrow.Author.Needs.{needs}
 use Rattle.runner.proofs.input.rest.Statement.{statement}
 use Rattle.runner.proofs.input.rest.Tie as tie
-use Rattle.runner.proofs.input.rest.Reads as reads
-use Rattle.runner.proofs.input.rest.Lts as lts
 
--- src/input.rt:12:5
 sub-result : tie.Need-sub-result
 sub-result c = search needs
 
--- src/input.rt:12:5
 part-result-start : tie.Need-part-result-start
 part-result-start c = search needs
 
--- src/input.rt:12:5
 part-result-end : tie.Need-part-result-end
 part-result-end c = search needs
 
--- src/input.rt:8:1
 returns : tie.Need-returns
 returns c =
     let a = c .before .args in

@@ -1,4 +1,4 @@
-use mathlib.Core.Path.{sym, ap, refl, _∙_}
+use mathlib.Core.Path.{sym, ap, _∙_}
 use mathlib.Core.List.{[]}
 use native.Mathlib.Omega.{arith}
 use Rattle.framing.specs.declared.Event.{Event}
@@ -9,35 +9,25 @@ use Rattle.answering.proofs.StreamLaws.{last-whole}
 use borrow.Author.Needs.{needs}
 use Rattle.runner.proofs.work.finish.Statement.{statement}
 use Rattle.runner.proofs.work.finish.Tie as tie
-use Rattle.runner.proofs.work.finish.Reads as reads
-use Rattle.runner.proofs.work.finish.Lts as lts
-use Rattle.answering.proofs.next.answered.Reads as answered-reads
-use Rattle.framing.proofs.last.Reads as last-reads
 
--- src/work.rt:66:9
 last-requires : tie.Need-last-requires
 last-requires c κs = search needs
 
--- src/work.rt:67:54
 slice-aggregate-answered : tie.Need-slice-aggregate-answered
 slice-aggregate-answered c = search needs
 
--- src/work.rt:67:9
 answered-requires : tie.Need-answered-requires
 answered-requires c κs = search needs
 
--- src/work.rt:62:1
 same-length : tie.Need-same-length
 same-length c = search needs
 
--- src/work.rt:62:1
 same-length-2 : tie.Need-same-length-2
 same-length-2 c = search needs
 
 same-length-3 : tie.Need-same-length-3
 same-length-3 c = search needs
 
--- src/work.rt:62:1
 returns : tie.Need-returns
 returns c =
     let a = c .before .before .before .before .before .before .before .before .before .before .before .before .before .before .before .before .args in

@@ -10,7 +10,6 @@ use Rattle.store.specs.Scan.{rowFits, rowsFit}
 use Rattle.store.specs.Limits.{limitTable}
 use Rattle.store.proofs.scan.rows_fit.Statement.{statement}
 use Rattle.store.proofs.scan.rows_fit.Tie as tie
-use Rattle.store.proofs.scan.row_fits.Reads as row-fits-reads
 
 abbrev Inv-loop : tie.InvT-loop
 Inv-loop t allowance blocks end l r₀ r = (r ≤ end) × (allTo (λ j. rowFits t allowance blocks (j + 1)) r ≡ true) × (l ≡ limitTable)

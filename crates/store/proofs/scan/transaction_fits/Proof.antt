@@ -1,10 +1,7 @@
 use Rattle.store.specs.Scan.{transactionFits}
-use mathlib.Core.Path.{refl}
 use borrow.Author.Needs.{needs}
 use Rattle.store.proofs.scan.transaction_fits.Statement.{statement}
 use Rattle.store.proofs.scan.transaction_fits.Tie as tie
-use Rattle.store.proofs.record.word_at.Reads as word-at-reads
-use Rattle.store.proofs.scan.slot_fits.Reads as slot-fits-reads
 
 mul-word-at : tie.Need-mul-word-at
 mul-word-at c = search needs

@@ -4,8 +4,6 @@ use mathlib.Core.Path.{refl}
 use borrow.Author.Needs.{needs}
 use Rattle.store.proofs.write.record_of.Statement.{statement}
 use Rattle.store.proofs.write.record_of.Tie as tie
-use Rattle.store.proofs.write.put_transaction.Reads as put-transaction-reads
-use Rattle.store.proofs.write.slot.Reads as slot-reads
 
 cast-w : tie.Need-cast-w
 cast-w c = search needs
