@@ -7,3 +7,4 @@ pub mod AnswerLaws
 pub mod ShownLaws
 pub mod CommitLaws
 pub mod PreservedLaws
+pub mod RuledLaws

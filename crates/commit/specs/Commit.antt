@@ -1,8 +1,9 @@
 -- Commit on a state and its table: the number that refuses, the answer and the state, and the table.
+use mathlib.Core.Path.{_≡_}
 use mathlib.Core.Bool.{cond, _||_}
 use mathlib.Core.List.{List, [], _∷_}
-use Prim.Native.Nat.{ℕ, _-_, _%_}
-use lib.ListN.{replicate}
+use Prim.Native.Nat.{ℕ, _+_, _-_, _%_}
+use lib.ListN.{length, replicate}
 use lib.Dec.{eqb, leb}
 use Rattle.base.specs.Checks.{Checks}
 use Rattle.agreement.specs.Rules.{last}
@@ -11,7 +12,7 @@ use Rattle.committee.specs.Chain.{chainOf}
 use Rattle.committee.specs.Committees.{committeeOf}
 use Rattle.bonded.specs.BlockChanges.{lastRound}
 use Rattle.bonded.specs.Fill.{leaderAt, fillTo}
-use Rattle.rules.specs.Tests.{unknown}
+use Rattle.rules.specs.Tests.{MemberView, unknown}
 use Rattle.rules.specs.Calls as rules
 use Rattle.state.specs.declared.State.{State}
 use Rattle.state.specs.View.{view}
@@ -19,6 +20,7 @@ use Rattle.state.specs.Refusals.{refusalOf}
 use Rattle.blocks.specs.Blocks.{commitTable, commitCount}
 use Rattle.commit.specs.declared.Committed.the-variants.{Added, Refused}
 use Rattle.commit.specs.declared.Outcome.{Outcome}
+use Rattle.commit.specs.Answers.{addedValue}
 
 -- refused with the number n
 abbrev pub refusedWith : State → ℕ → Outcome
@@ -69,3 +71,17 @@ module _ (s : State) (t : List ℕ) where
 
   unfoldable pub commitTableAfter : List ℕ
   commitTableAfter = cond (eqb commitRefusal 0) committedTable t
+
+  -- ---- the rules' commit
+
+  -- the view after it
+  abbrev pub ruledView : MemberView (s .settings)
+  ruledView = rules.after (s .settings) (s .own .0) (view s t) rules.commit
+
+  -- the outcome o and the table u are what the rules give: of the state only the number of blocks changes; state and table show the rules' next view;
+  -- and the value is the number of blocks that the rules add, which are the blocks that the state has more
+  pub record RulesGive (o : Outcome) (u : List ℕ) : Type 0 where
+    pub its-state : o .state ≡ withBlocks s (o .state .blocks)
+    pub its-view : view (withBlocks s (o .state .blocks)) u ≡ ruledView
+    pub its-value : addedValue (o .answer) + length (view s t .chain) ≡ length (ruledView .chain)
+    pub its-blocks : addedValue (o .answer) + s .blocks ≡ o .state .blocks

@@ -6,7 +6,8 @@ use state::State;
 use terms::Round;
 ghost use mathlib.Core.Path.{_≡_};
 ghost use Rattle.state.specs.WellFormed.{wellFormed};
-ghost use Rattle.commit.specs.Commit.{refusedWith, commitOutcome, commitTableAfter};
+ghost use Rattle.commit.specs.Answers.{addedRefusal};
+ghost use Rattle.commit.specs.Commit.{refusedWith, commitRefusal, commitOutcome, commitTableAfter, RulesGive};
 
 // Accepted with the number of blocks added, or refused with the number of the first check that refuses.
 pub enum Committed {
@@ -33,7 +34,7 @@ fn refused(s: State, n: u32) -> Outcome
 // The call, where it is known whether the state is well formed.
 pub fn commit_cached(formed: bool, s: State, t: &mut [u32]) -> Outcome
     requires { ⌜ formed ≡ wellFormed s (now t) ⌝ }
-    ensures { λ o. ⌜ (o ≡ commitOutcome s (now (t .entry))) × (now (t .exit) ≡ commitTableAfter s (now (t .entry))) ⌝ }
+    ensures { λ o. ⌜ (o ≡ commitOutcome s (now (t .entry))) × (now (t .exit) ≡ commitTableAfter s (now (t .entry))) × (addedRefusal (o .answer) ≡ commitRefusal s (now (t .entry))) × (commitRefusal s (now (t .entry)) ≡ 0 → RulesGive s (now (t .entry)) o (now (t .exit))) ⌝ }
 {
     if !formed {
         return refused(s, 1);
@@ -62,7 +63,7 @@ pub fn commit_cached(formed: bool, s: State, t: &mut [u32]) -> Outcome
 }
 
 pub fn commit(s: State, t: &mut [u32]) -> Outcome
-    ensures { λ o. ⌜ (o ≡ commitOutcome s (now (t .entry))) × (now (t .exit) ≡ commitTableAfter s (now (t .entry))) ⌝ }
+    ensures { λ o. ⌜ (o ≡ commitOutcome s (now (t .entry))) × (now (t .exit) ≡ commitTableAfter s (now (t .entry))) × (addedRefusal (o .answer) ≡ commitRefusal s (now (t .entry))) × (commitRefusal s (now (t .entry)) ≡ 0 → RulesGive s (now (t .entry)) o (now (t .exit))) ⌝ }
 {
     let formed = state::well_formed(s, t);
     commit_cached(formed, s, t)

@@ -22,15 +22,17 @@ use Rattle.commit.proofs.AnswerLaws.{answers-accepted}
 use Rattle.commit.proofs.PreservedLaws.{formed-commit}
 use Rattle.reads.specs.declared.ShareRead.{ShareRead}
 use Rattle.reads.specs.declared.BlockRead.{BlockRead}
+use Rattle.reads.specs.Answers.{sharedAnswer, blockedAnswer}
 use Rattle.reads.specs.Reads.{committeeAnswer, shareAnswer, certificateAnswer, blockAnswer}
+use Rattle.reads.proofs.AnswerLaws.{committee-number, certificate-number}
 use Rattle.reads.proofs.ReadLaws.{committee-passed, share-refused, share-unformed, certificate-passed, block-refused, block-unformed}
 use Rattle.host.specs.Bodies.{loneBodyReads, bodyIn}
 use Rattle.host.specs.Proposals.{proposalReads, proposalIn, certificateReads, certificateIn}
 use Rattle.host.specs.Sheets.{sheetIn}
 use Rattle.host.specs.States.{stateReads, stateIn}
 use Rattle.host.proofs.ReadingLaws.{state-read, proposal-read, certificate-read}
-use Rattle.host.specs.Calls.{Call, opens, propose, endorse, certify, accept, advance, commit, committee, share, certificate, block, addedAnswer, sharedAnswer, blockedAnswer, readable, unread, served, turn}
-use Rattle.host.proofs.AnswerLaws.{commit-number, committee-number, certificate-number}
+use Rattle.host.specs.Calls.{Call, opens, propose, endorse, certify, accept, advance, commit, committee, share, certificate, block, addedAnswer, readable, unread, served, turn}
+use Rattle.host.proofs.AnswerLaws.{commit-number}
 use Rattle.host.proofs.NextLaws.{nextState, sets, lone-set, accepted-gives}
 
 proposal-set : (p : List ℕ) → getD p 2 0 < 65536 → proposalIn p .body .previous < 65536

@@ -24,6 +24,7 @@ use Rattle.store.specs.Writes.{proposalOf}
 use Rattle.store.proofs.TableLaws.{content-previous, previous-lt, endorsers-lt}
 use Rattle.store.proofs.RecordLaws.{proposal-few, proposal-content}
 use Rattle.reads.proofs.ReadLaws.{certificate-given}
+use Rattle.reads.proofs.AnswerLaws.{certificate-number}
 use Rattle.host.specs.Words.{word}
 use Rattle.host.specs.Bodies.{tripleReads, bodyReads, slotIn, bodyIn, usedOf, usedWords, bodyWords}
 use Rattle.host.specs.Proposals.{proposalReads, proposalIn, certificateReads, certificateIn, heldWords}
@@ -32,7 +33,6 @@ use Rattle.host.proofs.PutLaws.{length-body}
 use Rattle.host.proofs.SameLaws.{Agree, body-same, body-reads-same}
 use Rattle.host.specs.TidyStates.{tidyBody}
 use Rattle.host.proofs.BackLaws.{used-back, triple-reads, either}
-use Rattle.host.proofs.AnswerLaws.{certificate-number}
 use Rattle.host.specs.Calls.{certificate, readable, served, unread, turn}
 use Rattle.host.specs.Held.{PassesOn}
 

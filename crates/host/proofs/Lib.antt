@@ -11,3 +11,4 @@ pub mod NextLaws
 pub mod BeyondLaws
 pub mod FormedLaws
 pub mod HeldLaws
+pub mod OpenLaws

@@ -15,11 +15,13 @@ use Rattle.member.specs.Open.{closedState, openOutcome, openTable}
 use Rattle.member.specs.Calls.{proposeOutcome, endorseOutcome, endorseTable, certifyOutcome, certifyTable, acceptOutcome, acceptTable, advanceOutcome}
 use Rattle.commit.specs.declared.Committed as Made
 use Rattle.commit.specs.declared.Outcome as committed
+use Rattle.commit.specs.Answers.{addedValue}
 use Rattle.commit.specs.Commit.{commitOutcome, commitTableAfter}
 use Rattle.reads.specs.declared.CommitteeRead.{CommitteeRead}
 use Rattle.reads.specs.declared.ShareRead as Shared
 use Rattle.reads.specs.declared.CertificateRead.{CertificateRead}
 use Rattle.reads.specs.declared.BlockRead as Blocked
+use Rattle.reads.specs.Answers.{sharedAnswer, sharedValue, blockedAnswer, blockedValue}
 use Rattle.reads.specs.Reads.{committeeAnswer, shareAnswer, certificateAnswer, blockAnswer}
 use Rattle.host.specs.Words.{sixteen}
 use Rattle.host.specs.Bodies.{loneBodyReads, bodyIn}
@@ -72,31 +74,10 @@ pub data Call : Type 0 where
   -- number
   block : ℕ → Call
 
--- ---- the engine's answers with a value
-
+-- the answer of a commit as one like the others; its value stands in commit/specs/Answers, those of the reads in reads/specs/Answers
 abbrev pub addedAnswer : Made.Committed → Answer
 addedAnswer (Made.the-variants.Added n) = Accepted
 addedAnswer (Made.the-variants.Refused n) = Refused n
-
-abbrev pub addedValue : Made.Committed → ℕ
-addedValue (Made.the-variants.Added n) = n
-addedValue (Made.the-variants.Refused n) = 0
-
-abbrev pub sharedAnswer : Shared.ShareRead → Answer
-sharedAnswer (Shared.the-variants.Thousandths n) = Accepted
-sharedAnswer (Shared.the-variants.Refused n) = Refused n
-
-abbrev pub sharedValue : Shared.ShareRead → ℕ
-sharedValue (Shared.the-variants.Thousandths n) = n
-sharedValue (Shared.the-variants.Refused n) = 0
-
-abbrev pub blockedAnswer : Blocked.BlockRead → Answer
-blockedAnswer (Blocked.the-variants.At r) = Accepted
-blockedAnswer (Blocked.the-variants.Refused n) = Refused n
-
-abbrev pub blockedValue : Blocked.BlockRead → ℕ
-blockedValue (Blocked.the-variants.At r) = r .0
-blockedValue (Blocked.the-variants.Refused n) = 0
 
 -- n words put over a stretch where a call is accepted
 abbrev pub over : Answer → List ℕ → List ℕ → ℕ → List ℕ

@@ -7,8 +7,10 @@ ghost use mathlib.Core.Path.{_≡_};
 ghost use Prim.Native.Nat.{_+_, _*_, _≤_};
 ghost use lib.ListN.{length};
 ghost use Rattle.member.specs.Answers.{refusalIn};
+ghost use Rattle.commit.specs.Answers.{addedValue};
+ghost use Rattle.reads.specs.Answers.{sharedAnswer, sharedValue, blockedAnswer, blockedValue};
 ghost use Rattle.host.specs.States.{stateWords};
-ghost use Rattle.host.specs.Calls.{addedAnswer, addedValue, sharedAnswer, sharedValue, blockedAnswer, blockedValue, over};
+ghost use Rattle.host.specs.Calls.{addedAnswer, over};
 ghost use Rattle.host.specs.Answers.{Writable};
 
 // The number of an answer, 0 where the call is accepted.

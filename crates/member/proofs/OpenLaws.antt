@@ -52,3 +52,9 @@ same-opened s v t u own a b e h k = (
       ∙ rw e (outcome-accepted {n = openRefusal u own (filled b)} refl (freshState own (filled b)) v k),
   opened-take t own a h ∙ rw e (sym (opened-take u own b k)),
 )
+
+-- sheets with equal filled settings open alike, accepted or refused: the same answer, state and table
+pub equal-settings-open : (s : State) (t : List ℕ) (own : Member) (a b : Sheet) → filled a ≡ filled b
+    → (openOutcome s t own a ≡ openOutcome s t own b) × (openTable t own a ≡ openTable t own b)
+unfolding openOutcome openTable
+equal-settings-open s t own a b e = rw e (refl, refl)

@@ -12,6 +12,7 @@ ghost use Rattle.state.specs.Formed.{Formed};
 ghost use Rattle.state.specs.View.{view};
 ghost use Rattle.state.specs.Cached.{CachesFor, Cached};
 ghost use Rattle.member.specs.SharedChecks.{Fits};
+ghost use Rattle.member.specs.Answers.{refusalIn};
 ghost use Rattle.member.specs.Calls.{acceptRefusal, acceptOutcome, acceptTable};
 
 // Checks 16, 17, those of the signers, and 11.
@@ -73,7 +74,7 @@ pub fn accept_cached(
     c: Certificate,
 ) -> Outcome
     requires { ⌜ Cached s (now t) formed (now cache) ⌝ }
-    ensures { λ o. ⌜ (o ≡ acceptOutcome s (now (t .entry)) c) × (now (t .exit) ≡ acceptTable s (now (t .entry)) c) ⌝ }
+    ensures { λ o. ⌜ (o ≡ acceptOutcome s (now (t .entry)) c) × (now (t .exit) ≡ acceptTable s (now (t .entry)) c) × (refusalIn (o .answer) ≡ acceptRefusal s (now (t .entry)) c) ⌝ }
 {
     let n = accept_refusal(formed, cache, s, t, c);
     if n != 0 {
@@ -92,7 +93,7 @@ pub fn accept_cached(
 }
 
 pub fn accept(s: State, t: &mut [u32], c: Certificate) -> Outcome
-    ensures { λ o. ⌜ (o ≡ acceptOutcome s (now (t .entry)) c) × (now (t .exit) ≡ acceptTable s (now (t .entry)) c) ⌝ }
+    ensures { λ o. ⌜ (o ≡ acceptOutcome s (now (t .entry)) c) × (now (t .exit) ≡ acceptTable s (now (t .entry)) c) × (refusalIn (o .answer) ≡ acceptRefusal s (now (t .entry)) c) ⌝ }
 {
     let formed = state::well_formed(s, t);
     let none = [0u64; 1];

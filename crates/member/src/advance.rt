@@ -5,6 +5,7 @@ use state::State;
 use terms::Round;
 ghost use mathlib.Core.Path.{_≡_};
 ghost use Rattle.state.specs.WellFormed.{wellFormed};
+ghost use Rattle.member.specs.Answers.{refusalIn};
 ghost use Rattle.member.specs.Calls.{advanceRefusal, advanceOutcome};
 
 // The number of the first check that refuses, 0 for none.
@@ -24,7 +25,7 @@ fn advance_refusal(formed: bool, s: State, t: &[u32]) -> u32
 // The call, where it is known whether the state is well formed.
 pub fn advance_cached(formed: bool, s: State, t: &[u32]) -> Outcome
     requires { ⌜ formed ≡ wellFormed s (now t) ⌝ }
-    ensures { λ o. ⌜ o ≡ advanceOutcome s (now (t .entry)) ⌝ }
+    ensures { λ o. ⌜ (o ≡ advanceOutcome s (now (t .entry))) × (refusalIn (o .answer) ≡ advanceRefusal s (now (t .entry))) ⌝ }
 {
     let n = advance_refusal(formed, s, t);
     if n != 0 {
@@ -46,7 +47,7 @@ pub fn advance_cached(formed: bool, s: State, t: &[u32]) -> Outcome
 }
 
 pub fn advance(s: State, t: &[u32]) -> Outcome
-    ensures { λ o. ⌜ o ≡ advanceOutcome s (now (t .entry)) ⌝ }
+    ensures { λ o. ⌜ (o ≡ advanceOutcome s (now (t .entry))) × (refusalIn (o .answer) ≡ advanceRefusal s (now (t .entry))) ⌝ }
 {
     let formed = state::well_formed(s, t);
     advance_cached(formed, s, t)

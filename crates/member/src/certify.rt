@@ -9,6 +9,7 @@ ghost use Rattle.rules.specs.Calls.{certifying};
 ghost use Rattle.state.specs.Formed.{Formed};
 ghost use Rattle.state.specs.View.{view};
 ghost use Rattle.state.specs.Cached.{CachesFor, Cached};
+ghost use Rattle.member.specs.Answers.{refusalIn};
 ghost use Rattle.member.specs.Calls.{certifyRefusal, certifyOutcome, certifyTable};
 
 // The checks of a well-formed state: 15, 10, 14, and those of the signers.
@@ -43,7 +44,7 @@ fn certify_refusal(formed: bool, cache: &[u64], s: State, t: &[u32], e: u16) -> 
 // The call, where it is known whether the state is well formed, and committees may be cached.
 pub fn certify_cached(formed: bool, cache: &[u64], s: State, t: &mut [u32], e: u16) -> Outcome
     requires { ⌜ Cached s (now t) formed (now cache) ⌝ }
-    ensures { λ o. ⌜ (o ≡ certifyOutcome s (now (t .entry)) e) × (now (t .exit) ≡ certifyTable s (now (t .entry)) e) ⌝ }
+    ensures { λ o. ⌜ (o ≡ certifyOutcome s (now (t .entry)) e) × (now (t .exit) ≡ certifyTable s (now (t .entry)) e) × (refusalIn (o .answer) ≡ certifyRefusal s (now (t .entry)) e) ⌝ }
 {
     let n = certify_refusal(formed, cache, s, t, e);
     if n != 0 {
@@ -68,7 +69,7 @@ pub fn certify_cached(formed: bool, cache: &[u64], s: State, t: &mut [u32], e: u
 }
 
 pub fn certify(s: State, t: &mut [u32], e: u16) -> Outcome
-    ensures { λ o. ⌜ (o ≡ certifyOutcome s (now (t .entry)) e) × (now (t .exit) ≡ certifyTable s (now (t .entry)) e) ⌝ }
+    ensures { λ o. ⌜ (o ≡ certifyOutcome s (now (t .entry)) e) × (now (t .exit) ≡ certifyTable s (now (t .entry)) e) × (refusalIn (o .answer) ≡ certifyRefusal s (now (t .entry)) e) ⌝ }
 {
     let formed = state::well_formed(s, t);
     let none = [0u64; 1];

@@ -18,7 +18,9 @@ ghost use Rattle.rules.specs.Calls.{endorsing};
 ghost use Rattle.state.specs.Formed.{Formed};
 ghost use Rattle.state.specs.View.{view};
 ghost use Rattle.state.specs.Cached.{CachesFor, Cached};
-ghost use Rattle.member.specs.SharedChecks.{Fits, previousChecks};
+ghost use Rattle.member.specs.SharedChecks.{Fits};
+ghost use Rattle.member.specs.SharedChecks.{previousChecks};
+ghost use Rattle.member.specs.Answers.{refusalIn};
 ghost use Rattle.member.specs.Calls.{endorseRefusal, endorseOutcome, endorseTable};
 
 // Check 10: is the place held or already endorsed?
@@ -102,7 +104,7 @@ fn endorse_refusal(formed: bool, cache: &[u64], s: State, t: &[u32], p: Proposal
 // The call, where it is known whether the state is well formed, and committees may be cached.
 pub fn endorse_cached(formed: bool, cache: &[u64], s: State, t: &mut [u32], p: Proposal) -> Outcome
     requires { ⌜ Cached s (now t) formed (now cache) ⌝ }
-    ensures { λ o. ⌜ (o ≡ endorseOutcome s (now (t .entry)) p) × (now (t .exit) ≡ endorseTable s (now (t .entry)) p) ⌝ }
+    ensures { λ o. ⌜ (o ≡ endorseOutcome s (now (t .entry)) p) × (now (t .exit) ≡ endorseTable s (now (t .entry)) p) × (refusalIn (o .answer) ≡ endorseRefusal s (now (t .entry)) p) ⌝ }
 {
     let n = endorse_refusal(formed, cache, s, t, p);
     if n != 0 {
@@ -119,7 +121,7 @@ pub fn endorse_cached(formed: bool, cache: &[u64], s: State, t: &mut [u32], p: P
 }
 
 pub fn endorse(s: State, t: &mut [u32], p: Proposal) -> Outcome
-    ensures { λ o. ⌜ (o ≡ endorseOutcome s (now (t .entry)) p) × (now (t .exit) ≡ endorseTable s (now (t .entry)) p) ⌝ }
+    ensures { λ o. ⌜ (o ≡ endorseOutcome s (now (t .entry)) p) × (now (t .exit) ≡ endorseTable s (now (t .entry)) p) × (refusalIn (o .answer) ≡ endorseRefusal s (now (t .entry)) p) ⌝ }
 {
     let formed = state::well_formed(s, t);
     let none = [0u64; 1];

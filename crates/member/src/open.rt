@@ -7,6 +7,8 @@ use state::State;
 use terms::Member;
 use terms::Round;
 ghost use mathlib.Core.Path.{_≡_};
+ghost use Rattle.sheet.specs.Sheets.{filled};
+ghost use Rattle.member.specs.Answers.{refusalIn};
 ghost use Rattle.member.specs.Open.{closedState, freshState, openRefusal, openOutcome, openTable};
 
 // The state before an open: it is not well formed, so every call but open answers 1.
@@ -63,7 +65,7 @@ pub fn open_refusal(t: &[u32], own: Member, settings: Settings) -> u32
 
 // Opens the engine of a member; a refused open leaves the state s and the table as they were.
 pub fn open(s: State, t: &mut [u32], own: Member, written: Sheet) -> Outcome
-    ensures { λ o. ⌜ (o ≡ openOutcome s (now (t .entry)) own written) × (now (t .exit) ≡ openTable (now (t .entry)) own written) ⌝ }
+    ensures { λ o. ⌜ (o ≡ openOutcome s (now (t .entry)) own written) × (now (t .exit) ≡ openTable (now (t .entry)) own written) × (refusalIn (o .answer) ≡ openRefusal (now (t .entry)) own (filled written)) ⌝ }
 {
     let settings = sheet::fill(written);
     let n = open_refusal(t, own, settings);

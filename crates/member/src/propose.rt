@@ -14,6 +14,7 @@ ghost use Rattle.rules.specs.Calls.{proposing};
 ghost use Rattle.state.specs.Formed.{Formed};
 ghost use Rattle.state.specs.View.{view};
 ghost use Rattle.state.specs.Cached.{CachesFor, Cached};
+ghost use Rattle.member.specs.Answers.{refusalIn};
 ghost use Rattle.member.specs.Calls.{proposeRefusal, proposeOutcome};
 
 // Check 10: is there a proposal, or is one's own place held?
@@ -80,7 +81,7 @@ fn propose_refusal(formed: bool, cache: &[u64], s: State, t: &[u32], b: Body) ->
 // The call, where it is known whether the state is well formed, and committees may be cached.
 pub fn propose_cached(formed: bool, cache: &[u64], s: State, t: &[u32], b: Body) -> Outcome
     requires { ⌜ Cached s (now t) formed (now cache) ⌝ }
-    ensures { λ o. ⌜ o ≡ proposeOutcome s (now (t .entry)) b ⌝ }
+    ensures { λ o. ⌜ (o ≡ proposeOutcome s (now (t .entry)) b) × (refusalIn (o .answer) ≡ proposeRefusal s (now (t .entry)) b) ⌝ }
 {
     let n = propose_refusal(formed, cache, s, t, b);
     if n != 0 {
@@ -99,7 +100,7 @@ pub fn propose_cached(formed: bool, cache: &[u64], s: State, t: &[u32], b: Body)
 }
 
 pub fn propose(s: State, t: &[u32], b: Body) -> Outcome
-    ensures { λ o. ⌜ o ≡ proposeOutcome s (now (t .entry)) b ⌝ }
+    ensures { λ o. ⌜ (o ≡ proposeOutcome s (now (t .entry)) b) × (refusalIn (o .answer) ≡ proposeRefusal s (now (t .entry)) b) ⌝ }
 {
     let formed = state::well_formed(s, t);
     let none = [0u64; 1];

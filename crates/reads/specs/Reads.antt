@@ -47,6 +47,10 @@ module _ (s : State) (t : List ℕ) where
   unfoldable pub shareAnswer : ℕ → ℕ → ShareRead
   shareAnswer m r = cond (eqb (shareRefusal m r) 0) (share.Thousandths (rules.shareRead (s .settings) (view s t) m r)) (share.Refused (shareRefusal m r))
 
+  -- none, 0, where it is refused
+  unfoldable pub shareValue : ℕ → ℕ → ℕ
+  shareValue m r = ifAccepted (shareRefusal m r) (rules.shareRead (s .settings) (view s t) m r) 0
+
   -- certificate (4, 5, 23 none there): the proposal, the endorsers that it was stored with, and the number of its block, 0 for none
   unfoldable pub certificateRefusal : ℕ → ℕ → ℕ
   certificateRefusal m r = refusal (guarded s t (rules.readingCertificate (s .settings) (view s t) m r))
@@ -66,3 +70,7 @@ module _ (s : State) (t : List ℕ) where
 
   unfoldable pub blockAnswer : ℕ → BlockRead
   blockAnswer k = cond (eqb (blockRefusal k) 0) (block.At (record { 0 = rules.blockRead (s .settings) (view s t) k })) (block.Refused (blockRefusal k))
+
+  -- none, 0, where it is refused
+  unfoldable pub blockValue : ℕ → ℕ
+  blockValue k = ifAccepted (blockRefusal k) (rules.blockRead (s .settings) (view s t) k) 0

@@ -7,7 +7,9 @@ use terms::Round;
 ghost use mathlib.Core.Path.{_≡_};
 ghost use Prim.Native.Nat.{_<_};
 ghost use Rattle.state.specs.Formed.{Formed};
-ghost use Rattle.reads.specs.Reads.{committeeRefusal, committeeAnswer, shareAnswer, certificateRefusal, certificateAnswer, blockAnswer};
+ghost use Rattle.member.specs.Answers.{refusalIn};
+ghost use Rattle.reads.specs.Answers.{sharedAnswer, sharedValue, blockedAnswer, blockedValue};
+ghost use Rattle.reads.specs.Reads.{committeeRefusal, committeeAnswer, shareRefusal, shareAnswer, shareValue, certificateRefusal, certificateAnswer, blockRefusal, blockAnswer, blockValue};
 
 // The committee of a round: sixteen weights, 0 for a non-member; all 0 where the read is refused.
 pub struct CommitteeRead {
@@ -52,7 +54,7 @@ fn committee_refusal(s: State, t: &[u32], r: Round) -> u32
 }
 
 pub fn committee(s: State, t: &[u32], r: Round) -> CommitteeRead
-    ensures { λ v. ⌜ v ≡ committeeAnswer s (now (t .entry)) (r .0) ⌝ }
+    ensures { λ v. ⌜ (v ≡ committeeAnswer s (now (t .entry)) (r .0)) × (refusalIn (v .answer) ≡ committeeRefusal s (now (t .entry)) (r .0)) ⌝ }
 {
     let n = committee_refusal(s, t, r);
     if n != 0 {
@@ -86,7 +88,7 @@ fn share_of(s: State, t: &[u32], m: Member, r: Round) -> ShareRead
 }
 
 pub fn share(s: State, t: &[u32], m: Member, r: Round) -> ShareRead
-    ensures { λ v. ⌜ v ≡ shareAnswer s (now (t .entry)) (m .0) (r .0) ⌝ }
+    ensures { λ v. ⌜ (v ≡ shareAnswer s (now (t .entry)) (m .0) (r .0)) × (refusalIn (sharedAnswer v) ≡ shareRefusal s (now (t .entry)) (m .0) (r .0)) × (sharedValue v ≡ shareValue s (now (t .entry)) (m .0) (r .0)) ⌝ }
 {
     if !state::well_formed(s, t) {
         return ShareRead::Refused(1);
@@ -117,7 +119,7 @@ fn certificate_refusal(s: State, t: &[u32], m: Member, r: Round) -> u32
 }
 
 pub fn certificate(s: State, t: &[u32], m: Member, r: Round) -> CertificateRead
-    ensures { λ v. ⌜ v ≡ certificateAnswer s (now (t .entry)) (m .0) (r .0) ⌝ }
+    ensures { λ v. ⌜ (v ≡ certificateAnswer s (now (t .entry)) (m .0) (r .0)) × (refusalIn (v .answer) ≡ certificateRefusal s (now (t .entry)) (m .0) (r .0)) ⌝ }
 {
     let n = certificate_refusal(s, t, m, r);
     if n != 0 {
@@ -141,7 +143,7 @@ pub fn certificate(s: State, t: &[u32], m: Member, r: Round) -> CertificateRead
 }
 
 pub fn block(s: State, t: &[u32], k: u32) -> BlockRead
-    ensures { λ v. ⌜ v ≡ blockAnswer s (now (t .entry)) k ⌝ }
+    ensures { λ v. ⌜ (v ≡ blockAnswer s (now (t .entry)) k) × (refusalIn (blockedAnswer v) ≡ blockRefusal s (now (t .entry)) k) × (blockedValue v ≡ blockValue s (now (t .entry)) k) ⌝ }
 {
     if !state::well_formed(s, t) {
         return BlockRead::Refused(1);

@@ -123,7 +123,7 @@ returns-3 c =
     let s = entry (e .before .before) in
     let g = s .good .1 .1 in
     let h = m .propose-cached .ensures in
-    told-by Propose (steps.propose (s .args .q .body)) (e .enum-told3 .given .1) refl (omega (arith, g .1 .1 .0), omega arith) refl refl refl (s .pre .1) h refl (u .replied .ensures)
+    told-by Propose (steps.propose (s .args .q .body)) (e .enum-told3 .given .1) refl (omega (arith, g .1 .1 .0), omega arith) refl refl refl (s .pre .1) (h .0) refl (u .replied .ensures)
 
 same-length-8 : tie.Need-same-length-8
 same-length-8 c = search needs
@@ -194,7 +194,7 @@ returns-7 c =
     let m = u .before .before in
     let e = m .before .before in
     let s = entry (e .before .before) in
-    told-by Advance steps.advance (e .enum-told7 .given .1) refl (omega arith, omega arith) refl refl refl (s .pre .1) (m .advance-cached .ensures) refl (u .replied5 .ensures)
+    told-by Advance steps.advance (e .enum-told7 .given .1) refl (omega arith, omega arith) refl refl refl (s .pre .1) (m .advance-cached .ensures .0) refl (u .replied5 .ensures)
 
 same-length-19 : tie.Need-same-length-19
 same-length-19 c = search needs

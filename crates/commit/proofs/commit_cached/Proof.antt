@@ -14,6 +14,7 @@ use Rattle.commit.specs.Commit.{timeChecks, voteChecks, leadersFor}
 use Rattle.commit.proofs.AnchorLaws.{leaders-filled, leaders-length}
 use Rattle.commit.proofs.CheckLaws.{Timely, timely}
 use Rattle.commit.proofs.AnswerLaws.{answers-unread, answers-late, answers-unvoted, answers-made, led-low, blocks-more}
+use Rattle.commit.proofs.RuledLaws.{commits}
 use borrow.Author.Needs.{needs}
 use Rattle.commit.proofs.commit_cached.Statement.{statement}
 use Rattle.commit.proofs.commit_cached.Tie as tie
@@ -77,7 +78,7 @@ refused-requires : tie.Need-refused-requires
 refused-requires c κs = search needs
 
 returns : tie.Need-returns
-returns c = let a = answers-unread _ _ (sym (c .before .before .before .pre) ∙ not-true _ (c .before .if1 .taken)) in (c .refused .ensures ∙ a .0, a .1)
+returns c = let a = answers-unread _ _ (sym (c .before .before .before .pre) ∙ not-true _ (c .before .if1 .taken)) in commits _ _ (c .refused .ensures ∙ a .0, a .1)
 
 time-refusal-requires : tie.Need-time-refusal-requires
 time-refusal-requires c κs = whole (c .before)
@@ -92,7 +93,7 @@ returns-2 : tie.Need-returns-2
 returns-2 c =
     let n = c .before .before in
     let a = answers-late _ _ (reads (n .before .before)) _ (n .time-refusal .ensures) (c .before .if2 .taken) in
-    (c .refused2 .ensures ∙ a .0, a .1)
+    commits _ _ (c .refused2 .ensures ∙ a .0, a .1)
 
 last-round-requires : tie.Need-last-round-requires
 last-round-requires c κs = let f = whole (read (c .before .before)) in omega (arith, f .long, f .numbers .blocks-to)
@@ -127,7 +128,7 @@ returns-3 c =
     let n = c .before .before in
     let e = timed (found (filled (n .before))) in
     let a = answers-unvoted _ _ (reads (read e)) (in-time e) _ (n .vote-refusal .ensures) (c .before .if3 .taken) in
-    (c .refused3 .ensures ∙ a .0, a .1)
+    commits _ _ (c .refused3 .ensures ∙ a .0, a .1)
 
 slice-aggregate-commit-blocks : tie.Need-slice-aggregate-commit-blocks
 slice-aggregate-commit-blocks c = let l = chosen (voted c) in let a = read (timed (found l)) in sym (leaders-length (S a) (T a) _ (leads l))
@@ -162,7 +163,7 @@ returns-4 c =
     let n = found l in
     let e = timed n in
     let a = read e in
-    answers-made (S a) (T a) (reads a) (in-time e) (enough v) _ (n .last-round .ensures) _ (leads l) _ _ (b .commit-blocks .ensures .0) (b .commit-blocks .ensures .1)
+    commits (S a) (T a) (answers-made (S a) (T a) (reads a) (in-time e) (enough v) _ (n .last-round .ensures) _ (leads l) _ _ (b .commit-blocks .ensures .0) (b .commit-blocks .ensures .1))
 
 pub commit-cached-spec : {M : Type 1} → statement M
 commit-cached-spec =

@@ -26,7 +26,7 @@ advance-requires : tie.Need-advance-requires
 advance-requires c κs = search needs
 
 settle-requires : tie.Need-settle-requires
-settle-requires c κs = (state-read _ (is-read (c .before .before .before .before .before .state-reads .ensures) (c .before .before .before .before .if1 .left)) .long, advance-writable _ _ (c .before .advance .ensures))
+settle-requires c κs = (state-read _ (is-read (c .before .before .before .before .before .state-reads .ensures) (c .before .before .before .before .if1 .left)) .long, advance-writable _ _ (c .before .advance .ensures .0))
 
 same-length-2 : tie.Need-same-length-2
 same-length-2 c = search needs
@@ -34,7 +34,7 @@ same-length-2 c = search needs
 returns-2 : tie.Need-returns-2
 returns-2 c =
     let a = c .before .before .before .before .before .before .before .before .before .before .before .before .args in
-    let x = rw (c .before .before .before .before .before .state-in .ensures) at (c .before .before .before .before .advance .ensures) in
+    let x = rw (c .before .before .before .before .before .state-in .ensures) at (c .before .before .before .before .advance .ensures .0) in
     stepped-done (a .state .now) (a .table .now) advance (is-read (c .before .before .before .before .before .before .before .before .state-reads .ensures) (c .before .before .before .before .before .before .before .if1 .left)) x refl refl (c .before .before .settle .ensures)
 
 pub forgelilac-advance-spec : {M : Type 1} → statement M

@@ -44,7 +44,7 @@ propose-requires c κs = search needs
 settle-requires : tie.Need-settle-requires
 settle-requires c κs =
     let r = state-read _ (is-read (c .before .before .before .before .before .before .before .before .state-reads .ensures) (c .before .before .before .before .before .before .before .if1 .left)) in
-    (r .long, propose-writable _ _ _ (c .before .propose .ensures))
+    (r .long, propose-writable _ _ _ (c .before .propose .ensures .0))
 
 same-length-3 : tie.Need-same-length-3
 same-length-3 c = search needs
@@ -54,7 +54,7 @@ returns-3 c =
     let a = c .before .before .before .before .before .before .before .before .before .before .before .before .before .before .before .before .args in
     let e = is-read (c .before .before .before .before .before .before .before .before .before .before .before .state-reads .ensures) (c .before .before .before .before .before .before .before .before .before .before .if1 .left) in
     let f = is-read (c .before .before .before .before .before .before .before .before .before .lone-body-reads .ensures) (c .before .before .before .before .before .before .before .before .if2 .left) in
-    let x = rw (c .before .before .before .before .before .before .state-in .ensures, c .before .before .before .before .before .body-in .ensures) at (c .before .before .before .before .propose .ensures) in
+    let x = rw (c .before .before .before .before .before .before .state-in .ensures, c .before .before .before .before .before .body-in .ensures) at (c .before .before .before .before .propose .ensures .0) in
     stepped-done (a .state .now) (a .table .now) (propose (a .body .now)) (both-read e f) x refl refl (c .before .before .settle .ensures)
 
 pub forgelilac-propose-spec : {M : Type 1} → statement M

@@ -30,7 +30,7 @@ block-number-requires c κs = search needs
 returns-2 : tie.Need-returns-2
 returns-2 c =
     let a = c .before .before .before .before .before .before .before .args in
-    let x = rw (c .before .before .state-in .ensures) at (c .before .block .ensures) in
+    let x = rw (c .before .before .state-in .ensures) at (c .before .block .ensures .0) in
     done-read (a .state .now) (a .table .now) [] (block (a .number)) (is-read (c .before .before .before .before .state-reads .ensures) (c .before .before .before .if1 .left))
     (done-as (blockBy (a .state .now) (a .table .now) []) x (record { its-answer = c .block-number .ensures; its-state = refl; its-table = refl; its-out = refl }))
 

@@ -38,7 +38,7 @@ same-length c = search needs
 returns-3 : tie.Need-returns-3
 returns-3 c =
     let a = c .before .before .before .before .before .before .before .before .before .before .before .before .args in
-    let x = rw (c .before .before .before .before .before .state-in .ensures) at (c .before .before .before .before .certificate .ensures) in
+    let x = rw (c .before .before .before .before .before .state-in .ensures) at (c .before .before .before .before .certificate .ensures .0) in
     let d = c .before .before .show-certificate .ensures in
     done-read (a .state .now) (a .table .now) (a .out .now) (certificate (a .author) (a .round)) (both-read (is-read (c .before .before .before .before .before .before .before .before .state-reads .ensures) (c .before .before .before .before .before .before .before .if1 .left)) (le-leb 18 (length (a .out .now)) (c .before .before .before .before .before .before .if2 .left)))
     (done-as (certificateBy (a .state .now) (a .table .now) (a .out .now)) x (record { its-answer = d .0; its-state = refl; its-table = refl; its-out = d .1 }))

@@ -31,7 +31,7 @@ committee-requires : tie.Need-committee-requires
 committee-requires c κs = search needs
 
 show-committee-requires : tie.Need-show-committee-requires
-show-committee-requires c κs = (c .before .before .before .if2 .left, committee-shown _ _ _ (c .before .committee .ensures))
+show-committee-requires c κs = (c .before .before .before .if2 .left, committee-shown _ _ _ (c .before .committee .ensures .0))
 
 same-length : tie.Need-same-length
 same-length c = search needs
@@ -39,7 +39,7 @@ same-length c = search needs
 returns-3 : tie.Need-returns-3
 returns-3 c =
     let a = c .before .before .before .before .before .before .before .before .before .before .before .before .args in
-    let x = rw (c .before .before .before .before .before .state-in .ensures) at (c .before .before .before .before .committee .ensures) in
+    let x = rw (c .before .before .before .before .before .state-in .ensures) at (c .before .before .before .before .committee .ensures .0) in
     let d = c .before .before .show-committee .ensures in
     done-read (a .state .now) (a .table .now) (a .out .now) (committee (a .round)) (both-read (is-read (c .before .before .before .before .before .before .before .before .state-reads .ensures) (c .before .before .before .before .before .before .before .if1 .left)) (le-leb 16 (length (a .out .now)) (c .before .before .before .before .before .before .if2 .left)))
     (done-as (committeeBy (a .state .now) (a .table .now) (a .out .now)) x (record { its-answer = d .0; its-state = refl; its-table = refl; its-out = d .1 }))

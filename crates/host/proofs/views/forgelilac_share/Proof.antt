@@ -30,7 +30,7 @@ share-number-requires c κs = search needs
 returns-2 : tie.Need-returns-2
 returns-2 c =
     let a = c .before .before .before .before .before .before .before .args in
-    let x = rw (c .before .before .state-in .ensures) at (c .before .share .ensures) in
+    let x = rw (c .before .before .state-in .ensures) at (c .before .share .ensures .0) in
     done-read (a .state .now) (a .table .now) [] (share (a .member) (a .round)) (is-read (c .before .before .before .before .state-reads .ensures) (c .before .before .before .if1 .left))
     (done-as (shareBy (a .state .now) (a .table .now) []) x (record { its-answer = c .share-number .ensures; its-state = refl; its-table = refl; its-out = refl }))
 

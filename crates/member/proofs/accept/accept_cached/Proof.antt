@@ -40,7 +40,7 @@ returns : tie.Need-returns
 unfolding acceptOutcome acceptTable
 returns c =
     let n = c .before .accept-refusal .ensures in
-    (outcome-refused n _ _ (c .if1 .taken), sym (left-refused _ _ _ (λ z. c .if1 .taken (n ∙ z))))
+    (outcome-refused n _ _ (c .if1 .taken), sym (left-refused _ _ _ (λ z. c .if1 .taken (n ∙ z))), n)
 
 put-certificate-requires : tie.Need-put-certificate-requires
 put-certificate-requires c κs = let e = c .before .before in (within e, few _ _ _ _ (fits e .0) (fits e .1 .body))
@@ -60,7 +60,8 @@ returns-2 c =
     let k = c .before .before in
     let w = stored (k .before) in
     let e = free w in
-    (outcome-accepted (e .before .accept-refusal .ensures) _ _ (e .if1 .left), rw (← w .put-certificate .ensures) (k .clear-endorsed .ensures) ∙ sym (left-accepted _ _ _ (zero e)))
+    let n = e .before .accept-refusal .ensures in
+    (outcome-accepted n _ _ (e .if1 .left), rw (← w .put-certificate .ensures) (k .clear-endorsed .ensures) ∙ sym (left-accepted _ _ _ (zero e)), sym (e .if1 .left) ∙ n)
 
 pub accept-cached-spec : {M : Type 1} → statement M
 accept-cached-spec =

@@ -12,7 +12,7 @@ advance-refusal-requires c κs = search needs
 
 returns : tie.Need-returns
 unfolding advanceOutcome
-returns c = outcome-refused (c .before .advance-refusal .ensures) _ _ (c .if1 .taken)
+returns c = let n = c .before .advance-refusal .ensures in (outcome-refused n _ _ (c .if1 .taken), n)
 
 add-t10 : tie.Need-add-t10
 add-t10 c = let p = advance-passed _ _ (sym (c .before .before .advance-refusal .ensures) ∙ c .before .if1 .left) in let f = p .0 .settings in omega arith
@@ -22,7 +22,10 @@ bare-body-requires c κs = search needs
 
 returns-2 : tie.Need-returns-2
 unfolding advanceOutcome
-returns-2 c = rw (c .bare-body .ensures) (outcome-accepted (c .before .before .before .advance-refusal .ensures) _ _ (c .before .before .if1 .left))
+returns-2 c =
+    let e = c .before .before in
+    let n = e .before .advance-refusal .ensures in
+    (rw (c .bare-body .ensures) (outcome-accepted n _ _ (e .if1 .left)), sym (e .if1 .left) ∙ n)
 
 pub advance-cached-spec : {M : Type 1} → statement M
 advance-cached-spec =

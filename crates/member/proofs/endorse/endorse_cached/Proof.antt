@@ -15,7 +15,9 @@ same-length c = search needs
 
 returns : tie.Need-returns
 unfolding endorseOutcome endorseTable
-returns c = (outcome-refused (c .before .endorse-refusal .ensures) _ _ (c .if1 .taken), sym (left-refused _ _ _ (λ z. c .if1 .taken (c .before .endorse-refusal .ensures ∙ z))))
+returns c =
+    let n = c .before .endorse-refusal .ensures in
+    (outcome-refused n _ _ (c .if1 .taken), sym (left-refused _ _ _ (λ z. c .if1 .taken (n ∙ z))), n)
 
 set-endorsed-requires : tie.Need-set-endorsed-requires
 set-endorsed-requires c κs = let x = endorse-passed (c .before .before .before .before .before .before .args .s) (c .before .before .before .before .before .before .args .t .now) (c .before .before .before .before .before .before .args .p) (sym (c .before .before .endorse-refusal .ensures) ∙ c .before .if1 .left) in fits-within _ _ _ (x .0) (x .1)
@@ -25,7 +27,10 @@ same-length-2 c = search needs
 
 returns-2 : tie.Need-returns-2
 unfolding endorseOutcome endorseTable
-returns-2 c = (outcome-accepted (c .before .before .before .before .before .endorse-refusal .ensures) _ _ (c .before .before .before .before .if1 .left), c .before .before .set-endorsed .ensures ∙ sym (left-accepted _ _ _ (sym (c .before .before .before .before .before .endorse-refusal .ensures) ∙ c .before .before .before .before .if1 .left)))
+returns-2 c =
+    let e = c .before .before .before .before in
+    let n = e .before .endorse-refusal .ensures in
+    (outcome-accepted n _ _ (e .if1 .left), c .before .before .set-endorsed .ensures ∙ sym (left-accepted _ _ _ (sym n ∙ e .if1 .left)), sym (e .if1 .left) ∙ n)
 
 pub endorse-cached-spec : {M : Type 1} → statement M
 endorse-cached-spec =
