@@ -18,8 +18,7 @@ ghost use Rattle.rules.specs.Calls.{endorsing};
 ghost use Rattle.state.specs.Formed.{Formed};
 ghost use Rattle.state.specs.View.{view};
 ghost use Rattle.state.specs.Cached.{CachesFor, Cached};
-ghost use Rattle.member.specs.SharedChecks.{Fits};
-ghost use Rattle.member.specs.SharedChecks.{previousChecks};
+ghost use Rattle.member.specs.SharedChecks.{Fits, previousChecks};
 ghost use Rattle.member.specs.Answers.{refusalIn};
 ghost use Rattle.member.specs.Calls.{endorseRefusal, endorseOutcome, endorseTable};
 
