@@ -18,7 +18,7 @@ use Rattle.commit.proofs.AnswerLaws.{answers-refused, answers-accepted}
 use Rattle.commit.proofs.CheckLaws.{accepted}
 use Rattle.commit.proofs.PreservedLaws.{formed-commit}
 
--- beside a state that is not well formed nothing need be cache
+-- beside a state that is not well formed nothing need be cached
 pub known-unformed : {s : State} {t : List ℕ} {b : Bool} (cache : List ℕ) → b ≡ wellFormed s t → b ≡ false → Cached s t b cache
 known-unformed cache w n = record { form = w; committees = λ e. absurd (false≢true (sym n ∙ w ∙ e)) }
 

@@ -16,7 +16,7 @@ pub fn formed_by(formed: bool, a: Answer) -> bool
     }
 }
 
-// Committees cache anew, where the state is well formed.
+// Committees cached anew, where the state is well formed.
 pub fn renew(formed: bool, s: State, t: &[u32], cache: &mut [u64])
     requires { ⌜ formed ≡ wellFormed s (now t) ⌝ }
     ensures { λ _. ⌜ Cached s (now (t .entry)) formed (now (cache .exit)) ⌝ }
