@@ -12,6 +12,8 @@ use Rattle.requests.specs.Readings.{readingOf}
 use Rattle.framing.specs.Streams.{readables}
 use Rattle.framing.specs.Framing.{telling, stepOf}
 use Rattle.lines.specs.Puts.{Puts}
+use Rattle.state.specs.Cached.{Cached}
+use Rattle.answering.specs.declared.next.Progress.{Progress}
 use Rattle.answering.specs.Records.{servedState, servedTable, servedLines}
 
 -- what a record asks for
@@ -48,3 +50,10 @@ pub record Answered (s : State) (t : List ℕ) (l : List (Option (List ℕ))) (s
   pub its-state : state ≡ stateThrough s t l
   pub its-table : table ≡ tableThrough s t l
   pub its-lines : Puts x y at next (answersTo s t l) (length t * 9 + 20)
+
+-- a turn through the bytes at hand, and p after it: the records that it tells are answered, and the rest of p is that of the step; t′ and cache are the table and the committees cached after it
+pub record TurnServed (s : State) (t : List ℕ) (skipping : Bool) (hand : List ℕ) (p : Progress) (t′ cache x y : List ℕ) (at : ℕ) : Type 0 where
+  pub told : Answered s t (toldBy skipping hand) (p .state) t′ x y at (p .next)
+  pub its-skipping : p .skipping ≡ stepOf skipping hand .skipping
+  pub its-taken : p .taken ≡ stepOf skipping hand .next
+  pub known : Cached (p .state) t′ (p .formed) cache

@@ -29,6 +29,7 @@ ghost use Rattle.member.specs.Open.{openOutcome, openTable};
 ghost use Rattle.commit.specs.Commit.{commitOutcome, commitTableAfter};
 ghost use Rattle.lines.specs.Puts.{Puts};
 ghost use Rattle.answering.specs.Answers.{answerLine, committedLine, chainAnswer};
+ghost use Rattle.answering.specs.Replies.{OutcomeReplied, CallServed};
 ghost use Rattle.answering.specs.Records.{RecordAnswered};
 
 // The state after a record, whether it is well formed, and the next place of the buffer.
@@ -41,7 +42,7 @@ pub struct Reply {
 // What a call of a member leaves and answers.
 fn replied(formed: bool, o: member::Outcome, out: &mut [u8], at: usize) -> Reply
     requires { ⌜ at + 20 ≤ length (now out) ⌝ }
-    ensures { λ r. ⌜ (r .state ≡ o .state) × (r .formed ≡ formedBy formed (o .answer)) × Puts (now (out .entry)) (now (out .exit)) at (r .next) (answerLine (o .answer)) 20 ⌝ }
+    ensures { λ r. ⌜ OutcomeReplied (o .state) (formedBy formed (o .answer)) (answerLine (o .answer)) r (now (out .entry)) (now (out .exit)) at ⌝ }
 {
     let state = o.state;
     let a = o.answer;
@@ -57,7 +58,7 @@ fn replied(formed: bool, o: member::Outcome, out: &mut [u8], at: usize) -> Reply
 // What commit leaves and answers.
 fn counted(formed: bool, o: commit::Outcome, out: &mut [u8], at: usize) -> Reply
     requires { ⌜ at + 20 ≤ length (now out) ⌝ }
-    ensures { λ r. ⌜ (r .state ≡ o .state) × (r .formed ≡ formed) × Puts (now (out .entry)) (now (out .exit)) at (r .next) (committedLine (o .answer)) 20 ⌝ }
+    ensures { λ r. ⌜ OutcomeReplied (o .state) formed (committedLine (o .answer)) r (now (out .entry)) (now (out .exit)) at ⌝ }
 {
     let state = o.state;
     let a = o.answer;
@@ -81,7 +82,7 @@ fn opened(
     at: usize,
 ) -> Reply
     requires { ⌜ (at + 20 ≤ length (now out)) × (formed ≡ wellFormed s (now t)) ⌝ }
-    ensures { λ r. ⌜ (r .state ≡ openOutcome s (now (t .entry)) own written .state) × (now (t .exit) ≡ openTable (now (t .entry)) own written) × Puts (now (out .entry)) (now (out .exit)) at (r .next) (answerLine (openOutcome s (now (t .entry)) own written .answer)) 20 × Cached (r .state) (now (t .exit)) (r .formed) (now (cache .exit)) ⌝ }
+    ensures { λ r. ⌜ CallServed (openOutcome s (now (t .entry)) own written .state) (openTable (now (t .entry)) own written) (answerLine (openOutcome s (now (t .entry)) own written .answer)) r (now (t .exit)) (now (cache .exit)) (now (out .entry)) (now (out .exit)) at ⌝ }
 {
     let r = replied(formed, open(s, t, own, written), out, at);
     let state = r.state;
@@ -99,7 +100,7 @@ fn committed(
     at: usize,
 ) -> Reply
     requires { ⌜ (at + 20 ≤ length (now out)) × Cached s (now t) formed (now cache) ⌝ }
-    ensures { λ r. ⌜ (r .state ≡ commitOutcome s (now (t .entry)) .state) × (now (t .exit) ≡ commitTableAfter s (now (t .entry))) × Puts (now (out .entry)) (now (out .exit)) at (r .next) (committedLine (commitOutcome s (now (t .entry)) .answer)) 20 × Cached (r .state) (now (t .exit)) (r .formed) (now (cache .exit)) ⌝ }
+    ensures { λ r. ⌜ CallServed (commitOutcome s (now (t .entry)) .state) (commitTableAfter s (now (t .entry))) (committedLine (commitOutcome s (now (t .entry)) .answer)) r (now (t .exit)) (now (cache .exit)) (now (out .entry)) (now (out .exit)) at ⌝ }
 {
     let o = commit_cached(formed, s, t);
     let state = o.state;

@@ -2,13 +2,12 @@
 use crate::Reply;
 use framing::Event;
 use state::State;
-ghost use mathlib.Core.Path.{_≡_};
 ghost use mathlib.Core.List.{[]};
 ghost use Prim.Native.Nat.{_+_, _*_, _≤_};
 ghost use lib.ListN.{length};
 ghost use Rattle.state.specs.Cached.{Cached};
-ghost use Rattle.framing.specs.Framing.{telling, stepOf};
-ghost use Rattle.answering.specs.Streams.{toldBy, Answered};
+ghost use Rattle.framing.specs.Framing.{telling};
+ghost use Rattle.answering.specs.Streams.{Answered, TurnServed};
 
 // After a turn: the state, whether it is well formed, whether a record that was answered goes on, how many bytes are done with, and the next place of the buffer.
 pub struct Progress {
@@ -60,7 +59,7 @@ pub fn next_record(
     at: usize,
 ) -> Progress
     requires { ⌜ (at + length (now t) * 9 + 20 ≤ length (now out)) × Cached s (now t) formed (now cache) ⌝ }
-    ensures { λ r. ⌜ Answered s (now (t .entry)) (toldBy skipping (now (hand .entry))) (r .state) (now (t .exit)) (now (out .entry)) (now (out .exit)) at (r .next) × (r .skipping ≡ stepOf skipping (now (hand .entry)) .skipping) × (r .taken ≡ stepOf skipping (now (hand .entry)) .next) × Cached (r .state) (now (t .exit)) (r .formed) (now (cache .exit)) ⌝ }
+    ensures { λ r. ⌜ TurnServed s (now (t .entry)) skipping (now (hand .entry)) r (now (t .exit)) (now (cache .exit)) (now (out .entry)) (now (out .exit)) at ⌝ }
 {
     let step = framing::next_step(skipping, hand);
     let event = step.event;

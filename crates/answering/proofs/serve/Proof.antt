@@ -104,7 +104,7 @@ returns-2 c =
     let u = c .before .before .before .before .before .before in
     let e = u .before .before .before .before in
     let p = u .opened .ensures in
-    (served-by Open (e .enum-told2 .given .1) (p .0) (p .1) (omega arith) (p .2), p .3)
+    (served-by Open (e .enum-told2 .given .1) (p .its-state) (p .its-table) (omega arith) (p .its-line), p .known)
 
 same-length-5 : tie.Need-same-length-5
 same-length-5 c = search needs
@@ -210,7 +210,7 @@ returns-8 c =
     let u = c .before .before .before .before .before .before in
     let e = u .before .before .before .before in
     let p = u .committed .ensures in
-    (served-by Commit (e .enum-told8 .given .1) (p .0) (p .1) (omega arith) (p .2), p .3)
+    (served-by Commit (e .enum-told8 .given .1) (p .its-state) (p .its-table) (omega arith) (p .its-line), p .known)
 
 same-length-22 : tie.Need-same-length-22
 same-length-22 c = search needs

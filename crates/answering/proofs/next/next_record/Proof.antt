@@ -34,7 +34,8 @@ same-length-3 c = search needs
 returns : tie.Need-returns
 returns c =
     let e = c .before .before .before .before .before .before .before .before .before .before .before .before .next-step .ensures in
-    (through-step _ _ e (c .before .before .before .before .before .before .before .answered .ensures .0), ap (λ (z : Step). z .skipping) e, ap (λ (z : Step). z .next) e, c .before .before .before .before .before .before .before .answered .ensures .1)
+    let a = c .before .before .before .before .before .before .before .answered .ensures in
+    record { told = through-step _ _ e (a .0); its-skipping = ap (λ (z : Step). z .skipping) e; its-taken = ap (λ (z : Step). z .next) e; known = a .1 }
 
 pub next-record-spec : {M : Type 1} → statement M
 next-record-spec =
