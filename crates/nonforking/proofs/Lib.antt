@@ -14,4 +14,6 @@ pub mod StoredLaws
 pub mod ShownLaws
 pub mod Converses
 pub mod PlainTests
+pub mod Answers
+pub mod Advances
 pub mod Witness

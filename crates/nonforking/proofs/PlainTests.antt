@@ -1,18 +1,23 @@
--- A test whether the calls of a list have values in range and are no opens.
+-- A test whether the calls of a list have values in range, and are no opens but of numbers above 15, which are refused.
 use mathlib.Core.Path.{_≡_, subst}
-use mathlib.Core.Bool.{Bool, true, false, _&&_, false≢true}
+use mathlib.Core.Bool.{Bool, true, _&&_}
 use mathlib.Core.List.{List, [], _∷_}
+use native.Mathlib.Omega.{arith}
 use lib.Dec.{ltb}
 use borrow.Author.Tests.{ltb-true}
 use Rattle.base.proofs.Bools.{both}
-use Rattle.nonforking.specs.Engine.{Engine, Call, opens, propose, endorse, certify, accept, advance, commit, committee, share, certificate, block}
+use Rattle.base.proofs.CheckLaws.{refuses}
+use Rattle.terms.specs.declared.Member.{Member}
+use Rattle.sheet.specs.declared.Sheet.{Sheet}
+use Rattle.member.specs.Open.{openRefusal}
+use Rattle.nonforking.specs.Engine.{Engine, Call, opens, propose, endorse, certify, accept, advance, commit, committee, share, certificate, block, number}
 use Rattle.nonforking.specs.Statement.{Members, Entry, InRange, engineAfter}
 use Rattle.nonforking.specs.Views.{NoOpen}
 use Rattle.nonforking.proofs.StartLaws.{Fit}
 use Rattle.nonforking.proofs.Mirrors.{Plain}
 
 abbrev pub isPlain : Call → Bool
-isPlain (opens own sheet) = false
+isPlain (opens own sheet) = ltb 15 (own .0)
 isPlain (propose b) = ltb (b .previous) 65536
 isPlain (endorse p) = ltb (p .body .previous) 65536
 isPlain (certify d) = ltb d 65536
@@ -43,8 +48,16 @@ in-range (share m r) h = tt
 in-range (certificate m r) h = tt
 in-range (block n) h = tt
 
+-- whatever the table
+pub open-refused : (e : Engine) (own : Member) (sheet : Sheet) → ltb 15 (own .0) ≡ true → number e (opens own sheet) ≡ 4
+unfolding openRefusal
+open-refused e own sheet h = refuses 4 _ h
+
 no-open : (e : Engine) (c : Call) → isPlain c ≡ true → NoOpen e c
-no-open e c h own sheet q = absurd (false≢true (subst (λ (x : Call). isPlain x ≡ true) q h))
+no-open e c h own sheet q n =
+    let k = open-refused e own sheet (subst (λ (x : Call). isPlain x ≡ true) q h) in
+    let z : number e (opens own sheet) ≡ 0 = subst (λ (x : Call). number e x ≡ 0) q n in
+    absurd (omega (arith, k, z))
 
 pub plain-found : (X : Members) (fit : Fit X) (l : List Entry) → arePlain l ≡ true → Plain X fit l
 plain-found X fit [] h = tt

@@ -1,13 +1,13 @@
 -- Demand 3, proved: in every run the chains of correct members never fork, and committees are alike.
 use mathlib.Core.Path.{_≡_, refl, sym, ap, _∙_}
-use mathlib.Core.Bool.{true}
+use mathlib.Core.Bool.{Bool, true}
 use mathlib.Core.List.{List, _++_}
 use mathlib.Core.Logic.{_⊎_, inl, inr}
 use Prim.Native.Nat.{ℕ}
 use Rattle.agreement.specs.Listing.{listing, Lists}
 use Rattle.terms.specs.Proposals.{Content}
 use Rattle.sheet.specs.Ranges.{weightIn}
-use Rattle.committee.specs.Committees.{committeeOf, ordered, knownBy}
+use Rattle.committee.specs.Committees.{committeeOf, ordered, knownBy, quorum}
 use Rattle.rules.proofs.Runs as runs
 use Rattle.rules.proofs.Runs.{chainAfter}
 use Rattle.rules.proofs.RunAgreement.{runs-agree}
@@ -33,6 +33,9 @@ module _ (X : Members) where
 
       pub weights-shown : (q m : ℕ) → weights (engineAfter X l i) q m ≡ weightIn (committeeOf settings (chainAfter (group X z) (mirror X z l) i) q) m
       weights-shown q m = shown X z (λ T x. weights (engineAfter X l i) q m ≡ weightIn (committeeOf T x q) m) mirrors refl
+
+      pub quorums-shown : (q : ℕ) (set : ℕ → Bool) → quorum (weights (engineAfter X l i) q) set ≡ quorum (weightIn (committeeOf settings (chainAfter (group X z) (mirror X z l) i) q)) set
+      quorums-shown q set = shown X z (λ T x. quorum (weights (engineAfter X l i) q) set ≡ quorum (weightIn (committeeOf T x q)) set) mirrors refl
 
       knows-shown : (q : ℕ) → Knows (engineAfter X l i) q → knownBy settings (chainAfter (group X z) (mirror X z l) i) q ≡ true
       knows-shown q = shown X z (λ T x. knownBy T x q ≡ true) mirrors
