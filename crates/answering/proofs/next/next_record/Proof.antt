@@ -9,38 +9,29 @@ use Rattle.answering.proofs.StreamLaws.{through-step}
 use borrow.Author.Needs.{needs}
 use Rattle.answering.proofs.next.next_record.Statement.{statement}
 use Rattle.answering.proofs.next.next_record.Tie as tie
-use Rattle.answering.proofs.next.next_record.Reads as reads
-use Rattle.answering.proofs.next.next_record.Lts as lts
-use Rattle.answering.proofs.next.answered.Reads as answered-reads
-use Rattle.framing.proofs.next_step.Reads as next-step-reads
 
--- src/next.rt:40:9
 next-step-requires : tie.Need-next-step-requires
 next-step-requires c κs = search needs
 
--- src/next.rt:43:38
 slice-aggregate-answered : tie.Need-slice-aggregate-answered
 slice-aggregate-answered c =
     let a = c .before .before .before .before .before .before .before .before .args in
-    let h : c .before .before .before .next-step .result .length ≤ length (a .hand .now) = omega (arith, step-within (a .skipping) (a .hand .now) .length-to, ap (λ (z : Step). z .length) (c .before .before .before .next-step .ensures)) in
-    sym (length-take-le (c .before .before .before .next-step .result .length) (a .hand .now) h)
+    let u = c .before .before .before .next-step in
+    let h : u .result .length ≤ length (a .hand .now) = omega (arith, step-within (a .skipping) (a .hand .now) .length-to, ap (λ (z : Step). z .length) (u .ensures)) in
+    sym (length-take-le (u .result .length) (a .hand .now) h)
 
--- src/next.rt:43:9
 answered-requires : tie.Need-answered-requires
 answered-requires c κs = search needs
 
--- src/next.rt:36:1
 same-length : tie.Need-same-length
 same-length c = search needs
 
--- src/next.rt:36:1
 same-length-2 : tie.Need-same-length-2
 same-length-2 c = search needs
 
 same-length-3 : tie.Need-same-length-3
 same-length-3 c = search needs
 
--- src/next.rt:36:1
 returns : tie.Need-returns
 returns c =
     let e = c .before .before .before .before .before .before .before .before .before .before .before .before .next-step .ensures in
