@@ -27,7 +27,8 @@ use Rattle.answering.proofs.PutLaws.{puts-as}
 use Rattle.answering.specs.Records.{stateAfter, tableAfter, linesAfter, servedState, servedTable, servedLines, RecordAnswered}
 
 module _ {s : State} {t : List ℕ} {q : Reading} {state : State} {table : List ℕ} {x : List ℕ} {y : List ℕ} {at : ℕ} {next : ℕ} where
-  pub served-by : (k : Kind) {m : ℕ} → q .kind ≡ k → state ≡ stateAfter s t q k → table ≡ tableAfter s t q k → m ≤ length t * 9 + 20 → Puts x y at next (linesAfter s t q k) m → RecordAnswered s t q state table x y at next
+  pub served-by : (k : Kind) {m : ℕ} → q .kind ≡ k → state ≡ stateAfter s t q k → table ≡ tableAfter s t q k → m ≤ length t * 9 + 20 → Puts x y at next (linesAfter s t q k) m
+      → RecordAnswered s t q state table x y at next
   unfolding servedState servedTable servedLines
   served-by k e i g h p = record { its-state = rw e i; its-table = rw e g; its-lines = rw e (puts-as refl h p) }
 

@@ -10,7 +10,8 @@ use Rattle.framing.specs.Framing.{remaining, stepOf}
 use Rattle.framing.proofs.FramingLaws.{step-within}
 use Rattle.lines.specs.Puts.{Puts}
 use Rattle.lines.proofs.PutLaws.{puts-then}
-use Rattle.answering.specs.Streams.{answersTo, stateThrough, tableThrough, toldBy, Answered}
+use Rattle.answering.specs.declared.next.Progress.{Progress}
+use Rattle.answering.specs.Streams.{answersTo, stateThrough, tableThrough, toldBy, TurnServed}
 use Rattle.answering.proofs.StreamLaws.{turn-whole}
 use Rattle.runner.specs.Work.{AllAnswered}
 
@@ -18,21 +19,22 @@ use Rattle.runner.specs.Work.{AllAnswered}
 pub goes-none : {s : State} {t : List ℕ} {skipping : Bool} {hand : List ℕ} {x : List ℕ} {at : ℕ} → AllAnswered s t skipping hand s t skipping hand x x at at
 goes-none = record { put = []; puts = record { bytes = refl; past = omega arith; room = omega arith }; whole = λ more. refl }
 
--- one turn more
+-- one turn more, which takes k bytes
 pub goes-next : {s : State} {t : List ℕ} {b : Bool} {hand : List ℕ} {s₁ : State} {t₁ : List ℕ} {b₁ : Bool} {hand₁ : List ℕ} {x : List ℕ} {y : List ℕ} {at : ℕ} {mid : ℕ}
-    {s₂ : State} {t₂ : List ℕ} {b₂ : Bool} (k : ℕ) {l : List ℕ} {z : List ℕ} {next : ℕ} → l ≡ hand₁
-    → AllAnswered s t b hand s₁ t₁ b₁ hand₁ x y at mid → Answered s₁ t₁ (toldBy b₁ l) s₂ t₂ y z mid next × (b₂ ≡ stepOf b₁ l .skipping) × (k ≡ stepOf b₁ l .next)
-    → AllAnswered s t b hand s₂ t₂ b₂ (drop k hand₁) x z at next
-goes-next {s} {t} {b} {hand} {s₁} {t₁} {b₁} {hand₁} {s₂ = s₂} {t₂ = t₂} {b₂ = b₂} k {l} q g h =
+    {l : List ℕ} {p : Progress} {t₂ : List ℕ} {cache : List ℕ} {z : List ℕ} (k : ℕ) → p .taken ≡ k → l ≡ hand₁
+    → AllAnswered s t b hand s₁ t₁ b₁ hand₁ x y at mid → TurnServed s₁ t₁ b₁ l p t₂ cache y z mid
+    → AllAnswered s t b hand (p .state) t₂ (p .skipping) (drop k hand₁) x z at (p .next)
+goes-next {s} {t} {b} {hand} {s₁} {t₁} {b₁} {hand₁} {l = l} k e q g h =
     let a = answersTo s₁ t₁ (toldBy b₁ l) in
-    let p = puts-then (g .puts) (h .0 .its-lines) in
+    let u = puts-then (g .puts) (h .told .its-lines) in
     record {
       put = g .put ++ a;
-      puts = record { bytes = p .bytes; past = p .past; room = omega arith };
+      puts = record { bytes = u .bytes; past = u .past; room = omega arith };
       whole = λ more.
           g .whole more
           ∙ ap (λ (u : List ℕ). g .put ++ u) (ap (λ (u : List ℕ). answersTo s₁ t₁ (remaining b₁ (u ++ more))) (sym q) ∙ turn-whole s₁ t₁ b₁ l more)
-          ∙ rw (h .0 .its-state, h .0 .its-table, h .1, h .2, ← q) (sym (append-assoc (g .put) a (answersTo (stateThrough s₁ t₁ (toldBy b₁ l)) (tableThrough s₁ t₁ (toldBy b₁ l)) (remaining (stepOf b₁ l .skipping) (drop (stepOf b₁ l .next) l ++ more)))));
+          ∙ rw (h .told .its-state, h .told .its-table, h .its-skipping, sym e ∙ h .its-taken, ← q)
+          (sym (append-assoc (g .put) a (answersTo (stateThrough s₁ t₁ (toldBy b₁ l)) (tableThrough s₁ t₁ (toldBy b₁ l)) (remaining (stepOf b₁ l .skipping) (drop (stepOf b₁ l .next) l ++ more)))));
     }
 
 -- lines that fit

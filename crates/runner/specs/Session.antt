@@ -2,14 +2,16 @@
 use mathlib.Core.Path.{_≡_}
 use mathlib.Core.Bool.{true, false}
 use mathlib.Core.List.{List, [], _++_}
-use Prim.Native.Nat.{ℕ}
+use Prim.Native.Nat.{ℕ, _≤_}
 use lib.ListN.{length, take, drop}
+use Rattle.state.specs.Cached.{Cached}
 use Rattle.framing.specs.Streams.{hasEnd}
 use Rattle.framing.specs.Framing.{remaining}
 use Rattle.member.specs.Open.{closedState}
 use Rattle.answering.specs.Streams.{answersTo, output}
 use Rattle.runner.specs.declared.work.Work.{Work}
 use Rattle.runner.specs.declared.Session.{Session}
+use Rattle.runner.specs.Work.{MemorySizes}
 
 -- the bytes at hand in an input buffer
 abbrev pub handIn : List ℕ → ℕ → ℕ → List ℕ
@@ -19,6 +21,18 @@ handIn buf from end = drop from (take end buf)
 abbrev pub StartsWith : List ℕ → List ℕ → Type 0
 StartsWith out l = take (length l) out ≡ l
 
+-- the bytes at hand lie within the input buffer
+pub record HandWithin (from end : ℕ) (buf : List ℕ) : Type 0 where
+  pub from-to : from ≤ end
+  pub end-to : end ≤ length buf
+
+-- between two passes: the bytes at hand lie within the input buffer, the output buffer is empty, and what is known beside the state holds
+pub record SessionReady (s : Session) (cache t buf out : List ℕ) : Type 0 where
+  pub memory : MemorySizes t buf out
+  pub hand : HandWithin (s .work .from) (s .end) buf
+  pub empty : s .work .next ≡ 0
+  pub known : Cached (s .work .state) t (s .work .formed) cache
+
 -- x is the input buffer before, y after bytes came behind those at hand; the input has ended where more were wanted and none came
 pub record BufferRefilled (w : Work) (end : ℕ) (x y : List ℕ) (r : Session) : Type 0 where
   pub came : List ℕ
@@ -27,6 +41,12 @@ pub record BufferRefilled (w : Work) (end : ℕ) (x y : List ℕ) (r : Session) 
   pub formed : r .work .formed ≡ w .formed
   pub skipping : r .work .skipping ≡ w .skipping
   pub ended : r .ended ≡ true → (came ≡ []) × (w .waits ≡ true)
+
+-- r goes on after w: its bytes at hand lie within the input buffer, and its output buffer is empty
+pub record SessionRefilled (w : Work) (end : ℕ) (x y : List ℕ) (r : Session) : Type 0 where
+  pub hand : HandWithin (r .work .from) (r .end) y
+  pub empty : r .work .next ≡ 0
+  pub bytes : BufferRefilled w end x y r
 
 -- t, x and t′, x′ are the table and the input buffer before and after; out is the output buffer, of which `put` was written out
 pub record PassServed (s : Session) (t x : List ℕ) (r : Session) (t′ x′ out : List ℕ) : Type 0 where

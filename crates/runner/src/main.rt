@@ -7,13 +7,13 @@ use libc::STDOUT_FILENO;
 use work::Work;
 ghost use mathlib.Core.Path.{_≡_};
 ghost use mathlib.Core.Bool.{false};
-ghost use Prim.Native.Nat.{_+_, _*_, _≤_};
+ghost use Prim.Native.Nat.{_≤_};
 ghost use lib.ListN.{length};
-ghost use Rattle.state.specs.Cached.{Cached};
 ghost use Rattle.framing.specs.Streams.{hasEnd};
 ghost use Rattle.framing.specs.Framing.{remaining};
 ghost use Rattle.answering.specs.Streams.{answersTo};
-ghost use Rattle.runner.specs.Session.{handIn, StartsWith, Fresh, BufferRefilled, PassServed, SessionInvariant};
+ghost use Rattle.runner.specs.Work.{MemorySizes, OutputEmptied};
+ghost use Rattle.runner.specs.Session.{handIn, StartsWith, HandWithin, SessionReady, Fresh, SessionRefilled, PassServed, SessionInvariant};
 
 // The work, where the bytes at hand end in the input buffer, and whether the input has ended.
 struct Session {
@@ -50,7 +50,7 @@ fn start() -> Session
 
 // The work with the output buffer empty again, and the bytes at hand from another place on.
 fn emptied(w: Work, from: usize) -> Work
-    ensures { λ r. ⌜ (r .from ≡ from) × (r .next ≡ 0) × (r .state ≡ w .state) × (r .formed ≡ w .formed) × (r .skipping ≡ w .skipping) ⌝ }
+    ensures { λ r. ⌜ OutputEmptied w from r ⌝ }
 {
     let state = w.state;
     Work {
@@ -65,8 +65,8 @@ fn emptied(w: Work, from: usize) -> Work
 
 // Goes on with the bytes at hand; where more are wanted, reads them. The input has ended where none come.
 fn refill(w: Work, buf: &mut [u8], end: usize) -> Session
-    requires { ⌜ (w .from ≤ end) × (end ≤ length (now buf)) × (length (now buf) ≤ 65536) ⌝ }
-    ensures { λ r. ⌜ (r .work .from ≤ r .end) × (r .end ≤ length (now (buf .entry))) × (r .work .next ≡ 0) × BufferRefilled w end (now (buf .entry)) (now (buf .exit)) r ⌝ }
+    requires { ⌜ HandWithin (w .from) end (now buf) × (length (now buf) ≤ 65536) ⌝ }
+    ensures { λ r. ⌜ SessionRefilled w end (now (buf .entry)) (now (buf .exit)) r ⌝ }
 {
     let from = w.from;
     if !w.waits {
@@ -93,8 +93,8 @@ fn serve_pass(
     buf: &mut [u8],
     out: &mut [u8],
 ) -> Session
-    requires { ⌜ (s .work .from ≤ s .end) × (s .end ≤ length (now buf)) × (s .work .next ≡ 0) × (length (now t) ≤ 17680) × (length (now t) * 9 + 20 ≤ length (now out)) × (length (now buf) ≤ 65536) × Cached (s .work .state) (now t) (s .work .formed) (now cache) ⌝ }
-    ensures { λ r. ⌜ (r .work .from ≤ r .end) × (r .end ≤ length (now (buf .entry))) × (r .work .next ≡ 0) × PassServed s (now (t .entry)) (now (buf .entry)) r (now (t .exit)) (now (buf .exit)) (now (out .exit)) × Cached (r .work .state) (now (t .exit)) (r .work .formed) (now (cache .exit)) ⌝ }
+    requires { ⌜ SessionReady s (now cache) (now t) (now buf) (now out) ⌝ }
+    ensures { λ r. ⌜ PassServed s (now (t .entry)) (now (buf .entry)) r (now (t .exit)) (now (buf .exit)) (now (out .exit)) × SessionReady r (now (cache .exit)) (now (t .exit)) (now (buf .exit)) (now (out .exit)) ⌝ }
 {
     let end = s.end;
     let before = s.work;
@@ -105,8 +105,8 @@ fn serve_pass(
 
 // Serves until the input ends.
 fn serve_all(cache: &mut [u64], t: &mut [u32], buf: &mut [u8], out: &mut [u8]) -> Session
-    requires { ⌜ (length (now t) ≤ 17680) × (length (now t) * 9 + 20 ≤ length (now out)) × (length (now buf) ≤ 65536) ⌝ }
-    ensures { λ r. ⌜ (r .work .from ≤ r .end) × (r .end ≤ length (now (buf .entry))) × SessionInvariant (now (t .entry)) r (now (t .exit)) (now (buf .exit)) × Cached (r .work .state) (now (t .exit)) (r .work .formed) (now (cache .exit)) ⌝ }
+    requires { ⌜ MemorySizes (now t) (now buf) (now out) ⌝ }
+    ensures { λ r. ⌜ SessionInvariant (now (t .entry)) r (now (t .exit)) (now (buf .exit)) × SessionReady r (now (cache .exit)) (now (t .exit)) (now (buf .exit)) (now (out .exit)) ⌝ }
 {
     let mut s = start();
     let mut turns = u64::MAX;
@@ -120,7 +120,7 @@ fn serve_all(cache: &mut [u64], t: &mut [u32], buf: &mut [u8], out: &mut [u8]) -
 
 // Answers what is left at the end of input.
 fn conclude(s: Session, cache: &mut [u64], t: &mut [u32], buf: &[u8], out: &mut [u8])
-    requires { ⌜ (s .work .from ≤ s .end) × (s .end ≤ length (now buf)) × (length (now t) * 9 + 20 ≤ length (now out)) × Cached (s .work .state) (now t) (s .work .formed) (now cache) ⌝ }
+    requires { ⌜ SessionReady s (now cache) (now t) (now buf) (now out) ⌝ }
     ensures { λ _. ⌜ (hasEnd (handIn (now (buf .entry)) (s .work .from) (s .end)) ≡ false → StartsWith (now (out .exit)) (answersTo (s .work .state) (now (t .entry)) (remaining (s .work .skipping) (handIn (now (buf .entry)) (s .work .from) (s .end))))) ⌝ }
 {
     let end = s.end;

@@ -8,12 +8,12 @@ use Rattle.runner.proofs.conclude.Tie as tie
 slice-aggregate-rest : tie.Need-slice-aggregate-rest
 slice-aggregate-rest c =
     let a = c .before .before .before .before .before .before .before .args in
-    sym (length-take-le (a .s .end) (a .buf .now) (c .before .before .before .before .before .before .before .pre .1))
+    sym (length-take-le (a .s .end) (a .buf .now) (c .before .before .before .before .before .before .before .pre .hand .end-to))
 
 rest-requires : tie.Need-rest-requires
 rest-requires c κs =
     let a = c .before .before .before .before .before .before .before .args in
-    rw (length-take-le (a .s .end) (a .buf .now) (c .before .before .before .before .before .before .before .pre .1)) (c .before .before .before .before .before .before .before .pre .0)
+    rw (length-take-le (a .s .end) (a .buf .now) (c .before .before .before .before .before .before .before .pre .hand .end-to)) (c .before .before .before .before .before .before .before .pre .hand .from-to)
 
 finish-requires : tie.Need-finish-requires
 finish-requires c κs = search needs

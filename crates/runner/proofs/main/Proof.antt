@@ -1,7 +1,6 @@
-use mathlib.Core.Path.{_≡_, _∙_}
 use native.Mathlib.Omega.{arith}
 use Prim.Native.Nat.{ℕ}
-use lib.ListN.{length, length-replicate}
+use lib.ListN.{length-replicate}
 use borrow.Author.Needs.{needs}
 use Rattle.runner.proofs.main.Statement.{statement}
 use Rattle.runner.proofs.main.Tie as tie
@@ -23,7 +22,7 @@ serve-all-requires c κs =
     let t = length-replicate {A = ℕ} 17680 0 in
     let b = length-replicate {A = ℕ} 65536 0 in
     let o = length-replicate {A = ℕ} 262144 0 in
-    (omega (arith, t), omega (arith, t, o), omega (arith, b))
+    record { table-to = omega (arith, t); input-to = omega (arith, b); answer-to = omega (arith, t, o) }
 
 slice-aggregate-conclude : tie.Need-slice-aggregate-conclude
 slice-aggregate-conclude c = search needs
@@ -38,12 +37,7 @@ slice-aggregate-conclude-4 : tie.Need-slice-aggregate-conclude-4
 slice-aggregate-conclude-4 c = search needs
 
 conclude-requires : tie.Need-conclude-requires
-conclude-requires c κs =
-    let u = c .before .before .before .before .before .before .before .before .serve-all in
-    let e = u .ensures in
-    let t : length (u .last .1 .0) ≡ 17680 = u .kept .1 .0 ∙ length-replicate {A = ℕ} 17680 0 in
-    let o : length (u .last .1 .1 .1 .0) ≡ 262144 = u .kept .1 .1 .1 .0 ∙ length-replicate {A = ℕ} 262144 0 in
-    (e .0, rw (u .kept .1 .1 .0) (e .1), omega (arith, t, o), e .3)
+conclude-requires c κs = c .before .before .before .before .before .before .before .before .serve-all .ensures .1
 
 returns : tie.Need-returns
 returns c = search needs

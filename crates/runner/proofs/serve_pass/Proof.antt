@@ -19,7 +19,7 @@ filled c = c .before .before .before .before .before .before .before .before
 
 -- how many bytes are at hand
 hand : (c : tie.After-fill-arg3) → let a = entry c .args in length (take (a .s .end) (a .buf .now)) ≡ a .s .end
-hand c = let a = entry c .args in length-take-le (a .s .end) (a .buf .now) (entry c .pre .1)
+hand c = let a = entry c .args in length-take-le (a .s .end) (a .buf .now) (entry c .pre .hand .end-to)
 
 slice-reshare-prefix-fill : tie.Need-slice-reshare-prefix-fill
 slice-reshare-prefix-fill c = search needs
@@ -31,7 +31,12 @@ fill-requires : tie.Need-fill-requires
 fill-requires c κs =
     let p = entry (c .before) .pre in
     let l = hand (c .before) in
-    (rw l (p .0), rw l (omega (arith, p .1, p .5)), p .3, p .4, omega (arith, p .2), p .6)
+    record {
+      memory = record { table-to = p .memory .table-to; input-to = rw l (omega (arith, p .hand .end-to, p .memory .input-to)); answer-to = p .memory .answer-to };
+      from-to = rw l (p .hand .from-to);
+      next-to = omega (arith, p .empty);
+      known = p .known;
+    }
 
 flush-requires : tie.Need-flush-requires
 flush-requires c κs = search needs
@@ -40,7 +45,7 @@ refill-requires : tie.Need-refill-requires
 refill-requires c κs =
     let f = filled (c .before) in
     let p = entry (lent f) .pre in
-    (rw (hand (lent f)) at (f .fill .ensures .1), p .1, p .5)
+    (record { from-to = rw (hand (lent f)) at (f .fill .ensures .from-to); end-to = p .hand .end-to }, p .memory .input-to)
 
 same-length : tie.Need-same-length
 same-length c = search needs
@@ -59,11 +64,19 @@ returns c =
     let u = c .before .before in
     let m = filled (u .before .before) in
     let s = entry (lent m) in
-    let a = s .args in
+    let p = s .pre in
     let f = m .fill .ensures in
     let e = u .refill .ensures in
-    let d = advanced (a .s) (a .t .now) (a .buf .now) (m .fill .result) _ (u .refill .result) _ _ _ (f .0) (s .pre .2) (f .2) (f .3) (e .3) in
-    (e .0, e .1, e .2, d, refilled-known (e .3) (f .4))
+    let t = same-length-2 c in
+    let z = p .memory in (
+      advanced (s .args .s) (s .args .buf .now) (p .empty) f (e .bytes),
+      record {
+        memory = record { table-to = omega (arith, z .table-to, t); input-to = omega (arith, z .input-to, same-length-3 c); answer-to = omega (arith, z .answer-to, t, same-length-4 c) };
+        hand = e .hand;
+        empty = e .empty;
+        known = refilled-known (e .bytes) (f .known);
+      },
+    )
 
 pub serve-pass-spec : {M : Type 1} → statement M
 serve-pass-spec =

@@ -16,8 +16,9 @@ next-step-requires c κs = search needs
 slice-aggregate-answered : tie.Need-slice-aggregate-answered
 slice-aggregate-answered c =
     let a = c .before .before .before .before .before .before .before .before .args in
-    let h : c .before .before .before .next-step .result .length ≤ length (a .hand .now) = omega (arith, step-within (a .skipping) (a .hand .now) .length-to, ap (λ (z : Step). z .length) (c .before .before .before .next-step .ensures)) in
-    sym (length-take-le (c .before .before .before .next-step .result .length) (a .hand .now) h)
+    let u = c .before .before .before .next-step in
+    let h : u .result .length ≤ length (a .hand .now) = omega (arith, step-within (a .skipping) (a .hand .now) .length-to, ap (λ (z : Step). z .length) (u .ensures)) in
+    sym (length-take-le (u .result .length) (a .hand .now) h)
 
 answered-requires : tie.Need-answered-requires
 answered-requires c κs = search needs
