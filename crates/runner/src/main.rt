@@ -1,8 +1,13 @@
 // The runner's loop: records come in on standard input, and the lines that answer them go out on standard output (scope document: The runner).
 // Its memory is fixed: a table for ceilings up to 64, the committees of its rounds, and a buffer each for input and output.
 pub mod input;
+pub mod lengths;
 pub mod work;
 
+use crate::lengths::CACHE;
+use crate::lengths::INPUT;
+use crate::lengths::OUTPUT;
+use crate::lengths::TABLE;
 use libc::STDOUT_FILENO;
 use work::Work;
 ghost use mathlib.Core.Path.{_≡_};
@@ -13,6 +18,7 @@ ghost use Rattle.state.specs.Cached.{Cached};
 ghost use Rattle.framing.specs.Streams.{hasEnd};
 ghost use Rattle.framing.specs.Framing.{remaining};
 ghost use Rattle.answering.specs.Streams.{answersTo};
+ghost use Rattle.runner.specs.Lengths.{tableLength, inputLength};
 ghost use Rattle.runner.specs.Session.{handIn, StartsWith, Fresh, BufferRefilled, PassServed, SessionInvariant};
 
 // The work, where the bytes at hand end in the input buffer, and whether the input has ended.
@@ -65,7 +71,7 @@ fn emptied(w: Work, from: usize) -> Work
 
 // AllAnswered on with the bytes at hand; where more are wanted, reads them. The input has ended where none come.
 fn refill(w: Work, buf: &mut [u8], end: usize) -> Session
-    requires { ⌜ (w .from ≤ end) × (end ≤ length (now buf)) × (length (now buf) ≤ 65536) ⌝ }
+    requires { ⌜ (w .from ≤ end) × (end ≤ length (now buf)) × (length (now buf) ≤ inputLength) ⌝ }
     ensures { λ r. ⌜ (r .work .from ≤ r .end) × (r .end ≤ length (now (buf .entry))) × (r .work .next ≡ 0) × BufferRefilled w end (now (buf .entry)) (now (buf .exit)) r ⌝ }
 {
     let from = w.from;
@@ -93,7 +99,7 @@ fn serve_pass(
     buf: &mut [u8],
     out: &mut [u8],
 ) -> Session
-    requires { ⌜ (s .work .from ≤ s .end) × (s .end ≤ length (now buf)) × (s .work .next ≡ 0) × (length (now t) ≤ 17680) × (length (now t) * 9 + 20 ≤ length (now out)) × (length (now buf) ≤ 65536) × Cached (s .work .state) (now t) (s .work .formed) (now cache) ⌝ }
+    requires { ⌜ (s .work .from ≤ s .end) × (s .end ≤ length (now buf)) × (s .work .next ≡ 0) × (length (now t) ≤ tableLength) × (length (now t) * 9 + 20 ≤ length (now out)) × (length (now buf) ≤ inputLength) × Cached (s .work .state) (now t) (s .work .formed) (now cache) ⌝ }
     ensures { λ r. ⌜ (r .work .from ≤ r .end) × (r .end ≤ length (now (buf .entry))) × (r .work .next ≡ 0) × PassServed s (now (t .entry)) (now (buf .entry)) r (now (t .exit)) (now (buf .exit)) (now (out .exit)) × Cached (r .work .state) (now (t .exit)) (r .work .formed) (now (cache .exit)) ⌝ }
 {
     let end = s.end;
@@ -105,7 +111,7 @@ fn serve_pass(
 
 // Serves until the input ends.
 fn serve_all(cache: &mut [u64], t: &mut [u32], buf: &mut [u8], out: &mut [u8]) -> Session
-    requires { ⌜ (length (now t) ≤ 17680) × (length (now t) * 9 + 20 ≤ length (now out)) × (length (now buf) ≤ 65536) ⌝ }
+    requires { ⌜ (length (now t) ≤ tableLength) × (length (now t) * 9 + 20 ≤ length (now out)) × (length (now buf) ≤ inputLength) ⌝ }
     ensures { λ r. ⌜ (r .work .from ≤ r .end) × (r .end ≤ length (now (buf .entry))) × SessionInvariant (now (t .entry)) r (now (t .exit)) (now (buf .exit)) × Cached (r .work .state) (now (t .exit)) (r .work .formed) (now (cache .exit)) ⌝ }
 {
     let mut s = start();
@@ -133,10 +139,10 @@ fn conclude(s: Session, cache: &mut [u64], t: &mut [u32], buf: &[u8], out: &mut 
 }
 
 fn main() {
-    let mut cache = [0u64; 1040];
-    let mut table = [0u32; 17680];
-    let mut buf = [0u8; 65536];
-    let mut out = [0u8; 262144];
+    let mut cache = [0u64; CACHE];
+    let mut table = [0u32; TABLE];
+    let mut buf = [0u8; INPUT];
+    let mut out = [0u8; OUTPUT];
     let s = serve_all(&mut cache, &mut table, &mut buf, &mut out);
     conclude(s, &mut cache, &mut table, &buf, &mut out);
 }

@@ -12,6 +12,7 @@ ghost use Rattle.framing.specs.Framing.{Waits};
 ghost use Rattle.lines.specs.Puts.{Puts};
 ghost use Rattle.framing.specs.Framing.{remaining};
 ghost use Rattle.answering.specs.Streams.{answersTo};
+ghost use Rattle.runner.specs.Lengths.{tableLength, inputLength};
 ghost use Rattle.runner.specs.Work.{AllAnswered};
 
 // The state, whether it is well formed, whether a record that was answered goes on, the place of the input buffer where the bytes at hand start, the next place of the output buffer, and whether more bytes are wanted.
@@ -26,7 +27,7 @@ pub struct Work {
 
 // Turns until more bytes or more room are wanted.
 pub fn fill(w: Work, cache: &mut [u64], t: &mut [u32], hand: &[u8], out: &mut [u8]) -> Work
-    requires { ⌜ (w .from ≤ length (now hand)) × (length (now hand) ≤ 65536) × (length (now t) ≤ 17680) × (length (now t) * 9 + 20 ≤ length (now out)) × (w .next ≤ length (now out)) × Cached (w .state) (now t) (w .formed) (now cache) ⌝ }
+    requires { ⌜ (w .from ≤ length (now hand)) × (length (now hand) ≤ inputLength) × (length (now t) ≤ tableLength) × (length (now t) * 9 + 20 ≤ length (now out)) × (w .next ≤ length (now out)) × Cached (w .state) (now t) (w .formed) (now cache) ⌝ }
     ensures { λ r. ⌜ AllAnswered (w .state) (now (t .entry)) (w .skipping) (drop (w .from) (now (hand .entry))) (r .state) (now (t .exit)) (r .skipping) (drop (r .from) (now (hand .entry))) (now (out .entry)) (now (out .exit)) (w .next) (r .next) × (r .from ≤ length (now (hand .entry))) × (r .next ≤ length (now (out .entry))) × (r .waits ≡ true → Waits (drop (r .from) (now (hand .entry)))) × Cached (r .state) (now (t .exit)) (r .formed) (now (cache .exit)) ⌝ }
 {
     let last = out.len() - (t.len() * 9 + 20);

@@ -2,6 +2,7 @@ use mathlib.Core.Path.{_≡_, _∙_}
 use native.Mathlib.Omega.{arith}
 use Prim.Native.Nat.{ℕ}
 use lib.ListN.{length, length-replicate}
+use Rattle.runner.specs.Lengths.{tableLength, inputLength, outputLength}
 use borrow.Author.Needs.{needs}
 use Rattle.runner.proofs.main.Statement.{statement}
 use Rattle.runner.proofs.main.Tie as tie
@@ -28,9 +29,9 @@ slice-aggregate-serve-all-4 c = search needs
 -- src/main.rt:131:9
 serve-all-requires : tie.Need-serve-all-requires
 serve-all-requires c κs =
-    let t = length-replicate {A = ℕ} 17680 0 in
-    let b = length-replicate {A = ℕ} 65536 0 in
-    let o = length-replicate {A = ℕ} 262144 0 in
+    let t = length-replicate {A = ℕ} tableLength 0 in
+    let b = length-replicate {A = ℕ} inputLength 0 in
+    let o = length-replicate {A = ℕ} outputLength 0 in
     (omega (arith, t), omega (arith, t, o), omega (arith, b))
 
 -- src/main.rt:132:17
@@ -53,8 +54,8 @@ conclude-requires : tie.Need-conclude-requires
 conclude-requires c κs =
     let u = c .before .before .before .before .before .before .before .before .serve-all in
     let e = u .ensures in
-    let t : length (u .last .1 .0) ≡ 17680 = u .kept .1 .0 ∙ length-replicate {A = ℕ} 17680 0 in
-    let o : length (u .last .1 .1 .1 .0) ≡ 262144 = u .kept .1 .1 .1 .0 ∙ length-replicate {A = ℕ} 262144 0 in
+    let t : length (u .last .1 .0) ≡ tableLength = u .kept .1 .0 ∙ length-replicate {A = ℕ} tableLength 0 in
+    let o : length (u .last .1 .1 .1 .0) ≡ outputLength = u .kept .1 .1 .1 .0 ∙ length-replicate {A = ℕ} outputLength 0 in
     (e .0, rw (u .kept .1 .1 .0) (e .1), omega (arith, t, o), e .3)
 
 -- src/main.rt:127:1
