@@ -127,10 +127,10 @@ pub fn list_chain(t: &[u32], s: Settings, blocks: u32, out: &mut [u8], at: usize
     requires { ⌜ ChainInTable s (now t) blocks × (at + (s .ceiling .0 * 16 + 16) * 141 ≤ length (now out)) ⌝ }
     ensures { λ v. ⌜ Puts (now (out .entry)) (now (out .exit)) at v (chainLines s (chainOf (s .ceiling .0) (now (t .entry)) blocks)) ((s .ceiling .0 * 16 + 16) * 141) ⌝ }
 {
-    if s.ceiling.0 <= 64 {
-        let mut few = [0u32; 1040];
+    if s.ceiling.0 <= bonded::links::FEW_ROUNDS {
+        let mut few = [0u32; bonded::links::FEW];
         return listed_by(t, s, blocks, &mut few, out, at);
     }
-    let mut many = [0u32; 16400];
+    let mut many = [0u32; bonded::links::MANY];
     listed_by(t, s, blocks, &mut many, out, at)
 }

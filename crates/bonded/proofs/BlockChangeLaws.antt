@@ -9,7 +9,7 @@ use borrow.Author.Tests.{lt-ltb, le-ltb}
 use Rattle.base.specs.Folds.{foldTo}
 use Rattle.base.proofs.FoldLaws.{fold-none, fold-same, fold-high}
 use Rattle.terms.specs.Transactions.{readTransaction}
-use Rattle.store.specs.Table.{word, markAt, heldAt, countAt, transactionAt, contentAt}
+use Rattle.store.specs.Table.{markAt, heldAt, countAt, kindAt, numberAt, amountAt, transactionAt, contentAt}
 use Rattle.store.proofs.TableLaws.{count-le, content-transactions, transaction-words}
 use Rattle.committee.specs.Chain.{holdsAt, blockAt, chainOf}
 use Rattle.committee.proofs.ChainLaws.{holds-present, holds-other, holds-absent, block-inside}
@@ -30,7 +30,7 @@ record-fold t m r w = rw (content-transactions t m r) (changes-tab (transactionA
 
 module _ (t : List ℕ) (m r : ℕ) (w : List ℕ) where
   -- the three words of a slot
-  pub slot-words : (k : ℕ) → slotChange t m r k w ≡ cond (ltb k (countAt t m r)) (change (readTransaction (word t m r (4 + k * 3)) (word t m r (5 + k * 3)) (word t m r (6 + k * 3))) w) w
+  pub slot-words : (k : ℕ) → slotChange t m r k w ≡ cond (ltb k (countAt t m r)) (change (readTransaction (kindAt t m r k) (numberAt t m r k) (amountAt t m r k)) w) w
   unfolding slotChange
   slot-words k = rw (transaction-words t m r k) refl
 

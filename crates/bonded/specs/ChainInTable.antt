@@ -2,15 +2,15 @@
 use mathlib.Core.Path.{_≡_}
 use mathlib.Core.Bool.{true}
 use mathlib.Core.List.{List}
-use Prim.Native.Nat.{ℕ, _+_, _*_, _<_, _≤_}
-use lib.ListN.{length}
+use Prim.Native.Nat.{ℕ, _*_, _<_, _≤_}
+use Rattle.store.specs.Table.{Row}
 use Rattle.sheet.specs.declared.Settings.{Settings}
 use Rattle.committee.specs.Totals.{totalIn}
 use Rattle.bonded.specs.BlockChanges.{afterBlocks, lastRound, blocksFit}
 
 pub record ChainInTable (S : Settings) (t : List ℕ) (blocks : ℕ) : Type 0 where
   pub ceiling : S .ceiling .0 ≤ 1024
-  pub long : S .ceiling .0 * 272 + 272 ≤ length t
+  pub long : Row t (S .ceiling .0)
   pub few : 2 * blocks < S .ceiling .0
   pub rounds : blocksFit (S .ceiling .0) t blocks ≡ true
   pub light : totalIn (S .weights) ≤ 16000000

@@ -12,16 +12,16 @@ ghost use Rattle.committee.specs.Changes.{changes};
 ghost use Rattle.committee.specs.Totals.{totalIn};
 ghost use Rattle.bonded.specs.BlockChanges.{slotChange, placeChange, recordChange};
 ghost use Rattle.bonded.specs.Runs.{runOver, rowOver, rowsOver, runEnd};
-ghost use Rattle.bonded.specs.Links.{Links};
+ghost use Rattle.bonded.specs.Links.{manyPlaces, Links};
 
 // Slot k of a record that has n transactions.
 fn apply_slot(t: &[u32], m: Member, r: Round, n: u32, k: u32, w: &mut [u64; 16])
     requires { ⌜ Within (now t) (m .0) (r .0) × (n ≡ countAt (now t) (m .0) (r .0)) × (k ≤ 3) × (totalIn (now w) ≤ 4611686018427387904) ⌝ }
     ensures { λ _. ⌜ now (w .exit) ≡ slotChange (now (t .entry)) (m .0) (r .0) k (now (w .entry)) ⌝ }
 {
-    let kind = store::record::word_at(t, m, r, 4 + k * 3);
-    let number = store::record::word_at(t, m, r, 5 + k * 3);
-    let amount = store::record::word_at(t, m, r, 6 + k * 3);
+    let kind = store::record::kind_at(t, m, r, k);
+    let number = store::record::number_at(t, m, r, k);
+    let amount = store::record::amount_at(t, m, r, k);
     committee::change::apply(w, k < n, kind, number, amount);
 }
 
@@ -52,7 +52,7 @@ fn apply_turn(t: &[u32], y: u32, p: u32, w: &mut [u64; 16])
 
 // The places of a row from p on, one after the other: those below z and not below y. Gives the first one from z on.
 fn apply_run(t: &[u32], next: &[u32], y: u32, z: u32, p: u32, w: &mut [u64; 16]) -> u32
-    requires { ⌜ (z ≤ length (now next)) × ((z - 1) / 16 * 272 + 272 ≤ length (now t)) × (totalIn (now w) ≤ 1152921504606846976) ⌝ }
+    requires { ⌜ (z ≤ length (now next)) × Row (now t) ((z - 1) / 16) × (totalIn (now w) ≤ 1152921504606846976) ⌝ }
     ensures { λ v. ⌜ (now (w .exit) ≡ runOver (recordChange (now (t .entry))) (now (next .entry)) y z 16 p (now (w .entry))) × (v ≡ runEnd (now (next .entry)) z 16 p) ⌝ }
 {
     let mut q = p;
@@ -68,7 +68,7 @@ fn apply_run(t: &[u32], next: &[u32], y: u32, z: u32, p: u32, w: &mut [u64; 16])
 
 // The places of the row of place p: from member a on, then those below it. Gives the first one after the row.
 fn apply_row(t: &[u32], next: &[u32], a: u32, p: u32, w: &mut [u64; 16]) -> u32
-    requires { ⌜ (a ≤ 16) × (p < 16400) × (p / 16 * 16 + 16 ≤ length (now next)) × (p / 16 * 272 + 272 ≤ length (now t)) × (totalIn (now w) ≤ 1125899906842624) ⌝ }
+    requires { ⌜ (a ≤ 16) × (p < manyPlaces) × (p / 16 * 16 + 16 ≤ length (now next)) × Row (now t) (p / 16) × (totalIn (now w) ≤ 1125899906842624) ⌝ }
     ensures { λ v. ⌜ (now (w .exit) ≡ rowOver (recordChange (now (t .entry))) (now (next .entry)) a p (now (w .entry))) × (v ≡ runEnd (now (next .entry)) (p / 16 * 16 + 16) 16 p) ⌝ }
 {
     let row = p / 16 * 16;

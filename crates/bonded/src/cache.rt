@@ -110,11 +110,11 @@ pub fn fill_cache(t: &[u32], s: Settings, blocks: u32, cache: &mut [u64])
     requires { ⌜ ChainInTable s (now t) blocks ⌝ }
     ensures { λ _. ⌜ Caches s (chainOf (s .ceiling .0) (now (t .entry)) blocks) (now (cache .exit)) ⌝ }
 {
-    if s.ceiling.0 <= 64 {
-        let mut few = [0u32; 1040];
+    if s.ceiling.0 <= crate::links::FEW_ROUNDS {
+        let mut few = [0u32; crate::links::FEW];
         fill_cache_with(t, s, blocks, &mut few, cache);
         return;
     }
-    let mut many = [0u32; 16400];
+    let mut many = [0u32; crate::links::MANY];
     fill_cache_with(t, s, blocks, &mut many, cache);
 }

@@ -71,10 +71,10 @@ pub fn fill_leaders(
     requires { ⌜ ChainInTable s (now t) blocks × (m .0 ≤ top .0) × (top .0 ≤ 1024) ⌝ }
     ensures { λ w. ⌜ (now (l .exit) ≡ fillTo (leaderAt s (chainOf (s .ceiling .0) (now (t .entry)) blocks)) (m .0) (top .0 - m .0) (now (l .entry))) × (w ≡ committeeOf s (chainOf (s .ceiling .0) (now (t .entry)) blocks) (top .0 + 1)) × TotalBounded w ⌝ }
 {
-    if s.ceiling.0 <= 64 {
-        let mut few = [0u32; 1040];
+    if s.ceiling.0 <= crate::links::FEW_ROUNDS {
+        let mut few = [0u32; crate::links::FEW];
         return filled_by(t, s, blocks, m, top, &mut few, l);
     }
-    let mut many = [0u32; 16400];
+    let mut many = [0u32; crate::links::MANY];
     filled_by(t, s, blocks, m, top, &mut many, l)
 }

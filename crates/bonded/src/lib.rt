@@ -133,11 +133,11 @@ pub fn committees_of(t: &[u32], s: Settings, blocks: u32, r: Round) -> Pair
         let w = s.weights;
         return Pair { before: w, at: w };
     }
-    if s.ceiling.0 <= 64 {
-        let mut few = [0u32; 1040];
+    if s.ceiling.0 <= crate::links::FEW_ROUNDS {
+        let mut few = [0u32; crate::links::FEW];
         return walked(t, s, blocks, r, &mut few);
     }
-    let mut many = [0u32; 16400];
+    let mut many = [0u32; crate::links::MANY];
     walked(t, s, blocks, r, &mut many)
 }
 

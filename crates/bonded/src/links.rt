@@ -9,6 +9,13 @@ ghost use Rattle.store.specs.Table.{Row, Within};
 ghost use Rattle.bonded.specs.Links.{Links};
 ghost use Rattle.bonded.specs.Runs.{runEnd};
 
+// The places of the rounds from 0 up to 64, and up to 1,024: sixteen each.
+pub const FEW_ROUNDS: u32 = 64;
+
+pub const FEW: usize = 16 * (64 + 1);
+
+pub const MANY: usize = 16 * (1024 + 1);
+
 // Place p becomes the first one of block k.
 fn link(head: &mut [u32; 512], next: &mut [u32], k: u32, p: u32)
     requires { ⌜ (k < 512) × (p < length (now next)) ⌝ }

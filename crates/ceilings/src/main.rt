@@ -4,6 +4,9 @@ use sheet::Setting;
 use sheet::Sheet;
 use terms::Member;
 
+// The words of a table of ceiling 1,024.
+const TABLE: usize = 278800;
+
 // Opens with a ceiling and writes the answer out.
 fn open(t: &mut [u32], ceiling: u32) {
     let blank = Sheet::blank();
@@ -22,7 +25,7 @@ fn open(t: &mut [u32], ceiling: u32) {
 }
 
 fn main() {
-    let mut table = [0u32; 278800];
+    let mut table = [0u32; TABLE];
     open(&mut table, 1024);
     open(&mut table, 1025);
 }

@@ -20,6 +20,7 @@ use Rattle.terms.specs.Proposals.{slotOf}
 use Rattle.terms.proofs.ProposalLaws.{read-back}
 use Rattle.state.specs.declared.State.{State}
 use Rattle.member.specs.Open.{noBody}
+use Rattle.host.specs.Lengths.{stateLength, bodyLength}
 use Rattle.host.specs.Words.{word, sixteen}
 use Rattle.host.proofs.PasteLaws.{length-sixteen}
 use Rattle.host.specs.Bodies.{isTriple, tripleReads, bodyReads, slotIn, bodyIn, usedOf, usedWords, bodyWords}
@@ -44,9 +45,9 @@ triple-reads (Bond m a) = refl
 triple-reads (Unbond m) = refl
 triple-reads (Entry n) = refl
 
--- ---- the 37 words alone
+-- ---- the words alone
 
-pub length-state : (s : State) → length (stateWords s) ≡ 37
+pub length-state : (s : State) → length (stateWords s) ≡ stateLength
 unfolding stateWords
 length-state s =
     let w = sixteen (s .settings .weights) in
@@ -55,7 +56,7 @@ length-state s =
     let b = bodyWords (keptOf s) in
     length-append (head ++ w ++ middle) b
     ∙ ap (λ (k : ℕ). length (head ++ w ++ middle) + k) (length-body (keptOf s))
-    ∙ ap (λ (k : ℕ). k + 14) (length-append (head ++ w) middle ∙ ap (λ (k : ℕ). k + 3) (length-append head w ∙ ap (λ (k : ℕ). 4 + k) (length-sixteen (s .settings .weights))))
+    ∙ ap (λ (k : ℕ). k + bodyLength) (length-append (head ++ w) middle ∙ ap (λ (k : ℕ). k + 3) (length-append head w ∙ ap (λ (k : ℕ). 4 + k) (length-sixteen (s .settings .weights))))
 
 body-back : (s : State) → bodyIn (stateWords s) 23 ≡ tidyBody (keptOf s)
 unfolding bodyIn slotIn stateWords bodyWords usedWords sixteen tab tidyBody
@@ -116,23 +117,23 @@ words-read : (s : State) → (s .proposing ≡ true → s .body .previous < 6553
 unfolding stateReads
 words-read s h = rw (length-state s, flag-back s) (go (s .proposing) refl)
   where
-    go : (p : Bool) → s .proposing ≡ p → (leb 37 37 && (leb (cond p 1 0) 1 && cond (eqb (cond p 1 0) 0) true (bodyReads (stateWords s) 23))) ≡ true
+    go : (p : Bool) → s .proposing ≡ p → (leb stateLength stateLength && (leb (cond p 1 0) 1 && cond (eqb (cond p 1 0) 0) true (bodyReads (stateWords s) 23))) ≡ true
     go true e = body-read s (rw (kept-some s e) (h e))
     go false e = refl
 
 -- ---- put over a stretch
 
-module _ (w : List ℕ) (s : State) (l : 37 ≤ length w) where
-  agree : Agree 37 (paste w 0 (stateWords s) 37) (stateWords s)
-  agree k h = let e : 0 + k ≡ k = omega arith in rw e at (paste-inside w 0 (stateWords s) 37 l (length-state s) k h)
+module _ (w : List ℕ) (s : State) (l : stateLength ≤ length w) where
+  agree : Agree stateLength (paste w 0 (stateWords s) stateLength) (stateWords s)
+  agree k h = let e : 0 + k ≡ k = omega arith in rw e at (paste-inside w 0 (stateWords s) stateLength l (length-state s) k h)
 
   -- what is read back is the state as its words tell it
-  pub put-back : stateIn (paste w 0 (stateWords s) 37) ≡ tidy s
-  put-back = state-same (paste w 0 (stateWords s) 37) (stateWords s) agree ∙ words-back s
+  pub put-back : stateIn (paste w 0 (stateWords s) stateLength) ≡ tidy s
+  put-back = state-same (paste w 0 (stateWords s) stateLength) (stateWords s) agree ∙ words-back s
 
   -- and it can be read
-  pub put-read : (s .proposing ≡ true → s .body .previous < 65536) → stateReads (paste w 0 (stateWords s) 37) ≡ true
+  pub put-read : (s .proposing ≡ true → s .body .previous < 65536) → stateReads (paste w 0 (stateWords s) stateLength) ≡ true
   put-read h =
       let m = length-state s in
-      let n = length-paste w 0 (stateWords s) 37 l (omega arith) in
-      state-reads-same (paste w 0 (stateWords s) 37) (stateWords s) agree (omega arith) (omega arith) ∙ words-read s h
+      let n = length-paste w 0 (stateWords s) stateLength l (omega arith) in
+      state-reads-same (paste w 0 (stateWords s) stateLength) (stateWords s) agree (omega arith) (omega arith) ∙ words-read s h

@@ -1,4 +1,4 @@
--- What an accepted call writes: the 37 words of the state and no other; where there is no proposal its words are 0.
+-- What an accepted call writes: the words of the state and no other; where there is no proposal its words are 0.
 use mathlib.Core.Path.{_≡_, refl}
 use mathlib.Core.Bool.{Bool, true, false, cond}
 use mathlib.Core.List.{List}
@@ -16,6 +16,7 @@ use Rattle.member.specs.declared.Answer.the-variants.{Accepted, Refused}
 use Rattle.member.specs.Open.{closedState, openOutcome}
 use Rattle.member.specs.Calls.{proposeOutcome, advanceOutcome}
 use Rattle.commit.specs.Commit.{commitOutcome}
+use Rattle.host.specs.Lengths.{stateLength, bodyLength}
 use Rattle.host.specs.Bodies.{loneBodyReads, bodyIn, usedOf, usedWords, bodyWords, tripleWords}
 use Rattle.host.specs.Sheets.{sheetReads, sheetIn}
 use Rattle.host.specs.States.{stateReads, stateIn, keptOf, stateWords}
@@ -24,7 +25,7 @@ use Rattle.host.proofs.BackLaws.{length-state}
 use Rattle.host.specs.Calls.{Call, opens, propose, endorse, certify, accept, advance, commit, committee, share, certificate, block, over, addedAnswer, readable, unread, served, turn}
 
 -- the body's words of a state without a proposal
-pub none-zero : (s : State) → s .proposing ≡ false → bodyWords (keptOf s) ≡ replicate 14 0
+pub none-zero : (s : State) → s .proposing ≡ false → bodyWords (keptOf s) ≡ replicate bodyLength 0
 unfolding keptOf bodyWords usedWords usedOf
 none-zero s e = rw e refl
 
@@ -34,13 +35,13 @@ unfolding usedOf
 unused-zero b k h = rw (le-ltb k (b .count) h) refl
 
 module _ (w t o : List ℕ) where
-  over-beyond : (a : Answer) (s : State) → 37 ≤ length w → drop 37 (over a w (stateWords s) 37) ≡ drop 37 w
-  over-beyond Accepted s h = let l = length-state s in drop-paste w 0 (stateWords s) 37 (omega arith) (omega arith)
+  over-beyond : (a : Answer) (s : State) → stateLength ≤ length w → drop stateLength (over a w (stateWords s) stateLength) ≡ drop stateLength w
+  over-beyond Accepted s h = let l = length-state s in drop-paste w 0 (stateWords s) stateLength (omega arith) (omega arith)
   over-beyond (Refused n) s h = refl
 
-  served-beyond : (c : Call) → readable w t o c ≡ true → drop 37 (served w t o c .state) ≡ drop 37 w
+  served-beyond : (c : Call) → readable w t o c ≡ true → drop stateLength (served w t o c .state) ≡ drop stateLength w
   served-beyond (opens own sheet) r =
-      let x = openOutcome closedState t (record { 0 = own }) (sheetIn sheet) in over-beyond (x .answer) (x .state) (leb-true 37 (length w) (both (leb 37 (length w)) (sheetReads sheet) r .0))
+      let x = openOutcome closedState t (record { 0 = own }) (sheetIn sheet) in over-beyond (x .answer) (x .state) (leb-true stateLength (length w) (both (leb stateLength (length w)) (sheetReads sheet) r .0))
   served-beyond (propose b) r =
       let x = proposeOutcome (stateIn w) t (bodyIn b 0) in over-beyond (x .answer) (x .state) (state-read w (both (stateReads w) (loneBodyReads b) r .0) .long)
   served-beyond (endorse p) r = refl
@@ -53,11 +54,11 @@ module _ (w t o : List ℕ) where
   served-beyond (certificate a n) r = refl
   served-beyond (block k) r = refl
 
-  -- no call changes a word beyond the 37
-  pub beyond-same : (c : Call) → drop 37 (turn w t o c .state) ≡ drop 37 w
+  -- no call changes a word beyond them
+  pub beyond-same : (c : Call) → drop stateLength (turn w t o c .state) ≡ drop stateLength w
   unfolding turn
   beyond-same c = go (readable w t o c) refl
     where
-      go : (b : Bool) → readable w t o c ≡ b → drop 37 (cond b (served w t o c) (unread w t o) .state) ≡ drop 37 w
+      go : (b : Bool) → readable w t o c ≡ b → drop stateLength (cond b (served w t o c) (unread w t o) .state) ≡ drop stateLength w
       go true r = served-beyond c r
       go false r = refl

@@ -6,6 +6,7 @@ use Prim.Native.Nat.{ℕ}
 use borrow.Author.Tests.{not-true, not-false}
 use Rattle.member.specs.declared.Outcome.{Outcome}
 use Rattle.member.specs.Answers.{refusalIn}
+use Rattle.host.specs.Lengths.{stateLength}
 use Rattle.host.specs.States.{stateWords}
 use Rattle.host.specs.Calls.{Result, Done, Call, plain, over, readable, unread, kept, steppedBy, served, turn}
 
@@ -45,6 +46,6 @@ module _ (w t : List ℕ) (c : Call) {x : Outcome} {y : Outcome} {r : ℕ} {u : 
   kept-done q p = done-read w t [] c k (rw (q, ← e) (record { its-answer = p; its-state = refl; its-table = h; its-out = refl }))
 
   -- of a call that changes the state
-  pub stepped-done : {s : List ℕ} → served w t [] c ≡ steppedBy w t [] y v → (r ≡ refusalIn (x .answer)) × (s ≡ over (x .answer) w (stateWords (x .state)) 37)
+  pub stepped-done : {s : List ℕ} → served w t [] c ≡ steppedBy w t [] y v → (r ≡ refusalIn (x .answer)) × (s ≡ over (x .answer) w (stateWords (x .state)) stateLength)
       → Done plain (turn w t [] c) r s u []
   stepped-done q p = done-read w t [] c k (rw (q, ← e) (record { its-answer = p .0; its-state = p .1; its-table = h; its-out = refl }))

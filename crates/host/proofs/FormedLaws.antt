@@ -26,6 +26,7 @@ use Rattle.reads.specs.Answers.{sharedAnswer, blockedAnswer}
 use Rattle.reads.specs.Reads.{committeeAnswer, shareAnswer, certificateAnswer, blockAnswer}
 use Rattle.reads.proofs.AnswerLaws.{committee-number, certificate-number}
 use Rattle.reads.proofs.ReadLaws.{committee-passed, share-refused, share-unformed, certificate-passed, block-refused, block-unformed}
+use Rattle.host.specs.Lengths.{proposalLength}
 use Rattle.host.specs.Bodies.{loneBodyReads, bodyIn}
 use Rattle.host.specs.Proposals.{proposalReads, proposalIn, certificateReads, certificateIn}
 use Rattle.host.specs.Sheets.{sheetIn}
@@ -39,7 +40,7 @@ proposal-set : (p : List ℕ) → getD p 2 0 < 65536 → proposalIn p .body .pre
 unfolding proposalIn bodyIn
 proposal-set p h = h
 
-certificate-sets : (c : List ℕ) → getD c 2 0 < 65536 → getD c 16 0 < 65536 → (certificateIn c .proposal .body .previous < 65536) × (certificateIn c .endorsers < 65536)
+certificate-sets : (c : List ℕ) → getD c 2 0 < 65536 → getD c proposalLength 0 < 65536 → (certificateIn c .proposal .body .previous < 65536) × (certificateIn c .endorsers < 65536)
 unfolding certificateIn
 certificate-sets c h d = (proposal-set c h, d)
 

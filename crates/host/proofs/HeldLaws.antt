@@ -25,6 +25,7 @@ use Rattle.store.proofs.TableLaws.{content-previous, previous-lt, endorsers-lt}
 use Rattle.store.proofs.RecordLaws.{proposal-few, proposal-content}
 use Rattle.reads.proofs.ReadLaws.{certificate-given}
 use Rattle.reads.proofs.AnswerLaws.{certificate-number}
+use Rattle.host.specs.Lengths.{proposalLength, certificateLength, heldLength}
 use Rattle.host.specs.Words.{word}
 use Rattle.host.specs.Bodies.{tripleReads, bodyReads, slotIn, bodyIn, usedOf, usedWords, bodyWords}
 use Rattle.host.specs.Proposals.{proposalReads, proposalIn, certificateReads, certificateIn, heldWords}
@@ -37,7 +38,7 @@ use Rattle.host.specs.Calls.{certificate, readable, served, unread, turn
 use Rattle.host.specs.Held.{PassesOn}
 
 module _ (p : Proposal) (d k : ℕ) where
-  length-held : length (heldWords p d k) ≡ 18
+  length-held : length (heldWords p d k) ≡ heldLength
   unfolding heldWords
   length-held =
       let head = p .author .0 ∷ p .round .0 ∷ [] in
@@ -48,7 +49,7 @@ module _ (p : Proposal) (d k : ℕ) where
   unfolding bodyIn slotIn heldWords bodyWords usedWords tab tidyBody
   body-back = let b = p .body in rw (used-back b 0, used-back b 1, used-back b 2, used-back b 3) refl
 
-  words-back : (word (heldWords p d k) 0 ≡ p .author .0) × ((word (heldWords p d k) 1 ≡ p .round .0) × ((word (heldWords p d k) 2 ≡ p .body .previous) × (word (heldWords p d k) 16 ≡ d)))
+  words-back : (word (heldWords p d k) 0 ≡ p .author .0) × ((word (heldWords p d k) 1 ≡ p .round .0) × ((word (heldWords p d k) 2 ≡ p .body .previous) × (word (heldWords p d k) proposalLength ≡ d)))
   unfolding heldWords bodyWords usedWords
   words-back = (refl, (refl, (refl, refl)))
 
@@ -64,36 +65,36 @@ module _ (p : Proposal) (d k : ℕ) where
   unfolding bodyReads
   body-read h = rw (words-back .1 .1 .0, lt-ltb (p .body .previous) 65536 h) (all-hold (tripleReads (heldWords p d k) 2) 4 triple-read)
 
-  module _ (o : List ℕ) (l : 18 ≤ length o) where
-    agree : Agree 18 (paste o 0 (heldWords p d k) 18) (heldWords p d k)
-    agree j h = let e : 0 + j ≡ j = omega arith in rw e at (paste-inside o 0 (heldWords p d k) 18 l length-held j h)
+  module _ (o : List ℕ) (l : heldLength ≤ length o) where
+    agree : Agree heldLength (paste o 0 (heldWords p d k) heldLength) (heldWords p d k)
+    agree j h = let e : 0 + j ≡ j = omega arith in rw e at (paste-inside o 0 (heldWords p d k) heldLength l length-held j h)
 
     -- it can be read as a certificate
-    held-reads : p .body .previous < 65536 → d < 65536 → certificateReads (paste o 0 (heldWords p d k) 18) ≡ true
+    held-reads : p .body .previous < 65536 → d < 65536 → certificateReads (paste o 0 (heldWords p d k) heldLength) ≡ true
     unfolding certificateReads proposalReads
     held-reads h f =
-        let u = paste o 0 (heldWords p d k) 18 in
+        let u = paste o 0 (heldWords p d k) heldLength in
         let m = length-held in
-        let n = length-paste o 0 (heldWords p d k) 18 l (omega arith) in
+        let n = length-paste o 0 (heldWords p d k) heldLength l (omega arith) in
         rw (
-          le-leb 17 (length u) (omega arith),
-          le-leb 16 (length u) (omega arith),
-          agree 16 (omega arith) ∙ words-back .1 .1 .1,
+          le-leb certificateLength (length u) (omega arith),
+          le-leb proposalLength (length u) (omega arith),
+          agree proposalLength (omega arith) ∙ words-back .1 .1 .1,
           lt-ltb d 65536 f,
-          body-reads-same 18 u (heldWords p d k) agree 2 (omega arith),
+          body-reads-same heldLength u (heldWords p d k) agree 2 (omega arith),
           body-read h,
         )
         refl
 
     -- and gives the proposal, as its words tell it, and the endorsers
-    held-gives : _≡_ {A = Certificate} (certificateIn (paste o 0 (heldWords p d k) 18)) (record { proposal = record { author = p .author; round = p .round; body = tidyBody (p .body) }; endorsers = d })
+    held-gives : _≡_ {A = Certificate} (certificateIn (paste o 0 (heldWords p d k) heldLength)) (record { proposal = record { author = p .author; round = p .round; body = tidyBody (p .body) }; endorsers = d })
     unfolding certificateIn proposalIn
     held-gives =
         rw (
           agree 0 (omega arith) ∙ words-back .0,
           agree 1 (omega arith) ∙ words-back .1 .0,
-          agree 16 (omega arith) ∙ words-back .1 .1 .1,
-          body-same 18 (paste o 0 (heldWords p d k) 18) (heldWords p d k) agree 2 (omega arith),
+          agree proposalLength (omega arith) ∙ words-back .1 .1 .1,
+          body-same heldLength (paste o 0 (heldWords p d k) heldLength) (heldWords p d k) agree 2 (omega arith),
           body-back,
         )
         refl
@@ -109,7 +110,7 @@ tidy-content : (p : Proposal) → p .body .count ≤ 4 → contentOf (record { a
 unfolding tidyBody
 tidy-content p few = ap (λ (l : List Transaction). record { author = p .author .0; round = p .round .0; previous = p .body .previous; transactions = l }) (tidy-transactions (p .body) few)
 
-shown-passes : (t : List ℕ) (a r k : ℕ) (o : List ℕ) → 18 ≤ length o → PassesOn t a r (paste o 0 (heldWords (proposalOf (contentAt t a r)) (endorsersAt t a r) k) 18)
+shown-passes : (t : List ℕ) (a r k : ℕ) (o : List ℕ) → heldLength ≤ length o → PassesOn t a r (paste o 0 (heldWords (proposalOf (contentAt t a r)) (endorsersAt t a r) k) heldLength)
 unfolding proposalOf
 shown-passes t a r k o l =
     let p = proposalOf (contentAt t a r) in
@@ -131,5 +132,5 @@ passes-on w t o a r e = go (readable w t o (certificate a r)) refl e
     go true i h =
         let n = sym (certificate-number (stateIn w) t a r) ∙ h in
         rw (← certificate-given (stateIn w) t a r refl n refl refl refl)
-        (shown-passes t a r (markAt t a r) o (leb-true 18 (length o) (both (stateReads w) (leb 18 (length o)) i .1)))
+        (shown-passes t a r (markAt t a r) o (leb-true heldLength (length o) (both (stateReads w) (leb heldLength (length o)) i .1)))
     go false i h = absurd (omega arith)

@@ -27,6 +27,7 @@ use Rattle.member.specs.AllCalls as steps
 use Rattle.member.proofs.CallLaws.{answer-number, accepted-new}
 use Rattle.commit.specs.Commit.{commitOutcome, blocksThen, withBlocks}
 use Rattle.commit.proofs.AnswerLaws.{answers-accepted}
+use Rattle.host.specs.Lengths.{stateLength, transactionLength, heldLength, committeeLength}
 use Rattle.host.specs.Words.{word, sixteen}
 use Rattle.host.specs.Bodies.{loneBodyReads, slotIn, bodyIn, usedOf}
 use Rattle.host.specs.Proposals.{proposalReads, certificateReads}
@@ -57,7 +58,7 @@ slot-tidy : (w : List ℕ) (a k : ℕ) → k < 4 → _≡_ {A = Slot} (record { 
 unfolding usedOf bodyIn slotIn
 slot-tidy w a k h =
     ap (λ (x : Transaction). record { transaction = cond (ltb k (word w (a + 1))) x noTransaction }) (slot-of-body w a k h)
-    ∙ go (ltb k (word w (a + 1))) (readTransaction (word w (a + 2 + k * 3)) (word w (a + 2 + k * 3 + 1)) (word w (a + 2 + k * 3 + 2)))
+    ∙ go (ltb k (word w (a + 1))) (readTransaction (word w (a + 2 + k * transactionLength)) (word w (a + 2 + k * transactionLength + 1)) (word w (a + 2 + k * transactionLength + 2)))
   where
     go : (t : Bool) (x : Transaction) → _≡_ {A = Slot} (record { transaction = cond t (cond t x noTransaction) noTransaction }) (record { transaction = cond t x noTransaction })
     go true x = refl
@@ -106,7 +107,7 @@ pub record Gives (v : List ℕ) (s : State) : Type 0 where
   pub can-read : stateReads v ≡ true
   pub gives : stateIn v ≡ s
 
-put-gives : (w : List ℕ) (s : State) → 37 ≤ length w → (s .proposing ≡ true → s .body .previous < 65536) → tidy s ≡ s → Gives (paste w 0 (stateWords s) 37) s
+put-gives : (w : List ℕ) (s : State) → stateLength ≤ length w → (s .proposing ≡ true → s .body .previous < 65536) → tidy s ≡ s → Gives (paste w 0 (stateWords s) stateLength) s
 put-gives w s l h e = record { can-read = put-read w s l h; gives = put-back w s l ∙ e }
 
 module _ (w t : List ℕ) where
@@ -127,12 +128,12 @@ module _ (w t : List ℕ) where
   as-was : stateReads w ≡ true → Gives w (stateIn w)
   as-was e = record { can-read = e; gives = refl }
 
-  stepped-gives : (s : State) (c : steps.Call) → refusalIn (steps.outcome s t c .answer) ≡ 0 → Gives (paste w 0 (stateWords (steps.newState s t c)) 37) (steps.newState s t c)
-      → Gives (over (steps.outcome s t c .answer) w (stateWords (steps.outcome s t c .state)) 37) (steps.outcome s t c .state)
+  stepped-gives : (s : State) (c : steps.Call) → refusalIn (steps.outcome s t c .answer) ≡ 0 → Gives (paste w 0 (stateWords (steps.newState s t c)) stateLength) (steps.newState s t c)
+      → Gives (over (steps.outcome s t c .answer) w (stateWords (steps.outcome s t c .state)) stateLength) (steps.outcome s t c .state)
   stepped-gives s c e g = rw (accepted-new s t c (sym (answer-number s t c) ∙ e) .0) g
 
   commit-gives : refusalIn (addedAnswer (commitOutcome (stateIn w) t .answer)) ≡ 0 → StateRead w
-      → Gives (over (addedAnswer (commitOutcome (stateIn w) t .answer)) w (stateWords (commitOutcome (stateIn w) t .state)) 37) (commitOutcome (stateIn w) t .state)
+      → Gives (over (addedAnswer (commitOutcome (stateIn w) t .answer)) w (stateWords (commitOutcome (stateIn w) t .state)) stateLength) (commitOutcome (stateIn w) t .state)
   commit-gives e r =
       let k = blocksThen (stateIn w) t in
       rw (← answers-accepted (stateIn w) t (sym (commit-number (stateIn w) t) ∙ e) .0) (put-gives w (withBlocks (stateIn w) k) (r .long) (sets w r) (blocks-tidy w k))
@@ -141,7 +142,7 @@ module _ (w t : List ℕ) where
     served-gives : (c : Call) → readable w t o c ≡ true → served w t o c .refusal ≡ 0 → Gives (served w t o c .state) (nextState c)
     served-gives (opens own sheet) r e =
         let S = filled (sheetIn sheet) in
-        let l = leb-true 37 (length w) (both (leb 37 (length w)) (sheetReads sheet) r .0) in
+        let l = leb-true stateLength (length w) (both (leb stateLength (length w)) (sheetReads sheet) r .0) in
         stepped-gives closedState (steps.opens (record { 0 = own }) (sheetIn sheet)) e
         (put-gives w (freshState (record { 0 = own }) S) l (λ f. absurd (true≢false (sym f))) (tidy-by (freshState (record { 0 = own }) S) (filled-tidy (sheetIn sheet)) refl))
     served-gives (propose b) r e =
@@ -156,9 +157,9 @@ module _ (w t : List ℕ) where
         let s = steps.newState (stateIn w) t steps.advance in
         stepped-gives (stateIn w) steps.advance e (put-gives w s (state-read w r .long) (λ f. absurd (true≢false (sym f))) (tidy-by s (weights-tidy w) refl))
     served-gives commit r e = commit-gives e (state-read w r)
-    served-gives (committee n) r e = as-was (both (stateReads w) (leb 16 (length o)) r .0)
+    served-gives (committee n) r e = as-was (both (stateReads w) (leb committeeLength (length o)) r .0)
     served-gives (share m n) r e = as-was r
-    served-gives (certificate a n) r e = as-was (both (stateReads w) (leb 18 (length o)) r .0)
+    served-gives (certificate a n) r e = as-was (both (stateReads w) (leb heldLength (length o)) r .0)
     served-gives (block k) r e = as-was r
 
     -- every accepted call

@@ -16,6 +16,7 @@ use Rattle.commit.proofs.AnswerLaws.{answers-refused}
 use Rattle.reads.specs.declared.ShareRead as Shared
 use Rattle.reads.specs.declared.BlockRead as Blocked
 use Rattle.reads.specs.Reads.{committeeAnswer, shareAnswer, certificateAnswer, blockAnswer}
+use Rattle.host.specs.Lengths.{heldLength, committeeLength}
 use Rattle.host.specs.Words.{sixteen}
 use Rattle.host.specs.Bodies.{bodyIn}
 use Rattle.host.specs.Proposals.{proposalIn, certificateIn, heldWords}
@@ -72,9 +73,9 @@ module _ (w t o : List ℕ) where
   served-still (accept c) h = kept-still (stateIn w) (steps.accept (certificateIn c)) h
   served-still advance h = stepped-still (stateIn w) steps.advance h
   served-still commit h = commit-still (stateIn w) h
-  served-still (committee r) h = let x = committeeAnswer (stateIn w) t r in given-refused (x .answer) (sixteen (x .weights)) 16 h
+  served-still (committee r) h = let x = committeeAnswer (stateIn w) t r in given-refused (x .answer) (sixteen (x .weights)) committeeLength h
   served-still (share m r) h = share-refused (shareAnswer (stateIn w) t m r) h
-  served-still (certificate a r) h = let x = certificateAnswer (stateIn w) t a r in given-refused (x .answer) (heldWords (x .proposal) (x .endorsers) (x .block)) 18 h
+  served-still (certificate a r) h = let x = certificateAnswer (stateIn w) t a r in given-refused (x .answer) (heldWords (x .proposal) (x .endorsers) (x .block)) heldLength h
   served-still (block k) h = block-refused (blockAnswer (stateIn w) t k) h
 
   -- every call

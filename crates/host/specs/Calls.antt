@@ -23,6 +23,7 @@ use Rattle.reads.specs.declared.CertificateRead.{CertificateRead}
 use Rattle.reads.specs.declared.BlockRead as Blocked
 use Rattle.reads.specs.Answers.{sharedAnswer, sharedValue, blockedAnswer, blockedValue}
 use Rattle.reads.specs.Reads.{committeeAnswer, shareAnswer, certificateAnswer, blockAnswer}
+use Rattle.host.specs.Lengths.{stateLength, heldLength, committeeLength}
 use Rattle.host.specs.Words.{sixteen}
 use Rattle.host.specs.Bodies.{loneBodyReads, bodyIn}
 use Rattle.host.specs.Proposals.{proposalReads, proposalIn, certificateReads, certificateIn, heldWords}
@@ -89,16 +90,16 @@ module _ (w t o : List ℕ) where
   -- ---- can the call be read?
 
   abbrev pub readable : Call → Bool
-  readable (opens own sheet) = leb 37 (length w) && sheetReads sheet
+  readable (opens own sheet) = leb stateLength (length w) && sheetReads sheet
   readable (propose b) = stateReads w && loneBodyReads b
   readable (endorse p) = stateReads w && proposalReads p
   readable (certify e) = stateReads w && ltb e 65536
   readable (accept c) = stateReads w && certificateReads c
   readable advance = stateReads w
   readable commit = stateReads w
-  readable (committee r) = stateReads w && leb 16 (length o)
+  readable (committee r) = stateReads w && leb committeeLength (length o)
   readable (share m r) = stateReads w
-  readable (certificate a r) = stateReads w && leb 18 (length o)
+  readable (certificate a r) = stateReads w && leb heldLength (length o)
   readable (block k) = stateReads w
 
   -- refused with the number n: no value, and nothing changes
@@ -113,7 +114,7 @@ module _ (w t o : List ℕ) where
 
   -- of a call that changes the state: all its words are written where the call is accepted
   abbrev pub stepped : Answer → ℕ → State → List ℕ → Result
-  stepped a v s u = record { refusal = refusalIn a; value = v; state = over a w (stateWords s) 37; table = u; out = o }
+  stepped a v s u = record { refusal = refusalIn a; value = v; state = over a w (stateWords s) stateLength; table = u; out = o }
 
   -- of a call that changes the table alone
   abbrev pub kept : Answer → List ℕ → Result
@@ -130,10 +131,10 @@ module _ (w t o : List ℕ) where
   committedBy x u = stepped (addedAnswer (x .answer)) (addedValue (x .answer)) (x .state) u
 
   abbrev pub committeeBy : CommitteeRead → Result
-  committeeBy x = given (x .answer) 0 (over (x .answer) o (sixteen (x .weights)) 16)
+  committeeBy x = given (x .answer) 0 (over (x .answer) o (sixteen (x .weights)) committeeLength)
 
   abbrev pub certificateBy : CertificateRead → Result
-  certificateBy x = given (x .answer) 0 (over (x .answer) o (heldWords (x .proposal) (x .endorsers) (x .block)) 18)
+  certificateBy x = given (x .answer) 0 (over (x .answer) o (heldWords (x .proposal) (x .endorsers) (x .block)) heldLength)
 
   abbrev pub shareBy : Shared.ShareRead → Result
   shareBy x = given (sharedAnswer x) (sharedValue x) o

@@ -3,17 +3,18 @@ use mathlib.Core.List.{List}
 use mathlib.Core.Logic.{_≢_}
 use Prim.Native.Nat.{ℕ, _<_, _≤_}
 use lib.ListN.{length, getD}
+use Rattle.host.specs.Lengths.{stateLength, proposalLength, certificateLength}
 
 pub record ProposalRead (w : List ℕ) : Type 0 where
-  pub long : 16 ≤ length w
+  pub long : proposalLength ≤ length w
   pub previous : getD w 2 0 < 65536
 
 pub record CertificateRead (w : List ℕ) : Type 0 where
-  pub long : 17 ≤ length w
+  pub long : certificateLength ≤ length w
   pub previous : getD w 2 0 < 65536
-  pub endorsers : getD w 16 0 < 65536
+  pub endorsers : getD w proposalLength 0 < 65536
 
 pub record StateRead (w : List ℕ) : Type 0 where
-  pub long : 37 ≤ length w
+  pub long : stateLength ≤ length w
   -- where there is a proposal
   pub previous : getD w 21 0 ≢ 0 → getD w 23 0 < 65536

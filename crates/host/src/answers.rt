@@ -9,6 +9,7 @@ ghost use lib.ListN.{length};
 ghost use Rattle.member.specs.Answers.{refusalIn};
 ghost use Rattle.commit.specs.Answers.{addedValue};
 ghost use Rattle.reads.specs.Answers.{sharedAnswer, sharedValue, blockedAnswer, blockedValue};
+ghost use Rattle.host.specs.Lengths.{stateLength};
 ghost use Rattle.host.specs.States.{stateWords};
 ghost use Rattle.host.specs.Calls.{addedAnswer, over};
 ghost use Rattle.host.specs.Answers.{Writable};
@@ -59,8 +60,8 @@ pub fn block_number(x: BlockRead) -> u64
 
 // Writes the state that a member's call leaves, where it is accepted.
 pub fn settle(w: &mut [u32], x: member::Outcome) -> u32
-    requires { ⌜ (37 ≤ length (now w)) × Writable (x .answer) (x .state) ⌝ }
-    ensures { λ r. ⌜ (r ≡ refusalIn (x .answer)) × (now (w .exit) ≡ over (x .answer) (now (w .entry)) (stateWords (x .state)) 37) ⌝ }
+    requires { ⌜ (stateLength ≤ length (now w)) × Writable (x .answer) (x .state) ⌝ }
+    ensures { λ r. ⌜ (r ≡ refusalIn (x .answer)) × (now (w .exit) ≡ over (x .answer) (now (w .entry)) (stateWords (x .state)) stateLength) ⌝ }
 {
     let s = x.state;
     let a = x.answer;
@@ -75,8 +76,8 @@ pub fn settle(w: &mut [u32], x: member::Outcome) -> u32
 
 // Writes the state that commit leaves, where it is accepted.
 pub fn settle_commit(w: &mut [u32], x: commit::Outcome) -> u64
-    requires { ⌜ (37 ≤ length (now w)) × Writable (addedAnswer (x .answer)) (x .state) ⌝ }
-    ensures { λ r. ⌜ (r ≡ addedValue (x .answer) + refusalIn (addedAnswer (x .answer)) * 4294967296) × (now (w .exit) ≡ over (addedAnswer (x .answer)) (now (w .entry)) (stateWords (x .state)) 37) ⌝ }
+    requires { ⌜ (stateLength ≤ length (now w)) × Writable (addedAnswer (x .answer)) (x .state) ⌝ }
+    ensures { λ r. ⌜ (r ≡ addedValue (x .answer) + refusalIn (addedAnswer (x .answer)) * 4294967296) × (now (w .exit) ≡ over (addedAnswer (x .answer)) (now (w .entry)) (stateWords (x .state)) stateLength) ⌝ }
 {
     let s = x.state;
     let a = x.answer;

@@ -2,6 +2,7 @@
 mod answers;
 mod bodies;
 mod calls;
+mod lengths;
 mod proposals;
 mod sheets;
 mod states;

@@ -4,6 +4,7 @@ use crate::Outcome;
 use sheet::Settings;
 use sheet::Sheet;
 use state::State;
+use store::lengths::ROW;
 use terms::Member;
 use terms::Round;
 ghost use mathlib.Core.Path.{_≡_};
@@ -57,7 +58,7 @@ pub fn open_refusal(t: &[u32], own: Member, settings: Settings) -> u32
     if sheet::is_weightless(settings) {
         return 3;
     }
-    if t.len() < settings.ceiling.0 as usize * 272 + 272 {
+    if t.len() < settings.ceiling.0 as usize * ROW + ROW {
         return 1;
     }
     0

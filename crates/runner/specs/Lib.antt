@@ -1,2 +1,3 @@
+pub mod Lengths
 pub mod Work
 pub mod Session

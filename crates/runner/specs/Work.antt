@@ -10,6 +10,7 @@ use Rattle.framing.specs.Framing.{remaining, Waits}
 use Rattle.lines.specs.Puts.{Puts}
 use Rattle.answering.specs.Streams.{answersTo}
 use Rattle.runner.specs.declared.work.Work.{Work}
+use Rattle.runner.specs.Lengths.{tableLength, inputLength}
 
 -- from a state, a table, whether a record that was answered goes on, and the bytes at hand, to those after the work; x is the output buffer before and y after it
 pub record AllAnswered (s : State) (t : List ℕ) (skipping : Bool) (hand : List ℕ) (s′ : State) (t′ : List ℕ) (skipping′ : Bool) (hand′ : List ℕ) (x y : List ℕ) (at next : ℕ) : Type 0 where
@@ -19,8 +20,8 @@ pub record AllAnswered (s : State) (t : List ℕ) (skipping : Bool) (hand : List
 
 -- the sizes of the table, the input buffer and the output buffer: a table for ceilings up to 64, and room in the output for any one answer
 pub record MemorySizes (t buf out : List ℕ) : Type 0 where
-  pub table-to : length t ≤ 17680
-  pub input-to : length buf ≤ 65536
+  pub table-to : length t ≤ tableLength
+  pub input-to : length buf ≤ inputLength
   pub answer-to : length t * 9 + 20 ≤ length out
 
 -- w can go on with the bytes of `hand` from its place on: its places lie within the buffers, and what is known beside the state holds

@@ -1,8 +1,13 @@
 // The runner's loop: records come in on standard input, and the lines that answer them go out on standard output (scope document: The runner).
 // Its memory is fixed: a table for ceilings up to 64, the committees of its rounds, and a buffer each for input and output.
 pub mod input;
+pub mod lengths;
 pub mod work;
 
+use crate::lengths::CACHE;
+use crate::lengths::INPUT;
+use crate::lengths::OUTPUT;
+use crate::lengths::TABLE;
 use libc::STDOUT_FILENO;
 use work::Work;
 ghost use mathlib.Core.Path.{_≡_};
@@ -12,6 +17,7 @@ ghost use lib.ListN.{length};
 ghost use Rattle.framing.specs.Streams.{hasEnd};
 ghost use Rattle.framing.specs.Framing.{remaining};
 ghost use Rattle.answering.specs.Streams.{answersTo};
+ghost use Rattle.runner.specs.Lengths.{inputLength};
 ghost use Rattle.runner.specs.Work.{MemorySizes, OutputEmptied};
 ghost use Rattle.runner.specs.Session.{handIn, StartsWith, HandWithin, SessionReady, Fresh, SessionRefilled, PassServed, SessionInvariant};
 
@@ -65,7 +71,7 @@ fn emptied(w: Work, from: usize) -> Work
 
 // Goes on with the bytes at hand; where more are wanted, reads them. The input has ended where none come.
 fn refill(w: Work, buf: &mut [u8], end: usize) -> Session
-    requires { ⌜ HandWithin (w .from) end (now buf) × (length (now buf) ≤ 65536) ⌝ }
+    requires { ⌜ HandWithin (w .from) end (now buf) × (length (now buf) ≤ inputLength) ⌝ }
     ensures { λ r. ⌜ SessionRefilled w end (now (buf .entry)) (now (buf .exit)) r ⌝ }
 {
     let from = w.from;
@@ -133,10 +139,10 @@ fn conclude(s: Session, cache: &mut [u64], t: &mut [u32], buf: &[u8], out: &mut 
 }
 
 fn main() {
-    let mut cache = [0u64; 1040];
-    let mut table = [0u32; 17680];
-    let mut buf = [0u8; 65536];
-    let mut out = [0u8; 262144];
+    let mut cache = [0u64; CACHE];
+    let mut table = [0u32; TABLE];
+    let mut buf = [0u8; INPUT];
+    let mut out = [0u8; OUTPUT];
     let s = serve_all(&mut cache, &mut table, &mut buf, &mut out);
     conclude(s, &mut cache, &mut table, &buf, &mut out);
 }

@@ -1,5 +1,6 @@
 // A member's state, the view that it shows, and whether it is well formed (scope document: A member's state).
 use sheet::Settings;
+use store::lengths::ROW;
 use terms::Body;
 use terms::Member;
 use terms::Round;
@@ -75,7 +76,7 @@ pub fn well_formed(s: State, t: &[u32]) -> bool
     let settings = s.settings;
     let n = settings.ceiling;
     let blocks = s.blocks;
-    if t.len() < n.0 as usize * 272 + 272 {
+    if t.len() < n.0 as usize * ROW + ROW {
         return false;
     }
     if !head_fits(s) {

@@ -8,7 +8,7 @@ use native.Mathlib.Omega.{arith}
 use lib.ListN.{length, getD, take, drop, replicate, length-append, length-drop, length-replicate, getD-replicate, List·getD-append}
 use lib.Seq.{take-at, drop-at}
 use Rattle.base.proofs.UnionLaws.{in-none}
-use Rattle.store.specs.Table.{used, Row, heldSet, endorsedSet, heldAt, endorsedAt, certificateAt}
+use Rattle.store.specs.Table.{rowLength, used, Row, heldSet, endorsedSet, heldAt, endorsedAt, certificateAt}
 use Rattle.store.proofs.TableLaws.{held-in, endorsed-in, certificate-absent}
 use Rattle.store.specs.Writes.{clearUsed}
 use Rattle.store.specs.Scan.{rowsFit}
@@ -33,11 +33,11 @@ module _ (t : List ℕ) (n : ℕ) where
 
   pub held-set-cleared : (r : ℕ) → r ≤ n → heldSet (clearUsed t n) r ≡ 0
   unfolding heldSet
-  held-set-cleared r h = word-cleared (r * 272) (omega arith)
+  held-set-cleared r h = word-cleared (r * rowLength) (omega arith)
 
   pub endorsed-set-cleared : (r : ℕ) → r ≤ n → endorsedSet (clearUsed t n) r ≡ 0
   unfolding endorsedSet
-  endorsed-set-cleared r h = word-cleared (r * 272 + 1) (omega arith)
+  endorsed-set-cleared r h = word-cleared (r * rowLength + 1) (omega arith)
 
   pub held-cleared : (m r : ℕ) → r ≤ n → heldAt (clearUsed t n) m r ≡ false
   held-cleared m r h = held-in (clearUsed t n) m r ∙ rw (held-set-cleared r h) (in-none m)

@@ -13,14 +13,14 @@ use borrow.Author.Tests.{eq-eqb, ne-eqb}
 use Rattle.base.proofs.Bools.{eqb-flip}
 use Rattle.base.specs.Sets.{isIn, add, del}
 use Rattle.base.proofs.SetLaws.{add-lt, del-le, in-del}
-use Rattle.store.specs.Table.{used, Row, Within, heldSet, endorsedSet, blockRound, heldAt, endorsedAt, word, markAt, contentAt, certificateAt}
+use Rattle.store.specs.Table.{rowLength, recordLength, recordStart, used, Row, Within, heldSet, endorsedSet, blockRound, heldAt, endorsedAt, word, markAt, contentAt, certificateAt}
 use Rattle.store.specs.Writes.{setEndorsed, clearEndorsed}
 use Rattle.store.proofs.WriteLaws.{samePlace, in-added, content-same, certificate-same, same-beyond}
 
 -- u is t but for the endorsed set of row q
 pub record OnlyEndorsed (q : ℕ) (t u : List ℕ) : Type 0 where
   pub size : length u ≡ length t
-  pub words : (j : ℕ) → j ≢ q * 272 + 1 → getD u j 0 ≡ getD t j 0
+  pub words : (j : ℕ) → j ≢ q * rowLength + 1 → getD u j 0 ≡ getD t j 0
 
 module _ {q : ℕ} {t u : List ℕ} (o : OnlyEndorsed q t u) where
   pub endorse-beyond : (n : ℕ) → q ≤ n → drop (used n) u ≡ drop (used n) t
@@ -28,7 +28,7 @@ module _ {q : ℕ} {t u : List ℕ} (o : OnlyEndorsed q t u) where
 
   pub held-set-endorse : (r : ℕ) → heldSet u r ≡ heldSet t r
   unfolding heldSet
-  held-set-endorse r = o .words (r * 272) (λ e. omega arith)
+  held-set-endorse r = o .words (r * rowLength) (λ e. omega arith)
 
   pub held-endorse : (m r : ℕ) → heldAt u m r ≡ heldAt t m r
   unfolding heldAt
@@ -36,11 +36,11 @@ module _ {q : ℕ} {t u : List ℕ} (o : OnlyEndorsed q t u) where
 
   pub block-round-endorse : (k : ℕ) → blockRound u k ≡ blockRound t k
   unfolding blockRound
-  block-round-endorse k = o .words (k * 272 + 2) (λ e. omega arith)
+  block-round-endorse k = o .words (k * rowLength + 2) (λ e. omega arith)
 
-  pub word-endorse : (m r : ℕ) → m < 16 → (k : ℕ) → k < 16 → word u m r k ≡ word t m r k
+  pub word-endorse : (m r : ℕ) → m < 16 → (k : ℕ) → k < recordLength → word u m r k ≡ word t m r k
   unfolding word
-  word-endorse m r h k l = o .words (r * 272 + m * 16 + 16 + k) (λ e. omega arith)
+  word-endorse m r h k l = o .words (recordStart m r + k) (λ e. omega arith)
 
   pub mark-endorse : (m r : ℕ) → m < 16 → markAt u m r ≡ markAt t m r
   unfolding markAt
@@ -54,7 +54,7 @@ module _ {q : ℕ} {t u : List ℕ} (o : OnlyEndorsed q t u) where
 
   pub endorsed-set-other : (r : ℕ) → r ≢ q → endorsedSet u r ≡ endorsedSet t r
   unfolding endorsedSet
-  endorsed-set-other r n = o .words (r * 272 + 1) (λ e. n (omega arith))
+  endorsed-set-other r n = o .words (r * rowLength + 1) (λ e. n (omega arith))
 
   -- where row q keeps a set of members, every row does
   pub endorsed-lt : (endorsedSet t q < 65536 → endorsedSet u q < 65536) → (r : ℕ) → endorsedSet t r < 65536 → endorsedSet u r < 65536
@@ -64,8 +64,8 @@ module _ {q : ℕ} {t u : List ℕ} (o : OnlyEndorsed q t u) where
       by (yes e) h = rw e (k (rw e at h))
       by (no n) h = rw (endorsed-set-other r n) h
 
-only-endorsed : (t : List ℕ) (q x : ℕ) → OnlyEndorsed q t (set t (q * 272 + 1) x)
-only-endorsed t q x = record { size = length-set t (q * 272 + 1) x; words = λ j n. getD-set-other t (q * 272 + 1) j x 0 n }
+only-endorsed : (t : List ℕ) (q x : ℕ) → OnlyEndorsed q t (set t (q * rowLength + 1) x)
+only-endorsed t q x = record { size = length-set t (q * rowLength + 1) x; words = λ j n. getD-set-other t (q * rowLength + 1) j x 0 n }
 
 module _ (t : List ℕ) (a q : ℕ) where
   pub set-endorsed : OnlyEndorsed q t (setEndorsed t a q)
@@ -76,9 +76,9 @@ module _ (t : List ℕ) (a q : ℕ) where
   unfolding clearEndorsed
   clear-endorsed = only-endorsed t q (del (endorsedSet t q) a)
 
-endorsed-now : (t : List ℕ) (q x : ℕ) → Row t q → endorsedSet (set t (q * 272 + 1) x) q ≡ x
+endorsed-now : (t : List ℕ) (q x : ℕ) → Row t q → endorsedSet (set t (q * rowLength + 1) x) q ≡ x
 unfolding endorsedSet
-endorsed-now t q x h = getD-set-same t (q * 272 + 1) x 0 (omega arith)
+endorsed-now t q x h = getD-set-same t (q * rowLength + 1) x 0 (omega arith)
 
 module _ (t : List ℕ) (a q : ℕ) (at : Within t a q) where
   pub endorsed-set-same : endorsedSet (setEndorsed t a q) q ≡ add (endorsedSet t q) a

@@ -8,7 +8,7 @@ use Prim.Native.Nat.{ℕ, _+_, _*_, _%_, _<_, _≤_}
 use native.Mathlib.Omega.{arith}
 use lib.ListN.{length, getD, set, drop, length-set}
 use lib.Seq.{getD-set-same, getD-set-other}
-use Rattle.store.specs.Table.{used, Within, Row, heldSet, endorsedSet, blockRound, heldAt, endorsedAt, word, previousAt, countAt, markAt, transactionAt, contentAt, certificateAt}
+use Rattle.store.specs.Table.{rowLength, recordLength, recordStart, used, Within, Row, heldSet, endorsedSet, blockRound, heldAt, endorsedAt, word, previousAt, countAt, markAt, transactionAt, contentAt, certificateAt}
 use Rattle.store.specs.Writes.{setMark, setBlock}
 use Rattle.store.proofs.WriteLaws.{samePlace, same-place, other-place, count-same, previous-same, transaction-same, content-same, certificate-same, same-beyond}
 
@@ -34,22 +34,22 @@ only-set n t i x e h =
 
 pub only-mark : (c : ℕ) (t : List ℕ) (m r b : ℕ) → m < 16 → r ≤ c → OnlyMarks (used c) t (setMark t m r b)
 unfolding setMark
-only-mark c t m r b h l = only-set (used c) t (r * 272 + m * 16 + 16 + 2) b (omega arith) (omega arith)
+only-mark c t m r b h l = only-set (used c) t (recordStart m r + 2) b (omega arith) (omega arith)
 
 pub only-block : (c : ℕ) (t : List ℕ) (k r : ℕ) → k ≤ c → OnlyMarks (used c) t (setBlock t k r)
 unfolding setBlock
-only-block c t k r l = only-set (used c) t (k * 272 + 2) r (omega arith) (omega arith)
+only-block c t k r l = only-set (used c) t (k * rowLength + 2) r (omega arith) (omega arith)
 
 -- ---- what is kept
 
 module _ {n : ℕ} {t u : List ℕ} (o : OnlyMarks n t u) where
   pub held-set-marked : (r : ℕ) → heldSet u r ≡ heldSet t r
   unfolding heldSet
-  held-set-marked r = o .words (r * 272) (λ e. omega arith)
+  held-set-marked r = o .words (r * rowLength) (λ e. omega arith)
 
   pub endorsed-set-marked : (r : ℕ) → endorsedSet u r ≡ endorsedSet t r
   unfolding endorsedSet
-  endorsed-set-marked r = o .words (r * 272 + 1) (λ e. omega arith)
+  endorsed-set-marked r = o .words (r * rowLength + 1) (λ e. omega arith)
 
   pub held-marked : (m r : ℕ) → heldAt u m r ≡ heldAt t m r
   unfolding heldAt
@@ -59,9 +59,9 @@ module _ {n : ℕ} {t u : List ℕ} (o : OnlyMarks n t u) where
   unfolding endorsedAt
   endorsed-marked m r = rw (endorsed-set-marked r) refl
 
-  pub word-marked : (m r k : ℕ) → k < 16 → k ≢ 2 → word u m r k ≡ word t m r k
+  pub word-marked : (m r k : ℕ) → k < recordLength → k ≢ 2 → word u m r k ≡ word t m r k
   unfolding word
-  word-marked m r k h d = o .words (r * 272 + m * 16 + 16 + k) (λ e. d (omega arith))
+  word-marked m r k h d = o .words (recordStart m r + k) (λ e. d (omega arith))
 
   pub previous-marked : (m r : ℕ) → previousAt u m r ≡ previousAt t m r
   previous-marked m r = previous-same t u m r (word-marked m r)
@@ -84,12 +84,12 @@ module _ {n : ℕ} {t u : List ℕ} (o : OnlyMarks n t u) where
 -- the rows above c keep their marks
 pub mark-beyond : (c : ℕ) {t u : List ℕ} → OnlyMarks (used c) t u → (m r : ℕ) → c < r → markAt u m r ≡ markAt t m r
 unfolding markAt word
-mark-beyond c o m r h = o .beyond (r * 272 + m * 16 + 16 + 2) (omega arith)
+mark-beyond c o m r h = o .beyond (recordStart m r + 2) (omega arith)
 
 -- ---- marks
 
 -- a word is the mark of one place only
-one-place : (m r a q : ℕ) → m < 16 → a < 16 → r * 272 + m * 16 + 16 + 2 ≡ q * 272 + a * 16 + 16 + 2 → (m ≡ a) × (r ≡ q)
+one-place : (m r a q : ℕ) → m < 16 → a < 16 → recordStart m r + 2 ≡ recordStart a q + 2 → (m ≡ a) × (r ≡ q)
 one-place m r a q h k e = go (decLt r q) (decLt q r)
   where
     go : Dec (r < q) → Dec (q < r) → (m ≡ a) × (r ≡ q)
@@ -98,7 +98,7 @@ one-place m r a q h k e = go (decLt r q) (decLt q r)
     go (no n) (no l) = let i : r ≡ q = omega arith in (omega arith, i)
 
 -- nor is it a block's round
-no-block : (m r k : ℕ) → m < 16 → r * 272 + m * 16 + 16 + 2 ≢ k * 272 + 2
+no-block : (m r k : ℕ) → m < 16 → recordStart m r + 2 ≢ k * rowLength + 2
 no-block m r k h e = go (decLt r k)
   where
     go : Dec (r < k) → ⊥
@@ -107,12 +107,12 @@ no-block m r k h e = go (decLt r k)
 
 pub mark-same : (t : List ℕ) (a q b : ℕ) → Within t a q → markAt (setMark t a q b) a q ≡ b
 unfolding markAt word setMark
-mark-same t a q b at = getD-set-same t (q * 272 + a * 16 + 16 + 2) b 0 (omega arith)
+mark-same t a q b at = getD-set-same t (recordStart a q + 2) b 0 (omega arith)
 
 pub mark-other : (t : List ℕ) (a q b m r : ℕ) → a < 16 → m < 16 → samePlace m r a q ≡ false → markAt (setMark t a q b) m r ≡ markAt t m r
 unfolding markAt word setMark
 mark-other t a q b m r k h n =
-    getD-set-other t (q * 272 + a * 16 + 16 + 2) (r * 272 + m * 16 + 16 + 2) b 0 (λ e. let z = one-place m r a q h k e in other-place m r a q n (z .0) (z .1))
+    getD-set-other t (recordStart a q + 2) (recordStart m r + 2) b 0 (λ e. let z = one-place m r a q h k e in other-place m r a q n (z .0) (z .1))
 
 -- the marks after one is set
 pub mark-set : (t : List ℕ) (a q b : ℕ) → Within t a q → (m r : ℕ) → m < 16 → markAt (setMark t a q b) m r ≡ cond (samePlace m r a q) b (markAt t m r)
@@ -124,18 +124,18 @@ mark-set t a q b at m r h = go (samePlace m r a q) refl
 
 pub mark-block : (t : List ℕ) (k q m r : ℕ) → m < 16 → markAt (setBlock t k q) m r ≡ markAt t m r
 unfolding markAt word setBlock
-mark-block t k q m r h = getD-set-other t (k * 272 + 2) (r * 272 + m * 16 + 16 + 2) q 0 (no-block m r k h)
+mark-block t k q m r h = getD-set-other t (k * rowLength + 2) (recordStart m r + 2) q 0 (no-block m r k h)
 
 -- ---- block rounds
 
 pub block-round-same : (t : List ℕ) (k r : ℕ) → Row t k → blockRound (setBlock t k r) k ≡ r
 unfolding blockRound setBlock
-block-round-same t k r h = getD-set-same t (k * 272 + 2) r 0 (omega arith)
+block-round-same t k r h = getD-set-same t (k * rowLength + 2) r 0 (omega arith)
 
 pub block-round-other : (t : List ℕ) (k r j : ℕ) → j ≢ k → blockRound (setBlock t k r) j ≡ blockRound t j
 unfolding blockRound setBlock
-block-round-other t k r j n = getD-set-other t (k * 272 + 2) (j * 272 + 2) r 0 (λ e. n (omega arith))
+block-round-other t k r j n = getD-set-other t (k * rowLength + 2) (j * rowLength + 2) r 0 (λ e. n (omega arith))
 
 pub block-round-mark : (t : List ℕ) (m r b k : ℕ) → m < 16 → blockRound (setMark t m r b) k ≡ blockRound t k
 unfolding blockRound setMark
-block-round-mark t m r b k h = getD-set-other t (r * 272 + m * 16 + 16 + 2) (k * 272 + 2) b 0 (λ e. no-block m r k h (sym e))
+block-round-mark t m r b k h = getD-set-other t (recordStart m r + 2) (k * rowLength + 2) b 0 (λ e. no-block m r k h (sym e))

@@ -16,14 +16,14 @@ use Rattle.terms.specs.declared.Transaction.{Transaction}
 use Rattle.terms.specs.Transactions.{kindOf, numberOf, amountOf, readTransaction, noTransaction}
 use Rattle.terms.specs.Proposals.{Content}
 use Rattle.terms.proofs.ProposalLaws.{read-back}
-use Rattle.store.specs.Table.{used, Within, heldSet, endorsedSet, blockRound, heldAt, endorsedAt, word, previousAt, countAt, markAt, endorsersAt, transactionAt, contentAt, certificateAt}
+use Rattle.store.specs.Table.{rowLength, headLength, recordLength, transactionStart, used, Within, heldSet, endorsedSet, blockRound, heldAt, endorsedAt, word, previousAt, countAt, markAt, endorsersAt, kindAt, numberAt, amountAt, transactionAt, contentAt, certificateAt}
 use Rattle.store.proofs.TableLaws.{certificate-present}
 use Rattle.store.specs.Writes.{nthOf, putTransaction, recordOf, putCertificate}
 use Rattle.store.proofs.WriteLaws.{samePlace, same-place, other-place, in-added, content-same, certificate-same, same-beyond, length-record-put, put-above, word-put, word-kept, held-set-put, put-head}
 
 -- ---- the words of a proposal's record
 
-length-record : (p : Content) (d : ℕ) → length (recordOf p d) ≡ 16
+length-record : (p : Content) (d : ℕ) → length (recordOf p d) ≡ recordLength
 unfolding recordOf putTransaction
 length-record p d = refl
 
@@ -44,7 +44,7 @@ unfolding recordOf putTransaction
 record-endorsers p d = refl
 
 record-triple : (p : Content) (d k : ℕ) → k < 4
-    → (getD (recordOf p d) (4 + k * 3) 0 ≡ kindOf (nthOf p k)) × (getD (recordOf p d) (5 + k * 3) 0 ≡ numberOf (nthOf p k)) × (getD (recordOf p d) (6 + k * 3) 0 ≡ amountOf (nthOf p k))
+    → (getD (recordOf p d) (transactionStart k) 0 ≡ kindOf (nthOf p k)) × (getD (recordOf p d) (transactionStart k + 1) 0 ≡ numberOf (nthOf p k)) × (getD (recordOf p d) (transactionStart k + 2) 0 ≡ amountOf (nthOf p k))
 unfolding recordOf putTransaction
 record-triple p d zero h = (refl, refl, refl)
 record-triple p d (suc zero) h = (refl, refl, refl)
@@ -73,41 +73,41 @@ module _ (t : List ℕ) (p : Content) (d : ℕ) (at : Within t (p .author) (p .r
   unfolding putCertificate
   put-beyond n h = same-beyond t (putCertificate t p d) (used n) length-put (λ j l. put-above t (p .author) (p .round) (recordOf p d) at (length-record p d) j (omega arith))
 
-  pub word-at-place : (k : ℕ) → k < 16 → word (putCertificate t p d) (p .author) (p .round) k ≡ getD (recordOf p d) k 0
+  pub word-at-place : (k : ℕ) → k < recordLength → word (putCertificate t p d) (p .author) (p .round) k ≡ getD (recordOf p d) k 0
   unfolding putCertificate
   word-at-place k h = word-put t (p .author) (p .round) (recordOf p d) at (length-record p d) k h
 
-  pub word-elsewhere : (m r : ℕ) → m < 16 → samePlace m r (p .author) (p .round) ≡ false → (k : ℕ) → k < 16 → word (putCertificate t p d) m r k ≡ word t m r k
+  pub word-elsewhere : (m r : ℕ) → m < 16 → samePlace m r (p .author) (p .round) ≡ false → (k : ℕ) → k < recordLength → word (putCertificate t p d) m r k ≡ word t m r k
   unfolding putCertificate
   word-elsewhere m r h n k l = word-kept t (p .author) (p .round) (recordOf p d) at (length-record p d) m r k h l (other-place m r (p .author) (p .round) n)
 
   -- what is made of the three words of transaction k
   pub triple-put : {A : Type 0} (f : ℕ → ℕ → ℕ → A) (k : ℕ) → k < 4
-      → f (word (putCertificate t p d) (p .author) (p .round) (4 + k * 3)) (word (putCertificate t p d) (p .author) (p .round) (5 + k * 3)) (word (putCertificate t p d) (p .author) (p .round) (6 + k * 3))
+      → f (kindAt (putCertificate t p d) (p .author) (p .round) k) (numberAt (putCertificate t p d) (p .author) (p .round) k) (amountAt (putCertificate t p d) (p .author) (p .round) k)
       ≡ f (kindOf (nthOf p k)) (numberOf (nthOf p k)) (amountOf (nthOf p k))
   triple-put f k h =
       let z = record-triple p d k h in
-      rw (word-at-place (4 + k * 3) (omega arith), word-at-place (5 + k * 3) (omega arith), word-at-place (6 + k * 3) (omega arith), z .0, z .1, z .2) refl
+      rw (word-at-place (transactionStart k) (omega arith), word-at-place (transactionStart k + 1) (omega arith), word-at-place (transactionStart k + 2) (omega arith), z .0, z .1, z .2) refl
 
   pub held-set-put-same : heldSet (putCertificate t p d) (p .round) ≡ add (heldSet t (p .round)) (p .author)
   unfolding putCertificate
   held-set-put-same = held-set-put t (p .author) (p .round) (recordOf p d) at (length-record p d)
 
-  head-put : (j : ℕ) → j % 272 < 16 → j ≢ p .round * 272 → getD (putCertificate t p d) j 0 ≡ getD t j 0
+  head-put : (j : ℕ) → j % rowLength < headLength → j ≢ p .round * rowLength → getD (putCertificate t p d) j 0 ≡ getD t j 0
   unfolding putCertificate
   head-put j h n = put-head t (p .author) (p .round) (recordOf p d) at (length-record p d) j h n
 
   pub held-set-put-other : (r : ℕ) → r ≢ p .round → heldSet (putCertificate t p d) r ≡ heldSet t r
   unfolding heldSet
-  held-set-put-other r n = head-put (r * 272) (omega arith) (λ e. n (omega arith))
+  held-set-put-other r n = head-put (r * rowLength) (omega arith) (λ e. n (omega arith))
 
   pub endorsed-set-put : (r : ℕ) → endorsedSet (putCertificate t p d) r ≡ endorsedSet t r
   unfolding endorsedSet
-  endorsed-set-put r = head-put (r * 272 + 1) (omega arith) (λ e. omega arith)
+  endorsed-set-put r = head-put (r * rowLength + 1) (omega arith) (λ e. omega arith)
 
   pub block-round-put : (k : ℕ) → blockRound (putCertificate t p d) k ≡ blockRound t k
   unfolding blockRound
-  block-round-put k = head-put (k * 272 + 2) (omega arith) (λ e. omega arith)
+  block-round-put k = head-put (k * rowLength + 2) (omega arith) (λ e. omega arith)
 
   pub held-put : (m r : ℕ) → heldAt (putCertificate t p d) m r ≡ (samePlace m r (p .author) (p .round) || heldAt t m r)
   unfolding heldAt
@@ -148,7 +148,7 @@ module _ (t : List ℕ) (p : Content) (d : ℕ) (at : Within t (p .author) (p .r
     unfolding contentAt transactionAt
     content-put =
         let u = putCertificate t p d in
-        let f : ℕ → Transaction = λ k. readTransaction (word u (p .author) (p .round) (4 + k * 3)) (word u (p .author) (p .round) (5 + k * 3)) (word u (p .author) (p .round) (6 + k * 3)) in
+        let f : ℕ → Transaction = λ k. readTransaction (kindAt u (p .author) (p .round) k) (numberAt u (p .author) (p .round) k) (amountAt u (p .author) (p .round) k) in
         let e : tab f (length (p .transactions)) ≡ p .transactions =
         tab-same f (nthOf p) (length (p .transactions)) (λ k h. triple-put readTransaction k (omega arith) ∙ read-back (nthOf p k)) ∙ tab-nth p in
         rw (previous-put, count-put, e) refl

@@ -3,7 +3,7 @@ use mathlib.Core.Path.{_≡_, refl}
 use mathlib.Core.Bool.{Bool, true, false, not, cond, _&&_}
 use mathlib.Core.List.{List}
 use mathlib.Core.Logic.{_≢_}
-use Prim.Native.Nat.{ℕ, zero, suc, _+_, _*_, _<_, _≤_}
+use Prim.Native.Nat.{ℕ, zero, suc, _+_, _<_, _≤_}
 use native.Mathlib.Omega.{arith}
 use native.Mathlib.Numerals.{add-one}
 use lib.Dec.{eqb, leb, ltb}
@@ -17,7 +17,7 @@ use Rattle.terms.specs.declared.Transaction.the-variants.{Bond, Unbond, Entry}
 use Rattle.terms.specs.Transactions.{readTransaction, inRange, bondInRange}
 use Rattle.terms.specs.Proposals.{badTransactions, badPreviousSet}
 use Rattle.terms.proofs.ProposalLaws.{unfit-tab}
-use Rattle.store.specs.Table.{heldSet, endorsedSet, heldAt, word, previousAt, countAt, markAt, endorsersAt, transactionAt, contentAt}
+use Rattle.store.specs.Table.{recordLength, transactionStart, heldSet, endorsedSet, heldAt, word, previousAt, countAt, markAt, endorsersAt, kindAt, numberAt, amountAt, transactionAt, contentAt}
 use Rattle.store.proofs.TableLaws.{count-le, held-in, held-member, content-previous, content-transactions}
 use Rattle.store.proofs.WriteLaws.{count-same, previous-same, endorsers-same}
 use Rattle.store.specs.Scan.{tripleFits, transactionFits, endorsersFit, recordFits, placeFits, rowFits, rowsFit}
@@ -70,7 +70,7 @@ module _ {t : List ℕ} {allowance blocks m r : ℕ} (w : RecordFits t allowance
 
   in-range : (k : ℕ) → k < countAt t m r → inRange (transactionAt t m r k) ≡ true
   unfolding transactionAt transactionFits
-  in-range k h = triple-range (word t m r (4 + k * 3)) (word t m r (5 + k * 3)) (word t m r (6 + k * 3)) (w .triples k h)
+  in-range k h = triple-range (kindAt t m r k) (numberAt t m r k) (amountAt t m r k) (w .triples k h)
 
   -- they are in range and within the allowance
   pub transactions-fit : badTransactions allowance (contentAt t m r .transactions) ≡ false
@@ -88,7 +88,7 @@ module _ {t : List ℕ} {allowance blocks m r : ℕ} (w : RecordFits t allowance
   previous-fits = rw (content-previous t m r) (w .previous)
 
 -- a record with the same words but for its mark
-pub record-same : {t u : List ℕ} {allowance blocks blocks′ m r : ℕ} → ((k : ℕ) → k < 16 → k ≢ 2 → word u m r k ≡ word t m r k) → markAt u m r ≤ blocks′
+pub record-same : {t u : List ℕ} {allowance blocks blocks′ m r : ℕ} → ((k : ℕ) → k < recordLength → k ≢ 2 → word u m r k ≡ word t m r k) → markAt u m r ≤ blocks′
     → RecordFits t allowance blocks m r → RecordFits u allowance blocks′ m r
 unfolding transactionFits
 record-same {t} {u} {m = m} {r = r} e l w =
@@ -96,7 +96,7 @@ record-same {t} {u} {m = m} {r = r} e l w =
     let c = count-same t u m r e in
     record {
       count = rw (e 1 (omega arith) (omega arith)) (w .count);
-      triples = λ k h. rw (e (4 + k * 3) (omega arith) (omega arith), e (5 + k * 3) (omega arith) (omega arith), e (6 + k * 3) (omega arith) (omega arith)) (w .triples k (omega arith));
+      triples = λ k h. rw (e (transactionStart k) (omega arith) (omega arith), e (transactionStart k + 1) (omega arith) (omega arith), e (transactionStart k + 2) (omega arith) (omega arith)) (w .triples k (omega arith));
       small = rw (e 0 (omega arith) (omega arith)) (w .small);
       previous = rw (previous-same t u m r e) (w .previous);
       mark = l;

@@ -3,7 +3,7 @@ use mathlib.Core.Path.{_≡_, refl}
 use mathlib.Core.Bool.{Bool, true, false, cond}
 use mathlib.Core.List.{List}
 use mathlib.Core.Option.{Option, none, some}
-use Prim.Native.Nat.{ℕ, _+_, _*_, _<_, _≤_}
+use Prim.Native.Nat.{ℕ, _+_, _<_, _≤_}
 use native.Mathlib.Omega.{arith}
 use lib.ListN.{getD, length}
 use lib.Dec.{ltb}
@@ -15,7 +15,7 @@ use Rattle.base.specs.Sets.{isIn}
 use Rattle.terms.specs.Transactions.{amountOf, readTransaction}
 use Rattle.terms.specs.Proposals.{Content}
 use Rattle.terms.proofs.ProposalLaws.{read-amount}
-use Rattle.store.specs.Table.{heldSet, endorsedSet, heldAt, endorsedAt, word, previousAt, countAt, transactionAt, contentAt, certificateAt, endorsersAt}
+use Rattle.store.specs.Table.{recordStart, transactionStart, heldSet, endorsedSet, heldAt, endorsedAt, word, previousAt, countAt, kindAt, numberAt, amountAt, transactionAt, contentAt, certificateAt, endorsersAt}
 
 module _ (t : List ℕ) (m r : ℕ) where
   -- no record tells more than four transactions
@@ -89,7 +89,7 @@ module _ (t : List ℕ) (m r : ℕ) where
   unfolding contentAt
   content-transactions = refl
 
-  pub transaction-words : (k : ℕ) → transactionAt t m r k ≡ readTransaction (word t m r (4 + k * 3)) (word t m r (5 + k * 3)) (word t m r (6 + k * 3))
+  pub transaction-words : (k : ℕ) → transactionAt t m r k ≡ readTransaction (kindAt t m r k) (numberAt t m r k) (amountAt t m r k)
   unfolding transactionAt
   transaction-words k = refl
 
@@ -100,6 +100,6 @@ module _ (t : List ℕ) (m r : ℕ) where
   pub amount-lt : ((i : ℕ) → getD t i 0 < 4294967296) → (k : ℕ) → amountOf (transactionAt t m r k) ≤ 4294967295
   unfolding transactionAt word
   amount-lt words k =
-      let h = words (r * 272 + m * 16 + 16 + (6 + k * 3)) in
-      let l = read-amount (word t m r (4 + k * 3)) (word t m r (5 + k * 3)) (word t m r (6 + k * 3)) in
+      let h = words (recordStart m r + (transactionStart k + 2)) in
+      let l = read-amount (kindAt t m r k) (numberAt t m r k) (amountAt t m r k) in
       omega arith

@@ -17,7 +17,7 @@ use Rattle.base.proofs.FoldLaws.{tab-same}
 use Rattle.base.specs.Sets.{isIn, add}
 use Rattle.base.proofs.SetLaws.{in-add}
 use Rattle.base.proofs.PasteLaws.{paste-below, paste-inside, paste-above}
-use Rattle.store.specs.Table.{Within, heldSet, heldAt, word, previousAt, countAt, endorsersAt, transactionAt, contentAt, certificateAt}
+use Rattle.store.specs.Table.{rowLength, headLength, recordLength, recordStart, transactionStart, Within, heldSet, heldAt, word, previousAt, countAt, endorsersAt, transactionAt, contentAt, certificateAt}
 use Rattle.store.proofs.TableLaws.{count-le, held-member}
 use Rattle.store.specs.Writes.{putRecord}
 
@@ -43,7 +43,7 @@ in-added s s′ a q h e k m r = by (ℕ-discrete r q)
     by (no n) = rw (k r n, ne-eqb r q n, and-false (eqb m a)) refl
 
 -- the words of a record other than its mark make what it tells
-module _ (t u : List ℕ) (m r : ℕ) (e : (k : ℕ) → k < 16 → k ≢ 2 → word u m r k ≡ word t m r k) where
+module _ (t u : List ℕ) (m r : ℕ) (e : (k : ℕ) → k < recordLength → k ≢ 2 → word u m r k ≡ word t m r k) where
   pub count-same : countAt u m r ≡ countAt t m r
   unfolding countAt
   count-same = rw (e 1 (omega arith) (omega arith)) refl
@@ -58,7 +58,7 @@ module _ (t u : List ℕ) (m r : ℕ) (e : (k : ℕ) → k < 16 → k ≢ 2 → 
 
   pub transaction-same : (k : ℕ) → k < 4 → transactionAt u m r k ≡ transactionAt t m r k
   unfolding transactionAt
-  transaction-same k h = rw (e (4 + k * 3) (omega arith) (omega arith), e (5 + k * 3) (omega arith) (omega arith), e (6 + k * 3) (omega arith) (omega arith)) refl
+  transaction-same k h = rw (e (transactionStart k) (omega arith) (omega arith), e (transactionStart k + 1) (omega arith) (omega arith), e (transactionStart k + 2) (omega arith) (omega arith)) refl
 
   pub content-same : contentAt u m r ≡ contentAt t m r
   unfolding contentAt
@@ -68,7 +68,7 @@ module _ (t u : List ℕ) (m r : ℕ) (e : (k : ℕ) → k < 16 → k ≢ 2 → 
       rw (previous-same, count-same, q) refl
 
 -- a place that is held as before, with the words that it had if it is, has the certificate that it had
-pub certificate-same : (t u : List ℕ) (m r : ℕ) → heldAt u m r ≡ heldAt t m r → (m < 16 → (k : ℕ) → k < 16 → k ≢ 2 → word u m r k ≡ word t m r k)
+pub certificate-same : (t u : List ℕ) (m r : ℕ) → heldAt u m r ≡ heldAt t m r → (m < 16 → (k : ℕ) → k < recordLength → k ≢ 2 → word u m r k ≡ word t m r k)
     → certificateAt u m r ≡ certificateAt t m r
 unfolding certificateAt
 certificate-same t u m r h e = rw h (go (heldAt t m r) refl)
@@ -98,52 +98,52 @@ lt-or-gt a b n = by (decLt a b)
 
 -- the records of two places lie apart
 apart : (m r m′ r′ : ℕ) → m < 16 → m′ < 16 → (m′ ≡ m → r′ ≡ r → ⊥)
-    → (r′ * 272 + m′ * 16 + 32 ≤ r * 272 + m * 16 + 16) ⊎ (r * 272 + m * 16 + 32 ≤ r′ * 272 + m′ * 16 + 16)
+    → (recordStart m′ r′ + recordLength ≤ recordStart m r) ⊎ (recordStart m r + recordLength ≤ recordStart m′ r′)
 apart m r m′ r′ h h′ n = by (ℕ-discrete r′ r)
   where
-    by : Dec (r′ ≡ r) → (r′ * 272 + m′ * 16 + 32 ≤ r * 272 + m * 16 + 16) ⊎ (r * 272 + m * 16 + 32 ≤ r′ * 272 + m′ * 16 + 16)
+    by : Dec (r′ ≡ r) → (recordStart m′ r′ + recordLength ≤ recordStart m r) ⊎ (recordStart m r + recordLength ≤ recordStart m′ r′)
     by (yes e) = ⊎-elim (λ l. inl (omega arith)) (λ l. inr (omega arith)) (lt-or-gt m′ m (λ q. n q e))
     by (no e) = ⊎-elim (λ l. inl (omega arith)) (λ l. inr (omega arith)) (lt-or-gt r′ r e)
 
-module _ (t : List ℕ) (m r : ℕ) (w : List ℕ) (at : Within t m r) (lw : length w ≡ 16) where
+module _ (t : List ℕ) (m r : ℕ) (w : List ℕ) (at : Within t m r) (lw : length w ≡ recordLength) where
   pub length-record-put : length (putRecord t m r w) ≡ length t
   unfolding putRecord
-  length-record-put = length-set (paste t (r * 272 + m * 16 + 16) w 16) (r * 272) (add (heldSet t r) m) ∙ length-paste t (r * 272 + m * 16 + 16) w 16 (omega arith) (omega arith)
+  length-record-put = length-set (paste t (recordStart m r) w recordLength) (r * rowLength) (add (heldSet t r) m) ∙ length-paste t (recordStart m r) w recordLength (omega arith) (omega arith)
 
   -- a word below or above the record that is not the row's held set is as it was
-  put-below : (j : ℕ) → j ≢ r * 272 → j < r * 272 + m * 16 + 16 → getD (putRecord t m r w) j 0 ≡ getD t j 0
+  put-below : (j : ℕ) → j ≢ r * rowLength → j < recordStart m r → getD (putRecord t m r w) j 0 ≡ getD t j 0
   unfolding putRecord
   put-below j n h =
-      getD-set-other (paste t (r * 272 + m * 16 + 16) w 16) (r * 272) j (add (heldSet t r) m) 0 n
-      ∙ paste-below t (r * 272 + m * 16 + 16) w 16 (omega arith) lw j h
+      getD-set-other (paste t (recordStart m r) w recordLength) (r * rowLength) j (add (heldSet t r) m) 0 n
+      ∙ paste-below t (recordStart m r) w recordLength (omega arith) lw j h
 
-  pub put-above : (j : ℕ) → r * 272 + m * 16 + 32 ≤ j → getD (putRecord t m r w) j 0 ≡ getD t j 0
+  pub put-above : (j : ℕ) → recordStart m r + recordLength ≤ j → getD (putRecord t m r w) j 0 ≡ getD t j 0
   unfolding putRecord
   put-above j h =
-      getD-set-other (paste t (r * 272 + m * 16 + 16) w 16) (r * 272) j (add (heldSet t r) m) 0 (omega arith)
-      ∙ paste-above t (r * 272 + m * 16 + 16) w 16 (omega arith) lw j (omega arith)
+      getD-set-other (paste t (recordStart m r) w recordLength) (r * rowLength) j (add (heldSet t r) m) 0 (omega arith)
+      ∙ paste-above t (recordStart m r) w recordLength (omega arith) lw j (omega arith)
 
-  pub word-put : (k : ℕ) → k < 16 → word (putRecord t m r w) m r k ≡ getD w k 0
+  pub word-put : (k : ℕ) → k < recordLength → word (putRecord t m r w) m r k ≡ getD w k 0
   unfolding putRecord word
   word-put k h =
-      getD-set-other (paste t (r * 272 + m * 16 + 16) w 16) (r * 272) (r * 272 + m * 16 + 16 + k) (add (heldSet t r) m) 0 (omega arith)
-      ∙ paste-inside t (r * 272 + m * 16 + 16) w 16 (omega arith) lw k h
+      getD-set-other (paste t (recordStart m r) w recordLength) (r * rowLength) (recordStart m r + k) (add (heldSet t r) m) 0 (omega arith)
+      ∙ paste-inside t (recordStart m r) w recordLength (omega arith) lw k h
 
-  pub word-kept : (m′ r′ k : ℕ) → m′ < 16 → k < 16 → (m′ ≡ m → r′ ≡ r → ⊥) → word (putRecord t m r w) m′ r′ k ≡ word t m′ r′ k
+  pub word-kept : (m′ r′ k : ℕ) → m′ < 16 → k < recordLength → (m′ ≡ m → r′ ≡ r → ⊥) → word (putRecord t m r w) m′ r′ k ≡ word t m′ r′ k
   unfolding word
   word-kept m′ r′ k h l n =
-      ⊎-elim (λ z. put-below (r′ * 272 + m′ * 16 + 16 + k) (omega arith) (omega arith)) (λ z. put-above (r′ * 272 + m′ * 16 + 16 + k) (omega arith))
+      ⊎-elim (λ z. put-below (recordStart m′ r′ + k) (omega arith) (omega arith)) (λ z. put-above (recordStart m′ r′ + k) (omega arith))
       (apart m r m′ r′ (at .member) h n)
 
   pub held-set-put : heldSet (putRecord t m r w) r ≡ add (heldSet t r) m
   unfolding putRecord heldSet
-  held-set-put = let l = length-paste t (r * 272 + m * 16 + 16) w 16 (omega arith) (omega arith) in
-      getD-set-same (paste t (r * 272 + m * 16 + 16) w 16) (r * 272) (add (heldSet t r) m) 0 (omega arith)
+  held-set-put = let l = length-paste t (recordStart m r) w recordLength (omega arith) (omega arith) in
+      getD-set-same (paste t (recordStart m r) w recordLength) (r * rowLength) (add (heldSet t r) m) 0 (omega arith)
 
   -- a word of a row's head, except the held set of the row itself
-  pub put-head : (j : ℕ) → j % 272 < 16 → j ≢ r * 272 → getD (putRecord t m r w) j 0 ≡ getD t j 0
-  put-head j h n = by (decLt j (r * 272 + m * 16 + 16))
+  pub put-head : (j : ℕ) → j % rowLength < headLength → j ≢ r * rowLength → getD (putRecord t m r w) j 0 ≡ getD t j 0
+  put-head j h n = by (decLt j (recordStart m r))
     where
-      by : Dec (j < r * 272 + m * 16 + 16) → getD (putRecord t m r w) j 0 ≡ getD t j 0
+      by : Dec (j < recordStart m r) → getD (putRecord t m r w) j 0 ≡ getD t j 0
       by (yes l) = put-below j n l
       by (no l) = put-above j (omega arith)

@@ -2,6 +2,7 @@ use mathlib.Core.Path.{sym}
 use native.Mathlib.Omega.{arith}
 use Prim.Native.Nat.{ℕ}
 use lib.ListN.{length-replicate}
+use Rattle.bonded.specs.Links.{fewPlaces, manyPlaces}
 use borrow.Author.Needs.{needs}
 use Rattle.bonded.proofs.committees_of.Statement.{statement}
 use Rattle.bonded.proofs.committees_of.Tie as tie
@@ -19,7 +20,7 @@ slice-aggregate-walked : tie.Need-slice-aggregate-walked
 slice-aggregate-walked c = search needs
 
 walked-requires : tie.Need-walked-requires
-walked-requires c κs = (c .before .before .before .before .before .before .pre, let l = length-replicate {A = ℕ} 1040 0 in omega arith)
+walked-requires c κs = (c .before .before .before .before .before .before .pre, let l = length-replicate {A = ℕ} fewPlaces 0 in omega arith)
 
 returns-2 : tie.Need-returns-2
 returns-2 c = c .before .walked .ensures
@@ -28,7 +29,7 @@ slice-aggregate-walked-2 : tie.Need-slice-aggregate-walked-2
 slice-aggregate-walked-2 c = search needs
 
 walked-requires-2 : tie.Need-walked-requires-2
-walked-requires-2 c κs = (c .before .before .before .before .before .before .pre, let l = length-replicate {A = ℕ} 16400 0 in omega arith)
+walked-requires-2 c κs = (c .before .before .before .before .before .before .pre, let l = length-replicate {A = ℕ} manyPlaces 0 in omega arith)
 
 returns-3 : tie.Need-returns-3
 returns-3 c = c .before .walked2 .ensures

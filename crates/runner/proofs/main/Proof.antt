@@ -1,6 +1,7 @@
 use native.Mathlib.Omega.{arith}
 use Prim.Native.Nat.{ℕ}
 use lib.ListN.{length-replicate}
+use Rattle.runner.specs.Lengths.{tableLength, inputLength, outputLength}
 use borrow.Author.Needs.{needs}
 use Rattle.runner.proofs.main.Statement.{statement}
 use Rattle.runner.proofs.main.Tie as tie
@@ -19,9 +20,9 @@ slice-aggregate-serve-all-4 c = search needs
 
 serve-all-requires : tie.Need-serve-all-requires
 serve-all-requires c κs =
-    let t = length-replicate {A = ℕ} 17680 0 in
-    let b = length-replicate {A = ℕ} 65536 0 in
-    let o = length-replicate {A = ℕ} 262144 0 in
+    let t = length-replicate {A = ℕ} tableLength 0 in
+    let b = length-replicate {A = ℕ} inputLength 0 in
+    let o = length-replicate {A = ℕ} outputLength 0 in
     record { table-to = omega (arith, t); input-to = omega (arith, b); answer-to = omega (arith, t, o) }
 
 slice-aggregate-conclude : tie.Need-slice-aggregate-conclude

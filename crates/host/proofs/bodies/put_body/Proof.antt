@@ -5,6 +5,7 @@ use Prim.Native.Nat.{ℕ, _+_, _*_, _-_, _≤_}
 use lib.ListN.{length}
 use lib.Seq.{paste, paste-zero}
 use Rattle.terms.specs.declared.Transaction.{Transaction}
+use Rattle.host.specs.Lengths.{transactionLength}
 use Rattle.host.specs.Bodies.{usedWords, tripleWords}
 use Rattle.host.proofs.PutLaws.{used-step, body-put}
 use borrow.Author.Needs.{needs}
@@ -12,7 +13,7 @@ use Rattle.host.proofs.bodies.put_body.Statement.{statement}
 use Rattle.host.proofs.bodies.put_body.Tie as tie
 
 abbrev Inv-loop : tie.InvT-loop
-Inv-loop w₀ at b k₀ w k = (k ≤ 4) × (w ≡ paste w₀ (at + 2) (usedWords b k) (k * 3)) × (length w ≡ length w₀)
+Inv-loop w₀ at b k₀ w k = (k ≤ 4) × (w ≡ paste w₀ (at + 2) (usedWords b k) (k * transactionLength)) × (length w ≡ length w₀)
 
 abbrev μ-loop : tie.MeasureT-loop
 μ-loop w₀ at b k₀ w k = 4 - k
@@ -60,7 +61,7 @@ loop-again c =
     let u = c .before .before .before .before .before .before .before .before .before .put .last .0 in (
       omega arith,
       c .before .before .put-triple .ensures
-          ∙ ap₂ (λ (z : List ℕ) (x : Transaction). paste z (a .at + 2 + l .k * 3) (tripleWords x) 3) (l .inv .1) (c .before .before .before .before .used-at .ensures)
+          ∙ ap₂ (λ (z : List ℕ) (x : Transaction). paste z (a .at + 2 + l .k * transactionLength) (tripleWords x) transactionLength) (l .inv .1) (c .before .before .before .before .used-at .ensures)
           ∙ used-step (a .b) u (a .at + 2) (l .k) (omega arith),
       c .before .before .put-triple .kept .0 ∙ l .inv .2,
     )

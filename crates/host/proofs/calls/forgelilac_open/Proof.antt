@@ -3,6 +3,7 @@ use mathlib.Core.List.{[]}
 use lib.Dec.{leb}
 use lib.ListN.{length}
 use borrow.Author.Tests.{lt-leb, le-leb}
+use Rattle.host.specs.Lengths.{stateLength}
 use Rattle.host.proofs.CallLaws.{not-read, is-read, left-unread, right-unread, both-read, done-unread, stepped-done}
 use Rattle.host.specs.Sheets.{sheetReads}
 use Rattle.host.specs.Calls.{opens}
@@ -15,7 +16,7 @@ use Rattle.host.proofs.calls.forgelilac_open.Tie as tie
 returns : tie.Need-returns
 returns c =
     let a = c .before .before .before .before .args in
-    done-unread (a .state .now) (a .table .now) [] (opens (a .own) (a .sheet .now)) (left-unread (sheetReads (a .sheet .now)) (lt-leb 37 (length (a .state .now)) (c .if1 .taken))) refl
+    done-unread (a .state .now) (a .table .now) [] (opens (a .own) (a .sheet .now)) (left-unread (sheetReads (a .sheet .now)) (lt-leb stateLength (length (a .state .now)) (c .if1 .taken))) refl
 
 sheet-reads-requires : tie.Need-sheet-reads-requires
 sheet-reads-requires c κs = search needs
@@ -23,7 +24,7 @@ sheet-reads-requires c κs = search needs
 returns-2 : tie.Need-returns-2
 returns-2 c =
     let a = c .before .before .before .before .before .before .args in
-    done-unread (a .state .now) (a .table .now) [] (opens (a .own) (a .sheet .now)) (right-unread (leb 37 (length (a .state .now))) (not-read (c .before .sheet-reads .ensures) (c .if2 .taken))) refl
+    done-unread (a .state .now) (a .table .now) [] (opens (a .own) (a .sheet .now)) (right-unread (leb stateLength (length (a .state .now))) (not-read (c .before .sheet-reads .ensures) (c .if2 .taken))) refl
 
 sheet-in-requires : tie.Need-sheet-in-requires
 sheet-in-requires c κs = sheet-read _ (is-read (c .before .sheet-reads .ensures) (c .if2 .left))
@@ -46,7 +47,7 @@ same-length-2 c = search needs
 returns-3 : tie.Need-returns-3
 returns-3 c =
     let a = c .before .before .before .before .before .before .before .before .before .before .before .before .before .before .before .before .args in
-    let e = le-leb 37 (length (a .state .now)) (c .before .before .before .before .before .before .before .before .before .before .before .before .if1 .left) in
+    let e = le-leb stateLength (length (a .state .now)) (c .before .before .before .before .before .before .before .before .before .before .before .before .if1 .left) in
     let f = is-read (c .before .before .before .before .before .before .before .before .before .before .before .sheet-reads .ensures) (c .before .before .before .before .before .before .before .before .before .before .if2 .left) in
     let x = rw (c .before .before .before .before .before .before .before .before .before .sheet-in .ensures, c .before .before .before .before .before .before .before .before .closed .ensures) at (c .before .before .before .before .before .before .«open» .ensures) in
     stepped-done (a .state .now) (a .table .now) (opens (a .own) (a .sheet .now)) (both-read e f) (x .0) (x .1) refl (c .before .before .settle .ensures)

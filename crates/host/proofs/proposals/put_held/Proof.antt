@@ -3,6 +3,7 @@ use mathlib.Core.List.{List, [], _∷_}
 use Prim.Native.Nat.{ℕ}
 use lib.Seq.{paste}
 use native.Mathlib.Omega.{arith}
+use Rattle.host.specs.Lengths.{bodyLength, proposalLength}
 use Rattle.host.specs.Bodies.{bodyWords}
 use Rattle.host.proofs.PutLaws.{held-put}
 use borrow.Author.Needs.{needs}
@@ -31,7 +32,7 @@ returns : tie.Need-returns
 returns c =
     let a = c .before .before .before .before .before .before .before .before .before .before .before .before .before .before .before .before .args in
     c .before .before .put2 .ensures
-    ∙ ap (λ (z : List ℕ). paste z 16 (a .endorsers ∷ a .block ∷ []) 2) (c .before .before .before .before .before .before .before .put-body .ensures ∙ ap (λ (z : List ℕ). paste z 2 (bodyWords (a .p .body)) 14) (c .before .before .before .before .before .before .before .before .before .before .before .put .ensures))
+    ∙ ap (λ (z : List ℕ). paste z proposalLength (a .endorsers ∷ a .block ∷ []) 2) (c .before .before .before .before .before .before .before .put-body .ensures ∙ ap (λ (z : List ℕ). paste z 2 (bodyWords (a .p .body)) bodyLength) (c .before .before .before .before .before .before .before .before .before .before .before .put .ensures))
     ∙ held-put (a .p) (a .endorsers) (a .block) (a .w .now) (omega arith)
 
 pub put-held-spec : {M : Type 1} → statement M

@@ -6,6 +6,7 @@ use lib.Dec.{leb}
 use borrow.Author.Tests.{lt-leb, le-leb}
 use Rattle.base.specs.Folds.{allTo}
 use Rattle.base.proofs.TestLaws.{all-more, all-fails}
+use Rattle.host.specs.Lengths.{sheetLength}
 use Rattle.host.specs.Words.{word}
 use Rattle.host.specs.Sheets.{sheetReads}
 use borrow.Author.Needs.{needs}
@@ -20,7 +21,7 @@ abbrev μ-loop : tie.MeasureT-loop
 
 returns : tie.Need-returns Inv-loop μ-loop
 unfolding sheetReads
-returns c = rw (lt-leb 38 _ (c .if1 .taken)) refl
+returns c = rw (lt-leb sheetLength _ (c .if1 .taken)) refl
 
 loop-holds : tie.Need-loop-holds Inv-loop μ-loop
 unfolding allTo
@@ -39,7 +40,7 @@ returns-2 : tie.Need-returns-2 Inv-loop μ-loop
 unfolding sheetReads
 returns-2 c =
     let w = c .before .before .before .before .before .args .w .now in
-    rw (le-leb 38 _ (c .before .before .before .before .if1 .left)) (sym (all-fails (λ i. leb (word w (i * 2)) 1) 19 (c .before .before .before .loop .k) (omega arith) (lt-leb _ 1 (c .if2 .taken))))
+    rw (le-leb sheetLength _ (c .before .before .before .before .if1 .left)) (sym (all-fails (λ i. leb (word w (i * 2)) 1) 19 (c .before .before .before .loop .k) (omega arith) (lt-leb _ 1 (c .if2 .taken))))
 
 add-k : tie.Need-add-k Inv-loop μ-loop
 add-k c = search needs
@@ -54,7 +55,7 @@ returns-3 : tie.Need-returns-3 Inv-loop μ-loop
 unfolding sheetReads
 returns-3 c =
     let e : c .before .loop .k ≡ 19 = omega arith in
-    rw (le-leb 38 _ (c .before .before .if1 .left)) (sym (rw e at (c .before .loop .inv .1)))
+    rw (le-leb sheetLength _ (c .before .before .if1 .left)) (sym (rw e at (c .before .loop .inv .1)))
 
 pub sheet-reads-spec : {M : Type 1} → statement M
 sheet-reads-spec =

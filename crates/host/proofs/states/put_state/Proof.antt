@@ -1,3 +1,4 @@
+use Rattle.host.specs.Lengths.{bodyLength}
 use Rattle.host.specs.Words.{sixteen}
 use mathlib.Core.Path.{ap, ap₂, _∙_}
 use mathlib.Core.List.{List, [], _∷_}
@@ -43,7 +44,7 @@ returns c =
     let a = c .before .before .before .before .before .before .before .before .before .before .before .before .before .before .before .before .before .before .before .before .before .before .before .args in
     let s = a .s in
     c .before .before .put-body .ensures
-    ∙ ap₂ (λ (z : List ℕ) (b : Body). paste z 23 (bodyWords b) 14)
+    ∙ ap₂ (λ (z : List ℕ) (b : Body). paste z 23 (bodyWords b) bodyLength)
     (c .before .before .before .before .before .before .put2 .ensures
     ∙ ap₂ (λ (z : List ℕ) (f : ℕ). paste z 20 (s .round .0 ∷ f ∷ s .blocks ∷ []) 3)
     (c .before .before .before .before .before .before .before .before .before .before .before .put-weights .ensures ∙ ap (λ (z : List ℕ). paste z 4 (sixteen (s .settings .weights)) 16) (c .before .before .before .before .before .before .before .before .before .before .before .before .before .before .before .put .ensures))

@@ -1,3 +1,4 @@
+use Rattle.store.specs.Table.{rowLength}
 use borrow.Author.Needs.{needs}
 use Prim.Native.Nat.{_+_, _*_, _-_, _≤_}
 use native.Mathlib.Omega.{arith}
@@ -47,7 +48,7 @@ same-length c = c .before .loop .inv .2
 
 returns : tie.Need-returns Inv-loop μ-loop
 unfolding clearUsed
-returns c = let e : c .before .loop .i ≡ c .before .before .before .args .n .0 * 272 + 272 = omega arith in rw e at (c .before .loop .inv .1)
+returns c = let e : c .before .loop .i ≡ c .before .before .before .args .n .0 * rowLength + rowLength = omega arith in rw e at (c .before .loop .inv .1)
 
 pub clear-used-spec : {M : Type 1} → statement M
 clear-used-spec =
