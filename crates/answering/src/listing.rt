@@ -43,13 +43,13 @@ fn list_turn(t: &[u32], k: u32, b: Round, m: Member, r: Round, out: &mut [u8], a
 }
 
 // The certificates of block k of a round: numbers rise from that of a, with 0 after 15.
-fn list_row(t: &[u32], k: u32, b: Round, a: u32, r: Round, out: &mut [u8], at: usize) -> usize
-    requires { ⌜ Row (now t) (r .0) × (r .0 ≤ 1024) × (a ≤ 16) × (b .0 ≡ blockRound (now t) k) × (at + rowCount (now t) k (r .0) * 141 ≤ length (now out)) ⌝ }
-    ensures { λ v. ⌜ Puts (now (out .entry)) (now (out .exit)) at v (rowLines (now (t .entry)) k a (r .0)) (rowCount (now (t .entry)) k (r .0) * 141) ⌝ }
+fn list_row(t: &[u32], k: u32, b: Round, a: Member, r: Round, out: &mut [u8], at: usize) -> usize
+    requires { ⌜ Row (now t) (r .0) × (r .0 ≤ 1024) × (a .0 ≤ 16) × (b .0 ≡ blockRound (now t) k) × (at + rowCount (now t) k (r .0) * 141 ≤ length (now out)) ⌝ }
+    ensures { λ v. ⌜ Puts (now (out .entry)) (now (out .exit)) at v (rowLines (now (t .entry)) k (a .0) (r .0)) (rowCount (now (t .entry)) k (r .0) * 141) ⌝ }
 {
     let mut to = at;
     for i in 0..16u32 {
-        to = list_turn(t, k, b, Member((a + i) % 16), r, out, to);
+        to = list_turn(t, k, b, Member((a.0 + i) % 16), r, out, to);
     }
     to
 }
@@ -61,19 +61,19 @@ fn list_block(
     next: &[u32],
     n: Round,
     k: u32,
-    a: u32,
+    a: Member,
     out: &mut [u8],
     at: usize,
 ) -> usize
-    requires { ⌜ Row (now t) (n .0) × (n .0 ≤ 1024) × (2 * k + 2 < n .0) × (a ≤ 16) × Links (now t) 16 (n .0 * 16 + 16) (now head) (now next) × (at + blockCount (n .0) (now t) (k + 1) * 141 ≤ length (now out)) ⌝ }
-    ensures { λ v. ⌜ Puts (now (out .entry)) (now (out .exit)) at v (rowsOver (addLines (now (t .entry)) (k + 1)) a (n .0) []) (blockCount (n .0) (now (t .entry)) (k + 1) * 141) ⌝ }
+    requires { ⌜ Row (now t) (n .0) × (n .0 ≤ 1024) × (2 * k + 2 < n .0) × (a .0 ≤ 16) × Links (now t) 16 (n .0 * 16 + 16) (now head) (now next) × (at + blockCount (n .0) (now t) (k + 1) * 141 ≤ length (now out)) ⌝ }
+    ensures { λ v. ⌜ Puts (now (out .entry)) (now (out .exit)) at v (rowsOver (addLines (now (t .entry)) (k + 1)) (a .0) (n .0) []) (blockCount (n .0) (now (t .entry)) (k + 1) * 141) ⌝ }
 {
     let end = n.0 * 16 + 16;
     let b = store::block_round(t, k + 1);
     let mut to = at;
     let mut p = head[(k + 1) as usize];
     while p < end {
-        to = list_row(t, k + 1, Round(b), a, Round(p / 16), out, to);
+        to = list_row(t, k + 1, b, a, Round(p / 16), out, to);
         p = bonded::links::run_end(next, p / 16 * 16 + 16, p);
     }
     to
@@ -96,7 +96,8 @@ fn list_blocks(
     let mut to = at;
     let mut k: u32 = 0;
     while k < blocks {
-        to = list_block(t, head, next, s.ceiling, k, starts[k as usize], out, to);
+        let a = Member(starts[k as usize]);
+        to = list_block(t, head, next, s.ceiling, k, a, out, to);
         k += 1;
     }
     to

@@ -67,13 +67,13 @@ fn apply_run(t: &[u32], next: &[u32], y: u32, z: u32, p: u32, w: &mut [u64; 16])
 }
 
 // The places of the row of place p: from member a on, then those below it. Gives the first one after the row.
-fn apply_row(t: &[u32], next: &[u32], a: u32, p: u32, w: &mut [u64; 16]) -> u32
-    requires { ⌜ (a ≤ 16) × (p < manyPlaces) × (p / 16 * 16 + 16 ≤ length (now next)) × Row (now t) (p / 16) × (totalIn (now w) ≤ 1125899906842624) ⌝ }
-    ensures { λ v. ⌜ (now (w .exit) ≡ rowOver (recordChange (now (t .entry))) (now (next .entry)) a p (now (w .entry))) × (v ≡ runEnd (now (next .entry)) (p / 16 * 16 + 16) 16 p) ⌝ }
+fn apply_row(t: &[u32], next: &[u32], a: Member, p: u32, w: &mut [u64; 16]) -> u32
+    requires { ⌜ (a .0 ≤ 16) × (p < manyPlaces) × (p / 16 * 16 + 16 ≤ length (now next)) × Row (now t) (p / 16) × (totalIn (now w) ≤ 1125899906842624) ⌝ }
+    ensures { λ v. ⌜ (now (w .exit) ≡ rowOver (recordChange (now (t .entry))) (now (next .entry)) (a .0) p (now (w .entry))) × (v ≡ runEnd (now (next .entry)) (p / 16 * 16 + 16) 16 p) ⌝ }
 {
     let row = p / 16 * 16;
-    let after = apply_run(t, next, row + a, row + 16, p, w);
-    apply_run(t, next, row, row + a, p, w);
+    let after = apply_run(t, next, row + a.0, row + 16, p, w);
+    apply_run(t, next, row, row + a.0, p, w);
     after
 }
 
@@ -83,12 +83,12 @@ pub fn apply_block(
     head: &[u32; 512],
     next: &[u32],
     b: u32,
-    a: u32,
+    a: Member,
     n: Round,
     w: &mut [u64; 16],
 )
-    requires { ⌜ Row (now t) (n .0) × (n .0 ≤ 1024) × (b < 512) × (a ≤ 16) × Links (now t) 16 (n .0 * 16 + 16) (now head) (now next) × (totalIn (now w) ≤ 562949953421312) ⌝ }
-    ensures { λ _. ⌜ now (w .exit) ≡ rowsOver (placeChange (now (t .entry)) b) a (n .0) (now (w .entry)) ⌝ }
+    requires { ⌜ Row (now t) (n .0) × (n .0 ≤ 1024) × (b < 512) × (a .0 ≤ 16) × Links (now t) 16 (n .0 * 16 + 16) (now head) (now next) × (totalIn (now w) ≤ 562949953421312) ⌝ }
+    ensures { λ _. ⌜ now (w .exit) ≡ rowsOver (placeChange (now (t .entry)) b) (a .0) (n .0) (now (w .entry)) ⌝ }
 {
     let end = n.0 * 16 + 16;
     let mut p = head[b as usize];

@@ -32,7 +32,8 @@ fn fill_rounds(
     for q in m.0..top.0 {
         let r = Round(q + 1);
         x = crate::running::reach_round(t, head, next, s, blocks, x, r, w, starts);
-        l[q as usize + 1] = committee::leader::leader(w, r);
+        let a = committee::leader::leader(w, r);
+        l[q as usize + 1] = a.0;
     }
     crate::running::reach_round(t, head, next, s, blocks, x, Round(top.0 + 1), w, starts);
 }

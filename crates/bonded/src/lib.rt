@@ -41,7 +41,7 @@ pub fn last_round(t: &[u32], k: u32) -> Round
     if k == 0 {
         return Round(0);
     }
-    Round(store::block_round(t, k))
+    store::block_round(t, k)
 }
 
 // Has the block after the first k an even round, above that of the block before and below the ceiling n?
@@ -50,14 +50,14 @@ fn block_fits(t: &[u32], k: u32, n: Round) -> bool
     ensures { λ v. ⌜ v ≡ blockFits (n .0) (now (t .entry)) k ⌝ }
 {
     let r = store::block_round(t, k + 1);
-    if r % 2 != 0 {
+    if r.0 % 2 != 0 {
         return false;
     }
     let last = last_round(t, k);
-    if r <= last.0 {
+    if r.0 <= last.0 {
         return false;
     }
-    r < n.0
+    r.0 < n.0
 }
 
 // Are the block rounds even, rising and below the ceiling n?
@@ -84,7 +84,8 @@ fn is_starting(t: &[u32], s: Settings, blocks: u32, r: Round) -> bool
     if blocks == 0 {
         return true;
     }
-    r.0 - s.lookback <= store::block_round(t, 1)
+    let first = store::block_round(t, 1);
+    r.0 - s.lookback <= first.0
 }
 
 // The round before r; 0 has none and stays.

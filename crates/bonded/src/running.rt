@@ -2,6 +2,7 @@
 // The rows of a block start with the leader of its round, whose committee is that of lookback rounds before: so the start of each block is told before the blocks from there on are applied.
 use crate::Applied;
 use sheet::Settings;
+use terms::Member;
 use terms::Round;
 ghost use mathlib.Core.Path.{_≡_};
 ghost use Prim.Native.Nat.{_+_, _-_, _*_, _<_, _≤_};
@@ -39,10 +40,11 @@ fn fill_starts(
     let mut i = f;
     while i < blocks {
         let r = store::block_round(t, i + 1);
-        if s.lookback < r - at {
+        if s.lookback < r.0 - at.0 {
             return i;
         }
-        starts[i as usize] = committee::leader::leader(w, Round(r));
+        let a = committee::leader::leader(w, r);
+        starts[i as usize] = a.0;
         i += 1;
     }
     i
@@ -64,7 +66,7 @@ pub fn apply_next(
 {
     let k = x.blocks;
     let f = fill_starts(t, s, blocks, k, x.starts, w, starts);
-    let a = starts[k as usize];
+    let a = Member(starts[k as usize]);
     crate::block::apply_block(t, head, next, k + 1, a, s.ceiling, w);
     Applied {
         blocks: k + 1,
@@ -89,7 +91,8 @@ fn apply_below(
 {
     let mut y = x;
     while y.blocks < blocks {
-        if q.0 <= store::block_round(t, y.blocks + 1) {
+        let r = store::block_round(t, y.blocks + 1);
+        if q.0 <= r.0 {
             return y;
         }
         y = apply_next(t, head, next, s, blocks, y, w, starts);

@@ -40,7 +40,7 @@ pub fn vote_refusal(s: State, t: &[u32], l: &[u32; 1025], w: &[u64; 16]) -> u32
     let r = s.round;
     let top = Round(r.0 - 1);
     let a = l[top.0 as usize];
-    if !blocks::anchors::is_held_leader(store::held_set(t, top), a) {
+    if !blocks::anchors::is_held_leader(store::held_set(t, top), Member(a)) {
         return 21;
     }
     let bound = committee::fault_bound(committee::total_weight(w));

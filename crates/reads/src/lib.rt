@@ -155,5 +155,5 @@ pub fn block(s: State, t: &[u32], k: u32) -> BlockRead
         return BlockRead::Refused(23);
     }
     let r = store::block_round(t, k);
-    BlockRead::At(Round(r))
+    BlockRead::At(r)
 }

@@ -47,9 +47,9 @@ pub fn endorsed(t: &[u32], m: Member, r: Round) -> bool
 }
 
 // The round of block k.
-pub fn block_round(t: &[u32], k: u32) -> u32
+pub fn block_round(t: &[u32], k: u32) -> Round
     requires { ⌜ Row (now t) k ⌝ }
-    ensures { λ v. ⌜ v ≡ blockRound (now (t .entry)) k ⌝ }
+    ensures { λ v. ⌜ v .0 ≡ blockRound (now (t .entry)) k ⌝ }
 {
-    t[k as usize * ROW + 2]
+    Round(t[k as usize * ROW + 2])
 }

@@ -18,7 +18,7 @@ use Rattle.answering.proofs.listing.list_block.Statement.{statement}
 use Rattle.answering.proofs.listing.list_block.Tie as tie
 
 abbrev Inv-loop : tie.InvT-loop
-Inv-loop t head next k a out₀ at end b to₀ p₀ out to p = (16 ≤ p) × Linked t next (k + 1) (p / 16 * 16) end p × (length out ≡ length out₀) × Puts out₀ out at to (rowsOver (addLines t (k + 1)) a (p / 16 - 1) []) (sumTo (inBlock t (k + 1)) (p / 16 * 16) * 141)
+Inv-loop t head next k a out₀ at end b to₀ p₀ out to p = (16 ≤ p) × Linked t next (k + 1) (p / 16 * 16) end p × (length out ≡ length out₀) × Puts out₀ out at to (rowsOver (addLines t (k + 1)) (a .0) (p / 16 - 1) []) (sumTo (inBlock t (k + 1)) (p / 16 * 16) * 141)
 
 abbrev μ-loop : tie.MeasureT-loop
 μ-loop t head next k a out₀ at end b to₀ p₀ out to p = end - p
@@ -52,7 +52,7 @@ loop-holds c =
     let s = c .before .before .before .before .before .before in
     let l = linked-head {k = s .args .k + 1} (omega (arith, s .pre .1, s .pre .2)) (s .pre .4) in
     let h = l .first .from in
-    (h, linked-up _ (omega arith) (omega arith) l, refl, puts-none (rows-first (same-at (s .args .t .now) (s .args .k + 1)) (s .args .a) _ [] l))
+    (h, linked-up _ (omega arith) (omega arith) l, refl, puts-none (rows-first (same-at (s .args .t .now) (s .args .k + 1)) (s .args .a .0) _ [] l))
 
 add-list-row : tie.Need-add-list-row Inv-loop μ-loop
 add-list-row c = search needs
@@ -88,9 +88,9 @@ loop-again c =
     let k = s .args .k + 1 in
     let d = rw (← c .run-end .ensures) at (end-linked (x .p / 16 * 16 + 16) 16 (x .p / 16 * 16) (x .p) (omega arith) (omega arith) (omega arith) (x .inv .1)) in
     let h = d .first .from in
-    let e = rows-turn (same-at t k) (s .args .a) (x .p) (c .run-end .result) [] (x .inv .0) d in
+    let e = rows-turn (same-at t k) (s .args .a .0) (x .p) (c .run-end .result) [] (x .inv .0) d in
     let r = row-next t k (x .p / 16) (c .run-end .result / 16 * 16) (omega arith) in
-    (omega arith, linked-up _ (omega arith) (omega arith) d, c .before .before .before .list-row .kept .1 .1 .1 .1 .1 .0 ∙ x .inv .2, puts-as (e ∙ row-after t k (s .args .a) (x .p / 16) _) (omega (arith, r)) (puts-then (x .inv .3) (c .before .before .before .list-row .ensures)))
+    (omega arith, linked-up _ (omega arith) (omega arith) d, c .before .before .before .list-row .kept .1 .1 .1 .1 .1 .0 ∙ x .inv .2, puts-as (e ∙ row-after t k (s .args .a .0) (x .p / 16) _) (omega (arith, r)) (puts-then (x .inv .3) (c .before .before .before .list-row .ensures)))
 
 same-length : tie.Need-same-length Inv-loop μ-loop
 same-length c = c .before .loop .inv .2

@@ -24,14 +24,14 @@ abbrev μ-loop : tie.MeasureT-loop
 loop-holds : tie.Need-loop-holds Inv-loop μ-loop
 loop-holds c = (omega arith, refl, puts-none (lines-none _ _))
 
-cast-list-block : tie.Need-cast-list-block Inv-loop μ-loop
-cast-list-block c = search needs
+cast-t13 : tie.Need-cast-t13 Inv-loop μ-loop
+cast-t13 c = search needs
 
-mul-list-block : tie.Need-mul-list-block Inv-loop μ-loop
-mul-list-block c = search needs
+mul-t14 : tie.Need-mul-t14 Inv-loop μ-loop
+mul-t14 c = search needs
 
-element-copy-out-list-block : tie.Need-element-copy-out-list-block Inv-loop μ-loop
-element-copy-out-list-block c = let a = c .before .before .before .before .before .pre .0 in omega (arith, a .few, a .ceiling)
+element-copy-out-t17 : tie.Need-element-copy-out-t17 Inv-loop μ-loop
+element-copy-out-t17 c = let a = c .before .before .before .before .before .pre .0 in omega (arith, a .few, a .ceiling)
 
 list-block-requires : tie.Need-list-block-requires Inv-loop μ-loop
 list-block-requires c κs =
@@ -73,9 +73,9 @@ list-blocks-spec =
     Inv-loop
     μ-loop
     loop-holds
-    cast-list-block
-    mul-list-block
-    element-copy-out-list-block
+    cast-t13
+    mul-t14
+    element-copy-out-t17
     list-block-requires
     add-k
     loop-less

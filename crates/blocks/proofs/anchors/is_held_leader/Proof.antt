@@ -5,7 +5,7 @@ use Rattle.blocks.proofs.anchors.is_held_leader.Statement.{statement}
 use Rattle.blocks.proofs.anchors.is_held_leader.Tie as tie
 
 returns : tie.Need-returns
-returns c = sym (not-in (c .before .args .u) (c .before .args .a) (c .if1 .taken))
+returns c = sym (not-in (c .before .before .args .u) (c .before .before .args .a .0) (c .if1 .taken))
 
 has-requires : tie.Need-has-requires
 has-requires c κs = search needs

@@ -12,7 +12,7 @@ use Rattle.bonded.proofs.block.apply_block.Tie as tie
 
 -- the rows below that of p are done, and p is the first place of its row
 abbrev Inv-loop : tie.InvT-loop
-Inv-loop t head next b a w₀ end p₀ w p = (16 ≤ p) × Linked t next b (p / 16 * 16) end p × (w ≡ rowsOver (placeChange t b) a (p / 16 - 1) w₀)
+Inv-loop t head next b a w₀ end p₀ w p = (16 ≤ p) × Linked t next b (p / 16 * 16) end p × (w ≡ rowsOver (placeChange t b) (a .0) (p / 16 - 1) w₀)
 
 abbrev μ-loop : tie.MeasureT-loop
 μ-loop t head next b a w₀ end p₀ w p = end - p
@@ -34,14 +34,14 @@ loop-holds c =
     let s = c .before .before .before .before in
     let l = linked-head (s .pre .2) (s .pre .4) in
     let h = l .first .from in
-    (h, linked-up _ (omega arith) (omega arith) l, sym (rows-first (same-at (s .args .t .now) (s .args .b)) (s .args .a) _ (s .args .w .now) l))
+    (h, linked-up _ (omega arith) (omega arith) l, sym (rows-first (same-at (s .args .t .now) (s .args .b)) (s .args .a .0) _ (s .args .w .now) l))
 
 apply-row-requires : tie.Need-apply-row-requires Inv-loop μ-loop
 apply-row-requires c κs =
     let s = c .before .before .before .before .before .before .before in
     let x = c .before .before .loop in
     let words = c .before .before .before .before .before .before .shared-slice-known in
-    let l = rows-light (s .args .t .now) (λ j. words .given j .fits) (s .args .b) (s .args .a) (x .p / 16 - 1) (s .args .w .now) (omega arith) in
+    let l = rows-light (s .args .t .now) (λ j. words .given j .fits) (s .args .b) (s .args .a .0) (x .p / 16 - 1) (s .args .w .now) (omega arith) in
     let z = x .inv .1 .size in
     (s .pre .3, omega arith, omega arith, omega (arith, s .pre .0), rw (x .inv .2) (omega (arith, l)))
 
@@ -58,7 +58,7 @@ loop-again c =
     let x = c .before .before .before .loop in
     let d = rw (← c .apply-row .ensures .1) at (end-linked (x .p / 16 * 16 + 16) 16 (x .p / 16 * 16) (x .p) (omega arith) (omega arith) (omega arith) (x .inv .1)) in
     let h = d .first .from in
-    let e = rows-next (same-at (s .args .t .now) (s .args .b)) (s .args .a) (x .p) (c .apply-row .result) (s .args .w .now) (s .pre .3) (x .inv .0) (omega arith) (x .inv .1) d in
+    let e = rows-next (same-at (s .args .t .now) (s .args .b)) (s .args .a .0) (x .p) (c .apply-row .result) (s .args .w .now) (s .pre .3) (x .inv .0) (omega arith) (x .inv .1) d in
     (omega arith, linked-up _ (omega arith) (omega arith) d, rw (c .apply-row .ensures .0, x .inv .2) (sym e))
 
 returns : tie.Need-returns Inv-loop μ-loop

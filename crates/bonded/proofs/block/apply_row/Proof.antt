@@ -23,14 +23,14 @@ add-apply-run-3 c = search needs
 
 apply-run-requires-2 : tie.Need-apply-run-requires-2
 apply-run-requires-2 c κs =
-    let a = c .before .before .before .before .before .args in
-    let words = c .before .before .before .before .shared-slice-known in
-    let l = run-light (a .t .now) (λ j. words .given j .fits) (a .next .now) (a .p / 16 * 16 + a .a) (a .p / 16 * 16 + 16) 16 (a .p) (a .w .now) in
-    (omega arith, omega arith, rw (c .before .apply-run .ensures .0) (omega (arith, l)))
+    let a = c .before .before .before .before .before .before .before .args in
+    let words = c .before .before .before .before .before .before .shared-slice-known in
+    let l = run-light (a .t .now) (λ j. words .given j .fits) (a .next .now) (a .p / 16 * 16 + a .a .0) (a .p / 16 * 16 + 16) 16 (a .p) (a .w .now) in
+    (omega arith, omega arith, rw (c .before .before .apply-run .ensures .0) (omega (arith, l)))
 
 returns : tie.Need-returns
 unfolding rowOver
-returns c = (rw (← c .before .before .apply-run .ensures .0) (c .apply-run2 .ensures .0), c .before .before .apply-run .ensures .1)
+returns c = (rw (← c .before .before .before .apply-run .ensures .0) (c .apply-run2 .ensures .0), c .before .before .before .apply-run .ensures .1)
 
 pub apply-row-spec : {M : Type 1} → statement M
 apply-row-spec =

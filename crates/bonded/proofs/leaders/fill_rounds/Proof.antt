@@ -24,8 +24,8 @@ none-requires c κs = search needs
 loop-holds : tie.Need-loop-holds Inv-loop μ-loop
 loop-holds c = let s = c .before .before .before in (omega arith, omega arith, running-none _ (c .none .ensures) (s .pre .4) (s .pre .5), fill-none _ _ _)
 
-add-l : tie.Need-add-l Inv-loop μ-loop
-add-l c = search needs
+add-t17 : tie.Need-add-t17 Inv-loop μ-loop
+add-t17 c = search needs
 
 reach-round-requires : tie.Need-reach-round-requires Inv-loop μ-loop
 reach-round-requires c κs = let p = c .before .before .before .before .before .before .before .pre in (p .0, p .1, running-up _ (omega arith) (c .before .before .before .loop .inv .2))
@@ -36,8 +36,8 @@ leader-requires c κs = search needs
 cast-l : tie.Need-cast-l Inv-loop μ-loop
 cast-l c = search needs
 
-add-l-2 : tie.Need-add-l-2 Inv-loop μ-loop
-add-l-2 c = search needs
+add-l : tie.Need-add-l Inv-loop μ-loop
+add-l c = search needs
 
 mul-l : tie.Need-mul-l Inv-loop μ-loop
 mul-l c = search needs
@@ -58,8 +58,8 @@ loop-again c =
     let d = c .before .before .reach-round .ensures in
     (omega arith, omega arith, running-up _ (omega arith) (d .0), rw (fill-more _ _ _ _ (q .inv .0), ← d .1, ← c .leader .ensures, ← q .inv .3) refl)
 
-add-t26 : tie.Need-add-t26 Inv-loop μ-loop
-add-t26 c = search needs
+add-t27 : tie.Need-add-t27 Inv-loop μ-loop
+add-t27 c = search needs
 
 reach-round-requires-2 : tie.Need-reach-round-requires-2 Inv-loop μ-loop
 reach-round-requires-2 c κs = let p = c .before .before .before .before .before .before .before .before .pre in (p .0, p .1, running-up _ (omega arith) (c .before .before .before .before .loop .inv .2))
@@ -79,16 +79,16 @@ fill-rounds-spec =
     μ-loop
     none-requires
     loop-holds
-    add-l
+    add-t17
     reach-round-requires
     leader-requires
     cast-l
-    add-l-2
+    add-l
     mul-l
     element-write-l
     add-q
     loop-less
     loop-again
-    add-t26
+    add-t27
     reach-round-requires-2
     returns)

@@ -24,14 +24,14 @@ block-round-requires c κs = let a = c .before .before .before .before .before .
 
 returns : tie.Need-returns Inv-loop μ-loop
 returns c =
-    let s = c .before .before .before .before .before .before .before .before .before in
-    let x = c .before .before .before .before .before .before .loop in
-    (x .inv, stands-bonded (s .args .q .0) (s .pre .2) (s .pre .0) (λ h. rw (← c .before .before .block-round .ensures) (c .if2 .taken)) (x .inv .stands))
+    let s = c .before .before .before .before .before .before .before .before .before .before in
+    let x = c .before .before .before .before .before .before .before .loop in
+    (x .inv, stands-bonded (s .args .q .0) (s .pre .2) (s .pre .0) (λ h. rw (← c .before .before .before .block-round .ensures) (c .if2 .taken)) (x .inv .stands))
 
 apply-next-requires : tie.Need-apply-next-requires Inv-loop μ-loop
 apply-next-requires c κs =
-    let s = c .before .before .before .before .before .before .before .before .before .before .before in
-    let x = c .before .before .before .before .before .before .before .before .loop in
+    let s = c .before .before .before .before .before .before .before .before .before .before .before .before in
+    let x = c .before .before .before .before .before .before .before .before .before .loop in
     (s .pre .0, s .pre .1, omega arith, record { stands = stands-any (s .pre .0) (x .inv .stands); started = x .inv .started })
 
 loop-less : tie.Need-loop-less Inv-loop μ-loop
@@ -39,9 +39,9 @@ loop-less c = omega (arith, c .apply-next .ensures .0)
 
 loop-again : tie.Need-loop-again Inv-loop μ-loop
 loop-again c =
-    let s = c .before .before .before .before .before .before .before .before .before .before .before .before in
-    let x = c .before .before .before .before .before .before .before .before .before .loop in
-    running-below (x .y .blocks) (s .args .q .0) (c .apply-next .ensures .0) (rw (← c .before .before .before .before .before .block-round .ensures) (omega (arith, c .before .before .before .if2 .left))) (c .apply-next .ensures .1)
+    let s = c .before .before .before .before .before .before .before .before .before .before .before .before .before in
+    let x = c .before .before .before .before .before .before .before .before .before .before .loop in
+    running-below (x .y .blocks) (s .args .q .0) (c .apply-next .ensures .0) (rw (← c .before .before .before .before .before .before .block-round .ensures) (omega (arith, c .before .before .before .if2 .left))) (c .apply-next .ensures .1)
 
 returns-2 : tie.Need-returns-2 Inv-loop μ-loop
 returns-2 c =

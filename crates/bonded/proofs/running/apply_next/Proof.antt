@@ -9,14 +9,14 @@ use Rattle.bonded.proofs.running.apply_next.Tie as tie
 fill-starts-requires : tie.Need-fill-starts-requires
 fill-starts-requires c κs = search needs
 
-cast-a : tie.Need-cast-a
-cast-a c = search needs
+cast-apply-block : tie.Need-cast-apply-block
+cast-apply-block c = search needs
 
-mul-a : tie.Need-mul-a
-mul-a c = search needs
+mul-apply-block : tie.Need-mul-apply-block
+mul-apply-block c = search needs
 
-element-copy-out-a : tie.Need-element-copy-out-a
-element-copy-out-a c = search needs
+element-copy-out-apply-block : tie.Need-element-copy-out-apply-block
+element-copy-out-apply-block c = search needs
 
 add-apply-block : tie.Need-add-apply-block
 add-apply-block c = search needs
@@ -45,9 +45,9 @@ apply-next-spec =
     tie.close
     (tie.spec
     fill-starts-requires
-    cast-a
-    mul-a
-    element-copy-out-a
+    cast-apply-block
+    mul-apply-block
+    element-copy-out-apply-block
     add-apply-block
     apply-block-requires
     add-t18

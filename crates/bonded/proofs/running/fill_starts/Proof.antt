@@ -30,15 +30,15 @@ block-round-requires-2 c κs = let a = c .before .before .before .before .pre .0
 
 sub-if1 : tie.Need-sub-if1 Inv-loop μ-loop
 sub-if1 c =
-    let s = c .before .before .before .before .before in
-    let x = c .before .before .loop in
-    rw (c .before .before .before .block-round .ensures, c .block-round2 .ensures) (round-after (s .pre .0) (s .args .k) (x .i) (omega arith) (x .inv .from))
+    let s = c .before .before .before .before .before .before .before in
+    let x = c .before .before .before .before .loop in
+    rw (c .before .before .before .before .before .block-round .ensures, c .before .before .block-round2 .ensures) (round-after (s .pre .0) (s .args .k) (x .i) (omega arith) (x .inv .from))
 
 returns : tie.Need-returns Inv-loop μ-loop
 returns c =
-    let s = c .before .before .before .before .before .before .before in
-    let x = c .before .before .before .before .loop in
-    let l = rw (c .before .before .before .before .before .block-round .ensures, c .before .before .block-round2 .ensures) at (c .if1 .taken) in
+    let s = c .before .before .before .before .before .before .before .before .before in
+    let x = c .before .before .before .before .before .before .loop in
+    let l = rw (c .before .before .before .before .before .before .before .block-round .ensures, c .before .before .before .before .block-round2 .ensures) at (c .if1 .taken) in
     let h = round-after (s .pre .0) (s .args .k) (x .i) (omega arith) (x .inv .from) in
     (x .inv, later-block (s .args .t .now) (s .args .k) (x .i) (s .args .s .lookback) (x .inv .from) l, λ _. omega arith)
 
@@ -52,7 +52,7 @@ mul-starts : tie.Need-mul-starts Inv-loop μ-loop
 mul-starts c = search needs
 
 element-write-starts : tie.Need-element-write-starts Inv-loop μ-loop
-element-write-starts c = let a = c .before .before .before .before .before .before .before .before .pre .0 in omega (arith, a .few, a .ceiling)
+element-write-starts c = let a = c .before .before .before .before .before .before .before .before .before .before .pre .0 in omega (arith, a .few, a .ceiling)
 
 add-i : tie.Need-add-i Inv-loop μ-loop
 add-i c = search needs
@@ -63,10 +63,10 @@ loop-less c = search needs
 loop-again : tie.Need-loop-again Inv-loop μ-loop
 unfolding leaderBy
 loop-again c =
-    let s = c .before .before .before .before .before .before .before .before in
-    let x = c .before .before .before .before .before .loop in
-    let l = rw (c .before .before .before .before .before .before .block-round .ensures, c .before .before .before .block-round2 .ensures) at (c .before .if1 .left) in
-    started-next (s .pre .0) (omega arith) (omega arith) (rw (← c .before .before .before .block-round2 .ensures) (c .leader .ensures)) (s .pre .2) (x .inv)
+    let s = c .before .before .before .before .before .before .before .before .before .before in
+    let x = c .before .before .before .before .before .before .before .loop in
+    let l = rw (c .before .before .before .before .before .before .before .before .block-round .ensures, c .before .before .before .before .before .block-round2 .ensures) at (c .before .if1 .left) in
+    started-next (s .pre .0) (omega arith) (omega arith) (rw (← c .before .before .before .before .before .block-round2 .ensures) (c .leader .ensures)) (s .pre .2) (x .inv)
 
 returns-2 : tie.Need-returns-2 Inv-loop μ-loop
 returns-2 c = let s = c .before .before .before .before in (c .before .loop .inv, omega (arith, s .pre .1), λ h. absurd (omega arith))
