@@ -126,7 +126,8 @@ uint32_t forgelilac_committee(const uint32_t *state, size_t state_words,
                               uint32_t round, uint32_t *out, size_t out_words);
 /* Low half: the member's weight in thousandths of its committee's total, to the nearest; an
  * exact half goes to the even one: 1 of 16 (62.5) gives 62, 3 of 16 (187.5) gives 188. A member
- * may have 0 (1 of 2,000). High half: refusal number. */
+ * may have 0 (1 of 2,000). High half: refusal number, 9 for a non-member; the low half is then 0
+ * too, so look at the high half first. */
 uint64_t forgelilac_share(const uint32_t *state, size_t state_words,
                           const uint32_t *table, size_t table_words,
                           uint32_t member, uint32_t round);

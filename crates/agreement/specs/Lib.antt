@@ -1,6 +1,6 @@
 -- Agreement: over abstract rules, the chains of correct members never fork, whoever knows a round knows the same committee, and a chain only grows.
 --
--- The files stand in the order of the argument. What the rules compute is data (Rules), and only theorems take laws (Laws), so that every definition
+-- Definitions stand here, the argument in proofs/, its files in their order. What the rules compute is data (Rules), and only theorems take laws (Laws), so that every definition
 -- that a contract cites means something in any state, also in one that no run reaches.
 --
 -- Parameters, and the later changes that each of them covers, so that nothing here is proved again:
@@ -29,27 +29,10 @@ pub mod Prefixes
 pub mod Invariants
 pub mod Moves
 pub mod Runs
--- The argument
-pub mod WeightLaws
-pub mod QuorumIntersection
-pub mod KnownCommittees
-pub mod DagLaws
-pub mod NonEquivocation
-pub mod AnchorPaths
-pub mod NonForking
-pub mod PlaceLaws
-pub mod Growth
-pub mod Signatures
-pub mod Preservation
-pub mod Agreement
+-- Engines: members that keep their view in any form
 pub mod Engines
-pub mod EngineAgreement
--- What an engine computes, and that it is what the theory asks
+-- What an engine computes
 pub mod Histories
-pub mod HistoryLaws
 pub mod Commits
-pub mod BlockLaws
-pub mod CommitLaws
 pub mod Marks
-pub mod MarkLaws
 pub mod Listing

@@ -1,14 +1,11 @@
 -- Prefixes of chains: what a chain was before it grew.
-use mathlib.Core.Path.{_≡_, refl}
-use mathlib.Core.Bool.{Bool, true, false, cond}
-use mathlib.Core.Option.{Option, none, some, Option·none-ne-some}
+use mathlib.Core.Bool.{cond}
+use mathlib.Core.Option.{Option, none, some}
 use mathlib.Core.List.{[], _∷_}
 use mathlib.Core.Logic.{_⊎_}
 use Prim.Native.Nat.{ℕ, suc, _+_, _≤_}
-use native.Mathlib.Omega.{arith}
 use lib.Dec.{eqb}
 use lib.ListN.{length}
-use borrow.Author.Tests.{eqb-true, ne-eqb}
 use Rattle.agreement.specs.Rules.{Block, Chain, last}
 
 infix 40 _≼_
@@ -25,29 +22,3 @@ Comparable c d = (c ≼ d) ⊎ (d ≼ c)
 unfoldable pub blockAt : {P : Type 0} → Chain P → ℕ → Option (Block P)
 blockAt [] n = none
 blockAt (b ∷ c) n = cond (eqb n (suc (length c))) (some b) (blockAt c n)
-
-pub ≼-trans : {P : Type 0} {c d e : Chain P} → c ≼ d → d ≼ e → c ≼ e
-≼-trans h same = h
-≼-trans h (grown b l k) = grown b l (≼-trans h k)
-
-≼-length : {P : Type 0} {c d : Chain P} → c ≼ d → length c ≤ length d
-≼-length same = omega arith
-≼-length (grown b l h) = omega (arith, ≼-length h)
-
-block-number : {P : Type 0} (c : Chain P) (n : ℕ) {b : Block P} → blockAt c n ≡ some b → n ≤ length c
-unfolding blockAt
-block-number [] n {b} h = absurd (Option·none-ne-some b h)
-block-number (a ∷ c) n {b} h = go (eqb n (suc (length c))) refl h (λ k. block-number c n k)
-  where
-    go : (t : Bool) → eqb n (suc (length c)) ≡ t → cond t (some a) (blockAt c n) ≡ some b → (blockAt c n ≡ some b → n ≤ length c) → n ≤ suc (length c)
-    go true e k f = omega (arith, eqb-true n (suc (length c)) e)
-    go false e k f = omega (arith, f k)
-
--- a block once made stays, with its number, its round and its certificates
-pub block-stays : {P : Type 0} {c d : Chain P} → c ≼ d → (n : ℕ) {b : Block P} → blockAt c n ≡ some b → blockAt d n ≡ some b
-unfolding blockAt
-block-stays same n h = h
-block-stays {c = c} (grown a {d = d} l k) n h =
-    let low : n ≤ length c = block-number c n h in
-    let long = ≼-length k in
-    rw (ne-eqb n (suc (length d)) (λ e. absurd (omega arith))) (block-stays k n h)

@@ -1,1 +1,1 @@
-// The agreement theory: specs/ only.
+// The agreement theory: over any rules that meet its laws, chains never fork. Theorems, no code (scope document: Runs).

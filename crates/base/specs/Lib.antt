@@ -1,12 +1,4 @@
-pub mod Bools
 pub mod Checks
-pub mod Passed
-pub mod Options
 pub mod Folds
-pub mod FoldLaws
-pub mod TestLaws
-pub mod SumLaws
 pub mod Sets
-pub mod SetLaws
-pub mod UnionLaws
-pub mod Paste
+pub mod Parts

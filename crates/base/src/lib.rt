@@ -1,4 +1,4 @@
-// Sets of members as 16-bit numbers.
+// Sets of members as 16-bit numbers, and a call's checks as lists (scope document: Terms and sheet).
 ghost use mathlib.Core.Path.{_≡_};
 ghost use Prim.Native.Nat.{_<_};
 ghost use Rattle.base.specs.Sets.{isIn, add, del, only, union, common, isSubset, isEmpty};

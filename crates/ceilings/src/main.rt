@@ -1,8 +1,11 @@
-// The largest ceiling and one above it: a ceiling of 1,024 opens, and one of 1,025 is out of range.
+// The largest ceiling and one above it: 1,024 opens, and 1,025 is out of range (scope document: Edges).
 use libc::STDOUT_FILENO;
 use sheet::Setting;
 use sheet::Sheet;
 use terms::Member;
+
+// The words of a table of ceiling 1,024.
+const TABLE: usize = 278800;
 
 // Opens with a ceiling and writes the answer out.
 fn open(t: &mut [u32], ceiling: u32) {
@@ -17,12 +20,12 @@ fn open(t: &mut [u32], ceiling: u32) {
     let o = member::open::open(member::open::closed(), t, Member(0), written);
     let a = o.answer;
     let mut out = [0u8; 20];
-    let n = records::answer::put_answer(a, &mut out, 0);
+    let n = answering::answer::put_answer(a, &mut out, 0);
     io::write_all(STDOUT_FILENO, &out[..n]);
 }
 
 fn main() {
-    let mut table = [0u32; 278800];
+    let mut table = [0u32; TABLE];
     open(&mut table, 1024);
     open(&mut table, 1025);
 }

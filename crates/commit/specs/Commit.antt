@@ -1,24 +1,26 @@
 -- Commit on a state and its table: the number that refuses, the answer and the state, and the table.
+use mathlib.Core.Path.{_≡_}
 use mathlib.Core.Bool.{cond, _||_}
 use mathlib.Core.List.{List, [], _∷_}
-use Prim.Native.Nat.{ℕ, _-_, _%_}
-use lib.ListN.{replicate}
+use Prim.Native.Nat.{ℕ, _+_, _-_, _%_}
+use lib.ListN.{length, replicate}
 use lib.Dec.{eqb, leb}
 use Rattle.base.specs.Checks.{Checks}
 use Rattle.agreement.specs.Rules.{last}
 use Rattle.agreement.specs.Commits.{anchorAt}
 use Rattle.committee.specs.Chain.{chainOf}
 use Rattle.committee.specs.Committees.{committeeOf}
-use Rattle.walk.specs.Walk.{lastRound}
-use Rattle.walk.specs.Fill.{leaderAt, fillTo}
-use Rattle.rules.specs.Tests.{unknown}
+use Rattle.bonded.specs.BlockChanges.{lastRound}
+use Rattle.bonded.specs.Fill.{leaderAt, fillTo}
+use Rattle.rules.specs.Tests.{MemberView, unknown}
 use Rattle.rules.specs.Calls as rules
 use Rattle.state.specs.declared.State.{State}
 use Rattle.state.specs.View.{view}
-use Rattle.state.specs.Number.{numberOf}
+use Rattle.state.specs.Refusals.{refusalOf}
 use Rattle.blocks.specs.Blocks.{commitTable, commitCount}
 use Rattle.commit.specs.declared.Committed.the-variants.{Added, Refused}
 use Rattle.commit.specs.declared.Outcome.{Outcome}
+use Rattle.commit.specs.Answers.{addedValue}
 
 -- refused with the number n
 abbrev pub refusedWith : State → ℕ → Outcome
@@ -41,8 +43,8 @@ module _ (s : State) (t : List ℕ) where
   voteChecks = rules.voting (s .settings) (view s t) (anchorAt (view s t) (s .round .0 - 1))
 
   -- the number of the first check that refuses, 0 for none
-  unfoldable pub commitNumber : ℕ
-  commitNumber = numberOf s t rules.commit
+  unfoldable pub commitRefusal : ℕ
+  commitRefusal = refusalOf s t rules.commit
 
   -- the leaders of the rounds above the last block's, below the present one, by round, 16 for none
   unfoldable pub leadersFor : List ℕ
@@ -65,7 +67,21 @@ module _ (s : State) (t : List ℕ) where
 
   -- a refused commit changes nothing
   unfoldable pub commitOutcome : Outcome
-  commitOutcome = cond (eqb commitNumber 0) (addedWith s blocksThen) (refusedWith s commitNumber)
+  commitOutcome = cond (eqb commitRefusal 0) (addedWith s blocksThen) (refusedWith s commitRefusal)
 
   unfoldable pub commitTableAfter : List ℕ
-  commitTableAfter = cond (eqb commitNumber 0) committedTable t
+  commitTableAfter = cond (eqb commitRefusal 0) committedTable t
+
+  -- ---- the rules' commit
+
+  -- the view after it
+  abbrev pub ruledView : MemberView (s .settings)
+  ruledView = rules.after (s .settings) (s .own .0) (view s t) rules.commit
+
+  -- the outcome o and the table u are what the rules give: of the state only the number of blocks changes; state and table show the rules' next view;
+  -- and the value is the number of blocks that the rules add, which are the blocks that the state has more
+  pub record RulesGive (o : Outcome) (u : List ℕ) : Type 0 where
+    pub its-state : o .state ≡ withBlocks s (o .state .blocks)
+    pub its-view : view (withBlocks s (o .state .blocks)) u ≡ ruledView
+    pub its-value : addedValue (o .answer) + length (view s t .chain) ≡ length (ruledView .chain)
+    pub its-blocks : addedValue (o .answer) + s .blocks ≡ o .state .blocks

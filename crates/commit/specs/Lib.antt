@@ -1,8 +1,3 @@
 pub mod Votes
+pub mod Answers
 pub mod Commit
-pub mod AnchorLaws
-pub mod CheckLaws
-pub mod AnswerLaws
-pub mod ShownLaws
-pub mod CommitLaws
-pub mod KeptLaws

@@ -5,9 +5,9 @@ use terms::Round;
 ghost use mathlib.Core.Path.{_≡_};
 ghost use Prim.Native.Nat.{_-_, _<_};
 ghost use Rattle.base.specs.Checks.{refusal};
-ghost use Rattle.committee.specs.Totals.{Light};
+ghost use Rattle.committee.specs.Totals.{TotalBounded};
 ghost use Rattle.state.specs.Formed.{Formed};
-ghost use Rattle.walk.specs.Walk.{lastRound};
+ghost use Rattle.bonded.specs.BlockChanges.{lastRound};
 ghost use Rattle.commit.specs.Commit.{timeChecks, voteChecks, committeeOn, leadersFor};
 
 // Checks 19, 20, 8.
@@ -22,11 +22,11 @@ pub fn time_refusal(s: State, t: &[u32]) -> u32
     if r == 1 {
         return 19;
     }
-    let last = walk::last_round(t, s.blocks);
+    let last = bonded::last_round(t, s.blocks);
     if r - 1 <= last.0 {
         return 20;
     }
-    if !walk::known(t, s.settings, s.blocks, s.round) {
+    if !bonded::known(t, s.settings, s.blocks, s.round) {
         return 8;
     }
     0
@@ -34,13 +34,13 @@ pub fn time_refusal(s: State, t: &[u32]) -> u32
 
 // Checks 21, 22, where l has the leaders by round and w is the committee of the present round.
 pub fn vote_refusal(s: State, t: &[u32], l: &[u32; 1025], w: &[u64; 16]) -> u32
-    requires { ⌜ Formed s (now t) × (1 < s .round .0) × (now l ≡ leadersFor s (now t)) × (lastRound (now t) (s .blocks) < s .round .0 - 1) × (now w ≡ committeeOn s (now t) (s .round .0)) × Light (now w) ⌝ }
+    requires { ⌜ Formed s (now t) × (1 < s .round .0) × (now l ≡ leadersFor s (now t)) × (lastRound (now t) (s .blocks) < s .round .0 - 1) × (now w ≡ committeeOn s (now t) (s .round .0)) × TotalBounded (now w) ⌝ }
     ensures { λ v. ⌜ v ≡ refusal (voteChecks s (now (t .entry))) ⌝ }
 {
     let r = s.round;
     let top = Round(r.0 - 1);
     let a = l[top.0 as usize];
-    if !blocks::anchors::is_led(store::held_set(t, top), a) {
+    if !blocks::anchors::is_held_leader(store::held_set(t, top), Member(a)) {
         return 21;
     }
     let bound = committee::fault_bound(committee::total_weight(w));

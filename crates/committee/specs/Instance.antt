@@ -1,4 +1,4 @@
--- The rules of document 01 as the theory wants them: plain data, for any settings.
+-- The rules of the scope document as the theory wants them: plain data, for any settings.
 use Rattle.base.specs.Sets.{isIn}
 use Rattle.agreement.specs.Weights.{total}
 use Rattle.agreement.specs.Rules.{Rules}

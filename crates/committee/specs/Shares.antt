@@ -1,6 +1,6 @@
 -- Shares: weights in thousandths of a total, to the nearest, an exact half to the even neighbour.
 use mathlib.Core.Bool.{cond}
-use Prim.Native.Nat.{ℕ, _+_, _*_, _/_, _%_}
+use Prim.Native.Nat.{ℕ, _+_, _*_, _/_, _%_, _≤_}
 use lib.Dec.{ltb}
 
 -- the even one of q and q + 1
@@ -18,3 +18,8 @@ nearest a n = rounded (a / n) (a % n) n
 -- the share of weight w in the total n, in thousandths
 unfoldable pub shareOf : ℕ → ℕ → ℕ
 shareOf w n = nearest (1000 * w) n
+
+-- twice the distance from s to a / n is at most 1, put without a fraction
+pub record Near (a n s : ℕ) : Type 0 where
+  pub above : 2 * (n * s) ≤ 2 * a + n
+  pub below : 2 * a ≤ 2 * (n * s) + n

@@ -9,7 +9,7 @@ abbrev pub totalIn : List ℕ → ℕ
 totalIn w = sumTo (weightIn w) 16
 
 -- light enough that no sum of weights overflows, nor a thousand times one: below this is every committee that a table tells
-pub record Light (w : List ℕ) : Type 0 where
+pub record TotalBounded (w : List ℕ) : Type 0 where
   pub total : totalIn w ≤ 562949953421312
 
 -- f raises no total by more than c

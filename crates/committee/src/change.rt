@@ -1,4 +1,5 @@
 // What transactions do to the weights of a committee. Sums and products and no branches: kinds come in any order.
+use sheet::Weight;
 ghost use mathlib.Core.Path.{_≡_};
 ghost use mathlib.Core.Bool.{cond};
 ghost use Prim.Native.Nat.{_*_, _≤_};
@@ -24,19 +25,21 @@ fn effect(there: bool, kind: u32, number: u32) -> u32
 }
 
 // All of x, or nothing.
-fn times(x: u64, k: u32) -> u64
+fn times(x: Weight, k: u32) -> Weight
     requires { ⌜ k ≤ 1 ⌝ }
-    ensures { λ v. ⌜ (v ≡ x * k) × (v ≤ x) ⌝ }
+    ensures { λ v. ⌜ (v .0 ≡ x .0 * k) × (v .0 ≤ x .0) ⌝ }
 {
-    x * k as u64
+    Weight(x.0 * k as u64)
 }
 
 // The weight x after an effect: an unbond removes it, then a bond adds its amount.
-fn weight_after(e: u32, amount: u32, x: u64) -> u64
-    requires { ⌜ (e ≤ 2) × (x ≤ 4611686018427387904) ⌝ }
-    ensures { λ v. ⌜ v ≡ weightAfter e amount x ⌝ }
+fn weight_after(e: u32, amount: u32, x: Weight) -> Weight
+    requires { ⌜ (e ≤ 2) × (x .0 ≤ 4611686018427387904) ⌝ }
+    ensures { λ v. ⌜ v .0 ≡ weightAfter e amount (x .0) ⌝ }
 {
-    times(x, 1 - e % 2) + times(amount as u64, (2 - e) / 2)
+    let kept = times(x, 1 - e % 2);
+    let added = times(Weight(amount as u64), (2 - e) / 2);
+    Weight(kept.0 + added.0)
 }
 
 // The transaction that three words tell, applied to the weights, if it is there.
@@ -46,5 +49,6 @@ pub fn apply(w: &mut [u64; 16], there: bool, kind: u32, number: u32, amount: u32
 {
     let e = effect(there, kind, number);
     let i = (number % 16) as usize;
-    w[i] = weight_after(e, amount, w[i]);
+    let x = weight_after(e, amount, Weight(w[i]));
+    w[i] = x.0;
 }

@@ -4,7 +4,7 @@ use terms::Round;
 ghost use mathlib.Core.Path.{_≡_};
 ghost use mathlib.Core.Bool.{cond};
 ghost use Prim.Native.Nat.{_<_};
-ghost use Rattle.base.specs.Sets.{isIn, add};
+ghost use Rattle.base.specs.Sets.{isIn};
 ghost use Rattle.sheet.specs.Ranges.{weightIn};
 ghost use Rattle.committee.specs.Leaders.{countBelow, memberAt, members, joined, memberSet, leaderOf, leaderNumber};
 
@@ -52,34 +52,34 @@ fn count(set: u32) -> u32
     n
 }
 
-// The number of the member at position k of the set, counted from 0 by rising number; 16 for none.
-pub fn member_at(set: u32, k: u32) -> u32
-    ensures { λ v. ⌜ v ≡ leaderNumber (memberAt (isIn set) k) ⌝ }
+// The member at position k of the set, counted from 0 by rising number; 16 for none.
+pub fn member_at(set: u32, k: u32) -> Member
+    ensures { λ v. ⌜ v .0 ≡ leaderNumber (memberAt (isIn set) k) ⌝ }
 {
     let mut passed: u32 = 0;
     for i in 0..16u32 {
         passed += one(set, Member(i));
         if k < passed {
-            return i;
+            return Member(i);
         }
     }
-    16
+    Member(16)
 }
 
-// The number of the leader of round r, 16 for none.
-pub fn leader(w: &[u64; 16], r: Round) -> u32
-    ensures { λ v. ⌜ v ≡ leaderNumber (leaderOf (weightIn (now (w .entry))) (r .0)) ⌝ }
+// The leader of round r, 16 for none.
+pub fn leader(w: &[u64; 16], r: Round) -> Member
+    ensures { λ v. ⌜ v .0 ≡ leaderNumber (leaderOf (weightIn (now (w .entry))) (r .0)) ⌝ }
 {
     if r.0 % 2 != 0 {
-        return 16;
+        return Member(16);
     }
     if r.0 < 2 {
-        return 16;
+        return Member(16);
     }
     let set = member_set(w);
     let n = count(set);
     if n == 0 {
-        return 16;
+        return Member(16);
     }
     member_at(set, r.0 / 2 % n)
 }

@@ -1,4 +1,4 @@
-// Committees: sixteen weights, 0 for a non-member. Their weight, fault bound and quorums, and a member's share.
+// Committees as sixteen weights: fault bound, quorums, leaders, and a member's share (scope document: Committees, quorums, leaders).
 pub mod change;
 pub mod leader;
 pub mod rounding;
@@ -15,7 +15,7 @@ ghost use Rattle.sheet.specs.Ranges.{weightIn};
 ghost use Rattle.committee.specs.Committees.{boundOf, outsider, short, quorum};
 ghost use Rattle.committee.specs.Leaders.{members};
 ghost use Rattle.committee.specs.Shares.{shareOf};
-ghost use Rattle.committee.specs.Totals.{Light};
+ghost use Rattle.committee.specs.Totals.{TotalBounded};
 
 // Is m a member of the committee?
 pub fn is_member(w: &[u64; 16], m: Member) -> bool
@@ -27,7 +27,7 @@ pub fn is_member(w: &[u64; 16], m: Member) -> bool
 
 // The total weight.
 pub fn total_weight(w: &[u64; 16]) -> Weight
-    requires { ⌜ Light (now w) ⌝ }
+    requires { ⌜ TotalBounded (now w) ⌝ }
     ensures { λ v. ⌜ v .0 ≡ total 16 (weightIn (now (w .entry))) ⌝ }
 {
     let mut sum: u64 = 0;
@@ -50,7 +50,7 @@ fn part(w: &[u64; 16], set: u32, m: Member) -> Weight
 
 // The weight of a set of members.
 pub fn set_weight(w: &[u64; 16], set: u32) -> Weight
-    requires { ⌜ Light (now w) ⌝ }
+    requires { ⌜ TotalBounded (now w) ⌝ }
     ensures { λ v. ⌜ v .0 ≡ weigh 16 (weightIn (now (w .entry))) (isIn set) ⌝ }
 {
     let mut sum: u64 = 0;
@@ -96,7 +96,7 @@ pub fn has_outsider(w: &[u64; 16], set: u32) -> bool
 
 // Does the set weigh less than a quorum?
 pub fn is_short(w: &[u64; 16], set: u32) -> bool
-    requires { ⌜ Light (now w) ⌝ }
+    requires { ⌜ TotalBounded (now w) ⌝ }
     ensures { λ v. ⌜ v ≡ short (weightIn (now (w .entry))) (isIn set) ⌝ }
 {
     let n = total_weight(w);
@@ -107,7 +107,7 @@ pub fn is_short(w: &[u64; 16], set: u32) -> bool
 
 // Is the set a quorum?
 pub fn is_quorum(w: &[u64; 16], set: u32) -> bool
-    requires { ⌜ Light (now w) ⌝ }
+    requires { ⌜ TotalBounded (now w) ⌝ }
     ensures { λ v. ⌜ v ≡ quorum (weightIn (now (w .entry))) (isIn set) ⌝ }
 {
     if has_outsider(w, set) {
@@ -118,7 +118,7 @@ pub fn is_quorum(w: &[u64; 16], set: u32) -> bool
 
 // A member's share: its weight in thousandths of the total, to the nearest, an exact half to the even neighbour.
 pub fn share(w: &[u64; 16], m: Member) -> u32
-    requires { ⌜ (m .0 < 16) × (0 < weightIn (now w) (m .0)) × Light (now w) ⌝ }
+    requires { ⌜ (m .0 < 16) × (0 < weightIn (now w) (m .0)) × TotalBounded (now w) ⌝ }
     ensures { λ v. ⌜ v ≡ shareOf (weightIn (now (w .entry)) (m .0)) (total 16 (weightIn (now (w .entry)))) ⌝ }
 {
     let n = total_weight(w);

@@ -5,14 +5,14 @@ ghost use Prim.Native.Nat.{_<_, _≤_};
 ghost use Rattle.committee.specs.Shares.{rounded, shareOf};
 
 // What a division by n comes to, whose whole part is q and whose rest is r.
-fn round(q: u64, r: u64, n: u64) -> u64
-    requires { ⌜ (q ≤ 1000) × (r < n) × (n ≤ 562949953421312) ⌝ }
-    ensures { λ v. ⌜ v ≡ rounded q r n ⌝ }
+fn round(q: u64, r: u64, n: Weight) -> u64
+    requires { ⌜ (q ≤ 1000) × (r < n .0) × (n .0 ≤ 562949953421312) ⌝ }
+    ensures { λ v. ⌜ v ≡ rounded q r (n .0) ⌝ }
 {
-    if 2 * r < n {
+    if 2 * r < n.0 {
         return q;
     }
-    if n < 2 * r {
+    if n.0 < 2 * r {
         return q + 1;
     }
     q + q % 2
@@ -26,5 +26,5 @@ pub fn thousandths(x: Weight, n: Weight) -> u32
     let a = 1000 * x.0;
     let q = a / n.0;
     let r = a - q * n.0;
-    round(q, r, n.0) as u32
+    round(q, r, n) as u32
 }

@@ -4,7 +4,7 @@ ghost use Prim.Native.Nat.{_+_, _≤_};
 ghost use lib.ListN.{length};
 ghost use Rattle.fields.specs.Fields.{fieldsFrom};
 ghost use Rattle.fields.specs.Numbers.{plain, numberTo};
-ghost use Rattle.fields.specs.Steps.{found, firstBy, Stepped};
+ghost use Rattle.fields.specs.Cursor.{found, firstBy, Stepped};
 
 // What a field holds.
 pub enum Number {

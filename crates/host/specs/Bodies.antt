@@ -10,6 +10,7 @@ use Rattle.terms.specs.declared.Slot.{Slot}
 use Rattle.terms.specs.declared.Body.{Body}
 use Rattle.terms.specs.Transactions.{kindOf, numberOf, amountOf, readTransaction, noTransaction}
 use Rattle.terms.specs.Proposals.{slotOf}
+use Rattle.host.specs.Lengths.{transactionLength, bodyLength}
 use Rattle.host.specs.Words.{word}
 
 -- ---- can it be read?
@@ -20,7 +21,7 @@ isTriple kind amount = eqb kind 0 || (leb kind 2 && eqb amount 0)
 
 -- transaction k of the body from word a on; what lies beyond the count is not looked at
 unfoldable pub tripleReads : List ℕ → ℕ → ℕ → Bool
-tripleReads w a k = cond (ltb k (word w (a + 1))) (isTriple (word w (a + 2 + k * 3)) (word w (a + 2 + k * 3 + 2))) true
+tripleReads w a k = cond (ltb k (word w (a + 1))) (isTriple (word w (a + 2 + k * transactionLength)) (word w (a + 2 + k * transactionLength + 2))) true
 
 -- the previous set is a set of members, and so for each of four transactions
 unfoldable pub bodyReads : List ℕ → ℕ → Bool
@@ -28,13 +29,13 @@ bodyReads w a = ltb (word w a) 65536 && allTo (tripleReads w a) 4
 
 -- a body by itself
 unfoldable pub loneBodyReads : List ℕ → Bool
-loneBodyReads w = leb 14 (length w) && bodyReads w 0
+loneBodyReads w = leb bodyLength (length w) && bodyReads w 0
 
 -- ---- what it gives
 
 -- what lies beyond the count is not looked at
 unfoldable pub slotIn : List ℕ → ℕ → ℕ → Slot
-slotIn w a k = record { transaction = cond (ltb k (word w (a + 1))) (readTransaction (word w (a + 2 + k * 3)) (word w (a + 2 + k * 3 + 1)) (word w (a + 2 + k * 3 + 2))) noTransaction }
+slotIn w a k = record { transaction = cond (ltb k (word w (a + 1))) (readTransaction (word w (a + 2 + k * transactionLength)) (word w (a + 2 + k * transactionLength + 1)) (word w (a + 2 + k * transactionLength + 2))) noTransaction }
 
 abbrev pub slotsIn : List ℕ → ℕ → List Slot
 slotsIn w a = tab (slotIn w a) 4

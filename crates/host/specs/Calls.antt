@@ -10,17 +10,20 @@ use Rattle.state.specs.declared.State.{State}
 use Rattle.member.specs.declared.Answer.{Answer}
 use Rattle.member.specs.declared.Answer.the-variants.{Accepted, Refused}
 use Rattle.member.specs.declared.Outcome.{Outcome}
-use Rattle.member.specs.Answers.{numberIn}
+use Rattle.member.specs.Answers.{refusalIn}
 use Rattle.member.specs.Open.{closedState, openOutcome, openTable}
 use Rattle.member.specs.Calls.{proposeOutcome, endorseOutcome, endorseTable, certifyOutcome, certifyTable, acceptOutcome, acceptTable, advanceOutcome}
 use Rattle.commit.specs.declared.Committed as Made
 use Rattle.commit.specs.declared.Outcome as committed
+use Rattle.commit.specs.Answers.{addedValue}
 use Rattle.commit.specs.Commit.{commitOutcome, commitTableAfter}
 use Rattle.reads.specs.declared.CommitteeRead.{CommitteeRead}
 use Rattle.reads.specs.declared.ShareRead as Shared
 use Rattle.reads.specs.declared.CertificateRead.{CertificateRead}
 use Rattle.reads.specs.declared.BlockRead as Blocked
+use Rattle.reads.specs.Answers.{sharedAnswer, sharedValue, blockedAnswer, blockedValue}
 use Rattle.reads.specs.Reads.{committeeAnswer, shareAnswer, certificateAnswer, blockAnswer}
+use Rattle.host.specs.Lengths.{stateLength, heldLength, committeeLength}
 use Rattle.host.specs.Words.{sixteen}
 use Rattle.host.specs.Bodies.{loneBodyReads, bodyIn}
 use Rattle.host.specs.Proposals.{proposalReads, proposalIn, certificateReads, certificateIn, heldWords}
@@ -28,7 +31,7 @@ use Rattle.host.specs.Sheets.{sheetReads, sheetIn}
 use Rattle.host.specs.States.{stateReads, stateIn, stateWords}
 
 -- what a call comes to: the number that refuses it, 0 for none, a value, and the words of the state, the table and the out stretch afterwards
-pub record Turn : Type 0 where
+pub record Result : Type 0 where
   pub refusal : ℕ
   pub value : ℕ
   pub state : List ℕ
@@ -36,14 +39,14 @@ pub record Turn : Type 0 where
   pub out : List ℕ
 
 -- the two forms of an answer: the refusal's number, or the value in the low 32 bits and the refusal's number in the high ones
-abbrev pub plain : Turn → ℕ
+abbrev pub plain : Result → ℕ
 plain x = x .refusal
 
-abbrev pub packed : Turn → ℕ
+abbrev pub packed : Result → ℕ
 packed x = x .value + x .refusal * 4294967296
 
 -- the answer r, and the stretches as they are afterwards, are those of a turn
-pub record Done (answer : Turn → ℕ) (x : Turn) (r : ℕ) (state table out : List ℕ) : Type 0 where
+pub record Done (answer : Result → ℕ) (x : Result) (r : ℕ) (state table out : List ℕ) : Type 0 where
   pub its-answer : r ≡ answer x
   pub its-state : state ≡ x .state
   pub its-table : table ≡ x .table
@@ -72,31 +75,10 @@ pub data Call : Type 0 where
   -- number
   block : ℕ → Call
 
--- ---- the engine's answers with a value
-
+-- the answer of a commit as one like the others; its value stands in commit/specs/Answers, those of the reads in reads/specs/Answers
 abbrev pub addedAnswer : Made.Committed → Answer
 addedAnswer (Made.the-variants.Added n) = Accepted
 addedAnswer (Made.the-variants.Refused n) = Refused n
-
-abbrev pub addedValue : Made.Committed → ℕ
-addedValue (Made.the-variants.Added n) = n
-addedValue (Made.the-variants.Refused n) = 0
-
-abbrev pub sharedAnswer : Shared.ShareRead → Answer
-sharedAnswer (Shared.the-variants.Thousandths n) = Accepted
-sharedAnswer (Shared.the-variants.Refused n) = Refused n
-
-abbrev pub sharedValue : Shared.ShareRead → ℕ
-sharedValue (Shared.the-variants.Thousandths n) = n
-sharedValue (Shared.the-variants.Refused n) = 0
-
-abbrev pub blockedAnswer : Blocked.BlockRead → Answer
-blockedAnswer (Blocked.the-variants.At r) = Accepted
-blockedAnswer (Blocked.the-variants.Refused n) = Refused n
-
-abbrev pub blockedValue : Blocked.BlockRead → ℕ
-blockedValue (Blocked.the-variants.At r) = r .0
-blockedValue (Blocked.the-variants.Refused n) = 0
 
 -- n words put over a stretch where a call is accepted
 abbrev pub over : Answer → List ℕ → List ℕ → ℕ → List ℕ
@@ -108,59 +90,59 @@ module _ (w t o : List ℕ) where
   -- ---- can the call be read?
 
   abbrev pub readable : Call → Bool
-  readable (opens own sheet) = leb 37 (length w) && sheetReads sheet
+  readable (opens own sheet) = leb stateLength (length w) && sheetReads sheet
   readable (propose b) = stateReads w && loneBodyReads b
   readable (endorse p) = stateReads w && proposalReads p
   readable (certify e) = stateReads w && ltb e 65536
   readable (accept c) = stateReads w && certificateReads c
   readable advance = stateReads w
   readable commit = stateReads w
-  readable (committee r) = stateReads w && leb 16 (length o)
+  readable (committee r) = stateReads w && leb committeeLength (length o)
   readable (share m r) = stateReads w
-  readable (certificate a r) = stateReads w && leb 18 (length o)
+  readable (certificate a r) = stateReads w && leb heldLength (length o)
   readable (block k) = stateReads w
 
   -- refused with the number n: no value, and nothing changes
-  abbrev pub refused : ℕ → Turn
+  abbrev pub refused : ℕ → Result
   refused n = record { refusal = n; value = 0; state = w; table = t; out = o }
 
   -- where it cannot be read: 1
-  abbrev pub unread : Turn
+  abbrev pub unread : Result
   unread = refused 1
 
   -- ---- where it can: the engine's answer
 
   -- of a call that changes the state: all its words are written where the call is accepted
-  abbrev pub stepped : Answer → ℕ → State → List ℕ → Turn
-  stepped a v s u = record { refusal = numberIn a; value = v; state = over a w (stateWords s) 37; table = u; out = o }
+  abbrev pub stepped : Answer → ℕ → State → List ℕ → Result
+  stepped a v s u = record { refusal = refusalIn a; value = v; state = over a w (stateWords s) stateLength; table = u; out = o }
 
   -- of a call that changes the table alone
-  abbrev pub kept : Answer → List ℕ → Turn
-  kept a u = record { refusal = numberIn a; value = 0; state = w; table = u; out = o }
+  abbrev pub kept : Answer → List ℕ → Result
+  kept a u = record { refusal = refusalIn a; value = 0; state = w; table = u; out = o }
 
   -- of a read
-  abbrev pub given : Answer → ℕ → List ℕ → Turn
-  given a v z = record { refusal = numberIn a; value = v; state = w; table = t; out = z }
+  abbrev pub given : Answer → ℕ → List ℕ → Result
+  given a v z = record { refusal = refusalIn a; value = v; state = w; table = t; out = z }
 
-  abbrev pub steppedBy : Outcome → List ℕ → Turn
+  abbrev pub steppedBy : Outcome → List ℕ → Result
   steppedBy x u = stepped (x .answer) 0 (x .state) u
 
-  abbrev pub committedBy : committed.Outcome → List ℕ → Turn
+  abbrev pub committedBy : committed.Outcome → List ℕ → Result
   committedBy x u = stepped (addedAnswer (x .answer)) (addedValue (x .answer)) (x .state) u
 
-  abbrev pub committeeBy : CommitteeRead → Turn
-  committeeBy x = given (x .answer) 0 (over (x .answer) o (sixteen (x .weights)) 16)
+  abbrev pub committeeBy : CommitteeRead → Result
+  committeeBy x = given (x .answer) 0 (over (x .answer) o (sixteen (x .weights)) committeeLength)
 
-  abbrev pub certificateBy : CertificateRead → Turn
-  certificateBy x = given (x .answer) 0 (over (x .answer) o (heldWords (x .proposal) (x .endorsers) (x .block)) 18)
+  abbrev pub certificateBy : CertificateRead → Result
+  certificateBy x = given (x .answer) 0 (over (x .answer) o (heldWords (x .proposal) (x .endorsers) (x .block)) heldLength)
 
-  abbrev pub shareBy : Shared.ShareRead → Turn
+  abbrev pub shareBy : Shared.ShareRead → Result
   shareBy x = given (sharedAnswer x) (sharedValue x) o
 
-  abbrev pub blockBy : Blocked.BlockRead → Turn
+  abbrev pub blockBy : Blocked.BlockRead → Result
   blockBy x = given (blockedAnswer x) (blockedValue x) o
 
-  abbrev pub served : Call → Turn
+  abbrev pub served : Call → Result
   served (opens own sheet) = steppedBy (openOutcome closedState t (record { 0 = own }) (sheetIn sheet)) (openTable t (record { 0 = own }) (sheetIn sheet))
   served (propose b) = steppedBy (proposeOutcome (stateIn w) t (bodyIn b 0)) t
   served (endorse p) = kept (endorseOutcome (stateIn w) t (proposalIn p) .answer) (endorseTable (stateIn w) t (proposalIn p))
@@ -174,5 +156,5 @@ module _ (w t o : List ℕ) where
   served (block k) = blockBy (blockAnswer (stateIn w) t k)
 
   -- every call and read
-  unfoldable pub turn : Call → Turn
+  unfoldable pub turn : Call → Result
   turn c = cond (readable c) (served c) unread

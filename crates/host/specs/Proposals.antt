@@ -6,20 +6,21 @@ use lib.ListN.{length}
 use lib.Dec.{leb, ltb}
 use Rattle.terms.specs.declared.Proposal.{Proposal}
 use Rattle.terms.specs.declared.Certificate.{Certificate}
+use Rattle.host.specs.Lengths.{proposalLength, certificateLength}
 use Rattle.host.specs.Words.{word}
 use Rattle.host.specs.Bodies.{bodyReads, bodyIn, bodyWords}
 
 unfoldable pub proposalReads : List ℕ → Bool
-proposalReads w = leb 16 (length w) && bodyReads w 2
+proposalReads w = leb proposalLength (length w) && bodyReads w 2
 
 unfoldable pub proposalIn : List ℕ → Proposal
 proposalIn w = record { author = record { 0 = word w 0 }; round = record { 0 = word w 1 }; body = bodyIn w 2 }
 
 unfoldable pub certificateReads : List ℕ → Bool
-certificateReads w = leb 17 (length w) && (ltb (word w 16) 65536 && proposalReads w)
+certificateReads w = leb certificateLength (length w) && (ltb (word w proposalLength) 65536 && proposalReads w)
 
 unfoldable pub certificateIn : List ℕ → Certificate
-certificateIn w = record { proposal = proposalIn w; endorsers = word w 16 }
+certificateIn w = record { proposal = proposalIn w; endorsers = word w proposalLength }
 
 -- a held certificate as it is read: the seventeen words of the certificate, then the number of its block
 unfoldable pub heldWords : Proposal → ℕ → ℕ → List ℕ

@@ -1,4 +1,4 @@
--- A sheet as 38 words: nineteen settings of two words each (0 blank or 1 written, value), in the order lookback, ceiling, allowance, sixteen weights.
+-- A sheet as words: nineteen settings of two words each (0 blank or 1 written, value), in the order lookback, ceiling, allowance, sixteen weights.
 use mathlib.Core.Bool.{Bool, cond, _&&_}
 use mathlib.Core.List.{List}
 use Prim.Native.Nat.{ℕ, _+_, _*_}
@@ -9,10 +9,11 @@ use Rattle.sheet.specs.declared.Setting.{Setting}
 use Rattle.sheet.specs.declared.Setting.the-variants.{Blank, Written}
 use Rattle.sheet.specs.declared.Cell.{Cell}
 use Rattle.sheet.specs.declared.Sheet.{Sheet}
+use Rattle.host.specs.Lengths.{sheetLength}
 use Rattle.host.specs.Words.{word}
 
 unfoldable pub sheetReads : List ℕ → Bool
-sheetReads w = leb 38 (length w) && allTo (λ k. leb (word w (k * 2)) 1) 19
+sheetReads w = leb sheetLength (length w) && allTo (λ k. leb (word w (k * 2)) 1) 19
 
 -- setting k; the value of a blank is not looked at
 unfoldable pub settingIn : List ℕ → ℕ → Setting

@@ -1,4 +1,4 @@
--- A member's state as 37 words.
+-- A member's state as words.
 use mathlib.Core.Bool.{Bool, true, not, cond, _&&_}
 use mathlib.Core.List.{List, [], _∷_, _++_}
 use Prim.Native.Nat.{ℕ, _+_}
@@ -9,12 +9,13 @@ use Rattle.terms.specs.declared.Body.{Body}
 use Rattle.sheet.specs.declared.Settings.{Settings}
 use Rattle.state.specs.declared.State.{State}
 use Rattle.member.specs.Open.{noBody}
+use Rattle.host.specs.Lengths.{stateLength}
 use Rattle.host.specs.Words.{word, sixteen}
 use Rattle.host.specs.Bodies.{bodyReads, bodyIn, bodyWords}
 
 -- word 21 tells whether there is a proposal; its body is words 23 to 36, which are not looked at where there is none
 unfoldable pub stateReads : List ℕ → Bool
-stateReads w = leb 37 (length w) && (leb (word w 21) 1 && cond (eqb (word w 21) 0) true (bodyReads w 23))
+stateReads w = leb stateLength (length w) && (leb (word w 21) 1 && cond (eqb (word w 21) 0) true (bodyReads w 23))
 
 abbrev pub weightsIn : List ℕ → List ℕ
 weightsIn w = tab (λ i. word w (4 + i)) 16

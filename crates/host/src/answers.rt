@@ -6,14 +6,17 @@ use reads::ShareRead;
 ghost use mathlib.Core.Path.{_≡_};
 ghost use Prim.Native.Nat.{_+_, _*_, _≤_};
 ghost use lib.ListN.{length};
-ghost use Rattle.member.specs.Answers.{numberIn};
+ghost use Rattle.member.specs.Answers.{refusalIn};
+ghost use Rattle.commit.specs.Answers.{addedValue};
+ghost use Rattle.reads.specs.Answers.{sharedAnswer, sharedValue, blockedAnswer, blockedValue};
+ghost use Rattle.host.specs.Lengths.{stateLength};
 ghost use Rattle.host.specs.States.{stateWords};
-ghost use Rattle.host.specs.Calls.{addedAnswer, addedValue, sharedAnswer, sharedValue, blockedAnswer, blockedValue, over};
-ghost use Rattle.host.specs.AnswerLaws.{Writable};
+ghost use Rattle.host.specs.Calls.{addedAnswer, over};
+ghost use Rattle.host.specs.Answers.{Writable};
 
 // The number of an answer, 0 where the call is accepted.
 pub fn number_of(a: Answer) -> u32
-    ensures { λ r. ⌜ r ≡ numberIn a ⌝ }
+    ensures { λ r. ⌜ r ≡ refusalIn a ⌝ }
 {
     match a {
         Answer::Accepted => 0,
@@ -37,7 +40,7 @@ pub fn unread() -> u64
 
 // The answer of a share.
 pub fn share_number(x: ShareRead) -> u64
-    ensures { λ r. ⌜ r ≡ sharedValue x + numberIn (sharedAnswer x) * 4294967296 ⌝ }
+    ensures { λ r. ⌜ r ≡ sharedValue x + refusalIn (sharedAnswer x) * 4294967296 ⌝ }
 {
     match x {
         ShareRead::Thousandths(n) => pack(n, 0),
@@ -47,7 +50,7 @@ pub fn share_number(x: ShareRead) -> u64
 
 // The answer of a block.
 pub fn block_number(x: BlockRead) -> u64
-    ensures { λ r. ⌜ r ≡ blockedValue x + numberIn (blockedAnswer x) * 4294967296 ⌝ }
+    ensures { λ r. ⌜ r ≡ blockedValue x + refusalIn (blockedAnswer x) * 4294967296 ⌝ }
 {
     match x {
         BlockRead::At(r) => pack(r.0, 0),
@@ -57,8 +60,8 @@ pub fn block_number(x: BlockRead) -> u64
 
 // Writes the state that a member's call leaves, where it is accepted.
 pub fn settle(w: &mut [u32], x: member::Outcome) -> u32
-    requires { ⌜ (37 ≤ length (now w)) × Writable (x .answer) (x .state) ⌝ }
-    ensures { λ r. ⌜ (r ≡ numberIn (x .answer)) × (now (w .exit) ≡ over (x .answer) (now (w .entry)) (stateWords (x .state)) 37) ⌝ }
+    requires { ⌜ (stateLength ≤ length (now w)) × Writable (x .answer) (x .state) ⌝ }
+    ensures { λ r. ⌜ (r ≡ refusalIn (x .answer)) × (now (w .exit) ≡ over (x .answer) (now (w .entry)) (stateWords (x .state)) stateLength) ⌝ }
 {
     let s = x.state;
     let a = x.answer;
@@ -73,8 +76,8 @@ pub fn settle(w: &mut [u32], x: member::Outcome) -> u32
 
 // Writes the state that commit leaves, where it is accepted.
 pub fn settle_commit(w: &mut [u32], x: commit::Outcome) -> u64
-    requires { ⌜ (37 ≤ length (now w)) × Writable (addedAnswer (x .answer)) (x .state) ⌝ }
-    ensures { λ r. ⌜ (r ≡ addedValue (x .answer) + numberIn (addedAnswer (x .answer)) * 4294967296) × (now (w .exit) ≡ over (addedAnswer (x .answer)) (now (w .entry)) (stateWords (x .state)) 37) ⌝ }
+    requires { ⌜ (stateLength ≤ length (now w)) × Writable (addedAnswer (x .answer)) (x .state) ⌝ }
+    ensures { λ r. ⌜ (r ≡ addedValue (x .answer) + refusalIn (addedAnswer (x .answer)) * 4294967296) × (now (w .exit) ≡ over (addedAnswer (x .answer)) (now (w .entry)) (stateWords (x .state)) stateLength) ⌝ }
 {
     let s = x.state;
     let a = x.answer;

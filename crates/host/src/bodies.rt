@@ -1,4 +1,6 @@
 // A body as fourteen words: read, and put.
+use crate::lengths::BODY;
+use crate::lengths::TRANSACTION;
 use terms::Body;
 use terms::Member;
 use terms::Slot;
@@ -7,6 +9,7 @@ ghost use mathlib.Core.Path.{_≡_};
 ghost use Prim.Native.Nat.{_+_, _<_, _≤_};
 ghost use lib.ListN.{length, getD};
 ghost use lib.Seq.{paste};
+ghost use Rattle.host.specs.Lengths.{transactionLength, bodyLength};
 ghost use Rattle.host.specs.Bodies.{isTriple, tripleReads, bodyReads, loneBodyReads, slotIn, slotsIn, bodyIn, usedOf, tripleWords, bodyWords};
 
 // Are three words with this kind and amount a transaction?
@@ -24,11 +27,11 @@ fn is_triple(kind: u32, amount: u32) -> bool
 
 // Can transaction k of the body from `at` on be read? What lies beyond the count is not looked at.
 fn triple_reads(w: &[u32], at: usize, k: u32) -> bool
-    requires { ⌜ (at + 14 ≤ length (now w)) × (k < 4) ⌝ }
+    requires { ⌜ (at + bodyLength ≤ length (now w)) × (k < 4) ⌝ }
     ensures { λ v. ⌜ v ≡ tripleReads (now (w .entry)) at k ⌝ }
 {
     if k < w[at + 1] {
-        let i = at + 2 + k as usize * 3;
+        let i = at + 2 + k as usize * TRANSACTION;
         return is_triple(w[i], w[i + 2]);
     }
     true
@@ -36,7 +39,7 @@ fn triple_reads(w: &[u32], at: usize, k: u32) -> bool
 
 // Can the body from `at` on be read?
 pub fn body_reads(w: &[u32], at: usize) -> bool
-    requires { ⌜ at + 14 ≤ length (now w) ⌝ }
+    requires { ⌜ at + bodyLength ≤ length (now w) ⌝ }
     ensures { λ v. ⌜ v ≡ bodyReads (now (w .entry)) at ⌝ }
 {
     if 65536 <= w[at] {
@@ -54,7 +57,7 @@ pub fn body_reads(w: &[u32], at: usize) -> bool
 pub fn lone_body_reads(w: &[u32]) -> bool
     ensures { λ v. ⌜ v ≡ loneBodyReads (now (w .entry)) ⌝ }
 {
-    if w.len() < 14 {
+    if w.len() < BODY {
         return false;
     }
     body_reads(w, 0)
@@ -62,13 +65,13 @@ pub fn lone_body_reads(w: &[u32]) -> bool
 
 // Slot k of the body from `at` on.
 fn slot_in(w: &[u32], at: usize, k: u32) -> Slot
-    requires { ⌜ (at + 14 ≤ length (now w)) × (k < 4) ⌝ }
+    requires { ⌜ (at + bodyLength ≤ length (now w)) × (k < 4) ⌝ }
     ensures { λ v. ⌜ v ≡ slotIn (now (w .entry)) at k ⌝ }
 {
-    let i = at + 2 + k as usize * 3;
+    let i = at + 2 + k as usize * TRANSACTION;
     if k < w[at + 1] {
         return Slot {
-            transaction: terms::told(w[i], w[i + 1], w[i + 2]),
+            transaction: terms::read_transaction(w[i], w[i + 1], w[i + 2]),
         };
     }
     Slot {
@@ -78,7 +81,7 @@ fn slot_in(w: &[u32], at: usize, k: u32) -> Slot
 
 // The four slots of the body from `at` on.
 fn slots_in(w: &[u32], at: usize) -> [Slot; 4]
-    requires { ⌜ at + 14 ≤ length (now w) ⌝ }
+    requires { ⌜ at + bodyLength ≤ length (now w) ⌝ }
     ensures { λ v. ⌜ v ≡ slotsIn (now (w .entry)) at ⌝ }
 {
     let none = Slot {
@@ -94,7 +97,7 @@ fn slots_in(w: &[u32], at: usize) -> [Slot; 4]
 
 // The body from `at` on.
 pub fn body_in(w: &[u32], at: usize) -> Body
-    requires { ⌜ (at + 14 ≤ length (now w)) × (getD (now w) at 0 < 65536) ⌝ }
+    requires { ⌜ (at + bodyLength ≤ length (now w)) × (getD (now w) at 0 < 65536) ⌝ }
     ensures { λ v. ⌜ v ≡ bodyIn (now (w .entry)) at ⌝ }
 {
     let slots = slots_in(w, at);
@@ -118,8 +121,8 @@ fn used_at(b: Body, k: u32) -> Transaction
 
 // Puts a transaction from `at` on.
 fn put_triple(w: &mut [u32], at: usize, x: Transaction)
-    requires { ⌜ at + 3 ≤ length (now w) ⌝ }
-    ensures { λ _. ⌜ now (w .exit) ≡ paste (now (w .entry)) at (tripleWords x) 3 ⌝ }
+    requires { ⌜ at + transactionLength ≤ length (now w) ⌝ }
+    ensures { λ _. ⌜ now (w .exit) ≡ paste (now (w .entry)) at (tripleWords x) transactionLength ⌝ }
 {
     let words = [terms::kind(x), terms::number(x), terms::amount(x)];
     crate::words::put(w, at, &words);
@@ -127,13 +130,13 @@ fn put_triple(w: &mut [u32], at: usize, x: Transaction)
 
 // Puts a body from `at` on.
 pub fn put_body(w: &mut [u32], at: usize, b: Body)
-    requires { ⌜ at + 14 ≤ length (now w) ⌝ }
-    ensures { λ _. ⌜ now (w .exit) ≡ paste (now (w .entry)) at (bodyWords b) 14 ⌝ }
+    requires { ⌜ at + bodyLength ≤ length (now w) ⌝ }
+    ensures { λ _. ⌜ now (w .exit) ≡ paste (now (w .entry)) at (bodyWords b) bodyLength ⌝ }
 {
     let head = [b.previous as u32, b.count];
     crate::words::put(w, at, &head);
     for k in 0..4u32 {
         let x = used_at(b, k);
-        put_triple(w, at + 2 + k as usize * 3, x);
+        put_triple(w, at + 2 + k as usize * TRANSACTION, x);
     }
 }

@@ -1,4 +1,5 @@
 // The calls that a host makes: open, propose, endorse, certify, accept, advance, commit.
+use crate::lengths::STATE;
 use terms::Member;
 ghost use mathlib.Core.List.{[]};
 ghost use Rattle.host.specs.Calls.{plain, packed, Done, opens, propose, endorse, certify, accept, advance, commit, turn};
@@ -13,7 +14,7 @@ pub extern "C" fn forgelilac_open(
 ) -> u32
     ensures { λ r. ⌜ Done plain (turn (now (state .entry)) (now (table .entry)) [] (opens own (now (sheet .entry)))) r (now (state .exit)) (now (table .exit)) [] ⌝ }
 {
-    if state.len() < 37 {
+    if state.len() < STATE {
         return 1;
     }
     if !crate::sheets::sheet_reads(sheet) {

@@ -1,4 +1,6 @@
 // Proposals and certificates as words: read, and put.
+use crate::lengths::CERTIFICATE;
+use crate::lengths::PROPOSAL;
 use terms::Certificate;
 use terms::Member;
 use terms::Proposal;
@@ -7,14 +9,15 @@ ghost use mathlib.Core.Path.{_≡_};
 ghost use Prim.Native.Nat.{_≤_};
 ghost use lib.ListN.{length};
 ghost use lib.Seq.{paste};
+ghost use Rattle.host.specs.Lengths.{heldLength};
 ghost use Rattle.host.specs.Proposals.{proposalReads, proposalIn, certificateReads, certificateIn, heldWords};
-ghost use Rattle.host.specs.ReadingLaws.{ProposalRead, CertificateRead};
+ghost use Rattle.host.specs.Readings.{ProposalRead, CertificateRead};
 
 // Can the words be read as a proposal?
 pub fn proposal_reads(w: &[u32]) -> bool
     ensures { λ v. ⌜ v ≡ proposalReads (now (w .entry)) ⌝ }
 {
-    if w.len() < 16 {
+    if w.len() < PROPOSAL {
         return false;
     }
     crate::bodies::body_reads(w, 2)
@@ -37,10 +40,10 @@ pub fn proposal_in(w: &[u32]) -> Proposal
 pub fn certificate_reads(w: &[u32]) -> bool
     ensures { λ v. ⌜ v ≡ certificateReads (now (w .entry)) ⌝ }
 {
-    if w.len() < 17 {
+    if w.len() < CERTIFICATE {
         return false;
     }
-    if 65536 <= w[16] {
+    if 65536 <= w[PROPOSAL] {
         return false;
     }
     proposal_reads(w)
@@ -54,19 +57,19 @@ pub fn certificate_in(w: &[u32]) -> Certificate
     let proposal = proposal_in(w);
     Certificate {
         proposal,
-        endorsers: w[16] as u16,
+        endorsers: w[PROPOSAL] as u16,
     }
 }
 
 // Puts a held certificate, and the number of its block.
 pub fn put_held(w: &mut [u32], p: Proposal, endorsers: u16, block: u32)
-    requires { ⌜ 18 ≤ length (now w) ⌝ }
-    ensures { λ _. ⌜ now (w .exit) ≡ paste (now (w .entry)) 0 (heldWords p endorsers block) 18 ⌝ }
+    requires { ⌜ heldLength ≤ length (now w) ⌝ }
+    ensures { λ _. ⌜ now (w .exit) ≡ paste (now (w .entry)) 0 (heldWords p endorsers block) heldLength ⌝ }
 {
     let head = [p.author.0, p.round.0];
     let b = p.body;
     let last = [endorsers as u32, block];
     crate::words::put(w, 0, &head);
     crate::bodies::put_body(w, 2, b);
-    crate::words::put(w, 16, &last);
+    crate::words::put(w, PROPOSAL, &last);
 }

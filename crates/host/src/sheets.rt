@@ -1,4 +1,5 @@
-// A sheet as 38 words: read.
+// A sheet as words: read.
+use crate::lengths::SHEET;
 use sheet::Cell;
 use sheet::Setting;
 use sheet::Sheet;
@@ -6,13 +7,14 @@ ghost use mathlib.Core.Path.{_≡_};
 ghost use Prim.Native.Nat.{_<_, _≤_};
 ghost use lib.ListN.{length};
 ghost use Rattle.base.specs.Folds.{tab};
+ghost use Rattle.host.specs.Lengths.{sheetLength};
 ghost use Rattle.host.specs.Sheets.{sheetReads, settingIn, cellIn, sheetIn};
 
 // Can the words be read as a sheet?
 pub fn sheet_reads(w: &[u32]) -> bool
     ensures { λ v. ⌜ v ≡ sheetReads (now (w .entry)) ⌝ }
 {
-    if w.len() < 38 {
+    if w.len() < SHEET {
         return false;
     }
     for k in 0..19usize {
@@ -25,7 +27,7 @@ pub fn sheet_reads(w: &[u32]) -> bool
 
 // Setting k of the words: blank, or written with the value.
 fn setting_in(w: &[u32], k: usize) -> Setting
-    requires { ⌜ (38 ≤ length (now w)) × (k < 19) ⌝ }
+    requires { ⌜ (sheetLength ≤ length (now w)) × (k < 19) ⌝ }
     ensures { λ v. ⌜ v ≡ settingIn (now (w .entry)) k ⌝ }
 {
     if w[k * 2] == 0 {
@@ -36,7 +38,7 @@ fn setting_in(w: &[u32], k: usize) -> Setting
 
 // The sixteen weights of the words.
 fn cells_in(w: &[u32]) -> [Cell; 16]
-    requires { ⌜ 38 ≤ length (now w) ⌝ }
+    requires { ⌜ sheetLength ≤ length (now w) ⌝ }
     ensures { λ v. ⌜ v ≡ tab (cellIn (now (w .entry))) 16 ⌝ }
 {
     let blank = Cell {
@@ -54,7 +56,7 @@ fn cells_in(w: &[u32]) -> [Cell; 16]
 
 // The sheet that the words give.
 pub fn sheet_in(w: &[u32]) -> Sheet
-    requires { ⌜ 38 ≤ length (now w) ⌝ }
+    requires { ⌜ sheetLength ≤ length (now w) ⌝ }
     ensures { λ v. ⌜ v ≡ sheetIn (now (w .entry)) ⌝ }
 {
     Sheet {

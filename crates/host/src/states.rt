@@ -1,4 +1,5 @@
-// A member's state as 37 words: read, and put.
+// A member's state as words: read, and put.
+use crate::lengths::STATE;
 use sheet::Settings;
 use state::State;
 use terms::Body;
@@ -9,15 +10,16 @@ ghost use mathlib.Core.Bool.{cond};
 ghost use Prim.Native.Nat.{_≤_};
 ghost use lib.ListN.{length};
 ghost use lib.Seq.{paste};
+ghost use Rattle.host.specs.Lengths.{stateLength};
 ghost use Rattle.host.specs.Words.{Narrow};
 ghost use Rattle.host.specs.States.{stateReads, weightsIn, settingsIn, keptIn, stateIn, keptOf, stateWords};
-ghost use Rattle.host.specs.ReadingLaws.{StateRead};
+ghost use Rattle.host.specs.Readings.{StateRead};
 
 // Can the words be read as a state?
 pub fn state_reads(w: &[u32]) -> bool
     ensures { λ v. ⌜ v ≡ stateReads (now (w .entry)) ⌝ }
 {
-    if w.len() < 37 {
+    if w.len() < STATE {
         return false;
     }
     if 1 < w[21] {
@@ -38,7 +40,7 @@ fn wide(x: u32) -> u64
 
 // The sixteen starting weights that the words give.
 fn weights_in(w: &[u32]) -> [u64; 16]
-    requires { ⌜ 37 ≤ length (now w) ⌝ }
+    requires { ⌜ stateLength ≤ length (now w) ⌝ }
     ensures { λ v. ⌜ v ≡ weightsIn (now (w .entry)) ⌝ }
 {
     let mut x = [0u64; 16];
@@ -50,7 +52,7 @@ fn weights_in(w: &[u32]) -> [u64; 16]
 
 // The settings that the words give.
 fn settings_in(w: &[u32]) -> Settings
-    requires { ⌜ 37 ≤ length (now w) ⌝ }
+    requires { ⌜ stateLength ≤ length (now w) ⌝ }
     ensures { λ v. ⌜ v ≡ settingsIn (now (w .entry)) ⌝ }
 {
     Settings {
@@ -108,8 +110,8 @@ fn kept(s: State) -> Body
 
 // Puts a state.
 pub fn put_state(w: &mut [u32], s: State)
-    requires { ⌜ (37 ≤ length (now w)) × Narrow (s .settings .weights) ⌝ }
-    ensures { λ _. ⌜ now (w .exit) ≡ paste (now (w .entry)) 0 (stateWords s) 37 ⌝ }
+    requires { ⌜ (stateLength ≤ length (now w)) × Narrow (s .settings .weights) ⌝ }
+    ensures { λ _. ⌜ now (w .exit) ≡ paste (now (w .entry)) 0 (stateWords s) stateLength ⌝ }
 {
     let settings = s.settings;
     let weights = settings.weights;

@@ -1,5 +1,8 @@
 // The reads that a host makes: committee, share, certificate, block, and the length of a table.
+use crate::lengths::COMMITTEE;
+use crate::lengths::HELD;
 use member::Answer;
+use store::lengths::ROW;
 use terms::Member;
 use terms::Round;
 ghost use mathlib.Core.Path.{_≡_};
@@ -7,16 +10,17 @@ ghost use mathlib.Core.List.{[]};
 ghost use Prim.Native.Nat.{_≤_};
 ghost use lib.ListN.{length};
 ghost use Rattle.store.specs.Table.{used};
-ghost use Rattle.member.specs.Answers.{numberIn};
+ghost use Rattle.member.specs.Answers.{refusalIn};
+ghost use Rattle.host.specs.Lengths.{heldLength, committeeLength};
 ghost use Rattle.host.specs.Words.{sixteen};
 ghost use Rattle.host.specs.Proposals.{heldWords};
-ghost use Rattle.host.specs.AnswerLaws.{Shown};
+ghost use Rattle.host.specs.Answers.{Shown};
 ghost use Rattle.host.specs.Calls.{plain, packed, Done, committee, share, certificate, block, over, turn};
 
 // Writes the weights of a committee, where the read is accepted.
 fn show_committee(out: &mut [u32], x: reads::CommitteeRead) -> u32
-    requires { ⌜ (16 ≤ length (now out)) × Shown (x .answer) (x .weights) ⌝ }
-    ensures { λ r. ⌜ (r ≡ numberIn (x .answer)) × (now (out .exit) ≡ over (x .answer) (now (out .entry)) (sixteen (x .weights)) 16) ⌝ }
+    requires { ⌜ (committeeLength ≤ length (now out)) × Shown (x .answer) (x .weights) ⌝ }
+    ensures { λ r. ⌜ (r ≡ refusalIn (x .answer)) × (now (out .exit) ≡ over (x .answer) (now (out .entry)) (sixteen (x .weights)) committeeLength) ⌝ }
 {
     let weights = x.weights;
     let a = x.answer;
@@ -31,8 +35,8 @@ fn show_committee(out: &mut [u32], x: reads::CommitteeRead) -> u32
 
 // Writes a held certificate, where the read is accepted.
 fn show_certificate(out: &mut [u32], x: reads::CertificateRead) -> u32
-    requires { ⌜ 18 ≤ length (now out) ⌝ }
-    ensures { λ r. ⌜ (r ≡ numberIn (x .answer)) × (now (out .exit) ≡ over (x .answer) (now (out .entry)) (heldWords (x .proposal) (x .endorsers) (x .block)) 18) ⌝ }
+    requires { ⌜ heldLength ≤ length (now out) ⌝ }
+    ensures { λ r. ⌜ (r ≡ refusalIn (x .answer)) × (now (out .exit) ≡ over (x .answer) (now (out .entry)) (heldWords (x .proposal) (x .endorsers) (x .block)) heldLength) ⌝ }
 {
     let p = x.proposal;
     let a = x.answer;
@@ -58,7 +62,7 @@ pub extern "C" fn forgelilac_committee(
     if !crate::states::state_reads(state) {
         return 1;
     }
-    if out.len() < 16 {
+    if out.len() < COMMITTEE {
         return 1;
     }
     let s = crate::states::state_in(state);
@@ -93,7 +97,7 @@ pub extern "C" fn forgelilac_certificate(
     if !crate::states::state_reads(state) {
         return 1;
     }
-    if out.len() < 18 {
+    if out.len() < HELD {
         return 1;
     }
     let s = crate::states::state_in(state);
@@ -119,5 +123,5 @@ pub extern "C" fn forgelilac_block(state: &[u32], table: &[u32], number: u32) ->
 pub extern "C" fn forgelilac_table_words(ceiling: u32) -> u64
     ensures { λ r. ⌜ r ≡ used ceiling ⌝ }
 {
-    ceiling as u64 * 272 + 272
+    ceiling as u64 * ROW as u64 + ROW as u64
 }

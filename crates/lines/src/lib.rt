@@ -1,4 +1,4 @@
-// Lines: answers and listings, as bytes put into a buffer from a place on. Each function returns the next place.
+// Answers and listings as bytes, put into a buffer from a place on. Each function returns the next place (scope document: The runner).
 use terms::Body;
 use terms::Member;
 use terms::Round;

@@ -1,5 +1,5 @@
 -- What a call answers and leaves, by the number of the first check that refuses it, 0 for none.
-use mathlib.Core.Bool.{cond}
+use mathlib.Core.Bool.{cond, Bool, true}
 use Prim.Native.Nat.{ℕ}
 use lib.Dec.{eqb}
 use Rattle.state.specs.declared.State.{State}
@@ -8,18 +8,23 @@ use Rattle.member.specs.declared.Answer.the-variants.{Accepted, Refused}
 use Rattle.member.specs.declared.Outcome.{Outcome}
 
 -- the paper's number of an answer: 0 where the call is accepted
-abbrev pub numberIn : Answer → ℕ
-numberIn Accepted = 0
-numberIn (Refused n) = n
+abbrev pub refusalIn : Answer → ℕ
+refusalIn Accepted = 0
+refusalIn (Refused n) = n
 
 -- the answer with a number: accepted for 0
 unfoldable pub answerOf : ℕ → Answer
 answerOf n = cond (eqb n 0) Accepted (Refused n)
 
 -- what a call leaves: the new where it is accepted, the old where it is refused
-unfoldable pub left : {A : Type 0} → ℕ → A → A → A
-left n new old = cond (eqb n 0) new old
+unfoldable pub ifAccepted : {A : Type 0} → ℕ → A → A → A
+ifAccepted n new old = cond (eqb n 0) new old
 
 -- the answer and the state
 unfoldable pub outcomeOf : ℕ → State → State → Outcome
-outcomeOf n new old = record { state = left n new old; answer = answerOf n }
+outcomeOf n new old = record { state = ifAccepted n new old; answer = answerOf n }
+
+-- whether the state is well formed after a call, where b is whether it was before: an accepted call leaves a well-formed state, a refused one the state as it was
+abbrev pub formedBy : Bool → Answer → Bool
+formedBy b Accepted = true
+formedBy b (Refused n) = b

@@ -1,14 +1,5 @@
 pub mod Answers
 pub mod Open
-pub mod Pieces
+pub mod SharedChecks
 pub mod Calls
-pub mod AnswerLaws
-pub mod OpenLaws
-pub mod PassedLaws
-pub mod Steps
-pub mod CallLaws
-pub mod PieceLaws
-pub mod PlaceLaws
-pub mod NextLaws
-pub mod KnownLaws
-pub mod Copies
+pub mod AllCalls

@@ -17,7 +17,7 @@ use Rattle.sheet.specs.Ranges.{outOfRange, weightless}
 use Rattle.state.specs.declared.State.{State}
 use Rattle.state.specs.States.{fresh}
 use Rattle.member.specs.declared.Outcome.{Outcome}
-use Rattle.member.specs.Answers.{left, outcomeOf}
+use Rattle.member.specs.Answers.{ifAccepted, outcomeOf}
 
 -- no proposal
 abbrev pub noBody : Body
@@ -43,12 +43,12 @@ freshState own S = fresh own S noBody
 abbrev pub opening : List ℕ → Member → Settings → Checks
 opening t own S = (ltb 15 (own .0), 4) ∷ (outOfRange S, 2) ∷ (weightless S, 3) ∷ (ltb (length t) (used (S .ceiling .0)), 1) ∷ []
 
-unfoldable pub openNumber : List ℕ → Member → Settings → ℕ
-openNumber t own S = refusal (opening t own S)
+unfoldable pub openRefusal : List ℕ → Member → Settings → ℕ
+openRefusal t own S = refusal (opening t own S)
 
 -- of a sheet only its filled settings are seen
 unfoldable pub openOutcome : State → List ℕ → Member → Sheet → Outcome
-openOutcome s t own sheet = outcomeOf (openNumber t own (filled sheet)) (freshState own (filled sheet)) s
+openOutcome s t own sheet = outcomeOf (openRefusal t own (filled sheet)) (freshState own (filled sheet)) s
 
 unfoldable pub openTable : List ℕ → Member → Sheet → List ℕ
-openTable t own sheet = left (openNumber t own (filled sheet)) (clearUsed t (filled sheet .ceiling .0)) t
+openTable t own sheet = ifAccepted (openRefusal t own (filled sheet)) (clearUsed t (filled sheet .ceiling .0)) t

@@ -10,13 +10,14 @@ ghost use lib.ListN.{drop};
 ghost use Rattle.rules.specs.Calls.{accepting};
 ghost use Rattle.state.specs.Formed.{Formed};
 ghost use Rattle.state.specs.View.{view};
-ghost use Rattle.state.specs.Known.{Kept, Known};
-ghost use Rattle.member.specs.PassedLaws.{Fits};
-ghost use Rattle.member.specs.Calls.{acceptNumber, acceptOutcome, acceptTable};
+ghost use Rattle.state.specs.Cached.{CachesFor, Cached};
+ghost use Rattle.member.specs.SharedChecks.{Fits};
+ghost use Rattle.member.specs.Answers.{refusalIn};
+ghost use Rattle.member.specs.Calls.{acceptRefusal, acceptOutcome, acceptTable};
 
 // Checks 16, 17, those of the signers, and 11.
-fn place_refusal(kept: &[u64], s: State, t: &[u32], c: Certificate) -> u32
-    requires { ⌜ Formed s (now t) × Fits s (c .proposal) × Kept s (now t) (now kept) ⌝ }
+fn place_refusal(cache: &[u64], s: State, t: &[u32], c: Certificate) -> u32
+    requires { ⌜ Formed s (now t) × Fits s (c .proposal) × CachesFor s (now t) (now cache) ⌝ }
     ensures { λ v. ⌜ v ≡ refusal (drop 5 (accepting (s .settings) (view s (now (t .entry))) (contentOf (c .proposal)) (c .endorsers))) ⌝ }
 {
     let p = c.proposal;
@@ -27,7 +28,7 @@ fn place_refusal(kept: &[u64], s: State, t: &[u32], c: Certificate) -> u32
         return 17;
     }
     let signers = base::with(c.endorsers as u32, p.author.0);
-    let n = crate::checks::signer_refusal(kept, s, t, p.round, signers);
+    let n = crate::checks::signer_refusal(cache, s, t, p.round, signers);
     if n != 0 {
         return n;
     }
@@ -38,8 +39,8 @@ fn place_refusal(kept: &[u64], s: State, t: &[u32], c: Certificate) -> u32
 }
 
 // The checks of a well-formed state.
-fn refusal_of(kept: &[u64], s: State, t: &[u32], c: Certificate) -> u32
-    requires { ⌜ Formed s (now t) × Kept s (now t) (now kept) ⌝ }
+fn refusal_of(cache: &[u64], s: State, t: &[u32], c: Certificate) -> u32
+    requires { ⌜ Formed s (now t) × CachesFor s (now t) (now cache) ⌝ }
     ensures { λ v. ⌜ v ≡ refusal (accepting (s .settings) (view s (now (t .entry))) (contentOf (c .proposal)) (c .endorsers)) ⌝ }
 {
     let p = c.proposal;
@@ -50,26 +51,32 @@ fn refusal_of(kept: &[u64], s: State, t: &[u32], c: Certificate) -> u32
     if base::has(c.endorsers as u32, p.author.0) {
         return 14;
     }
-    place_refusal(kept, s, t, c)
+    place_refusal(cache, s, t, c)
 }
 
 // The number of the first check that refuses, 0 for none.
-fn accept_number(formed: bool, kept: &[u64], s: State, t: &[u32], c: Certificate) -> u32
-    requires { ⌜ Known s (now t) formed (now kept) ⌝ }
-    ensures { λ v. ⌜ v ≡ acceptNumber s (now (t .entry)) c ⌝ }
+fn accept_refusal(formed: bool, cache: &[u64], s: State, t: &[u32], c: Certificate) -> u32
+    requires { ⌜ Cached s (now t) formed (now cache) ⌝ }
+    ensures { λ v. ⌜ v ≡ acceptRefusal s (now (t .entry)) c ⌝ }
 {
     if !formed {
         return 1;
     }
-    refusal_of(kept, s, t, c)
+    refusal_of(cache, s, t, c)
 }
 
-// The call, where it is known whether the state is well formed, and committees may be kept.
-pub fn accept_known(formed: bool, kept: &[u64], s: State, t: &mut [u32], c: Certificate) -> Outcome
-    requires { ⌜ Known s (now t) formed (now kept) ⌝ }
-    ensures { λ o. ⌜ (o ≡ acceptOutcome s (now (t .entry)) c) × (now (t .exit) ≡ acceptTable s (now (t .entry)) c) ⌝ }
+// The call, where it is known whether the state is well formed, and committees may be cached.
+pub fn accept_cached(
+    formed: bool,
+    cache: &[u64],
+    s: State,
+    t: &mut [u32],
+    c: Certificate,
+) -> Outcome
+    requires { ⌜ Cached s (now t) formed (now cache) ⌝ }
+    ensures { λ o. ⌜ (o ≡ acceptOutcome s (now (t .entry)) c) × (now (t .exit) ≡ acceptTable s (now (t .entry)) c) × (refusalIn (o .answer) ≡ acceptRefusal s (now (t .entry)) c) ⌝ }
 {
-    let n = accept_number(formed, kept, s, t, c);
+    let n = accept_refusal(formed, cache, s, t, c);
     if n != 0 {
         return Outcome {
             state: s,
@@ -86,9 +93,9 @@ pub fn accept_known(formed: bool, kept: &[u64], s: State, t: &mut [u32], c: Cert
 }
 
 pub fn accept(s: State, t: &mut [u32], c: Certificate) -> Outcome
-    ensures { λ o. ⌜ (o ≡ acceptOutcome s (now (t .entry)) c) × (now (t .exit) ≡ acceptTable s (now (t .entry)) c) ⌝ }
+    ensures { λ o. ⌜ (o ≡ acceptOutcome s (now (t .entry)) c) × (now (t .exit) ≡ acceptTable s (now (t .entry)) c) × (refusalIn (o .answer) ≡ acceptRefusal s (now (t .entry)) c) ⌝ }
 {
     let formed = state::well_formed(s, t);
     let none = [0u64; 1];
-    accept_known(formed, &none[..0], s, t, c)
+    accept_cached(formed, &none[..0], s, t, c)
 }

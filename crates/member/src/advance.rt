@@ -5,12 +5,13 @@ use state::State;
 use terms::Round;
 ghost use mathlib.Core.Path.{_≡_};
 ghost use Rattle.state.specs.WellFormed.{wellFormed};
-ghost use Rattle.member.specs.Calls.{advanceNumber, advanceOutcome};
+ghost use Rattle.member.specs.Answers.{refusalIn};
+ghost use Rattle.member.specs.Calls.{advanceRefusal, advanceOutcome};
 
 // The number of the first check that refuses, 0 for none.
-fn advance_number(formed: bool, s: State, t: &[u32]) -> u32
+fn advance_refusal(formed: bool, s: State, t: &[u32]) -> u32
     requires { ⌜ formed ≡ wellFormed s (now t) ⌝ }
-    ensures { λ v. ⌜ v ≡ advanceNumber s (now (t .entry)) ⌝ }
+    ensures { λ v. ⌜ v ≡ advanceRefusal s (now (t .entry)) ⌝ }
 {
     if !formed {
         return 1;
@@ -22,11 +23,11 @@ fn advance_number(formed: bool, s: State, t: &[u32]) -> u32
 }
 
 // The call, where it is known whether the state is well formed.
-pub fn advance_known(formed: bool, s: State, t: &[u32]) -> Outcome
+pub fn advance_cached(formed: bool, s: State, t: &[u32]) -> Outcome
     requires { ⌜ formed ≡ wellFormed s (now t) ⌝ }
-    ensures { λ o. ⌜ o ≡ advanceOutcome s (now (t .entry)) ⌝ }
+    ensures { λ o. ⌜ (o ≡ advanceOutcome s (now (t .entry))) × (refusalIn (o .answer) ≡ advanceRefusal s (now (t .entry))) ⌝ }
 {
-    let n = advance_number(formed, s, t);
+    let n = advance_refusal(formed, s, t);
     if n != 0 {
         return Outcome {
             state: s,
@@ -46,8 +47,8 @@ pub fn advance_known(formed: bool, s: State, t: &[u32]) -> Outcome
 }
 
 pub fn advance(s: State, t: &[u32]) -> Outcome
-    ensures { λ o. ⌜ o ≡ advanceOutcome s (now (t .entry)) ⌝ }
+    ensures { λ o. ⌜ (o ≡ advanceOutcome s (now (t .entry))) × (refusalIn (o .answer) ≡ advanceRefusal s (now (t .entry))) ⌝ }
 {
     let formed = state::well_formed(s, t);
-    advance_known(formed, s, t)
+    advance_cached(formed, s, t)
 }

@@ -8,12 +8,13 @@ ghost use Rattle.base.specs.Checks.{refusal};
 ghost use Rattle.rules.specs.Calls.{certifying};
 ghost use Rattle.state.specs.Formed.{Formed};
 ghost use Rattle.state.specs.View.{view};
-ghost use Rattle.state.specs.Known.{Kept, Known};
-ghost use Rattle.member.specs.Calls.{certifyNumber, certifyOutcome, certifyTable};
+ghost use Rattle.state.specs.Cached.{CachesFor, Cached};
+ghost use Rattle.member.specs.Answers.{refusalIn};
+ghost use Rattle.member.specs.Calls.{certifyRefusal, certifyOutcome, certifyTable};
 
 // The checks of a well-formed state: 15, 10, 14, and those of the signers.
-fn refusal_of(kept: &[u64], s: State, t: &[u32], e: u16) -> u32
-    requires { ⌜ Formed s (now t) × Kept s (now t) (now kept) ⌝ }
+fn refusal_of(cache: &[u64], s: State, t: &[u32], e: u16) -> u32
+    requires { ⌜ Formed s (now t) × CachesFor s (now t) (now cache) ⌝ }
     ensures { λ v. ⌜ v ≡ refusal (certifying (s .settings) (s .own .0) (view s (now (t .entry))) e (view s (now (t .entry)) .proposal)) ⌝ }
 {
     if !s.proposing {
@@ -26,26 +27,26 @@ fn refusal_of(kept: &[u64], s: State, t: &[u32], e: u16) -> u32
         return 14;
     }
     let signers = base::with(e as u32, s.own.0);
-    crate::checks::signer_refusal(kept, s, t, s.round, signers)
+    crate::checks::signer_refusal(cache, s, t, s.round, signers)
 }
 
 // The number of the first check that refuses, 0 for none.
-fn certify_number(formed: bool, kept: &[u64], s: State, t: &[u32], e: u16) -> u32
-    requires { ⌜ Known s (now t) formed (now kept) ⌝ }
-    ensures { λ v. ⌜ v ≡ certifyNumber s (now (t .entry)) e ⌝ }
+fn certify_refusal(formed: bool, cache: &[u64], s: State, t: &[u32], e: u16) -> u32
+    requires { ⌜ Cached s (now t) formed (now cache) ⌝ }
+    ensures { λ v. ⌜ v ≡ certifyRefusal s (now (t .entry)) e ⌝ }
 {
     if !formed {
         return 1;
     }
-    refusal_of(kept, s, t, e)
+    refusal_of(cache, s, t, e)
 }
 
-// The call, where it is known whether the state is well formed, and committees may be kept.
-pub fn certify_known(formed: bool, kept: &[u64], s: State, t: &mut [u32], e: u16) -> Outcome
-    requires { ⌜ Known s (now t) formed (now kept) ⌝ }
-    ensures { λ o. ⌜ (o ≡ certifyOutcome s (now (t .entry)) e) × (now (t .exit) ≡ certifyTable s (now (t .entry)) e) ⌝ }
+// The call, where it is known whether the state is well formed, and committees may be cached.
+pub fn certify_cached(formed: bool, cache: &[u64], s: State, t: &mut [u32], e: u16) -> Outcome
+    requires { ⌜ Cached s (now t) formed (now cache) ⌝ }
+    ensures { λ o. ⌜ (o ≡ certifyOutcome s (now (t .entry)) e) × (now (t .exit) ≡ certifyTable s (now (t .entry)) e) × (refusalIn (o .answer) ≡ certifyRefusal s (now (t .entry)) e) ⌝ }
 {
-    let n = certify_number(formed, kept, s, t, e);
+    let n = certify_refusal(formed, cache, s, t, e);
     if n != 0 {
         return Outcome {
             state: s,
@@ -68,9 +69,9 @@ pub fn certify_known(formed: bool, kept: &[u64], s: State, t: &mut [u32], e: u16
 }
 
 pub fn certify(s: State, t: &mut [u32], e: u16) -> Outcome
-    ensures { λ o. ⌜ (o ≡ certifyOutcome s (now (t .entry)) e) × (now (t .exit) ≡ certifyTable s (now (t .entry)) e) ⌝ }
+    ensures { λ o. ⌜ (o ≡ certifyOutcome s (now (t .entry)) e) × (now (t .exit) ≡ certifyTable s (now (t .entry)) e) × (refusalIn (o .answer) ≡ certifyRefusal s (now (t .entry)) e) ⌝ }
 {
     let formed = state::well_formed(s, t);
     let none = [0u64; 1];
-    certify_known(formed, &none[..0], s, t, e)
+    certify_cached(formed, &none[..0], s, t, e)
 }

@@ -11,12 +11,12 @@ ghost use mathlib.Core.Bool.{not};
 ghost use Rattle.base.specs.Sets.{isIn};
 ghost use Rattle.sheet.specs.Ranges.{weightIn};
 ghost use Rattle.committee.specs.Committees.{quorum};
-ghost use Rattle.committee.specs.Totals.{Light};
+ghost use Rattle.committee.specs.Totals.{TotalBounded};
 ghost use Rattle.rules.specs.Tests.{badRound, above, missing};
 ghost use Rattle.state.specs.Formed.{Formed};
-ghost use Rattle.state.specs.Known.{Kept};
+ghost use Rattle.state.specs.Cached.{CachesFor};
 ghost use Rattle.state.specs.View.{view};
-ghost use Rattle.member.specs.Pieces.{formChecks, signerChecks};
+ghost use Rattle.member.specs.SharedChecks.{formChecks, signerChecks};
 
 // Is the round 0 or over the ceiling?
 pub fn is_bad_round(s: Settings, r: Round) -> bool
@@ -40,10 +40,10 @@ pub fn form_refusal(s: Settings, p: Proposal) -> u32
         return 5;
     }
     let b = p.body;
-    if terms::is_unfit(s.allowance, b) {
+    if terms::has_bad_transactions(s.allowance, b) {
         return 6;
     }
-    if terms::is_wrong_set(p.round, b.previous as u32) {
+    if terms::is_bad_previous_set(p.round, b.previous as u32) {
         return 7;
     }
     0
@@ -63,8 +63,8 @@ pub fn lacks_previous(s: State, t: &[u32], p: Proposal) -> bool
 }
 
 // Check 12 above round 1: is the previous set no quorum of w, the committee of the round before?
-pub fn is_thin(w: &[u64; 16], p: Proposal) -> bool
-    requires { ⌜ Light (now w) ⌝ }
+pub fn lacks_previous_quorum(w: &[u64; 16], p: Proposal) -> bool
+    requires { ⌜ TotalBounded (now w) ⌝ }
     ensures { λ v. ⌜ v ≡ above (p .round .0) (not (quorum (weightIn (now (w .entry))) (isIn (p .body .previous)))) ⌝ }
 {
     if p.round.0 == 1 {
@@ -74,14 +74,14 @@ pub fn is_thin(w: &[u64; 16], p: Proposal) -> bool
 }
 
 // Checks 8, 9, 13 of the signers of a certificate of round r.
-pub fn signer_refusal(kept: &[u64], s: State, t: &[u32], r: Round, signers: u32) -> u32
-    requires { ⌜ Formed s (now t) × Kept s (now t) (now kept) ⌝ }
+pub fn signer_refusal(cache: &[u64], s: State, t: &[u32], r: Round, signers: u32) -> u32
+    requires { ⌜ Formed s (now t) × CachesFor s (now t) (now cache) ⌝ }
     ensures { λ v. ⌜ v ≡ refusal (signerChecks (s .settings) (view s (now (t .entry))) (r .0) signers) ⌝ }
 {
-    if !walk::known(t, s.settings, s.blocks, r) {
+    if !bonded::known(t, s.settings, s.blocks, r) {
         return 8;
     }
-    let w = walk::kept::committee(kept, t, s.settings, s.blocks, r);
+    let w = bonded::cache::committee(cache, t, s.settings, s.blocks, r);
     if committee::has_outsider(&w, signers) {
         return 9;
     }

@@ -17,10 +17,10 @@ ghost use Rattle.terms.specs.Proposals.{contentOf};
 ghost use Rattle.rules.specs.Calls.{endorsing};
 ghost use Rattle.state.specs.Formed.{Formed};
 ghost use Rattle.state.specs.View.{view};
-ghost use Rattle.state.specs.Known.{Kept, Known};
-ghost use Rattle.member.specs.PassedLaws.{Fits};
-ghost use Rattle.member.specs.Pieces.{previousChecks};
-ghost use Rattle.member.specs.Calls.{endorseNumber, endorseOutcome, endorseTable};
+ghost use Rattle.state.specs.Cached.{CachesFor, Cached};
+ghost use Rattle.member.specs.SharedChecks.{Fits, previousChecks};
+ghost use Rattle.member.specs.Answers.{refusalIn};
+ghost use Rattle.member.specs.Calls.{endorseRefusal, endorseOutcome, endorseTable};
 
 // Check 10: is the place held or already endorsed?
 fn is_taken(t: &[u32], p: Proposal) -> bool
@@ -41,36 +41,36 @@ fn is_unknown(s: State, t: &[u32], r: Round) -> bool
     if r.0 == 1 {
         return false;
     }
-    !walk::known(t, s.settings, s.blocks, Round(r.0 - 1))
+    !bonded::known(t, s.settings, s.blocks, Round(r.0 - 1))
 }
 
 // Check 12 above round 1: is the previous set no quorum of the round before?
-fn lacks_quorum(kept: &[u64], s: State, t: &[u32], p: Proposal) -> bool
-    requires { ⌜ Formed s (now t) × (0 < p .round .0) × (p .round .0 ≤ s .settings .ceiling .0) × Kept s (now t) (now kept) ⌝ }
+fn lacks_quorum(cache: &[u64], s: State, t: &[u32], p: Proposal) -> bool
+    requires { ⌜ Formed s (now t) × (0 < p .round .0) × (p .round .0 ≤ s .settings .ceiling .0) × CachesFor s (now t) (now cache) ⌝ }
     ensures { λ v. ⌜ v ≡ above (p .round .0) (not (quorum (committeeIn (s .settings) (view s (now (t .entry))) (p .round .0 - 1)) (isIn (p .body .previous)))) ⌝ }
 {
     let before = Round(p.round.0 - 1);
-    let w = walk::kept::committee(kept, t, s.settings, s.blocks, before);
-    crate::checks::is_thin(&w, p)
+    let w = bonded::cache::committee(cache, t, s.settings, s.blocks, before);
+    crate::checks::lacks_previous_quorum(&w, p)
 }
 
 // Checks 11 and 12.
-fn previous_refusal(kept: &[u64], s: State, t: &[u32], p: Proposal) -> u32
-    requires { ⌜ Formed s (now t) × (0 < p .round .0) × (p .round .0 ≤ s .settings .ceiling .0) × Kept s (now t) (now kept) ⌝ }
+fn previous_refusal(cache: &[u64], s: State, t: &[u32], p: Proposal) -> u32
+    requires { ⌜ Formed s (now t) × (0 < p .round .0) × (p .round .0 ≤ s .settings .ceiling .0) × CachesFor s (now t) (now cache) ⌝ }
     ensures { λ v. ⌜ v ≡ refusal (previousChecks (s .settings) (view s (now (t .entry))) (contentOf p)) ⌝ }
 {
     if crate::checks::lacks_previous(s, t, p) {
         return 11;
     }
-    if lacks_quorum(kept, s, t, p) {
+    if lacks_quorum(cache, s, t, p) {
         return 12;
     }
     0
 }
 
 // Checks 14, 10, 8, 11, 12.
-fn place_refusal(kept: &[u64], s: State, t: &[u32], p: Proposal) -> u32
-    requires { ⌜ Formed s (now t) × Fits s p × Kept s (now t) (now kept) ⌝ }
+fn place_refusal(cache: &[u64], s: State, t: &[u32], p: Proposal) -> u32
+    requires { ⌜ Formed s (now t) × Fits s p × CachesFor s (now t) (now cache) ⌝ }
     ensures { λ v. ⌜ v ≡ refusal (drop 4 (endorsing (s .settings) (s .own .0) (view s (now (t .entry))) (contentOf p))) ⌝ }
 {
     if p.author.0 == s.own.0 {
@@ -82,13 +82,13 @@ fn place_refusal(kept: &[u64], s: State, t: &[u32], p: Proposal) -> u32
     if is_unknown(s, t, p.round) {
         return 8;
     }
-    previous_refusal(kept, s, t, p)
+    previous_refusal(cache, s, t, p)
 }
 
 // The number of the first check that refuses, 0 for none.
-fn endorse_number(formed: bool, kept: &[u64], s: State, t: &[u32], p: Proposal) -> u32
-    requires { ⌜ Known s (now t) formed (now kept) ⌝ }
-    ensures { λ v. ⌜ v ≡ endorseNumber s (now (t .entry)) p ⌝ }
+fn endorse_refusal(formed: bool, cache: &[u64], s: State, t: &[u32], p: Proposal) -> u32
+    requires { ⌜ Cached s (now t) formed (now cache) ⌝ }
+    ensures { λ v. ⌜ v ≡ endorseRefusal s (now (t .entry)) p ⌝ }
 {
     if !formed {
         return 1;
@@ -97,15 +97,15 @@ fn endorse_number(formed: bool, kept: &[u64], s: State, t: &[u32], p: Proposal) 
     if n != 0 {
         return n;
     }
-    place_refusal(kept, s, t, p)
+    place_refusal(cache, s, t, p)
 }
 
-// The call, where it is known whether the state is well formed, and committees may be kept.
-pub fn endorse_known(formed: bool, kept: &[u64], s: State, t: &mut [u32], p: Proposal) -> Outcome
-    requires { ⌜ Known s (now t) formed (now kept) ⌝ }
-    ensures { λ o. ⌜ (o ≡ endorseOutcome s (now (t .entry)) p) × (now (t .exit) ≡ endorseTable s (now (t .entry)) p) ⌝ }
+// The call, where it is known whether the state is well formed, and committees may be cached.
+pub fn endorse_cached(formed: bool, cache: &[u64], s: State, t: &mut [u32], p: Proposal) -> Outcome
+    requires { ⌜ Cached s (now t) formed (now cache) ⌝ }
+    ensures { λ o. ⌜ (o ≡ endorseOutcome s (now (t .entry)) p) × (now (t .exit) ≡ endorseTable s (now (t .entry)) p) × (refusalIn (o .answer) ≡ endorseRefusal s (now (t .entry)) p) ⌝ }
 {
-    let n = endorse_number(formed, kept, s, t, p);
+    let n = endorse_refusal(formed, cache, s, t, p);
     if n != 0 {
         return Outcome {
             state: s,
@@ -120,9 +120,9 @@ pub fn endorse_known(formed: bool, kept: &[u64], s: State, t: &mut [u32], p: Pro
 }
 
 pub fn endorse(s: State, t: &mut [u32], p: Proposal) -> Outcome
-    ensures { λ o. ⌜ (o ≡ endorseOutcome s (now (t .entry)) p) × (now (t .exit) ≡ endorseTable s (now (t .entry)) p) ⌝ }
+    ensures { λ o. ⌜ (o ≡ endorseOutcome s (now (t .entry)) p) × (now (t .exit) ≡ endorseTable s (now (t .entry)) p) × (refusalIn (o .answer) ≡ endorseRefusal s (now (t .entry)) p) ⌝ }
 {
     let formed = state::well_formed(s, t);
     let none = [0u64; 1];
-    endorse_known(formed, &none[..0], s, t, p)
+    endorse_cached(formed, &none[..0], s, t, p)
 }

@@ -1,4 +1,4 @@
-// The calls of a member: open, propose, endorse, certify, accept, advance.
+// The calls of a member: open, propose, endorse, certify, accept, advance (scope document: Calls, in the order of their checks).
 pub mod accept;
 pub mod advance;
 pub mod certify;

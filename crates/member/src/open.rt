@@ -4,10 +4,13 @@ use crate::Outcome;
 use sheet::Settings;
 use sheet::Sheet;
 use state::State;
+use store::lengths::ROW;
 use terms::Member;
 use terms::Round;
 ghost use mathlib.Core.Path.{_≡_};
-ghost use Rattle.member.specs.Open.{closedState, freshState, openNumber, openOutcome, openTable};
+ghost use Rattle.sheet.specs.Sheets.{filled};
+ghost use Rattle.member.specs.Answers.{refusalIn};
+ghost use Rattle.member.specs.Open.{closedState, freshState, openRefusal, openOutcome, openTable};
 
 // The state before an open: it is not well formed, so every call but open answers 1.
 pub fn closed() -> State
@@ -43,8 +46,8 @@ fn fresh(own: Member, settings: Settings) -> State
 }
 
 // The number of the first check that refuses, 0 for none: 4 member above 15; 2 setting out of range; 3 no positive weight; 1 lent table too short.
-pub fn open_number(t: &[u32], own: Member, settings: Settings) -> u32
-    ensures { λ v. ⌜ v ≡ openNumber (now (t .entry)) own settings ⌝ }
+pub fn open_refusal(t: &[u32], own: Member, settings: Settings) -> u32
+    ensures { λ v. ⌜ v ≡ openRefusal (now (t .entry)) own settings ⌝ }
 {
     if 15 < own.0 {
         return 4;
@@ -55,7 +58,7 @@ pub fn open_number(t: &[u32], own: Member, settings: Settings) -> u32
     if sheet::is_weightless(settings) {
         return 3;
     }
-    if t.len() < settings.ceiling.0 as usize * 272 + 272 {
+    if t.len() < settings.ceiling.0 as usize * ROW + ROW {
         return 1;
     }
     0
@@ -63,10 +66,10 @@ pub fn open_number(t: &[u32], own: Member, settings: Settings) -> u32
 
 // Opens the engine of a member; a refused open leaves the state s and the table as they were.
 pub fn open(s: State, t: &mut [u32], own: Member, written: Sheet) -> Outcome
-    ensures { λ o. ⌜ (o ≡ openOutcome s (now (t .entry)) own written) × (now (t .exit) ≡ openTable (now (t .entry)) own written) ⌝ }
+    ensures { λ o. ⌜ (o ≡ openOutcome s (now (t .entry)) own written) × (now (t .exit) ≡ openTable (now (t .entry)) own written) × (refusalIn (o .answer) ≡ openRefusal (now (t .entry)) own (filled written)) ⌝ }
 {
     let settings = sheet::fill(written);
-    let n = open_number(t, own, settings);
+    let n = open_refusal(t, own, settings);
     if n != 0 {
         return Outcome {
             state: s,

@@ -13,8 +13,9 @@ ghost use Rattle.terms.specs.Proposals.{contentWith};
 ghost use Rattle.rules.specs.Calls.{proposing};
 ghost use Rattle.state.specs.Formed.{Formed};
 ghost use Rattle.state.specs.View.{view};
-ghost use Rattle.state.specs.Known.{Kept, Known};
-ghost use Rattle.member.specs.Calls.{proposeNumber, proposeOutcome};
+ghost use Rattle.state.specs.Cached.{CachesFor, Cached};
+ghost use Rattle.member.specs.Answers.{refusalIn};
+ghost use Rattle.member.specs.Calls.{proposeRefusal, proposeOutcome};
 
 // Check 10: is there a proposal, or is one's own place held?
 fn is_taken(s: State, t: &[u32]) -> bool
@@ -28,15 +29,15 @@ fn is_taken(s: State, t: &[u32]) -> bool
 }
 
 // Checks 8, 9, 11, 12.
-fn committee_refusal(kept: &[u64], s: State, t: &[u32], b: Body) -> u32
-    requires { ⌜ Formed s (now t) × Kept s (now t) (now kept) ⌝ }
+fn committee_refusal(cache: &[u64], s: State, t: &[u32], b: Body) -> u32
+    requires { ⌜ Formed s (now t) × CachesFor s (now t) (now cache) ⌝ }
     ensures { λ v. ⌜ v ≡ refusal (drop 3 (proposing (s .settings) (s .own .0) (view s (now (t .entry))) (contentWith (s .own .0) (s .round .0) b))) ⌝ }
 {
     let r = s.round;
-    if !walk::known(t, s.settings, s.blocks, r) {
+    if !bonded::known(t, s.settings, s.blocks, r) {
         return 8;
     }
-    let c = walk::kept::committees(kept, t, s.settings, s.blocks, r);
+    let c = bonded::cache::committees(cache, t, s.settings, s.blocks, r);
     let at = c.at;
     if !committee::is_member(&at, s.own) {
         return 9;
@@ -51,38 +52,38 @@ fn committee_refusal(kept: &[u64], s: State, t: &[u32], b: Body) -> u32
         return 11;
     }
     let before = c.before;
-    if crate::checks::is_thin(&before, p) {
+    if crate::checks::lacks_previous_quorum(&before, p) {
         return 12;
     }
     0
 }
 
 // The number of the first check that refuses, 0 for none.
-fn propose_number(formed: bool, kept: &[u64], s: State, t: &[u32], b: Body) -> u32
-    requires { ⌜ Known s (now t) formed (now kept) ⌝ }
-    ensures { λ v. ⌜ v ≡ proposeNumber s (now (t .entry)) b ⌝ }
+fn propose_refusal(formed: bool, cache: &[u64], s: State, t: &[u32], b: Body) -> u32
+    requires { ⌜ Cached s (now t) formed (now cache) ⌝ }
+    ensures { λ v. ⌜ v ≡ proposeRefusal s (now (t .entry)) b ⌝ }
 {
     if !formed {
         return 1;
     }
-    if terms::is_unfit(s.settings.allowance, b) {
+    if terms::has_bad_transactions(s.settings.allowance, b) {
         return 6;
     }
-    if terms::is_wrong_set(s.round, b.previous as u32) {
+    if terms::is_bad_previous_set(s.round, b.previous as u32) {
         return 7;
     }
     if is_taken(s, t) {
         return 10;
     }
-    committee_refusal(kept, s, t, b)
+    committee_refusal(cache, s, t, b)
 }
 
-// The call, where it is known whether the state is well formed, and committees may be kept.
-pub fn propose_known(formed: bool, kept: &[u64], s: State, t: &[u32], b: Body) -> Outcome
-    requires { ⌜ Known s (now t) formed (now kept) ⌝ }
-    ensures { λ o. ⌜ o ≡ proposeOutcome s (now (t .entry)) b ⌝ }
+// The call, where it is known whether the state is well formed, and committees may be cached.
+pub fn propose_cached(formed: bool, cache: &[u64], s: State, t: &[u32], b: Body) -> Outcome
+    requires { ⌜ Cached s (now t) formed (now cache) ⌝ }
+    ensures { λ o. ⌜ (o ≡ proposeOutcome s (now (t .entry)) b) × (refusalIn (o .answer) ≡ proposeRefusal s (now (t .entry)) b) ⌝ }
 {
-    let n = propose_number(formed, kept, s, t, b);
+    let n = propose_refusal(formed, cache, s, t, b);
     if n != 0 {
         return Outcome {
             state: s,
@@ -99,9 +100,9 @@ pub fn propose_known(formed: bool, kept: &[u64], s: State, t: &[u32], b: Body) -
 }
 
 pub fn propose(s: State, t: &[u32], b: Body) -> Outcome
-    ensures { λ o. ⌜ o ≡ proposeOutcome s (now (t .entry)) b ⌝ }
+    ensures { λ o. ⌜ (o ≡ proposeOutcome s (now (t .entry)) b) × (refusalIn (o .answer) ≡ proposeRefusal s (now (t .entry)) b) ⌝ }
 {
     let formed = state::well_formed(s, t);
     let none = [0u64; 1];
-    propose_known(formed, &none[..0], s, t, b)
+    propose_cached(formed, &none[..0], s, t, b)
 }

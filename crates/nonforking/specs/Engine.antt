@@ -13,11 +13,10 @@ use Rattle.rules.specs.Tests as tests
 use Rattle.rules.specs.Reads.{readingCommittee, readingShare, readingCertificate, readingBlock}
 use Rattle.state.specs.declared.State.{State}
 use Rattle.state.specs.View.{view}
-use Rattle.state.specs.Number.{guarded}
-use Rattle.member.specs.Open.{openNumber, openOutcome, openTable}
-use Rattle.member.specs.Calls.{proposeNumber, proposeOutcome, endorseNumber, endorseOutcome, endorseTable, certifyNumber, certifyOutcome, certifyTable}
-use Rattle.member.specs.Calls.{acceptNumber, acceptOutcome, acceptTable, advanceNumber, advanceOutcome}
-use Rattle.commit.specs.Commit.{commitNumber, commitOutcome, commitTableAfter}
+use Rattle.state.specs.Refusals.{guarded}
+use Rattle.member.specs.Open.{openRefusal, openOutcome, openTable}
+use Rattle.member.specs.Calls.{proposeRefusal, proposeOutcome, endorseRefusal, endorseOutcome, endorseTable, certifyRefusal, certifyOutcome, certifyTable, acceptRefusal, acceptOutcome, acceptTable, advanceRefusal, advanceOutcome}
+use Rattle.commit.specs.Commit.{commitRefusal, commitOutcome, commitTableAfter}
 
 -- what a member's host keeps between calls
 pub record Engine : Type 0 where
@@ -43,18 +42,18 @@ pub data Call : Type 0 where
   block : ℕ → Call
 
 -- every read first refuses a state that is not well formed with 1
-abbrev readNumber : (e : Engine) → (tests.Member (e .state .settings) → Checks) → ℕ
+abbrev readNumber : (e : Engine) → (tests.MemberView (e .state .settings) → Checks) → ℕ
 readNumber e f = refusal (guarded (e .state) (e .table) (f (view (e .state) (e .table))))
 
 -- the number of the first check that refuses the call, 0 for none: then it is accepted
 abbrev pub number : Engine → Call → ℕ
-number e (opens own sheet) = openNumber (e .table) own (filled sheet)
-number e (propose b) = proposeNumber (e .state) (e .table) b
-number e (endorse p) = endorseNumber (e .state) (e .table) p
-number e (certify d) = certifyNumber (e .state) (e .table) d
-number e (accept c) = acceptNumber (e .state) (e .table) c
-number e advance = advanceNumber (e .state) (e .table)
-number e commit = commitNumber (e .state) (e .table)
+number e (opens own sheet) = openRefusal (e .table) own (filled sheet)
+number e (propose b) = proposeRefusal (e .state) (e .table) b
+number e (endorse p) = endorseRefusal (e .state) (e .table) p
+number e (certify d) = certifyRefusal (e .state) (e .table) d
+number e (accept c) = acceptRefusal (e .state) (e .table) c
+number e advance = advanceRefusal (e .state) (e .table)
+number e commit = commitRefusal (e .state) (e .table)
 number e (committee r) = readNumber e (λ s. readingCommittee (e .state .settings) s (r .0))
 number e (share m r) = readNumber e (λ s. readingShare (e .state .settings) s (m .0) (r .0))
 number e (certificate m r) = readNumber e (λ s. readingCertificate (e .state .settings) s (m .0) (r .0))

@@ -1,4 +1,4 @@
--- Demand 3, document 01's section "Runs": what is claimed of every list of calls.
+-- Demand 3, the scope document's section "Runs": what is claimed of every list of calls.
 use mathlib.Core.Path.{_≡_}
 use mathlib.Core.Bool.{Bool, true, cond}
 use mathlib.Core.List.{List, [], _∷_, _++_}

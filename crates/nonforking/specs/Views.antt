@@ -8,14 +8,14 @@ use Rattle.terms.specs.Proposals.{contentOf, transactionsOf}
 use Rattle.sheet.specs.declared.Sheet.{Sheet}
 use Rattle.sheet.specs.declared.Settings.{Settings}
 use Rattle.committee.specs.Chain.{chainOf}
-use Rattle.rules.specs.Tests.{Member}
+use Rattle.rules.specs.Tests.{MemberView}
 use Rattle.rules.specs.Calls as rules
 use Rattle.state.specs.WellFormed.{wellFormed}
 use Rattle.state.specs.View.{dagOf, endorsedOf, proposalOf}
 use Rattle.nonforking.specs.Engine.{Engine, Call, opens, propose, endorse, certify, accept, advance, commit, committee, share, certificate, block, number}
 
 -- the state's view, for settings that equal its own
-abbrev pub viewAt : (S : Settings) → Engine → Member S
+abbrev pub viewAt : (S : Settings) → Engine → MemberView S
 viewAt S e =
     record {
       round = e .state .round .0;

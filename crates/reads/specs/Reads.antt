@@ -13,8 +13,8 @@ use Rattle.store.specs.Writes.{proposalOf}
 use Rattle.rules.specs.Reads as rules
 use Rattle.state.specs.declared.State.{State}
 use Rattle.state.specs.View.{view}
-use Rattle.state.specs.Number.{guarded}
-use Rattle.member.specs.Answers.{left, answerOf}
+use Rattle.state.specs.Refusals.{guarded}
+use Rattle.member.specs.Answers.{ifAccepted, answerOf}
 use Rattle.member.specs.Open.{noBody}
 use Rattle.reads.specs.declared.CommitteeRead.{CommitteeRead}
 use Rattle.reads.specs.declared.ShareRead.{ShareRead}
@@ -34,35 +34,43 @@ shown (some p) = proposalOf p
 
 module _ (s : State) (t : List ℕ) where
   -- committee (5, 8): sixteen weights, 0 for a non-member
-  unfoldable pub committeeNumber : ℕ → ℕ
-  committeeNumber r = refusal (guarded s t (rules.readingCommittee (s .settings) (view s t) r))
+  unfoldable pub committeeRefusal : ℕ → ℕ
+  committeeRefusal r = refusal (guarded s t (rules.readingCommittee (s .settings) (view s t) r))
 
   unfoldable pub committeeAnswer : ℕ → CommitteeRead
-  committeeAnswer r = record { answer = answerOf (committeeNumber r); weights = left (committeeNumber r) (rules.committeeRead (s .settings) (view s t) r) (replicate 16 0) }
+  committeeAnswer r = record { answer = answerOf (committeeRefusal r); weights = ifAccepted (committeeRefusal r) (rules.committeeRead (s .settings) (view s t) r) (replicate 16 0) }
 
   -- share (4, 5, 8, 9): the thousandths
-  unfoldable pub shareNumber : ℕ → ℕ → ℕ
-  shareNumber m r = refusal (guarded s t (rules.readingShare (s .settings) (view s t) m r))
+  unfoldable pub shareRefusal : ℕ → ℕ → ℕ
+  shareRefusal m r = refusal (guarded s t (rules.readingShare (s .settings) (view s t) m r))
 
   unfoldable pub shareAnswer : ℕ → ℕ → ShareRead
-  shareAnswer m r = cond (eqb (shareNumber m r) 0) (share.Thousandths (rules.shareRead (s .settings) (view s t) m r)) (share.Refused (shareNumber m r))
+  shareAnswer m r = cond (eqb (shareRefusal m r) 0) (share.Thousandths (rules.shareRead (s .settings) (view s t) m r)) (share.Refused (shareRefusal m r))
+
+  -- none, 0, where it is refused
+  unfoldable pub shareValue : ℕ → ℕ → ℕ
+  shareValue m r = ifAccepted (shareRefusal m r) (rules.shareRead (s .settings) (view s t) m r) 0
 
   -- certificate (4, 5, 23 none there): the proposal, the endorsers that it was stored with, and the number of its block, 0 for none
-  unfoldable pub certificateNumber : ℕ → ℕ → ℕ
-  certificateNumber m r = refusal (guarded s t (rules.readingCertificate (s .settings) (view s t) m r))
+  unfoldable pub certificateRefusal : ℕ → ℕ → ℕ
+  certificateRefusal m r = refusal (guarded s t (rules.readingCertificate (s .settings) (view s t) m r))
 
   unfoldable pub certificateAnswer : ℕ → ℕ → CertificateRead
   certificateAnswer m r =
       record {
-        answer = answerOf (certificateNumber m r);
-        proposal = left (certificateNumber m r) (shown (view s t .dag m r)) noProposal;
-        endorsers = left (certificateNumber m r) (endorsersAt t m r) 0;
-        block = left (certificateNumber m r) (rules.blockNumber (view s t .chain) m r) 0;
+        answer = answerOf (certificateRefusal m r);
+        proposal = ifAccepted (certificateRefusal m r) (shown (view s t .dag m r)) noProposal;
+        endorsers = ifAccepted (certificateRefusal m r) (endorsersAt t m r) 0;
+        block = ifAccepted (certificateRefusal m r) (rules.blockNumber (view s t .chain) m r) 0;
       }
 
   -- block by number from 1 (23): its round
-  unfoldable pub blockNumber : ℕ → ℕ
-  blockNumber k = refusal (guarded s t (rules.readingBlock (s .settings) (view s t) k))
+  unfoldable pub blockRefusal : ℕ → ℕ
+  blockRefusal k = refusal (guarded s t (rules.readingBlock (s .settings) (view s t) k))
 
   unfoldable pub blockAnswer : ℕ → BlockRead
-  blockAnswer k = cond (eqb (blockNumber k) 0) (block.At (record { 0 = rules.blockRead (s .settings) (view s t) k })) (block.Refused (blockNumber k))
+  blockAnswer k = cond (eqb (blockRefusal k) 0) (block.At (record { 0 = rules.blockRead (s .settings) (view s t) k })) (block.Refused (blockRefusal k))
+
+  -- none, 0, where it is refused
+  unfoldable pub blockValue : ℕ → ℕ
+  blockValue k = ifAccepted (blockRefusal k) (rules.blockRead (s .settings) (view s t) k) 0

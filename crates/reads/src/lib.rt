@@ -1,4 +1,4 @@
-// The reads: committee, share, certificate, block. They change nothing.
+// The reads: committee, share, certificate, block. They change nothing (scope document: Reads).
 use member::Answer;
 use state::State;
 use terms::Member;
@@ -7,7 +7,9 @@ use terms::Round;
 ghost use mathlib.Core.Path.{_≡_};
 ghost use Prim.Native.Nat.{_<_};
 ghost use Rattle.state.specs.Formed.{Formed};
-ghost use Rattle.reads.specs.Reads.{committeeNumber, committeeAnswer, shareAnswer, certificateNumber, certificateAnswer, blockAnswer};
+ghost use Rattle.member.specs.Answers.{refusalIn};
+ghost use Rattle.reads.specs.Answers.{sharedAnswer, sharedValue, blockedAnswer, blockedValue};
+ghost use Rattle.reads.specs.Reads.{committeeRefusal, committeeAnswer, shareRefusal, shareAnswer, shareValue, certificateRefusal, certificateAnswer, blockRefusal, blockAnswer, blockValue};
 
 // The committee of a round: sixteen weights, 0 for a non-member; all 0 where the read is refused.
 pub struct CommitteeRead {
@@ -36,8 +38,8 @@ pub enum BlockRead {
 }
 
 // The number of the first check that refuses a read of a committee, 0 for none.
-fn committee_number(s: State, t: &[u32], r: Round) -> u32
-    ensures { λ v. ⌜ v ≡ committeeNumber s (now (t .entry)) (r .0) ⌝ }
+fn committee_refusal(s: State, t: &[u32], r: Round) -> u32
+    ensures { λ v. ⌜ v ≡ committeeRefusal s (now (t .entry)) (r .0) ⌝ }
 {
     if !state::well_formed(s, t) {
         return 1;
@@ -45,16 +47,16 @@ fn committee_number(s: State, t: &[u32], r: Round) -> u32
     if member::is_bad_round(s.settings, r) {
         return 5;
     }
-    if !walk::known(t, s.settings, s.blocks, r) {
+    if !bonded::known(t, s.settings, s.blocks, r) {
         return 8;
     }
     0
 }
 
 pub fn committee(s: State, t: &[u32], r: Round) -> CommitteeRead
-    ensures { λ v. ⌜ v ≡ committeeAnswer s (now (t .entry)) (r .0) ⌝ }
+    ensures { λ v. ⌜ (v ≡ committeeAnswer s (now (t .entry)) (r .0)) × (refusalIn (v .answer) ≡ committeeRefusal s (now (t .entry)) (r .0)) ⌝ }
 {
-    let n = committee_number(s, t, r);
+    let n = committee_refusal(s, t, r);
     if n != 0 {
         return CommitteeRead {
             answer: Answer::Refused(n),
@@ -63,7 +65,7 @@ pub fn committee(s: State, t: &[u32], r: Round) -> CommitteeRead
     }
     CommitteeRead {
         answer: Answer::Accepted,
-        weights: walk::committee_of(t, s.settings, s.blocks, r),
+        weights: bonded::committee_of(t, s.settings, s.blocks, r),
     }
 }
 
@@ -75,10 +77,10 @@ fn share_of(s: State, t: &[u32], m: Member, r: Round) -> ShareRead
     if member::is_bad_round(s.settings, r) {
         return ShareRead::Refused(5);
     }
-    if !walk::known(t, s.settings, s.blocks, r) {
+    if !bonded::known(t, s.settings, s.blocks, r) {
         return ShareRead::Refused(8);
     }
-    let w = walk::committee_of(t, s.settings, s.blocks, r);
+    let w = bonded::committee_of(t, s.settings, s.blocks, r);
     if !committee::is_member(&w, m) {
         return ShareRead::Refused(9);
     }
@@ -86,7 +88,7 @@ fn share_of(s: State, t: &[u32], m: Member, r: Round) -> ShareRead
 }
 
 pub fn share(s: State, t: &[u32], m: Member, r: Round) -> ShareRead
-    ensures { λ v. ⌜ v ≡ shareAnswer s (now (t .entry)) (m .0) (r .0) ⌝ }
+    ensures { λ v. ⌜ (v ≡ shareAnswer s (now (t .entry)) (m .0) (r .0)) × (refusalIn (sharedAnswer v) ≡ shareRefusal s (now (t .entry)) (m .0) (r .0)) × (sharedValue v ≡ shareValue s (now (t .entry)) (m .0) (r .0)) ⌝ }
 {
     if !state::well_formed(s, t) {
         return ShareRead::Refused(1);
@@ -98,8 +100,8 @@ pub fn share(s: State, t: &[u32], m: Member, r: Round) -> ShareRead
 }
 
 // The number of the first check that refuses a read of a certificate, 0 for none.
-fn certificate_number(s: State, t: &[u32], m: Member, r: Round) -> u32
-    ensures { λ v. ⌜ v ≡ certificateNumber s (now (t .entry)) (m .0) (r .0) ⌝ }
+fn certificate_refusal(s: State, t: &[u32], m: Member, r: Round) -> u32
+    ensures { λ v. ⌜ v ≡ certificateRefusal s (now (t .entry)) (m .0) (r .0) ⌝ }
 {
     if !state::well_formed(s, t) {
         return 1;
@@ -117,9 +119,9 @@ fn certificate_number(s: State, t: &[u32], m: Member, r: Round) -> u32
 }
 
 pub fn certificate(s: State, t: &[u32], m: Member, r: Round) -> CertificateRead
-    ensures { λ v. ⌜ v ≡ certificateAnswer s (now (t .entry)) (m .0) (r .0) ⌝ }
+    ensures { λ v. ⌜ (v ≡ certificateAnswer s (now (t .entry)) (m .0) (r .0)) × (refusalIn (v .answer) ≡ certificateRefusal s (now (t .entry)) (m .0) (r .0)) ⌝ }
 {
-    let n = certificate_number(s, t, m, r);
+    let n = certificate_refusal(s, t, m, r);
     if n != 0 {
         return CertificateRead {
             answer: Answer::Refused(n),
@@ -141,7 +143,7 @@ pub fn certificate(s: State, t: &[u32], m: Member, r: Round) -> CertificateRead
 }
 
 pub fn block(s: State, t: &[u32], k: u32) -> BlockRead
-    ensures { λ v. ⌜ v ≡ blockAnswer s (now (t .entry)) k ⌝ }
+    ensures { λ v. ⌜ (v ≡ blockAnswer s (now (t .entry)) k) × (refusalIn (blockedAnswer v) ≡ blockRefusal s (now (t .entry)) k) × (blockedValue v ≡ blockValue s (now (t .entry)) k) ⌝ }
 {
     if !state::well_formed(s, t) {
         return BlockRead::Refused(1);
@@ -153,5 +155,5 @@ pub fn block(s: State, t: &[u32], k: u32) -> BlockRead
         return BlockRead::Refused(23);
     }
     let r = store::block_round(t, k);
-    BlockRead::At(Round(r))
+    BlockRead::At(r)
 }

@@ -2,11 +2,5 @@ pub mod Kinds
 pub mod Settings
 pub mod Triples
 pub mod Bodies
-pub mod BodyLaws
-pub mod TripleLaws
 pub mod Requests
 pub mod Readings
-pub mod SettingLaws
-pub mod RequestLaws
-pub mod DamageLaws
-pub mod DamagedRequests

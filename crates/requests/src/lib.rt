@@ -1,4 +1,4 @@
-// Records: from the bytes of one record, without its CRLF, to what it asks for.
+// From the bytes of one record, without its CRLF, to what it asks for (scope document: The runner).
 pub mod call;
 pub mod setting;
 pub mod triple;

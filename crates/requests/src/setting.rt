@@ -7,7 +7,7 @@ ghost use Prim.Native.Nat.{_+_, _≤_};
 ghost use lib.ListN.{length};
 ghost use Rattle.fields.specs.Fields.{fieldsFrom};
 ghost use Rattle.requests.specs.Settings.{setting};
-ghost use Rattle.fields.specs.Steps.{firstBy, Stepped};
+ghost use Rattle.fields.specs.Cursor.{firstBy, Stepped};
 ghost use Rattle.requests.specs.Requests.{cellsIn};
 ghost use Rattle.requests.specs.Readings.{settingFound, noWeights, weightsOf};
 

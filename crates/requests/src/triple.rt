@@ -6,7 +6,7 @@ use terms::Transaction;
 ghost use mathlib.Core.Path.{_≡_};
 ghost use Prim.Native.Nat.{_<_};
 ghost use Rattle.fields.specs.Fields.{fieldsFrom};
-ghost use Rattle.fields.specs.Steps.{found};
+ghost use Rattle.fields.specs.Cursor.{found};
 ghost use Rattle.requests.specs.Triples.{kindNamed, transaction, atKind, atNumber, atAmount};
 ghost use Rattle.requests.specs.Bodies.{push, onto, addedTo, Going, refusedTriples};
 
@@ -68,7 +68,7 @@ fn added(body: Body, kind: u32, number: u32, amount: u32) -> Triples
             return refused();
         }
     }
-    let x = terms::told(kind, number, amount);
+    let x = terms::read_transaction(kind, number, amount);
     Triples {
         ok: true,
         body: pushed(body, x),

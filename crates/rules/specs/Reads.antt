@@ -15,7 +15,7 @@ use Rattle.sheet.specs.declared.Settings.{Settings}
 use Rattle.committee.specs.Committees.{committeeOf}
 use Rattle.committee.specs.Shares.{shareOf}
 use Rattle.committee.specs.Leaders.{members}
-use Rattle.rules.specs.Tests.{Member, badRound, committeeIn, unknown}
+use Rattle.rules.specs.Tests.{MemberView, badRound, committeeIn, unknown}
 
 -- the number of the block that holds the certificate of a place, 0 for none
 unfoldable pub blockNumber : Chain Content → ℕ → ℕ → ℕ
@@ -29,29 +29,29 @@ roundOf (some b) = b .round
 
 module _ (S : Settings) where
   -- committee: 5, 8
-  abbrev pub readingCommittee : Member S → ℕ → Checks
+  abbrev pub readingCommittee : MemberView S → ℕ → Checks
   readingCommittee s r = (badRound S r, 5) ∷ (unknown S s r, 8) ∷ []
 
   -- sixteen weights, 0 for a non-member
-  abbrev pub committeeRead : Member S → ℕ → List ℕ
+  abbrev pub committeeRead : MemberView S → ℕ → List ℕ
   committeeRead s r = committeeOf S (s .chain) r
 
   -- share: 4, 5, 8, 9
-  abbrev pub readingShare : Member S → ℕ → ℕ → Checks
+  abbrev pub readingShare : MemberView S → ℕ → ℕ → Checks
   readingShare s m r = (ltb 15 m, 4) ∷ (badRound S r, 5) ∷ (unknown S s r, 8) ∷ (not (members (committeeIn S s r) m), 9) ∷ []
 
   -- the thousandths
-  abbrev pub shareRead : Member S → ℕ → ℕ → ℕ
+  abbrev pub shareRead : MemberView S → ℕ → ℕ → ℕ
   shareRead s m r = shareOf (committeeIn S s r m) (total 16 (committeeIn S s r))
 
   -- certificate: 4, 5, 23 none there
-  abbrev pub readingCertificate : Member S → ℕ → ℕ → Checks
+  abbrev pub readingCertificate : MemberView S → ℕ → ℕ → Checks
   readingCertificate s m r = (ltb 15 m, 4) ∷ (badRound S r, 5) ∷ (not (isHeld (s .dag m r)), 23) ∷ []
 
   -- block by number from 1: 23
-  abbrev pub readingBlock : Member S → ℕ → Checks
+  abbrev pub readingBlock : MemberView S → ℕ → Checks
   readingBlock s k = (eqb k 0 || ltb (length (s .chain)) k, 23) ∷ []
 
   -- its round
-  abbrev pub blockRead : Member S → ℕ → ℕ
+  abbrev pub blockRead : MemberView S → ℕ → ℕ
   blockRead s k = roundOf (blockAt (s .chain) k)

@@ -6,12 +6,12 @@ use Prim.Native.Nat.{ℕ}
 use Rattle.terms.specs.declared.Transaction.{Transaction}
 use Rattle.terms.specs.Proposals.{Content}
 use Rattle.sheet.specs.declared.Settings.{Settings}
-use Rattle.rules.specs.Tests.{Member}
+use Rattle.rules.specs.Tests.{MemberView}
 use Rattle.rules.specs.Calls.{Call, propose, endorse, certify, accept, advance, commit, read, drafted}
 
 module _ (S : Settings) where
   -- what member k signs by an accepted call
-  abbrev pub signs : ℕ → Member S → Call → List Content
+  abbrev pub signs : ℕ → MemberView S → Call → List Content
   signs k s (propose previous l) = drafted S k s previous l ∷ []
   signs k s (endorse p) = p ∷ []
   signs k s (certify e) = []
@@ -21,10 +21,10 @@ module _ (S : Settings) where
   signs k s read = []
 
   -- the call of member k is a propose of p
-  pub data Proposes (k : ℕ) (s : Member S) : Call → Content → Type 0 where
+  pub data Proposes (k : ℕ) (s : MemberView S) : Call → Content → Type 0 where
     proposes : (previous : ℕ) (l : List Transaction) → Proposes k s (propose previous l) (drafted S k s previous l)
 
   -- the certificate that a certify makes or an accept hands in: its proposal and its endorsers
-  pub data Takes (s : Member S) : Call → Content → ℕ → Type 0 where
+  pub data Takes (s : MemberView S) : Call → Content → ℕ → Type 0 where
     certifies : (p : Content) (e : ℕ) → s .proposal ≡ some p → Takes s (certify e) p e
     accepts : (p : Content) (e : ℕ) → Takes s (accept p e) p e

@@ -16,8 +16,8 @@ use Rattle.committee.specs.Committees.{committeeOf, knownBy, boundOf}
 use Rattle.committee.specs.Instance.{rules}
 
 -- a member's view: round, proposal, certificates by author and round, endorsed places, chain
-abbrev pub Member : Settings → Type 0
-Member S = View (rules S)
+abbrev pub MemberView : Settings → Type 0
+MemberView S = View (rules S)
 
 -- a round that is 0 or over the ceiling
 unfoldable pub badRound : Settings → ℕ → Bool
@@ -38,17 +38,17 @@ above r b = not (eqb r 1) && b
 
 module _ (S : Settings) where
   -- the committee of a round, by member
-  abbrev pub committeeIn : Member S → ℕ → ℕ → ℕ
+  abbrev pub committeeIn : MemberView S → ℕ → ℕ → ℕ
   committeeIn s r = weightIn (committeeOf S (s .chain) r)
 
   -- the committee of the round is not known
-  unfoldable pub unknown : Member S → ℕ → Bool
+  unfoldable pub unknown : MemberView S → ℕ → Bool
   unknown s r = not (knownBy S (s .chain) r)
 
   -- a named previous certificate is not held
-  unfoldable pub missing : Member S → Content → Bool
+  unfoldable pub missing : MemberView S → Content → Bool
   missing s p = anyTo (λ i. isIn (p .previous) i && not (isHeld (s .dag i (p .round - 1)))) 16
 
   -- the votes for the anchor x weigh, in the committee of the round above it, not more than the fault bound
-  unfoldable pub unvoted : Member S → Content → Bool
+  unfoldable pub unvoted : MemberView S → Content → Bool
   unvoted s x = not (ltb (boundOf (total 16 (committeeIn s (suc (x .round))))) (weigh 16 (committeeIn s (suc (x .round))) (votes s x)))

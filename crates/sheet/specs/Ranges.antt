@@ -1,7 +1,7 @@
 -- The ranges of the settings: checks 2 and 3 of open, which well-formed states pass as well.
 use mathlib.Core.Bool.{Bool, not, _||_}
 use mathlib.Core.List.{List, [], _∷_}
-use Prim.Native.Nat.{ℕ}
+use Prim.Native.Nat.{ℕ, _≤_, _<_}
 use lib.ListN.{getD}
 use lib.Dec.{ltb}
 use Rattle.base.specs.Checks.{Checks}
@@ -27,3 +27,12 @@ weightless S = not (anyTo (λ i. ltb 0 (weightIn (S .weights) i)) 16)
 -- the two, in the order in which open makes them
 abbrev pub settingChecks : Settings → Checks
 settingChecks S = (outOfRange S, 2) ∷ (weightless S, 3) ∷ []
+
+-- the ranges that settings have which check 2 lets pass
+pub record SettingsFit (S : Settings) : Type 0 where
+  pub lookback-from : 1 ≤ S .lookback
+  pub lookback-to : S .lookback ≤ 1000
+  pub ceiling-from : 3 ≤ S .ceiling .0
+  pub ceiling-to : S .ceiling .0 ≤ 1024
+  pub allowance-to : S .allowance ≤ 4
+  pub weight-to : (i : ℕ) → i < 16 → weightIn (S .weights) i ≤ 1000000

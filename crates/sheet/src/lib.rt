@@ -1,4 +1,4 @@
-// The sheet of settings: what an integrator fills in, its defaults and its ranges.
+// The sheet of settings: what an integrator fills in, its defaults and its ranges (scope document: Terms and sheet).
 use terms::Member;
 use terms::Round;
 ghost use mathlib.Core.Path.{_≡_};

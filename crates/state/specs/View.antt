@@ -6,7 +6,7 @@ use Prim.Native.Nat.{ℕ}
 use Rattle.terms.specs.Proposals.{Content, contentWith}
 use Rattle.store.specs.Table.{endorsedAt, certificateAt}
 use Rattle.committee.specs.Chain.{isRound, chainOf}
-use Rattle.rules.specs.Tests.{Member}
+use Rattle.rules.specs.Tests.{MemberView}
 use Rattle.state.specs.declared.State.{State}
 
 -- the certificates of a table with n rounds, by author and round; what lies beyond is no part of the state
@@ -21,7 +21,7 @@ endorsedOf n t a r = isRound n r && endorsedAt t a r
 unfoldable pub proposalOf : State → Option Content
 proposalOf s = cond (s .proposing) (some (contentWith (s .own .0) (s .round .0) (s .body))) none
 
-abbrev pub view : (s : State) → List ℕ → Member (s .settings)
+abbrev pub view : (s : State) → List ℕ → MemberView (s .settings)
 view s t =
     record {
       round = s .round .0;

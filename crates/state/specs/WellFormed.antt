@@ -1,15 +1,15 @@
--- When a state is well formed: document 01's paragraph, condition by condition.
+-- When a state is well formed: the scope document's paragraph, condition by condition.
 use mathlib.Core.Bool.{Bool, true, not, cond, _&&_}
 use mathlib.Core.List.{List}
 use Prim.Native.Nat.{ℕ}
 use lib.ListN.{length}
 use lib.Dec.{leb, ltb}
 use Rattle.terms.specs.declared.Body.{Body}
-use Rattle.terms.specs.Proposals.{transactionsOf, unfit, wrongSet}
+use Rattle.terms.specs.Proposals.{transactionsOf, badTransactions, badPreviousSet}
 use Rattle.store.specs.Table.{used}
 use Rattle.store.specs.Scan.{rowsFit}
 use Rattle.sheet.specs.Ranges.{outOfRange, weightless}
-use Rattle.walk.specs.Walk.{blocksFit}
+use Rattle.bonded.specs.BlockChanges.{blocksFit}
 use Rattle.state.specs.declared.State.{State}
 
 -- own number, present round and number of blocks are in range
@@ -22,7 +22,7 @@ headFits s = not (outOfRange (s .settings)) && (numbersFit (s .own .0) (s .round
 
 -- transactions are in range and within the allowance, a previous set is empty exactly in round 1
 unfoldable pub bodyFits : ℕ → ℕ → Body → Bool
-bodyFits allowance r b = not (unfit allowance (transactionsOf b)) && not (wrongSet r (b .previous))
+bodyFits allowance r b = not (badTransactions allowance (transactionsOf b)) && not (badPreviousSet r (b .previous))
 
 -- so for the proposal, if there is one; held certificates are the store's part (rowsFit), and so is that every commit mark names a block
 unfoldable pub proposalFits : State → Bool

@@ -1,5 +1,6 @@
-// A member's state, and whether it is well formed.
+// A member's state, the view that it shows, and whether it is well formed (scope document: A member's state).
 use sheet::Settings;
+use store::lengths::ROW;
 use terms::Body;
 use terms::Member;
 use terms::Round;
@@ -38,10 +39,10 @@ fn body_fits(allowance: u32, r: Round, b: Body) -> bool
     requires { ⌜ allowance ≤ 4 ⌝ }
     ensures { λ v. ⌜ v ≡ bodyFits allowance (r .0) b ⌝ }
 {
-    if terms::is_unfit(allowance, b) {
+    if terms::has_bad_transactions(allowance, b) {
         return false;
     }
-    !terms::is_wrong_set(r, b.previous as u32)
+    !terms::is_bad_previous_set(r, b.previous as u32)
 }
 
 fn proposal_fits(s: State) -> bool
@@ -68,14 +69,14 @@ fn head_fits(s: State) -> bool
     !sheet::is_weightless(settings)
 }
 
-// Are the state and the table what document 01 asks of them?
+// Are the state and the table what the scope document asks of them?
 pub fn well_formed(s: State, t: &[u32]) -> bool
     ensures { λ v. ⌜ v ≡ wellFormed s (now (t .entry)) ⌝ }
 {
     let settings = s.settings;
     let n = settings.ceiling;
     let blocks = s.blocks;
-    if t.len() < n.0 as usize * 272 + 272 {
+    if t.len() < n.0 as usize * ROW + ROW {
         return false;
     }
     if !head_fits(s) {
@@ -87,5 +88,5 @@ pub fn well_formed(s: State, t: &[u32]) -> bool
     if !store::scan::rows_fit(t, settings.allowance, blocks, n) {
         return false;
     }
-    walk::blocks_fit(t, blocks, n)
+    bonded::blocks_fit(t, blocks, n)
 }

@@ -1,13 +1,4 @@
 pub mod Table
-pub mod TableLaws
 pub mod Writes
-pub mod RecordLaws
-pub mod WriteLaws
-pub mod PutLaws
-pub mod EndorseLaws
-pub mod MarkLaws
 pub mod Scan
 pub mod Limits
-pub mod ScanLaws
-pub mod FitLaws
-pub mod ClearLaws

@@ -1,20 +1,20 @@
 -- When a stretch of the table is well formed in what the store owns.
 use mathlib.Core.Bool.{Bool, true, not, cond, _&&_}
 use mathlib.Core.List.{List}
-use Prim.Native.Nat.{ℕ, _+_, _*_}
+use Prim.Native.Nat.{ℕ, _+_}
 use lib.Dec.{eqb, leb, ltb}
 use Rattle.base.specs.Folds.{allTo}
 use Rattle.base.specs.Sets.{isIn}
 use Rattle.terms.specs.Transactions.{bondInRange}
-use Rattle.terms.specs.Proposals.{wrongSet}
-use Rattle.store.specs.Table.{heldSet, endorsedSet, heldAt, word, countAt, previousAt, markAt, endorsersAt}
+use Rattle.terms.specs.Proposals.{badPreviousSet}
+use Rattle.store.specs.Table.{heldSet, endorsedSet, heldAt, word, countAt, previousAt, markAt, endorsersAt, kindAt, numberAt, amountAt}
 
 -- three words that are a transaction in range: an unknown kind is none, and only a bond has an amount
 unfoldable pub tripleFits : ℕ → ℕ → ℕ → Bool
 tripleFits kind number amount = cond (eqb kind 0) (bondInRange number amount) (eqb amount 0 && cond (eqb kind 1) (ltb number 16) (eqb kind 2))
 
 unfoldable pub transactionFits : List ℕ → ℕ → ℕ → ℕ → Bool
-transactionFits t m r k = tripleFits (word t m r (4 + k * 3)) (word t m r (5 + k * 3)) (word t m r (6 + k * 3))
+transactionFits t m r k = tripleFits (kindAt t m r k) (numberAt t m r k) (amountAt t m r k)
 
 -- the endorsers of a record are a set of members, the author not among them
 unfoldable pub endorsersFit : List ℕ → ℕ → ℕ → Bool
@@ -25,7 +25,7 @@ unfoldable pub recordFits : List ℕ → ℕ → ℕ → ℕ → ℕ → Bool
 recordFits t allowance blocks m r =
     leb (word t m r 1) allowance
     && (allTo (transactionFits t m r) (countAt t m r)
-    && (ltb (word t m r 0) 65536 && (not (wrongSet r (previousAt t m r)) && (leb (markAt t m r) blocks && endorsersFit t m r))))
+    && (ltb (word t m r 0) 65536 && (not (badPreviousSet r (previousAt t m r)) && (leb (markAt t m r) blocks && endorsersFit t m r))))
 
 unfoldable pub placeFits : List ℕ → ℕ → ℕ → ℕ → ℕ → Bool
 placeFits t allowance blocks r m = cond (heldAt t m r) (recordFits t allowance blocks m r) true

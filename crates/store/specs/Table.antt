@@ -1,4 +1,4 @@
--- What the lent table says: row r belongs to round r and has 272 words.
+-- What the lent table says: row r belongs to round r.
 use Prim.Native.Nat.{ℕ, _+_, _*_, _%_, _<_, _≤_}
 use mathlib.Core.Bool.{Bool, cond}
 use mathlib.Core.Option.{Option, none, some}
@@ -11,30 +11,57 @@ use Rattle.terms.specs.declared.Transaction.{Transaction}
 use Rattle.terms.specs.Transactions.{readTransaction}
 use Rattle.terms.specs.Proposals.{Content}
 
+-- ---- lengths in words: of a row, of what stands before its records, of a record, of what stands before its transactions, of a transaction
+
+abbrev pub rowLength : ℕ
+rowLength = 272
+
+abbrev pub headLength : ℕ
+headLength = 16
+
+abbrev pub recordLength : ℕ
+recordLength = 16
+
+abbrev pub firstLength : ℕ
+firstLength = 4
+
+abbrev pub transactionLength : ℕ
+transactionLength = 3
+
+-- where the record of author m and round r starts
+abbrev pub recordStart : ℕ → ℕ → ℕ
+recordStart m r = r * rowLength + m * recordLength + headLength
+
+-- where transaction k starts in a record
+abbrev pub transactionStart : ℕ → ℕ
+transactionStart k = firstLength + k * transactionLength
+
+-- ---- what the words tell
+
 -- how many words a state of ceiling n uses: the rows 0 to n
 abbrev pub used : ℕ → ℕ
-used n = n * 272 + 272
+used n = n * rowLength + rowLength
 
 -- row r lies within the table
 abbrev pub Row : List ℕ → ℕ → Type 0
-Row t r = r * 272 + 272 ≤ length t
+Row t r = r * rowLength + rowLength ≤ length t
 
 -- the place is a member's, and its row lies within the table
 pub record Within (t : List ℕ) (m r : ℕ) : Type 0 where
   pub member : m < 16
-  pub row : r * 272 + 272 ≤ length t
+  pub row : r * rowLength + rowLength ≤ length t
 
 -- the authors whose certificates of round r are held
 unfoldable pub heldSet : List ℕ → ℕ → ℕ
-heldSet t r = getD t (r * 272) 0
+heldSet t r = getD t (r * rowLength) 0
 
 -- the authors whose places of round r are marked endorsed
 unfoldable pub endorsedSet : List ℕ → ℕ → ℕ
-endorsedSet t r = getD t (r * 272 + 1) 0
+endorsedSet t r = getD t (r * rowLength + 1) 0
 
 -- the round of block k
 unfoldable pub blockRound : List ℕ → ℕ → ℕ
-blockRound t k = getD t (k * 272 + 2) 0
+blockRound t k = getD t (k * rowLength + 2) 0
 
 -- a certificate of author m and round r is held
 unfoldable pub heldAt : List ℕ → ℕ → ℕ → Bool
@@ -46,7 +73,7 @@ endorsedAt t m r = isIn (endorsedSet t r) m
 
 -- word k of the record of a place
 unfoldable pub word : List ℕ → ℕ → ℕ → ℕ → ℕ
-word t m r k = getD t (r * 272 + m * 16 + 16 + k) 0
+word t m r k = getD t (recordStart m r + k) 0
 
 -- the previous set of a record
 unfoldable pub previousAt : List ℕ → ℕ → ℕ → ℕ
@@ -64,9 +91,19 @@ markAt t m r = word t m r 2
 unfoldable pub endorsersAt : List ℕ → ℕ → ℕ → ℕ
 endorsersAt t m r = word t m r 3 % 65536
 
+-- kind, number and amount of its transaction k
+abbrev pub kindAt : List ℕ → ℕ → ℕ → ℕ → ℕ
+kindAt t m r k = word t m r (transactionStart k)
+
+abbrev pub numberAt : List ℕ → ℕ → ℕ → ℕ → ℕ
+numberAt t m r k = word t m r (transactionStart k + 1)
+
+abbrev pub amountAt : List ℕ → ℕ → ℕ → ℕ → ℕ
+amountAt t m r k = word t m r (transactionStart k + 2)
+
 -- its transaction k
 unfoldable pub transactionAt : List ℕ → ℕ → ℕ → ℕ → Transaction
-transactionAt t m r k = readTransaction (word t m r (4 + k * 3)) (word t m r (5 + k * 3)) (word t m r (6 + k * 3))
+transactionAt t m r k = readTransaction (kindAt t m r k) (numberAt t m r k) (amountAt t m r k)
 
 -- the proposal that the record of a place tells
 unfoldable pub contentAt : List ℕ → ℕ → ℕ → Content

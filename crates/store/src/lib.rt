@@ -1,10 +1,12 @@
-// The certificate store: places, certificates, endorsed marks, commit marks and block rounds in a lent table of words.
-// Row r has 272 words: held set, endorsed set, round of block r, 13 words kept for later, sixteen records of 16 words by author.
+// The certificate store: places, certificates, endorsed marks, commit marks and block rounds in a lent table of words (scope document: A member's state).
+// A row: held set, endorsed set, round of block r, 13 words kept for later, sixteen records by author.
 // A record: previous set, count of transactions, commit mark, endorsers, four times kind, number, amount.
+pub mod lengths;
 pub mod record;
 pub mod scan;
 pub mod write;
 
+use crate::lengths::ROW;
 use terms::Member;
 use terms::Round;
 ghost use mathlib.Core.Path.{_≡_};
@@ -15,7 +17,7 @@ pub fn held_set(t: &[u32], r: Round) -> u32
     requires { ⌜ Row (now t) (r .0) ⌝ }
     ensures { λ v. ⌜ v ≡ heldSet (now (t .entry)) (r .0) ⌝ }
 {
-    t[r.0 as usize * 272]
+    t[r.0 as usize * ROW]
 }
 
 // The authors whose places of a round are marked endorsed.
@@ -23,7 +25,7 @@ pub fn endorsed_set(t: &[u32], r: Round) -> u32
     requires { ⌜ Row (now t) (r .0) ⌝ }
     ensures { λ v. ⌜ v ≡ endorsedSet (now (t .entry)) (r .0) ⌝ }
 {
-    t[r.0 as usize * 272 + 1]
+    t[r.0 as usize * ROW + 1]
 }
 
 // Is a certificate of this author and round held?
@@ -45,9 +47,9 @@ pub fn endorsed(t: &[u32], m: Member, r: Round) -> bool
 }
 
 // The round of block k.
-pub fn block_round(t: &[u32], k: u32) -> u32
+pub fn block_round(t: &[u32], k: u32) -> Round
     requires { ⌜ Row (now t) k ⌝ }
-    ensures { λ v. ⌜ v ≡ blockRound (now (t .entry)) k ⌝ }
+    ensures { λ v. ⌜ v .0 ≡ blockRound (now (t .entry)) k ⌝ }
 {
-    t[k as usize * 272 + 2]
+    Round(t[k as usize * ROW + 2])
 }

@@ -1,4 +1,9 @@
 // The record of a place: its words, what they tell, and whether that is a given proposal.
+use crate::lengths::FIRST;
+use crate::lengths::HEAD;
+use crate::lengths::RECORD;
+use crate::lengths::ROW;
+use crate::lengths::TRANSACTION;
 use terms::Body;
 use terms::Member;
 use terms::Proposal;
@@ -10,15 +15,15 @@ ghost use Prim.Native.Nat.{_<_, _≤_};
 ghost use Rattle.base.specs.Folds.{allTo};
 ghost use Rattle.terms.specs.Transactions.{sameTransaction};
 ghost use Rattle.terms.specs.Proposals.{slotOf, contentOf, same};
-ghost use Rattle.store.specs.Table.{Within, word, previousAt, countAt, markAt, endorsersAt, transactionAt, contentAt};
+ghost use Rattle.store.specs.Table.{recordLength, Within, word, previousAt, countAt, markAt, endorsersAt, kindAt, numberAt, amountAt, transactionAt, contentAt};
 ghost use Rattle.store.specs.Writes.{nthOf, proposalOf};
 
 // Word k of a record.
 pub fn word_at(t: &[u32], m: Member, r: Round, k: u32) -> u32
-    requires { ⌜ Within (now t) (m .0) (r .0) × (k < 16) ⌝ }
+    requires { ⌜ Within (now t) (m .0) (r .0) × (k < recordLength) ⌝ }
     ensures { λ v. ⌜ v ≡ word (now (t .entry)) (m .0) (r .0) k ⌝ }
 {
-    t[r.0 as usize * 272 + m.0 as usize * 16 + 16 + k as usize]
+    t[r.0 as usize * ROW + m.0 as usize * RECORD + HEAD + k as usize]
 }
 
 // The previous set of a record.
@@ -57,15 +62,39 @@ pub fn endorsers(t: &[u32], m: Member, r: Round) -> u16
     (word_at(t, m, r, 3) % 65536) as u16
 }
 
+// The kind of transaction k of a record.
+pub fn kind_at(t: &[u32], m: Member, r: Round, k: u32) -> u32
+    requires { ⌜ Within (now t) (m .0) (r .0) × (k < 4) ⌝ }
+    ensures { λ v. ⌜ v ≡ kindAt (now (t .entry)) (m .0) (r .0) k ⌝ }
+{
+    word_at(t, m, r, FIRST + k * TRANSACTION)
+}
+
+// Its number.
+pub fn number_at(t: &[u32], m: Member, r: Round, k: u32) -> u32
+    requires { ⌜ Within (now t) (m .0) (r .0) × (k < 4) ⌝ }
+    ensures { λ v. ⌜ v ≡ numberAt (now (t .entry)) (m .0) (r .0) k ⌝ }
+{
+    word_at(t, m, r, FIRST + k * TRANSACTION + 1)
+}
+
+// Its amount.
+pub fn amount_at(t: &[u32], m: Member, r: Round, k: u32) -> u32
+    requires { ⌜ Within (now t) (m .0) (r .0) × (k < 4) ⌝ }
+    ensures { λ v. ⌜ v ≡ amountAt (now (t .entry)) (m .0) (r .0) k ⌝ }
+{
+    word_at(t, m, r, FIRST + k * TRANSACTION + 2)
+}
+
 // Transaction k of a record.
 pub fn transaction_at(t: &[u32], m: Member, r: Round, k: u32) -> Transaction
     requires { ⌜ Within (now t) (m .0) (r .0) × (k < 4) ⌝ }
     ensures { λ v. ⌜ v ≡ transactionAt (now (t .entry)) (m .0) (r .0) k ⌝ }
 {
-    let kind = word_at(t, m, r, 4 + k * 3);
-    let number = word_at(t, m, r, 5 + k * 3);
-    let amount = word_at(t, m, r, 6 + k * 3);
-    terms::told(kind, number, amount)
+    let kind = kind_at(t, m, r, k);
+    let number = number_at(t, m, r, k);
+    let amount = amount_at(t, m, r, k);
+    terms::read_transaction(kind, number, amount)
 }
 
 // Slot k of what a record tells, nothing beyond its transactions.

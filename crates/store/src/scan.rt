@@ -51,9 +51,9 @@ fn transaction_fits(t: &[u32], l: &[u32; 15], m: Member, r: Round, n: u32, k: u3
     requires { ⌜ Within (now t) (m .0) (r .0) × (k ≤ 3) × (now l ≡ limitTable) ⌝ }
     ensures { λ v. ⌜ v ≡ cond (ltb k n) (transactionFits (now (t .entry)) (m .0) (r .0) k) true ⌝ }
 {
-    let kind = crate::record::word_at(t, m, r, 4 + k * 3);
-    let number = crate::record::word_at(t, m, r, 5 + k * 3);
-    let amount = crate::record::word_at(t, m, r, 6 + k * 3);
+    let kind = crate::record::kind_at(t, m, r, k);
+    let number = crate::record::number_at(t, m, r, k);
+    let amount = crate::record::amount_at(t, m, r, k);
     slot_fits(l, k < n, kind, number, amount)
 }
 
@@ -99,7 +99,7 @@ fn record_fits(t: &[u32], l: &[u32; 15], allowance: u32, blocks: u32, m: Member,
     if 65536 <= crate::record::word_at(t, m, r, 0) {
         return false;
     }
-    if terms::is_wrong_set(r, crate::record::previous(t, m, r)) {
+    if terms::is_bad_previous_set(r, crate::record::previous(t, m, r)) {
         return false;
     }
     if blocks < crate::record::mark(t, m, r) {

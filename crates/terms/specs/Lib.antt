@@ -1,3 +1,2 @@
 pub mod Transactions
 pub mod Proposals
-pub mod ProposalLaws

@@ -53,9 +53,9 @@ allInRange [] = true
 allInRange (x ∷ l) = inRange x && allInRange l
 
 -- check 6: a transaction out of range, or over the allowance
-unfoldable pub unfit : ℕ → List Transaction → Bool
-unfit allowance l = ltb allowance (length l) || not (allInRange l)
+unfoldable pub badTransactions : ℕ → List Transaction → Bool
+badTransactions allowance l = ltb allowance (length l) || not (allInRange l)
 
 -- check 7: the previous set empty above round 1, or not empty in it
-unfoldable pub wrongSet : ℕ → ℕ → Bool
-wrongSet r set = cond (eqb r 1) (not (isEmpty set)) (isEmpty set)
+unfoldable pub badPreviousSet : ℕ → ℕ → Bool
+badPreviousSet r set = cond (eqb r 1) (not (isEmpty set)) (isEmpty set)

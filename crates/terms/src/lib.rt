@@ -1,11 +1,9 @@
-// Members, rounds, transactions, proposals and certificates, as they are handed in.
+// Members, rounds, transactions, proposals and certificates, as they are handed in (scope document: Terms and sheet).
 ghost use mathlib.Core.Path.{_≡_};
-ghost use mathlib.Core.Bool.{_&&_};
 ghost use Prim.Native.Nat.{_<_, _≤_};
-ghost use lib.Dec.{leb, ltb};
 ghost use Rattle.base.specs.Folds.{allTo};
 ghost use Rattle.terms.specs.Transactions.{kindOf, numberOf, amountOf, readTransaction, sameTransaction, bondInRange, inRange};
-ghost use Rattle.terms.specs.Proposals.{bareBody, slotOf, transactionsOf, unfit, wrongSet};
+ghost use Rattle.terms.specs.Proposals.{bareBody, slotOf, transactionsOf, badTransactions, badPreviousSet};
 
 // A member's number: 0 to 15.
 pub struct Member(pub u32);
@@ -92,7 +90,7 @@ pub fn amount(x: Transaction) -> u32
 }
 
 // The transaction that three numbers tell; an unknown kind is read as an entry.
-pub fn told(kind: u32, number: u32, amount: u32) -> Transaction
+pub fn read_transaction(kind: u32, number: u32, amount: u32) -> Transaction
     ensures { λ v. ⌜ v ≡ readTransaction kind number amount ⌝ }
 {
     if kind == 0 {
@@ -166,9 +164,9 @@ fn slots_in_range(b: Body, n: u32) -> bool
 }
 
 // Check 6: is a transaction out of range, or are there more than the allowance?
-pub fn is_unfit(allowance: u32, b: Body) -> bool
+pub fn has_bad_transactions(allowance: u32, b: Body) -> bool
     requires { ⌜ allowance ≤ 4 ⌝ }
-    ensures { λ v. ⌜ v ≡ unfit allowance (transactionsOf b) ⌝ }
+    ensures { λ v. ⌜ v ≡ badTransactions allowance (transactionsOf b) ⌝ }
 {
     let n = b.count;
     if allowance < n {
@@ -178,8 +176,8 @@ pub fn is_unfit(allowance: u32, b: Body) -> bool
 }
 
 // Check 7: is the previous set of a proposal of round r empty above round 1, or not empty in it?
-pub fn is_wrong_set(r: Round, set: u32) -> bool
-    ensures { λ v. ⌜ v ≡ wrongSet (r .0) set ⌝ }
+pub fn is_bad_previous_set(r: Round, set: u32) -> bool
+    ensures { λ v. ⌜ v ≡ badPreviousSet (r .0) set ⌝ }
 {
     if r.0 == 1 {
         return !base::is_empty(set);

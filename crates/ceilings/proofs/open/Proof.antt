@@ -6,39 +6,25 @@ use lib.Seq.{length-take-le}
 use borrow.Author.Needs.{needs}
 use Rattle.ceilings.proofs.open.Statement.{statement}
 use Rattle.ceilings.proofs.open.Tie as tie
-use Rattle.ceilings.proofs.open.Reads as reads
-use Rattle.ceilings.proofs.open.Lts as lts
-use Rattle.io.proofs.write_all.Reads as write-all-reads
-use Rattle.member.proofs.open.closed.Reads as closed-reads
-use Rattle.member.proofs.open.open.Reads as open-reads
-use Rattle.records.proofs.answer.put_answer.Reads as put-answer-reads
-use Rattle.sheet.proofs.Sheet.blank.Reads as blank-reads
 
--- src/main.rt:9:9
 blank-requires : tie.Need-blank-requires
 blank-requires c κs = search needs
 
--- src/main.rt:17:32
 closed-requires : tie.Need-closed-requires
 closed-requires c κs = search needs
 
--- src/main.rt:17:9
 open-requires : tie.Need-open-requires
 open-requires c κs = search needs
 
--- src/main.rt:20:44
 slice-aggregate-put-answer : tie.Need-slice-aggregate-put-answer
 slice-aggregate-put-answer c = search needs
 
--- src/main.rt:20:9
 put-answer-requires : tie.Need-put-answer-requires
 put-answer-requires c κs = search needs
 
--- src/main.rt:21:34
 array-share-prefix-out : tie.Need-array-share-prefix-out
 array-share-prefix-out c = search needs
 
--- src/main.rt:21:34
 slice-aggregate-write-all : tie.Need-slice-aggregate-write-all
 slice-aggregate-write-all c =
     let p = c .before .before .put-answer in
@@ -46,15 +32,12 @@ slice-aggregate-write-all c =
     let h : p .result ≤ length (p .last .1 .0) = omega (arith, k, p .ensures .past, p .ensures .room) in
     sym (length-take-le (p .result) (p .last .1 .0) h)
 
--- src/main.rt:21:5
 write-all-requires : tie.Need-write-all-requires
 write-all-requires c κs = search needs
 
--- src/main.rt:8:1
 same-length : tie.Need-same-length
 same-length c = search needs
 
--- src/main.rt:8:1
 returns : tie.Need-returns
 returns c = search needs
 

@@ -6,7 +6,7 @@ use mathlib.Core.Bool.{false, _&&_, not}
 use lib.Dec.{ltb}
 use Rattle.base.specs.Folds.{anyTo}
 use Rattle.base.specs.Sets.{isIn}
-use Rattle.base.specs.TestLaws.{any-more, true-any}
+use Rattle.base.proofs.TestLaws.{any-more, true-any}
 use Rattle.sheet.specs.Ranges.{weightIn}
 use Rattle.committee.specs.Committees.{outsider}
 use Rattle.committee.proofs.has_outsider.Statement.{statement}

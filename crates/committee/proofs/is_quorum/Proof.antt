@@ -1,6 +1,6 @@
 use mathlib.Core.Path.{sym, ap, _∙_}
 use mathlib.Core.Bool.{not}
-use Rattle.committee.specs.CommitteeLaws.{quorum-not, quorum-inside}
+use Rattle.committee.proofs.CommitteeLaws.{quorum-not, quorum-inside}
 use borrow.Author.Needs.{needs}
 use Rattle.committee.proofs.is_quorum.Statement.{statement}
 use Rattle.committee.proofs.is_quorum.Tie as tie

@@ -1,7 +1,7 @@
 use mathlib.Core.Path.{refl}
 use native.Mathlib.Omega.{arith}
 use Rattle.committee.specs.Committees.{short, quorumWeight}
-use Rattle.committee.specs.CommitteeLaws.{bound-le}
+use Rattle.committee.proofs.CommitteeLaws.{bound-le}
 use borrow.Author.Needs.{needs}
 use Rattle.committee.proofs.is_short.Statement.{statement}
 use Rattle.committee.proofs.is_short.Tie as tie

@@ -4,11 +4,11 @@ use native.Mathlib.Omega.{arith}
 use Prim.Native.Nat.{_+_, _-_, _≤_}
 use Rattle.sheet.specs.Ranges.{weightIn}
 use Rattle.base.specs.Folds.{sumTo}
-use Rattle.base.specs.SumLaws.{sum-more}
+use Rattle.base.proofs.SumLaws.{sum-more}
 use mathlib.Core.Bool.{cond}
 use Rattle.base.specs.Sets.{isIn}
 use Rattle.agreement.specs.Weights.{weigh}
-use Rattle.committee.specs.CommitteeLaws.{weigh-le}
+use Rattle.committee.proofs.CommitteeLaws.{weigh-le}
 use Rattle.committee.proofs.set_weight.Statement.{statement}
 use Rattle.committee.proofs.set_weight.Tie as tie
 

@@ -1,6 +1,6 @@
 use mathlib.Core.Path.{refl}
 use native.Mathlib.Omega.{arith}
-use Rattle.base.specs.SumLaws.{sum-at}
+use Rattle.base.proofs.SumLaws.{sum-at}
 use Rattle.sheet.specs.Ranges.{weightIn}
 use borrow.Author.Needs.{needs}
 use Rattle.committee.proofs.share.Statement.{statement}

@@ -4,7 +4,7 @@ use native.Mathlib.Omega.{arith}
 use Prim.Native.Nat.{_+_, _-_, _≤_}
 use Rattle.sheet.specs.Ranges.{weightIn}
 use Rattle.base.specs.Folds.{sumTo}
-use Rattle.base.specs.SumLaws.{sum-more, sum-up}
+use Rattle.base.proofs.SumLaws.{sum-more, sum-up}
 use Rattle.committee.proofs.total_weight.Statement.{statement}
 use Rattle.committee.proofs.total_weight.Tie as tie
 

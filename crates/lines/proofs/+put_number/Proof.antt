@@ -1,15 +1,9 @@
-use mathlib.Core.List.{[], _∷_, _++_}
-use lib.ListN.{length-append}
-use Rattle.lines.specs.Lines.{decimal}
 use borrow.Author.Needs.{needs}
-use mathlib.Core.Path.{_≡_, refl, sym, ap, _∙_}
+use mathlib.Core.Path.{refl}
 use native.Mathlib.Omega.{arith}
-use Prim.Native.Nat.{_+_, _/_, _%_, _≤_}
-use lib.ListN.{length}
-use Rattle.lines.specs.Puts.{Puts, puts-more}
-use Rattle.lines.specs.LineLaws.{decimal-small, decimal-more, decimal-fits, decimal-tenth}
-use borrow.Author.Needs.{needs}
-use Prim.Native.Nat.{ℕ, _<_}
+use Prim.Native.Nat.{_≤_, ℕ, _<_}
+use Rattle.lines.proofs.PutLaws.{puts-more}
+use Rattle.lines.proofs.LineLaws.{decimal-small, decimal-more, decimal-fits, decimal-tenth}
 use borrow.Fn.Kinds.{In}
 use borrow.Fn.PlainCycle.{Measures, is, falls, and}
 use Rattle.lines.proofs.put_number.Reads as put-number

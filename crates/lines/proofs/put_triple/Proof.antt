@@ -1,48 +1,32 @@
-use Rattle.lines.specs.Puts.{puts-then}
+use Rattle.lines.proofs.PutLaws.{puts-then}
 use borrow.Author.Needs.{needs}
 use Rattle.lines.proofs.put_triple.Statement.{statement}
 use Rattle.lines.proofs.put_triple.Tie as tie
-use Rattle.lines.proofs.put_triple.Reads as reads
-use Rattle.lines.proofs.put_triple.Lts as lts
-use Rattle.lines.proofs.letter.Reads as letter-reads
-use Rattle.lines.proofs.put_byte.Reads as put-byte-reads
-use Rattle.lines.proofs.put_field.Reads as put-field-reads
-use Rattle.terms.proofs.amount.Reads as amount-reads
-use Rattle.terms.proofs.number.Reads as number-reads
 
--- src/lib.rt:103:9
 put-byte-requires : tie.Need-put-byte-requires
 put-byte-requires c κs = search needs
 
--- src/lib.rt:104:37
 letter-requires : tie.Need-letter-requires
 letter-requires c κs = search needs
 
--- src/lib.rt:104:9
 put-byte-requires-2 : tie.Need-put-byte-requires-2
 put-byte-requires-2 c κs = search needs
 
--- src/lib.rt:105:39
 number-requires : tie.Need-number-requires
 number-requires c κs = search needs
 
--- src/lib.rt:105:9
 put-field-requires : tie.Need-put-field-requires
 put-field-requires c κs = search needs
 
--- src/lib.rt:106:28
 amount-requires : tie.Need-amount-requires
 amount-requires c κs = search needs
 
--- src/lib.rt:106:5
 put-field-requires-2 : tie.Need-put-field-requires-2
 put-field-requires-2 c κs = search needs
 
--- src/lib.rt:99:1
 same-length : tie.Need-same-length
 same-length c = search needs
 
--- src/lib.rt:99:1
 returns : tie.Need-returns
 returns c =
     rw (← c .before .before .before .before .before .before .before .before .before .before .before .before .before .letter .ensures, ← c .before .before .before .before .before .before .before .before .number .ensures, ← c .before .before .before .amount .ensures)

@@ -1,20 +1,17 @@
-use mathlib.Core.Path.{_≡_, refl, sym, ap, _∙_}
+use mathlib.Core.Path.{_≡_, refl, _∙_}
 use native.Mathlib.Omega.{arith}
 use Prim.Native.Nat.{_+_, _*_, _-_, _≤_}
 use lib.ListN.{length}
 use Rattle.base.specs.Folds.{tab}
 use Rattle.terms.specs.Proposals.{slotOf}
-use Rattle.terms.specs.ProposalLaws.{transactions-tab}
+use Rattle.terms.proofs.ProposalLaws.{transactions-tab}
 use Rattle.lines.specs.Lines.{triplesFields}
-use Rattle.lines.specs.Puts.{Puts, puts-then, puts-within}
-use Rattle.lines.specs.LineLaws.{triples-none, triples-next}
+use Rattle.lines.specs.Puts.{Puts}
+use Rattle.lines.proofs.PutLaws.{puts-then, puts-within}
+use Rattle.lines.proofs.LineLaws.{triples-none, triples-next}
 use borrow.Author.Needs.{needs}
 use Rattle.lines.proofs.put_triples.Statement.{statement}
 use Rattle.lines.proofs.put_triples.Tie as tie
-use Rattle.lines.proofs.put_triples.Reads as reads
-use Rattle.lines.proofs.put_triples.Lts as lts
-use Rattle.lines.proofs.put_triple.Reads as put-triple-reads
-use Rattle.terms.proofs.slot_at.Reads as slot-at-reads
 
 abbrev Inv-loop : tie.InvT-loop
 Inv-loop buf₀ at body n next₀ k₀ buf next k = (k ≤ n) × (length buf ≡ length buf₀) × Puts buf₀ buf at next (triplesFields (tab (slotOf body) k)) (k * 24)
@@ -22,29 +19,23 @@ Inv-loop buf₀ at body n next₀ k₀ buf next k = (k ≤ n) × (length buf ≡
 abbrev μ-loop : tie.MeasureT-loop
 μ-loop buf₀ at body n next₀ k₀ buf next k = n - k
 
--- src/lib.rt:116:5
 loop-holds : tie.Need-loop-holds Inv-loop μ-loop
 loop-holds c = (omega arith, refl, rw (triples-none (slotOf (c .before .args .body))) (record { bytes = refl; past = omega arith; room = omega arith }))
 
--- src/lib.rt:117:13
 slot-at-requires : tie.Need-slot-at-requires Inv-loop μ-loop
 slot-at-requires c κs = search needs
 
--- src/lib.rt:118:9
 put-triple-requires : tie.Need-put-triple-requires Inv-loop μ-loop
 put-triple-requires c κs =
     let l = c .before .before .before .loop in
     omega (arith, l .inv .1, l .inv .2 .past, l .inv .2 .room)
 
--- src/lib.rt:116:9
 add-k : tie.Need-add-k Inv-loop μ-loop
 add-k c = search needs
 
--- src/lib.rt:116:5
 loop-less : tie.Need-loop-less Inv-loop μ-loop
 loop-less c = search needs
 
--- src/lib.rt:116:5
 loop-again : tie.Need-loop-again Inv-loop μ-loop
 loop-again c =
     let a = c .before .before .before .before .before .before .before .before .args in
@@ -52,11 +43,9 @@ loop-again c =
     let p = rw (c .before .before .before .before .slot-at .ensures) at (c .before .before .put-triple .ensures) in
     (omega arith, c .before .before .put-triple .kept .0 ∙ l .inv .1, rw (triples-next (slotOf (a .body)) (l .k)) (puts-within ((l .k + 1) * 24) (omega arith) (puts-then (l .inv .2) p)))
 
--- src/lib.rt:110:1
 same-length : tie.Need-same-length Inv-loop μ-loop
 same-length c = c .before .loop .inv .1
 
--- src/lib.rt:110:1
 returns : tie.Need-returns Inv-loop μ-loop
 returns c =
     let a = c .before .before .before .args in

@@ -1,150 +1,106 @@
-use mathlib.Core.Path.{_≡_, refl, sym, ap, _∙_}
-use native.Mathlib.Omega.{arith}
+use mathlib.Core.Path.{refl, sym, ap, _∙_}
 use Rattle.requests.specs.Readings.{readingOf}
 use Rattle.requests.specs.declared.Kind.the-variants.{Advance, Commit, Chain}
 use Rattle.requests.specs.Requests.{advance, commit, chain}
-use Rattle.requests.specs.RequestLaws.{end-reading}
-use Rattle.requests.specs.DamagedRequests.{request-long, request-by}
+use Rattle.requests.proofs.RequestLaws.{end-reading}
+use Rattle.requests.proofs.DamagedRequests.{request-long, request-by}
 use borrow.Author.Needs.{needs}
 use Rattle.requests.proofs.read.Statement.{statement}
 use Rattle.requests.proofs.read.Tie as tie
-use Rattle.requests.proofs.read.Reads as reads
-use Rattle.requests.proofs.read.Lts as lts
-use Rattle.requests.proofs.call.read_accept.Reads as read-accept-reads
-use Rattle.requests.proofs.call.read_certify.Reads as read-certify-reads
-use Rattle.requests.proofs.call.read_end.Reads as read-end-reads
-use Rattle.requests.proofs.call.read_endorse.Reads as read-endorse-reads
-use Rattle.requests.proofs.call.read_open.Reads as read-open-reads
-use Rattle.requests.proofs.call.read_propose.Reads as read-propose-reads
-use Rattle.requests.proofs.call.unreadable.Reads as unreadable-reads
-use Rattle.fields.proofs.field.field_at.Reads as field-at-reads
-use Rattle.requests.proofs.word.name.Reads as name-reads
 
--- src/lib.rt:46:9
 unreadable-requires : tie.Need-unreadable-requires
 unreadable-requires c κs = search needs
 
--- src/lib.rt:46:9
 returns : tie.Need-returns
 returns c = c .unreadable .ensures ∙ sym (ap readingOf (request-long _ (c .before .if1 .taken)))
 
--- src/lib.rt:48:9
 field-at-requires : tie.Need-field-at-requires
 field-at-requires c κs = search needs
 
--- src/lib.rt:49:9
 name-requires : tie.Need-name-requires
 name-requires c κs = search needs
 
--- src/lib.rt:50:14
 add-at : tie.Need-add-at
 add-at c = search needs
 
--- src/lib.rt:52:29
 enum-told : tie.Need-enum-told
 enum-told c = search needs
 
--- src/lib.rt:52:29
 unreadable-requires-2 : tie.Need-unreadable-requires-2
 unreadable-requires-2 c κs = search needs
 
--- src/lib.rt:53:23
 enum-told-2 : tie.Need-enum-told-2
 enum-told-2 c = search needs
 
--- src/lib.rt:53:23
 read-open-requires : tie.Need-read-open-requires
 read-open-requires c κs = search needs
 
--- src/lib.rt:54:26
 enum-told-3 : tie.Need-enum-told-3
 enum-told-3 c = search needs
 
--- src/lib.rt:54:26
 read-propose-requires : tie.Need-read-propose-requires
 read-propose-requires c κs = search needs
 
--- src/lib.rt:55:26
 enum-told-4 : tie.Need-enum-told-4
 enum-told-4 c = search needs
 
--- src/lib.rt:55:26
 read-endorse-requires : tie.Need-read-endorse-requires
 read-endorse-requires c κs = search needs
 
--- src/lib.rt:56:26
 enum-told-5 : tie.Need-enum-told-5
 enum-told-5 c = search needs
 
--- src/lib.rt:56:26
 read-certify-requires : tie.Need-read-certify-requires
 read-certify-requires c κs = search needs
 
--- src/lib.rt:57:25
 enum-told-6 : tie.Need-enum-told-6
 enum-told-6 c = search needs
 
--- src/lib.rt:57:25
 read-accept-requires : tie.Need-read-accept-requires
 read-accept-requires c κs = search needs
 
--- src/lib.rt:58:50
 enum-told-7 : tie.Need-enum-told-7
 enum-told-7 c = search needs
 
--- src/lib.rt:58:26
 read-end-requires : tie.Need-read-end-requires
 read-end-requires c κs = search needs
 
--- src/lib.rt:59:49
 enum-told-8 : tie.Need-enum-told-8
 enum-told-8 c = search needs
 
--- src/lib.rt:59:25
 read-end-requires-2 : tie.Need-read-end-requires-2
 read-end-requires-2 c κs = search needs
 
--- src/lib.rt:60:48
 enum-told-9 : tie.Need-enum-told-9
 enum-told-9 c = search needs
 
--- src/lib.rt:60:24
 read-end-requires-3 : tie.Need-read-end-requires-3
 read-end-requires-3 c κs = search needs
 
--- src/lib.rt:42:1
 returns-2 : tie.Need-returns-2
 returns-2 c = c .unreadable2 .ensures ∙ sym (ap readingOf (request-by _ _ _ (c .before .before .before .before .before .if1 .left) (c .before .before .before .before .field-at .ensures .0) (sym (c .before .before .before .name .ensures) ∙ c .before .enum-told .given .1)))
 
--- src/lib.rt:42:1
 returns-3 : tie.Need-returns-3
 returns-3 c = c .read-open .ensures ∙ sym (ap readingOf (request-by _ _ _ (c .before .before .before .before .before .if1 .left) (c .before .before .before .before .field-at .ensures .0) (sym (c .before .before .before .name .ensures) ∙ c .before .enum-told2 .given .1)))
 
--- src/lib.rt:42:1
 returns-4 : tie.Need-returns-4
 returns-4 c = c .read-propose .ensures ∙ sym (ap readingOf (request-by _ _ _ (c .before .before .before .before .before .if1 .left) (c .before .before .before .before .field-at .ensures .0) (sym (c .before .before .before .name .ensures) ∙ c .before .enum-told3 .given .1)))
 
--- src/lib.rt:42:1
 returns-5 : tie.Need-returns-5
 returns-5 c = c .read-endorse .ensures ∙ sym (ap readingOf (request-by _ _ _ (c .before .before .before .before .before .if1 .left) (c .before .before .before .before .field-at .ensures .0) (sym (c .before .before .before .name .ensures) ∙ c .before .enum-told4 .given .1)))
 
--- src/lib.rt:42:1
 returns-6 : tie.Need-returns-6
 returns-6 c = c .read-certify .ensures ∙ sym (ap readingOf (request-by _ _ _ (c .before .before .before .before .before .if1 .left) (c .before .before .before .before .field-at .ensures .0) (sym (c .before .before .before .name .ensures) ∙ c .before .enum-told5 .given .1)))
 
--- src/lib.rt:42:1
 returns-7 : tie.Need-returns-7
 returns-7 c = c .read-accept .ensures ∙ sym (ap readingOf (request-by _ _ _ (c .before .before .before .before .before .if1 .left) (c .before .before .before .before .field-at .ensures .0) (sym (c .before .before .before .name .ensures) ∙ c .before .enum-told6 .given .1)))
 
--- src/lib.rt:42:1
 returns-8 : tie.Need-returns-8
 returns-8 c = c .read-end .ensures ∙ end-reading Advance advance _ refl ∙ sym (ap readingOf (request-by _ _ _ (c .before .before .before .before .before .if1 .left) (c .before .before .before .before .field-at .ensures .0) (sym (c .before .before .before .name .ensures) ∙ c .before .enum-told7 .given .1)))
 
--- src/lib.rt:42:1
 returns-9 : tie.Need-returns-9
 returns-9 c = c .read-end2 .ensures ∙ end-reading Commit commit _ refl ∙ sym (ap readingOf (request-by _ _ _ (c .before .before .before .before .before .if1 .left) (c .before .before .before .before .field-at .ensures .0) (sym (c .before .before .before .name .ensures) ∙ c .before .enum-told8 .given .1)))
 
--- src/lib.rt:42:1
 returns-10 : tie.Need-returns-10
 returns-10 c = c .read-end3 .ensures ∙ end-reading Chain chain _ refl ∙ sym (ap readingOf (request-by _ _ _ (c .before .before .before .before .before .if1 .left) (c .before .before .before .before .field-at .ensures .0) (sym (c .before .before .before .name .ensures) ∙ c .before .enum-told9 .given .1)))
 

@@ -1,10 +1,7 @@
-use mathlib.Core.Path.{_≡_, refl, sym, ap, _∙_}
 use Rattle.sheet.specs.Sheets.{filled}
 use borrow.Author.Needs.{needs}
 use Rattle.sheet.proofs.fill.Statement.{statement}
 use Rattle.sheet.proofs.fill.Tie as tie
-use Rattle.sheet.proofs.value_or.Reads as value-or-reads
-use Rattle.sheet.proofs.weights.Reads as weights-reads
 
 value-or-requires : tie.Need-value-or-requires
 value-or-requires c κs = search needs

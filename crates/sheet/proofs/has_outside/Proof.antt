@@ -1,14 +1,13 @@
 use borrow.Author.Needs.{needs}
-use mathlib.Core.Path.{_≡_, refl, sym, ap, _∙_}
+use mathlib.Core.Path.{_≡_, refl, sym, _∙_}
 use native.Mathlib.Omega.{arith}
 use Prim.Native.Nat.{_-_, _≤_}
 use mathlib.Core.Bool.{false}
 use Rattle.base.specs.Folds.{anyTo}
-use Rattle.base.specs.TestLaws.{any-more, true-any}
+use Rattle.base.proofs.TestLaws.{any-more, true-any}
 use Rattle.sheet.specs.Ranges.{weightIn, outside}
 use Rattle.sheet.proofs.has_outside.Statement.{statement}
 use Rattle.sheet.proofs.has_outside.Tie as tie
-use Rattle.sheet.proofs.is_outside.Reads as is-outside-reads
 
 abbrev Inv-loop : tie.InvT-loop
 Inv-loop w i₀ i = (i ≤ 16) × (anyTo (λ j. outside (weightIn w j) 0 1000000) i ≡ false)

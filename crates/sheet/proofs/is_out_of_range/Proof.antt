@@ -1,10 +1,7 @@
-use mathlib.Core.Path.{_≡_, refl, sym, ap, _∙_}
 use Rattle.sheet.specs.Ranges.{outOfRange}
 use borrow.Author.Needs.{needs}
 use Rattle.sheet.proofs.is_out_of_range.Statement.{statement}
 use Rattle.sheet.proofs.is_out_of_range.Tie as tie
-use Rattle.sheet.proofs.has_outside.Reads as has-outside-reads
-use Rattle.sheet.proofs.is_outside.Reads as is-outside-reads
 
 cast-is-outside : tie.Need-cast-is-outside
 cast-is-outside c = search needs

@@ -1,11 +1,11 @@
 use borrow.Author.Needs.{needs}
-use mathlib.Core.Path.{_≡_, refl, sym, ap, _∙_}
+use mathlib.Core.Path.{_≡_, refl, sym, ap}
 use native.Mathlib.Omega.{arith}
 use Prim.Native.Nat.{_-_, _≤_}
 use borrow.Author.Tests.{lt-ltb, le-ltb}
 use mathlib.Core.Bool.{false, not}
 use Rattle.base.specs.Folds.{anyTo}
-use Rattle.base.specs.TestLaws.{any-more, true-any}
+use Rattle.base.proofs.TestLaws.{any-more, true-any}
 use lib.Dec.{ltb}
 use Rattle.sheet.specs.Ranges.{weightIn, weightless}
 use Rattle.sheet.proofs.is_weightless.Statement.{statement}

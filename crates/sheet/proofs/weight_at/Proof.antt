@@ -1,9 +1,8 @@
-use mathlib.Core.Path.{_≡_, refl, sym, ap, _∙_}
+use mathlib.Core.Path.{refl}
 use Rattle.sheet.specs.Sheets.{weightAt}
 use borrow.Author.Needs.{needs}
 use Rattle.sheet.proofs.weight_at.Statement.{statement}
 use Rattle.sheet.proofs.weight_at.Tie as tie
-use Rattle.sheet.proofs.blank_weight.Reads as blank-weight-reads
 
 cast-cell : tie.Need-cast-cell
 cast-cell c = search needs

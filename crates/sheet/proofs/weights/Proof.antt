@@ -1,8 +1,7 @@
-use Prim.Native.Nat.{_<_}
+use Prim.Native.Nat.{_<_, _-_, _≤_}
 use borrow.Author.Needs.{needs}
-use mathlib.Core.Path.{_≡_, refl, sym, ap, _∙_}
+use mathlib.Core.Path.{_≡_, refl, sym, _∙_}
 use native.Mathlib.Omega.{arith}
-use Prim.Native.Nat.{_-_, _≤_}
 use native.Mathlib.Numerals.{add-one}
 use lib.ListN.{take, length, length-set}
 use lib.Seq.{take-suc-set, take-all}
@@ -10,7 +9,6 @@ use Rattle.base.specs.Folds.{tab}
 use Rattle.sheet.specs.Sheets.{weightAt}
 use Rattle.sheet.proofs.weights.Statement.{statement}
 use Rattle.sheet.proofs.weights.Tie as tie
-use Rattle.sheet.proofs.weight_at.Reads as weight-at-reads
 
 abbrev Inv-loop : tie.InvT-loop
 Inv-loop cells w₀ i₀ w i = (i ≤ 16) × (take i w ≡ tab (weightAt cells) i) × (length w ≡ 16)

@@ -4,11 +4,6 @@ use Rattle.state.specs.WellFormed.{headFits}
 use borrow.Author.Needs.{needs}
 use Rattle.state.proofs.head_fits.Statement.{statement}
 use Rattle.state.proofs.head_fits.Tie as tie
-use Rattle.state.proofs.head_fits.Reads as reads
-use Rattle.state.proofs.head_fits.Lts as lts
-use Rattle.sheet.proofs.is_out_of_range.Reads as is-out-of-range-reads
-use Rattle.sheet.proofs.is_weightless.Reads as is-weightless-reads
-use Rattle.state.proofs.numbers_fit.Reads as numbers-fit-reads
 
 is-out-of-range-requires : tie.Need-is-out-of-range-requires
 is-out-of-range-requires c κs = search needs

@@ -1,10 +1,8 @@
-use mathlib.Core.Path.{refl, sym, _∙_}
+use mathlib.Core.Path.{refl}
 use borrow.Author.Tests.{lt-ltb, le-ltb, le-leb, lt-leb}
 use Rattle.state.specs.WellFormed.{numbersFit}
 use Rattle.state.proofs.numbers_fit.Statement.{statement}
 use Rattle.state.proofs.numbers_fit.Tie as tie
-use Rattle.state.proofs.numbers_fit.Reads as reads
-use Rattle.state.proofs.numbers_fit.Lts as lts
 
 returns : tie.Need-returns
 unfolding numbersFit

@@ -1,14 +1,10 @@
 use mathlib.Core.Bool.{true, false}
 use mathlib.Core.Path.{_≡_, refl}
-use mathlib.Core.Path.{refl, sym, _∙_}
 use borrow.Author.Tests.{not-true, not-false}
 use Rattle.state.specs.WellFormed.{proposalFits}
 use borrow.Author.Needs.{needs}
 use Rattle.state.proofs.proposal_fits.Statement.{statement}
 use Rattle.state.proofs.proposal_fits.Tie as tie
-use Rattle.state.proofs.proposal_fits.Reads as reads
-use Rattle.state.proofs.proposal_fits.Lts as lts
-use Rattle.state.proofs.body_fits.Reads as body-fits-reads
 
 returns : tie.Need-returns
 unfolding proposalFits

@@ -2,16 +2,11 @@ use mathlib.Core.Path.{refl, sym, _∙_}
 use native.Mathlib.Omega.{arith}
 use borrow.Author.Tests.{not-true, not-false, le-leb, lt-leb}
 use Rattle.state.specs.WellFormed.{wellFormed}
-use Rattle.sheet.specs.SheetLaws.{settings-fit}
-use Rattle.state.specs.Formed.{head-parts}
+use Rattle.sheet.proofs.SheetLaws.{settings-fit}
+use Rattle.state.proofs.FormedLaws.{head-parts}
 use borrow.Author.Needs.{needs}
 use Rattle.state.proofs.well_formed.Statement.{statement}
 use Rattle.state.proofs.well_formed.Tie as tie
-use Rattle.state.proofs.well_formed.Reads as reads
-use Rattle.state.proofs.well_formed.Lts as lts
-use Rattle.state.proofs.head_fits.Reads as head-fits-reads
-use Rattle.state.proofs.proposal_fits.Reads as proposal-fits-reads
-use Rattle.store.proofs.scan.rows_fit.Reads as rows-fit-reads
 
 cast-if1 : tie.Need-cast-if1
 cast-if1 c = search needs

@@ -4,17 +4,17 @@ use borrow.Author.Needs.{needs}
 use Rattle.store.proofs.block_round.Statement.{statement}
 use Rattle.store.proofs.block_round.Tie as tie
 
-mul-result : tie.Need-mul-result
-mul-result c = search needs
+mul-t4 : tie.Need-mul-t4
+mul-t4 c = search needs
 
-add-result : tie.Need-add-result
-add-result c = search needs
+add-t5 : tie.Need-add-t5
+add-t5 c = search needs
 
-mul-result-2 : tie.Need-mul-result-2
-mul-result-2 c = search needs
+mul-t6 : tie.Need-mul-t6
+mul-t6 c = search needs
 
-shared-slice-read-result : tie.Need-shared-slice-read-result
-shared-slice-read-result c = search needs
+shared-slice-read-t8 : tie.Need-shared-slice-read-t8
+shared-slice-read-t8 c = search needs
 
 returns : tie.Need-returns
 unfolding blockRound
@@ -22,4 +22,4 @@ returns c = refl
 
 pub block-round-spec : {M : Type 1} → statement M
 block-round-spec =
-    tie.close (tie.spec mul-result add-result mul-result-2 shared-slice-read-result returns)
+    tie.close (tie.spec mul-t4 add-t5 mul-t6 shared-slice-read-t8 returns)

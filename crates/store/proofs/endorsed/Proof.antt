@@ -3,8 +3,6 @@ use mathlib.Core.Path.{refl}
 use borrow.Author.Needs.{needs}
 use Rattle.store.proofs.endorsed.Statement.{statement}
 use Rattle.store.proofs.endorsed.Tie as tie
-use Rattle.base.proofs.has.Reads as has-reads
-use Rattle.store.proofs.endorsed_set.Reads as endorsed-set-reads
 
 endorsed-set-requires : tie.Need-endorsed-set-requires
 endorsed-set-requires c κs = search needs

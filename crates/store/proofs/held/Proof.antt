@@ -3,8 +3,6 @@ use mathlib.Core.Path.{refl}
 use borrow.Author.Needs.{needs}
 use Rattle.store.proofs.held.Statement.{statement}
 use Rattle.store.proofs.held.Tie as tie
-use Rattle.base.proofs.has.Reads as has-reads
-use Rattle.store.proofs.held_set.Reads as held-set-reads
 
 held-set-requires : tie.Need-held-set-requires
 held-set-requires c κs = search needs

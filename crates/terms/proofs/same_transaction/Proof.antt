@@ -1,7 +1,6 @@
-use Rattle.terms.specs.ProposalLaws.{same-amounts}
+use Rattle.terms.proofs.ProposalLaws.{same-amounts}
 use borrow.Author.Tests.{eq-eqb, ne-eqb}
 use mathlib.Core.Path.{sym, _∙_}
-use borrow.Author.Tests.{eq-eqb, ne-eqb}
 use Rattle.terms.specs.Transactions.{sameTransaction}
 use borrow.Author.Needs.{needs}
 use Rattle.terms.proofs.same_transaction.Statement.{statement}

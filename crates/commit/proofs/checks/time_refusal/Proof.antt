@@ -1,7 +1,7 @@
 use mathlib.Core.Path.{sym, _∙_}
 use borrow.Author.Tests.{not-true, not-false}
-use Rattle.commit.specs.CheckLaws.{round-even, round-one, round-old, round-unknown, round-timely}
-use Rattle.walk.specs.ReadableLaws.{readable}
+use Rattle.commit.proofs.CheckLaws.{round-even, round-one, round-old, round-unknown, round-timely}
+use Rattle.bonded.proofs.ChainInTableLaws.{readable}
 use borrow.Author.Needs.{needs}
 use Rattle.commit.proofs.checks.time_refusal.Statement.{statement}
 use Rattle.commit.proofs.checks.time_refusal.Tie as tie

@@ -1,11 +1,64 @@
-use mathlib.Core.Path.{sym, _∙_}
+use mathlib.Core.Path.{_≡_, sym, ap, ap₂, _∙_}
+use mathlib.Core.Bool.{Bool}
+use mathlib.Core.List.{List}
+use Prim.Native.Nat.{ℕ, _-_}
 use native.Mathlib.Omega.{arith}
 use borrow.Author.Tests.{not-true, not-false}
-use Rattle.base.specs.SetLaws.{in-member}
-use Rattle.commit.specs.CheckLaws.{led-on, anchor-none, votes-few, votes-enough}
+use Rattle.base.specs.Sets.{isIn}
+use Rattle.base.proofs.SetLaws.{in-member}
+use Rattle.agreement.specs.Weights.{total}
+use Rattle.store.specs.Table.{heldSet}
+use Rattle.sheet.specs.Ranges.{weightIn}
+use Rattle.committee.specs.Committees.{boundOf}
+use Rattle.state.specs.declared.State.{State}
+use Rattle.commit.specs.Votes.{votesFor}
+use Rattle.commit.specs.Commit.{committeeOn}
+use Rattle.commit.proofs.AnchorLaws.{leaderOn}
+use Rattle.commit.proofs.CheckLaws.{led-on, anchor-none, votes-few, votes-enough}
 use borrow.Author.Needs.{needs}
 use Rattle.commit.proofs.checks.vote_refusal.Statement.{statement}
 use Rattle.commit.proofs.checks.vote_refusal.Tie as tie
+
+-- the places that the proofs speak of, each seen from a later one: the entry, the first test passed, the votes counted
+abbrev entry : tie.After-is-held-leader → tie.Start
+entry c = c .before .before .before .before .before .before .before
+
+abbrev asked : tie.After-fault-bound → tie.Else1
+asked c = c .before .before
+
+abbrev counted : tie.After-struct-known4 → tie.After-votes-for
+counted c = c .before .before
+
+-- the state and the table of the call, its round, and the leader of the round before it
+abbrev S : tie.After-is-held-leader → State
+S c = entry c .args .s
+
+abbrev T : tie.After-is-held-leader → List ℕ
+T c = entry c .args .t .now
+
+abbrev R : tie.After-is-held-leader → ℕ
+R c = S c .round .0
+
+abbrev A : tie.After-is-held-leader → ℕ
+A c = leaderOn (S c) (T c) (R c - 1)
+
+-- what `is_led` answers is whether the leader's certificate is held
+held : (c : tie.After-is-held-leader) {b : Bool} → c .is-held-leader .result ≡ b → isIn (heldSet (T c) (R c - 1)) (A c) ≡ b
+held c h =
+    let p = entry c .pre in
+    rw (c .before .held-set .ensures, led-on _ _ (p .0) (p .1) _ (p .2) (p .3)) at (sym (c .is-held-leader .ensures) ∙ h)
+
+-- the two numbers of the second test, by the definitions
+votes : (c : tie.After-votes-for) → let a = asked (c .before) .before in c .votes-for .result .0 ≡ votesFor (T a) (committeeOn (S a) (T a) (R a)) (R a) (A a)
+votes c =
+    let a = asked (c .before) .before in
+    let p = entry a .pre in
+    c .votes-for .ensures ∙ ap₂ (λ (w : List ℕ) (x : ℕ). votesFor (T a) w (R a) x) (p .4) (led-on _ _ (p .0) (p .1) _ (p .2) (p .3))
+
+bound : (c : tie.After-fault-bound) → let a = asked c .before in c .fault-bound .result .0 ≡ boundOf (total 16 (weightIn (committeeOn (S a) (T a) (R a))))
+bound c =
+    let p = entry (asked c .before) .pre in
+    c .fault-bound .ensures ∙ ap boundOf (c .before .total-weight .ensures ∙ ap (λ (w : List ℕ). total 16 (weightIn w)) (p .4))
 
 sub-a : tie.Need-sub-a
 sub-a c = search needs
@@ -22,11 +75,11 @@ element-copy-out-a c = search needs
 held-set-requires : tie.Need-held-set-requires
 held-set-requires c κs = search needs
 
-is-led-requires : tie.Need-is-led-requires
-is-led-requires c κs = search needs
+is-held-leader-requires : tie.Need-is-held-leader-requires
+is-held-leader-requires c κs = search needs
 
 returns : tie.Need-returns
-returns c = let p = c .before .before .before .before .before .before .before .before .pre in let e = led-on _ _ (p .0) (p .1) _ (p .2) (p .3) in anchor-none _ _ (p .0) (p .1) (rw (c .before .before .held-set .ensures, e) at (sym (c .before .is-led .ensures) ∙ not-true (c .before .is-led .result) (c .if1 .taken)))
+returns c = let p = entry (c .before) .pre in anchor-none _ _ (p .0) (p .1) (held (c .before) (not-true _ (c .if1 .taken)))
 
 total-weight-requires : tie.Need-total-weight-requires
 total-weight-requires c κs = search needs
@@ -35,13 +88,25 @@ fault-bound-requires : tie.Need-fault-bound-requires
 fault-bound-requires c κs = search needs
 
 votes-for-requires : tie.Need-votes-for-requires
-votes-for-requires c κs = let f = c .before .before .before .before .before .before .before .before .before .before .pre .0 in (omega (arith, f .long, f .numbers .round-to), in-member _ _ (sym (c .before .before .before .is-led .ensures) ∙ not-false (c .before .before .before .is-led .result) (c .before .before .if1 .left)), c .before .before .before .before .before .before .before .before .before .before .pre .5)
+votes-for-requires c κs =
+    let a = asked c in
+    let p = entry (a .before) .pre in
+    let f = p .0 in
+    (omega (arith, f .long, f .numbers .round-to), in-member _ _ (sym (a .before .is-held-leader .ensures) ∙ not-false _ (a .if1 .left)), p .5)
 
 returns-2 : tie.Need-returns-2
-returns-2 c = let p = c .before .before .before .before .before .before .before .before .before .before .before .before .before .before .pre in let e = led-on _ _ (p .0) (p .1) _ (p .2) (p .3) in votes-few _ _ (p .0) (p .1) (rw (c .before .before .before .before .before .before .before .before .held-set .ensures, e) at (sym (c .before .before .before .before .before .before .before .is-led .ensures) ∙ not-false (c .before .before .before .before .before .before .before .is-led .result) (c .before .before .before .before .before .before .if1 .left))) (rw (c .before .before .before .votes-for .ensures, c .before .before .before .before .fault-bound .ensures, c .before .before .before .before .before .total-weight .ensures, p .4, e) at (c .if2 .taken))
+returns-2 c =
+    let v = counted (c .before) in
+    let a = asked (v .before) in
+    let p = entry (a .before) .pre in
+    votes-few _ _ (p .0) (p .1) (held (a .before) (not-false _ (a .if1 .left))) (omega (arith, votes v, bound (v .before), c .if2 .taken))
 
 returns-3 : tie.Need-returns-3
-returns-3 c = let p = c .before .before .before .before .before .before .before .before .before .before .before .before .before .before .pre in let e = led-on _ _ (p .0) (p .1) _ (p .2) (p .3) in votes-enough _ _ (p .0) (p .1) (rw (c .before .before .before .before .before .before .before .before .held-set .ensures, e) at (sym (c .before .before .before .before .before .before .before .is-led .ensures) ∙ not-false (c .before .before .before .before .before .before .before .is-led .result) (c .before .before .before .before .before .before .if1 .left))) (rw (c .before .before .before .votes-for .ensures, c .before .before .before .before .fault-bound .ensures, c .before .before .before .before .before .total-weight .ensures, p .4, e) at (c .if2 .left))
+returns-3 c =
+    let v = counted (c .before) in
+    let a = asked (v .before) in
+    let p = entry (a .before) .pre in
+    votes-enough _ _ (p .0) (p .1) (held (a .before) (not-false _ (a .if1 .left))) (omega (arith, votes v, bound (v .before), c .if2 .left))
 
 pub vote-refusal-spec : {M : Type 1} → statement M
 vote-refusal-spec =
@@ -52,7 +117,7 @@ vote-refusal-spec =
     mul-a
     element-copy-out-a
     held-set-requires
-    is-led-requires
+    is-held-leader-requires
     returns
     total-weight-requires
     fault-bound-requires

@@ -4,10 +4,10 @@ use mathlib.Core.Bool.{cond}
 use native.Mathlib.Omega.{arith}
 use Prim.Native.Nat.{_+_, _-_, _≤_}
 use Rattle.base.specs.Folds.{sumTo}
-use Rattle.base.specs.SumLaws.{sum-more}
+use Rattle.base.proofs.SumLaws.{sum-more}
 use Rattle.agreement.specs.Weights.{weigh}
 use Rattle.sheet.specs.Ranges.{weightIn}
-use Rattle.committee.specs.CommitteeLaws.{weigh-le}
+use Rattle.committee.proofs.CommitteeLaws.{weigh-le}
 use Rattle.commit.specs.Votes.{votesAt, votesFor}
 use Rattle.commit.proofs.votes.votes_for.Statement.{statement}
 use Rattle.commit.proofs.votes.votes_for.Tie as tie

@@ -1,9 +1,9 @@
 use mathlib.Core.Path.{refl}
 use Prim.Native.Nat.{_%_}
 use native.Mathlib.Omega.{arith}
-use Rattle.base.specs.SumLaws.{sum-at}
+use Rattle.base.proofs.SumLaws.{sum-at}
 use Rattle.sheet.specs.Ranges.{weightIn}
-use Rattle.committee.specs.Effects.{effect-le, effect-changes}
+use Rattle.committee.proofs.EffectLaws.{effect-le, effect-changes}
 use borrow.Author.Needs.{needs}
 use Rattle.committee.proofs.change.apply.Statement.{statement}
 use Rattle.committee.proofs.change.apply.Tie as tie
@@ -14,11 +14,11 @@ effect-requires c κs = search needs
 cast-i : tie.Need-cast-i
 cast-i c = search needs
 
-mul-weight-after : tie.Need-mul-weight-after
-mul-weight-after c = search needs
+mul-t10 : tie.Need-mul-t10
+mul-t10 c = search needs
 
-element-copy-out-weight-after : tie.Need-element-copy-out-weight-after
-element-copy-out-weight-after c = search needs
+element-copy-out-t13 : tie.Need-element-copy-out-t13
+element-copy-out-t13 c = search needs
 
 weight-after-requires : tie.Need-weight-after-requires
 weight-after-requires c κs = let a = c .before .before .args in let h = sum-at (weightIn (a .w .now)) 16 (a .number % 16) (omega arith) in (omega (arith, effect-le (a .there) (a .kind) (a .number), c .before .effect .ensures), omega arith)
@@ -38,8 +38,8 @@ apply-spec =
     (tie.spec
     effect-requires
     cast-i
-    mul-weight-after
-    element-copy-out-weight-after
+    mul-t10
+    element-copy-out-t13
     weight-after-requires
     mul-w
     element-write-w

@@ -1,14 +1,14 @@
-use Rattle.committee.specs.Effects.{at-most}
+use Rattle.committee.proofs.EffectLaws.{at-most}
 use native.Mathlib.Omega.{arith}
 use mathlib.Core.Path.{refl}
 use Rattle.committee.proofs.change.times.Statement.{statement}
 use Rattle.committee.proofs.change.times.Tie as tie
 
-mul-result : tie.Need-mul-result
-mul-result c = omega (arith, at-most (c .args .x) (c .args .k) (omega arith))
+mul-t4 : tie.Need-mul-t4
+mul-t4 c = omega (arith, at-most (c .before .args .x .0) (c .before .args .k) (omega arith))
 
 returns : tie.Need-returns
-returns c = (refl, at-most (c .args .x) (c .args .k) (omega arith))
+returns c = (refl, at-most (c .before .args .x .0) (c .before .args .k) (omega arith))
 
 pub times-spec : {M : Type 1} → statement M
-times-spec = tie.close (tie.spec mul-result returns)
+times-spec = tie.close (tie.spec mul-t4 returns)

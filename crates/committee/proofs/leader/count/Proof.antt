@@ -4,7 +4,7 @@ use native.Mathlib.Omega.{arith}
 use Prim.Native.Nat.{_+_, _-_, _≤_}
 use Rattle.base.specs.Sets.{isIn}
 use Rattle.committee.specs.Leaders.{countBelow}
-use Rattle.committee.specs.LeaderLaws.{count-none, count-more, count-le}
+use Rattle.committee.proofs.LeaderLaws.{count-none, count-more, count-le}
 use Rattle.committee.proofs.leader.count.Statement.{statement}
 use Rattle.committee.proofs.leader.count.Tie as tie
 

@@ -1,7 +1,7 @@
 use mathlib.Core.Path.{sym, ap, _∙_}
 use native.Mathlib.Omega.{arith}
 use Rattle.committee.specs.Leaders.{leaderNumber}
-use Rattle.committee.specs.LeaderLaws.{at-none, leader-odd, leader-early, leader-set}
+use Rattle.committee.proofs.LeaderLaws.{at-none, leader-odd, leader-early, leader-set}
 use borrow.Author.Needs.{needs}
 use Rattle.committee.proofs.leader.leader.Statement.{statement}
 use Rattle.committee.proofs.leader.leader.Tie as tie

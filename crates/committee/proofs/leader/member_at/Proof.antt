@@ -4,7 +4,7 @@ use native.Mathlib.Omega.{arith}
 use Prim.Native.Nat.{_+_, _-_, _≤_}
 use Rattle.base.specs.Sets.{isIn}
 use Rattle.committee.specs.Leaders.{countBelow, leaderNumber}
-use Rattle.committee.specs.LeaderLaws.{count-none, count-more, count-le, at-none, at-some}
+use Rattle.committee.proofs.LeaderLaws.{count-none, count-more, count-le, at-none, at-some}
 use Rattle.committee.proofs.leader.member_at.Statement.{statement}
 use Rattle.committee.proofs.leader.member_at.Tie as tie
 

@@ -3,7 +3,7 @@ use mathlib.Core.Path.{_≡_, refl}
 use native.Mathlib.Omega.{arith}
 use Prim.Native.Nat.{_-_, _≤_}
 use Rattle.base.specs.Folds.{foldTo}
-use Rattle.base.specs.FoldLaws.{fold-more}
+use Rattle.base.proofs.FoldLaws.{fold-more}
 use Rattle.committee.specs.Leaders.{joined, memberSet}
 use Rattle.committee.proofs.leader.member_set.Statement.{statement}
 use Rattle.committee.proofs.leader.member_set.Tie as tie

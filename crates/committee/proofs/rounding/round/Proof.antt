@@ -12,7 +12,7 @@ mul-if1 c = search needs
 
 returns : tie.Need-returns
 unfolding rounded
-returns c = let a = c .before .args in rw (lt-ltb (2 * a .r) (a .n) (c .if1 .taken)) refl
+returns c = let a = c .before .before .args in rw (lt-ltb (2 * a .r) (a .n .0) (c .if1 .taken)) refl
 
 mul-if2 : tie.Need-mul-if2
 mul-if2 c = search needs
@@ -22,14 +22,14 @@ add-result c = search needs
 
 returns-2 : tie.Need-returns-2
 unfolding rounded
-returns-2 c = let a = c .before .before .args in rw (le-ltb (2 * a .r) (a .n) (omega arith), lt-ltb (a .n) (2 * a .r) (c .if2 .taken)) refl
+returns-2 c = let a = c .before .before .before .before .args in rw (le-ltb (2 * a .r) (a .n .0) (omega arith), lt-ltb (a .n .0) (2 * a .r) (c .if2 .taken)) refl
 
 add-result-2 : tie.Need-add-result-2
 add-result-2 c = search needs
 
 returns-3 : tie.Need-returns-3
 unfolding rounded evenNeighbour
-returns-3 c = let a = c .before .before .args in rw (le-ltb (2 * a .r) (a .n) (omega arith), le-ltb (a .n) (2 * a .r) (omega arith)) refl
+returns-3 c = let a = c .before .before .before .before .args in rw (le-ltb (2 * a .r) (a .n .0) (omega arith), le-ltb (a .n .0) (2 * a .r) (omega arith)) refl
 
 pub round-spec : {M : Type 1} → statement M
 round-spec =

@@ -3,7 +3,7 @@ use Prim.Native.Nat.{_*_}
 use native.Mathlib.Omega.{arith}
 use native.Mathlib.Nat.{mod-lt}
 use Rattle.committee.specs.Shares.{nearest, shareOf}
-use Rattle.committee.specs.ShareLaws.{rest, whole-fits, whole-le, share-le}
+use Rattle.committee.proofs.ShareLaws.{rest, whole-fits, whole-le, share-le}
 use borrow.Author.Needs.{needs}
 use Rattle.committee.proofs.rounding.thousandths.Statement.{statement}
 use Rattle.committee.proofs.rounding.thousandths.Tie as tie

@@ -3,31 +3,23 @@ use Prim.Native.Nat.{_-_}
 use native.Mathlib.Omega.{arith}
 use lib.ListN.{length, drop}
 use Rattle.fields.specs.Fields.{untilComma}
-use Rattle.fields.specs.FieldLaws.{take-until}
+use Rattle.fields.proofs.FieldLaws.{take-until}
 use borrow.Author.Needs.{needs}
 use Rattle.fields.proofs.field.field_at.Statement.{statement}
 use Rattle.fields.proofs.field.field_at.Tie as tie
-use Rattle.fields.proofs.field.field_at.Reads as reads
-use Rattle.fields.proofs.field.field_at.Lts as lts
-use Rattle.fields.proofs.field.field_end.Reads as field-end-reads
 
--- src/field.rt:27:9
 field-end-requires : tie.Need-field-end-requires
 field-end-requires c κs = search needs
 
--- src/field.rt:28:5
 sub-result : tie.Need-sub-result
 sub-result c = search needs
 
--- src/field.rt:28:5
 part-result-start : tie.Need-part-result-start
 part-result-start c = search needs
 
--- src/field.rt:28:5
 part-result-end : tie.Need-part-result-end
 part-result-end c = search needs
 
--- src/field.rt:23:1
 returns : tie.Need-returns
 returns c =
     let a = c .before .before .before .args in

@@ -1,10 +1,10 @@
 use borrow.Author.Needs.{needs}
 use mathlib.Core.Path.{_≡_, refl}
-use Prim.Native.Nat.{ℕ, _+_, _-_, _<_, _≤_}
+use Prim.Native.Nat.{_+_, _-_, _≤_}
 use native.Mathlib.Omega.{arith}
 use lib.ListN.{length, drop}
 use Rattle.fields.specs.Fields.{untilComma}
-use Rattle.fields.specs.FieldLaws.{until-end, until-comma, until-other}
+use Rattle.fields.proofs.FieldLaws.{until-end, until-comma, until-other}
 use Rattle.fields.proofs.field.field_end.Statement.{statement}
 use Rattle.fields.proofs.field.field_end.Tie as tie
 

@@ -4,15 +4,12 @@ use mathlib.Core.Bool.{true}
 use native.Mathlib.Omega.{arith}
 use Prim.Native.Nat.{_+_, _-_, _*_, _<_, _≤_}
 use lib.ListN.{length, drop, getD}
-use Rattle.fields.specs.Numbers.{plain, allDigits, value, numberTo}
-use Rattle.fields.specs.NumberLaws.{value-le, digit-low, digit-high, digit, digits-at, value-at, digits-end, value-end, number-zeros, number-other, number-large, number-is}
-use Rattle.fields.specs.Steps.{found}
+use Rattle.fields.specs.Numbers.{plain, allDigits, value}
+use Rattle.fields.proofs.NumberLaws.{value-le, digit-low, digit-high, digit, digits-at, value-at, digits-end, value-end, number-zeros, number-other, number-large, number-is}
+use Rattle.fields.specs.Cursor.{found}
 use borrow.Author.Needs.{needs}
 use Rattle.fields.proofs.number.decimal.Statement.{statement}
 use Rattle.fields.proofs.number.decimal.Tie as tie
-use Rattle.fields.proofs.number.decimal.Reads as reads
-use Rattle.fields.proofs.number.decimal.Lts as lts
-use Rattle.fields.proofs.number.is_plain.Reads as is-plain-reads
 
 abbrev Inv-loop : tie.InvT-loop
 Inv-loop f m v₀ i₀ v i = (i ≤ length f) × (v ≤ m) × (plain f ≡ true) × (allDigits f ≡ allDigits (drop i f)) × (value 0 f ≡ value v (drop i f))
@@ -20,23 +17,18 @@ Inv-loop f m v₀ i₀ v i = (i ≤ length f) × (v ≤ m) × (plain f ≡ true)
 abbrev μ-loop : tie.MeasureT-loop
 μ-loop f m v₀ i₀ v i = length f - i
 
--- src/number.rt:31:9
 is-plain-requires : tie.Need-is-plain-requires Inv-loop μ-loop
 is-plain-requires c κs = search needs
 
--- src/number.rt:32:9
 returns : tie.Need-returns Inv-loop μ-loop
 returns c = sym (ap found (number-zeros _ _ (sym (c .before .is-plain .ensures) ∙ not-true _ (c .if1 .taken))))
 
--- src/number.rt:36:5
 loop-holds : tie.Need-loop-holds Inv-loop μ-loop
 loop-holds c = (omega arith, omega arith, sym (c .before .is-plain .ensures) ∙ not-false _ (c .if1 .left), refl, refl)
 
--- src/number.rt:37:17
 shared-slice-read-b : tie.Need-shared-slice-read-b Inv-loop μ-loop
 shared-slice-read-b c = search needs
 
--- src/number.rt:39:13
 returns-2 : tie.Need-returns-2 Inv-loop μ-loop
 returns-2 c =
     let f = c .before .before .before .before .before .before .before .args .f .now in
@@ -44,7 +36,6 @@ returns-2 c =
     let h : l .i < length f = omega arith in
     sym (ap found (number-other _ f (l .inv .2) (l .inv .3 ∙ digits-at f (l .i) h ∙ rw (digit-low (getD f (l .i) 0) (c .if2 .taken)) refl)))
 
--- src/number.rt:42:13
 returns-3 : tie.Need-returns-3 Inv-loop μ-loop
 returns-3 c =
     let f = c .before .before .before .before .before .before .before .before .args .f .now in
@@ -52,19 +43,15 @@ returns-3 c =
     let h : l .i < length f = omega arith in
     sym (ap found (number-other _ f (l .inv .2) (l .inv .3 ∙ digits-at f (l .i) h ∙ rw (digit-high (getD f (l .i) 0) (c .if3 .taken)) refl)))
 
--- src/number.rt:44:13
 mul-v : tie.Need-mul-v Inv-loop μ-loop
 mul-v c = search needs
 
--- src/number.rt:44:23
 cast-v : tie.Need-cast-v Inv-loop μ-loop
 cast-v c = search needs
 
--- src/number.rt:44:13
 add-v : tie.Need-add-v Inv-loop μ-loop
 add-v c = search needs
 
--- src/number.rt:46:13
 returns-4 : tie.Need-returns-4 Inv-loop μ-loop
 returns-4 c =
     let f = c .before .before .before .before .before .before .before .before .before .args .f .now in
@@ -74,15 +61,12 @@ returns-4 c =
     let e = value-at f (l .i) h (l .v) in
     sym (ap found (number-large _ f (l .inv .2) (omega (arith, l .inv .4))))
 
--- src/number.rt:48:9
 add-i : tie.Need-add-i Inv-loop μ-loop
 add-i c = search needs
 
--- src/number.rt:36:5
 loop-less : tie.Need-loop-less Inv-loop μ-loop
 loop-less c = search needs
 
--- src/number.rt:36:5
 loop-again : tie.Need-loop-again Inv-loop μ-loop
 loop-again c =
     let f = c .before .before .before .before .before .before .before .before .before .args .f .now in
@@ -92,11 +76,9 @@ loop-again c =
     let d = digit b (c .before .before .if2 .left) (c .before .if3 .left) in
     (omega arith, omega arith, l .inv .2, l .inv .3 ∙ digits-at f (l .i) h ∙ rw d refl, l .inv .4 ∙ value-at f (l .i) h (l .v))
 
--- src/number.rt:50:16
 cast-t14 : tie.Need-cast-t14 Inv-loop μ-loop
 cast-t14 c = search needs
 
--- src/number.rt:28:1
 returns-5 : tie.Need-returns-5 Inv-loop μ-loop
 returns-5 c =
     let f = c .before .before .before .before .before .args .f .now in

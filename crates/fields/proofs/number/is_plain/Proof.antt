@@ -1,25 +1,19 @@
-use Rattle.fields.specs.NumberLaws.{plain-none, plain-one, plain-more}
-use mathlib.Core.Path.{_≡_, refl, sym, ap, _∙_}
+use Rattle.fields.proofs.NumberLaws.{plain-none, plain-one, plain-more}
+use mathlib.Core.Path.{sym}
 use native.Mathlib.Omega.{arith}
 use borrow.Author.Needs.{needs}
 use Rattle.fields.proofs.number.is_plain.Statement.{statement}
 use Rattle.fields.proofs.number.is_plain.Tie as tie
-use Rattle.fields.proofs.number.is_plain.Reads as reads
-use Rattle.fields.proofs.number.is_plain.Lts as lts
 
--- src/number.rt:19:9
 returns : tie.Need-returns
 returns c = sym (plain-none _ (c .if1 .taken))
 
--- src/number.rt:22:9
 returns-2 : tie.Need-returns-2
 returns-2 c = sym (plain-one _ (c .if2 .taken))
 
--- src/number.rt:24:5
 shared-slice-read-result : tie.Need-shared-slice-read-result
 shared-slice-read-result c = search needs
 
--- src/number.rt:15:1
 returns-3 : tie.Need-returns-3
 returns-3 c = sym (plain-more _ (omega arith))
 

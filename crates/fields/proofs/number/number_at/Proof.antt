@@ -1,39 +1,28 @@
-use mathlib.Core.Path.{_≡_, refl, sym, ap, _∙_}
-use native.Mathlib.Omega.{arith}
-use Rattle.fields.specs.Steps.{found}
+use mathlib.Core.Path.{sym, ap, _∙_}
+use Rattle.fields.specs.Cursor.{found}
 use Rattle.fields.specs.Numbers.{numberTo}
-use Rattle.fields.specs.StepLaws.{stepped, stays, first-there, first-past}
+use Rattle.fields.proofs.CursorLaws.{stepped, stays, first-there, first-past}
 use borrow.Author.Needs.{needs}
 use Rattle.fields.proofs.number.number_at.Statement.{statement}
 use Rattle.fields.proofs.number.number_at.Tie as tie
-use Rattle.fields.proofs.number.number_at.Reads as reads
-use Rattle.fields.proofs.number.number_at.Lts as lts
-use Rattle.fields.proofs.field.field_at.Reads as field-at-reads
-use Rattle.fields.proofs.number.decimal.Reads as decimal-reads
 
--- src/number.rt:66:9
 returns : tie.Need-returns
 returns c =
     let a = c .before .before .args in
     (sym (ap found (first-past (a .rec .now) (a .at) (numberTo (a .m)) (c .if1 .taken))), stays (a .rec .now) (a .at) (c .if1 .taken) (c .before .before .pre))
 
--- src/number.rt:71:9
 field-at-requires : tie.Need-field-at-requires
 field-at-requires c κs = search needs
 
--- src/number.rt:73:17
 decimal-requires : tie.Need-decimal-requires
 decimal-requires c κs = search needs
 
--- src/number.rt:74:15
 add-t9 : tie.Need-add-t9
 add-t9 c = search needs
 
--- src/number.rt:74:15
 add-t10 : tie.Need-add-t10
 add-t10 c = search needs
 
--- src/number.rt:61:1
 returns-2 : tie.Need-returns-2
 returns-2 c =
     let a = c .before .before .before .before .args in

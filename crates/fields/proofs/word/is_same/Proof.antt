@@ -1,16 +1,13 @@
-use mathlib.Core.Path.{_≡_, refl, sym, ap, _∙_}
-use mathlib.Core.Bool.{true}
+use mathlib.Core.Path.{_≡_, refl, sym, _∙_}
 use native.Mathlib.Omega.{arith}
-use Prim.Native.Nat.{_-_, _<_, _≤_}
+use Prim.Native.Nat.{_-_, _≤_}
 use lib.ListN.{length, drop}
 use borrow.Author.Tests.{eq-eqb, ne-eqb}
 use Rattle.fields.specs.Words.{sameBytes}
-use Rattle.fields.specs.WordLaws.{other-length, same-at, same-end}
+use Rattle.fields.proofs.WordLaws.{other-length, same-at, same-end}
 use borrow.Author.Needs.{needs}
 use Rattle.fields.proofs.word.is_same.Statement.{statement}
 use Rattle.fields.proofs.word.is_same.Tie as tie
-use Rattle.fields.proofs.word.is_same.Reads as reads
-use Rattle.fields.proofs.word.is_same.Lts as lts
 
 abbrev Inv-loop : tie.InvT-loop
 Inv-loop f w i₀ i = (i ≤ length f) × (length f ≡ length w) × (sameBytes f w ≡ sameBytes (drop i f) (drop i w))
@@ -18,23 +15,18 @@ Inv-loop f w i₀ i = (i ≤ length f) × (length f ≡ length w) × (sameBytes 
 abbrev μ-loop : tie.MeasureT-loop
 μ-loop f w i₀ i = length f - i
 
--- src/word.rt:23:9
 returns : tie.Need-returns Inv-loop μ-loop
 returns c = sym (other-length _ _ (c .if1 .taken))
 
--- src/word.rt:26:5
 loop-holds : tie.Need-loop-holds Inv-loop μ-loop
 loop-holds c = (omega arith, c .if1 .left, refl)
 
--- src/word.rt:27:12
 shared-slice-read-if2 : tie.Need-shared-slice-read-if2 Inv-loop μ-loop
 shared-slice-read-if2 c = search needs
 
--- src/word.rt:27:20
 shared-slice-read-if2-2 : tie.Need-shared-slice-read-if2-2 Inv-loop μ-loop
 shared-slice-read-if2-2 c = search needs
 
--- src/word.rt:28:13
 returns-2 : tie.Need-returns-2 Inv-loop μ-loop
 returns-2 c =
     let l = c .before .before .before .before .loop in
@@ -42,15 +34,12 @@ returns-2 c =
     let h = same-at (a .f .now) (a .w .now) (l .i) (omega arith) (omega arith) in
     sym (l .inv .2 ∙ h ∙ rw (ne-eqb _ _ (c .if2 .taken)) refl)
 
--- src/word.rt:30:9
 add-i : tie.Need-add-i Inv-loop μ-loop
 add-i c = search needs
 
--- src/word.rt:26:5
 loop-less : tie.Need-loop-less Inv-loop μ-loop
 loop-less c = search needs
 
--- src/word.rt:26:5
 loop-again : tie.Need-loop-again Inv-loop μ-loop
 loop-again c =
     let l = c .before .before .before .before .loop in
@@ -58,7 +47,6 @@ loop-again c =
     let h = same-at (a .f .now) (a .w .now) (l .i) (omega arith) (omega arith) in
     (omega arith, l .inv .1, l .inv .2 ∙ h ∙ rw (eq-eqb _ _ (c .if2 .left)) refl)
 
--- src/word.rt:19:1
 returns-3 : tie.Need-returns-3 Inv-loop μ-loop
 returns-3 c =
     let l = c .before .loop in

@@ -4,40 +4,28 @@ use Rattle.host.specs.Calls.{addedAnswer}
 use borrow.Author.Needs.{needs}
 use Rattle.host.proofs.answers.settle_commit.Statement.{statement}
 use Rattle.host.proofs.answers.settle_commit.Tie as tie
-use Rattle.host.proofs.answers.settle_commit.Reads as reads
-use Rattle.host.proofs.answers.settle_commit.Lts as lts
-use Rattle.host.proofs.answers.pack.Reads as pack-reads
-use Rattle.host.proofs.states.put_state.Reads as put-state-reads
 
--- src/answers.rt:82:26
 enum-known-a : tie.Need-enum-known-a
 enum-known-a c = search needs
 
--- src/answers.rt:83:13
 put-state-requires : tie.Need-put-state-requires
 put-state-requires c κs = (omega arith, c .before .before .before .before .before .before .pre .1 (ap addedAnswer (c .before .before .a .given .1)))
 
--- src/answers.rt:84:13
 pack-requires : tie.Need-pack-requires
 pack-requires c κs = search needs
 
--- src/answers.rt:86:28
 enum-known-a-2 : tie.Need-enum-known-a-2
 enum-known-a-2 c = search needs
 
--- src/answers.rt:86:34
 pack-requires-2 : tie.Need-pack-requires-2
 pack-requires-2 c κs = search needs
 
--- src/answers.rt:75:1
 same-length : tie.Need-same-length
 same-length c = search needs
 
--- src/answers.rt:75:1
 returns : tie.Need-returns
 returns c = rw (c .before .before .before .before .before .before .a .given .1) (c .pack .ensures, c .before .before .before .put-state .ensures)
 
--- src/answers.rt:75:1
 returns-2 : tie.Need-returns-2
 returns-2 c = rw (c .before .before .a2 .given .1) (c .pack2 .ensures, refl)
 

@@ -1,31 +1,22 @@
 use borrow.Author.Needs.{needs}
 use Rattle.host.proofs.answers.share_number.Statement.{statement}
 use Rattle.host.proofs.answers.share_number.Tie as tie
-use Rattle.host.proofs.answers.share_number.Reads as reads
-use Rattle.host.proofs.answers.share_number.Lts as lts
-use Rattle.host.proofs.answers.pack.Reads as pack-reads
 
--- src/answers.rt:43:32
 enum-known-x : tie.Need-enum-known-x
 enum-known-x c = search needs
 
--- src/answers.rt:43:38
 pack-requires : tie.Need-pack-requires
 pack-requires c κs = search needs
 
--- src/answers.rt:44:28
 enum-known-x-2 : tie.Need-enum-known-x-2
 enum-known-x-2 c = search needs
 
--- src/answers.rt:44:34
 pack-requires-2 : tie.Need-pack-requires-2
 pack-requires-2 c κs = search needs
 
--- src/answers.rt:39:1
 returns : tie.Need-returns
 returns c = rw (c .before .before .x .given .1) (c .pack .ensures)
 
--- src/answers.rt:39:1
 returns-2 : tie.Need-returns-2
 returns-2 c = rw (c .before .before .x2 .given .1) (c .pack2 .ensures)
 

@@ -4,14 +4,11 @@ use Prim.Native.Nat.{_-_, _≤_}
 use native.Mathlib.Omega.{arith}
 use borrow.Author.Tests.{lt-ltb, le-ltb, not-true, not-false}
 use Rattle.base.specs.Folds.{allTo}
-use Rattle.base.specs.TestLaws.{all-more, all-fails}
+use Rattle.base.proofs.TestLaws.{all-more, all-fails}
 use Rattle.host.specs.Bodies.{tripleReads, bodyReads}
 use borrow.Author.Needs.{needs}
 use Rattle.host.proofs.bodies.body_reads.Statement.{statement}
 use Rattle.host.proofs.bodies.body_reads.Tie as tie
-use Rattle.host.proofs.bodies.body_reads.Reads as reads
-use Rattle.host.proofs.bodies.body_reads.Lts as lts
-use Rattle.host.proofs.bodies.triple_reads.Reads as triple-reads-reads
 
 abbrev Inv-loop : tie.InvT-loop
 Inv-loop w at k₀ k = (k ≤ 4) × (allTo (tripleReads w at) k ≡ true)
@@ -19,48 +16,38 @@ Inv-loop w at k₀ k = (k ≤ 4) × (allTo (tripleReads w at) k ≡ true)
 abbrev μ-loop : tie.MeasureT-loop
 μ-loop w at k₀ k = 4 - k
 
--- src/bodies.rt:42:17
 mul-if1 : tie.Need-mul-if1 Inv-loop μ-loop
 mul-if1 c = search needs
 
--- src/bodies.rt:42:17
 shared-slice-read-if1 : tie.Need-shared-slice-read-if1 Inv-loop μ-loop
 shared-slice-read-if1 c = search needs
 
--- src/bodies.rt:43:9
 returns : tie.Need-returns Inv-loop μ-loop
 unfolding bodyReads
 returns c = rw (le-ltb _ 65536 (c .if1 .taken)) refl
 
--- src/bodies.rt:45:5
 loop-holds : tie.Need-loop-holds Inv-loop μ-loop
 unfolding allTo
 loop-holds c = (omega arith, refl)
 
--- src/bodies.rt:46:13
 triple-reads-requires : tie.Need-triple-reads-requires Inv-loop μ-loop
 triple-reads-requires c κs = search needs
 
--- src/bodies.rt:47:13
 returns-2 : tie.Need-returns-2 Inv-loop μ-loop
 unfolding bodyReads
 returns-2 c =
     let a = c .before .before .before .before .before .before .before .args in
     rw (lt-ltb _ 65536 (c .before .before .before .before .if1 .left), all-fails (tripleReads (a .w .now) (a .at)) 4 (c .before .before .before .loop .k) (omega arith) (sym (c .before .triple-reads .ensures) ∙ not-true _ (c .if2 .taken))) refl
 
--- src/bodies.rt:45:9
 add-k : tie.Need-add-k Inv-loop μ-loop
 add-k c = search needs
 
--- src/bodies.rt:45:5
 loop-less : tie.Need-loop-less Inv-loop μ-loop
 loop-less c = search needs
 
--- src/bodies.rt:45:5
 loop-again : tie.Need-loop-again Inv-loop μ-loop
 loop-again c = (omega arith, simp (all-more, c .before .before .before .loop .inv .1, ← c .before .triple-reads .ensures) (not-false _ (c .if2 .left)))
 
--- src/bodies.rt:38:1
 returns-3 : tie.Need-returns-3 Inv-loop μ-loop
 unfolding bodyReads
 returns-3 c =

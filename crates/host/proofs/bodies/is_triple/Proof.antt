@@ -3,20 +3,15 @@ use mathlib.Core.Path.{refl}
 use Rattle.host.specs.Bodies.{isTriple}
 use Rattle.host.proofs.bodies.is_triple.Statement.{statement}
 use Rattle.host.proofs.bodies.is_triple.Tie as tie
-use Rattle.host.proofs.bodies.is_triple.Reads as reads
-use Rattle.host.proofs.bodies.is_triple.Lts as lts
 
--- src/bodies.rt:18:9
 returns : tie.Need-returns
 unfolding isTriple
 returns c = rw (eq-eqb _ 0 (c .if1 .taken)) refl
 
--- src/bodies.rt:21:9
 returns-2 : tie.Need-returns-2
 unfolding isTriple
 returns-2 c = rw (ne-eqb _ 0 (c .before .if1 .left), lt-leb _ 2 (c .if2 .taken)) refl
 
--- src/bodies.rt:14:1
 returns-3 : tie.Need-returns-3
 unfolding isTriple
 returns-3 c = rw (ne-eqb _ 0 (c .before .if1 .left), le-leb _ 2 (c .if2 .left)) refl

@@ -1,26 +1,21 @@
 use mathlib.Core.Path.{refl}
 use borrow.Author.Tests.{lt-leb, le-leb}
+use Rattle.host.specs.Lengths.{bodyLength}
 use Rattle.host.specs.Bodies.{loneBodyReads}
 use borrow.Author.Needs.{needs}
 use Rattle.host.proofs.bodies.lone_body_reads.Statement.{statement}
 use Rattle.host.proofs.bodies.lone_body_reads.Tie as tie
-use Rattle.host.proofs.bodies.lone_body_reads.Reads as reads
-use Rattle.host.proofs.bodies.lone_body_reads.Lts as lts
-use Rattle.host.proofs.bodies.body_reads.Reads as body-reads-reads
 
--- src/bodies.rt:67:9
 returns : tie.Need-returns
 unfolding loneBodyReads
-returns c = rw (lt-leb 14 _ (c .if1 .taken)) refl
+returns c = rw (lt-leb bodyLength _ (c .if1 .taken)) refl
 
--- src/bodies.rt:69:5
 body-reads-requires : tie.Need-body-reads-requires
 body-reads-requires c κs = search needs
 
--- src/bodies.rt:63:1
 returns-2 : tie.Need-returns-2
 unfolding loneBodyReads
-returns-2 c = rw (le-leb 14 _ (c .before .if1 .left)) (c .body-reads .ensures)
+returns-2 c = rw (le-leb bodyLength _ (c .before .if1 .left)) (c .body-reads .ensures)
 
 pub lone-body-reads-spec : {M : Type 1} → statement M
 lone-body-reads-spec = tie.close (tie.spec returns body-reads-requires returns-2)

@@ -5,72 +5,55 @@ use Prim.Native.Nat.{ℕ, _+_, _*_, _-_, _≤_}
 use lib.ListN.{length}
 use lib.Seq.{paste, paste-zero}
 use Rattle.terms.specs.declared.Transaction.{Transaction}
+use Rattle.host.specs.Lengths.{transactionLength}
 use Rattle.host.specs.Bodies.{usedWords, tripleWords}
-use Rattle.host.specs.PutLaws.{used-step, body-put}
+use Rattle.host.proofs.PutLaws.{used-step, body-put}
 use borrow.Author.Needs.{needs}
 use Rattle.host.proofs.bodies.put_body.Statement.{statement}
 use Rattle.host.proofs.bodies.put_body.Tie as tie
-use Rattle.host.proofs.bodies.put_body.Reads as reads
-use Rattle.host.proofs.bodies.put_body.Lts as lts
-use Rattle.host.proofs.bodies.put_triple.Reads as put-triple-reads
-use Rattle.host.proofs.bodies.used_at.Reads as used-at-reads
-use Rattle.host.proofs.words.put.Reads as put-reads
 
 abbrev Inv-loop : tie.InvT-loop
-Inv-loop w₀ at b k₀ w k = (k ≤ 4) × (w ≡ paste w₀ (at + 2) (usedWords b k) (k * 3)) × (length w ≡ length w₀)
+Inv-loop w₀ at b k₀ w k = (k ≤ 4) × (w ≡ paste w₀ (at + 2) (usedWords b k) (k * transactionLength)) × (length w ≡ length w₀)
 
 abbrev μ-loop : tie.MeasureT-loop
 μ-loop w₀ at b k₀ w k = 4 - k
 
--- src/bodies.rt:132:17
 cast-t7 : tie.Need-cast-t7 Inv-loop μ-loop
 cast-t7 c = search needs
 
--- src/bodies.rt:133:30
 slice-aggregate-put : tie.Need-slice-aggregate-put Inv-loop μ-loop
 slice-aggregate-put c = search needs
 
--- src/bodies.rt:133:5
 put-requires : tie.Need-put-requires Inv-loop μ-loop
 put-requires c κs = search needs
 
--- src/bodies.rt:134:5
 loop-holds : tie.Need-loop-holds Inv-loop μ-loop
 loop-holds c = let a = c .before .before .before .before .before .before .before .args in (omega arith, paste-zero (c .before .before .put .last .0) (a .at + 2) (usedWords (a .b) 0), refl)
 
--- src/bodies.rt:135:13
 used-at-requires : tie.Need-used-at-requires Inv-loop μ-loop
 used-at-requires c κs = search needs
 
--- src/bodies.rt:136:23
 add-put-triple : tie.Need-add-put-triple Inv-loop μ-loop
 add-put-triple c = search needs
 
--- src/bodies.rt:136:32
 cast-put-triple : tie.Need-cast-put-triple Inv-loop μ-loop
 cast-put-triple c = search needs
 
--- src/bodies.rt:136:32
 mul-put-triple : tie.Need-mul-put-triple Inv-loop μ-loop
 mul-put-triple c = search needs
 
--- src/bodies.rt:136:23
 add-put-triple-2 : tie.Need-add-put-triple-2 Inv-loop μ-loop
 add-put-triple-2 c = search needs
 
--- src/bodies.rt:136:9
 put-triple-requires : tie.Need-put-triple-requires Inv-loop μ-loop
 put-triple-requires c κs = search needs
 
--- src/bodies.rt:134:9
 add-k : tie.Need-add-k Inv-loop μ-loop
 add-k c = search needs
 
--- src/bodies.rt:134:5
 loop-less : tie.Need-loop-less Inv-loop μ-loop
 loop-less c = search needs
 
--- src/bodies.rt:134:5
 loop-again : tie.Need-loop-again Inv-loop μ-loop
 loop-again c =
     let a = c .before .before .before .before .before .before .before .before .before .before .before .before .before .before .args in
@@ -78,16 +61,14 @@ loop-again c =
     let u = c .before .before .before .before .before .before .before .before .before .put .last .0 in (
       omega arith,
       c .before .before .put-triple .ensures
-          ∙ ap₂ (λ (z : List ℕ) (x : Transaction). paste z (a .at + 2 + l .k * 3) (tripleWords x) 3) (l .inv .1) (c .before .before .before .before .used-at .ensures)
+          ∙ ap₂ (λ (z : List ℕ) (x : Transaction). paste z (a .at + 2 + l .k * transactionLength) (tripleWords x) transactionLength) (l .inv .1) (c .before .before .before .before .used-at .ensures)
           ∙ used-step (a .b) u (a .at + 2) (l .k) (omega arith),
       c .before .before .put-triple .kept .0 ∙ l .inv .2,
     )
 
--- src/bodies.rt:128:1
 same-length : tie.Need-same-length Inv-loop μ-loop
 same-length c = search needs
 
--- src/bodies.rt:128:1
 returns : tie.Need-returns Inv-loop μ-loop
 returns c =
     let e : c .before .loop .k ≡ 4 = omega arith in

@@ -4,76 +4,56 @@ use Rattle.host.specs.Bodies.{slotIn}
 use borrow.Author.Needs.{needs}
 use Rattle.host.proofs.bodies.slot_in.Statement.{statement}
 use Rattle.host.proofs.bodies.slot_in.Tie as tie
-use Rattle.host.proofs.bodies.slot_in.Reads as reads
-use Rattle.host.proofs.bodies.slot_in.Lts as lts
-use Rattle.terms.proofs.told.Reads as told-reads
 
--- src/bodies.rt:67:13
 add-i : tie.Need-add-i
 add-i c = search needs
 
--- src/bodies.rt:67:22
 mul-i : tie.Need-mul-i
 mul-i c = search needs
 
--- src/bodies.rt:67:13
 add-i-2 : tie.Need-add-i-2
 add-i-2 c = search needs
 
--- src/bodies.rt:68:14
 add-if1 : tie.Need-add-if1
 add-if1 c = search needs
 
--- src/bodies.rt:68:12
 mul-if1 : tie.Need-mul-if1
 mul-if1 c = search needs
 
--- src/bodies.rt:68:12
 shared-slice-read-if1 : tie.Need-shared-slice-read-if1
 shared-slice-read-if1 c = search needs
 
--- src/bodies.rt:70:38
-mul-told : tie.Need-mul-told
-mul-told c = search needs
+mul-read-transaction : tie.Need-mul-read-transaction
+mul-read-transaction c = search needs
 
--- src/bodies.rt:70:38
-shared-slice-read-told : tie.Need-shared-slice-read-told
-shared-slice-read-told c = search needs
+shared-slice-read-read-transaction : tie.Need-shared-slice-read-read-transaction
+shared-slice-read-read-transaction c = search needs
 
--- src/bodies.rt:70:46
-add-told : tie.Need-add-told
-add-told c = search needs
+add-read-transaction : tie.Need-add-read-transaction
+add-read-transaction c = search needs
 
--- src/bodies.rt:70:44
-mul-told-2 : tie.Need-mul-told-2
-mul-told-2 c = search needs
+mul-read-transaction-2 : tie.Need-mul-read-transaction-2
+mul-read-transaction-2 c = search needs
 
--- src/bodies.rt:70:44
-shared-slice-read-told-2 : tie.Need-shared-slice-read-told-2
-shared-slice-read-told-2 c = search needs
+shared-slice-read-read-transaction-2 : tie.Need-shared-slice-read-read-transaction-2
+shared-slice-read-read-transaction-2 c = search needs
 
--- src/bodies.rt:70:56
-add-told-2 : tie.Need-add-told-2
-add-told-2 c = search needs
+add-read-transaction-2 : tie.Need-add-read-transaction-2
+add-read-transaction-2 c = search needs
 
--- src/bodies.rt:70:54
-mul-told-3 : tie.Need-mul-told-3
-mul-told-3 c = search needs
+mul-read-transaction-3 : tie.Need-mul-read-transaction-3
+mul-read-transaction-3 c = search needs
 
--- src/bodies.rt:70:54
-shared-slice-read-told-3 : tie.Need-shared-slice-read-told-3
-shared-slice-read-told-3 c = search needs
+shared-slice-read-read-transaction-3 : tie.Need-shared-slice-read-read-transaction-3
+shared-slice-read-read-transaction-3 c = search needs
 
--- src/bodies.rt:70:26
-told-requires : tie.Need-told-requires
-told-requires c κs = search needs
+read-transaction-requires : tie.Need-read-transaction-requires
+read-transaction-requires c κs = search needs
 
--- src/bodies.rt:69:9
 returns : tie.Need-returns
 unfolding slotIn
-returns c = rw (lt-ltb _ _ (c .before .before .before .before .if1 .taken), c .told .ensures) refl
+returns c = rw (lt-ltb _ _ (c .before .before .before .before .if1 .taken), c .read-transaction .ensures) refl
 
--- src/bodies.rt:63:1
 returns-2 : tie.Need-returns-2
 unfolding slotIn
 returns-2 c = rw (le-ltb _ _ (c .if1 .left)) refl
@@ -88,14 +68,14 @@ slot-in-spec =
     add-if1
     mul-if1
     shared-slice-read-if1
-    mul-told
-    shared-slice-read-told
-    add-told
-    mul-told-2
-    shared-slice-read-told-2
-    add-told-2
-    mul-told-3
-    shared-slice-read-told-3
-    told-requires
+    mul-read-transaction
+    shared-slice-read-read-transaction
+    add-read-transaction
+    mul-read-transaction-2
+    shared-slice-read-read-transaction-2
+    add-read-transaction-2
+    mul-read-transaction-3
+    shared-slice-read-read-transaction-3
+    read-transaction-requires
     returns
     returns-2)

@@ -1,14 +1,11 @@
 use mathlib.Core.Path.{refl}
 use native.Mathlib.Omega.{arith}
 use Prim.Native.Nat.{_-_}
-use Rattle.host.specs.FillLaws.{Filling, filling-none, filling-more, filling-all}
+use Rattle.host.proofs.FillLaws.{Filling, filling-none, filling-more, filling-all}
 use Rattle.host.specs.Bodies.{slotIn}
 use borrow.Author.Needs.{needs}
 use Rattle.host.proofs.bodies.slots_in.Statement.{statement}
 use Rattle.host.proofs.bodies.slots_in.Tie as tie
-use Rattle.host.proofs.bodies.slots_in.Reads as reads
-use Rattle.host.proofs.bodies.slots_in.Lts as lts
-use Rattle.host.proofs.bodies.slot_in.Reads as slot-in-reads
 
 abbrev Inv-loop : tie.InvT-loop
 Inv-loop w at slots₀ k₀ slots k = Filling (slotIn w at) 4 slots k
@@ -16,39 +13,30 @@ Inv-loop w at slots₀ k₀ slots k = Filling (slotIn w at) 4 slots k
 abbrev μ-loop : tie.MeasureT-loop
 μ-loop w at slots₀ k₀ slots k = 4 - k
 
--- src/bodies.rt:87:5
 loop-holds : tie.Need-loop-holds Inv-loop μ-loop
 loop-holds c = filling-none refl
 
--- src/bodies.rt:88:13
 slot-in-requires : tie.Need-slot-in-requires Inv-loop μ-loop
 slot-in-requires c κs = search needs
 
--- src/bodies.rt:89:15
 cast-slots : tie.Need-cast-slots Inv-loop μ-loop
 cast-slots c = search needs
 
--- src/bodies.rt:89:9
 mul-slots : tie.Need-mul-slots Inv-loop μ-loop
 mul-slots c = search needs
 
--- src/bodies.rt:89:9
 array-set-from-slots : tie.Need-array-set-from-slots Inv-loop μ-loop
 array-set-from-slots c = search needs
 
--- src/bodies.rt:87:9
 add-k : tie.Need-add-k Inv-loop μ-loop
 add-k c = search needs
 
--- src/bodies.rt:87:5
 loop-less : tie.Need-loop-less Inv-loop μ-loop
 loop-less c = search needs
 
--- src/bodies.rt:87:5
 loop-again : tie.Need-loop-again Inv-loop μ-loop
 loop-again c = filling-more (c .before .before .loop .inv) (omega arith) (c .slot-in .ensures)
 
--- src/bodies.rt:79:1
 returns : tie.Need-returns Inv-loop μ-loop
 returns c = filling-all (c .before .loop .inv) (omega arith)
 

@@ -4,64 +4,47 @@ use Rattle.host.specs.Bodies.{tripleReads}
 use borrow.Author.Needs.{needs}
 use Rattle.host.proofs.bodies.triple_reads.Statement.{statement}
 use Rattle.host.proofs.bodies.triple_reads.Tie as tie
-use Rattle.host.proofs.bodies.triple_reads.Reads as reads
-use Rattle.host.proofs.bodies.triple_reads.Lts as lts
-use Rattle.host.proofs.bodies.is_triple.Reads as is-triple-reads
 
--- src/bodies.rt:30:14
 add-if1 : tie.Need-add-if1
 add-if1 c = search needs
 
--- src/bodies.rt:30:12
 mul-if1 : tie.Need-mul-if1
 mul-if1 c = search needs
 
--- src/bodies.rt:30:12
 shared-slice-read-if1 : tie.Need-shared-slice-read-if1
 shared-slice-read-if1 c = search needs
 
--- src/bodies.rt:31:17
 add-i : tie.Need-add-i
 add-i c = search needs
 
--- src/bodies.rt:31:26
 mul-i : tie.Need-mul-i
 mul-i c = search needs
 
--- src/bodies.rt:31:17
 add-i-2 : tie.Need-add-i-2
 add-i-2 c = search needs
 
--- src/bodies.rt:32:26
 mul-is-triple : tie.Need-mul-is-triple
 mul-is-triple c = search needs
 
--- src/bodies.rt:32:26
 shared-slice-read-is-triple : tie.Need-shared-slice-read-is-triple
 shared-slice-read-is-triple c = search needs
 
--- src/bodies.rt:32:34
 add-is-triple : tie.Need-add-is-triple
 add-is-triple c = search needs
 
--- src/bodies.rt:32:32
 mul-is-triple-2 : tie.Need-mul-is-triple-2
 mul-is-triple-2 c = search needs
 
--- src/bodies.rt:32:32
 shared-slice-read-is-triple-2 : tie.Need-shared-slice-read-is-triple-2
 shared-slice-read-is-triple-2 c = search needs
 
--- src/bodies.rt:32:9
 is-triple-requires : tie.Need-is-triple-requires
 is-triple-requires c κs = search needs
 
--- src/bodies.rt:32:9
 returns : tie.Need-returns
 unfolding tripleReads
 returns c = rw (lt-ltb _ _ (c .before .before .before .if1 .taken)) (c .is-triple .ensures)
 
--- src/bodies.rt:26:1
 returns-2 : tie.Need-returns-2
 unfolding tripleReads
 returns-2 c = rw (le-ltb _ _ (c .if1 .left)) refl

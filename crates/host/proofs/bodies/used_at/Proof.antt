@@ -4,20 +4,14 @@ use Rattle.host.specs.Bodies.{usedOf}
 use borrow.Author.Needs.{needs}
 use Rattle.host.proofs.bodies.used_at.Statement.{statement}
 use Rattle.host.proofs.bodies.used_at.Tie as tie
-use Rattle.host.proofs.bodies.used_at.Reads as reads
-use Rattle.host.proofs.bodies.used_at.Lts as lts
-use Rattle.terms.proofs.slot_at.Reads as slot-at-reads
 
--- src/bodies.rt:113:9
 slot-at-requires : tie.Need-slot-at-requires
 slot-at-requires c κs = search needs
 
--- src/bodies.rt:113:9
 returns : tie.Need-returns
 unfolding usedOf
 returns c = rw (lt-ltb _ _ (c .before .if1 .taken), c .slot-at .ensures) refl
 
--- src/bodies.rt:108:1
 returns-2 : tie.Need-returns-2
 unfolding usedOf
 returns-2 c = rw (le-ltb _ _ (c .if1 .left)) refl

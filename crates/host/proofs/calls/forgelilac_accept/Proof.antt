@@ -1,63 +1,45 @@
 use mathlib.Core.Path.{refl}
 use mathlib.Core.List.{[]}
-use Rattle.host.specs.CallLaws.{not-read, is-read, left-unread, right-unread, both-read, done-unread, kept-done}
+use Rattle.host.proofs.CallLaws.{not-read, is-read, left-unread, right-unread, both-read, done-unread, kept-done}
 use Rattle.host.specs.Proposals.{certificateReads}
 use Rattle.host.specs.States.{stateReads}
 use Rattle.host.specs.Calls.{accept}
-use Rattle.host.specs.ReadingLaws.{state-read, certificate-read}
+use Rattle.host.proofs.ReadingLaws.{state-read, certificate-read}
 use borrow.Author.Needs.{needs}
 use Rattle.host.proofs.calls.forgelilac_accept.Statement.{statement}
 use Rattle.host.proofs.calls.forgelilac_accept.Tie as tie
-use Rattle.host.proofs.calls.forgelilac_accept.Reads as reads
-use Rattle.host.proofs.calls.forgelilac_accept.Lts as lts
-use Rattle.host.proofs.answers.number_of.Reads as number-of-reads
-use Rattle.host.proofs.proposals.certificate_in.Reads as certificate-in-reads
-use Rattle.host.proofs.proposals.certificate_reads.Reads as certificate-reads-reads
-use Rattle.host.proofs.states.state_in.Reads as state-in-reads
-use Rattle.host.proofs.states.state_reads.Reads as state-reads-reads
-use Rattle.member.proofs.accept.accept.Reads as accept-reads
 
--- src/calls.rt:75:9
 state-reads-requires : tie.Need-state-reads-requires
 state-reads-requires c κs = search needs
 
--- src/calls.rt:76:9
 returns : tie.Need-returns
 returns c =
     let a = c .before .before .before .before .before .args in
     done-unread (a .state .now) (a .table .now) [] (accept (a .certificate .now)) (left-unread (certificateReads (a .certificate .now)) (not-read (c .before .state-reads .ensures) (c .if1 .taken))) refl
 
--- src/calls.rt:78:9
 certificate-reads-requires : tie.Need-certificate-reads-requires
 certificate-reads-requires c κs = search needs
 
--- src/calls.rt:79:9
 returns-2 : tie.Need-returns-2
 returns-2 c =
     let a = c .before .before .before .before .before .before .before .args in
     done-unread (a .state .now) (a .table .now) [] (accept (a .certificate .now)) (right-unread (stateReads (a .state .now)) (not-read (c .before .certificate-reads .ensures) (c .if2 .taken))) refl
 
--- src/calls.rt:81:9
 state-in-requires : tie.Need-state-in-requires
 state-in-requires c κs = state-read _ (is-read (c .before .before .before .state-reads .ensures) (c .before .before .if1 .left))
 
--- src/calls.rt:82:9
 certificate-in-requires : tie.Need-certificate-in-requires
 certificate-in-requires c κs = certificate-read _ (is-read (c .before .before .certificate-reads .ensures) (c .before .if2 .left))
 
--- src/calls.rt:83:9
 accept-requires : tie.Need-accept-requires
 accept-requires c κs = search needs
 
--- src/calls.rt:85:5
 number-of-requires : tie.Need-number-of-requires
 number-of-requires c κs = search needs
 
--- src/calls.rt:71:1
 same-length : tie.Need-same-length
 same-length c = search needs
 
--- src/calls.rt:71:1
 returns-3 : tie.Need-returns-3
 returns-3 c =
     let a = c .before .before .before .before .before .before .before .before .before .before .before .before .before .before .args in

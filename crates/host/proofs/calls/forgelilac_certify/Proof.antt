@@ -2,57 +2,42 @@ use mathlib.Core.Path.{refl}
 use mathlib.Core.List.{[]}
 use lib.Dec.{ltb}
 use borrow.Author.Tests.{lt-ltb, le-ltb}
-use Rattle.host.specs.CallLaws.{not-read, is-read, left-unread, right-unread, both-read, done-unread, kept-done}
+use Rattle.host.proofs.CallLaws.{not-read, is-read, left-unread, right-unread, both-read, done-unread, kept-done}
 use Rattle.host.specs.States.{stateReads}
 use Rattle.host.specs.Calls.{certify}
-use Rattle.host.specs.ReadingLaws.{state-read}
+use Rattle.host.proofs.ReadingLaws.{state-read}
 use borrow.Author.Needs.{needs}
 use Rattle.host.proofs.calls.forgelilac_certify.Statement.{statement}
 use Rattle.host.proofs.calls.forgelilac_certify.Tie as tie
-use Rattle.host.proofs.calls.forgelilac_certify.Reads as reads
-use Rattle.host.proofs.calls.forgelilac_certify.Lts as lts
-use Rattle.host.proofs.answers.number_of.Reads as number-of-reads
-use Rattle.host.proofs.states.state_in.Reads as state-in-reads
-use Rattle.host.proofs.states.state_reads.Reads as state-reads-reads
-use Rattle.member.proofs.certify.certify.Reads as certify-reads
 
--- src/calls.rt:59:9
 state-reads-requires : tie.Need-state-reads-requires
 state-reads-requires c κs = search needs
 
--- src/calls.rt:60:9
 returns : tie.Need-returns
 returns c =
     let a = c .before .before .before .before .args in
     done-unread (a .state .now) (a .table .now) [] (certify (a .endorsers)) (left-unread (ltb (a .endorsers) 65536) (not-read (c .before .state-reads .ensures) (c .if1 .taken))) refl
 
--- src/calls.rt:63:9
 returns-2 : tie.Need-returns-2
 returns-2 c =
     let a = c .before .before .before .before .before .args in
     done-unread (a .state .now) (a .table .now) [] (certify (a .endorsers)) (right-unread (stateReads (a .state .now)) (le-ltb (a .endorsers) 65536 (c .if2 .taken))) refl
 
--- src/calls.rt:65:9
 state-in-requires : tie.Need-state-in-requires
 state-in-requires c κs = state-read _ (is-read (c .before .before .state-reads .ensures) (c .before .if1 .left))
 
--- src/calls.rt:66:48
 cast-certify : tie.Need-cast-certify
 cast-certify c = search needs
 
--- src/calls.rt:66:9
 certify-requires : tie.Need-certify-requires
 certify-requires c κs = search needs
 
--- src/calls.rt:68:5
 number-of-requires : tie.Need-number-of-requires
 number-of-requires c κs = search needs
 
--- src/calls.rt:55:1
 same-length : tie.Need-same-length
 same-length c = search needs
 
--- src/calls.rt:55:1
 returns-3 : tie.Need-returns-3
 returns-3 c =
     let a = c .before .before .before .before .before .before .before .before .before .before .before .args in

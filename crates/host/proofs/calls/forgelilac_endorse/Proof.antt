@@ -1,63 +1,45 @@
 use mathlib.Core.Path.{refl}
 use mathlib.Core.List.{[]}
-use Rattle.host.specs.CallLaws.{not-read, is-read, left-unread, right-unread, both-read, done-unread, kept-done}
+use Rattle.host.proofs.CallLaws.{not-read, is-read, left-unread, right-unread, both-read, done-unread, kept-done}
 use Rattle.host.specs.Proposals.{proposalReads}
 use Rattle.host.specs.States.{stateReads}
 use Rattle.host.specs.Calls.{endorse}
-use Rattle.host.specs.ReadingLaws.{state-read, proposal-read}
+use Rattle.host.proofs.ReadingLaws.{state-read, proposal-read}
 use borrow.Author.Needs.{needs}
 use Rattle.host.proofs.calls.forgelilac_endorse.Statement.{statement}
 use Rattle.host.proofs.calls.forgelilac_endorse.Tie as tie
-use Rattle.host.proofs.calls.forgelilac_endorse.Reads as reads
-use Rattle.host.proofs.calls.forgelilac_endorse.Lts as lts
-use Rattle.host.proofs.answers.number_of.Reads as number-of-reads
-use Rattle.host.proofs.proposals.proposal_in.Reads as proposal-in-reads
-use Rattle.host.proofs.proposals.proposal_reads.Reads as proposal-reads-reads
-use Rattle.host.proofs.states.state_in.Reads as state-in-reads
-use Rattle.host.proofs.states.state_reads.Reads as state-reads-reads
-use Rattle.member.proofs.endorse.endorse.Reads as endorse-reads
 
--- src/calls.rt:42:9
 state-reads-requires : tie.Need-state-reads-requires
 state-reads-requires c κs = search needs
 
--- src/calls.rt:43:9
 returns : tie.Need-returns
 returns c =
     let a = c .before .before .before .before .before .args in
     done-unread (a .state .now) (a .table .now) [] (endorse (a .proposal .now)) (left-unread (proposalReads (a .proposal .now)) (not-read (c .before .state-reads .ensures) (c .if1 .taken))) refl
 
--- src/calls.rt:45:9
 proposal-reads-requires : tie.Need-proposal-reads-requires
 proposal-reads-requires c κs = search needs
 
--- src/calls.rt:46:9
 returns-2 : tie.Need-returns-2
 returns-2 c =
     let a = c .before .before .before .before .before .before .before .args in
     done-unread (a .state .now) (a .table .now) [] (endorse (a .proposal .now)) (right-unread (stateReads (a .state .now)) (not-read (c .before .proposal-reads .ensures) (c .if2 .taken))) refl
 
--- src/calls.rt:48:9
 state-in-requires : tie.Need-state-in-requires
 state-in-requires c κs = state-read _ (is-read (c .before .before .before .state-reads .ensures) (c .before .before .if1 .left))
 
--- src/calls.rt:49:9
 proposal-in-requires : tie.Need-proposal-in-requires
 proposal-in-requires c κs = proposal-read _ (is-read (c .before .before .proposal-reads .ensures) (c .before .if2 .left))
 
--- src/calls.rt:50:9
 endorse-requires : tie.Need-endorse-requires
 endorse-requires c κs = search needs
 
--- src/calls.rt:52:5
 number-of-requires : tie.Need-number-of-requires
 number-of-requires c κs = search needs
 
--- src/calls.rt:38:1
 same-length : tie.Need-same-length
 same-length c = search needs
 
--- src/calls.rt:38:1
 returns-3 : tie.Need-returns-3
 returns-3 c =
     let a = c .before .before .before .before .before .before .before .before .before .before .before .before .before .before .args in

@@ -3,67 +3,51 @@ use mathlib.Core.List.{[]}
 use lib.Dec.{leb}
 use lib.ListN.{length}
 use borrow.Author.Tests.{lt-leb, le-leb}
-use Rattle.host.specs.CallLaws.{not-read, is-read, left-unread, right-unread, both-read, done-unread, stepped-done}
+use Rattle.host.specs.Lengths.{stateLength}
+use Rattle.host.proofs.CallLaws.{not-read, is-read, left-unread, right-unread, both-read, done-unread, stepped-done}
 use Rattle.host.specs.Sheets.{sheetReads}
 use Rattle.host.specs.Calls.{opens}
-use Rattle.host.specs.ReadingLaws.{sheet-read}
-use Rattle.host.specs.AnswerLaws.{open-writable}
+use Rattle.host.proofs.ReadingLaws.{sheet-read}
+use Rattle.host.proofs.AnswerLaws.{open-writable}
 use borrow.Author.Needs.{needs}
 use Rattle.host.proofs.calls.forgelilac_open.Statement.{statement}
 use Rattle.host.proofs.calls.forgelilac_open.Tie as tie
-use Rattle.host.proofs.calls.forgelilac_open.Reads as reads
-use Rattle.host.proofs.calls.forgelilac_open.Lts as lts
-use Rattle.host.proofs.answers.settle.Reads as settle-reads
-use Rattle.host.proofs.sheets.sheet_in.Reads as sheet-in-reads
-use Rattle.host.proofs.sheets.sheet_reads.Reads as sheet-reads-reads
-use Rattle.member.proofs.open.closed.Reads as closed-reads
-use Rattle.member.proofs.open.open.Reads as open-reads
 
--- src/calls.rt:11:9
 returns : tie.Need-returns
 returns c =
     let a = c .before .before .before .before .args in
-    done-unread (a .state .now) (a .table .now) [] (opens (a .own) (a .sheet .now)) (left-unread (sheetReads (a .sheet .now)) (lt-leb 37 (length (a .state .now)) (c .if1 .taken))) refl
+    done-unread (a .state .now) (a .table .now) [] (opens (a .own) (a .sheet .now)) (left-unread (sheetReads (a .sheet .now)) (lt-leb stateLength (length (a .state .now)) (c .if1 .taken))) refl
 
--- src/calls.rt:13:9
 sheet-reads-requires : tie.Need-sheet-reads-requires
 sheet-reads-requires c κs = search needs
 
--- src/calls.rt:14:9
 returns-2 : tie.Need-returns-2
 returns-2 c =
     let a = c .before .before .before .before .before .before .args in
-    done-unread (a .state .now) (a .table .now) [] (opens (a .own) (a .sheet .now)) (right-unread (leb 37 (length (a .state .now))) (not-read (c .before .sheet-reads .ensures) (c .if2 .taken))) refl
+    done-unread (a .state .now) (a .table .now) [] (opens (a .own) (a .sheet .now)) (right-unread (leb stateLength (length (a .state .now))) (not-read (c .before .sheet-reads .ensures) (c .if2 .taken))) refl
 
--- src/calls.rt:16:9
 sheet-in-requires : tie.Need-sheet-in-requires
 sheet-in-requires c κs = sheet-read _ (is-read (c .before .sheet-reads .ensures) (c .if2 .left))
 
--- src/calls.rt:17:9
 closed-requires : tie.Need-closed-requires
 closed-requires c κs = search needs
 
--- src/calls.rt:18:9
 open-requires : tie.Need-open-requires
 open-requires c κs = search needs
 
--- src/calls.rt:19:5
 settle-requires : tie.Need-settle-requires
 settle-requires c κs = (c .before .before .before .before .before .before .before .before .before .if1 .left, open-writable _ _ _ _ (c .before .before .before .«open» .ensures .0))
 
--- src/calls.rt:6:1
 same-length : tie.Need-same-length
 same-length c = search needs
 
--- src/calls.rt:6:1
 same-length-2 : tie.Need-same-length-2
 same-length-2 c = search needs
 
--- src/calls.rt:6:1
 returns-3 : tie.Need-returns-3
 returns-3 c =
     let a = c .before .before .before .before .before .before .before .before .before .before .before .before .before .before .before .before .args in
-    let e = le-leb 37 (length (a .state .now)) (c .before .before .before .before .before .before .before .before .before .before .before .before .if1 .left) in
+    let e = le-leb stateLength (length (a .state .now)) (c .before .before .before .before .before .before .before .before .before .before .before .before .if1 .left) in
     let f = is-read (c .before .before .before .before .before .before .before .before .before .before .before .sheet-reads .ensures) (c .before .before .before .before .before .before .before .before .before .before .if2 .left) in
     let x = rw (c .before .before .before .before .before .before .before .before .before .sheet-in .ensures, c .before .before .before .before .before .before .before .before .closed .ensures) at (c .before .before .before .before .before .before .«open» .ensures) in
     stepped-done (a .state .now) (a .table .now) (opens (a .own) (a .sheet .now)) (both-read e f) (x .0) (x .1) refl (c .before .before .settle .ensures)

@@ -1,80 +1,60 @@
 use mathlib.Core.Path.{refl}
 use mathlib.Core.List.{[]}
-use Rattle.host.specs.CallLaws.{not-read, is-read, left-unread, right-unread, both-read, done-unread, stepped-done}
+use Rattle.host.proofs.CallLaws.{not-read, is-read, left-unread, right-unread, both-read, done-unread, stepped-done}
 use Rattle.host.specs.Bodies.{loneBodyReads}
 use Rattle.host.specs.States.{stateReads}
 use Rattle.host.specs.Calls.{propose}
-use Rattle.host.specs.ReadingLaws.{state-read, lone-body-read}
-use Rattle.host.specs.AnswerLaws.{propose-writable}
+use Rattle.host.proofs.ReadingLaws.{state-read, lone-body-read}
+use Rattle.host.proofs.AnswerLaws.{propose-writable}
 use borrow.Author.Needs.{needs}
 use Rattle.host.proofs.calls.forgelilac_propose.Statement.{statement}
 use Rattle.host.proofs.calls.forgelilac_propose.Tie as tie
-use Rattle.host.proofs.calls.forgelilac_propose.Reads as reads
-use Rattle.host.proofs.calls.forgelilac_propose.Lts as lts
-use Rattle.host.proofs.answers.settle.Reads as settle-reads
-use Rattle.host.proofs.bodies.body_in.Reads as body-in-reads
-use Rattle.host.proofs.bodies.lone_body_reads.Reads as lone-body-reads-reads
-use Rattle.host.proofs.states.state_in.Reads as state-in-reads
-use Rattle.host.proofs.states.state_reads.Reads as state-reads-reads
-use Rattle.member.proofs.propose.propose.Reads as propose-reads
 
--- src/calls.rt:26:9
 state-reads-requires : tie.Need-state-reads-requires
 state-reads-requires c κs = search needs
 
--- src/calls.rt:27:9
 same-length : tie.Need-same-length
 same-length c = search needs
 
--- src/calls.rt:27:9
 returns : tie.Need-returns
 returns c =
     let a = c .before .before .before .before .before .before .args in
     done-unread (a .state .now) (a .table .now) [] (propose (a .body .now)) (left-unread (loneBodyReads (a .body .now)) (not-read (c .before .state-reads .ensures) (c .if1 .taken))) refl
 
--- src/calls.rt:29:9
 lone-body-reads-requires : tie.Need-lone-body-reads-requires
 lone-body-reads-requires c κs = search needs
 
--- src/calls.rt:30:9
 same-length-2 : tie.Need-same-length-2
 same-length-2 c = search needs
 
--- src/calls.rt:30:9
 returns-2 : tie.Need-returns-2
 returns-2 c =
     let a = c .before .before .before .before .before .before .before .before .args in
     done-unread (a .state .now) (a .table .now) [] (propose (a .body .now)) (right-unread (stateReads (a .state .now)) (not-read (c .before .lone-body-reads .ensures) (c .if2 .taken))) refl
 
--- src/calls.rt:32:9
 state-in-requires : tie.Need-state-in-requires
 state-in-requires c κs = state-read _ (is-read (c .before .before .before .before .state-reads .ensures) (c .before .before .before .if1 .left))
 
--- src/calls.rt:33:9
 body-in-requires : tie.Need-body-in-requires
 body-in-requires c κs = lone-body-read _ (is-read (c .before .before .before .lone-body-reads .ensures) (c .before .before .if2 .left))
 
--- src/calls.rt:34:9
 propose-requires : tie.Need-propose-requires
 propose-requires c κs = search needs
 
--- src/calls.rt:35:5
 settle-requires : tie.Need-settle-requires
 settle-requires c κs =
     let r = state-read _ (is-read (c .before .before .before .before .before .before .before .before .state-reads .ensures) (c .before .before .before .before .before .before .before .if1 .left)) in
-    (r .long, propose-writable _ _ _ (c .before .propose .ensures))
+    (r .long, propose-writable _ _ _ (c .before .propose .ensures .0))
 
--- src/calls.rt:22:1
 same-length-3 : tie.Need-same-length-3
 same-length-3 c = search needs
 
--- src/calls.rt:22:1
 returns-3 : tie.Need-returns-3
 returns-3 c =
     let a = c .before .before .before .before .before .before .before .before .before .before .before .before .before .before .before .before .args in
     let e = is-read (c .before .before .before .before .before .before .before .before .before .before .before .state-reads .ensures) (c .before .before .before .before .before .before .before .before .before .before .if1 .left) in
     let f = is-read (c .before .before .before .before .before .before .before .before .before .lone-body-reads .ensures) (c .before .before .before .before .before .before .before .before .if2 .left) in
-    let x = rw (c .before .before .before .before .before .before .state-in .ensures, c .before .before .before .before .before .body-in .ensures) at (c .before .before .before .before .propose .ensures) in
+    let x = rw (c .before .before .before .before .before .before .state-in .ensures, c .before .before .before .before .before .body-in .ensures) at (c .before .before .before .before .propose .ensures .0) in
     stepped-done (a .state .now) (a .table .now) (propose (a .body .now)) (both-read e f) x refl refl (c .before .before .settle .ensures)
 
 pub forgelilac-propose-spec : {M : Type 1} → statement M

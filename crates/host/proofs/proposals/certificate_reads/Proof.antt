@@ -1,35 +1,28 @@
 use mathlib.Core.Path.{refl}
 use borrow.Author.Tests.{lt-leb, le-leb, lt-ltb, le-ltb}
+use Rattle.host.specs.Lengths.{certificateLength}
 use Rattle.host.specs.Proposals.{certificateReads}
 use borrow.Author.Needs.{needs}
 use Rattle.host.proofs.proposals.certificate_reads.Statement.{statement}
 use Rattle.host.proofs.proposals.certificate_reads.Tie as tie
-use Rattle.host.proofs.proposals.certificate_reads.Reads as reads
-use Rattle.host.proofs.proposals.certificate_reads.Lts as lts
-use Rattle.host.proofs.proposals.proposal_reads.Reads as proposal-reads-reads
 
--- src/proposals.rt:41:9
 returns : tie.Need-returns
 unfolding certificateReads
-returns c = rw (lt-leb 17 _ (c .if1 .taken)) refl
+returns c = rw (lt-leb certificateLength _ (c .if1 .taken)) refl
 
--- src/proposals.rt:43:17
 shared-slice-read-if2 : tie.Need-shared-slice-read-if2
 shared-slice-read-if2 c = search needs
 
--- src/proposals.rt:44:9
 returns-2 : tie.Need-returns-2
 unfolding certificateReads
-returns-2 c = rw (le-leb 17 _ (c .before .before .if1 .left), le-ltb _ 65536 (c .if2 .taken)) refl
+returns-2 c = rw (le-leb certificateLength _ (c .before .before .if1 .left), le-ltb _ 65536 (c .if2 .taken)) refl
 
--- src/proposals.rt:46:5
 proposal-reads-requires : tie.Need-proposal-reads-requires
 proposal-reads-requires c κs = search needs
 
--- src/proposals.rt:37:1
 returns-3 : tie.Need-returns-3
 unfolding certificateReads
-returns-3 c = rw (le-leb 17 _ (c .before .before .before .if1 .left), lt-ltb _ 65536 (c .before .if2 .left)) (c .proposal-reads .ensures)
+returns-3 c = rw (le-leb certificateLength _ (c .before .before .before .if1 .left), lt-ltb _ 65536 (c .before .if2 .left)) (c .proposal-reads .ensures)
 
 pub certificate-reads-spec : {M : Type 1} → statement M
 certificate-reads-spec =

@@ -3,23 +3,16 @@ use Rattle.host.specs.Proposals.{proposalIn}
 use borrow.Author.Needs.{needs}
 use Rattle.host.proofs.proposals.proposal_in.Statement.{statement}
 use Rattle.host.proofs.proposals.proposal_in.Tie as tie
-use Rattle.host.proofs.proposals.proposal_in.Reads as reads
-use Rattle.host.proofs.proposals.proposal_in.Lts as lts
-use Rattle.host.proofs.bodies.body_in.Reads as body-in-reads
 
--- src/proposals.rt:28:9
 body-in-requires : tie.Need-body-in-requires
 body-in-requires c κs = search needs
 
--- src/proposals.rt:30:24
 shared-slice-read-t4 : tie.Need-shared-slice-read-t4
 shared-slice-read-t4 c = search needs
 
--- src/proposals.rt:31:22
 shared-slice-read-t7 : tie.Need-shared-slice-read-t7
 shared-slice-read-t7 c = search needs
 
--- src/proposals.rt:24:1
 returns : tie.Need-returns
 unfolding proposalIn
 returns c = rw (c .before .before .body-in .ensures) refl

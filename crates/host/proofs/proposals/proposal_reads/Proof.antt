@@ -1,26 +1,21 @@
 use mathlib.Core.Path.{refl}
 use borrow.Author.Tests.{lt-leb, le-leb}
+use Rattle.host.specs.Lengths.{proposalLength}
 use Rattle.host.specs.Proposals.{proposalReads}
 use borrow.Author.Needs.{needs}
 use Rattle.host.proofs.proposals.proposal_reads.Statement.{statement}
 use Rattle.host.proofs.proposals.proposal_reads.Tie as tie
-use Rattle.host.proofs.proposals.proposal_reads.Reads as reads
-use Rattle.host.proofs.proposals.proposal_reads.Lts as lts
-use Rattle.host.proofs.bodies.body_reads.Reads as body-reads-reads
 
--- src/proposals.rt:18:9
 returns : tie.Need-returns
 unfolding proposalReads
-returns c = rw (lt-leb 16 _ (c .if1 .taken)) refl
+returns c = rw (lt-leb proposalLength _ (c .if1 .taken)) refl
 
--- src/proposals.rt:20:5
 body-reads-requires : tie.Need-body-reads-requires
 body-reads-requires c κs = search needs
 
--- src/proposals.rt:14:1
 returns-2 : tie.Need-returns-2
 unfolding proposalReads
-returns-2 c = rw (le-leb 16 _ (c .before .if1 .left)) (c .body-reads .ensures)
+returns-2 c = rw (le-leb proposalLength _ (c .before .if1 .left)) (c .body-reads .ensures)
 
 pub proposal-reads-spec : {M : Type 1} → statement M
 proposal-reads-spec = tie.close (tie.spec returns body-reads-requires returns-2)

@@ -3,46 +3,36 @@ use mathlib.Core.List.{List, [], _∷_}
 use Prim.Native.Nat.{ℕ}
 use lib.Seq.{paste}
 use native.Mathlib.Omega.{arith}
+use Rattle.host.specs.Lengths.{bodyLength, proposalLength}
 use Rattle.host.specs.Bodies.{bodyWords}
-use Rattle.host.specs.PutLaws.{held-put}
+use Rattle.host.proofs.PutLaws.{held-put}
 use borrow.Author.Needs.{needs}
 use Rattle.host.proofs.proposals.put_held.Statement.{statement}
 use Rattle.host.proofs.proposals.put_held.Tie as tie
-use Rattle.host.proofs.proposals.put_held.Reads as reads
-use Rattle.host.proofs.proposals.put_held.Lts as lts
-use Rattle.host.proofs.bodies.put_body.Reads as put-body-reads
-use Rattle.host.proofs.words.put.Reads as put-reads
 
--- src/proposals.rt:69:29
 slice-aggregate-put : tie.Need-slice-aggregate-put
 slice-aggregate-put c = search needs
 
--- src/proposals.rt:69:5
 put-requires : tie.Need-put-requires
 put-requires c κs = search needs
 
--- src/proposals.rt:70:5
 put-body-requires : tie.Need-put-body-requires
 put-body-requires c κs = search needs
 
--- src/proposals.rt:71:30
 slice-aggregate-put-2 : tie.Need-slice-aggregate-put-2
 slice-aggregate-put-2 c = search needs
 
--- src/proposals.rt:71:5
 put-requires-2 : tie.Need-put-requires-2
 put-requires-2 c κs = search needs
 
--- src/proposals.rt:62:1
 same-length : tie.Need-same-length
 same-length c = search needs
 
--- src/proposals.rt:62:1
 returns : tie.Need-returns
 returns c =
     let a = c .before .before .before .before .before .before .before .before .before .before .before .before .before .before .before .before .args in
     c .before .before .put2 .ensures
-    ∙ ap (λ (z : List ℕ). paste z 16 (a .endorsers ∷ a .block ∷ []) 2) (c .before .before .before .before .before .before .before .put-body .ensures ∙ ap (λ (z : List ℕ). paste z 2 (bodyWords (a .p .body)) 14) (c .before .before .before .before .before .before .before .before .before .before .before .put .ensures))
+    ∙ ap (λ (z : List ℕ). paste z proposalLength (a .endorsers ∷ a .block ∷ []) 2) (c .before .before .before .before .before .before .before .put-body .ensures ∙ ap (λ (z : List ℕ). paste z 2 (bodyWords (a .p .body)) bodyLength) (c .before .before .before .before .before .before .before .before .before .before .before .put .ensures))
     ∙ held-put (a .p) (a .endorsers) (a .block) (a .w .now) (omega arith)
 
 pub put-held-spec : {M : Type 1} → statement M

@@ -1,14 +1,11 @@
 use mathlib.Core.Path.{refl}
 use native.Mathlib.Omega.{arith}
 use Prim.Native.Nat.{_-_}
-use Rattle.host.specs.FillLaws.{Filling, filling-none, filling-more, filling-all}
+use Rattle.host.proofs.FillLaws.{Filling, filling-none, filling-more, filling-all}
 use Rattle.host.specs.Sheets.{cellIn}
 use borrow.Author.Needs.{needs}
 use Rattle.host.proofs.sheets.cells_in.Statement.{statement}
 use Rattle.host.proofs.sheets.cells_in.Tie as tie
-use Rattle.host.proofs.sheets.cells_in.Reads as reads
-use Rattle.host.proofs.sheets.cells_in.Lts as lts
-use Rattle.host.proofs.sheets.setting_in.Reads as setting-in-reads
 
 abbrev Inv-loop : tie.InvT-loop
 Inv-loop w cells₀ i₀ cells i = Filling (cellIn w) 16 cells i
@@ -16,39 +13,30 @@ Inv-loop w cells₀ i₀ cells i = Filling (cellIn w) 16 cells i
 abbrev μ-loop : tie.MeasureT-loop
 μ-loop w cells₀ i₀ cells i = 16 - i
 
--- src/sheets.rt:47:5
 loop-holds : tie.Need-loop-holds Inv-loop μ-loop
 loop-holds c = filling-none refl
 
--- src/sheets.rt:49:36
 add-setting-in : tie.Need-add-setting-in Inv-loop μ-loop
 add-setting-in c = search needs
 
--- src/sheets.rt:49:22
 setting-in-requires : tie.Need-setting-in-requires Inv-loop μ-loop
 setting-in-requires c κs = search needs
 
--- src/sheets.rt:51:9
 mul-cells : tie.Need-mul-cells Inv-loop μ-loop
 mul-cells c = search needs
 
--- src/sheets.rt:51:9
 array-set-from-cells : tie.Need-array-set-from-cells Inv-loop μ-loop
 array-set-from-cells c = search needs
 
--- src/sheets.rt:47:9
 add-i : tie.Need-add-i Inv-loop μ-loop
 add-i c = search needs
 
--- src/sheets.rt:47:5
 loop-less : tie.Need-loop-less Inv-loop μ-loop
 loop-less c = search needs
 
--- src/sheets.rt:47:5
 loop-again : tie.Need-loop-again Inv-loop μ-loop
 loop-again c = filling-more (c .before .before .loop .inv) (omega arith) (rw (c .setting-in .ensures) refl)
 
--- src/sheets.rt:39:1
 returns : tie.Need-returns Inv-loop μ-loop
 returns c = filling-all (c .before .loop .inv) (omega arith)
 

@@ -4,43 +4,32 @@ use Rattle.host.specs.Sheets.{settingIn}
 use borrow.Author.Needs.{needs}
 use Rattle.host.proofs.sheets.setting_in.Statement.{statement}
 use Rattle.host.proofs.sheets.setting_in.Tie as tie
-use Rattle.host.proofs.sheets.setting_in.Reads as reads
-use Rattle.host.proofs.sheets.setting_in.Lts as lts
 
--- src/sheets.rt:32:10
 mul-if1 : tie.Need-mul-if1
 mul-if1 c = search needs
 
--- src/sheets.rt:32:8
 mul-if1-2 : tie.Need-mul-if1-2
 mul-if1-2 c = search needs
 
--- src/sheets.rt:32:8
 shared-slice-read-if1 : tie.Need-shared-slice-read-if1
 shared-slice-read-if1 c = search needs
 
--- src/sheets.rt:33:9
 returns : tie.Need-returns
 unfolding settingIn
 returns c = rw (eq-eqb _ 0 (c .if1 .taken)) refl
 
--- src/sheets.rt:35:24
 mul-t3 : tie.Need-mul-t3
 mul-t3 c = search needs
 
--- src/sheets.rt:35:24
 add-t4 : tie.Need-add-t4
 add-t4 c = search needs
 
--- src/sheets.rt:35:22
 mul-t8 : tie.Need-mul-t8
 mul-t8 c = search needs
 
--- src/sheets.rt:35:22
 shared-slice-read-t6 : tie.Need-shared-slice-read-t6
 shared-slice-read-t6 c = search needs
 
--- src/sheets.rt:28:1
 returns-2 : tie.Need-returns-2
 unfolding settingIn
 returns-2 c = rw (ne-eqb _ 0 (c .before .if1 .left)) refl

@@ -5,14 +5,13 @@ use Prim.Native.Nat.{_-_, _*_, _≤_}
 use lib.Dec.{leb}
 use borrow.Author.Tests.{lt-leb, le-leb}
 use Rattle.base.specs.Folds.{allTo}
-use Rattle.base.specs.TestLaws.{all-more, all-fails}
+use Rattle.base.proofs.TestLaws.{all-more, all-fails}
+use Rattle.host.specs.Lengths.{sheetLength}
 use Rattle.host.specs.Words.{word}
 use Rattle.host.specs.Sheets.{sheetReads}
 use borrow.Author.Needs.{needs}
 use Rattle.host.proofs.sheets.sheet_reads.Statement.{statement}
 use Rattle.host.proofs.sheets.sheet_reads.Tie as tie
-use Rattle.host.proofs.sheets.sheet_reads.Reads as reads
-use Rattle.host.proofs.sheets.sheet_reads.Lts as lts
 
 abbrev Inv-loop : tie.InvT-loop
 Inv-loop w k₀ k = (k ≤ 19) × (allTo (λ i. leb (word w (i * 2)) 1) k ≡ true)
@@ -20,53 +19,43 @@ Inv-loop w k₀ k = (k ≤ 19) × (allTo (λ i. leb (word w (i * 2)) 1) k ≡ tr
 abbrev μ-loop : tie.MeasureT-loop
 μ-loop w k₀ k = 19 - k
 
--- src/sheets.rt:17:9
 returns : tie.Need-returns Inv-loop μ-loop
 unfolding sheetReads
-returns c = rw (lt-leb 38 _ (c .if1 .taken)) refl
+returns c = rw (lt-leb sheetLength _ (c .if1 .taken)) refl
 
--- src/sheets.rt:19:5
 loop-holds : tie.Need-loop-holds Inv-loop μ-loop
 unfolding allTo
 loop-holds c = (omega arith, refl)
 
--- src/sheets.rt:20:18
 mul-if2 : tie.Need-mul-if2 Inv-loop μ-loop
 mul-if2 c = search needs
 
--- src/sheets.rt:20:16
 mul-if2-2 : tie.Need-mul-if2-2 Inv-loop μ-loop
 mul-if2-2 c = search needs
 
--- src/sheets.rt:20:16
 shared-slice-read-if2 : tie.Need-shared-slice-read-if2 Inv-loop μ-loop
 shared-slice-read-if2 c = search needs
 
--- src/sheets.rt:21:13
 returns-2 : tie.Need-returns-2 Inv-loop μ-loop
 unfolding sheetReads
 returns-2 c =
     let w = c .before .before .before .before .before .args .w .now in
-    rw (le-leb 38 _ (c .before .before .before .before .if1 .left)) (sym (all-fails (λ i. leb (word w (i * 2)) 1) 19 (c .before .before .before .loop .k) (omega arith) (lt-leb _ 1 (c .if2 .taken))))
+    rw (le-leb sheetLength _ (c .before .before .before .before .if1 .left)) (sym (all-fails (λ i. leb (word w (i * 2)) 1) 19 (c .before .before .before .loop .k) (omega arith) (lt-leb _ 1 (c .if2 .taken))))
 
--- src/sheets.rt:19:9
 add-k : tie.Need-add-k Inv-loop μ-loop
 add-k c = search needs
 
--- src/sheets.rt:19:5
 loop-less : tie.Need-loop-less Inv-loop μ-loop
 loop-less c = search needs
 
--- src/sheets.rt:19:5
 loop-again : tie.Need-loop-again Inv-loop μ-loop
 loop-again c = (omega arith, simp (all-more, c .before .before .before .loop .inv .1) (le-leb _ 1 (c .if2 .left)))
 
--- src/sheets.rt:13:1
 returns-3 : tie.Need-returns-3 Inv-loop μ-loop
 unfolding sheetReads
 returns-3 c =
     let e : c .before .loop .k ≡ 19 = omega arith in
-    rw (le-leb 38 _ (c .before .before .if1 .left)) (sym (rw e at (c .before .loop .inv .1)))
+    rw (le-leb sheetLength _ (c .before .before .if1 .left)) (sym (rw e at (c .before .loop .inv .1)))
 
 pub sheet-reads-spec : {M : Type 1} → statement M
 sheet-reads-spec =

@@ -3,19 +3,14 @@ use Rattle.host.specs.States.{keptOf}
 use borrow.Author.Needs.{needs}
 use Rattle.host.proofs.states.kept.Statement.{statement}
 use Rattle.host.proofs.states.kept.Tie as tie
-use Rattle.host.proofs.states.kept.Reads as reads
-use Rattle.host.proofs.states.kept.Lts as lts
 
--- src/states.rt:89:9
 returns : tie.Need-returns
 unfolding keptOf
 returns c = rw (c .before .if1 .taken) refl
 
--- src/states.rt:91:5
 bare-body-requires : tie.Need-bare-body-requires
 bare-body-requires c κs = search needs
 
--- src/states.rt:85:1
 returns-2 : tie.Need-returns-2
 unfolding keptOf
 returns-2 c = rw (c .before .if1 .left) (c .bare-body .ensures)

@@ -4,28 +4,20 @@ use Rattle.host.specs.States.{keptIn}
 use borrow.Author.Needs.{needs}
 use Rattle.host.proofs.states.kept_in.Statement.{statement}
 use Rattle.host.proofs.states.kept_in.Tie as tie
-use Rattle.host.proofs.states.kept_in.Reads as reads
-use Rattle.host.proofs.states.kept_in.Lts as lts
-use Rattle.host.proofs.bodies.body_in.Reads as body-in-reads
 
--- src/states.rt:62:8
 shared-slice-read-if1 : tie.Need-shared-slice-read-if1
 shared-slice-read-if1 c = search needs
 
--- src/states.rt:63:9
 bare-body-requires : tie.Need-bare-body-requires
 bare-body-requires c κs = search needs
 
--- src/states.rt:63:9
 returns : tie.Need-returns
 unfolding keptIn
 returns c = rw (eq-eqb _ 0 (c .before .if1 .taken)) (c .bare-body .ensures)
 
--- src/states.rt:65:5
 body-in-requires : tie.Need-body-in-requires
 body-in-requires c κs = (omega arith, c .before .before .before .pre .previous (c .if1 .left))
 
--- src/states.rt:58:1
 returns-2 : tie.Need-returns-2
 unfolding keptIn
 returns-2 c = rw (ne-eqb _ 0 (c .before .if1 .left)) (c .body-in .ensures)

@@ -1,3 +1,4 @@
+use Rattle.host.specs.Lengths.{bodyLength}
 use Rattle.host.specs.Words.{sixteen}
 use mathlib.Core.Path.{ap, ap₂, _∙_}
 use mathlib.Core.List.{List, [], _∷_}
@@ -6,61 +7,44 @@ use lib.Seq.{paste}
 use native.Mathlib.Omega.{arith}
 use Rattle.terms.specs.declared.Body.{Body}
 use Rattle.host.specs.Bodies.{bodyWords}
-use Rattle.host.specs.PutLaws.{state-put}
+use Rattle.host.proofs.PutLaws.{state-put}
 use borrow.Author.Needs.{needs}
 use Rattle.host.proofs.states.put_state.Statement.{statement}
 use Rattle.host.proofs.states.put_state.Tie as tie
-use Rattle.host.proofs.states.put_state.Reads as reads
-use Rattle.host.proofs.states.put_state.Lts as lts
-use Rattle.host.proofs.bodies.put_body.Reads as put-body-reads
-use Rattle.host.proofs.states.flag.Reads as flag-reads
-use Rattle.host.proofs.states.kept.Reads as kept-reads
-use Rattle.host.proofs.words.put.Reads as put-reads
-use Rattle.host.proofs.words.put_weights.Reads as put-weights-reads
 
--- src/states.rt:108:9
 kept-requires : tie.Need-kept-requires
 kept-requires c κs = search needs
 
--- src/states.rt:115:30
 flag-requires : tie.Need-flag-requires
 flag-requires c κs = search needs
 
--- src/states.rt:116:29
 slice-aggregate-put : tie.Need-slice-aggregate-put
 slice-aggregate-put c = search needs
 
--- src/states.rt:116:5
 put-requires : tie.Need-put-requires
 put-requires c κs = search needs
 
--- src/states.rt:117:5
 put-weights-requires : tie.Need-put-weights-requires
 put-weights-requires c κs = search needs
 
--- src/states.rt:118:30
 slice-aggregate-put-2 : tie.Need-slice-aggregate-put-2
 slice-aggregate-put-2 c = search needs
 
--- src/states.rt:118:5
 put-requires-2 : tie.Need-put-requires-2
 put-requires-2 c κs = search needs
 
--- src/states.rt:119:5
 put-body-requires : tie.Need-put-body-requires
 put-body-requires c κs = search needs
 
--- src/states.rt:102:1
 same-length : tie.Need-same-length
 same-length c = search needs
 
--- src/states.rt:102:1
 returns : tie.Need-returns
 returns c =
     let a = c .before .before .before .before .before .before .before .before .before .before .before .before .before .before .before .before .before .before .before .before .before .before .before .args in
     let s = a .s in
     c .before .before .put-body .ensures
-    ∙ ap₂ (λ (z : List ℕ) (b : Body). paste z 23 (bodyWords b) 14)
+    ∙ ap₂ (λ (z : List ℕ) (b : Body). paste z 23 (bodyWords b) bodyLength)
     (c .before .before .before .before .before .before .put2 .ensures
     ∙ ap₂ (λ (z : List ℕ) (f : ℕ). paste z 20 (s .round .0 ∷ f ∷ s .blocks ∷ []) 3)
     (c .before .before .before .before .before .before .before .before .before .before .before .put-weights .ensures ∙ ap (λ (z : List ℕ). paste z 4 (sixteen (s .settings .weights)) 16) (c .before .before .before .before .before .before .before .before .before .before .before .before .before .before .before .put .ensures))

@@ -3,27 +3,19 @@ use Rattle.host.specs.States.{settingsIn}
 use borrow.Author.Needs.{needs}
 use Rattle.host.proofs.states.settings_in.Statement.{statement}
 use Rattle.host.proofs.states.settings_in.Tie as tie
-use Rattle.host.proofs.states.settings_in.Reads as reads
-use Rattle.host.proofs.states.settings_in.Lts as lts
-use Rattle.host.proofs.states.weights_in.Reads as weights-in-reads
 
--- src/states.rt:50:19
 shared-slice-read-t3 : tie.Need-shared-slice-read-t3
 shared-slice-read-t3 c = search needs
 
--- src/states.rt:51:24
 shared-slice-read-t5 : tie.Need-shared-slice-read-t5
 shared-slice-read-t5 c = search needs
 
--- src/states.rt:52:20
 shared-slice-read-t8 : tie.Need-shared-slice-read-t8
 shared-slice-read-t8 c = search needs
 
--- src/states.rt:53:18
 weights-in-requires : tie.Need-weights-in-requires
 weights-in-requires c κs = search needs
 
--- src/states.rt:45:1
 returns : tie.Need-returns
 unfolding settingsIn
 returns c = rw (c .weights-in .ensures) refl

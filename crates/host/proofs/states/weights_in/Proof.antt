@@ -1,14 +1,11 @@
 use mathlib.Core.Path.{refl}
 use native.Mathlib.Omega.{arith}
 use Prim.Native.Nat.{_+_, _-_}
-use Rattle.host.specs.FillLaws.{Filling, filling-none, filling-more, filling-all}
+use Rattle.host.proofs.FillLaws.{Filling, filling-none, filling-more, filling-all}
 use Rattle.host.specs.Words.{word}
 use borrow.Author.Needs.{needs}
 use Rattle.host.proofs.states.weights_in.Statement.{statement}
 use Rattle.host.proofs.states.weights_in.Tie as tie
-use Rattle.host.proofs.states.weights_in.Reads as reads
-use Rattle.host.proofs.states.weights_in.Lts as lts
-use Rattle.host.proofs.states.wide.Reads as wide-reads
 
 abbrev Inv-loop : tie.InvT-loop
 Inv-loop w x₀ i₀ x i = Filling (λ k. word w (4 + k)) 16 x i
@@ -16,47 +13,36 @@ Inv-loop w x₀ i₀ x i = Filling (λ k. word w (4 + k)) 16 x i
 abbrev μ-loop : tie.MeasureT-loop
 μ-loop w x₀ i₀ x i = 16 - i
 
--- src/states.rt:45:5
 loop-holds : tie.Need-loop-holds Inv-loop μ-loop
 loop-holds c = filling-none refl
 
--- src/states.rt:46:23
 add-wide : tie.Need-add-wide Inv-loop μ-loop
 add-wide c = search needs
 
--- src/states.rt:46:21
 mul-wide : tie.Need-mul-wide Inv-loop μ-loop
 mul-wide c = search needs
 
--- src/states.rt:46:21
 shared-slice-read-wide : tie.Need-shared-slice-read-wide Inv-loop μ-loop
 shared-slice-read-wide c = search needs
 
--- src/states.rt:46:16
 wide-requires : tie.Need-wide-requires Inv-loop μ-loop
 wide-requires c κs = search needs
 
--- src/states.rt:46:9
 mul-x : tie.Need-mul-x Inv-loop μ-loop
 mul-x c = search needs
 
--- src/states.rt:46:9
 array-write-x : tie.Need-array-write-x Inv-loop μ-loop
 array-write-x c = search needs
 
--- src/states.rt:45:9
 add-i : tie.Need-add-i Inv-loop μ-loop
 add-i c = search needs
 
--- src/states.rt:45:5
 loop-less : tie.Need-loop-less Inv-loop μ-loop
 loop-less c = search needs
 
--- src/states.rt:45:5
 loop-again : tie.Need-loop-again Inv-loop μ-loop
 loop-again c = filling-more (c .before .before .before .loop .inv) (omega arith) (c .wide .ensures)
 
--- src/states.rt:40:1
 returns : tie.Need-returns Inv-loop μ-loop
 returns c = filling-all (c .before .loop .inv) (omega arith)
 

@@ -1,50 +1,36 @@
 use mathlib.Core.Path.{refl}
 use mathlib.Core.List.{[]}
-use Rattle.host.specs.CallLaws.{not-read, is-read, done-unread, done-read, done-as}
+use Rattle.host.proofs.CallLaws.{not-read, is-read, done-unread, done-read, done-as}
 use Rattle.host.specs.Calls.{share, shareBy}
-use Rattle.host.specs.ReadingLaws.{state-read}
+use Rattle.host.proofs.ReadingLaws.{state-read}
 use borrow.Author.Needs.{needs}
 use Rattle.host.proofs.views.forgelilac_share.Statement.{statement}
 use Rattle.host.proofs.views.forgelilac_share.Tie as tie
-use Rattle.host.proofs.views.forgelilac_share.Reads as reads
-use Rattle.host.proofs.views.forgelilac_share.Lts as lts
-use Rattle.host.proofs.answers.share_number.Reads as share-number-reads
-use Rattle.host.proofs.answers.unread.Reads as unread-reads
-use Rattle.host.proofs.states.state_in.Reads as state-in-reads
-use Rattle.host.proofs.states.state_reads.Reads as state-reads-reads
-use Rattle.reads.proofs.share.Reads as share-reads
 
--- src/views.rt:67:9
 state-reads-requires : tie.Need-state-reads-requires
 state-reads-requires c κs = search needs
 
--- src/views.rt:68:9
 unread-requires : tie.Need-unread-requires
 unread-requires c κs = search needs
 
--- src/views.rt:68:9
 returns : tie.Need-returns
 returns c =
     let a = c .before .before .before .before .before .args in
     done-unread (a .state .now) (a .table .now) [] (share (a .member) (a .round)) (not-read (c .before .before .state-reads .ensures) (c .before .if1 .taken)) (c .unread .ensures)
 
--- src/views.rt:70:9
 state-in-requires : tie.Need-state-in-requires
 state-in-requires c κs = state-read _ (is-read (c .before .state-reads .ensures) (c .if1 .left))
 
--- src/views.rt:71:9
 share-requires : tie.Need-share-requires
 share-requires c κs = search needs
 
--- src/views.rt:72:5
 share-number-requires : tie.Need-share-number-requires
 share-number-requires c κs = search needs
 
--- src/views.rt:63:1
 returns-2 : tie.Need-returns-2
 returns-2 c =
     let a = c .before .before .before .before .before .before .before .args in
-    let x = rw (c .before .before .state-in .ensures) at (c .before .share .ensures) in
+    let x = rw (c .before .before .state-in .ensures) at (c .before .share .ensures .0) in
     done-read (a .state .now) (a .table .now) [] (share (a .member) (a .round)) (is-read (c .before .before .before .before .state-reads .ensures) (c .before .before .before .if1 .left))
     (done-as (shareBy (a .state .now) (a .table .now) []) x (record { its-answer = c .share-number .ensures; its-state = refl; its-table = refl; its-out = refl }))
 

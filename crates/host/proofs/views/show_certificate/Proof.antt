@@ -2,31 +2,22 @@ use mathlib.Core.Path.{refl}
 use borrow.Author.Needs.{needs}
 use Rattle.host.proofs.views.show_certificate.Statement.{statement}
 use Rattle.host.proofs.views.show_certificate.Tie as tie
-use Rattle.host.proofs.views.show_certificate.Reads as reads
-use Rattle.host.proofs.views.show_certificate.Lts as lts
-use Rattle.host.proofs.proposals.put_held.Reads as put-held-reads
 
--- src/views.rt:41:40
 enum-told : tie.Need-enum-told
 enum-told c = search needs
 
--- src/views.rt:41:13
 put-held-requires : tie.Need-put-held-requires
 put-held-requires c κs = search needs
 
--- src/views.rt:44:25
 enum-known-a : tie.Need-enum-known-a
 enum-known-a c = search needs
 
--- src/views.rt:33:1
 same-length : tie.Need-same-length
 same-length c = search needs
 
--- src/views.rt:33:1
 returns : tie.Need-returns
 returns c = rw (c .before .before .before .before .enum-told .given .1) (refl, c .before .before .put-held .ensures)
 
--- src/views.rt:33:1
 returns-2 : tie.Need-returns-2
 returns-2 c = rw (c .before .a .given .1) (refl, refl)
 

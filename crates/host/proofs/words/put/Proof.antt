@@ -7,8 +7,6 @@ use lib.Seq.{paste, paste-zero, paste-suc}
 use borrow.Author.Needs.{needs}
 use Rattle.host.proofs.words.put.Statement.{statement}
 use Rattle.host.proofs.words.put.Tie as tie
-use Rattle.host.proofs.words.put.Reads as reads
-use Rattle.host.proofs.words.put.Lts as lts
 
 abbrev Inv-loop : tie.InvT-loop
 Inv-loop w₀ at x n k₀ w k = (k ≤ n) × (w ≡ paste w₀ at x k) × (length w ≡ length w₀)
@@ -16,39 +14,30 @@ Inv-loop w₀ at x n k₀ w k = (k ≤ n) × (w ≡ paste w₀ at x k) × (lengt
 abbrev μ-loop : tie.MeasureT-loop
 μ-loop w₀ at x n k₀ w k = n - k
 
--- src/words.rt:14:5
 loop-holds : tie.Need-loop-holds Inv-loop μ-loop
 loop-holds c = (omega arith, paste-zero (c .args .w .now) (c .args .at) (c .args .x .now), refl)
 
--- src/words.rt:15:21
 mul-w : tie.Need-mul-w Inv-loop μ-loop
 mul-w c = search needs
 
--- src/words.rt:15:21
 shared-slice-read-w : tie.Need-shared-slice-read-w Inv-loop μ-loop
 shared-slice-read-w c = search needs
 
--- src/words.rt:15:11
 add-w : tie.Need-add-w Inv-loop μ-loop
 add-w c = search needs
 
--- src/words.rt:15:9
 mul-w-2 : tie.Need-mul-w-2 Inv-loop μ-loop
 mul-w-2 c = search needs
 
--- src/words.rt:15:9
 slice-write-w : tie.Need-slice-write-w Inv-loop μ-loop
 slice-write-w c = search needs
 
--- src/words.rt:14:9
 add-k : tie.Need-add-k Inv-loop μ-loop
 add-k c = search needs
 
--- src/words.rt:14:5
 loop-less : tie.Need-loop-less Inv-loop μ-loop
 loop-less c = search needs
 
--- src/words.rt:14:5
 loop-again : tie.Need-loop-again Inv-loop μ-loop
 loop-again c =
     let a = c .before .before .before .args in
@@ -58,11 +47,9 @@ loop-again c =
       simp length-set (c .before .before .loop .inv .2),
     )
 
--- src/words.rt:9:1
 same-length : tie.Need-same-length Inv-loop μ-loop
 same-length c = c .before .loop .inv .2
 
--- src/words.rt:9:1
 returns : tie.Need-returns Inv-loop μ-loop
 returns c = let e : c .before .loop .k ≡ length (c .before .before .args .x .now) = omega arith in rw e at (c .before .loop .inv .1)
 

@@ -1,5 +1,5 @@
 use Rattle.host.specs.Words.{sixteen}
-use Rattle.host.specs.PasteLaws.{length-sixteen, in-sixteen}
+use Rattle.host.proofs.PasteLaws.{length-sixteen, in-sixteen}
 use mathlib.Core.Path.{_≡_, refl}
 use Prim.Native.Nat.{ℕ, _-_, _≤_}
 use native.Mathlib.Omega.{arith}
@@ -9,8 +9,6 @@ use lib.Seq.{paste, paste-zero, paste-suc}
 use borrow.Author.Needs.{needs}
 use Rattle.host.proofs.words.put_weights.Statement.{statement}
 use Rattle.host.proofs.words.put_weights.Tie as tie
-use Rattle.host.proofs.words.put_weights.Reads as reads
-use Rattle.host.proofs.words.put_weights.Lts as lts
 
 abbrev Inv-loop : tie.InvT-loop
 Inv-loop w₀ at x i₀ w i = (i ≤ 16) × (w ≡ paste w₀ at (sixteen x) i) × (length w ≡ length w₀)
@@ -18,43 +16,33 @@ Inv-loop w₀ at x i₀ w i = (i ≤ 16) × (w ≡ paste w₀ at (sixteen x) i) 
 abbrev μ-loop : tie.MeasureT-loop
 μ-loop w₀ at x i₀ w i = 16 - i
 
--- src/words.rt:24:5
 loop-holds : tie.Need-loop-holds Inv-loop μ-loop
 loop-holds c = (omega arith, paste-zero (c .args .w .now) (c .args .at) (sixteen (c .args .t3)), refl)
 
--- src/words.rt:25:21
 mul-w : tie.Need-mul-w Inv-loop μ-loop
 mul-w c = search needs
 
--- src/words.rt:25:21
 array-read-w : tie.Need-array-read-w Inv-loop μ-loop
 array-read-w c = search needs
 
--- src/words.rt:25:21
 cast-w : tie.Need-cast-w Inv-loop μ-loop
 cast-w c = record { fits = c .before .before .pre .1 (c .before .loop .i) (omega arith) }
 
--- src/words.rt:25:11
 add-w : tie.Need-add-w Inv-loop μ-loop
 add-w c = search needs
 
--- src/words.rt:25:9
 mul-w-2 : tie.Need-mul-w-2 Inv-loop μ-loop
 mul-w-2 c = search needs
 
--- src/words.rt:25:9
 slice-write-w : tie.Need-slice-write-w Inv-loop μ-loop
 slice-write-w c = search needs
 
--- src/words.rt:24:9
 add-i : tie.Need-add-i Inv-loop μ-loop
 add-i c = search needs
 
--- src/words.rt:24:5
 loop-less : tie.Need-loop-less Inv-loop μ-loop
 loop-less c = search needs
 
--- src/words.rt:24:5
 loop-again : tie.Need-loop-again Inv-loop μ-loop
 loop-again c =
     let a = c .before .before .args in
@@ -65,11 +53,9 @@ loop-again c =
       simp length-set (c .before .loop .inv .2),
     )
 
--- src/words.rt:20:1
 same-length : tie.Need-same-length Inv-loop μ-loop
 same-length c = c .before .loop .inv .2
 
--- src/words.rt:20:1
 returns : tie.Need-returns Inv-loop μ-loop
 returns c = let e : c .before .loop .i ≡ 16 = omega arith in rw e at (c .before .loop .inv .1)
 

@@ -1,5 +1,5 @@
 use native.Mathlib.Omega.{arith}
-use Rattle.state.specs.KnownLaws.{known-alone}
+use Rattle.state.proofs.CachedLaws.{known-alone}
 use borrow.Author.Needs.{needs}
 use Rattle.member.proofs.accept.accept.Statement.{statement}
 use Rattle.member.proofs.accept.accept.Tie as tie
@@ -10,11 +10,11 @@ well-formed-requires c κs = search needs
 array-share-prefix-none : tie.Need-array-share-prefix-none
 array-share-prefix-none c = search needs
 
-slice-aggregate-accept-known : tie.Need-slice-aggregate-accept-known
-slice-aggregate-accept-known c = search needs
+slice-aggregate-accept-cached : tie.Need-slice-aggregate-accept-cached
+slice-aggregate-accept-cached c = search needs
 
-accept-known-requires : tie.Need-accept-known-requires
-accept-known-requires c κs = known-alone _ (omega arith) (c .before .before .well-formed .ensures)
+accept-cached-requires : tie.Need-accept-cached-requires
+accept-cached-requires c κs = known-alone _ (omega arith) (c .before .before .well-formed .ensures)
 
 same-length : tie.Need-same-length
 same-length c = search needs
@@ -28,7 +28,7 @@ accept-spec =
     (tie.spec
     well-formed-requires
     array-share-prefix-none
-    slice-aggregate-accept-known
-    accept-known-requires
+    slice-aggregate-accept-cached
+    accept-cached-requires
     same-length
     returns)

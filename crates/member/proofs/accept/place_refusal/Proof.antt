@@ -1,47 +1,110 @@
-use mathlib.Core.Path.{sym, _∙_}
-use mathlib.Core.List.{[], _∷_}
-use Rattle.base.specs.Checks.{passes-all, refuses, passes}
-use Rattle.member.specs.PlaceLaws.{fits-within, place-same, place-other, place-free, piece-refused, piece-passed, signers-numbered}
+use mathlib.Core.Path.{_≡_, sym, _∙_}
+use mathlib.Core.Bool.{true}
+use mathlib.Core.List.{[], _∷_, _++_}
+use lib.ListN.{drop}
+use Rattle.base.specs.Checks.{Checks, refusal}
+use Rattle.base.proofs.CheckLaws.{passes-all, refuses, passes}
 use Rattle.terms.specs.Proposals.{contentOf}
+use Rattle.store.specs.Table.{heldAt}
+use Rattle.rules.specs.Calls.{accepting}
 use Rattle.rules.specs.Tests.{above, missing}
 use Rattle.state.specs.View.{view}
-use Rattle.member.specs.Pieces.{signerChecks}
+use Rattle.member.specs.SharedChecks.{signerChecks}
+use Rattle.member.proofs.PlaceLaws.{fits-within, place-same, place-other, place-free, piece-refused, piece-passed, signers-numbered}
 use borrow.Author.Needs.{needs}
 use Rattle.member.proofs.accept.place_refusal.Statement.{statement}
 use Rattle.member.proofs.accept.place_refusal.Tie as tie
 
+-- the entry, from the place after `held`, and the checks
+abbrev entry : tie.After-held → tie.Start
+entry c = c .before .before .before .before
+
+abbrev whole : tie.Start → Checks
+whole s = let a = s .args in drop 5 (accepting (a .s .settings) (view (a .s) (a .t .now)) (contentOf (a .c .proposal)) (a .c .endorsers))
+
+-- ---- the place is held: 16 or 17
+
+abbrev entry₁ : tie.Then1 → tie.Start
+entry₁ c = entry (c .before)
+
+abbrev taken : tie.After-is-same → tie.Then1
+taken c = c .before
+
+occupied : (c : tie.Then1) → let a = entry₁ c .args in heldAt (a .t .now) (a .c .proposal .author .0) (a .c .proposal .round .0) ≡ true
+occupied c = sym (c .before .held .ensures) ∙ c .if1 .taken
+
 held-requires : tie.Need-held-requires
-held-requires c κs = fits-within _ _ _ (c .before .before .before .pre .0) (c .before .before .before .pre .1)
+held-requires c κs = let s = c .before .before .before in fits-within _ _ _ (s .pre .0) (s .pre .1)
 
 is-same-requires : tie.Need-is-same-requires
-is-same-requires c κs = fits-within _ _ _ (c .before .before .before .before .before .pre .0) (c .before .before .before .before .before .pre .1)
+is-same-requires c κs = let s = entry₁ c in fits-within _ _ _ (s .pre .0) (s .pre .1)
 
 returns : tie.Need-returns
-returns c = sym (place-same (c .before .before .before .before .before .before .before .args .s) (c .before .before .before .before .before .before .before .args .t .now) (c .before .before .before .before .before .before .before .args .c .proposal) (c .before .before .before .before .before .before .before .args .c .endorsers) (c .before .before .before .before .before .before .before .pre .1) (sym (c .before .before .before .held .ensures) ∙ c .before .before .if1 .taken) (sym (c .before .is-same .ensures) ∙ c .if2 .taken))
+returns c =
+    let t = taken (c .before) in
+    let s = entry₁ t in
+    let a = s .args in
+    sym (place-same (a .s) (a .t .now) (a .c .proposal) (a .c .endorsers) (s .pre .1) (occupied t) (sym (c .before .is-same .ensures) ∙ c .if2 .taken))
 
 returns-2 : tie.Need-returns-2
-returns-2 c = sym (place-other (c .before .before .before .before .before .before .before .args .s) (c .before .before .before .before .before .before .before .args .t .now) (c .before .before .before .before .before .before .before .args .c .proposal) (c .before .before .before .before .before .before .before .args .c .endorsers) (c .before .before .before .before .before .before .before .pre .1) (sym (c .before .before .before .held .ensures) ∙ c .before .before .if1 .taken) (sym (c .before .is-same .ensures) ∙ c .if2 .left))
+returns-2 c =
+    let t = taken (c .before) in
+    let s = entry₁ t in
+    let a = s .args in
+    sym (place-other (a .s) (a .t .now) (a .c .proposal) (a .c .endorsers) (s .pre .1) (occupied t) (sym (c .before .is-same .ensures) ∙ c .if2 .left))
+
+-- ---- the place is free: the checks of the signers, and 11
+
+abbrev free : tie.After-with → tie.Else1
+free c = c .before .before
+
+abbrev entry₂ : tie.After-with → tie.Start
+entry₂ c = entry (free c .before)
+
+abbrev signing : tie.After-with → Checks
+signing c = let a = entry₂ c .args in signerChecks (a .s .settings) (view (a .s) (a .t .now)) (a .c .proposal .round .0) (c .with .result)
+
+abbrev asking : tie.Start → Checks
+asking s = let a = s .args in (above (a .c .proposal .round .0) (missing (a .s .settings) (view (a .s) (a .t .now)) (contentOf (a .c .proposal))), 11) ∷ []
+
+unheld : (c : tie.After-with) → refusal (whole (entry₂ c)) ≡ refusal (signing c ++ asking (entry₂ c))
+unheld c =
+    let e = free c in
+    let s = entry₂ c in
+    let a = s .args in
+    place-free (a .s) (a .t .now) (a .c .proposal) (a .c .endorsers) (s .pre .1) (sym (e .before .held .ensures) ∙ e .if1 .left) (c .with .ensures)
+
+-- the signers pass: 11 is left
+abbrev entry₃ : tie.Else3 → tie.Start
+entry₃ c = entry₂ (c .before .before)
+
+signed : (c : tie.Else3) → refusal (whole (entry₃ c)) ≡ refusal (asking (entry₃ c))
+signed c =
+    let w = c .before .before in
+    let s = entry₃ c in
+    let n = signers-numbered (s .args .s) (s .args .t .now) (s .args .c .proposal .round .0) (w .with .result) in
+    unheld w ∙ piece-passed (signing w) (asking s) (c .before .signer-refusal .ensures) n (c .if3 .left)
 
 cast-with : tie.Need-cast-with
 cast-with c = search needs
 
 with-requires : tie.Need-with-requires
-with-requires c κs = c .before .before .before .before .before .before .pre .1 .author
+with-requires c κs = entry (c .before .before) .pre .1 .author
 
 signer-refusal-requires : tie.Need-signer-refusal-requires
-signer-refusal-requires c κs = let p = c .before .before .before .before .before .before .before .pre in (p .0, p .2)
+signer-refusal-requires c κs = let p = entry₂ c .pre in (p .0, p .2)
 
 returns-3 : tie.Need-returns-3
-returns-3 c = piece-refused (signerChecks (c .before .before .before .before .before .before .before .before .before .args .s .settings) (view (c .before .before .before .before .before .before .before .before .before .args .s) (c .before .before .before .before .before .before .before .before .before .args .t .now)) (c .before .before .before .before .before .before .before .before .before .args .c .proposal .round .0) (c .before .before .with .result)) ((above (c .before .before .before .before .before .before .before .before .before .args .c .proposal .round .0) (missing (c .before .before .before .before .before .before .before .before .before .args .s .settings) (view (c .before .before .before .before .before .before .before .before .before .args .s) (c .before .before .before .before .before .before .before .before .before .args .t .now)) (contentOf (c .before .before .before .before .before .before .before .before .before .args .c .proposal))), 11) ∷ []) (c .before .signer-refusal .ensures) (c .if3 .taken) ∙ sym (place-free (c .before .before .before .before .before .before .before .before .before .args .s) (c .before .before .before .before .before .before .before .before .before .args .t .now) (c .before .before .before .before .before .before .before .before .before .args .c .proposal) (c .before .before .before .before .before .before .before .before .before .args .c .endorsers) (c .before .before .before .before .before .before .before .before .before .pre .1) (sym (c .before .before .before .before .before .held .ensures) ∙ c .before .before .before .before .if1 .left) (c .before .before .with .ensures))
+returns-3 c = let w = c .before .before in piece-refused (signing w) (asking (entry₂ w)) (c .before .signer-refusal .ensures) (c .if3 .taken) ∙ sym (unheld w)
 
 lacks-previous-requires : tie.Need-lacks-previous-requires
-lacks-previous-requires c κs = (c .before .before .before .before .before .before .before .before .before .pre .0, c .before .before .before .before .before .before .before .before .before .pre .1 .from, c .before .before .before .before .before .before .before .before .before .pre .1 .to)
+lacks-previous-requires c κs = let p = entry₃ c .pre in (p .0, p .1 .from, p .1 .to)
 
 returns-4 : tie.Need-returns-4
-returns-4 c = sym (place-free (c .before .before .before .before .before .before .before .before .before .before .before .args .s) (c .before .before .before .before .before .before .before .before .before .before .before .args .t .now) (c .before .before .before .before .before .before .before .before .before .before .before .args .c .proposal) (c .before .before .before .before .before .before .before .before .before .before .before .args .c .endorsers) (c .before .before .before .before .before .before .before .before .before .before .before .pre .1) (sym (c .before .before .before .before .before .before .before .held .ensures) ∙ c .before .before .before .before .before .before .if1 .left) (c .before .before .before .before .with .ensures) ∙ piece-passed (signerChecks (c .before .before .before .before .before .before .before .before .before .before .before .args .s .settings) (view (c .before .before .before .before .before .before .before .before .before .before .before .args .s) (c .before .before .before .before .before .before .before .before .before .before .before .args .t .now)) (c .before .before .before .before .before .before .before .before .before .before .before .args .c .proposal .round .0) (c .before .before .before .before .with .result)) ((above (c .before .before .before .before .before .before .before .before .before .before .before .args .c .proposal .round .0) (missing (c .before .before .before .before .before .before .before .before .before .before .before .args .s .settings) (view (c .before .before .before .before .before .before .before .before .before .before .before .args .s) (c .before .before .before .before .before .before .before .before .before .before .before .args .t .now)) (contentOf (c .before .before .before .before .before .before .before .before .before .before .before .args .c .proposal))), 11) ∷ []) (c .before .before .before .signer-refusal .ensures) (signers-numbered (c .before .before .before .before .before .before .before .before .before .before .before .args .s) (c .before .before .before .before .before .before .before .before .before .before .before .args .t .now) (c .before .before .before .before .before .before .before .before .before .before .before .args .c .proposal .round .0) (c .before .before .before .before .with .result)) (c .before .before .if3 .left) ∙ refuses _ _ (sym (c .before .lacks-previous .ensures) ∙ c .if4 .taken))
+returns-4 c = sym (signed (c .before .before) ∙ refuses _ _ (sym (c .before .lacks-previous .ensures) ∙ c .if4 .taken))
 
 returns-5 : tie.Need-returns-5
-returns-5 c = sym (place-free (c .before .before .before .before .before .before .before .before .before .before .before .args .s) (c .before .before .before .before .before .before .before .before .before .before .before .args .t .now) (c .before .before .before .before .before .before .before .before .before .before .before .args .c .proposal) (c .before .before .before .before .before .before .before .before .before .before .before .args .c .endorsers) (c .before .before .before .before .before .before .before .before .before .before .before .pre .1) (sym (c .before .before .before .before .before .before .before .held .ensures) ∙ c .before .before .before .before .before .before .if1 .left) (c .before .before .before .before .with .ensures) ∙ piece-passed (signerChecks (c .before .before .before .before .before .before .before .before .before .before .before .args .s .settings) (view (c .before .before .before .before .before .before .before .before .before .before .before .args .s) (c .before .before .before .before .before .before .before .before .before .before .before .args .t .now)) (c .before .before .before .before .before .before .before .before .before .before .before .args .c .proposal .round .0) (c .before .before .before .before .with .result)) ((above (c .before .before .before .before .before .before .before .before .before .before .before .args .c .proposal .round .0) (missing (c .before .before .before .before .before .before .before .before .before .before .before .args .s .settings) (view (c .before .before .before .before .before .before .before .before .before .before .before .args .s) (c .before .before .before .before .before .before .before .before .before .before .before .args .t .now)) (contentOf (c .before .before .before .before .before .before .before .before .before .before .before .args .c .proposal))), 11) ∷ []) (c .before .before .before .signer-refusal .ensures) (signers-numbered (c .before .before .before .before .before .before .before .before .before .before .before .args .s) (c .before .before .before .before .before .before .before .before .before .before .before .args .t .now) (c .before .before .before .before .before .before .before .before .before .before .before .args .c .proposal .round .0) (c .before .before .before .before .with .result)) (c .before .before .if3 .left) ∙ passes _ _ (sym (c .before .lacks-previous .ensures) ∙ c .if4 .left) ∙ passes-all)
+returns-5 c = sym (signed (c .before .before) ∙ passes _ _ (sym (c .before .lacks-previous .ensures) ∙ c .if4 .left) ∙ passes-all)
 
 pub place-refusal-spec : {M : Type 1} → statement M
 place-refusal-spec =

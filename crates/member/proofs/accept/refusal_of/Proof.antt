@@ -1,35 +1,69 @@
-use mathlib.Core.Path.{sym, _∙_}
-use Rattle.base.specs.Checks.{refuses, passes}
-use Rattle.member.specs.PlaceLaws.{form-fits, piece-refused, piece-passed, form-numbered}
-use Rattle.rules.specs.Calls.{accepting}
-use Rattle.terms.specs.Proposals.{contentOf}
-use Rattle.state.specs.View.{view}
-use Rattle.member.specs.Pieces.{formChecks}
+use mathlib.Core.Path.{_≡_, sym, _∙_}
 use lib.ListN.{drop}
+use Rattle.base.specs.Checks.{Checks, refusal}
+use Rattle.base.proofs.CheckLaws.{refuses, passes}
+use Rattle.terms.specs.Proposals.{contentOf}
+use Rattle.rules.specs.Calls.{accepting}
+use Rattle.state.specs.View.{view}
+use Rattle.member.specs.SharedChecks.{formChecks, Fits}
+use Rattle.member.proofs.PlaceLaws.{form-fits, piece-refused, piece-passed, form-numbered}
 use borrow.Author.Needs.{needs}
 use Rattle.member.proofs.accept.refusal_of.Statement.{statement}
 use Rattle.member.proofs.accept.refusal_of.Tie as tie
+
+-- the entry, from the place after `form_refusal`; the checks, and those of them that it makes
+abbrev entry : tie.After-form-refusal → tie.Start
+entry c = c .before .before .before .before
+
+abbrev whole : tie.Start → Checks
+whole s = let a = s .args in accepting (a .s .settings) (view (a .s) (a .t .now)) (contentOf (a .c .proposal)) (a .c .endorsers)
+
+abbrev form : tie.Start → Checks
+form s = formChecks (s .args .s .settings) (contentOf (s .args .c .proposal))
+
+-- past 4, 5, 6, 7
+abbrev entry₁ : tie.Else1 → tie.Start
+entry₁ c = entry (c .before)
+
+fits : (c : tie.Else1) → let a = entry₁ c .args in Fits (a .s) (a .c .proposal)
+fits c = let a = entry₁ c .args in form-fits (a .s) (a .t .now) (a .c .proposal) (sym (c .before .form-refusal .ensures) ∙ c .if1 .left)
+
+past₁ : (c : tie.Else1) → refusal (whole (entry₁ c)) ≡ refusal (drop 4 (whole (entry₁ c)))
+past₁ c =
+    let s = entry₁ c in
+    let n = form-numbered (s .args .s) (s .args .t .now) (s .args .c .proposal) in
+    piece-passed (form s) (drop 4 (whole s)) (c .before .form-refusal .ensures) n (c .if1 .left)
+
+-- past 14
+abbrev formed : tie.After-has → tie.Else1
+formed c = c .before .before
+
+abbrev entry₂ : tie.Else2 → tie.Start
+entry₂ c = entry₁ (formed (c .before))
+
+past₂ : (c : tie.Else2) → refusal (whole (entry₂ c)) ≡ refusal (drop 5 (whole (entry₂ c)))
+past₂ c = past₁ (formed (c .before)) ∙ passes _ _ (sym (c .before .has .ensures) ∙ c .if2 .left)
 
 form-refusal-requires : tie.Need-form-refusal-requires
 form-refusal-requires c κs = c .before .before .before .pre .0 .settings .allowance-to
 
 returns : tie.Need-returns
-returns c = piece-refused (formChecks (c .before .before .before .before .before .args .s .settings) (contentOf (c .before .before .before .before .before .args .c .proposal))) (drop 4 (accepting (c .before .before .before .before .before .args .s .settings) (view (c .before .before .before .before .before .args .s) (c .before .before .before .before .before .args .t .now)) (contentOf (c .before .before .before .before .before .args .c .proposal)) (c .before .before .before .before .before .args .c .endorsers))) (c .before .form-refusal .ensures) (c .if1 .taken)
+returns c = let s = entry (c .before) in piece-refused (form s) (drop 4 (whole s)) (c .before .form-refusal .ensures) (c .if1 .taken)
 
 cast-has : tie.Need-cast-has
 cast-has c = search needs
 
 has-requires : tie.Need-has-requires
-has-requires c κs = (form-fits (c .before .before .before .before .before .before .args .s) (c .before .before .before .before .before .before .args .t .now) (c .before .before .before .before .before .before .args .c .proposal) (sym (c .before .before .form-refusal .ensures) ∙ c .before .if1 .left)) .author
+has-requires c κs = fits (c .before) .author
 
 returns-2 : tie.Need-returns-2
-returns-2 c = sym (piece-passed (formChecks (c .before .before .before .before .before .before .before .before .args .s .settings) (contentOf (c .before .before .before .before .before .before .before .before .args .c .proposal))) (drop 4 (accepting (c .before .before .before .before .before .before .before .before .args .s .settings) (view (c .before .before .before .before .before .before .before .before .args .s) (c .before .before .before .before .before .before .before .before .args .t .now)) (contentOf (c .before .before .before .before .before .before .before .before .args .c .proposal)) (c .before .before .before .before .before .before .before .before .args .c .endorsers))) (c .before .before .before .before .form-refusal .ensures) (form-numbered (c .before .before .before .before .before .before .before .before .args .s) (c .before .before .before .before .before .before .before .before .args .t .now) (c .before .before .before .before .before .before .before .before .args .c .proposal)) (c .before .before .before .if1 .left) ∙ refuses _ _ (sym (c .before .has .ensures) ∙ c .if2 .taken))
+returns-2 c = sym (past₁ (formed (c .before)) ∙ refuses _ _ (sym (c .before .has .ensures) ∙ c .if2 .taken))
 
 place-refusal-requires : tie.Need-place-refusal-requires
-place-refusal-requires c κs = let q = c .before .before .before .before .before .before .before .before .pre in (q .0, form-fits (c .before .before .before .before .before .before .before .before .args .s) (c .before .before .before .before .before .before .before .before .args .t .now) (c .before .before .before .before .before .before .before .before .args .c .proposal) (sym (c .before .before .before .before .form-refusal .ensures) ∙ c .before .before .before .if1 .left), q .1)
+place-refusal-requires c κs = let q = entry₂ c .pre in (q .0, fits (formed (c .before)), q .1)
 
 returns-3 : tie.Need-returns-3
-returns-3 c = c .place-refusal .ensures ∙ sym (piece-passed (formChecks (c .before .before .before .before .before .before .before .before .before .args .s .settings) (contentOf (c .before .before .before .before .before .before .before .before .before .args .c .proposal))) (drop 4 (accepting (c .before .before .before .before .before .before .before .before .before .args .s .settings) (view (c .before .before .before .before .before .before .before .before .before .args .s) (c .before .before .before .before .before .before .before .before .before .args .t .now)) (contentOf (c .before .before .before .before .before .before .before .before .before .args .c .proposal)) (c .before .before .before .before .before .before .before .before .before .args .c .endorsers))) (c .before .before .before .before .before .form-refusal .ensures) (form-numbered (c .before .before .before .before .before .before .before .before .before .args .s) (c .before .before .before .before .before .before .before .before .before .args .t .now) (c .before .before .before .before .before .before .before .before .before .args .c .proposal)) (c .before .before .before .before .if1 .left) ∙ passes _ _ (sym (c .before .before .has .ensures) ∙ c .before .if2 .left))
+returns-3 c = c .place-refusal .ensures ∙ sym (past₂ (c .before))
 
 pub refusal-of-spec : {M : Type 1} → statement M
 refusal-of-spec =

@@ -1,5 +1,5 @@
 use native.Mathlib.Omega.{arith}
-use Rattle.state.specs.KnownLaws.{known-alone}
+use Rattle.state.proofs.CachedLaws.{known-alone}
 use borrow.Author.Needs.{needs}
 use Rattle.member.proofs.certify.certify.Statement.{statement}
 use Rattle.member.proofs.certify.certify.Tie as tie
@@ -10,11 +10,11 @@ well-formed-requires c κs = search needs
 array-share-prefix-none : tie.Need-array-share-prefix-none
 array-share-prefix-none c = search needs
 
-slice-aggregate-certify-known : tie.Need-slice-aggregate-certify-known
-slice-aggregate-certify-known c = search needs
+slice-aggregate-certify-cached : tie.Need-slice-aggregate-certify-cached
+slice-aggregate-certify-cached c = search needs
 
-certify-known-requires : tie.Need-certify-known-requires
-certify-known-requires c κs = known-alone _ (omega arith) (c .before .before .well-formed .ensures)
+certify-cached-requires : tie.Need-certify-cached-requires
+certify-cached-requires c κs = known-alone _ (omega arith) (c .before .before .well-formed .ensures)
 
 same-length : tie.Need-same-length
 same-length c = search needs
@@ -28,7 +28,7 @@ certify-spec =
     (tie.spec
     well-formed-requires
     array-share-prefix-none
-    slice-aggregate-certify-known
-    certify-known-requires
+    slice-aggregate-certify-cached
+    certify-cached-requires
     same-length
     returns)

@@ -1,7 +1,7 @@
 use mathlib.Core.Path.{refl, sym, _∙_}
 use borrow.Author.Tests.{not-true, not-false}
-use Rattle.base.specs.Checks.{refuses, passes}
-use Rattle.member.specs.PlaceLaws.{own-within, certify-none, certify-some}
+use Rattle.base.proofs.CheckLaws.{refuses, passes}
+use Rattle.member.proofs.PlaceLaws.{own-within, certify-none, certify-some}
 use Rattle.member.proofs.certify.refusal_of.Statement.{statement}
 use Rattle.member.proofs.certify.refusal_of.Tie as tie
 

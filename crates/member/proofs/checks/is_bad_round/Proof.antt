@@ -1,5 +1,5 @@
 use mathlib.Core.Path.{sym}
-use Rattle.rules.specs.TestLaws.{bad-zero, bad-over}
+use Rattle.rules.proofs.TestLaws.{bad-zero, bad-over}
 use Rattle.member.proofs.checks.is_bad_round.Statement.{statement}
 use Rattle.member.proofs.checks.is_bad_round.Tie as tie
 

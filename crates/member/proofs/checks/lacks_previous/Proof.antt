@@ -1,6 +1,6 @@
 use mathlib.Core.Path.{sym}
-use Rattle.rules.specs.TestLaws.{above-first}
-use Rattle.member.specs.PieceLaws.{lacks-by}
+use Rattle.rules.proofs.TestLaws.{above-first}
+use Rattle.member.proofs.SharedCheckLaws.{lacks-by}
 use native.Mathlib.Omega.{arith}
 use borrow.Author.Needs.{needs}
 use Rattle.member.proofs.checks.lacks_previous.Statement.{statement}

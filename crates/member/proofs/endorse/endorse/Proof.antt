@@ -1,5 +1,5 @@
 use native.Mathlib.Omega.{arith}
-use Rattle.state.specs.KnownLaws.{known-alone}
+use Rattle.state.proofs.CachedLaws.{known-alone}
 use borrow.Author.Needs.{needs}
 use Rattle.member.proofs.endorse.endorse.Statement.{statement}
 use Rattle.member.proofs.endorse.endorse.Tie as tie
@@ -10,11 +10,11 @@ well-formed-requires c κs = search needs
 array-share-prefix-none : tie.Need-array-share-prefix-none
 array-share-prefix-none c = search needs
 
-slice-aggregate-endorse-known : tie.Need-slice-aggregate-endorse-known
-slice-aggregate-endorse-known c = search needs
+slice-aggregate-endorse-cached : tie.Need-slice-aggregate-endorse-cached
+slice-aggregate-endorse-cached c = search needs
 
-endorse-known-requires : tie.Need-endorse-known-requires
-endorse-known-requires c κs = known-alone _ (omega arith) (c .before .before .well-formed .ensures)
+endorse-cached-requires : tie.Need-endorse-cached-requires
+endorse-cached-requires c κs = known-alone _ (omega arith) (c .before .before .well-formed .ensures)
 
 same-length : tie.Need-same-length
 same-length c = search needs
@@ -28,7 +28,7 @@ endorse-spec =
     (tie.spec
     well-formed-requires
     array-share-prefix-none
-    slice-aggregate-endorse-known
-    endorse-known-requires
+    slice-aggregate-endorse-cached
+    endorse-cached-requires
     same-length
     returns)

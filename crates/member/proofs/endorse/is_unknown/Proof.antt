@@ -1,7 +1,7 @@
 use mathlib.Core.Path.{sym, ap, _∙_}
 use mathlib.Core.Bool.{not}
-use Rattle.state.specs.Walkable.{readable}
-use Rattle.rules.specs.TestLaws.{above-first, above-later, unknown-not}
+use Rattle.state.proofs.Walkable.{readable}
+use Rattle.rules.proofs.TestLaws.{above-first, above-later, unknown-not}
 use borrow.Author.Needs.{needs}
 use Rattle.member.proofs.endorse.is_unknown.Statement.{statement}
 use Rattle.member.proofs.endorse.is_unknown.Tie as tie

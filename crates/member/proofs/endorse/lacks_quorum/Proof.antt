@@ -4,7 +4,7 @@ use Rattle.base.specs.Sets.{isIn}
 use Rattle.sheet.specs.Ranges.{weightIn}
 use Rattle.committee.specs.Committees.{quorum}
 use Rattle.rules.specs.Tests.{above}
-use Rattle.state.specs.Walkable.{readable}
+use Rattle.state.proofs.Walkable.{readable}
 use borrow.Author.Needs.{needs}
 use Rattle.member.proofs.endorse.lacks_quorum.Statement.{statement}
 use Rattle.member.proofs.endorse.lacks_quorum.Tie as tie
@@ -15,11 +15,11 @@ sub-t7 c = search needs
 committee-requires : tie.Need-committee-requires
 committee-requires c κs = let p = c .before .before .before .pre in (readable _ _ (p .0), p .3)
 
-is-thin-requires : tie.Need-is-thin-requires
-is-thin-requires c κs = search needs
+lacks-previous-quorum-requires : tie.Need-lacks-previous-quorum-requires
+lacks-previous-quorum-requires c κs = search needs
 
 returns : tie.Need-returns
-returns c = let p = c .before .before .before .before .before .before .args .p in c .is-thin .ensures ∙ ap (λ w. above (p .round .0) (not (quorum (weightIn w) (isIn (p .body .previous))))) (c .before .before .committee .ensures .0)
+returns c = let p = c .before .before .before .before .before .before .args .p in c .lacks-previous-quorum .ensures ∙ ap (λ w. above (p .round .0) (not (quorum (weightIn w) (isIn (p .body .previous))))) (c .before .before .committee .ensures .0)
 
 pub lacks-quorum-spec : {M : Type 1} → statement M
-lacks-quorum-spec = tie.close (tie.spec sub-t7 committee-requires is-thin-requires returns)
+lacks-quorum-spec = tie.close (tie.spec sub-t7 committee-requires lacks-previous-quorum-requires returns)

@@ -1,5 +1,5 @@
 use mathlib.Core.Path.{sym, _∙_}
-use Rattle.base.specs.Checks.{passes-all, refuses, passes}
+use Rattle.base.proofs.CheckLaws.{passes-all, refuses, passes}
 use borrow.Author.Needs.{needs}
 use Rattle.member.proofs.endorse.previous_refusal.Statement.{statement}
 use Rattle.member.proofs.endorse.previous_refusal.Tie as tie

@@ -1,7 +1,7 @@
 use mathlib.Core.Path.{sym, _∙_}
 use Rattle.member.specs.Open.{openOutcome, openTable}
-use Rattle.member.specs.AnswerLaws.{left-accepted, left-refused, outcome-accepted, outcome-refused}
-use Rattle.member.specs.OpenLaws.{opened}
+use Rattle.member.proofs.AnswerLaws.{left-accepted, left-refused, outcome-accepted, outcome-refused}
+use Rattle.member.proofs.OpenLaws.{opened}
 use borrow.Author.Needs.{needs}
 use Rattle.member.proofs.open.open.Statement.{statement}
 use Rattle.member.proofs.open.open.Tie as tie
@@ -9,18 +9,20 @@ use Rattle.member.proofs.open.open.Tie as tie
 fill-requires : tie.Need-fill-requires
 fill-requires c κs = search needs
 
-open-number-requires : tie.Need-open-number-requires
-open-number-requires c κs = search needs
+open-refusal-requires : tie.Need-open-refusal-requires
+open-refusal-requires c κs = search needs
 
 same-length : tie.Need-same-length
 same-length c = search needs
 
 returns : tie.Need-returns
 unfolding openOutcome openTable
-returns c = let q = rw (c .before .before .before .fill .ensures) at (c .before .open-number .ensures) in (outcome-refused q _ _ (c .if1 .taken), sym (left-refused _ _ _ (λ e. c .if1 .taken (q ∙ e))))
+returns c =
+    let q = rw (c .before .before .before .fill .ensures) at (c .before .open-refusal .ensures) in
+    (outcome-refused q _ _ (c .if1 .taken), sym (left-refused _ _ _ (λ e. c .if1 .taken (q ∙ e))), q)
 
 clear-used-requires : tie.Need-clear-used-requires
-clear-used-requires c κs = opened _ _ _ (sym (c .before .before .open-number .ensures) ∙ c .before .if1 .left) .long
+clear-used-requires c κs = opened _ _ _ (sym (c .before .before .open-refusal .ensures) ∙ c .before .if1 .left) .long
 
 fresh-requires : tie.Need-fresh-requires
 fresh-requires c κs = search needs
@@ -30,14 +32,18 @@ same-length-2 c = search needs
 
 returns-2 : tie.Need-returns-2
 unfolding openOutcome openTable
-returns-2 c = let q = rw (c .before .before .before .before .before .before .before .before .fill .ensures) at (c .before .before .before .before .before .before .open-number .ensures) in (rw (c .fresh .ensures, c .before .before .before .before .before .before .before .before .fill .ensures) (outcome-accepted q _ _ (c .before .before .before .before .before .if1 .left)), c .before .before .before .clear-used .ensures ∙ rw (c .before .before .before .before .before .before .before .before .fill .ensures) (sym (left-accepted _ _ _ (sym q ∙ c .before .before .before .before .before .if1 .left))))
+returns-2 c =
+    let e = c .before .before .before .before .before in
+    let f = e .before .before .before .fill .ensures in
+    let q = rw f at (e .before .open-refusal .ensures) in
+    (rw (c .fresh .ensures, f) (outcome-accepted q _ _ (e .if1 .left)), c .before .before .before .clear-used .ensures ∙ rw f (sym (left-accepted _ _ _ (sym q ∙ e .if1 .left))), sym (e .if1 .left) ∙ q)
 
 pub open-spec : {M : Type 1} → statement M
 open-spec =
     tie.close
     (tie.spec
     fill-requires
-    open-number-requires
+    open-refusal-requires
     same-length
     returns
     clear-used-requires

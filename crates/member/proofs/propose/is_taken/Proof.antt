@@ -1,5 +1,5 @@
 use mathlib.Core.Path.{refl, sym, _∙_}
-use Rattle.member.specs.PlaceLaws.{own-within, own-taken}
+use Rattle.member.proofs.PlaceLaws.{own-within, own-taken}
 use Rattle.member.proofs.propose.is_taken.Statement.{statement}
 use Rattle.member.proofs.propose.is_taken.Tie as tie
 

@@ -1,5 +1,5 @@
 use native.Mathlib.Omega.{arith}
-use Rattle.state.specs.KnownLaws.{known-alone}
+use Rattle.state.proofs.CachedLaws.{known-alone}
 use borrow.Author.Needs.{needs}
 use Rattle.member.proofs.propose.propose.Statement.{statement}
 use Rattle.member.proofs.propose.propose.Tie as tie
@@ -10,11 +10,11 @@ well-formed-requires c κs = search needs
 array-share-prefix-none : tie.Need-array-share-prefix-none
 array-share-prefix-none c = search needs
 
-slice-aggregate-propose-known : tie.Need-slice-aggregate-propose-known
-slice-aggregate-propose-known c = search needs
+slice-aggregate-propose-cached : tie.Need-slice-aggregate-propose-cached
+slice-aggregate-propose-cached c = search needs
 
-propose-known-requires : tie.Need-propose-known-requires
-propose-known-requires c κs = known-alone _ (omega arith) (c .before .well-formed .ensures)
+propose-cached-requires : tie.Need-propose-cached-requires
+propose-cached-requires c κs = known-alone _ (omega arith) (c .before .well-formed .ensures)
 
 returns : tie.Need-returns
 returns c = search needs
@@ -25,6 +25,6 @@ propose-spec =
     (tie.spec
     well-formed-requires
     array-share-prefix-none
-    slice-aggregate-propose-known
-    propose-known-requires
+    slice-aggregate-propose-cached
+    propose-cached-requires
     returns)

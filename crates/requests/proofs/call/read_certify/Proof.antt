@@ -1,62 +1,46 @@
-use Rattle.requests.specs.RequestLaws.{number-goes, number-stops, number-fits, end-past, end-here}
-use mathlib.Core.Path.{_≡_, refl, sym, ap, _∙_}
+use Rattle.requests.proofs.RequestLaws.{number-goes, number-stops, number-fits, end-past, end-here}
+use mathlib.Core.Path.{sym, ap, _∙_}
 use native.Mathlib.Omega.{arith}
 use Rattle.requests.specs.Readings.{readingOf}
-use Rattle.requests.specs.BodyLaws.{bare-of}
+use Rattle.requests.proofs.BodyLaws.{bare-of}
 use borrow.Author.Needs.{needs}
 use Rattle.requests.proofs.call.read_certify.Statement.{statement}
 use Rattle.requests.proofs.call.read_certify.Tie as tie
-use Rattle.requests.proofs.call.read_certify.Reads as reads
-use Rattle.requests.proofs.call.read_certify.Lts as lts
-use Rattle.requests.proofs.call.call_of.Reads as call-of-reads
-use Rattle.requests.proofs.call.unreadable.Reads as unreadable-reads
-use Rattle.fields.proofs.number.number_at.Reads as number-at-reads
 
--- src/call.rt:170:9
 number-at-requires : tie.Need-number-at-requires
 number-at-requires c κs = search needs
 
--- src/call.rt:172:20
 enum-known-x : tie.Need-enum-known-x
 enum-known-x c = search needs
 
--- src/call.rt:173:9
 enum-told : tie.Need-enum-told
 enum-told c = search needs
 
--- src/call.rt:173:9
 unreadable-requires : tie.Need-unreadable-requires
 unreadable-requires c κs = search needs
 
--- src/call.rt:173:9
 returns : tie.Need-returns
 returns c = c .unreadable .ensures ∙ sym (ap readingOf (number-stops _ _ _ _ (c .before .before .before .number-at .ensures .0) (c .before .enum-told .given .1)))
 
--- src/call.rt:176:9
 unreadable-requires-2 : tie.Need-unreadable-requires-2
 unreadable-requires-2 c κs = search needs
 
--- src/call.rt:176:9
 returns-2 : tie.Need-returns-2
 returns-2 c =
     let a = c .before .before .before .before .before .before .before .before .args in
     c .unreadable2 .ensures ∙ sym (ap readingOf (number-goes _ _ _ _ (c .before .before .before .before .before .before .number-at .ensures .0) (c .before .before .before .before .before .before .number-at .ensures .1) (c .before .before .before .before .x .given .1) ∙ end-past _ _ _ (c .before .if1 .taken)))
 
--- src/call.rt:178:9
 bare-body-requires : tie.Need-bare-body-requires
 bare-body-requires c κs = search needs
 
--- src/call.rt:179:55
 cast-call-of : tie.Need-cast-call-of
 cast-call-of c =
     let l = number-fits 65535 _ _ (c .before .before .before .before .before .before .number-at .ensures .0) (c .before .before .before .before .x .given .1) in
     omega arith
 
--- src/call.rt:179:5
 call-of-requires : tie.Need-call-of-requires
 call-of-requires c κs = search needs
 
--- src/call.rt:166:1
 returns-3 : tie.Need-returns-3
 returns-3 c = rw (c .before .bare-body .ensures ∙ bare-of 0) at (c .call-of .ensures) ∙ sym (ap readingOf (number-goes _ _ _ _ (c .before .before .before .before .before .before .before .number-at .ensures .0) (c .before .before .before .before .before .before .before .number-at .ensures .1) (c .before .before .before .before .before .x .given .1) ∙ end-here _ _ _ (c .before .before .if1 .left)))
 

@@ -1,27 +1,19 @@
-use Rattle.fields.specs.FieldLaws.{from-step, from-none}
+use Rattle.fields.proofs.FieldLaws.{from-step, from-none}
 use borrow.Author.Needs.{needs}
 use Rattle.requests.proofs.call.read_end.Statement.{statement}
 use Rattle.requests.proofs.call.read_end.Tie as tie
-use Rattle.requests.proofs.call.read_end.Reads as reads
-use Rattle.requests.proofs.call.read_end.Lts as lts
-use Rattle.requests.proofs.call.plain.Reads as plain-reads
-use Rattle.requests.proofs.call.unreadable.Reads as unreadable-reads
 
--- src/call.rt:56:9
 unreadable-requires : tie.Need-unreadable-requires
 unreadable-requires c κs = search needs
 
--- src/call.rt:56:9
 returns : tie.Need-returns
 returns c =
     let a = c .before .before .before .args in
     simp (from-step (a .rec .now) (a .at) (c .before .if1 .taken), c .unreadable .ensures)
 
--- src/call.rt:58:5
 plain-requires : tie.Need-plain-requires
 plain-requires c κs = search needs
 
--- src/call.rt:51:1
 returns-2 : tie.Need-returns-2
 returns-2 c =
     let a = c .before .before .before .args in

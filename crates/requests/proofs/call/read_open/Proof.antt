@@ -1,118 +1,178 @@
-use Rattle.requests.specs.RequestLaws.{number-goes, number-stops, setting-goes, setting-stops, weights-go, weights-stop}
+use mathlib.Core.Path.{_≡_, _∙_}
+use mathlib.Core.List.{List}
+use mathlib.Core.Option.{Option, none, some}
+use Prim.Native.Nat.{ℕ}
 use borrow.Author.Tests.{not-true, not-false}
-use mathlib.Core.Path.{_≡_, refl, sym, ap, _∙_}
-use native.Mathlib.Omega.{arith}
-use Rattle.requests.specs.Readings.{readingOf}
+use Rattle.sheet.specs.declared.Setting.{Setting}
+use Rattle.fields.specs.Fields.{fieldsFrom}
+use Rattle.fields.specs.Numbers.{given}
+use Rattle.fields.specs.Cursor.{found}
+use Rattle.requests.specs.Settings.{setting}
+use Rattle.requests.specs.Requests.{Request, unreadable, openAs, nextBy, weightsThen, openOf}
+use Rattle.requests.specs.Readings.{settingFound}
+use Rattle.requests.proofs.RequestLaws.{number-by, setting-by, weights-go, weights-stop, reads}
 use borrow.Author.Needs.{needs}
 use Rattle.requests.proofs.call.read_open.Statement.{statement}
 use Rattle.requests.proofs.call.read_open.Tie as tie
-use Rattle.requests.proofs.call.read_open.Reads as reads
-use Rattle.requests.proofs.call.read_open.Lts as lts
-use Rattle.requests.proofs.call.unreadable.Reads as unreadable-reads
-use Rattle.fields.proofs.number.number_at.Reads as number-at-reads
-use Rattle.requests.proofs.setting.setting_at.Reads as setting-at-reads
-use Rattle.requests.proofs.setting.weights_at.Reads as weights-at-reads
-use Rattle.requests.proofs.call.open_of.Reads as open-of-reads
 
--- src/call.rt:88:9
+-- what is left of an open after its allowance, its ceiling, its lookback and its own number
+abbrev weightsLeft : ℕ → Setting → Setting → Setting → List (List ℕ) → Request
+weightsLeft o l c a fs = weightsThen fs (λ w. openAs o (record { lookback = l; ceiling = c; allowance = a; weights = w }))
+
+abbrev allowanceLeft : ℕ → Setting → Setting → List (List ℕ) → Request
+allowanceLeft o l c fs = nextBy setting fs (weightsLeft o l c)
+
+abbrev ceilingLeft : ℕ → Setting → List (List ℕ) → Request
+ceilingLeft o l fs = nextBy setting fs (allowanceLeft o l)
+
+abbrev lookbackLeft : ℕ → List (List ℕ) → Request
+lookbackLeft o fs = nextBy setting fs (ceilingLeft o)
+
+-- an open is unreadable where o is none, and else what k makes of what was read and of the fields from n on
+abbrev Told : {A : Type 0} → tie.Start → Option A → ℕ → (A → List (List ℕ) → Request) → Type 0
+Told s o n k = let r = s .args .rec .now in openOf (fieldsFrom r (s .args .at)) ≡ given o unreadable (λ x. k x (fieldsFrom r n))
+
+-- For each field: where the one before it was read, the call that read that one, the start, what is left after the field, and what it decides.
+
+-- the own number
+abbrev start1 : tie.After-number-at → tie.Start
+start1 c = c .before .before
+
+read-transaction1 : (c : tie.After-number-at) (o : Option ℕ) → c .number-at .result .number ≡ found o → Told (start1 c) o (c .number-at .result .next) lookbackLeft
+read-transaction1 c o e = number-by _ _ _ _ (c .number-at .ensures .0) o (c .number-at .ensures .1) e
+
+-- the lookback
+abbrev own : tie.After-setting-at → tie.After-own
+own c = c .before .before
+
+abbrev up2 : tie.After-setting-at → tie.After-number-at
+up2 c = own c .before .before
+
+abbrev start2 : tie.After-setting-at → tie.Start
+start2 c = start1 (up2 c)
+
+abbrev left2 : tie.After-setting-at → Setting → List (List ℕ) → Request
+left2 c = ceilingLeft (own c .own .given .0 .0)
+
+read-transaction2 : (c : tie.After-setting-at) (o : Option Setting) → c .setting-at .result .setting ≡ settingFound o → Told (start2 c) o (c .setting-at .result .next) (left2 c)
+read-transaction2 c o e = read-transaction1 (up2 c) (some _) (own c .own .given .1) ∙ setting-by _ _ _ (c .setting-at .ensures .0) o (c .setting-at .ensures .1) e
+
+-- the ceiling
+abbrev lookback : tie.After-setting-at2 → tie.After-lookback
+lookback c = c .before .before
+
+abbrev up3 : tie.After-setting-at2 → tie.After-setting-at
+up3 c = lookback c .before .before
+
+abbrev start3 : tie.After-setting-at2 → tie.Start
+start3 c = start2 (up3 c)
+
+abbrev left3 : tie.After-setting-at2 → Setting → List (List ℕ) → Request
+left3 c = allowanceLeft (own (up3 c) .own .given .0 .0) (lookback c .lookback .given .0 .0)
+
+read-transaction3 : (c : tie.After-setting-at2) (o : Option Setting) → c .setting-at2 .result .setting ≡ settingFound o → Told (start3 c) o (c .setting-at2 .result .next) (left3 c)
+read-transaction3 c o e = read-transaction2 (up3 c) (some _) (lookback c .lookback .given .1) ∙ setting-by _ _ _ (c .setting-at2 .ensures .0) o (c .setting-at2 .ensures .1) e
+
+-- the allowance
+abbrev ceiling : tie.After-setting-at3 → tie.After-ceiling
+ceiling c = c .before .before
+
+abbrev up4 : tie.After-setting-at3 → tie.After-setting-at2
+up4 c = ceiling c .before .before
+
+abbrev start4 : tie.After-setting-at3 → tie.Start
+start4 c = start3 (up4 c)
+
+abbrev left4 : tie.After-setting-at3 → Setting → List (List ℕ) → Request
+left4 c = weightsLeft (own (up3 (up4 c)) .own .given .0 .0) (lookback (up4 c) .lookback .given .0 .0) (ceiling c .ceiling .given .0 .0)
+
+read-transaction4 : (c : tie.After-setting-at3) (o : Option Setting) → c .setting-at3 .result .setting ≡ settingFound o → Told (start4 c) o (c .setting-at3 .result .next) (left4 c)
+read-transaction4 c o e = read-transaction3 (up4 c) (some _) (ceiling c .ceiling .given .1) ∙ setting-by _ _ _ (c .setting-at3 .ensures .0) o (c .setting-at3 .ensures .1) e
+
+-- the weights
+abbrev allowance : tie.After-weights-at → tie.After-allowance
+allowance c = c .before .before
+
+abbrev up5 : tie.After-weights-at → tie.After-setting-at3
+up5 c = allowance c .before .before
+
+read-transaction5 : (c : tie.After-weights-at) → Told (start4 (up5 c)) (some (allowance c .allowance .given .0 .0)) (up5 c .setting-at3 .result .next) (left4 (up5 c))
+read-transaction5 c = read-transaction4 (up5 c) (some _) (allowance c .allowance .given .1)
+
 number-at-requires : tie.Need-number-at-requires
 number-at-requires c κs = search needs
 
--- src/call.rt:90:20
 enum-known-own : tie.Need-enum-known-own
 enum-known-own c = search needs
 
--- src/call.rt:91:9
 enum-told : tie.Need-enum-told
 enum-told c = search needs
 
--- src/call.rt:91:9
 unreadable-requires : tie.Need-unreadable-requires
 unreadable-requires c κs = search needs
 
--- src/call.rt:91:9
 returns : tie.Need-returns
-returns c = c .unreadable .ensures ∙ sym (ap readingOf (number-stops _ _ _ _ (c .before .before .before .number-at .ensures .0) (c .before .enum-told .given .1)))
+returns c = let t = c .before in reads (read-transaction1 (t .before .before) none (t .enum-told .given .1)) (c .unreadable .ensures)
 
--- src/call.rt:93:9
 setting-at-requires : tie.Need-setting-at-requires
 setting-at-requires c κs = search needs
 
--- src/call.rt:95:25
 enum-known-lookback : tie.Need-enum-known-lookback
 enum-known-lookback c = search needs
 
--- src/call.rt:96:9
 enum-told-2 : tie.Need-enum-told-2
 enum-told-2 c = search needs
 
--- src/call.rt:96:9
 unreadable-requires-2 : tie.Need-unreadable-requires-2
 unreadable-requires-2 c κs = search needs
 
--- src/call.rt:96:9
 returns-2 : tie.Need-returns-2
-returns-2 c = c .unreadable2 .ensures ∙ sym (ap readingOf (number-goes _ _ _ _ (c .before .before .before .before .before .before .before .number-at .ensures .0) (c .before .before .before .before .before .before .before .number-at .ensures .1) (c .before .before .before .before .before .own .given .1) ∙ setting-stops _ _ _ (c .before .before .before .setting-at .ensures .0) (c .before .enum-told2 .given .1)))
+returns-2 c = let t = c .before in reads (read-transaction2 (t .before .before) none (t .enum-told2 .given .1)) (c .unreadable2 .ensures)
 
--- src/call.rt:98:9
 setting-at-requires-2 : tie.Need-setting-at-requires-2
 setting-at-requires-2 c κs = search needs
 
--- src/call.rt:100:25
 enum-known-ceiling : tie.Need-enum-known-ceiling
 enum-known-ceiling c = search needs
 
--- src/call.rt:101:9
 enum-told-3 : tie.Need-enum-told-3
 enum-told-3 c = search needs
 
--- src/call.rt:101:9
 unreadable-requires-3 : tie.Need-unreadable-requires-3
 unreadable-requires-3 c κs = search needs
 
--- src/call.rt:101:9
 returns-3 : tie.Need-returns-3
-returns-3 c = c .unreadable3 .ensures ∙ sym (ap readingOf (number-goes _ _ _ _ (c .before .before .before .before .before .before .before .before .before .before .before .number-at .ensures .0) (c .before .before .before .before .before .before .before .before .before .before .before .number-at .ensures .1) (c .before .before .before .before .before .before .before .before .before .own .given .1) ∙ setting-goes _ _ _ (c .before .before .before .before .before .before .before .setting-at .ensures .0) (c .before .before .before .before .before .before .before .setting-at .ensures .1) (c .before .before .before .before .before .lookback .given .1) ∙ setting-stops _ _ _ (c .before .before .before .setting-at2 .ensures .0) (c .before .enum-told3 .given .1)))
+returns-3 c = let t = c .before in reads (read-transaction3 (t .before .before) none (t .enum-told3 .given .1)) (c .unreadable3 .ensures)
 
--- src/call.rt:103:9
 setting-at-requires-3 : tie.Need-setting-at-requires-3
 setting-at-requires-3 c κs = search needs
 
--- src/call.rt:105:25
 enum-known-allowance : tie.Need-enum-known-allowance
 enum-known-allowance c = search needs
 
--- src/call.rt:106:9
 enum-told-4 : tie.Need-enum-told-4
 enum-told-4 c = search needs
 
--- src/call.rt:106:9
 unreadable-requires-4 : tie.Need-unreadable-requires-4
 unreadable-requires-4 c κs = search needs
 
--- src/call.rt:106:9
 returns-4 : tie.Need-returns-4
-returns-4 c = c .unreadable4 .ensures ∙ sym (ap readingOf (number-goes _ _ _ _ (c .before .before .before .before .before .before .before .before .before .before .before .before .before .before .before .number-at .ensures .0) (c .before .before .before .before .before .before .before .before .before .before .before .before .before .before .before .number-at .ensures .1) (c .before .before .before .before .before .before .before .before .before .before .before .before .before .own .given .1) ∙ setting-goes _ _ _ (c .before .before .before .before .before .before .before .before .before .before .before .setting-at .ensures .0) (c .before .before .before .before .before .before .before .before .before .before .before .setting-at .ensures .1) (c .before .before .before .before .before .before .before .before .before .lookback .given .1) ∙ setting-goes _ _ _ (c .before .before .before .before .before .before .before .setting-at2 .ensures .0) (c .before .before .before .before .before .before .before .setting-at2 .ensures .1) (c .before .before .before .before .before .ceiling .given .1) ∙ setting-stops _ _ _ (c .before .before .before .setting-at3 .ensures .0) (c .before .enum-told4 .given .1)))
+returns-4 c = let t = c .before in reads (read-transaction4 (t .before .before) none (t .enum-told4 .given .1)) (c .unreadable4 .ensures)
 
--- src/call.rt:108:9
 weights-at-requires : tie.Need-weights-at-requires
 weights-at-requires c κs = search needs
 
--- src/call.rt:110:9
 unreadable-requires-5 : tie.Need-unreadable-requires-5
 unreadable-requires-5 c κs = search needs
 
--- src/call.rt:110:9
 returns-5 : tie.Need-returns-5
-returns-5 c = c .unreadable5 .ensures ∙ sym (ap readingOf (number-goes _ _ _ _ (c .before .before .before .before .before .before .before .before .before .before .before .before .before .before .before .before .before .before .before .number-at .ensures .0) (c .before .before .before .before .before .before .before .before .before .before .before .before .before .before .before .before .before .before .before .number-at .ensures .1) (c .before .before .before .before .before .before .before .before .before .before .before .before .before .before .before .before .before .own .given .1) ∙ setting-goes _ _ _ (c .before .before .before .before .before .before .before .before .before .before .before .before .before .before .before .setting-at .ensures .0) (c .before .before .before .before .before .before .before .before .before .before .before .before .before .before .before .setting-at .ensures .1) (c .before .before .before .before .before .before .before .before .before .before .before .before .before .lookback .given .1) ∙ setting-goes _ _ _ (c .before .before .before .before .before .before .before .before .before .before .before .setting-at2 .ensures .0) (c .before .before .before .before .before .before .before .before .before .before .before .setting-at2 .ensures .1) (c .before .before .before .before .before .before .before .before .before .ceiling .given .1) ∙ setting-goes _ _ _ (c .before .before .before .before .before .before .before .setting-at3 .ensures .0) (c .before .before .before .before .before .before .before .setting-at3 .ensures .1) (c .before .before .before .before .before .allowance .given .1) ∙ weights-stop _ _ (c .before .before .before .weights-at .ensures) (not-true _ (c .before .if1 .taken))))
+returns-5 c = let t = c .before in let w = t .before .before in reads (read-transaction5 w ∙ weights-stop _ _ (w .weights-at .ensures) (not-true _ (t .if1 .taken))) (c .unreadable5 .ensures)
 
--- src/call.rt:124:15
 open-of-requires : tie.Need-open-of-requires
 open-of-requires c κs = search needs
 
--- src/call.rt:84:1
 returns-6 : tie.Need-returns-6
-returns-6 c = c .open-of .ensures ∙ (sym (ap readingOf (number-goes _ _ _ _ (c .before .before .before .before .before .before .before .before .before .before .before .before .before .before .before .before .before .before .before .before .number-at .ensures .0) (c .before .before .before .before .before .before .before .before .before .before .before .before .before .before .before .before .before .before .before .before .number-at .ensures .1) (c .before .before .before .before .before .before .before .before .before .before .before .before .before .before .before .before .before .before .own .given .1) ∙ setting-goes _ _ _ (c .before .before .before .before .before .before .before .before .before .before .before .before .before .before .before .before .setting-at .ensures .0) (c .before .before .before .before .before .before .before .before .before .before .before .before .before .before .before .before .setting-at .ensures .1) (c .before .before .before .before .before .before .before .before .before .before .before .before .before .before .lookback .given .1) ∙ setting-goes _ _ _ (c .before .before .before .before .before .before .before .before .before .before .before .before .setting-at2 .ensures .0) (c .before .before .before .before .before .before .before .before .before .before .before .before .setting-at2 .ensures .1) (c .before .before .before .before .before .before .before .before .before .before .ceiling .given .1) ∙ setting-goes _ _ _ (c .before .before .before .before .before .before .before .before .setting-at3 .ensures .0) (c .before .before .before .before .before .before .before .before .setting-at3 .ensures .1) (c .before .before .before .before .before .before .allowance .given .1) ∙ weights-go _ _ (c .before .before .before .before .weights-at .ensures) (not-false _ (c .before .before .if1 .left)))))
+returns-6 c = let t = c .before .before in let w = t .before .before in reads (read-transaction5 w ∙ weights-go _ _ (w .weights-at .ensures) (not-false _ (t .if1 .left))) (c .open-of .ensures)
 
 pub read-open-spec : {M : Type 1} → statement M
 read-open-spec =

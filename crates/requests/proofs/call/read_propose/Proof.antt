@@ -1,47 +1,34 @@
-use Rattle.requests.specs.RequestLaws.{number-goes, number-stops, number-fits, triples-reading}
-use mathlib.Core.Path.{_≡_, refl, sym, ap, _∙_}
+use Rattle.requests.proofs.RequestLaws.{number-goes, number-stops, number-fits, triples-reading}
+use mathlib.Core.Path.{refl, sym, ap, _∙_}
 use native.Mathlib.Omega.{arith}
 use Rattle.requests.specs.Readings.{readingOf}
 use borrow.Author.Needs.{needs}
 use Rattle.requests.proofs.call.read_propose.Statement.{statement}
 use Rattle.requests.proofs.call.read_propose.Tie as tie
-use Rattle.requests.proofs.call.read_propose.Reads as reads
-use Rattle.requests.proofs.call.read_propose.Lts as lts
-use Rattle.requests.proofs.call.unreadable.Reads as unreadable-reads
-use Rattle.requests.proofs.call.with_triples.Reads as with-triples-reads
-use Rattle.fields.proofs.number.number_at.Reads as number-at-reads
 
--- src/call.rt:134:9
 number-at-requires : tie.Need-number-at-requires
 number-at-requires c κs = search needs
 
--- src/call.rt:136:20
 enum-known-x : tie.Need-enum-known-x
 enum-known-x c = search needs
 
--- src/call.rt:137:9
 enum-told : tie.Need-enum-told
 enum-told c = search needs
 
--- src/call.rt:137:9
 unreadable-requires : tie.Need-unreadable-requires
 unreadable-requires c κs = search needs
 
--- src/call.rt:137:9
 returns : tie.Need-returns
 returns c = c .unreadable .ensures ∙ sym (ap readingOf (number-stops _ _ _ _ (c .before .before .before .number-at .ensures .0) (c .before .enum-told .given .1)))
 
--- src/call.rt:139:67
 cast-with-triples : tie.Need-cast-with-triples
 cast-with-triples c =
     let l = number-fits 65535 _ _ (c .before .before .before .number-at .ensures .0) (c .before .x .given .1) in
     omega arith
 
--- src/call.rt:139:5
 with-triples-requires : tie.Need-with-triples-requires
 with-triples-requires c κs = search needs
 
--- src/call.rt:130:1
 returns-2 : tie.Need-returns-2
 returns-2 c = c .with-triples .ensures ∙ triples-reading _ _ _ _ _ _ _ (λ l. refl) ∙ sym (ap readingOf (number-goes _ _ _ _ (c .before .before .before .before .number-at .ensures .0) (c .before .before .before .before .number-at .ensures .1) (c .before .before .x .given .1)))
 

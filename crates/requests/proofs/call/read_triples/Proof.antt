@@ -1,28 +1,21 @@
 use mathlib.Core.List.{[]}
 use Rattle.fields.specs.Fields.{fieldsFrom}
 use Rattle.requests.specs.Triples.{atKind}
-use mathlib.Core.Path.{_≡_, refl, sym, ap, _∙_}
+use mathlib.Core.Path.{ap, _∙_}
 use native.Mathlib.Omega.{arith}
-use Rattle.requests.specs.Bodies.{bodyOf, onto}
-use Rattle.requests.specs.BodyLaws.{bare-of, onto-none, body-length}
+use Rattle.requests.proofs.BodyLaws.{bare-of, onto-none, body-length}
 use borrow.Author.Needs.{needs}
 use Rattle.requests.proofs.call.read_triples.Statement.{statement}
 use Rattle.requests.proofs.call.read_triples.Tie as tie
-use Rattle.requests.proofs.call.read_triples.Reads as reads
-use Rattle.requests.proofs.call.read_triples.Lts as lts
-use Rattle.requests.proofs.triple.from_kind.Reads as from-kind-reads
 
--- src/call.rt:66:9
 bare-body-requires : tie.Need-bare-body-requires
 bare-body-requires c κs = search needs
 
--- src/call.rt:67:5
 from-kind-requires : tie.Need-from-kind-requires
 from-kind-requires c κs =
     let n = ap (λ b. b .count) (c .bare-body .ensures ∙ bare-of _) ∙ body-length (c .before .before .args .previous) [] in
     omega arith
 
--- src/call.rt:62:1
 returns : tie.Need-returns
 returns c =
     let a = c .before .before .before .args in

@@ -1,39 +1,28 @@
-use mathlib.Core.Path.{_≡_, refl, sym, ap, _∙_}
-use native.Mathlib.Omega.{arith}
+use mathlib.Core.Path.{sym, ap, _∙_}
 use Rattle.requests.specs.Readings.{settingFound}
 use Rattle.requests.specs.Settings.{setting}
-use Rattle.fields.specs.StepLaws.{stepped, stays, first-there, first-past}
+use Rattle.fields.proofs.CursorLaws.{stepped, stays, first-there, first-past}
 use borrow.Author.Needs.{needs}
 use Rattle.requests.proofs.setting.setting_at.Statement.{statement}
 use Rattle.requests.proofs.setting.setting_at.Tie as tie
-use Rattle.requests.proofs.setting.setting_at.Reads as reads
-use Rattle.requests.proofs.setting.setting_at.Lts as lts
-use Rattle.fields.proofs.field.field_at.Reads as field-at-reads
-use Rattle.requests.proofs.setting.setting_in.Reads as setting-in-reads
 
--- src/setting.rt:52:9
 returns : tie.Need-returns
 returns c =
     let a = c .before .before .args in
     (sym (ap settingFound (first-past (a .rec .now) (a .at) setting (c .if1 .taken))), stays (a .rec .now) (a .at) (c .if1 .taken) (c .before .before .pre))
 
--- src/setting.rt:57:9
 field-at-requires : tie.Need-field-at-requires
 field-at-requires c κs = search needs
 
--- src/setting.rt:59:18
 setting-in-requires : tie.Need-setting-in-requires
 setting-in-requires c κs = search needs
 
--- src/setting.rt:60:15
 add-t8 : tie.Need-add-t8
 add-t8 c = search needs
 
--- src/setting.rt:60:15
 add-t9 : tie.Need-add-t9
 add-t9 c = search needs
 
--- src/setting.rt:47:1
 returns-2 : tie.Need-returns-2
 returns-2 c =
     let a = c .before .before .before .before .args in

@@ -1,35 +1,26 @@
-use mathlib.Core.Path.{_≡_, refl, sym, ap, _∙_}
-use Rattle.fields.specs.StepLaws.{found-of, found-none}
+use mathlib.Core.Path.{sym, ap, _∙_}
+use Rattle.fields.proofs.CursorLaws.{found-of, found-none}
 use Rattle.requests.specs.Readings.{settingFound}
-use Rattle.requests.specs.SettingLaws.{blank-field, written-field, no-field}
+use Rattle.requests.proofs.SettingLaws.{blank-field, written-field, no-field}
 use borrow.Author.Needs.{needs}
 use Rattle.requests.proofs.setting.setting_in.Statement.{statement}
 use Rattle.requests.proofs.setting.setting_in.Tie as tie
-use Rattle.requests.proofs.setting.setting_in.Reads as reads
-use Rattle.requests.proofs.setting.setting_in.Lts as lts
-use Rattle.fields.proofs.number.decimal.Reads as decimal-reads
 
--- src/setting.rt:37:9
 returns : tie.Need-returns
 returns c = sym (ap settingFound (blank-field _ (c .if1 .taken)))
 
--- src/setting.rt:39:9
 decimal-requires : tie.Need-decimal-requires
 decimal-requires c κs = search needs
 
--- src/setting.rt:41:31
 enum-told : tie.Need-enum-told
 enum-told c = search needs
 
--- src/setting.rt:42:20
 enum-known-n : tie.Need-enum-known-n
 enum-known-n c = search needs
 
--- src/setting.rt:33:1
 returns-2 : tie.Need-returns-2
 returns-2 c = sym (ap settingFound (no-field _ (c .before .before .before .if1 .left) (found-none _ (sym (c .before .before .decimal .ensures) ∙ c .enum-told .given .1))))
 
--- src/setting.rt:33:1
 returns-3 : tie.Need-returns-3
 returns-3 c = sym (ap settingFound (written-field _ _ (c .before .before .before .before .if1 .left) (found-of _ _ (sym (c .before .before .before .decimal .ensures) ∙ c .before .n .given .1))))
 

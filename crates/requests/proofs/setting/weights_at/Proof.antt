@@ -1,5 +1,4 @@
 use mathlib.Core.Path.{_≡_, refl, sym, ap, _∙_}
-use mathlib.Core.List.{[]}
 use native.Mathlib.Omega.{arith}
 use native.Mathlib.Numerals.{add-one}
 use Prim.Native.Nat.{suc, _+_, _-_, _<_, _≤_}
@@ -8,14 +7,10 @@ use lib.Seq.{take-suc-set, take-all}
 use Rattle.fields.specs.Fields.{fieldsFrom}
 use Rattle.requests.specs.Requests.{cellsIn}
 use Rattle.requests.specs.Readings.{weightsOf}
-use Rattle.requests.specs.SettingLaws.{following, following-all, cells-more, cells-stop, cells-end, cells-past}
+use Rattle.requests.proofs.SettingLaws.{following, following-all, cells-more, cells-stop, cells-end, cells-past}
 use borrow.Author.Needs.{needs}
 use Rattle.requests.proofs.setting.weights_at.Statement.{statement}
 use Rattle.requests.proofs.setting.weights_at.Tie as tie
-use Rattle.requests.proofs.setting.weights_at.Reads as reads
-use Rattle.requests.proofs.setting.weights_at.Lts as lts
-use Rattle.requests.proofs.setting.no_weights.Reads as no-weights-reads
-use Rattle.requests.proofs.setting.setting_at.Reads as setting-at-reads
 
 abbrev Inv-loop : tie.InvT-loop
 Inv-loop rec at cells₀ place₀ i₀ cells place i = (i ≤ 16) × (length cells ≡ 16) × (place ≤ length rec + 1) × (cellsIn 16 (fieldsFrom rec at) ≡ following (take i cells) (cellsIn (16 - i) (fieldsFrom rec place)))
@@ -23,27 +18,21 @@ Inv-loop rec at cells₀ place₀ i₀ cells place i = (i ≤ 16) × (length cel
 abbrev μ-loop : tie.MeasureT-loop
 μ-loop rec at cells₀ place₀ i₀ cells place i = 16 - i
 
--- src/setting.rt:88:5
 loop-holds : tie.Need-loop-holds Inv-loop μ-loop
 loop-holds c = (omega arith, refl, c .before .pre, following-all _)
 
--- src/setting.rt:89:13
 setting-at-requires : tie.Need-setting-at-requires Inv-loop μ-loop
 setting-at-requires c κs = search needs
 
--- src/setting.rt:91:29
 enum-known-x : tie.Need-enum-known-x Inv-loop μ-loop
 enum-known-x c = search needs
 
--- src/setting.rt:92:13
 enum-told : tie.Need-enum-told Inv-loop μ-loop
 enum-told c = search needs
 
--- src/setting.rt:92:13
 no-weights-requires : tie.Need-no-weights-requires Inv-loop μ-loop
 no-weights-requires c κs = search needs
 
--- src/setting.rt:92:13
 returns : tie.Need-returns Inv-loop μ-loop
 returns c =
     let a = c .before .before .before .before .before .before .before .args in
@@ -51,23 +40,18 @@ returns c =
     let e : 16 - l .i ≡ suc (16 - (l .i + 1)) = omega arith in
     c .no-weights .ensures ∙ sym (ap weightsOf (l .inv .3 ∙ cells-stop (take (l .i) (l .cells)) e (a .rec .now) (l .place) (c .before .before .before .setting-at .ensures .0) (c .before .enum-told .given .1)))
 
--- src/setting.rt:95:9
 mul-cells : tie.Need-mul-cells Inv-loop μ-loop
 mul-cells c = search needs
 
--- src/setting.rt:95:9
 array-set-from-cells : tie.Need-array-set-from-cells Inv-loop μ-loop
 array-set-from-cells c = search needs
 
--- src/setting.rt:97:9
 add-i : tie.Need-add-i Inv-loop μ-loop
 add-i c = search needs
 
--- src/setting.rt:88:5
 loop-less : tie.Need-loop-less Inv-loop μ-loop
 loop-less c = search needs
 
--- src/setting.rt:88:5
 loop-again : tie.Need-loop-again Inv-loop μ-loop
 loop-again c =
     let a = c .before .before .before .before .before .before .before .args in
@@ -78,11 +62,9 @@ loop-again c =
     let m = cells-more (take (l .i) (l .cells)) e (a .rec .now) (l .place) (s .0) (s .1) (c .before .x .given .1) in
     (omega arith, simp length-set (l .inv .1), s .1 .place, l .inv .3 ∙ m ∙ rw (add-one (l .i), take-suc-set (l .cells) (l .i) _ h) refl)
 
--- src/setting.rt:100:9
 no-weights-requires-2 : tie.Need-no-weights-requires-2 Inv-loop μ-loop
 no-weights-requires-2 c κs = search needs
 
--- src/setting.rt:100:9
 returns-2 : tie.Need-returns-2 Inv-loop μ-loop
 returns-2 c =
     let a = c .before .before .before .before .before .args in
@@ -90,7 +72,6 @@ returns-2 c =
     let e : 16 - l .i ≡ 0 = omega arith in
     c .no-weights2 .ensures ∙ sym (ap weightsOf (l .inv .3 ∙ cells-past (take (l .i) (l .cells)) e (a .rec .now) (l .place) (c .before .if1 .taken)))
 
--- src/setting.rt:78:1
 returns-3 : tie.Need-returns-3 Inv-loop μ-loop
 returns-3 c =
     let a = c .before .before .before .before .args in

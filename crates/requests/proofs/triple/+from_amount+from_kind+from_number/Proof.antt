@@ -1,18 +1,16 @@
 use borrow.Author.Needs.{needs}
 use borrow.Author.Tests.{not-true, not-false}
-use mathlib.Core.Path.{_≡_, refl, sym, ap, _∙_}
+use mathlib.Core.Path.{refl, sym, ap, _∙_}
 use native.Mathlib.Omega.{arith}
-use Prim.Native.Nat.{_+_, _-_, _≤_}
+use Prim.Native.Nat.{_+_, _-_, ℕ, _<_}
 use lib.ListN.{length}
 use Rattle.fields.specs.Numbers.{number}
 use Rattle.fields.specs.Fields.{fieldsFrom}
-use Rattle.requests.specs.Triples.{transaction, atKind, atAmount}
+use Rattle.requests.specs.Triples.{atKind}
 use Rattle.requests.specs.Bodies.{onto}
-use Rattle.requests.specs.BodyLaws.{onto-end}
-use Rattle.fields.specs.StepLaws.{found-of, found-none, read-there}
-use Rattle.requests.specs.TripleLaws.{kind-past, kind-fails, kind-goes, number-fails, number-goes, amount-fails, amount-refused, amount-pushed, amount-count}
-use borrow.Author.Needs.{needs}
-use Prim.Native.Nat.{ℕ, _<_}
+use Rattle.requests.proofs.BodyLaws.{onto-end}
+use Rattle.fields.proofs.CursorLaws.{found-of, found-none, read-there}
+use Rattle.requests.proofs.TripleLaws.{kind-past, kind-fails, kind-goes, number-fails, number-goes, amount-fails, amount-refused, amount-pushed, amount-count}
 use borrow.Fn.Kinds.{In}
 use borrow.Fn.PlainCycle.{Measures, is, falls, and}
 use Rattle.requests.proofs.triple.from_amount.Reads as from-amount

@@ -1,40 +1,29 @@
-use mathlib.Core.Path.{_≡_, refl, sym, ap, _∙_}
 use mathlib.Core.Logic.{⊎-elim}
 use borrow.Author.Tests.{eq-eqb, ne-eqb}
 use Rattle.requests.specs.Triples.{transaction}
 use borrow.Author.Needs.{needs}
 use Rattle.requests.proofs.triple.added.Statement.{statement}
 use Rattle.requests.proofs.triple.added.Tie as tie
-use Rattle.requests.proofs.triple.added.Reads as reads
-use Rattle.requests.proofs.triple.added.Lts as lts
-use Rattle.requests.proofs.triple.pushed.Reads as pushed-reads
-use Rattle.requests.proofs.triple.refused.Reads as refused-reads
-use Rattle.terms.proofs.told.Reads as told-reads
 
--- src/triple.rt:84:13
 refused-requires : tie.Need-refused-requires
 refused-requires c κs = search needs
 
--- src/triple.rt:84:13
 returns : tie.Need-returns
 unfolding transaction
 returns c = simp (ne-eqb _ _ (c .before .before .if1 .taken), ne-eqb _ _ (c .before .if2 .taken), c .refused .ensures)
 
--- src/triple.rt:87:9
-told-requires : tie.Need-told-requires
-told-requires c κs = search needs
+read-transaction-requires : tie.Need-read-transaction-requires
+read-transaction-requires c κs = search needs
 
--- src/triple.rt:90:15
 pushed-requires : tie.Need-pushed-requires
 pushed-requires c κs = search needs
 
--- src/triple.rt:78:1
 returns-2 : tie.Need-returns-2
 unfolding transaction
 returns-2 c =
-    ⊎-elim (λ w. simp (ne-eqb _ _ (w .0 .taken), eq-eqb _ _ (w .1 .left), c .pushed .ensures, c .before .told .ensures))
-    (λ w. simp (eq-eqb _ _ (w .left), c .pushed .ensures, c .before .told .ensures))
+    ⊎-elim (λ w. simp (ne-eqb _ _ (w .0 .taken), eq-eqb _ _ (w .1 .left), c .pushed .ensures, c .before .read-transaction .ensures))
+    (λ w. simp (eq-eqb _ _ (w .left), c .pushed .ensures, c .before .read-transaction .ensures))
     (c .before .before .if1 .came)
 
 pub added-spec : {M : Type 1} → statement M
-added-spec = tie.close (tie.spec refused-requires returns told-requires pushed-requires returns-2)
+added-spec = tie.close (tie.spec refused-requires returns read-transaction-requires pushed-requires returns-2)

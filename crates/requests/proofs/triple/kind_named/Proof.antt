@@ -1,50 +1,37 @@
-use mathlib.Core.Path.{_≡_, refl, sym, ap, _∙_}
-use Rattle.fields.specs.Steps.{found}
-use Rattle.fields.specs.WordLaws.{names, names-not, names-none}
+use mathlib.Core.Path.{sym, ap, _∙_}
+use Rattle.fields.specs.Cursor.{found}
+use Rattle.fields.proofs.WordLaws.{names, names-not, names-none}
 use borrow.Author.Needs.{needs}
 use Rattle.requests.proofs.triple.kind_named.Statement.{statement}
 use Rattle.requests.proofs.triple.kind_named.Tie as tie
-use Rattle.requests.proofs.triple.kind_named.Reads as reads
-use Rattle.requests.proofs.triple.kind_named.Lts as lts
-use Rattle.fields.proofs.word.is_same.Reads as is-same-reads
 
--- src/triple.rt:65:32
 slice-aggregate-is-same : tie.Need-slice-aggregate-is-same
 slice-aggregate-is-same c = search needs
 
--- src/triple.rt:65:8
 is-same-requires : tie.Need-is-same-requires
 is-same-requires c κs = search needs
 
--- src/triple.rt:66:9
 returns : tie.Need-returns
 returns c = sym (ap found (names _ _ _ _ _ (sym (c .before .is-same .ensures) ∙ c .if1 .taken)))
 
--- src/triple.rt:68:32
 slice-aggregate-is-same-2 : tie.Need-slice-aggregate-is-same-2
 slice-aggregate-is-same-2 c = search needs
 
--- src/triple.rt:68:8
 is-same-requires-2 : tie.Need-is-same-requires-2
 is-same-requires-2 c κs = search needs
 
--- src/triple.rt:69:9
 returns-2 : tie.Need-returns-2
 returns-2 c = sym (ap found (names-not _ _ _ _ _ (sym (c .before .before .before .before .is-same .ensures) ∙ c .before .before .before .if1 .left) ∙ names _ _ _ _ _ (sym (c .before .is-same2 .ensures) ∙ c .if2 .taken)))
 
--- src/triple.rt:71:32
 slice-aggregate-is-same-3 : tie.Need-slice-aggregate-is-same-3
 slice-aggregate-is-same-3 c = search needs
 
--- src/triple.rt:71:8
 is-same-requires-3 : tie.Need-is-same-requires-3
 is-same-requires-3 c κs = search needs
 
--- src/triple.rt:72:9
 returns-3 : tie.Need-returns-3
 returns-3 c = sym (ap found (names-not _ _ _ _ _ (sym (c .before .before .before .before .before .before .before .is-same .ensures) ∙ c .before .before .before .before .before .before .if1 .left) ∙ names-not _ _ _ _ _ (sym (c .before .before .before .before .is-same2 .ensures) ∙ c .before .before .before .if2 .left) ∙ names _ _ _ _ _ (sym (c .before .is-same3 .ensures) ∙ c .if3 .taken)))
 
--- src/triple.rt:62:1
 returns-4 : tie.Need-returns-4
 returns-4 c = sym (ap found (names-not _ _ _ _ _ (sym (c .before .before .before .before .before .before .before .is-same .ensures) ∙ c .before .before .before .before .before .before .if1 .left) ∙ names-not _ _ _ _ _ (sym (c .before .before .before .before .is-same2 .ensures) ∙ c .before .before .before .if2 .left) ∙ names-not _ _ _ _ _ (sym (c .before .is-same3 .ensures) ∙ c .if3 .left) ∙ names-none _ _))
 

@@ -3,31 +3,23 @@ use Rattle.requests.specs.Bodies.{push}
 use borrow.Author.Needs.{needs}
 use Rattle.requests.proofs.triple.pushed.Statement.{statement}
 use Rattle.requests.proofs.triple.pushed.Tie as tie
-use Rattle.requests.proofs.triple.pushed.Reads as reads
-use Rattle.requests.proofs.triple.pushed.Lts as lts
 
--- src/triple.rt:52:18
 add-next : tie.Need-add-next
 add-next c = search needs
 
--- src/triple.rt:54:9
 returns : tie.Need-returns
 unfolding push
 returns c = simp (le-ltb _ _ (c .if1 .taken))
 
--- src/triple.rt:57:16
 cast-slot : tie.Need-cast-slot
 cast-slot c = search needs
 
--- src/triple.rt:57:5
 mul-slot : tie.Need-mul-slot
 mul-slot c = search needs
 
--- src/triple.rt:57:5
 element-set-from-slot : tie.Need-element-set-from-slot
 element-set-from-slot c = search needs
 
--- src/triple.rt:46:1
 returns-2 : tie.Need-returns-2
 unfolding push
 returns-2 c = simp (lt-ltb _ _ (c .if1 .left))

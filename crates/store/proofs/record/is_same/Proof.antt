@@ -2,8 +2,8 @@ use Rattle.terms.specs.Proposals.{slotOf}
 use mathlib.Core.Path.{refl, sym, _∙_}
 use native.Mathlib.Omega.{arith}
 use borrow.Author.Tests.{eq-eqb, ne-eqb}
-use Rattle.store.specs.TableLaws.{count-le}
-use Rattle.store.specs.RecordLaws.{same-record}
+use Rattle.store.proofs.TableLaws.{count-le}
+use Rattle.store.proofs.RecordLaws.{same-record}
 use borrow.Author.Needs.{needs}
 use Rattle.store.proofs.record.is_same.Statement.{statement}
 use Rattle.store.proofs.record.is_same.Tie as tie

@@ -1,14 +1,10 @@
-use Rattle.store.specs.RecordLaws.{proposal-by}
+use Rattle.store.proofs.RecordLaws.{proposal-by}
 use native.Mathlib.Omega.{arith}
 use Rattle.store.specs.Writes.{proposalOf}
-use Rattle.store.specs.TableLaws.{previous-lt}
-use mathlib.Core.Path.{refl}
+use Rattle.store.proofs.TableLaws.{previous-lt}
 use borrow.Author.Needs.{needs}
 use Rattle.store.proofs.record.proposal_at.Statement.{statement}
 use Rattle.store.proofs.record.proposal_at.Tie as tie
-use Rattle.store.proofs.record.count.Reads as count-reads
-use Rattle.store.proofs.record.previous.Reads as previous-reads
-use Rattle.store.proofs.record.slot.Reads as slot-reads
 
 slot-requires : tie.Need-slot-requires
 slot-requires c κs = search needs

@@ -1,11 +1,9 @@
-use Rattle.store.specs.RecordLaws.{nth-content}
+use Rattle.store.proofs.RecordLaws.{nth-content}
 use mathlib.Core.Path.{refl, sym, _∙_}
 use borrow.Author.Tests.{lt-ltb, le-ltb}
 use borrow.Author.Needs.{needs}
 use Rattle.store.proofs.record.slot.Statement.{statement}
 use Rattle.store.proofs.record.slot.Tie as tie
-use Rattle.store.proofs.record.count.Reads as count-reads
-use Rattle.store.proofs.record.transaction_at.Reads as transaction-at-reads
 
 count-requires : tie.Need-count-requires
 count-requires c κs = search needs

@@ -1,15 +1,14 @@
 use borrow.Author.Needs.{needs}
 use mathlib.Core.Path.{_≡_, refl, sym, _∙_}
 use native.Mathlib.Omega.{arith}
-use Prim.Native.Nat.{_+_, _-_, _≤_}
+use Prim.Native.Nat.{_-_, _≤_}
 use borrow.Author.Tests.{not-true, not-false}
 use mathlib.Core.Bool.{true}
 use Rattle.base.specs.Folds.{allTo}
-use Rattle.base.specs.TestLaws.{all-more, all-fails}
+use Rattle.base.proofs.TestLaws.{all-more, all-fails}
 use Rattle.store.specs.Scan.{placeFits}
 use Rattle.store.proofs.scan.places_fit.Statement.{statement}
 use Rattle.store.proofs.scan.places_fit.Tie as tie
-use Rattle.store.proofs.scan.place_fits.Reads as place-fits-reads
 
 abbrev Inv-loop : tie.InvT-loop
 Inv-loop t l allowance blocks r m₀ m = (m ≤ 16) × (allTo (placeFits t allowance blocks (r .0)) m ≡ true)

@@ -5,10 +5,10 @@ use lib.Dec.{leb, ltb}
 use borrow.Author.Tests.{lt-ltb, le-ltb, le-leb, lt-leb, not-true, not-false}
 use borrow.Author.Needs.{needs}
 use Rattle.base.specs.Folds.{allTo}
-use Rattle.terms.specs.Proposals.{wrongSet}
+use Rattle.terms.specs.Proposals.{badPreviousSet}
 use Rattle.store.specs.Table.{word, countAt, previousAt, markAt}
 use Rattle.store.specs.Scan.{transactionFits, endorsersFit, recordFits}
-use Rattle.store.specs.TableLaws.{count-le}
+use Rattle.store.proofs.TableLaws.{count-le}
 use Rattle.store.proofs.scan.record_fits.Statement.{statement}
 use Rattle.store.proofs.scan.record_fits.Tie as tie
 
@@ -20,7 +20,7 @@ abbrev last2 : tie.Start → Bool
 last2 s = let a = s .args in leb (markAt (a .t .now) (a .m .0) (a .r .0)) (a .blocks) && last s
 
 abbrev last3 : tie.Start → Bool
-last3 s = let a = s .args in not (wrongSet (a .r .0) (previousAt (a .t .now) (a .m .0) (a .r .0))) && last2 s
+last3 s = let a = s .args in not (badPreviousSet (a .r .0) (previousAt (a .t .now) (a .m .0) (a .r .0))) && last2 s
 
 abbrev last4 : tie.Start → Bool
 last4 s = let a = s .args in ltb (word (a .t .now) (a .m .0) (a .r .0) 0) 65536 && last3 s
@@ -58,7 +58,7 @@ passed3 : (c : tie.Else3) → fits (entry3 c) ≡ last3 (entry3 c)
 passed3 c = passed2 (c .before .before) ∙ rw (← c .before .word-at2 .ensures, lt-ltb _ _ (c .if3 .left)) refl
 
 passed4 : (c : tie.Else4) → fits (entry4 c) ≡ last2 (entry4 c)
-passed4 c = passed3 (c .before .before .before) ∙ rw (← c .before .before .previous .ensures, sym (c .before .is-wrong-set .ensures) ∙ c .if4 .left) refl
+passed4 c = passed3 (c .before .before .before) ∙ rw (← c .before .before .previous .ensures, sym (c .before .is-bad-previous-set .ensures) ∙ c .if4 .left) refl
 
 passed5 : (c : tie.Else5) → fits (entry5 c) ≡ last (entry5 c)
 passed5 c = passed4 (c .before .before) ∙ rw (← c .before .mark .ensures, le-leb _ _ (c .if5 .left)) refl
@@ -91,11 +91,11 @@ returns-3 c = sym (passed2 (c .before .before) ∙ rw (← c .before .word-at2 .
 previous-requires : tie.Need-previous-requires
 previous-requires c κs = search needs
 
-is-wrong-set-requires : tie.Need-is-wrong-set-requires
-is-wrong-set-requires c κs = search needs
+is-bad-previous-set-requires : tie.Need-is-bad-previous-set-requires
+is-bad-previous-set-requires c κs = search needs
 
 returns-4 : tie.Need-returns-4
-returns-4 c = sym (passed3 (c .before .before .before) ∙ rw (← c .before .before .previous .ensures, sym (c .before .is-wrong-set .ensures) ∙ c .if4 .taken) refl)
+returns-4 c = sym (passed3 (c .before .before .before) ∙ rw (← c .before .before .previous .ensures, sym (c .before .is-bad-previous-set .ensures) ∙ c .if4 .taken) refl)
 
 mark-requires : tie.Need-mark-requires
 mark-requires c κs = search needs
@@ -121,7 +121,7 @@ record-fits-spec =
     word-at-requires-2
     returns-3
     previous-requires
-    is-wrong-set-requires
+    is-bad-previous-set-requires
     returns-4
     mark-requires
     returns-5

@@ -1,7 +1,7 @@
 use mathlib.Core.Path.{refl, sym, _∙_}
 use borrow.Author.Tests.{lt-ltb, le-ltb}
 use Rattle.store.specs.Scan.{rowFits}
-use Rattle.store.specs.ScanLaws.{free-row}
+use Rattle.store.proofs.ScanLaws.{free-row}
 use borrow.Author.Needs.{needs}
 use Rattle.store.proofs.scan.row_fits.Statement.{statement}
 use Rattle.store.proofs.scan.row_fits.Tie as tie

@@ -5,12 +5,11 @@ use Prim.Native.Nat.{_+_, _-_, _≤_}
 use borrow.Author.Tests.{not-true, not-false}
 use mathlib.Core.Bool.{true}
 use Rattle.base.specs.Folds.{allTo}
-use Rattle.base.specs.TestLaws.{all-more, all-fails}
+use Rattle.base.proofs.TestLaws.{all-more, all-fails}
 use Rattle.store.specs.Scan.{rowFits, rowsFit}
 use Rattle.store.specs.Limits.{limitTable}
 use Rattle.store.proofs.scan.rows_fit.Statement.{statement}
 use Rattle.store.proofs.scan.rows_fit.Tie as tie
-use Rattle.store.proofs.scan.row_fits.Reads as row-fits-reads
 
 abbrev Inv-loop : tie.InvT-loop
 Inv-loop t allowance blocks end l r₀ r = (r ≤ end) × (allTo (λ j. rowFits t allowance blocks (j + 1)) r ≡ true) × (l ≡ limitTable)

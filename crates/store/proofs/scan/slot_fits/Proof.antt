@@ -1,10 +1,9 @@
 use mathlib.Core.Path.{sym}
 use native.Mathlib.Omega.{arith}
 use borrow.Author.Needs.{needs}
-use Rattle.store.specs.Limits.{limit-lt, over-number, under-amount, by-most}
+use Rattle.store.proofs.LimitLaws.{limit-lt, over-number, under-amount, by-most}
 use Rattle.store.proofs.scan.slot_fits.Statement.{statement}
 use Rattle.store.proofs.scan.slot_fits.Tie as tie
-use Rattle.store.proofs.scan.limit.Reads as limit-reads
 
 limit-requires : tie.Need-limit-requires
 limit-requires c κs = search needs

@@ -1,57 +1,23 @@
 use Rattle.store.specs.Scan.{transactionFits}
-use mathlib.Core.Path.{refl}
 use borrow.Author.Needs.{needs}
 use Rattle.store.proofs.scan.transaction_fits.Statement.{statement}
 use Rattle.store.proofs.scan.transaction_fits.Tie as tie
-use Rattle.store.proofs.record.word_at.Reads as word-at-reads
-use Rattle.store.proofs.scan.slot_fits.Reads as slot-fits-reads
 
-mul-word-at : tie.Need-mul-word-at
-mul-word-at c = search needs
+kind-at-requires : tie.Need-kind-at-requires
+kind-at-requires c κs = search needs
 
-add-word-at : tie.Need-add-word-at
-add-word-at c = search needs
+number-at-requires : tie.Need-number-at-requires
+number-at-requires c κs = search needs
 
-word-at-requires : tie.Need-word-at-requires
-word-at-requires c κs = search needs
-
-mul-word-at-2 : tie.Need-mul-word-at-2
-mul-word-at-2 c = search needs
-
-add-word-at-2 : tie.Need-add-word-at-2
-add-word-at-2 c = search needs
-
-word-at-requires-2 : tie.Need-word-at-requires-2
-word-at-requires-2 c κs = search needs
-
-mul-word-at-3 : tie.Need-mul-word-at-3
-mul-word-at-3 c = search needs
-
-add-word-at-3 : tie.Need-add-word-at-3
-add-word-at-3 c = search needs
-
-word-at-requires-3 : tie.Need-word-at-requires-3
-word-at-requires-3 c κs = search needs
+amount-at-requires : tie.Need-amount-at-requires
+amount-at-requires c κs = search needs
 
 slot-fits-requires : tie.Need-slot-fits-requires
 slot-fits-requires c κs = search needs
 
 returns : tie.Need-returns
 unfolding transactionFits
-returns c = rw (← c .before .before .before .word-at .ensures, ← c .before .before .word-at2 .ensures, ← c .before .word-at3 .ensures) (c .slot-fits .ensures)
+returns c = rw (← c .before .before .before .kind-at .ensures, ← c .before .before .number-at .ensures, ← c .before .amount-at .ensures) (c .slot-fits .ensures)
 
 pub transaction-fits-spec : {M : Type 1} → statement M
-transaction-fits-spec =
-    tie.close
-    (tie.spec
-    mul-word-at
-    add-word-at
-    word-at-requires
-    mul-word-at-2
-    add-word-at-2
-    word-at-requires-2
-    mul-word-at-3
-    add-word-at-3
-    word-at-requires-3
-    slot-fits-requires
-    returns)
+transaction-fits-spec = tie.close (tie.spec kind-at-requires number-at-requires amount-at-requires slot-fits-requires returns)

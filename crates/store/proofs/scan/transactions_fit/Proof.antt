@@ -3,13 +3,13 @@ use mathlib.Core.Path.{_≡_, refl, sym, _∙_}
 use mathlib.Core.Bool.{Bool, true, cond}
 use mathlib.Core.List.{List}
 use native.Mathlib.Omega.{arith}
-use Prim.Native.Nat.{ℕ, _+_, _-_, _≤_}
+use Prim.Native.Nat.{ℕ, _-_, _≤_}
 use lib.Dec.{ltb}
 use borrow.Author.Tests.{not-true, not-false}
 use Rattle.base.specs.Folds.{allTo}
-use Rattle.base.specs.TestLaws.{all-more, all-fails}
+use Rattle.base.proofs.TestLaws.{all-more, all-fails}
 use Rattle.store.specs.Scan.{transactionFits}
-use Rattle.store.specs.Limits.{all-there}
+use Rattle.store.proofs.LimitLaws.{all-there}
 use Rattle.store.proofs.scan.transactions_fit.Statement.{statement}
 use Rattle.store.proofs.scan.transactions_fit.Tie as tie
 

@@ -1,12 +1,12 @@
+use Rattle.store.specs.Table.{rowLength}
 use borrow.Author.Needs.{needs}
-use Prim.Native.Nat.{ℕ, _+_, _*_, _-_, _≤_}
+use Prim.Native.Nat.{_+_, _*_, _-_, _≤_}
 use native.Mathlib.Omega.{arith}
-use native.Mathlib.Numerals.{add-one}
-use mathlib.Core.Path.{_≡_, refl, sym, ap, _∙_}
+use mathlib.Core.Path.{_≡_, refl}
 use mathlib.Core.List.{_++_}
 use lib.ListN.{length, drop, replicate, length-set}
 use Rattle.store.specs.Writes.{clearUsed}
-use Rattle.base.specs.Paste.{cleared-more}
+use Rattle.base.proofs.PasteLaws.{cleared-more}
 use Rattle.store.proofs.write.clear_used.Statement.{statement}
 use Rattle.store.proofs.write.clear_used.Tie as tie
 
@@ -48,7 +48,7 @@ same-length c = c .before .loop .inv .2
 
 returns : tie.Need-returns Inv-loop μ-loop
 unfolding clearUsed
-returns c = let e : c .before .loop .i ≡ c .before .before .before .args .n .0 * 272 + 272 = omega arith in rw e at (c .before .loop .inv .1)
+returns c = let e : c .before .loop .i ≡ c .before .before .before .args .n .0 * rowLength + rowLength = omega arith in rw e at (c .before .loop .inv .1)
 
 pub clear-used-spec : {M : Type 1} → statement M
 clear-used-spec =

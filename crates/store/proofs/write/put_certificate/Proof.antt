@@ -1,12 +1,8 @@
 use Rattle.store.specs.Writes.{putCertificate, putRecord}
 use Rattle.store.specs.Table.{heldSet}
-use mathlib.Core.Path.{refl}
 use borrow.Author.Needs.{needs}
 use Rattle.store.proofs.write.put_certificate.Statement.{statement}
 use Rattle.store.proofs.write.put_certificate.Tie as tie
-use Rattle.base.proofs.with.Reads as with-reads
-use Rattle.store.proofs.write.put_words.Reads as put-words-reads
-use Rattle.store.proofs.write.record_of.Reads as record-of-reads
 
 cast-at : tie.Need-cast-at
 cast-at c = search needs

@@ -3,6 +3,15 @@ use borrow.Author.Needs.{needs}
 use Rattle.store.proofs.write.put_transaction.Statement.{statement}
 use Rattle.store.proofs.write.put_transaction.Tie as tie
 
+mul-at : tie.Need-mul-at
+mul-at c = search needs
+
+add-at : tie.Need-add-at
+add-at c = search needs
+
+cast-at : tie.Need-cast-at
+cast-at c = search needs
+
 kind-requires : tie.Need-kind-requires
 kind-requires c κs = search needs
 
@@ -44,6 +53,9 @@ pub put-transaction-spec : {M : Type 1} → statement M
 put-transaction-spec =
     tie.close
     (tie.spec
+    mul-at
+    add-at
+    cast-at
     kind-requires
     mul-v
     array-write-v

@@ -1,3 +1,4 @@
+use Rattle.store.specs.Table.{recordLength}
 use borrow.Author.Needs.{needs}
 use mathlib.Core.Path.{_≡_, refl}
 use Prim.Native.Nat.{ℕ, _-_, _≤_}
@@ -9,10 +10,10 @@ use Rattle.store.proofs.write.put_words.Statement.{statement}
 use Rattle.store.proofs.write.put_words.Tie as tie
 
 abbrev Inv-loop : tie.InvT-loop
-Inv-loop t₀ b w k₀ t k = (k ≤ 16) × (t ≡ paste t₀ b w k) × (length t ≡ length t₀)
+Inv-loop t₀ b w k₀ t k = (k ≤ recordLength) × (t ≡ paste t₀ b w k) × (length t ≡ length t₀)
 
 abbrev μ-loop : tie.MeasureT-loop
-μ-loop t₀ b w k₀ t k = 16 - k
+μ-loop t₀ b w k₀ t k = recordLength - k
 
 loop-holds : tie.Need-loop-holds Inv-loop μ-loop
 loop-holds c = (omega arith, paste-zero (c .args .t .now) (c .args .b) (c .args .t3), refl)
@@ -42,7 +43,7 @@ loop-again : tie.Need-loop-again Inv-loop μ-loop
 loop-again c =
     let a = c .before .before .args in
     let k : ℕ = c .before .loop .k in
-    let w : length (a .t3) ≡ 16 = search needs in (
+    let w : length (a .t3) ≡ recordLength = search needs in (
       omega arith,
       rw (add-one, c .before .loop .inv .1) (paste-suc (a .t .now) (a .b) (a .t3) k 0 (omega arith) (omega arith)),
       simp length-set (c .before .loop .inv .2),
@@ -52,7 +53,7 @@ same-length : tie.Need-same-length Inv-loop μ-loop
 same-length c = c .before .loop .inv .2
 
 returns : tie.Need-returns Inv-loop μ-loop
-returns c = let e : c .before .loop .k ≡ 16 = omega arith in rw e at (c .before .loop .inv .1)
+returns c = let e : c .before .loop .k ≡ recordLength = omega arith in rw e at (c .before .loop .inv .1)
 
 pub put-words-spec : {M : Type 1} → statement M
 put-words-spec =

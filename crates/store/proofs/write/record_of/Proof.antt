@@ -1,11 +1,9 @@
-use Rattle.terms.specs.ProposalLaws.{length-transactions}
+use Rattle.terms.proofs.ProposalLaws.{length-transactions}
 use Rattle.store.specs.Writes.{recordOf}
 use mathlib.Core.Path.{refl}
 use borrow.Author.Needs.{needs}
 use Rattle.store.proofs.write.record_of.Statement.{statement}
 use Rattle.store.proofs.write.record_of.Tie as tie
-use Rattle.store.proofs.write.put_transaction.Reads as put-transaction-reads
-use Rattle.store.proofs.write.slot.Reads as slot-reads
 
 cast-w : tie.Need-cast-w
 cast-w c = search needs

@@ -1,10 +1,8 @@
 use Rattle.store.specs.Writes.{setEndorsed}
 use Rattle.store.specs.Table.{endorsedSet}
-use mathlib.Core.Path.{refl}
 use borrow.Author.Needs.{needs}
 use Rattle.store.proofs.write.set_endorsed.Statement.{statement}
 use Rattle.store.proofs.write.set_endorsed.Tie as tie
-use Rattle.base.proofs.with.Reads as with-reads
 
 cast-at : tie.Need-cast-at
 cast-at c = search needs

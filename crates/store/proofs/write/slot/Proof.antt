@@ -1,10 +1,9 @@
-use Rattle.store.specs.RecordLaws.{nth-with}
+use Rattle.store.proofs.RecordLaws.{nth-with}
 use mathlib.Core.Path.{refl, sym, _∙_}
 use borrow.Author.Tests.{lt-ltb, le-ltb}
 use borrow.Author.Needs.{needs}
 use Rattle.store.proofs.write.slot.Statement.{statement}
 use Rattle.store.proofs.write.slot.Tie as tie
-use Rattle.terms.proofs.slot_at.Reads as slot-at-reads
 
 slot-at-requires : tie.Need-slot-at-requires
 slot-at-requires c κs = search needs

@@ -1,0 +1,10 @@
+pub mod Bools
+pub mod CheckLaws
+pub mod Passed
+pub mod Options
+pub mod FoldLaws
+pub mod TestLaws
+pub mod SumLaws
+pub mod SetLaws
+pub mod UnionLaws
+pub mod PasteLaws

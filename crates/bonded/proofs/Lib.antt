@@ -1,0 +1,10 @@
+pub mod LinkLaws
+pub mod RunLaws
+pub mod BlockChangeLaws
+pub mod ChainLaws
+pub mod ChainInTableLaws
+pub mod StartLaws
+pub mod BoundLaws
+pub mod TotalBound
+pub mod FillLaws
+pub mod CacheLaws

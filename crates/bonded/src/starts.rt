@@ -1,0 +1,28 @@
+// Where the order of each block starts: with the leader of its round.
+use sheet::Settings;
+ghost use mathlib.Core.Path.{_≡_};
+ghost use Prim.Native.Nat.{ℕ, _+_, _*_, _<_};
+ghost use lib.ListN.{getD};
+ghost use Rattle.bonded.specs.BlockChanges.{startAt};
+ghost use Rattle.bonded.specs.ChainInTable.{ChainInTable};
+ghost use Rattle.bonded.specs.Starts.{Started};
+ghost use Rattle.bonded.specs.Links.{Links};
+
+// Writes the number of the leader of each block's round, 16 for none, where the places of each block are linked.
+pub fn all_starts(
+    t: &[u32],
+    head: &[u32; 512],
+    next: &[u32],
+    s: Settings,
+    blocks: u32,
+    starts: &mut [u32; 512],
+)
+    requires { ⌜ ChainInTable s (now t) blocks × Links (now t) 16 (s .ceiling .0 * 16 + 16) (now head) (now next) × Started s (now t) blocks 0 0 (now starts) ⌝ }
+    ensures { λ _. ⌜ ((i : ℕ) → i < blocks → getD (now (starts .exit)) i 0 ≡ startAt s (now (t .entry)) i) ⌝ }
+{
+    let mut w = s.weights;
+    let mut x = crate::running::none();
+    while x.starts < blocks {
+        x = crate::running::apply_next(t, head, next, s, blocks, x, &mut w, starts);
+    }
+}

@@ -1,1 +1,0 @@
-// What blocks computes on the lent table is what the agreement theory computes on a view: theorems, no code.

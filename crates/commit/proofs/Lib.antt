@@ -1,0 +1,10 @@
+pub mod Histories
+pub mod Anchors
+pub mod Chains
+pub mod AnchorLaws
+pub mod CheckLaws
+pub mod AnswerLaws
+pub mod ShownLaws
+pub mod CommitLaws
+pub mod PreservedLaws
+pub mod RuledLaws

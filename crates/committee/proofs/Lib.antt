@@ -1,0 +1,11 @@
+pub mod ChainLaws
+pub mod ChangeLaws
+pub mod EffectLaws
+pub mod TotalLaws
+pub mod ShareLaws
+pub mod OrderLaws
+pub mod CommitteeLaws
+pub mod BondedLaws
+pub mod LeaderLaws
+pub mod Lawful
+pub mod EdgeCases

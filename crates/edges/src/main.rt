@@ -1,4 +1,0 @@
-// The runner on every refusal of every call, and on every rule of how records are written.
-fn main() {
-    service::run();
-}

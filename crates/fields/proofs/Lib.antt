@@ -1,0 +1,4 @@
+pub mod FieldLaws
+pub mod NumberLaws
+pub mod CursorLaws
+pub mod WordLaws

@@ -1,0 +1,3 @@
+pub mod StreamLaws
+pub mod ChunkLaws
+pub mod FramingLaws

@@ -1,0 +1,14 @@
+pub mod PasteLaws
+pub mod ReadingLaws
+pub mod PutLaws
+pub mod FillLaws
+pub mod CallLaws
+pub mod AnswerLaws
+pub mod RefusalLaws
+pub mod SameLaws
+pub mod BackLaws
+pub mod NextLaws
+pub mod BeyondLaws
+pub mod FormedLaws
+pub mod HeldLaws
+pub mod OpenLaws

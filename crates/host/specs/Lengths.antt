@@ -1,0 +1,27 @@
+-- Lengths in words of what a host lends, in one place.
+use Prim.Native.Nat.{ℕ}
+
+abbrev pub stateLength : ℕ
+stateLength = 37
+
+abbrev pub transactionLength : ℕ
+transactionLength = 3
+
+abbrev pub bodyLength : ℕ
+bodyLength = 14
+
+abbrev pub proposalLength : ℕ
+proposalLength = 16
+
+abbrev pub certificateLength : ℕ
+certificateLength = 17
+
+-- of a held certificate as it is read
+abbrev pub heldLength : ℕ
+heldLength = 18
+
+abbrev pub sheetLength : ℕ
+sheetLength = 38
+
+abbrev pub committeeLength : ℕ
+committeeLength = 16

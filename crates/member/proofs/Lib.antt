@@ -1,0 +1,9 @@
+pub mod AnswerLaws
+pub mod OpenLaws
+pub mod PassedLaws
+pub mod CallLaws
+pub mod SharedCheckLaws
+pub mod PlaceLaws
+pub mod NextLaws
+pub mod CachedLaws
+pub mod Copies

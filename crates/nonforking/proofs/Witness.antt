@@ -1,0 +1,236 @@
+-- The premises can be met: a run of engines in which members 0, 1 and 2 are correct and 3 is faulty.
+-- Members 0 and 1 make a block, whose bond changes a committee, and then a certificate whose signers are a quorum of that committee and were none of the starting one; member 2 has no block.
+-- Reads and refused calls are among the entries, and each advance is made with a quorum of the present round held.
+use mathlib.Core.Path.{_≡_, refl, _∙_}
+use mathlib.Core.Bool.{true, false}
+use mathlib.Core.List.{List, [], _∷_}
+use Prim.Native.Nat.{ℕ}
+use native.Mathlib.Omega.{arith}
+use lib.ListN.{replicate}
+use lib.Dec.{ltb}
+use borrow.Author.Tests.{ltb-true, le-ltb}
+use Rattle.base.specs.Checks.{refusal}
+use Rattle.base.proofs.CheckLaws.{passes, passes-all}
+use Rattle.base.specs.Folds.{tab, anyTo, allTo, sumTo}
+use Rattle.base.specs.Sets.{mem, isIn, add, isEmpty}
+use Rattle.agreement.specs.Places.{isPlace, put, mark}
+use Rattle.agreement.specs.Histories.{level, inHistory}
+use Rattle.agreement.specs.Commits.{used, anchorAt, blockOf, blocksOf, taken, committed}
+use Rattle.agreement.specs.Engines.{states}
+use Rattle.agreement.specs.Listing.{listing}
+use Rattle.terms.specs.declared.Transaction.{Transaction}
+use Rattle.terms.specs.declared.Transaction.the-variants.{Bond}
+use Rattle.terms.specs.declared.Body.{Body}
+use Rattle.terms.specs.declared.Proposal.{Proposal}
+use Rattle.terms.specs.Proposals.{Content, slotOf, transactionsOf, badTransactions, allInRange, badPreviousSet, same, sameTransactions}
+use Rattle.terms.specs.Transactions.{noTransaction, bondInRange, sameTransaction}
+use Rattle.sheet.specs.declared.Setting.the-variants.{Blank, Written}
+use Rattle.sheet.specs.declared.Sheet.{Sheet}
+use Rattle.sheet.specs.declared.Settings.{Settings}
+use Rattle.sheet.specs.Sheets.{blankWeight, weightAt, filled}
+use Rattle.sheet.specs.Ranges.{outside, outOfRange, weightless}
+use Rattle.committee.specs.Changes.{changes, changesOf, row, rows}
+use Rattle.committee.specs.Committees.{committeeBy, leaderBy, stepFrom, bondedFrom, committeeOf, startOf, ordered, knownBy, boundOf, quorumWeight, outsider, short, quorum}
+use Rattle.committee.specs.Leaders.{countBelow, memberBelow, memberAt, leaderOf}
+use Rattle.rules.specs.Tests.{committeeIn, badRound, signersOf, above, unknown, missing, unvoted}
+use Rattle.rules.specs.Calls.{verdict, after, result}
+use Rattle.rules.proofs.AcceptedMoves.{setFits}
+use Rattle.rules.proofs.Runs as runs
+use Rattle.rules.proofs.Runs.{viewAfter, chainAfter}
+use Rattle.rules.proofs.RunTestLaws.{run-found}
+use Rattle.rules.proofs.RunTests.{isMade, isSigned, isBounded, isFair, isRun}
+use Rattle.member.specs.Open.{closedState, openRefusal}
+use Rattle.nonforking.specs.Engine.{Call, opens, propose, endorse, certify, accept, advance, commit, committee, share, certificate, block}
+use Rattle.nonforking.specs.Statement.{listed, weights, Members, Entry, engineAfter, Run}
+use Rattle.nonforking.proofs.StartLaws.{Fit}
+use Rattle.nonforking.proofs.Mirrors.{group, mirror}
+use Rattle.nonforking.proofs.Theorem.{listed-shown, weights-shown, quorums-shown}
+use Rattle.nonforking.proofs.Converses.{run-back}
+use Rattle.nonforking.proofs.PlainTests.{arePlain, plain-found}
+use Rattle.nonforking.proofs.Answers.{Answered, entries, AreAnswered, areAnswered, answered-found}
+use Rattle.nonforking.proofs.Advances.{AdvancesHeld, advancesHeld, advances-found}
+
+-- lookback 1, ceiling 4, weight 3 for members 0 and 1, and nothing else written: members 2 and 3 have weight 1
+abbrev sheet : Sheet
+sheet = record { lookback = Written 1; ceiling = Written 4; allowance = Blank; weights = record { setting = Written 3 } ∷ record { setting = Written 3 } ∷ replicate 14 (record { setting = Blank }) }
+
+abbrev settings : Settings
+settings = record { lookback = 1; ceiling = record { 0 = 4 }; allowance = 4; weights = 3 ∷ 3 ∷ 1 ∷ 1 ∷ 0 ∷ 0 ∷ 0 ∷ 0 ∷ 0 ∷ 0 ∷ 0 ∷ 0 ∷ 0 ∷ 0 ∷ 0 ∷ 0 ∷ [] }
+
+pub sheet-filled : filled sheet ≡ settings
+unfolding filled tab weightAt blankWeight
+sheet-filled = refl
+
+pub sheet-accepted : (k : ℕ) → ltb k 3 ≡ true → openRefusal (replicate 1360 0) (record { 0 = k }) (filled sheet) ≡ 0
+unfolding openRefusal outOfRange outside weightless anyTo
+sheet-accepted k h =
+    let i = ltb-true k 3 h in
+    rw sheet-filled (passes 4 _ (le-ltb 15 k (omega arith)) ∙ passes 2 _ refl ∙ passes 3 _ refl ∙ passes 1 _ refl ∙ passes-all)
+
+-- each on a table of zeros that is just long enough
+abbrev members : Members
+members =
+    record {
+      correct = λ i. ltb i 3;
+      before = λ i. record { state = closedState; table = replicate 1360 0 };
+      sheet = λ i. sheet;
+      accepted = sheet-accepted;
+      settings = settings;
+      equal = λ k c. sheet-filled;
+    }
+
+-- an accepted call of member i
+abbrev by : ℕ → Call → Answered
+by i c = record { entry = record { who = i; call = c }; answer = 0 }
+
+-- one that is refused with n
+abbrev refused : ℕ → ℕ → Call → Answered
+refused n i c = record { entry = record { who = i; call = c }; answer = n }
+
+abbrev with : ℕ → Body
+with previous = record { previous = previous; count = 0; slots = replicate 4 (record { transaction = noTransaction }) }
+
+-- one bond, to member 0
+abbrev bond : Body
+bond = record { previous = 0; count = 1; slots = replicate 4 (record { transaction = Bond (record { 0 = 0 }) 5 }) }
+
+abbrev at : ℕ → ℕ → Body → Proposal
+at a r b = record { author = record { 0 = a }; round = record { 0 = r }; body = b }
+
+abbrev of : ℕ → ℕ → Body → ℕ → Call
+of a r b endorsers = accept (record { proposal = at a r b; endorsers = endorsers })
+
+-- ---- the calls, newest first
+
+-- members 0 and 1 sign each other's proposals and one of 3; a third signature is that of 3, which no entry backs
+abbrev round1 : List Answered
+round1 =
+    by 1 (of 3 1 (with 0) 3) ∷ by 0 (of 3 1 (with 0) 3) ∷ by 1 (of 0 1 bond 10)
+    ∷ by 0 (of 1 1 (with 0) 9) ∷ by 1 (certify 9) ∷ by 0 (certify 10)
+    ∷ by 1 (endorse (at 3 1 (with 0))) ∷ by 0 (endorse (at 3 1 (with 0))) ∷ by 0 (endorse (at 1 1 (with 0)))
+    ∷ by 1 (endorse (at 0 1 bond)) ∷ by 1 (propose (with 0)) ∷ by 0 (propose bond)
+    ∷ []
+
+-- another proposal at a held place, which only a faulty author can have, and a held certificate again, with other endorsers
+abbrev twice : List Answered
+twice = refused 17 0 (of 3 1 bond 3) ∷ refused 16 1 (of 0 1 bond 14) ∷ round1
+
+-- member 2 only accepts, and stays in round 2
+abbrev follower : List Answered
+follower = by 2 advance ∷ by 2 (of 1 1 (with 0) 9) ∷ by 2 (of 0 1 bond 10) ∷ twice
+
+-- in rounds 2 and 3 members 0 and 1 alone sign
+abbrev round2 : List Answered
+round2 =
+    by 1 (of 0 2 (with 11) 2) ∷ by 0 (of 1 2 (with 11) 1) ∷ by 1 (certify 1)
+    ∷ by 0 (certify 2) ∷ by 0 (endorse (at 1 2 (with 11))) ∷ by 1 (endorse (at 0 2 (with 11)))
+    ∷ by 1 (propose (with 11)) ∷ by 0 (propose (with 11)) ∷ by 1 advance
+    ∷ by 0 advance
+    ∷ follower
+
+-- the second commit of member 0 has nothing to add
+abbrev round3 : List Answered
+round3 =
+    refused 20 0 commit ∷ by 1 commit ∷ by 0 commit
+    ∷ by 1 (of 0 3 (with 3) 2) ∷ by 0 (of 1 3 (with 3) 1) ∷ by 1 (certify 1)
+    ∷ by 0 (certify 2) ∷ by 0 (endorse (at 1 3 (with 3))) ∷ by 1 (endorse (at 0 3 (with 3)))
+    ∷ by 1 (propose (with 3)) ∷ by 0 (propose (with 3)) ∷ by 1 advance
+    ∷ by 0 advance
+    ∷ round2
+
+-- all reads, and an open that is refused; member 2 has no block and does not know round 4
+abbrev reading : List Answered
+reading =
+    by 0 (committee (record { 0 = 4 })) ∷ by 0 (share (record { 0 = 2 }) (record { 0 = 4 })) ∷ by 0 (certificate (record { 0 = 3 }) (record { 0 = 1 })) ∷ by 1 (block 1)
+    ∷ refused 8 2 (committee (record { 0 = 4 })) ∷ refused 23 2 (block 1) ∷ refused 4 1 (opens (record { 0 = 16 }) sheet)
+    ∷ round3
+
+-- the committee of round 4 is the one that the bond changed: total 13, quorum 9; members 0 and 3, weighing 8 and 1, sign
+abbrev round4 : List Answered
+round4 = by 1 (of 0 4 (with 3) 8) ∷ by 0 (certify 8) ∷ by 0 (propose (with 3)) ∷ by 0 advance ∷ reading
+
+abbrev calls : List Entry
+calls = entries round4
+
+-- the certificate of an author and a round, as it is listed
+abbrev listedAt : ℕ → ℕ → ℕ → List Transaction → Content
+listedAt a r previous l = record { author = a; round = r; previous = previous; transactions = l }
+
+-- the block that members 0 and 1 list
+abbrev made : List (ℕ × List Content)
+made = (2, listedAt 1 1 0 [] ∷ listedAt 3 1 0 [] ∷ listedAt 0 1 0 (Bond (record { 0 = 0 }) 5 ∷ []) ∷ listedAt 1 2 11 [] ∷ []) ∷ []
+
+pub record Witness : Type 0 where
+  pub premises : Run members calls
+  -- each entry is answered with the number that stands at it
+  pub answers : AreAnswered members round4
+  -- the authors of the certificates that a member holds of its round are a quorum of that round's committee, which it knows, whenever it advances
+  pub advances : AdvancesHeld members calls
+  pub listed-by-0 : listed (engineAfter members calls 0) ≡ made
+  pub listed-by-1 : listed (engineAfter members calls 1) ≡ made
+  pub listed-by-2 : listed (engineAfter members calls 2) ≡ []
+  -- the bond is out in round 3 and in from round 4
+  pub weight-before : weights (engineAfter members calls 1) 3 0 ≡ 3
+  pub weight-after : weights (engineAfter members calls 1) 4 0 ≡ 8
+  -- the signers of the certificate of round 4 are no quorum of the starting committee, and are one of the changed committee
+  pub short-before : quorum (weights (engineAfter members calls 1) 1) (isIn 9) ≡ false
+  pub enough-after : quorum (weights (engineAfter members calls 1) 4) (isIn 9) ≡ true
+
+-- ---- the proof: all is computed on the views of the rules
+
+pub settings-fit : outOfRange settings ≡ false
+unfolding outOfRange outside anyTo
+settings-fit = refl
+
+abbrev fits : Fit members
+fits = record { in-range = settings-fit; below = λ k h. omega (arith, ltb-true k 3 h) }
+
+abbrev ruledCalls : runs.Entries (group members fits)
+ruledCalls = mirror members fits calls
+
+record Computed : Type 0 where
+  plain : arePlain calls ≡ true
+  run : isRun (group members fits) (λ k s c. setFits c) ruledCalls ≡ true
+  answers : areAnswered members fits round4 ≡ true
+  advances : advancesHeld members fits calls ≡ true
+  listed-by-0 : listing (ordered settings) (chainAfter (group members fits) ruledCalls 0) ≡ made
+  listed-by-1 : listing (ordered settings) (chainAfter (group members fits) ruledCalls 1) ≡ made
+  listed-by-2 : listing (ordered settings) (chainAfter (group members fits) ruledCalls 2) ≡ []
+  weight-before : committeeIn settings (viewAfter (group members fits) ruledCalls 1) 3 0 ≡ 3
+  weight-after : committeeIn settings (viewAfter (group members fits) ruledCalls 1) 4 0 ≡ 8
+  short-before : quorum (committeeIn settings (viewAfter (group members fits) ruledCalls 1) 1) (isIn 9) ≡ false
+  enough-after : quorum (committeeIn settings (viewAfter (group members fits) ruledCalls 1) 4) (isIn 9) ≡ true
+
+computed : Computed
+unfolding transactionsOf slotOf tab states result verdict after put mark isPlace refusal badTransactions allInRange bondInRange badPreviousSet isEmpty unknown knownBy committeeOf committeeBy leaderBy stepFrom bondedFrom startOf ordered rows row changesOf changes above missing quorum outsider short quorumWeight boundOf anyTo sumTo isIn mem add signersOf badRound same sameTransactions sameTransaction unvoted anchorAt leaderOf memberAt memberBelow countBelow used blockOf blocksOf taken committed level inHistory listing isMade isSigned isBounded isFair isRun allTo
+computed =
+    record {
+      plain = refl;
+      run = refl;
+      answers = refl;
+      advances = refl;
+      listed-by-0 = refl;
+      listed-by-1 = refl;
+      listed-by-2 = refl;
+      weight-before = refl;
+      weight-after = refl;
+      short-before = refl;
+      enough-after = refl;
+    }
+
+pub witness : Witness
+witness =
+    let plain = plain-found members fits calls (computed .plain) in
+    let run = run-back members fits calls plain (run-found (group members fits) (λ k s c. setFits c) (λ k s c h. h) ruledCalls (computed .run)) in
+    record {
+      premises = run;
+      answers = answered-found members fits round4 (computed .plain) (computed .answers);
+      advances = advances-found members fits calls plain (computed .advances);
+      listed-by-0 = listed-shown members calls run fits 0 refl ∙ computed .listed-by-0;
+      listed-by-1 = listed-shown members calls run fits 1 refl ∙ computed .listed-by-1;
+      listed-by-2 = listed-shown members calls run fits 2 refl ∙ computed .listed-by-2;
+      weight-before = weights-shown members calls run fits 1 refl 3 0 ∙ computed .weight-before;
+      weight-after = weights-shown members calls run fits 1 refl 4 0 ∙ computed .weight-after;
+      short-before = quorums-shown members calls run fits 1 refl 1 (isIn 9) ∙ computed .short-before;
+      enough-after = quorums-shown members calls run fits 1 refl 4 (isIn 9) ∙ computed .enough-after;
+    }

@@ -1,0 +1,17 @@
+pub mod CallLaws
+pub mod TestLaws
+pub mod Quorums
+pub mod PreviousSets
+pub mod SigningMoves
+pub mod CertificateMoves
+pub mod CommitMove
+pub mod AcceptedMoves
+pub mod RoundLaws
+pub mod Implementations
+pub mod Runs
+pub mod RunAgreement
+pub mod AnchorStartLaws
+pub mod RuleRuns
+pub mod RunTests
+pub mod RunTestLaws
+pub mod Sample

@@ -1,0 +1,58 @@
+-- Demand 3 for lists of the calls of Calls: the rules themselves, on views, are an implementation.
+use mathlib.Core.Path.{_≡_, refl}
+use mathlib.Core.Bool.{Bool, true, false}
+use Prim.Native.Nat.{ℕ, _<_}
+use native.Mathlib.Decide.{ℕ-discrete}
+use native.Mathlib.Omega.{arith}
+use Rattle.sheet.specs.declared.Settings.{Settings}
+use Rattle.sheet.specs.Ranges.{outOfRange}
+use Rattle.sheet.proofs.SheetLaws.{settings-fit}
+use Rattle.rules.specs.Tests.{MemberView}
+use Rattle.rules.specs.Calls.{Call, freshView, verdict, result}
+use Rattle.rules.proofs.CallLaws.{result-refused, result-accepted}
+use Rattle.rules.proofs.AcceptedMoves.{setFits}
+use Rattle.rules.proofs.RoundLaws.{InRounds, fresh-rounds, rounds-kept}
+use Rattle.rules.proofs.Implementations.{Implementation}
+use Rattle.rules.proofs.Runs.{Group, Entries, Run, Agreed}
+use Rattle.rules.proofs.RunAgreement.{runs-agree}
+
+module _ (S : Settings) where
+  -- rounds stay in range, whatever the call
+  pub result-rounds : (k : ℕ) (s : MemberView S) (c : Call) → InRounds S s → InRounds S (result S k s c)
+  result-rounds k s c h = go (ℕ-discrete (verdict S k s c) 0)
+    where
+      go : Dec (verdict S k s c ≡ 0) → InRounds S (result S k s c)
+      go (yes e) = rw (result-accepted S k s c e) (rounds-kept S s h k c e)
+      go (no n) = rw (result-refused S k s c n) h
+
+  abbrev pub onViews : Implementation S
+  onViews =
+      record {
+        State = MemberView S;
+        Call = Call;
+        view = λ s. s;
+        ruled = λ c. c;
+        answer = verdict S;
+        after = result S;
+        Handed = λ k s c. setFits c ≡ true;
+        Good = λ k s. InRounds S s;
+        good-after = result-rounds;
+        held-rounds = λ k s h. h .held;
+        refused = λ k s c h. result-refused S k s c;
+        follows = λ k s c h f e. record { started = h .present .0; fits = f; accepted = e; becomes = result-accepted S k s c e };
+      }
+
+  module _ (fit : outOfRange S ≡ false) (correct : ℕ → Bool) (below : (k : ℕ) → correct k ≡ true → k < 16) where
+    -- all members start from the fresh view
+    abbrev pub opened : Group S onViews
+    opened =
+        record {
+          correct = correct;
+          below = below;
+          start = λ i. freshView S;
+          good = λ i c. fresh-rounds S (omega (arith, settings-fit S fit .ceiling-from));
+          fresh = λ i c. record { no-proposal = refl; no-certificate = λ a r. refl; no-block = refl };
+        }
+
+    pub rules-agree : (l : Entries opened) → Run opened l → Agreed opened l
+    rules-agree = runs-agree opened

@@ -1,0 +1,126 @@
+use borrow.Author.Needs.{needs}
+use native.Mathlib.Omega.{arith}
+use mathlib.Core.Path.{_≡_, refl, _∙_}
+use mathlib.Core.List.{List}
+use Prim.Native.Nat.{ℕ}
+use lib.ListN.{length}
+use Rattle.runner.specs.declared.Session.{Session}
+use Rattle.runner.specs.Session.{SessionReady, SessionInvariant}
+use Rattle.runner.proofs.SessionLaws.{fresh-known, so-far-none, so-far-next}
+use Rattle.runner.proofs.serve_all.Statement.{statement}
+use Rattle.runner.proofs.serve_all.Tie as tie
+
+-- between two passes: the session goes on as it must and is ready for the next, and no length has changed
+record BetweenPasses (cache₀ t₀ buf₀ out₀ cache t buf out : List ℕ) (s : Session) : Type 0 where
+  so-far : SessionInvariant t₀ s t buf
+  ready : SessionReady s cache t buf out
+  cache-size : length cache ≡ length cache₀
+  table-size : length t ≡ length t₀
+  input-size : length buf ≡ length buf₀
+  output-size : length out ≡ length out₀
+
+abbrev Inv-loop : tie.InvT-loop
+Inv-loop cache₀ t₀ buf₀ out₀ s₀ turns₀ cache t buf out s turns = BetweenPasses cache₀ t₀ buf₀ out₀ cache t buf out s
+
+abbrev μ-loop : tie.MeasureT-loop
+μ-loop cache₀ t₀ buf₀ out₀ s₀ turns₀ cache t buf out s turns = turns
+
+start-requires : tie.Need-start-requires Inv-loop μ-loop
+start-requires c κs = search needs
+
+loop-holds : tie.Need-loop-holds Inv-loop μ-loop
+loop-holds c =
+    let f = c .start .ensures in
+    record {
+      so-far = so-far-none _ _ _ f;
+      ready =
+          record {
+            memory = c .before .before .before .before .before .pre;
+            hand = record { from-to = omega (arith, f .from, f .end); end-to = omega (arith, f .end) };
+            empty = f .next;
+            known = fresh-known _ _ _ f;
+          };
+      cache-size = refl;
+      table-size = refl;
+      input-size = refl;
+      output-size = refl;
+    }
+
+serve-pass-requires : tie.Need-serve-pass-requires Inv-loop μ-loop
+serve-pass-requires c κs = c .before .before .before .before .before .before .before .loop .inv .ready
+
+sub-turns : tie.Need-sub-turns Inv-loop μ-loop
+sub-turns c = search needs
+
+loop-less : tie.Need-loop-less Inv-loop μ-loop
+loop-less c = search needs
+
+loop-again : tie.Need-loop-again Inv-loop μ-loop
+loop-again c =
+    let u = c .before .before .before .before .before .before .before .before .serve-pass in
+    let x = c .before .before .before .before .before .before .before .before .before .before .before .before .before .before .before .before .loop .inv in
+    record {
+      so-far = so-far-next _ _ _ _ _ _ _ _ (x .so-far) (u .ensures .0);
+      ready = u .ensures .1;
+      cache-size = u .kept .1 .0 ∙ x .cache-size;
+      table-size = u .kept .1 .1 .0 ∙ x .table-size;
+      input-size = u .kept .1 .1 .1 .0 ∙ x .input-size;
+      output-size = u .kept .1 .1 .1 .1 .0 ∙ x .output-size;
+    }
+
+same-length : tie.Need-same-length Inv-loop μ-loop
+same-length c = c .before .before .before .loop .inv .cache-size
+
+same-length-2 : tie.Need-same-length-2 Inv-loop μ-loop
+same-length-2 c = c .before .before .before .loop .inv .table-size
+
+same-length-3 : tie.Need-same-length-3 Inv-loop μ-loop
+same-length-3 c = c .before .before .before .loop .inv .input-size
+
+same-length-4 : tie.Need-same-length-4 Inv-loop μ-loop
+same-length-4 c = c .before .before .before .loop .inv .output-size
+
+returns : tie.Need-returns Inv-loop μ-loop
+returns c =
+    let x = c .before .before .before .loop .inv in
+    (x .so-far, x .ready)
+
+same-length-5 : tie.Need-same-length-5 Inv-loop μ-loop
+same-length-5 c = c .before .loop .inv .cache-size
+
+same-length-6 : tie.Need-same-length-6 Inv-loop μ-loop
+same-length-6 c = c .before .loop .inv .table-size
+
+same-length-7 : tie.Need-same-length-7 Inv-loop μ-loop
+same-length-7 c = c .before .loop .inv .input-size
+
+same-length-8 : tie.Need-same-length-8 Inv-loop μ-loop
+same-length-8 c = c .before .loop .inv .output-size
+
+returns-2 : tie.Need-returns-2 Inv-loop μ-loop
+returns-2 c =
+    let x = c .before .loop .inv in
+    (x .so-far, x .ready)
+
+pub serve-all-spec : {M : Type 1} → statement M
+serve-all-spec =
+    tie.close
+    (tie.spec
+    Inv-loop
+    μ-loop
+    start-requires
+    loop-holds
+    serve-pass-requires
+    sub-turns
+    loop-less
+    loop-again
+    same-length
+    same-length-2
+    same-length-3
+    same-length-4
+    returns
+    same-length-5
+    same-length-6
+    same-length-7
+    same-length-8
+    returns-2)

@@ -1,0 +1,94 @@
+use mathlib.Core.Path.{_≡_, sym}
+use native.Mathlib.Omega.{arith}
+use lib.ListN.{length, take}
+use lib.Seq.{length-take-le}
+use borrow.Author.Needs.{needs}
+use Rattle.runner.proofs.SessionLaws.{advanced, refilled-known}
+use Rattle.runner.proofs.serve_pass.Statement.{statement}
+use Rattle.runner.proofs.serve_pass.Tie as tie
+
+-- the entry, as the place where the bytes at hand are lent sees it; that place, as the one after `fill` does; and this, as the one after `flush` does
+abbrev entry : tie.After-fill-arg3 → tie.Start
+entry c = c .before .before .before .before .before .before .before .before
+
+abbrev lent : tie.After-fill → tie.After-fill-arg3
+lent c = c .before .before
+
+abbrev filled : tie.After-flush → tie.After-fill
+filled c = c .before .before .before .before .before .before .before .before
+
+-- how many bytes are at hand
+hand : (c : tie.After-fill-arg3) → let a = entry c .args in length (take (a .s .end) (a .buf .now)) ≡ a .s .end
+hand c = let a = entry c .args in length-take-le (a .s .end) (a .buf .now) (entry c .pre .hand .end-to)
+
+slice-reshare-prefix-fill : tie.Need-slice-reshare-prefix-fill
+slice-reshare-prefix-fill c = search needs
+
+slice-aggregate-fill : tie.Need-slice-aggregate-fill
+slice-aggregate-fill c = sym (hand c)
+
+fill-requires : tie.Need-fill-requires
+fill-requires c κs =
+    let p = entry (c .before) .pre in
+    let l = hand (c .before) in
+    record {
+      memory = record { table-to = p .memory .table-to; input-to = rw l (omega (arith, p .hand .end-to, p .memory .input-to)); answer-to = p .memory .answer-to };
+      from-to = rw l (p .hand .from-to);
+      next-to = omega (arith, p .empty);
+      known = p .known;
+    }
+
+flush-requires : tie.Need-flush-requires
+flush-requires c κs = search needs
+
+refill-requires : tie.Need-refill-requires
+refill-requires c κs =
+    let f = filled (c .before) in
+    let p = entry (lent f) .pre in
+    (record { from-to = rw (hand (lent f)) at (f .fill .ensures .from-to); end-to = p .hand .end-to }, p .memory .input-to)
+
+same-length : tie.Need-same-length
+same-length c = search needs
+
+same-length-2 : tie.Need-same-length-2
+same-length-2 c = search needs
+
+same-length-3 : tie.Need-same-length-3
+same-length-3 c = search needs
+
+same-length-4 : tie.Need-same-length-4
+same-length-4 c = search needs
+
+returns : tie.Need-returns
+returns c =
+    let u = c .before .before in
+    let m = filled (u .before .before) in
+    let s = entry (lent m) in
+    let p = s .pre in
+    let f = m .fill .ensures in
+    let e = u .refill .ensures in
+    let t = same-length-2 c in
+    let z = p .memory in (
+      advanced (s .args .s) (s .args .buf .now) (p .empty) f (e .bytes),
+      record {
+        memory = record { table-to = omega (arith, z .table-to, t); input-to = omega (arith, z .input-to, same-length-3 c); answer-to = omega (arith, z .answer-to, t, same-length-4 c) };
+        hand = e .hand;
+        empty = e .empty;
+        known = refilled-known (e .bytes) (f .known);
+      },
+    )
+
+pub serve-pass-spec : {M : Type 1} → statement M
+serve-pass-spec =
+    tie.close
+    (tie.spec
+    slice-reshare-prefix-fill
+    slice-aggregate-fill
+    fill-requires
+    flush-requires
+    refill-requires
+    same-length
+    same-length-2
+    same-length-3
+    same-length-4
+    returns)

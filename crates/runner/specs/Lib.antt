@@ -1,0 +1,3 @@
+pub mod Lengths
+pub mod Work
+pub mod Session

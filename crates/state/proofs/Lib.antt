@@ -1,0 +1,9 @@
+pub mod CachedLaws
+pub mod RoundLaws
+pub mod FormedLaws
+pub mod Walkable
+pub mod ViewLaws
+pub mod WriteLaws
+pub mod PreservedLaws
+pub mod NextViewLaws
+pub mod RefusalLaws

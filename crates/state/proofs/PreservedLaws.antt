@@ -1,0 +1,94 @@
+-- A well-formed state stays well formed: what each accepted call does to the state and the table.
+use mathlib.Core.Path.{_≡_}
+use mathlib.Core.Bool.{Bool, true, false, false≢true}
+use mathlib.Core.List.{List}
+use Prim.Native.Nat.{ℕ, _+_, _<_, _≤_}
+use native.Mathlib.Omega.{arith}
+use lib.ListN.{length}
+use Rattle.base.specs.Sets.{isIn}
+use Rattle.terms.specs.declared.Body.{Body}
+use Rattle.terms.specs.declared.Member.{Member}
+use Rattle.terms.specs.declared.Round.{Round}
+use Rattle.terms.specs.Proposals.{Content, contentWith, badTransactions, badPreviousSet}
+use Rattle.terms.proofs.ProposalLaws.{length-transactions}
+use Rattle.store.specs.Table.{Row, Within, blockRound}
+use Rattle.store.specs.Writes.{putCertificate, setEndorsed, clearEndorsed, clearUsed}
+use Rattle.store.proofs.PutLaws.{length-put, block-round-put}
+use Rattle.store.proofs.EndorseLaws.{OnlyEndorsed, block-round-endorse, set-endorsed, clear-endorsed}
+use Rattle.store.proofs.ClearLaws.{length-cleared, rows-cleared}
+use Rattle.store.specs.Scan.{rowsFit}
+use Rattle.store.proofs.FitLaws.{rows-put, rows-set-endorsed, rows-clear-endorsed}
+use Rattle.sheet.specs.declared.Settings.{Settings}
+use Rattle.sheet.specs.Ranges.{outOfRange, weightless}
+use Rattle.sheet.proofs.SheetLaws.{settings-fit}
+use Rattle.state.specs.declared.State.{State}
+use Rattle.state.specs.States.{moved, proposed, advanced, fresh}
+use Rattle.state.proofs.RoundLaws.{blocks-whole, blocks-same}
+use Rattle.state.specs.Formed.{BodyFits, Formed}
+use Rattle.state.proofs.FormedLaws.{formed-by}
+use Rattle.state.proofs.WriteLaws.{Storable, within}
+
+-- a body that fits has a place, with any author and round
+pub storable : (n allowance a r : ℕ) (b : Body) → a < 16 → 0 < r → r ≤ n → allowance ≤ 4 → BodyFits allowance r b → b .previous < 65536 → Storable n (contentWith a r b)
+storable n allowance a r b h from to l f small =
+    let e = length-transactions b in
+    record { author = h; from = from; to = to; few = omega arith; small = small }
+
+module _ (s : State) (t : List ℕ) (f : Formed s t) where
+  -- ---- propose and advance: another round or another proposal
+
+  moved-kept : (r : Round) (proposing : Bool) (b : Body) → 1 ≤ r .0 → r .0 ≤ s .settings .ceiling .0 → (proposing ≡ true → BodyFits (s .settings .allowance) (r .0) b)
+      → Formed (moved s r proposing b) t
+  moved-kept r proposing b from to p =
+      formed-by (moved s r proposing b) t (f .in-range) (f .weighty)
+      (record { own = f .numbers .own; round-from = from; round-to = to; blocks-to = f .numbers .blocks-to }) p (f .long) (f .rows) (f .rounds)
+
+  -- a proposal that fits is kept
+  pub propose-kept : (b : Body) → BodyFits (s .settings .allowance) (s .round .0) b → Formed (proposed s b) t
+  propose-kept b p = moved-kept (s .round) true b (f .numbers .round-from) (f .numbers .round-to) (λ _. p)
+
+  -- below the ceiling the next round, with no proposal
+  pub advance-kept : (b : Body) → s .round .0 < s .settings .ceiling .0 → Formed (advanced s b) t
+  advance-kept b h = moved-kept (record { 0 = s .round .0 + 1 }) false b (omega arith) (omega arith) (λ e. absurd (false≢true e))
+
+  -- ---- endorse, certify, accept: another table
+
+  written : (u : List ℕ) → length u ≡ length t → rowsFit u (s .settings .allowance) (s .blocks) (s .settings .ceiling .0) ≡ true → ((k : ℕ) → blockRound u k ≡ blockRound t k) → Formed s u
+  written u l r b =
+      formed-by s u (f .in-range) (f .weighty) (f .numbers) (f .proposal) (omega arith) r
+      (blocks-same (s .settings .ceiling .0) t u (s .blocks) (λ k _. b k) (f .rounds))
+
+  marked : {q : ℕ} {u : List ℕ} → OnlyEndorsed q t u → rowsFit u (s .settings .allowance) (s .blocks) (s .settings .ceiling .0) ≡ true → Formed s u
+  marked {u = u} o r = written u (o .size) r (block-round-endorse o)
+
+  module _ (a q : ℕ) (h : a < 16) (l : q ≤ s .settings .ceiling .0) where
+    at : Within t a q
+    at = record { member = h; row = omega arith }
+
+    -- a place marked endorsed
+    pub endorse-kept : Formed s (setEndorsed t a q)
+    endorse-kept = marked (set-endorsed t a q) (rows-set-endorsed t a q at (s .settings .allowance) (s .blocks) (s .settings .ceiling .0) (f .rows))
+
+    -- its mark cleared
+    pub clear-kept : Formed s (clearEndorsed t a q)
+    clear-kept = marked (clear-endorsed t a q) (rows-clear-endorsed t a q at (s .settings .allowance) (s .blocks) (s .settings .ceiling .0) (f .rows))
+
+  -- a certificate held that passes checks 6 and 7, its author not among its endorsers
+  pub put-kept : (p : Content) (d : ℕ) → d < 65536 → isIn d (p .author) ≡ false → Storable (s .settings .ceiling .0) p → badTransactions (s .settings .allowance) (p .transactions) ≡ false → badPreviousSet (p .round) (p .previous) ≡ false
+      → Formed s (putCertificate t p d)
+  put-kept p d low apart k fit right =
+      let i = within t (f .long) k in
+      written (putCertificate t p d) (length-put t p d i)
+      (rows-put t p d i (s .settings .allowance) (s .blocks) (f .settings .allowance-to) fit right (k .small) low apart (s .settings .ceiling .0) (f .rows))
+      (block-round-put t p d i)
+
+-- ---- open: a fresh state and a cleared table
+
+pub open-formed : (own : Member) (S : Settings) (b : Body) (t : List ℕ) → own .0 < 16 → outOfRange S ≡ false → weightless S ≡ false → Row t (S .ceiling .0)
+    → Formed (fresh own S b) (clearUsed t (S .ceiling .0))
+open-formed own S b t h e w l =
+    let n = S .ceiling .0 in
+    let f = settings-fit S e in
+    let i = length-cleared t n l in
+    formed-by (fresh own S b) (clearUsed t n) e w (record { own = h; round-from = omega arith; round-to = omega arith; blocks-to = omega arith }) (λ x. absurd (false≢true x))
+    (omega arith) (rows-cleared t n (S .allowance) 0) (blocks-whole n (clearUsed t n) 0 (λ k x. absurd (omega arith)))
