@@ -7,6 +7,7 @@ runner=$(cd "$(dirname "$1")" && pwd)/$(basename "$1")
 first=${3:-1}
 last=$2
 cd "$(dirname "$0")" || exit 2
+[ -x bin/shuffle ] && [ -x bin/runner_ref ] || sh build.sh || exit 2
 out=$(mktemp -d) || exit 2
 trap 'rm -r "$out"' EXIT
 streams=0 answers=0 input=0 output=0
