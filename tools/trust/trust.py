@@ -227,7 +227,7 @@ def specs_held(listing):
     laws = len(listing.laws_in_specs())
     kinds = [f"{totals['with comments']:,} are the {totals['definitions']} definitions of this list",
              f"{sum(map(text_lines, cited)):,} the {sum(len(item.names) for item in cited)} that contracts of inner functions cite besides",
-             f"{sum(map(text_lines, rest)):,} the {sum(len(item.names) for item in rest)} of the theory, of what is claimed beside demand 3 and of the table of P cases"]
+             f"{sum(map(text_lines, rest)):,} the {sum(len(item.names) for item in rest)} of the theory, of what is claimed beside demand 3, of the table of P cases, and helpers that only laws use"]
     return (f"The folders specs/ have {totals['every']:,} lines. With their comments " + ", ".join(kinds[:2]) + " and " + kinds[2] +
             "; the others are imports, heads of files and blank lines. " + (f"{laws} laws stand there." if laws else "No law stands there."))
 
