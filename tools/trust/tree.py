@@ -185,7 +185,7 @@ class Tree:
         head, rest = path[0], path[1:]
         if head == "crate":
             head, rest = file.crate, path[1:]
-        elif head in file.paths and len(file.paths[head]) > 1:
+        elif head in file.paths and len(file.paths[head]) > 1 and file.paths[head][0] != head:
             return self.type_at(file, file.paths[head] + rest)
         elif (file.crate, (head,)) in self.codes or not any(crate == head for crate, _ in self.codes):
             head, rest = file.crate, path

@@ -14,12 +14,16 @@ use Rattle.agreement.specs.Prefixes.{_≼_, same, blockAt}
 use Rattle.agreement.proofs.PrefixLaws.{≼-trans, block-stays}
 use Rattle.agreement.specs.Invariants.{Invariant, FaultTolerant, Agree, Sound}
 use Rattle.agreement.specs.Moves.{Move, other-call}
-use Rattle.agreement.specs.Runs.{Initial, unsigned, Start, Next, Run, begin, step}
+use Rattle.agreement.specs.Runs.{Initial, Start, Next, Run, begin, step}
 use Rattle.agreement.proofs.NonEquivocation.{committee-agreement}
 use Rattle.agreement.proofs.NonForking.{comparable}
 use Rattle.agreement.proofs.Growth.{move-grows}
 use Rattle.agreement.proofs.Signatures.{signed-stays}
 use Rattle.agreement.proofs.Preservation.{new-chain, invariant-kept}
+
+-- nobody signed anything
+abbrev pub unsigned : (R : Rules) → Log R
+unsigned R i = []
 
 module _ {R : Rules} (correct : ℕ → Bool) where
   open Rules R using (P, committee)

@@ -5,13 +5,12 @@ use mathlib.Core.Option.{some}
 use mathlib.Core.Logic.{_⊎_, inl, inr}
 use Prim.Native.Nat.{ℕ, zero, suc, _+_, _-_, _≤_}
 use native.Mathlib.Omega.{arith}
-use Rattle.agreement.specs.Weights.{everyone}
 use Rattle.agreement.specs.Rules.{Rules}
 use Rattle.agreement.specs.View.{World, Log}
 use Rattle.agreement.specs.Dag.{Held, Reach, here, back}
 use Rattle.agreement.specs.Anchors.{votes, Elected}
 use Rattle.agreement.specs.Invariants.{PreviousQuorum, Storing, Sound}
-use Rattle.agreement.proofs.WeightLaws.{Common}
+use Rattle.agreement.proofs.WeightLaws.{everyone, Common}
 use Rattle.agreement.proofs.QuorumIntersection.{voters-meet}
 use Rattle.agreement.proofs.DagLaws.{vote-by, at-place}
 use Rattle.agreement.proofs.NonEquivocation.{committee-agreement, dag-nonequivocation, Signer, signer}

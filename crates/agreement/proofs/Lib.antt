@@ -12,8 +12,9 @@ pub mod Growth
 pub mod Signatures
 pub mod Preservation
 pub mod Agreement
--- Engines that do what the rules say
-pub mod EngineAgreement
+-- Machines that do what the rules say
+pub mod EntryLaws
+pub mod MachineAgreement
 -- What an engine computes is what the theory asks
 pub mod HistoryLaws
 pub mod BlockLaws

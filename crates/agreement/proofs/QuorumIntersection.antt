@@ -3,11 +3,11 @@ use mathlib.Core.Path.{_≡_}
 use mathlib.Core.Bool.{Bool, true}
 use Prim.Native.Nat.{ℕ, _<_}
 use native.Mathlib.Omega.{arith}
-use Rattle.agreement.specs.Weights.{total, everyone}
+use Rattle.agreement.specs.Weights.{total}
 use Rattle.agreement.specs.Rules.{Rules}
 use Rattle.agreement.specs.Laws.{Lawful}
 use Rattle.agreement.specs.Quorum.{Quorum, Outweighs, Tolerant}
-use Rattle.agreement.proofs.WeightLaws.{weigh-split, total-pos, Common, meet}
+use Rattle.agreement.proofs.WeightLaws.{weigh-split, total-pos, everyone, Common, meet}
 
 module _ (R : Rules) where
   open Rules R using (size)

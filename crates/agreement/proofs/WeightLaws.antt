@@ -29,6 +29,10 @@ weigh-mono n w S T f = sum-mono (λ i. cond (S i) (w i) 0) (λ i. cond (T i) (w 
 pub total-pos : (n : ℕ) (w : ℕ → ℕ) {i : ℕ} → i < n → 0 < w i → 0 < total n w
 total-pos n w {i} h p = omega (arith, sum-at w n i h)
 
+-- the set of all members
+abbrev pub everyone : ℕ → Bool
+everyone i = true
+
 -- someone who is in three sets at once
 pub record Common (n : ℕ) (S T C : ℕ → Bool) : Type 0 where
   pub who : ℕ

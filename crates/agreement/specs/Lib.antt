@@ -10,9 +10,9 @@
 --   `bound` of Rules               the fault bound, and with it quorums and votes (a margin). Asked is only 0 < total → 3 * bound < total
 --   `leader` of Rules              how a leader is chosen or looked up. Asked is only that rounds with a leader are two apart, from 2 on
 --   `P` of Rules                   what a proposal holds; transactions are not looked at
---   `State`, `view` of Engines     storage: how a member keeps its view, and what else it keeps (endorsers, queues, rights, ports)
+--   `State`, `view` of Machines    storage: how a member keeps its view, and what else it keeps (endorsers, queues, rights, ports)
 --   `other-call` of Moves          calls that leave the view: reads, previews, lists, and every refused call, so also calls that refuse more than before
---   the list of Engines            a call that counts as several (a batch of certificates) is as many entries
+--   the list of Entries            a call that counts as several (a batch of certificates) is as many entries
 -- Shares, and the register of weights, are no part of the theory.
 
 -- What the theory speaks of
@@ -29,8 +29,9 @@ pub mod Prefixes
 pub mod Invariants
 pub mod Moves
 pub mod Runs
--- Engines: members that keep their view in any form
-pub mod Engines
+-- Machines: members that keep their view in any form, and lists of their calls
+pub mod Entries
+pub mod Machines
 -- What an engine computes
 pub mod Histories
 pub mod Commits

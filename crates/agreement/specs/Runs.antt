@@ -16,10 +16,6 @@ pub record Initial {R : Rules} (s : View R) : Type 0 where
   pub no-certificate : (a r : ℕ) → s .dag a r ≡ none
   pub no-block : s .chain ≡ []
 
--- nobody signed anything
-abbrev pub unsigned : (R : Rules) → Log R
-unsigned R i = []
-
 module _ {R : Rules} (correct : ℕ → Bool) where
   -- where a run starts: no correct member has done anything
   abbrev pub Start : World R → Type 0

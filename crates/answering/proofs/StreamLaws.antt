@@ -2,12 +2,13 @@
 use mathlib.Core.Path.{_≡_, refl, sym, ap, _∙_}
 use mathlib.Core.Bool.{Bool, false}
 use mathlib.Core.List.{List, [], _∷_, _++_, append-assoc, append-nil}
-use mathlib.Core.Option.{Option, some}
+use mathlib.Core.Option.{Option, none, some}
 use Prim.Native.Nat.{ℕ}
 use native.Mathlib.Omega.{arith}
 use lib.ListN.{take, drop}
-use Rattle.state.specs.declared.State.{State}
+use Rattle.engine.specs.Engine.{Engine}
 use Rattle.requests.specs.declared.Reading.{Reading}
+use Rattle.requests.specs.Requests.{request}
 use Rattle.framing.specs.declared.Step.{Step}
 use Rattle.framing.specs.declared.Event.{Event}
 use Rattle.framing.specs.declared.Event.the-variants as event
@@ -16,62 +17,58 @@ use Rattle.framing.specs.Framing.{remaining, telling, stepOf, lastOf}
 use Rattle.framing.proofs.FramingLaws.{step-told, last-told}
 use Rattle.lines.specs.Lines.{refusedLine}
 use Rattle.lines.specs.Puts.{Puts}
-use Rattle.answering.proofs.PutLaws.{puts-as, puts-none}
-use Rattle.answering.specs.Records.{servedState, servedTable, servedLines, RecordAnswered}
-use Rattle.answering.specs.Streams.{readingIn, answersTo, stateThrough, tableThrough, toldBy, Answered}
+use Rattle.lines.proofs.PutLaws.{puts-as, puts-none}
+use Rattle.replies.proofs.RecordLaws.{unreadable-answered}
+use Rattle.replies.specs.Records.{callOf, servedEngine, servedLines, RecordAnswered}
+use Rattle.answering.specs.Streams.{callIn, answersTo, engineThrough, recordsAt, Answered}
 
 -- records and then others
-pub answers-append : (s : State) (t : List ℕ) (l m : List (Option (List ℕ))) → answersTo s t (l ++ m) ≡ answersTo s t l ++ answersTo (stateThrough s t l) (tableThrough s t l) m
-unfolding answersTo stateThrough tableThrough
-answers-append s t [] m = refl
-answers-append s t (o ∷ l) m =
-    let q = readingIn o in
-    rw (answers-append (servedState s t q) (servedTable s t q) l m)
-    (sym (append-assoc (servedLines s t q) (answersTo (servedState s t q) (servedTable s t q) l) (answersTo (stateThrough (servedState s t q) (servedTable s t q) l) (tableThrough (servedState s t q) (servedTable s t q) l) m)))
+pub answers-append : (e : Engine) (l m : List (Option (List ℕ))) → answersTo e (l ++ m) ≡ answersTo e l ++ answersTo (engineThrough e l) m
+unfolding answersTo engineThrough
+answers-append e [] m = refl
+answers-append e (o ∷ l) m =
+    let x = servedEngine e (callIn o) in
+    rw (answers-append x l m) (sym (append-assoc (servedLines e (callIn o)) (answersTo x l) (answersTo (engineThrough x l) m)))
 
 -- what an event tells comes first
-telling-first : (e : Event) (b : List ℕ) (l : List (Option (List ℕ))) → telling e b l ≡ telling e b [] ++ l
+telling-first : (v : Event) (b : List ℕ) (l : List (Option (List ℕ))) → telling v b l ≡ telling v b [] ++ l
 telling-first event.Nothing b l = refl
 telling-first event.Record b l = refl
 telling-first event.Unreadable b l = refl
 
--- whatever comes after the bytes at hand, the answers to what was left before a turn are the lines that it puts, and then the answers to what is left after it
-pub turn-whole : (s : State) (t : List ℕ) (skipping : Bool) (hand more : List ℕ)
-    → answersTo s t (remaining skipping (hand ++ more))
-    ≡ answersTo s t (toldBy skipping hand) ++ answersTo (stateThrough s t (toldBy skipping hand)) (tableThrough s t (toldBy skipping hand)) (remaining (stepOf skipping hand .skipping) (drop (stepOf skipping hand .next) hand ++ more))
-turn-whole s t skipping hand more =
+-- whatever comes after the bytes at hand, the answers to what was left before a step are the lines that it puts, and then the answers to what is left after it
+pub step-whole : (e : Engine) (skipping : Bool) (hand more : List ℕ)
+    → answersTo e (remaining skipping (hand ++ more))
+    ≡ answersTo e (recordsAt skipping hand) ++ answersTo (engineThrough e (recordsAt skipping hand)) (remaining (stepOf skipping hand .skipping) (drop (stepOf skipping hand .next) hand ++ more))
+step-whole e skipping hand more =
     let r = stepOf skipping hand in
     let l = remaining (r .skipping) (drop (r .next) hand ++ more) in
-    ap (answersTo s t) (step-told skipping hand more ∙ telling-first (r .event) (take (r .length) hand) l)
-    ∙ answers-append s t (toldBy skipping hand) l
+    ap (answersTo e) (step-told skipping hand more ∙ telling-first (r .event) (take (r .length) hand) l)
+    ∙ answers-append e (recordsAt skipping hand) l
 
 -- at the end of input, where the bytes at hand have no CRLF
-pub last-whole : (s : State) (t : List ℕ) (skipping : Bool) (hand : List ℕ) → hasEnd hand ≡ false → answersTo s t (remaining skipping hand) ≡ answersTo s t (telling (lastOf skipping hand) [] [])
-last-whole s t skipping hand e = ap (answersTo s t) (last-told skipping hand e)
+pub last-whole : (e : Engine) (skipping : Bool) (hand : List ℕ) → hasEnd hand ≡ false → answersTo e (remaining skipping hand) ≡ answersTo e (telling (lastOf skipping hand) [] [])
+last-whole e skipping hand h = ap (answersTo e) (last-told skipping hand h)
 
 -- ---- what each event does
 
-module _ {s : State} {t : List ℕ} {state : State} {table : List ℕ} {x : List ℕ} {y : List ℕ} {at : ℕ} {next : ℕ} where
-  pub through-record : (b : List ℕ) {e : Event} {q : Reading} → e ≡ event.Record → q ≡ readingIn (some b) → RecordAnswered s t q state table x y at next → Answered s t (telling e b []) state table x y at next
-  unfolding stateThrough tableThrough answersTo
-  through-record b {e} {q} f g p =
-      let u = rw g at p in
-      rw f
-      (record {
-        its-state = u .its-state;
-        its-table = u .its-table;
-        its-lines = puts-as (append-nil (servedLines s t (readingIn (some b)))) (omega arith) (u .its-lines);
-      })
+module _ {e : Engine} {left : Engine} {x : List ℕ} {y : List ℕ} {at : ℕ} {next : ℕ} where
+  -- one record
+  one-answered : (o : Option (List ℕ)) → RecordAnswered e (callIn o) left x y at next → Answered e (o ∷ []) left x y at next
+  unfolding engineThrough answersTo
+  one-answered o p = record { its-engine = p .its-engine; its-lines = puts-as (append-nil (servedLines e (callIn o))) (omega arith) (p .its-lines) }
+
+  pub answered-record : (b : List ℕ) {v : Event} {q : Reading} → v ≡ event.Record → q ≡ request b → RecordAnswered e (callOf q) left x y at next → Answered e (telling v b []) left x y at next
+  answered-record b f g p = rw f (one-answered (some b) (rw g at p))
 
   -- the event of a step
-  pub through-step : (skipping : Bool) (hand : List ℕ) {r : Step} → r ≡ stepOf skipping hand → Answered s t (telling (r .event) (take (r .length) hand) []) state table x y at next → Answered s t (toldBy skipping hand) state table x y at next
-  through-step skipping hand e p = rw (← e) p
+  pub answered-step : (skipping : Bool) (hand : List ℕ) {r : Step} → r ≡ stepOf skipping hand → Answered e (telling (r .event) (take (r .length) hand) []) left x y at next → Answered e (recordsAt skipping hand) left x y at next
+  answered-step skipping hand h p = rw (← h) p
 
-module _ {s : State} {t : List ℕ} {x : List ℕ} {y : List ℕ} {at : ℕ} {next : ℕ} where
-  pub through-unreadable : (b : List ℕ) {e : Event} → e ≡ event.Unreadable → Puts x y at next (refusedLine 24) 20 → Answered s t (telling e b []) s t x y at next
-  unfolding stateThrough tableThrough answersTo servedState servedTable servedLines
-  through-unreadable b e p = rw e (record { its-state = refl; its-table = refl; its-lines = puts-as (append-nil (refusedLine 24)) (omega arith) p })
+module _ {e : Engine} {x : List ℕ} {y : List ℕ} {at : ℕ} {next : ℕ} where
+  pub answered-unreadable : (b : List ℕ) {v : Event} → v ≡ event.Unreadable → Puts x y at next (refusedLine 24) 20 → Answered e (telling v b []) e x y at next
+  answered-unreadable b h p = rw h (one-answered none (unreadable-answered p))
 
-pub through-nothing : {s : State} {t : List ℕ} {x : List ℕ} {at : ℕ} (b : List ℕ) {e : Event} → e ≡ event.Nothing → Answered s t (telling e b []) s t x x at at
-unfolding stateThrough tableThrough answersTo
-through-nothing b e = rw e (record { its-state = refl; its-table = refl; its-lines = puts-none refl })
+pub answered-nothing : {e : Engine} {x : List ℕ} {at : ℕ} (b : List ℕ) {v : Event} → v ≡ event.Nothing → Answered e (telling v b []) e x x at at
+unfolding engineThrough answersTo
+answered-nothing b h = rw h (record { its-engine = refl; its-lines = puts-none refl })

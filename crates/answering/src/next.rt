@@ -1,15 +1,16 @@
-// One turn through the bytes at hand of a stream of records: the record they begin with, if it ends there, is served.
-use crate::Reply;
+// One step through the bytes at hand of a stream of records: the record they begin with, if it ends there, is served.
 use framing::Event;
+use replies::Reply;
 use state::State;
 ghost use mathlib.Core.List.{[]};
 ghost use Prim.Native.Nat.{_+_, _*_, _≤_};
 ghost use lib.ListN.{length};
 ghost use Rattle.state.specs.Cached.{Cached};
 ghost use Rattle.framing.specs.Framing.{telling};
-ghost use Rattle.answering.specs.Streams.{Answered, TurnServed};
+ghost use Rattle.replies.specs.Records.{engineOf};
+ghost use Rattle.answering.specs.Streams.{Answered, StepServed};
 
-// After a turn: the state, whether it is well formed, whether a record that was answered goes on, how many bytes are done with, and the next place of the buffer.
+// After a step: the state, whether it is well formed, whether a record that was answered goes on, how many bytes are done with, and the next place of the buffer.
 pub struct Progress {
     pub state: State,
     pub formed: bool,
@@ -30,7 +31,7 @@ pub fn answered(
     at: usize,
 ) -> Reply
     requires { ⌜ (at + length (now t) * 9 + 20 ≤ length (now out)) × Cached s (now t) formed (now cache) ⌝ }
-    ensures { λ r. ⌜ Answered s (now (t .entry)) (telling event (now (rec .entry)) []) (r .state) (now (t .exit)) (now (out .entry)) (now (out .exit)) at (r .next) × Cached (r .state) (now (t .exit)) (r .formed) (now (cache .exit)) ⌝ }
+    ensures { λ r. ⌜ Answered (engineOf s (now (t .entry))) (telling event (now (rec .entry)) []) (engineOf (r .state) (now (t .exit))) (now (out .entry)) (now (out .exit)) at (r .next) × Cached (r .state) (now (t .exit)) (r .formed) (now (cache .exit)) ⌝ }
 {
     match event {
         Event::Nothing => Reply {
@@ -47,7 +48,7 @@ pub fn answered(
     }
 }
 
-// The turn.
+// The step.
 pub fn next_record(
     formed: bool,
     cache: &mut [u64],
@@ -59,7 +60,7 @@ pub fn next_record(
     at: usize,
 ) -> Progress
     requires { ⌜ (at + length (now t) * 9 + 20 ≤ length (now out)) × Cached s (now t) formed (now cache) ⌝ }
-    ensures { λ r. ⌜ TurnServed s (now (t .entry)) skipping (now (hand .entry)) r (now (t .exit)) (now (cache .exit)) (now (out .entry)) (now (out .exit)) at ⌝ }
+    ensures { λ r. ⌜ StepServed (engineOf s (now (t .entry))) skipping (now (hand .entry)) r (now (t .exit)) (now (cache .exit)) (now (out .entry)) (now (out .exit)) at ⌝ }
 {
     let step = framing::next_step(skipping, hand);
     let event = step.event;

@@ -8,3 +8,4 @@ pub mod SumLaws
 pub mod SetLaws
 pub mod UnionLaws
 pub mod PasteLaws
+pub mod FillLaws

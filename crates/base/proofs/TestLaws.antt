@@ -55,6 +55,25 @@ all-high f (suc n) z h high = go (ℕ-discrete z (suc n)) (λ l. all-high f n z 
     go (yes p) k = rw p refl
     go (no p) k = rw (high n (omega arith), and-comm (allTo f n) true) (k (omega arith))
 
+-- n tests, of which the first i hold
+pub record AllSoFar (f : ℕ → Bool) (n i : ℕ) : Type 0 where
+  pub so-far : i ≤ n
+  pub hold : allTo f i ≡ true
+
+pub all-start : (f : ℕ → Bool) (n : ℕ) → AllSoFar f n 0
+unfolding allTo
+all-start f n = record { so-far = omega arith; hold = refl }
+
+module _ {f : ℕ → Bool} {n i : ℕ} where
+  pub all-next : AllSoFar f n i → i < n → f i ≡ true → AllSoFar f n (i + 1)
+  all-next p h e = record { so-far = omega arith; hold = all-more f i ∙ rw (p .hold, e) refl }
+
+  pub all-done : AllSoFar f n i → n ≤ i → allTo f n ≡ true
+  all-done p h =
+      let q = p .so-far in
+      let e : i ≡ n = omega arith in
+      rw e at (p .hold)
+
 pub any-more : (f : ℕ → Bool) (n : ℕ) → anyTo f (n + 1) ≡ (anyTo f n || f n)
 unfolding anyTo
 any-more f n = simp add-one

@@ -11,11 +11,11 @@ use lib.Dec.{eqb, ltb}
 use lib.ListN.{getD}
 use borrow.Author.Tests.{ltb-true, ltb-false, eqb-true}
 use Rattle.store.specs.Table.{used, Row, markAt, blockRound}
-use Rattle.store.proofs.MarkLaws.{OnlyMarks, only-all, only-both}
-use Rattle.blocks.specs.Anchors.{takenLeaders}
-use Rattle.blocks.proofs.TakenLaws.{taken-other}
-use Rattle.blocks.specs.Blocks.{newMark, addBlock, countStep, blockStep, countAfter, blocksAfter, commitTable, commitCount}
-use Rattle.blocks.proofs.MarkLaws.{block-only, block-mark, block-round-new, block-round-old}
+use Rattle.writes.proofs.MarkLaws.{OnlyMarks, only-all, only-both}
+use Rattle.histories.specs.Anchors.{takenLeaders}
+use Rattle.histories.proofs.TakenLaws.{taken-other}
+use Rattle.blocks.specs.Blocks.{addBlock, countStep, blockStep, countAfter, blocksAfter, commitTable, commitCount}
+use Rattle.blocks.proofs.MarkLaws.{newMark, block-only, block-mark, block-round-new, block-round-old}
 
 -- after the rounds from m + 1 to r, where there were k blocks on the table t: there are c, on u
 pub record Stage (m k : ℕ) (t : List ℕ) (r c : ℕ) (u : List ℕ) : Type 0 where

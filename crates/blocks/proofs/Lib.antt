@@ -1,6 +1,3 @@
-pub mod HistoryLaws
-pub mod AnchorLaws
-pub mod TakenLaws
 pub mod BlockLaws
 pub mod MarkLaws
 pub mod SeenLaws

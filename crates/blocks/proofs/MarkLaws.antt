@@ -14,12 +14,12 @@ use Rattle.base.proofs.FoldLaws.{fold-kept}
 use Rattle.base.specs.Sets.{isIn, only}
 use Rattle.base.proofs.SetLaws.{in-member}
 use Rattle.store.specs.Table.{used, Row, markAt, blockRound}
-use Rattle.store.specs.Writes.{setMark}
-use Rattle.store.proofs.WriteLaws.{samePlace, same-place}
-use Rattle.store.proofs.MarkLaws.{OnlyMarks, only-all, only-both, only-if, only-mark, only-block, mark-same, mark-other, mark-block, block-round-same, block-round-other, block-round-mark}
-use Rattle.blocks.specs.History.{below, inHistory}
-use Rattle.blocks.proofs.HistoryLaws.{history-split, history-above, history-marked}
-use Rattle.blocks.specs.Blocks.{newMark, markPlace, markRow, markHistory, addBlock}
+use Rattle.writes.specs.Writes.{setMark}
+use Rattle.writes.proofs.WriteLaws.{samePlace, same-place}
+use Rattle.writes.proofs.MarkLaws.{OnlyMarks, only-all, only-both, only-if, only-mark, only-block, mark-same, mark-other, mark-block, block-round-same, block-round-other, block-round-mark}
+use Rattle.histories.specs.History.{below}
+use Rattle.histories.proofs.HistoryLaws.{inHistory, history-split, history-above, history-marked}
+use Rattle.blocks.specs.Blocks.{markPlace, markRow, markHistory, addBlock}
 
 -- ---- nothing else changes
 
@@ -51,6 +51,10 @@ unfolding addBlock
 block-only c k a r t h l = only-both (only-history c k r (only a) t l) (only-block c (markHistory k r (only a) t) k r h)
 
 -- ---- marks
+
+-- the mark of a certificate that had m, after block b: b, if it was in no block and is in the history h of b
+abbrev pub newMark : ℕ → Bool → ℕ → ℕ
+newMark b h m = cond (eqb m 0 && h) b m
 
 mark-twice : (b m : ℕ) (x y : Bool) → newMark b x (newMark b y m) ≡ newMark b (y || x) m
 mark-twice b m x y = go (eqb m 0) refl x y

@@ -17,13 +17,13 @@ use Rattle.base.specs.Sets.{isIn, union, common}
 use Rattle.base.proofs.SetLaws.{in-member}
 use Rattle.base.proofs.UnionLaws.{in-none, in-union, in-common}
 use Rattle.store.specs.Table.{Row, markAt, heldAt, previousAt}
-use Rattle.store.specs.Writes.{setMark, setBlock}
-use Rattle.store.proofs.MarkLaws.{only-block, mark-block}
-use Rattle.blocks.specs.History.{below}
-use Rattle.blocks.proofs.HistoryLaws.{below-none, below-marked, in-below}
-use Rattle.blocks.specs.Blocks.{newMark, markPlace, markRow, markHistory}
-use Rattle.blocks.proofs.MarkLaws.{only-row, row-mark}
-use Rattle.blocks.specs.Seen.{Inside, Seen, see}
+use Rattle.writes.specs.Writes.{setMark, setBlock}
+use Rattle.writes.proofs.MarkLaws.{only-block, mark-block}
+use Rattle.histories.specs.History.{below}
+use Rattle.histories.proofs.HistoryLaws.{below-none, below-marked, in-below}
+use Rattle.blocks.specs.Blocks.{markPlace, markRow, markHistory}
+use Rattle.blocks.proofs.MarkLaws.{newMark, only-row, row-mark}
+use Rattle.blocks.specs.Seen.{Inside, Seen}
 
 -- who is reached is reached by one, and so by any set with that one
 below-by : (t : List ℕ) (s r a : ℕ) → isIn (below t s (suc r)) a ≡ true
@@ -35,6 +35,10 @@ below-by t s r a h =
     (x .0, y .0, λ u k. in-below t u r a ∙ rw (z .0) (true-any (λ i. isIn u i && isIn (previousAt t i (suc r)) a) 16 (x .0) (x .1) (rw (k, y .1) refl)))
 
 -- ---- one set more
+
+-- v, and the set s of round r
+unfoldable pub see : List ℕ → ℕ → ℕ → List ℕ
+see v r s = set v r (union (getD v r 0) s)
 
 pub see-is : (v : List ℕ) (r s x : ℕ) → x ≡ union (getD v r 0) s → set v r x ≡ see v r s
 unfolding see

@@ -2,10 +2,11 @@
 use terms::Member;
 use terms::Round;
 ghost use mathlib.Core.Path.{_≡_};
-ghost use Prim.Native.Nat.{_<_, _≤_};
+ghost use Prim.Native.Nat.{_<_};
 ghost use Rattle.store.specs.Table.{Within, Row};
 ghost use Rattle.blocks.specs.Blocks.{markPlace, markRow, markHistory, addBlock};
 ghost use Rattle.blocks.specs.Seen.{Seen};
+ghost use Rattle.blocks.specs.Ready.{HistoryReady, BlockReady};
 
 // Puts the certificate of a and round r into block b, if a is in s and it is in no block yet.
 fn mark_place(t: &mut [u32], b: u32, s: u32, r: Round, a: Member)
@@ -14,7 +15,7 @@ fn mark_place(t: &mut [u32], b: u32, s: u32, r: Round, a: Member)
 {
     if base::has(s, a.0) {
         if store::record::mark(t, a, r) == 0 {
-            store::write::set_mark(t, a, r, b);
+            writes::set_mark(t, a, r, b);
         }
     }
 }
@@ -31,7 +32,7 @@ fn mark_row(t: &mut [u32], b: u32, s: u32, r: Round)
 // Puts what is in no block yet, of the history of the set s of round top, into block b.
 // seen has what earlier walks reached, by round: where a walk reaches nothing else it ends.
 fn mark_history(t: &mut [u32], seen: &mut [u32; 1025], b: u32, s: u32, top: Round)
-    requires { ⌜ (0 < b) × (top .0 ≤ 1024) × Row (now t) (top .0) × Seen (now t) (now seen) (now seen) ⌝ }
+    requires { ⌜ HistoryReady (now t) (now seen) (top .0) × (0 < b) ⌝ }
     ensures { λ _. ⌜ (now (t .exit) ≡ markHistory b (top .0) s (now (t .entry))) × Seen (now (t .exit)) (now (seen .exit)) (now (seen .exit)) ⌝ }
 {
     let mut r = top.0;
@@ -42,7 +43,7 @@ fn mark_history(t: &mut [u32], seen: &mut [u32; 1025], b: u32, s: u32, top: Roun
         if base::shared(here, old) == here {
             return;
         }
-        let next = crate::history::step_down(t, here, Round(r));
+        let next = histories::step_down(t, here, Round(r));
         mark_row(t, b, here, Round(r));
         seen[r as usize] = base::joined(old, here);
         here = next;
@@ -52,10 +53,10 @@ fn mark_history(t: &mut [u32], seen: &mut [u32; 1025], b: u32, s: u32, top: Roun
 
 // Makes block k, of the anchor of author a and round r.
 pub fn add_block(t: &mut [u32], seen: &mut [u32; 1025], k: u32, a: Member, r: Round)
-    requires { ⌜ Within (now t) (a .0) (r .0) × (r .0 ≤ 1024) × (0 < k) × Row (now t) k × Seen (now t) (now seen) (now seen) ⌝ }
+    requires { ⌜ BlockReady (now t) (now seen) k (a .0) (r .0) ⌝ }
     ensures { λ _. ⌜ (now (t .exit) ≡ addBlock k (a .0) (r .0) (now (t .entry))) × Seen (now (t .exit)) (now (seen .exit)) (now (seen .exit)) ⌝ }
 {
     let s = base::just(a.0);
     mark_history(t, seen, k, s, r);
-    store::write::set_block(t, k, r);
+    writes::set_block(t, k, r);
 }

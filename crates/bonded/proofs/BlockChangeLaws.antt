@@ -19,7 +19,7 @@ use Rattle.committee.proofs.OrderLaws.{ordered-rows}
 use Rattle.sheet.specs.declared.Settings.{Settings}
 use Rattle.bonded.specs.BlockChanges.{slotChange, placeChange, recordChange, startAt, blockChange}
 use Rattle.bonded.specs.Links.{Marked}
-use Rattle.bonded.specs.Runs.{turnsOver, rowsOver}
+use Rattle.bonded.specs.Runs.{placesOver, rowsOver}
 use Rattle.bonded.proofs.RunLaws.{SameAt}
 
 -- ---- a place
@@ -80,7 +80,7 @@ same-at t k =
 
 -- by round, then numbers from that of its start on
 pub block-rows : (S : Settings) (t : List ℕ) (k : ℕ) (w : List ℕ) → blockChange S t k w ≡ rowsOver (placeChange t (k + 1)) (startAt S t k) (S .ceiling .0) w
-unfolding blockChange startAt rowsOver turnsOver placeChange
+unfolding blockChange startAt rowsOver placesOver placeChange
 block-rows S t k w =
     let n = S .ceiling .0 in
     let a = startAt S t k in

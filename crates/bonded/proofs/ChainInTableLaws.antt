@@ -16,18 +16,18 @@ use Rattle.committee.proofs.CommitteeLaws.{committee-start, committee-bonded}
 use Rattle.committee.specs.Totals.{TotalBounded}
 use Rattle.bonded.specs.BlockChanges.{blockChange, lastRound, blocksFit}
 use Rattle.bonded.proofs.ChainLaws.{last-none, last-some, fits-at, last-from, bonded-split, after-none, after-more}
-use Rattle.bonded.proofs.BoundLaws.{after-light, bonded-light}
+use Rattle.bonded.proofs.BoundLaws.{after-total, bonded-total}
 use Rattle.bonded.specs.ChainInTable.{ChainInTable, AfterBlocks}
 
 -- settings in range, a table long enough and fitting blocks are enough
-pub readable : (S : Settings) (t : List ℕ) (blocks : ℕ) → SettingsFit S → Row t (S .ceiling .0) → blocksFit (S .ceiling .0) t blocks ≡ true → ChainInTable S t blocks
-readable S t blocks f l e =
+pub chain-in-table : (S : Settings) (t : List ℕ) (blocks : ℕ) → SettingsFit S → Row t (S .ceiling .0) → blocksFit (S .ceiling .0) t blocks ≡ true → ChainInTable S t blocks
+chain-in-table S t blocks f l e =
     record {
       ceiling = f .ceiling-to;
       long = l;
       few = few (ℕ-discrete blocks 0);
       rounds = e;
-      light = sum-le (weightIn (S .weights)) 1000000 16 (f .weight-to);
+      total = sum-le (weightIn (S .weights)) 1000000 16 (f .weight-to);
     }
   where
     few : Dec (blocks ≡ 0) → 2 * blocks < S .ceiling .0
@@ -41,19 +41,19 @@ readable S t blocks f l e =
         omega arith
 
 module _ {S : Settings} {t : List ℕ} {blocks : ℕ} where
-  pub stands-start : (q : ℕ) → AfterBlocks S t blocks q 0 (S .weights)
-  stands-start q = record { within = omega arith; passed = omega (arith, last-none t); weights = sym (after-none S t (S .weights)) }
+  pub after-start : (q : ℕ) → AfterBlocks S t blocks q 0 (S .weights)
+  after-start q = record { within = omega arith; passed = omega (arith, last-none t); weights = sym (after-none S t (S .weights)) }
 
-  pub stands-up : {q k : ℕ} {w : List ℕ} (q′ : ℕ) → q ≤ q′ → AfterBlocks S t blocks q k w → AfterBlocks S t blocks q′ k w
-  stands-up q′ h s = record { within = s .within; passed = let p = s .passed in omega arith; weights = s .weights }
+  pub after-up : {q k : ℕ} {w : List ℕ} (q′ : ℕ) → q ≤ q′ → AfterBlocks S t blocks q k w → AfterBlocks S t blocks q′ k w
+  after-up q′ h s = record { within = s .within; passed = let p = s .passed in omega arith; weights = s .weights }
 
   -- with another bound
-  pub stands-at : {q k : ℕ} {w : List ℕ} (q′ : ℕ) → lastRound t k ≤ q′ → AfterBlocks S t blocks q k w → AfterBlocks S t blocks q′ k w
-  stands-at q′ h s = record { within = s .within; passed = h; weights = s .weights }
+  pub after-at : {q k : ℕ} {w : List ℕ} (q′ : ℕ) → lastRound t k ≤ q′ → AfterBlocks S t blocks q k w → AfterBlocks S t blocks q′ k w
+  after-at q′ h s = record { within = s .within; passed = h; weights = s .weights }
 
   -- no block has a round above the ceiling
-  pub stands-any : {q k : ℕ} {w : List ℕ} → ChainInTable S t blocks → AfterBlocks S t blocks q k w → AfterBlocks S t blocks 1024 k w
-  stands-any {k = k} a s = stands-at 1024 (go (ℕ-discrete k 0)) s
+  pub after-any : {q k : ℕ} {w : List ℕ} → ChainInTable S t blocks → AfterBlocks S t blocks q k w → AfterBlocks S t blocks 1024 k w
+  after-any {k = k} a s = after-at 1024 (go (ℕ-discrete k 0)) s
     where
       go : Dec (k ≡ 0) → lastRound t k ≤ 1024
       go (yes z) = rw (z, last-none t) (omega arith)
@@ -65,8 +65,8 @@ module _ {S : Settings} {t : List ℕ} {blocks : ℕ} where
           rw (last-some t k z) (omega arith)
 
   -- one block more
-  pub stands-next : {q k : ℕ} {w : List ℕ} (v : List ℕ) → k < blocks → blockRound t (k + 1) ≤ q → v ≡ blockChange S t k w → AfterBlocks S t blocks q k w → AfterBlocks S t blocks q (k + 1) v
-  stands-next {q} {k} {w} v h l e s =
+  pub after-next : {q k : ℕ} {w : List ℕ} (v : List ℕ) → k < blocks → blockRound t (k + 1) ≤ q → v ≡ blockChange S t k w → AfterBlocks S t blocks q k w → AfterBlocks S t blocks q (k + 1) v
+  after-next {q} {k} {w} v h l e s =
       record {
         within = omega arith;
         passed = rw (last-some t (k + 1) (λ z. omega arith)) l;
@@ -74,9 +74,9 @@ module _ {S : Settings} {t : List ℕ} {blocks : ℕ} where
       }
 
   -- where no block of a round below s is left, it is the bonded committee of that round
-  pub stands-bonded : {k : ℕ} {w : List ℕ} (s : ℕ) → 1 ≤ s → ChainInTable S t blocks → (k < blocks → s ≤ blockRound t (k + 1)) → AfterBlocks S t blocks (s - 1) k w
+  pub after-bonded : {k : ℕ} {w : List ℕ} (s : ℕ) → 1 ≤ s → ChainInTable S t blocks → (k < blocks → s ≤ blockRound t (k + 1)) → AfterBlocks S t blocks (s - 1) k w
       → w ≡ bondedFrom S (chainOf (S .ceiling .0) t blocks) s
-  stands-bonded {k} {w} s h a f x =
+  after-bonded {k} {w} s h a f x =
       let p = x .passed in
       x .weights ∙ sym (bonded-split S t blocks (a .rounds) s k blocks (x .within) (omega arith) (omega arith) f)
 
@@ -87,31 +87,31 @@ module _ {S : Settings} {t : List ℕ} {blocks : ℕ} where
       go : Dec (S .lookback < q) → committeeOf S (chainOf (S .ceiling .0) t blocks) q ≡ S .weights
       go (yes l) =
           committee-bonded S (chainOf (S .ceiling .0) t blocks) q l
-          ∙ sym (stands-bonded (q - S .lookback) (omega arith) a (λ k. omega (arith, f k)) (stands-start (q - S .lookback - 1)))
+          ∙ sym (after-bonded (q - S .lookback) (omega arith) a (λ k. omega (arith, f k)) (after-start (q - S .lookback - 1)))
       go (no l) = committee-start S (chainOf (S .ceiling .0) t blocks) q (omega arith)
 
   -- before the first block's round it is the starting one
-  pub stands-first : {k : ℕ} {w : List ℕ} → ChainInTable S t blocks → AfterBlocks S t blocks 0 k w → w ≡ S .weights
-  stands-first {k} {w} a s =
+  pub after-first : {k : ℕ} {w : List ℕ} → ChainInTable S t blocks → AfterBlocks S t blocks 0 k w → w ≡ S .weights
+  after-first {k} {w} a s =
       let p = last-from (S .ceiling .0) t blocks (a .rounds) k (s .within) in
       let q = s .passed in
       let e : k ≡ 0 = omega arith in
       s .weights ∙ rw e (after-none S t (S .weights))
 
-  -- it is light, where each word of the table is a 32-bit number
-  pub stands-light : {q k : ℕ} {w : List ℕ} → ((i : ℕ) → getD t i 0 < 4294967296) → ChainInTable S t blocks → AfterBlocks S t blocks q k w → TotalBounded w
-  stands-light {q} {k} {w} words a s =
-      let l = after-light t words S k (S .weights) (a .ceiling) in
-      let h = a .light in
+  -- its total is bounded, where each word of the table is a 32-bit number
+  pub after-bounded : {q k : ℕ} {w : List ℕ} → ((i : ℕ) → getD t i 0 < 4294967296) → ChainInTable S t blocks → AfterBlocks S t blocks q k w → TotalBounded w
+  after-bounded {q} {k} {w} words a s =
+      let l = after-total t words S k (S .weights) (a .ceiling) in
+      let h = a .total in
       record { total = rw (s .weights) (omega arith) }
 
 -- and so is every committee
-pub committee-light : (S : Settings) (t : List ℕ) (blocks r : ℕ) → ((i : ℕ) → getD t i 0 < 4294967296) → ChainInTable S t blocks → TotalBounded (committeeOf S (chainOf (S .ceiling .0) t blocks) r)
-committee-light S t blocks r words a = go (decLt (S .lookback) r)
+pub committee-bounded : (S : Settings) (t : List ℕ) (blocks r : ℕ) → ((i : ℕ) → getD t i 0 < 4294967296) → ChainInTable S t blocks → TotalBounded (committeeOf S (chainOf (S .ceiling .0) t blocks) r)
+committee-bounded S t blocks r words a = go (decLt (S .lookback) r)
   where
     go : Dec (S .lookback < r) → TotalBounded (committeeOf S (chainOf (S .ceiling .0) t blocks) r)
     go (yes h) =
-        let l = bonded-light t words S blocks (r - S .lookback) (a .ceiling) in
-        let s = a .light in
+        let l = bonded-total t words S blocks (r - S .lookback) (a .ceiling) in
+        let s = a .total in
         record { total = rw (committee-bonded S (chainOf (S .ceiling .0) t blocks) r h) (omega arith) }
-    go (no h) = let s = a .light in record { total = rw (committee-start S (chainOf (S .ceiling .0) t blocks) r (omega arith)) (omega arith) }
+    go (no h) = let s = a .total in record { total = rw (committee-start S (chainOf (S .ceiling .0) t blocks) r (omega arith)) (omega arith) }

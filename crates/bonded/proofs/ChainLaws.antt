@@ -17,9 +17,9 @@ use Rattle.store.specs.Table.{blockRound}
 use Rattle.committee.specs.Chain.{blockAt, chainOf}
 use Rattle.committee.proofs.ChainLaws.{block-round, chain-last}
 use Rattle.sheet.specs.declared.Settings.{Settings}
-use Rattle.committee.specs.Committees.{step, bondedFrom, committeeOf, leaderBy, startOf}
+use Rattle.committee.specs.Committees.{bondedFrom, committeeOf, leaderBy, startOf}
 use Rattle.committee.proofs.CommitteeLaws.{committee-start, committee-bonded}
-use Rattle.committee.proofs.BondedLaws.{step-counts, step-waits, bonded-none, bonded-more}
+use Rattle.committee.proofs.BondedLaws.{step, step-counts, step-waits, bonded-none, bonded-more}
 use Rattle.bonded.specs.BlockChanges.{startAt, blockChange, afterBlocks, lastRound, blockFits, blocksFit}
 
 -- ---- the last round

@@ -6,5 +6,3 @@ pub mod ChainInTableLaws
 pub mod StartLaws
 pub mod BoundLaws
 pub mod TotalBound
-pub mod FillLaws
-pub mod CacheLaws

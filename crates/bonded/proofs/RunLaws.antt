@@ -5,13 +5,13 @@ use mathlib.Core.List.{List}
 use Prim.Native.Nat.{ℕ, zero, suc, _+_, _-_, _*_, _/_, _%_, _<_, _≤_}
 use native.Mathlib.Omega.{arith}
 use native.Mathlib.Decide.{decLt}
-use lib.ListN.{getD}
+use lib.ListN.{getD, length}
 use lib.Dec.{leb}
 use borrow.Author.Tests.{lt-ltb, le-ltb, le-leb, lt-leb}
 use Rattle.base.specs.Folds.{foldTo}
 use Rattle.base.proofs.FoldLaws.{fold-more, fold-none, fold-same, fold-high, fold-join}
-use Rattle.bonded.specs.Links.{Marked, Links}
-use Rattle.bonded.specs.Runs.{runOver, rowOver, turnsOver, rowsOver, runEnd, Linked}
+use Rattle.bonded.specs.Links.{Marked, First, Links}
+use Rattle.bonded.specs.Runs.{runOver, rowOver, placesOver, rowsOver, runEnd}
 
 -- ---- one place of a run
 
@@ -45,13 +45,19 @@ module _ (next : List ℕ) (z : ℕ) where
 
 -- ---- linked places
 
+-- the places of block k from a on and below e are linked: p is the first of them
+pub record LinkedFrom (t next : List ℕ) (k a e p : ℕ) : Type 0 where
+  pub first : First t k a e p
+  pub nexts : (q : ℕ) → a ≤ q → q < e → Marked t k q → First t k (q + 1) e (getD next q 0)
+  pub size : e ≤ length next
+
 module _ {t next : List ℕ} {k e : ℕ} where
   -- from the head of a block
-  pub linked-head : {head : List ℕ} → k < 512 → Links t 16 e head next → Linked t next k 16 e (getD head k 0)
+  pub linked-head : {head : List ℕ} → k < 512 → Links t 16 e head next → LinkedFrom t next k 16 e (getD head k 0)
   linked-head h l = record { first = l .heads k h; nexts = λ q x y m. l .nexts k q h x y m; size = l .next-size }
 
   -- from further on, where no place is passed over
-  pub linked-up : {a p : ℕ} (b : ℕ) → a ≤ b → b ≤ p → Linked t next k a e p → Linked t next k b e p
+  pub linked-up : {a p : ℕ} (b : ℕ) → a ≤ b → b ≤ p → LinkedFrom t next k a e p → LinkedFrom t next k b e p
   linked-up b h i l =
       record {
         first = record { from = i; to = l .first .to; here = l .first .here; skipped = λ j x y m. l .first .skipped j (omega arith) y m };
@@ -60,7 +66,7 @@ module _ {t next : List ℕ} {k e : ℕ} where
       }
 
   -- from the next one on
-  pub linked-next : {a p : ℕ} → p < e → Linked t next k a e p → Linked t next k (p + 1) e (getD next p 0)
+  pub linked-next : {a p : ℕ} → p < e → LinkedFrom t next k a e p → LinkedFrom t next k (p + 1) e (getD next p 0)
   linked-next {a} {p} h l =
       let i = l .first .from in
       record { first = l .nexts p i h (l .first .here h); nexts = λ q x y m. l .nexts q (omega arith) y m; size = l .size }
@@ -91,54 +97,54 @@ module _ {A : Type 0} {t : List ℕ} {k : ℕ} {f g : ℕ → A → A} (s : Same
       rw (i, fold-more (λ i. f (y + i)) (p - y) x, j) refl
 
   -- a place of the block, where all below it is done
-  span-turn : (y p : ℕ) (x : A) → Marked t k p → cond (leb y p) (g p (span f y p x)) (span f y p x) ≡ span f y (p + 1) x
-  span-turn y p x m = go (decLt p y)
+  span-place : (y p : ℕ) (x : A) → Marked t k p → cond (leb y p) (g p (span f y p x)) (span f y p x) ≡ span f y (p + 1) x
+  span-place y p x m = go (decLt p y)
     where
       go : Dec (p < y) → cond (leb y p) (g p (span f y p x)) (span f y p x) ≡ span f y (p + 1) x
       go (yes d) = rw (lt-leb y p d) (span-none y p x (omega arith) ∙ sym (span-none y (p + 1) x (omega arith)))
       go (no d) = rw (le-leb y p (omega arith), s .marked p (span f y p x) m) (sym (span-more y p x (omega arith)))
 
   -- rows without a place of the block
-  turns-none : (a r : ℕ) (x : A) → ((i : ℕ) → r * 16 ≤ i → i < r * 16 + 16 → Marked t k i → ⊥) → turnsOver f a r x ≡ x
-  unfolding turnsOver
-  turns-none a r x n = fold-high (λ m. f (r * 16 + (a + m) % 16)) 16 0 x (omega arith) (λ m y b c. s .other (r * 16 + (a + m) % 16) y (n (r * 16 + (a + m) % 16) (omega arith) (omega arith))) ∙ fold-none (λ m. f (r * 16 + (a + m) % 16)) x
+  places-none : (a r : ℕ) (x : A) → ((i : ℕ) → r * 16 ≤ i → i < r * 16 + 16 → Marked t k i → ⊥) → placesOver f a r x ≡ x
+  unfolding placesOver
+  places-none a r x n = fold-high (λ m. f (r * 16 + (a + m) % 16)) 16 0 x (omega arith) (λ m y b c. s .other (r * 16 + (a + m) % 16) y (n (r * 16 + (a + m) % 16) (omega arith) (omega arith))) ∙ fold-none (λ m. f (r * 16 + (a + m) % 16)) x
 
   rows-skip : (a j m : ℕ) (x : A) → j ≤ m → ((i : ℕ) → j * 16 + 16 ≤ i → i < m * 16 + 16 → Marked t k i → ⊥) → rowsOver f a m x ≡ rowsOver f a j x
   unfolding rowsOver
-  rows-skip a j m x h n = fold-high (λ r. turnsOver f a (r + 1)) m j x h (λ r y b c. turns-none a (r + 1) y (λ i u v. n i (omega arith) (omega arith)))
+  rows-skip a j m x h n = fold-high (λ r. placesOver f a (r + 1)) m j x h (λ r y b c. places-none a (r + 1) y (λ i u v. n i (omega arith) (omega arith)))
 
   rows-none : (a : ℕ) (x : A) → rowsOver f a 0 x ≡ x
   unfolding rowsOver
-  rows-none a x = fold-none (λ r. turnsOver f a (r + 1)) x
+  rows-none a x = fold-none (λ r. placesOver f a (r + 1)) x
 
-  rows-more : (a n : ℕ) (x : A) → rowsOver f a (n + 1) x ≡ turnsOver f a (n + 1) (rowsOver f a n x)
+  rows-more : (a n : ℕ) (x : A) → rowsOver f a (n + 1) x ≡ placesOver f a (n + 1) (rowsOver f a n x)
   unfolding rowsOver
-  rows-more a n x = fold-more (λ r. turnsOver f a (r + 1)) n x
+  rows-more a n x = fold-more (λ r. placesOver f a (r + 1)) n x
 
   module _ {next : List ℕ} {e : ℕ} where
     -- from place p on, where all below a is done
-    run-from : (y z n a p : ℕ) (x : A) → a ≤ z → z ≤ e → z ≤ a + n → Linked t next k a e p → runOver g next y z n p (span f y a x) ≡ span f y z x
+    run-from : (y z n a p : ℕ) (x : A) → a ≤ z → z ≤ e → z ≤ a + n → LinkedFrom t next k a e p → runOver g next y z n p (span f y a x) ≡ span f y z x
     run-from y z zero a p x h l u c = let q : a ≡ z = omega arith in run-none g next y z p (span f y a x) ∙ rw q refl
     run-from y z (suc n) a p x h l u c = go (decLt p z) (λ i m. run-from y z n (p + 1) (getD next p 0) x i l m)
       where
         below : span f y p x ≡ span f y a x
         below = span-skip y a p x (c .first .from) (c .first .skipped)
 
-        go : Dec (p < z) → (p + 1 ≤ z → z ≤ p + 1 + n → Linked t next k (p + 1) e (getD next p 0) → runOver g next y z n (getD next p 0) (span f y (p + 1) x) ≡ span f y z x)
+        go : Dec (p < z) → (p + 1 ≤ z → z ≤ p + 1 + n → LinkedFrom t next k (p + 1) e (getD next p 0) → runOver g next y z n (getD next p 0) (span f y (p + 1) x) ≡ span f y z x)
             → runOver g next y z (suc n) p (span f y a x) ≡ span f y z x
         go (yes d) more =
             let i = c .first .from in
             run-step g next y z n p (span f y a x) d
-            ∙ rw (← below) (rw (span-turn y p x (c .first .here (omega arith))) (more (omega arith) (omega arith) (linked-next (omega arith) c)))
+            ∙ rw (← below) (rw (span-place y p x (c .first .here (omega arith))) (more (omega arith) (omega arith) (linked-next (omega arith) c)))
         go (no d) more = run-stop g next y z (suc n) p (span f y a x) (omega arith) ∙ sym (span-skip y a z x h (λ i b q. c .first .skipped i b (omega arith)))
 
-    run-span : (y z n a p : ℕ) (x : A) → a ≤ y → a ≤ z → z ≤ e → z ≤ a + n → Linked t next k a e p → runOver g next y z n p x ≡ span f y z x
+    run-span : (y z n a p : ℕ) (x : A) → a ≤ y → a ≤ z → z ≤ e → z ≤ a + n → LinkedFrom t next k a e p → runOver g next y z n p x ≡ span f y z x
     run-span y z n a p x h i l u c = ap (runOver g next y z n p) (sym (span-none y a x h)) ∙ run-from y z n a p x i l u c
 
     -- a row from member a on
-    row-turns : (a p : ℕ) (x : A) → a ≤ 16 → p / 16 * 16 + 16 ≤ e → Linked t next k (p / 16 * 16) e p → rowOver g next a p x ≡ turnsOver f a (p / 16) x
-    unfolding rowOver turnsOver
-    row-turns a p x h l c =
+    row-places : (a p : ℕ) (x : A) → a ≤ 16 → p / 16 * 16 + 16 ≤ e → LinkedFrom t next k (p / 16 * 16) e p → rowOver g next a p x ≡ placesOver f a (p / 16) x
+    unfolding rowOver placesOver
+    row-places a p x h l c =
         let r = p / 16 * 16 in
         let u = span f (r + a) (r + 16) x in
         let i : r + 16 - (r + a) ≡ 16 - a = omega arith in
@@ -154,30 +160,30 @@ module _ {A : Type 0} {t : List ℕ} {k : ℕ} {f g : ℕ → A → A} (s : Same
         ∙ rw m refl)
 
     -- up to the row of the first place nothing is done
-    pub rows-first : (a p : ℕ) (x : A) → Linked t next k 16 e p → rowsOver f a (p / 16 - 1) x ≡ x
+    pub rows-first : (a p : ℕ) (x : A) → LinkedFrom t next k 16 e p → rowsOver f a (p / 16 - 1) x ≡ x
     rows-first a p x c =
         let h = c .first .from in
         rows-skip a 0 (p / 16 - 1) x (omega arith) (λ i u v. c .first .skipped i (omega arith) (omega arith)) ∙ rows-none a x
 
     -- from the row of one place to that of the next one after it: that row is done
-    pub rows-turn : (a p q : ℕ) (x : A) → 16 ≤ p → Linked t next k (p / 16 * 16 + 16) e q → rowsOver f a (q / 16 - 1) x ≡ turnsOver f a (p / 16) (rowsOver f a (p / 16 - 1) x)
-    rows-turn a p q x low d =
+    pub rows-step : (a p q : ℕ) (x : A) → 16 ≤ p → LinkedFrom t next k (p / 16 * 16 + 16) e q → rowsOver f a (q / 16 - 1) x ≡ placesOver f a (p / 16) (rowsOver f a (p / 16 - 1) x)
+    rows-step a p q x low d =
         let i = d .first .from in
         let j : p / 16 - 1 + 1 ≡ p / 16 = omega arith in
-        let m : rowsOver f a (p / 16) x ≡ turnsOver f a (p / 16) (rowsOver f a (p / 16 - 1) x) = rw j at (rows-more a (p / 16 - 1) x) in
+        let m : rowsOver f a (p / 16) x ≡ placesOver f a (p / 16) (rowsOver f a (p / 16 - 1) x) = rw j at (rows-more a (p / 16 - 1) x) in
         rows-skip a (p / 16) (q / 16 - 1) x (omega arith) (λ v b u. d .first .skipped v (omega arith) (omega arith)) ∙ m
 
     -- going by the links
-    pub rows-next : (a p q : ℕ) (x : A) → a ≤ 16 → 16 ≤ p → p / 16 * 16 + 16 ≤ e → Linked t next k (p / 16 * 16) e p → Linked t next k (p / 16 * 16 + 16) e q
+    pub rows-next : (a p q : ℕ) (x : A) → a ≤ 16 → 16 ≤ p → p / 16 * 16 + 16 ≤ e → LinkedFrom t next k (p / 16 * 16) e p → LinkedFrom t next k (p / 16 * 16 + 16) e q
         → rowsOver f a (q / 16 - 1) x ≡ rowOver g next a p (rowsOver f a (p / 16 - 1) x)
-    rows-next a p q x h low l c d = rows-turn a p q x low d ∙ sym (row-turns a p (rowsOver f a (p / 16 - 1) x) h l c)
+    rows-next a p q x h low l c d = rows-step a p q x low d ∙ sym (row-places a p (rowsOver f a (p / 16 - 1) x) h l c)
 
 -- the first place after a run is linked too
 module _ {t next : List ℕ} {k e : ℕ} (z : ℕ) where
-  pub end-linked : (n a p : ℕ) → a ≤ z → z ≤ e → z ≤ a + n → Linked t next k a e p → Linked t next k z e (runEnd next z n p)
+  pub end-linked : (n a p : ℕ) → a ≤ z → z ≤ e → z ≤ a + n → LinkedFrom t next k a e p → LinkedFrom t next k z e (runEnd next z n p)
   end-linked zero a p h l u c = let q : a ≡ z = omega arith in rw (end-none next z p, ← q) c
   end-linked (suc n) a p h l u c = go (decLt p z) (λ i m. end-linked n (p + 1) (getD next p 0) i l m)
     where
-      go : Dec (p < z) → (p + 1 ≤ z → z ≤ p + 1 + n → Linked t next k (p + 1) e (getD next p 0) → Linked t next k z e (runEnd next z n (getD next p 0))) → Linked t next k z e (runEnd next z (suc n) p)
+      go : Dec (p < z) → (p + 1 ≤ z → z ≤ p + 1 + n → LinkedFrom t next k (p + 1) e (getD next p 0) → LinkedFrom t next k z e (runEnd next z n (getD next p 0))) → LinkedFrom t next k z e (runEnd next z (suc n) p)
       go (yes d) more = let i = c .first .from in rw (end-step next z n p d) (more (omega arith) (omega arith) (linked-next (omega arith) c))
       go (no d) more = rw (end-stop next z (suc n) p (omega arith)) (linked-up z h (omega arith) c)

@@ -1,4 +1,4 @@
--- Laws of the starts that are known beside a running committee.
+-- Laws of the starts that are written beside a running committee.
 use mathlib.Core.Path.{_≡_, sym, _∙_}
 use mathlib.Core.List.{List}
 use Prim.Native.Nat.{ℕ, zero, suc, _+_, _-_, _<_, _≤_}
@@ -16,8 +16,8 @@ use Rattle.bonded.proofs.BlockChangeLaws.{block-rows}
 use Rattle.bonded.specs.Runs.{rowsOver}
 use Rattle.bonded.proofs.ChainLaws.{last-some, fits-at, start-now}
 use Rattle.bonded.specs.ChainInTable.{ChainInTable, AfterBlocks}
-use Rattle.bonded.proofs.ChainInTableLaws.{stands-start, stands-up, stands-at, stands-next}
-use Rattle.bonded.specs.Starts.{Started, Running}
+use Rattle.bonded.proofs.ChainInTableLaws.{after-start, after-up, after-at, after-next}
+use Rattle.bonded.specs.Starts.{Started, Running, StartsAhead}
 
 -- a start is the number of a member, or 16 for none
 pub start-le : (S : Settings) (t : List ℕ) (k : ℕ) → startAt S t k ≤ 16
@@ -50,9 +50,9 @@ module _ {S : Settings} {t : List ℕ} {blocks : ℕ} where
           let r : blockRound t (i + 1) < blockRound t (suc i + 1) = rw j at q in
           omega arith
 
-  -- none is known yet
+  -- none is written yet
   pub started-none : (n : ℕ) → Started S t blocks 0 0 (replicate 512 n)
-  started-none n = record { size = length-replicate 512 n; from = omega arith; to = omega arith; known = λ i h. absurd (omega arith); ahead = λ h. absurd (omega arith) }
+  started-none n = record { size = length-replicate 512 n; from = omega arith; to = omega arith; written = λ i h. absurd (omega arith); ahead = λ h. absurd (omega arith) }
 
   -- one start more: that of a block within lookback rounds of the one to be applied next
   pub started-next : {k i : ℕ} {q : ℕ} {w : List ℕ} {starts : List ℕ} {v : ℕ} → ChainInTable S t blocks → i < blocks → blockRound t (i + 1) ≤ blockRound t (k + 1) + S .lookback → v ≡ leaderBy w (blockRound t (i + 1))
@@ -62,7 +62,7 @@ module _ {S : Settings} {t : List ℕ} {blocks : ℕ} where
         size = length-set starts i v ∙ s .size;
         from = let l = s .from in omega arith;
         to = omega arith;
-        known = λ j l. go j l (ℕ-discrete j i);
+        written = λ j l. go j l (ℕ-discrete j i);
         ahead = λ z l. let p = s .ahead z h in let r = round-next a i l in omega arith;
       }
     where
@@ -74,38 +74,40 @@ module _ {S : Settings} {t : List ℕ} {blocks : ℕ} where
 
       go : (j : ℕ) → j < i + 1 → Dec (j ≡ i) → getD (set starts i v) j 0 ≡ startAt S t j
       go j l (yes d) = rw (d, getD-set-same starts i v 0 (let z = s .size in let f = few in omega arith)) start
-      go j l (no d) = getD-set-other starts i j v 0 d ∙ s .known j (omega arith)
+      go j l (no d) = getD-set-other starts i j v 0 d ∙ s .written j (omega arith)
 
-  -- one block more is applied: the starts known are enough where the next one lies more than lookback rounds after it
-  pub started-applied : {k f : ℕ} {starts : List ℕ} → k < f → (f < blocks → blockRound t (k + 1) + S .lookback < blockRound t (f + 1)) → Started S t blocks k f starts → Started S t blocks (k + 1) f starts
-  started-applied {k} h l s =
+  -- one block more is applied
+  started-applied : {k f : ℕ} {starts : List ℕ} → StartsAhead S t blocks k f starts → Started S t blocks (k + 1) f starts
+  started-applied {k} a =
+      let s = a .started in
+      let o = a .own in
       record {
         size = s .size;
         from = omega arith;
         to = s .to;
-        known = s .known;
-        ahead = λ _ u. rw (last-some t (k + 1) (λ z. omega arith)) (l u);
+        written = s .written;
+        ahead = λ _ u. rw (last-some t (k + 1) (λ z. omega arith)) (a .ahead u);
       }
 
   -- one block more, in its own order
-  pub running-next : {k f : ℕ} {w v starts : List ℕ} → ChainInTable S t blocks → k < blocks → AfterBlocks S t blocks 1024 k w → Started S t blocks k f starts → k < f
-      → (f < blocks → blockRound t (k + 1) + S .lookback < blockRound t (f + 1)) → v ≡ rowsOver (placeChange t (k + 1)) (getD starts k 0) (S .ceiling .0) w
+  pub running-next : {k f : ℕ} {w v starts : List ℕ} → ChainInTable S t blocks → k < blocks → AfterBlocks S t blocks 1024 k w → StartsAhead S t blocks k f starts
+      → v ≡ rowsOver (placeChange t (k + 1)) (getD starts k 0) (S .ceiling .0) w
       → Running S t blocks 1024 (record { blocks = k + 1; starts = f }) v starts
-  running-next {k} {f} {w} {v} {starts} a h x s l ahead e =
+  running-next {k} {f} {w} {v} {starts} a h x s e =
       let b = fits-at (S .ceiling .0) t blocks (a .rounds) k h .below in
       let c = a .ceiling in
       record {
-        stands = stands-next v h (omega arith) (e ∙ rw (s .known k l) (sym (block-rows S t k w))) x;
-        started = started-applied l ahead s;
+        after = after-next v h (omega arith) (e ∙ rw (s .started .written k (s .own)) (sym (block-rows S t k w))) x;
+        started = started-applied s;
       }
 
   -- where the last block's round is below q
   pub running-below : (k q : ℕ) {y : Applied} {w starts : List ℕ} → y .blocks ≡ k + 1 → blockRound t (k + 1) < q → Running S t blocks 1024 y w starts → Running S t blocks (q - 1) y w starts
-  running-below k q e h r = record { stands = stands-at (q - 1) (rw (e, last-some t (k + 1) (λ z. omega arith)) (omega arith)) (r .stands); started = r .started }
+  running-below k q e h r = record { after = after-at (q - 1) (rw (e, last-some t (k + 1) (λ z. omega arith)) (omega arith)) (r .after); started = r .started }
 
   -- at the start
   pub running-none : {x : Applied} {w starts : List ℕ} (q : ℕ) → (x .blocks ≡ 0) × (x .starts ≡ 0) → w ≡ S .weights → Started S t blocks 0 0 starts → Running S t blocks q x w starts
-  running-none q z e s = record { stands = rw (z .0, e) (stands-start q); started = rw (z .0, z .1) s }
+  running-none q z e s = record { after = rw (z .0, e) (after-start q); started = rw (z .0, z .1) s }
 
   pub running-up : {q : ℕ} {x : Applied} {w starts : List ℕ} (q′ : ℕ) → q ≤ q′ → Running S t blocks q x w starts → Running S t blocks q′ x w starts
-  running-up q′ h r = record { stands = stands-up q′ h (r .stands); started = r .started }
+  running-up q′ h r = record { after = after-up q′ h (r .after); started = r .started }

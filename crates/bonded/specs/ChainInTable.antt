@@ -1,4 +1,4 @@
--- What the walk over the table relies on, which a well-formed state gives; and where a running committee stands.
+-- What the walk over the table relies on, which a well-formed state gives; and a committee after the first blocks.
 use mathlib.Core.Path.{_≡_}
 use mathlib.Core.Bool.{true}
 use mathlib.Core.List.{List}
@@ -13,7 +13,7 @@ pub record ChainInTable (S : Settings) (t : List ℕ) (blocks : ℕ) : Type 0 wh
   pub long : Row t (S .ceiling .0)
   pub few : 2 * blocks < S .ceiling .0
   pub rounds : blocksFit (S .ceiling .0) t blocks ≡ true
-  pub light : totalIn (S .weights) ≤ 16000000
+  pub total : totalIn (S .weights) ≤ 16000000
 
 -- the starting weights, changed by the first k blocks, none of which has a round above q
 pub record AfterBlocks (S : Settings) (t : List ℕ) (blocks q k : ℕ) (w : List ℕ) : Type 0 where

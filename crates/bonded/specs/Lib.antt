@@ -1,8 +1,9 @@
 pub mod BlockChanges
 pub mod Links
+pub mod Rows
+pub mod Ready
 pub mod Runs
 pub mod ChainInTable
 pub mod Starts
-pub mod Fill
-pub mod Caches
+pub mod Walks
 pub mod Pairs

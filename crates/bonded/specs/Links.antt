@@ -6,13 +6,6 @@ use Prim.Native.Nat.{ℕ, _+_, _/_, _%_, _<_, _≤_}
 use lib.ListN.{getD, length}
 use Rattle.store.specs.Table.{heldAt, markAt}
 
--- how many places there are in the rounds from 0 up to 64, and up to 1,024
-abbrev pub fewPlaces : ℕ
-fewPlaces = 1040
-
-abbrev pub manyPlaces : ℕ
-manyPlaces = 16400
-
 -- the place of member m and round r is number 16 r + m; it has a certificate of block k
 pub record Marked (t : List ℕ) (k p : ℕ) : Type 0 where
   pub held : heldAt t (p % 16) (p / 16) ≡ true

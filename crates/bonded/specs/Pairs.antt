@@ -11,5 +11,5 @@ use Rattle.bonded.specs.declared.Pair.{Pair}
 pub record PairOf (S : Settings) (c : Chain Content) (r : ℕ) (p : Pair) : Type 0 where
   pub before : p .before ≡ committeeOf S c (r - 1)
   pub at : p .at ≡ committeeOf S c r
-  pub light-before : TotalBounded (p .before)
-  pub light-at : TotalBounded (p .at)
+  pub bounded-before : TotalBounded (p .before)
+  pub bounded-at : TotalBounded (p .at)

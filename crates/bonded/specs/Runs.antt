@@ -1,11 +1,10 @@
 -- Places one after the other: those of a block are linked by next, rising; each of its rows is taken from a member on, with 0 after 15. The place of member m and round r is number 16 r + m.
 use mathlib.Core.Bool.{cond}
 use mathlib.Core.List.{List}
-use Prim.Native.Nat.{ℕ, zero, suc, _+_, _*_, _/_, _%_, _<_, _≤_}
-use lib.ListN.{getD, length}
+use Prim.Native.Nat.{ℕ, zero, suc, _+_, _*_, _/_, _%_}
+use lib.ListN.{getD}
 use lib.Dec.{leb, ltb}
 use Rattle.base.specs.Folds.{foldTo}
-use Rattle.bonded.specs.Links.{Marked, First}
 
 module _ {A : Type 0} (f : ℕ → A → A) where
   -- ---- along the links
@@ -22,20 +21,14 @@ module _ {A : Type 0} (f : ℕ → A → A) where
   -- ---- place by place
 
   -- what f does at each place of round r, from member a on, with 0 after 15
-  unfoldable pub turnsOver : ℕ → ℕ → A → A
-  turnsOver a r x = foldTo (λ m. f (r * 16 + (a + m) % 16)) 16 x
+  unfoldable pub placesOver : ℕ → ℕ → A → A
+  placesOver a r x = foldTo (λ m. f (r * 16 + (a + m) % 16)) 16 x
 
   -- and of the rounds 1 to n
   unfoldable pub rowsOver : ℕ → ℕ → A → A
-  rowsOver a n x = foldTo (λ r. turnsOver a (r + 1)) n x
+  rowsOver a n x = foldTo (λ r. placesOver a (r + 1)) n x
 
 -- where the first such place at or above z lies, going by next
 unfoldable pub runEnd : List ℕ → ℕ → ℕ → ℕ → ℕ
 runEnd next z zero q = q
 runEnd next z (suc n) q = cond (ltb q z) (runEnd next z n (getD next q 0)) q
-
--- the places of block k from a on and below e are linked: p is the first of them
-pub record Linked (t next : List ℕ) (k a e p : ℕ) : Type 0 where
-  pub first : First t k a e p
-  pub nexts : (q : ℕ) → a ≤ q → q < e → Marked t k q → First t k (q + 1) e (getD next q 0)
-  pub size : e ≤ length next

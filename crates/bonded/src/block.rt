@@ -4,19 +4,17 @@ use terms::Member;
 use terms::Round;
 ghost use mathlib.Core.Path.{_≡_};
 ghost use mathlib.Core.Bool.{cond};
-ghost use Prim.Native.Nat.{_+_, _-_, _*_, _/_, _%_, _<_, _≤_};
-ghost use lib.ListN.{length};
+ghost use Prim.Native.Nat.{_+_, _*_, _/_, _%_};
 ghost use lib.Dec.{leb};
-ghost use Rattle.store.specs.Table.{Row, Within, countAt, contentAt};
+ghost use Rattle.store.specs.Table.{contentAt};
 ghost use Rattle.committee.specs.Changes.{changes};
-ghost use Rattle.committee.specs.Totals.{totalIn};
 ghost use Rattle.bonded.specs.BlockChanges.{slotChange, placeChange, recordChange};
 ghost use Rattle.bonded.specs.Runs.{runOver, rowOver, rowsOver, runEnd};
-ghost use Rattle.bonded.specs.Links.{manyPlaces, Links};
+ghost use Rattle.bonded.specs.Ready.{SlotReady, RecordReady, RunReady, RowReady, BlockReady};
 
 // Slot k of a record that has n transactions.
 fn apply_slot(t: &[u32], m: Member, r: Round, n: u32, k: u32, w: &mut [u64; 16])
-    requires { ⌜ Within (now t) (m .0) (r .0) × (n ≡ countAt (now t) (m .0) (r .0)) × (k ≤ 3) × (totalIn (now w) ≤ 4611686018427387904) ⌝ }
+    requires { ⌜ SlotReady (now t) (m .0) (r .0) n k (now w) ⌝ }
     ensures { λ _. ⌜ now (w .exit) ≡ slotChange (now (t .entry)) (m .0) (r .0) k (now (w .entry)) ⌝ }
 {
     let kind = store::record::kind_at(t, m, r, k);
@@ -27,7 +25,7 @@ fn apply_slot(t: &[u32], m: Member, r: Round, n: u32, k: u32, w: &mut [u64; 16])
 
 // The transactions of a record, in order. All four slots are looked at, however many there are.
 fn apply_record(t: &[u32], m: Member, r: Round, w: &mut [u64; 16])
-    requires { ⌜ Within (now t) (m .0) (r .0) × (totalIn (now w) ≤ 2305843009213693952) ⌝ }
+    requires { ⌜ RecordReady (now t) (m .0) (r .0) (now w) ⌝ }
     ensures { λ _. ⌜ now (w .exit) ≡ changes (contentAt (now (t .entry)) (m .0) (r .0) .transactions) (now (w .entry)) ⌝ }
 {
     let n = store::record::count(t, m, r);
@@ -39,9 +37,9 @@ fn apply_record(t: &[u32], m: Member, r: Round, w: &mut [u64; 16])
     }
 }
 
-// A place that comes while a run goes on: it counts unless it is below y.
-fn apply_turn(t: &[u32], y: u32, p: u32, w: &mut [u64; 16])
-    requires { ⌜ Within (now t) (p % 16) (p / 16) × (totalIn (now w) ≤ 2305843009213693952) ⌝ }
+// A place that comes while a run goes on: it counts from y on.
+fn apply_from(t: &[u32], y: u32, p: u32, w: &mut [u64; 16])
+    requires { ⌜ RecordReady (now t) (p % 16) (p / 16) (now w) ⌝ }
     ensures { λ _. ⌜ now (w .exit) ≡ cond (leb y p) (recordChange (now (t .entry)) p (now (w .entry))) (now (w .entry)) ⌝ }
 {
     if p < y {
@@ -52,7 +50,7 @@ fn apply_turn(t: &[u32], y: u32, p: u32, w: &mut [u64; 16])
 
 // The places of a row from p on, one after the other: those below z and not below y. Gives the first one from z on.
 fn apply_run(t: &[u32], next: &[u32], y: u32, z: u32, p: u32, w: &mut [u64; 16]) -> u32
-    requires { ⌜ (z ≤ length (now next)) × Row (now t) ((z - 1) / 16) × (totalIn (now w) ≤ 1152921504606846976) ⌝ }
+    requires { ⌜ RunReady (now t) (now next) z (now w) ⌝ }
     ensures { λ v. ⌜ (now (w .exit) ≡ runOver (recordChange (now (t .entry))) (now (next .entry)) y z 16 p (now (w .entry))) × (v ≡ runEnd (now (next .entry)) z 16 p) ⌝ }
 {
     let mut q = p;
@@ -60,7 +58,7 @@ fn apply_run(t: &[u32], next: &[u32], y: u32, z: u32, p: u32, w: &mut [u64; 16])
         if z <= q {
             return q;
         }
-        apply_turn(t, y, q, w);
+        apply_from(t, y, q, w);
         q = next[q as usize];
     }
     q
@@ -68,7 +66,7 @@ fn apply_run(t: &[u32], next: &[u32], y: u32, z: u32, p: u32, w: &mut [u64; 16])
 
 // The places of the row of place p: from member a on, then those below it. Gives the first one after the row.
 fn apply_row(t: &[u32], next: &[u32], a: Member, p: u32, w: &mut [u64; 16]) -> u32
-    requires { ⌜ (a .0 ≤ 16) × (p < manyPlaces) × (p / 16 * 16 + 16 ≤ length (now next)) × Row (now t) (p / 16) × (totalIn (now w) ≤ 1125899906842624) ⌝ }
+    requires { ⌜ RowReady (now t) (now next) (a .0) (p / 16) (now w) ⌝ }
     ensures { λ v. ⌜ (now (w .exit) ≡ rowOver (recordChange (now (t .entry))) (now (next .entry)) (a .0) p (now (w .entry))) × (v ≡ runEnd (now (next .entry)) (p / 16 * 16 + 16) 16 p) ⌝ }
 {
     let row = p / 16 * 16;
@@ -87,7 +85,7 @@ pub fn apply_block(
     n: Round,
     w: &mut [u64; 16],
 )
-    requires { ⌜ Row (now t) (n .0) × (n .0 ≤ 1024) × (b < 512) × (a .0 ≤ 16) × Links (now t) 16 (n .0 * 16 + 16) (now head) (now next) × (totalIn (now w) ≤ 562949953421312) ⌝ }
+    requires { ⌜ BlockReady (now t) (now head) (now next) b (a .0) (n .0) (now w) ⌝ }
     ensures { λ _. ⌜ now (w .exit) ≡ rowsOver (placeChange (now (t .entry)) b) (a .0) (n .0) (now (w .entry)) ⌝ }
 {
     let end = n.0 * 16 + 16;

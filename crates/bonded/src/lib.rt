@@ -1,8 +1,6 @@
-// The committees and leaders of rounds, from the chain in the table (scope document: Committees, quorums, leaders).
+// The committees of rounds, from the chain in the table (scope document: Committees, quorums, leaders).
 // Its cost is that of one pass over the header of each row and each held certificate, of one leader for each block, and of at most two looks at each certificate in a block.
 pub mod block;
-pub mod cache;
-pub mod leaders;
 pub mod links;
 pub mod running;
 pub mod starts;
@@ -11,8 +9,7 @@ use sheet::Settings;
 use terms::Round;
 ghost use mathlib.Core.Path.{_≡_};
 ghost use mathlib.Core.Bool.{true};
-ghost use Prim.Native.Nat.{ℕ, _+_, _-_, _*_, _<_, _≤_};
-ghost use lib.ListN.{length};
+ghost use Prim.Native.Nat.{ℕ, _-_, _<_, _≤_};
 ghost use Rattle.store.specs.Table.{Row};
 ghost use Rattle.committee.specs.Chain.{chainOf};
 ghost use Rattle.committee.specs.Committees.{committeeOf, knownBy};
@@ -20,6 +17,8 @@ ghost use Rattle.committee.specs.Totals.{TotalBounded};
 ghost use Rattle.bonded.specs.BlockChanges.{lastRound, blockFits, blocksFit};
 ghost use Rattle.bonded.specs.Pairs.{PairOf};
 ghost use Rattle.bonded.specs.ChainInTable.{ChainInTable};
+ghost use Rattle.bonded.specs.Rows.{RowsTo};
+ghost use Rattle.bonded.specs.Walks.{WalkRoom};
 
 // The committees of a round and of the one before it.
 pub struct Pair {
@@ -27,7 +26,7 @@ pub struct Pair {
     pub at: [u64; 16],
 }
 
-// How many blocks are applied, and of how many the starts are known.
+// How many blocks are applied, and of how many the starts are written.
 pub struct Applied {
     pub blocks: u32,
     pub starts: u32,
@@ -46,7 +45,7 @@ pub fn last_round(t: &[u32], k: u32) -> Round
 
 // Has the block after the first k an even round, above that of the block before and below the ceiling n?
 fn block_fits(t: &[u32], k: u32, n: Round) -> bool
-    requires { ⌜ Row (now t) (n .0) × (n .0 ≤ 1024) × (k < n .0) ⌝ }
+    requires { ⌜ RowsTo (now t) (n .0) × (k < n .0) ⌝ }
     ensures { λ v. ⌜ v ≡ blockFits (n .0) (now (t .entry)) k ⌝ }
 {
     let r = store::block_round(t, k + 1);
@@ -62,7 +61,7 @@ fn block_fits(t: &[u32], k: u32, n: Round) -> bool
 
 // Are the block rounds even, rising and below the ceiling n?
 pub fn blocks_fit(t: &[u32], blocks: u32, n: Round) -> bool
-    requires { ⌜ Row (now t) (n .0) × (n .0 ≤ 1024) × (blocks ≤ n .0) ⌝ }
+    requires { ⌜ RowsTo (now t) (n .0) × (blocks ≤ n .0) ⌝ }
     ensures { λ v. ⌜ v ≡ blocksFit (n .0) (now (t .entry)) blocks ⌝ }
 {
     for k in 0..blocks {
@@ -89,7 +88,7 @@ fn is_starting(t: &[u32], s: Settings, blocks: u32, r: Round) -> bool
 }
 
 // The round before r; 0 has none and stays.
-fn round_before(r: Round) -> Round
+pub fn round_before(r: Round) -> Round
     ensures { λ v. ⌜ v .0 ≡ r .0 - 1 ⌝ }
 {
     if r.0 == 0 {
@@ -100,7 +99,7 @@ fn round_before(r: Round) -> Round
 
 // Both committees by a walk over the blocks; next has a word for each place.
 fn walked(t: &[u32], s: Settings, blocks: u32, r: Round, next: &mut [u32]) -> Pair
-    requires { ⌜ ChainInTable s (now t) blocks × (s .ceiling .0 * 16 + 16 ≤ length (now next)) ⌝ }
+    requires { ⌜ WalkRoom s (now t) blocks (now next) ⌝ }
     ensures { λ p. ⌜ PairOf s (chainOf (s .ceiling .0) (now (t .entry)) blocks) (r .0) p ⌝ }
 {
     let mut w = s.weights;

@@ -5,7 +5,7 @@ use terms::Round;
 ghost use mathlib.Core.Path.{_≡_};
 ghost use Prim.Native.Nat.{ℕ, _+_, _*_, _<_, _≤_};
 ghost use lib.ListN.{getD, set, length};
-ghost use Rattle.store.specs.Table.{Row, Within};
+ghost use Rattle.bonded.specs.Rows.{RowsTo, RowRoom};
 ghost use Rattle.bonded.specs.Links.{Links};
 ghost use Rattle.bonded.specs.Runs.{runEnd};
 
@@ -27,7 +27,7 @@ fn link(head: &mut [u32; 512], next: &mut [u32], k: u32, p: u32)
 
 // A place, if it is held and in a block.
 fn link_place(t: &[u32], head: &mut [u32; 512], next: &mut [u32], m: Member, r: Round)
-    requires { ⌜ Within (now t) (m .0) (r .0) × (r .0 ≤ 1024) × (r .0 * 16 + 16 ≤ length (now next)) ⌝ }
+    requires { ⌜ RowRoom (now t) (now next) (r .0) × (m .0 < 16) ⌝ }
     ensures { λ _. ⌜ ((e : ℕ) → Links (now (t .entry)) (r .0 * 16 + m .0 + 1) e (now (head .entry)) (now (next .entry)) → Links (now (t .entry)) (r .0 * 16 + m .0) e (now (head .exit)) (now (next .exit))) ⌝ }
 {
     if !store::held(t, m, r) {
@@ -42,7 +42,7 @@ fn link_place(t: &[u32], head: &mut [u32; 512], next: &mut [u32], m: Member, r: 
 
 // The places of a row.
 fn link_row(t: &[u32], head: &mut [u32; 512], next: &mut [u32], r: Round)
-    requires { ⌜ Row (now t) (r .0) × (r .0 ≤ 1024) × (r .0 * 16 + 16 ≤ length (now next)) ⌝ }
+    requires { ⌜ RowRoom (now t) (now next) (r .0) ⌝ }
     ensures { λ _. ⌜ ((e : ℕ) → Links (now (t .entry)) (r .0 * 16 + 16) e (now (head .entry)) (now (next .entry)) → Links (now (t .entry)) (r .0 * 16) e (now (head .exit)) (now (next .exit))) ⌝ }
 {
     if store::held_set(t, r) == 0 {
@@ -55,7 +55,7 @@ fn link_row(t: &[u32], head: &mut [u32; 512], next: &mut [u32], r: Round)
 
 // The places of the rounds 1 to n.
 pub fn link_rows(t: &[u32], head: &mut [u32; 512], next: &mut [u32], n: Round)
-    requires { ⌜ Row (now t) (n .0) × (n .0 ≤ 1024) × Links (now t) (n .0 * 16 + 16) (n .0 * 16 + 16) (now head) (now next) ⌝ }
+    requires { ⌜ RowsTo (now t) (n .0) × Links (now t) (n .0 * 16 + 16) (n .0 * 16 + 16) (now head) (now next) ⌝ }
     ensures { λ _. ⌜ Links (now (t .entry)) 16 (n .0 * 16 + 16) (now (head .exit)) (now (next .exit)) ⌝ }
 {
     let end = n.0;

@@ -5,13 +5,11 @@ use sheet::Settings;
 use terms::Member;
 use terms::Round;
 ghost use mathlib.Core.Path.{_≡_};
-ghost use Prim.Native.Nat.{_+_, _-_, _*_, _<_, _≤_};
-ghost use Rattle.store.specs.Table.{blockRound};
+ghost use Prim.Native.Nat.{_+_, _-_, _<_, _≤_};
 ghost use Rattle.committee.specs.Chain.{chainOf};
 ghost use Rattle.committee.specs.Committees.{bondedFrom, committeeOf};
-ghost use Rattle.bonded.specs.ChainInTable.{ChainInTable, AfterBlocks};
-ghost use Rattle.bonded.specs.Starts.{Started, Running};
-ghost use Rattle.bonded.specs.Links.{Links};
+ghost use Rattle.bonded.specs.Starts.{Running, BeforeBlock, StartsAhead};
+ghost use Rattle.bonded.specs.Walks.{Walking};
 
 // None yet.
 pub fn none() -> Applied
@@ -23,7 +21,7 @@ pub fn none() -> Applied
     }
 }
 
-// Tells the starts of the blocks up to lookback rounds after the one that comes after the first k, where those of the first f are known; gives of how many they are known then.
+// Writes the starts of the blocks up to lookback rounds after the one that comes after the first k, where those of the first f are written; gives of how many they are written then.
 fn fill_starts(
     t: &[u32],
     s: Settings,
@@ -33,8 +31,8 @@ fn fill_starts(
     w: &[u64; 16],
     starts: &mut [u32; 512],
 ) -> u32
-    requires { ⌜ ChainInTable s (now t) blocks × (k < blocks) × AfterBlocks s (now t) blocks 1024 k (now w) × Started s (now t) blocks k f (now starts) ⌝ }
-    ensures { λ v. ⌜ Started s (now (t .entry)) blocks k v (now (starts .exit)) × (k < v) × (v < blocks → blockRound (now (t .entry)) (k + 1) + s .lookback < blockRound (now (t .entry)) (v + 1)) ⌝ }
+    requires { ⌜ BeforeBlock s (now t) blocks k f (now w) (now starts) ⌝ }
+    ensures { λ v. ⌜ StartsAhead s (now (t .entry)) blocks k v (now (starts .exit)) ⌝ }
 {
     let at = store::block_round(t, k + 1);
     let mut i = f;
@@ -61,7 +59,7 @@ pub fn apply_next(
     w: &mut [u64; 16],
     starts: &mut [u32; 512],
 ) -> Applied
-    requires { ⌜ ChainInTable s (now t) blocks × Links (now t) 16 (s .ceiling .0 * 16 + 16) (now head) (now next) × (x .blocks < blocks) × Running s (now t) blocks 1024 x (now w) (now starts) ⌝ }
+    requires { ⌜ Walking s (now t) blocks 1024 x (now head) (now next) (now w) (now starts) × (x .blocks < blocks) ⌝ }
     ensures { λ v. ⌜ (v .blocks ≡ x .blocks + 1) × Running s (now (t .entry)) blocks 1024 v (now (w .exit)) (now (starts .exit)) ⌝ }
 {
     let k = x.blocks;
@@ -86,7 +84,7 @@ fn apply_below(
     w: &mut [u64; 16],
     starts: &mut [u32; 512],
 ) -> Applied
-    requires { ⌜ ChainInTable s (now t) blocks × Links (now t) 16 (s .ceiling .0 * 16 + 16) (now head) (now next) × (1 ≤ q .0) × Running s (now t) blocks (q .0 - 1) x (now w) (now starts) ⌝ }
+    requires { ⌜ Walking s (now t) blocks (q .0 - 1) x (now head) (now next) (now w) (now starts) × (1 ≤ q .0) ⌝ }
     ensures { λ v. ⌜ Running s (now (t .entry)) blocks (q .0 - 1) v (now (w .exit)) (now (starts .exit)) × (now (w .exit) ≡ bondedFrom s (chainOf (s .ceiling .0) (now (t .entry)) blocks) (q .0)) ⌝ }
 {
     let mut y = x;
@@ -112,7 +110,7 @@ pub fn reach_round(
     w: &mut [u64; 16],
     starts: &mut [u32; 512],
 ) -> Applied
-    requires { ⌜ ChainInTable s (now t) blocks × Links (now t) 16 (s .ceiling .0 * 16 + 16) (now head) (now next) × Running s (now t) blocks (r .0 - s .lookback - 1) x (now w) (now starts) ⌝ }
+    requires { ⌜ Walking s (now t) blocks (r .0 - s .lookback - 1) x (now head) (now next) (now w) (now starts) ⌝ }
     ensures { λ v. ⌜ Running s (now (t .entry)) blocks (r .0 - s .lookback - 1) v (now (w .exit)) (now (starts .exit)) × (now (w .exit) ≡ committeeOf s (chainOf (s .ceiling .0) (now (t .entry)) blocks) (r .0)) ⌝ }
 {
     if r.0 <= s.lookback {

@@ -1,12 +1,11 @@
 // Where the order of each block starts: with the leader of its round.
 use sheet::Settings;
 ghost use mathlib.Core.Path.{_≡_};
-ghost use Prim.Native.Nat.{ℕ, _+_, _*_, _<_};
+ghost use Prim.Native.Nat.{ℕ, _<_};
 ghost use lib.ListN.{getD};
 ghost use Rattle.bonded.specs.BlockChanges.{startAt};
-ghost use Rattle.bonded.specs.ChainInTable.{ChainInTable};
 ghost use Rattle.bonded.specs.Starts.{Started};
-ghost use Rattle.bonded.specs.Links.{Links};
+ghost use Rattle.bonded.specs.Walks.{ChainLinked};
 
 // Writes the number of the leader of each block's round, 16 for none, where the places of each block are linked.
 pub fn all_starts(
@@ -17,7 +16,7 @@ pub fn all_starts(
     blocks: u32,
     starts: &mut [u32; 512],
 )
-    requires { ⌜ ChainInTable s (now t) blocks × Links (now t) 16 (s .ceiling .0 * 16 + 16) (now head) (now next) × Started s (now t) blocks 0 0 (now starts) ⌝ }
+    requires { ⌜ ChainLinked s (now t) blocks (now head) (now next) × Started s (now t) blocks 0 0 (now starts) ⌝ }
     ensures { λ _. ⌜ ((i : ℕ) → i < blocks → getD (now (starts .exit)) i 0 ≡ startAt s (now (t .entry)) i) ⌝ }
 {
     let mut w = s.weights;

@@ -17,10 +17,10 @@ fn open(t: &mut [u32], ceiling: u32) {
         allowance: Setting::Blank,
         weights,
     };
-    let o = member::open::open(member::open::closed(), t, Member(0), written);
+    let o = open::open(open::closed(), t, Member(0), written);
     let a = o.answer;
     let mut out = [0u8; 20];
-    let n = answering::answer::put_answer(a, &mut out, 0);
+    let n = replies::answer::put_answer(a, &mut out, 0);
     io::write_all(STDOUT_FILENO, &out[..n]);
 }
 

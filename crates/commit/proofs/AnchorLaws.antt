@@ -17,14 +17,15 @@ use Rattle.agreement.specs.Commits.{byLeader, anchorAt}
 use Rattle.terms.specs.Proposals.{Content}
 use Rattle.store.specs.Table.{heldSet, contentAt}
 use Rattle.store.proofs.TableLaws.{held-in, certificate-at, content-author, content-round}
+use Rattle.sheet.specs.Sheets.{marginOf}
 use Rattle.sheet.specs.Ranges.{weightIn}
 use Rattle.committee.specs.Chain.{chainOf}
 use Rattle.committee.specs.Committees.{boundOf}
 use Rattle.committee.specs.Leaders.{leaderOf, leaderNumber}
 use Rattle.committee.proofs.LeaderLaws.{leader-odd}
 use Rattle.bonded.specs.BlockChanges.{lastRound}
-use Rattle.bonded.specs.Fill.{leaderAt, fillTo}
-use Rattle.bonded.proofs.FillLaws.{leader-at, fill-at, fill-length}
+use Rattle.leaders.specs.Fill.{leaderAt, fillTo}
+use Rattle.leaders.proofs.FillLaws.{leader-at, fill-at, fill-length}
 use Rattle.rules.specs.Tests.{unvoted}
 use Rattle.rules.proofs.TestLaws.{unvoted-not}
 use Rattle.state.specs.declared.State.{State}
@@ -52,13 +53,13 @@ module _ (s : State) (t : List ℕ) where
 
   -- check 22: the votes of the round above it weigh not more than the bound
   pub unvoted-on : (a q : ℕ) → suc q ≤ s .settings .ceiling .0
-      → unvoted (s .settings) (view s t) (contentAt t a q) ≡ not (ltb (boundOf (total 16 (weightIn (committeeOn s t (suc q))))) (votesFor t (committeeOn s t (suc q)) (suc q) a))
+      → unvoted (s .settings) (view s t) (contentAt t a q) ≡ not (ltb (boundOf (marginOf (s .settings)) (total 16 (weightIn (committeeOn s t (suc q))))) (votesFor t (committeeOn s t (suc q)) (suc q) a))
   unfolding votesFor votesAt
   unvoted-on a q to =
       let w = weightIn (committeeOn s t (suc q)) in
       unvoted-not (s .settings) (view s t) (contentAt t a q)
       ∙ rw (content-round t a q, content-author t a q)
-      (ap (λ (z : ℕ). not (ltb (boundOf (total 16 w)) z))
+      (ap (λ (z : ℕ). not (ltb (boundOf (marginOf (s .settings)) (total 16 w)) z))
       (sum-same _ _ 16 (λ i h. ap (λ (b : Bool). cond b (w i) 0) (vote-dag (s .settings .ceiling .0) t i (suc q) (omega arith) to (s .settings) a))))
 
   -- only even rounds have leaders

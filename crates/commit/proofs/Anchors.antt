@@ -17,9 +17,9 @@ use Rattle.agreement.specs.Commits.{anchorAt, choose, taken}
 use Rattle.agreement.proofs.HistoryLaws.{history-held}
 use Rattle.store.specs.Table.{Row}
 use Rattle.store.proofs.TableLaws.{held-member}
-use Rattle.blocks.specs.History.{inHistory}
-use Rattle.blocks.specs.Anchors.{takenLeaders}
-use Rattle.blocks.proofs.TakenLaws.{taken-other, taken-at}
+use Rattle.histories.proofs.HistoryLaws.{inHistory}
+use Rattle.histories.specs.Anchors.{takenLeaders}
+use Rattle.histories.proofs.TakenLaws.{taken-other, taken-at}
 use Rattle.commit.proofs.Histories.{Shows, history-same}
 use Rattle.agreement.specs.Histories as theory
 

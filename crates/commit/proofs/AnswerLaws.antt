@@ -17,7 +17,7 @@ use Rattle.state.specs.WellFormed.{wellFormed}
 use Rattle.state.specs.Formed.{Formed}
 use Rattle.commit.specs.declared.Outcome.{Outcome}
 use Rattle.commit.specs.Commit.{refusedWith, addedWith, timeChecks, voteChecks, commitRefusal, leadersFor, blocksThen, committedTable, commitOutcome, commitTableAfter}
-use Rattle.commit.proofs.CheckLaws.{Timely, voted, led-on, number-unread, number-late, number-timely}
+use Rattle.commit.proofs.CheckLaws.{Timely, voted, led-on, number-unread, refusal-late, refusal-timely}
 
 module _ (s : State) (t : List ℕ) where
   -- the answer and the table, as the contract has them
@@ -41,18 +41,18 @@ module _ (s : State) (t : List ℕ) where
 
   module _ (e : wellFormed s t ≡ true) where
     pub answers-late : (n : ℕ) → n ≡ refusal (timeChecks s t) → n ≢ 0 → Answers (refusedWith s n) t
-    answers-late n i h = answers-refused n (number-late s t e (λ z. h (i ∙ z)) ∙ sym i) h
+    answers-late n i h = answers-refused n (refusal-late s t e (λ z. h (i ∙ z)) ∙ sym i) h
 
     module _ (o : refusal (timeChecks s t) ≡ 0) where
       pub answers-unvoted : (n : ℕ) → n ≡ refusal (voteChecks s t) → n ≢ 0 → Answers (refusedWith s n) t
-      answers-unvoted n i h = answers-refused n (number-timely s t e o ∙ sym i) h
+      answers-unvoted n i h = answers-refused n (refusal-timely s t e o ∙ sym i) h
 
       -- the blocks, where m is the last block's round and l has the leaders
       pub answers-made : refusal (voteChecks s t) ≡ 0 → (m : ℕ) → m ≡ lastRound t (s .blocks) → (l : List ℕ) → l ≡ leadersFor s t → (k : ℕ) (u : List ℕ)
           → k ≡ commitCount m (s .round .0 - 1) (s .blocks) l t → u ≡ commitTable m (s .round .0 - 1) (s .blocks) l t → Answers (addedWith s k) u
       unfolding blocksThen committedTable
       answers-made v m i l j k u p q =
-          let a = answers-accepted (number-timely s t e o ∙ v) in
+          let a = answers-accepted (refusal-timely s t e o ∙ v) in
           let b = p ∙ ap₂ (λ (x : ℕ) (y : List ℕ). commitCount x (s .round .0 - 1) (s .blocks) y t) i j in
           let d = q ∙ ap₂ (λ (x : ℕ) (y : List ℕ). commitTable x (s .round .0 - 1) (s .blocks) y t) i j in
           (ap (addedWith s) b ∙ a .0, d ∙ a .1)

@@ -18,14 +18,13 @@ use Rattle.agreement.specs.Commits.{committed}
 use Rattle.agreement.specs.Marks.{Fits, chainOf, markBlock, roundsOf, marksOf}
 use Rattle.agreement.proofs.MarkLaws.{marks-committed}
 use Rattle.store.specs.Table.{Row, markAt, blockRound}
-use Rattle.store.proofs.MarkLaws.{OnlyMarks}
+use Rattle.writes.proofs.MarkLaws.{OnlyMarks}
 use Rattle.store.proofs.TableLaws.{held-member}
-use Rattle.blocks.specs.History.{inHistory}
-use Rattle.blocks.proofs.HistoryLaws.{history-marked}
-use Rattle.blocks.specs.Anchors.{takenLeaders}
-use Rattle.blocks.proofs.TakenLaws.{taken-left}
-use Rattle.blocks.specs.Blocks.{newMark, addBlock, commitTable, commitCount}
-use Rattle.blocks.proofs.MarkLaws.{block-mark, block-round-new, block-round-old}
+use Rattle.histories.proofs.HistoryLaws.{inHistory, history-marked}
+use Rattle.histories.specs.Anchors.{takenLeaders}
+use Rattle.histories.proofs.TakenLaws.{taken-left}
+use Rattle.blocks.specs.Blocks.{addBlock, commitTable, commitCount}
+use Rattle.blocks.proofs.MarkLaws.{newMark, block-mark, block-round-new, block-round-old}
 use Rattle.blocks.proofs.CommitLaws.{Stage, commit-each}
 use Rattle.commit.proofs.Histories.{Shows, history-same}
 use Rattle.commit.proofs.Anchors.{anchorIn, anchorsIn, Ready, author-low, left-top, anchors-left}

@@ -19,6 +19,7 @@ use Rattle.agreement.specs.Weights.{total}
 use Rattle.agreement.specs.Commits.{anchorAt}
 use Rattle.terms.specs.Proposals.{Content}
 use Rattle.store.specs.Table.{heldSet, contentAt}
+use Rattle.sheet.specs.Sheets.{marginOf}
 use Rattle.sheet.specs.Ranges.{weightIn}
 use Rattle.committee.specs.Chain.{chainOf}
 use Rattle.committee.specs.Committees.{knownBy, boundOf}
@@ -32,7 +33,7 @@ use Rattle.state.specs.View.{view}
 use Rattle.state.specs.WellFormed.{wellFormed}
 use Rattle.state.specs.Formed.{Formed}
 use Rattle.state.proofs.FormedLaws.{formed}
-use Rattle.state.proofs.RefusalLaws.{number-unformed, number-formed, number-passed}
+use Rattle.state.proofs.RefusalLaws.{refusal-unformed, refusal-formed, refusal-passed}
 use Rattle.commit.specs.Votes.{votesFor}
 use Rattle.commit.specs.Commit.{timeChecks, voteChecks, commitRefusal, committeeOn, leadersFor}
 use Rattle.commit.proofs.AnchorLaws.{leaderOn, anchor-on, unvoted-on, leaders-on}
@@ -114,7 +115,7 @@ module _ (s : State) (t : List ℕ) where
       anchor-led = anchor ∙ rw led refl
 
       abbrev bound : ℕ
-      bound = boundOf (total 16 (weightIn w))
+      bound = boundOf (marginOf (s .settings)) (total 16 (weightIn w))
 
       weighing : refusal (voteChecks s t) ≡ refusal ((not (ltb bound (votesFor t w r a)), 22) ∷ [])
       weighing =
@@ -138,21 +139,21 @@ module _ (s : State) (t : List ℕ) where
   -- ---- all of them
 
   -- the number on a well-formed state: by the rules' checks
-  pub number-by : wellFormed s t ≡ true → commitRefusal s t ≡ refusal (rules.checks (s .settings) (s .own .0) (view s t) rules.commit)
+  pub refusal-by : wellFormed s t ≡ true → commitRefusal s t ≡ refusal (rules.checks (s .settings) (s .own .0) (view s t) rules.commit)
   unfolding commitRefusal
-  number-by e = number-formed s t rules.commit e
+  refusal-by e = refusal-formed s t rules.commit e
 
-  pub number-late : wellFormed s t ≡ true → refusal (timeChecks s t) ≢ 0 → commitRefusal s t ≡ refusal (timeChecks s t)
+  pub refusal-late : wellFormed s t ≡ true → refusal (timeChecks s t) ≢ 0 → commitRefusal s t ≡ refusal (timeChecks s t)
   unfolding commitRefusal
-  number-late e n = number-formed s t rules.commit e ∙ first-refuses (timeChecks s t) (voteChecks s t) (omega arith)
+  refusal-late e n = refusal-formed s t rules.commit e ∙ first-refuses (timeChecks s t) (voteChecks s t) (omega arith)
 
-  pub number-timely : wellFormed s t ≡ true → refusal (timeChecks s t) ≡ 0 → commitRefusal s t ≡ refusal (voteChecks s t)
+  pub refusal-timely : wellFormed s t ≡ true → refusal (timeChecks s t) ≡ 0 → commitRefusal s t ≡ refusal (voteChecks s t)
   unfolding commitRefusal numbered
-  number-timely e n = number-formed s t rules.commit e ∙ first-passes (timeChecks s t) (voteChecks s t) refl n
+  refusal-timely e n = refusal-formed s t rules.commit e ∙ first-passes (timeChecks s t) (voteChecks s t) refl n
 
   pub number-unread : wellFormed s t ≡ false → commitRefusal s t ≡ 1
   unfolding commitRefusal
-  number-unread e = number-unformed s t rules.commit e
+  number-unread e = refusal-unformed s t rules.commit e
 
   -- what an accepted commit gives: the leader of the round before has its certificate held
   pub record Accepted : Type 0 where
@@ -166,8 +167,8 @@ module _ (s : State) (t : List ℕ) where
     where
       go : Dec (refusal (timeChecks s t) ≡ 0) → Accepted
       go (yes z) =
-          let p = number-passed s t rules.commit e in
+          let p = refusal-passed s t rules.commit e in
           let f = formed s t (p .0) in
           let w = timely f z in
-          record { formed = f; timely = w; led = voted f (w .from) (sym (number-timely (p .0) z) ∙ e) }
-      go (no z) = absurd (z (sym (number-late (number-passed s t rules.commit e .0) z) ∙ e))
+          record { formed = f; timely = w; led = voted f (w .from) (sym (refusal-timely (p .0) z) ∙ e) }
+      go (no z) = absurd (z (sym (refusal-late (refusal-passed s t rules.commit e .0) z) ∙ e))

@@ -15,7 +15,7 @@ use Rattle.agreement.specs.Commits.{anchorAt, committed}
 use Rattle.terms.specs.Proposals.{Content}
 use Rattle.store.specs.Table.{used, heldSet, contentAt}
 use Rattle.store.proofs.TableLaws.{held-in, content-author, content-round, certificate-present, certificate-absent}
-use Rattle.store.proofs.MarkLaws.{OnlyMarks, certificate-marked, endorsed-marked}
+use Rattle.writes.proofs.MarkLaws.{OnlyMarks, certificate-marked, endorsed-marked}
 use Rattle.committee.specs.Chain.{chainOf}
 use Rattle.bonded.specs.BlockChanges.{lastRound}
 use Rattle.bonded.proofs.ChainLaws.{last-chain}
@@ -29,7 +29,7 @@ use Rattle.rules.proofs.CallLaws.{after-commit}
 use Rattle.state.specs.declared.State.{State}
 use Rattle.state.specs.View.{dagOf, endorsedOf, view}
 use Rattle.state.proofs.ViewLaws.{dag-at, dag-same, endorsed-same, proposal-same}
-use Rattle.commit.specs.Commit.{commitRefusal, leadersFor, blocksThen, committedState, committedTable}
+use Rattle.commit.specs.Commit.{withBlocks, commitRefusal, leadersFor, blocksThen, committedTable}
 use Rattle.commit.proofs.AnchorLaws.{leaderOn, anchor-on, leaders-on, leaders-length}
 use Rattle.commit.proofs.CheckLaws.{accepted}
 use Rattle.commit.proofs.ShownLaws.{shows, marks-fit, chain-shown}
@@ -46,6 +46,10 @@ leader-anchor s t q from to e = anchor-on s t q from to ∙ go (isIn (heldSet t 
     go : (b : Bool) → isIn (heldSet t q) a ≡ b → _≡_ {A = Option Content} (cond b (some (contentAt t a q)) none) (cond (ltb a 16) (view s t .dag a q) none)
     go true h = rw (lt-ltb a 16 (in-member (heldSet t q) a h)) (sym (dag-at (s .settings .ceiling .0) t a q from to ∙ certificate-present t a q (held-in t a q ∙ h)))
     go false h = rw (dag-at (s .settings .ceiling .0) t a q from to, certificate-absent t a q (held-in t a q ∙ h)) (sym (cond-same (ltb a 16) none))
+
+-- the state after an accepted commit
+abbrev pub committedState : State → List ℕ → State
+committedState s t = withBlocks s (blocksThen s t)
 
 module _ (s : State) (t : List ℕ) (ok : commitRefusal s t ≡ 0) where
   abbrev n : ℕ

@@ -15,8 +15,8 @@ use Rattle.agreement.specs.View.{View}
 use Rattle.agreement.specs.Dag.{isHeld, vote, Held, Placed}
 use Rattle.agreement.proofs.HistoryLaws.{history-reach, history-here, history-down, history-above}
 use Rattle.store.specs.Table.{heldAt, previousAt}
-use Rattle.blocks.specs.History.{inHistory}
-use Rattle.blocks.proofs.HistoryLaws as blocks
+use Rattle.histories.proofs.HistoryLaws.{inHistory}
+use Rattle.histories.proofs.HistoryLaws as blocks
 use Rattle.agreement.specs.Histories as theory
 
 pub record Shows {R : Rules} (s : View R) (c : ℕ) (t : List ℕ) : Type 0 where

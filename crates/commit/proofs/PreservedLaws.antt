@@ -10,23 +10,23 @@ use lib.ListN.{getD, length, drop}
 use Rattle.base.proofs.SetLaws.{in-member}
 use Rattle.store.specs.Table.{used, Row, blockRound, heldAt, markAt}
 use Rattle.store.proofs.TableLaws.{held-member}
-use Rattle.store.proofs.MarkLaws.{beyond-marked}
-use Rattle.store.specs.Scan.{rowsFit}
-use Rattle.store.proofs.FitLaws.{rows-marked}
+use Rattle.writes.proofs.MarkLaws.{beyond-marked}
+use Rattle.scan.specs.Scan.{rowsFit}
+use Rattle.scan.proofs.FitLaws.{rows-marked}
 use Rattle.committee.proofs.ChainLaws.{chain-length}
 use Rattle.bonded.specs.BlockChanges.{lastRound}
 use Rattle.bonded.proofs.ChainLaws.{BlockFits, fits-at, last-none, last-some}
-use Rattle.blocks.proofs.TakenLaws.{taken-left}
+use Rattle.histories.proofs.TakenLaws.{taken-left}
 use Rattle.blocks.proofs.CommitLaws.{commit-stage, commit-round-old, commit-mark, commit-rounds, commit-last}
 use Rattle.state.specs.declared.State.{State}
 use Rattle.state.specs.View.{view}
 use Rattle.state.specs.Formed.{Formed}
 use Rattle.state.proofs.FormedLaws.{formed-by}
 use Rattle.state.proofs.RoundLaws.{blocks-whole, blocks-same}
-use Rattle.commit.specs.Commit.{commitRefusal, leadersFor, blocksThen, committedState, committedTable}
+use Rattle.commit.specs.Commit.{commitRefusal, leadersFor, blocksThen, committedTable}
 use Rattle.commit.proofs.AnchorLaws.{leaderOn, leader-even, leaders-on, leaders-length}
 use Rattle.commit.proofs.CheckLaws.{Accepted, accepted}
-use Rattle.commit.proofs.CommitLaws.{only-marks}
+use Rattle.commit.proofs.CommitLaws.{committedState, only-marks}
 
 module _ (s : State) (t : List ℕ) (ok : commitRefusal s t ≡ 0) where
   abbrev n : ℕ

@@ -12,7 +12,7 @@ use Rattle.bonded.specs.BlockChanges.{lastRound}
 use Rattle.state.specs.declared.State.{State}
 use Rattle.commit.specs.declared.Outcome.{Outcome}
 use Rattle.commit.specs.Answers.{addedRefusal}
-use Rattle.commit.specs.Commit.{refusedWith, addedWith, commitRefusal, leadersFor, blocksThen, committedTable, commitOutcome, commitTableAfter, ruledView, RulesGive}
+use Rattle.commit.specs.Commit.{refusedWith, addedWith, commitRefusal, leadersFor, blocksThen, committedTable, commitOutcome, commitTableAfter, ruledView, RulesGive, Commits}
 use Rattle.commit.proofs.CheckLaws.{accepted}
 use Rattle.commit.proofs.AnswerLaws.{Answers, answers-accepted, blocks-more}
 use Rattle.commit.proofs.CommitLaws.{view-commit}
@@ -20,9 +20,9 @@ use Rattle.commit.proofs.PreservedLaws.{count-commit}
 
 module _ (s : State) (t : List ℕ) where
   -- the number of the first check that refuses, 0 for none
-  pub commit-number : addedRefusal (commitOutcome s t .answer) ≡ commitRefusal s t
+  pub refusal-in-commit : addedRefusal (commitOutcome s t .answer) ≡ commitRefusal s t
   unfolding commitOutcome
-  commit-number = go (eqb (commitRefusal s t) 0) refl
+  refusal-in-commit = go (eqb (commitRefusal s t) 0) refl
     where
       go : (b : Bool) → eqb (commitRefusal s t) 0 ≡ b → addedRefusal (cond b (addedWith s (blocksThen s t)) (refusedWith s (commitRefusal s t)) .answer) ≡ commitRefusal s t
       go true e = sym (eqb-true (commitRefusal s t) 0 e)
@@ -46,8 +46,5 @@ module _ (s : State) (t : List ℕ) where
     rules-give = let a = answers-accepted s t ok in rw (← a .0, ← a .1) given
 
   -- the contract of commit
-  abbrev pub Commits : Outcome → List ℕ → Type 0
-  Commits o u = (o ≡ commitOutcome s t) × (u ≡ commitTableAfter s t) × (addedRefusal (o .answer) ≡ commitRefusal s t) × (commitRefusal s t ≡ 0 → RulesGive s t o u)
-
-  pub commits : {o : Outcome} {u : List ℕ} → Answers s t o u → Commits o u
-  commits {o} {u} a = (a .0, a .1, rw (a .0) commit-number, λ ok. rw (a .0, a .1) (rules-give ok))
+  pub commits : {o : Outcome} {u : List ℕ} → Answers s t o u → Commits s t o u
+  commits {o} {u} a = record { outcome = a .0; table = a .1; refusal = rw (a .0) refusal-in-commit; ruled = λ ok. rw (a .0, a .1) (rules-give ok) }

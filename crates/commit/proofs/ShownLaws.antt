@@ -14,7 +14,7 @@ use Rattle.agreement.specs.Marks.{Fits}
 use Rattle.terms.specs.Proposals.{Content}
 use Rattle.store.specs.Table.{markAt, certificateAt}
 use Rattle.store.proofs.TableLaws.{content-previous}
-use Rattle.store.proofs.ScanLaws.{rows-held}
+use Rattle.scan.proofs.ScanLaws.{rows-held}
 use Rattle.committee.specs.Chain.{isRound, holdsAt, chainOf}
 use Rattle.committee.proofs.ChainLaws.{holds-at, block-by, chain-none, chain-more}
 use Rattle.rules.specs.Tests.{MemberView}

@@ -11,7 +11,7 @@ use Rattle.agreement.specs.Commits.{anchorAt}
 use Rattle.committee.specs.Chain.{chainOf}
 use Rattle.committee.specs.Committees.{committeeOf}
 use Rattle.bonded.specs.BlockChanges.{lastRound}
-use Rattle.bonded.specs.Fill.{leaderAt, fillTo}
+use Rattle.leaders.specs.Fill.{leaderAt, fillTo}
 use Rattle.rules.specs.Tests.{MemberView, unknown}
 use Rattle.rules.specs.Calls as rules
 use Rattle.state.specs.declared.State.{State}
@@ -20,7 +20,7 @@ use Rattle.state.specs.Refusals.{refusalOf}
 use Rattle.blocks.specs.Blocks.{commitTable, commitCount}
 use Rattle.commit.specs.declared.Committed.the-variants.{Added, Refused}
 use Rattle.commit.specs.declared.Outcome.{Outcome}
-use Rattle.commit.specs.Answers.{addedValue}
+use Rattle.commit.specs.Answers.{addedRefusal, addedValue}
 
 -- refused with the number n
 abbrev pub refusedWith : State → ℕ → Outcome
@@ -55,12 +55,9 @@ module _ (s : State) (t : List ℕ) where
   abbrev pub committeeOn : ℕ → List ℕ
   committeeOn q = committeeOf (s .settings) (chainOf (s .settings .ceiling .0) t (s .blocks)) q
 
-  -- how many blocks there are after an accepted commit, the state and the table
+  -- how many blocks there are after an accepted commit, and the table
   unfoldable pub blocksThen : ℕ
   blocksThen = commitCount (lastRound t (s .blocks)) (s .round .0 - 1) (s .blocks) leadersFor t
-
-  abbrev pub committedState : State
-  committedState = withBlocks s blocksThen
 
   unfoldable pub committedTable : List ℕ
   committedTable = commitTable (lastRound t (s .blocks)) (s .round .0 - 1) (s .blocks) leadersFor t
@@ -85,3 +82,10 @@ module _ (s : State) (t : List ℕ) where
     pub its-view : view (withBlocks s (o .state .blocks)) u ≡ ruledView
     pub its-value : addedValue (o .answer) + length (view s t .chain) ≡ length (ruledView .chain)
     pub its-blocks : addedValue (o .answer) + s .blocks ≡ o .state .blocks
+
+  -- what a commit gives: the outcome o, the table u, and the number of the first check that refuses; where none does they are what the rules give
+  pub record Commits (o : Outcome) (u : List ℕ) : Type 0 where
+    pub outcome : o ≡ commitOutcome
+    pub table : u ≡ commitTableAfter
+    pub refusal : addedRefusal (o .answer) ≡ commitRefusal
+    pub ruled : commitRefusal ≡ 0 → RulesGive o u

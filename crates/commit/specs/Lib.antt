@@ -1,3 +1,4 @@
 pub mod Votes
 pub mod Answers
 pub mod Commit
+pub mod Ready

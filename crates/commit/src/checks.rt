@@ -1,14 +1,13 @@
 // The checks of a commit in a well-formed state, each the number of the first that refuses, 0 for none.
+use sheet::Sheet;
 use state::State;
 use terms::Member;
 use terms::Round;
 ghost use mathlib.Core.Path.{_≡_};
-ghost use Prim.Native.Nat.{_-_, _<_};
 ghost use Rattle.base.specs.Checks.{refusal};
-ghost use Rattle.committee.specs.Totals.{TotalBounded};
 ghost use Rattle.state.specs.Formed.{Formed};
-ghost use Rattle.bonded.specs.BlockChanges.{lastRound};
-ghost use Rattle.commit.specs.Commit.{timeChecks, voteChecks, committeeOn, leadersFor};
+ghost use Rattle.commit.specs.Commit.{timeChecks, voteChecks};
+ghost use Rattle.commit.specs.Ready.{AnchorReady};
 
 // Checks 19, 20, 8.
 pub fn time_refusal(s: State, t: &[u32]) -> u32
@@ -34,16 +33,16 @@ pub fn time_refusal(s: State, t: &[u32]) -> u32
 
 // Checks 21, 22, where l has the leaders by round and w is the committee of the present round.
 pub fn vote_refusal(s: State, t: &[u32], l: &[u32; 1025], w: &[u64; 16]) -> u32
-    requires { ⌜ Formed s (now t) × (1 < s .round .0) × (now l ≡ leadersFor s (now t)) × (lastRound (now t) (s .blocks) < s .round .0 - 1) × (now w ≡ committeeOn s (now t) (s .round .0)) × TotalBounded (now w) ⌝ }
+    requires { ⌜ AnchorReady s (now t) (now l) (now w) ⌝ }
     ensures { λ v. ⌜ v ≡ refusal (voteChecks s (now (t .entry))) ⌝ }
 {
     let r = s.round;
     let top = Round(r.0 - 1);
     let a = l[top.0 as usize];
-    if !blocks::anchors::is_held_leader(store::held_set(t, top), Member(a)) {
+    if !histories::anchors::is_held_leader(store::held_set(t, top), Member(a)) {
         return 21;
     }
-    let bound = committee::fault_bound(committee::total_weight(w));
+    let bound = committee::fault_bound(Sheet::MARGIN, committee::total_weight(w));
     let votes = crate::votes::votes_for(t, w, r, Member(a));
     if votes.0 <= bound.0 {
         return 22;

@@ -6,8 +6,7 @@ use state::State;
 use terms::Round;
 ghost use mathlib.Core.Path.{_≡_};
 ghost use Rattle.state.specs.WellFormed.{wellFormed};
-ghost use Rattle.commit.specs.Answers.{addedRefusal};
-ghost use Rattle.commit.specs.Commit.{refusedWith, commitRefusal, commitOutcome, commitTableAfter, RulesGive};
+ghost use Rattle.commit.specs.Commit.{refusedWith, Commits};
 
 // Accepted with the number of blocks added, or refused with the number of the first check that refuses.
 pub enum Committed {
@@ -34,7 +33,7 @@ fn refused(s: State, n: u32) -> Outcome
 // The call, where it is known whether the state is well formed.
 pub fn commit_cached(formed: bool, s: State, t: &mut [u32]) -> Outcome
     requires { ⌜ formed ≡ wellFormed s (now t) ⌝ }
-    ensures { λ o. ⌜ (o ≡ commitOutcome s (now (t .entry))) × (now (t .exit) ≡ commitTableAfter s (now (t .entry))) × (addedRefusal (o .answer) ≡ commitRefusal s (now (t .entry))) × (commitRefusal s (now (t .entry)) ≡ 0 → RulesGive s (now (t .entry)) o (now (t .exit))) ⌝ }
+    ensures { λ o. ⌜ Commits s (now (t .entry)) o (now (t .exit)) ⌝ }
 {
     if !formed {
         return refused(s, 1);
@@ -48,7 +47,7 @@ pub fn commit_cached(formed: bool, s: State, t: &mut [u32]) -> Outcome
     let last = bonded::last_round(t, blocks);
     let top = Round(s.round.0 - 1);
     let mut leaders = [16u32; 1025];
-    let w = bonded::leaders::fill_leaders(t, settings, blocks, last, top, &mut leaders);
+    let w = leaders::fill_leaders(t, settings, blocks, last, top, &mut leaders);
     let fault = crate::checks::vote_refusal(s, t, &leaders, &w);
     if fault != 0 {
         return refused(s, fault);
@@ -63,7 +62,7 @@ pub fn commit_cached(formed: bool, s: State, t: &mut [u32]) -> Outcome
 }
 
 pub fn commit(s: State, t: &mut [u32]) -> Outcome
-    ensures { λ o. ⌜ (o ≡ commitOutcome s (now (t .entry))) × (now (t .exit) ≡ commitTableAfter s (now (t .entry))) × (addedRefusal (o .answer) ≡ commitRefusal s (now (t .entry))) × (commitRefusal s (now (t .entry)) ≡ 0 → RulesGive s (now (t .entry)) o (now (t .exit))) ⌝ }
+    ensures { λ o. ⌜ Commits s (now (t .entry)) o (now (t .exit)) ⌝ }
 {
     let formed = state::well_formed(s, t);
     commit_cached(formed, s, t)

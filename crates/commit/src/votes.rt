@@ -5,10 +5,10 @@ use terms::Round;
 ghost use mathlib.Core.Path.{_≡_};
 ghost use mathlib.Core.Bool.{cond};
 ghost use Prim.Native.Nat.{_<_};
-ghost use Rattle.store.specs.Table.{Within, Row};
-ghost use Rattle.committee.specs.Totals.{TotalBounded};
+ghost use Rattle.store.specs.Table.{Within};
 ghost use Rattle.sheet.specs.Ranges.{weightIn};
 ghost use Rattle.commit.specs.Votes.{votesAt, votesFor};
+ghost use Rattle.commit.specs.Ready.{VotesReady};
 
 // The weight of i, if its certificate of round r is held and names a.
 fn vote_of(t: &[u32], w: &[u64; 16], r: Round, a: Member, i: Member) -> Weight
@@ -26,7 +26,7 @@ fn vote_of(t: &[u32], w: &[u64; 16], r: Round, a: Member, i: Member) -> Weight
 
 // The weight of all votes of round r for a.
 pub fn votes_for(t: &[u32], w: &[u64; 16], r: Round, a: Member) -> Weight
-    requires { ⌜ Row (now t) (r .0) × (a .0 < 16) × TotalBounded (now w) ⌝ }
+    requires { ⌜ VotesReady (now t) (now w) (r .0) (a .0) ⌝ }
     ensures { λ v. ⌜ v .0 ≡ votesFor (now (t .entry)) (now (w .entry)) (r .0) (a .0) ⌝ }
 {
     let mut sum: u64 = 0;

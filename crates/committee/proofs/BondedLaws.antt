@@ -11,7 +11,11 @@ use Rattle.committee.specs.Chain.{blockAt, chainOf}
 use Rattle.committee.proofs.ChainLaws.{chain-none, chain-more}
 use Rattle.sheet.specs.declared.Settings.{Settings}
 use Rattle.committee.specs.Changes.{changesOf}
-use Rattle.committee.specs.Committees.{stepFrom, bondedFrom, committeeOf, startOf, ordered, step}
+use Rattle.committee.specs.Committees.{stepFrom, bondedFrom, committeeOf, startOf, ordered}
+
+-- what the block b on the chain c does to the bonded committee of round s
+unfoldable pub step : Settings → ℕ → Block Content → Chain Content → List ℕ → List ℕ
+step S s b c w = stepFrom S s b (startOf S b c) w
 
 module _ (S : Settings) (s : ℕ) (b : Block Content) (c : Chain Content) where
   -- a block of a round below s counts, another does not

@@ -5,7 +5,7 @@ use Rattle.base.specs.Folds.{sumTo, tab}
 use Rattle.sheet.specs.Sheets.{blankWeight, weightAt, filled}
 use Rattle.committee.specs.Changes.{changes, changesOf, row, rows}
 use Rattle.committee.specs.Committees.{committeeBy, leaderBy, stepFrom, bondedFrom, committeeOf, startOf, ordered, knownBy, boundOf, quorumWeight}
-use Rattle.committee.specs.Shares.{evenNeighbour, rounded, nearest, shareOf}
+use Rattle.shares.specs.Shares.{evenNeighbour, rounded, nearest, shareOf}
 use Rattle.committee.specs.Leaders.{countBelow, memberBelow, memberAt, leaderOf}
 use Rattle.committee.specs.Edges.{blank, written, bond, unbond, bonding, four, full, nobody, authorAt, truth, cases, agree}
 

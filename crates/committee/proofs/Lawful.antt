@@ -14,8 +14,10 @@ use Rattle.agreement.specs.Laws.{Lawful}
 use Rattle.agreement.specs.Prefixes.{_≼_, same, grown}
 use Rattle.terms.specs.Proposals.{Content}
 use Rattle.sheet.specs.declared.Settings.{Settings}
+use Rattle.sheet.specs.Sheets.{marginOf}
 use Rattle.sheet.specs.Ranges.{weightIn}
 use Rattle.committee.specs.Committees.{committeeBy, bondedFrom, committeeOf, knownBy, boundOf}
+use Rattle.committee.proofs.CommitteeLaws.{margin-fits, bound-low}
 use Rattle.committee.proofs.BondedLaws.{step-waits, bonded-step}
 use Rattle.committee.specs.Leaders.{leaderOf}
 use Rattle.committee.specs.Instance.{rules}
@@ -37,15 +39,14 @@ leaders-apart v w {r} {s} {a} {b} h x y = omega (arith, leader-even v r a x, lea
 leader-late : (w : ℕ → ℕ) {r a : ℕ} → leaderOf w r ≡ some a → 2 ≤ r
 leader-late w {r} {a} x = leader-even w r a x .1
 
-bound-low : (w : ℕ → ℕ) → 0 < total 16 w → 3 * boundOf (total 16 w) < total 16 w
-unfolding boundOf
-bound-low w h = omega arith
-
 -- a block changes no committee of its own round or below
 bonded-same : (S : Settings) (b : Block Content) (c : Chain Content) (s : ℕ) → s ≤ b .round → bondedFrom S (b ∷ c) s ≡ bondedFrom S c s
 bonded-same S b c s h = bonded-step S s b c ∙ step-waits S s b c (bondedFrom S c s) h
 
 module _ (S : Settings) where
+  bound-below : (w : ℕ → ℕ) → 0 < total 16 w → 3 * boundOf (marginOf S) (total 16 w) < total 16 w
+  bound-below w h = omega (arith, bound-low (margin-fits S) (total 16 w))
+
   known-low : (c : Chain Content) {r s : ℕ} → r ≤ s → knownBy S c s ≡ true → knownBy S c r ≡ true
   unfolding knownBy
   known-low c {r} {s} l k = let h = leb-true s (S .lookback + (last c + 2)) k in le-leb r (S .lookback + (last c + 2)) (omega arith)
@@ -74,7 +75,7 @@ module _ (S : Settings) where
   pub lawful : Lawful (rules S)
   lawful =
       record {
-        bound-law = bound-low;
+        bound-law = bound-below;
         known-down = known-low;
         known-grow = known-still;
         committee-grow = committee-same;

@@ -2,7 +2,6 @@ pub mod ChainLaws
 pub mod ChangeLaws
 pub mod EffectLaws
 pub mod TotalLaws
-pub mod ShareLaws
 pub mod OrderLaws
 pub mod CommitteeLaws
 pub mod BondedLaws

@@ -1,6 +1,6 @@
 -- Laws of the order inside a block: by round, then numbers from a on.
 use mathlib.Core.Path.{_≡_, refl, sym}
-use mathlib.Core.List.{[], _++_, append-assoc, append-nil}
+use mathlib.Core.List.{List, [], _++_, append-assoc, append-nil}
 use Prim.Native.Nat.{ℕ, zero, suc, _+_, _*_, _/_, _%_, _≤_}
 use native.Mathlib.Omega.{arith}
 use Rattle.agreement.specs.Rules.{Block, Chain}
@@ -8,7 +8,7 @@ use mathlib.Core.Option.{none}
 use Rattle.sheet.specs.declared.Settings.{Settings}
 use Rattle.sheet.specs.Ranges.{weightIn}
 use Rattle.terms.specs.Proposals.{Content}
-use Rattle.committee.specs.Changes.{listed, row, rows, byKeys}
+use Rattle.committee.specs.Changes.{listed, row, rows}
 use Rattle.committee.specs.Committees.{leaderBy, committeeOf, startOf, ordered}
 use Rattle.committee.specs.Leaders.{leaderOf}
 
@@ -49,6 +49,11 @@ rows-rise b (suc n) = rw (rows-rise b n, row-rises b (suc n) 16 (omega arith)) r
 pub ordered-unled : (S : Settings) (b : Block Content) (c : Chain Content) → leaderOf (weightIn (committeeOf S c (b .round))) (b .round) ≡ none → ordered S b c ≡ rows b 0 (S .ceiling .0)
 unfolding ordered startOf leaderBy
 ordered-unled S b c e = rw e (rows-rise b (S .ceiling .0))
+
+-- the certificates of the n keys from 16 on: the first round is 1
+unfoldable pub byKeys : Block Content → ℕ → ℕ → List Content
+byKeys b a zero = []
+byKeys b a (suc n) = byKeys b a n ++ listed (b .holds ((n + 16 + a) % 16) ((n + 16) / 16))
 
 keys-more : (b : Block Content) (a n : ℕ) → byKeys b a (suc n) ≡ byKeys b a n ++ listed (b .holds ((n + 16 + a) % 16) ((n + 16) / 16))
 unfolding byKeys

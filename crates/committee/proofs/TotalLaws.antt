@@ -17,9 +17,13 @@ use Rattle.terms.specs.declared.Transaction.the-variants.{Bond, Unbond, Entry}
 use Rattle.terms.specs.Transactions.{amountOf}
 use Rattle.sheet.specs.Ranges.{weightIn}
 use Rattle.committee.specs.Changes.{change}
-use Rattle.committee.specs.Totals.{totalIn, Raises}
+use Rattle.committee.specs.Totals.{totalIn}
 
 -- ---- changes
+
+-- f raises no total by more than c
+unfoldable pub Raises : (List ℕ → List ℕ) → ℕ → Type 0
+Raises f c = (w : List ℕ) → totalIn (f w) ≤ totalIn w + c
 
 set-at : (w : List ℕ) (m v i b : ℕ) → (i ≡ m → v ≤ b) → weightIn w i ≤ b → weightIn (set w m v) i ≤ b
 set-at w m v i b h l = by (ℕ-discrete i m) (decLt m (length w))

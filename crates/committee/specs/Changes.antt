@@ -2,7 +2,7 @@
 use mathlib.Core.List.{List, [], _∷_, _++_}
 use mathlib.Core.Option.{Option, none, some}
 use mathlib.Core.Bool.{cond}
-use Prim.Native.Nat.{ℕ, zero, suc, _+_, _%_, _/_}
+use Prim.Native.Nat.{ℕ, zero, suc, _+_, _%_}
 use lib.ListN.{set}
 use lib.Dec.{ltb}
 use Rattle.agreement.specs.Rules.{Block}
@@ -40,8 +40,3 @@ row b a r (suc n) = row b a r n ++ listed (b .holds ((a + n) % 16) r)
 unfoldable pub rows : Block Content → ℕ → ℕ → List Content
 rows b a zero = []
 rows b a (suc n) = rows b a n ++ row b a (suc n) 16
-
--- the certificates of the n keys from 16 on: the first round is 1
-unfoldable pub byKeys : Block Content → ℕ → ℕ → List Content
-byKeys b a zero = []
-byKeys b a (suc n) = byKeys b a n ++ listed (b .holds ((n + 16 + a) % 16) ((n + 16) / 16))

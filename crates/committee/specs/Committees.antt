@@ -1,7 +1,7 @@
 -- Committees, fault bounds and quorums. A committee is sixteen weights, 0 for a non-member.
 use mathlib.Core.Bool.{Bool, cond, not, _&&_, _||_}
 use mathlib.Core.List.{List, [], _∷_}
-use Prim.Native.Nat.{ℕ, _+_, _-_, _/_}
+use Prim.Native.Nat.{ℕ, _+_, _-_, _/_, _≤_}
 use lib.Dec.{leb, ltb}
 use Rattle.base.specs.Folds.{anyTo}
 use Rattle.agreement.specs.Weights.{weigh, total}
@@ -41,30 +41,31 @@ startOf S b c = leaderBy (committeeOf S c (b .round)) (b .round)
 unfoldable pub ordered : Settings → Block Content → Chain Content → List Content
 ordered S b c = rows b (startOf S b c) (S .ceiling .0)
 
--- what the block b on the chain c does to the bonded committee of round s
-unfoldable pub step : Settings → ℕ → Block Content → Chain Content → List ℕ → List ℕ
-step S s b c w = stepFrom S s b (startOf S b c) w
-
 -- the chain tells the committee of round r: the bonded one of r minus lookback is known
 unfoldable pub knownBy : Settings → Chain Content → ℕ → Bool
 knownBy S c r = leb r (S .lookback + (last c + 2))
 
--- the fault bound of a total weight
-unfoldable pub boundOf : ℕ → ℕ
-boundOf n = (n - 1) / 3
+-- a divisor of fault bounds in its range
+pub record MarginFits (d : ℕ) : Type 0 where
+  pub from : 3 ≤ d
+  pub to : d ≤ 5
+
+-- the fault bound of a total weight n, by the divisor d
+unfoldable pub boundOf : ℕ → ℕ → ℕ
+boundOf d n = (n - 1) / d
 
 -- what a quorum weighs at least
-unfoldable pub quorumWeight : ℕ → ℕ
-quorumWeight n = n - boundOf n
+unfoldable pub quorumWeight : ℕ → ℕ → ℕ
+quorumWeight d n = n - boundOf d n
 
 -- somebody of the set is outside the committee
 unfoldable pub outsider : (ℕ → ℕ) → (ℕ → Bool) → Bool
 outsider w set = anyTo (λ i. set i && not (ltb 0 (w i))) 16
 
 -- the set weighs less than a quorum
-unfoldable pub short : (ℕ → ℕ) → (ℕ → Bool) → Bool
-short w set = ltb (weigh 16 w set) (quorumWeight (total 16 w))
+unfoldable pub short : ℕ → (ℕ → ℕ) → (ℕ → Bool) → Bool
+short d w set = ltb (weigh 16 w set) (quorumWeight d (total 16 w))
 
 -- the set is a quorum: inside the committee, and of enough weight
-unfoldable pub quorum : (ℕ → ℕ) → (ℕ → Bool) → Bool
-quorum w set = not (outsider w set || short w set)
+unfoldable pub quorum : ℕ → (ℕ → ℕ) → (ℕ → Bool) → Bool
+quorum d w set = not (outsider w set || short d w set)

@@ -17,7 +17,7 @@ use Rattle.sheet.specs.Sheets.{blankSheet, filled}
 use Rattle.sheet.specs.Ranges.{weightIn}
 use Rattle.committee.specs.Changes.{changes}
 use Rattle.committee.specs.Committees.{committeeOf, ordered, knownBy, boundOf, quorumWeight}
-use Rattle.committee.specs.Shares.{shareOf}
+use Rattle.shares.specs.Shares.{shareOf}
 use Rattle.committee.specs.Leaders.{leaderOf, leaderNumber}
 
 -- the blank sheet has lookback 20 and weights 1, 1, 1, 1
@@ -62,8 +62,8 @@ truth false = 0
 
 unfoldable pub cases : List (ℕ × ℕ)
 cases =
-    (boundOf 0, 0) ∷ (boundOf 1, 0) ∷ (boundOf 3, 0) ∷ (boundOf 4, 1) ∷ (boundOf 6, 1) ∷ (boundOf 7, 2)
-    ∷ (quorumWeight 0, 0) ∷ (quorumWeight 1, 1) ∷ (quorumWeight 3, 3) ∷ (quorumWeight 4, 3) ∷ (quorumWeight 6, 5) ∷ (quorumWeight 7, 5)
+    (boundOf 3 0, 0) ∷ (boundOf 3 1, 0) ∷ (boundOf 3 3, 0) ∷ (boundOf 3 4, 1) ∷ (boundOf 3 6, 1) ∷ (boundOf 3 7, 2)
+    ∷ (quorumWeight 3 0, 0) ∷ (quorumWeight 3 1, 1) ∷ (quorumWeight 3 3, 3) ∷ (quorumWeight 3 4, 3) ∷ (quorumWeight 3 6, 5) ∷ (quorumWeight 3 7, 5)
     ∷ (truth (knownBy blank [] 22), 1) ∷ (truth (knownBy blank [] 23), 0)
     ∷ (weightIn (committeeOf blank bonding 22) 5, 0) ∷ (weightIn (committeeOf blank bonding 23) 5, 7)
     ∷ (leaderNumber (leaderOf (weightIn (blank .weights)) 2), 1) ∷ (leaderNumber (leaderOf (weightIn (blank .weights)) 4), 2)

@@ -1,6 +1,6 @@
--- Total weights, and how far changes raise them.
+-- Total weights.
 use mathlib.Core.List.{List}
-use Prim.Native.Nat.{ℕ, _+_, _≤_}
+use Prim.Native.Nat.{ℕ, _<_, _≤_}
 use Rattle.base.specs.Folds.{sumTo}
 use Rattle.sheet.specs.Ranges.{weightIn}
 
@@ -12,6 +12,8 @@ totalIn w = sumTo (weightIn w) 16
 pub record TotalBounded (w : List ℕ) : Type 0 where
   pub total : totalIn w ≤ 562949953421312
 
--- f raises no total by more than c
-unfoldable pub Raises : (List ℕ → List ℕ) → ℕ → Type 0
-Raises f c = (w : List ℕ) → totalIn (f w) ≤ totalIn w + c
+-- member m has a share in the total: a weight of its own
+pub record HasShare (w : List ℕ) (m : ℕ) : Type 0 where
+  pub member : m < 16
+  pub weight : 0 < weightIn w m
+  pub bounded : TotalBounded w

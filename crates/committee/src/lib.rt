@@ -1,7 +1,6 @@
 // Committees as sixteen weights: fault bound, quorums, leaders, and a member's share (scope document: Committees, quorums, leaders).
 pub mod change;
 pub mod leader;
-pub mod rounding;
 
 use sheet::Weight;
 use terms::Member;
@@ -12,10 +11,10 @@ ghost use lib.Dec.{ltb};
 ghost use Rattle.base.specs.Sets.{isIn};
 ghost use Rattle.agreement.specs.Weights.{weigh, total};
 ghost use Rattle.sheet.specs.Ranges.{weightIn};
-ghost use Rattle.committee.specs.Committees.{boundOf, outsider, short, quorum};
+ghost use Rattle.committee.specs.Committees.{MarginFits, boundOf, outsider, short, quorum};
 ghost use Rattle.committee.specs.Leaders.{members};
-ghost use Rattle.committee.specs.Shares.{shareOf};
-ghost use Rattle.committee.specs.Totals.{TotalBounded};
+ghost use Rattle.shares.specs.Shares.{shareOf};
+ghost use Rattle.committee.specs.Totals.{TotalBounded, HasShare};
 
 // Is m a member of the committee?
 pub fn is_member(w: &[u64; 16], m: Member) -> bool
@@ -61,14 +60,15 @@ pub fn set_weight(w: &[u64; 16], set: u32) -> Weight
     Weight(sum)
 }
 
-// The fault bound of a total weight.
-pub fn fault_bound(n: Weight) -> Weight
-    ensures { λ v. ⌜ v .0 ≡ boundOf (n .0) ⌝ }
+// The fault bound of a total weight, by the divisor d.
+pub fn fault_bound(d: u32, n: Weight) -> Weight
+    requires { ⌜ MarginFits d ⌝ }
+    ensures { λ v. ⌜ v .0 ≡ boundOf d (n .0) ⌝ }
 {
     if n.0 == 0 {
         return Weight(0);
     }
-    Weight((n.0 - 1) / 3)
+    Weight((n.0 - 1) / (d as u64))
 }
 
 // Is the member in the set, and outside the committee?
@@ -95,32 +95,32 @@ pub fn has_outsider(w: &[u64; 16], set: u32) -> bool
 }
 
 // Does the set weigh less than a quorum?
-pub fn is_short(w: &[u64; 16], set: u32) -> bool
-    requires { ⌜ TotalBounded (now w) ⌝ }
-    ensures { λ v. ⌜ v ≡ short (weightIn (now (w .entry))) (isIn set) ⌝ }
+pub fn is_short(d: u32, w: &[u64; 16], set: u32) -> bool
+    requires { ⌜ MarginFits d × TotalBounded (now w) ⌝ }
+    ensures { λ v. ⌜ v ≡ short d (weightIn (now (w .entry))) (isIn set) ⌝ }
 {
     let n = total_weight(w);
-    let f = fault_bound(n);
+    let f = fault_bound(d, n);
     let a = set_weight(w, set);
     a.0 < n.0 - f.0
 }
 
 // Is the set a quorum?
-pub fn is_quorum(w: &[u64; 16], set: u32) -> bool
-    requires { ⌜ TotalBounded (now w) ⌝ }
-    ensures { λ v. ⌜ v ≡ quorum (weightIn (now (w .entry))) (isIn set) ⌝ }
+pub fn is_quorum(d: u32, w: &[u64; 16], set: u32) -> bool
+    requires { ⌜ MarginFits d × TotalBounded (now w) ⌝ }
+    ensures { λ v. ⌜ v ≡ quorum d (weightIn (now (w .entry))) (isIn set) ⌝ }
 {
     if has_outsider(w, set) {
         return false;
     }
-    !is_short(w, set)
+    !is_short(d, w, set)
 }
 
 // A member's share: its weight in thousandths of the total, to the nearest, an exact half to the even neighbour.
 pub fn share(w: &[u64; 16], m: Member) -> u32
-    requires { ⌜ (m .0 < 16) × (0 < weightIn (now w) (m .0)) × TotalBounded (now w) ⌝ }
+    requires { ⌜ HasShare (now w) (m .0) ⌝ }
     ensures { λ v. ⌜ v ≡ shareOf (weightIn (now (w .entry)) (m .0)) (total 16 (weightIn (now (w .entry)))) ⌝ }
 {
     let n = total_weight(w);
-    rounding::thousandths(Weight(w[m.0 as usize]), n)
+    shares::thousandths(Weight(w[m.0 as usize]), n)
 }

@@ -1,21 +1,23 @@
 // The reads that a host makes: committee, share, certificate, block, and the length of a table.
-use crate::lengths::COMMITTEE;
-use crate::lengths::HELD;
-use member::Answer;
+use checks::Answer;
 use store::lengths::ROW;
 use terms::Member;
 use terms::Round;
+use words::lengths::COMMITTEE;
+use words::lengths::HELD;
 ghost use mathlib.Core.Path.{_≡_};
+ghost use mathlib.Core.Bool.{true};
 ghost use mathlib.Core.List.{[]};
 ghost use Prim.Native.Nat.{_≤_};
 ghost use lib.ListN.{length};
 ghost use Rattle.store.specs.Table.{used};
-ghost use Rattle.member.specs.Answers.{refusalIn};
-ghost use Rattle.host.specs.Lengths.{heldLength, committeeLength};
-ghost use Rattle.host.specs.Words.{sixteen};
-ghost use Rattle.host.specs.Proposals.{heldWords};
-ghost use Rattle.host.specs.Answers.{Shown};
-ghost use Rattle.host.specs.Calls.{plain, packed, Done, committee, share, certificate, block, over, turn};
+ghost use Rattle.checks.specs.Answers.{refusalIn};
+ghost use Rattle.engine.specs.Calls.{aside, committee, share, certificate, block};
+ghost use Rattle.words.specs.Lengths.{heldLength, committeeLength};
+ghost use Rattle.words.specs.Words.{sixteen};
+ghost use Rattle.words.specs.Proposals.{heldWords};
+ghost use Rattle.hosting.specs.Answers.{over, Shown};
+ghost use Rattle.hosting.specs.Calls.{plain, packed, Done, resultOf};
 
 // Writes the weights of a committee, where the read is accepted.
 fn show_committee(out: &mut [u32], x: reads::CommitteeRead) -> u32
@@ -26,7 +28,7 @@ fn show_committee(out: &mut [u32], x: reads::CommitteeRead) -> u32
     let a = x.answer;
     match a {
         Answer::Accepted => {
-            crate::words::put_weights(out, 0, weights);
+            words::put_weights(out, 0, weights);
             0
         }
         Answer::Refused(n) => n,
@@ -42,7 +44,7 @@ fn show_certificate(out: &mut [u32], x: reads::CertificateRead) -> u32
     let a = x.answer;
     match a {
         Answer::Accepted => {
-            crate::proposals::put_held(out, p, x.endorsers, x.block);
+            words::proposals::put_held(out, p, x.endorsers, x.block);
             0
         }
         Answer::Refused(n) => n,
@@ -57,15 +59,15 @@ pub extern "C" fn forgelilac_committee(
     round: u32,
     out: &mut [u32],
 ) -> u32
-    ensures { λ r. ⌜ Done plain (turn (now (state .entry)) (now (table .entry)) (now (out .entry)) (committee round)) r (now (state .entry)) (now (table .entry)) (now (out .exit)) ⌝ }
+    ensures { λ r. ⌜ Done plain (resultOf (now (state .entry)) (now (table .entry)) (now (out .entry)) true (aside (committee (record { 0 = round })))) r (now (state .entry)) (now (table .entry)) (now (out .exit)) ⌝ }
 {
-    if !crate::states::state_reads(state) {
+    if !words::states::state_reads(state) {
         return 1;
     }
     if out.len() < COMMITTEE {
         return 1;
     }
-    let s = crate::states::state_in(state);
+    let s = words::states::state_in(state);
     let x = reads::committee(s, table, Round(round));
     show_committee(out, x)
 }
@@ -73,14 +75,14 @@ pub extern "C" fn forgelilac_committee(
 // Share of a member: the value is the thousandths.
 #[no_mangle]
 pub extern "C" fn forgelilac_share(state: &[u32], table: &[u32], member: u32, round: u32) -> u64
-    ensures { λ r. ⌜ Done packed (turn (now (state .entry)) (now (table .entry)) [] (share member round)) r (now (state .entry)) (now (table .entry)) [] ⌝ }
+    ensures { λ r. ⌜ Done packed (resultOf (now (state .entry)) (now (table .entry)) [] true (aside (share (record { 0 = member }) (record { 0 = round })))) r (now (state .entry)) (now (table .entry)) [] ⌝ }
 {
-    if !crate::states::state_reads(state) {
-        return crate::answers::unread();
+    if !words::states::state_reads(state) {
+        return hosting::unread();
     }
-    let s = crate::states::state_in(state);
+    let s = words::states::state_in(state);
     let x = reads::share(s, table, Member(member), Round(round));
-    crate::answers::share_number(x)
+    hosting::share_number(x)
 }
 
 // Certificate of a place: its proposal, its endorsers and the number of its block, 0 for none, into out.
@@ -92,15 +94,15 @@ pub extern "C" fn forgelilac_certificate(
     round: u32,
     out: &mut [u32],
 ) -> u32
-    ensures { λ r. ⌜ Done plain (turn (now (state .entry)) (now (table .entry)) (now (out .entry)) (certificate author round)) r (now (state .entry)) (now (table .entry)) (now (out .exit)) ⌝ }
+    ensures { λ r. ⌜ Done plain (resultOf (now (state .entry)) (now (table .entry)) (now (out .entry)) true (aside (certificate (record { 0 = author }) (record { 0 = round })))) r (now (state .entry)) (now (table .entry)) (now (out .exit)) ⌝ }
 {
-    if !crate::states::state_reads(state) {
+    if !words::states::state_reads(state) {
         return 1;
     }
     if out.len() < HELD {
         return 1;
     }
-    let s = crate::states::state_in(state);
+    let s = words::states::state_in(state);
     let x = reads::certificate(s, table, Member(author), Round(round));
     show_certificate(out, x)
 }
@@ -108,14 +110,14 @@ pub extern "C" fn forgelilac_certificate(
 // Block by number: the value is its round.
 #[no_mangle]
 pub extern "C" fn forgelilac_block(state: &[u32], table: &[u32], number: u32) -> u64
-    ensures { λ r. ⌜ Done packed (turn (now (state .entry)) (now (table .entry)) [] (block number)) r (now (state .entry)) (now (table .entry)) [] ⌝ }
+    ensures { λ r. ⌜ Done packed (resultOf (now (state .entry)) (now (table .entry)) [] true (aside (block number))) r (now (state .entry)) (now (table .entry)) [] ⌝ }
 {
-    if !crate::states::state_reads(state) {
-        return crate::answers::unread();
+    if !words::states::state_reads(state) {
+        return hosting::unread();
     }
-    let s = crate::states::state_in(state);
+    let s = words::states::state_in(state);
     let x = reads::block(s, table, number);
-    crate::answers::block_number(x)
+    hosting::block_number(x)
 }
 
 // How many words a table needs for a ceiling.

@@ -9,6 +9,12 @@ use native.Mathlib.Numerals.{add-one}
 use lib.Seq.{sets, take-suc, take-all, length-take-le}
 use Rattle.lines.specs.Puts.{Puts}
 
+-- i of n rounds of a loop have put bytes, and the buffer kept its length
+pub record Putting (t u : List ℕ) (at next : ℕ) (l : List ℕ) (m n i : ℕ) : Type 0 where
+  pub so-far : i ≤ n
+  pub kept : length u ≡ length t
+  pub puts : Puts t u at next l m
+
 -- more bytes after those
 sets-append : (a t : List ℕ) (at : ℕ) (b : List ℕ) → sets (sets t at a) (at + length a) b ≡ sets t at (a ++ b)
 sets-append [] t at b = rw (add-zero at) refl
@@ -48,3 +54,9 @@ puts-all {t} {u} {at} w i e p =
 -- a larger bound
 pub puts-within : {t : List ℕ} {u : List ℕ} {at : ℕ} {next : ℕ} {l : List ℕ} {m : ℕ} (n : ℕ) → m ≤ n → Puts t u at next l m → Puts t u at next l n
 puts-within n h p = let r = p .room in record { bytes = p .bytes; past = p .past; room = omega arith }
+
+pub puts-as : {x : List ℕ} {y : List ℕ} {at : ℕ} {next : ℕ} {l : List ℕ} {m : ℕ} {k : List ℕ} {n : ℕ} → k ≡ l → m ≤ n → Puts x y at next l m → Puts x y at next k n
+puts-as {n = n} e h p = rw e (puts-within n h p)
+
+pub puts-none : {x : List ℕ} {at : ℕ} {l : List ℕ} {n : ℕ} → l ≡ [] → Puts x x at at l n
+puts-none e = rw e (record { bytes = refl; past = omega arith; room = omega arith })

@@ -1,5 +1,5 @@
 -- The order inside a block starts with the author of its anchor: so in every state of a run, for each block of each correct member.
-use mathlib.Core.Path.{_≡_, sym, _∙_, subst}
+use mathlib.Core.Path.{_≡_}
 use mathlib.Core.Bool.{true}
 use mathlib.Core.List.{List, _∷_, _++_}
 use Prim.Native.Nat.{ℕ}
@@ -7,20 +7,15 @@ use Rattle.agreement.specs.Rules.{Block, Chain}
 use Rattle.terms.specs.Proposals.{Content}
 use Rattle.rules.specs.AnchorStarts.{StartsWithAnchor}
 use Rattle.rules.proofs.AnchorStartLaws.{run-starts}
-use Rattle.nonforking.specs.Statement.{chain, Members, Entry, engineAfter, Run}
-use Rattle.nonforking.proofs.StartLaws.{opens-fit}
-use Rattle.nonforking.proofs.Mirrors.{group, mirror}
-use Rattle.nonforking.proofs.RunMirrors.{run-ruled}
-use Rattle.nonforking.proofs.Theorem.{chain-shown}
+use Rattle.nonforking.specs.Statement.{chain, Members, Entry, engineAfter, Run, engineBehaviour}
+use Rattle.nonforking.proofs.StartLaws.{group}
+use Rattle.nonforking.proofs.RunLaws.{run-ruled}
 
-module _ (X : Members) where
+module _ (X : Members engineBehaviour) where
   open Members X using (correct, settings)
 
   -- b is any block of member i's chain, and c the chain below it
   pub starts-with-anchor : (l : List Entry) → Run X l → (i : ℕ) → correct i ≡ true
       → (newer : Chain Content) (b : Block Content) (c : Chain Content) → chain (engineAfter X l i) ≡ newer ++ (b ∷ c)
       → StartsWithAnchor settings (chain (engineAfter X l i)) b c
-  starts-with-anchor l r i ci newer b c e =
-      let z = opens-fit X i ci in
-      let shown = chain-shown X l r z i ci in
-      subst (λ (d : Chain Content). StartsWithAnchor settings d b c) (sym shown) (run-starts (group X z) (mirror X z l) (run-ruled X z l r) i ci newer b c (sym shown ∙ e))
+  starts-with-anchor l r = run-starts (group X) l (run-ruled X l r)

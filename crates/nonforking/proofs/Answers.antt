@@ -1,24 +1,28 @@
 -- The numbers that answer the calls of a list, and a test of them on views.
 use mathlib.Core.Path.{_≡_, refl, ap, _∙_}
-use mathlib.Core.Bool.{Bool, true, _&&_}
+use mathlib.Core.Bool.{Bool, true, false, _&&_}
 use mathlib.Core.List.{List, [], _∷_}
 use Prim.Native.Nat.{ℕ}
 use lib.Dec.{eqb}
 use borrow.Author.Tests.{eqb-true}
-use Rattle.base.specs.Checks.{refusal}
+use Rattle.base.specs.Checks.{Checks, refusal}
 use Rattle.base.proofs.Bools.{both}
 use Rattle.base.proofs.CheckLaws.{passes}
+use Rattle.terms.specs.declared.Member.{Member}
+use Rattle.sheet.specs.declared.Sheet.{Sheet}
 use Rattle.sheet.specs.declared.Settings.{Settings}
+use Rattle.sheet.specs.Ranges.{outOfRange}
 use Rattle.rules.specs.Tests.{MemberView}
+use Rattle.rules.specs.Calls as rules
 use Rattle.rules.specs.Calls.{verdict}
 use Rattle.rules.specs.Reads.{readingCommittee, readingShare, readingCertificate, readingBlock}
 use Rattle.rules.proofs.Runs.{viewAfter}
-use Rattle.nonforking.specs.Engine.{Engine, Call, opens, propose, endorse, certify, accept, advance, commit, committee, share, certificate, block, number}
-use Rattle.nonforking.specs.Statement.{Members, Entry, engineAfter}
-use Rattle.nonforking.specs.Views.{viewAt, ruled, Good}
-use Rattle.nonforking.proofs.CallRefinement.{number-verdict}
-use Rattle.nonforking.proofs.StartLaws.{Fit}
-use Rattle.nonforking.proofs.Mirrors.{group, mirror, mirrored}
+use Rattle.engine.specs.Calls.{Aside, committee, share, certificate, block, listing, Call, opens, propose, endorse, certify, accept, advance, commit, aside}
+use Rattle.engine.specs.Engine.{Engine, asideChecks, refusalFor}
+use Rattle.engine.specs.Steps.{viewAt, ruled}
+use Rattle.engine.specs.Reached.{Good}
+use Rattle.nonforking.specs.Statement.{Members, Entry, engineAfter, engineBehaviour}
+use Rattle.nonforking.proofs.Converses.{refusal-verdict, onTheirViews, shown}
 use Rattle.nonforking.proofs.PlainTests.{isPlain, arePlain, open-refused, plain-found}
 
 -- an entry, and the number that answers it: 0 where it is accepted
@@ -32,55 +36,69 @@ entries (x ∷ l) = x .entry ∷ entries l
 
 -- ---- one call
 
+pub data IsRead : rules.Call → Type 0 where
+  is-read : IsRead rules.read
+
+-- a call is an open, or one that never touches the view, or one that the rules have for no read
+pub data CallCase : Call → Type 0 where
+  an-open : (own : Member) (sheet : Sheet) → CallCase (opens own sheet)
+  an-aside : (x : Aside) → CallCase (aside x)
+  of-rules : (c : Call) → (IsRead (ruled c) → ⊥) → CallCase c
+
+abbrev pub caseOf : (c : Call) → CallCase c
+caseOf (opens own sheet) = an-open own sheet
+caseOf (propose b) = of-rules (propose b) (λ x. elim x [ ])
+caseOf (endorse p) = of-rules (endorse p) (λ x. elim x [ ])
+caseOf (certify d) = of-rules (certify d) (λ x. elim x [ ])
+caseOf (accept c) = of-rules (accept c) (λ x. elim x [ ])
+caseOf advance = of-rules advance (λ x. elim x [ ])
+caseOf commit = of-rules commit (λ x. elim x [ ])
+caseOf (aside x) = an-aside x
+
 module _ (S : Settings) where
+  abbrev asideBy : MemberView S → Aside → Checks
+  asideBy s (committee r) = readingCommittee S s (r .0)
+  asideBy s (share m r) = readingShare S s (m .0) (r .0)
+  asideBy s (certificate m r) = readingCertificate S s (m .0) (r .0)
+  asideBy s (block n) = readingBlock S s n
+  asideBy s listing = []
+
   -- what a view tells of it; an open is one of a number above 15
-  abbrev pub numberBy : ℕ → MemberView S → Call → ℕ
-  numberBy k s (opens own sheet) = 4
-  numberBy k s (propose b) = verdict S k s (ruled (propose b))
-  numberBy k s (endorse p) = verdict S k s (ruled (endorse p))
-  numberBy k s (certify d) = verdict S k s (ruled (certify d))
-  numberBy k s (accept c) = verdict S k s (ruled (accept c))
-  numberBy k s advance = verdict S k s (ruled advance)
-  numberBy k s commit = verdict S k s (ruled commit)
-  numberBy k s (committee r) = refusal (readingCommittee S s (r .0))
-  numberBy k s (share m r) = refusal (readingShare S s (m .0) (r .0))
-  numberBy k s (certificate m r) = refusal (readingCertificate S s (m .0) (r .0))
-  numberBy k s (block n) = refusal (readingBlock S s n)
+  abbrev pub refusalBy : ℕ → MemberView S → {c : Call} → CallCase c → ℕ
+  refusalBy k s (an-open own sheet) = 4
+  refusalBy k s (an-aside x) = refusal (asideBy s x)
+  refusalBy k s (of-rules c n) = verdict S k s (ruled c)
+
+aside-by : (e : Engine) (x : Aside) → asideChecks e x ≡ asideBy (e .state .settings) (viewAt (e .state .settings) e) x
+aside-by e (committee r) = refl
+aside-by e (share m r) = refl
+aside-by e (certificate m r) = refl
+aside-by e (block n) = refl
+aside-by e listing = refl
 
 module _ {S : Settings} {k : ℕ} {e : Engine} (g : Good S k e) where
-  pub number-by : (c : Call) → isPlain c ≡ true → number e c ≡ numberBy S k (viewAt S e) c
-  number-by (opens own sheet) h = open-refused e own sheet h
-  number-by (propose b) h = number-verdict g (propose b) refl
-  number-by (endorse p) h = number-verdict g (endorse p) refl
-  number-by (certify d) h = number-verdict g (certify d) refl
-  number-by (accept c) h = number-verdict g (accept c) refl
-  number-by advance h = number-verdict g advance refl
-  number-by commit h = number-verdict g commit refl
-  number-by (committee r) h =
-      passes 1 _ (rw (g .formed) refl) ∙ ap (λ (T : Settings). refusal (readingCommittee T (viewAt T e) (r .0))) (g .settings)
-  number-by (share m r) h =
-      passes 1 _ (rw (g .formed) refl) ∙ ap (λ (T : Settings). refusal (readingShare T (viewAt T e) (m .0) (r .0))) (g .settings)
-  number-by (certificate m r) h =
-      passes 1 _ (rw (g .formed) refl) ∙ ap (λ (T : Settings). refusal (readingCertificate T (viewAt T e) (m .0) (r .0))) (g .settings)
-  number-by (block n) h =
-      passes 1 _ (rw (g .formed) refl) ∙ ap (λ (T : Settings). refusal (readingBlock T (viewAt T e) n)) (g .settings)
+  pub refusal-by : {c : Call} (x : CallCase c) → isPlain c ≡ true → refusalFor e c ≡ refusalBy S k (viewAt S e) x
+  refusal-by (an-open own sheet) h = open-refused e own sheet h
+  refusal-by (an-aside x) h =
+      passes 1 _ (rw (g .formed) refl) ∙ ap refusal (aside-by e x) ∙ ap (λ (T : Settings). refusal (asideBy T (viewAt T e) x)) (g .settings)
+  refusal-by (of-rules c n) h = refusal-verdict g c (λ q. n (rw q is-read))
 
 -- ---- a list of calls
 
-module _ (X : Members) where
+module _ (X : Members engineBehaviour) where
   open Members X using (correct, settings)
 
   -- each entry is answered with its number
   abbrev pub AreAnswered : List Answered → Type 0
   AreAnswered [] = Unit {0}
-  AreAnswered (x ∷ l) = (number (engineAfter X (entries l) (x .entry .who)) (x .entry .call) ≡ x .answer) × AreAnswered l
+  AreAnswered (x ∷ l) = (refusalFor (engineAfter X (entries l) (x .entry .who)) (x .entry .call) ≡ x .answer) × AreAnswered l
 
-  module _ (fit : Fit X) where
+  module _ (fit : outOfRange settings ≡ false) where
     abbrev pub areAnswered : List Answered → Bool
     areAnswered [] = true
     areAnswered (x ∷ l) =
         let i = x .entry .who in
-        correct i && (eqb (numberBy settings i (viewAfter (group X fit) (mirror X fit (entries l)) i) (x .entry .call)) (x .answer) && areAnswered l)
+        correct i && (eqb (refusalBy settings i (viewAfter (onTheirViews X fit) (entries l) i) (caseOf (x .entry .call))) (x .answer) && areAnswered l)
 
     pub answered-found : (l : List Answered) → arePlain (entries l) ≡ true → areAnswered l ≡ true → AreAnswered l
     answered-found [] p h = tt
@@ -89,6 +107,6 @@ module _ (X : Members) where
         let c = x .entry .call in
         let q = both (isPlain c) (arePlain (entries l)) p in
         let y = both (correct i) _ h in
-        let z = both (eqb (numberBy settings i (viewAfter (group X fit) (mirror X fit (entries l)) i) c) (x .answer)) _ (y .1) in
-        let m = mirrored X fit (entries l) (plain-found X fit (entries l) (q .1)) i (y .0) in
-        (number-by (m .good) c (q .0) ∙ ap (λ (s : MemberView settings). numberBy settings i s c) (m .shows) ∙ eqb-true _ _ (z .0), answered-found l (q .1) (z .1))
+        let z = both (eqb (refusalBy settings i (viewAfter (onTheirViews X fit) (entries l) i) (caseOf c)) (x .answer)) _ (y .1) in
+        let m = shown X fit (entries l) (plain-found X (entries l) (q .1)) i (y .0) in
+        (refusal-by (m .good) (caseOf c) (q .0) ∙ ap (λ (s : MemberView settings). refusalBy settings i s (caseOf c)) (m .shows) ∙ eqb-true _ _ (z .0), answered-found l (q .1) (z .1))

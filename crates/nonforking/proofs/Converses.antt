@@ -1,112 +1,120 @@
--- The converse: a list of calls on engines is a run where the rules' calls on views are one.
-use mathlib.Core.Path.{_≡_, refl, sym, ap, _∙_, subst, subst₂}
+-- The converse: a list of calls is a run of engines where it is one on the views that they show.
+use mathlib.Core.Path.{_≡_, sym, ap, _∙_, subst, subst₂}
 use mathlib.Core.Bool.{true, false}
-use mathlib.Core.Option.{Option, none, some, Option·some-injective, Option·none-ne-some}
 use mathlib.Core.List.{List, [], _∷_}
-use mathlib.Core.Logic.{inl, inr}
+use mathlib.Core.Logic.{_⊎_, inl, inr}
 use Prim.Native.Nat.{ℕ, _≤_}
 use Rattle.agreement.specs.Weights.{weigh, total, outside}
 use Rattle.agreement.specs.Rules.{Chain}
+use Rattle.agreement.proofs.EntryLaws.{related}
 use Rattle.terms.specs.Proposals.{Content, contentWith}
 use Rattle.sheet.specs.declared.Settings.{Settings}
-use Rattle.sheet.specs.Ranges.{weightIn}
+use Rattle.sheet.specs.Sheets.{marginOf}
+use Rattle.sheet.specs.Ranges.{outOfRange, weightIn}
 use Rattle.committee.specs.Committees.{committeeOf, knownBy, boundOf}
 use Rattle.rules.specs.Tests.{MemberView}
 use Rattle.rules.specs.Calls as rules
-use Rattle.rules.specs.Calls.{verdict}
+use Rattle.rules.specs.Calls.{verdict, freshView, result}
 use Rattle.rules.specs.Signatures as signatures
 use Rattle.rules.proofs.Runs as runs
-use Rattle.state.proofs.FormedLaws.{formed}
-use Rattle.state.proofs.ViewLaws.{proposal-some}
-use Rattle.nonforking.specs.Engine.{Engine, Call, opens, propose, endorse, certify, accept, advance, commit, committee, share, certificate, block, number}
-use Rattle.nonforking.specs.Statement.{Members, Entry, Takes, certifies, accepts, Proposes, proposes, Endorses, endorses, engineAfter, Made, Signed, Fair, WithinBound, Run}
-use Rattle.nonforking.specs.Views.{viewAt, ruled, Good}
-use Rattle.nonforking.proofs.VerdictLaws.{isRead}
-use Rattle.nonforking.proofs.AcceptedCalls.{proposal-there}
-use Rattle.nonforking.proofs.CallRefinement.{number-verdict, accepted-verdict}
-use Rattle.nonforking.proofs.StartLaws.{Fit}
-use Rattle.nonforking.proofs.Mirrors.{group, mirror, Plain, mirrored}
+use Rattle.rules.proofs.Runs.{Group, viewAfter}
+use Rattle.rules.proofs.RuleRuns.{onViews, opened}
+use Rattle.engine.specs.Calls.{Call, propose, endorse}
+use Rattle.engine.specs.Engine.{Engine, refusalFor, after}
+use Rattle.engine.specs.Steps.{viewAt, ruled}
+use Rattle.engine.specs.Reached.{Good}
+use Rattle.engine.proofs.RuledLaws.{refusal-ruled, accepted-verdict, good-after, view-after}
+use Rattle.nonforking.specs.Statement.{chain, Members, Entry, Takes, certifies, accepts, Proposes, proposes, Endorses, endorses, engineAfter, Made, Signed, Fair, WithinBound, Run, engineBehaviour}
+use Rattle.nonforking.proofs.Implemented.{Handed}
+use Rattle.nonforking.proofs.StartLaws.{starts, start-view, correct-below, group}
+use Rattle.nonforking.proofs.RunLaws.{proposal-there, AllHanded}
 
 -- ---- one call
 
--- the proposal that a call of the rules endorses
-abbrev endorsedBy : rules.Call → Option Content
-endorsedBy (rules.propose previous l) = none
-endorsedBy (rules.endorse p) = some p
-endorsedBy (rules.certify d) = none
-endorsedBy (rules.accept p d) = none
-endorsedBy rules.advance = none
-endorsedBy rules.commit = none
-endorsedBy rules.read = none
+-- member k's engine e shows the view s
+pub record Shown (S : Settings) (k : ℕ) (e : Engine) (s : MemberView S) : Type 0 where
+  pub good : Good S k e
+  pub shows : viewAt S e ≡ s
 
-endorse-back : (c : Call) (p : Content) → endorsedBy (ruled c) ≡ some p → (isRead (ruled c) ≡ false) × Endorses c p
-endorse-back (opens own sheet) p h = absurd (Option·none-ne-some p h)
-endorse-back (propose b) p h = absurd (Option·none-ne-some p h)
-endorse-back (endorse q) p h = (refl, subst (Endorses (endorse q)) (Option·some-injective _ p h) (endorses q))
-endorse-back (certify d) p h = absurd (Option·none-ne-some p h)
-endorse-back (accept c) p h = absurd (Option·none-ne-some p h)
-endorse-back advance p h = absurd (Option·none-ne-some p h)
-endorse-back commit p h = absurd (Option·none-ne-some p h)
-endorse-back (committee r) p h = absurd (Option·none-ne-some p h)
-endorse-back (share m r) p h = absurd (Option·none-ne-some p h)
-endorse-back (certificate m r) p h = absurd (Option·none-ne-some p h)
-endorse-back (block n) p h = absurd (Option·none-ne-some p h)
+module _ {S : Settings} {k : ℕ} {e : Engine} (g : Good S k e) where
+  propose-back : (c : Call) (p : Content) → signatures.Proposes S k (viewAt S e) (ruled c) p → Proposes e c p
+  propose-back (propose b) p (signatures.proposes x l) = subst (λ (i : ℕ). Proposes e (propose b) (contentWith i (e .state .round .0) b)) (g .own) (proposes b)
 
-module _ (S : Settings) (e : Engine) where
-  propose-back : (k : ℕ) → Good S k e → (c : Call) (p : Content) → signatures.Proposes S k (viewAt S e) (ruled c) p → (isRead (ruled c) ≡ false) × Proposes e c p
-  propose-back k g (propose b) p (signatures.proposes x l) = (refl, subst (λ (i : ℕ). Proposes e (propose b) (contentWith i (e .state .round .0) b)) (g .own) (proposes b))
+  endorse-back : (c : Call) (p : Content) → signatures.Endorses (ruled c) p → Endorses c p
+  endorse-back (endorse q) p (signatures.endorses x) = endorses q
 
-  takes-ruled : (k : ℕ) → Good S k e → (c : Call) → number e c ≡ 0 → (p : Content) (d : ℕ) → Takes e c p d → signatures.Takes S (viewAt S e) (ruled c) p d
-  takes-ruled k g c a p d (certifies x) =
-      signatures.certifies p x (proposal-some (e .state) (proposal-there e (g .formed) (formed (e .state) (e .table) (g .formed)) (g .small) x a))
-  takes-ruled k g c a p d (accepts x) = signatures.accepts p d
+  takes-ruled : (c : Call) → refusalFor e c ≡ 0 → (p : Content) (d : ℕ) → Takes e c p d → signatures.Takes S (viewAt S e) (ruled c) p d
+  takes-ruled c a p d (certifies x) = signatures.certifies p x (proposal-there e x a)
+  takes-ruled c a p d (accepts x) = signatures.accepts p d
+
+  -- a call that is no read of the rules is refused with their number
+  pub refusal-verdict : (c : Call) → (ruled c ≡ rules.read → ⊥) → refusalFor e c ≡ verdict S k (viewAt S e) (ruled c)
+  refusal-verdict c n = go (refusal-ruled g c)
+    where
+      go : (refusalFor e c ≡ verdict S k (viewAt S e) (ruled c)) ⊎ (ruled c ≡ rules.read) → refusalFor e c ≡ verdict S k (viewAt S e) (ruled c)
+      go (inl q) = q
+      go (inr q) = absurd (n q)
 
 -- ---- a list of calls
 
-module _ (X : Members) (fit : Fit X) where
+module _ (X : Members engineBehaviour) (fit : outOfRange (X .settings) ≡ false) where
   open Members X using (correct, settings)
 
-  made-back : (f : Engine → Call → Type 0) (h : MemberView settings → rules.Call → Type 0) (i : ℕ)
-      → ((e : Engine) → Good settings i e → (c : Call) → h (viewAt settings e) (ruled c) → (isRead (ruled c) ≡ false) × f e c)
-      → correct i ≡ true → (l : List Entry) → Plain X fit l → runs.Made (group X fit) h i (mirror X fit l) → Made X f i l
-  made-back f h i g c [] p m = absurd m
-  made-back f h i g c (e ∷ l) p (inl m) =
-      let x = mirrored X fit l (p .2) i c in
-      let y = g (engineAfter X l i) (x .good) (e .call) (subst (λ (s : MemberView settings). h s (ruled (e .call))) (sym (x .shows)) (m .2)) in
+  -- the members, each with the fresh view
+  abbrev pub onTheirViews : Group settings (onViews settings Call ruled)
+  onTheirViews = opened settings Call ruled fit correct (correct-below X)
+
+  pub shown : (l : List Entry) → AllHanded X l → (i : ℕ) → correct i ≡ true → Shown settings i (engineAfter X l i) (viewAfter onTheirViews l i)
+  shown l p i c = related (λ k e c. after e c) (starts X) Handed (λ k s c. result settings k s (ruled c)) (λ k. freshView settings) (Shown settings) next i (record { good = group X .good i c; shows = start-view X i c }) l p
+    where
+      next : (k : ℕ) (e : Engine) (s : MemberView settings) (c : Call) → Handed k e c → Shown settings k e s → Shown settings k (after e c) (result settings k s (ruled c))
+      next k e s c h x =
+          record {
+            good = good-after (x .good) c (h .0) (h .1);
+            shows = view-after (x .good) c (h .0) (h .1) ∙ ap (λ (s : MemberView settings). result settings k s (ruled c)) (x .shows);
+          }
+
+  made-back : (f : Engine → Call → Type 0) (h : MemberView settings → rules.Call → Type 0) (i : ℕ) → ((s : MemberView settings) → h s rules.read → ⊥)
+      → ((e : Engine) → Good settings i e → (c : Call) → h (viewAt settings e) (ruled c) → f e c) → correct i ≡ true → (l : List Entry) → AllHanded X l → runs.Made onTheirViews h i l → Made X f i l
+  made-back f h i n g c [] p m = absurd m
+  made-back f h i n g c (e ∷ l) p (inl m) =
+      let x = shown l (p .1) i c in
+      let y = subst (λ (s : MemberView settings). (verdict settings i s (ruled (e .call)) ≡ 0) × h s (ruled (e .call))) (sym (x .shows)) (m .1, m .2) in
       inl (
         m .0,
-        number-verdict (x .good) (e .call) (y .0) ∙ subst (λ (s : MemberView settings). verdict settings i s (ruled (e .call)) ≡ 0) (sym (x .shows)) (m .1),
-        y .1,
+        refusal-verdict (x .good) (e .call) (λ q. n (viewAt settings (engineAfter X l i)) (subst (h (viewAt settings (engineAfter X l i))) q (y .1))) ∙ y .0,
+        g (engineAfter X l i) (x .good) (e .call) (y .1),
       )
-  made-back f h i g c (e ∷ l) p (inr m) = inr (made-back f h i g c l (p .2) m)
+  made-back f h i n g c (e ∷ l) p (inr m) = inr (made-back f h i n g c l (p .1) m)
 
-  signed-back : (l : List Entry) → Plain X fit l → (p : Content) (d : ℕ) → runs.Signed (group X fit) p d (mirror X fit l) → Signed X p d l
+  signed-back : (l : List Entry) → AllHanded X l → (p : Content) (d : ℕ) → runs.Signed onTheirViews p d l → Signed X p d l
   signed-back l k p d x =
       record {
-        by-author = λ c. made-back (λ e c. Proposes e c p) _ (p .author) (λ e g c. propose-back settings e (p .author) g c p) c l k (x .by-author c);
-        by-endorsers = λ i c n. made-back (λ e c. Endorses c p) (λ s c. c ≡ rules.endorse p) i (λ e g c q. endorse-back c p (ap endorsedBy q)) c l k (x .by-endorsers i c n);
+        by-author = λ c. made-back (λ e c. Proposes e c p) _ (p .author) (λ s z. elim z [ ]) (λ e g c. propose-back g c p) c l k (x .by-author c);
+        by-endorsers = λ i c n. made-back (λ e c. Endorses c p) _ i (λ s z. elim z [ ]) (λ e g c. endorse-back g c p) c l k (x .by-endorsers i c n);
       }
 
-  fair-back : (e : Entry) (l : List Entry) → Plain X fit (e ∷ l) → runs.Fair (group X fit) (record { who = e .who; call = ruled (e .call) }) (mirror X fit l) → Fair X e l
+  fair-back : (e : Entry) (l : List Entry) → AllHanded X (e ∷ l) → runs.Fair onTheirViews e l → Fair X e l
   fair-back e l k x =
       let i = e .who in
-      let m = mirrored X fit l (k .2) i (x .by) in
+      let m = shown l (k .1) i (x .by) in
       record {
         by = x .by;
-        in-range = k .0;
-        still-open = k .1;
-        signed = λ a p d t. signed-back l (k .2) p d (x .signed
+        in-range = k .0 .0;
+        still-open = k .0 .1;
+        signed = λ a p d t. signed-back l (k .1) p d (x .signed
             (subst (λ (s : MemberView settings). verdict settings i s (ruled (e .call)) ≡ 0) (m .shows) (accepted-verdict (m .good) (e .call) a)) p d
-            (subst (λ (s : MemberView settings). signatures.Takes settings s (ruled (e .call)) p d) (m .shows) (takes-ruled settings (engineAfter X l i) i (m .good) (e .call) a p d t)));
+            (subst (λ (s : MemberView settings). signatures.Takes settings s (ruled (e .call)) p d) (m .shows) (takes-ruled (m .good) (e .call) a p d t)));
       }
 
-  bound-back : (l : List Entry) → Plain X fit l → runs.WithinBound (group X fit) (mirror X fit l) → WithinBound X l
-  bound-back l k b j r c from to =
-      let m = mirrored X fit l k j c in
-      subst₂
-      (λ (T : Settings) (x : Chain Content). knownBy T x r ≡ true → weigh 16 (weightIn (committeeOf T x r)) (outside correct) ≤ boundOf (total 16 (weightIn (committeeOf T x r))))
-      (sym (m .good .settings)) (sym (ap (λ (s : MemberView settings). s .chain) (m .shows))) (b j r c (from, to))
+  -- what holds of the settings and the chain of a view holds of the engine that shows it
+  pub by-view : {i : ℕ} {e : Engine} {s : MemberView settings} (P : Settings → Chain Content → Type 0) → Shown settings i e s → P settings (s .chain) → P (e .state .settings) (chain e)
+  by-view P m = subst₂ P (sym (m .good .settings)) (sym (ap (λ (s : MemberView settings). s .chain) (m .shows)))
 
-  pub run-back : (l : List Entry) → Plain X fit l → runs.Run (group X fit) (mirror X fit l) → Run X l
+  bound-back : (l : List Entry) → AllHanded X l → runs.WithinBound onTheirViews l → WithinBound X l
+  bound-back l k b j r c from to =
+      by-view (λ T x. knownBy T x r ≡ true → weigh 16 (weightIn (committeeOf T x r)) (outside correct) ≤ boundOf (marginOf settings) (total 16 (weightIn (committeeOf T x r)))) (shown l k j c) (b j r c (from, to))
+
+  pub run-back : (l : List Entry) → AllHanded X l → runs.Run onTheirViews l → Run X l
   run-back [] k r = bound-back [] k r
-  run-back (e ∷ l) k r = (fair-back e l k (r .0), bound-back (e ∷ l) k (r .1), run-back l (k .2) (r .2))
+  run-back (e ∷ l) k r = (fair-back e l k (r .0), bound-back (e ∷ l) k (r .1), run-back l (k .1) (r .2))

@@ -1,17 +1,14 @@
-pub mod EngineLaws
-pub mod VerdictLaws
-pub mod CommitFacts
-pub mod AcceptedCalls
-pub mod CallRefinement
+-- Demand 3
+pub mod Implemented
 pub mod StartLaws
-pub mod Mirrors
-pub mod RunMirrors
+pub mod RunLaws
 pub mod Theorem
 pub mod Lasting
 pub mod AnchorStarts
-pub mod ReachedLaws
+-- What a held certificate keeps
 pub mod StoredLaws
 pub mod ShownLaws
+-- The premises can be met
 pub mod Converses
 pub mod PlainTests
 pub mod Answers

@@ -9,12 +9,12 @@ use Rattle.base.proofs.Bools.{both}
 use Rattle.base.proofs.CheckLaws.{refuses}
 use Rattle.terms.specs.declared.Member.{Member}
 use Rattle.sheet.specs.declared.Sheet.{Sheet}
-use Rattle.member.specs.Open.{openRefusal}
-use Rattle.nonforking.specs.Engine.{Engine, Call, opens, propose, endorse, certify, accept, advance, commit, committee, share, certificate, block, number}
-use Rattle.nonforking.specs.Statement.{Members, Entry, InRange, engineAfter}
-use Rattle.nonforking.specs.Views.{NoOpen}
-use Rattle.nonforking.proofs.StartLaws.{Fit}
-use Rattle.nonforking.proofs.Mirrors.{Plain}
+use Rattle.open.specs.Open.{openRefusal}
+use Rattle.engine.specs.Calls.{Call, opens, propose, endorse, certify, accept, advance, commit, aside, InRange}
+use Rattle.engine.specs.Engine.{Engine, refusalFor}
+use Rattle.engine.specs.Sequences.{NoOpen}
+use Rattle.nonforking.specs.Statement.{Members, Entry, engineAfter, engineBehaviour}
+use Rattle.nonforking.proofs.RunLaws.{AllHanded}
 
 abbrev pub isPlain : Call → Bool
 isPlain (opens own sheet) = ltb 15 (own .0)
@@ -24,16 +24,13 @@ isPlain (certify d) = ltb d 65536
 isPlain (accept c) = ltb (c .proposal .body .previous) 65536 && ltb (c .endorsers) 65536
 isPlain advance = true
 isPlain commit = true
-isPlain (committee r) = true
-isPlain (share m r) = true
-isPlain (certificate m r) = true
-isPlain (block n) = true
+isPlain (aside x) = true
 
 abbrev pub arePlain : List Entry → Bool
 arePlain [] = true
 arePlain (e ∷ l) = isPlain (e .call) && arePlain l
 
-in-range : (c : Call) → isPlain c ≡ true → InRange c
+pub in-range : (c : Call) → isPlain c ≡ true → InRange c
 in-range (opens own sheet) h = tt
 in-range (propose b) h = ltb-true (b .previous) 65536 h
 in-range (endorse p) h = ltb-true (p .body .previous) 65536 h
@@ -43,24 +40,21 @@ in-range (accept c) h =
     (ltb-true (c .proposal .body .previous) 65536 (x .0), ltb-true (c .endorsers) 65536 (x .1))
 in-range advance h = tt
 in-range commit h = tt
-in-range (committee r) h = tt
-in-range (share m r) h = tt
-in-range (certificate m r) h = tt
-in-range (block n) h = tt
+in-range (aside x) h = tt
 
 -- whatever the table
-pub open-refused : (e : Engine) (own : Member) (sheet : Sheet) → ltb 15 (own .0) ≡ true → number e (opens own sheet) ≡ 4
+pub open-refused : (e : Engine) (own : Member) (sheet : Sheet) → ltb 15 (own .0) ≡ true → refusalFor e (opens own sheet) ≡ 4
 unfolding openRefusal
 open-refused e own sheet h = refuses 4 _ h
 
 no-open : (e : Engine) (c : Call) → isPlain c ≡ true → NoOpen e c
 no-open e c h own sheet q n =
     let k = open-refused e own sheet (subst (λ (x : Call). isPlain x ≡ true) q h) in
-    let z : number e (opens own sheet) ≡ 0 = subst (λ (x : Call). number e x ≡ 0) q n in
+    let z : refusalFor e (opens own sheet) ≡ 0 = subst (λ (x : Call). refusalFor e x ≡ 0) q n in
     absurd (omega (arith, k, z))
 
-pub plain-found : (X : Members) (fit : Fit X) (l : List Entry) → arePlain l ≡ true → Plain X fit l
-plain-found X fit [] h = tt
-plain-found X fit (e ∷ l) h =
+pub plain-found : (X : Members engineBehaviour) (l : List Entry) → arePlain l ≡ true → AllHanded X l
+plain-found X [] h = tt
+plain-found X (e ∷ l) h =
     let x = both (isPlain (e .call)) (arePlain l) h in
-    (in-range (e .call) (x .0), no-open (engineAfter X l (e .who)) (e .call) (x .0), plain-found X fit l (x .1))
+    ((in-range (e .call) (x .0), no-open (engineAfter X l (e .who)) (e .call) (x .0)), plain-found X l (x .1))

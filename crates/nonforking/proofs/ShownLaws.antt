@@ -1,5 +1,5 @@
 -- Over every list of calls the certificate read shows what an accepted certify or accept took: the proposal, and the endorsers that it was stored with.
-use mathlib.Core.Path.{_≡_, refl, sym, ap, _∙_, subst}
+use mathlib.Core.Path.{refl, sym, ap, _∙_, subst}
 use mathlib.Core.List.{List, _∷_}
 use mathlib.Core.Logic.{inl, inr}
 use Prim.Native.Nat.{ℕ, _<_, _≤_}
@@ -8,18 +8,16 @@ use Rattle.store.proofs.TableLaws.{held-member}
 use Rattle.store.proofs.RecordLaws.{proposal-content}
 use Rattle.sheet.specs.declared.Settings.{Settings}
 use Rattle.state.proofs.FormedLaws.{formed}
-use Rattle.member.specs.AllCalls as steps
-use Rattle.member.proofs.PassedLaws.{certify-passed, accept-passed}
 use Rattle.reads.specs.declared.CertificateRead.{CertificateRead}
 use Rattle.reads.proofs.ReadLaws.{HeldThere, certificate-accepted, certificate-given}
-use Rattle.nonforking.specs.Engine.{Engine, Call, certify, accept, number, after}
-use Rattle.nonforking.specs.Statement.{Takes, certifies, accepts}
-use Rattle.nonforking.proofs.EngineLaws.{step-accepted}
-use Rattle.nonforking.proofs.CallRefinement.{good-after}
-use Rattle.nonforking.specs.Sequences.{afterCalls, AllInRange, Opening, opening}
-use Rattle.nonforking.proofs.ReachedLaws.{reached}
-use Rattle.nonforking.specs.Stored.{Holds, Stored, Shows}
-use Rattle.nonforking.proofs.StoredLaws.{stored-held}
+use Rattle.engine.specs.Calls.{Call, InRange}
+use Rattle.engine.specs.Engine.{Engine, after}
+use Rattle.engine.specs.Sequences.{afterCalls, AllInRange, NoOpen, Opening, opening}
+use Rattle.engine.specs.Reached.{Good}
+use Rattle.engine.proofs.RuledLaws.{good-after}
+use Rattle.engine.proofs.ReachedLaws.{reached}
+use Rattle.nonforking.specs.Stored.{Holds, Stored, Shows, StoredShown}
+use Rattle.nonforking.proofs.StoredLaws.{taking-no-open, taken-fits, stored-held}
 
 -- ---- one state
 
@@ -40,27 +38,22 @@ held-shown e a r p d h k =
 abbrev IsRound : Engine → ℕ → Type 0
 IsRound e r = (0 < r) × (r ≤ e .state .settings .ceiling .0)
 
--- that of what an accepted certify or accept took
-taken-round : (e : Engine) (c : Call) → number e c ≡ 0 → (p : Content) (d : ℕ) → Takes e c p d → IsRound (after e c) (p .round)
-taken-round e (certify i) n _ _ (certifies _) =
-    let k = certify-passed (e .state) (e .table) i n .0 .numbers in
-    subst (λ (z : Engine). IsRound z (e .state .round .0)) (sym (step-accepted e (steps.certify i) n)) (k .round-from, k .round-to)
-taken-round e (accept c) n _ _ (accepts _) =
-    let k = accept-passed (e .state) (e .table) c n .1 .0 in
-    subst (λ (z : Engine). IsRound z (c .proposal .round .0)) (sym (step-accepted e (steps.accept c) n)) (k .from, k .to)
+-- it stays one, as long as no open is accepted
+round-stays : {S : Settings} {own : ℕ} {e : Engine} → Good S own e → (c : Call) → InRange c → NoOpen e c → (r : ℕ) → IsRound e r → IsRound (after e c) r
+round-stays g c w o r = subst (λ (z : Settings). (0 < r) × (r ≤ z .ceiling .0)) (g .settings ∙ sym (good-after g c w o .settings))
 
--- and it stays one, as long as no open is accepted
 stored-round : (x : Opening) (l : List Call) → AllInRange l → (p : Content) (d : ℕ) → Stored (opening x) l p d → IsRound (afterCalls (opening x) l) (p .round)
 unfolding afterCalls
-stored-round x (c ∷ l) i p d (inl k) = taken-round (afterCalls (opening x) l) c (k .0) p d (k .1)
-stored-round x (c ∷ l) i p d (inr k) =
+stored-round x (c ∷ l) i p d (inl k) =
+    let e = afterCalls (opening x) l in
     let g = reached x l (i .1) .good in
-    subst (λ (z : Settings). (0 < p .round) × (p .round ≤ z .ceiling .0)) (g .settings ∙ sym (good-after g c (i .0) (k .0) .settings)) (stored-round x l (i .1) p d (k .1))
+    let f = taken-fits e g c (i .0) (k .0) p d (k .1) .0 in
+    round-stays g c (i .0) (taking-no-open e c p d (k .1)) (p .round) (f .from, f .to)
+stored-round x (c ∷ l) i p d (inr k) = round-stays (reached x l (i .1) .good) c (i .0) (k .0) (p .round) (stored-round x l (i .1) p d (k .1))
 
 -- ---- lists of calls
 
--- from an opening: what an accepted certify or accept took since the last accepted open, the read shows with the endorsers that it was taken with
-pub stored-shown : (x : Opening) (l : List Call) → AllInRange l → (p : Content) (d : ℕ) → Stored (opening x) l p d → Shows (afterCalls (opening x) l) (p .author) (p .round) p d
+pub stored-shown : StoredShown
 stored-shown x l i p d k =
     let e = afterCalls (opening x) l in
     let h = stored-held x l i p d k in

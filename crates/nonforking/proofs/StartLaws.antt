@@ -1,63 +1,49 @@
--- The start: an accepted open leaves a good state, and its view has round 1 and nothing else.
-use mathlib.Core.Path.{_≡_, refl, sym, ap, _∙_, subst}
-use mathlib.Core.Bool.{true, false}
-use mathlib.Core.List.{[]}
+-- The start: each correct member's engine is good and shows round 1 and nothing else. So the members are a group of the rules.
+use mathlib.Core.Path.{_≡_, ap, subst}
+use mathlib.Core.Bool.{true}
 use Prim.Native.Nat.{ℕ, _<_}
 use native.Mathlib.Omega.{arith}
-use Rattle.store.specs.Writes.{clearUsed}
+use Rattle.agreement.specs.Runs.{Initial}
 use Rattle.sheet.specs.declared.Settings.{Settings}
-use Rattle.sheet.specs.Ranges.{outOfRange}
+use Rattle.rules.specs.Tests.{MemberView}
 use Rattle.rules.specs.Calls.{freshView}
-use Rattle.state.specs.States.{fresh}
-use Rattle.state.proofs.FormedLaws.{whole}
-use Rattle.state.proofs.PreservedLaws.{open-formed}
-use Rattle.state.proofs.NextViewLaws.{view-open}
-use Rattle.member.specs.Open.{noBody, openRefusal}
-use Rattle.member.specs.AllCalls.{opens}
-use Rattle.member.proofs.OpenLaws.{Opened, opened}
-use Rattle.nonforking.specs.Engine.{Engine}
-use Rattle.nonforking.specs.Statement.{Members, engineAfter}
-use Rattle.nonforking.proofs.EngineLaws.{step-accepted}
-use Rattle.nonforking.specs.Views.{viewAt, Good}
+use Rattle.rules.proofs.Runs.{Group}
+use Rattle.state.proofs.FormedLaws.{formed}
+use Rattle.engine.specs.Calls.{opens}
+use Rattle.engine.specs.Engine.{Engine, after}
+use Rattle.engine.specs.Steps.{viewAt, Fresh}
+use Rattle.engine.specs.Reached.{Good}
+use Rattle.engine.proofs.ReachedLaws.{opened-fresh, fresh-good}
+use Rattle.nonforking.specs.Statement.{Members, engineBehaviour}
+use Rattle.nonforking.proofs.Implemented.{implementation}
 
--- the settings are in range and correct members have numbers 0 to 15
-pub record Fit (X : Members) : Type 0 where
-  pub in-range : outOfRange (X .settings) ≡ false
-  pub below : (k : ℕ) → X .correct k ≡ true → k < 16
+module _ (X : Members engineBehaviour) where
+  open Members X using (correct, before, sheet, settings)
 
-module _ (X : Members) (k : ℕ) (ck : X .correct k ≡ true) where
-  open Members X using (before, sheet, settings)
+  -- what the accepted opens leave
+  abbrev pub starts : ℕ → Engine
+  starts k = after (before k) (opens (record { 0 = k }) (sheet k))
 
-  -- what the checks of open let pass
-  open-passed : Opened (before k .table) (record { 0 = k }) settings
-  open-passed =
-      opened (before k .table) (record { 0 = k }) settings
-      (subst (λ (S : Settings). openRefusal (before k .table) (record { 0 = k }) S ≡ 0) (X .equal k ck) (X .accepted k ck))
+  module _ (k : ℕ) (c : correct k ≡ true) where
+    begun : Fresh (record { 0 = k }) (sheet k) (before k) (starts k)
+    begun = opened-fresh (before k) (record { 0 = k }) (sheet k) (X .accepted k c)
 
-  -- the engine that the open leaves
-  abbrev begun : Engine
-  begun = record { state = fresh (record { 0 = k }) settings noBody; table = clearUsed (before k .table) (settings .ceiling .0) }
+    pub start-good : Good settings k (starts k)
+    start-good = subst (λ (S : Settings). Good S k (starts k)) (X .equal k c) (fresh-good begun)
 
-  begins : engineAfter X [] k ≡ begun
-  unfolding engineAfter
-  begins =
-      step-accepted (before k) (opens (record { 0 = k }) (sheet k)) (X .accepted k ck)
-      ∙ ap (λ (S : Settings). record { state = fresh (record { 0 = k }) S noBody; table = clearUsed (before k .table) (S .ceiling .0) }) (X .equal k ck)
+    pub start-view : viewAt settings (starts k) ≡ freshView settings
+    start-view = subst (λ (S : Settings). viewAt S (starts k) ≡ freshView S) (X .equal k c) (begun .shows)
 
-  pub start-good : Good settings k (engineAfter X [] k)
-  start-good =
-      let p = open-passed in
-      subst (Good settings k) (sym begins)
-      (record {
-        own = refl;
-        settings = refl;
-        formed = whole _ _ (open-formed (record { 0 = k }) settings noBody (before k .table) (p .member) (p .in-range) (p .weighty) (p .long));
-        small = omega arith;
-      })
+    pub start-initial : Initial (viewAt settings (starts k))
+    start-initial =
+        record {
+          no-proposal = ap (λ (s : MemberView settings). s .proposal) start-view;
+          no-certificate = λ a r. ap (λ (s : MemberView settings). s .dag a r) start-view;
+          no-block = ap (λ (s : MemberView settings). s .chain) start-view;
+        }
 
-  pub start-view : viewAt settings (engineAfter X [] k) ≡ freshView settings
-  start-view = ap (viewAt settings) begins ∙ view-open (record { 0 = k }) settings noBody (before k .table)
+    pub correct-below : k < 16
+    correct-below = let g = start-good in omega (arith, g .own, formed (starts k .state) (starts k .table) (g .formed) .numbers .own)
 
--- where some member is correct, all that it takes follows from accepted opens
-pub opens-fit : (X : Members) (i : ℕ) → X .correct i ≡ true → Fit X
-opens-fit X i c = record { in-range = open-passed X i c .in-range; below = λ k d. open-passed X k d .member }
+  abbrev pub group : Group settings (implementation settings)
+  group = record { correct = correct; below = correct-below; start = starts; good = start-good; fresh = start-initial }

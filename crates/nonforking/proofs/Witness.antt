@@ -16,7 +16,7 @@ use Rattle.base.specs.Sets.{mem, isIn, add, isEmpty}
 use Rattle.agreement.specs.Places.{isPlace, put, mark}
 use Rattle.agreement.specs.Histories.{level, inHistory}
 use Rattle.agreement.specs.Commits.{used, anchorAt, blockOf, blocksOf, taken, committed}
-use Rattle.agreement.specs.Engines.{states}
+use Rattle.agreement.specs.Entries.{states}
 use Rattle.agreement.specs.Listing.{listing}
 use Rattle.terms.specs.declared.Transaction.{Transaction}
 use Rattle.terms.specs.declared.Transaction.the-variants.{Bond}
@@ -27,26 +27,24 @@ use Rattle.terms.specs.Transactions.{noTransaction, bondInRange, sameTransactio
 use Rattle.sheet.specs.declared.Setting.the-variants.{Blank, Written}
 use Rattle.sheet.specs.declared.Sheet.{Sheet}
 use Rattle.sheet.specs.declared.Settings.{Settings}
-use Rattle.sheet.specs.Sheets.{blankWeight, weightAt, filled}
-use Rattle.sheet.specs.Ranges.{outside, outOfRange, weightless}
+use Rattle.sheet.specs.Sheets.{blankWeight, weightAt, filled, marginOf}
+use Rattle.sheet.specs.Ranges.{outside, outOfRange, weightless, weightIn}
 use Rattle.committee.specs.Changes.{changes, changesOf, row, rows}
 use Rattle.committee.specs.Committees.{committeeBy, leaderBy, stepFrom, bondedFrom, committeeOf, startOf, ordered, knownBy, boundOf, quorumWeight, outsider, short, quorum}
 use Rattle.committee.specs.Leaders.{countBelow, memberBelow, memberAt, leaderOf}
 use Rattle.rules.specs.Tests.{committeeIn, badRound, signersOf, above, unknown, missing, unvoted}
 use Rattle.rules.specs.Calls.{verdict, after, result}
-use Rattle.rules.proofs.AcceptedMoves.{setFits}
-use Rattle.rules.proofs.Runs as runs
-use Rattle.rules.proofs.Runs.{viewAfter, chainAfter}
+use Rattle.rules.proofs.Runs.{Group, viewAfter, chainAfter}
+use Rattle.rules.proofs.RuleRuns.{onViews}
 use Rattle.rules.proofs.RunTestLaws.{run-found}
 use Rattle.rules.proofs.RunTests.{isMade, isSigned, isBounded, isFair, isRun}
-use Rattle.member.specs.Open.{closedState, openRefusal}
-use Rattle.nonforking.specs.Engine.{Call, opens, propose, endorse, certify, accept, advance, commit, committee, share, certificate, block}
-use Rattle.nonforking.specs.Statement.{listed, weights, Members, Entry, engineAfter, Run}
-use Rattle.nonforking.proofs.StartLaws.{Fit}
-use Rattle.nonforking.proofs.Mirrors.{group, mirror}
-use Rattle.nonforking.proofs.Theorem.{listed-shown, weights-shown, quorums-shown}
-use Rattle.nonforking.proofs.Converses.{run-back}
-use Rattle.nonforking.proofs.PlainTests.{arePlain, plain-found}
+use Rattle.open.specs.Open.{closedState, openRefusal}
+use Rattle.engine.specs.Steps.{ruled}
+use Rattle.engine.specs.Calls.{Call, opens, propose, endorse, certify, accept, advance, commit, aside, committee, share, certificate, block}
+use Rattle.nonforking.specs.Statement.{listed, weights, Members, Entry, engineAfter, Run, engineBehaviour}
+use Rattle.nonforking.proofs.Implemented.{sets-fit}
+use Rattle.nonforking.proofs.Converses.{Shown, onTheirViews, shown, by-view, run-back}
+use Rattle.nonforking.proofs.PlainTests.{isPlain, arePlain, in-range, plain-found}
 use Rattle.nonforking.proofs.Answers.{Answered, entries, AreAnswered, areAnswered, answered-found}
 use Rattle.nonforking.proofs.Advances.{AdvancesHeld, advancesHeld, advances-found}
 
@@ -68,7 +66,7 @@ sheet-accepted k h =
     rw sheet-filled (passes 4 _ (le-ltb 15 k (omega arith)) ∙ passes 2 _ refl ∙ passes 3 _ refl ∙ passes 1 _ refl ∙ passes-all)
 
 -- each on a table of zeros that is just long enough
-abbrev members : Members
+abbrev members : Members engineBehaviour
 members =
     record {
       correct = λ i. ltb i 3;
@@ -141,8 +139,8 @@ round3 =
 -- all reads, and an open that is refused; member 2 has no block and does not know round 4
 abbrev reading : List Answered
 reading =
-    by 0 (committee (record { 0 = 4 })) ∷ by 0 (share (record { 0 = 2 }) (record { 0 = 4 })) ∷ by 0 (certificate (record { 0 = 3 }) (record { 0 = 1 })) ∷ by 1 (block 1)
-    ∷ refused 8 2 (committee (record { 0 = 4 })) ∷ refused 23 2 (block 1) ∷ refused 4 1 (opens (record { 0 = 16 }) sheet)
+    by 0 (aside (committee (record { 0 = 4 }))) ∷ by 0 (aside (share (record { 0 = 2 }) (record { 0 = 4 }))) ∷ by 0 (aside (certificate (record { 0 = 3 }) (record { 0 = 1 }))) ∷ by 1 (aside (block 1))
+    ∷ refused 8 2 (aside (committee (record { 0 = 4 }))) ∷ refused 23 2 (aside (block 1)) ∷ refused 4 1 (opens (record { 0 = 16 }) sheet)
     ∷ round3
 
 -- the committee of round 4 is the one that the bond changed: total 13, quorum 9; members 0 and 3, weighing 8 and 1, sign
@@ -173,8 +171,8 @@ pub record Witness : Type 0 where
   pub weight-before : weights (engineAfter members calls 1) 3 0 ≡ 3
   pub weight-after : weights (engineAfter members calls 1) 4 0 ≡ 8
   -- the signers of the certificate of round 4 are no quorum of the starting committee, and are one of the changed committee
-  pub short-before : quorum (weights (engineAfter members calls 1) 1) (isIn 9) ≡ false
-  pub enough-after : quorum (weights (engineAfter members calls 1) 4) (isIn 9) ≡ true
+  pub short-before : quorum (marginOf settings) (weights (engineAfter members calls 1) 1) (isIn 9) ≡ false
+  pub enough-after : quorum (marginOf settings) (weights (engineAfter members calls 1) 4) (isIn 9) ≡ true
 
 -- ---- the proof: all is computed on the views of the rules
 
@@ -182,24 +180,22 @@ pub settings-fit : outOfRange settings ≡ false
 unfolding outOfRange outside anyTo
 settings-fit = refl
 
-abbrev fits : Fit members
-fits = record { in-range = settings-fit; below = λ k h. omega (arith, ltb-true k 3 h) }
-
-abbrev ruledCalls : runs.Entries (group members fits)
-ruledCalls = mirror members fits calls
+-- the members' views, after the same calls
+abbrev views : Group settings (onViews settings Call ruled)
+views = onTheirViews members settings-fit
 
 record Computed : Type 0 where
   plain : arePlain calls ≡ true
-  run : isRun (group members fits) (λ k s c. setFits c) ruledCalls ≡ true
-  answers : areAnswered members fits round4 ≡ true
-  advances : advancesHeld members fits calls ≡ true
-  listed-by-0 : listing (ordered settings) (chainAfter (group members fits) ruledCalls 0) ≡ made
-  listed-by-1 : listing (ordered settings) (chainAfter (group members fits) ruledCalls 1) ≡ made
-  listed-by-2 : listing (ordered settings) (chainAfter (group members fits) ruledCalls 2) ≡ []
-  weight-before : committeeIn settings (viewAfter (group members fits) ruledCalls 1) 3 0 ≡ 3
-  weight-after : committeeIn settings (viewAfter (group members fits) ruledCalls 1) 4 0 ≡ 8
-  short-before : quorum (committeeIn settings (viewAfter (group members fits) ruledCalls 1) 1) (isIn 9) ≡ false
-  enough-after : quorum (committeeIn settings (viewAfter (group members fits) ruledCalls 1) 4) (isIn 9) ≡ true
+  run : isRun views (λ k s c. isPlain c) calls ≡ true
+  answers : areAnswered members settings-fit round4 ≡ true
+  advances : advancesHeld members settings-fit calls ≡ true
+  listed-by-0 : listing (ordered settings) (chainAfter views calls 0) ≡ made
+  listed-by-1 : listing (ordered settings) (chainAfter views calls 1) ≡ made
+  listed-by-2 : listing (ordered settings) (chainAfter views calls 2) ≡ []
+  weight-before : committeeIn settings (viewAfter views calls 1) 3 0 ≡ 3
+  weight-after : committeeIn settings (viewAfter views calls 1) 4 0 ≡ 8
+  short-before : quorum (marginOf settings) (committeeIn settings (viewAfter views calls 1) 1) (isIn 9) ≡ false
+  enough-after : quorum (marginOf settings) (committeeIn settings (viewAfter views calls 1) 4) (isIn 9) ≡ true
 
 computed : Computed
 unfolding transactionsOf slotOf tab states result verdict after put mark isPlace refusal badTransactions allInRange bondInRange badPreviousSet isEmpty unknown knownBy committeeOf committeeBy leaderBy stepFrom bondedFrom startOf ordered rows row changesOf changes above missing quorum outsider short quorumWeight boundOf anyTo sumTo isIn mem add signersOf badRound same sameTransactions sameTransaction unvoted anchorAt leaderOf memberAt memberBelow countBelow used blockOf blocksOf taken committed level inHistory listing isMade isSigned isBounded isFair isRun allTo
@@ -220,17 +216,17 @@ computed =
 
 pub witness : Witness
 witness =
-    let plain = plain-found members fits calls (computed .plain) in
-    let run = run-back members fits calls plain (run-found (group members fits) (λ k s c. setFits c) (λ k s c h. h) ruledCalls (computed .run)) in
+    let plain = plain-found members calls (computed .plain) in
+    let at : (i : ℕ) → ltb i 3 ≡ true → Shown settings i (engineAfter members calls i) (viewAfter views calls i) = shown members settings-fit calls plain in
     record {
-      premises = run;
-      answers = answered-found members fits round4 (computed .plain) (computed .answers);
-      advances = advances-found members fits calls plain (computed .advances);
-      listed-by-0 = listed-shown members calls run fits 0 refl ∙ computed .listed-by-0;
-      listed-by-1 = listed-shown members calls run fits 1 refl ∙ computed .listed-by-1;
-      listed-by-2 = listed-shown members calls run fits 2 refl ∙ computed .listed-by-2;
-      weight-before = weights-shown members calls run fits 1 refl 3 0 ∙ computed .weight-before;
-      weight-after = weights-shown members calls run fits 1 refl 4 0 ∙ computed .weight-after;
-      short-before = quorums-shown members calls run fits 1 refl 1 (isIn 9) ∙ computed .short-before;
-      enough-after = quorums-shown members calls run fits 1 refl 4 (isIn 9) ∙ computed .enough-after;
+      premises = run-back members settings-fit calls plain (run-found views (λ k s c. isPlain c) (λ k s c h. sets-fit settings k s c (in-range c h)) calls (computed .run));
+      answers = answered-found members settings-fit round4 (computed .plain) (computed .answers);
+      advances = advances-found members settings-fit calls plain (computed .advances);
+      listed-by-0 = by-view members settings-fit (λ S x. listing (ordered S) x ≡ made) (at 0 refl) (computed .listed-by-0);
+      listed-by-1 = by-view members settings-fit (λ S x. listing (ordered S) x ≡ made) (at 1 refl) (computed .listed-by-1);
+      listed-by-2 = by-view members settings-fit (λ S x. listing (ordered S) x ≡ []) (at 2 refl) (computed .listed-by-2);
+      weight-before = by-view members settings-fit (λ S x. weightIn (committeeOf S x 3) 0 ≡ 3) (at 1 refl) (computed .weight-before);
+      weight-after = by-view members settings-fit (λ S x. weightIn (committeeOf S x 4) 0 ≡ 8) (at 1 refl) (computed .weight-after);
+      short-before = by-view members settings-fit (λ S x. quorum (marginOf settings) (weightIn (committeeOf S x 1)) (isIn 9) ≡ false) (at 1 refl) (computed .short-before);
+      enough-after = by-view members settings-fit (λ S x. quorum (marginOf settings) (weightIn (committeeOf S x 4)) (isIn 9) ≡ true) (at 1 refl) (computed .enough-after);
     }

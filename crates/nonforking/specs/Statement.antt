@@ -1,14 +1,15 @@
 -- Demand 3, the scope document's section "Runs": what is claimed of every list of calls.
 use mathlib.Core.Path.{_≡_}
-use mathlib.Core.Bool.{Bool, true, cond}
+use mathlib.Core.Bool.{Bool, true}
 use mathlib.Core.List.{List, [], _∷_, _++_}
 use mathlib.Core.Logic.{_⊎_, _≢_}
-use Prim.Native.Nat.{ℕ, _≤_, _<_}
-use lib.Dec.{eqb}
+use Prim.Native.Nat.{ℕ, _≤_}
 use Rattle.base.specs.Sets.{isIn}
 use Rattle.agreement.specs.Weights.{weigh, total, outside}
 use Rattle.agreement.specs.Rules.{Chain}
 use Rattle.agreement.specs.Listing.{listing}
+use Rattle.agreement.specs.Entries as entries
+use Rattle.agreement.specs.Entries.{states}
 use Rattle.terms.specs.declared.Member.{Member}
 use Rattle.terms.specs.declared.Body.{Body}
 use Rattle.terms.specs.declared.Proposal.{Proposal}
@@ -16,11 +17,13 @@ use Rattle.terms.specs.declared.Certificate.{Certificate}
 use Rattle.terms.specs.Proposals.{Content, contentWith, contentOf}
 use Rattle.sheet.specs.declared.Sheet.{Sheet}
 use Rattle.sheet.specs.declared.Settings.{Settings}
-use Rattle.sheet.specs.Sheets.{filled}
+use Rattle.sheet.specs.Sheets.{filled, marginOf}
 use Rattle.sheet.specs.Ranges.{weightIn}
 use Rattle.committee.specs.Committees.{committeeOf, ordered, knownBy, boundOf}
 use Rattle.committee.specs.Chain.{chainOf}
-use Rattle.nonforking.specs.Engine.{Engine, Call, opens, propose, endorse, certify, accept, advance, commit, committee, share, certificate, block, number, after}
+use Rattle.engine.specs.Calls.{Call, opens, propose, endorse, certify, accept, InRange}
+use Rattle.engine.specs.Engine as engine
+use Rattle.engine.specs.Engine.{Engine, refusalFor}
 
 -- ---- what an engine shows
 
@@ -50,36 +53,26 @@ draft e b = contentWith (e .state .own .0) (e .state .round .0) b
 
 -- ---- members, and lists of their calls
 
+-- how engines answer: the number that a call is refused with, 0 for none, and what it leaves
+pub record Behaviour : Type 0 where
+  pub refusal : Engine → Call → ℕ
+  pub after : Engine → Call → Engine
+
 -- the members at the start
-pub record Members : Type 0 where
+pub record Members (B : Behaviour) : Type 0 where
   -- any set of numbers may be the correct members (open refuses a number above 15); every other number is faulty
   pub correct : ℕ → Bool
   -- each correct member has opened with its own number and a sheet, on whatever state and table were there; those of other numbers mean nothing
   pub before : ℕ → Engine
   pub sheet : ℕ → Sheet
-  pub accepted : (k : ℕ) → correct k ≡ true → number (before k) (opens (record { 0 = k }) (sheet k)) ≡ 0
+  pub accepted : (k : ℕ) → correct k ≡ true → B .refusal (before k) (opens (record { 0 = k }) (sheet k)) ≡ 0
   -- the filled settings are equal
   pub settings : Settings
   pub equal : (k : ℕ) → correct k ≡ true → filled (sheet k) ≡ settings
 
 -- one call of one member
-pub record Entry : Type 0 where
-  pub who : ℕ
-  pub call : Call
-
--- a set of members is a 16-bit number; all other values are any
-abbrev pub InRange : Call → Type 0
-InRange (opens own sheet) = Unit {0}
-InRange (propose b) = b .previous < 65536
-InRange (endorse p) = p .body .previous < 65536
-InRange (certify d) = d < 65536
-InRange (accept c) = (c .proposal .body .previous < 65536) × (c .endorsers < 65536)
-InRange advance = Unit {0}
-InRange commit = Unit {0}
-InRange (committee r) = Unit {0}
-InRange (share m r) = Unit {0}
-InRange (certificate m r) = Unit {0}
-InRange (block n) = Unit {0}
+abbrev pub Entry : Type 0
+Entry = entries.Entry Call
 
 -- the certificate that a certify makes or an accept hands in: its proposal and its endorsers
 pub data Takes (e : Engine) : Call → Content → ℕ → Type 0 where
@@ -93,18 +86,18 @@ pub data Proposes (e : Engine) : Call → Content → Type 0 where
 pub data Endorses : Call → Content → Type 0 where
   endorses : (p : Proposal) → Endorses (endorse p) (contentOf p)
 
-module _ (X : Members) where
+module _ {B : Behaviour} (X : Members B) where
+  open Behaviour B using (refusal, after)
   open Members X using (correct, before, sheet, settings)
 
   -- member i's engine after a list of entries, newest first: each call gets what the member's last one left
-  unfoldable pub engineAfter : List Entry → ℕ → Engine
-  engineAfter [] i = after (before i) (opens (record { 0 = i }) (sheet i))
-  engineAfter (e ∷ l) i = cond (eqb i (e .who)) (after (engineAfter l i) (e .call)) (engineAfter l i)
+  abbrev pub engineAfter : List Entry → ℕ → Engine
+  engineAfter l i = states (λ k. after) (λ k. after (before k) (opens (record { 0 = k }) (sheet k))) l i
 
   -- the list has an accepted call of member i for which f holds
   abbrev pub Made : (Engine → Call → Type 0) → ℕ → List Entry → Type 0
   Made f i [] = ⊥
-  Made f i (e ∷ l) = ((i ≡ e .who) × (number (engineAfter l i) (e .call) ≡ 0) × f (engineAfter l i) (e .call)) ⊎ Made f i l
+  Made f i (e ∷ l) = ((i ≡ e .who) × (refusal (engineAfter l i) (e .call) ≡ 0) × f (engineAfter l i) (e .call)) ⊎ Made f i l
 
   -- a correct author has an accepted propose of p in the list, and each correct endorser an accepted endorse of it
   pub record Signed (p : Content) (endorsers : ℕ) (l : List Entry) : Type 0 where
@@ -117,14 +110,14 @@ module _ (X : Members) where
     pub by : correct (e .who) ≡ true
     pub in-range : InRange (e .call)
     -- an accepted open is no entry, as it starts another state; a refused one may be
-    pub still-open : (own : Member) (other : Sheet) → e .call ≡ opens own other → number (engineAfter l (e .who)) (e .call) ≢ 0
+    pub still-open : (own : Member) (other : Sheet) → e .call ≡ opens own other → refusal (engineAfter l (e .who)) (e .call) ≢ 0
     -- where a certify or an accept is accepted, the correct signers have signed earlier in the list
-    pub signed : number (engineAfter l (e .who)) (e .call) ≡ 0 → (p : Content) (endorsers : ℕ) → Takes (engineAfter l (e .who)) (e .call) p endorsers → Signed p endorsers l
+    pub signed : refusal (engineAfter l (e .who)) (e .call) ≡ 0 → (p : Content) (endorsers : ℕ) → Takes (engineAfter l (e .who)) (e .call) p endorsers → Signed p endorsers l
 
   -- in the committee of every round that a correct member knows, the faulty members weigh together at most the fault bound
   abbrev pub WithinBound : List Entry → Type 0
   WithinBound l = (j r : ℕ) → correct j ≡ true → 1 ≤ r → r ≤ settings .ceiling .0 → Knows (engineAfter l j) r
-      → weigh 16 (weights (engineAfter l j) r) (outside correct) ≤ boundOf (total 16 (weights (engineAfter l j) r))
+      → weigh 16 (weights (engineAfter l j) r) (outside correct) ≤ boundOf (marginOf settings) (total 16 (weights (engineAfter l j) r))
 
   -- the premises: every entry is fair, and the bound holds at the start and after each entry
   abbrev pub Run : List Entry → Type 0
@@ -139,6 +132,10 @@ module _ (X : Members) where
     pub committees : (i j r : ℕ) → correct i ≡ true → correct j ≡ true → Knows (engineAfter l i) r → Knows (engineAfter l j) r
         → (m : ℕ) → weights (engineAfter l i) r m ≡ weights (engineAfter l j) r m
 
+-- the engine's own, as the contracts of its calls tell it
+abbrev pub engineBehaviour : Behaviour
+engineBehaviour = record { refusal = refusalFor; after = engine.after }
+
 -- demand 3
 abbrev pub DemandThree : Type 0
-DemandThree = (X : Members) (l : List Entry) → Run X l → Agreed X l
+DemandThree = (X : Members engineBehaviour) (l : List Entry) → Run X l → Agreed X l

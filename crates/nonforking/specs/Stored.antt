@@ -3,15 +3,15 @@ use mathlib.Core.Path.{_≡_}
 use mathlib.Core.Bool.{true}
 use mathlib.Core.List.{List, [], _∷_}
 use mathlib.Core.Logic.{_⊎_}
-use Prim.Native.Nat.{ℕ}
+use Prim.Native.Nat.{ℕ, _≤_}
 use Rattle.terms.specs.Proposals.{Content, contentOf}
 use Rattle.store.specs.Table.{heldAt, endorsersAt, contentAt}
-use Rattle.member.specs.declared.Answer.the-variants.{Accepted}
+use Rattle.checks.specs.declared.Answer.the-variants.{Accepted}
 use Rattle.reads.specs.Reads.{certificateAnswer}
-use Rattle.nonforking.specs.Engine.{Engine, Call, number}
+use Rattle.engine.specs.Calls.{Call}
+use Rattle.engine.specs.Engine.{Engine, refusalFor}
+use Rattle.engine.specs.Sequences.{afterCalls, AllInRange, NoOpen, NoOpens, Opening, opening}
 use Rattle.nonforking.specs.Statement.{Takes}
-use Rattle.nonforking.specs.Views.{NoOpen}
-use Rattle.nonforking.specs.Sequences.{afterCalls}
 
 -- the table t holds the certificate of author a and round r, with its proposal p and its endorsers d
 pub record Holds (t : List ℕ) (a r : ℕ) (p : Content) (d : ℕ) : Type 0 where
@@ -22,10 +22,29 @@ pub record Holds (t : List ℕ) (a r : ℕ) (p : Content) (d : ℕ) : Type 0 whe
 -- an accepted certify or accept of the list, newest first, took the certificate of p with the endorsers d, and no open was accepted since
 abbrev pub Stored : Engine → List Call → Content → ℕ → Type 0
 Stored e [] p d = ⊥
-Stored e (c ∷ l) p d = ((number (afterCalls e l) c ≡ 0) × Takes (afterCalls e l) c p d) ⊎ (NoOpen (afterCalls e l) c × Stored e l p d)
+Stored e (c ∷ l) p d = ((refusalFor (afterCalls e l) c ≡ 0) × Takes (afterCalls e l) c p d) ⊎ (NoOpen (afterCalls e l) c × Stored e l p d)
 
 -- the certificate read of author a and round r is accepted, and gives the proposal p and the endorsers d
 pub record Shows (e : Engine) (a r : ℕ) (p : Content) (d : ℕ) : Type 0 where
   pub accepted : certificateAnswer (e .state) (e .table) a r .answer ≡ Accepted
   pub proposal : contentOf (certificateAnswer (e .state) (e .table) a r .proposal) ≡ p
   pub endorsers : certificateAnswer (e .state) (e .table) a r .endorsers ≡ d
+
+-- ---- what is claimed, of every list of calls
+
+-- a held certificate stays held, with its proposal and its endorsers, whatever calls follow, as long as no open is accepted
+abbrev pub CertificateStays : Type 0
+CertificateStays = (e : Engine) (l : List Call) → NoOpens e l → (a r : ℕ) (p : Content) (d : ℕ) → Holds (e .table) a r p d → Holds (afterCalls e l .table) a r p d
+
+-- from an opening: what an accepted certify or accept took since the last accepted open is held, with the endorsers that it took it with
+abbrev pub StoredHeld : Type 0
+StoredHeld = (x : Opening) (l : List Call) → AllInRange l → (p : Content) (d : ℕ) → Stored (opening x) l p d → Holds (afterCalls (opening x) l .table) (p .author) (p .round) p d
+
+-- and what is held an accepted certify or accept took, with those endorsers
+abbrev pub HeldStored : Type 0
+HeldStored = (x : Opening) (l : List Call) → AllInRange l → (a r : ℕ) (p : Content) (d : ℕ) → r ≤ afterCalls (opening x) l .state .settings .ceiling .0
+    → Holds (afterCalls (opening x) l .table) a r p d → Stored (opening x) l p d
+
+-- what is held so, the read shows
+abbrev pub StoredShown : Type 0
+StoredShown = (x : Opening) (l : List Call) → AllInRange l → (p : Content) (d : ℕ) → Stored (opening x) l p d → Shows (afterCalls (opening x) l) (p .author) (p .round) p d

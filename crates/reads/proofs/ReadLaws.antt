@@ -11,14 +11,13 @@ use borrow.Author.Tests.{eq-eqb, ne-eqb, ltb-false, lt-ltb, le-ltb, not-false}
 use Rattle.base.specs.Checks.{refusal}
 use Rattle.base.proofs.CheckLaws.{numbered, passes, refuses, passes-all}
 use Rattle.terms.specs.declared.Proposal.{Proposal}
-use Rattle.store.specs.Table.{Row, Within, heldAt, markAt, endorsersAt, contentAt, blockRound}
+use Rattle.store.specs.Table.{Row, Within, heldAt, markAt, endorsersAt, contentAt, blockRound, proposalOf}
 use Rattle.store.proofs.TableLaws.{certificate-present}
-use Rattle.store.proofs.ScanLaws.{rows-held}
-use Rattle.store.specs.Writes.{proposalOf}
+use Rattle.scan.proofs.ScanLaws.{rows-held}
 use Rattle.sheet.specs.Ranges.{weightIn}
 use Rattle.agreement.specs.Weights.{total}
 use Rattle.agreement.specs.Dag.{isHeld}
-use Rattle.committee.specs.Shares.{shareOf}
+use Rattle.shares.specs.Shares.{shareOf}
 use Rattle.committee.specs.Leaders.{members}
 use Rattle.committee.proofs.ChainLaws.{chain-length}
 use Rattle.rules.specs.Tests.{badRound, unknown, committeeIn}
@@ -31,8 +30,8 @@ use Rattle.state.proofs.ViewLaws.{dag-at, held-dag}
 use Rattle.state.specs.WellFormed.{wellFormed}
 use Rattle.state.specs.Formed.{Formed}
 use Rattle.state.proofs.FormedLaws.{formed, whole}
-use Rattle.member.specs.declared.Answer.the-variants.{Accepted, Refused}
-use Rattle.member.proofs.AnswerLaws.{answer-accepted, answer-refused, left-accepted, left-refused}
+use Rattle.checks.specs.declared.Answer.the-variants.{Accepted, Refused}
+use Rattle.checks.proofs.AnswerLaws.{answer-accepted, answer-refused, if-accepted-new, if-accepted-old}
 use Rattle.reads.specs.declared.CommitteeRead.{CommitteeRead}
 use Rattle.reads.specs.declared.ShareRead.{ShareRead}
 use Rattle.reads.specs.declared.ShareRead.the-variants as share
@@ -56,11 +55,11 @@ module _ (s : State) (t : List ℕ) where
   module _ (r : ℕ) {n : ℕ} (q : n ≡ committeeRefusal s t r) where
     pub committee-refused : n ≢ 0 → _≡_ {A = CommitteeRead} (record { answer = Refused n; weights = replicate 16 0 }) (committeeAnswer s t r)
     unfolding committeeAnswer
-    committee-refused h = rw (← q, answer-refused n h, left-refused n (rules.committeeRead (s .settings) (view s t) r) (replicate 16 0) h) refl
+    committee-refused h = rw (← q, answer-refused n h, if-accepted-old n (rules.committeeRead (s .settings) (view s t) r) (replicate 16 0) h) refl
 
     pub committee-given : {w : List ℕ} → n ≡ 0 → w ≡ rules.committeeRead (s .settings) (view s t) r → _≡_ {A = CommitteeRead} (record { answer = Accepted; weights = w }) (committeeAnswer s t r)
     unfolding committeeAnswer
-    committee-given e i = rw (← q, answer-accepted n e, left-accepted n (rules.committeeRead (s .settings) (view s t) r) (replicate 16 0) e, i) refl
+    committee-given e i = rw (← q, answer-accepted n e, if-accepted-new n (rules.committeeRead (s .settings) (view s t) r) (replicate 16 0) e, i) refl
 
   pub committee-passed : (r : ℕ) → committeeRefusal s t r ≡ 0 → Formed s t
   unfolding committeeRefusal numbered
@@ -140,9 +139,9 @@ module _ (s : State) (t : List ℕ) where
         rw (
           ← q,
           answer-refused n h,
-          left-refused n (shown (view s t .dag m r)) noProposal h,
-          left-refused n (endorsersAt t m r) 0 h,
-          left-refused n (rules.blockNumber (view s t .chain) m r) 0 h,
+          if-accepted-old n (shown (view s t .dag m r)) noProposal h,
+          if-accepted-old n (endorsersAt t m r) 0 h,
+          if-accepted-old n (rules.blockNumber (view s t .chain) m r) 0 h,
         )
         refl
 
@@ -157,9 +156,9 @@ module _ (s : State) (t : List ℕ) where
         rw (
           ← q,
           answer-accepted n e,
-          left-accepted n (shown (view s t .dag m r)) noProposal e,
-          left-accepted n (endorsersAt t m r) 0 e,
-          left-accepted n (rules.blockNumber (view s t .chain) m r) 0 e,
+          if-accepted-new n (shown (view s t .dag m r)) noProposal e,
+          if-accepted-new n (endorsersAt t m r) 0 e,
+          if-accepted-new n (rules.blockNumber (view s t .chain) m r) 0 e,
           d,
           mark-number c t m r (k .from) (k .to) (k .held) (s .blocks) (w .mark),
           i,

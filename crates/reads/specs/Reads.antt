@@ -8,14 +8,13 @@ use lib.Dec.{eqb}
 use Rattle.base.specs.Checks.{refusal}
 use Rattle.terms.specs.declared.Proposal.{Proposal}
 use Rattle.terms.specs.Proposals.{Content}
-use Rattle.store.specs.Table.{endorsersAt}
-use Rattle.store.specs.Writes.{proposalOf}
+use Rattle.store.specs.Table.{endorsersAt, proposalOf}
 use Rattle.rules.specs.Reads as rules
 use Rattle.state.specs.declared.State.{State}
 use Rattle.state.specs.View.{view}
 use Rattle.state.specs.Refusals.{guarded}
-use Rattle.member.specs.Answers.{ifAccepted, answerOf}
-use Rattle.member.specs.Open.{noBody}
+use Rattle.checks.specs.Answers.{ifAccepted, answerOf}
+use Rattle.state.specs.States.{noBody}
 use Rattle.reads.specs.declared.CommitteeRead.{CommitteeRead}
 use Rattle.reads.specs.declared.ShareRead.{ShareRead}
 use Rattle.reads.specs.declared.ShareRead.the-variants as share

@@ -1,5 +1,5 @@
 // The reads: committee, share, certificate, block. They change nothing (scope document: Reads).
-use member::Answer;
+use checks::Answer;
 use state::State;
 use terms::Member;
 use terms::Proposal;
@@ -7,8 +7,7 @@ use terms::Round;
 ghost use mathlib.Core.Path.{_≡_};
 ghost use Prim.Native.Nat.{_<_};
 ghost use Rattle.state.specs.Formed.{Formed};
-ghost use Rattle.member.specs.Answers.{refusalIn};
-ghost use Rattle.reads.specs.Answers.{sharedAnswer, sharedValue, blockedAnswer, blockedValue};
+ghost use Rattle.reads.specs.Answers.{sharedAnswer, sharedValue, blockedAnswer, blockedValue, ReadAnswered, ValueAnswered};
 ghost use Rattle.reads.specs.Reads.{committeeRefusal, committeeAnswer, shareRefusal, shareAnswer, shareValue, certificateRefusal, certificateAnswer, blockRefusal, blockAnswer, blockValue};
 
 // The committee of a round: sixteen weights, 0 for a non-member; all 0 where the read is refused.
@@ -44,7 +43,7 @@ fn committee_refusal(s: State, t: &[u32], r: Round) -> u32
     if !state::well_formed(s, t) {
         return 1;
     }
-    if member::is_bad_round(s.settings, r) {
+    if checks::is_bad_round(s.settings, r) {
         return 5;
     }
     if !bonded::known(t, s.settings, s.blocks, r) {
@@ -54,7 +53,7 @@ fn committee_refusal(s: State, t: &[u32], r: Round) -> u32
 }
 
 pub fn committee(s: State, t: &[u32], r: Round) -> CommitteeRead
-    ensures { λ v. ⌜ (v ≡ committeeAnswer s (now (t .entry)) (r .0)) × (refusalIn (v .answer) ≡ committeeRefusal s (now (t .entry)) (r .0)) ⌝ }
+    ensures { λ v. ⌜ ReadAnswered (committeeAnswer s (now (t .entry)) (r .0)) (committeeRefusal s (now (t .entry)) (r .0)) v (v .answer) ⌝ }
 {
     let n = committee_refusal(s, t, r);
     if n != 0 {
@@ -74,7 +73,7 @@ fn share_of(s: State, t: &[u32], m: Member, r: Round) -> ShareRead
     requires { ⌜ Formed s (now t) × (m .0 < 16) ⌝ }
     ensures { λ v. ⌜ v ≡ shareAnswer s (now (t .entry)) (m .0) (r .0) ⌝ }
 {
-    if member::is_bad_round(s.settings, r) {
+    if checks::is_bad_round(s.settings, r) {
         return ShareRead::Refused(5);
     }
     if !bonded::known(t, s.settings, s.blocks, r) {
@@ -88,7 +87,7 @@ fn share_of(s: State, t: &[u32], m: Member, r: Round) -> ShareRead
 }
 
 pub fn share(s: State, t: &[u32], m: Member, r: Round) -> ShareRead
-    ensures { λ v. ⌜ (v ≡ shareAnswer s (now (t .entry)) (m .0) (r .0)) × (refusalIn (sharedAnswer v) ≡ shareRefusal s (now (t .entry)) (m .0) (r .0)) × (sharedValue v ≡ shareValue s (now (t .entry)) (m .0) (r .0)) ⌝ }
+    ensures { λ v. ⌜ ValueAnswered (shareAnswer s (now (t .entry)) (m .0) (r .0)) (shareRefusal s (now (t .entry)) (m .0) (r .0)) (shareValue s (now (t .entry)) (m .0) (r .0)) v (sharedAnswer v) (sharedValue v) ⌝ }
 {
     if !state::well_formed(s, t) {
         return ShareRead::Refused(1);
@@ -109,7 +108,7 @@ fn certificate_refusal(s: State, t: &[u32], m: Member, r: Round) -> u32
     if 15 < m.0 {
         return 4;
     }
-    if member::is_bad_round(s.settings, r) {
+    if checks::is_bad_round(s.settings, r) {
         return 5;
     }
     if !store::held(t, m, r) {
@@ -119,7 +118,7 @@ fn certificate_refusal(s: State, t: &[u32], m: Member, r: Round) -> u32
 }
 
 pub fn certificate(s: State, t: &[u32], m: Member, r: Round) -> CertificateRead
-    ensures { λ v. ⌜ (v ≡ certificateAnswer s (now (t .entry)) (m .0) (r .0)) × (refusalIn (v .answer) ≡ certificateRefusal s (now (t .entry)) (m .0) (r .0)) ⌝ }
+    ensures { λ v. ⌜ ReadAnswered (certificateAnswer s (now (t .entry)) (m .0) (r .0)) (certificateRefusal s (now (t .entry)) (m .0) (r .0)) v (v .answer) ⌝ }
 {
     let n = certificate_refusal(s, t, m, r);
     if n != 0 {
@@ -143,7 +142,7 @@ pub fn certificate(s: State, t: &[u32], m: Member, r: Round) -> CertificateRead
 }
 
 pub fn block(s: State, t: &[u32], k: u32) -> BlockRead
-    ensures { λ v. ⌜ (v ≡ blockAnswer s (now (t .entry)) k) × (refusalIn (blockedAnswer v) ≡ blockRefusal s (now (t .entry)) k) × (blockedValue v ≡ blockValue s (now (t .entry)) k) ⌝ }
+    ensures { λ v. ⌜ ValueAnswered (blockAnswer s (now (t .entry)) k) (blockRefusal s (now (t .entry)) k) (blockValue s (now (t .entry)) k) v (blockedAnswer v) (blockedValue v) ⌝ }
 {
     if !state::well_formed(s, t) {
         return BlockRead::Refused(1);

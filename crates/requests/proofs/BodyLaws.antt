@@ -10,7 +10,7 @@ use borrow.Author.Tests.{le-ltb}
 use Rattle.terms.specs.declared.Transaction.{Transaction}
 use Rattle.terms.specs.declared.Body.{Body}
 use Rattle.terms.specs.Proposals.{bareBody, transactionsOf, badTransactions}
-use Rattle.terms.proofs.ProposalLaws.{length-transactions, four-slots, unfit-over}
+use Rattle.terms.proofs.ProposalLaws.{length-transactions, four-slots, bad-transactions-over}
 use Rattle.requests.specs.Triples.{before}
 use Rattle.requests.specs.Bodies.{bodyOf, push, pushAll, onto}
 use Rattle.requests.specs.Readings.{triplesOf}
@@ -64,12 +64,12 @@ unfolding bodyOf
 body-transactions p l h = four-slots p l h
 
 -- check 6 sees a body as the transactions that were read, however many
-pub unfit-body : (a p : ℕ) (l : List Transaction) → a ≤ 4 → badTransactions a (transactionsOf (bodyOf p l)) ≡ badTransactions a l
-unfit-body a p l h = go (decLt 4 (length l))
+pub bad-transactions-body : (a p : ℕ) (l : List Transaction) → a ≤ 4 → badTransactions a (transactionsOf (bodyOf p l)) ≡ badTransactions a l
+bad-transactions-body a p l h = go (decLt 4 (length l))
   where
     count : length (transactionsOf (bodyOf p l)) ≡ length l
     count = length-transactions (bodyOf p l) ∙ body-length p l
 
     go : Dec (4 < length l) → badTransactions a (transactionsOf (bodyOf p l)) ≡ badTransactions a l
-    go (yes k) = unfit-over a (transactionsOf (bodyOf p l)) (let c = count in omega arith) ∙ sym (unfit-over a l (omega arith))
+    go (yes k) = bad-transactions-over a (transactionsOf (bodyOf p l)) (let c = count in omega arith) ∙ sym (bad-transactions-over a l (omega arith))
     go (no k) = rw (body-transactions p l (omega arith)) refl

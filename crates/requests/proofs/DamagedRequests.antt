@@ -11,13 +11,15 @@ use Rattle.sheet.specs.declared.Setting.{Setting}
 use Rattle.sheet.specs.declared.Cell.{Cell}
 use Rattle.requests.specs.declared.Kind.{Kind}
 use Rattle.requests.specs.declared.Kind.the-variants.{Unreadable, Open, Propose, Endorse, Certify, Accept, Advance, Commit, Chain}
+use Rattle.requests.specs.declared.Reading.{Reading}
 use Rattle.fields.specs.Fields.{untilComma, fields, fieldsFrom}
 use Rattle.fields.proofs.FieldLaws.{fields-step}
 use Rattle.fields.specs.Numbers.{given, number, set}
 use Rattle.requests.specs.Settings.{setting}
 use Rattle.requests.specs.Kinds.{named}
 use Rattle.requests.specs.Triples.{kindNamed, transaction, before, atKind, atNumber, atAmount}
-use Rattle.requests.specs.Requests.{Request, unreadable, advance, commit, chain, nextBy, atEnd, triplesThen, inFront, cellsIn, weightsThen, byKind, byFields, tooLong, damaged, request}
+use Rattle.requests.specs.Requests.{nextBy, atEnd, triplesThen, inFront, cellsIn, weightsThen, byKind, byFields, tooLong, damaged, request}
+use Rattle.requests.specs.Readings.{unreadable, advance, commit, chain}
 use Rattle.requests.proofs.DamageLaws.{anyDamaged, fields-damaged, Rejects, number-damaged, setting-damaged, kind-damaged, word-damaged}
 
 -- the first of some fields is damaged, or a later one
@@ -68,24 +70,24 @@ cells-damaged (suc n) (f ∷ fs) h = first-or-later f fs h (λ q. rw (setting-da
     last (some x) = refl
 
 -- a request that damaged fields do not make
-Refuses : (List (List ℕ) → Request) → Type 0
+Refuses : (List (List ℕ) → Reading) → Type 0
 Refuses k = (fs : List (List ℕ)) → anyDamaged fs ≡ true → k fs ≡ unreadable
 
-next-damaged : {A : Type 0} (p : List ℕ → Option A) (k : A → List (List ℕ) → Request) → Rejects p → ((x : A) → Refuses (k x)) → Refuses (λ fs. nextBy p fs k)
+next-damaged : {A : Type 0} (p : List ℕ → Option A) (k : A → List (List ℕ) → Reading) → Rejects p → ((x : A) → Refuses (k x)) → Refuses (λ fs. nextBy p fs k)
 unfolding nextBy Rejects Refuses
 next-damaged p k r h [] q = refl
 next-damaged p k r h (f ∷ fs) q = first-or-later f fs q (λ e. rw (r f e) refl) (λ e. after-damage (p f) unreadable _ (λ x. h x fs e))
 
-end-damaged : (r : Request) → Refuses (λ fs. atEnd fs r)
+end-damaged : (r : Reading) → Refuses (λ fs. atEnd fs r)
 unfolding atEnd Refuses
 end-damaged r [] h = none-damaged h
 end-damaged r (f ∷ fs) h = refl
 
-runs-damaged : (k : List Transaction → Request) → Refuses (λ fs. triplesThen fs k)
+runs-damaged : (k : List Transaction → Reading) → Refuses (λ fs. triplesThen fs k)
 unfolding triplesThen Refuses
 runs-damaged k fs h = rw (triples-damaged fs h .0) refl
 
-weights-damaged : (k : List Cell → Request) → Refuses (λ fs. weightsThen fs k)
+weights-damaged : (k : List Cell → Reading) → Refuses (λ fs. weightsThen fs k)
 unfolding weightsThen Refuses
 weights-damaged k fs h = rw (cells-damaged 16 fs h) refl
 

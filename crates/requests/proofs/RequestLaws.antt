@@ -1,4 +1,4 @@
--- Laws of requests: what one field more comes to, and readings of requests.
+-- Laws of requests: what one field more comes to, what the last fields do, and whether the record ends.
 use mathlib.Core.Path.{_≡_, refl, ap, sym, _∙_}
 use mathlib.Core.Bool.{Bool, true, false, cond, true≢false, false≢true}
 use mathlib.Core.List.{List, [], _∷_}
@@ -7,10 +7,9 @@ use native.Mathlib.Omega.{arith}
 use Prim.Native.Nat.{ℕ, _≤_, _<_}
 use lib.ListN.{length}
 use Rattle.terms.specs.declared.Transaction.{Transaction}
+use Rattle.terms.specs.declared.Body.{Body}
 use Rattle.sheet.specs.declared.Setting.{Setting}
 use Rattle.sheet.specs.declared.Cell.{Cell}
-use Rattle.requests.specs.declared.Kind.{Kind}
-use Rattle.requests.specs.declared.Kind.the-variants.{Unreadable}
 use Rattle.requests.specs.declared.Reading.{Reading}
 use Rattle.fields.specs.declared.number.Number.{Number}
 use Rattle.fields.specs.declared.number.Number.the-variants.{NoNumber, Of}
@@ -26,12 +25,12 @@ use Rattle.fields.proofs.CursorLaws.{found-of, found-none}
 use Rattle.requests.proofs.SettingLaws.{setting-of, setting-none}
 use Rattle.requests.specs.Triples.{atKind}
 use Rattle.requests.specs.Bodies.{bodyOf}
-use Rattle.requests.specs.Requests.{Request, unreadable, endorse, accept, nextBy, atEnd, triplesThen, cellsIn, weightsThen, endorseOf, acceptOf}
-use Rattle.requests.specs.Readings.{callReading, plainReading, readingOf, endReading, triplesOf, triplesReading, settingFound, weightsOf}
+use Rattle.requests.specs.Requests.{nextBy, atEnd, triplesThen, cellsIn, weightsThen, endorseOf, acceptOf}
+use Rattle.requests.specs.Readings.{unreadable, endorse, accept, triplesOf, settingFound, weightsOf}
 use Rattle.requests.specs.declared.triple.Triples.{Triples}
 
 -- a field that is read, and one that is not
-module _ {A : Type 0} (p : List ℕ → Option A) (k : A → List (List ℕ) → Request) where
+module _ {A : Type 0} (p : List ℕ → Option A) (k : A → List (List ℕ) → Reading) where
   next-goes : (fs : List (List ℕ)) (x : A) → firstBy p fs ≡ some x → nextBy p fs k ≡ k x (rest fs)
   unfolding nextBy
   next-goes [] x e = let z : _≡_ {A = ℕ} 0 1 = cc in absurd (omega arith)
@@ -51,7 +50,7 @@ pub number-fits : (m : ℕ) (s : List ℕ) (at : ℕ) {r : Number} {n : ℕ} →
 number-fits m s at {r} {n} e q = first-le m (fieldsFrom s at) n (found-of _ n (sym e ∙ q))
 
 -- a step over a number
-module _ (m : ℕ) (s : List ℕ) (at : ℕ) (k : ℕ → List (List ℕ) → Request) {r : Number} (e : r ≡ found (firstBy (numberTo m) (fieldsFrom s at))) where
+module _ (m : ℕ) (s : List ℕ) (at : ℕ) (k : ℕ → List (List ℕ) → Reading) {r : Number} (e : r ≡ found (firstBy (numberTo m) (fieldsFrom s at))) where
   pub number-goes : {n : ℕ} {next : ℕ} → Stepped s at next → r ≡ Of n → nextBy (numberTo m) (fieldsFrom s at) k ≡ k n (fieldsFrom s next)
   number-goes {n} {next} t q = next-goes (numberTo m) k (fieldsFrom s at) n (found-of _ n (sym e ∙ q)) ∙ ap (k n) (sym (t .fields-after))
 
@@ -63,7 +62,7 @@ module _ (m : ℕ) (s : List ℕ) (at : ℕ) (k : ℕ → List (List ℕ) → Re
   number-by (some n) t q = number-goes t q
 
 -- a step over a setting
-module _ (s : List ℕ) (at : ℕ) (k : Setting → List (List ℕ) → Request) {r : SettingRead} (e : r ≡ settingFound (firstBy setting (fieldsFrom s at))) where
+module _ (s : List ℕ) (at : ℕ) (k : Setting → List (List ℕ) → Reading) {r : SettingRead} (e : r ≡ settingFound (firstBy setting (fieldsFrom s at))) where
   pub setting-by : (o : Option Setting) {next : ℕ} → Stepped s at next → r ≡ settingFound o → nextBy setting (fieldsFrom s at) k ≡ given o unreadable (λ x. k x (fieldsFrom s next))
   setting-by none t q = next-fails setting k (fieldsFrom s at) (setting-none _ (sym e ∙ q))
   setting-by (some x) t q = next-goes setting k (fieldsFrom s at) x (setting-of _ x (sym e ∙ q)) ∙ ap (k x) (sym (t .fields-after))
@@ -75,7 +74,7 @@ part-late true fs = refl
 part-late false fs = refl
 
 -- the weights
-module _ (fs : List (List ℕ)) (k : List Cell → Request) {w : Weights} (e : w ≡ weightsOf (cellsIn 16 fs)) where
+module _ (fs : List (List ℕ)) (k : List Cell → Reading) {w : Weights} (e : w ≡ weightsOf (cellsIn 16 fs)) where
   pub weights-go : w .ok ≡ true → weightsThen fs k ≡ k (w .cells)
   unfolding weightsThen
   weights-go q = rw e (go (cellsIn 16 fs) (rw e at q))
@@ -92,46 +91,29 @@ module _ (fs : List (List ℕ)) (k : List Cell → Request) {w : Weights} (e : w
       go none h = refl
       go (some l) h = absurd (true≢false h)
 
--- a reading, by what the request comes to
-pub reads : {r : Reading} {p q : Request} → p ≡ q → r ≡ readingOf q → r ≡ readingOf p
-reads h e = e ∙ sym (ap readingOf h)
-
--- the reading of a call that ends in triples
-pub triples-reading : (K : Kind) (a r p e : ℕ) (fs : List (List ℕ)) (k : List Transaction → Request) → ((l : List Transaction) → readingOf (k l) ≡ callReading K a r (bodyOf p l) e) → triplesReading K a r p e (atKind fs) ≡ readingOf (triplesThen fs k)
-unfolding triplesThen
-triples-reading K a r p e fs k h = go (atKind fs)
-  where
-    go : (o : Option (List Transaction)) → triplesReading K a r p e o ≡ readingOf (given o unreadable k)
-    go none = refl
-    go (some l) = sym (h l)
-
--- the reading of a record of one field
-pub end-reading : (K : Kind) (q : Request) (fs : List (List ℕ)) → readingOf q ≡ plainReading K → endReading K fs ≡ readingOf (atEnd fs q)
-unfolding atEnd
-end-reading K q [] h = sym h
-end-reading K q (f ∷ fs) h = refl
-
 -- whether a record ends at a place
-pub end-past : (q : Request) (s : List ℕ) (at : ℕ) → at ≤ length s → atEnd (fieldsFrom s at) q ≡ unreadable
+pub end-past : (q : Reading) (s : List ℕ) (at : ℕ) → at ≤ length s → atEnd (fieldsFrom s at) q ≡ unreadable
 unfolding atEnd
 end-past q s at h = rw (from-step s at h) refl
 
-pub end-here : (q : Request) (s : List ℕ) (at : ℕ) → length s < at → atEnd (fieldsFrom s at) q ≡ q
+pub end-here : (q : Reading) (s : List ℕ) (at : ℕ) → length s < at → atEnd (fieldsFrom s at) q ≡ q
 unfolding atEnd
 end-here q s at h = rw (from-none s at h) refl
 
 -- a call that ends in triples, by what reading those came to
-module _ (K : Kind) (a r p e : ℕ) (o : Option (List Transaction)) {t : Triples} (q : t ≡ triplesOf p o) where
-  pub triples-stop : t .ok ≡ false → triplesReading K a r p e o ≡ plainReading Unreadable
-  triples-stop h = go o (rw q at h)
+module _ (p : ℕ) (fs : List (List ℕ)) (k : Body → Reading) {t : Triples} (q : t ≡ triplesOf p (atKind fs)) where
+  pub triples-stop : t .ok ≡ false → triplesThen fs (λ l. k (bodyOf p l)) ≡ unreadable
+  unfolding triplesThen
+  triples-stop h = go (atKind fs) (rw q at h)
     where
-      go : (o : Option (List Transaction)) → triplesOf p o .ok ≡ false → triplesReading K a r p e o ≡ plainReading Unreadable
+      go : (o : Option (List Transaction)) → triplesOf p o .ok ≡ false → given o unreadable (λ l. k (bodyOf p l)) ≡ unreadable
       go none h = refl
       go (some l) h = absurd (true≢false h)
 
-  pub triples-go : t .ok ≡ true → triplesReading K a r p e o ≡ callReading K a r (t .body) e
-  triples-go h = rw q (go o (rw q at h))
+  pub triples-go : t .ok ≡ true → triplesThen fs (λ l. k (bodyOf p l)) ≡ k (t .body)
+  unfolding triplesThen
+  triples-go h = rw q (go (atKind fs) (rw q at h))
     where
-      go : (o : Option (List Transaction)) → triplesOf p o .ok ≡ true → triplesReading K a r p e o ≡ callReading K a r (triplesOf p o .body) e
+      go : (o : Option (List Transaction)) → triplesOf p o .ok ≡ true → given o unreadable (λ l. k (bodyOf p l)) ≡ k (triplesOf p o .body)
       go none h = absurd (false≢true h)
       go (some l) h = refl

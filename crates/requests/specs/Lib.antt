@@ -2,5 +2,5 @@ pub mod Kinds
 pub mod Settings
 pub mod Triples
 pub mod Bodies
-pub mod Requests
 pub mod Readings
+pub mod Requests

@@ -1,6 +1,6 @@
--- What the reader of a record answers for each request.
+-- What a record is read as: its kind and its values, blank where its kind has none.
 use mathlib.Core.Bool.{true, false}
-use mathlib.Core.List.{List, [], _∷_}
+use mathlib.Core.List.{List, []}
 use mathlib.Core.Option.{Option, none, some}
 use Prim.Native.Nat.{ℕ}
 use lib.ListN.{replicate}
@@ -18,9 +18,7 @@ use Rattle.requests.specs.declared.triple.Triples.{Triples}
 use Rattle.requests.specs.declared.setting.SettingRead.{SettingRead}
 use Rattle.requests.specs.declared.setting.SettingRead.the-variants.{NoSetting, Is}
 use Rattle.requests.specs.declared.setting.Weights.{Weights}
-use Rattle.fields.specs.Numbers.{given}
 use Rattle.requests.specs.Bodies.{bodyOf, refusedTriples}
-use Rattle.requests.specs.Requests.{Request, unreadable, openAs, propose, endorse, certify, accept, advance, commit, chain}
 
 -- a call of a kind with its author, round, body and endorsers
 abbrev pub callReading : Kind → ℕ → ℕ → Body → ℕ → Reading
@@ -39,8 +37,15 @@ callReading k a r b e =
 abbrev pub plainReading : Kind → Reading
 plainReading k = callReading k 0 0 (bodyOf 0 []) 0
 
-abbrev pub openReading : ℕ → Sheet → Reading
-openReading o s =
+-- ---- the readings of records
+
+-- answers 24
+abbrev pub unreadable : Reading
+unreadable = plainReading Unreadable
+
+-- own number and sheet
+abbrev pub openAs : ℕ → Sheet → Reading
+openAs o s =
     record {
       kind = Open;
       own = record { 0 = o };
@@ -51,31 +56,39 @@ openReading o s =
       endorsers = 0;
     }
 
-abbrev pub readingOf : Request → Reading
-readingOf unreadable = plainReading Unreadable
-readingOf (openAs o s) = openReading o s
-readingOf (propose p l) = callReading Propose 0 0 (bodyOf p l) 0
-readingOf (endorse a r p l) = callReading Endorse a r (bodyOf p l) 0
-readingOf (certify e) = callReading Certify 0 0 (bodyOf 0 []) e
-readingOf (accept a r p e l) = callReading Accept a r (bodyOf p l) e
-readingOf advance = plainReading Advance
-readingOf commit = plainReading Commit
-readingOf chain = plainReading Chain
+-- previous set and transactions
+abbrev pub propose : ℕ → List Transaction → Reading
+propose p l = callReading Propose 0 0 (bodyOf p l) 0
 
--- what a record of one field comes to, by the fields after it
-abbrev pub endReading : Kind → List (List ℕ) → Reading
-endReading k [] = plainReading k
-endReading k (f ∷ fs) = plainReading Unreadable
+-- author, round, previous set and transactions
+abbrev pub endorse : ℕ → ℕ → ℕ → List Transaction → Reading
+endorse a r p l = callReading Endorse a r (bodyOf p l) 0
 
--- what reading triples comes to, alone and at the end of a call
+-- endorsers
+abbrev pub certify : ℕ → Reading
+certify e = callReading Certify 0 0 (bodyOf 0 []) e
+
+-- author, round, previous set, endorsers and transactions
+abbrev pub accept : ℕ → ℕ → ℕ → ℕ → List Transaction → Reading
+accept a r p e l = callReading Accept a r (bodyOf p l) e
+
+abbrev pub advance : Reading
+advance = plainReading Advance
+
+abbrev pub commit : Reading
+commit = plainReading Commit
+
+abbrev pub chain : Reading
+chain = plainReading Chain
+
+-- ---- what the readers of parts give
+
+-- triples, with a previous set
 abbrev pub triplesOf : ℕ → Option (List Transaction) → Triples
 triplesOf p none = refusedTriples
 triplesOf p (some l) = record { ok = true; body = bodyOf p l }
 
-abbrev pub triplesReading : Kind → ℕ → ℕ → ℕ → ℕ → Option (List Transaction) → Reading
-triplesReading k a r p e o = given o (plainReading Unreadable) (λ l. callReading k a r (bodyOf p l) e)
-
--- what reading a setting, and sixteen weights, comes to
+-- a setting, and sixteen weights
 abbrev pub settingFound : Option Setting → SettingRead
 settingFound none = NoSetting
 settingFound (some x) = Is x

@@ -1,4 +1,4 @@
--- What a record asks for.
+-- What a record asks for: how its bytes are read.
 use mathlib.Core.Bool.{Bool, false, cond, _||_}
 use mathlib.Core.List.{List, [], _∷_}
 use mathlib.Core.Option.{Option, none, some}
@@ -8,7 +8,6 @@ use lib.Dec.{eqb, ltb}
 use Rattle.terms.specs.declared.Transaction.{Transaction}
 use Rattle.sheet.specs.declared.Setting.{Setting}
 use Rattle.sheet.specs.declared.Cell.{Cell}
-use Rattle.sheet.specs.declared.Sheet.{Sheet}
 use Rattle.requests.specs.declared.Kind.{Kind}
 use Rattle.requests.specs.declared.Kind.the-variants.{Unreadable, Open, Propose, Endorse, Certify, Accept, Advance, Commit, Chain}
 use Rattle.fields.specs.Fields.{fields}
@@ -16,36 +15,21 @@ use Rattle.fields.specs.Numbers.{given, number, set}
 use Rattle.requests.specs.Settings.{setting}
 use Rattle.requests.specs.Triples.{atKind}
 use Rattle.requests.specs.Kinds.{named}
-
-pub data Request : Type 0 where
-  -- answers 24
-  unreadable : Request
-  -- own number and sheet
-  openAs : ℕ → Sheet → Request
-  -- previous set and transactions
-  propose : ℕ → List Transaction → Request
-  -- author, round, previous set and transactions
-  endorse : ℕ → ℕ → ℕ → List Transaction → Request
-  -- endorsers
-  certify : ℕ → Request
-  -- author, round, previous set, endorsers and transactions
-  accept : ℕ → ℕ → ℕ → ℕ → List Transaction → Request
-  advance : Request
-  commit : Request
-  chain : Request
+use Rattle.requests.specs.declared.Reading.{Reading}
+use Rattle.requests.specs.Readings.{unreadable, openAs, propose, endorse, certify, accept, advance, commit, chain}
 
 -- a field that p reads comes next; k has what it holds, and the fields after it
-unfoldable pub nextBy : {A : Type 0} → (List ℕ → Option A) → List (List ℕ) → (A → List (List ℕ) → Request) → Request
+unfoldable pub nextBy : {A : Type 0} → (List ℕ → Option A) → List (List ℕ) → (A → List (List ℕ) → Reading) → Reading
 nextBy p [] k = unreadable
 nextBy p (f ∷ fs) k = given (p f) unreadable (λ x. k x fs)
 
 -- no field comes next
-unfoldable pub atEnd : List (List ℕ) → Request → Request
+unfoldable pub atEnd : List (List ℕ) → Reading → Reading
 atEnd [] r = r
 atEnd (f ∷ fs) r = unreadable
 
 -- triples come next, and nothing else
-unfoldable pub triplesThen : List (List ℕ) → (List Transaction → Request) → Request
+unfoldable pub triplesThen : List (List ℕ) → (List Transaction → Reading) → Reading
 triplesThen fs k = given (atKind fs) unreadable k
 
 -- one setting more in front
@@ -62,30 +46,30 @@ cellsIn (suc n) [] = none
 cellsIn (suc n) (f ∷ fs) = inFront (setting f) (cellsIn n fs)
 
 -- sixteen weights come next, and nothing else
-unfoldable pub weightsThen : List (List ℕ) → (List Cell → Request) → Request
+unfoldable pub weightsThen : List (List ℕ) → (List Cell → Reading) → Reading
 weightsThen fs k = given (cellsIn 16 fs) unreadable k
 
 -- the fields after the first, by what that one names
-abbrev pub openOf : List (List ℕ) → Request
+abbrev pub openOf : List (List ℕ) → Reading
 openOf fs =
     nextBy number fs (λ own fs. nextBy setting fs (λ l fs. nextBy setting fs (λ c fs. nextBy setting fs (λ a fs.
     weightsThen fs (λ w. openAs own (record { lookback = l; ceiling = c; allowance = a; weights = w }))))))
 
-abbrev pub proposeOf : List (List ℕ) → Request
+abbrev pub proposeOf : List (List ℕ) → Reading
 proposeOf fs = nextBy set fs (λ p fs. triplesThen fs (λ l. propose p l))
 
-abbrev pub endorseOf : List (List ℕ) → Request
+abbrev pub endorseOf : List (List ℕ) → Reading
 endorseOf fs = nextBy number fs (λ a fs. nextBy number fs (λ r fs. nextBy set fs (λ p fs. triplesThen fs (λ l. endorse a r p l))))
 
-abbrev pub certifyOf : List (List ℕ) → Request
+abbrev pub certifyOf : List (List ℕ) → Reading
 certifyOf fs = nextBy set fs (λ e fs. atEnd fs (certify e))
 
-abbrev pub acceptOf : List (List ℕ) → Request
+abbrev pub acceptOf : List (List ℕ) → Reading
 acceptOf fs =
     nextBy number fs (λ a fs. nextBy number fs (λ r fs. nextBy set fs (λ p fs. nextBy set fs (λ e fs.
     triplesThen fs (λ l. accept a r p e l)))))
 
-abbrev pub byKind : Kind → List (List ℕ) → Request
+abbrev pub byKind : Kind → List (List ℕ) → Reading
 byKind Unreadable fs = unreadable
 byKind Open fs = openOf fs
 byKind Propose fs = proposeOf fs
@@ -96,7 +80,7 @@ byKind Advance fs = atEnd fs advance
 byKind Commit fs = atEnd fs commit
 byKind Chain fs = atEnd fs chain
 
-abbrev pub byFields : List (List ℕ) → Request
+abbrev pub byFields : List (List ℕ) → Reading
 byFields [] = unreadable
 byFields (w ∷ fs) = byKind (named w) fs
 
@@ -113,5 +97,5 @@ damaged [] = false
 damaged (b ∷ s) = isMark b || damaged s
 
 -- what the record s, without its CRLF, asks for
-unfoldable pub request : List ℕ → Request
+unfoldable pub request : List ℕ → Reading
 request s = cond (tooLong s || damaged s) unreadable (byFields (fields s))

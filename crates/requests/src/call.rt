@@ -15,8 +15,9 @@ ghost use lib.ListN.{length};
 ghost use Rattle.requests.specs.declared.Kind.the-variants.{Unreadable};
 ghost use Rattle.fields.specs.Fields.{fieldsFrom};
 ghost use Rattle.requests.specs.Triples.{atKind};
-ghost use Rattle.requests.specs.Requests.{openOf, proposeOf, endorseOf, certifyOf, acceptOf};
-ghost use Rattle.requests.specs.Readings.{callReading, plainReading, openReading, readingOf, endReading, triplesOf, triplesReading};
+ghost use Rattle.requests.specs.Bodies.{bodyOf};
+ghost use Rattle.requests.specs.Requests.{atEnd, triplesThen, openOf, proposeOf, endorseOf, certifyOf, acceptOf};
+ghost use Rattle.requests.specs.Readings.{callReading, plainReading, openAs, triplesOf};
 
 // A call of a kind with its author, round, body and endorsers.
 fn call_of(kind: Kind, author: Member, round: Round, body: Body, endorsers: u16) -> Reading
@@ -35,7 +36,7 @@ fn call_of(kind: Kind, author: Member, round: Round, body: Body, endorsers: u16)
 
 // An open with its own number and sheet.
 fn open_of(own: Member, sheet: Sheet) -> Reading
-    ensures { λ r. ⌜ r ≡ openReading (own .0) sheet ⌝ }
+    ensures { λ r. ⌜ r ≡ openAs (own .0) sheet ⌝ }
 {
     Reading {
         kind: Kind::Open,
@@ -66,7 +67,7 @@ pub fn unreadable() -> Reading
 // A record of one field.
 pub fn read_end(rec: &[u8], at: usize, kind: Kind) -> Reading
     requires { ⌜ at ≤ length (now rec) + 1 ⌝ }
-    ensures { λ r. ⌜ r ≡ endReading kind (fieldsFrom (now (rec .entry)) at) ⌝ }
+    ensures { λ r. ⌜ r ≡ atEnd (fieldsFrom (now (rec .entry)) at) (plainReading kind) ⌝ }
 {
     if at <= rec.len() {
         return unreadable();
@@ -94,7 +95,7 @@ fn with_triples(
     endorsers: u16,
 ) -> Reading
     requires { ⌜ (at ≤ length (now rec) + 1) × (length (now rec) ≤ 1022) ⌝ }
-    ensures { λ r. ⌜ r ≡ triplesReading kind (author .0) (round .0) previous endorsers (atKind (fieldsFrom (now (rec .entry)) at)) ⌝ }
+    ensures { λ r. ⌜ r ≡ triplesThen (fieldsFrom (now (rec .entry)) at) (λ l. callReading kind (author .0) (round .0) (bodyOf previous l) endorsers) ⌝ }
 {
     let t = read_triples(rec, at, previous);
     if !t.ok {
@@ -107,7 +108,7 @@ fn with_triples(
 // open, own, lookback, ceiling, allowance, sixteen weights
 pub fn read_open(rec: &[u8], at: usize) -> Reading
     requires { ⌜ at ≤ length (now rec) + 1 ⌝ }
-    ensures { λ r. ⌜ r ≡ readingOf (openOf (fieldsFrom (now (rec .entry)) at)) ⌝ }
+    ensures { λ r. ⌜ r ≡ openOf (fieldsFrom (now (rec .entry)) at) ⌝ }
 {
     let o = fields::number::number_at(rec, at, crate::MOST);
     let own = o.number;
@@ -146,7 +147,7 @@ pub fn read_open(rec: &[u8], at: usize) -> Reading
 // propose, previous, triples
 pub fn read_propose(rec: &[u8], at: usize) -> Reading
     requires { ⌜ (at ≤ length (now rec) + 1) × (length (now rec) ≤ 1022) ⌝ }
-    ensures { λ r. ⌜ r ≡ readingOf (proposeOf (fieldsFrom (now (rec .entry)) at)) ⌝ }
+    ensures { λ r. ⌜ r ≡ proposeOf (fieldsFrom (now (rec .entry)) at) ⌝ }
 {
     let p = fields::number::number_at(rec, at, crate::MOST_SET);
     let x = p.number;
@@ -167,7 +168,7 @@ pub fn read_propose(rec: &[u8], at: usize) -> Reading
 // The fields of an endorse, or of an accept, which has endorsers too.
 fn read_proposal(rec: &[u8], at: usize, certified: bool) -> Reading
     requires { ⌜ (at ≤ length (now rec) + 1) × (length (now rec) ≤ 1022) ⌝ }
-    ensures { λ r. ⌜ r ≡ readingOf (cond certified (acceptOf (fieldsFrom (now (rec .entry)) at)) (endorseOf (fieldsFrom (now (rec .entry)) at))) ⌝ }
+    ensures { λ r. ⌜ r ≡ cond certified (acceptOf (fieldsFrom (now (rec .entry)) at)) (endorseOf (fieldsFrom (now (rec .entry)) at)) ⌝ }
 {
     let a = fields::number::number_at(rec, at, crate::MOST);
     let x = a.number;
@@ -214,7 +215,7 @@ fn read_proposal(rec: &[u8], at: usize, certified: bool) -> Reading
 // endorse, author, round, previous, triples
 pub fn read_endorse(rec: &[u8], at: usize) -> Reading
     requires { ⌜ (at ≤ length (now rec) + 1) × (length (now rec) ≤ 1022) ⌝ }
-    ensures { λ r. ⌜ r ≡ readingOf (endorseOf (fieldsFrom (now (rec .entry)) at)) ⌝ }
+    ensures { λ r. ⌜ r ≡ endorseOf (fieldsFrom (now (rec .entry)) at) ⌝ }
 {
     read_proposal(rec, at, false)
 }
@@ -222,7 +223,7 @@ pub fn read_endorse(rec: &[u8], at: usize) -> Reading
 // certify, endorsers
 pub fn read_certify(rec: &[u8], at: usize) -> Reading
     requires { ⌜ at ≤ length (now rec) + 1 ⌝ }
-    ensures { λ r. ⌜ r ≡ readingOf (certifyOf (fieldsFrom (now (rec .entry)) at)) ⌝ }
+    ensures { λ r. ⌜ r ≡ certifyOf (fieldsFrom (now (rec .entry)) at) ⌝ }
 {
     let e = fields::number::number_at(rec, at, crate::MOST_SET);
     let x = e.number;
@@ -239,7 +240,7 @@ pub fn read_certify(rec: &[u8], at: usize) -> Reading
 // accept, author, round, previous, endorsers, triples
 pub fn read_accept(rec: &[u8], at: usize) -> Reading
     requires { ⌜ (at ≤ length (now rec) + 1) × (length (now rec) ≤ 1022) ⌝ }
-    ensures { λ r. ⌜ r ≡ readingOf (acceptOf (fieldsFrom (now (rec .entry)) at)) ⌝ }
+    ensures { λ r. ⌜ r ≡ acceptOf (fieldsFrom (now (rec .entry)) at) ⌝ }
 {
     read_proposal(rec, at, true)
 }

@@ -10,7 +10,6 @@ use terms::Member;
 use terms::Round;
 ghost use mathlib.Core.Path.{_≡_};
 ghost use Rattle.requests.specs.Requests.{request};
-ghost use Rattle.requests.specs.Readings.{readingOf};
 
 // The largest number, and the largest set of members.
 pub const MOST: u32 = 4294967295;
@@ -43,7 +42,7 @@ pub struct Reading {
 
 // What a record asks for.
 pub fn read(rec: &[u8]) -> Reading
-    ensures { λ r. ⌜ r ≡ readingOf (request (now (rec .entry))) ⌝ }
+    ensures { λ r. ⌜ r ≡ request (now (rec .entry)) ⌝ }
 {
     if 1022 < rec.len() {
         return call::unreadable();

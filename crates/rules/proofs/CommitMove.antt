@@ -21,6 +21,7 @@ use Rattle.agreement.specs.Commits.{anchorAt}
 use Rattle.agreement.proofs.CommitLaws.{commit-move}
 use Rattle.terms.specs.Proposals.{Content}
 use Rattle.sheet.specs.declared.Settings.{Settings}
+use Rattle.sheet.specs.Sheets.{marginOf}
 use Rattle.committee.specs.Committees.{boundOf}
 use Rattle.committee.specs.Instance.{rules}
 use Rattle.committee.proofs.Lawful.{lawful}
@@ -34,7 +35,7 @@ outweighs : (S : Settings) (s : MemberView S) (x : Content) → unvoted S s x �
 unfolding unvoted
 outweighs S s x h =
     let w = committeeIn S s (suc (x .round)) in
-    ltb-true (boundOf (total 16 w)) (weigh 16 w (votes s x)) (not-false (ltb (boundOf (total 16 w)) (weigh 16 w (votes s x))) h)
+    ltb-true (boundOf (marginOf S) (total 16 w)) (weigh 16 w (votes s x)) (not-false (ltb (boundOf (marginOf S) (total 16 w)) (weigh 16 w (votes s x))) h)
 
 -- an odd round from 3 on has one below it
 round-before : (r : ℕ) → (eqb (r % 2) 0 || eqb r 1) ≡ false → suc (r - 1) ≡ r

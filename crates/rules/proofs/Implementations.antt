@@ -1,4 +1,4 @@
--- Engines that do what the rules say: a call is refused and leaves the view, or is an accepted call of the rules. They are engines of the theory.
+-- Implementations of the rules: a call is refused and leaves the view, or is an accepted call of the rules. They are machines of the theory.
 use mathlib.Core.Path.{_≡_}
 use mathlib.Core.Bool.{Bool, true, cond}
 use mathlib.Core.Option.{some}
@@ -11,7 +11,7 @@ use borrow.Author.Tests.{eq-eqb, ne-eqb}
 use Rattle.agreement.specs.View.{Log}
 use Rattle.agreement.specs.Invariants.{Invariant}
 use Rattle.agreement.specs.Moves.{Move, other-call}
-use Rattle.agreement.specs.Engines.{Engine}
+use Rattle.agreement.specs.Machines.{Machine}
 use Rattle.terms.specs.Proposals.{Content}
 use Rattle.sheet.specs.declared.Settings.{Settings}
 use Rattle.committee.specs.Instance.{rules}
@@ -20,13 +20,13 @@ use Rattle.rules.specs.Calls as Calls
 use Rattle.rules.specs.Calls.{verdict}
 use Rattle.rules.specs.Signatures as Signatures
 use Rattle.rules.proofs.AcceptedMoves as AcceptedMoves
-use Rattle.rules.proofs.AcceptedMoves.{setFits, accepted-move}
+use Rattle.rules.proofs.AcceptedMoves.{SetsFit, accepted-move}
 use Rattle.rules.proofs.RoundLaws.{IsRound}
 
 -- from the view s to the view t by an accepted call of member k
 pub record Follows (S : Settings) (k : ℕ) (s : MemberView S) (c : Calls.Call) (t : MemberView S) : Type 0 where
   pub started : 1 ≤ s .round
-  pub fits : setFits c ≡ true
+  pub fits : SetsFit S k s c
   pub accepted : verdict S k s c ≡ 0
   pub becomes : t ≡ Calls.after S k s c
 
@@ -41,9 +41,9 @@ pub record Implementation (S : Settings) : Type 1 where
   pub after : ℕ → State → Call → State
   -- what can be handed in: values in the ranges of their types
   pub Handed : ℕ → State → Call → Type 0
-  -- what every call keeps
+  -- what every such call keeps
   pub Good : ℕ → State → Type 0
-  pub good-after : (k : ℕ) (s : State) (c : Call) → Good k s → Good k (after k s c)
+  pub good-after : (k : ℕ) (s : State) (c : Call) → Handed k s c → Good k s → Good k (after k s c)
   -- held certificates are of rounds 1 to the ceiling
   pub held-rounds : (k : ℕ) (s : State) → Good k s → (a r : ℕ) (p : Content) → view s .dag a r ≡ some p → IsRound S (p .round)
   -- a refused call leaves the view, and an accepted one does what the rules say
@@ -59,30 +59,31 @@ module _ (S : Settings) (correct : ℕ → Bool) (low : (k : ℕ) → correct k 
 
   -- where it is accepted, no signature of a correct member under the certificate that it takes in is forged
   abbrev pub Genuine : Log (rules S) → ℕ → State → Call → Type 0
-  Genuine G k s c = Handed k s c × (answer k s c ≡ 0 → AcceptedMoves.Genuine S correct G k (view s) (ruled c))
+  Genuine G k s c = answer k s c ≡ 0 → AcceptedMoves.Genuine S correct G k (view s) (ruled c)
 
   -- a call is a move
-  pub call-move : (G : Log (rules S)) (k : ℕ) (s : State) (c : Call) → correct k ≡ true → Good k s → Invariant correct G k (view s) (G k) → Genuine G k s c
+  pub call-move : (G : Log (rules S)) (k : ℕ) (s : State) (c : Call) → correct k ≡ true → Good k s → Invariant correct G k (view s) (G k) → Handed k s c → Genuine G k s c
       → Move correct G k (view s) (G k) (view (after k s c)) (signs k s c ++ G k)
   unfolding signs
-  call-move G k s c ck good I g = go (ℕ-discrete (answer k s c) 0)
+  call-move G k s c ck good I handed g = go (ℕ-discrete (answer k s c) 0)
     where
       go : Dec (answer k s c ≡ 0) → Move correct G k (view s) (G k) (view (after k s c)) (cond (eqb (answer k s c) 0) (Signatures.signs S k (view s) (ruled c)) [] ++ G k)
       go (yes e) =
-          let f = follows k s c good (g .0) e in
+          let f = follows k s c good handed e in
           rw (eq-eqb (answer k s c) 0 e, f .becomes)
-          (accepted-move S correct G k (view s) (G k) I (low k ck) (f .started) (ruled c) (f .fits) (g .1 e) (f .accepted))
+          (accepted-move S correct G k (view s) (G k) I (low k ck) (f .started) (ruled c) (f .fits) (g e) (f .accepted))
       go (no n) = rw (ne-eqb (answer k s c) 0 n, refused k s c good n) other-call
 
-  -- so they are engines of the theory
-  abbrev pub engine : Engine (rules S) correct
-  engine =
+  -- so they are machines of the theory
+  abbrev pub machine : Machine (rules S) correct
+  machine =
       record {
         State = State;
         Call = Call;
         view = view;
         after = after;
         signs = signs;
+        Handed = Handed;
         Good = Good;
         good-after = good-after;
         Genuine = Genuine;

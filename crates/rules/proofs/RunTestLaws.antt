@@ -1,6 +1,7 @@
 -- A list of calls that passes the test is a run.
 use mathlib.Core.Path.{_≡_, refl, subst}
 use mathlib.Core.Bool.{Bool, true, false, not, _&&_, _||_, false≢true}
+use mathlib.Core.Option.{Option, none, some}
 use mathlib.Core.List.{[], _∷_}
 use mathlib.Core.Logic.{_⊎_, inl, inr}
 use Prim.Native.Nat.{ℕ, suc}
@@ -11,48 +12,34 @@ use Rattle.base.proofs.Bools.{both}
 use Rattle.base.proofs.TestLaws.{all-at}
 use Rattle.base.specs.Sets.{isIn}
 use Rattle.base.proofs.SetLaws.{in-member}
-use Rattle.agreement.specs.Engines.{Entry}
+use Rattle.agreement.specs.Entries.{Entry}
 use Rattle.terms.specs.Proposals.{Content}
 use Rattle.terms.proofs.ProposalLaws.{same-content}
 use Rattle.sheet.specs.declared.Settings.{Settings}
 use Rattle.rules.specs.Tests.{MemberView}
 use Rattle.rules.specs.Calls as Calls
-use Rattle.rules.specs.Calls.{propose, endorse, certify, accept, advance, commit, read, drafted}
-use Rattle.rules.specs.Signatures.{Proposes, proposes, Takes, certifies, accepts}
+use Rattle.rules.specs.Signatures.{Takes, certifies, accepts}
 use Rattle.rules.proofs.Implementations.{Implementation}
-use Rattle.rules.proofs.Runs.{Group, engines, Entries, stateAfter, viewAfter, Made, Signed, Fair, WithinBound, Run}
-use Rattle.rules.proofs.RunTests.{isPropose, isEndorse, ofCertificate, isMade, isSigned, isBounded, isFair, isRun}
+use Rattle.rules.proofs.Runs.{Group, Entries, stateAfter, viewAfter, Made, Signed, Fair, WithinBound, Run}
+use Rattle.rules.proofs.RunTests.{isOne, endorsedBy, proposedBy, ofCertificate, isMade, isSigned, isBounded, isFair, isRun}
 
 -- a test that holds, or whose condition does not
 implied : (a b : Bool) → (not a || b) ≡ true → a ≡ true → b ≡ true
 implied true b h e = h
 implied false b h e = absurd (false≢true e)
 
+-- what is found is so
+one-found : {P : Content → Type 0} (p : Content) (o : Option ((q : Content) × P q)) → isOne p o ≡ true → P p
+one-found p none h = absurd (false≢true h)
+one-found {P} p (some x) h = subst P (same-content (x .0) p h) (x .1)
+
 module _ (S : Settings) where
-  propose-found : (k : ℕ) (p : Content) (s : MemberView S) (c : Calls.Call) → isPropose S k p s c ≡ true → Proposes S k s c p
-  propose-found k p s (propose previous l) h = subst (λ (q : Content). Proposes S k s (propose previous l) q) (same-content (drafted S k s previous l) p h) (proposes previous l)
-  propose-found k p s (endorse q) h = absurd (false≢true h)
-  propose-found k p s (certify e) h = absurd (false≢true h)
-  propose-found k p s (accept q e) h = absurd (false≢true h)
-  propose-found k p s advance h = absurd (false≢true h)
-  propose-found k p s commit h = absurd (false≢true h)
-  propose-found k p s read h = absurd (false≢true h)
-
-  endorse-found : (p : Content) (s : MemberView S) (c : Calls.Call) → isEndorse S p s c ≡ true → c ≡ endorse p
-  endorse-found p s (propose previous l) h = absurd (false≢true h)
-  endorse-found p s (endorse q) h = subst (λ (z : Content). endorse q ≡ endorse z) (same-content q p h) refl
-  endorse-found p s (certify e) h = absurd (false≢true h)
-  endorse-found p s (accept q e) h = absurd (false≢true h)
-  endorse-found p s advance h = absurd (false≢true h)
-  endorse-found p s commit h = absurd (false≢true h)
-  endorse-found p s read h = absurd (false≢true h)
-
   certificate-found : (s : MemberView S) (c : Calls.Call) (f : Content → ℕ → Bool) → ofCertificate S s c f ≡ true → (p : Content) (e : ℕ) → Takes S s c p e → f p e ≡ true
   certificate-found s c f h p e (certifies q d i) = rw i at h
   certificate-found s c f h p e (accepts q d) = h
 
 module _ {S : Settings} {F : Implementation S} (X : Group S F) where
-  open Implementation F using (State, Call, view, ruled, answer, Handed)
+  open Implementation F using (State, Call, ruled, answer, Handed)
   open Group X using (correct, below)
 
   made-found : (f : MemberView S → Calls.Call → Bool) (g : MemberView S → Calls.Call → Type 0) → ((s : MemberView S) (c : Calls.Call) → f s c ≡ true → g s c) → (i : ℕ) (l : Entries X) → isMade X f i l ≡ true → Made X g i l
@@ -71,12 +58,12 @@ module _ {S : Settings} {F : Implementation S} (X : Group S F) where
   signed-found : (p : Content) (d : ℕ) (l : Entries X) → isSigned X p d l ≡ true → Signed X p d l
   unfolding isSigned
   signed-found p d l h =
-      let x = both (not (correct (p .author)) || isMade X (isPropose S (p .author) p) (p .author) l) _ h in
+      let x = both (not (correct (p .author)) || isMade X (λ s c. isOne p (proposedBy S (p .author) s c)) (p .author) l) _ h in
       record {
-        by-author = λ c. made-found (isPropose S (p .author) p) _ (propose-found S (p .author) p) (p .author) l (implied _ _ (x .0) c);
+        by-author = λ c. made-found (λ s c. isOne p (proposedBy S (p .author) s c)) _ (λ s c. one-found p (proposedBy S (p .author) s c)) (p .author) l (implied _ _ (x .0) c);
         by-endorsers = λ i c n.
-            made-found (isEndorse S p) _ (endorse-found S p) i l
-            (implied (correct i && isIn d i) _ (all-at (λ j. not (correct j && isIn d j) || isMade X (isEndorse S p) j l) 16 i (in-member d i n) (x .1)) (rw (c, n) refl));
+            made-found (λ s c. isOne p (endorsedBy c)) _ (λ s c. one-found p (endorsedBy c)) i l
+            (implied (correct i && isIn d i) _ (all-at (λ j. not (correct j && isIn d j) || isMade X (λ s c. isOne p (endorsedBy c)) j l) 16 i (in-member d i n) (x .1)) (rw (c, n) refl));
       }
 
   bounded-found : (l : Entries X) → isBounded X l ≡ true → WithinBound X l
@@ -87,7 +74,7 @@ module _ {S : Settings} {F : Implementation S} (X : Group S F) where
       leb-true _ _ b
 
   module _ (fits : ℕ → State → Call → Bool) (fit : (k : ℕ) (s : State) (c : Call) → fits k s c ≡ true → Handed k s c) where
-    fair-found : (e : Entry (engines X)) (l : Entries X) → isFair X fits e l ≡ true → Fair X e l
+    fair-found : (e : Entry Call) (l : Entries X) → isFair X fits e l ≡ true → Fair X e l
     unfolding isFair
     fair-found e l h =
         let x = both (correct (e .who)) _ h in

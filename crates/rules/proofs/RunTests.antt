@@ -7,34 +7,43 @@ use lib.Dec.{eqb, leb}
 use Rattle.base.specs.Folds.{allTo}
 use Rattle.base.specs.Sets.{isIn}
 use Rattle.agreement.specs.Weights.{weigh, total, outside}
-use Rattle.agreement.specs.Engines.{Entry}
+use Rattle.agreement.specs.Entries.{Entry}
 use Rattle.terms.specs.Proposals.{Content, same}
 use Rattle.sheet.specs.declared.Settings.{Settings}
+use Rattle.sheet.specs.Sheets.{marginOf}
 use Rattle.committee.specs.Committees.{knownBy, boundOf}
 use Rattle.rules.specs.Tests.{MemberView, committeeIn}
 use Rattle.rules.specs.Calls as Calls
 use Rattle.rules.specs.Calls.{propose, endorse, certify, accept, advance, commit, read, drafted}
+use Rattle.rules.specs.Signatures.{Endorses, endorses, Proposes, proposes}
 use Rattle.rules.proofs.Implementations.{Implementation}
-use Rattle.rules.proofs.Runs.{Group, engines, Entries, stateAfter, viewAfter, chainAfter}
+use Rattle.rules.proofs.Runs.{Group, Entries, stateAfter, viewAfter, chainAfter}
+
+-- there is one, and it is p
+abbrev pub isOne : {P : Content → Type 0} → Content → Option ((q : Content) × P q) → Bool
+isOne p none = false
+isOne p (some x) = same (x .0) p
+
+-- what a call endorses, if anything, with the fact that it does
+abbrev pub endorsedBy : (c : Calls.Call) → Option ((p : Content) × Endorses c p)
+endorsedBy (propose previous l) = none
+endorsedBy (endorse q) = some (q, endorses q)
+endorsedBy (certify e) = none
+endorsedBy (accept q e) = none
+endorsedBy advance = none
+endorsedBy commit = none
+endorsedBy read = none
 
 module _ (S : Settings) where
-  abbrev pub isPropose : ℕ → Content → MemberView S → Calls.Call → Bool
-  isPropose k p s (propose previous l) = same (drafted S k s previous l) p
-  isPropose k p s (endorse q) = false
-  isPropose k p s (certify e) = false
-  isPropose k p s (accept q e) = false
-  isPropose k p s advance = false
-  isPropose k p s commit = false
-  isPropose k p s read = false
-
-  abbrev pub isEndorse : Content → MemberView S → Calls.Call → Bool
-  isEndorse p s (propose previous l) = false
-  isEndorse p s (endorse q) = same q p
-  isEndorse p s (certify e) = false
-  isEndorse p s (accept q e) = false
-  isEndorse p s advance = false
-  isEndorse p s commit = false
-  isEndorse p s read = false
+  -- and what it proposes
+  abbrev pub proposedBy : (k : ℕ) (s : MemberView S) (c : Calls.Call) → Option ((p : Content) × Proposes S k s c p)
+  proposedBy k s (propose previous l) = some (drafted S k s previous l, proposes previous l)
+  proposedBy k s (endorse q) = none
+  proposedBy k s (certify e) = none
+  proposedBy k s (accept q e) = none
+  proposedBy k s advance = none
+  proposedBy k s commit = none
+  proposedBy k s read = none
 
   abbrev pub ofProposal : Option Content → (Content → Bool) → Bool
   ofProposal none f = true
@@ -51,23 +60,23 @@ module _ (S : Settings) where
   ofCertificate s read f = true
 
 module _ {S : Settings} {F : Implementation S} (X : Group S F) where
-  open Implementation F using (State, Call, view, ruled, answer, Handed)
-  open Group X using (correct, below)
+  open Implementation F using (State, Call, ruled, answer)
+  open Group X using (correct)
 
   unfoldable pub isMade : (MemberView S → Calls.Call → Bool) → ℕ → Entries X → Bool
   isMade f i [] = false
   isMade f i (e ∷ l) = (eqb i (e .who) && (eqb (answer i (stateAfter X l i) (e .call)) 0 && f (viewAfter X l i) (ruled (e .call)))) || isMade f i l
 
   unfoldable pub isSigned : Content → ℕ → Entries X → Bool
-  isSigned p d l = (not (correct (p .author)) || isMade (isPropose S (p .author) p) (p .author) l) && allTo (λ i. not (correct i && isIn d i) || isMade (isEndorse S p) i l) 16
+  isSigned p d l = (not (correct (p .author)) || isMade (λ s c. isOne p (proposedBy S (p .author) s c)) (p .author) l) && allTo (λ i. not (correct i && isIn d i) || isMade (λ s c. isOne p (endorsedBy c)) i l) 16
 
   unfoldable pub isBounded : Entries X → Bool
   isBounded l =
-      allTo (λ j. not (correct j) || allTo (λ r. not (knownBy S (chainAfter X l j) r) || leb (weigh 16 (committeeIn S (viewAfter X l j) r) (outside correct)) (boundOf (total 16 (committeeIn S (viewAfter X l j) r)))) (suc (S .ceiling .0))) 16
+      allTo (λ j. not (correct j) || allTo (λ r. not (knownBy S (chainAfter X l j) r) || leb (weigh 16 (committeeIn S (viewAfter X l j) r) (outside correct)) (boundOf (marginOf S) (total 16 (committeeIn S (viewAfter X l j) r)))) (suc (S .ceiling .0))) 16
 
   -- `fits` tests what is handed in
   module _ (fits : ℕ → State → Call → Bool) where
-    unfoldable pub isFair : Entry (engines X) → Entries X → Bool
+    unfoldable pub isFair : Entry Call → Entries X → Bool
     isFair e l =
         correct (e .who)
         && (fits (e .who) (stateAfter X l (e .who)) (e .call)

@@ -9,7 +9,8 @@ use Rattle.agreement.specs.Rules.{Chain}
 use Rattle.agreement.specs.View.{Knows, World}
 use Rattle.agreement.specs.Quorum.{Tolerant}
 use Rattle.agreement.specs.Runs.{Initial}
-use Rattle.agreement.specs.Engines.{Engine, Entry, states}
+use Rattle.agreement.specs.Entries.{Entry, states}
+use Rattle.agreement.specs.Machines.{Machine}
 use Rattle.agreement.specs.Listing.{Lists}
 use Rattle.terms.specs.Proposals.{Content}
 use Rattle.sheet.specs.declared.Settings.{Settings}
@@ -17,10 +18,9 @@ use Rattle.committee.specs.Committees.{ordered}
 use Rattle.committee.specs.Instance.{rules}
 use Rattle.rules.specs.Tests.{MemberView, committeeIn}
 use Rattle.rules.specs.Calls as Calls
-use Rattle.rules.specs.Calls.{endorse}
-use Rattle.rules.specs.Signatures.{Proposes, Takes}
+use Rattle.rules.specs.Signatures.{Endorses, Proposes, Takes}
 use Rattle.rules.proofs.RoundLaws.{IsRound}
-use Rattle.rules.proofs.Implementations.{Implementation, engine}
+use Rattle.rules.proofs.Implementations.{Implementation, machine}
 
 -- the members at the start
 pub record Group (S : Settings) (F : Implementation S) : Type 0 where
@@ -33,19 +33,19 @@ pub record Group (S : Settings) (F : Implementation S) : Type 0 where
   pub fresh : (i : ℕ) → correct i ≡ true → Initial (F .view (start i))
 
 module _ {S : Settings} {F : Implementation S} (X : Group S F) where
-  open Implementation F using (State, view, ruled, answer, Handed)
+  open Implementation F using (State, Call, view, ruled, answer, after, Handed)
   open Group X using (correct, below, start)
 
-  abbrev pub engines : Engine (rules S) correct
-  engines = engine S correct below F
+  abbrev pub asMachine : Machine (rules S) correct
+  asMachine = machine S correct below F
 
   -- a list of entries, newest first: who makes a call, and which
   abbrev pub Entries : Type 0
-  Entries = List (Entry engines)
+  Entries = List (Entry Call)
 
   -- the states after them: each call gets the state that its member's last one left
   abbrev pub stateAfter : Entries → ℕ → State
-  stateAfter l i = states engines start l i
+  stateAfter l i = states after start l i
 
   abbrev pub viewAfter : Entries → World (rules S)
   viewAfter l i = view (stateAfter l i)
@@ -61,10 +61,10 @@ module _ {S : Settings} {F : Implementation S} (X : Group S F) where
   -- a correct author has an accepted propose of p in the list, and each correct endorser an accepted endorse of it
   pub record Signed (p : Content) (endorsers : ℕ) (l : Entries) : Type 0 where
     pub by-author : correct (p .author) ≡ true → Made (λ s c. Proposes S (p .author) s c p) (p .author) l
-    pub by-endorsers : (i : ℕ) → correct i ≡ true → isIn endorsers i ≡ true → Made (λ s c. c ≡ endorse p) i l
+    pub by-endorsers : (i : ℕ) → correct i ≡ true → isIn endorsers i ≡ true → Made (λ s c. Endorses c p) i l
 
   -- an entry after l: a correct member makes a call, and where it is an accepted certify or accept, the correct signers signed earlier
-  pub record Fair (e : Entry engines) (l : Entries) : Type 0 where
+  pub record Fair (e : Entry Call) (l : Entries) : Type 0 where
     pub by : correct (e .who) ≡ true
     pub handed : Handed (e .who) (stateAfter l (e .who)) (e .call)
     pub signed : answer (e .who) (stateAfter l (e .who)) (e .call) ≡ 0

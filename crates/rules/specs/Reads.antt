@@ -13,7 +13,7 @@ use Rattle.agreement.specs.Prefixes.{blockAt}
 use Rattle.terms.specs.Proposals.{Content}
 use Rattle.sheet.specs.declared.Settings.{Settings}
 use Rattle.committee.specs.Committees.{committeeOf}
-use Rattle.committee.specs.Shares.{shareOf}
+use Rattle.shares.specs.Shares.{shareOf}
 use Rattle.committee.specs.Leaders.{members}
 use Rattle.rules.specs.Tests.{MemberView, badRound, committeeIn, unknown}
 

@@ -9,6 +9,10 @@ use Rattle.sheet.specs.declared.Settings.{Settings}
 use Rattle.rules.specs.Tests.{MemberView}
 use Rattle.rules.specs.Calls.{Call, propose, endorse, certify, accept, advance, commit, read, drafted}
 
+-- the call is an endorse of p
+pub data Endorses : Call → Content → Type 0 where
+  endorses : (p : Content) → Endorses (endorse p) p
+
 module _ (S : Settings) where
   -- what member k signs by an accepted call
   abbrev pub signs : ℕ → MemberView S → Call → List Content

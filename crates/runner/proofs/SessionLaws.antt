@@ -9,18 +9,19 @@ use lib.Seq.{take-add, sets-eq, take-append-seam}
 use Rattle.framing.specs.Framing.{remaining}
 use Rattle.lines.specs.Puts.{Puts}
 use Rattle.state.specs.Cached.{Cached}
-use Rattle.member.specs.Open.{closedState}
-use Rattle.answering.proofs.CachedLaws.{known-closed}
+use Rattle.open.specs.Open.{closedState}
+use Rattle.replies.proofs.CachedLaws.{cached-closed}
+use Rattle.replies.specs.Records.{engineOf}
 use Rattle.answering.specs.Streams.{answersTo, output}
-use Rattle.runner.specs.declared.work.Work.{Work}
+use Rattle.serving.specs.declared.Work.{Work}
 use Rattle.runner.specs.declared.Session.{Session}
-use Rattle.runner.specs.Work.{WorkDone}
+use Rattle.serving.specs.Work.{WorkDone}
 use Rattle.runner.specs.Session.{handIn, StartsWith, BufferRefilled, PassServed, SessionInvariant, Fresh}
 
--- bytes that come leave what is known
-pub refilled-known : {w : Work} {end : ℕ} {x : List ℕ} {y : List ℕ} {r : Session} {t : List ℕ} {cache : List ℕ} → BufferRefilled w end x y r → Cached (w .state) t (w .formed) cache
+-- bytes that come leave what is cached
+pub refilled-cached : {w : Work} {end : ℕ} {x : List ℕ} {y : List ℕ} {r : Session} {t : List ℕ} {cache : List ℕ} → BufferRefilled w end x y r → Cached (w .state) t (w .formed) cache
     → Cached (r .work .state) t (r .work .formed) cache
-refilled-known h k = rw (h .state, h .formed) k
+refilled-cached h k = rw (h .state, h .formed) k
 
 drop-take : (a e : ℕ) (l : List ℕ) → drop a (take e l) ≡ take (e - a) (drop a l)
 drop-take zero e l = let q : e - 0 ≡ e = omega arith in rw q refl
@@ -57,7 +58,7 @@ advanced s x {w} {t′} z f h =
       written = put-first (f .next-to) (rw z at (g .puts));
       whole = λ more.
           g .whole (h .came ++ more)
-          ∙ ap (λ (u : List ℕ). g .put ++ answersTo (w .state) t′ (remaining (w .skipping) u)) (sym (append-assoc (handIn x (w .from) (s .end)) (h .came) more))
+          ∙ ap (λ (u : List ℕ). g .put ++ answersTo (engineOf (w .state) t′) (remaining (w .skipping) u)) (sym (append-assoc (handIn x (w .from) (s .end)) (h .came) more))
           ∙ rw (h .state, h .skipping, h .hand) refl;
       ended = λ e.
           let c = h .ended e in
@@ -65,8 +66,8 @@ advanced s x {w} {t′} z f h =
     }
 
 -- the state is not well formed then, whatever the table, and nothing need be cached
-pub fresh-known : (t cache : List ℕ) (s : Session) → Fresh s → Cached (s .work .state) t (s .work .formed) cache
-fresh-known t cache s f = rw (f .state, f .formed) (known-closed t cache)
+pub fresh-cached : (t cache : List ℕ) (s : Session) → Fresh s → Cached (s .work .state) t (s .work .formed) cache
+fresh-cached t cache s f = rw (f .state, f .formed) (cached-closed t cache)
 
 pub so-far-none : (t x : List ℕ) (s : Session) → Fresh s → SessionInvariant t s t x
 unfolding remaining
@@ -84,9 +85,9 @@ so-far-next t₀ s t x r t′ x′ out g h =
       read = g .read ++ h .came;
       written = g .written ++ h .put;
       whole = λ more.
-          ap (output closedState t₀) (append-assoc (g .read) (h .came) more)
+          ap (output (engineOf closedState t₀)) (append-assoc (g .read) (h .came) more)
           ∙ g .whole (h .came ++ more)
           ∙ ap (λ (u : List ℕ). g .written ++ u) (h .whole more)
-          ∙ sym (append-assoc (g .written) (h .put) (answersTo (r .work .state) t′ (remaining (r .work .skipping) (handIn x′ (r .work .from) (r .end) ++ more))));
+          ∙ sym (append-assoc (g .written) (h .put) (answersTo (engineOf (r .work .state) t′) (remaining (r .work .skipping) (handIn x′ (r .work .from) (r .end) ++ more))));
       ended = λ e. h .ended e .1;
     }

@@ -1,3 +1,1 @@
-pub mod Lengths
-pub mod Work
 pub mod Session

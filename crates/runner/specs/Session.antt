@@ -7,11 +7,12 @@ use lib.ListN.{length, take, drop}
 use Rattle.state.specs.Cached.{Cached}
 use Rattle.framing.specs.Streams.{hasEnd}
 use Rattle.framing.specs.Framing.{remaining}
-use Rattle.member.specs.Open.{closedState}
+use Rattle.open.specs.Open.{closedState}
+use Rattle.replies.specs.Records.{engineOf}
 use Rattle.answering.specs.Streams.{answersTo, output}
-use Rattle.runner.specs.declared.work.Work.{Work}
+use Rattle.serving.specs.declared.Work.{Work}
 use Rattle.runner.specs.declared.Session.{Session}
-use Rattle.runner.specs.Work.{MemorySizes}
+use Rattle.serving.specs.Work.{MemorySizes}
 
 -- the bytes at hand in an input buffer
 abbrev pub handIn : List ℕ → ℕ → ℕ → List ℕ
@@ -26,12 +27,12 @@ pub record HandWithin (from end : ℕ) (buf : List ℕ) : Type 0 where
   pub from-to : from ≤ end
   pub end-to : end ≤ length buf
 
--- between two passes: the bytes at hand lie within the input buffer, the output buffer is empty, and what is known beside the state holds
+-- between two passes: the bytes at hand lie within the input buffer, the output buffer is empty, and what is cached beside the state is right
 pub record SessionReady (s : Session) (cache t buf out : List ℕ) : Type 0 where
   pub memory : MemorySizes t buf out
   pub hand : HandWithin (s .work .from) (s .end) buf
   pub empty : s .work .next ≡ 0
-  pub known : Cached (s .work .state) t (s .work .formed) cache
+  pub cached : Cached (s .work .state) t (s .work .formed) cache
 
 -- x is the input buffer before, y after bytes came behind those at hand; the input has ended where more were wanted and none came
 pub record BufferRefilled (w : Work) (end : ℕ) (x y : List ℕ) (r : Session) : Type 0 where
@@ -53,8 +54,8 @@ pub record PassServed (s : Session) (t x : List ℕ) (r : Session) (t′ x′ ou
   pub put : List ℕ
   pub came : List ℕ
   pub written : StartsWith out put
-  pub whole : (more : List ℕ) → answersTo (s .work .state) t (remaining (s .work .skipping) (handIn x (s .work .from) (s .end) ++ (came ++ more)))
-      ≡ put ++ answersTo (r .work .state) t′ (remaining (r .work .skipping) (handIn x′ (r .work .from) (r .end) ++ more))
+  pub whole : (more : List ℕ) → answersTo (engineOf (s .work .state) t) (remaining (s .work .skipping) (handIn x (s .work .from) (s .end) ++ (came ++ more)))
+      ≡ put ++ answersTo (engineOf (r .work .state) t′) (remaining (r .work .skipping) (handIn x′ (r .work .from) (r .end) ++ more))
   pub ended : r .ended ≡ true → (came ≡ []) × (hasEnd (handIn x′ (r .work .from) (r .end)) ≡ false)
 
 -- t₀ is the table at the start, t and x the table and the input buffer now: what was read, and what was written out.
@@ -62,7 +63,7 @@ pub record PassServed (s : Session) (t x : List ℕ) (r : Session) (t′ x′ ou
 pub record SessionInvariant (t₀ : List ℕ) (s : Session) (t x : List ℕ) : Type 0 where
   pub read : List ℕ
   pub written : List ℕ
-  pub whole : (more : List ℕ) → output closedState t₀ (read ++ more) ≡ written ++ answersTo (s .work .state) t (remaining (s .work .skipping) (handIn x (s .work .from) (s .end) ++ more))
+  pub whole : (more : List ℕ) → output (engineOf closedState t₀) (read ++ more) ≡ written ++ answersTo (engineOf (s .work .state) t) (remaining (s .work .skipping) (handIn x (s .work .from) (s .end) ++ more))
   pub ended : s .ended ≡ true → hasEnd (handIn x (s .work .from) (s .end)) ≡ false
 
 -- nothing read yet

@@ -1,16 +1,9 @@
 // The input buffer: the bytes of a record that is not whole yet stay at its front, and more are read behind them.
 use libc::STDIN_FILENO;
+use serving::rest;
 ghost use mathlib.Core.Path.{_≡_};
 ghost use Prim.Native.Nat.{_+_, _-_, _≤_};
 ghost use lib.ListN.{length, take, drop};
-
-// The bytes from a place on.
-pub fn rest<'a>(s: &'a [u8], from: usize) -> &'a [u8]
-    requires { ⌜ from ≤ length (now s) ⌝ }
-    ensures { λ r. ⌜ now r ≡ drop from (now (s .entry)) ⌝ }
-{
-    &s[from..]
-}
 
 // Moves the bytes from `from` on and below `end` to the front, and gives how many there are.
 pub fn move_to_front(buf: &mut [u8], from: usize, end: usize) -> usize

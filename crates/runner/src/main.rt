@@ -1,24 +1,23 @@
 // The runner's loop: records come in on standard input, and the lines that answer them go out on standard output (scope document: The runner).
 // Its memory is fixed: a table for ceilings up to 64, the committees of its rounds, and a buffer each for input and output.
 pub mod input;
-pub mod lengths;
-pub mod work;
 
-use crate::lengths::CACHE;
-use crate::lengths::INPUT;
-use crate::lengths::OUTPUT;
-use crate::lengths::TABLE;
 use libc::STDOUT_FILENO;
-use work::Work;
+use serving::Work;
+use serving::lengths::CACHE;
+use serving::lengths::INPUT;
+use serving::lengths::OUTPUT;
+use serving::lengths::TABLE;
 ghost use mathlib.Core.Path.{_≡_};
 ghost use mathlib.Core.Bool.{false};
 ghost use Prim.Native.Nat.{_≤_};
 ghost use lib.ListN.{length};
 ghost use Rattle.framing.specs.Streams.{hasEnd};
 ghost use Rattle.framing.specs.Framing.{remaining};
+ghost use Rattle.replies.specs.Records.{engineOf};
 ghost use Rattle.answering.specs.Streams.{answersTo};
-ghost use Rattle.runner.specs.Lengths.{inputLength};
-ghost use Rattle.runner.specs.Work.{MemorySizes, OutputEmptied};
+ghost use Rattle.serving.specs.Lengths.{inputLength};
+ghost use Rattle.serving.specs.Work.{MemorySizes, OutputEmptied};
 ghost use Rattle.runner.specs.Session.{handIn, StartsWith, HandWithin, SessionReady, Fresh, SessionRefilled, PassServed, SessionInvariant};
 
 // The work, where the bytes at hand end in the input buffer, and whether the input has ended.
@@ -40,7 +39,7 @@ fn start() -> Session
     ensures { λ r. ⌜ Fresh r ⌝ }
 {
     let work = Work {
-        state: member::open::closed(),
+        state: open::closed(),
         formed: false,
         skipping: false,
         from: 0,
@@ -104,7 +103,7 @@ fn serve_pass(
 {
     let end = s.end;
     let before = s.work;
-    let w = work::fill(before, cache, t, &buf[..end], out);
+    let w = serving::fill(before, cache, t, &buf[..end], out);
     flush(out, w.next);
     refill(w, buf, end)
 }
@@ -115,11 +114,11 @@ fn serve_all(cache: &mut [u64], t: &mut [u32], buf: &mut [u8], out: &mut [u8]) -
     ensures { λ r. ⌜ SessionInvariant (now (t .entry)) r (now (t .exit)) (now (buf .exit)) × SessionReady r (now (cache .exit)) (now (t .exit)) (now (buf .exit)) (now (out .exit)) ⌝ }
 {
     let mut s = start();
-    let mut turns = u64::MAX;
-    while turns > 0 && !s.ended {
+    let mut passes = u64::MAX;
+    while passes > 0 && !s.ended {
         let after = serve_pass(s, cache, t, buf, out);
         s = after;
-        turns -= 1;
+        passes -= 1;
     }
     s
 }
@@ -127,14 +126,14 @@ fn serve_all(cache: &mut [u64], t: &mut [u32], buf: &mut [u8], out: &mut [u8]) -
 // Answers what is left at the end of input.
 fn conclude(s: Session, cache: &mut [u64], t: &mut [u32], buf: &[u8], out: &mut [u8])
     requires { ⌜ SessionReady s (now cache) (now t) (now buf) (now out) ⌝ }
-    ensures { λ _. ⌜ (hasEnd (handIn (now (buf .entry)) (s .work .from) (s .end)) ≡ false → StartsWith (now (out .exit)) (answersTo (s .work .state) (now (t .entry)) (remaining (s .work .skipping) (handIn (now (buf .entry)) (s .work .from) (s .end))))) ⌝ }
+    ensures { λ _. ⌜ (hasEnd (handIn (now (buf .entry)) (s .work .from) (s .end)) ≡ false → StartsWith (now (out .exit)) (answersTo (engineOf (s .work .state) (now (t .entry))) (remaining (s .work .skipping) (handIn (now (buf .entry)) (s .work .from) (s .end))))) ⌝ }
 {
     let end = s.end;
     let w = s.work;
     let from = w.from;
     let state = w.state;
-    let hand = input::rest(&buf[..end], from);
-    let n = work::finish(w.formed, cache, state, t, w.skipping, hand, out);
+    let hand = serving::rest(&buf[..end], from);
+    let n = serving::finish(w.formed, cache, state, t, w.skipping, hand, out);
     flush(out, n);
 }
 

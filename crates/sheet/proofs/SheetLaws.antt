@@ -1,10 +1,12 @@
 -- Laws of sheets: what settings in range give, and that opening sees only the filled settings.
 use mathlib.Core.Path.{_≡_, refl, ap, _∙_}
 use mathlib.Core.Bool.{Bool, true, false, not, _||_, true≢false}
+use mathlib.Core.List.{[], _∷_}
 use Prim.Native.Nat.{ℕ, _≤_, _<_}
 use lib.Dec.{ltb}
 use borrow.Author.Tests.{ltb-true, ltb-false}
 use Rattle.base.proofs.Bools.{neither}
+use Rattle.base.specs.Checks.{Checks}
 use Rattle.base.specs.Folds.{anyTo, tab}
 use Rattle.base.proofs.FoldLaws.{getD-tab, tab-same}
 use Rattle.base.proofs.TestLaws.{any-true, any-false}
@@ -13,7 +15,7 @@ use Rattle.sheet.specs.declared.Cell.{Cell}
 use Rattle.sheet.specs.declared.Sheet.{Sheet}
 use Rattle.sheet.specs.declared.Settings.{Settings}
 use Rattle.sheet.specs.Sheets.{weightAt, filled}
-use Rattle.sheet.specs.Ranges.{weightIn, outside, outOfRange, weightless, settingChecks, SettingsFit}
+use Rattle.sheet.specs.Ranges.{weightIn, outside, outOfRange, weightless, SettingsFit}
 
 inside : (x a b : ℕ) → outside x a b ≡ false → (a ≤ x) × (x ≤ b)
 unfolding outside
@@ -52,6 +54,10 @@ some-weight S h =
 pub filled-weights : (s : Sheet) → filled s .weights ≡ tab (weightAt (s .weights)) 16
 unfolding filled
 filled-weights s = refl
+
+-- checks 2 and 3 of open
+abbrev settingChecks : Settings → Checks
+settingChecks S = (outOfRange S, 2) ∷ (weightless S, 3) ∷ []
 
 -- sheets with equal filled settings are the same to opening: its checks of a sheet are those of the filled settings
 pub same-sheets : (s u : Sheet) → filled s ≡ filled u → settingChecks (filled s) ≡ settingChecks (filled u)

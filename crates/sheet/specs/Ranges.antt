@@ -1,10 +1,9 @@
 -- The ranges of the settings: checks 2 and 3 of open, which well-formed states pass as well.
 use mathlib.Core.Bool.{Bool, not, _||_}
-use mathlib.Core.List.{List, [], _∷_}
+use mathlib.Core.List.{List}
 use Prim.Native.Nat.{ℕ, _≤_, _<_}
 use lib.ListN.{getD}
 use lib.Dec.{ltb}
-use Rattle.base.specs.Checks.{Checks}
 use Rattle.base.specs.Folds.{anyTo}
 use Rattle.sheet.specs.declared.Settings.{Settings}
 
@@ -23,10 +22,6 @@ outOfRange S = outside (S .lookback) 1 1000 || (outside (S .ceiling .0) 3 1024 |
 -- check 3: no positive weight
 unfoldable pub weightless : Settings → Bool
 weightless S = not (anyTo (λ i. ltb 0 (weightIn (S .weights) i)) 16)
-
--- the two, in the order in which open makes them
-abbrev pub settingChecks : Settings → Checks
-settingChecks S = (outOfRange S, 2) ∷ (weightless S, 3) ∷ []
 
 -- the ranges that settings have which check 2 lets pass
 pub record SettingsFit (S : Settings) : Type 0 where

@@ -37,3 +37,7 @@ filled s =
       allowance = valueOr (s .allowance) 4;
       weights = tab (weightAt (s .weights)) 16;
     }
+
+-- what a total less 1 is divided by for its fault bound
+abbrev pub marginOf : Settings → ℕ
+marginOf S = 3

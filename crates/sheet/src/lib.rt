@@ -67,6 +67,9 @@ impl Sheet {
 
     pub const WEIGHT_MAX: u32 = 1000000;
 
+    // What a total less 1 is divided by for its fault bound.
+    pub const MARGIN: u32 = 3;
+
     // The sheet with nothing written.
     pub fn blank() -> Sheet
         ensures { λ r. ⌜ r ≡ blankSheet ⌝ }

@@ -1,4 +1,4 @@
--- Laws of what is known beside a state.
+-- Laws of what is cached beside a state.
 use mathlib.Core.Path.{_≡_, sym, _∙_}
 use mathlib.Core.Bool.{Bool, true}
 use mathlib.Core.List.{List}
@@ -12,9 +12,9 @@ use Rattle.state.proofs.FormedLaws.{formed}
 use Rattle.state.specs.Cached.{CachesFor, Cached}
 
 -- no committee cached
-pub known-alone : {s : State} {t : List ℕ} {formed : Bool} (cache : List ℕ) → length cache < 16 → formed ≡ wellFormed s t → Cached s t formed cache
-known-alone cache h e = record { form = e; committees = λ _. record { committee = λ r _ l. absurd (omega arith) } }
+pub cached-alone : {s : State} {t : List ℕ} {formed : Bool} (cache : List ℕ) → length cache < 16 → formed ≡ wellFormed s t → Cached s t formed cache
+cached-alone cache h e = record { form = e; committees = λ _. record { committee = λ r _ l. absurd (omega arith) } }
 
 -- where the state is well formed
-pub known-both : {s : State} {t cache : List ℕ} {formed : Bool} → Cached s t formed cache → formed ≡ true → Formed s t × CachesFor s t cache
-known-both {s} {t} k e = let w = sym (k .form) ∙ e in (formed s t w, k .committees w)
+pub cached-both : {s : State} {t cache : List ℕ} {formed : Bool} → Cached s t formed cache → formed ≡ true → Formed s t × CachesFor s t cache
+cached-both {s} {t} k e = let w = sym (k .form) ∙ e in (formed s t w, k .committees w)

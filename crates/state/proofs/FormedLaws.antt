@@ -12,9 +12,9 @@ use Rattle.base.specs.Folds.{allTo}
 use Rattle.terms.specs.declared.Body.{Body}
 use Rattle.terms.specs.Transactions.{inRange}
 use Rattle.terms.specs.Proposals.{slotOf, transactionsOf, badTransactions, badPreviousSet}
-use Rattle.terms.proofs.ProposalLaws.{transactions-tab, unfit-tab}
+use Rattle.terms.proofs.ProposalLaws.{transactions-tab, bad-transactions-tab}
 use Rattle.store.specs.Table.{used, Row}
-use Rattle.store.specs.Scan.{rowsFit}
+use Rattle.scan.specs.Scan.{rowsFit}
 use Rattle.sheet.specs.Ranges.{outOfRange, weightless}
 use Rattle.sheet.proofs.SheetLaws.{settings-fit}
 use Rattle.state.specs.declared.State.{State}
@@ -47,7 +47,7 @@ head-parts s e =
 -- what checks 6 and 7 let pass
 pub body-fits : (allowance r : ℕ) (b : Body) → badTransactions allowance (transactionsOf b) ≡ false → badPreviousSet r (b .previous) ≡ false → BodyFits allowance r b
 body-fits a r b e h =
-    let p = neither (ltb a (b .count)) (not (allTo (λ k. inRange (slotOf b k)) (b .count))) (rw (transactions-tab b, unfit-tab a (slotOf b) (b .count)) at e) in
+    let p = neither (ltb a (b .count)) (not (allTo (λ k. inRange (slotOf b k)) (b .count))) (rw (transactions-tab b, bad-transactions-tab a (slotOf b) (b .count)) at e) in
     record { few = ltb-false a (b .count) (p .0); fit = e; right = h }
 
 proposal-parts : (s : State) → proposalFits s ≡ true → s .proposing ≡ true → BodyFits (s .settings .allowance) (s .round .0) (s .body)

@@ -11,9 +11,9 @@ use Rattle.terms.specs.declared.Body.{Body}
 use Rattle.terms.specs.declared.Member.{Member}
 use Rattle.terms.specs.Proposals.{Content, contentWith}
 use Rattle.store.specs.Table.{Row, heldAt}
-use Rattle.store.specs.Writes.{putCertificate, setEndorsed, clearEndorsed, clearUsed}
-use Rattle.store.proofs.PutLaws.{length-put}
-use Rattle.store.proofs.EndorseLaws.{set-endorsed, clear-endorsed}
+use Rattle.writes.specs.Writes.{putCertificate, setEndorsed, clearEndorsed, clearUsed}
+use Rattle.writes.proofs.PutLaws.{length-put}
+use Rattle.writes.proofs.EndorseLaws.{set-endorsed, clear-endorsed}
 use Rattle.sheet.specs.declared.Settings.{Settings}
 use Rattle.committee.specs.Instance.{rules}
 use Rattle.committee.proofs.ChainLaws.{chain-none}

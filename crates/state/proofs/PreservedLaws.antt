@@ -12,12 +12,12 @@ use Rattle.terms.specs.declared.Round.{Round}
 use Rattle.terms.specs.Proposals.{Content, contentWith, badTransactions, badPreviousSet}
 use Rattle.terms.proofs.ProposalLaws.{length-transactions}
 use Rattle.store.specs.Table.{Row, Within, blockRound}
-use Rattle.store.specs.Writes.{putCertificate, setEndorsed, clearEndorsed, clearUsed}
-use Rattle.store.proofs.PutLaws.{length-put, block-round-put}
-use Rattle.store.proofs.EndorseLaws.{OnlyEndorsed, block-round-endorse, set-endorsed, clear-endorsed}
-use Rattle.store.proofs.ClearLaws.{length-cleared, rows-cleared}
-use Rattle.store.specs.Scan.{rowsFit}
-use Rattle.store.proofs.FitLaws.{rows-put, rows-set-endorsed, rows-clear-endorsed}
+use Rattle.writes.specs.Writes.{putCertificate, setEndorsed, clearEndorsed, clearUsed}
+use Rattle.writes.proofs.PutLaws.{length-put, block-round-put}
+use Rattle.writes.proofs.EndorseLaws.{OnlyEndorsed, block-round-endorse, set-endorsed, clear-endorsed}
+use Rattle.writes.proofs.ClearLaws.{length-cleared}
+use Rattle.scan.proofs.FitLaws.{rows-cleared, rows-put, rows-set-endorsed, rows-clear-endorsed}
+use Rattle.scan.specs.Scan.{rowsFit}
 use Rattle.sheet.specs.declared.Settings.{Settings}
 use Rattle.sheet.specs.Ranges.{outOfRange, weightless}
 use Rattle.sheet.proofs.SheetLaws.{settings-fit}

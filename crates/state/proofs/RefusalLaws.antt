@@ -14,15 +14,15 @@ use Rattle.state.specs.View.{view}
 use Rattle.state.specs.Refusals.{refusalOf}
 
 module _ (s : State) (t : List ℕ) (c : Call) where
-  pub number-unformed : wellFormed s t ≡ false → refusalOf s t c ≡ 1
+  pub refusal-unformed : wellFormed s t ≡ false → refusalOf s t c ≡ 1
   unfolding refusalOf
-  number-unformed e = refuses 1 (checks (s .settings) (s .own .0) (view s t) c) (rw e refl)
+  refusal-unformed e = refuses 1 (checks (s .settings) (s .own .0) (view s t) c) (rw e refl)
 
-  pub number-formed : wellFormed s t ≡ true → refusalOf s t c ≡ refusal (checks (s .settings) (s .own .0) (view s t) c)
+  pub refusal-formed : wellFormed s t ≡ true → refusalOf s t c ≡ refusal (checks (s .settings) (s .own .0) (view s t) c)
   unfolding refusalOf
-  number-formed e = passes 1 (checks (s .settings) (s .own .0) (view s t) c) (rw e refl)
+  refusal-formed e = passes 1 (checks (s .settings) (s .own .0) (view s t) c) (rw e refl)
 
   -- an accepted call
-  pub number-passed : refusalOf s t c ≡ 0 → (wellFormed s t ≡ true) × (refusal (checks (s .settings) (s .own .0) (view s t) c) ≡ 0)
+  pub refusal-passed : refusalOf s t c ≡ 0 → (wellFormed s t ≡ true) × (refusal (checks (s .settings) (s .own .0) (view s t) c) ≡ 0)
   unfolding refusalOf
-  number-passed e = let p = cleared (not (wellFormed s t)) 1 (checks (s .settings) (s .own .0) (view s t) c) (omega arith) e in (not-false (wellFormed s t) (p .0), p .1)
+  refusal-passed e = let p = cleared (not (wellFormed s t)) 1 (checks (s .settings) (s .own .0) (view s t) c) (omega arith) e in (not-false (wellFormed s t) (p .0), p .1)

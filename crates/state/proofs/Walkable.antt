@@ -7,4 +7,4 @@ use Rattle.state.specs.declared.State.{State}
 use Rattle.state.specs.Formed.{Formed}
 
 pub readable : (s : State) (t : List ℕ) → Formed s t → ChainInTable (s .settings) t (s .blocks)
-readable s t f = walk.readable (s .settings) t (s .blocks) (f .settings) (f .long) (f .rounds)
+readable s t f = walk.chain-in-table (s .settings) t (s .blocks) (f .settings) (f .long) (f .rounds)

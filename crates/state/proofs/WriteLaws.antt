@@ -16,11 +16,11 @@ use Rattle.agreement.proofs.PlaceLaws.{put-own, put-old, put-only, mark-own, ma
 use Rattle.terms.specs.Proposals.{Content}
 use Rattle.store.specs.Table.{Row, Within, heldAt, endorsedAt, markAt, certificateAt}
 use Rattle.store.proofs.TableLaws.{held-member, certificate-absent}
-use Rattle.store.specs.Writes.{putCertificate, setEndorsed, clearEndorsed, clearUsed}
-use Rattle.store.proofs.WriteLaws.{samePlace, same-place, other-place}
-use Rattle.store.proofs.PutLaws.{block-round-put, endorsed-put, mark-put, mark-kept, certificate-put}
-use Rattle.store.proofs.EndorseLaws.{OnlyEndorsed, block-round-endorse, mark-endorse, certificate-endorse, endorsed-set, endorsed-clear}
-use Rattle.store.proofs.ClearLaws.{endorsed-cleared, certificate-cleared}
+use Rattle.writes.specs.Writes.{putCertificate, setEndorsed, clearEndorsed, clearUsed}
+use Rattle.writes.proofs.WriteLaws.{samePlace, same-place, other-place}
+use Rattle.writes.proofs.PutLaws.{block-round-put, endorsed-put, mark-put, mark-kept, certificate-put}
+use Rattle.writes.proofs.EndorseLaws.{OnlyEndorsed, block-round-endorse, mark-endorse, certificate-endorse, endorsed-set, endorsed-clear}
+use Rattle.writes.proofs.ClearLaws.{endorsed-cleared, certificate-cleared}
 use Rattle.sheet.specs.declared.Settings.{Settings}
 use Rattle.committee.specs.Chain.{isRound, holdsAt, chainOf}
 use Rattle.committee.proofs.ChainLaws.{is-round, round-parts, holds-at, chain-same}

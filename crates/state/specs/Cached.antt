@@ -1,9 +1,9 @@
--- What is known beside a state: whether it is well formed and, if so, committees by round.
+-- What is cached beside a state: whether it is well formed and, if so, committees by round.
 use mathlib.Core.Path.{_≡_}
 use mathlib.Core.Bool.{Bool, true}
 use mathlib.Core.List.{List}
 use Prim.Native.Nat.{ℕ}
-use Rattle.bonded.specs.Caches.{Caches}
+use Rattle.cache.specs.Caches.{Caches}
 use Rattle.state.specs.declared.State.{State}
 use Rattle.state.specs.View.{view}
 use Rattle.state.specs.WellFormed.{wellFormed}

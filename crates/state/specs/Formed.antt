@@ -7,7 +7,7 @@ use Rattle.agreement.specs.Rules.{last}
 use Rattle.terms.specs.declared.Body.{Body}
 use Rattle.terms.specs.Proposals.{transactionsOf, badTransactions, badPreviousSet}
 use Rattle.store.specs.Table.{Row}
-use Rattle.store.specs.Scan.{rowsFit}
+use Rattle.scan.specs.Scan.{rowsFit}
 use Rattle.sheet.specs.Ranges.{outOfRange, weightless, SettingsFit}
 use Rattle.committee.specs.Chain.{chainOf}
 use Rattle.state.specs.declared.State.{State}

@@ -4,6 +4,7 @@ use Prim.Native.Nat.{_+_}
 use Rattle.terms.specs.declared.Body.{Body}
 use Rattle.terms.specs.declared.Member.{Member}
 use Rattle.terms.specs.declared.Round.{Round}
+use Rattle.terms.specs.Proposals.{bareBody}
 use Rattle.sheet.specs.declared.Settings.{Settings}
 use Rattle.state.specs.declared.State.{State}
 
@@ -22,3 +23,7 @@ advanced s b = moved s (record { 0 = s .round .0 + 1 }) false b
 -- open: round 1 and nothing else
 abbrev pub fresh : Member → Settings → Body → State
 fresh own S b = record { own = own; settings = S; round = record { 0 = 1 }; proposing = false; body = b; blocks = 0 }
+
+-- no proposal
+abbrev pub noBody : Body
+noBody = bareBody 0

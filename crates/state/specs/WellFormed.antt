@@ -7,7 +7,7 @@ use lib.Dec.{leb, ltb}
 use Rattle.terms.specs.declared.Body.{Body}
 use Rattle.terms.specs.Proposals.{transactionsOf, badTransactions, badPreviousSet}
 use Rattle.store.specs.Table.{used}
-use Rattle.store.specs.Scan.{rowsFit}
+use Rattle.scan.specs.Scan.{rowsFit}
 use Rattle.sheet.specs.Ranges.{outOfRange, weightless}
 use Rattle.bonded.specs.BlockChanges.{blocksFit}
 use Rattle.state.specs.declared.State.{State}

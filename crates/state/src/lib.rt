@@ -85,7 +85,7 @@ pub fn well_formed(s: State, t: &[u32]) -> bool
     if !proposal_fits(s) {
         return false;
     }
-    if !store::scan::rows_fit(t, settings.allowance, blocks, n) {
+    if !scan::rows_fit(t, settings.allowance, blocks, n) {
         return false;
     }
     bonded::blocks_fit(t, blocks, n)

@@ -17,9 +17,8 @@ use Rattle.terms.specs.declared.Proposal.{Proposal}
 use Rattle.terms.specs.Transactions.{noTransaction, sameTransaction}
 use Rattle.terms.specs.Proposals.{slotOf, transactionsOf, contentWith, contentOf, sameTransactions, same}
 use Rattle.terms.proofs.ProposalLaws.{same-tabs, other-tabs, same-placed, transactions-tab, four-slots}
-use Rattle.store.specs.Table.{previousAt, countAt, transactionAt, contentAt}
+use Rattle.store.specs.Table.{previousAt, countAt, transactionAt, contentAt, nthOf, proposalOf}
 use Rattle.store.proofs.TableLaws.{content-few}
-use Rattle.store.specs.Writes.{nthOf, proposalOf}
 
 -- element k of a listed function, nothing beyond
 nth-tab : (f : ℕ → Transaction) (n k : ℕ) → getD (tab f n) k noTransaction ≡ cond (ltb k n) (f k) noTransaction

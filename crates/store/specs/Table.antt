@@ -2,14 +2,15 @@
 use Prim.Native.Nat.{ℕ, _+_, _*_, _%_, _<_, _≤_}
 use mathlib.Core.Bool.{Bool, cond}
 use mathlib.Core.Option.{Option, none, some}
-use mathlib.Core.List.{List}
+use mathlib.Core.List.{List, [], _∷_}
 use lib.ListN.{getD, length}
 use lib.Dec.{ltb}
 use Rattle.base.specs.Folds.{tab}
 use Rattle.base.specs.Sets.{isIn}
 use Rattle.terms.specs.declared.Transaction.{Transaction}
-use Rattle.terms.specs.Transactions.{readTransaction}
+use Rattle.terms.specs.Transactions.{readTransaction, noTransaction}
 use Rattle.terms.specs.Proposals.{Content}
+use Rattle.terms.specs.declared.Proposal.{Proposal}
 
 -- ---- lengths in words: of a row, of what stands before its records, of a record, of what stands before its transactions, of a transaction
 
@@ -112,3 +113,22 @@ contentAt t m r = record { author = m; round = r; previous = previousAt t m r; t
 -- the certificate held at a place
 unfoldable pub certificateAt : List ℕ → ℕ → ℕ → Option Content
 certificateAt t m r = cond (heldAt t m r) (some (contentAt t m r)) none
+
+-- ---- a certificate as it is handed out
+
+-- transaction k of a proposal, nothing beyond them
+unfoldable pub nthOf : Content → ℕ → Transaction
+nthOf p k = getD (p .transactions) k noTransaction
+
+-- a proposal of at most four transactions as it is handed out
+unfoldable pub proposalOf : Content → Proposal
+proposalOf p =
+    record {
+      author = record { 0 = p .author };
+      round = record { 0 = p .round };
+      body = record {
+        previous = p .previous;
+        count = length (p .transactions);
+        slots = record { transaction = nthOf p 0 } ∷ record { transaction = nthOf p 1 } ∷ record { transaction = nthOf p 2 } ∷ record { transaction = nthOf p 3 } ∷ [];
+      };
+    }

@@ -3,8 +3,6 @@
 // A record: previous set, count of transactions, commit mark, endorsers, four times kind, number, amount.
 pub mod lengths;
 pub mod record;
-pub mod scan;
-pub mod write;
 
 use crate::lengths::ROW;
 use terms::Member;

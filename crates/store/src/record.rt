@@ -15,8 +15,7 @@ ghost use Prim.Native.Nat.{_<_, _≤_};
 ghost use Rattle.base.specs.Folds.{allTo};
 ghost use Rattle.terms.specs.Transactions.{sameTransaction};
 ghost use Rattle.terms.specs.Proposals.{slotOf, contentOf, same};
-ghost use Rattle.store.specs.Table.{recordLength, Within, word, previousAt, countAt, markAt, endorsersAt, kindAt, numberAt, amountAt, transactionAt, contentAt};
-ghost use Rattle.store.specs.Writes.{nthOf, proposalOf};
+ghost use Rattle.store.specs.Table.{recordLength, Within, word, previousAt, countAt, markAt, endorsersAt, kindAt, numberAt, amountAt, transactionAt, contentAt, nthOf, proposalOf};
 
 // Word k of a record.
 pub fn word_at(t: &[u32], m: Member, r: Round, k: u32) -> u32

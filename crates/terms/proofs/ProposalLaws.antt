@@ -187,14 +187,14 @@ unfolding tab allTo allInRange
 range-tab f zero = refl
 range-tab f (suc n) = range-append (tab f n) (f n ∷ []) ∙ rw (range-tab f n, and-true (inRange (f n))) refl
 
-pub unfit-tab : (a : ℕ) (f : ℕ → Transaction) (n : ℕ) → badTransactions a (tab f n) ≡ (ltb a n || not (allTo (λ k. inRange (f k)) n))
+pub bad-transactions-tab : (a : ℕ) (f : ℕ → Transaction) (n : ℕ) → badTransactions a (tab f n) ≡ (ltb a n || not (allTo (λ k. inRange (f k)) n))
 unfolding badTransactions
-unfit-tab a f n = rw (length-tab f n, range-tab f n) refl
+bad-transactions-tab a f n = rw (length-tab f n, range-tab f n) refl
 
 -- over the allowance
-pub unfit-over : (a : ℕ) (l : List Transaction) → a < length l → badTransactions a l ≡ true
+pub bad-transactions-over : (a : ℕ) (l : List Transaction) → a < length l → badTransactions a l ≡ true
 unfolding badTransactions
-unfit-over a l h = rw (lt-ltb a (length l) h) refl
+bad-transactions-over a l h = rw (lt-ltb a (length l) h) refl
 
 -- ---- check 7
 

@@ -1,285 +1,194 @@
+use mathlib.Core.Path.{_≡_, refl, _∙_}
+use mathlib.Core.Bool.{true}
+use mathlib.Core.List.{List}
+use mathlib.Core.Option.{some}
+use Prim.Native.Nat.{ℕ, _<_}
 use native.Mathlib.Omega.{arith}
-use mathlib.Core.Path.{refl}
+use Rattle.state.specs.Cached.{Cached}
+use Rattle.checks.specs.declared.Outcome.{Outcome}
+use Rattle.checks.specs.Answers.{formedBy}
+use Rattle.engine.specs.Calls.{Call, aside, listing, InRange}
+use Rattle.engine.specs.Engine.{Engine, after}
+use Rattle.engine.specs.Values.{nothing, given}
+use Rattle.engine.specs.Steps.{ruled, SetInRange}
+use Rattle.engine.proofs.OutcomeLaws.{outcomeFor, propose-outcome, endorse-outcome, certify-outcome, accept-outcome, advance-outcome}
+use Rattle.engine.proofs.CachedLaws.{leavesChain}
+use Rattle.requests.specs.declared.Kind.{Kind}
 use Rattle.requests.specs.declared.Kind.the-variants.{Unreadable, Open, Propose, Endorse, Certify, Accept, Advance, Commit, Chain}
-use Rattle.member.specs.AllCalls as steps
-use Rattle.answering.proofs.RecordLaws.{served-by, told-by}
-use Rattle.answering.specs.Records.{proposalIn, certificateIn}
+use Rattle.requests.specs.declared.Reading.{Reading}
+use Rattle.replies.specs.declared.Reply.{Reply}
+use Rattle.replies.specs.Answers.{answerLine}
+use Rattle.replies.specs.Records.{engineOf, callAs, callOf, RecordAnswered}
+use Rattle.replies.specs.Replies.{OutcomeReplied}
+use Rattle.replies.proofs.RecordLaws.{called-as, unreadable-answered, call-answered}
+use Rattle.replies.proofs.ReplyLaws.{replied-left, served-answered}
 use borrow.Author.Needs.{needs}
 use Rattle.answering.proofs.serve.Statement.{statement}
 use Rattle.answering.proofs.serve.Tie as tie
 
--- the entry, as each arm of the match sees it; at a return, u is the place after the answer, m the one after the call, e the one where the kind is told
+-- the entry, as each arm of the match sees it
 abbrev entry : tie.After-body → tie.Start
 entry c = c .before .before .before .before .before .before .before
 
-enum-told : tie.Need-enum-told
-enum-told c = search needs
+-- the engine and the record there
+abbrev engine : tie.After-body → Engine
+engine c = engineOf (entry c .args .s) (entry c .args .t .now)
 
-put-refused-requires : tie.Need-put-refused-requires
-put-refused-requires c κs = search needs
+abbrev reading : tie.After-body → Reading
+reading c = entry c .args .q
 
-enum-told-2 : tie.Need-enum-told-2
-enum-told-2 c = search needs
+low : (c : tie.After-body) → SetInRange (engine c)
+low c = omega (arith, entry c .good .1 .1 .0)
 
-opened-requires : tie.Need-opened-requires
-opened-requires c κs = search needs
+-- the sets that the record names are 16-bit numbers
+previous-to : (c : tie.After-body) → reading c .body .previous < 65536
+previous-to c = omega (arith, entry c .good .1 .1 .1 .1 .0)
 
-enum-told-3 : tie.Need-enum-told-3
-enum-told-3 c = search needs
+endorsers-to : (c : tie.After-body) → reading c .endorsers < 65536
+endorsers-to c = omega (arith, entry c .good .1 .1 .1 .1 .0)
 
-propose-cached-requires : tie.Need-propose-cached-requires
-propose-cached-requires c κs = search needs
-
-replied-requires : tie.Need-replied-requires
-replied-requires c κs = search needs
-
-enum-told-4 : tie.Need-enum-told-4
-enum-told-4 c = search needs
-
-endorse-cached-requires : tie.Need-endorse-cached-requires
-endorse-cached-requires c κs = search needs
-
-replied-requires-2 : tie.Need-replied-requires-2
-replied-requires-2 c κs = search needs
-
-enum-told-5 : tie.Need-enum-told-5
-enum-told-5 c = search needs
-
-certify-cached-requires : tie.Need-certify-cached-requires
-certify-cached-requires c κs = search needs
-
-replied-requires-3 : tie.Need-replied-requires-3
-replied-requires-3 c κs = search needs
-
-enum-told-6 : tie.Need-enum-told-6
-enum-told-6 c = search needs
-
-accept-cached-requires : tie.Need-accept-cached-requires
-accept-cached-requires c κs = search needs
-
-replied-requires-4 : tie.Need-replied-requires-4
-replied-requires-4 c κs = search needs
-
-enum-told-7 : tie.Need-enum-told-7
-enum-told-7 c = search needs
-
-advance-cached-requires : tie.Need-advance-cached-requires
-advance-cached-requires c κs = search needs
-
-replied-requires-5 : tie.Need-replied-requires-5
-replied-requires-5 c κs = search needs
-
-enum-told-8 : tie.Need-enum-told-8
-enum-told-8 c = search needs
-
-committed-requires : tie.Need-committed-requires
-committed-requires c κs = search needs
-
-enum-told-9 : tie.Need-enum-told-9
-enum-told-9 c = search needs
+-- a member's call d that leaves the chain has come to o, which was replied
+by-reply : (c : tie.After-body) (k : Kind) (d : Call) → callAs (reading c) k ≡ some d → given (engine c) d ≡ nothing → leavesChain (ruled d) ≡ true
+    → InRange d → reading c .kind ≡ k → {o : Outcome} → o ≡ outcomeFor (engine c) d → {t : List ℕ} → t ≡ after (engine c) d .table
+    → {r : Reply} {x : List ℕ} {y : List ℕ} {at : ℕ} → OutcomeReplied (o .state) (formedBy (entry c .args .formed) (o .answer)) (answerLine (o .answer)) r x y at
+    → RecordAnswered (engine c) (callOf (reading c)) (engineOf (r .state) t) x y at (r .next) × Cached (r .state) t (r .formed) (entry c .args .cache .now)
+by-reply c k d q v l i e h g p =
+    served-answered (engine c) (called-as (reading c) k e ∙ q) (replied-left (engine c) (low c) d i v h g (entry c .args .formed) p l (entry c .pre .1))
 
 listed-requires : tie.Need-listed-requires
 listed-requires c κs = let p = entry (c .before .before .before .before) .pre in (p .0, p .1 .form)
 
-same-length : tie.Need-same-length
-same-length c = search needs
+-- Each arm, from its end: u is the place after the answer, m the one after the call, e the one where the kind is told, b the one before the match.
 
 returns : tie.Need-returns
 returns c =
     let u = c .before .before in
     let e = u .before .before in
-    (served-by Unreadable (e .enum-told .given .1) refl refl (omega arith) (u .put-refused .ensures), entry (e .before .before) .pre .1)
-
-same-length-2 : tie.Need-same-length-2
-same-length-2 c = search needs
-
-same-length-3 : tie.Need-same-length-3
-same-length-3 c = search needs
-
-same-length-4 : tie.Need-same-length-4
-same-length-4 c = search needs
+    let b = e .before .before in
+    (rw (called-as (reading b) Unreadable (e .enum-told .given .1)) (unreadable-answered (u .put-refused .ensures)), entry b .pre .1)
 
 returns-2 : tie.Need-returns-2
 returns-2 c =
     let u = c .before .before .before .before .before .before in
     let e = u .before .before .before .before in
-    let p = u .opened .ensures in
-    (served-by Open (e .enum-told2 .given .1) (p .its-state) (p .its-table) (omega arith) (p .its-line), p .known)
-
-same-length-5 : tie.Need-same-length-5
-same-length-5 c = search needs
-
-same-length-6 : tie.Need-same-length-6
-same-length-6 c = search needs
-
-same-length-7 : tie.Need-same-length-7
-same-length-7 c = search needs
+    let b = e .before .before in
+    served-answered (engine b) (called-as (reading b) Open (e .enum-told2 .given .1)) (u .opened .ensures)
 
 returns-3 : tie.Need-returns-3
 returns-3 c =
     let u = c .before .before in
     let m = u .before .before in
     let e = m .before .before .before in
-    let s = entry (e .before .before) in
-    let g = s .good .1 .1 in
+    let b = e .before .before in
     let h = m .propose-cached .ensures in
-    told-by Propose (steps.propose (s .args .q .body)) (e .enum-told3 .given .1) refl (omega (arith, g .1 .1 .0), omega arith) refl refl refl (s .pre .1) (h .0) refl (u .replied .ensures)
-
-same-length-8 : tie.Need-same-length-8
-same-length-8 c = search needs
-
-same-length-9 : tie.Need-same-length-9
-same-length-9 c = search needs
-
-same-length-10 : tie.Need-same-length-10
-same-length-10 c = search needs
+    by-reply b Propose _ refl refl refl (previous-to b) (e .enum-told3 .given .1) (h .its-outcome ∙ propose-outcome (engine b) _) refl (u .replied .ensures)
 
 returns-4 : tie.Need-returns-4
 returns-4 c =
     let u = c .before .before in
     let m = u .before .before .before .before in
     let e = m .before .before .before in
-    let s = entry (e .before .before) in
-    let g = s .good .1 .1 in
+    let b = e .before .before in
     let h = m .endorse-cached .ensures in
-    told-by Endorse (steps.endorse (proposalIn (s .args .q))) (e .enum-told4 .given .1) refl (omega (arith, g .1 .1 .0), omega arith) refl refl refl (s .pre .1) (h .0) (h .1) (u .replied2 .ensures)
-
-same-length-11 : tie.Need-same-length-11
-same-length-11 c = search needs
-
-same-length-12 : tie.Need-same-length-12
-same-length-12 c = search needs
-
-same-length-13 : tie.Need-same-length-13
-same-length-13 c = search needs
+    by-reply b Endorse _ refl refl refl (previous-to b) (e .enum-told4 .given .1) (h .its-outcome ∙ endorse-outcome (engine b) _) (h .its-table) (u .replied2 .ensures)
 
 returns-5 : tie.Need-returns-5
 returns-5 c =
     let u = c .before .before in
     let m = u .before .before .before .before in
     let e = m .before .before .before in
-    let s = entry (e .before .before) in
-    let g = s .good .1 .1 in
+    let b = e .before .before in
     let h = m .certify-cached .ensures in
-    told-by Certify (steps.certify (s .args .q .endorsers)) (e .enum-told5 .given .1) refl (omega (arith, g .0), omega (arith, g .1 .1 .0)) refl refl refl (s .pre .1) (h .0) (h .1) (u .replied3 .ensures)
-
-same-length-14 : tie.Need-same-length-14
-same-length-14 c = search needs
-
-same-length-15 : tie.Need-same-length-15
-same-length-15 c = search needs
-
-same-length-16 : tie.Need-same-length-16
-same-length-16 c = search needs
+    by-reply b Certify _ refl refl refl (endorsers-to b) (e .enum-told5 .given .1) (h .its-outcome ∙ certify-outcome (engine b) _) (h .its-table) (u .replied3 .ensures)
 
 returns-6 : tie.Need-returns-6
 returns-6 c =
     let u = c .before .before in
     let m = u .before .before .before .before in
     let e = m .before .before .before in
-    let s = entry (e .before .before) in
-    let g = s .good .1 .1 in
+    let b = e .before .before in
     let h = m .accept-cached .ensures in
-    told-by Accept (steps.accept (certificateIn (s .args .q))) (e .enum-told6 .given .1) refl (omega (arith, g .1 .1 .0), omega (arith, g .1 .1 .0)) refl refl refl (s .pre .1) (h .0) (h .1) (u .replied4 .ensures)
-
-same-length-17 : tie.Need-same-length-17
-same-length-17 c = search needs
-
-same-length-18 : tie.Need-same-length-18
-same-length-18 c = search needs
+    by-reply b Accept _ refl refl refl (previous-to b, endorsers-to b) (e .enum-told6 .given .1) (h .its-outcome ∙ accept-outcome (engine b) _) (h .its-table) (u .replied4 .ensures)
 
 returns-7 : tie.Need-returns-7
 returns-7 c =
     let u = c .before .before in
     let m = u .before .before in
     let e = m .before .before in
-    let s = entry (e .before .before) in
-    told-by Advance steps.advance (e .enum-told7 .given .1) refl (omega arith, omega arith) refl refl refl (s .pre .1) (m .advance-cached .ensures .0) refl (u .replied5 .ensures)
-
-same-length-19 : tie.Need-same-length-19
-same-length-19 c = search needs
-
-same-length-20 : tie.Need-same-length-20
-same-length-20 c = search needs
-
-same-length-21 : tie.Need-same-length-21
-same-length-21 c = search needs
+    let b = e .before .before in
+    by-reply b Advance _ refl refl refl tt (e .enum-told7 .given .1) (m .advance-cached .ensures .its-outcome ∙ advance-outcome (engine b)) refl (u .replied5 .ensures)
 
 returns-8 : tie.Need-returns-8
 returns-8 c =
     let u = c .before .before .before .before .before .before in
     let e = u .before .before .before .before in
-    let p = u .committed .ensures in
-    (served-by Commit (e .enum-told8 .given .1) (p .its-state) (p .its-table) (omega arith) (p .its-line), p .known)
-
-same-length-22 : tie.Need-same-length-22
-same-length-22 c = search needs
-
-same-length-23 : tie.Need-same-length-23
-same-length-23 c = search needs
+    let b = e .before .before in
+    served-answered (engine b) (called-as (reading b) Commit (e .enum-told8 .given .1)) (u .committed .ensures)
 
 returns-9 : tie.Need-returns-9
 returns-9 c =
     let u = c .before .before in
     let e = u .before .before .before in
-    (served-by Chain (e .enum-told9 .given .1) refl refl (omega arith) (u .listed .ensures), entry (e .before .before) .pre .1)
+    let b = e .before .before in
+    (rw (called-as (reading b) Chain (e .enum-told9 .given .1)) (call-answered (aside listing) refl (omega arith) (u .listed .ensures)), entry b .pre .1)
 
+-- the needs that the search finds stand in the list without a name
 pub serve-spec : {M : Type 1} → statement M
 serve-spec =
     tie.close
     (tie.spec
-    enum-told
-    put-refused-requires
-    enum-told-2
-    opened-requires
-    enum-told-3
-    propose-cached-requires
-    replied-requires
-    enum-told-4
-    endorse-cached-requires
-    replied-requires-2
-    enum-told-5
-    certify-cached-requires
-    replied-requires-3
-    enum-told-6
-    accept-cached-requires
-    replied-requires-4
-    enum-told-7
-    advance-cached-requires
-    replied-requires-5
-    enum-told-8
-    committed-requires
-    enum-told-9
+    (λ c. search needs)
+    (λ c κs. search needs)
+    (λ c. search needs)
+    (λ c κs. search needs)
+    (λ c. search needs)
+    (λ c κs. search needs)
+    (λ c κs. search needs)
+    (λ c. search needs)
+    (λ c κs. search needs)
+    (λ c κs. search needs)
+    (λ c. search needs)
+    (λ c κs. search needs)
+    (λ c κs. search needs)
+    (λ c. search needs)
+    (λ c κs. search needs)
+    (λ c κs. search needs)
+    (λ c. search needs)
+    (λ c κs. search needs)
+    (λ c κs. search needs)
+    (λ c. search needs)
+    (λ c κs. search needs)
+    (λ c. search needs)
     listed-requires
-    same-length
+    (λ c. search needs)
     returns
-    same-length-2
-    same-length-3
-    same-length-4
+    (λ c. search needs)
+    (λ c. search needs)
+    (λ c. search needs)
     returns-2
-    same-length-5
-    same-length-6
-    same-length-7
+    (λ c. search needs)
+    (λ c. search needs)
+    (λ c. search needs)
     returns-3
-    same-length-8
-    same-length-9
-    same-length-10
+    (λ c. search needs)
+    (λ c. search needs)
+    (λ c. search needs)
     returns-4
-    same-length-11
-    same-length-12
-    same-length-13
+    (λ c. search needs)
+    (λ c. search needs)
+    (λ c. search needs)
     returns-5
-    same-length-14
-    same-length-15
-    same-length-16
+    (λ c. search needs)
+    (λ c. search needs)
+    (λ c. search needs)
     returns-6
-    same-length-17
-    same-length-18
+    (λ c. search needs)
+    (λ c. search needs)
     returns-7
-    same-length-19
-    same-length-20
-    same-length-21
+    (λ c. search needs)
+    (λ c. search needs)
+    (λ c. search needs)
     returns-8
-    same-length-22
-    same-length-23
+    (λ c. search needs)
+    (λ c. search needs)
     returns-9)

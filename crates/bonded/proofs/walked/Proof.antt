@@ -1,7 +1,7 @@
 use mathlib.Core.Path.{refl}
 use native.Mathlib.Omega.{arith}
 use Rattle.bonded.proofs.LinkLaws.{links-start}
-use Rattle.bonded.proofs.ChainInTableLaws.{stands-light}
+use Rattle.bonded.proofs.ChainInTableLaws.{after-bounded}
 use Rattle.bonded.proofs.StartLaws.{started-none, running-none, running-up}
 use borrow.Author.Needs.{needs}
 use Rattle.bonded.proofs.walked.Statement.{statement}
@@ -37,7 +37,7 @@ add-end : tie.Need-add-end
 add-end c = search needs
 
 link-rows-requires : tie.Need-link-rows-requires
-link-rows-requires c κs = (omega arith, omega arith, links-start _ _ _ (words c .before .pre .1))
+link-rows-requires c κs = let p = words c .before .pre in (record { long = p .chain .long; round = p .chain .ceiling }, links-start _ _ _ (p .places))
 
 none-requires : tie.Need-none-requires
 none-requires c κs = search needs
@@ -46,13 +46,20 @@ round-before-requires : tie.Need-round-before-requires
 round-before-requires c κs = search needs
 
 reach-round-requires : tie.Need-reach-round-requires
-reach-round-requires c κs = (known c .before .pre .0, links c .link-rows .ensures, running-none _ (none (rounded c) .none .ensures) refl (started-none 16))
+reach-round-requires c κs =
+    record {
+      linked = record { chain = known c .before .pre .chain; links = links c .link-rows .ensures };
+      running = running-none _ (none (rounded c) .none .ensures) refl (started-none 16);
+    }
 
 reach-round-requires-2 : tie.Need-reach-round-requires-2
 reach-round-requires-2 c κs =
     let x = once c in
     let b = x .before in
-    (known b .before .pre .0, links b .link-rows .ensures, running-up _ (omega (arith, rounded b .round-before .ensures)) (x .reach-round .ensures .0))
+    record {
+      linked = record { chain = known b .before .pre .chain; links = links b .link-rows .ensures };
+      running = running-up _ (omega (arith, rounded b .round-before .ensures)) (x .reach-round .ensures .0);
+    }
 
 same-length : tie.Need-same-length
 same-length c = search needs
@@ -63,12 +70,12 @@ returns c =
     let x = m .reach-round .ensures in
     let y = c .reach-round2 .ensures in
     let k = known (m .before) in
-    let a = k .before .pre .0 in
+    let a = k .before .pre .chain in
     record {
       before = rw (← rounded (m .before) .round-before .ensures) (x .1);
       at = y .1;
-      light-before = stands-light (λ j. k .shared-slice-known .given j .fits) a (x .0 .stands);
-      light-at = stands-light (λ j. k .shared-slice-known .given j .fits) a (y .0 .stands);
+      bounded-before = after-bounded (λ j. k .shared-slice-known .given j .fits) a (x .0 .after);
+      bounded-at = after-bounded (λ j. k .shared-slice-known .given j .fits) a (y .0 .after);
     }
 
 pub walked-spec : {M : Type 1} → statement M

@@ -5,7 +5,7 @@ use Prim.Native.Nat.{ℕ, _+_, _-_, _≤_}
 use native.Mathlib.Omega.{arith}
 use borrow.Author.Tests.{not-true, not-false}
 use Rattle.base.specs.Checks.{refusal}
-use Rattle.bonded.proofs.ChainInTableLaws.{readable}
+use Rattle.bonded.proofs.ChainInTableLaws.{chain-in-table}
 use Rattle.state.specs.declared.State.{State}
 use Rattle.state.specs.WellFormed.{wellFormed}
 use Rattle.state.specs.Formed.{Formed}
@@ -68,7 +68,7 @@ on-time c = let a = read c in timely (S a) (T a) (whole a) (in-time c)
 
 -- the leaders are those of the definition
 leads : (c : tie.After-fill-leaders) → let a = read (timed (found c)) in c .fill-leaders .last .1 .1 .1 .1 .1 .0 ≡ leadersFor (S a) (T a)
-leads c = let a = read (timed (found c)) in leaders-filled (S a) (T a) _ _ (c .fill-leaders .ensures .0) (found c .last-round .ensures)
+leads c = let a = read (timed (found c)) in leaders-filled (S a) (T a) _ _ (c .fill-leaders .ensures .leaders) (found c .last-round .ensures)
 
 -- the votes pass
 enough : (c : tie.Else3) → let a = read (timed (found (chosen c))) in refusal (voteChecks (S a) (T a)) ≡ 0
@@ -106,7 +106,7 @@ fill-leaders-requires c κs =
     let e = timed (last c) in
     let f = whole (read e) in
     let w = on-time e in
-    (readable _ _ _ (f .settings) (f .long) (f .rounds), omega (arith, w .above, last c .last-round .ensures), omega (arith, f .numbers .round-to, f .settings .ceiling-to))
+    (chain-in-table _ _ _ (f .settings) (f .long) (f .rounds), record { from = omega (arith, w .above, last c .last-round .ensures); to = omega (arith, f .numbers .round-to, f .settings .ceiling-to) })
 
 vote-refusal-requires : tie.Need-vote-refusal-requires
 vote-refusal-requires c κs =
@@ -115,7 +115,14 @@ vote-refusal-requires c κs =
     let r = S (read e) .round .0 in
     let w = on-time e in
     let i : r - 1 + 1 ≡ r = omega (arith, w .from) in
-    (whole (read e), w .from, leads l, w .above, rw i at (l .fill-leaders .ensures .1), l .fill-leaders .ensures .2)
+    record {
+      formed = whole (read e);
+      from = w .from;
+      above = w .above;
+      leaders = leads l;
+      committee = rw i at (l .fill-leaders .ensures .committee);
+      bounded = l .fill-leaders .ensures .bounded;
+    }
 
 refused-requires-3 : tie.Need-refused-requires-3
 refused-requires-3 c κs = search needs
@@ -143,14 +150,18 @@ commit-blocks-requires c κs =
     let v = found l .last-round .ensures in
     let n = leaders-length (S a) (T a) _ (leads l) in
     let i : S a .round .0 ≤ 1024 = omega (arith, f .numbers .round-to, f .settings .ceiling-to) in
-    (omega (arith, w .few), omega (arith, w .above), omega arith, omega (arith, f .long), omega arith, led-low (S a) (T a) f w (enough (voted c)) _ (leads l))
+    record {
+      few = omega (arith, w .few);
+      round = omega arith;
+      anchors = record { above = omega (arith, w .above); row = omega (arith, f .long); listed = omega arith; member = led-low (S a) (T a) f w (enough (voted c)) _ (leads l) };
+    }
 
 sub-t19-2 : tie.Need-sub-t19-2
 sub-t19-2 c =
     let b = made c in
     let n = found (chosen (voted (b .before))) in
     let a = read (timed n) in
-    rw (b .commit-blocks .ensures .0) (blocks-more (S a) (T a) (on-time (timed n)) _ (n .last-round .ensures) _)
+    rw (b .commit-blocks .ensures .count) (blocks-more (S a) (T a) (on-time (timed n)) _ (n .last-round .ensures) _)
 
 same-length-3 : tie.Need-same-length-3
 same-length-3 c = search needs
@@ -163,7 +174,7 @@ returns-4 c =
     let n = found l in
     let e = timed n in
     let a = read e in
-    commits (S a) (T a) (answers-made (S a) (T a) (reads a) (in-time e) (enough v) _ (n .last-round .ensures) _ (leads l) _ _ (b .commit-blocks .ensures .0) (b .commit-blocks .ensures .1))
+    commits (S a) (T a) (answers-made (S a) (T a) (reads a) (in-time e) (enough v) _ (n .last-round .ensures) _ (leads l) _ _ (b .commit-blocks .ensures .count) (b .commit-blocks .ensures .table))
 
 pub commit-cached-spec : {M : Type 1} → statement M
 commit-cached-spec =

@@ -1,7 +1,7 @@
 use mathlib.Core.Path.{refl}
 use native.Mathlib.Omega.{arith}
 use Rattle.committee.specs.Committees.{short, quorumWeight}
-use Rattle.committee.proofs.CommitteeLaws.{bound-le}
+use Rattle.committee.proofs.CommitteeLaws.{bound-low}
 use borrow.Author.Needs.{needs}
 use Rattle.committee.proofs.is_short.Statement.{statement}
 use Rattle.committee.proofs.is_short.Tie as tie
@@ -16,7 +16,9 @@ set-weight-requires : tie.Need-set-weight-requires
 set-weight-requires c κs = search needs
 
 sub-result : tie.Need-sub-result
-sub-result c = let h = bound-le (c .before .before .before .before .total-weight .result .0) in omega (arith, c .before .before .before .fault-bound .ensures)
+sub-result c =
+    let b = c .before .before .before in
+    omega (arith, b .fault-bound .ensures, bound-low (b .before .before .pre .0) (b .before .total-weight .result .0))
 
 returns : tie.Need-returns
 unfolding short quorumWeight

@@ -19,7 +19,11 @@ element-copy-out-t8 : tie.Need-element-copy-out-t8
 element-copy-out-t8 c = search needs
 
 thousandths-requires : tie.Need-thousandths-requires
-thousandths-requires c κs = let a = c .before .before .before .args in let h = sum-at (weightIn (a .w .now)) 16 (a .m .0) (omega arith) in let e = c .before .before .total-weight .ensures in (omega arith, omega arith, omega arith)
+thousandths-requires c κs =
+    let a = c .before .before .before .args in
+    let h = sum-at (weightIn (a .w .now)) 16 (a .m .0) (omega arith) in
+    let e = c .before .before .total-weight .ensures in
+    record { some = omega arith; part = omega arith; bounded = omega arith }
 
 returns : tie.Need-returns
 returns c = rw (c .thousandths .ensures, c .before .before .before .total-weight .ensures) refl

@@ -28,7 +28,14 @@ same-length : tie.Need-same-length
 same-length c = search needs
 
 returns : tie.Need-returns
-returns c = puts-then (puts-then (puts-then (puts-then (puts-then (c .before .before .before .before .before .before .before .before .before .before .before .before .before .before .before .before .before .before .before .before .before .before .before .put-number .ensures) (c .before .before .before .before .before .before .before .before .before .before .before .before .before .before .before .before .before .before .before .put-field .ensures)) (c .before .before .before .before .before .before .before .before .before .before .before .before .before .before .before .put-field2 .ensures)) (c .before .before .before .before .before .before .before .before .before .before .before .put-field3 .ensures)) (c .before .before .before .before .before .before .before .put-triples .ensures)) (c .before .before .put-bytes .ensures)
+returns c =
+    let end = c .before .before in
+    let triples = end .before .before .before .before .before in
+    let third = triples .before .before .before .before in
+    let second = third .before .before .before .before in
+    let first = second .before .before .before .before in
+    let numbers = puts-then (puts-then (puts-then (first .before .before .before .before .put-number .ensures) (first .put-field .ensures)) (second .put-field2 .ensures)) (third .put-field3 .ensures) in
+    puts-then (puts-then numbers (triples .put-triples .ensures)) (end .put-bytes .ensures)
 
 pub put-listing-spec : {M : Type 1} → statement M
 put-listing-spec =

@@ -29,8 +29,12 @@ same-length c = search needs
 
 returns : tie.Need-returns
 returns c =
-    rw (← c .before .before .before .before .before .before .before .before .before .before .before .before .before .letter .ensures, ← c .before .before .before .before .before .before .before .before .number .ensures, ← c .before .before .before .amount .ensures)
-    (puts-then (puts-then (puts-then (c .before .before .before .before .before .before .before .before .before .before .before .before .before .before .before .before .before .put-byte .ensures) (c .before .before .before .before .before .before .before .before .before .before .before .before .put-byte2 .ensures)) (c .before .before .before .before .before .before .before .put-field .ensures)) (c .before .before .put-field2 .ensures))
+    let amount = c .before .before .before in
+    let number = amount .before .before .before .before .before in
+    let letter = number .before .before .before .before .before in
+    let first = puts-then (letter .before .before .before .before .put-byte .ensures) (number .before .before .before .before .put-byte2 .ensures) in
+    rw (← letter .letter .ensures, ← number .number .ensures, ← amount .amount .ensures)
+    (puts-then (puts-then first (amount .before .before .before .before .put-field .ensures)) (c .before .before .put-field2 .ensures))
 
 pub put-triple-spec : {M : Type 1} → statement M
 put-triple-spec =

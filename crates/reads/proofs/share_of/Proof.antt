@@ -13,7 +13,7 @@ use Rattle.rules.specs.Tests.{badRound, unknown, committeeIn}
 use Rattle.rules.proofs.TestLaws.{unknown-not}
 use Rattle.state.specs.View.{view}
 use Rattle.state.proofs.Walkable.{readable}
-use Rattle.member.proofs.SharedCheckLaws.{asked}
+use Rattle.checks.proofs.SharedCheckLaws.{asked}
 use Rattle.reads.specs.Reads.{shareRefusal}
 use Rattle.reads.proofs.ReadLaws.{share-refused, share-given, share-checks}
 use borrow.Author.Needs.{needs}
@@ -96,7 +96,11 @@ returns-3 c = share-refused _ _ _ _ 9 (omega arith) (past₂ (weights (c .before
 share-requires : tie.Need-share-requires
 share-requires c κs =
     let m = c .before .before in
-    (entry₃ m .pre .1, ltb-true _ _ (sym (m .is-member .ensures) ∙ not-false _ (c .before .if3 .left)), weights m .committee-of .ensures .1)
+    record {
+      member = entry₃ m .pre .1;
+      weight = ltb-true _ _ (sym (m .is-member .ensures) ∙ not-false _ (c .before .if3 .left));
+      bounded = weights m .committee-of .ensures .1;
+    }
 
 returns-4 : tie.Need-returns-4
 returns-4 c = let e = c .before .before in share-given _ _ _ _ (past₃ e) (weights (e .before) .committee-of .ensures .0) (c .share .ensures)

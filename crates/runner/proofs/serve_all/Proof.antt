@@ -6,7 +6,7 @@ use Prim.Native.Nat.{ℕ}
 use lib.ListN.{length}
 use Rattle.runner.specs.declared.Session.{Session}
 use Rattle.runner.specs.Session.{SessionReady, SessionInvariant}
-use Rattle.runner.proofs.SessionLaws.{fresh-known, so-far-none, so-far-next}
+use Rattle.runner.proofs.SessionLaws.{fresh-cached, so-far-none, so-far-next}
 use Rattle.runner.proofs.serve_all.Statement.{statement}
 use Rattle.runner.proofs.serve_all.Tie as tie
 
@@ -20,10 +20,10 @@ record BetweenPasses (cache₀ t₀ buf₀ out₀ cache t buf out : List ℕ) (s
   output-size : length out ≡ length out₀
 
 abbrev Inv-loop : tie.InvT-loop
-Inv-loop cache₀ t₀ buf₀ out₀ s₀ turns₀ cache t buf out s turns = BetweenPasses cache₀ t₀ buf₀ out₀ cache t buf out s
+Inv-loop cache₀ t₀ buf₀ out₀ s₀ passes₀ cache t buf out s passes = BetweenPasses cache₀ t₀ buf₀ out₀ cache t buf out s
 
 abbrev μ-loop : tie.MeasureT-loop
-μ-loop cache₀ t₀ buf₀ out₀ s₀ turns₀ cache t buf out s turns = turns
+μ-loop cache₀ t₀ buf₀ out₀ s₀ passes₀ cache t buf out s passes = passes
 
 start-requires : tie.Need-start-requires Inv-loop μ-loop
 start-requires c κs = search needs
@@ -38,7 +38,7 @@ loop-holds c =
             memory = c .before .before .before .before .before .pre;
             hand = record { from-to = omega (arith, f .from, f .end); end-to = omega (arith, f .end) };
             empty = f .next;
-            known = fresh-known _ _ _ f;
+            cached = fresh-cached _ _ _ f;
           };
       cache-size = refl;
       table-size = refl;
@@ -49,8 +49,8 @@ loop-holds c =
 serve-pass-requires : tie.Need-serve-pass-requires Inv-loop μ-loop
 serve-pass-requires c κs = c .before .before .before .before .before .before .before .loop .inv .ready
 
-sub-turns : tie.Need-sub-turns Inv-loop μ-loop
-sub-turns c = search needs
+sub-passes : tie.Need-sub-passes Inv-loop μ-loop
+sub-passes c = search needs
 
 loop-less : tie.Need-loop-less Inv-loop μ-loop
 loop-less c = search needs
@@ -111,7 +111,7 @@ serve-all-spec =
     start-requires
     loop-holds
     serve-pass-requires
-    sub-turns
+    sub-passes
     loop-less
     loop-again
     same-length

@@ -3,7 +3,7 @@ use native.Mathlib.Omega.{arith}
 use lib.ListN.{length, take}
 use lib.Seq.{length-take-le}
 use borrow.Author.Needs.{needs}
-use Rattle.runner.proofs.SessionLaws.{advanced, refilled-known}
+use Rattle.runner.proofs.SessionLaws.{advanced, refilled-cached}
 use Rattle.runner.proofs.serve_pass.Statement.{statement}
 use Rattle.runner.proofs.serve_pass.Tie as tie
 
@@ -35,7 +35,7 @@ fill-requires c κs =
       memory = record { table-to = p .memory .table-to; input-to = rw l (omega (arith, p .hand .end-to, p .memory .input-to)); answer-to = p .memory .answer-to };
       from-to = rw l (p .hand .from-to);
       next-to = omega (arith, p .empty);
-      known = p .known;
+      cached = p .cached;
     }
 
 flush-requires : tie.Need-flush-requires
@@ -74,7 +74,7 @@ returns c =
         memory = record { table-to = omega (arith, z .table-to, t); input-to = omega (arith, z .input-to, same-length-3 c); answer-to = omega (arith, z .answer-to, t, same-length-4 c) };
         hand = e .hand;
         empty = e .empty;
-        known = refilled-known (e .bytes) (f .known);
+        cached = refilled-cached (e .bytes) (f .cached);
       },
     )
 

@@ -38,7 +38,11 @@ has-outside-requires c κs = search needs
 
 returns-4 : tie.Need-returns-4
 unfolding outOfRange
-returns-4 c = simp (← c .before .before .before .before .before .before .before .before .before .is-outside .ensures, c .before .before .before .before .before .before .before .before .if1 .left, ← c .before .before .before .before .before .before .is-outside2 .ensures, c .before .before .before .before .before .if2 .left, ← c .before .before .before .is-outside3 .ensures, c .before .before .if3 .left, c .has-outside .ensures)
+returns-4 c =
+    let third = c .before .before in
+    let second = third .before .before .before in
+    let first = second .before .before .before in
+    simp (← first .before .is-outside .ensures, first .if1 .left, ← second .before .is-outside2 .ensures, second .if2 .left, ← third .before .is-outside3 .ensures, third .if3 .left, c .has-outside .ensures)
 
 pub is-out-of-range-spec : {M : Type 1} → statement M
 is-out-of-range-spec =

@@ -1,24 +1,20 @@
-use Prim.Native.Nat.{_<_, _-_, _≤_}
+use Prim.Native.Nat.{_-_}
 use borrow.Author.Needs.{needs}
-use mathlib.Core.Path.{_≡_, refl, sym, _∙_}
+use mathlib.Core.Path.{refl}
 use native.Mathlib.Omega.{arith}
-use native.Mathlib.Numerals.{add-one}
-use lib.ListN.{take, length, length-set}
-use lib.Seq.{take-suc-set, take-all}
-use Rattle.base.specs.Folds.{tab}
+use Rattle.base.proofs.FillLaws.{Filling, filling-none, filling-more, filling-all}
 use Rattle.sheet.specs.Sheets.{weightAt}
 use Rattle.sheet.proofs.weights.Statement.{statement}
 use Rattle.sheet.proofs.weights.Tie as tie
 
 abbrev Inv-loop : tie.InvT-loop
-Inv-loop cells w₀ i₀ w i = (i ≤ 16) × (take i w ≡ tab (weightAt cells) i) × (length w ≡ 16)
+Inv-loop cells w₀ i₀ w i = Filling (weightAt cells) 16 w i
 
 abbrev μ-loop : tie.MeasureT-loop
 μ-loop cells w₀ i₀ w i = 16 - i
 
 loop-holds : tie.Need-loop-holds Inv-loop μ-loop
-unfolding tab
-loop-holds c = (omega arith, refl, refl)
+loop-holds c = filling-none refl
 
 weight-at-requires : tie.Need-weight-at-requires Inv-loop μ-loop
 weight-at-requires c κs = search needs
@@ -39,11 +35,10 @@ loop-less : tie.Need-loop-less Inv-loop μ-loop
 loop-less c = search needs
 
 loop-again : tie.Need-loop-again Inv-loop μ-loop
-unfolding tab
-loop-again c = let l = c .before .before .loop in let h : l .i < length (l .w) = omega (arith, l .inv .2) in (omega arith, rw (add-one, take-suc-set (l .w) (l .i) (c .weight-at .result .0) h, l .inv .1, c .weight-at .ensures), simp length-set (l .inv .2))
+loop-again c = filling-more (c .before .before .loop .inv) (omega arith) (c .weight-at .ensures)
 
 returns : tie.Need-returns Inv-loop μ-loop
-returns c = let e : c .before .loop .i ≡ 16 = omega arith in sym (take-all 16 _ (omega arith)) ∙ rw e at (c .before .loop .inv .1)
+returns c = filling-all (c .before .loop .inv) (omega arith)
 
 pub weights-spec : {M : Type 1} → statement M
 weights-spec =

@@ -43,7 +43,7 @@ unfolding wellFormed
 returns-4 c = rw (le-leb _ _ (c .before .before .before .before .before .before .if1 .left), sym (c .before .before .before .before .before .head-fits .ensures) ∙ not-false _ (c .before .before .before .before .if2 .left), sym (c .before .before .before .proposal-fits .ensures) ∙ not-false _ (c .before .before .if3 .left), sym (c .before .rows-fit .ensures) ∙ not-true _ (c .if4 .taken)) refl
 
 blocks-fit-requires : tie.Need-blocks-fit-requires
-blocks-fit-requires c κs = let s = c .before .before .before .before .before .before .before .before .before .before .before .args .s in let h = head-parts s (sym (c .before .before .before .before .before .head-fits .ensures) ∙ not-false _ (c .before .before .before .before .if2 .left)) in let f = settings-fit (s .settings) (h .0) in let n = h .1 in (omega arith, omega arith, omega arith)
+blocks-fit-requires c κs = let s = c .before .before .before .before .before .before .before .before .before .before .before .args .s in let h = head-parts s (sym (c .before .before .before .before .before .head-fits .ensures) ∙ not-false _ (c .before .before .before .before .if2 .left)) in let f = settings-fit (s .settings) (h .0) in let n = h .1 in (record { long = omega arith; round = omega arith }, omega arith)
 
 returns-5 : tie.Need-returns-5
 unfolding wellFormed

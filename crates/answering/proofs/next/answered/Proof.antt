@@ -1,4 +1,4 @@
-use Rattle.answering.proofs.StreamLaws.{through-nothing, through-record, through-unreadable}
+use Rattle.answering.proofs.StreamLaws.{answered-nothing, answered-record, answered-unreadable}
 use borrow.Author.Needs.{needs}
 use Rattle.answering.proofs.next.answered.Statement.{statement}
 use Rattle.answering.proofs.next.answered.Tie as tie
@@ -22,7 +22,7 @@ put-refused-requires : tie.Need-put-refused-requires
 put-refused-requires c κs = search needs
 
 returns : tie.Need-returns
-returns c = (through-nothing _ (c .enum-told .given .1), c .before .before .before .before .before .before .pre .1)
+returns c = (answered-nothing _ (c .enum-told .given .1), c .before .before .before .before .before .before .pre .1)
 
 same-length : tie.Need-same-length
 same-length c = search needs
@@ -34,13 +34,19 @@ same-length-3 : tie.Need-same-length-3
 same-length-3 c = search needs
 
 returns-2 : tie.Need-returns-2
-returns-2 c = (through-record _ (c .before .before .before .before .before .before .before .before .before .before .before .enum-told2 .given .1) (c .before .before .before .before .before .before .before .before .read .ensures) (c .before .before .before .before .before .before .serve .ensures .0), c .before .before .before .before .before .before .serve .ensures .1)
+returns-2 c =
+    let u = c .before .before .before .before .before .before in
+    let r = u .before .before in
+    (answered-record _ (r .before .before .before .enum-told2 .given .1) (r .read .ensures) (u .serve .ensures .0), u .serve .ensures .1)
 
 same-length-4 : tie.Need-same-length-4
 same-length-4 c = search needs
 
 returns-3 : tie.Need-returns-3
-returns-3 c = (through-unreadable _ (c .before .before .before .before .enum-told3 .given .1) (c .before .before .put-refused .ensures), c .before .before .before .before .before .before .before .before .before .before .pre .1)
+returns-3 c =
+    let u = c .before .before in
+    let e = u .before .before in
+    (answered-unreadable _ (e .enum-told3 .given .1) (u .put-refused .ensures), e .before .before .before .before .before .before .pre .1)
 
 pub answered-spec : {M : Type 1} → statement M
 answered-spec =

@@ -5,7 +5,7 @@ use mathlib.Core.Path.{ap, sym}
 use native.Mathlib.Omega.{arith}
 use Rattle.framing.specs.declared.Step.{Step}
 use Rattle.framing.proofs.FramingLaws.{step-within}
-use Rattle.answering.proofs.StreamLaws.{through-step}
+use Rattle.answering.proofs.StreamLaws.{answered-step}
 use borrow.Author.Needs.{needs}
 use Rattle.answering.proofs.next.next_record.Statement.{statement}
 use Rattle.answering.proofs.next.next_record.Tie as tie
@@ -36,7 +36,7 @@ returns : tie.Need-returns
 returns c =
     let e = c .before .before .before .before .before .before .before .before .before .before .before .before .next-step .ensures in
     let a = c .before .before .before .before .before .before .before .answered .ensures in
-    record { told = through-step _ _ e (a .0); its-skipping = ap (λ (z : Step). z .skipping) e; its-taken = ap (λ (z : Step). z .next) e; known = a .1 }
+    record { answered = answered-step _ _ e (a .0); its-skipping = ap (λ (z : Step). z .skipping) e; its-taken = ap (λ (z : Step). z .next) e; cached = a .1 }
 
 pub next-record-spec : {M : Type 1} → statement M
 next-record-spec =

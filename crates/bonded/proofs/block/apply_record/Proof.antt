@@ -6,7 +6,7 @@ use Rattle.base.specs.Folds.{foldTo}
 use Rattle.base.proofs.FoldLaws.{fold-none, fold-more}
 use Rattle.bonded.specs.BlockChanges.{slotChange}
 use Rattle.bonded.proofs.BlockChangeLaws.{record-slots, record-empty}
-use Rattle.bonded.proofs.BoundLaws.{slots-light}
+use Rattle.bonded.proofs.BoundLaws.{slots-total}
 use Rattle.bonded.proofs.block.apply_record.Statement.{statement}
 use Rattle.bonded.proofs.block.apply_record.Tie as tie
 
@@ -26,7 +26,13 @@ loop-holds : tie.Need-loop-holds Inv-loop μ-loop
 loop-holds c = (omega arith, sym (fold-none _ _))
 
 apply-slot-requires : tie.Need-apply-slot-requires Inv-loop μ-loop
-apply-slot-requires c κs = let a = c .before .before .before .before .before .before .args in let x = c .before .before .loop in (c .before .before .before .before .before .before .pre .0, c .before .before .before .before .count .ensures, omega arith, rw (x .inv .1) (omega (arith, slots-light (a .t .now) (λ j. c .before .before .before .before .before .shared-slice-known .given j .fits) (a .m .0) (a .r .0) (x .k) (a .w .now) (omega arith))))
+apply-slot-requires c κs =
+    let x = c .before .before .loop in
+    let n = c .before .before .before .before in
+    let s = n .before .before in
+    let a = s .args in
+    let l = slots-total (a .t .now) (λ j. n .before .shared-slice-known .given j .fits) (a .m .0) (a .r .0) (x .k) (a .w .now) (omega arith) in
+    record { place = s .pre .place; count = n .count .ensures; slot = omega arith; total = rw (x .inv .1) (omega (arith, l)) }
 
 add-k : tie.Need-add-k Inv-loop μ-loop
 add-k c = search needs

@@ -2,7 +2,7 @@ use Prim.Native.Nat.{_+_, _*_, _/_}
 use native.Mathlib.Omega.{arith}
 use borrow.Author.Needs.{needs}
 use Rattle.bonded.specs.Runs.{rowOver}
-use Rattle.bonded.proofs.BoundLaws.{run-light}
+use Rattle.bonded.proofs.BoundLaws.{run-total}
 use Rattle.bonded.proofs.block.apply_row.Statement.{statement}
 use Rattle.bonded.proofs.block.apply_row.Tie as tie
 
@@ -25,8 +25,8 @@ apply-run-requires-2 : tie.Need-apply-run-requires-2
 apply-run-requires-2 c κs =
     let a = c .before .before .before .before .before .before .before .args in
     let words = c .before .before .before .before .before .before .shared-slice-known in
-    let l = run-light (a .t .now) (λ j. words .given j .fits) (a .next .now) (a .p / 16 * 16 + a .a .0) (a .p / 16 * 16 + 16) 16 (a .p) (a .w .now) in
-    (omega arith, omega arith, rw (c .before .before .apply-run .ensures .0) (omega (arith, l)))
+    let l = run-total (a .t .now) (λ j. words .given j .fits) (a .next .now) (a .p / 16 * 16 + a .a .0) (a .p / 16 * 16 + 16) 16 (a .p) (a .w .now) in
+    record { long = omega arith; places = omega arith; total = rw (c .before .before .apply-run .ensures .0) (omega (arith, l)) }
 
 returns : tie.Need-returns
 unfolding rowOver

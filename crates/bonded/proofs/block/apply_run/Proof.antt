@@ -1,37 +1,40 @@
 use mathlib.Core.Path.{_≡_, refl, sym, _∙_}
-use Prim.Native.Nat.{suc, _+_, _-_, _*_, _≤_}
+use mathlib.Core.List.{List}
+use Prim.Native.Nat.{ℕ, suc, _+_, _-_, _*_, _≤_}
 use native.Mathlib.Omega.{arith}
 use borrow.Author.Needs.{needs}
 use Rattle.committee.specs.Totals.{totalIn}
 use Rattle.bonded.specs.BlockChanges.{recordChange}
 use Rattle.bonded.specs.Runs.{runOver, runEnd}
 use Rattle.bonded.proofs.RunLaws.{run-step, run-stop, run-none, end-step, end-stop, end-none}
-use Rattle.bonded.proofs.BoundLaws.{turn-light}
+use Rattle.bonded.proofs.BoundLaws.{from-total}
 use Rattle.bonded.proofs.block.apply_run.Statement.{statement}
 use Rattle.bonded.proofs.block.apply_run.Tie as tie
 
--- what is left of the run, of at most 16 - i places, does what the whole run does
+-- what is left of the run, of at most 16 - i places, does what the whole run does, and ends where it ends
+record RunLeft (t next : List ℕ) (y z p : ℕ) (w₀ w : List ℕ) (q i : ℕ) : Type 0 where
+  count : i ≤ 16
+  rest : runOver (recordChange t) next y z (16 - i) q w ≡ runOver (recordChange t) next y z 16 p w₀
+  last : runEnd next z (16 - i) q ≡ runEnd next z 16 p
+  total : totalIn w ≤ totalIn w₀ + i * 17179869180
+
 abbrev Inv-loop : tie.InvT-loop
-Inv-loop t next y z p w₀ q₀ i₀ w q i =
-    (i ≤ 16)
-    × (runOver (recordChange t) next y z (16 - i) q w ≡ runOver (recordChange t) next y z 16 p w₀)
-    × (runEnd next z (16 - i) q ≡ runEnd next z 16 p)
-    × (totalIn w ≤ totalIn w₀ + i * 17179869180)
+Inv-loop t next y z p w₀ q₀ i₀ w q i = RunLeft t next y z p w₀ w q i
 
 abbrev μ-loop : tie.MeasureT-loop
 μ-loop t next y z p w₀ q₀ i₀ w q i = 16 - i
 
 loop-holds : tie.Need-loop-holds Inv-loop μ-loop
-loop-holds c = (omega arith, refl, refl, omega arith)
+loop-holds c = record { count = omega arith; rest = refl; last = refl; total = omega arith }
 
 returns : tie.Need-returns Inv-loop μ-loop
 returns c =
     let x = c .before .before .loop in
     let a = c .before .before .before .before .before .args in
-    (sym (run-stop (recordChange (a .t .now)) (a .next .now) (a .y) (a .z) (16 - x .i) (x .q) (x .w) (c .if1 .taken)) ∙ x .inv .1, sym (end-stop (a .next .now) (a .z) (16 - x .i) (x .q) (c .if1 .taken)) ∙ x .inv .2)
+    (sym (run-stop (recordChange (a .t .now)) (a .next .now) (a .y) (a .z) (16 - x .i) (x .q) (x .w) (c .if1 .taken)) ∙ x .inv .rest, sym (end-stop (a .next .now) (a .z) (16 - x .i) (x .q) (c .if1 .taken)) ∙ x .inv .last)
 
-apply-turn-requires : tie.Need-apply-turn-requires Inv-loop μ-loop
-apply-turn-requires c κs = let x = c .before .before .before .loop in (record { member = omega arith; row = omega arith }, omega (arith, x .inv .3))
+apply-from-requires : tie.Need-apply-from-requires Inv-loop μ-loop
+apply-from-requires c κs = let x = c .before .before .before .loop in record { place = record { member = omega arith; row = omega arith }; total = omega (arith, x .inv .total) }
 
 cast-q : tie.Need-cast-q Inv-loop μ-loop
 cast-q c = search needs
@@ -57,15 +60,20 @@ loop-again c =
     let e : 16 - x .i ≡ suc (16 - (x .i + 1)) = omega arith in
     let h = rw (← e) at (run-step (recordChange (a .t .now)) (a .next .now) (a .y) (a .z) (16 - (x .i + 1)) (x .q) (x .w) (omega arith)) in
     let k = rw (← e) at (end-step (a .next .now) (a .z) (16 - (x .i + 1)) (x .q) (omega arith)) in
-    let l = turn-light (a .t .now) (λ j. words .given j .fits) (a .y) (x .q) (x .w) in
-    (omega arith, rw (c .before .apply-turn .ensures) (sym h ∙ x .inv .1), sym k ∙ x .inv .2, rw (c .before .apply-turn .ensures) (omega (arith, l, x .inv .3)))
+    let l = from-total (a .t .now) (λ j. words .given j .fits) (a .y) (x .q) (x .w) in
+    record {
+      count = omega arith;
+      rest = rw (c .before .apply-from .ensures) (sym h ∙ x .inv .rest);
+      last = sym k ∙ x .inv .last;
+      total = rw (c .before .apply-from .ensures) (omega (arith, l, x .inv .total));
+    }
 
 returns-2 : tie.Need-returns-2 Inv-loop μ-loop
 returns-2 c =
     let x = c .before .loop in
     let a = c .before .before .before .before .args in
     let e : 16 - x .i ≡ 0 = omega arith in
-    (sym (run-none (recordChange (a .t .now)) (a .next .now) (a .y) (a .z) (x .q) (x .w)) ∙ rw e at (x .inv .1), sym (end-none (a .next .now) (a .z) (x .q)) ∙ rw e at (x .inv .2))
+    (sym (run-none (recordChange (a .t .now)) (a .next .now) (a .y) (a .z) (x .q) (x .w)) ∙ rw e at (x .inv .rest), sym (end-none (a .next .now) (a .z) (x .q)) ∙ rw e at (x .inv .last))
 
 pub apply-run-spec : {M : Type 1} → statement M
 apply-run-spec =
@@ -75,7 +83,7 @@ apply-run-spec =
     μ-loop
     loop-holds
     returns
-    apply-turn-requires
+    apply-from-requires
     cast-q
     mul-q
     shared-slice-read-q

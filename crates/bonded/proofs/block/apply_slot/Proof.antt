@@ -16,7 +16,10 @@ apply-requires : tie.Need-apply-requires
 apply-requires c κs = search needs
 
 returns : tie.Need-returns
-returns c = let a = c .before .before .before .before .before .before .args in rw (slot-words (a .t .now) (a .m .0) (a .r .0) (a .w .now) (a .k), ← c .before .before .before .before .before .before .pre .1, ← c .before .before .before .before .kind-at .ensures, ← c .before .before .before .number-at .ensures, ← c .before .before .amount-at .ensures) (c .apply .ensures)
+returns c =
+    let s = c .before .before .before .before .before .before in
+    let a = s .args in
+    rw (slot-words (a .t .now) (a .m .0) (a .r .0) (a .w .now) (a .k), ← s .pre .count, ← c .before .before .before .before .kind-at .ensures, ← c .before .before .before .number-at .ensures, ← c .before .before .amount-at .ensures) (c .apply .ensures)
 
 pub apply-slot-spec : {M : Type 1} → statement M
 apply-slot-spec = tie.close (tie.spec kind-at-requires number-at-requires amount-at-requires apply-requires returns)

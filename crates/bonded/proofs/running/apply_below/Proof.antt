@@ -3,7 +3,7 @@ use native.Mathlib.Omega.{arith}
 use borrow.Author.Needs.{needs}
 use Rattle.bonded.specs.Starts.{Running}
 use Rattle.bonded.proofs.StartLaws.{running-below}
-use Rattle.bonded.proofs.ChainInTableLaws.{stands-any, stands-bonded}
+use Rattle.bonded.proofs.ChainInTableLaws.{after-any, after-bonded}
 use Rattle.bonded.proofs.running.apply_below.Statement.{statement}
 use Rattle.bonded.proofs.running.apply_below.Tie as tie
 
@@ -14,25 +14,26 @@ abbrev μ-loop : tie.MeasureT-loop
 μ-loop t head next s blocks q w₀ starts₀ y₀ w starts y = blocks - y .blocks
 
 loop-holds : tie.Need-loop-holds Inv-loop μ-loop
-loop-holds c = c .before .before .pre .3
+loop-holds c = c .before .before .pre .0 .running
 
 add-block-round : tie.Need-add-block-round Inv-loop μ-loop
 add-block-round c = search needs
 
 block-round-requires : tie.Need-block-round-requires Inv-loop μ-loop
-block-round-requires c κs = let a = c .before .before .before .before .before .before .pre .0 in omega (arith, a .long, a .few)
+block-round-requires c κs = let a = c .before .before .before .before .before .before .pre .0 .linked .chain in omega (arith, a .long, a .few)
 
 returns : tie.Need-returns Inv-loop μ-loop
 returns c =
     let s = c .before .before .before .before .before .before .before .before .before .before in
     let x = c .before .before .before .before .before .before .before .loop in
-    (x .inv, stands-bonded (s .args .q .0) (s .pre .2) (s .pre .0) (λ h. rw (← c .before .before .before .block-round .ensures) (c .if2 .taken)) (x .inv .stands))
+    (x .inv, after-bonded (s .args .q .0) (s .pre .1) (s .pre .0 .linked .chain) (λ h. rw (← c .before .before .before .block-round .ensures) (c .if2 .taken)) (x .inv .after))
 
 apply-next-requires : tie.Need-apply-next-requires Inv-loop μ-loop
 apply-next-requires c κs =
     let s = c .before .before .before .before .before .before .before .before .before .before .before .before in
     let x = c .before .before .before .before .before .before .before .before .before .loop in
-    (s .pre .0, s .pre .1, omega arith, record { stands = stands-any (s .pre .0) (x .inv .stands); started = x .inv .started })
+    let l = s .pre .0 .linked in
+    (record { linked = l; running = record { after = after-any (l .chain) (x .inv .after); started = x .inv .started } }, omega arith)
 
 loop-less : tie.Need-loop-less Inv-loop μ-loop
 loop-less c = omega (arith, c .apply-next .ensures .0)
@@ -47,7 +48,7 @@ returns-2 : tie.Need-returns-2 Inv-loop μ-loop
 returns-2 c =
     let s = c .before .before .before .before .before in
     let x = c .before .before .loop in
-    (x .inv, stands-bonded (s .args .q .0) (s .pre .2) (s .pre .0) (λ h. absurd (omega arith)) (x .inv .stands))
+    (x .inv, after-bonded (s .args .q .0) (s .pre .1) (s .pre .0 .linked .chain) (λ h. absurd (omega arith)) (x .inv .after))
 
 pub apply-below-spec : {M : Type 1} → statement M
 apply-below-spec =

@@ -2,7 +2,7 @@ use mathlib.Core.Path.{_≡_}
 use native.Mathlib.Omega.{arith}
 use Prim.Native.Nat.{_-_}
 use Rattle.committee.proofs.CommitteeLaws.{committee-start, committee-bonded}
-use Rattle.bonded.proofs.ChainInTableLaws.{stands-first}
+use Rattle.bonded.proofs.ChainInTableLaws.{after-first}
 use borrow.Author.Needs.{needs}
 use Rattle.bonded.proofs.running.reach_round.Statement.{statement}
 use Rattle.bonded.proofs.running.reach_round.Tie as tie
@@ -12,7 +12,7 @@ returns c =
     let a = c .before .before .before .before .before .args in
     let p = c .before .before .before .before .before .pre in
     let e : a .r .0 - a .s .lookback - 1 ≡ 0 = omega arith in
-    (p .2, rw (committee-start (a .s) _ (a .r .0) (c .if1 .taken)) (stands-first (p .0) (rw e at (p .2 .stands))))
+    (p .running, rw (committee-start (a .s) _ (a .r .0) (c .if1 .taken)) (after-first (p .linked .chain) (rw e at (p .running .after))))
 
 sub-t11 : tie.Need-sub-t11
 sub-t11 c = search needs

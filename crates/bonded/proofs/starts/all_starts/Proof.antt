@@ -17,10 +17,14 @@ none-requires : tie.Need-none-requires Inv-loop μ-loop
 none-requires c κs = search needs
 
 loop-holds : tie.Need-loop-holds Inv-loop μ-loop
-loop-holds c = let s = c .before .before .before .before in running-none _ (c .none .ensures) refl (s .pre .2)
+loop-holds c = let s = c .before .before .before .before in running-none _ (c .none .ensures) refl (s .pre .1)
 
 apply-next-requires : tie.Need-apply-next-requires Inv-loop μ-loop
-apply-next-requires c κs = let s = c .before .before .before .before .before .before .before .before .before in let x = c .before .before .before .before .loop in let l = x .inv .started .from in (s .pre .0, s .pre .1, omega arith, x .inv)
+apply-next-requires c κs =
+    let s = c .before .before .before .before .before .before .before .before .before in
+    let x = c .before .before .before .before .loop in
+    let l = x .inv .started .from in
+    (record { linked = s .pre .0; running = x .inv }, omega arith)
 
 loop-less : tie.Need-loop-less Inv-loop μ-loop
 loop-less c = let x = c .before .before .before .before .before .loop in let l = x .inv .started .from in omega (arith, c .apply-next .ensures .0)
@@ -29,7 +33,7 @@ loop-again : tie.Need-loop-again Inv-loop μ-loop
 loop-again c = c .apply-next .ensures .1
 
 returns : tie.Need-returns Inv-loop μ-loop
-returns c = λ i h. c .before .before .loop .inv .started .known i (omega arith)
+returns c = λ i h. c .before .before .loop .inv .started .written i (omega arith)
 
 pub all-starts-spec : {M : Type 1} → statement M
 all-starts-spec =

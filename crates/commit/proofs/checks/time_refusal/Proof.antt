@@ -1,7 +1,7 @@
 use mathlib.Core.Path.{sym, _∙_}
 use borrow.Author.Tests.{not-true, not-false}
 use Rattle.commit.proofs.CheckLaws.{round-even, round-one, round-old, round-unknown, round-timely}
-use Rattle.bonded.proofs.ChainInTableLaws.{readable}
+use Rattle.bonded.proofs.ChainInTableLaws.{chain-in-table}
 use borrow.Author.Needs.{needs}
 use Rattle.commit.proofs.checks.time_refusal.Statement.{statement}
 use Rattle.commit.proofs.checks.time_refusal.Tie as tie
@@ -22,7 +22,7 @@ returns-3 : tie.Need-returns-3
 returns-3 c = round-old _ _ (c .before .before .before .before .if1 .left) (c .before .before .before .if2 .left) (rw (c .before .before .last-round .ensures) at (c .if3 .taken))
 
 known-requires : tie.Need-known-requires
-known-requires c κs = let f = c .before .before .before .before .before .before .pre in readable _ _ _ (f .settings) (f .long) (f .rounds)
+known-requires c κs = let f = c .before .before .before .before .before .before .pre in chain-in-table _ _ _ (f .settings) (f .long) (f .rounds)
 
 returns-4 : tie.Need-returns-4
 returns-4 c = round-unknown _ _ (c .before .before .before .before .before .before .if1 .left) (c .before .before .before .before .before .if2 .left) (rw (c .before .before .before .before .last-round .ensures) at (c .before .before .if3 .left)) (sym (c .before .known .ensures) ∙ not-true (c .before .known .result) (c .if4 .taken))

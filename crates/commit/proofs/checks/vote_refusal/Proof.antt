@@ -8,6 +8,7 @@ use Rattle.base.specs.Sets.{isIn}
 use Rattle.base.proofs.SetLaws.{in-member}
 use Rattle.agreement.specs.Weights.{total}
 use Rattle.store.specs.Table.{heldSet}
+use Rattle.sheet.specs.Sheets.{marginOf}
 use Rattle.sheet.specs.Ranges.{weightIn}
 use Rattle.committee.specs.Committees.{boundOf}
 use Rattle.state.specs.declared.State.{State}
@@ -42,23 +43,24 @@ R c = S c .round .0
 abbrev A : tie.After-is-held-leader → ℕ
 A c = leaderOn (S c) (T c) (R c - 1)
 
--- what `is_led` answers is whether the leader's certificate is held
+-- what `is_held_leader` answers is whether the leader's certificate is held
 held : (c : tie.After-is-held-leader) {b : Bool} → c .is-held-leader .result ≡ b → isIn (heldSet (T c) (R c - 1)) (A c) ≡ b
 held c h =
     let p = entry c .pre in
-    rw (c .before .held-set .ensures, led-on _ _ (p .0) (p .1) _ (p .2) (p .3)) at (sym (c .is-held-leader .ensures) ∙ h)
+    rw (c .before .held-set .ensures, led-on _ _ (p .formed) (p .from) _ (p .leaders) (p .above)) at (sym (c .is-held-leader .ensures) ∙ h)
 
 -- the two numbers of the second test, by the definitions
 votes : (c : tie.After-votes-for) → let a = asked (c .before) .before in c .votes-for .result .0 ≡ votesFor (T a) (committeeOn (S a) (T a) (R a)) (R a) (A a)
 votes c =
     let a = asked (c .before) .before in
     let p = entry a .pre in
-    c .votes-for .ensures ∙ ap₂ (λ (w : List ℕ) (x : ℕ). votesFor (T a) w (R a) x) (p .4) (led-on _ _ (p .0) (p .1) _ (p .2) (p .3))
+    c .votes-for .ensures ∙ ap₂ (λ (w : List ℕ) (x : ℕ). votesFor (T a) w (R a) x) (p .committee) (led-on _ _ (p .formed) (p .from) _ (p .leaders) (p .above))
 
-bound : (c : tie.After-fault-bound) → let a = asked c .before in c .fault-bound .result .0 ≡ boundOf (total 16 (weightIn (committeeOn (S a) (T a) (R a))))
+bound : (c : tie.After-fault-bound) → let a = asked c .before in c .fault-bound .result .0 ≡ boundOf (marginOf (S a .settings)) (total 16 (weightIn (committeeOn (S a) (T a) (R a))))
 bound c =
-    let p = entry (asked c .before) .pre in
-    c .fault-bound .ensures ∙ ap boundOf (c .before .total-weight .ensures ∙ ap (λ (w : List ℕ). total 16 (weightIn w)) (p .4))
+    let a = asked c .before in
+    let p = entry a .pre in
+    c .fault-bound .ensures ∙ ap (boundOf (marginOf (S a .settings))) (c .before .total-weight .ensures ∙ ap (λ (w : List ℕ). total 16 (weightIn w)) (p .committee))
 
 sub-a : tie.Need-sub-a
 sub-a c = search needs
@@ -79,7 +81,7 @@ is-held-leader-requires : tie.Need-is-held-leader-requires
 is-held-leader-requires c κs = search needs
 
 returns : tie.Need-returns
-returns c = let p = entry (c .before) .pre in anchor-none _ _ (p .0) (p .1) (held (c .before) (not-true _ (c .if1 .taken)))
+returns c = let p = entry (c .before) .pre in anchor-none _ _ (p .formed) (p .from) (held (c .before) (not-true _ (c .if1 .taken)))
 
 total-weight-requires : tie.Need-total-weight-requires
 total-weight-requires c κs = search needs
@@ -91,22 +93,26 @@ votes-for-requires : tie.Need-votes-for-requires
 votes-for-requires c κs =
     let a = asked c in
     let p = entry (a .before) .pre in
-    let f = p .0 in
-    (omega (arith, f .long, f .numbers .round-to), in-member _ _ (sym (a .before .is-held-leader .ensures) ∙ not-false _ (a .if1 .left)), p .5)
+    let f = p .formed in
+    record {
+      row = omega (arith, f .long, f .numbers .round-to);
+      member = in-member _ _ (sym (a .before .is-held-leader .ensures) ∙ not-false _ (a .if1 .left));
+      bounded = p .bounded;
+    }
 
 returns-2 : tie.Need-returns-2
 returns-2 c =
     let v = counted (c .before) in
     let a = asked (v .before) in
     let p = entry (a .before) .pre in
-    votes-few _ _ (p .0) (p .1) (held (a .before) (not-false _ (a .if1 .left))) (omega (arith, votes v, bound (v .before), c .if2 .taken))
+    votes-few _ _ (p .formed) (p .from) (held (a .before) (not-false _ (a .if1 .left))) (omega (arith, votes v, bound (v .before), c .if2 .taken))
 
 returns-3 : tie.Need-returns-3
 returns-3 c =
     let v = counted (c .before) in
     let a = asked (v .before) in
     let p = entry (a .before) .pre in
-    votes-enough _ _ (p .0) (p .1) (held (a .before) (not-false _ (a .if1 .left))) (omega (arith, votes v, bound (v .before), c .if2 .left))
+    votes-enough _ _ (p .formed) (p .from) (held (a .before) (not-false _ (a .if1 .left))) (omega (arith, votes v, bound (v .before), c .if2 .left))
 
 pub vote-refusal-spec : {M : Type 1} → statement M
 vote-refusal-spec =

@@ -26,7 +26,13 @@ vote-of-requires : tie.Need-vote-of-requires Inv-loop μ-loop
 vote-of-requires c κs = search needs
 
 add-sum : tie.Need-add-sum Inv-loop μ-loop
-add-sum c = let a = c .before .before .before .before .before .args in let i = c .before .before .before .loop .i in let f = votesAt (a .t .now) (a .r .0) (a .a .0) in let h = weigh-le (weightIn (a .w .now)) f (i + 1) 16 (omega arith) in let s = sum-more (λ j. cond (f j) (weightIn (a .w .now) j) 0) i in omega (arith, c .before .vote-of .ensures)
+add-sum c =
+    let a = c .before .before .before .before .before .args in
+    let i = c .before .before .before .loop .i in
+    let f = votesAt (a .t .now) (a .r .0) (a .a .0) in
+    let h = weigh-le (weightIn (a .w .now)) f (i + 1) 16 (omega arith) in
+    let s = sum-more (λ j. cond (f j) (weightIn (a .w .now) j) 0) i in
+    omega (arith, c .before .vote-of .ensures)
 
 add-i : tie.Need-add-i Inv-loop μ-loop
 add-i c = search needs

@@ -1,6 +1,7 @@
 use mathlib.Core.Path.{_≡_, refl, sym, _∙_}
 use native.Mathlib.Omega.{arith}
-use Prim.Native.Nat.{_-_, _≤_}
+use mathlib.Core.List.{List}
+use Prim.Native.Nat.{ℕ, _-_, _≤_}
 use lib.ListN.{length, drop}
 use borrow.Author.Tests.{eq-eqb, ne-eqb}
 use Rattle.fields.specs.Words.{sameBytes}
@@ -9,8 +10,14 @@ use borrow.Author.Needs.{needs}
 use Rattle.fields.proofs.word.is_same.Statement.{statement}
 use Rattle.fields.proofs.word.is_same.Tie as tie
 
+-- the bytes before i are the same, so those from i on decide
+record Comparing (f w : List ℕ) (i : ℕ) : Type 0 where
+  so-far : i ≤ length f
+  lengths : length f ≡ length w
+  left : sameBytes f w ≡ sameBytes (drop i f) (drop i w)
+
 abbrev Inv-loop : tie.InvT-loop
-Inv-loop f w i₀ i = (i ≤ length f) × (length f ≡ length w) × (sameBytes f w ≡ sameBytes (drop i f) (drop i w))
+Inv-loop f w i₀ i = Comparing f w i
 
 abbrev μ-loop : tie.MeasureT-loop
 μ-loop f w i₀ i = length f - i
@@ -19,7 +26,7 @@ returns : tie.Need-returns Inv-loop μ-loop
 returns c = sym (other-length _ _ (c .if1 .taken))
 
 loop-holds : tie.Need-loop-holds Inv-loop μ-loop
-loop-holds c = (omega arith, c .if1 .left, refl)
+loop-holds c = record { so-far = omega arith; lengths = c .if1 .left; left = refl }
 
 shared-slice-read-if2 : tie.Need-shared-slice-read-if2 Inv-loop μ-loop
 shared-slice-read-if2 c = search needs
@@ -32,7 +39,7 @@ returns-2 c =
     let l = c .before .before .before .before .loop in
     let a = c .before .before .before .before .before .before .args in
     let h = same-at (a .f .now) (a .w .now) (l .i) (omega arith) (omega arith) in
-    sym (l .inv .2 ∙ h ∙ rw (ne-eqb _ _ (c .if2 .taken)) refl)
+    sym (l .inv .left ∙ h ∙ rw (ne-eqb _ _ (c .if2 .taken)) refl)
 
 add-i : tie.Need-add-i Inv-loop μ-loop
 add-i c = search needs
@@ -45,12 +52,12 @@ loop-again c =
     let l = c .before .before .before .before .loop in
     let a = c .before .before .before .before .before .before .args in
     let h = same-at (a .f .now) (a .w .now) (l .i) (omega arith) (omega arith) in
-    (omega arith, l .inv .1, l .inv .2 ∙ h ∙ rw (eq-eqb _ _ (c .if2 .left)) refl)
+    record { so-far = omega arith; lengths = l .inv .lengths; left = l .inv .left ∙ h ∙ rw (eq-eqb _ _ (c .if2 .left)) refl }
 
 returns-3 : tie.Need-returns-3 Inv-loop μ-loop
 returns-3 c =
     let l = c .before .loop in
-    sym (l .inv .2 ∙ same-end _ _ (l .i) (omega arith) (omega (arith, l .inv .1)))
+    sym (l .inv .left ∙ same-end _ _ (l .i) (omega arith) (omega (arith, l .inv .lengths)))
 
 pub is-same-spec : {M : Type 1} → statement M
 is-same-spec =

@@ -1,30 +1,31 @@
-use mathlib.Core.Path.{refl}
-use mathlib.Core.List.{[]}
-use lib.Dec.{ltb}
+use mathlib.Core.Path.{_≡_, refl, _∙_}
+use mathlib.Core.Bool.{true}
 use borrow.Author.Tests.{lt-ltb, le-ltb}
-use Rattle.host.proofs.CallLaws.{not-read, is-read, left-unread, right-unread, both-read, done-unread, kept-done}
-use Rattle.host.specs.States.{stateReads}
-use Rattle.host.specs.Calls.{certify}
-use Rattle.host.proofs.ReadingLaws.{state-read}
+use Rattle.hosting.proofs.CallLaws.{not-read, is-read, left-unread, no-out, done-unserved, done-unread}
+use Rattle.hosting.proofs.AnsweredLaws.{done-kept}
+use Rattle.words.specs.States.{stateReads}
+use Rattle.words.proofs.ReadingLaws.{state-read}
 use borrow.Author.Needs.{needs}
 use Rattle.host.proofs.calls.forgelilac_certify.Statement.{statement}
 use Rattle.host.proofs.calls.forgelilac_certify.Tie as tie
+
+abbrev entry : tie.After-state-reads → tie.Start
+entry c = c .before .before .before
+
+state-serves : (c : tie.Else1) → stateReads (entry (c .before) .args .state .now) ≡ true
+state-serves c = is-read (c .before .state-reads .ensures) (c .if1 .left)
 
 state-reads-requires : tie.Need-state-reads-requires
 state-reads-requires c κs = search needs
 
 returns : tie.Need-returns
-returns c =
-    let a = c .before .before .before .before .args in
-    done-unread (a .state .now) (a .table .now) [] (certify (a .endorsers)) (left-unread (ltb (a .endorsers) 65536) (not-read (c .before .state-reads .ensures) (c .if1 .taken))) refl
+returns c = done-unserved _ _ _ _ _ (left-unread _ (not-read (c .before .state-reads .ensures) (c .if1 .taken))) refl
 
 returns-2 : tie.Need-returns-2
-returns-2 c =
-    let a = c .before .before .before .before .before .args in
-    done-unread (a .state .now) (a .table .now) [] (certify (a .endorsers)) (right-unread (stateReads (a .state .now)) (le-ltb (a .endorsers) 65536 (c .if2 .taken))) refl
+returns-2 c = done-unread _ _ _ _ _ (le-ltb _ 65536 (c .if2 .taken)) refl
 
 state-in-requires : tie.Need-state-in-requires
-state-in-requires c κs = state-read _ (is-read (c .before .before .state-reads .ensures) (c .before .if1 .left))
+state-in-requires c κs = state-read _ (state-serves (c .before))
 
 cast-certify : tie.Need-cast-certify
 cast-certify c = search needs
@@ -32,18 +33,18 @@ cast-certify c = search needs
 certify-requires : tie.Need-certify-requires
 certify-requires c κs = search needs
 
-number-of-requires : tie.Need-number-of-requires
-number-of-requires c κs = search needs
+refusal-of-requires : tie.Need-refusal-of-requires
+refusal-of-requires c κs = search needs
 
 same-length : tie.Need-same-length
 same-length c = search needs
 
 returns-3 : tie.Need-returns-3
 returns-3 c =
-    let a = c .before .before .before .before .before .before .before .before .before .before .before .args in
-    let e = is-read (c .before .before .before .before .before .before .before .before .state-reads .ensures) (c .before .before .before .before .before .before .before .if1 .left) in
-    let x = rw (c .before .before .before .before .before .state-in .ensures) at (c .before .before .before .certify .ensures) in
-    kept-done (a .state .now) (a .table .now) (certify (a .endorsers)) (both-read e (lt-ltb (a .endorsers) 65536 (c .before .before .before .before .before .before .if2 .left))) (x .0) (x .1) refl (c .number-of .ensures)
+    let m = c .before .before .before in
+    let d = m .before .before .before in
+    let x = rw (m .before .before .state-in .ensures) at (m .certify .ensures) in
+    done-kept _ _ _ _ (no-out (state-serves (d .before))) (lt-ltb _ 65536 (d .if2 .left)) refl (c .refusal-of .ensures ∙ x .its-refusal) (x .its-table) (λ s. refl)
 
 pub forgelilac-certify-spec : {M : Type 1} → statement M
 forgelilac-certify-spec =
@@ -55,6 +56,6 @@ forgelilac-certify-spec =
     state-in-requires
     cast-certify
     certify-requires
-    number-of-requires
+    refusal-of-requires
     same-length
     returns-3)

@@ -1,11 +1,18 @@
-use mathlib.Core.Path.{refl}
-use mathlib.Core.List.{[]}
-use Rattle.host.proofs.CallLaws.{not-read, is-read, done-unread, done-read, done-as}
-use Rattle.host.specs.Calls.{block, blockBy}
-use Rattle.host.proofs.ReadingLaws.{state-read}
+use mathlib.Core.Path.{_≡_, refl, _∙_}
+use mathlib.Core.Bool.{true}
+use Rattle.hosting.proofs.CallLaws.{not-read, is-read, left-unread, no-out, done-unserved}
+use Rattle.hosting.proofs.AnsweredLaws.{block-packed, done-kept}
+use Rattle.words.specs.States.{stateReads}
+use Rattle.words.proofs.ReadingLaws.{state-read}
 use borrow.Author.Needs.{needs}
 use Rattle.host.proofs.views.forgelilac_block.Statement.{statement}
 use Rattle.host.proofs.views.forgelilac_block.Tie as tie
+
+abbrev entry : tie.After-state-reads → tie.Start
+entry c = c .before .before .before
+
+state-serves : (c : tie.Else1) → stateReads (entry (c .before) .args .state .now) ≡ true
+state-serves c = is-read (c .before .state-reads .ensures) (c .if1 .left)
 
 state-reads-requires : tie.Need-state-reads-requires
 state-reads-requires c κs = search needs
@@ -14,12 +21,10 @@ unread-requires : tie.Need-unread-requires
 unread-requires c κs = search needs
 
 returns : tie.Need-returns
-returns c =
-    let a = c .before .before .before .before .before .args in
-    done-unread (a .state .now) (a .table .now) [] (block (a .number)) (not-read (c .before .before .state-reads .ensures) (c .before .if1 .taken)) (c .unread .ensures)
+returns c = done-unserved _ _ _ _ _ (left-unread _ (not-read (c .before .before .state-reads .ensures) (c .before .if1 .taken))) (c .unread .ensures)
 
 state-in-requires : tie.Need-state-in-requires
-state-in-requires c κs = state-read _ (is-read (c .before .state-reads .ensures) (c .if1 .left))
+state-in-requires c κs = state-read _ (state-serves c)
 
 block-requires : tie.Need-block-requires
 block-requires c κs = search needs
@@ -29,10 +34,9 @@ block-number-requires c κs = search needs
 
 returns-2 : tie.Need-returns-2
 returns-2 c =
-    let a = c .before .before .before .before .before .before .before .args in
-    let x = rw (c .before .before .state-in .ensures) at (c .before .block .ensures .0) in
-    done-read (a .state .now) (a .table .now) [] (block (a .number)) (is-read (c .before .before .before .before .state-reads .ensures) (c .before .before .before .if1 .left))
-    (done-as (blockBy (a .state .now) (a .table .now) []) x (record { its-answer = c .block-number .ensures; its-state = refl; its-table = refl; its-out = refl }))
+    let m = c .before in
+    let x = rw (m .before .state-in .ensures) at (m .block .ensures) in
+    done-kept _ _ _ _ (no-out (state-serves (m .before .before))) refl refl (c .block-number .ensures ∙ block-packed _ _ _ x) refl (λ s. refl)
 
 pub forgelilac-block-spec : {M : Type 1} → statement M
 forgelilac-block-spec =

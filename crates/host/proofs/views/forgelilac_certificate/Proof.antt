@@ -1,31 +1,32 @@
-use mathlib.Core.Path.{refl}
-use lib.Dec.{leb}
-use lib.ListN.{length}
+use mathlib.Core.Path.{_≡_, refl}
+use mathlib.Core.Bool.{true}
 use borrow.Author.Tests.{lt-leb, le-leb}
-use Rattle.host.specs.Lengths.{heldLength}
-use Rattle.host.proofs.CallLaws.{not-read, is-read, left-unread, right-unread, both-read, done-unread, done-read, done-as}
-use Rattle.host.specs.States.{stateReads}
-use Rattle.host.specs.Calls.{certificate, certificateBy}
-use Rattle.host.proofs.ReadingLaws.{state-read}
+use Rattle.hosting.proofs.CallLaws.{not-read, is-read, left-unread, right-unread, both-read, done-unserved}
+use Rattle.hosting.proofs.AnsweredLaws.{certificate-done}
+use Rattle.words.specs.Lengths.{heldLength}
+use Rattle.words.specs.States.{stateReads}
+use Rattle.words.proofs.ReadingLaws.{state-read}
 use borrow.Author.Needs.{needs}
 use Rattle.host.proofs.views.forgelilac_certificate.Statement.{statement}
 use Rattle.host.proofs.views.forgelilac_certificate.Tie as tie
+
+abbrev entry : tie.After-state-reads → tie.Start
+entry c = c .before .before .before .before
+
+state-serves : (c : tie.Else1) → stateReads (entry (c .before) .args .state .now) ≡ true
+state-serves c = is-read (c .before .state-reads .ensures) (c .if1 .left)
 
 state-reads-requires : tie.Need-state-reads-requires
 state-reads-requires c κs = search needs
 
 returns : tie.Need-returns
-returns c =
-    let a = c .before .before .before .before .before .args in
-    done-unread (a .state .now) (a .table .now) (a .out .now) (certificate (a .author) (a .round)) (left-unread (leb heldLength (length (a .out .now))) (not-read (c .before .state-reads .ensures) (c .if1 .taken))) refl
+returns c = done-unserved _ _ _ _ _ (left-unread _ (not-read (c .before .state-reads .ensures) (c .if1 .taken))) refl
 
 returns-2 : tie.Need-returns-2
-returns-2 c =
-    let a = c .before .before .before .before .before .before .args in
-    done-unread (a .state .now) (a .table .now) (a .out .now) (certificate (a .author) (a .round)) (right-unread (stateReads (a .state .now)) (lt-leb heldLength (length (a .out .now)) (c .if2 .taken))) refl
+returns-2 c = done-unserved _ _ _ _ _ (right-unread (stateReads (entry (c .before .before) .args .state .now)) (lt-leb heldLength _ (c .if2 .taken))) refl
 
 state-in-requires : tie.Need-state-in-requires
-state-in-requires c κs = state-read _ (is-read (c .before .before .state-reads .ensures) (c .before .if1 .left))
+state-in-requires c κs = state-read _ (state-serves (c .before))
 
 certificate-requires : tie.Need-certificate-requires
 certificate-requires c κs = search needs
@@ -38,11 +39,10 @@ same-length c = search needs
 
 returns-3 : tie.Need-returns-3
 returns-3 c =
-    let a = c .before .before .before .before .before .before .before .before .before .before .before .before .args in
-    let x = rw (c .before .before .before .before .before .state-in .ensures) at (c .before .before .before .before .certificate .ensures .0) in
-    let d = c .before .before .show-certificate .ensures in
-    done-read (a .state .now) (a .table .now) (a .out .now) (certificate (a .author) (a .round)) (both-read (is-read (c .before .before .before .before .before .before .before .before .state-reads .ensures) (c .before .before .before .before .before .before .before .if1 .left)) (le-leb heldLength (length (a .out .now)) (c .before .before .before .before .before .before .if2 .left)))
-    (done-as (certificateBy (a .state .now) (a .table .now) (a .out .now)) x (record { its-answer = d .0; its-state = refl; its-table = refl; its-out = d .1 }))
+    let m = c .before .before .before .before in
+    let d = m .before .before in
+    let x = rw (m .before .state-in .ensures) at (m .certificate .ensures .its-whole) in
+    certificate-done _ _ _ _ _ x (both-read (state-serves (d .before)) (le-leb heldLength _ (d .if2 .left))) (c .before .before .show-certificate .ensures)
 
 pub forgelilac-certificate-spec : {M : Type 1} → statement M
 forgelilac-certificate-spec =

@@ -1,4 +1,4 @@
-use mathlib.Core.Path.{_≡_, _∙_}
+use mathlib.Core.Path.{_≡_, sym, _∙_}
 use mathlib.Core.List.{List}
 use mathlib.Core.Option.{Option, none, some}
 use Prim.Native.Nat.{ℕ}
@@ -8,28 +8,29 @@ use Rattle.fields.specs.Fields.{fieldsFrom}
 use Rattle.fields.specs.Numbers.{given}
 use Rattle.fields.specs.Cursor.{found}
 use Rattle.requests.specs.Settings.{setting}
-use Rattle.requests.specs.Requests.{Request, unreadable, openAs, nextBy, weightsThen, openOf}
-use Rattle.requests.specs.Readings.{settingFound}
-use Rattle.requests.proofs.RequestLaws.{number-by, setting-by, weights-go, weights-stop, reads}
+use Rattle.requests.specs.Requests.{nextBy, weightsThen, openOf}
+use Rattle.requests.specs.declared.Reading.{Reading}
+use Rattle.requests.specs.Readings.{unreadable, openAs, settingFound}
+use Rattle.requests.proofs.RequestLaws.{number-by, setting-by, weights-go, weights-stop}
 use borrow.Author.Needs.{needs}
 use Rattle.requests.proofs.call.read_open.Statement.{statement}
 use Rattle.requests.proofs.call.read_open.Tie as tie
 
 -- what is left of an open after its allowance, its ceiling, its lookback and its own number
-abbrev weightsLeft : ℕ → Setting → Setting → Setting → List (List ℕ) → Request
+abbrev weightsLeft : ℕ → Setting → Setting → Setting → List (List ℕ) → Reading
 weightsLeft o l c a fs = weightsThen fs (λ w. openAs o (record { lookback = l; ceiling = c; allowance = a; weights = w }))
 
-abbrev allowanceLeft : ℕ → Setting → Setting → List (List ℕ) → Request
+abbrev allowanceLeft : ℕ → Setting → Setting → List (List ℕ) → Reading
 allowanceLeft o l c fs = nextBy setting fs (weightsLeft o l c)
 
-abbrev ceilingLeft : ℕ → Setting → List (List ℕ) → Request
+abbrev ceilingLeft : ℕ → Setting → List (List ℕ) → Reading
 ceilingLeft o l fs = nextBy setting fs (allowanceLeft o l)
 
-abbrev lookbackLeft : ℕ → List (List ℕ) → Request
+abbrev lookbackLeft : ℕ → List (List ℕ) → Reading
 lookbackLeft o fs = nextBy setting fs (ceilingLeft o)
 
 -- an open is unreadable where o is none, and else what k makes of what was read and of the fields from n on
-abbrev Told : {A : Type 0} → tie.Start → Option A → ℕ → (A → List (List ℕ) → Request) → Type 0
+abbrev Told : {A : Type 0} → tie.Start → Option A → ℕ → (A → List (List ℕ) → Reading) → Type 0
 Told s o n k = let r = s .args .rec .now in openOf (fieldsFrom r (s .args .at)) ≡ given o unreadable (λ x. k x (fieldsFrom r n))
 
 -- For each field: where the one before it was read, the call that read that one, the start, what is left after the field, and what it decides.
@@ -38,8 +39,8 @@ Told s o n k = let r = s .args .rec .now in openOf (fieldsFrom r (s .args .at)) 
 abbrev start1 : tie.After-number-at → tie.Start
 start1 c = c .before .before
 
-read-transaction1 : (c : tie.After-number-at) (o : Option ℕ) → c .number-at .result .number ≡ found o → Told (start1 c) o (c .number-at .result .next) lookbackLeft
-read-transaction1 c o e = number-by _ _ _ _ (c .number-at .ensures .0) o (c .number-at .ensures .1) e
+told1 : (c : tie.After-number-at) (o : Option ℕ) → c .number-at .result .number ≡ found o → Told (start1 c) o (c .number-at .result .next) lookbackLeft
+told1 c o e = number-by _ _ _ _ (c .number-at .ensures .0) o (c .number-at .ensures .1) e
 
 -- the lookback
 abbrev own : tie.After-setting-at → tie.After-own
@@ -51,11 +52,11 @@ up2 c = own c .before .before
 abbrev start2 : tie.After-setting-at → tie.Start
 start2 c = start1 (up2 c)
 
-abbrev left2 : tie.After-setting-at → Setting → List (List ℕ) → Request
+abbrev left2 : tie.After-setting-at → Setting → List (List ℕ) → Reading
 left2 c = ceilingLeft (own c .own .given .0 .0)
 
-read-transaction2 : (c : tie.After-setting-at) (o : Option Setting) → c .setting-at .result .setting ≡ settingFound o → Told (start2 c) o (c .setting-at .result .next) (left2 c)
-read-transaction2 c o e = read-transaction1 (up2 c) (some _) (own c .own .given .1) ∙ setting-by _ _ _ (c .setting-at .ensures .0) o (c .setting-at .ensures .1) e
+told2 : (c : tie.After-setting-at) (o : Option Setting) → c .setting-at .result .setting ≡ settingFound o → Told (start2 c) o (c .setting-at .result .next) (left2 c)
+told2 c o e = told1 (up2 c) (some _) (own c .own .given .1) ∙ setting-by _ _ _ (c .setting-at .ensures .0) o (c .setting-at .ensures .1) e
 
 -- the ceiling
 abbrev lookback : tie.After-setting-at2 → tie.After-lookback
@@ -67,11 +68,11 @@ up3 c = lookback c .before .before
 abbrev start3 : tie.After-setting-at2 → tie.Start
 start3 c = start2 (up3 c)
 
-abbrev left3 : tie.After-setting-at2 → Setting → List (List ℕ) → Request
+abbrev left3 : tie.After-setting-at2 → Setting → List (List ℕ) → Reading
 left3 c = allowanceLeft (own (up3 c) .own .given .0 .0) (lookback c .lookback .given .0 .0)
 
-read-transaction3 : (c : tie.After-setting-at2) (o : Option Setting) → c .setting-at2 .result .setting ≡ settingFound o → Told (start3 c) o (c .setting-at2 .result .next) (left3 c)
-read-transaction3 c o e = read-transaction2 (up3 c) (some _) (lookback c .lookback .given .1) ∙ setting-by _ _ _ (c .setting-at2 .ensures .0) o (c .setting-at2 .ensures .1) e
+told3 : (c : tie.After-setting-at2) (o : Option Setting) → c .setting-at2 .result .setting ≡ settingFound o → Told (start3 c) o (c .setting-at2 .result .next) (left3 c)
+told3 c o e = told2 (up3 c) (some _) (lookback c .lookback .given .1) ∙ setting-by _ _ _ (c .setting-at2 .ensures .0) o (c .setting-at2 .ensures .1) e
 
 -- the allowance
 abbrev ceiling : tie.After-setting-at3 → tie.After-ceiling
@@ -83,11 +84,11 @@ up4 c = ceiling c .before .before
 abbrev start4 : tie.After-setting-at3 → tie.Start
 start4 c = start3 (up4 c)
 
-abbrev left4 : tie.After-setting-at3 → Setting → List (List ℕ) → Request
+abbrev left4 : tie.After-setting-at3 → Setting → List (List ℕ) → Reading
 left4 c = weightsLeft (own (up3 (up4 c)) .own .given .0 .0) (lookback (up4 c) .lookback .given .0 .0) (ceiling c .ceiling .given .0 .0)
 
-read-transaction4 : (c : tie.After-setting-at3) (o : Option Setting) → c .setting-at3 .result .setting ≡ settingFound o → Told (start4 c) o (c .setting-at3 .result .next) (left4 c)
-read-transaction4 c o e = read-transaction3 (up4 c) (some _) (ceiling c .ceiling .given .1) ∙ setting-by _ _ _ (c .setting-at3 .ensures .0) o (c .setting-at3 .ensures .1) e
+told4 : (c : tie.After-setting-at3) (o : Option Setting) → c .setting-at3 .result .setting ≡ settingFound o → Told (start4 c) o (c .setting-at3 .result .next) (left4 c)
+told4 c o e = told3 (up4 c) (some _) (ceiling c .ceiling .given .1) ∙ setting-by _ _ _ (c .setting-at3 .ensures .0) o (c .setting-at3 .ensures .1) e
 
 -- the weights
 abbrev allowance : tie.After-weights-at → tie.After-allowance
@@ -96,8 +97,8 @@ allowance c = c .before .before
 abbrev up5 : tie.After-weights-at → tie.After-setting-at3
 up5 c = allowance c .before .before
 
-read-transaction5 : (c : tie.After-weights-at) → Told (start4 (up5 c)) (some (allowance c .allowance .given .0 .0)) (up5 c .setting-at3 .result .next) (left4 (up5 c))
-read-transaction5 c = read-transaction4 (up5 c) (some _) (allowance c .allowance .given .1)
+told5 : (c : tie.After-weights-at) → Told (start4 (up5 c)) (some (allowance c .allowance .given .0 .0)) (up5 c .setting-at3 .result .next) (left4 (up5 c))
+told5 c = told4 (up5 c) (some _) (allowance c .allowance .given .1)
 
 number-at-requires : tie.Need-number-at-requires
 number-at-requires c κs = search needs
@@ -112,7 +113,7 @@ unreadable-requires : tie.Need-unreadable-requires
 unreadable-requires c κs = search needs
 
 returns : tie.Need-returns
-returns c = let t = c .before in reads (read-transaction1 (t .before .before) none (t .enum-told .given .1)) (c .unreadable .ensures)
+returns c = let t = c .before in c .unreadable .ensures ∙ sym (told1 (t .before .before) none (t .enum-told .given .1))
 
 setting-at-requires : tie.Need-setting-at-requires
 setting-at-requires c κs = search needs
@@ -127,7 +128,7 @@ unreadable-requires-2 : tie.Need-unreadable-requires-2
 unreadable-requires-2 c κs = search needs
 
 returns-2 : tie.Need-returns-2
-returns-2 c = let t = c .before in reads (read-transaction2 (t .before .before) none (t .enum-told2 .given .1)) (c .unreadable2 .ensures)
+returns-2 c = let t = c .before in c .unreadable2 .ensures ∙ sym (told2 (t .before .before) none (t .enum-told2 .given .1))
 
 setting-at-requires-2 : tie.Need-setting-at-requires-2
 setting-at-requires-2 c κs = search needs
@@ -142,7 +143,7 @@ unreadable-requires-3 : tie.Need-unreadable-requires-3
 unreadable-requires-3 c κs = search needs
 
 returns-3 : tie.Need-returns-3
-returns-3 c = let t = c .before in reads (read-transaction3 (t .before .before) none (t .enum-told3 .given .1)) (c .unreadable3 .ensures)
+returns-3 c = let t = c .before in c .unreadable3 .ensures ∙ sym (told3 (t .before .before) none (t .enum-told3 .given .1))
 
 setting-at-requires-3 : tie.Need-setting-at-requires-3
 setting-at-requires-3 c κs = search needs
@@ -157,7 +158,7 @@ unreadable-requires-4 : tie.Need-unreadable-requires-4
 unreadable-requires-4 c κs = search needs
 
 returns-4 : tie.Need-returns-4
-returns-4 c = let t = c .before in reads (read-transaction4 (t .before .before) none (t .enum-told4 .given .1)) (c .unreadable4 .ensures)
+returns-4 c = let t = c .before in c .unreadable4 .ensures ∙ sym (told4 (t .before .before) none (t .enum-told4 .given .1))
 
 weights-at-requires : tie.Need-weights-at-requires
 weights-at-requires c κs = search needs
@@ -166,13 +167,13 @@ unreadable-requires-5 : tie.Need-unreadable-requires-5
 unreadable-requires-5 c κs = search needs
 
 returns-5 : tie.Need-returns-5
-returns-5 c = let t = c .before in let w = t .before .before in reads (read-transaction5 w ∙ weights-stop _ _ (w .weights-at .ensures) (not-true _ (t .if1 .taken))) (c .unreadable5 .ensures)
+returns-5 c = let t = c .before in let w = t .before .before in c .unreadable5 .ensures ∙ sym (told5 w ∙ weights-stop _ _ (w .weights-at .ensures) (not-true _ (t .if1 .taken)))
 
 open-of-requires : tie.Need-open-of-requires
 open-of-requires c κs = search needs
 
 returns-6 : tie.Need-returns-6
-returns-6 c = let t = c .before .before in let w = t .before .before in reads (read-transaction5 w ∙ weights-go _ _ (w .weights-at .ensures) (not-false _ (t .if1 .left))) (c .open-of .ensures)
+returns-6 c = let t = c .before .before in let w = t .before .before in c .open-of .ensures ∙ sym (told5 w ∙ weights-go _ _ (w .weights-at .ensures) (not-false _ (t .if1 .left)))
 
 pub read-open-spec : {M : Type 1} → statement M
 read-open-spec =

@@ -1,4 +1,4 @@
-use mathlib.Core.Path.{_≡_, refl, ap, _∙_}
+use mathlib.Core.Path.{_≡_, ap, sym, _∙_}
 use mathlib.Core.Bool.{Bool, cond}
 use mathlib.Core.List.{List}
 use mathlib.Core.Option.{Option, none, some}
@@ -8,39 +8,41 @@ use borrow.Author.Tests.{not-true, not-false}
 use Rattle.fields.specs.Fields.{fieldsFrom}
 use Rattle.fields.specs.Numbers.{given, number, set}
 use Rattle.fields.specs.Cursor.{found}
-use Rattle.requests.specs.Requests.{Request, unreadable, endorse, accept, nextBy, triplesThen, endorseOf, acceptOf}
-use Rattle.requests.proofs.RequestLaws.{number-by, number-fits, part-late, reads, triples-reading}
+use Rattle.requests.specs.Requests.{nextBy, triplesThen, endorseOf, acceptOf}
+use Rattle.requests.specs.declared.Reading.{Reading}
+use Rattle.requests.specs.Readings.{unreadable, endorse, accept}
+use Rattle.requests.proofs.RequestLaws.{number-by, number-fits, part-late}
 use borrow.Author.Needs.{needs}
 use Rattle.requests.proofs.call.read_proposal.Statement.{statement}
 use Rattle.requests.proofs.call.read_proposal.Tie as tie
 
 -- what is left of an accept, after its endorsers and after its previous set
-abbrev acceptLeft : ℕ → ℕ → ℕ → ℕ → List (List ℕ) → Request
+abbrev acceptLeft : ℕ → ℕ → ℕ → ℕ → List (List ℕ) → Reading
 acceptLeft a r p e fs = triplesThen fs (λ l. accept a r p e l)
 
-abbrev endorsersLeft : ℕ → ℕ → ℕ → List (List ℕ) → Request
+abbrev endorsersLeft : ℕ → ℕ → ℕ → List (List ℕ) → Reading
 endorsersLeft a r p fs = nextBy set fs (acceptLeft a r p)
 
 -- what is left of an endorse after its previous set
-abbrev endorseLeft : ℕ → ℕ → ℕ → List (List ℕ) → Request
+abbrev endorseLeft : ℕ → ℕ → ℕ → List (List ℕ) → Reading
 endorseLeft a r p fs = triplesThen fs (λ l. endorse a r p l)
 
 -- what is left of the one or the other, after the previous set, the round and the author
-abbrev eitherLeft : Bool → ℕ → ℕ → ℕ → List (List ℕ) → Request
+abbrev eitherLeft : Bool → ℕ → ℕ → ℕ → List (List ℕ) → Reading
 eitherLeft b a r p fs = cond b (endorsersLeft a r p fs) (endorseLeft a r p fs)
 
-abbrev previousLeft : Bool → ℕ → ℕ → List (List ℕ) → Request
+abbrev previousLeft : Bool → ℕ → ℕ → List (List ℕ) → Reading
 previousLeft b a r fs = nextBy set fs (eitherLeft b a r)
 
-abbrev roundLeft : Bool → ℕ → List (List ℕ) → Request
+abbrev roundLeft : Bool → ℕ → List (List ℕ) → Reading
 roundLeft b a fs = nextBy number fs (previousLeft b a)
 
 -- what the call that begins at s comes to
-abbrev whole : tie.Start → Request
+abbrev whole : tie.Start → Reading
 whole s = let fs = fieldsFrom (s .args .rec .now) (s .args .at) in cond (s .args .certified) (acceptOf fs) (endorseOf fs)
 
 -- it is unreadable where o is none, and else what k makes of the number that was read and of the fields from n on
-abbrev Told : tie.Start → Option ℕ → ℕ → (ℕ → List (List ℕ) → Request) → Type 0
+abbrev Told : tie.Start → Option ℕ → ℕ → (ℕ → List (List ℕ) → Reading) → Type 0
 Told s o n k = whole s ≡ given o unreadable (λ x. k x (fieldsFrom (s .args .rec .now) n))
 
 -- For each field: where the one before it was read, the call that read that one, the start, what is left after the field, and what it decides.
@@ -49,8 +51,8 @@ Told s o n k = whole s ≡ given o unreadable (λ x. k x (fieldsFrom (s .args .r
 abbrev start1 : tie.After-number-at → tie.Start
 start1 c = c .before .before
 
-read-transaction1 : (c : tie.After-number-at) (o : Option ℕ) → c .number-at .result .number ≡ found o → Told (start1 c) o (c .number-at .result .next) (roundLeft (start1 c .args .certified))
-read-transaction1 c o e = part-late (start1 c .args .certified) _ ∙ number-by _ _ _ _ (c .number-at .ensures .0) o (c .number-at .ensures .1) e
+told1 : (c : tie.After-number-at) (o : Option ℕ) → c .number-at .result .number ≡ found o → Told (start1 c) o (c .number-at .result .next) (roundLeft (start1 c .args .certified))
+told1 c o e = part-late (start1 c .args .certified) _ ∙ number-by _ _ _ _ (c .number-at .ensures .0) o (c .number-at .ensures .1) e
 
 -- the round
 abbrev author : tie.After-number-at2 → tie.After-x
@@ -62,11 +64,11 @@ up2 c = author c .before .before
 abbrev start2 : tie.After-number-at2 → tie.Start
 start2 c = start1 (up2 c)
 
-abbrev left2 : tie.After-number-at2 → ℕ → List (List ℕ) → Request
+abbrev left2 : tie.After-number-at2 → ℕ → List (List ℕ) → Reading
 left2 c = previousLeft (start2 c .args .certified) (author c .x .given .0 .0)
 
-read-transaction2 : (c : tie.After-number-at2) (o : Option ℕ) → c .number-at2 .result .number ≡ found o → Told (start2 c) o (c .number-at2 .result .next) (left2 c)
-read-transaction2 c o e = read-transaction1 (up2 c) (some _) (author c .x .given .1) ∙ number-by _ _ _ _ (c .number-at2 .ensures .0) o (c .number-at2 .ensures .1) e
+told2 : (c : tie.After-number-at2) (o : Option ℕ) → c .number-at2 .result .number ≡ found o → Told (start2 c) o (c .number-at2 .result .next) (left2 c)
+told2 c o e = told1 (up2 c) (some _) (author c .x .given .1) ∙ number-by _ _ _ _ (c .number-at2 .ensures .0) o (c .number-at2 .ensures .1) e
 
 -- the previous set
 abbrev round : tie.After-number-at3 → tie.After-y
@@ -78,11 +80,11 @@ up3 c = round c .before .before
 abbrev start3 : tie.After-number-at3 → tie.Start
 start3 c = start2 (up3 c)
 
-abbrev left3 : tie.After-number-at3 → Bool → ℕ → List (List ℕ) → Request
+abbrev left3 : tie.After-number-at3 → Bool → ℕ → List (List ℕ) → Reading
 left3 c b = eitherLeft b (author (up3 c) .x .given .0 .0) (round c .y .given .0 .0)
 
-read-transaction3 : (c : tie.After-number-at3) (o : Option ℕ) → c .number-at3 .result .number ≡ found o → Told (start3 c) o (c .number-at3 .result .next) (left3 c (start3 c .args .certified))
-read-transaction3 c o e = read-transaction2 (up3 c) (some _) (round c .y .given .1) ∙ number-by _ _ _ _ (c .number-at3 .ensures .0) o (c .number-at3 .ensures .1) e
+told3 : (c : tie.After-number-at3) (o : Option ℕ) → c .number-at3 .result .number ≡ found o → Told (start3 c) o (c .number-at3 .result .next) (left3 c (start3 c .args .certified))
+told3 c o e = told2 (up3 c) (some _) (round c .y .given .1) ∙ number-by _ _ _ _ (c .number-at3 .ensures .0) o (c .number-at3 .ensures .1) e
 
 -- with the previous set, either is left
 abbrev up4 : tie.After-z → tie.After-number-at3
@@ -97,7 +99,7 @@ previous-fits c = number-fits 65535 _ _ (up4 c .number-at3 .ensures .0) (c .z .g
 either : (c : tie.After-z) {b : Bool} → start3 (up4 c) .args .certified ≡ b → Told (start3 (up4 c)) (some (previous c)) (up4 c .number-at3 .result .next) (left3 (up4 c) b)
 either c e =
     let a = up4 c in
-    read-transaction3 a (some _) (c .z .given .1) ∙ ap (λ (b : Bool). left3 a b (previous c) (fieldsFrom (start3 a .args .rec .now) (a .number-at3 .result .next))) e
+    told3 a (some _) (c .z .given .1) ∙ ap (λ (b : Bool). left3 a b (previous c) (fieldsFrom (start3 a .args .rec .now) (a .number-at3 .result .next))) e
 
 -- the previous set, as an endorse sees it
 abbrev endorsed : tie.Then1 → tie.After-z
@@ -110,11 +112,11 @@ accepted c = c .before .before .before
 abbrev start4 : tie.After-number-at4 → tie.Start
 start4 c = start3 (up4 (accepted c))
 
-abbrev left4 : tie.After-number-at4 → ℕ → List (List ℕ) → Request
+abbrev left4 : tie.After-number-at4 → ℕ → List (List ℕ) → Reading
 left4 c = let z = accepted c in let y = up4 z in acceptLeft (author (up3 y) .x .given .0 .0) (round y .y .given .0 .0) (previous z)
 
-read-transaction4 : (c : tie.After-number-at4) (o : Option ℕ) → c .number-at4 .result .number ≡ found o → Told (start4 c) o (c .number-at4 .result .next) (left4 c)
-read-transaction4 c o e = either (accepted c) (not-false _ (c .before .if1 .left)) ∙ number-by _ _ _ _ (c .number-at4 .ensures .0) o (c .number-at4 .ensures .1) e
+told4 : (c : tie.After-number-at4) (o : Option ℕ) → c .number-at4 .result .number ≡ found o → Told (start4 c) o (c .number-at4 .result .next) (left4 c)
+told4 c o e = either (accepted c) (not-false _ (c .before .if1 .left)) ∙ number-by _ _ _ _ (c .number-at4 .ensures .0) o (c .number-at4 .ensures .1) e
 
 -- the endorsers, as what follows them sees them
 abbrev up5 : tie.After-v → tie.After-number-at4
@@ -133,7 +135,7 @@ unreadable-requires : tie.Need-unreadable-requires
 unreadable-requires c κs = search needs
 
 returns : tie.Need-returns
-returns c = let t = c .before in reads (read-transaction1 (t .before .before) none (t .enum-told .given .1)) (c .unreadable .ensures)
+returns c = let t = c .before in c .unreadable .ensures ∙ sym (told1 (t .before .before) none (t .enum-told .given .1))
 
 number-at-requires-2 : tie.Need-number-at-requires-2
 number-at-requires-2 c κs = search needs
@@ -148,7 +150,7 @@ unreadable-requires-2 : tie.Need-unreadable-requires-2
 unreadable-requires-2 c κs = search needs
 
 returns-2 : tie.Need-returns-2
-returns-2 c = let t = c .before in reads (read-transaction2 (t .before .before) none (t .enum-told2 .given .1)) (c .unreadable2 .ensures)
+returns-2 c = let t = c .before in c .unreadable2 .ensures ∙ sym (told2 (t .before .before) none (t .enum-told2 .given .1))
 
 number-at-requires-3 : tie.Need-number-at-requires-3
 number-at-requires-3 c κs = search needs
@@ -163,7 +165,7 @@ unreadable-requires-3 : tie.Need-unreadable-requires-3
 unreadable-requires-3 c κs = search needs
 
 returns-3 : tie.Need-returns-3
-returns-3 c = let t = c .before in reads (read-transaction3 (t .before .before) none (t .enum-told3 .given .1)) (c .unreadable3 .ensures)
+returns-3 c = let t = c .before in c .unreadable3 .ensures ∙ sym (told3 (t .before .before) none (t .enum-told3 .given .1))
 
 cast-with-triples : tie.Need-cast-with-triples
 cast-with-triples c = let l = previous-fits (endorsed c) in omega arith
@@ -174,7 +176,7 @@ with-triples-requires c κs = search needs
 returns-4 : tie.Need-returns-4
 returns-4 c =
     let t = c .before in
-    reads (either (endorsed t) (not-true _ (t .if1 .taken))) (c .with-triples .ensures ∙ triples-reading _ _ _ _ _ _ _ (λ l. refl))
+    c .with-triples .ensures ∙ sym (either (endorsed t) (not-true _ (t .if1 .taken)))
 
 number-at-requires-4 : tie.Need-number-at-requires-4
 number-at-requires-4 c κs = search needs
@@ -189,7 +191,7 @@ unreadable-requires-4 : tie.Need-unreadable-requires-4
 unreadable-requires-4 c κs = search needs
 
 returns-5 : tie.Need-returns-5
-returns-5 c = let t = c .before in reads (read-transaction4 (t .before .before) none (t .enum-told4 .given .1)) (c .unreadable4 .ensures)
+returns-5 c = let t = c .before in c .unreadable4 .ensures ∙ sym (told4 (t .before .before) none (t .enum-told4 .given .1))
 
 cast-with-triples-2 : tie.Need-cast-with-triples-2
 cast-with-triples-2 c = let l = previous-fits (accepted (up5 (c .before))) in omega arith
@@ -201,7 +203,7 @@ with-triples-requires-2 : tie.Need-with-triples-requires-2
 with-triples-requires-2 c κs = search needs
 
 returns-6 : tie.Need-returns-6
-returns-6 c = let v = c .before .before in reads (read-transaction4 (up5 v) (some _) (v .v .given .1)) (c .with-triples2 .ensures ∙ triples-reading _ _ _ _ _ _ _ (λ l. refl))
+returns-6 c = let v = c .before .before in c .with-triples2 .ensures ∙ sym (told4 (up5 v) (some _) (v .v .given .1))
 
 pub read-proposal-spec : {M : Type 1} → statement M
 read-proposal-spec =

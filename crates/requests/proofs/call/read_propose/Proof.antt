@@ -1,7 +1,6 @@
-use Rattle.requests.proofs.RequestLaws.{number-goes, number-stops, number-fits, triples-reading}
-use mathlib.Core.Path.{refl, sym, ap, _∙_}
+use Rattle.requests.proofs.RequestLaws.{number-goes, number-stops, number-fits}
+use mathlib.Core.Path.{sym, _∙_}
 use native.Mathlib.Omega.{arith}
-use Rattle.requests.specs.Readings.{readingOf}
 use borrow.Author.Needs.{needs}
 use Rattle.requests.proofs.call.read_propose.Statement.{statement}
 use Rattle.requests.proofs.call.read_propose.Tie as tie
@@ -19,7 +18,7 @@ unreadable-requires : tie.Need-unreadable-requires
 unreadable-requires c κs = search needs
 
 returns : tie.Need-returns
-returns c = c .unreadable .ensures ∙ sym (ap readingOf (number-stops _ _ _ _ (c .before .before .before .number-at .ensures .0) (c .before .enum-told .given .1)))
+returns c = c .unreadable .ensures ∙ sym (number-stops _ _ _ _ (c .before .before .before .number-at .ensures .0) (c .before .enum-told .given .1))
 
 cast-with-triples : tie.Need-cast-with-triples
 cast-with-triples c =
@@ -30,7 +29,7 @@ with-triples-requires : tie.Need-with-triples-requires
 with-triples-requires c κs = search needs
 
 returns-2 : tie.Need-returns-2
-returns-2 c = c .with-triples .ensures ∙ triples-reading _ _ _ _ _ _ _ (λ l. refl) ∙ sym (ap readingOf (number-goes _ _ _ _ (c .before .before .before .before .number-at .ensures .0) (c .before .before .before .before .number-at .ensures .1) (c .before .before .x .given .1)))
+returns-2 c = c .with-triples .ensures ∙ sym (number-goes _ _ _ _ (c .before .before .before .before .number-at .ensures .0) (c .before .before .before .before .number-at .ensures .1) (c .before .before .x .given .1))
 
 pub read-propose-spec : {M : Type 1} → statement M
 read-propose-spec =

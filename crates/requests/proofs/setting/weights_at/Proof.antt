@@ -1,9 +1,11 @@
 use mathlib.Core.Path.{_≡_, refl, sym, ap, _∙_}
 use native.Mathlib.Omega.{arith}
 use native.Mathlib.Numerals.{add-one}
-use Prim.Native.Nat.{suc, _+_, _-_, _<_, _≤_}
+use mathlib.Core.List.{List}
+use Prim.Native.Nat.{ℕ, suc, _+_, _-_, _<_, _≤_}
 use lib.ListN.{length, take, length-set}
 use lib.Seq.{take-suc-set, take-all}
+use Rattle.sheet.specs.declared.Cell.{Cell}
 use Rattle.fields.specs.Fields.{fieldsFrom}
 use Rattle.requests.specs.Requests.{cellsIn}
 use Rattle.requests.specs.Readings.{weightsOf}
@@ -12,14 +14,21 @@ use borrow.Author.Needs.{needs}
 use Rattle.requests.proofs.setting.weights_at.Statement.{statement}
 use Rattle.requests.proofs.setting.weights_at.Tie as tie
 
+-- the cells before i are read, and the others are left from a place of the record on
+record Reading (rec : List ℕ) (at : ℕ) (cells : List Cell) (place i : ℕ) : Type 0 where
+  so-far : i ≤ 16
+  sixteen : length cells ≡ 16
+  inside : place ≤ length rec + 1
+  left : cellsIn 16 (fieldsFrom rec at) ≡ following (take i cells) (cellsIn (16 - i) (fieldsFrom rec place))
+
 abbrev Inv-loop : tie.InvT-loop
-Inv-loop rec at cells₀ place₀ i₀ cells place i = (i ≤ 16) × (length cells ≡ 16) × (place ≤ length rec + 1) × (cellsIn 16 (fieldsFrom rec at) ≡ following (take i cells) (cellsIn (16 - i) (fieldsFrom rec place)))
+Inv-loop rec at cells₀ place₀ i₀ cells place i = Reading rec at cells place i
 
 abbrev μ-loop : tie.MeasureT-loop
 μ-loop rec at cells₀ place₀ i₀ cells place i = 16 - i
 
 loop-holds : tie.Need-loop-holds Inv-loop μ-loop
-loop-holds c = (omega arith, refl, c .before .pre, following-all _)
+loop-holds c = record { so-far = omega arith; sixteen = refl; inside = c .before .pre; left = following-all _ }
 
 setting-at-requires : tie.Need-setting-at-requires Inv-loop μ-loop
 setting-at-requires c κs = search needs
@@ -38,7 +47,7 @@ returns c =
     let a = c .before .before .before .before .before .before .before .args in
     let l = c .before .before .before .before .before .loop in
     let e : 16 - l .i ≡ suc (16 - (l .i + 1)) = omega arith in
-    c .no-weights .ensures ∙ sym (ap weightsOf (l .inv .3 ∙ cells-stop (take (l .i) (l .cells)) e (a .rec .now) (l .place) (c .before .before .before .setting-at .ensures .0) (c .before .enum-told .given .1)))
+    c .no-weights .ensures ∙ sym (ap weightsOf (l .inv .left ∙ cells-stop (take (l .i) (l .cells)) e (a .rec .now) (l .place) (c .before .before .before .setting-at .ensures .0) (c .before .enum-told .given .1)))
 
 mul-cells : tie.Need-mul-cells Inv-loop μ-loop
 mul-cells c = search needs
@@ -58,9 +67,14 @@ loop-again c =
     let l = c .before .before .before .before .before .loop in
     let e : 16 - l .i ≡ suc (16 - (l .i + 1)) = omega arith in
     let s = c .before .before .before .setting-at .ensures in
-    let h : l .i < length (l .cells) = omega (arith, l .inv .1) in
+    let h : l .i < length (l .cells) = omega (arith, l .inv .sixteen) in
     let m = cells-more (take (l .i) (l .cells)) e (a .rec .now) (l .place) (s .0) (s .1) (c .before .x .given .1) in
-    (omega arith, simp length-set (l .inv .1), s .1 .place, l .inv .3 ∙ m ∙ rw (add-one (l .i), take-suc-set (l .cells) (l .i) _ h) refl)
+    record {
+      so-far = omega arith;
+      sixteen = simp length-set (l .inv .sixteen);
+      inside = s .1 .place;
+      left = l .inv .left ∙ m ∙ rw (add-one (l .i), take-suc-set (l .cells) (l .i) _ h) refl;
+    }
 
 no-weights-requires-2 : tie.Need-no-weights-requires-2 Inv-loop μ-loop
 no-weights-requires-2 c κs = search needs
@@ -70,15 +84,15 @@ returns-2 c =
     let a = c .before .before .before .before .before .args in
     let l = c .before .before .before .loop in
     let e : 16 - l .i ≡ 0 = omega arith in
-    c .no-weights2 .ensures ∙ sym (ap weightsOf (l .inv .3 ∙ cells-past (take (l .i) (l .cells)) e (a .rec .now) (l .place) (c .before .if1 .taken)))
+    c .no-weights2 .ensures ∙ sym (ap weightsOf (l .inv .left ∙ cells-past (take (l .i) (l .cells)) e (a .rec .now) (l .place) (c .before .if1 .taken)))
 
 returns-3 : tie.Need-returns-3 Inv-loop μ-loop
 returns-3 c =
     let a = c .before .before .before .before .args in
     let l = c .before .before .loop in
     let e : 16 - l .i ≡ 0 = omega arith in
-    let t = take-all (l .i) (l .cells) (omega (arith, l .inv .1)) in
-    rw (← t) (sym (ap weightsOf (l .inv .3 ∙ cells-end (take (l .i) (l .cells)) e (a .rec .now) (l .place) (c .if1 .left))))
+    let t = take-all (l .i) (l .cells) (omega (arith, l .inv .sixteen)) in
+    rw (← t) (sym (ap weightsOf (l .inv .left ∙ cells-end (take (l .i) (l .cells)) e (a .rec .now) (l .place) (c .if1 .left))))
 
 pub weights-at-spec : {M : Type 1} → statement M
 weights-at-spec =

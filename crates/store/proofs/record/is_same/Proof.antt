@@ -28,7 +28,12 @@ same-slots-requires c κs = let a = c .before .before .before .before .before .b
 
 returns-3 : tie.Need-returns-3
 unfolding slotOf
-returns-3 c = let a = c .before .before .before .before .before .before .before .before .before .before .before .args in sym (same-record (a .t .now) (a .p) ∙ rw (← c .before .before .before .before .previous .ensures, eq-eqb _ _ (c .before .before .before .if1 .left), ← c .before .before .before .before .before .before .count .ensures, eq-eqb _ _ (c .before .if2 .left), c .before .if2 .left) (sym (c .same-slots .ensures)))
+returns-3 c =
+    let d = c .before in
+    let p = d .before .before .before in
+    let n = p .before .before in
+    let a = n .before .before .before .before .before .args in
+    sym (same-record (a .t .now) (a .p) ∙ rw (← p .previous .ensures, eq-eqb _ _ (d .before .before .if1 .left), ← n .count .ensures, eq-eqb _ _ (d .if2 .left), d .if2 .left) (sym (c .same-slots .ensures)))
 
 pub is-same-spec : {M : Type 1} → statement M
 is-same-spec =

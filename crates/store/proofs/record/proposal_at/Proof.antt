@@ -1,6 +1,6 @@
 use Rattle.store.proofs.RecordLaws.{proposal-by}
 use native.Mathlib.Omega.{arith}
-use Rattle.store.specs.Writes.{proposalOf}
+use Rattle.store.specs.Table.{proposalOf}
 use Rattle.store.proofs.TableLaws.{previous-lt}
 use borrow.Author.Needs.{needs}
 use Rattle.store.proofs.record.proposal_at.Statement.{statement}

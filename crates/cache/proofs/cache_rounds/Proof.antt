@@ -1,0 +1,108 @@
+use mathlib.Core.Path.{_≡_, refl}
+use native.Mathlib.Omega.{arith}
+use mathlib.Core.List.{List}
+use Prim.Native.Nat.{ℕ, _-_, _≤_}
+use lib.ListN.{length}
+use Rattle.sheet.specs.declared.Settings.{Settings}
+use Rattle.committee.specs.Chain.{chainOf}
+use Rattle.cache.proofs.CacheLaws.{CachesTo, caches-none, caches-more, caches-all}
+use Rattle.bonded.specs.declared.Applied.{Applied}
+use Rattle.bonded.specs.Starts.{Running}
+use Rattle.bonded.proofs.StartLaws.{running-none, running-up}
+use borrow.Author.Needs.{needs}
+use Rattle.cache.proofs.cache_rounds.Statement.{statement}
+use Rattle.cache.proofs.cache_rounds.Tie as tie
+
+-- the rounds below q are cached
+record RoundsCached (S : Settings) (t : List ℕ) (blocks q-end : ℕ) (cache₀ w starts cache : List ℕ) (x : Applied) (q : ℕ) : Type 0 where
+  count : q ≤ q-end
+  running : Running S t blocks (q - S .lookback - 1) x w starts
+  cached : CachesTo S (chainOf (S .ceiling .0) t blocks) q cache
+  size : length cache ≡ length cache₀
+
+abbrev Inv-loop : tie.InvT-loop
+Inv-loop t head next s blocks w₀ starts₀ cache₀ x₀ q₀ q-end w starts cache x q = RoundsCached s t blocks q-end cache₀ w starts cache x q
+
+abbrev μ-loop : tie.MeasureT-loop
+μ-loop t head next s blocks w₀ starts₀ cache₀ x₀ q₀ q-end w starts cache x q = q-end - q
+
+none-requires : tie.Need-none-requires Inv-loop μ-loop
+none-requires c κs = search needs
+
+add-q-end : tie.Need-add-q-end Inv-loop μ-loop
+add-q-end c = search needs
+
+loop-holds : tie.Need-loop-holds Inv-loop μ-loop
+loop-holds c =
+    let s = c .before .before .before .before .before in
+    record { count = omega arith; running = running-none _ (c .before .none .ensures) (s .pre .weights) (s .pre .started); cached = caches-none _ _ _; size = refl }
+
+cast-if1 : tie.Need-cast-if1 Inv-loop μ-loop
+cast-if1 c = search needs
+
+mul-if1 : tie.Need-mul-if1 Inv-loop μ-loop
+mul-if1 c = search needs
+
+add-if1 : tie.Need-add-if1 Inv-loop μ-loop
+add-if1 c = search needs
+
+same-length : tie.Need-same-length Inv-loop μ-loop
+same-length c = c .before .before .loop .inv .size
+
+returns : tie.Need-returns Inv-loop μ-loop
+returns c = caches-all _ _ (c .before .before .loop .inv .cached) (λ r u l. omega arith)
+
+reach-round-requires : tie.Need-reach-round-requires Inv-loop μ-loop
+reach-round-requires c κs =
+    let l = c .before .before .before .before in
+    let s = l .before .before .before .before .before .before in
+    record { linked = s .pre .linked; running = l .loop .inv .running }
+
+put-committee-requires : tie.Need-put-committee-requires Inv-loop μ-loop
+put-committee-requires c κs = search needs
+
+add-q : tie.Need-add-q Inv-loop μ-loop
+add-q c = let q = c .before .before .before .before .before .before .before .before .before in omega (arith, q .loop-test .taken)
+
+loop-less : tie.Need-loop-less Inv-loop μ-loop
+loop-less c = search needs
+
+loop-again : tie.Need-loop-again Inv-loop μ-loop
+loop-again c =
+    let x = c .before .before .before .before .before .before .before .before .before .before .loop in
+    let d = c .before .before .before .before .before .reach-round .ensures in
+    let e = c .before .before .put-committee .ensures in
+    record {
+      count = omega arith;
+      running = running-up _ (omega arith) (d .0);
+      cached = rw (e .1) (caches-more _ _ _ (omega arith) (e .0) (d .1) (x .inv .cached));
+      size = omega (arith, x .inv .size);
+    }
+
+same-length-2 : tie.Need-same-length-2 Inv-loop μ-loop
+same-length-2 c = c .before .loop .inv .size
+
+returns-2 : tie.Need-returns-2 Inv-loop μ-loop
+returns-2 c = caches-all _ _ (c .before .loop .inv .cached) (λ r u l. omega arith)
+
+pub cache-rounds-spec : {M : Type 1} → statement M
+cache-rounds-spec =
+    tie.close
+    (tie.spec
+    Inv-loop
+    μ-loop
+    none-requires
+    add-q-end
+    loop-holds
+    cast-if1
+    mul-if1
+    add-if1
+    same-length
+    returns
+    reach-round-requires
+    put-committee-requires
+    add-q
+    loop-less
+    loop-again
+    same-length-2
+    returns-2)

@@ -1,0 +1,42 @@
+use mathlib.Core.Path.{refl}
+use Rattle.bonded.proofs.StartLaws.{started-none}
+use Rattle.bonded.proofs.LinkLaws.{links-start}
+use borrow.Author.Needs.{needs}
+use Rattle.cache.proofs.fill_cache_with.Statement.{statement}
+use Rattle.cache.proofs.fill_cache_with.Tie as tie
+
+mul-end : tie.Need-mul-end
+mul-end c = search needs
+
+add-end : tie.Need-add-end
+add-end c = search needs
+
+link-rows-requires : tie.Need-link-rows-requires
+link-rows-requires c κs = let p = c .before .before .before .before .before .before .before .pre in (record { long = p .chain .long; round = p .chain .ceiling }, links-start _ _ _ (p .places))
+
+cache-rounds-requires : tie.Need-cache-rounds-requires
+cache-rounds-requires c κs =
+    let l = c .before .before .before .before .before .before .before in
+    let s = l .before .before .before .before .before .before .before .before in
+    record { linked = record { chain = s .pre .chain; links = l .link-rows .ensures }; weights = refl; started = started-none 16 }
+
+same-length : tie.Need-same-length
+same-length c = search needs
+
+same-length-2 : tie.Need-same-length-2
+same-length-2 c = search needs
+
+returns : tie.Need-returns
+returns c = search needs
+
+pub fill-cache-with-spec : {M : Type 1} → statement M
+fill-cache-with-spec =
+    tie.close
+    (tie.spec
+    mul-end
+    add-end
+    link-rows-requires
+    cache-rounds-requires
+    same-length
+    same-length-2
+    returns)

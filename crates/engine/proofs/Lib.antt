@@ -1,0 +1,9 @@
+pub mod AfterLaws
+pub mod NextLaws
+pub mod StepLaws
+pub mod RuledLaws
+pub mod ReachedLaws
+pub mod OutcomeLaws
+pub mod CachedLaws
+pub mod AcceptedLaws
+pub mod ValueLaws

@@ -1,0 +1,36 @@
+-- The value of a call: what an accepted one gives, and none of a refused one; and the reads' values as their answers have them.
+use mathlib.Core.Path.{_≡_, refl}
+use mathlib.Core.Logic.{_≢_}
+use borrow.Author.Tests.{eq-eqb, ne-eqb}
+use Rattle.terms.specs.declared.Member.{Member}
+use Rattle.terms.specs.declared.Round.{Round}
+use Rattle.checks.specs.Answers.{ifAccepted}
+use Rattle.reads.specs.declared.CertificateRead.{CertificateRead}
+use Rattle.reads.specs.Reads.{committeeRefusal, committeeAnswer, certificateRefusal, certificateAnswer}
+use Rattle.engine.specs.Calls.{committee, certificate, Call, aside}
+use Rattle.engine.specs.Engine.{Engine, refusalFor}
+use Rattle.engine.specs.Values.{Value, nothing, weights, held, given, valueOf}
+
+-- a held certificate, as the answer of its read has it
+abbrev pub heldIn : CertificateRead → Value
+heldIn x = held (x .proposal) (x .endorsers) (x .block)
+
+module _ (e : Engine) where
+  module _ (c : Call) where
+    pub value-accepted : refusalFor e c ≡ 0 → valueOf e c ≡ given e c
+    unfolding valueOf
+    value-accepted a = rw (eq-eqb (refusalFor e c) 0 a) refl
+
+    pub value-refused : refusalFor e c ≢ 0 → valueOf e c ≡ nothing
+    unfolding valueOf
+    value-refused n = rw (ne-eqb (refusalFor e c) 0 n) refl
+
+  open Engine e using (state, table)
+
+  pub committee-value : (r : Round) → refusalFor e (aside (committee r)) ≡ 0 → valueOf e (aside (committee r)) ≡ weights (committeeAnswer state table (r .0) .weights)
+  unfolding valueOf committeeAnswer committeeRefusal ifAccepted
+  committee-value r a = rw (eq-eqb (refusalFor e (aside (committee r))) 0 a) refl
+
+  pub certificate-value : (m : Member) (r : Round) → refusalFor e (aside (certificate m r)) ≡ 0 → valueOf e (aside (certificate m r)) ≡ heldIn (certificateAnswer state table (m .0) (r .0))
+  unfolding valueOf certificateAnswer certificateRefusal ifAccepted
+  certificate-value m r a = rw (eq-eqb (refusalFor e (aside (certificate m r))) 0 a) refl

@@ -1,0 +1,77 @@
+-- What every call does: it is refused and changes nothing, or it does what the rules say.
+use mathlib.Core.Path.{_≡_}
+use mathlib.Core.Bool.{true}
+use mathlib.Core.Logic.{_≢_}
+use Prim.Native.Nat.{ℕ, _<_}
+use lib.ListN.{drop}
+use Rattle.terms.specs.declared.Member.{Member}
+use Rattle.terms.specs.Proposals.{contentOf, transactionsOf}
+use Rattle.store.specs.Table.{used}
+use Rattle.sheet.specs.declared.Sheet.{Sheet}
+use Rattle.sheet.specs.declared.Settings.{Settings}
+use Rattle.sheet.specs.Sheets.{filled}
+use Rattle.committee.specs.Chain.{chainOf}
+use Rattle.rules.specs.Tests.{MemberView}
+use Rattle.rules.specs.Calls as rules
+use Rattle.state.specs.WellFormed.{wellFormed}
+use Rattle.state.specs.View.{dagOf, endorsedOf, proposalOf}
+use Rattle.engine.specs.Calls.{Call, opens, propose, endorse, certify, accept, advance, commit, aside, InRange}
+use Rattle.engine.specs.Engine.{Engine, refusalFor, after}
+
+-- the view that an engine shows, for settings that equal its own
+abbrev pub viewAt : (S : Settings) → Engine → MemberView S
+viewAt S e =
+    record {
+      round = e .state .round .0;
+      proposal = proposalOf (e .state);
+      dag = dagOf (e .state .settings .ceiling .0) (e .table);
+      endorsed = endorsedOf (e .state .settings .ceiling .0) (e .table);
+      chain = chainOf (e .state .settings .ceiling .0) (e .table) (e .state .blocks);
+    }
+
+-- the call of the rules that a call stands for; a refused open changes nothing, so it stands for a read
+abbrev pub ruled : Call → rules.Call
+ruled (opens own sheet) = rules.read
+ruled (propose b) = rules.propose (b .previous) (transactionsOf b)
+ruled (endorse p) = rules.endorse (contentOf p)
+ruled (certify d) = rules.certify d
+ruled (accept c) = rules.accept (contentOf (c .proposal)) (c .endorsers)
+ruled advance = rules.advance
+ruled commit = rules.commit
+ruled (aside x) = rules.read
+
+-- the previous set in a state is a 16-bit number
+abbrev pub SetInRange : Engine → Type 0
+SetInRange e = e .state .body .previous < 65536
+
+-- nothing beyond the part of the table that a state with settings S uses has changed
+abbrev pub BeyondSame : Settings → Engine → Engine → Type 0
+BeyondSame S e x = drop (used (S .ceiling .0)) (x .table) ≡ drop (used (S .ceiling .0)) (e .table)
+
+-- x is what an accepted open on e leaves: a well-formed state of round 1 and nothing else
+pub record Fresh (own : Member) (sheet : Sheet) (e x : Engine) : Type 0 where
+  pub its-own : x .state .own ≡ own
+  pub its-settings : x .state .settings ≡ filled sheet
+  pub formed : wellFormed (x .state) (x .table) ≡ true
+  pub shows : viewAt (filled sheet) x ≡ rules.freshView (filled sheet)
+  pub set-in-range : SetInRange x
+  pub beyond : BeyondSame (filled sheet) e x
+
+-- x is what any other accepted call c on e leaves: own number and settings as they were, a well-formed state, and the rules' next view
+pub record Next (e : Engine) (c : Call) (x : Engine) : Type 0 where
+  pub same-own : x .state .own ≡ e .state .own
+  pub same-settings : x .state .settings ≡ e .state .settings
+  pub formed : wellFormed (x .state) (x .table) ≡ true
+  pub shows : viewAt (e .state .settings) x ≡ rules.after (e .state .settings) (e .state .own .0) (viewAt (e .state .settings) e) (ruled c)
+  pub set-in-range : SetInRange x
+  pub beyond : BeyondSame (e .state .settings) e x
+
+-- every call is refused and changes no word, or is an accepted open, or does what the rules say
+pub data Step (e : Engine) (c : Call) : Type 0 where
+  refused : refusalFor e c ≢ 0 → after e c ≡ e → Step e c
+  opened : (own : Member) (sheet : Sheet) → c ≡ opens own sheet → refusalFor e c ≡ 0 → Fresh own sheet e (after e c) → Step e c
+  moved : refusalFor e c ≡ 0 → wellFormed (e .state) (e .table) ≡ true → Next e c (after e c) → Step e c
+
+-- the claim
+abbrev pub EveryStep : Type 0
+EveryStep = (e : Engine) → SetInRange e → (c : Call) → InRange c → Step e c

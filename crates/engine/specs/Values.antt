@@ -1,0 +1,50 @@
+-- The value that a call answers with, where it is accepted.
+use mathlib.Core.Bool.{cond}
+use mathlib.Core.List.{List}
+use Prim.Native.Nat.{ℕ}
+use lib.Dec.{eqb}
+use Rattle.agreement.specs.Rules.{Chain}
+use Rattle.terms.specs.declared.Proposal.{Proposal}
+use Rattle.terms.specs.Proposals.{Content}
+use Rattle.store.specs.Table.{endorsersAt}
+use Rattle.rules.specs.Reads.{committeeRead, shareRead, blockNumber, blockRead}
+use Rattle.state.specs.View.{view}
+use Rattle.commit.specs.Answers.{addedValue}
+use Rattle.commit.specs.Commit.{commitOutcome}
+use Rattle.reads.specs.Reads as reads
+use Rattle.engine.specs.Calls.{Aside, committee, share, certificate, block, listing, Call, opens, propose, endorse, certify, accept, advance, commit, aside}
+use Rattle.engine.specs.Engine.{Engine, refusalFor}
+
+pub data Value : Type 0 where
+  nothing : Value
+  -- the blocks that a commit added, a share's thousandths, a block's round
+  number : ℕ → Value
+  -- a committee: sixteen weights, 0 for a non-member
+  weights : List ℕ → Value
+  -- a held certificate: its proposal, the endorsers that it was stored with, and the number of its block, 0 for none
+  held : Proposal → ℕ → ℕ → Value
+  -- the chain, newest block first
+  chain : Chain Content → Value
+
+-- of a call that never touches the view
+abbrev pub shown : Engine → Aside → Value
+shown e (committee r) = weights (committeeRead (e .state .settings) (view (e .state) (e .table)) (r .0))
+shown e (share m r) = number (shareRead (e .state .settings) (view (e .state) (e .table)) (m .0) (r .0))
+shown e (certificate m r) = held (reads.shown (view (e .state) (e .table) .dag (m .0) (r .0))) (endorsersAt (e .table) (m .0) (r .0)) (blockNumber (view (e .state) (e .table) .chain) (m .0) (r .0))
+shown e (block n) = number (blockRead (e .state .settings) (view (e .state) (e .table)) n)
+shown e listing = chain (view (e .state) (e .table) .chain)
+
+-- of a call that is accepted
+abbrev pub given : Engine → Call → Value
+given e (opens own sheet) = nothing
+given e (propose b) = nothing
+given e (endorse p) = nothing
+given e (certify d) = nothing
+given e (accept c) = nothing
+given e advance = nothing
+given e commit = number (addedValue (commitOutcome (e .state) (e .table) .answer))
+given e (aside x) = shown e x
+
+-- a refused call gives none
+unfoldable pub valueOf : Engine → Call → Value
+valueOf e c = cond (eqb (refusalFor e c) 0) (given e c) nothing

@@ -1,0 +1,10 @@
+pub mod CallLaws
+pub mod AnsweredLaws
+pub mod AnswerLaws
+pub mod RefusalLaws
+pub mod HandedLaws
+pub mod NextLaws
+pub mod BeyondLaws
+pub mod FormedLaws
+pub mod HeldLaws
+pub mod OpenLaws

@@ -1,0 +1,4 @@
+pub mod Calls
+pub mod Answers
+pub mod Handed
+pub mod Held

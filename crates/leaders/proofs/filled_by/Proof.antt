@@ -1,0 +1,32 @@
+use mathlib.Core.Path.{refl}
+use Rattle.bonded.proofs.StartLaws.{started-none}
+use Rattle.bonded.proofs.LinkLaws.{links-start}
+use borrow.Author.Needs.{needs}
+use Rattle.leaders.proofs.filled_by.Statement.{statement}
+use Rattle.leaders.proofs.filled_by.Tie as tie
+
+mul-end : tie.Need-mul-end
+mul-end c = search needs
+
+add-end : tie.Need-add-end
+add-end c = search needs
+
+link-rows-requires : tie.Need-link-rows-requires
+link-rows-requires c κs = let p = c .before .before .before .before .before .before .pre .0 in (record { long = p .chain .long; round = p .chain .ceiling }, links-start _ _ _ (p .places))
+
+fill-rounds-requires : tie.Need-fill-rounds-requires
+fill-rounds-requires c κs =
+    let l = c .before .before .before .before .before .before .before in
+    let p = l .before .before .before .before .before .before .before .pre in
+    (record { linked = record { chain = p .0 .chain; links = l .link-rows .ensures }; weights = refl; started = started-none 16 }, p .1)
+
+same-length : tie.Need-same-length
+same-length c = search needs
+
+returns : tie.Need-returns
+returns c = search needs
+
+pub filled-by-spec : {M : Type 1} → statement M
+filled-by-spec =
+    tie.close
+    (tie.spec mul-end add-end link-rows-requires fill-rounds-requires same-length returns)

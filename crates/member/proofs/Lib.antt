@@ -1,9 +1,0 @@
-pub mod AnswerLaws
-pub mod OpenLaws
-pub mod PassedLaws
-pub mod CallLaws
-pub mod SharedCheckLaws
-pub mod PlaceLaws
-pub mod NextLaws
-pub mod CachedLaws
-pub mod Copies

@@ -1,5 +1,0 @@
-pub mod Answers
-pub mod Open
-pub mod SharedChecks
-pub mod Calls
-pub mod AllCalls

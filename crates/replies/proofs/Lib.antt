@@ -1,0 +1,3 @@
+pub mod CachedLaws
+pub mod RecordLaws
+pub mod ReplyLaws

@@ -1,0 +1,6 @@
+pub mod PasteLaws
+pub mod ReadingLaws
+pub mod PutLaws
+pub mod SameLaws
+pub mod BackLaws
+pub mod TidyLaws

@@ -1,0 +1,8 @@
+pub mod Lengths
+pub mod Words
+pub mod Bodies
+pub mod Proposals
+pub mod Sheets
+pub mod States
+pub mod TidyStates
+pub mod Readings

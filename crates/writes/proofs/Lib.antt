@@ -1,0 +1,5 @@
+pub mod WriteLaws
+pub mod PutLaws
+pub mod EndorseLaws
+pub mod MarkLaws
+pub mod ClearLaws
