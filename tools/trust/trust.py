@@ -47,7 +47,7 @@ A proof says that code does what a definition says. Whether the definition says 
 
 | | |
 |---|---|
-| proved | each function that a host links: on any words and lengths, its answer and every word that it leaves are those of its contract (`Done`). The runner: the bytes that it writes are those that `output` gives for the bytes that it reads (`SessionInvariant`, `PassServed`, `StartsWith`). Demand 3: `DemandThree`, over every list of calls |
+| proved | each function that a host links: on any words and lengths, its answer and every word that it leaves are those of its contract (`Done`). The runner: the lines put into its buffer are those that `output` gives for the bytes taken into its buffer (`SessionInvariant`, `PassServed`, `StartsWith`); that its loop reads to the end of the input and writes out what was put is tested, not proved. Demand 3: `DemandThree`, over every list of calls |
 | assumed by the proofs | the prover; the compiler's back end; the C library's read and write, and that the operating system delivers what they pass on |
 | assumed by demand 3 | signatures are genuine (`Signed` in `Fair`); in every committee that a correct member knows, faulty members weigh at most the fault bound (`WithinBound`) |
 | not listed | laws: whatever they say is proved. Definitions that only proofs use. Rattle's libraries, of which the last section lists the names used |
