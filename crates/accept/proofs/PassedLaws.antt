@@ -19,12 +19,12 @@ use Rattle.state.specs.Formed.{Formed}
 use Rattle.state.proofs.FormedLaws.{formed, body-fits}
 use Rattle.state.proofs.RefusalLaws.{refusal-passed}
 use Rattle.accept.specs.Accept.{acceptRefusal}
-use Rattle.checks.specs.SharedChecks.{Fits}
+use Rattle.checks.specs.SharedChecks.{FormFits}
 
 module _ (s : State) (t : List ℕ) where
   pub record AcceptPassed (c : Certificate) : Type 0 where
     pub formed : Formed s t
-    pub fits : Fits s (c .proposal)
+    pub fits : FormFits s (c .proposal)
     pub free : heldAt t (c .proposal .author .0) (c .proposal .round .0) ≡ false
     pub not-among : isIn (c .endorsers) (c .proposal .author .0) ≡ false
 

@@ -39,7 +39,7 @@ fn place_refusal(cache: &[u64], s: State, t: &[u32], c: Certificate) -> u32
 }
 
 // The checks of a well-formed state.
-fn refusal_of(cache: &[u64], s: State, t: &[u32], c: Certificate) -> u32
+fn formed_refusal(cache: &[u64], s: State, t: &[u32], c: Certificate) -> u32
     requires { ⌜ Formed s (now t) × CachesFor s (now t) (now cache) ⌝ }
     ensures { λ v. ⌜ v ≡ refusal (accepting (s .settings) (view s (now (t .entry))) (contentOf (c .proposal)) (c .endorsers)) ⌝ }
 {
@@ -62,7 +62,7 @@ fn accept_refusal(formed: bool, cache: &[u64], s: State, t: &[u32], c: Certifica
     if !formed {
         return 1;
     }
-    refusal_of(cache, s, t, c)
+    formed_refusal(cache, s, t, c)
 }
 
 // The call, where it is told whether the state is well formed, and committees may be cached.

@@ -10,7 +10,7 @@ use Rattle.agreement.specs.Rules.{Block, Chain, Rules}
 use Rattle.agreement.specs.Laws.{Lawful}
 use Rattle.agreement.specs.View.{View, Knows, World, Log}
 use Rattle.agreement.specs.Links.{Linked, LastElected}
-use Rattle.agreement.specs.Prefixes.{_≼_, same, blockAt}
+use Rattle.agreement.specs.Prefixes.{_≼_, same, blockNumbered}
 use Rattle.agreement.proofs.PrefixLaws.{≼-trans, block-stays}
 use Rattle.agreement.specs.Invariants.{Invariant, FaultTolerant, Agree, Sound}
 use Rattle.agreement.specs.Moves.{Move, other-call}
@@ -115,7 +115,7 @@ module _ {R : Rules} (correct : ℕ → Bool) where
   chains-grow (step r n b) i = ≼-trans (chains-grow r i) (move-grows (each n i) .chain)
 
   -- so a block once made stays, with its number, its round and its certificates
-  pub blocks-stay : {w v : World R} {G H : Log R} → Run correct w G v H → (i n : ℕ) {b : Block P} → blockAt ((w i) .chain) n ≡ some b → blockAt ((v i) .chain) n ≡ some b
+  pub blocks-stay : {w v : World R} {G H : Log R} → Run correct w G v H → (i n : ℕ) {b : Block P} → blockNumbered ((w i) .chain) n ≡ some b → blockNumbered ((v i) .chain) n ≡ some b
   blocks-stay r i n = block-stays (chains-grow r i) n
 
   module _ {start w : World R} {G : Log R} (Y : Lawful R) (x : Start correct start) (r : Run correct start (unsigned R) w G) where

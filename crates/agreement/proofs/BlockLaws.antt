@@ -13,7 +13,7 @@ use Rattle.agreement.specs.Links.{InChain, Uncommitted, Link, Linked}
 use Rattle.agreement.proofs.DagLaws.{on-place, reach-held}
 use Rattle.agreement.specs.Histories.{inHistory}
 use Rattle.agreement.proofs.HistoryLaws.{history-reach, reach-history}
-use Rattle.agreement.specs.Commits.{used, blockOf}
+use Rattle.agreement.specs.Commits.{inChain, blockOf}
 
 module _ {R : Rules} (s : View R) where
   open Rules R using (P, author, round)
@@ -24,25 +24,25 @@ module _ {R : Rules} (s : View R) where
   FromDag (b ∷ c) = ((a r : ℕ) (q : P) → b .holds a r ≡ some q → s .dag a r ≡ some q) × FromDag c
 
   -- a place is used where its certificate is in a block
-  in-used : (c : Chain P) (p : P) → InChain R c p → used c (author p) (round p) ≡ true
-  unfolding used
+  in-used : (c : Chain P) (p : P) → InChain R c p → inChain c (author p) (round p) ≡ true
+  unfolding inChain
   in-used [] p h = absurd h
   in-used (b ∷ c) p (inl e) = rw e refl
   in-used (b ∷ c) p (inr h) = rw (in-used c p h) (or-true (isHeld (b .holds (author p) (round p))))
 
-  used-in : (c : Chain P) (p : P) → FromDag c → Held s p → used c (author p) (round p) ≡ true → InChain R c p
-  unfolding used
+  used-in : (c : Chain P) (p : P) → FromDag c → Held s p → inChain c (author p) (round p) ≡ true → InChain R c p
+  unfolding inChain
   used-in [] p x h u = absurd (false≢true u)
   used-in (b ∷ c) p x h u = go (b .holds (author p) (round p)) refl u (used-in c p (x .1) h)
     where
-      go : (o : Option P) → b .holds (author p) (round p) ≡ o → (isHeld o || used c (author p) (round p)) ≡ true
-          → (used c (author p) (round p) ≡ true → InChain R c p) → InChain R (b ∷ c) p
+      go : (o : Option P) → b .holds (author p) (round p) ≡ o → (isHeld o || inChain c (author p) (round p)) ≡ true
+          → (inChain c (author p) (round p) ≡ true → InChain R c p) → InChain R (b ∷ c) p
       go none e k f = inr (f k)
       go (some q) e k f = inl (e ∙ ap some (Option·some-injective q p (sym (x .0 (author p) (round p) q e) ∙ h)))
 
   pub block-from-dag : (x : P) (c : Chain P) (a r : ℕ) (q : P) → (blockOf s x c) .holds a r ≡ some q → s .dag a r ≡ some q
   unfolding blockOf
-  block-from-dag x c a r q h = go (inHistory s x r a && not (used c a r)) h
+  block-from-dag x c a r q h = go (inHistory s x r a && not (inChain c a r)) h
     where
       go : (b : Bool) → cond b (s .dag a r) none ≡ some q → s .dag a r ≡ some q
       go true k = k
@@ -61,19 +61,19 @@ module _ {R : Rules} {s : View R} (X : Placed s) where
           rw (f .by, f .at) at (reach-held X (on-place X (l .1 .sees .held)) (f .reached))
 
   module _ (x : P) (c : Chain P) (hc : FromDag s c) (hx : Held s x) where
-    uncommitted-unused : {a r : ℕ} {p : P} → Uncommitted s c x a r p → used c a r ≡ false
-    uncommitted-unused {a} {r} {p} f = go (used c a r) refl
+    uncommitted-unused : {a r : ℕ} {p : P} → Uncommitted s c x a r p → inChain c a r ≡ false
+    uncommitted-unused {a} {r} {p} f = go (inChain c a r) refl
       where
-        go : (b : Bool) → used c a r ≡ b → b ≡ false
+        go : (b : Bool) → inChain c a r ≡ b → b ≡ false
         go true e = absurd (f .unused (used-in s c p hc (reach-held X hx (f .reached)) (rw (f .by, f .at) e)))
         go false e = refl
 
     -- the computed block holds what of the history of x is in no block
     content-uncommitted : {a r : ℕ} {p : P} → (blockOf s x c) .holds a r ≡ some p → Uncommitted s c x a r p
     unfolding blockOf
-    content-uncommitted {a} {r} {p} h = go (inHistory s x r a) (used c a r) refl refl h
+    content-uncommitted {a} {r} {p} h = go (inHistory s x r a) (inChain c a r) refl refl h
       where
-        go : (i u : Bool) → inHistory s x r a ≡ i → used c a r ≡ u → cond (i && not u) (s .dag a r) none ≡ some p → Uncommitted s c x a r p
+        go : (i u : Bool) → inHistory s x r a ≡ i → inChain c a r ≡ u → cond (i && not u) (s .dag a r) none ≡ some p → Uncommitted s c x a r p
         go true true ei eu k = absurd (Option·none-ne-some p k)
         go true false ei eu k =
             let e = X .place k in

@@ -9,9 +9,9 @@ use Rattle.agreement.specs.Dag.{isHeld}
 use Rattle.agreement.specs.Histories.{inHistory}
 
 -- is the place in a block of the chain?
-unfoldable pub used : {P : Type 0} → Chain P → ℕ → ℕ → Bool
-used [] a r = false
-used (b ∷ c) a r = isHeld (b .holds a r) || used c a r
+unfoldable pub inChain : {P : Type 0} → Chain P → ℕ → ℕ → Bool
+inChain [] a r = false
+inChain (b ∷ c) a r = isHeld (b .holds a r) || inChain c a r
 
 module _ {R : Rules} (s : View R) where
   open Rules R using (P, author, round, committee, leader)
@@ -26,7 +26,7 @@ module _ {R : Rules} (s : View R) where
 
   -- the block of the anchor x on the chain c
   unfoldable pub blockOf : P → Chain P → Block P
-  blockOf x c = record { round = round x; holds = λ a r. cond (inHistory s x r a && not (used c a r)) (s .dag a r) none }
+  blockOf x c = record { round = round x; holds = λ a r. cond (inHistory s x r a && not (inChain c a r)) (s .dag a r) none }
 
   -- the blocks of the anchors, the first of them newest, on the chain
   unfoldable pub blocksOf : List P → Chain P

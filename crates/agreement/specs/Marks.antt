@@ -17,9 +17,9 @@ module _ {P : Type 0} (d : ℕ → ℕ → Option P) where
   marked m n r = record { round = r; holds = λ a q. cond (eqb (m a q) n) (d a q) none }
 
   -- the chain that rounds and marks stand for
-  unfoldable pub chainOf : (ℕ → ℕ → ℕ) → List ℕ → Chain P
-  chainOf m [] = []
-  chainOf m (r ∷ l) = marked m (suc (length l)) r ∷ chainOf m l
+  unfoldable pub markedChain : (ℕ → ℕ → ℕ) → List ℕ → Chain P
+  markedChain m [] = []
+  markedChain m (r ∷ l) = marked m (suc (length l)) r ∷ markedChain m l
 
 -- the rounds of the blocks after a commit of the anchors, the first of them newest
 unfoldable pub roundsOf : (R : Rules) → List ℕ → List (R .P) → List ℕ
@@ -39,6 +39,6 @@ module _ {R : Rules} (s : View R) where
   marksOf m rs (x ∷ l) = markBlock x (suc (length (roundsOf R rs l))) (marksOf m rs l)
 
   -- marks that fit a chain of n blocks: every mark names a block, and only held certificates have one
-  pub record Fits (m : ℕ → ℕ → ℕ) (n : ℕ) : Type 0 where
+  pub record MarksFit (m : ℕ → ℕ → ℕ) (n : ℕ) : Type 0 where
     pub range : (a q : ℕ) → m a q ≤ n
     pub only-held : (a q : ℕ) → isHeld (s .dag a q) ≡ false → m a q ≡ 0

@@ -19,6 +19,6 @@ abbrev pub Comparable : {P : Type 0} → Chain P → Chain P → Type 0
 Comparable c d = (c ≼ d) ⊎ (d ≼ c)
 
 -- the block of number n, the oldest being number 1
-unfoldable pub blockAt : {P : Type 0} → Chain P → ℕ → Option (Block P)
-blockAt [] n = none
-blockAt (b ∷ c) n = cond (eqb n (suc (length c))) (some b) (blockAt c n)
+unfoldable pub blockNumbered : {P : Type 0} → Chain P → ℕ → Option (Block P)
+blockNumbered [] n = none
+blockNumbered (b ∷ c) n = cond (eqb n (suc (length c))) (some b) (blockNumbered c n)

@@ -19,7 +19,8 @@ use Rattle.lines.specs.Lines.{refusedLine}
 use Rattle.lines.specs.Puts.{Puts}
 use Rattle.lines.proofs.PutLaws.{puts-as, puts-none}
 use Rattle.replies.proofs.RecordLaws.{unreadable-answered}
-use Rattle.replies.specs.Records.{callOf, servedEngine, servedLines, RecordAnswered}
+use Rattle.replies.specs.Asked.{callOf}
+use Rattle.replies.specs.Records.{servedEngine, servedLines, RecordAnswered}
 use Rattle.answering.specs.Streams.{callIn, answersTo, engineThrough, recordsAt, Answered}
 
 -- records and then others

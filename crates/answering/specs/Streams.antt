@@ -13,18 +13,20 @@ use Rattle.framing.specs.Streams.{readables}
 use Rattle.framing.specs.Framing.{telling, stepOf}
 use Rattle.lines.specs.Puts.{Puts}
 use Rattle.answering.specs.declared.next.Progress.{Progress}
-use Rattle.replies.specs.Records.{engineOf, callOf, servedEngine, servedLines}
+use Rattle.replies.specs.Asked.{callOf}
+use Rattle.replies.specs.Records.{engineOf, servedEngine, servedLines}
 
 -- the call that a record asks for
 abbrev pub callIn : Option (List ℕ) → Option Call
 callIn none = none
 callIn (some b) = callOf (request b)
 
--- the lines that answer records, and the engine after them
+-- the lines that answer records
 unfoldable pub answersTo : Engine → List (Option (List ℕ)) → List ℕ
 answersTo e [] = []
 answersTo e (o ∷ l) = servedLines e (callIn o) ++ answersTo (servedEngine e (callIn o)) l
 
+-- the engine after them
 unfoldable pub engineThrough : Engine → List (Option (List ℕ)) → Engine
 engineThrough e [] = e
 engineThrough e (o ∷ l) = engineThrough (servedEngine e (callIn o)) l

@@ -19,7 +19,8 @@ use terms::Proposal;
 ghost use Prim.Native.Nat.{_+_, _*_, _≤_};
 ghost use lib.ListN.{length};
 ghost use Rattle.state.specs.Cached.{Cached};
-ghost use Rattle.replies.specs.Records.{engineOf, callOf, RecordAnswered};
+ghost use Rattle.replies.specs.Asked.{callOf};
+ghost use Rattle.replies.specs.Records.{engineOf, RecordAnswered};
 
 // Serves a record: its call, and the lines that answer it. `formed` tells whether the state is well formed, and committees are cached.
 pub fn serve(

@@ -10,7 +10,7 @@ use native.Mathlib.Numerals.{add-one}
 use lib.Dec.{eqb, ltb}
 use lib.ListN.{getD}
 use borrow.Author.Tests.{ltb-true, ltb-false, eqb-true}
-use Rattle.store.specs.Table.{used, Row, markAt, blockRound}
+use Rattle.store.specs.Table.{usedLength, Row, markAt, blockRound}
 use Rattle.writes.proofs.MarkLaws.{OnlyMarks, only-all, only-both}
 use Rattle.histories.specs.Anchors.{takenLeaders}
 use Rattle.histories.proofs.TakenLaws.{taken-other}
@@ -23,7 +23,7 @@ pub record Stage (m k : ℕ) (t : List ℕ) (r c : ℕ) (u : List ℕ) : Type 0 
   pub more : k ≤ c
   pub few : c ≤ k + (r - m)
   -- only marks and block rounds have changed, up to the row of r
-  pub only : OnlyMarks (used r) t u
+  pub only : OnlyMarks (usedLength r) t u
 
 -- the mark x, where it was y and the blocks k + 1 to c are new: as it was, or a new block's
 abbrev pub Kept : ℕ → ℕ → ℕ → ℕ → Type 0
@@ -34,7 +34,7 @@ pub record NewRounds (l : List ℕ) (m k r c : ℕ) (u : List ℕ) : Type 0 wher
   pub inside : (j : ℕ) → k < j → j ≤ c → (m < blockRound u j) × (blockRound u j ≤ r) × (getD l (blockRound u j) 0 < 16)
   pub rising : (i j : ℕ) → k < i → i < j → j ≤ c → blockRound u i < blockRound u j
 
-only-more : (r : ℕ) {t u : List ℕ} → OnlyMarks (used r) t u → OnlyMarks (used (suc r)) t u
+only-more : (r : ℕ) {t u : List ℕ} → OnlyMarks (usedLength r) t u → OnlyMarks (usedLength (suc r)) t u
 only-more r o = record { size = o .size; words = o .words; beyond = λ j h. o .beyond j (omega arith) }
 
 module _ (l : List ℕ) (m k : ℕ) (t : List ℕ) (low : k ≤ m) (P : ℕ → ℕ → List ℕ → Type 0) where
@@ -52,7 +52,7 @@ module _ (l : List ℕ) (m k : ℕ) (t : List ℕ) (low : k ≤ m) (P : ℕ → 
   unfolding countAfter blocksAfter countStep blockStep
   blocks-each zero p f g =
       let e : m + 0 ≡ m = omega arith in
-      rw e (record { from = omega arith; more = omega arith; few = omega arith; only = only-all (used m) t }, p)
+      rw e (record { from = omega arith; more = omega arith; few = omega arith; only = only-all (usedLength m) t }, p)
   blocks-each (suc n) p f g =
       let e : m + suc n ≡ suc (m + n) = omega arith in
       rw e (go (ltb (getD l (suc (m + n)) 0) 16) refl (blocks-each n p (λ r c u s h. f r c u s (omega arith)) (λ r c u s h. g r c u s (omega arith))))

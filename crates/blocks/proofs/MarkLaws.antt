@@ -13,7 +13,7 @@ use Rattle.base.specs.Folds.{foldTo}
 use Rattle.base.proofs.FoldLaws.{fold-kept}
 use Rattle.base.specs.Sets.{isIn, only}
 use Rattle.base.proofs.SetLaws.{in-member}
-use Rattle.store.specs.Table.{used, Row, markAt, blockRound}
+use Rattle.store.specs.Table.{usedLength, Row, markAt, blockRound}
 use Rattle.writes.specs.Writes.{setMark}
 use Rattle.writes.proofs.WriteLaws.{samePlace, same-place}
 use Rattle.writes.proofs.MarkLaws.{OnlyMarks, only-all, only-both, only-if, only-mark, only-block, mark-same, mark-other, mark-block, block-round-same, block-round-other, block-round-mark}
@@ -23,30 +23,30 @@ use Rattle.blocks.specs.Blocks.{markPlace, markRow, markHistory, addBloc
 
 -- ---- nothing else changes
 
-only-place : (c b s r a : ℕ) (t : List ℕ) → r ≤ c → OnlyMarks (used c) t (markPlace b s r a t)
+only-place : (c b s r a : ℕ) (t : List ℕ) → r ≤ c → OnlyMarks (usedLength c) t (markPlace b s r a t)
 unfolding markPlace
 only-place c b s r a t h = go (isIn s a) refl
   where
-    go : (i : Bool) → isIn s a ≡ i → OnlyMarks (used c) t (cond i (cond (eqb (markAt t a r) 0) (setMark t a r b) t) t)
+    go : (i : Bool) → isIn s a ≡ i → OnlyMarks (usedLength c) t (cond i (cond (eqb (markAt t a r) 0) (setMark t a r b) t) t)
     go true e = only-if (eqb (markAt t a r) 0) (only-mark c t a r b (in-member s a e) h)
-    go false e = only-all (used c) t
+    go false e = only-all (usedLength c) t
 
-only-places : (c b s r k : ℕ) (t : List ℕ) → r ≤ c → OnlyMarks (used c) t (foldTo (markPlace b s r) k t)
+only-places : (c b s r k : ℕ) (t : List ℕ) → r ≤ c → OnlyMarks (usedLength c) t (foldTo (markPlace b s r) k t)
 unfolding foldTo
-only-places c b s r zero t h = only-all (used c) t
+only-places c b s r zero t h = only-all (usedLength c) t
 only-places c b s r (suc k) t h = only-both (only-places c b s r k t h) (only-place c b s r k (foldTo (markPlace b s r) k t) h)
 
-pub only-row : (c b s r : ℕ) (t : List ℕ) → r ≤ c → OnlyMarks (used c) t (markRow b s r t)
+pub only-row : (c b s r : ℕ) (t : List ℕ) → r ≤ c → OnlyMarks (usedLength c) t (markRow b s r t)
 unfolding markRow
 only-row c b s r t h = only-places c b s r 16 t h
 
-only-history : (c b r s : ℕ) (t : List ℕ) → r ≤ c → OnlyMarks (used c) t (markHistory b r s t)
+only-history : (c b r s : ℕ) (t : List ℕ) → r ≤ c → OnlyMarks (usedLength c) t (markHistory b r s t)
 unfolding markHistory
-only-history c b zero s t h = only-all (used c) t
+only-history c b zero s t h = only-all (usedLength c) t
 only-history c b (suc r) s t h = only-both (only-row c b s (suc r) t h) (only-history c b r (below t s (suc r)) (markRow b s (suc r) t) (omega arith))
 
 -- a block changes marks and block rounds, up to the row of its anchor
-pub block-only : (c k a r : ℕ) (t : List ℕ) → k ≤ c → r ≤ c → OnlyMarks (used c) t (addBlock k a r t)
+pub block-only : (c k a r : ℕ) (t : List ℕ) → k ≤ c → r ≤ c → OnlyMarks (usedLength c) t (addBlock k a r t)
 unfolding addBlock
 block-only c k a r t h l = only-both (only-history c k r (only a) t l) (only-block c (markHistory k r (only a) t) k r h)
 

@@ -16,7 +16,7 @@ pub record HistoryReady (t v : List ℕ) (r : ℕ) : Type 0 where
   pub seen : Seen t v v
 
 -- block k can be made, of the anchor of author a and round r
-pub record BlockReady (t v : List ℕ) (k a r : ℕ) : Type 0 where
+pub record NewBlockReady (t v : List ℕ) (k a r : ℕ) : Type 0 where
   pub number : 0 < k
   pub room : Row t k
   pub author : a < 16

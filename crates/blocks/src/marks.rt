@@ -6,7 +6,7 @@ ghost use Prim.Native.Nat.{_<_};
 ghost use Rattle.store.specs.Table.{Within, Row};
 ghost use Rattle.blocks.specs.Blocks.{markPlace, markRow, markHistory, addBlock};
 ghost use Rattle.blocks.specs.Seen.{Seen};
-ghost use Rattle.blocks.specs.Ready.{HistoryReady, BlockReady};
+ghost use Rattle.blocks.specs.Ready.{HistoryReady, NewBlockReady};
 
 // Puts the certificate of a and round r into block b, if a is in s and it is in no block yet.
 fn mark_place(t: &mut [u32], b: u32, s: u32, r: Round, a: Member)
@@ -53,7 +53,7 @@ fn mark_history(t: &mut [u32], seen: &mut [u32; 1025], b: u32, s: u32, top: Roun
 
 // Makes block k, of the anchor of author a and round r.
 pub fn add_block(t: &mut [u32], seen: &mut [u32; 1025], k: u32, a: Member, r: Round)
-    requires { ⌜ BlockReady (now t) (now seen) k (a .0) (r .0) ⌝ }
+    requires { ⌜ NewBlockReady (now t) (now seen) k (a .0) (r .0) ⌝ }
     ensures { λ _. ⌜ (now (t .exit) ≡ addBlock k (a .0) (r .0) (now (t .entry))) × Seen (now (t .exit)) (now (seen .exit)) (now (seen .exit)) ⌝ }
 {
     let s = base::just(a.0);

@@ -13,13 +13,13 @@ use Rattle.store.specs.Table.{markAt, heldAt, countAt, kindAt, numberAt, amount
 use Rattle.store.proofs.TableLaws.{count-le, content-transactions, transaction-words}
 use Rattle.committee.specs.Chain.{holdsAt, blockAt, chainOf}
 use Rattle.committee.proofs.ChainLaws.{holds-present, holds-other, holds-absent, block-inside}
-use Rattle.committee.specs.Changes.{change, changes, changesOf, listed}
+use Rattle.committee.specs.Changes.{change, changes, changesOf, atMostOne}
 use Rattle.committee.proofs.ChangeLaws.{changes-tab, changes-none, changes-one, rows-changes}
 use Rattle.committee.proofs.OrderLaws.{ordered-rows}
 use Rattle.sheet.specs.declared.Settings.{Settings}
 use Rattle.bonded.specs.BlockChanges.{slotChange, placeChange, recordChange, startAt, blockChange}
 use Rattle.bonded.specs.Links.{Marked}
-use Rattle.bonded.specs.Runs.{placesOver, rowsOver}
+use Rattle.bonded.specs.LinkRuns.{placesOver, rowsOver}
 use Rattle.bonded.proofs.RunLaws.{SameAt}
 
 -- ---- a place
@@ -48,14 +48,14 @@ module _ (t : List ℕ) (m r : ℕ) (w : List ℕ) where
 
 module _ (t : List ℕ) (k m r : ℕ) (w : List ℕ) where
   -- a place that is not held changes nothing
-  pub place-absent : heldAt t m r ≡ false → changesOf (listed (holdsAt t k m r)) w ≡ w
+  pub place-absent : heldAt t m r ≡ false → changesOf (atMostOne (holdsAt t k m r)) w ≡ w
   place-absent e = rw (holds-absent t k m r e) (changes-none w)
 
   -- neither does one with another mark
-  pub place-other : (markAt t m r ≡ k → ⊥) → changesOf (listed (holdsAt t k m r)) w ≡ w
+  pub place-other : (markAt t m r ≡ k → ⊥) → changesOf (atMostOne (holdsAt t k m r)) w ≡ w
   place-other e = rw (holds-other t k m r e) (changes-none w)
 
-  pub place-present : heldAt t m r ≡ true → markAt t m r ≡ k → changesOf (listed (holdsAt t k m r)) w ≡ changes (contentAt t m r .transactions) w
+  pub place-present : heldAt t m r ≡ true → markAt t m r ≡ k → changesOf (atMostOne (holdsAt t k m r)) w ≡ changes (contentAt t m r .transactions) w
   place-present e q = rw (holds-present t k m r e q) (changes-one (contentAt t m r) w)
 
 -- a place that is not marked changes nothing
@@ -63,7 +63,7 @@ place-unmarked : (t : List ℕ) (k p : ℕ) (w : List ℕ) → (Marked t k p →
 unfolding placeChange
 place-unmarked t k p w n = go (heldAt t (p % 16) (p / 16)) refl
   where
-    go : (b : Bool) → heldAt t (p % 16) (p / 16) ≡ b → changesOf (listed (holdsAt t k (p % 16) (p / 16))) w ≡ w
+    go : (b : Bool) → heldAt t (p % 16) (p / 16) ≡ b → changesOf (atMostOne (holdsAt t k (p % 16) (p / 16))) w ≡ w
     go true e = place-other t k (p % 16) (p / 16) w (λ q. n (record { held = e; mark = q }))
     go false e = place-absent t k (p % 16) (p / 16) w e
 
@@ -85,9 +85,9 @@ block-rows S t k w =
     let n = S .ceiling .0 in
     let a = startAt S t k in
     rw (ordered-rows S (blockAt n t (k + 1)) (chainOf n t k)) (rows-changes (blockAt n t (k + 1)) a n w)
-    ∙ fold-same (λ r. foldTo (λ m. changesOf (listed (blockAt n t (k + 1) .holds ((a + m) % 16) (suc r)))) 16)
-    (λ r. foldTo (λ m. changesOf (listed (holdsAt t (k + 1) (((r + 1) * 16 + (a + m) % 16) % 16) (((r + 1) * 16 + (a + m) % 16) / 16)))) 16) n w
-    (λ r v h. fold-same (λ m. changesOf (listed (blockAt n t (k + 1) .holds ((a + m) % 16) (suc r)))) (λ m. changesOf (listed (holdsAt t (k + 1) (((r + 1) * 16 + (a + m) % 16) % 16) (((r + 1) * 16 + (a + m) % 16) / 16)))) 16 v
+    ∙ fold-same (λ r. foldTo (λ m. changesOf (atMostOne (blockAt n t (k + 1) .holds ((a + m) % 16) (suc r)))) 16)
+    (λ r. foldTo (λ m. changesOf (atMostOne (holdsAt t (k + 1) (((r + 1) * 16 + (a + m) % 16) % 16) (((r + 1) * 16 + (a + m) % 16) / 16)))) 16) n w
+    (λ r v h. fold-same (λ m. changesOf (atMostOne (blockAt n t (k + 1) .holds ((a + m) % 16) (suc r)))) (λ m. changesOf (atMostOne (holdsAt t (k + 1) (((r + 1) * 16 + (a + m) % 16) % 16) (((r + 1) * 16 + (a + m) % 16) / 16)))) 16 v
     (λ m u _.
     let i : ((r + 1) * 16 + (a + m) % 16) % 16 ≡ (a + m) % 16 = omega arith in
     let j : ((r + 1) * 16 + (a + m) % 16) / 16 ≡ suc r = omega arith in

@@ -17,13 +17,13 @@ use Rattle.store.specs.Table.{blockRound, heldAt, markAt, countAt, transactionA
 use Rattle.store.proofs.TableLaws.{count-le, amount-lt}
 use Rattle.committee.specs.Chain.{holdsAt, blockAt, chainOf}
 use Rattle.committee.proofs.ChainLaws.{block-round}
-use Rattle.committee.specs.Changes.{change, changesOf, listed}
+use Rattle.committee.specs.Changes.{change, changesOf, atMostOne}
 use Rattle.committee.specs.Committees.{bondedFrom}
 use Rattle.committee.proofs.BondedLaws.{step, step-waits, bonded-fold}
 use Rattle.committee.specs.Totals.{totalIn}
 use Rattle.committee.proofs.TotalLaws.{Raises, still-raises, choice-raises, change-raises, raised, raises-more, raises-same, fold-raises, fold-raises-each, marks-once}
 use Rattle.bonded.specs.BlockChanges.{slotChange, placeChange, recordChange, startAt, blockChange, afterBlocks}
-use Rattle.bonded.specs.Runs.{runOver, placesOver, rowsOver}
+use Rattle.bonded.specs.LinkRuns.{runOver, placesOver, rowsOver}
 use Rattle.bonded.proofs.BlockChangeLaws.{record-fold, record-slots, place-absent, place-other, place-present, block-rows}
 use Rattle.bonded.proofs.ChainLaws.{block-counts}
 
@@ -39,14 +39,14 @@ transactions-raise t m r a c h l =
 
 module _ (t : List ℕ) (n a : ℕ) (bounded : WeightsBounded t n a) where
   -- a place counts in the block that its mark names
-  place-raises : (k m r : ℕ) → 1 ≤ r → r ≤ n → Raises (changesOf (listed (holdsAt t k m r))) (cond (eqb (markAt t m r) k) (4 * a) 0)
+  place-raises : (k m r : ℕ) → 1 ≤ r → r ≤ n → Raises (changesOf (atMostOne (holdsAt t k m r))) (cond (eqb (markAt t m r) k) (4 * a) 0)
   place-raises k m r h l = go (heldAt t m r) refl (eqb (markAt t m r) k) refl
     where
-      go : (x : Bool) → heldAt t m r ≡ x → (y : Bool) → eqb (markAt t m r) k ≡ y → Raises (changesOf (listed (holdsAt t k m r))) (cond y (4 * a) 0)
-      go false e y q = raises-same (changesOf (listed (holdsAt t k m r))) (λ w. w) (cond y (4 * a) 0) (λ w. place-absent t k m r w e) (still-raises (cond y (4 * a) 0))
-      go true e false q = raises-same (changesOf (listed (holdsAt t k m r))) (λ w. w) 0 (λ w. place-other t k m r w (eqb-false (markAt t m r) k q)) (still-raises 0)
+      go : (x : Bool) → heldAt t m r ≡ x → (y : Bool) → eqb (markAt t m r) k ≡ y → Raises (changesOf (atMostOne (holdsAt t k m r))) (cond y (4 * a) 0)
+      go false e y q = raises-same (changesOf (atMostOne (holdsAt t k m r))) (λ w. w) (cond y (4 * a) 0) (λ w. place-absent t k m r w e) (still-raises (cond y (4 * a) 0))
+      go true e false q = raises-same (changesOf (atMostOne (holdsAt t k m r))) (λ w. w) 0 (λ w. place-other t k m r w (eqb-false (markAt t m r) k q)) (still-raises 0)
       go true e true q =
-          raises-same (changesOf (listed (holdsAt t k m r))) (foldTo (λ j. change (transactionAt t m r j)) (countAt t m r)) (4 * a)
+          raises-same (changesOf (atMostOne (holdsAt t k m r))) (foldTo (λ j. change (transactionAt t m r j)) (countAt t m r)) (4 * a)
           (λ w. place-present t k m r w e (eqb-true (markAt t m r) k q) ∙ record-fold t m r w)
           (transactions-raise t m r a (countAt t m r) (count-le t m r) (λ j i. bounded m r j h l e i))
 
@@ -62,8 +62,8 @@ module _ (t : List ℕ) (n a : ℕ) (bounded : WeightsBounded t n a) where
   unfolding rowsOver placesOver placeChange
   rows-raise k s m u =
       rw (← sum-same (λ r. sumTo (λ i. cond (eqb (markAt t ((s + i) % 16) (r + 1)) k) (4 * a) 0) 16) (λ r. sumTo (λ i. cond (eqb (markAt t i (r + 1)) k) (4 * a) 0) 16) m (λ r _. sum-turned (λ i. cond (eqb (markAt t i (r + 1)) k) (4 * a) 0) s))
-      (fold-raises (λ r. foldTo (λ i. changesOf (listed (holdsAt t k (((r + 1) * 16 + (s + i) % 16) % 16) (((r + 1) * 16 + (s + i) % 16) / 16)))) 16) (λ r. sumTo (λ i. cond (eqb (markAt t ((s + i) % 16) (r + 1)) k) (4 * a) 0) 16) m
-      (λ r h. fold-raises (λ i. changesOf (listed (holdsAt t k (((r + 1) * 16 + (s + i) % 16) % 16) (((r + 1) * 16 + (s + i) % 16) / 16)))) (λ i. cond (eqb (markAt t ((s + i) % 16) (r + 1)) k) (4 * a) 0) 16
+      (fold-raises (λ r. foldTo (λ i. changesOf (atMostOne (holdsAt t k (((r + 1) * 16 + (s + i) % 16) % 16) (((r + 1) * 16 + (s + i) % 16) / 16)))) 16) (λ r. sumTo (λ i. cond (eqb (markAt t ((s + i) % 16) (r + 1)) k) (4 * a) 0) 16) m
+      (λ r h. fold-raises (λ i. changesOf (atMostOne (holdsAt t k (((r + 1) * 16 + (s + i) % 16) % 16) (((r + 1) * 16 + (s + i) % 16) / 16)))) (λ i. cond (eqb (markAt t ((s + i) % 16) (r + 1)) k) (4 * a) 0) 16
       (λ i _.
       let x : ((r + 1) * 16 + (s + i) % 16) % 16 ≡ (s + i) % 16 = omega arith in
       let y : ((r + 1) * 16 + (s + i) % 16) / 16 ≡ r + 1 = omega arith in

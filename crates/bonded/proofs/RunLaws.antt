@@ -11,7 +11,7 @@ use borrow.Author.Tests.{lt-ltb, le-ltb, le-leb, lt-leb}
 use Rattle.base.specs.Folds.{foldTo}
 use Rattle.base.proofs.FoldLaws.{fold-more, fold-none, fold-same, fold-high, fold-join}
 use Rattle.bonded.specs.Links.{Marked, First, Links}
-use Rattle.bonded.specs.Runs.{runOver, rowOver, placesOver, rowsOver, runEnd}
+use Rattle.bonded.specs.LinkRuns.{runOver, rowOver, placesOver, rowsOver, runEnd}
 
 -- ---- one place of a run
 

@@ -13,7 +13,7 @@ use Rattle.committee.proofs.LeaderLaws.{leader-le}
 use Rattle.bonded.specs.declared.Applied.{Applied}
 use Rattle.bonded.specs.BlockChanges.{placeChange, startAt}
 use Rattle.bonded.proofs.BlockChangeLaws.{block-rows}
-use Rattle.bonded.specs.Runs.{rowsOver}
+use Rattle.bonded.specs.LinkRuns.{rowsOver}
 use Rattle.bonded.proofs.ChainLaws.{last-some, fits-at, start-now}
 use Rattle.bonded.specs.ChainInTable.{ChainInTable, AfterBlocks}
 use Rattle.bonded.proofs.ChainInTableLaws.{after-start, after-up, after-at, after-next}

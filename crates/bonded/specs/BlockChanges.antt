@@ -7,7 +7,7 @@ use Rattle.base.specs.Folds.{foldTo, allTo}
 use Rattle.store.specs.Table.{blockRound, countAt, transactionAt, contentAt}
 use Rattle.committee.specs.Chain.{holdsAt, blockAt, chainOf}
 use Rattle.sheet.specs.declared.Settings.{Settings}
-use Rattle.committee.specs.Changes.{change, changes, changesOf, listed}
+use Rattle.committee.specs.Changes.{change, changes, changesOf, atMostOne}
 use Rattle.committee.specs.Committees.{startOf, ordered}
 
 -- slot k of the record of a place, if a transaction is there
@@ -16,7 +16,7 @@ slotChange t m r k w = cond (ltb k (countAt t m r)) (change (transactionAt t m r
 
 -- place p, if block k holds it; the place of member m and round r is number 16 r + m
 unfoldable pub placeChange : List ℕ → ℕ → ℕ → List ℕ → List ℕ
-placeChange t k p w = changesOf (listed (holdsAt t k (p % 16) (p / 16))) w
+placeChange t k p w = changesOf (atMostOne (holdsAt t k (p % 16) (p / 16))) w
 
 -- the transactions of the record of place p
 unfoldable pub recordChange : List ℕ → ℕ → List ℕ → List ℕ

@@ -2,7 +2,7 @@ pub mod BlockChanges
 pub mod Links
 pub mod Rows
 pub mod Ready
-pub mod Runs
+pub mod LinkRuns
 pub mod ChainInTable
 pub mod Starts
 pub mod Walks

@@ -9,7 +9,7 @@ ghost use lib.Dec.{leb};
 ghost use Rattle.store.specs.Table.{contentAt};
 ghost use Rattle.committee.specs.Changes.{changes};
 ghost use Rattle.bonded.specs.BlockChanges.{slotChange, placeChange, recordChange};
-ghost use Rattle.bonded.specs.Runs.{runOver, rowOver, rowsOver, runEnd};
+ghost use Rattle.bonded.specs.LinkRuns.{runOver, rowOver, rowsOver, runEnd};
 ghost use Rattle.bonded.specs.Ready.{SlotReady, RecordReady, RunReady, RowReady, BlockReady};
 
 // Slot k of a record that has n transactions.

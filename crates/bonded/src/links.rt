@@ -7,7 +7,7 @@ ghost use Prim.Native.Nat.{ℕ, _+_, _*_, _<_, _≤_};
 ghost use lib.ListN.{getD, set, length};
 ghost use Rattle.bonded.specs.Rows.{RowsTo, RowRoom};
 ghost use Rattle.bonded.specs.Links.{Links};
-ghost use Rattle.bonded.specs.Runs.{runEnd};
+ghost use Rattle.bonded.specs.LinkRuns.{runEnd};
 
 // The places of the rounds from 0 up to 64, and up to 1,024: sixteen each.
 pub const FEW_ROUNDS: u32 = 64;

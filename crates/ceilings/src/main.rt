@@ -8,7 +8,7 @@ use terms::Member;
 const TABLE: usize = 278800;
 
 // Opens with a ceiling and writes the answer out.
-fn open(t: &mut [u32], ceiling: u32) {
+fn try_ceiling(t: &mut [u32], ceiling: u32) {
     let blank = Sheet::blank();
     let weights = blank.weights;
     let written = Sheet {
@@ -26,6 +26,6 @@ fn open(t: &mut [u32], ceiling: u32) {
 
 fn main() {
     let mut table = [0u32; TABLE];
-    open(&mut table, 1024);
-    open(&mut table, 1025);
+    try_ceiling(&mut table, 1024);
+    try_ceiling(&mut table, 1025);
 }

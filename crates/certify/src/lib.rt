@@ -13,7 +13,7 @@ ghost use Rattle.checks.specs.Answers.{WritingCallAnswered};
 ghost use Rattle.certify.specs.Certify.{certifyRefusal, certifyOutcome, certifyTable};
 
 // The checks of a well-formed state: 15, 10, 14, and those of the signers.
-fn refusal_of(cache: &[u64], s: State, t: &[u32], e: u16) -> u32
+fn formed_refusal(cache: &[u64], s: State, t: &[u32], e: u16) -> u32
     requires { ⌜ Formed s (now t) × CachesFor s (now t) (now cache) ⌝ }
     ensures { λ v. ⌜ v ≡ refusal (certifying (s .settings) (s .own .0) (view s (now (t .entry))) e (view s (now (t .entry)) .proposal)) ⌝ }
 {
@@ -38,7 +38,7 @@ fn certify_refusal(formed: bool, cache: &[u64], s: State, t: &[u32], e: u16) -> 
     if !formed {
         return 1;
     }
-    refusal_of(cache, s, t, e)
+    formed_refusal(cache, s, t, e)
 }
 
 // The call, where it is told whether the state is well formed, and committees may be cached.

@@ -12,7 +12,7 @@ use Rattle.base.proofs.CheckLaws.{numbered, refuses, passes, first-refuses, fir
 use Rattle.base.specs.Sets.{isIn, add}
 use Rattle.terms.specs.declared.Body.{Body}
 use Rattle.terms.specs.declared.Proposal.{Proposal}
-use Rattle.terms.specs.Proposals.{contentWith, contentOf, same}
+use Rattle.terms.specs.Proposals.{contentWith, contentOf, sameProposal}
 use Rattle.store.specs.Table.{Within, heldAt, endorsedAt, contentAt}
 use Rattle.writes.specs.Writes.{putCertificate}
 use Rattle.writes.proofs.PutLaws.{length-put}
@@ -28,7 +28,7 @@ use Rattle.state.proofs.WriteLaws.{Storable}
 use Rattle.state.proofs.PreservedLaws.{storable}
 use Rattle.state.specs.View.{view}
 use Rattle.state.proofs.ViewLaws.{held-dag, same-dag, endorsed-at, proposal-none, proposal-some, held-proposal}
-use Rattle.checks.specs.SharedChecks.{formChecks, signerChecks, Fits}
+use Rattle.checks.specs.SharedChecks.{formChecks, signerChecks, FormFits}
 
 -- ---- a piece and the checks after it
 
@@ -51,14 +51,14 @@ module _ (s : State) (t : List ℕ) where
   -- ---- places
 
   -- what checks 4 to 7 let pass
-  pub form-fits : (p : Proposal) → refusal (formChecks (s .settings) (contentOf p)) ≡ 0 → Fits s p
+  pub form-fits : (p : Proposal) → refusal (formChecks (s .settings) (contentOf p)) ≡ 0 → FormFits s p
   form-fits p h =
       passed (formChecks (s .settings) (contentOf p)) (form-numbered p) h λ h4 h5 h6 h7.
       let a = ltb-false 15 (p .author .0) h4 in
       let r = round-fits (s .settings) (p .round .0) h5 in
       record { author = omega arith; from = r .0; to = r .1; body = body-fits (s .settings .allowance) (p .round .0) (p .body) h6 h7 }
 
-  pub fits-within : (p : Proposal) → Formed s t → Fits s p → Within t (p .author .0) (p .round .0)
+  pub fits-within : (p : Proposal) → Formed s t → FormFits s p → Within t (p .author .0) (p .round .0)
   fits-within p f q = let h = f .long in let l = q .to in record { member = q .author; row = omega arith }
 
   pub own-within : Formed s t → Within t (s .own .0) (s .round .0)
@@ -67,7 +67,7 @@ module _ (s : State) (t : List ℕ) where
   -- ---- check 10
 
   -- of endorse: the place is held or endorsed
-  pub place-taken : (p : Proposal) → Fits s p
+  pub place-taken : (p : Proposal) → FormFits s p
       → (isHeld (view s t .dag (p .author .0) (p .round .0)) || view s t .endorsed (p .author .0) (p .round .0)) ≡ (heldAt t (p .author .0) (p .round .0) || endorsedAt t (p .author .0) (p .round .0))
   place-taken p q =
       let n = s .settings .ceiling .0 in
@@ -79,12 +79,12 @@ module _ (s : State) (t : List ℕ) where
 
   -- ---- accept
 
-  module _ (p : Proposal) (e : ℕ) (q : Fits s p) where
-    pub place-same : heldAt t (p .author .0) (p .round .0) ≡ true → same (contentOf p) (contentAt t (p .author .0) (p .round .0)) ≡ true
+  module _ (p : Proposal) (e : ℕ) (q : FormFits s p) where
+    pub place-same : heldAt t (p .author .0) (p .round .0) ≡ true → sameProposal (contentOf p) (contentAt t (p .author .0) (p .round .0)) ≡ true
         → refusal (drop 5 (accepting (s .settings) (view s t) (contentOf p) e)) ≡ 16
     place-same h k = refuses 16 _ (same-dag (s .settings .ceiling .0) t (p .author .0) (p .round .0) (q .from) (q .to) (contentOf p) ∙ rw (h, k) refl)
 
-    pub place-other : heldAt t (p .author .0) (p .round .0) ≡ true → same (contentOf p) (contentAt t (p .author .0) (p .round .0)) ≡ false
+    pub place-other : heldAt t (p .author .0) (p .round .0) ≡ true → sameProposal (contentOf p) (contentAt t (p .author .0) (p .round .0)) ≡ false
         → refusal (drop 5 (accepting (s .settings) (view s t) (contentOf p) e)) ≡ 17
     place-other h k =
         passes 16 _ (same-dag (s .settings .ceiling .0) t (p .author .0) (p .round .0) (q .from) (q .to) (contentOf p) ∙ rw (h, k) refl)
@@ -123,7 +123,7 @@ module _ (s : State) (t : List ℕ) where
 -- ---- what can be stored
 
 -- a proposal that passed the checks of its form has a place
-pub placed : (s : State) (t : List ℕ) (p : Proposal) → Formed s t → Fits s p → p .body .previous < 65536 → Storable (s .settings .ceiling .0) (contentOf p)
+pub placed : (s : State) (t : List ℕ) (p : Proposal) → Formed s t → FormFits s p → p .body .previous < 65536 → Storable (s .settings .ceiling .0) (contentOf p)
 placed s t p f k small = storable (s .settings .ceiling .0) (s .settings .allowance) (p .author .0) (p .round .0) (p .body) (k .author) (k .from) (k .to) (f .settings .allowance-to) (k .body) small
 
 -- and so has one's own

@@ -29,7 +29,7 @@ module _ (S : Settings) where
   signerChecks s r signers = (unknown S s r, 8) ∷ (outsider (committeeIn S s r) (isIn signers), 9) ∷ (short (marginOf S) (committeeIn S s r) (isIn signers), 13) ∷ []
 
 -- author, round and body of a proposal that passes checks 4, 5, 6, 7
-pub record Fits (s : State) (p : Proposal) : Type 0 where
+pub record FormFits (s : State) (p : Proposal) : Type 0 where
   pub author : p .author .0 < 16
   pub from : 0 < p .round .0
   pub to : p .round .0 ≤ s .settings .ceiling .0
@@ -44,5 +44,5 @@ pub record RoundFits (s : State) (t : List ℕ) (r : ℕ) : Type 0 where
 -- a proposal that fits a well-formed state, with committees cached for it
 pub record ProposalFits (s : State) (t cache : List ℕ) (p : Proposal) : Type 0 where
   pub formed : Formed s t
-  pub fits : Fits s p
+  pub fits : FormFits s p
   pub caches : CachesFor s t cache

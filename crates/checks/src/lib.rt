@@ -75,7 +75,7 @@ pub fn lacks_previous(s: State, t: &[u32], p: Proposal) -> bool
     !base::is_subset(p.body.previous as u32, held)
 }
 
-// Check 12 above round 1: is the previous set no quorum of w, the committee of the round before, by the divisor d?
+// Check 12 above round 1: is the previous set no quorum of w, the committee of the round before, by the margin d?
 pub fn lacks_previous_quorum(d: u32, w: &[u64; 16], p: Proposal) -> bool
     requires { ⌜ MarginFits d × TotalBounded (now w) ⌝ }
     ensures { λ v. ⌜ v ≡ above (p .round .0) (not (quorum d (weightIn (now (w .entry))) (isIn (p .body .previous)))) ⌝ }

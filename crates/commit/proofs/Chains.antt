@@ -15,7 +15,7 @@ use Rattle.agreement.specs.Dag.{isHeld, Held}
 use Rattle.agreement.proofs.DagLaws.{held-by, on-place}
 use Rattle.agreement.proofs.HistoryLaws.{history-held}
 use Rattle.agreement.specs.Commits.{committed}
-use Rattle.agreement.specs.Marks.{Fits, chainOf, markBlock, roundsOf, marksOf}
+use Rattle.agreement.specs.Marks.{MarksFit, markedChain, markBlock, roundsOf, marksOf}
 use Rattle.agreement.proofs.MarkLaws.{marks-committed}
 use Rattle.store.specs.Table.{Row, markAt, blockRound}
 use Rattle.writes.proofs.MarkLaws.{OnlyMarks}
@@ -61,7 +61,7 @@ module _ {R : Rules} (s : View R) where
   marks-in t a q = refl
 
   abbrev pub chainIn : List ℕ → ℕ → Chain (R .P)
-  chainIn t n = chainOf (s .dag) (marksIn t) (roundsIn t n)
+  chainIn t n = markedChain (s .dag) (marksIn t) (roundsIn t n)
 
 module _ {R : Rules} {s : View R} {c : ℕ} {t : List ℕ} (S : Shows s c t) where
   open Rules R using (P, author, round)
@@ -151,7 +151,7 @@ module _ {R : Rules} {s : View R} {c k : ℕ} {l t : List ℕ} {x : R .P} (W : R
       commit-each m (round x) k l t (W .few) (W .above) Made (record { marks = rw e refl; rounds = rw e refl }) made passed
 
   -- the chain that the table shows after the commit is the chain that the theory's commit makes
-  pub commit-chain : Fits s (marksIn s t) k → s .chain ≡ chainIn s t k → chainIn s (commitTable m (round x) k l t) (commitCount m (round x) k l t) ≡ committed s x
+  pub commit-chain : MarksFit s (marksIn s t) k → s .chain ≡ chainIn s t k → chainIn s (commitTable m (round x) k l t) (commitCount m (round x) k l t) ≡ committed s x
   commit-chain fits chain =
-      let f : Fits s (marksIn s t) (length (roundsIn t k)) = rw (rounds-length t k) fits in
+      let f : MarksFit s (marksIn s t) (length (roundsIn t k)) = rw (rounds-length t k) fits in
       rw (all-made .marks, all-made .rounds, anchors-left W) (marks-committed (W .shows .placed) (marksIn s t) (roundsIn t k) f chain x (W .held))

@@ -13,7 +13,7 @@ use Rattle.base.specs.Sets.{isIn}
 use Rattle.base.proofs.SetLaws.{in-member}
 use Rattle.agreement.specs.Commits.{anchorAt, committed}
 use Rattle.terms.specs.Proposals.{Content}
-use Rattle.store.specs.Table.{used, heldSet, contentAt}
+use Rattle.store.specs.Table.{usedLength, heldSet, contentAt}
 use Rattle.store.proofs.TableLaws.{held-in, content-author, content-round, certificate-present, certificate-absent}
 use Rattle.writes.proofs.MarkLaws.{OnlyMarks, certificate-marked, endorsed-marked}
 use Rattle.committee.specs.Chain.{chainOf}
@@ -102,7 +102,7 @@ module _ (s : State) (t : List ℕ) (ok : commitRefusal s t ≡ 0) where
       }
 
   -- only marks and block rounds change, in the rows of the state
-  pub only-marks : OnlyMarks (used n) t (committedTable s t)
+  pub only-marks : OnlyMarks (usedLength n) t (committedTable s t)
   unfolding committedTable
   only-marks =
       let y = accepted s t ok in

@@ -8,7 +8,7 @@ use native.Mathlib.Decide.{ℕ-discrete, decLt}
 use native.Mathlib.Omega.{arith}
 use lib.ListN.{getD, length, drop}
 use Rattle.base.proofs.SetLaws.{in-member}
-use Rattle.store.specs.Table.{used, Row, blockRound, heldAt, markAt}
+use Rattle.store.specs.Table.{usedLength, Row, blockRound, heldAt, markAt}
 use Rattle.store.proofs.TableLaws.{held-member}
 use Rattle.writes.proofs.MarkLaws.{beyond-marked}
 use Rattle.scan.specs.Scan.{rowsFit}
@@ -145,5 +145,5 @@ module _ (s : State) (t : List ℕ) (ok : commitRefusal s t ≡ 0) where
   -- ---- the table
 
   -- words beyond the rounds of the state stay
-  pub beyond-commit : (length u ≡ length t) × (drop (used n) u ≡ drop (used n) t)
+  pub beyond-commit : (length u ≡ length t) × (drop (usedLength n) u ≡ drop (usedLength n) t)
   beyond-commit = (only-marks s t ok .size, beyond-marked (only-marks s t ok))

@@ -10,7 +10,7 @@ use Rattle.base.proofs.Bools.{cond-same}
 use Rattle.base.specs.Sets.{isIn}
 use Rattle.agreement.specs.Dag.{isHeld}
 use Rattle.agreement.proofs.DagLaws.{held-by}
-use Rattle.agreement.specs.Marks.{Fits}
+use Rattle.agreement.specs.Marks.{MarksFit}
 use Rattle.terms.specs.Proposals.{Content}
 use Rattle.store.specs.Table.{markAt, certificateAt}
 use Rattle.store.proofs.TableLaws.{content-previous}
@@ -48,7 +48,7 @@ module _ (s : State) (t : List ℕ) where
       }
 
   -- every mark of a held certificate names a block
-  pub marks-fit : Formed s t → Fits v (marksIn v t) (s .blocks)
+  pub marks-fit : Formed s t → MarksFit v (marksIn v t) (s .blocks)
   marks-fit f =
       record {
         range = λ a q. rw (marks-in v t a q) (range a q (isHeld (v .dag a q)) refl);
@@ -75,7 +75,7 @@ module _ (s : State) (t : List ℕ) where
 
     -- is the one that the table shows
     pub chain-shown : (k : ℕ) → chainOf n u k ≡ chainIn v u k
-    unfolding marks.chainOf
+    unfolding marks.markedChain
     chain-shown zero = rw (rounds-none u) (chain-none n u)
     chain-shown (suc k) =
         rw (rounds-more u k, rounds-length u k)

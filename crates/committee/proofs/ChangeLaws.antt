@@ -6,7 +6,7 @@ use Rattle.base.specs.Folds.{foldTo, tab}
 use Rattle.agreement.specs.Rules.{Block}
 use Rattle.terms.specs.declared.Transaction.{Transaction}
 use Rattle.terms.specs.Proposals.{Content}
-use Rattle.committee.specs.Changes.{change, changes, changesOf, listed, row, rows}
+use Rattle.committee.specs.Changes.{change, changes, changesOf, atMostOne, row, rows}
 
 changes-append : (l m : List Transaction) (w : List ℕ) → changes (l ++ m) w ≡ changes m (changes l w)
 unfolding changes
@@ -33,17 +33,17 @@ pub changes-one : (p : Content) (w : List ℕ) → changesOf (p ∷ []) w ≡ ch
 unfolding changesOf
 changes-one p w = refl
 
-row-changes : (b : Block Content) (a r n : ℕ) (w : List ℕ) → changesOf (row b a r n) w ≡ foldTo (λ m. changesOf (listed (b .holds ((a + m) % 16) r))) n w
+row-changes : (b : Block Content) (a r n : ℕ) (w : List ℕ) → changesOf (row b a r n) w ≡ foldTo (λ m. changesOf (atMostOne (b .holds ((a + m) % 16) r))) n w
 unfolding row foldTo changesOf
 row-changes b a r zero w = refl
 row-changes b a r (suc n) w =
-    changes-of-append (row b a r n) (listed (b .holds ((a + n) % 16) r)) w ∙ ap (changesOf (listed (b .holds ((a + n) % 16) r))) (row-changes b a r n w)
+    changes-of-append (row b a r n) (atMostOne (b .holds ((a + n) % 16) r)) w ∙ ap (changesOf (atMostOne (b .holds ((a + n) % 16) r))) (row-changes b a r n w)
 
 -- by round, then numbers from a on
-pub rows-changes : (b : Block Content) (a n : ℕ) (w : List ℕ) → changesOf (rows b a n) w ≡ foldTo (λ r. foldTo (λ m. changesOf (listed (b .holds ((a + m) % 16) (suc r)))) 16) n w
+pub rows-changes : (b : Block Content) (a n : ℕ) (w : List ℕ) → changesOf (rows b a n) w ≡ foldTo (λ r. foldTo (λ m. changesOf (atMostOne (b .holds ((a + m) % 16) (suc r)))) 16) n w
 unfolding rows foldTo changesOf
 rows-changes b a zero w = refl
 rows-changes b a (suc n) w =
     changes-of-append (rows b a n) (row b a (suc n) 16) w
     ∙ row-changes b a (suc n) 16 (changesOf (rows b a n) w)
-    ∙ ap (foldTo (λ m. changesOf (listed (b .holds ((a + m) % 16) (suc n)))) 16) (rows-changes b a n w)
+    ∙ ap (foldTo (λ m. changesOf (atMostOne (b .holds ((a + m) % 16) (suc n)))) 16) (rows-changes b a n w)

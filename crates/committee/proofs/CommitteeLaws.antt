@@ -37,7 +37,7 @@ weigh-le w S i n h =
 pub margin-fits : (S : Settings) → MarginFits (marginOf S)
 margin-fits S = record { from = omega arith; to = omega arith }
 
--- by any divisor in its range, less than a third of a total may be faulty
+-- by any margin in its range, less than a third of a total may be faulty
 pub bound-low : {d : ℕ} → MarginFits d → (n : ℕ) → 3 * boundOf d n ≤ n - 1
 unfolding boundOf
 bound-low {d} f n = go (ℕ-discrete d 3) (ℕ-discrete d 4)

@@ -8,7 +8,7 @@ use mathlib.Core.Option.{none}
 use Rattle.sheet.specs.declared.Settings.{Settings}
 use Rattle.sheet.specs.Ranges.{weightIn}
 use Rattle.terms.specs.Proposals.{Content}
-use Rattle.committee.specs.Changes.{listed, row, rows}
+use Rattle.committee.specs.Changes.{atMostOne, row, rows}
 use Rattle.committee.specs.Committees.{leaderBy, committeeOf, startOf, ordered}
 use Rattle.committee.specs.Leaders.{leaderOf}
 
@@ -17,7 +17,7 @@ module _ (b : Block Content) (a : ℕ) where
   unfolding row
   row-none r = refl
 
-  pub row-more : (r m : ℕ) → row b a r (suc m) ≡ row b a r m ++ listed (b .holds ((a + m) % 16) r)
+  pub row-more : (r m : ℕ) → row b a r (suc m) ≡ row b a r m ++ atMostOne (b .holds ((a + m) % 16) r)
   unfolding row
   row-more r m = refl
 
@@ -53,9 +53,9 @@ ordered-unled S b c e = rw e (rows-rise b (S .ceiling .0))
 -- the certificates of the n keys from 16 on: the first round is 1
 unfoldable pub byKeys : Block Content → ℕ → ℕ → List Content
 byKeys b a zero = []
-byKeys b a (suc n) = byKeys b a n ++ listed (b .holds ((n + 16 + a) % 16) ((n + 16) / 16))
+byKeys b a (suc n) = byKeys b a n ++ atMostOne (b .holds ((n + 16 + a) % 16) ((n + 16) / 16))
 
-keys-more : (b : Block Content) (a n : ℕ) → byKeys b a (suc n) ≡ byKeys b a n ++ listed (b .holds ((n + 16 + a) % 16) ((n + 16) / 16))
+keys-more : (b : Block Content) (a n : ℕ) → byKeys b a (suc n) ≡ byKeys b a n ++ atMostOne (b .holds ((n + 16 + a) % 16) ((n + 16) / 16))
 unfolding byKeys
 keys-more b a n = refl
 
@@ -66,7 +66,7 @@ keys-row b a r (suc n) h =
     let e : r * 16 + suc n ≡ suc (r * 16 + n) = omega arith in
     let i : (r * 16 + n + 16 + a) % 16 ≡ (a + n) % 16 = omega arith in
     let j : (r * 16 + n + 16) / 16 ≡ suc r = omega arith in
-    rw (e, keys-more b a (r * 16 + n), i, j, keys-row b a r n (omega arith)) (append-assoc (byKeys b a (r * 16)) (row b a (suc r) n) (listed (b .holds ((a + n) % 16) (suc r))))
+    rw (e, keys-more b a (r * 16 + n), i, j, keys-row b a r n (omega arith)) (append-assoc (byKeys b a (r * 16)) (row b a (suc r) n) (atMostOne (b .holds ((a + n) % 16) (suc r))))
 
 pub rows-keys : (b : Block Content) (a n : ℕ) → rows b a n ≡ byKeys b a (n * 16)
 unfolding rows byKeys

@@ -27,14 +27,14 @@ unfoldable pub changesOf : List Content → List ℕ → List ℕ
 changesOf [] w = w
 changesOf (p ∷ l) w = changesOf l (changes (p .transactions) w)
 
-abbrev pub listed : Option Content → List Content
-listed none = []
-listed (some p) = p ∷ []
+abbrev pub atMostOne : Option Content → List Content
+atMostOne none = []
+atMostOne (some p) = p ∷ []
 
 -- the certificates of round r by n members: numbers rise from that of a, with 0 after 15
 unfoldable pub row : Block Content → ℕ → ℕ → ℕ → List Content
 row b a r zero = []
-row b a r (suc n) = row b a r n ++ listed (b .holds ((a + n) % 16) r)
+row b a r (suc n) = row b a r n ++ atMostOne (b .holds ((a + n) % 16) r)
 
 -- those of the rounds 1 to n, by round
 unfoldable pub rows : Block Content → ℕ → ℕ → List Content

@@ -45,12 +45,12 @@ ordered S b c = rows b (startOf S b c) (S .ceiling .0)
 unfoldable pub knownBy : Settings → Chain Content → ℕ → Bool
 knownBy S c r = leb r (S .lookback + (last c + 2))
 
--- a divisor of fault bounds in its range
+-- a margin in its range
 pub record MarginFits (d : ℕ) : Type 0 where
   pub from : 3 ≤ d
   pub to : d ≤ 5
 
--- the fault bound of a total weight n, by the divisor d
+-- the fault bound of a total weight n, by the margin d
 unfoldable pub boundOf : ℕ → ℕ → ℕ
 boundOf d n = (n - 1) / d
 

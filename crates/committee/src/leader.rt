@@ -42,7 +42,7 @@ fn one(set: u32, m: Member) -> u32
 }
 
 // How many are in the set.
-fn count(set: u32) -> u32
+fn size(set: u32) -> u32
     ensures { λ v. ⌜ v ≡ countBelow (isIn set) 16 ⌝ }
 {
     let mut n: u32 = 0;
@@ -77,7 +77,7 @@ pub fn leader(w: &[u64; 16], r: Round) -> Member
         return Member(16);
     }
     let set = member_set(w);
-    let n = count(set);
+    let n = size(set);
     if n == 0 {
         return Member(16);
     }

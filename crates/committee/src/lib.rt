@@ -60,7 +60,7 @@ pub fn set_weight(w: &[u64; 16], set: u32) -> Weight
     Weight(sum)
 }
 
-// The fault bound of a total weight, by the divisor d.
+// The fault bound of a total weight, by the margin d.
 pub fn fault_bound(d: u32, n: Weight) -> Weight
     requires { ⌜ MarginFits d ⌝ }
     ensures { λ v. ⌜ v .0 ≡ boundOf d (n .0) ⌝ }

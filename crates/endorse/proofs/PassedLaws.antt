@@ -15,12 +15,12 @@ use Rattle.state.specs.Formed.{Formed}
 use Rattle.state.proofs.FormedLaws.{formed, body-fits}
 use Rattle.state.proofs.RefusalLaws.{refusal-passed}
 use Rattle.endorse.specs.Endorse.{endorseRefusal}
-use Rattle.checks.specs.SharedChecks.{Fits}
+use Rattle.checks.specs.SharedChecks.{FormFits}
 
 module _ (s : State) (t : List ℕ) where
   pub record EndorsePassed (p : Proposal) : Type 0 where
     pub formed : Formed s t
-    pub fits : Fits s p
+    pub fits : FormFits s p
 
   pub endorse-passed : (p : Proposal) → endorseRefusal s t p ≡ 0 → EndorsePassed p
   unfolding endorseRefusal numbered

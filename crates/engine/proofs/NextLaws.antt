@@ -33,13 +33,13 @@ use Rattle.commit.proofs.CommitLaws.{view-commit}
 use Rattle.commit.proofs.PreservedLaws.{formed-commit, beyond-commit}
 use Rattle.engine.specs.Calls.{Aside, opens, propose, endorse, certify, accept, advance, commit, aside, InRange}
 use Rattle.engine.specs.Engine.{Engine, refusalFor}
-use Rattle.engine.specs.Steps.{viewAt, ruled, Fresh, Next, SetInRange}
+use Rattle.engine.specs.Steps.{viewAt, ruled, FreshlyOpened, AsRuled, SetInRange}
 use Rattle.engine.proofs.AfterLaws.{renewed}
 
 module _ (e : Engine) where
   open Engine e using (state, table)
 
-  pub open-fresh : (own : Member) (sheet : Sheet) → refusalFor e (opens own sheet) ≡ 0 → Fresh own sheet e (renewed e (opens own sheet))
+  pub open-fresh : (own : Member) (sheet : Sheet) → refusalFor e (opens own sheet) ≡ 0 → FreshlyOpened own sheet e (renewed e (opens own sheet))
   open-fresh own sheet a =
       let k = opened table own (filled sheet) a in
       record {
@@ -51,7 +51,7 @@ module _ (e : Engine) where
         beyond = cleared-beyond table (filled sheet .ceiling .0);
       }
 
-  pub propose-next : (b : Body) → b .previous < 65536 → refusalFor e (propose b) ≡ 0 → Next e (propose b) (renewed e (propose b))
+  pub propose-next : (b : Body) → b .previous < 65536 → refusalFor e (propose b) ≡ 0 → AsRuled e (propose b) (renewed e (propose b))
   propose-next b r a =
       let k = propose-passed state table b a in
       record {
@@ -65,7 +65,7 @@ module _ (e : Engine) where
 
   -- of calls that leave the state: the previous set in it stays in range
   module _ (low : SetInRange e) where
-    pub endorse-next : (p : Proposal) → p .body .previous < 65536 → refusalFor e (endorse p) ≡ 0 → Next e (endorse p) (renewed e (endorse p))
+    pub endorse-next : (p : Proposal) → p .body .previous < 65536 → refusalFor e (endorse p) ≡ 0 → AsRuled e (endorse p) (renewed e (endorse p))
     endorse-next p r a =
         let k = endorse-passed state table p a in
         record {
@@ -77,7 +77,7 @@ module _ (e : Engine) where
           beyond = endorse-beyond (set-endorsed table (p .author .0) (p .round .0)) (state .settings .ceiling .0) (k .fits .to);
         }
 
-    pub certify-next : (d : ℕ) → d < 65536 → refusalFor e (certify d) ≡ 0 → Next e (certify d) (renewed e (certify d))
+    pub certify-next : (d : ℕ) → d < 65536 → refusalFor e (certify d) ≡ 0 → AsRuled e (certify d) (renewed e (certify d))
     certify-next d r a =
         let k = certify-passed state table d a in
         let p = contentWith (state .own .0) (state .round .0) (state .body) in
@@ -92,7 +92,7 @@ module _ (e : Engine) where
           beyond = put-beyond table p d (own-within state table (k .formed)) (state .settings .ceiling .0) (k .formed .numbers .round-to);
         }
 
-    pub accept-next : (c : Certificate) → InRange (accept c) → refusalFor e (accept c) ≡ 0 → Next e (accept c) (renewed e (accept c))
+    pub accept-next : (c : Certificate) → InRange (accept c) → refusalFor e (accept c) ≡ 0 → AsRuled e (accept c) (renewed e (accept c))
     accept-next c r a =
         let k = accept-passed state table c a in
         let p = c .proposal in
@@ -110,7 +110,7 @@ module _ (e : Engine) where
               ∙ put-beyond table (contentOf p) (c .endorsers) (fits-within state table p (k .formed) f) (state .settings .ceiling .0) (f .to);
         }
 
-    pub advance-next : refusalFor e advance ≡ 0 → Next e advance (renewed e advance)
+    pub advance-next : refusalFor e advance ≡ 0 → AsRuled e advance (renewed e advance)
     advance-next a =
         let k = advance-passed state table a in
         record {
@@ -122,7 +122,7 @@ module _ (e : Engine) where
           beyond = refl;
         }
 
-    pub commit-next : refusalFor e commit ≡ 0 → Next e commit (renewed e commit)
+    pub commit-next : refusalFor e commit ≡ 0 → AsRuled e commit (renewed e commit)
     commit-next a =
         record {
           same-own = refl;
@@ -133,7 +133,7 @@ module _ (e : Engine) where
           beyond = beyond-commit state table a .1;
         }
 
-    pub aside-next : (x : Aside) → wellFormed state table ≡ true → Next e (aside x) e
+    pub aside-next : (x : Aside) → wellFormed state table ≡ true → AsRuled e (aside x) e
     aside-next x w =
         record {
           same-own = refl;

@@ -9,8 +9,8 @@ use Rattle.terms.specs.declared.Member.{Member}
 use Rattle.sheet.specs.declared.Settings.{Settings}
 use Rattle.rules.specs.Tests.{MemberView}
 use Rattle.rules.specs.Calls as rules
-use Rattle.rules.specs.Calls.{verdict, result}
-use Rattle.rules.proofs.CallLaws.{verdict-checks, after-read, result-refused, result-accepted}
+use Rattle.rules.specs.Calls.{ruledRefusal, result}
+use Rattle.rules.proofs.CallLaws.{ruled-refusal, after-read, result-refused, result-accepted}
 use Rattle.state.specs.View.{view}
 use Rattle.state.specs.WellFormed.{wellFormed}
 use Rattle.state.proofs.RefusalLaws.{refusal-formed}
@@ -22,15 +22,15 @@ use Rattle.advance.specs.Advance.{advanceRefusal}
 use Rattle.commit.specs.Commit.{commitRefusal}
 use Rattle.engine.specs.Calls.{Call, opens, propose, endorse, certify, accept, advance, commit, aside, InRange}
 use Rattle.engine.specs.Engine.{Engine, refusalFor, after}
-use Rattle.engine.specs.Steps.{viewAt, ruled, Fresh, Next, Step, refused, opened, moved}
+use Rattle.engine.specs.Steps.{viewAt, ruled, FreshlyOpened, AsRuled, Step, refused, opened, moved}
 use Rattle.engine.specs.Sequences.{NoOpen}
 use Rattle.engine.specs.Reached.{Good}
 use Rattle.engine.proofs.StepLaws.{every-step}
 
 -- the rules refuse no read, and a read leaves the view
 module _ (S : Settings) (k : ℕ) (s : MemberView S) where
-  read-passes : verdict S k s rules.read ≡ 0
-  read-passes = verdict-checks S k s rules.read ∙ passes-all
+  read-passes : ruledRefusal S k s rules.read ≡ 0
+  read-passes = ruled-refusal S k s rules.read ∙ passes-all
 
   read-leaves : result S k s rules.read ≡ s
   read-leaves = result-accepted S k s rules.read read-passes ∙ after-read S k s
@@ -40,10 +40,10 @@ module _ (e : Engine) (w : wellFormed (e .state) (e .table) ≡ true) where
 
   -- the rules refuse the call with the same number, or have it for a read
   abbrev Ruling : Call → Type 0
-  Ruling c = (refusalFor e c ≡ verdict (state .settings) (state .own .0) (view state table) (ruled c)) ⊎ (ruled c ≡ rules.read)
+  Ruling c = (refusalFor e c ≡ ruledRefusal (state .settings) (state .own .0) (view state table) (ruled c)) ⊎ (ruled c ≡ rules.read)
 
-  by-rules : (c : rules.Call) → refusal (rules.checks (state .settings) (state .own .0) (view state table) c) ≡ verdict (state .settings) (state .own .0) (view state table) c
-  by-rules c = sym (verdict-checks (state .settings) (state .own .0) (view state table) c)
+  by-rules : (c : rules.Call) → refusal (rules.checks (state .settings) (state .own .0) (view state table) c) ≡ ruledRefusal (state .settings) (state .own .0) (view state table) c
+  by-rules c = sym (ruled-refusal (state .settings) (state .own .0) (view state table) c)
 
   ruling : (c : Call) → Ruling c
   unfolding proposeRefusal endorseRefusal certifyRefusal acceptRefusal advanceRefusal commitRefusal
@@ -57,10 +57,10 @@ module _ (e : Engine) (w : wellFormed (e .state) (e .table) ≡ true) where
   ruling (aside x) = inr refl
 
   -- the rules let an accepted call pass
-  accepted-passes : (c : Call) → refusalFor e c ≡ 0 → verdict (state .settings) (state .own .0) (view state table) (ruled c) ≡ 0
+  accepted-passes : (c : Call) → refusalFor e c ≡ 0 → ruledRefusal (state .settings) (state .own .0) (view state table) (ruled c) ≡ 0
   accepted-passes c a = go (ruling c)
     where
-      go : Ruling c → verdict (state .settings) (state .own .0) (view state table) (ruled c) ≡ 0
+      go : Ruling c → ruledRefusal (state .settings) (state .own .0) (view state table) (ruled c) ≡ 0
       go (inl h) = sym h ∙ a
       go (inr h) = rw h (read-passes (state .settings) (state .own .0) (view state table))
 
@@ -80,12 +80,12 @@ module _ {S : Settings} {k : ℕ} {e : Engine} (g : Good S k e) where
   as-given P = subst₂ P (g .settings) (g .own)
 
   -- the number that refuses a call is the rules'; a call that the rules have for a read is refused with a number of its own
-  pub refusal-ruled : (c : Call) → (refusalFor e c ≡ verdict S k (viewAt S e) (ruled c)) ⊎ (ruled c ≡ rules.read)
-  refusal-ruled c = as-given (λ T i. (refusalFor e c ≡ verdict T i (viewAt T e) (ruled c)) ⊎ (ruled c ≡ rules.read)) (ruling e (g .formed) c)
+  pub refusal-ruled : (c : Call) → (refusalFor e c ≡ ruledRefusal S k (viewAt S e) (ruled c)) ⊎ (ruled c ≡ rules.read)
+  refusal-ruled c = as-given (λ T i. (refusalFor e c ≡ ruledRefusal T i (viewAt T e) (ruled c)) ⊎ (ruled c ≡ rules.read)) (ruling e (g .formed) c)
 
   -- the rules let an accepted call pass
-  pub accepted-verdict : (c : Call) → refusalFor e c ≡ 0 → verdict S k (viewAt S e) (ruled c) ≡ 0
-  accepted-verdict c a = as-given (λ T i. verdict T i (viewAt T e) (ruled c) ≡ 0) (accepted-passes e (g .formed) c a)
+  pub accepted-ruled : (c : Call) → refusalFor e c ≡ 0 → ruledRefusal S k (viewAt S e) (ruled c) ≡ 0
+  accepted-ruled c a = as-given (λ T i. ruledRefusal T i (viewAt T e) (ruled c) ≡ 0) (accepted-passes e (g .formed) c a)
 
   module _ (c : Call) (r : InRange c) (o : NoOpen e c) where
     -- an accepted call leaves what the rules say
@@ -115,4 +115,4 @@ module _ {S : Settings} {k : ℕ} {e : Engine} (g : Good S k e) where
             ap (viewAt S) h
             ∙ as-given (λ T i. viewAt T e ≡ result T i (viewAt T e) (ruled c)) (sym (refused-leaves e (g .formed) c n))
         go (opened own sheet q b f) = absurd (o own sheet q b)
-        go (moved b w n) = accepted-view b ∙ sym (result-accepted S k (viewAt S e) (ruled c) (accepted-verdict c b))
+        go (moved b w n) = accepted-view b ∙ sym (result-accepted S k (viewAt S e) (ruled c) (accepted-ruled c b))

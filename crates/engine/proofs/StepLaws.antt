@@ -15,7 +15,7 @@ use Rattle.advance.proofs.PassedLaws.{advance-passed}
 use Rattle.commit.proofs.CheckLaws as commits
 use Rattle.engine.specs.Calls.{Aside, Call, opens, propose, endorse, certify, accept, advance, commit, aside, InRange}
 use Rattle.engine.specs.Engine.{Engine, refusalFor, after, asideChecks}
-use Rattle.engine.specs.Steps.{Next, Step, refused, opened, moved, SetInRange, EveryStep}
+use Rattle.engine.specs.Steps.{AsRuled, Step, refused, opened, moved, SetInRange, EveryStep}
 use Rattle.engine.proofs.AfterLaws.{renewed, refused-same, accepted-new}
 use Rattle.engine.proofs.NextLaws.{open-fresh, propose-next, endorse-next, certify-next, accept-next, advance-next, commit-next, aside-next}
 
@@ -26,8 +26,8 @@ module _ (e : Engine) (low : SetInRange e) where
   aside-formed : (x : Aside) → refusalFor e (aside x) ≡ 0 → wellFormed state table ≡ true
   aside-formed x a = not-false (wellFormed state table) (cleared (not (wellFormed state table)) 1 (asideChecks e x) (omega arith) a .0)
 
-  by-next : (c : Call) → refusalFor e c ≡ 0 → wellFormed state table ≡ true → Next e c (renewed e c) → Step e c
-  by-next c a w n = moved a w (subst (Next e c) (sym (accepted-new e c a)) n)
+  by-next : (c : Call) → refusalFor e c ≡ 0 → wellFormed state table ≡ true → AsRuled e c (renewed e c) → Step e c
+  by-next c a w n = moved a w (subst (AsRuled e c) (sym (accepted-new e c a)) n)
 
   accepted-step : (c : Call) → InRange c → refusalFor e c ≡ 0 → Step e c
   accepted-step (opens own sheet) r a = opened own sheet refl a (rw (accepted-new e (opens own sheet) a) (open-fresh e own sheet a))

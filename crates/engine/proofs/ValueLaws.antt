@@ -9,7 +9,7 @@ use Rattle.reads.specs.declared.CertificateRead.{CertificateRead}
 use Rattle.reads.specs.Reads.{committeeRefusal, committeeAnswer, certificateRefusal, certificateAnswer}
 use Rattle.engine.specs.Calls.{committee, certificate, Call, aside}
 use Rattle.engine.specs.Engine.{Engine, refusalFor}
-use Rattle.engine.specs.Values.{Value, nothing, weights, held, given, valueOf}
+use Rattle.engine.specs.Values.{Value, nothing, weights, held, acceptedValue, valueOf}
 
 -- a held certificate, as the answer of its read has it
 abbrev pub heldIn : CertificateRead → Value
@@ -17,7 +17,7 @@ heldIn x = held (x .proposal) (x .endorsers) (x .block)
 
 module _ (e : Engine) where
   module _ (c : Call) where
-    pub value-accepted : refusalFor e c ≡ 0 → valueOf e c ≡ given e c
+    pub value-accepted : refusalFor e c ≡ 0 → valueOf e c ≡ acceptedValue e c
     unfolding valueOf
     value-accepted a = rw (eq-eqb (refusalFor e c) 0 a) refl
 

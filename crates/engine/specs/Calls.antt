@@ -7,7 +7,7 @@ use Rattle.terms.specs.declared.Proposal.{Proposal}
 use Rattle.terms.specs.declared.Certificate.{Certificate}
 use Rattle.sheet.specs.declared.Sheet.{Sheet}
 
--- the calls that never touch the view: the reads, and the listing of the chain
+-- the calls that leave state and table as they are: the reads, and the listing of the chain
 pub data Aside : Type 0 where
   committee : Round → Aside
   share : Member → Round → Aside

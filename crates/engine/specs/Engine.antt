@@ -21,7 +21,7 @@ pub record Engine : Type 0 where
   pub state : State
   pub table : List ℕ
 
--- the checks of a call that never touches the view, after check 1
+-- the checks of a call that leaves state and table, after check 1
 abbrev pub asideChecks : Engine → Aside → Checks
 asideChecks e (committee r) = readingCommittee (e .state .settings) (view (e .state) (e .table)) (r .0)
 asideChecks e (share m r) = readingShare (e .state .settings) (view (e .state) (e .table)) (m .0) (r .0)
@@ -40,7 +40,7 @@ refusalFor e advance = advanceRefusal (e .state) (e .table)
 refusalFor e commit = commitRefusal (e .state) (e .table)
 refusalFor e (aside x) = refusal (guarded (e .state) (e .table) (asideChecks e x))
 
--- the state that the call returns, and what the lent table holds then; propose and advance leave the table, and what never touches the view leaves both
+-- the state that the call returns, and what the lent table holds then; propose and advance leave the table, and what stands aside leaves both
 abbrev pub after : Engine → Call → Engine
 after e (opens own sheet) = record { state = openOutcome (e .state) (e .table) own sheet .state; table = openTable (e .table) own sheet }
 after e (propose b) = record { state = proposeOutcome (e .state) (e .table) b .state; table = e .table }

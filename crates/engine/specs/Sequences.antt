@@ -34,5 +34,5 @@ pub record Opening : Type 0 where
   pub accepted : refusalFor before (opens own sheet) ≡ 0
 
 -- the engine after it
-abbrev pub opening : Opening → Engine
-opening x = after (x .before) (opens (x .own) (x .sheet))
+abbrev pub afterOpening : Opening → Engine
+afterOpening x = after (x .before) (opens (x .own) (x .sheet))

@@ -2,11 +2,11 @@
 use mathlib.Core.Path.{_≡_}
 use mathlib.Core.Bool.{true}
 use mathlib.Core.Logic.{_≢_}
-use Prim.Native.Nat.{ℕ, _<_}
+use Prim.Native.Nat.{_<_}
 use lib.ListN.{drop}
 use Rattle.terms.specs.declared.Member.{Member}
 use Rattle.terms.specs.Proposals.{contentOf, transactionsOf}
-use Rattle.store.specs.Table.{used}
+use Rattle.store.specs.Table.{usedLength}
 use Rattle.sheet.specs.declared.Sheet.{Sheet}
 use Rattle.sheet.specs.declared.Settings.{Settings}
 use Rattle.sheet.specs.Sheets.{filled}
@@ -14,7 +14,7 @@ use Rattle.committee.specs.Chain.{chainOf}
 use Rattle.rules.specs.Tests.{MemberView}
 use Rattle.rules.specs.Calls as rules
 use Rattle.state.specs.WellFormed.{wellFormed}
-use Rattle.state.specs.View.{dagOf, endorsedOf, proposalOf}
+use Rattle.state.specs.View.{dagOf, endorsedOf, ownProposal}
 use Rattle.engine.specs.Calls.{Call, opens, propose, endorse, certify, accept, advance, commit, aside, InRange}
 use Rattle.engine.specs.Engine.{Engine, refusalFor, after}
 
@@ -23,7 +23,7 @@ abbrev pub viewAt : (S : Settings) → Engine → MemberView S
 viewAt S e =
     record {
       round = e .state .round .0;
-      proposal = proposalOf (e .state);
+      proposal = ownProposal (e .state);
       dag = dagOf (e .state .settings .ceiling .0) (e .table);
       endorsed = endorsedOf (e .state .settings .ceiling .0) (e .table);
       chain = chainOf (e .state .settings .ceiling .0) (e .table) (e .state .blocks);
@@ -46,10 +46,10 @@ SetInRange e = e .state .body .previous < 65536
 
 -- nothing beyond the part of the table that a state with settings S uses has changed
 abbrev pub BeyondSame : Settings → Engine → Engine → Type 0
-BeyondSame S e x = drop (used (S .ceiling .0)) (x .table) ≡ drop (used (S .ceiling .0)) (e .table)
+BeyondSame S e x = drop (usedLength (S .ceiling .0)) (x .table) ≡ drop (usedLength (S .ceiling .0)) (e .table)
 
 -- x is what an accepted open on e leaves: a well-formed state of round 1 and nothing else
-pub record Fresh (own : Member) (sheet : Sheet) (e x : Engine) : Type 0 where
+pub record FreshlyOpened (own : Member) (sheet : Sheet) (e x : Engine) : Type 0 where
   pub its-own : x .state .own ≡ own
   pub its-settings : x .state .settings ≡ filled sheet
   pub formed : wellFormed (x .state) (x .table) ≡ true
@@ -58,7 +58,7 @@ pub record Fresh (own : Member) (sheet : Sheet) (e x : Engine) : Type 0 where
   pub beyond : BeyondSame (filled sheet) e x
 
 -- x is what any other accepted call c on e leaves: own number and settings as they were, a well-formed state, and the rules' next view
-pub record Next (e : Engine) (c : Call) (x : Engine) : Type 0 where
+pub record AsRuled (e : Engine) (c : Call) (x : Engine) : Type 0 where
   pub same-own : x .state .own ≡ e .state .own
   pub same-settings : x .state .settings ≡ e .state .settings
   pub formed : wellFormed (x .state) (x .table) ≡ true
@@ -69,8 +69,8 @@ pub record Next (e : Engine) (c : Call) (x : Engine) : Type 0 where
 -- every call is refused and changes no word, or is an accepted open, or does what the rules say
 pub data Step (e : Engine) (c : Call) : Type 0 where
   refused : refusalFor e c ≢ 0 → after e c ≡ e → Step e c
-  opened : (own : Member) (sheet : Sheet) → c ≡ opens own sheet → refusalFor e c ≡ 0 → Fresh own sheet e (after e c) → Step e c
-  moved : refusalFor e c ≡ 0 → wellFormed (e .state) (e .table) ≡ true → Next e c (after e c) → Step e c
+  opened : (own : Member) (sheet : Sheet) → c ≡ opens own sheet → refusalFor e c ≡ 0 → FreshlyOpened own sheet e (after e c) → Step e c
+  moved : refusalFor e c ≡ 0 → wellFormed (e .state) (e .table) ≡ true → AsRuled e c (after e c) → Step e c
 
 -- the claim
 abbrev pub EveryStep : Type 0

@@ -26,25 +26,25 @@ pub data Value : Type 0 where
   -- the chain, newest block first
   chain : Chain Content → Value
 
--- of a call that never touches the view
-abbrev pub shown : Engine → Aside → Value
-shown e (committee r) = weights (committeeRead (e .state .settings) (view (e .state) (e .table)) (r .0))
-shown e (share m r) = number (shareRead (e .state .settings) (view (e .state) (e .table)) (m .0) (r .0))
-shown e (certificate m r) = held (reads.shown (view (e .state) (e .table) .dag (m .0) (r .0))) (endorsersAt (e .table) (m .0) (r .0)) (blockNumber (view (e .state) (e .table) .chain) (m .0) (r .0))
-shown e (block n) = number (blockRead (e .state .settings) (view (e .state) (e .table)) n)
-shown e listing = chain (view (e .state) (e .table) .chain)
+-- of a call that leaves state and table
+abbrev pub asideValue : Engine → Aside → Value
+asideValue e (committee r) = weights (committeeRead (e .state .settings) (view (e .state) (e .table)) (r .0))
+asideValue e (share m r) = number (shareRead (e .state .settings) (view (e .state) (e .table)) (m .0) (r .0))
+asideValue e (certificate m r) = held (reads.proposalShown (view (e .state) (e .table) .dag (m .0) (r .0))) (endorsersAt (e .table) (m .0) (r .0)) (blockNumber (view (e .state) (e .table) .chain) (m .0) (r .0))
+asideValue e (block n) = number (blockRead (e .state .settings) (view (e .state) (e .table)) n)
+asideValue e listing = chain (view (e .state) (e .table) .chain)
 
 -- of a call that is accepted
-abbrev pub given : Engine → Call → Value
-given e (opens own sheet) = nothing
-given e (propose b) = nothing
-given e (endorse p) = nothing
-given e (certify d) = nothing
-given e (accept c) = nothing
-given e advance = nothing
-given e commit = number (addedValue (commitOutcome (e .state) (e .table) .answer))
-given e (aside x) = shown e x
+abbrev pub acceptedValue : Engine → Call → Value
+acceptedValue e (opens own sheet) = nothing
+acceptedValue e (propose b) = nothing
+acceptedValue e (endorse p) = nothing
+acceptedValue e (certify d) = nothing
+acceptedValue e (accept c) = nothing
+acceptedValue e advance = nothing
+acceptedValue e commit = number (addedValue (commitOutcome (e .state) (e .table) .answer))
+acceptedValue e (aside x) = asideValue e x
 
 -- a refused call gives none
 unfoldable pub valueOf : Engine → Call → Value
-valueOf e c = cond (eqb (refusalFor e c) 0) (given e c) nothing
+valueOf e c = cond (eqb (refusalFor e c) 0) (acceptedValue e c) nothing

@@ -11,7 +11,7 @@ use lib.Seq.{drop-cons}
 use lib.Dec.{eqb, leb}
 use borrow.Author.Tests.{le-leb, lt-leb, leb-true, ne-eqb}
 use Rattle.base.proofs.Bools.{both}
-use Rattle.fields.specs.Numbers.{isDigit, allDigits, value, plain, numberTo}
+use Rattle.fields.specs.Numbers.{isDigit, allDigits, value, noLeadingZero, numberTo}
 
 -- digits only make a number larger
 pub value-le : (v : ℕ) (f : List ℕ) → v ≤ value v f
@@ -51,50 +51,50 @@ unfolding value
 value-end f i v h = rw (drop-of-length-le f h) refl
 
 -- whether a field has a leading zero, by its length
-pub plain-none : (f : List ℕ) → length f ≡ 0 → plain f ≡ false
-unfolding plain
+pub plain-none : (f : List ℕ) → length f ≡ 0 → noLeadingZero f ≡ false
+unfolding noLeadingZero
 plain-none [] h = refl
 plain-none (b ∷ f) h = absurd (omega arith)
 
-pub plain-one : (f : List ℕ) → length f ≡ 1 → plain f ≡ true
-unfolding plain
+pub plain-one : (f : List ℕ) → length f ≡ 1 → noLeadingZero f ≡ true
+unfolding noLeadingZero
 plain-one [] h = absurd (omega arith)
 plain-one (b ∷ []) h = refl
 plain-one (b ∷ c ∷ f) h = absurd (omega arith)
 
-pub plain-more : (f : List ℕ) → 1 < length f → plain f ≡ not (eqb (getD f 0 0) 48)
-unfolding plain
+pub plain-more : (f : List ℕ) → 1 < length f → noLeadingZero f ≡ not (eqb (getD f 0 0) 48)
+unfolding noLeadingZero
 plain-more [] h = absurd (omega arith)
 plain-more (b ∷ []) h = absurd (omega arith)
 plain-more (b ∷ c ∷ f) h = refl
 
 -- what makes a field no number, and what makes it one
 module _ (m : ℕ) (f : List ℕ) where
-  pub number-zeros : plain f ≡ false → numberTo m f ≡ none
+  pub number-zeros : noLeadingZero f ≡ false → numberTo m f ≡ none
   unfolding numberTo
   number-zeros e = rw e refl
 
-  pub number-other : plain f ≡ true → allDigits f ≡ false → numberTo m f ≡ none
+  pub number-other : noLeadingZero f ≡ true → allDigits f ≡ false → numberTo m f ≡ none
   unfolding numberTo
   number-other p e = rw (p, e) refl
 
-  pub number-large : plain f ≡ true → m < value 0 f → numberTo m f ≡ none
+  pub number-large : noLeadingZero f ≡ true → m < value 0 f → numberTo m f ≡ none
   unfolding numberTo
   number-large p h = rw (p, lt-leb _ _ h, and-false (allDigits f)) refl
 
-  pub number-is : (v : ℕ) → plain f ≡ true → allDigits f ≡ true → value 0 f ≡ v → v ≤ m → numberTo m f ≡ some v
+  pub number-is : (v : ℕ) → noLeadingZero f ≡ true → allDigits f ≡ true → value 0 f ≡ v → v ≤ m → numberTo m f ≡ some v
   unfolding numberTo
   number-is v p d e h = rw (p, d, e, le-leb _ _ h) refl
 
   -- a number is at most its limit
   pub number-le : (n : ℕ) → numberTo m f ≡ some n → n ≤ m
   unfolding numberTo
-  number-le n e = go (plain f && (allDigits f && leb (value 0 f) m)) refl e
+  number-le n e = go (noLeadingZero f && (allDigits f && leb (value 0 f) m)) refl e
     where
-      go : (b : Bool) → (plain f && (allDigits f && leb (value 0 f) m)) ≡ b → cond b (some (value 0 f)) none ≡ some n → n ≤ m
+      go : (b : Bool) → (noLeadingZero f && (allDigits f && leb (value 0 f) m)) ≡ b → cond b (some (value 0 f)) none ≡ some n → n ≤ m
       go true q k =
           let t : value 0 f ≡ n = cc in
-          let l = leb-true (value 0 f) m (both (allDigits f) (leb (value 0 f) m) (both (plain f) (allDigits f && leb (value 0 f) m) q .1) .1) in
+          let l = leb-true (value 0 f) m (both (allDigits f) (leb (value 0 f) m) (both (noLeadingZero f) (allDigits f && leb (value 0 f) m) q .1) .1) in
           omega arith
       go false q k = let z : _≡_ {A = ℕ} 0 1 = cc in absurd (omega arith)
 
@@ -109,8 +109,8 @@ unfolding value
 value-snoc v [] b = refl
 value-snoc v (x ∷ f) b = value-snoc (v * 10 + (x - 48)) f b
 
-pub plain-snoc : (f : List ℕ) (b : ℕ) → 0 < length f → (getD f 0 0 ≡ 48 → ⊥) → plain (f ++ (b ∷ [])) ≡ true
-unfolding plain
+pub plain-snoc : (f : List ℕ) (b : ℕ) → 0 < length f → (getD f 0 0 ≡ 48 → ⊥) → noLeadingZero (f ++ (b ∷ [])) ≡ true
+unfolding noLeadingZero
 plain-snoc [] b h n = absurd (omega arith)
 plain-snoc (x ∷ []) b h n = rw (ne-eqb x 48 n) refl
 plain-snoc (x ∷ y ∷ f) b h n = rw (ne-eqb x 48 n) refl

@@ -6,9 +6,9 @@ use Prim.Native.Nat.{ℕ, _+_, _*_, _-_}
 use lib.Dec.{eqb, leb}
 
 -- with what was read, or d where it was unreadable
-abbrev pub given : {A : Type 0} {B : Type 0} → Option A → B → (A → B) → B
-given none d k = d
-given (some x) d k = k x
+abbrev pub ifRead : {A : Type 0} {B : Type 0} → Option A → B → (A → B) → B
+ifRead none d k = d
+ifRead (some x) d k = k x
 
 -- a byte from "0" to "9"
 unfoldable pub isDigit : ℕ → Bool
@@ -24,17 +24,17 @@ value v [] = v
 value v (b ∷ f) = value (v * 10 + (b - 48)) f
 
 -- not empty, and no leading zero
-unfoldable pub plain : List ℕ → Bool
-plain [] = false
-plain (b ∷ []) = true
-plain (b ∷ c ∷ f) = not (eqb b 48)
+unfoldable pub noLeadingZero : List ℕ → Bool
+noLeadingZero [] = false
+noLeadingZero (b ∷ []) = true
+noLeadingZero (b ∷ c ∷ f) = not (eqb b 48)
 
 -- a decimal number, at most m
 unfoldable pub numberTo : ℕ → List ℕ → Option ℕ
-numberTo m f = cond (plain f && (allDigits f && leb (value 0 f) m)) (some (value 0 f)) none
+numberTo m f = cond (noLeadingZero f && (allDigits f && leb (value 0 f) m)) (some (value 0 f)) none
 
-abbrev pub number : List ℕ → Option ℕ
-number f = numberTo 4294967295 f
+abbrev pub numberRead : List ℕ → Option ℕ
+numberRead f = numberTo 4294967295 f
 
 -- a set of members
 abbrev pub set : List ℕ → Option ℕ

@@ -3,7 +3,7 @@ ghost use mathlib.Core.Path.{_≡_};
 ghost use Prim.Native.Nat.{_+_, _≤_};
 ghost use lib.ListN.{length};
 ghost use Rattle.fields.specs.Fields.{fieldsFrom};
-ghost use Rattle.fields.specs.Numbers.{plain, numberTo};
+ghost use Rattle.fields.specs.Numbers.{noLeadingZero, numberTo};
 ghost use Rattle.fields.specs.Cursor.{found, firstBy, Stepped};
 
 // What a field holds.
@@ -14,7 +14,7 @@ pub enum Number {
 
 // Is the field not empty and without a leading zero?
 fn is_plain(f: &[u8]) -> bool
-    ensures { λ r. ⌜ r ≡ plain (now (f .entry)) ⌝ }
+    ensures { λ r. ⌜ r ≡ noLeadingZero (now (f .entry)) ⌝ }
 {
     if f.len() == 0 {
         return false;
@@ -58,7 +58,7 @@ pub struct Step {
 }
 
 // The number, at most m, in the field that starts at `at`.
-pub fn number_at(rec: &[u8], at: usize, m: u32) -> Step
+pub fn read_number(rec: &[u8], at: usize, m: u32) -> Step
     requires { ⌜ at ≤ length (now rec) + 1 ⌝ }
     ensures { λ r. ⌜ (r .number ≡ found (firstBy (numberTo m) (fieldsFrom (now (rec .entry)) at))) × Stepped (now (rec .entry)) at (r .next) ⌝ }
 {

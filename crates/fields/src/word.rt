@@ -3,7 +3,7 @@ ghost use mathlib.Core.Path.{_≡_};
 ghost use Rattle.fields.specs.Words.{sameBytes};
 
 // Does the field hold these bytes?
-pub fn is_same(f: &[u8], w: &[u8]) -> bool
+pub fn same_bytes(f: &[u8], w: &[u8]) -> bool
     ensures { λ r. ⌜ r ≡ sameBytes (now (f .entry)) (now (w .entry)) ⌝ }
 {
     if f.len() != w.len() {

@@ -47,10 +47,10 @@ first-long l z e h =
 told : List ℕ → List ℕ → Step → List (Option (List ℕ))
 told l z r = telling (r .event) (take (r .length) l) (remaining (r .skipping) (drop (r .next) l ++ z))
 
-told-ended : (b : Bool) (l z : List ℕ) → hasEnd l ≡ true → remaining b (l ++ z) ≡ told l z (endedStep b (length (untilEnd l)))
+ended-step : (b : Bool) (l z : List ℕ) → hasEnd l ≡ true → remaining b (l ++ z) ≡ told l z (endedStep b (length (untilEnd l)))
 unfolding told remaining fitting
-told-ended true l z e = rw (ends-in l z e .after) refl
-told-ended false l z e =
+ended-step true l z e = rw (ends-in l z e .after) refl
+ended-step false l z e =
     first-ended l z (ends-in l z e) (let h = ended-short l e in omega arith)
     ∙ go (leb (length (untilEnd l)) 1022) (untilEnd l) (readables (drop (length (untilEnd l) + 2) l ++ z)) (until-take l)
   where
@@ -58,10 +58,10 @@ told-ended false l z e =
     go true u m q = rw q refl
     go false u m q = refl
 
-told-open : (b : Bool) (l z : List ℕ) → hasEnd l ≡ false → remaining b (l ++ z) ≡ told l z (openStep b l)
+open-step : (b : Bool) (l z : List ℕ) → hasEnd l ≡ false → remaining b (l ++ z) ≡ told l z (openStep b l)
 unfolding told remaining
-told-open true l z e = rw (after-passed l z e) refl
-told-open false l z e = go (decLt (length l) 1024)
+open-step true l z e = rw (after-passed l z e) refl
+open-step false l z e = go (decLt (length l) 1024)
   where
     go : Dec (length l < 1024) → remaining false (l ++ z) ≡ told l z (openStep false l)
     go (yes h) = rw (lt-ltb (length l) 1024 h) refl
@@ -73,8 +73,8 @@ unfolding stepOf told
 step-told b l z = go (hasEnd l) refl
   where
     go : (x : Bool) → hasEnd l ≡ x → remaining b (l ++ z) ≡ told l z (cond x (endedStep b (length (untilEnd l))) (openStep b l))
-    go true e = told-ended b l z e
-    go false e = told-open b l z e
+    go true e = ended-step b l z e
+    go false e = open-step b l z e
 
 pub step-waits : (b : Bool) (l : List ℕ) → stepOf b l .next ≡ 0 → Waits l
 unfolding stepOf

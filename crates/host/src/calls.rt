@@ -64,7 +64,7 @@ pub extern "C" fn forgelilac_endorse(state: &[u32], table: &mut [u32], proposal:
     let p = words::proposals::proposal_in(proposal);
     let x = endorse::endorse(s, table, p);
     let a = x.answer;
-    hosting::refusal_of(a)
+    hosting::refusal_in(a)
 }
 
 // Certify: the certificate of the present proposal is held in the table, with these endorsers.
@@ -81,7 +81,7 @@ pub extern "C" fn forgelilac_certify(state: &[u32], table: &mut [u32], endorsers
     let s = words::states::state_in(state);
     let x = certify::certify(s, table, endorsers as u16);
     let a = x.answer;
-    hosting::refusal_of(a)
+    hosting::refusal_in(a)
 }
 
 // Accept: the certificate is held in the table with its endorsers, and its endorsed mark cleared.
@@ -99,7 +99,7 @@ pub extern "C" fn forgelilac_accept(state: &[u32], table: &mut [u32], certificat
     let c = words::proposals::certificate_in(certificate);
     let x = accept::accept(s, table, c);
     let a = x.answer;
-    hosting::refusal_of(a)
+    hosting::refusal_in(a)
 }
 
 // Advance: next round, proposal dropped.

@@ -10,18 +10,18 @@ ghost use mathlib.Core.Bool.{true};
 ghost use mathlib.Core.List.{[]};
 ghost use Prim.Native.Nat.{_≤_};
 ghost use lib.ListN.{length};
-ghost use Rattle.store.specs.Table.{used};
+ghost use Rattle.store.specs.Table.{usedLength};
 ghost use Rattle.checks.specs.Answers.{refusalIn};
 ghost use Rattle.engine.specs.Calls.{aside, committee, share, certificate, block};
 ghost use Rattle.words.specs.Lengths.{heldLength, committeeLength};
 ghost use Rattle.words.specs.Words.{sixteen};
 ghost use Rattle.words.specs.Proposals.{heldWords};
-ghost use Rattle.hosting.specs.Answers.{over, Shown};
+ghost use Rattle.hosting.specs.Answers.{over, WeightsFit};
 ghost use Rattle.hosting.specs.Calls.{plain, packed, Done, resultOf};
 
 // Writes the weights of a committee, where the read is accepted.
 fn show_committee(out: &mut [u32], x: reads::CommitteeRead) -> u32
-    requires { ⌜ (committeeLength ≤ length (now out)) × Shown (x .answer) (x .weights) ⌝ }
+    requires { ⌜ (committeeLength ≤ length (now out)) × WeightsFit (x .answer) (x .weights) ⌝ }
     ensures { λ r. ⌜ (r ≡ refusalIn (x .answer)) × (now (out .exit) ≡ over (x .answer) (now (out .entry)) (sixteen (x .weights)) committeeLength) ⌝ }
 {
     let weights = x.weights;
@@ -123,7 +123,7 @@ pub extern "C" fn forgelilac_block(state: &[u32], table: &[u32], number: u32) ->
 // How many words a table needs for a ceiling.
 #[no_mangle]
 pub extern "C" fn forgelilac_table_words(ceiling: u32) -> u64
-    ensures { λ r. ⌜ r ≡ used ceiling ⌝ }
+    ensures { λ r. ⌜ r ≡ usedLength ceiling ⌝ }
 {
     ceiling as u64 * ROW as u64 + ROW as u64
 }

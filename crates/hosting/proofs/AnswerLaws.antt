@@ -20,7 +20,7 @@ use Rattle.engine.specs.Engine.{Engine, after}
 use Rattle.engine.specs.Steps.{SetInRange}
 use Rattle.engine.proofs.AcceptedLaws.{accepted-left}
 use Rattle.words.specs.Words.{Narrow}
-use Rattle.hosting.specs.Answers.{Shown, Writable}
+use Rattle.hosting.specs.Answers.{WeightsFit, Writable}
 use Rattle.hosting.proofs.AnsweredLaws.{accepted-zero, Settles, committee-answer}
 
 narrow : (S : Settings) → SettingsFit S → Narrow (S .weights)
@@ -33,7 +33,7 @@ writable e low c i x q =
     rw (x .its-state) (narrow (after e c .state .settings) (formed (after e c .state) (after e c .table) (l .formed) .settings))
 
 -- the weights of a committee
-pub committee-shown : (s : State) (t : List ℕ) (r : ℕ) {x : CommitteeRead} → x ≡ committeeAnswer s t r → Shown (x .answer) (x .weights)
+pub committee-shown : (s : State) (t : List ℕ) (r : ℕ) {x : CommitteeRead} → x ≡ committeeAnswer s t r → WeightsFit (x .answer) (x .weights)
 unfolding committeeRefusal
 committee-shown s t r e a =
     let n = accepted-zero (committee-answer s t r e) a in

@@ -34,7 +34,7 @@ use Rattle.reads.specs.Answers.{sharedAnswer, sharedValue, blockedAnswer, block
 use Rattle.reads.specs.Reads.{committeeRefusal, committeeAnswer, shareRefusal, shareAnswer, shareValue, certificateRefusal, certificateAnswer, blockRefusal, blockAnswer, blockValue}
 use Rattle.engine.specs.Calls.{Aside, committee, share, certificate, block, Call, opens, propose, advance, commit, aside}
 use Rattle.engine.specs.Engine.{Engine, refusalFor, after}
-use Rattle.engine.specs.Values.{nothing, number, given, valueOf}
+use Rattle.engine.specs.Values.{nothing, number, acceptedValue, valueOf}
 use Rattle.engine.proofs.ValueLaws.{value-refused, committee-value, certificate-value}
 use Rattle.words.specs.Lengths.{stateLength, heldLength, committeeLength}
 use Rattle.words.specs.States.{stateIn, stateWords}
@@ -113,7 +113,7 @@ module _ (s : State) (t : List ℕ) where
   commit-packed q h = packed-by commit (rw q commit-value) h
 
   -- of a read that gives the number x
-  number-value : (c : Call) (x : ℕ) → given on c ≡ number x → ifAccepted (refusalFor on c) x 0 ≡ valueWord (valueOf on c)
+  number-value : (c : Call) (x : ℕ) → acceptedValue on c ≡ number x → ifAccepted (refusalFor on c) x 0 ≡ valueWord (valueOf on c)
   unfolding valueOf ifAccepted
   number-value c x q = rw q (go (eqb (refusalFor on c) 0))
     where
@@ -166,15 +166,15 @@ module _ (w t o : List ℕ) (c : Call) where
       go (no z) = rw (ne-eqb (refusalFor engine c) 0 z, value-refused engine c z) refl
 
   -- and of a call whose value is not put there
-  out-still : outOver w t o (given engine c) ≡ o → outOver w t o (valueOf engine c) ≡ o
+  out-still : outOver w t o (acceptedValue engine c) ≡ o → outOver w t o (valueOf engine c) ≡ o
   unfolding valueOf
   out-still q = go (eqb (refusalFor engine c) 0)
     where
-      go : (b : Bool) → outOver w t o (cond b (given engine c) nothing) ≡ o
+      go : (b : Bool) → outOver w t o (cond b (acceptedValue engine c) nothing) ≡ o
       go true = q
       go false = refl
 
-  module _ {answer : Result → ℕ} {b : Bool} {r : ℕ} {u : List ℕ} (k : serves w t o (useOf c) ≡ true) (f : b ≡ true) (q : outOver w t o (given engine c) ≡ o) (h : r ≡ answer (answered w t o engine c)) (j : u ≡ after engine c .table) where
+  module _ {answer : Result → ℕ} {b : Bool} {r : ℕ} {u : List ℕ} (k : serves w t o (useOf c) ≡ true) (f : b ≡ true) (q : outOver w t o (acceptedValue engine c) ≡ o) (h : r ≡ answer (answered w t o engine c)) (j : u ≡ after engine c .table) where
     pub done-still : {s : List ℕ} → s ≡ answered w t o engine c .state → Done answer (resultOf w t o b c) r s u o
     done-still i = done-read w t o b c k f (record { its-answer = h; its-state = i; its-table = j; its-out = sym (out-still q) })
 

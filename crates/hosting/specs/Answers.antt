@@ -20,9 +20,9 @@ over Accepted old new n = paste old 0 new n
 over (Refused m) old new n = old
 
 -- where the answer is accepted, the weights fit a word each
-abbrev pub Shown : Answer → List ℕ → Type 0
-Shown a x = a ≡ Accepted → Narrow x
+abbrev pub WeightsFit : Answer → List ℕ → Type 0
+WeightsFit a x = a ≡ Accepted → Narrow x
 
 -- so for those of a state
 abbrev pub Writable : Answer → State → Type 0
-Writable a s = Shown a (s .settings .weights)
+Writable a s = WeightsFit a (s .settings .weights)

@@ -14,7 +14,7 @@ ghost use Rattle.words.specs.States.{stateWords};
 ghost use Rattle.hosting.specs.Answers.{addedAnswer, over, Writable};
 
 // The number that refuses in an answer, 0 where the call is accepted.
-pub fn refusal_of(a: Answer) -> u32
+pub fn refusal_in(a: Answer) -> u32
     ensures { λ r. ⌜ r ≡ refusalIn a ⌝ }
 {
     match a {

@@ -7,7 +7,7 @@ use Prim.Native.Nat.{ℕ, zero, suc, _+_, _/_, _%_, _≤_, _<_}
 use native.Mathlib.Omega.{arith}
 use native.Mathlib.Decide.{decLt}
 use lib.ListN.{length, getD, length-append, List·getD-append}
-use Rattle.fields.specs.Numbers.{allDigits, value, plain, numberTo}
+use Rattle.fields.specs.Numbers.{allDigits, value, noLeadingZero, numberTo}
 use Rattle.fields.proofs.NumberLaws.{digit, digits-one, value-one, plain-one, digits-snoc, value-snoc, plain-snoc, number-is}
 use Rattle.lines.specs.Lines.{decimal}
 use Rattle.lines.proofs.LineLaws.{decimal-small, decimal-more}
@@ -18,7 +18,7 @@ record Reads (n : ℕ) : Type 0 where
   makes : value 0 (decimal n) ≡ n
   some-digit : 0 < length (decimal n)
   first : 0 < n → getD (decimal n) 0 0 ≡ 48 → ⊥
-  no-zeros : plain (decimal n) ≡ true
+  no-zeros : noLeadingZero (decimal n) ≡ true
 
 reads-small : (n : ℕ) → n < 10 → Reads n
 reads-small n h =

@@ -10,14 +10,14 @@ use Rattle.lines.specs.Lines.{listingLine}
 use Rattle.base.specs.Folds.{foldTo}
 use Rattle.store.specs.Table.{heldAt, markAt, contentAt, blockRound}
 use Rattle.sheet.specs.declared.Settings.{Settings}
-use Rattle.committee.specs.Changes.{listed, row, rows}
+use Rattle.committee.specs.Changes.{atMostOne, row, rows}
 use Rattle.committee.proofs.OrderLaws.{row-none, row-more, rows-none, rows-more, ordered-rows}
 use Rattle.committee.specs.Chain.{holdsAt, blockAt, chainOf}
 use Rattle.committee.proofs.ChainLaws.{block-round, block-inside, chain-none, chain-more, chain-length}
 use Rattle.committee.specs.Committees.{startOf, ordered}
 use Rattle.bonded.specs.BlockChanges.{startAt}
 use Rattle.bonded.specs.Links.{Marked}
-use Rattle.bonded.specs.Runs.{placesOver, rowsOver}
+use Rattle.bonded.specs.LinkRuns.{placesOver, rowsOver}
 use Rattle.bonded.proofs.RunLaws.{SameAt}
 use Rattle.listing.specs.Listing.{contentLines, chainLines, placeLines, addLines, rowLines}
 use Rattle.listing.proofs.ListingLaws.{lines-append, place-absent, place-other, place-present}
@@ -39,7 +39,7 @@ module _ (t : List ℕ) (k : ℕ) where
   unfolding placeLines
   place-unmarked p f = go (heldAt t (p % 16) (p / 16)) refl
     where
-      go : (h : Bool) → heldAt t (p % 16) (p / 16) ≡ h → contentLines k (blockRound t k) (listed (holdsAt t k (p % 16) (p / 16))) ≡ []
+      go : (h : Bool) → heldAt t (p % 16) (p / 16) ≡ h → contentLines k (blockRound t k) (atMostOne (holdsAt t k (p % 16) (p / 16))) ≡ []
       go true e = place-other t k (blockRound t k) (p % 16) (p / 16) (λ q. f (record { held = e; mark = q }))
       go false e = place-absent t k (blockRound t k) (p % 16) (p / 16) e
 
@@ -58,7 +58,7 @@ module _ (t : List ℕ) (k : ℕ) where
   row-lines n a r (suc m) l u h =
       let i : (r * 16 + (a + m) % 16) % 16 ≡ (a + m) % 16 = omega arith in
       let j : (r * 16 + (a + m) % 16) / 16 ≡ r = omega arith in
-      let z = listed (holdsAt t k ((a + m) % 16) r) in
+      let z = atMostOne (holdsAt t k ((a + m) % 16) r) in
       rw (row-more (blockAt n t k) a r m, block-inside n t k ((a + m) % 16) r l u, lines-append k (blockRound t k) (row (blockAt n t k) a r m) z, row-lines n a r m l u (omega arith), i, j) refl
 
   rows-lines : (n a m : ℕ) → m ≤ n → contentLines k (blockRound t k) (rows (blockAt n t k) a m) ≡ rowsOver (addLines t k) a m []
@@ -92,7 +92,7 @@ module _ (S : Settings) (t : List ℕ) where
   lines-next k = let n = S .ceiling .0 in rw (add-one k, chain-more n t k, chain-length n t k, add-one k, block-round n t (suc k)) refl
 
 module _ (t : List ℕ) (k m r : ℕ) (h : m < 16) where
-  place-at : placeLines t k (r * 16 + m) ≡ contentLines k (blockRound t k) (listed (holdsAt t k m r))
+  place-at : placeLines t k (r * 16 + m) ≡ contentLines k (blockRound t k) (atMostOne (holdsAt t k m r))
   unfolding placeLines
   place-at =
       let i : (r * 16 + m) % 16 ≡ m = omega arith in

@@ -6,7 +6,7 @@ use Prim.Native.Nat.{ℕ}
 use Rattle.terms.specs.Proposals.{Content}
 use Rattle.store.specs.Table.{heldAt, markAt, contentAt}
 use Rattle.store.proofs.TableLaws.{content-author, content-round}
-use Rattle.committee.specs.Changes.{listed}
+use Rattle.committee.specs.Changes.{atMostOne}
 use Rattle.committee.specs.Chain.{holdsAt}
 use Rattle.committee.proofs.ChainLaws.{holds-present, holds-other, holds-absent}
 use Rattle.lines.specs.Lines.{listingLine}
@@ -14,15 +14,15 @@ use Rattle.listing.specs.Listing.{contentLines}
 
 -- the lines of the certificate of block k at a place, or of none
 module _ (t : List ℕ) (k b m r : ℕ) where
-  pub place-absent : heldAt t m r ≡ false → contentLines k b (listed (holdsAt t k m r)) ≡ []
+  pub place-absent : heldAt t m r ≡ false → contentLines k b (atMostOne (holdsAt t k m r)) ≡ []
   unfolding contentLines
   place-absent e = rw (holds-absent t k m r e) refl
 
-  pub place-other : (markAt t m r ≡ k → ⊥) → contentLines k b (listed (holdsAt t k m r)) ≡ []
+  pub place-other : (markAt t m r ≡ k → ⊥) → contentLines k b (atMostOne (holdsAt t k m r)) ≡ []
   unfolding contentLines
   place-other e = rw (holds-other t k m r e) refl
 
-  pub place-present : heldAt t m r ≡ true → markAt t m r ≡ k → contentLines k b (listed (holdsAt t k m r)) ≡ listingLine k b r m (contentAt t m r .transactions)
+  pub place-present : heldAt t m r ≡ true → markAt t m r ≡ k → contentLines k b (atMostOne (holdsAt t k m r)) ≡ listingLine k b r m (contentAt t m r .transactions)
   unfolding contentLines
   place-present e q = rw (holds-present t k m r e q, content-round t m r, content-author t m r) (append-nil (listingLine k b r m (contentAt t m r .transactions)))
 

@@ -9,8 +9,8 @@ use Rattle.committee.specs.Chain.{holdsAt}
 use Rattle.sheet.specs.declared.Settings.{Settings}
 use Rattle.committee.specs.Committees.{ordered}
 use Rattle.lines.specs.Lines.{listingLine}
-use Rattle.committee.specs.Changes.{listed}
-use Rattle.bonded.specs.Runs.{placesOver}
+use Rattle.committee.specs.Changes.{atMostOne}
+use Rattle.bonded.specs.LinkRuns.{placesOver}
 
 -- the lines of certificates of block k, of round b, in order
 unfoldable pub contentLines : ℕ → ℕ → List Content → List ℕ
@@ -24,7 +24,7 @@ chainLines S (b ∷ c) = chainLines S c ++ contentLines (length c + 1) (b .round
 
 -- the lines of block k at a place
 unfoldable pub placeLines : List ℕ → ℕ → ℕ → List ℕ
-placeLines t k p = contentLines k (blockRound t k) (listed (holdsAt t k (p % 16) (p / 16)))
+placeLines t k p = contentLines k (blockRound t k) (atMostOne (holdsAt t k (p % 16) (p / 16)))
 
 -- after those before
 unfoldable pub addLines : List ℕ → ℕ → ℕ → List ℕ → List ℕ

@@ -9,7 +9,7 @@ ghost use lib.ListN.{length};
 ghost use Rattle.store.specs.Table.{Within, contentAt};
 ghost use Rattle.committee.specs.Chain.{chainOf};
 ghost use Rattle.bonded.specs.ChainInTable.{ChainInTable};
-ghost use Rattle.bonded.specs.Runs.{rowsOver};
+ghost use Rattle.bonded.specs.LinkRuns.{rowsOver};
 ghost use Rattle.lines.specs.Lines.{listingLine};
 ghost use Rattle.lines.specs.Puts.{Puts};
 ghost use Rattle.listing.specs.Listing.{chainLines, placeLines, addLines, rowLines};

@@ -14,7 +14,7 @@ use Rattle.sheet.specs.declared.Settings.{Settings}
 use Rattle.sheet.specs.Ranges.{outOfRange}
 use Rattle.rules.specs.Tests.{MemberView}
 use Rattle.rules.specs.Calls as rules
-use Rattle.rules.specs.Calls.{verdict}
+use Rattle.rules.specs.Calls.{ruledRefusal}
 use Rattle.rules.specs.Reads.{readingCommittee, readingShare, readingCertificate, readingBlock}
 use Rattle.rules.proofs.Runs.{viewAfter}
 use Rattle.engine.specs.Calls.{Aside, committee, share, certificate, block, listing, Call, opens, propose, endorse, certify, accept, advance, commit, aside}
@@ -22,7 +22,7 @@ use Rattle.engine.specs.Engine.{Engine, asideChecks, refusalFor}
 use Rattle.engine.specs.Steps.{viewAt, ruled}
 use Rattle.engine.specs.Reached.{Good}
 use Rattle.nonforking.specs.Statement.{Members, Entry, engineAfter, engineBehaviour}
-use Rattle.nonforking.proofs.Converses.{refusal-verdict, onTheirViews, shown}
+use Rattle.nonforking.proofs.Converses.{refusal-by-rules, onTheirViews, shown}
 use Rattle.nonforking.proofs.PlainTests.{isPlain, arePlain, open-refused, plain-found}
 
 -- an entry, and the number that answers it: 0 where it is accepted
@@ -67,7 +67,7 @@ module _ (S : Settings) where
   abbrev pub refusalBy : ℕ → MemberView S → {c : Call} → CallCase c → ℕ
   refusalBy k s (an-open own sheet) = 4
   refusalBy k s (an-aside x) = refusal (asideBy s x)
-  refusalBy k s (of-rules c n) = verdict S k s (ruled c)
+  refusalBy k s (of-rules c n) = ruledRefusal S k s (ruled c)
 
 aside-by : (e : Engine) (x : Aside) → asideChecks e x ≡ asideBy (e .state .settings) (viewAt (e .state .settings) e) x
 aside-by e (committee r) = refl
@@ -81,7 +81,7 @@ module _ {S : Settings} {k : ℕ} {e : Engine} (g : Good S k e) where
   refusal-by (an-open own sheet) h = open-refused e own sheet h
   refusal-by (an-aside x) h =
       passes 1 _ (rw (g .formed) refl) ∙ ap refusal (aside-by e x) ∙ ap (λ (T : Settings). refusal (asideBy T (viewAt T e) x)) (g .settings)
-  refusal-by (of-rules c n) h = refusal-verdict g c (λ q. n (rw q is-read))
+  refusal-by (of-rules c n) h = refusal-by-rules g c (λ q. n (rw q is-read))
 
 -- ---- a list of calls
 

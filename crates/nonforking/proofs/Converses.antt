@@ -14,7 +14,7 @@ use Rattle.sheet.specs.Ranges.{outOfRange, weightIn}
 use Rattle.committee.specs.Committees.{committeeOf, knownBy, boundOf}
 use Rattle.rules.specs.Tests.{MemberView}
 use Rattle.rules.specs.Calls as rules
-use Rattle.rules.specs.Calls.{verdict, freshView, result}
+use Rattle.rules.specs.Calls.{ruledRefusal, freshView, result}
 use Rattle.rules.specs.Signatures as signatures
 use Rattle.rules.proofs.Runs as runs
 use Rattle.rules.proofs.Runs.{Group, viewAfter}
@@ -23,7 +23,7 @@ use Rattle.engine.specs.Calls.{Call, propose, endorse}
 use Rattle.engine.specs.Engine.{Engine, refusalFor, after}
 use Rattle.engine.specs.Steps.{viewAt, ruled}
 use Rattle.engine.specs.Reached.{Good}
-use Rattle.engine.proofs.RuledLaws.{refusal-ruled, accepted-verdict, good-after, view-after}
+use Rattle.engine.proofs.RuledLaws.{refusal-ruled, accepted-ruled, good-after, view-after}
 use Rattle.nonforking.specs.Statement.{chain, Members, Entry, Takes, certifies, accepts, Proposes, proposes, Endorses, endorses, engineAfter, Made, Signed, Fair, WithinBound, Run, engineBehaviour}
 use Rattle.nonforking.proofs.Implemented.{Handed}
 use Rattle.nonforking.proofs.StartLaws.{starts, start-view, correct-below, group}
@@ -48,10 +48,10 @@ module _ {S : Settings} {k : ℕ} {e : Engine} (g : Good S k e) where
   takes-ruled c a p d (accepts x) = signatures.accepts p d
 
   -- a call that is no read of the rules is refused with their number
-  pub refusal-verdict : (c : Call) → (ruled c ≡ rules.read → ⊥) → refusalFor e c ≡ verdict S k (viewAt S e) (ruled c)
-  refusal-verdict c n = go (refusal-ruled g c)
+  pub refusal-by-rules : (c : Call) → (ruled c ≡ rules.read → ⊥) → refusalFor e c ≡ ruledRefusal S k (viewAt S e) (ruled c)
+  refusal-by-rules c n = go (refusal-ruled g c)
     where
-      go : (refusalFor e c ≡ verdict S k (viewAt S e) (ruled c)) ⊎ (ruled c ≡ rules.read) → refusalFor e c ≡ verdict S k (viewAt S e) (ruled c)
+      go : (refusalFor e c ≡ ruledRefusal S k (viewAt S e) (ruled c)) ⊎ (ruled c ≡ rules.read) → refusalFor e c ≡ ruledRefusal S k (viewAt S e) (ruled c)
       go (inl q) = q
       go (inr q) = absurd (n q)
 
@@ -79,10 +79,10 @@ module _ (X : Members engineBehaviour) (fit : outOfRange (X .settings) ≡ false
   made-back f h i n g c [] p m = absurd m
   made-back f h i n g c (e ∷ l) p (inl m) =
       let x = shown l (p .1) i c in
-      let y = subst (λ (s : MemberView settings). (verdict settings i s (ruled (e .call)) ≡ 0) × h s (ruled (e .call))) (sym (x .shows)) (m .1, m .2) in
+      let y = subst (λ (s : MemberView settings). (ruledRefusal settings i s (ruled (e .call)) ≡ 0) × h s (ruled (e .call))) (sym (x .shows)) (m .1, m .2) in
       inl (
         m .0,
-        refusal-verdict (x .good) (e .call) (λ q. n (viewAt settings (engineAfter X l i)) (subst (h (viewAt settings (engineAfter X l i))) q (y .1))) ∙ y .0,
+        refusal-by-rules (x .good) (e .call) (λ q. n (viewAt settings (engineAfter X l i)) (subst (h (viewAt settings (engineAfter X l i))) q (y .1))) ∙ y .0,
         g (engineAfter X l i) (x .good) (e .call) (y .1),
       )
   made-back f h i n g c (e ∷ l) p (inr m) = inr (made-back f h i n g c l (p .1) m)
@@ -103,7 +103,7 @@ module _ (X : Members engineBehaviour) (fit : outOfRange (X .settings) ≡ false
         in-range = k .0 .0;
         still-open = k .0 .1;
         signed = λ a p d t. signed-back l (k .1) p d (x .signed
-            (subst (λ (s : MemberView settings). verdict settings i s (ruled (e .call)) ≡ 0) (m .shows) (accepted-verdict (m .good) (e .call) a)) p d
+            (subst (λ (s : MemberView settings). ruledRefusal settings i s (ruled (e .call)) ≡ 0) (m .shows) (accepted-ruled (m .good) (e .call) a)) p d
             (subst (λ (s : MemberView settings). signatures.Takes settings s (ruled (e .call)) p d) (m .shows) (takes-ruled (m .good) (e .call) a p d t)));
       }
 

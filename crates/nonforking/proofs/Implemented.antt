@@ -18,7 +18,7 @@ use Rattle.engine.specs.Steps.{viewAt, ruled}
 use Rattle.engine.specs.Sequences.{NoOpen}
 use Rattle.engine.specs.Reached.{Good}
 use Rattle.engine.proofs.AfterLaws.{refused-same}
-use Rattle.engine.proofs.RuledLaws.{accepted-verdict, accepted-view, good-after}
+use Rattle.engine.proofs.RuledLaws.{accepted-ruled, accepted-view, good-after}
 
 -- what is handed in: any values of their types; an accepted open, which starts another state, is none of the calls
 abbrev pub Handed : ℕ → Engine → Call → Type 0
@@ -47,7 +47,7 @@ module _ (S : Settings) (k : ℕ) (e : Engine) (g : Good S k e) where
       record {
         started = formed (e .state) (e .table) (g .formed) .numbers .round-from;
         fits = sets-fit S k (viewAt S e) c (h .0);
-        accepted = accepted-verdict g c a;
+        accepted = accepted-ruled g c a;
         becomes = accepted-view g c (h .0) (h .1) a;
       }
 

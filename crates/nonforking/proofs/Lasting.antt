@@ -6,7 +6,7 @@ use mathlib.Core.List.{List, [], _∷_, _++_}
 use Prim.Native.Nat.{ℕ}
 use Rattle.agreement.specs.Rules.{Block}
 use Rattle.agreement.proofs.ListingLaws.{lists-prefix}
-use Rattle.agreement.specs.Prefixes.{blockAt}
+use Rattle.agreement.specs.Prefixes.{blockNumbered}
 use Rattle.terms.specs.Proposals.{Content}
 use Rattle.committee.specs.Committees.{ordered}
 use Rattle.rules.proofs.RunAgreement as agreement
@@ -30,7 +30,7 @@ module _ (X : Members engineBehaviour) where
   -- the entries m follow the entries l
   module _ (m l : List Entry) (r : Run X (m ++ l)) (i : ℕ) (c : correct i ≡ true) where
     -- a block once made stays, with its number, its round and its certificates
-    pub block-kept : (n : ℕ) {b : Block Content} → blockAt (chain (engineAfter X l i)) n ≡ some b → blockAt (chain (engineAfter X (m ++ l) i)) n ≡ some b
+    pub block-kept : (n : ℕ) {b : Block Content} → blockNumbered (chain (engineAfter X l i)) n ≡ some b → blockNumbered (chain (engineAfter X (m ++ l) i)) n ≡ some b
     block-kept n = agreement.block-kept (group X) m l (run-ruled X (m ++ l) r) i n
 
     -- and as chains are listed: the later one lists the same blocks, with the same certificates in the same order, and perhaps more

@@ -17,7 +17,7 @@ use Rattle.rules.specs.Tests.{MemberView}
 use Rattle.rules.specs.Calls as rules
 use Rattle.rules.specs.Signatures as signatures
 use Rattle.rules.proofs.Runs as runs
-use Rattle.state.specs.View.{proposalOf}
+use Rattle.state.specs.View.{ownProposal}
 use Rattle.state.proofs.ViewLaws.{proposal-some}
 use Rattle.certify.proofs.PassedLaws.{certify-passed}
 use Rattle.engine.specs.Calls.{Call, certify, accept}
@@ -32,7 +32,7 @@ use Rattle.nonforking.proofs.StartLaws.{starts, group}
 -- ---- one call
 
 -- an accepted certify has a proposal
-pub proposal-there : (e : Engine) (d : ℕ) → refusalFor e (certify d) ≡ 0 → proposalOf (e .state) ≡ some (draft e (e .state .body))
+pub proposal-there : (e : Engine) (d : ℕ) → refusalFor e (certify d) ≡ 0 → ownProposal (e .state) ≡ some (draft e (e .state .body))
 proposal-there e d a = proposal-some (e .state) (certify-passed (e .state) (e .table) d a .proposing)
 
 module _ (S : Settings) (e : Engine) where

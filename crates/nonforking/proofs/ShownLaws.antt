@@ -12,10 +12,10 @@ use Rattle.reads.specs.declared.CertificateRead.{CertificateRead}
 use Rattle.reads.proofs.ReadLaws.{HeldThere, certificate-accepted, certificate-given}
 use Rattle.engine.specs.Calls.{Call, InRange}
 use Rattle.engine.specs.Engine.{Engine, after}
-use Rattle.engine.specs.Sequences.{afterCalls, AllInRange, NoOpen, Opening, opening}
+use Rattle.engine.specs.Sequences.{afterCalls, AllInRange, NoOpen, Opening, afterOpening}
 use Rattle.engine.specs.Reached.{Good}
 use Rattle.engine.proofs.RuledLaws.{good-after}
-use Rattle.engine.proofs.ReachedLaws.{reached}
+use Rattle.engine.proofs.ReachedLaws.{intact, reached}
 use Rattle.nonforking.specs.Stored.{Holds, Stored, Shows, StoredShown}
 use Rattle.nonforking.proofs.StoredLaws.{taking-no-open, taken-fits, stored-held}
 
@@ -42,25 +42,25 @@ IsRound e r = (0 < r) × (r ≤ e .state .settings .ceiling .0)
 round-stays : {S : Settings} {own : ℕ} {e : Engine} → Good S own e → (c : Call) → InRange c → NoOpen e c → (r : ℕ) → IsRound e r → IsRound (after e c) r
 round-stays g c w o r = subst (λ (z : Settings). (0 < r) × (r ≤ z .ceiling .0)) (g .settings ∙ sym (good-after g c w o .settings))
 
-stored-round : (x : Opening) (l : List Call) → AllInRange l → (p : Content) (d : ℕ) → Stored (opening x) l p d → IsRound (afterCalls (opening x) l) (p .round)
+stored-round : (x : Opening) (l : List Call) → AllInRange l → (p : Content) (d : ℕ) → Stored (afterOpening x) l p d → IsRound (afterCalls (afterOpening x) l) (p .round)
 unfolding afterCalls
 stored-round x (c ∷ l) i p d (inl k) =
-    let e = afterCalls (opening x) l in
-    let g = reached x l (i .1) .good in
+    let e = afterCalls (afterOpening x) l in
+    let g = intact (reached x l (i .1)) .good in
     let f = taken-fits e g c (i .0) (k .0) p d (k .1) .0 in
     round-stays g c (i .0) (taking-no-open e c p d (k .1)) (p .round) (f .from, f .to)
-stored-round x (c ∷ l) i p d (inr k) = round-stays (reached x l (i .1) .good) c (i .0) (k .0) (p .round) (stored-round x l (i .1) p d (k .1))
+stored-round x (c ∷ l) i p d (inr k) = round-stays (intact (reached x l (i .1)) .good) c (i .0) (k .0) (p .round) (stored-round x l (i .1) p d (k .1))
 
 -- ---- lists of calls
 
 pub stored-shown : StoredShown
 stored-shown x l i p d k =
-    let e = afterCalls (opening x) l in
+    let e = afterCalls (afterOpening x) l in
     let h = stored-held x l i p d k in
     let r = stored-round x l i p d k in
     held-shown e (p .author) (p .round) p d h
     (record {
-      well = formed (e .state) (e .table) (reached x l i .good .formed);
+      well = formed (e .state) (e .table) (intact (reached x l i) .good .formed);
       member = held-member (e .table) (p .author) (p .round) (h .held);
       from = r .0;
       to = r .1;

@@ -11,7 +11,7 @@ use Rattle.rules.proofs.Runs.{Group}
 use Rattle.state.proofs.FormedLaws.{formed}
 use Rattle.engine.specs.Calls.{opens}
 use Rattle.engine.specs.Engine.{Engine, after}
-use Rattle.engine.specs.Steps.{viewAt, Fresh}
+use Rattle.engine.specs.Steps.{viewAt, FreshlyOpened}
 use Rattle.engine.specs.Reached.{Good}
 use Rattle.engine.proofs.ReachedLaws.{opened-fresh, fresh-good}
 use Rattle.nonforking.specs.Statement.{Members, engineBehaviour}
@@ -25,7 +25,7 @@ module _ (X : Members engineBehaviour) where
   starts k = after (before k) (opens (record { 0 = k }) (sheet k))
 
   module _ (k : ℕ) (c : correct k ≡ true) where
-    begun : Fresh (record { 0 = k }) (sheet k) (before k) (starts k)
+    begun : FreshlyOpened (record { 0 = k }) (sheet k) (before k) (starts k)
     begun = opened-fresh (before k) (record { 0 = k }) (sheet k) (X .accepted k c)
 
     pub start-good : Good settings k (starts k)

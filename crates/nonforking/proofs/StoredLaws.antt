@@ -8,7 +8,7 @@ use native.Mathlib.Decide.{ℕ-discrete}
 use lib.ListN.{length}
 use Rattle.terms.specs.declared.Member.{Member}
 use Rattle.terms.specs.Proposals.{Content, contentOf}
-use Rattle.store.specs.Table.{Within, heldAt, endorsersAt, contentAt, word}
+use Rattle.store.specs.Table.{Within, heldAt, endorsersAt, contentAt, recordWord}
 use Rattle.store.proofs.TableLaws.{held-member}
 use Rattle.writes.specs.Writes.{putCertificate}
 use Rattle.writes.proofs.WriteLaws.{samePlace, same-place, place-self, content-same, endorsers-same}
@@ -26,11 +26,11 @@ use Rattle.accept.proofs.PassedLaws.{accept-passed}
 use Rattle.commit.proofs.CommitLaws.{only-marks}
 use Rattle.engine.specs.Calls.{Call, opens, propose, endorse, certify, accept, advance, commit, aside, InRange}
 use Rattle.engine.specs.Engine.{Engine, refusalFor, after}
-use Rattle.engine.specs.Sequences.{afterCalls, AllInRange, NoOpen, Opening, opening}
-use Rattle.engine.specs.Reached.{Good, Reached}
+use Rattle.engine.specs.Sequences.{afterCalls, AllInRange, NoOpen, Opening, afterOpening}
+use Rattle.engine.specs.Reached.{Good, Intact}
 use Rattle.engine.proofs.AfterLaws.{renewed, refused-same, accepted-new}
 use Rattle.engine.proofs.RuledLaws.{good-after}
-use Rattle.engine.proofs.ReachedLaws.{reached}
+use Rattle.engine.proofs.ReachedLaws.{intact, reached}
 use Rattle.nonforking.specs.Statement.{Takes, certifies, accepts}
 use Rattle.nonforking.specs.Stored.{Holds, Stored, CertificateStays, StoredHeld, HeldStored}
 
@@ -39,7 +39,7 @@ use Rattle.nonforking.specs.Stored.{Holds, Stored, CertificateStays, Sto
 -- they say the same of the certificate of a place, but for its mark
 record SameRecord (t u : List ℕ) (a r : ℕ) : Type 0 where
   held : heldAt u a r ≡ heldAt t a r
-  words : heldAt t a r ≡ true → (k : ℕ) → k < 16 → k ≢ 2 → word u a r k ≡ word t a r k
+  words : heldAt t a r ≡ true → (k : ℕ) → k < 16 → k ≢ 2 → recordWord u a r k ≡ recordWord t a r k
 
 same-itself : {t : List ℕ} {a r : ℕ} → SameRecord t t a r
 same-itself = record { held = refl; words = λ h k l n. refl }
@@ -195,8 +195,8 @@ certificate-stays e (c ∷ l) o a r p d x = holds-after (afterCalls e l) a r p d
 
 pub stored-held : StoredHeld
 unfolding afterCalls
-stored-held x (c ∷ l) i p d (inl k) = taken (afterCalls (opening x) l) (reached x l (i .1) .good) c (i .0) (k .0) p d (k .1)
-stored-held x (c ∷ l) i p d (inr k) = holds-after (afterCalls (opening x) l) (p .author) (p .round) p d (stored-held x l (i .1) p d (k .1)) c (k .0)
+stored-held x (c ∷ l) i p d (inl k) = taken (afterCalls (afterOpening x) l) (intact (reached x l (i .1)) .good) c (i .0) (k .0) p d (k .1)
+stored-held x (c ∷ l) i p d (inr k) = holds-after (afterCalls (afterOpening x) l) (p .author) (p .round) p d (stored-held x l (i .1) p d (k .1)) c (k .0)
 
 -- after an accepted open nothing is
 nothing-held : (e : Engine) (own : Member) (sheet : Sheet) → refusalFor e (opens own sheet) ≡ 0 → (a r : ℕ) → r ≤ after e (opens own sheet) .state .settings .ceiling .0 → heldAt (after e (opens own sheet) .table) a r ≡ true → ⊥
@@ -205,35 +205,35 @@ nothing-held e own sheet n a r =
     (λ to h. true≢false (sym h ∙ held-cleared (e .table) (filled sheet .ceiling .0) a r to))
 
 -- the newest call took it, or it was held before
-stored-by : (x : Opening) (c : Call) (l : List Call) → AllInRange (c ∷ l) → (a r : ℕ) (p : Content) (d : ℕ) → r ≤ after (afterCalls (opening x) l) c .state .settings .ceiling .0
-    → Holds (after (afterCalls (opening x) l) c .table) a r p d
-    → (r ≤ afterCalls (opening x) l .state .settings .ceiling .0 → Holds (afterCalls (opening x) l .table) a r p d → Stored (opening x) l p d)
-    → Stored (opening x) (c ∷ l) p d
+stored-by : (x : Opening) (c : Call) (l : List Call) → AllInRange (c ∷ l) → (a r : ℕ) (p : Content) (d : ℕ) → r ≤ after (afterCalls (afterOpening x) l) c .state .settings .ceiling .0
+    → Holds (after (afterCalls (afterOpening x) l) c .table) a r p d
+    → (r ≤ afterCalls (afterOpening x) l .state .settings .ceiling .0 → Holds (afterCalls (afterOpening x) l .table) a r p d → Stored (afterOpening x) l p d)
+    → Stored (afterOpening x) (c ∷ l) p d
 stored-by x c l i a r p d to h older = by (ℕ-discrete (refusalFor e c) 0)
   where
     e : Engine
-    e = afterCalls (opening x) l
+    e = afterCalls (afterOpening x) l
 
-    g : Reached e
-    g = reached x l (i .1)
+    g : Intact e
+    g = intact (reached x l (i .1))
 
-    before : NoOpen e c → Holds (e .table) a r p d → Stored (opening x) (c ∷ l) p d
+    before : NoOpen e c → Holds (e .table) a r p d → Stored (afterOpening x) (c ∷ l) p d
     before o y =
         inr (o, older (subst (λ (S : Settings). r ≤ S .ceiling .0) (good-after (g .good) c (i .0) o .settings ∙ sym (g .good .settings)) to) y)
 
     no-open : (IsOpen c → ⊥) → NoOpen e c
     no-open f own sheet q n = f (subst IsOpen (sym q) (is-open own sheet))
 
-    accepted : refusalFor e c ≡ 0 → Holds (renewed e c .table) a r p d → Stores e c → Stored (opening x) (c ∷ l) p d
+    accepted : refusalFor e c ≡ 0 → Holds (renewed e c .table) a r p d → Stores e c → Stored (afterOpening x) (c ∷ l) p d
     accepted n y (clears own sheet q) = absurd (nothing-held e own sheet (rw q at n) a r (rw q at to) (rw q at (h .held)))
     accepted n y (keeps f s) = before (no-open f) (holds-same (same-back (s a r)) y)
     accepted n y (puts q j t) = go (taken-or-held e (g .good) c (i .0) n q j t y)
       where
-        go : Takes e c p d ⊎ Holds (e .table) a r p d → Stored (opening x) (c ∷ l) p d
+        go : Takes e c p d ⊎ Holds (e .table) a r p d → Stored (afterOpening x) (c ∷ l) p d
         go (inl k) = inl (n, k)
         go (inr z) = before (taking-no-open e c q j t) z
 
-    by : Dec (refusalFor e c ≡ 0) → Stored (opening x) (c ∷ l) p d
+    by : Dec (refusalFor e c ≡ 0) → Stored (afterOpening x) (c ∷ l) p d
     by (yes n) = accepted n (subst (λ (z : Engine). Holds (z .table) a r p d) (accepted-new e c n) h) (stores e c n)
     by (no n) = before (λ own sheet q. n) (subst (λ (z : Engine). Holds (z .table) a r p d) (refused-same e c n) h)
 

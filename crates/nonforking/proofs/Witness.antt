@@ -15,25 +15,25 @@ use Rattle.base.specs.Folds.{tab, anyTo, allTo, sumTo}
 use Rattle.base.specs.Sets.{mem, isIn, add, isEmpty}
 use Rattle.agreement.specs.Places.{isPlace, put, mark}
 use Rattle.agreement.specs.Histories.{level, inHistory}
-use Rattle.agreement.specs.Commits.{used, anchorAt, blockOf, blocksOf, taken, committed}
+use Rattle.agreement.specs.Commits.{inChain, anchorAt, blockOf, blocksOf, taken, committed}
 use Rattle.agreement.specs.Entries.{states}
 use Rattle.agreement.specs.Listing.{listing}
 use Rattle.terms.specs.declared.Transaction.{Transaction}
 use Rattle.terms.specs.declared.Transaction.the-variants.{Bond}
 use Rattle.terms.specs.declared.Body.{Body}
 use Rattle.terms.specs.declared.Proposal.{Proposal}
-use Rattle.terms.specs.Proposals.{Content, slotOf, transactionsOf, badTransactions, allInRange, badPreviousSet, same, sameTransactions}
+use Rattle.terms.specs.Proposals.{Content, slotOf, transactionsOf, badTransactions, allInRange, badPreviousSet, sameProposal, sameTransactions}
 use Rattle.terms.specs.Transactions.{noTransaction, bondInRange, sameTransaction}
 use Rattle.sheet.specs.declared.Setting.the-variants.{Blank, Written}
 use Rattle.sheet.specs.declared.Sheet.{Sheet}
 use Rattle.sheet.specs.declared.Settings.{Settings}
 use Rattle.sheet.specs.Sheets.{blankWeight, weightAt, filled, marginOf}
-use Rattle.sheet.specs.Ranges.{outside, outOfRange, weightless, weightIn}
+use Rattle.sheet.specs.Ranges.{notWithin, outOfRange, weightless, weightIn}
 use Rattle.committee.specs.Changes.{changes, changesOf, row, rows}
 use Rattle.committee.specs.Committees.{committeeBy, leaderBy, stepFrom, bondedFrom, committeeOf, startOf, ordered, knownBy, boundOf, quorumWeight, outsider, short, quorum}
 use Rattle.committee.specs.Leaders.{countBelow, memberBelow, memberAt, leaderOf}
 use Rattle.rules.specs.Tests.{committeeIn, badRound, signersOf, above, unknown, missing, unvoted}
-use Rattle.rules.specs.Calls.{verdict, after, result}
+use Rattle.rules.specs.Calls.{ruledRefusal, after, result}
 use Rattle.rules.proofs.Runs.{Group, viewAfter, chainAfter}
 use Rattle.rules.proofs.RuleRuns.{onViews}
 use Rattle.rules.proofs.RunTestLaws.{run-found}
@@ -60,7 +60,7 @@ unfolding filled tab weightAt blankWeight
 sheet-filled = refl
 
 pub sheet-accepted : (k : ℕ) → ltb k 3 ≡ true → openRefusal (replicate 1360 0) (record { 0 = k }) (filled sheet) ≡ 0
-unfolding openRefusal outOfRange outside weightless anyTo
+unfolding openRefusal outOfRange notWithin weightless anyTo
 sheet-accepted k h =
     let i = ltb-true k 3 h in
     rw sheet-filled (passes 4 _ (le-ltb 15 k (omega arith)) ∙ passes 2 _ refl ∙ passes 3 _ refl ∙ passes 1 _ refl ∙ passes-all)
@@ -177,7 +177,7 @@ pub record Witness : Type 0 where
 -- ---- the proof: all is computed on the views of the rules
 
 pub settings-fit : outOfRange settings ≡ false
-unfolding outOfRange outside anyTo
+unfolding outOfRange notWithin anyTo
 settings-fit = refl
 
 -- the members' views, after the same calls
@@ -198,7 +198,7 @@ record Computed : Type 0 where
   enough-after : quorum (marginOf settings) (committeeIn settings (viewAfter views calls 1) 4) (isIn 9) ≡ true
 
 computed : Computed
-unfolding transactionsOf slotOf tab states result verdict after put mark isPlace refusal badTransactions allInRange bondInRange badPreviousSet isEmpty unknown knownBy committeeOf committeeBy leaderBy stepFrom bondedFrom startOf ordered rows row changesOf changes above missing quorum outsider short quorumWeight boundOf anyTo sumTo isIn mem add signersOf badRound same sameTransactions sameTransaction unvoted anchorAt leaderOf memberAt memberBelow countBelow used blockOf blocksOf taken committed level inHistory listing isMade isSigned isBounded isFair isRun allTo
+unfolding transactionsOf slotOf tab states result ruledRefusal after put mark isPlace refusal badTransactions allInRange bondInRange badPreviousSet isEmpty unknown knownBy committeeOf committeeBy leaderBy stepFrom bondedFrom startOf ordered rows row changesOf changes above missing quorum outsider short quorumWeight boundOf anyTo sumTo isIn mem add signersOf badRound sameProposal sameTransactions sameTransaction unvoted anchorAt leaderOf memberAt memberBelow countBelow inChain blockOf blocksOf taken committed level inHistory listing isMade isSigned isBounded isFair isRun allTo
 computed =
     record {
       plain = refl;

@@ -79,10 +79,11 @@ pub data Takes (e : Engine) : Call → Content → ℕ → Type 0 where
   certifies : (d : ℕ) → Takes e (certify d) (draft e (e .state .body)) d
   accepts : (c : Certificate) → Takes e (accept c) (contentOf (c .proposal)) (c .endorsers)
 
--- the call is a propose or an endorse of p
+-- the call is a propose of p
 pub data Proposes (e : Engine) : Call → Content → Type 0 where
   proposes : (b : Body) → Proposes e (propose b) (draft e b)
 
+-- the call is an endorse of p
 pub data Endorses : Call → Content → Type 0 where
   endorses : (p : Proposal) → Endorses (endorse p) (contentOf p)
 

@@ -10,7 +10,7 @@ use Rattle.checks.specs.declared.Answer.the-variants.{Accepted}
 use Rattle.reads.specs.Reads.{certificateAnswer}
 use Rattle.engine.specs.Calls.{Call}
 use Rattle.engine.specs.Engine.{Engine, refusalFor}
-use Rattle.engine.specs.Sequences.{afterCalls, AllInRange, NoOpen, NoOpens, Opening, opening}
+use Rattle.engine.specs.Sequences.{afterCalls, AllInRange, NoOpen, NoOpens, Opening, afterOpening}
 use Rattle.nonforking.specs.Statement.{Takes}
 
 -- the table t holds the certificate of author a and round r, with its proposal p and its endorsers d
@@ -38,13 +38,13 @@ CertificateStays = (e : Engine) (l : List Call) → NoOpens e l → (a r : ℕ) 
 
 -- from an opening: what an accepted certify or accept took since the last accepted open is held, with the endorsers that it took it with
 abbrev pub StoredHeld : Type 0
-StoredHeld = (x : Opening) (l : List Call) → AllInRange l → (p : Content) (d : ℕ) → Stored (opening x) l p d → Holds (afterCalls (opening x) l .table) (p .author) (p .round) p d
+StoredHeld = (x : Opening) (l : List Call) → AllInRange l → (p : Content) (d : ℕ) → Stored (afterOpening x) l p d → Holds (afterCalls (afterOpening x) l .table) (p .author) (p .round) p d
 
 -- and what is held an accepted certify or accept took, with those endorsers
 abbrev pub HeldStored : Type 0
-HeldStored = (x : Opening) (l : List Call) → AllInRange l → (a r : ℕ) (p : Content) (d : ℕ) → r ≤ afterCalls (opening x) l .state .settings .ceiling .0
-    → Holds (afterCalls (opening x) l .table) a r p d → Stored (opening x) l p d
+HeldStored = (x : Opening) (l : List Call) → AllInRange l → (a r : ℕ) (p : Content) (d : ℕ) → r ≤ afterCalls (afterOpening x) l .state .settings .ceiling .0
+    → Holds (afterCalls (afterOpening x) l .table) a r p d → Stored (afterOpening x) l p d
 
 -- what is held so, the read shows
 abbrev pub StoredShown : Type 0
-StoredShown = (x : Opening) (l : List Call) → AllInRange l → (p : Content) (d : ℕ) → Stored (opening x) l p d → Shows (afterCalls (opening x) l) (p .author) (p .round) p d
+StoredShown = (x : Opening) (l : List Call) → AllInRange l → (p : Content) (d : ℕ) → Stored (afterOpening x) l p d → Shows (afterCalls (afterOpening x) l) (p .author) (p .round) p d

@@ -9,7 +9,7 @@ use lib.Dec.{ltb}
 use borrow.Author.Tests.{ltb-false}
 use Rattle.base.proofs.CheckLaws.{cleared}
 use Rattle.terms.specs.declared.Member.{Member}
-use Rattle.store.specs.Table.{used, Row}
+use Rattle.store.specs.Table.{usedLength, Row}
 use Rattle.writes.specs.Writes.{clearUsed}
 use Rattle.writes.proofs.ClearLaws.{cleared-take}
 use Rattle.sheet.specs.declared.Settings.{Settings}
@@ -30,22 +30,22 @@ pub record Opened (t : List ℕ) (own : Member) (S : Settings) : Type 0 where
 pub opened : (t : List ℕ) (own : Member) (S : Settings) → openRefusal t own S ≡ 0 → Opened t own S
 unfolding openRefusal
 opened t own S e =
-    let short = ltb (length t) (used (S .ceiling .0)) in
+    let short = ltb (length t) (usedLength (S .ceiling .0)) in
     let p = cleared (ltb 15 (own .0)) 4 ((outOfRange S, 2) ∷ (weightless S, 3) ∷ (short, 1) ∷ []) (omega arith) e in
     let q = cleared (outOfRange S) 2 ((weightless S, 3) ∷ (short, 1) ∷ []) (omega arith) (p .1) in
     let r = cleared (weightless S) 3 ((short, 1) ∷ []) (omega arith) (q .1) in
     let u = cleared short 1 [] (omega arith) (r .1) in
     let h = ltb-false 15 (own .0) (p .0) in
-    record { member = omega arith; in-range = q .0; weighty = r .0; long = ltb-false (length t) (used (S .ceiling .0)) (u .0) }
+    record { member = omega arith; in-range = q .0; weighty = r .0; long = ltb-false (length t) (usedLength (S .ceiling .0)) (u .0) }
 
 -- the used part of the table of an accepted open is cleared
-pub opened-take : (t : List ℕ) (own : Member) (a : Sheet) → openRefusal t own (filled a) ≡ 0 → take (used (filled a .ceiling .0)) (openTable t own a) ≡ replicate (used (filled a .ceiling .0)) 0
+pub opened-take : (t : List ℕ) (own : Member) (a : Sheet) → openRefusal t own (filled a) ≡ 0 → take (usedLength (filled a .ceiling .0)) (openTable t own a) ≡ replicate (usedLength (filled a .ceiling .0)) 0
 unfolding openTable
 opened-take t own a h = rw (if-accepted-new (openRefusal t own (filled a)) (clearUsed t (filled a .ceiling .0)) t h) (cleared-take t (filled a .ceiling .0))
 
 -- sheets with equal filled settings open equal states and, in the used part, equal tables, whatever was there before
 pub same-opened : (s v : State) (t u : List ℕ) (own : Member) (a b : Sheet) → filled a ≡ filled b → openRefusal t own (filled a) ≡ 0 → openRefusal u own (filled b) ≡ 0
-    → (openOutcome s t own a ≡ openOutcome v u own b) × (take (used (filled a .ceiling .0)) (openTable t own a) ≡ take (used (filled a .ceiling .0)) (openTable u own b))
+    → (openOutcome s t own a ≡ openOutcome v u own b) × (take (usedLength (filled a .ceiling .0)) (openTable t own a) ≡ take (usedLength (filled a .ceiling .0)) (openTable u own b))
 unfolding openOutcome
 same-opened s v t u own a b e h k = (
   sym (outcome-accepted {n = openRefusal t own (filled a)} refl (freshState own (filled a)) s h)

@@ -6,7 +6,7 @@ use lib.ListN.{length, replicate}
 use lib.Dec.{ltb}
 use Rattle.base.specs.Checks.{Checks, refusal}
 use Rattle.terms.specs.declared.Member.{Member}
-use Rattle.store.specs.Table.{used}
+use Rattle.store.specs.Table.{usedLength}
 use Rattle.writes.specs.Writes.{clearUsed}
 use Rattle.sheet.specs.declared.Settings.{Settings}
 use Rattle.sheet.specs.declared.Sheet.{Sheet}
@@ -35,7 +35,7 @@ freshState own S = fresh own S noBody
 
 -- 4 member above 15; 2 setting out of range; 3 no positive weight; 1 lent table too short
 abbrev pub opening : List ℕ → Member → Settings → Checks
-opening t own S = (ltb 15 (own .0), 4) ∷ (outOfRange S, 2) ∷ (weightless S, 3) ∷ (ltb (length t) (used (S .ceiling .0)), 1) ∷ []
+opening t own S = (ltb 15 (own .0), 4) ∷ (outOfRange S, 2) ∷ (weightless S, 3) ∷ (ltb (length t) (usedLength (S .ceiling .0)), 1) ∷ []
 
 unfoldable pub openRefusal : List ℕ → Member → Settings → ℕ
 openRefusal t own S = refusal (opening t own S)

@@ -30,7 +30,7 @@ fn is_taken(s: State, t: &[u32]) -> bool
 }
 
 // Checks 8, 9, 11, 12.
-fn committee_refusal(cache: &[u64], s: State, t: &[u32], b: Body) -> u32
+fn membership_refusal(cache: &[u64], s: State, t: &[u32], b: Body) -> u32
     requires { ⌜ Formed s (now t) × CachesFor s (now t) (now cache) ⌝ }
     ensures { λ v. ⌜ v ≡ refusal (drop 3 (proposing (s .settings) (s .own .0) (view s (now (t .entry))) (contentWith (s .own .0) (s .round .0) b))) ⌝ }
 {
@@ -76,7 +76,7 @@ fn propose_refusal(formed: bool, cache: &[u64], s: State, t: &[u32], b: Body) ->
     if is_taken(s, t) {
         return 10;
     }
-    committee_refusal(cache, s, t, b)
+    membership_refusal(cache, s, t, b)
 }
 
 // The call, where it is told whether the state is well formed, and committees may be cached.

@@ -19,18 +19,18 @@ use Rattle.rules.specs.Reads.{blockNumber, roundOf}
 
 module _ (n : ℕ) (t : List ℕ) where
   -- block j of the first k is the one that the table tells
-  chain-block : (k j : ℕ) → 0 < j → j ≤ k → chains.blockAt (chainOf n t k) j ≡ some (blockAt n t j)
-  unfolding chains.blockAt
+  chain-block : (k j : ℕ) → 0 < j → j ≤ k → chains.blockNumbered (chainOf n t k) j ≡ some (blockAt n t j)
+  unfolding chains.blockNumbered
   chain-block zero j h l = absurd (omega arith)
   chain-block (suc k) j h l = rw (chain-more n t k, chain-length n t k) (go (eqb j (suc k)) refl (λ i. chain-block k j h i))
     where
-      go : (b : Bool) → eqb j (suc k) ≡ b → (j ≤ k → chains.blockAt (chainOf n t k) j ≡ some (blockAt n t j))
-          → _≡_ {A = Option (Block Content)} (cond b (some (blockAt n t (suc k))) (chains.blockAt (chainOf n t k) j)) (some (blockAt n t j))
+      go : (b : Bool) → eqb j (suc k) ≡ b → (j ≤ k → chains.blockNumbered (chainOf n t k) j ≡ some (blockAt n t j))
+          → _≡_ {A = Option (Block Content)} (cond b (some (blockAt n t (suc k))) (chains.blockNumbered (chainOf n t k) j)) (some (blockAt n t j))
       go true e f = ap (λ (i : ℕ). some (blockAt n t i)) (sym (eqb-true j (suc k) e))
       go false e f = let d = eqb-false j (suc k) e in f (omega arith)
 
   -- and so its round
-  pub chain-round : (k j : ℕ) → 0 < j → j ≤ k → roundOf (chains.blockAt (chainOf n t k) j) ≡ blockRound t j
+  pub chain-round : (k j : ℕ) → 0 < j → j ≤ k → roundOf (chains.blockNumbered (chainOf n t k) j) ≡ blockRound t j
   chain-round k j h l = rw (chain-block k j h l) (block-round n t j)
 
   module _ (a r : ℕ) (from : 0 < r) (to : r ≤ n) (held : heldAt t a r ≡ true) where

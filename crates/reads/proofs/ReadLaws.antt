@@ -38,7 +38,7 @@ use Rattle.reads.specs.declared.ShareRead.the-variants as share
 use Rattle.reads.specs.declared.CertificateRead.{CertificateRead}
 use Rattle.reads.specs.declared.BlockRead.{BlockRead}
 use Rattle.reads.specs.declared.BlockRead.the-variants as block
-use Rattle.reads.specs.Reads.{noProposal, shown, committeeRefusal, committeeAnswer, shareRefusal, shareAnswer, certificateRefusal, certificateAnswer, blockRefusal, blockAnswer}
+use Rattle.reads.specs.Reads.{noProposal, proposalShown, committeeRefusal, committeeAnswer, shareRefusal, shareAnswer, certificateRefusal, certificateAnswer, blockRefusal, blockAnswer}
 use Rattle.reads.proofs.BlockLaws.{chain-round, mark-number}
 
 -- a held certificate of a well-formed state, at the place of member m and round r
@@ -139,7 +139,7 @@ module _ (s : State) (t : List ℕ) where
         rw (
           ← q,
           answer-refused n h,
-          if-accepted-old n (shown (view s t .dag m r)) noProposal h,
+          if-accepted-old n (proposalShown (view s t .dag m r)) noProposal h,
           if-accepted-old n (endorsersAt t m r) 0 h,
           if-accepted-old n (rules.blockNumber (view s t .chain) m r) 0 h,
         )
@@ -156,7 +156,7 @@ module _ (s : State) (t : List ℕ) where
         rw (
           ← q,
           answer-accepted n e,
-          if-accepted-new n (shown (view s t .dag m r)) noProposal e,
+          if-accepted-new n (proposalShown (view s t .dag m r)) noProposal e,
           if-accepted-new n (endorsersAt t m r) 0 e,
           if-accepted-new n (rules.blockNumber (view s t .chain) m r) 0 e,
           d,

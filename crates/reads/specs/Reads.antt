@@ -27,9 +27,9 @@ abbrev pub noProposal : Proposal
 noProposal = record { author = record { 0 = 0 }; round = record { 0 = 0 }; body = noBody }
 
 -- a certificate as it is handed out, nothing where there is none
-abbrev pub shown : Option Content → Proposal
-shown none = noProposal
-shown (some p) = proposalOf p
+abbrev pub proposalShown : Option Content → Proposal
+proposalShown none = noProposal
+proposalShown (some p) = proposalOf p
 
 module _ (s : State) (t : List ℕ) where
   -- committee (5, 8): sixteen weights, 0 for a non-member
@@ -58,7 +58,7 @@ module _ (s : State) (t : List ℕ) where
   certificateAnswer m r =
       record {
         answer = answerOf (certificateRefusal m r);
-        proposal = ifAccepted (certificateRefusal m r) (shown (view s t .dag m r)) noProposal;
+        proposal = ifAccepted (certificateRefusal m r) (proposalShown (view s t .dag m r)) noProposal;
         endorsers = ifAccepted (certificateRefusal m r) (endorsersAt t m r) 0;
         block = ifAccepted (certificateRefusal m r) (rules.blockNumber (view s t .chain) m r) 0;
       }

@@ -17,7 +17,7 @@ use Rattle.commit.specs.Answers.{addedValue}
 use Rattle.commit.specs.Commit.{commitOutcome}
 use Rattle.engine.specs.Calls.{Call, commit, aside, listing}
 use Rattle.engine.specs.Engine.{Engine, refusalFor, after}
-use Rattle.engine.specs.Values.{nothing, given}
+use Rattle.engine.specs.Values.{nothing, acceptedValue}
 use Rattle.engine.proofs.OutcomeLaws.{commit-answer}
 use Rattle.requests.specs.declared.Kind.{Kind}
 use Rattle.requests.specs.declared.Reading.{Reading}
@@ -26,13 +26,14 @@ use Rattle.lines.specs.Puts.{Puts}
 use Rattle.replies.specs.Answers.{answerLine, committedLine}
 use Rattle.listing.specs.Listing.{chainLines}
 use Rattle.lines.proofs.PutLaws.{puts-as}
-use Rattle.replies.specs.Records.{callAs, callOf, linesFor, servedEngine, servedLines, RecordAnswered}
+use Rattle.replies.specs.Asked.{callAs, callOf}
+use Rattle.replies.specs.Records.{linesFor, servedEngine, servedLines, RecordAnswered}
 
 -- ---- the lines of a call
 
 module _ (e : Engine) where
   -- of one that gives no value: by its answer
-  pub answer-lines : (c : Call) → given e c ≡ nothing → answerLine (answerOf (refusalFor e c)) ≡ linesFor e c
+  pub answer-lines : (c : Call) → acceptedValue e c ≡ nothing → answerLine (answerOf (refusalFor e c)) ≡ linesFor e c
   unfolding linesFor answerOf
   answer-lines c h = rw h (go (eqb (refusalFor e c) 0))
     where

@@ -13,7 +13,7 @@ use Rattle.commit.specs.declared.Outcome as committed
 use Rattle.commit.specs.Commit.{commitOutcome, commitTableAfter}
 use Rattle.engine.specs.Calls.{Call, commit, InRange}
 use Rattle.engine.specs.Engine.{Engine, after}
-use Rattle.engine.specs.Values.{nothing, given}
+use Rattle.engine.specs.Values.{nothing, acceptedValue}
 use Rattle.engine.specs.Steps.{ruled, SetInRange}
 use Rattle.engine.proofs.OutcomeLaws.{outcomeFor}
 use Rattle.engine.proofs.CachedLaws.{leavesChain, formed-after, cached-after}
@@ -26,7 +26,7 @@ use Rattle.replies.proofs.RecordLaws.{answer-lines, commit-lines, call-
 
 module _ (e : Engine) {r : Reply} {t : List ℕ} {x : List ℕ} {y : List ℕ} {at : ℕ} where
   -- c is a member's call, which gives no value; o is what it has come to, b whether the state was well formed
-  module _ (low : SetInRange e) (c : Call) (i : InRange c) (v : given e c ≡ nothing) {o : called.Outcome} (h : o ≡ outcomeFor e c) (d : t ≡ after e c .table) (b : Bool)
+  module _ (low : SetInRange e) (c : Call) (i : InRange c) (v : acceptedValue e c ≡ nothing) {o : called.Outcome} (h : o ≡ outcomeFor e c) (d : t ≡ after e c .table) (b : Bool)
       (p : OutcomeReplied (o .state) (formedBy b (o .answer)) (answerLine (o .answer)) r x y at) where
     pub replied-formed : b ≡ wellFormed (e .state) (e .table) → r .formed ≡ wellFormed (r .state) t
     replied-formed w = rw (p .its-state, p .its-formed, d, h) (formed-after e low c i w)

@@ -1,4 +1,4 @@
--- What a record does: the engine's call that it asks for, the engine after it, and the lines that answer it.
+-- What a record does: the engine after it, and the lines that answer it.
 use mathlib.Core.Path.{_≡_}
 use mathlib.Core.Bool.{cond}
 use mathlib.Core.List.{List, _++_}
@@ -6,16 +6,11 @@ use mathlib.Core.Option.{Option, none, some}
 use Prim.Native.Nat.{ℕ, _+_, _*_}
 use lib.ListN.{length}
 use lib.Dec.{eqb}
-use Rattle.terms.specs.declared.Proposal.{Proposal}
-use Rattle.terms.specs.declared.Certificate.{Certificate}
 use Rattle.sheet.specs.declared.Settings.{Settings}
 use Rattle.state.specs.declared.State.{State}
-use Rattle.engine.specs.Calls.{Call, opens, propose, endorse, certify, accept, advance, commit, aside, listing}
+use Rattle.engine.specs.Calls.{Call}
 use Rattle.engine.specs.Engine.{Engine, refusalFor, after}
-use Rattle.engine.specs.Values.{Value, nothing, number, weights, held, chain, given}
-use Rattle.requests.specs.declared.Kind.{Kind}
-use Rattle.requests.specs.declared.Kind.the-variants.{Unreadable, Open, Propose, Endorse, Certify, Accept, Advance, Commit, Chain}
-use Rattle.requests.specs.declared.Reading.{Reading}
+use Rattle.engine.specs.Values.{Value, nothing, number, weights, held, chain, acceptedValue}
 use Rattle.lines.specs.Lines.{okLine, countLine, refusedLine}
 use Rattle.lines.specs.Puts.{Puts}
 use Rattle.listing.specs.Listing.{chainLines}
@@ -23,31 +18,6 @@ use Rattle.listing.specs.Listing.{chainLines}
 -- the engine of a state and the table lent beside it
 abbrev pub engineOf : State → List ℕ → Engine
 engineOf s t = record { state = s; table = t }
-
--- ---- the call
-
--- the proposal and the certificate that a record names
-abbrev pub proposalIn : Reading → Proposal
-proposalIn q = record { author = q .author; round = q .round; body = q .body }
-
-abbrev pub certificateIn : Reading → Certificate
-certificateIn q = record { proposal = proposalIn q; endorsers = q .endorsers }
-
--- by the record's kind
-abbrev pub callAs : Reading → Kind → Option Call
-callAs q Unreadable = none
-callAs q Open = some (opens (q .own) (q .sheet))
-callAs q Propose = some (propose (q .body))
-callAs q Endorse = some (endorse (proposalIn q))
-callAs q Certify = some (certify (q .endorsers))
-callAs q Accept = some (accept (certificateIn q))
-callAs q Advance = some advance
-callAs q Commit = some commit
-callAs q Chain = some (aside listing)
-
--- the call that a record asks for, none where it is unreadable
-unfoldable pub callOf : Reading → Option Call
-callOf q = callAs q (q .kind)
 
 -- ---- the lines
 
@@ -61,7 +31,7 @@ valueLines S (chain c) = chainLines S c ++ okLine
 
 -- of a call: its value, or the number that refuses it
 unfoldable pub linesFor : Engine → Call → List ℕ
-linesFor e c = cond (eqb (refusalFor e c) 0) (valueLines (e .state .settings) (given e c)) (refusedLine (refusalFor e c))
+linesFor e c = cond (eqb (refusalFor e c) 0) (valueLines (e .state .settings) (acceptedValue e c)) (refusedLine (refusalFor e c))
 
 -- ---- a record
 

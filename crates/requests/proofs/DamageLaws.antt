@@ -12,11 +12,11 @@ use Rattle.base.proofs.Bools.{both}
 use Rattle.requests.specs.declared.Kind.the-variants.{Unreadable}
 use Rattle.fields.specs.Fields.{untilComma, fields, fieldsFrom, lengthen}
 use Rattle.fields.proofs.FieldLaws.{fields-step}
-use Rattle.fields.specs.Numbers.{isDigit, allDigits, plain, numberTo}
+use Rattle.fields.specs.Numbers.{isDigit, allDigits, noLeadingZero, numberTo}
 use Rattle.requests.specs.Settings.{setting}
 use Rattle.fields.proofs.NumberLaws.{digit-low}
 use Rattle.fields.specs.Words.{sameBytes, namedIn}
-use Rattle.requests.specs.Kinds.{words, named}
+use Rattle.requests.specs.Kinds.{words, recordKind}
 use Rattle.fields.proofs.WordLaws.{same-bytes, names-not, names-none}
 use Rattle.requests.specs.Triples.{letters, kindNamed}
 use Rattle.requests.specs.Requests.{isMark, damaged}
@@ -65,7 +65,7 @@ digits-damaged (b ∷ f) h = go (isMark b) refl h (λ k. digits-damaged f k)
 
 pub number-damaged : (m : ℕ) → Rejects (numberTo m)
 unfolding numberTo Rejects
-number-damaged m f h = rw (digits-damaged f h, and-false (plain f)) refl
+number-damaged m f h = rw (digits-damaged f h, and-false (noLeadingZero f)) refl
 
 pub setting-damaged : Rejects setting
 unfolding setting Rejects damaged
@@ -92,6 +92,6 @@ pub kind-damaged : Rejects kindNamed
 unfolding Rejects cleanWords damaged isMark
 kind-damaged f h = named-damaged none letters refl f h
 
-pub word-damaged : (f : List ℕ) → damaged f ≡ true → named f ≡ Unreadable
+pub word-damaged : (f : List ℕ) → damaged f ≡ true → recordKind f ≡ Unreadable
 unfolding cleanWords damaged isMark
 word-damaged f h = named-damaged Unreadable words refl f h

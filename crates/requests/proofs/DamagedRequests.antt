@@ -14,9 +14,9 @@ use Rattle.requests.specs.declared.Kind.the-variants.{Unreadable, Open, 
 use Rattle.requests.specs.declared.Reading.{Reading}
 use Rattle.fields.specs.Fields.{untilComma, fields, fieldsFrom}
 use Rattle.fields.proofs.FieldLaws.{fields-step}
-use Rattle.fields.specs.Numbers.{given, number, set}
+use Rattle.fields.specs.Numbers.{ifRead, numberRead, set}
 use Rattle.requests.specs.Settings.{setting}
-use Rattle.requests.specs.Kinds.{named}
+use Rattle.requests.specs.Kinds.{recordKind}
 use Rattle.requests.specs.Triples.{kindNamed, transaction, before, atKind, atNumber, atAmount}
 use Rattle.requests.specs.Requests.{nextBy, atEnd, triplesThen, inFront, cellsIn, weightsThen, byKind, byFields, tooLong, damaged, request}
 use Rattle.requests.specs.Readings.{unreadable, advance, commit, chain}
@@ -37,7 +37,7 @@ unfolding anyDamaged
 none-damaged h = absurd (false≢true h)
 
 -- whatever is read after a field, the damage is still there
-after-damage : {A : Type 0} {B : Type 0} (o : Option A) (d : B) (k : A → B) → ((x : A) → k x ≡ d) → given o d k ≡ d
+after-damage : {A : Type 0} {B : Type 0} (o : Option A) (d : B) (k : A → B) → ((x : A) → k x ≡ d) → ifRead o d k ≡ d
 after-damage none d k h = refl
 after-damage (some x) d k h = h x
 
@@ -50,12 +50,12 @@ triples-damaged (f ∷ fs) h =
     (λ q. later (triples-damaged fs q))
   where
     later : (atKind fs ≡ none) × ((k : ℕ) → atNumber fs k ≡ none) × ((k n : ℕ) → atAmount fs k n ≡ none) →
-        (given (kindNamed f) none (λ k. atNumber fs k) ≡ none) × ((k : ℕ) → given (number f) none (λ n. atAmount fs k n) ≡ none)
-        × ((k n : ℕ) → given (number f) none (λ a. given (transaction k n a) none (λ x. before x (atKind fs))) ≡ none)
+        (ifRead (kindNamed f) none (λ k. atNumber fs k) ≡ none) × ((k : ℕ) → ifRead (numberRead f) none (λ n. atAmount fs k n) ≡ none)
+        × ((k n : ℕ) → ifRead (numberRead f) none (λ a. ifRead (transaction k n a) none (λ x. before x (atKind fs))) ≡ none)
     later t = (
       after-damage (kindNamed f) none _ (t .1),
-      λ k. after-damage (number f) none _ (t .2 k),
-      λ k n. after-damage (number f) none _ (λ a. after-damage (transaction k n a) none _ (λ x. rw (t .0) refl)),
+      λ k. after-damage (numberRead f) none _ (t .2 k),
+      λ k n. after-damage (numberRead f) none _ (λ a. after-damage (transaction k n a) none _ (λ x. rw (t .0) refl)),
     )
 
 cells-damaged : (n : ℕ) (fs : List (List ℕ)) → anyDamaged fs ≡ true → cellsIn n fs ≡ none
@@ -95,16 +95,16 @@ by-kind-damaged : (K : Kind) → Refuses (byKind K)
 unfolding Refuses
 by-kind-damaged Unreadable = λ fs h. refl
 by-kind-damaged Open =
-    next-damaged number _ (number-damaged 4294967295)
+    next-damaged numberRead _ (number-damaged 4294967295)
     (λ o. next-damaged setting _ setting-damaged (λ l. next-damaged setting _ setting-damaged (λ c. next-damaged setting _ setting-damaged (λ a. weights-damaged _))))
 by-kind-damaged Propose = next-damaged set _ (number-damaged 65535) (λ p. runs-damaged _)
 by-kind-damaged Endorse =
-    next-damaged number _ (number-damaged 4294967295)
-    (λ a. next-damaged number _ (number-damaged 4294967295) (λ r. next-damaged set _ (number-damaged 65535) (λ p. runs-damaged _)))
+    next-damaged numberRead _ (number-damaged 4294967295)
+    (λ a. next-damaged numberRead _ (number-damaged 4294967295) (λ r. next-damaged set _ (number-damaged 65535) (λ p. runs-damaged _)))
 by-kind-damaged Certify = next-damaged set _ (number-damaged 65535) (λ e. end-damaged _)
 by-kind-damaged Accept =
-    next-damaged number _ (number-damaged 4294967295)
-    (λ a. next-damaged number _ (number-damaged 4294967295)
+    next-damaged numberRead _ (number-damaged 4294967295)
+    (λ a. next-damaged numberRead _ (number-damaged 4294967295)
     (λ r. next-damaged set _ (number-damaged 65535) (λ p. next-damaged set _ (number-damaged 65535) (λ e. runs-damaged _))))
 by-kind-damaged Advance = end-damaged advance
 by-kind-damaged Commit = end-damaged commit
@@ -113,7 +113,7 @@ by-kind-damaged Chain = end-damaged chain
 by-fields-damaged : Refuses byFields
 unfolding Refuses
 by-fields-damaged [] h = refl
-by-fields-damaged (w ∷ fs) h = first-or-later w fs h (λ q. rw (word-damaged w q) refl) (λ q. by-kind-damaged (named w) fs q)
+by-fields-damaged (w ∷ fs) h = first-or-later w fs h (λ q. rw (word-damaged w q) refl) (λ q. by-kind-damaged (recordKind w) fs q)
 
 -- a record that is too long asks for nothing, and another for what its fields say
 pub request-long : (s : List ℕ) → 1022 < length s → request s ≡ unreadable
@@ -129,5 +129,5 @@ request-fields s h = rw (le-ltb 1022 (length s) h) (go (damaged s) refl)
     go false q = refl
 
 -- what the first field names decides on the others
-pub request-by : (s f : List ℕ) (K : Kind) → length s ≤ 1022 → f ≡ untilComma s → named f ≡ K → request s ≡ byKind K (fieldsFrom s (length f + 1))
+pub request-by : (s f : List ℕ) (K : Kind) → length s ≤ 1022 → f ≡ untilComma s → recordKind f ≡ K → request s ≡ byKind K (fieldsFrom s (length f + 1))
 request-by s f K h e n = request-fields s h ∙ rw (fields-step s, ← e, n) refl

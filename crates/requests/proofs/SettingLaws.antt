@@ -13,7 +13,7 @@ use Rattle.requests.specs.declared.setting.SettingRead.{SettingRead}
 use Rattle.requests.specs.declared.setting.SettingRead.the-variants.{NoSetting, Is}
 use Rattle.fields.specs.Fields.{fieldsFrom}
 use Rattle.fields.proofs.FieldLaws.{from-step, from-none}
-use Rattle.fields.specs.Numbers.{number}
+use Rattle.fields.specs.Numbers.{numberRead}
 use Rattle.requests.specs.Settings.{setting}
 use Rattle.fields.specs.Cursor.{firstBy, rest, Stepped}
 use Rattle.requests.specs.Requests.{inFront, cellsIn}
@@ -25,12 +25,12 @@ unfolding setting
 blank-field [] h = refl
 blank-field (b ∷ f) h = absurd (omega arith)
 
-pub written-field : (f : List ℕ) (n : ℕ) → (length f ≡ 0 → ⊥) → number f ≡ some n → setting f ≡ some (Written n)
+pub written-field : (f : List ℕ) (n : ℕ) → (length f ≡ 0 → ⊥) → numberRead f ≡ some n → setting f ≡ some (Written n)
 unfolding setting
 written-field [] n h e = absurd (h refl)
 written-field (b ∷ f) n h e = rw e refl
 
-pub no-field : (f : List ℕ) → (length f ≡ 0 → ⊥) → number f ≡ none → setting f ≡ none
+pub no-field : (f : List ℕ) → (length f ≡ 0 → ⊥) → numberRead f ≡ none → setting f ≡ none
 unfolding setting
 no-field [] h e = absurd (h refl)
 no-field (b ∷ f) h e = rw e refl

@@ -36,17 +36,17 @@ unfoldable pub pushAll : Body → List Transaction → Body
 pushAll b [] = b
 pushAll b (x ∷ l) = pushAll (push b x) l
 
-abbrev pub refusedTriples : Triples
-refusedTriples = record { ok = false; body = bodyOf 0 [] }
+abbrev pub unreadableTriples : Triples
+unreadableTriples = record { ok = false; body = bodyOf 0 [] }
 
 -- what reading transactions into a body comes to
 abbrev pub onto : Body → Option (List Transaction) → Triples
-onto b none = refusedTriples
+onto b none = unreadableTriples
 onto b (some l) = record { ok = true; body = pushAll b l }
 
 -- what adding one transaction comes to
 abbrev pub addedTo : Body → Option Transaction → Triples
-addedTo b none = refusedTriples
+addedTo b none = unreadableTriples
 addedTo b (some x) = record { ok = true; body = push b x }
 
 -- a place in a record where triples may go on, with few of them before it

@@ -43,5 +43,5 @@ words =
     ∷ []
 
 -- what a field names as the first of a record
-abbrev pub named : List ℕ → Kind
-named f = namedIn Unreadable words f
+abbrev pub recordKind : List ℕ → Kind
+recordKind f = namedIn Unreadable words f

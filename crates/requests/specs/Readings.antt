@@ -18,7 +18,7 @@ use Rattle.requests.specs.declared.triple.Triples.{Triples}
 use Rattle.requests.specs.declared.setting.SettingRead.{SettingRead}
 use Rattle.requests.specs.declared.setting.SettingRead.the-variants.{NoSetting, Is}
 use Rattle.requests.specs.declared.setting.Weights.{Weights}
-use Rattle.requests.specs.Bodies.{bodyOf, refusedTriples}
+use Rattle.requests.specs.Bodies.{bodyOf, unreadableTriples}
 
 -- a call of a kind with its author, round, body and endorsers
 abbrev pub callReading : Kind → ℕ → ℕ → Body → ℕ → Reading
@@ -85,7 +85,7 @@ chain = plainReading Chain
 
 -- triples, with a previous set
 abbrev pub triplesOf : ℕ → Option (List Transaction) → Triples
-triplesOf p none = refusedTriples
+triplesOf p none = unreadableTriples
 triplesOf p (some l) = record { ok = true; body = bodyOf p l }
 
 -- a setting, and sixteen weights

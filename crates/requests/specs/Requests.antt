@@ -11,17 +11,17 @@ use Rattle.sheet.specs.declared.Cell.{Cell}
 use Rattle.requests.specs.declared.Kind.{Kind}
 use Rattle.requests.specs.declared.Kind.the-variants.{Unreadable, Open, Propose, Endorse, Certify, Accept, Advance, Commit, Chain}
 use Rattle.fields.specs.Fields.{fields}
-use Rattle.fields.specs.Numbers.{given, number, set}
+use Rattle.fields.specs.Numbers.{ifRead, numberRead, set}
 use Rattle.requests.specs.Settings.{setting}
 use Rattle.requests.specs.Triples.{atKind}
-use Rattle.requests.specs.Kinds.{named}
+use Rattle.requests.specs.Kinds.{recordKind}
 use Rattle.requests.specs.declared.Reading.{Reading}
 use Rattle.requests.specs.Readings.{unreadable, openAs, propose, endorse, certify, accept, advance, commit, chain}
 
 -- a field that p reads comes next; k has what it holds, and the fields after it
 unfoldable pub nextBy : {A : Type 0} → (List ℕ → Option A) → List (List ℕ) → (A → List (List ℕ) → Reading) → Reading
 nextBy p [] k = unreadable
-nextBy p (f ∷ fs) k = given (p f) unreadable (λ x. k x fs)
+nextBy p (f ∷ fs) k = ifRead (p f) unreadable (λ x. k x fs)
 
 -- no field comes next
 unfoldable pub atEnd : List (List ℕ) → Reading → Reading
@@ -30,7 +30,7 @@ atEnd (f ∷ fs) r = unreadable
 
 -- triples come next, and nothing else
 unfoldable pub triplesThen : List (List ℕ) → (List Transaction → Reading) → Reading
-triplesThen fs k = given (atKind fs) unreadable k
+triplesThen fs k = ifRead (atKind fs) unreadable k
 
 -- one setting more in front
 abbrev pub inFront : Option Setting → Option (List Cell) → Option (List Cell)
@@ -47,26 +47,26 @@ cellsIn (suc n) (f ∷ fs) = inFront (setting f) (cellsIn n fs)
 
 -- sixteen weights come next, and nothing else
 unfoldable pub weightsThen : List (List ℕ) → (List Cell → Reading) → Reading
-weightsThen fs k = given (cellsIn 16 fs) unreadable k
+weightsThen fs k = ifRead (cellsIn 16 fs) unreadable k
 
 -- the fields after the first, by what that one names
 abbrev pub openOf : List (List ℕ) → Reading
 openOf fs =
-    nextBy number fs (λ own fs. nextBy setting fs (λ l fs. nextBy setting fs (λ c fs. nextBy setting fs (λ a fs.
+    nextBy numberRead fs (λ own fs. nextBy setting fs (λ l fs. nextBy setting fs (λ c fs. nextBy setting fs (λ a fs.
     weightsThen fs (λ w. openAs own (record { lookback = l; ceiling = c; allowance = a; weights = w }))))))
 
 abbrev pub proposeOf : List (List ℕ) → Reading
 proposeOf fs = nextBy set fs (λ p fs. triplesThen fs (λ l. propose p l))
 
 abbrev pub endorseOf : List (List ℕ) → Reading
-endorseOf fs = nextBy number fs (λ a fs. nextBy number fs (λ r fs. nextBy set fs (λ p fs. triplesThen fs (λ l. endorse a r p l))))
+endorseOf fs = nextBy numberRead fs (λ a fs. nextBy numberRead fs (λ r fs. nextBy set fs (λ p fs. triplesThen fs (λ l. endorse a r p l))))
 
 abbrev pub certifyOf : List (List ℕ) → Reading
 certifyOf fs = nextBy set fs (λ e fs. atEnd fs (certify e))
 
 abbrev pub acceptOf : List (List ℕ) → Reading
 acceptOf fs =
-    nextBy number fs (λ a fs. nextBy number fs (λ r fs. nextBy set fs (λ p fs. nextBy set fs (λ e fs.
+    nextBy numberRead fs (λ a fs. nextBy numberRead fs (λ r fs. nextBy set fs (λ p fs. nextBy set fs (λ e fs.
     triplesThen fs (λ l. accept a r p e l)))))
 
 abbrev pub byKind : Kind → List (List ℕ) → Reading
@@ -82,7 +82,7 @@ byKind Chain fs = atEnd fs chain
 
 abbrev pub byFields : List (List ℕ) → Reading
 byFields [] = unreadable
-byFields (w ∷ fs) = byKind (named w) fs
+byFields (w ∷ fs) = byKind (recordKind w) fs
 
 -- more than 1,024 bytes with the CRLF
 unfoldable pub tooLong : List ℕ → Bool

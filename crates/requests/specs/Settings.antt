@@ -4,9 +4,9 @@ use mathlib.Core.Option.{Option, none, some}
 use Prim.Native.Nat.{ℕ}
 use Rattle.sheet.specs.declared.Setting.{Setting}
 use Rattle.sheet.specs.declared.Setting.the-variants.{Blank, Written}
-use Rattle.fields.specs.Numbers.{given, number}
+use Rattle.fields.specs.Numbers.{ifRead, numberRead}
 
 -- a setting: an empty field is blank
 unfoldable pub setting : List ℕ → Option Setting
 setting [] = some Blank
-setting (b ∷ f) = given (number (b ∷ f)) none (λ n. some (Written n))
+setting (b ∷ f) = ifRead (numberRead (b ∷ f)) none (λ n. some (Written n))

@@ -110,7 +110,7 @@ pub fn read_open(rec: &[u8], at: usize) -> Reading
     requires { ⌜ at ≤ length (now rec) + 1 ⌝ }
     ensures { λ r. ⌜ r ≡ openOf (fieldsFrom (now (rec .entry)) at) ⌝ }
 {
-    let o = fields::number::number_at(rec, at, crate::MOST);
+    let o = fields::number::read_number(rec, at, crate::MOST);
     let own = o.number;
     let Number::Of(own_number) = own else {
         return unreadable();
@@ -149,7 +149,7 @@ pub fn read_propose(rec: &[u8], at: usize) -> Reading
     requires { ⌜ (at ≤ length (now rec) + 1) × (length (now rec) ≤ 1022) ⌝ }
     ensures { λ r. ⌜ r ≡ proposeOf (fieldsFrom (now (rec .entry)) at) ⌝ }
 {
-    let p = fields::number::number_at(rec, at, crate::MOST_SET);
+    let p = fields::number::read_number(rec, at, crate::MOST_SET);
     let x = p.number;
     let Number::Of(previous) = x else {
         return unreadable();
@@ -170,17 +170,17 @@ fn read_proposal(rec: &[u8], at: usize, certified: bool) -> Reading
     requires { ⌜ (at ≤ length (now rec) + 1) × (length (now rec) ≤ 1022) ⌝ }
     ensures { λ r. ⌜ r ≡ cond certified (acceptOf (fieldsFrom (now (rec .entry)) at)) (endorseOf (fieldsFrom (now (rec .entry)) at)) ⌝ }
 {
-    let a = fields::number::number_at(rec, at, crate::MOST);
+    let a = fields::number::read_number(rec, at, crate::MOST);
     let x = a.number;
     let Number::Of(author) = x else {
         return unreadable();
     };
-    let r = fields::number::number_at(rec, a.next, crate::MOST);
+    let r = fields::number::read_number(rec, a.next, crate::MOST);
     let y = r.number;
     let Number::Of(round) = y else {
         return unreadable();
     };
-    let p = fields::number::number_at(rec, r.next, crate::MOST_SET);
+    let p = fields::number::read_number(rec, r.next, crate::MOST_SET);
     let z = p.number;
     let Number::Of(previous) = z else {
         return unreadable();
@@ -196,7 +196,7 @@ fn read_proposal(rec: &[u8], at: usize, certified: bool) -> Reading
             0,
         );
     }
-    let e = fields::number::number_at(rec, p.next, crate::MOST_SET);
+    let e = fields::number::read_number(rec, p.next, crate::MOST_SET);
     let v = e.number;
     let Number::Of(endorsers) = v else {
         return unreadable();
@@ -225,7 +225,7 @@ pub fn read_certify(rec: &[u8], at: usize) -> Reading
     requires { ⌜ at ≤ length (now rec) + 1 ⌝ }
     ensures { λ r. ⌜ r ≡ certifyOf (fieldsFrom (now (rec .entry)) at) ⌝ }
 {
-    let e = fields::number::number_at(rec, at, crate::MOST_SET);
+    let e = fields::number::read_number(rec, at, crate::MOST_SET);
     let x = e.number;
     let Number::Of(endorsers) = x else {
         return unreadable();

@@ -8,7 +8,7 @@ ghost use Prim.Native.Nat.{_<_};
 ghost use Rattle.fields.specs.Fields.{fieldsFrom};
 ghost use Rattle.fields.specs.Cursor.{found};
 ghost use Rattle.requests.specs.Triples.{kindNamed, transaction, atKind, atNumber, atAmount};
-ghost use Rattle.requests.specs.Bodies.{push, onto, addedTo, Going, refusedTriples};
+ghost use Rattle.requests.specs.Bodies.{push, onto, addedTo, Going, unreadableTriples};
 
 // What a run of triples comes to: a body, if all of them are readable.
 pub struct Triples {
@@ -17,8 +17,8 @@ pub struct Triples {
 }
 
 // An unreadable run.
-fn refused() -> Triples
-    ensures { λ r. ⌜ r ≡ refusedTriples ⌝ }
+fn unreadable() -> Triples
+    ensures { λ r. ⌜ r ≡ unreadableTriples ⌝ }
 {
     Triples {
         ok: false,
@@ -46,13 +46,13 @@ fn pushed(b: Body, x: Transaction) -> Body
 fn kind_named(f: &[u8]) -> Number
     ensures { λ r. ⌜ r ≡ found (kindNamed (now (f .entry))) ⌝ }
 {
-    if fields::word::is_same(f, b"B") {
+    if fields::word::same_bytes(f, b"B") {
         return Number::Of(0);
     }
-    if fields::word::is_same(f, b"U") {
+    if fields::word::same_bytes(f, b"U") {
         return Number::Of(1);
     }
-    if fields::word::is_same(f, b"E") {
+    if fields::word::same_bytes(f, b"E") {
         return Number::Of(2);
     }
     Number::NoNumber
@@ -65,7 +65,7 @@ fn added(body: Body, kind: u32, number: u32, amount: u32) -> Triples
 {
     if kind != 0 {
         if amount != 0 {
-            return refused();
+            return unreadable();
         }
     }
     let x = terms::read_transaction(kind, number, amount);
@@ -89,7 +89,7 @@ pub fn from_kind(rec: &[u8], at: usize, body: Body) -> Triples
     let f = fields::field::field_at(rec, at);
     let k = kind_named(f);
     let Number::Of(kind) = k else {
-        return refused();
+        return unreadable();
     };
     from_number(rec, at + f.len() + 1, body, kind)
 }
@@ -99,10 +99,10 @@ pub fn from_number(rec: &[u8], at: usize, body: Body, kind: u32) -> Triples
     requires { ⌜ Going (now rec) at (body .count) ⌝ }
     ensures { λ r. ⌜ r ≡ onto body (atNumber (fieldsFrom (now (rec .entry)) at) kind) ⌝ }
 {
-    let s = fields::number::number_at(rec, at, crate::MOST);
+    let s = fields::number::read_number(rec, at, crate::MOST);
     let n = s.number;
     let Number::Of(number) = n else {
-        return refused();
+        return unreadable();
     };
     from_amount(rec, s.next, body, kind, number)
 }
@@ -112,14 +112,14 @@ pub fn from_amount(rec: &[u8], at: usize, body: Body, kind: u32, number: u32) ->
     requires { ⌜ Going (now rec) at (body .count) ⌝ }
     ensures { λ r. ⌜ r ≡ onto body (atAmount (fieldsFrom (now (rec .entry)) at) kind number) ⌝ }
 {
-    let s = fields::number::number_at(rec, at, crate::MOST);
+    let s = fields::number::read_number(rec, at, crate::MOST);
     let a = s.number;
     let Number::Of(amount) = a else {
-        return refused();
+        return unreadable();
     };
     let t = added(body, kind, number, amount);
     if !t.ok {
-        return refused();
+        return unreadable();
     }
     from_kind(rec, s.next, t.body)
 }

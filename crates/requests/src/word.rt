@@ -1,34 +1,34 @@
 // The words that records start with.
 use crate::Kind;
 ghost use mathlib.Core.Path.{_≡_};
-ghost use Rattle.requests.specs.Kinds.{named};
+ghost use Rattle.requests.specs.Kinds.{recordKind};
 
 // What a field names as the first of a record.
 pub fn name(f: &[u8]) -> Kind
-    ensures { λ r. ⌜ r ≡ named (now (f .entry)) ⌝ }
+    ensures { λ r. ⌜ r ≡ recordKind (now (f .entry)) ⌝ }
 {
-    if fields::word::is_same(f, b"open") {
+    if fields::word::same_bytes(f, b"open") {
         return Kind::Open;
     }
-    if fields::word::is_same(f, b"propose") {
+    if fields::word::same_bytes(f, b"propose") {
         return Kind::Propose;
     }
-    if fields::word::is_same(f, b"endorse") {
+    if fields::word::same_bytes(f, b"endorse") {
         return Kind::Endorse;
     }
-    if fields::word::is_same(f, b"certify") {
+    if fields::word::same_bytes(f, b"certify") {
         return Kind::Certify;
     }
-    if fields::word::is_same(f, b"accept") {
+    if fields::word::same_bytes(f, b"accept") {
         return Kind::Accept;
     }
-    if fields::word::is_same(f, b"advance") {
+    if fields::word::same_bytes(f, b"advance") {
         return Kind::Advance;
     }
-    if fields::word::is_same(f, b"commit") {
+    if fields::word::same_bytes(f, b"commit") {
         return Kind::Commit;
     }
-    if fields::word::is_same(f, b"chain") {
+    if fields::word::same_bytes(f, b"chain") {
         return Kind::Chain;
     }
     Kind::Unreadable

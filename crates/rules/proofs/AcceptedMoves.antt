@@ -15,7 +15,7 @@ use Rattle.terms.specs.Proposals.{Content}
 use Rattle.sheet.specs.declared.Settings.{Settings}
 use Rattle.committee.specs.Instance.{rules}
 use Rattle.rules.specs.Tests.{MemberView}
-use Rattle.rules.specs.Calls.{Call, propose, endorse, certify, accept, advance, commit, read, drafted, certifying, verdict, certified, after}
+use Rattle.rules.specs.Calls.{Call, propose, endorse, certify, accept, advance, commit, read, drafted, certifying, ruledRefusal, certified, after}
 use Rattle.base.proofs.Passed.{passed}
 use Rattle.rules.specs.Signatures.{Endorses, endorses, signs, Proposes, proposes, Takes, certifies, accepts}
 use Rattle.rules.proofs.SigningMoves.{propose-move, endorse-move}
@@ -38,8 +38,8 @@ module _ (S : Settings) (correct : ℕ → Bool) (G : Log (rules S)) (k : ℕ) (
     certify-call-move e none i g h = passed _ refl h λ h15. absurd (true≢false h15)
     certify-call-move e (some p) i g h = certify-move S correct G k s l p e low i (I .signing) (g p e (certifies p e i)) h
 
-    pub accepted-move : (c : Call) → SetsFit S k s c → Genuine c → verdict S k s c ≡ 0 → Move correct G k s l (after S k s c) (signs S k s c ++ l)
-    unfolding verdict after
+    pub accepted-move : (c : Call) → SetsFit S k s c → Genuine c → ruledRefusal S k s c ≡ 0 → Move correct G k s l (after S k s c) (signs S k s c ++ l)
+    unfolding ruledRefusal after
     accepted-move (propose previous txs) f g h = propose-move S correct G k s l previous txs from (f .proposed (drafted S k s previous txs) (proposes previous txs)) h
     accepted-move (endorse p) f g h = endorse-move S correct G k s l p (f .endorsed p (endorses p)) h
     accepted-move (certify e) f g h = certify-call-move e (s .proposal) refl g h

@@ -12,12 +12,12 @@ use Rattle.terms.specs.declared.Transaction.{Transaction}
 use Rattle.terms.specs.Proposals.{Content}
 use Rattle.sheet.specs.declared.Settings.{Settings}
 use Rattle.rules.specs.Tests.{MemberView}
-use Rattle.rules.specs.Calls.{Call, propose, endorse, certify, accept, advance, commit, read, drafted, checks, verdict, after, result}
+use Rattle.rules.specs.Calls.{Call, propose, endorse, certify, accept, advance, commit, read, drafted, checks, ruledRefusal, after, result}
 
 module _ (S : Settings) (k : ℕ) (s : MemberView S) where
-  pub verdict-checks : (c : Call) → verdict S k s c ≡ refusal (checks S k s c)
-  unfolding verdict
-  verdict-checks c = refl
+  pub ruled-refusal : (c : Call) → ruledRefusal S k s c ≡ refusal (checks S k s c)
+  unfolding ruledRefusal
+  ruled-refusal c = refl
 
   -- ---- the view after each accepted call
 
@@ -51,10 +51,10 @@ module _ (S : Settings) (k : ℕ) (s : MemberView S) where
 
   -- ---- any call: a refused one changes nothing
 
-  pub result-refused : (c : Call) → verdict S k s c ≢ 0 → result S k s c ≡ s
+  pub result-refused : (c : Call) → ruledRefusal S k s c ≢ 0 → result S k s c ≡ s
   unfolding result
-  result-refused c n = rw (ne-eqb (verdict S k s c) 0 n) refl
+  result-refused c n = rw (ne-eqb (ruledRefusal S k s c) 0 n) refl
 
-  pub result-accepted : (c : Call) → verdict S k s c ≡ 0 → result S k s c ≡ after S k s c
+  pub result-accepted : (c : Call) → ruledRefusal S k s c ≡ 0 → result S k s c ≡ after S k s c
   unfolding result
-  result-accepted c e = rw (eq-eqb (verdict S k s c) 0 e) refl
+  result-accepted c e = rw (eq-eqb (ruledRefusal S k s c) 0 e) refl

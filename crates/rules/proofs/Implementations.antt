@@ -17,7 +17,7 @@ use Rattle.sheet.specs.declared.Settings.{Settings}
 use Rattle.committee.specs.Instance.{rules}
 use Rattle.rules.specs.Tests.{MemberView}
 use Rattle.rules.specs.Calls as Calls
-use Rattle.rules.specs.Calls.{verdict}
+use Rattle.rules.specs.Calls.{ruledRefusal}
 use Rattle.rules.specs.Signatures as Signatures
 use Rattle.rules.proofs.AcceptedMoves as AcceptedMoves
 use Rattle.rules.proofs.AcceptedMoves.{SetsFit, accepted-move}
@@ -27,7 +27,7 @@ use Rattle.rules.proofs.RoundLaws.{IsRound}
 pub record Follows (S : Settings) (k : ℕ) (s : MemberView S) (c : Calls.Call) (t : MemberView S) : Type 0 where
   pub started : 1 ≤ s .round
   pub fits : SetsFit S k s c
-  pub accepted : verdict S k s c ≡ 0
+  pub accepted : ruledRefusal S k s c ≡ 0
   pub becomes : t ≡ Calls.after S k s c
 
 pub record Implementation (S : Settings) : Type 1 where

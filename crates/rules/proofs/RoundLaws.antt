@@ -12,7 +12,7 @@ use Rattle.terms.specs.Proposals.{Content}
 use Rattle.sheet.specs.declared.Settings.{Settings}
 use Rattle.committee.specs.Instance.{rules}
 use Rattle.rules.specs.Tests.{MemberView}
-use Rattle.rules.specs.Calls.{Call, propose, endorse, certify, accept, advance, commit, read, freshView, drafted, accepting, advancing, verdict, certified, after}
+use Rattle.rules.specs.Calls.{Call, propose, endorse, certify, accept, advance, commit, read, freshView, drafted, accepting, advancing, ruledRefusal, certified, after}
 use Rattle.base.proofs.Passed.{passed}
 use Rattle.rules.proofs.TestLaws.{round-fits}
 
@@ -42,8 +42,8 @@ module _ (S : Settings) where
     certified-rounds (some p) i = record { present = h .present; proposed = h .proposed; held = put-rounds p (h .proposed p i) }
 
     -- an accepted call keeps them
-    pub rounds-kept : (k : ℕ) (c : Call) → verdict S k s c ≡ 0 → InRounds S (after S k s c)
-    unfolding verdict after numbered
+    pub rounds-kept : (k : ℕ) (c : Call) → ruledRefusal S k s c ≡ 0 → InRounds S (after S k s c)
+    unfolding ruledRefusal after numbered
     rounds-kept k (propose previous l) v =
         record {
           present = h .present;

@@ -8,7 +8,7 @@ use Rattle.sheet.specs.declared.Settings.{Settings}
 use Rattle.sheet.specs.Ranges.{outOfRange}
 use Rattle.sheet.proofs.SheetLaws.{settings-fit}
 use Rattle.rules.specs.Tests.{MemberView}
-use Rattle.rules.specs.Calls.{Call, freshView, verdict, result}
+use Rattle.rules.specs.Calls.{Call, freshView, ruledRefusal, result}
 use Rattle.rules.proofs.CallLaws.{result-refused, result-accepted}
 use Rattle.rules.proofs.AcceptedMoves.{SetsFit}
 use Rattle.rules.proofs.RoundLaws.{InRounds, fresh-rounds, rounds-kept}
@@ -19,9 +19,9 @@ use Rattle.rules.proofs.RunAgreement.{runs-agree}
 module _ (S : Settings) where
   -- rounds stay in range, whatever the call
   pub result-rounds : (k : ℕ) (s : MemberView S) (c : Call) → InRounds S s → InRounds S (result S k s c)
-  result-rounds k s c h = go (ℕ-discrete (verdict S k s c) 0)
+  result-rounds k s c h = go (ℕ-discrete (ruledRefusal S k s c) 0)
     where
-      go : Dec (verdict S k s c ≡ 0) → InRounds S (result S k s c)
+      go : Dec (ruledRefusal S k s c ≡ 0) → InRounds S (result S k s c)
       go (yes e) = rw (result-accepted S k s c e) (rounds-kept S s h k c e)
       go (no n) = rw (result-refused S k s c n) h
 
@@ -34,7 +34,7 @@ module _ (S : Settings) where
           Call = C;
           view = λ s. s;
           ruled = ruled;
-          answer = λ k s c. verdict S k s (ruled c);
+          answer = λ k s c. ruledRefusal S k s (ruled c);
           after = λ k s c. result S k s (ruled c);
           Handed = λ k s c. SetsFit S k s (ruled c);
           Good = λ k s. InRounds S s;

@@ -12,7 +12,7 @@ use Rattle.base.proofs.SetLaws.{in-member, is-in, mem-add}
 use Rattle.agreement.specs.Rules.{Block}
 use Rattle.agreement.specs.View.{Among}
 use Rattle.agreement.specs.Invariants.{Invariant, FaultTolerant, Agree}
-use Rattle.agreement.specs.Prefixes.{_≼_, blockAt}
+use Rattle.agreement.specs.Prefixes.{_≼_, blockNumbered}
 use Rattle.agreement.proofs.PrefixLaws.{block-stays}
 use Rattle.agreement.specs.Machines.{log, Legal, SignedIn}
 use Rattle.agreement.proofs.EntryLaws.{Each, kept}
@@ -110,5 +110,5 @@ module _ {S : Settings} {F : Implementation S} (X : Group S F) where
   chain-grows m l r = machines-grow (asMachine X) start (lawful S) (X .good) fresh m l (legal (m ++ l) r)
 
   -- so a block once made stays, with its number, its round and its certificates
-  pub block-kept : (m l : Entries X) → Run X (m ++ l) → (i n : ℕ) {b : Block Content} → blockAt (chainAfter X l i) n ≡ some b → blockAt (chainAfter X (m ++ l) i) n ≡ some b
+  pub block-kept : (m l : Entries X) → Run X (m ++ l) → (i n : ℕ) {b : Block Content} → blockNumbered (chainAfter X l i) n ≡ some b → blockNumbered (chainAfter X (m ++ l) i) n ≡ some b
   block-kept m l r i n = block-stays (chain-grows m l r i) n

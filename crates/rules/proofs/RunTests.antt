@@ -8,7 +8,7 @@ use Rattle.base.specs.Folds.{allTo}
 use Rattle.base.specs.Sets.{isIn}
 use Rattle.agreement.specs.Weights.{weigh, total, outside}
 use Rattle.agreement.specs.Entries.{Entry}
-use Rattle.terms.specs.Proposals.{Content, same}
+use Rattle.terms.specs.Proposals.{Content, sameProposal}
 use Rattle.sheet.specs.declared.Settings.{Settings}
 use Rattle.sheet.specs.Sheets.{marginOf}
 use Rattle.committee.specs.Committees.{knownBy, boundOf}
@@ -22,7 +22,7 @@ use Rattle.rules.proofs.Runs.{Group, Entries, stateAfter, viewAfter, ch
 -- there is one, and it is p
 abbrev pub isOne : {P : Content → Type 0} → Content → Option ((q : Content) × P q) → Bool
 isOne p none = false
-isOne p (some x) = same (x .0) p
+isOne p (some x) = sameProposal (x .0) p
 
 -- what a call endorses, if anything, with the fact that it does
 abbrev pub endorsedBy : (c : Calls.Call) → Option ((p : Content) × Endorses c p)

@@ -116,8 +116,8 @@ module _ (S : Settings) where
   checks k s read = []
 
   -- the number of the first check that refuses the call of member k, 0 for none
-  unfoldable pub verdict : ℕ → MemberView S → Call → ℕ
-  verdict k s c = refusal (checks k s c)
+  unfoldable pub ruledRefusal : ℕ → MemberView S → Call → ℕ
+  ruledRefusal k s c = refusal (checks k s c)
 
   -- the proposal, if any, becomes a certificate
   abbrev pub certified : MemberView S → Option Content → MemberView S
@@ -142,4 +142,4 @@ module _ (S : Settings) where
 
   -- the view after a call: a refused one changes nothing
   unfoldable pub result : ℕ → MemberView S → Call → MemberView S
-  result k s c = cond (eqb (verdict k s c) 0) (after k s c) s
+  result k s c = cond (eqb (ruledRefusal k s c) 0) (after k s c) s

@@ -9,7 +9,7 @@ use Rattle.base.specs.Checks.{Checks}
 use Rattle.agreement.specs.Weights.{total}
 use Rattle.agreement.specs.Rules.{Block, Chain}
 use Rattle.agreement.specs.Dag.{isHeld}
-use Rattle.agreement.specs.Prefixes.{blockAt}
+use Rattle.agreement.specs.Prefixes.{blockNumbered}
 use Rattle.terms.specs.Proposals.{Content}
 use Rattle.sheet.specs.declared.Settings.{Settings}
 use Rattle.committee.specs.Committees.{committeeOf}
@@ -54,4 +54,4 @@ module _ (S : Settings) where
 
   -- its round
   abbrev pub blockRead : MemberView S → ℕ → ℕ
-  blockRead s k = roundOf (blockAt (s .chain) k)
+  blockRead s k = roundOf (blockNumbered (s .chain) k)

@@ -9,7 +9,7 @@ use Rattle.agreement.specs.Weights.{weigh, total}
 use Rattle.agreement.specs.View.{View}
 use Rattle.agreement.specs.Dag.{isHeld}
 use Rattle.agreement.specs.Anchors.{votes}
-use Rattle.terms.specs.Proposals.{Content, same}
+use Rattle.terms.specs.Proposals.{Content, sameProposal}
 use Rattle.sheet.specs.declared.Settings.{Settings}
 use Rattle.sheet.specs.Sheets.{marginOf}
 use Rattle.sheet.specs.Ranges.{weightIn}
@@ -31,7 +31,7 @@ signersOf p e = add e (p .author)
 -- this certificate, if any, is the same as p
 abbrev pub isSame : Content → Option Content → Bool
 isSame p none = false
-isSame p (some q) = same p q
+isSame p (some q) = sameProposal p q
 
 -- a test that is made above round 1 only
 unfoldable pub above : ℕ → Bool → Bool

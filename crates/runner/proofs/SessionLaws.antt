@@ -16,7 +16,7 @@ use Rattle.answering.specs.Streams.{answersTo, output}
 use Rattle.serving.specs.declared.Work.{Work}
 use Rattle.runner.specs.declared.Session.{Session}
 use Rattle.serving.specs.Work.{WorkDone}
-use Rattle.runner.specs.Session.{handIn, StartsWith, BufferRefilled, PassServed, SessionInvariant, Fresh}
+use Rattle.runner.specs.Session.{handIn, StartsWith, BufferRefilled, PassServed, SessionInvariant, NothingRead}
 
 -- bytes that come leave what is cached
 pub refilled-cached : {w : Work} {end : ℕ} {x : List ℕ} {y : List ℕ} {r : Session} {t : List ℕ} {cache : List ℕ} → BufferRefilled w end x y r → Cached (w .state) t (w .formed) cache
@@ -66,10 +66,10 @@ advanced s x {w} {t′} z f h =
     }
 
 -- the state is not well formed then, whatever the table, and nothing need be cached
-pub fresh-cached : (t cache : List ℕ) (s : Session) → Fresh s → Cached (s .work .state) t (s .work .formed) cache
+pub fresh-cached : (t cache : List ℕ) (s : Session) → NothingRead s → Cached (s .work .state) t (s .work .formed) cache
 fresh-cached t cache s f = rw (f .state, f .formed) (cached-closed t cache)
 
-pub so-far-none : (t x : List ℕ) (s : Session) → Fresh s → SessionInvariant t s t x
+pub so-far-none : (t x : List ℕ) (s : Session) → NothingRead s → SessionInvariant t s t x
 unfolding remaining
 so-far-none t x s f =
     record {

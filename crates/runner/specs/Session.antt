@@ -67,7 +67,7 @@ pub record SessionInvariant (t₀ : List ℕ) (s : Session) (t x : List ℕ) : T
   pub ended : s .ended ≡ true → hasEnd (handIn x (s .work .from) (s .end)) ≡ false
 
 -- nothing read yet
-pub record Fresh (s : Session) : Type 0 where
+pub record NothingRead (s : Session) : Type 0 where
   pub state : s .work .state ≡ closedState
   pub formed : s .work .formed ≡ false
   pub skipping : s .work .skipping ≡ false

@@ -18,7 +18,7 @@ ghost use Rattle.replies.specs.Records.{engineOf};
 ghost use Rattle.answering.specs.Streams.{answersTo};
 ghost use Rattle.serving.specs.Lengths.{inputLength};
 ghost use Rattle.serving.specs.Work.{MemorySizes, OutputEmptied};
-ghost use Rattle.runner.specs.Session.{handIn, StartsWith, HandWithin, SessionReady, Fresh, SessionRefilled, PassServed, SessionInvariant};
+ghost use Rattle.runner.specs.Session.{handIn, StartsWith, HandWithin, SessionReady, NothingRead, SessionRefilled, PassServed, SessionInvariant};
 
 // The work, where the bytes at hand end in the input buffer, and whether the input has ended.
 struct Session {
@@ -36,7 +36,7 @@ fn flush(out: &[u8], n: usize)
 
 // Before the first record there is no open member.
 fn start() -> Session
-    ensures { λ r. ⌜ Fresh r ⌝ }
+    ensures { λ r. ⌜ NothingRead r ⌝ }
 {
     let work = Work {
         state: open::closed(),
@@ -103,7 +103,7 @@ fn serve_pass(
 {
     let end = s.end;
     let before = s.work;
-    let w = serving::fill(before, cache, t, &buf[..end], out);
+    let w = serving::work_on(before, cache, t, &buf[..end], out);
     flush(out, w.next);
     refill(w, buf, end)
 }

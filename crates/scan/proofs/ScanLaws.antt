@@ -17,19 +17,19 @@ use Rattle.terms.specs.declared.Transaction.the-variants.{Bond, Unbond, Entry}
 use Rattle.terms.specs.Transactions.{readTransaction, inRange, bondInRange}
 use Rattle.terms.specs.Proposals.{badTransactions, badPreviousSet}
 use Rattle.terms.proofs.ProposalLaws.{bad-transactions-tab}
-use Rattle.store.specs.Table.{recordLength, transactionStart, heldSet, endorsedSet, heldAt, word, previousAt, countAt, markAt, endorsersAt, kindAt, numberAt, amountAt, transactionAt, contentAt}
+use Rattle.store.specs.Table.{recordLength, transactionStart, heldSet, endorsedSet, heldAt, recordWord, previousAt, countAt, markAt, endorsersAt, kindAt, numberAt, amountAt, transactionAt, contentAt}
 use Rattle.store.proofs.TableLaws.{count-le, held-in, held-member, content-previous, content-transactions}
 use Rattle.writes.proofs.WriteLaws.{count-same, previous-same, endorsers-same}
 use Rattle.scan.specs.Scan.{tripleFits, transactionFits, endorsersFit, recordFits, placeFits, rowFits, rowsFit}
 
 -- a held record: the laws below say what its words tell
 pub record RecordFits (t : List ℕ) (allowance blocks m r : ℕ) : Type 0 where
-  pub count : word t m r 1 ≤ allowance
+  pub count : recordWord t m r 1 ≤ allowance
   pub triples : (k : ℕ) → k < countAt t m r → transactionFits t m r k ≡ true
-  pub small : word t m r 0 < 65536
+  pub small : recordWord t m r 0 < 65536
   pub previous : badPreviousSet r (previousAt t m r) ≡ false
   pub mark : markAt t m r ≤ blocks
-  pub endorsers : word t m r 3 < 65536
+  pub endorsers : recordWord t m r 3 < 65536
   pub apart : isIn (endorsersAt t m r) m ≡ false
 
 -- a row: its sets are sets of members, and each held record fits
@@ -55,17 +55,17 @@ triple-range kind number amount = go (eqb kind 0) (eqb kind 1)
     go false true e = both (eqb amount 0) (ltb number 16) e .1
     go false false e = refl
 
-clamped : (t : List ℕ) (m r : ℕ) → (countAt t m r ≤ word t m r 1) × (word t m r 1 ≤ 4 → countAt t m r ≡ word t m r 1)
+clamped : (t : List ℕ) (m r : ℕ) → (countAt t m r ≤ recordWord t m r 1) × (recordWord t m r 1 ≤ 4 → countAt t m r ≡ recordWord t m r 1)
 unfolding countAt
-clamped t m r = go (ltb 4 (word t m r 1)) refl
+clamped t m r = go (ltb 4 (recordWord t m r 1)) refl
   where
-    go : (b : Bool) → ltb 4 (word t m r 1) ≡ b → (cond b 4 (word t m r 1) ≤ word t m r 1) × (word t m r 1 ≤ 4 → cond b 4 (word t m r 1) ≡ word t m r 1)
-    go true e = let h = ltb-true 4 (word t m r 1) e in (omega arith, λ l. omega arith)
+    go : (b : Bool) → ltb 4 (recordWord t m r 1) ≡ b → (cond b 4 (recordWord t m r 1) ≤ recordWord t m r 1) × (recordWord t m r 1 ≤ 4 → cond b 4 (recordWord t m r 1) ≡ recordWord t m r 1)
+    go true e = let h = ltb-true 4 (recordWord t m r 1) e in (omega arith, λ l. omega arith)
     go false e = (omega arith, λ l. refl)
 
 module _ {t : List ℕ} {allowance blocks m r : ℕ} (w : RecordFits t allowance blocks m r) where
   -- it has as many transactions as its count says
-  pub count-told : allowance ≤ 4 → countAt t m r ≡ word t m r 1
+  pub count-told : allowance ≤ 4 → countAt t m r ≡ recordWord t m r 1
   count-told h = clamped t m r .1 (omega arith)
 
   in-range : (k : ℕ) → k < countAt t m r → inRange (transactionAt t m r k) ≡ true
@@ -88,7 +88,7 @@ module _ {t : List ℕ} {allowance blocks m r : ℕ} (w : RecordFits t allowance
   previous-fits = rw (content-previous t m r) (w .previous)
 
 -- a record with the same words but for its mark
-pub record-same : {t u : List ℕ} {allowance blocks blocks′ m r : ℕ} → ((k : ℕ) → k < recordLength → k ≢ 2 → word u m r k ≡ word t m r k) → markAt u m r ≤ blocks′
+pub record-same : {t u : List ℕ} {allowance blocks blocks′ m r : ℕ} → ((k : ℕ) → k < recordLength → k ≢ 2 → recordWord u m r k ≡ recordWord t m r k) → markAt u m r ≤ blocks′
     → RecordFits t allowance blocks m r → RecordFits u allowance blocks′ m r
 unfolding transactionFits
 record-same {t} {u} {m = m} {r = r} e l w =
@@ -110,19 +110,19 @@ module _ (t : List ℕ) (allowance blocks : ℕ) where
   record-parts : (m r : ℕ) → recordFits t allowance blocks m r ≡ true → RecordFits t allowance blocks m r
   unfolding recordFits endorsersFit
   record-parts m r e =
-      let a = both (leb (word t m r 1) allowance) _ e in
+      let a = both (leb (recordWord t m r 1) allowance) _ e in
       let b = both (allTo (transactionFits t m r) (countAt t m r)) _ (a .1) in
-      let c = both (ltb (word t m r 0) 65536) _ (b .1) in
+      let c = both (ltb (recordWord t m r 0) 65536) _ (b .1) in
       let d = both (not (badPreviousSet r (previousAt t m r))) _ (c .1) in
       let f = both (leb (markAt t m r) blocks) _ (d .1) in
-      let g = both (ltb (word t m r 3) 65536) (not (isIn (endorsersAt t m r) m)) (f .1) in
+      let g = both (ltb (recordWord t m r 3) 65536) (not (isIn (endorsersAt t m r) m)) (f .1) in
       record {
-        count = leb-true (word t m r 1) allowance (a .0);
+        count = leb-true (recordWord t m r 1) allowance (a .0);
         triples = λ k h. all-at (transactionFits t m r) (countAt t m r) k h (b .0);
-        small = ltb-true (word t m r 0) 65536 (c .0);
+        small = ltb-true (recordWord t m r 0) 65536 (c .0);
         previous = not-true (badPreviousSet r (previousAt t m r)) (d .0);
         mark = leb-true (markAt t m r) blocks (f .0);
-        endorsers = ltb-true (word t m r 3) 65536 (g .0);
+        endorsers = ltb-true (recordWord t m r 3) 65536 (g .0);
         apart = not-true (isIn (endorsersAt t m r) m) (g .1);
       }
 
@@ -130,12 +130,12 @@ module _ (t : List ℕ) (allowance blocks : ℕ) where
   unfolding recordFits endorsersFit
   record-whole m r w =
       rw (
-        le-leb (word t m r 1) allowance (w .count),
+        le-leb (recordWord t m r 1) allowance (w .count),
         all-hold (transactionFits t m r) (countAt t m r) (w .triples),
-        lt-ltb (word t m r 0) 65536 (w .small),
+        lt-ltb (recordWord t m r 0) 65536 (w .small),
         w .previous,
         le-leb (markAt t m r) blocks (w .mark),
-        lt-ltb (word t m r 3) 65536 (w .endorsers),
+        lt-ltb (recordWord t m r 3) 65536 (w .endorsers),
         w .apart,
       )
       refl

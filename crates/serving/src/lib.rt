@@ -27,7 +27,7 @@ pub struct Work {
 }
 
 // Steps until more bytes or more room are wanted.
-pub fn fill(w: Work, cache: &mut [u64], t: &mut [u32], hand: &[u8], out: &mut [u8]) -> Work
+pub fn work_on(w: Work, cache: &mut [u64], t: &mut [u32], hand: &[u8], out: &mut [u8]) -> Work
     requires { ⌜ WorkReady w (now cache) (now t) (now hand) (now out) ⌝ }
     ensures { λ r. ⌜ WorkDone w (now (t .entry)) (now (hand .entry)) r (now (t .exit)) (now (cache .exit)) (now (out .entry)) (now (out .exit)) ⌝ }
 {

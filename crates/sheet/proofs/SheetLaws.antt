@@ -15,19 +15,19 @@ use Rattle.sheet.specs.declared.Cell.{Cell}
 use Rattle.sheet.specs.declared.Sheet.{Sheet}
 use Rattle.sheet.specs.declared.Settings.{Settings}
 use Rattle.sheet.specs.Sheets.{weightAt, filled}
-use Rattle.sheet.specs.Ranges.{weightIn, outside, outOfRange, weightless, SettingsFit}
+use Rattle.sheet.specs.Ranges.{weightIn, notWithin, outOfRange, weightless, SettingsFit}
 
-inside : (x a b : ℕ) → outside x a b ≡ false → (a ≤ x) × (x ≤ b)
-unfolding outside
+inside : (x a b : ℕ) → notWithin x a b ≡ false → (a ≤ x) × (x ≤ b)
+unfolding notWithin
 inside x a b h = let p = neither (ltb x a) (ltb b x) h in (ltb-false x a (p .0), ltb-false b x (p .1))
 
 pub settings-fit : (S : Settings) → outOfRange S ≡ false → SettingsFit S
 unfolding outOfRange
 settings-fit S h =
-    let w = anyTo (λ i. outside (weightIn (S .weights) i) 0 1000000) 16 in
-    let p = neither (outside (S .lookback) 1 1000) (outside (S .ceiling .0) 3 1024 || (outside (S .allowance) 0 4 || w)) h in
-    let q = neither (outside (S .ceiling .0) 3 1024) (outside (S .allowance) 0 4 || w) (p .1) in
-    let r = neither (outside (S .allowance) 0 4) w (q .1) in
+    let w = anyTo (λ i. notWithin (weightIn (S .weights) i) 0 1000000) 16 in
+    let p = neither (notWithin (S .lookback) 1 1000) (notWithin (S .ceiling .0) 3 1024 || (notWithin (S .allowance) 0 4 || w)) h in
+    let q = neither (notWithin (S .ceiling .0) 3 1024) (notWithin (S .allowance) 0 4 || w) (p .1) in
+    let r = neither (notWithin (S .allowance) 0 4) w (q .1) in
     let l = inside (S .lookback) 1 1000 (p .0) in
     let c = inside (S .ceiling .0) 3 1024 (q .0) in
     record {
@@ -36,7 +36,7 @@ settings-fit S h =
       ceiling-from = c .0;
       ceiling-to = c .1;
       allowance-to = inside (S .allowance) 0 4 (r .0) .1;
-      weight-to = λ i k. inside (weightIn (S .weights) i) 0 1000000 (any-false (λ j. outside (weightIn (S .weights) j) 0 1000000) 16 i k (r .1)) .1;
+      weight-to = λ i k. inside (weightIn (S .weights) i) 0 1000000 (any-false (λ j. notWithin (weightIn (S .weights) j) 0 1000000) 16 i k (r .1)) .1;
     }
 
 -- settings that check 3 lets pass have a member

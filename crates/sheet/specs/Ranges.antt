@@ -12,12 +12,12 @@ abbrev pub weightIn : List ℕ → ℕ → ℕ
 weightIn w i = getD w i 0
 
 -- x is not from a to b
-unfoldable pub outside : ℕ → ℕ → ℕ → Bool
-outside x a b = ltb x a || ltb b x
+unfoldable pub notWithin : ℕ → ℕ → ℕ → Bool
+notWithin x a b = ltb x a || ltb b x
 
 -- check 2: a setting out of range
 unfoldable pub outOfRange : Settings → Bool
-outOfRange S = outside (S .lookback) 1 1000 || (outside (S .ceiling .0) 3 1024 || (outside (S .allowance) 0 4 || anyTo (λ i. outside (weightIn (S .weights) i) 0 1000000) 16))
+outOfRange S = notWithin (S .lookback) 1 1000 || (notWithin (S .ceiling .0) 3 1024 || (notWithin (S .allowance) 0 4 || anyTo (λ i. notWithin (weightIn (S .weights) i) 0 1000000) 16))
 
 -- check 3: no positive weight
 unfoldable pub weightless : Settings → Bool

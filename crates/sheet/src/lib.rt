@@ -5,7 +5,7 @@ ghost use mathlib.Core.Path.{_≡_};
 ghost use Prim.Native.Nat.{_<_};
 ghost use Rattle.base.specs.Folds.{anyTo, tab};
 ghost use Rattle.sheet.specs.Sheets.{blankSheet, valueOr, blankWeight, weightAt, filled};
-ghost use Rattle.sheet.specs.Ranges.{weightIn, outside, outOfRange, weightless};
+ghost use Rattle.sheet.specs.Ranges.{weightIn, notWithin, outOfRange, weightless};
 
 // Each setting is blank or written with a number.
 pub enum Setting {
@@ -149,7 +149,7 @@ pub fn fill(s: Sheet) -> Settings
 
 // Is the number below its least or above its greatest value?
 fn is_outside(x: u64, min: u32, max: u32) -> bool
-    ensures { λ v. ⌜ v ≡ outside x min max ⌝ }
+    ensures { λ v. ⌜ v ≡ notWithin x min max ⌝ }
 {
     if x < (min as u64) {
         return true;
@@ -159,7 +159,7 @@ fn is_outside(x: u64, min: u32, max: u32) -> bool
 
 // Is one of the weights out of range?
 fn has_outside(w: [u64; 16]) -> bool
-    ensures { λ v. ⌜ v ≡ anyTo (λ i. outside (weightIn w i) 0 1000000) 16 ⌝ }
+    ensures { λ v. ⌜ v ≡ anyTo (λ i. notWithin (weightIn w i) 0 1000000) 16 ⌝ }
 {
     for i in 0..16usize {
         if is_outside(w[i], Sheet::WEIGHT_MIN, Sheet::WEIGHT_MAX) {

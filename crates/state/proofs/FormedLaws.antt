@@ -13,7 +13,7 @@ use Rattle.terms.specs.declared.Body.{Body}
 use Rattle.terms.specs.Transactions.{inRange}
 use Rattle.terms.specs.Proposals.{slotOf, transactionsOf, badTransactions, badPreviousSet}
 use Rattle.terms.proofs.ProposalLaws.{transactions-tab, bad-transactions-tab}
-use Rattle.store.specs.Table.{used, Row}
+use Rattle.store.specs.Table.{usedLength, Row}
 use Rattle.scan.specs.Scan.{rowsFit}
 use Rattle.sheet.specs.Ranges.{outOfRange, weightless}
 use Rattle.sheet.proofs.SheetLaws.{settings-fit}
@@ -81,19 +81,19 @@ module _ (s : State) (t : List ℕ) where
   unfolding wellFormed
   formed e =
       let n = s .settings .ceiling .0 in
-      let p = both (leb (used n) (length t)) _ e in
+      let p = both (leb (usedLength n) (length t)) _ e in
       let q = both (headFits s) _ (p .1) in
       let u = both (proposalFits s) _ (q .1) in
       let v = both (rowsFit t (s .settings .allowance) (s .blocks) n) (blocksFit n t (s .blocks)) (u .1) in
       let h = head-parts s (q .0) in
-      formed-by (h .0) (h .2) (h .1) (proposal-parts s (u .0)) (leb-true (used n) (length t) (p .0)) (v .0) (v .1)
+      formed-by (h .0) (h .2) (h .1) (proposal-parts s (u .0)) (leb-true (usedLength n) (length t) (p .0)) (v .0) (v .1)
 
   pub whole : Formed s t → wellFormed s t ≡ true
   unfolding wellFormed headFits
   whole f =
       let n = s .settings .ceiling .0 in
       rw (
-        le-leb (used n) (length t) (f .long),
+        le-leb (usedLength n) (length t) (f .long),
         f .in-range,
         numbers-whole (s .own .0) (s .round .0) (s .blocks) n (f .numbers),
         f .weighty,

@@ -20,7 +20,7 @@ use Rattle.committee.proofs.ChainLaws.{chain-none}
 use Rattle.rules.specs.Tests as tests
 use Rattle.state.specs.declared.State.{State}
 use Rattle.state.specs.States.{proposed, advanced, fresh}
-use Rattle.state.specs.View.{proposalOf, view}
+use Rattle.state.specs.View.{ownProposal, view}
 use Rattle.state.proofs.ViewLaws.{proposal-none, proposal-some}
 use Rattle.state.proofs.WriteLaws.{Storable, within, dag-put, endorsed-of-put, chain-put, dag-endorse, chain-endorse, endorsed-of-set, endorsed-of-clear, dag-cleared, endorsed-of-cleared}
 
@@ -40,7 +40,7 @@ module _ (s : State) (t : List ℕ) where
     view-endorse =
         let n = s .settings .ceiling .0 in
         let o = set-endorsed t (p .author) (p .round) in
-        λ i. record { round = s .round .0; proposal = proposalOf s; dag = dag-endorse n o i; endorsed = endorsed-of-set (s .settings) n t p long k i; chain = chain-endorse n o (s .blocks) i }
+        λ i. record { round = s .round .0; proposal = ownProposal s; dag = dag-endorse n o i; endorsed = endorsed-of-set (s .settings) n t p long k i; chain = chain-endorse n o (s .blocks) i }
 
     module _ (d : ℕ) (free : heldAt t (p .author) (p .round) ≡ false) where
       -- the certificate is held
@@ -48,7 +48,7 @@ module _ (s : State) (t : List ℕ) where
       view-certify =
           let S = s .settings in
           let n = S .ceiling .0 in
-          λ i. record { round = s .round .0; proposal = proposalOf s; dag = dag-put n t p d long k free S i; endorsed = endorsed-of-put n t p d long k i; chain = chain-put n t p d long k free (s .blocks) i }
+          λ i. record { round = s .round .0; proposal = ownProposal s; dag = dag-put n t p d long k free S i; endorsed = endorsed-of-put n t p d long k i; chain = chain-put n t p d long k free (s .blocks) i }
 
       -- and its endorsed mark cleared
       pub view-accept : view s (clearEndorsed (putCertificate t p d) (p .author) (p .round)) ≡ afterAccept (view s t) p
@@ -61,7 +61,7 @@ module _ (s : State) (t : List ℕ) where
           let g = dag-endorse n o ∙ dag-put n t p d long k free S in
           let e = endorsed-of-clear S n u p long′ k ∙ ap (mark (rules S) false p) (endorsed-of-put n t p d long k) in
           let c = chain-endorse n o (s .blocks) ∙ chain-put n t p d long k free (s .blocks) in
-          λ i. record { round = s .round .0; proposal = proposalOf s; dag = g i; endorsed = e i; chain = c i }
+          λ i. record { round = s .round .0; proposal = ownProposal s; dag = g i; endorsed = e i; chain = c i }
 
 -- a fresh state has round 1 and nothing else
 pub view-open : (own : Member) (S : Settings) (b : Body) (t : List ℕ)

@@ -22,7 +22,7 @@ use Rattle.sheet.specs.declared.Settings.{Settings}
 use Rattle.sheet.specs.Ranges.{outOfRange, weightless}
 use Rattle.sheet.proofs.SheetLaws.{settings-fit}
 use Rattle.state.specs.declared.State.{State}
-use Rattle.state.specs.States.{moved, proposed, advanced, fresh}
+use Rattle.state.specs.States.{withRound, proposed, advanced, fresh}
 use Rattle.state.proofs.RoundLaws.{blocks-whole, blocks-same}
 use Rattle.state.specs.Formed.{BodyFits, Formed}
 use Rattle.state.proofs.FormedLaws.{formed-by}
@@ -38,9 +38,9 @@ module _ (s : State) (t : List ℕ) (f : Formed s t) where
   -- ---- propose and advance: another round or another proposal
 
   moved-kept : (r : Round) (proposing : Bool) (b : Body) → 1 ≤ r .0 → r .0 ≤ s .settings .ceiling .0 → (proposing ≡ true → BodyFits (s .settings .allowance) (r .0) b)
-      → Formed (moved s r proposing b) t
+      → Formed (withRound s r proposing b) t
   moved-kept r proposing b from to p =
-      formed-by (moved s r proposing b) t (f .in-range) (f .weighty)
+      formed-by (withRound s r proposing b) t (f .in-range) (f .weighty)
       (record { own = f .numbers .own; round-from = from; round-to = to; blocks-to = f .numbers .blocks-to }) p (f .long) (f .rows) (f .rounds)
 
   -- a proposal that fits is kept

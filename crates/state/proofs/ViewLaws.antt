@@ -10,7 +10,7 @@ use Rattle.base.proofs.TestLaws.{any-same}
 use Rattle.base.specs.Sets.{isIn, isSubset}
 use Rattle.base.proofs.UnionLaws.{subset-in}
 use Rattle.agreement.specs.Dag.{isHeld, vote}
-use Rattle.terms.specs.Proposals.{Content, contentWith, same}
+use Rattle.terms.specs.Proposals.{Content, contentWith, sameProposal}
 use Rattle.store.specs.Table.{heldSet, heldAt, endorsedAt, previousAt, contentAt, certificateAt}
 use Rattle.store.proofs.TableLaws.{held-in, held-member, certificate-present, certificate-absent, held-certificate, content-author, content-round, content-previous}
 use Rattle.sheet.specs.declared.Settings.{Settings}
@@ -19,7 +19,7 @@ use Rattle.committee.proofs.ChainLaws.{is-round, round-parts}
 use Rattle.committee.specs.Instance.{rules}
 use Rattle.rules.specs.Tests.{isSame, missing}
 use Rattle.state.specs.declared.State.{State}
-use Rattle.state.specs.View.{dagOf, endorsedOf, proposalOf, view}
+use Rattle.state.specs.View.{dagOf, endorsedOf, ownProposal, view}
 
 -- the certificate p of the view, at the place of author a and round r
 pub record InDag (n : ℕ) (t : List ℕ) (a r : ℕ) (p : Content) : Type 0 where
@@ -80,8 +80,8 @@ module _ (n : ℕ) (t : List ℕ) (a r : ℕ) where
     held-dag = by-record isHeld true refl refl ∙ and-true (heldAt t a r)
 
     -- the same certificate is held there
-    pub same-dag : (p : Content) → isSame p (dagOf n t a r) ≡ (heldAt t a r && same p (contentAt t a r))
-    same-dag p = by-record (isSame p) (same p (contentAt t a r)) refl refl
+    pub same-dag : (p : Content) → isSame p (dagOf n t a r) ≡ (heldAt t a r && sameProposal p (contentAt t a r))
+    same-dag p = by-record (isSame p) (sameProposal p (contentAt t a r)) refl refl
 
     -- the certificate there names b
     pub vote-dag : (S : Settings) (b : ℕ) → vote (rules S) b (dagOf n t a r) ≡ (heldAt t a r && isIn (previousAt t a r) b)
@@ -101,23 +101,23 @@ module _ (n : ℕ) (t u : List ℕ) where
 -- ---- the proposal
 
 -- states that differ elsewhere have the same one
-pub proposal-same : (s u : State) → u .own ≡ s .own → u .round ≡ s .round → u .proposing ≡ s .proposing → u .body ≡ s .body → proposalOf u ≡ proposalOf s
-unfolding proposalOf
+pub proposal-same : (s u : State) → u .own ≡ s .own → u .round ≡ s .round → u .proposing ≡ s .proposing → u .body ≡ s .body → ownProposal u ≡ ownProposal s
+unfolding ownProposal
 proposal-same s u o r p b = λ i. cond (p i) (some (contentWith (o i .0) (r i .0) (b i))) none
 
 module _ (s : State) where
-  pub proposal-none : s .proposing ≡ false → proposalOf s ≡ none
-  unfolding proposalOf
+  pub proposal-none : s .proposing ≡ false → ownProposal s ≡ none
+  unfolding ownProposal
   proposal-none e = rw e refl
 
-  pub proposal-some : s .proposing ≡ true → proposalOf s ≡ some (contentWith (s .own .0) (s .round .0) (s .body))
-  unfolding proposalOf
+  pub proposal-some : s .proposing ≡ true → ownProposal s ≡ some (contentWith (s .own .0) (s .round .0) (s .body))
+  unfolding ownProposal
   proposal-some e = rw e refl
 
-  pub held-proposal : isHeld (proposalOf s) ≡ s .proposing
+  pub held-proposal : isHeld (ownProposal s) ≡ s .proposing
   held-proposal = go (s .proposing) refl
     where
-      go : (b : Bool) → s .proposing ≡ b → isHeld (proposalOf s) ≡ b
+      go : (b : Bool) → s .proposing ≡ b → isHeld (ownProposal s) ≡ b
       go true e = ap isHeld (proposal-some e)
       go false e = ap isHeld (proposal-none e)
 

@@ -9,16 +9,16 @@ use Rattle.sheet.specs.declared.Settings.{Settings}
 use Rattle.state.specs.declared.State.{State}
 
 -- another round, another proposal or none
-abbrev pub moved : State → Round → Bool → Body → State
-moved s r proposing b = record { own = s .own; settings = s .settings; round = r; proposing = proposing; body = b; blocks = s .blocks }
+abbrev pub withRound : State → Round → Bool → Body → State
+withRound s r proposing b = record { own = s .own; settings = s .settings; round = r; proposing = proposing; body = b; blocks = s .blocks }
 
 -- propose: the proposal is kept
 abbrev pub proposed : State → Body → State
-proposed s b = moved s (s .round) true b
+proposed s b = withRound s (s .round) true b
 
 -- advance: next round, proposal dropped; b stands where no proposal is
 abbrev pub advanced : State → Body → State
-advanced s b = moved s (record { 0 = s .round .0 + 1 }) false b
+advanced s b = withRound s (record { 0 = s .round .0 + 1 }) false b
 
 -- open: round 1 and nothing else
 abbrev pub fresh : Member → Settings → Body → State

@@ -18,14 +18,14 @@ unfoldable pub endorsedOf : ℕ → List ℕ → ℕ → ℕ → Bool
 endorsedOf n t a r = isRound n r && endorsedAt t a r
 
 -- the proposal for the present round, if any: author and round are one's own
-unfoldable pub proposalOf : State → Option Content
-proposalOf s = cond (s .proposing) (some (contentWith (s .own .0) (s .round .0) (s .body))) none
+unfoldable pub ownProposal : State → Option Content
+ownProposal s = cond (s .proposing) (some (contentWith (s .own .0) (s .round .0) (s .body))) none
 
 abbrev pub view : (s : State) → List ℕ → MemberView (s .settings)
 view s t =
     record {
       round = s .round .0;
-      proposal = proposalOf s;
+      proposal = ownProposal s;
       dag = dagOf (s .settings .ceiling .0) t;
       endorsed = endorsedOf (s .settings .ceiling .0) t;
       chain = chainOf (s .settings .ceiling .0) t (s .blocks);

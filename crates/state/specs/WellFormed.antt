@@ -6,7 +6,7 @@ use lib.ListN.{length}
 use lib.Dec.{leb, ltb}
 use Rattle.terms.specs.declared.Body.{Body}
 use Rattle.terms.specs.Proposals.{transactionsOf, badTransactions, badPreviousSet}
-use Rattle.store.specs.Table.{used}
+use Rattle.store.specs.Table.{usedLength}
 use Rattle.scan.specs.Scan.{rowsFit}
 use Rattle.sheet.specs.Ranges.{outOfRange, weightless}
 use Rattle.bonded.specs.BlockChanges.{blocksFit}
@@ -31,7 +31,7 @@ proposalFits s = cond (s .proposing) (bodyFits (s .settings .allowance) (s .roun
 -- the lent table has at least the length for the ceiling, the conditions above hold, and block rounds are even, rising and below the ceiling
 unfoldable pub wellFormed : State → List ℕ → Bool
 wellFormed s t =
-    leb (used (s .settings .ceiling .0)) (length t)
+    leb (usedLength (s .settings .ceiling .0)) (length t)
     && (headFits s
     && (proposalFits s
     && (rowsFit t (s .settings .allowance) (s .blocks) (s .settings .ceiling .0)

@@ -15,7 +15,7 @@ use Rattle.terms.specs.declared.Round.{Round}
 use Rattle.terms.specs.declared.Body.{Body}
 use Rattle.terms.specs.declared.Proposal.{Proposal}
 use Rattle.terms.specs.Transactions.{noTransaction, sameTransaction}
-use Rattle.terms.specs.Proposals.{slotOf, transactionsOf, contentWith, contentOf, sameTransactions, same}
+use Rattle.terms.specs.Proposals.{slotOf, transactionsOf, contentWith, contentOf, sameTransactions, sameProposal}
 use Rattle.terms.proofs.ProposalLaws.{same-tabs, other-tabs, same-placed, transactions-tab, four-slots}
 use Rattle.store.specs.Table.{previousAt, countAt, transactionAt, contentAt, nthOf, proposalOf}
 use Rattle.store.proofs.TableLaws.{content-few}
@@ -38,7 +38,7 @@ nth-with a r b k = rw (transactions-tab b) (nth-tab (slotOf b) (b .count) k)
 
 -- the comparison with what stands at the proposal's place
 pub same-record : (t : List ℕ) (p : Proposal)
-    → same (contentOf p) (contentAt t (p .author .0) (p .round .0))
+    → sameProposal (contentOf p) (contentAt t (p .author .0) (p .round .0))
     ≡ (eqb (p .body .previous) (previousAt t (p .author .0) (p .round .0))
     && (eqb (p .body .count) (countAt t (p .author .0) (p .round .0))
     && allTo (λ k. sameTransaction (slotOf (p .body) k) (transactionAt t (p .author .0) (p .round .0) k)) (p .body .count)))

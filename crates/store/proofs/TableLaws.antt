@@ -15,17 +15,17 @@ use Rattle.base.specs.Sets.{isIn}
 use Rattle.terms.specs.Transactions.{amountOf, readTransaction}
 use Rattle.terms.specs.Proposals.{Content}
 use Rattle.terms.proofs.ProposalLaws.{read-amount}
-use Rattle.store.specs.Table.{recordStart, transactionStart, heldSet, endorsedSet, heldAt, endorsedAt, word, previousAt, countAt, kindAt, numberAt, amountAt, transactionAt, contentAt, certificateAt, endorsersAt}
+use Rattle.store.specs.Table.{recordStart, transactionStart, heldSet, endorsedSet, heldAt, endorsedAt, recordWord, previousAt, countAt, kindAt, numberAt, amountAt, transactionAt, contentAt, certificateAt, endorsersAt}
 
 module _ (t : List ℕ) (m r : ℕ) where
   -- no record tells more than four transactions
   pub count-le : countAt t m r ≤ 4
   unfolding countAt
-  count-le = go (ltb 4 (word t m r 1)) refl
+  count-le = go (ltb 4 (recordWord t m r 1)) refl
     where
-      go : (b : Bool) → ltb 4 (word t m r 1) ≡ b → cond b 4 (word t m r 1) ≤ 4
+      go : (b : Bool) → ltb 4 (recordWord t m r 1) ≡ b → cond b 4 (recordWord t m r 1) ≤ 4
       go true e = omega arith
-      go false e = ltb-false 4 (word t m r 1) e
+      go false e = ltb-false 4 (recordWord t m r 1) e
 
   pub previous-lt : previousAt t m r < 65536
   unfolding previousAt
@@ -98,7 +98,7 @@ module _ (t : List ℕ) (m r : ℕ) where
 
   -- where each word is a 32-bit number, so is each amount
   pub amount-lt : ((i : ℕ) → getD t i 0 < 4294967296) → (k : ℕ) → amountOf (transactionAt t m r k) ≤ 4294967295
-  unfolding transactionAt word
+  unfolding transactionAt recordWord
   amount-lt words k =
       let h = words (recordStart m r + (transactionStart k + 2)) in
       let l = read-amount (kindAt t m r k) (numberAt t m r k) (amountAt t m r k) in

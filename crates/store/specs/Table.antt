@@ -40,8 +40,8 @@ transactionStart k = firstLength + k * transactionLength
 -- ---- what the words tell
 
 -- how many words a state of ceiling n uses: the rows 0 to n
-abbrev pub used : ℕ → ℕ
-used n = n * rowLength + rowLength
+abbrev pub usedLength : ℕ → ℕ
+usedLength n = n * rowLength + rowLength
 
 -- row r lies within the table
 abbrev pub Row : List ℕ → ℕ → Type 0
@@ -73,34 +73,34 @@ unfoldable pub endorsedAt : List ℕ → ℕ → ℕ → Bool
 endorsedAt t m r = isIn (endorsedSet t r) m
 
 -- word k of the record of a place
-unfoldable pub word : List ℕ → ℕ → ℕ → ℕ → ℕ
-word t m r k = getD t (recordStart m r + k) 0
+unfoldable pub recordWord : List ℕ → ℕ → ℕ → ℕ → ℕ
+recordWord t m r k = getD t (recordStart m r + k) 0
 
 -- the previous set of a record
 unfoldable pub previousAt : List ℕ → ℕ → ℕ → ℕ
-previousAt t m r = word t m r 0 % 65536
+previousAt t m r = recordWord t m r 0 % 65536
 
 -- how many transactions it has, at most four
 unfoldable pub countAt : List ℕ → ℕ → ℕ → ℕ
-countAt t m r = cond (ltb 4 (word t m r 1)) 4 (word t m r 1)
+countAt t m r = cond (ltb 4 (recordWord t m r 1)) 4 (recordWord t m r 1)
 
 -- its commit mark: the number of its block, 0 for none
 unfoldable pub markAt : List ℕ → ℕ → ℕ → ℕ
-markAt t m r = word t m r 2
+markAt t m r = recordWord t m r 2
 
 -- the endorsers that it was stored with
 unfoldable pub endorsersAt : List ℕ → ℕ → ℕ → ℕ
-endorsersAt t m r = word t m r 3 % 65536
+endorsersAt t m r = recordWord t m r 3 % 65536
 
 -- kind, number and amount of its transaction k
 abbrev pub kindAt : List ℕ → ℕ → ℕ → ℕ → ℕ
-kindAt t m r k = word t m r (transactionStart k)
+kindAt t m r k = recordWord t m r (transactionStart k)
 
 abbrev pub numberAt : List ℕ → ℕ → ℕ → ℕ → ℕ
-numberAt t m r k = word t m r (transactionStart k + 1)
+numberAt t m r k = recordWord t m r (transactionStart k + 1)
 
 abbrev pub amountAt : List ℕ → ℕ → ℕ → ℕ → ℕ
-amountAt t m r k = word t m r (transactionStart k + 2)
+amountAt t m r k = recordWord t m r (transactionStart k + 2)
 
 -- its transaction k
 unfoldable pub transactionAt : List ℕ → ℕ → ℕ → ℕ → Transaction

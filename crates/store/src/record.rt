@@ -14,13 +14,13 @@ ghost use mathlib.Core.Path.{_≡_};
 ghost use Prim.Native.Nat.{_<_, _≤_};
 ghost use Rattle.base.specs.Folds.{allTo};
 ghost use Rattle.terms.specs.Transactions.{sameTransaction};
-ghost use Rattle.terms.specs.Proposals.{slotOf, contentOf, same};
-ghost use Rattle.store.specs.Table.{recordLength, Within, word, previousAt, countAt, markAt, endorsersAt, kindAt, numberAt, amountAt, transactionAt, contentAt, nthOf, proposalOf};
+ghost use Rattle.terms.specs.Proposals.{slotOf, contentOf, sameProposal};
+ghost use Rattle.store.specs.Table.{recordLength, Within, recordWord, previousAt, countAt, markAt, endorsersAt, kindAt, numberAt, amountAt, transactionAt, contentAt, nthOf, proposalOf};
 
 // Word k of a record.
 pub fn word_at(t: &[u32], m: Member, r: Round, k: u32) -> u32
     requires { ⌜ Within (now t) (m .0) (r .0) × (k < recordLength) ⌝ }
-    ensures { λ v. ⌜ v ≡ word (now (t .entry)) (m .0) (r .0) k ⌝ }
+    ensures { λ v. ⌜ v ≡ recordWord (now (t .entry)) (m .0) (r .0) k ⌝ }
 {
     t[r.0 as usize * ROW + m.0 as usize * RECORD + HEAD + k as usize]
 }
@@ -155,7 +155,7 @@ fn same_slots(t: &[u32], m: Member, r: Round, b: Body, n: u32) -> bool
 // Is the proposal the one that the record of its place tells? Transactions are compared as a list, in order.
 pub fn is_same(t: &[u32], p: Proposal) -> bool
     requires { ⌜ Within (now t) (p .author .0) (p .round .0) ⌝ }
-    ensures { λ v. ⌜ v ≡ same (contentOf p) (contentAt (now (t .entry)) (p .author .0) (p .round .0)) ⌝ }
+    ensures { λ v. ⌜ v ≡ sameProposal (contentOf p) (contentAt (now (t .entry)) (p .author .0) (p .round .0)) ⌝ }
 {
     let m = p.author;
     let r = p.round;

@@ -19,7 +19,7 @@ use Rattle.terms.specs.declared.Transaction.the-variants.{Bond, Unbond, 
 use Rattle.terms.specs.Transactions.{kindOf, numberOf, amountOf, readTransaction, noTransaction, sameTransaction, bondInRange, inRange}
 use Rattle.terms.specs.declared.Slot.{Slot}
 use Rattle.terms.specs.declared.Body.{Body}
-use Rattle.terms.specs.Proposals.{Content, slotOf, transactionsOf, sameTransactions, same, allInRange, badTransactions, badPreviousSet}
+use Rattle.terms.specs.Proposals.{Content, slotOf, transactionsOf, sameTransactions, sameProposal, allInRange, badTransactions, badPreviousSet}
 
 -- the numbers of a transaction tell it
 pub read-back : (x : Transaction) → readTransaction (kindOf x) (numberOf x) (amountOf x) ≡ x
@@ -93,8 +93,8 @@ list-self [] = refl
 list-self (x ∷ l) = rw (transaction-self x, list-self l) refl
 
 -- the same certificates are those with equal proposals
-pub same-content : (p q : Content) → same p q ≡ true → p ≡ q
-unfolding same
+pub same-content : (p q : Content) → sameProposal p q ≡ true → p ≡ q
+unfolding sameProposal
 same-content p q e =
     let a = both (eqb (p .author) (q .author)) (eqb (p .round) (q .round) && (eqb (p .previous) (q .previous) && sameTransactions (p .transactions) (q .transactions))) e in
     let b = both (eqb (p .round) (q .round)) (eqb (p .previous) (q .previous) && sameTransactions (p .transactions) (q .transactions)) (a .1) in
@@ -110,12 +110,12 @@ same-content p q e =
     parts a r v l x y z w = rw (x, y, z, w) refl
 
 -- of one author and round, previous sets and transactions decide
-pub same-placed : (p q : Content) → p .author ≡ q .author → p .round ≡ q .round → same p q ≡ (eqb (p .previous) (q .previous) && sameTransactions (p .transactions) (q .transactions))
-unfolding same
+pub same-placed : (p q : Content) → p .author ≡ q .author → p .round ≡ q .round → sameProposal p q ≡ (eqb (p .previous) (q .previous) && sameTransactions (p .transactions) (q .transactions))
+unfolding sameProposal
 same-placed p q a r = rw (eq-eqb (p .author) (q .author) a, eq-eqb (p .round) (q .round) r) refl
 
-pub content-self : (p : Content) → same p p ≡ true
-unfolding same
+pub content-self : (p : Content) → sameProposal p p ≡ true
+unfolding sameProposal
 content-self p = rw (eq-eqb (p .author) (p .author) refl, eq-eqb (p .round) (p .round) refl, eq-eqb (p .previous) (p .previous) refl, list-self (p .transactions)) refl
 
 -- ---- lists by their places

@@ -45,8 +45,8 @@ sameTransactions (x ∷ l) [] = false
 sameTransactions (x ∷ l) (y ∷ m) = sameTransaction x y && sameTransactions l m
 
 -- two certificates are the same when the proposals are equal, whoever endorsed
-unfoldable pub same : Content → Content → Bool
-same p q = eqb (p .author) (q .author) && (eqb (p .round) (q .round) && (eqb (p .previous) (q .previous) && sameTransactions (p .transactions) (q .transactions)))
+unfoldable pub sameProposal : Content → Content → Bool
+sameProposal p q = eqb (p .author) (q .author) && (eqb (p .round) (q .round) && (eqb (p .previous) (q .previous) && sameTransactions (p .transactions) (q .transactions)))
 
 unfoldable pub allInRange : List Transaction → Bool
 allInRange [] = true

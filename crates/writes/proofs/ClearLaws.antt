@@ -8,26 +8,26 @@ use native.Mathlib.Omega.{arith}
 use lib.ListN.{length, getD, take, drop, replicate, length-append, length-drop, length-replicate, getD-replicate, List·getD-append}
 use lib.Seq.{take-at, drop-at}
 use Rattle.base.proofs.UnionLaws.{in-none}
-use Rattle.store.specs.Table.{rowLength, used, Row, heldSet, endorsedSet, heldAt, endorsedAt, certificateAt}
+use Rattle.store.specs.Table.{rowLength, usedLength, Row, heldSet, endorsedSet, heldAt, endorsedAt, certificateAt}
 use Rattle.store.proofs.TableLaws.{held-in, endorsed-in, certificate-absent}
 use Rattle.writes.specs.Writes.{clearUsed}
 
 module _ (t : List ℕ) (n : ℕ) where
-  pub cleared-beyond : drop (used n) (clearUsed t n) ≡ drop (used n) t
+  pub cleared-beyond : drop (usedLength n) (clearUsed t n) ≡ drop (usedLength n) t
   unfolding clearUsed
-  cleared-beyond = drop-at (replicate (used n) 0) (drop (used n) t) (used n) (length-replicate (used n) 0)
+  cleared-beyond = drop-at (replicate (usedLength n) 0) (drop (usedLength n) t) (usedLength n) (length-replicate (usedLength n) 0)
 
-  pub cleared-take : take (used n) (clearUsed t n) ≡ replicate (used n) 0
+  pub cleared-take : take (usedLength n) (clearUsed t n) ≡ replicate (usedLength n) 0
   unfolding clearUsed
-  cleared-take = take-at (replicate (used n) 0) (drop (used n) t) (used n) (length-replicate (used n) 0)
+  cleared-take = take-at (replicate (usedLength n) 0) (drop (usedLength n) t) (usedLength n) (length-replicate (usedLength n) 0)
 
   pub length-cleared : Row t n → length (clearUsed t n) ≡ length t
   unfolding clearUsed
   length-cleared h = simp (length-append, length-drop, length-replicate) (omega arith)
 
-  word-cleared : (j : ℕ) → j < used n → getD (clearUsed t n) j 0 ≡ 0
+  word-cleared : (j : ℕ) → j < usedLength n → getD (clearUsed t n) j 0 ≡ 0
   unfolding clearUsed
-  word-cleared j h = List·getD-append (replicate (used n) 0) (drop (used n) t) 0 j (omega (arith, length-replicate {A = ℕ} (used n) 0)) ∙ getD-replicate (used n) j 0 0 h
+  word-cleared j h = List·getD-append (replicate (usedLength n) 0) (drop (usedLength n) t) 0 j (omega (arith, length-replicate {A = ℕ} (usedLength n) 0)) ∙ getD-replicate (usedLength n) j 0 0 h
 
   pub held-set-cleared : (r : ℕ) → r ≤ n → heldSet (clearUsed t n) r ≡ 0
   unfolding heldSet

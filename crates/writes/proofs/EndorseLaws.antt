@@ -13,7 +13,7 @@ use borrow.Author.Tests.{eq-eqb, ne-eqb}
 use Rattle.base.proofs.Bools.{eqb-flip}
 use Rattle.base.specs.Sets.{isIn, add, del}
 use Rattle.base.proofs.SetLaws.{add-lt, del-le, in-del}
-use Rattle.store.specs.Table.{rowLength, recordLength, recordStart, used, Row, Within, heldSet, endorsedSet, blockRound, heldAt, endorsedAt, word, markAt, contentAt, certificateAt}
+use Rattle.store.specs.Table.{rowLength, recordLength, recordStart, usedLength, Row, Within, heldSet, endorsedSet, blockRound, heldAt, endorsedAt, recordWord, markAt, contentAt, certificateAt}
 use Rattle.writes.specs.Writes.{setEndorsed, clearEndorsed}
 use Rattle.writes.proofs.WriteLaws.{samePlace, in-added, content-same, certificate-same, same-beyond}
 
@@ -23,8 +23,8 @@ pub record OnlyEndorsed (q : ℕ) (t u : List ℕ) : Type 0 where
   pub words : (j : ℕ) → j ≢ q * rowLength + 1 → getD u j 0 ≡ getD t j 0
 
 module _ {q : ℕ} {t u : List ℕ} (o : OnlyEndorsed q t u) where
-  pub endorse-beyond : (n : ℕ) → q ≤ n → drop (used n) u ≡ drop (used n) t
-  endorse-beyond n h = same-beyond t u (used n) (o .size) (λ j l. o .words j (omega arith))
+  pub endorse-beyond : (n : ℕ) → q ≤ n → drop (usedLength n) u ≡ drop (usedLength n) t
+  endorse-beyond n h = same-beyond t u (usedLength n) (o .size) (λ j l. o .words j (omega arith))
 
   pub held-set-endorse : (r : ℕ) → heldSet u r ≡ heldSet t r
   unfolding heldSet
@@ -38,8 +38,8 @@ module _ {q : ℕ} {t u : List ℕ} (o : OnlyEndorsed q t u) where
   unfolding blockRound
   block-round-endorse k = o .words (k * rowLength + 2) (λ e. omega arith)
 
-  pub word-endorse : (m r : ℕ) → m < 16 → (k : ℕ) → k < recordLength → word u m r k ≡ word t m r k
-  unfolding word
+  pub word-endorse : (m r : ℕ) → m < 16 → (k : ℕ) → k < recordLength → recordWord u m r k ≡ recordWord t m r k
+  unfolding recordWord
   word-endorse m r h k l = o .words (recordStart m r + k) (λ e. omega arith)
 
   pub mark-endorse : (m r : ℕ) → m < 16 → markAt u m r ≡ markAt t m r

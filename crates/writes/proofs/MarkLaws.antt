@@ -8,7 +8,7 @@ use Prim.Native.Nat.{ℕ, _+_, _*_, _%_, _<_, _≤_}
 use native.Mathlib.Omega.{arith}
 use lib.ListN.{length, getD, set, drop, length-set}
 use lib.Seq.{getD-set-same, getD-set-other}
-use Rattle.store.specs.Table.{rowLength, recordLength, recordStart, used, Within, Row, heldSet, endorsedSet, blockRound, heldAt, endorsedAt, word, previousAt, countAt, markAt, transactionAt, contentAt, certificateAt}
+use Rattle.store.specs.Table.{rowLength, recordLength, recordStart, usedLength, Within, Row, heldSet, endorsedSet, blockRound, heldAt, endorsedAt, recordWord, previousAt, countAt, markAt, transactionAt, contentAt, certificateAt}
 use Rattle.writes.specs.Writes.{setMark, setBlock}
 use Rattle.writes.proofs.WriteLaws.{samePlace, same-place, other-place, count-same, previous-same, transaction-same, content-same, certificate-same, same-beyond}
 
@@ -32,13 +32,13 @@ only-set : (n : ℕ) (t : List ℕ) (i x : ℕ) → i % 16 ≡ 2 → i < n → O
 only-set n t i x e h =
     record { size = length-set t i x; words = λ j d. getD-set-other t i j x 0 (λ q. d (rw q e)); beyond = λ j l. getD-set-other t i j x 0 (omega arith) }
 
-pub only-mark : (c : ℕ) (t : List ℕ) (m r b : ℕ) → m < 16 → r ≤ c → OnlyMarks (used c) t (setMark t m r b)
+pub only-mark : (c : ℕ) (t : List ℕ) (m r b : ℕ) → m < 16 → r ≤ c → OnlyMarks (usedLength c) t (setMark t m r b)
 unfolding setMark
-only-mark c t m r b h l = only-set (used c) t (recordStart m r + 2) b (omega arith) (omega arith)
+only-mark c t m r b h l = only-set (usedLength c) t (recordStart m r + 2) b (omega arith) (omega arith)
 
-pub only-block : (c : ℕ) (t : List ℕ) (k r : ℕ) → k ≤ c → OnlyMarks (used c) t (setBlock t k r)
+pub only-block : (c : ℕ) (t : List ℕ) (k r : ℕ) → k ≤ c → OnlyMarks (usedLength c) t (setBlock t k r)
 unfolding setBlock
-only-block c t k r l = only-set (used c) t (k * rowLength + 2) r (omega arith) (omega arith)
+only-block c t k r l = only-set (usedLength c) t (k * rowLength + 2) r (omega arith) (omega arith)
 
 -- ---- what is kept
 
@@ -59,8 +59,8 @@ module _ {n : ℕ} {t u : List ℕ} (o : OnlyMarks n t u) where
   unfolding endorsedAt
   endorsed-marked m r = rw (endorsed-set-marked r) refl
 
-  pub word-marked : (m r k : ℕ) → k < recordLength → k ≢ 2 → word u m r k ≡ word t m r k
-  unfolding word
+  pub word-marked : (m r k : ℕ) → k < recordLength → k ≢ 2 → recordWord u m r k ≡ recordWord t m r k
+  unfolding recordWord
   word-marked m r k h d = o .words (recordStart m r + k) (λ e. d (omega arith))
 
   pub previous-marked : (m r : ℕ) → previousAt u m r ≡ previousAt t m r
@@ -82,8 +82,8 @@ module _ {n : ℕ} {t u : List ℕ} (o : OnlyMarks n t u) where
   beyond-marked = same-beyond t u n (o .size) (o .beyond)
 
 -- the rows above c keep their marks
-pub mark-beyond : (c : ℕ) {t u : List ℕ} → OnlyMarks (used c) t u → (m r : ℕ) → c < r → markAt u m r ≡ markAt t m r
-unfolding markAt word
+pub mark-beyond : (c : ℕ) {t u : List ℕ} → OnlyMarks (usedLength c) t u → (m r : ℕ) → c < r → markAt u m r ≡ markAt t m r
+unfolding markAt recordWord
 mark-beyond c o m r h = o .beyond (recordStart m r + 2) (omega arith)
 
 -- ---- marks
@@ -106,11 +106,11 @@ no-block m r k h e = go (decLt r k)
     go (no l) = omega arith
 
 pub mark-same : (t : List ℕ) (a q b : ℕ) → Within t a q → markAt (setMark t a q b) a q ≡ b
-unfolding markAt word setMark
+unfolding markAt recordWord setMark
 mark-same t a q b at = getD-set-same t (recordStart a q + 2) b 0 (omega arith)
 
 pub mark-other : (t : List ℕ) (a q b m r : ℕ) → a < 16 → m < 16 → samePlace m r a q ≡ false → markAt (setMark t a q b) m r ≡ markAt t m r
-unfolding markAt word setMark
+unfolding markAt recordWord setMark
 mark-other t a q b m r k h n =
     getD-set-other t (recordStart a q + 2) (recordStart m r + 2) b 0 (λ e. let z = one-place m r a q h k e in other-place m r a q n (z .0) (z .1))
 
@@ -123,7 +123,7 @@ mark-set t a q b at m r h = go (samePlace m r a q) refl
     go false e = mark-other t a q b m r (at .member) h e
 
 pub mark-block : (t : List ℕ) (k q m r : ℕ) → m < 16 → markAt (setBlock t k q) m r ≡ markAt t m r
-unfolding markAt word setBlock
+unfolding markAt recordWord setBlock
 mark-block t k q m r h = getD-set-other t (k * rowLength + 2) (recordStart m r + 2) q 0 (no-block m r k h)
 
 -- ---- block rounds

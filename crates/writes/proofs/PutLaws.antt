@@ -16,7 +16,7 @@ use Rattle.terms.specs.declared.Transaction.{Transaction}
 use Rattle.terms.specs.Transactions.{kindOf, numberOf, amountOf, readTransaction, noTransaction}
 use Rattle.terms.specs.Proposals.{Content}
 use Rattle.terms.proofs.ProposalLaws.{read-back}
-use Rattle.store.specs.Table.{rowLength, headLength, recordLength, transactionStart, used, Within, heldSet, endorsedSet, blockRound, heldAt, endorsedAt, word, previousAt, countAt, markAt, endorsersAt, kindAt, numberAt, amountAt, transactionAt, contentAt, certificateAt, nthOf}
+use Rattle.store.specs.Table.{rowLength, headLength, recordLength, transactionStart, usedLength, Within, heldSet, endorsedSet, blockRound, heldAt, endorsedAt, recordWord, previousAt, countAt, markAt, endorsersAt, kindAt, numberAt, amountAt, transactionAt, contentAt, certificateAt, nthOf}
 use Rattle.store.proofs.TableLaws.{certificate-present}
 use Rattle.writes.specs.Writes.{putTransaction, recordOf, putCertificate}
 use Rattle.writes.proofs.WriteLaws.{samePlace, same-place, other-place, in-added, content-same, certificate-same, same-beyond, length-record-put, put-above, word-put, word-kept, held-set-put, put-head}
@@ -69,15 +69,15 @@ module _ (t : List ℕ) (p : Content) (d : ℕ) (at : Within t (p .author) (p .r
   length-put = length-record-put t (p .author) (p .round) (recordOf p d) at (length-record p d)
 
   -- nothing beyond the rows 0 to n changes
-  pub put-beyond : (n : ℕ) → p .round ≤ n → drop (used n) (putCertificate t p d) ≡ drop (used n) t
+  pub put-beyond : (n : ℕ) → p .round ≤ n → drop (usedLength n) (putCertificate t p d) ≡ drop (usedLength n) t
   unfolding putCertificate
-  put-beyond n h = same-beyond t (putCertificate t p d) (used n) length-put (λ j l. put-above t (p .author) (p .round) (recordOf p d) at (length-record p d) j (omega arith))
+  put-beyond n h = same-beyond t (putCertificate t p d) (usedLength n) length-put (λ j l. put-above t (p .author) (p .round) (recordOf p d) at (length-record p d) j (omega arith))
 
-  pub word-at-place : (k : ℕ) → k < recordLength → word (putCertificate t p d) (p .author) (p .round) k ≡ getD (recordOf p d) k 0
+  pub word-at-place : (k : ℕ) → k < recordLength → recordWord (putCertificate t p d) (p .author) (p .round) k ≡ getD (recordOf p d) k 0
   unfolding putCertificate
   word-at-place k h = word-put t (p .author) (p .round) (recordOf p d) at (length-record p d) k h
 
-  pub word-elsewhere : (m r : ℕ) → m < 16 → samePlace m r (p .author) (p .round) ≡ false → (k : ℕ) → k < recordLength → word (putCertificate t p d) m r k ≡ word t m r k
+  pub word-elsewhere : (m r : ℕ) → m < 16 → samePlace m r (p .author) (p .round) ≡ false → (k : ℕ) → k < recordLength → recordWord (putCertificate t p d) m r k ≡ recordWord t m r k
   unfolding putCertificate
   word-elsewhere m r h n k l = word-kept t (p .author) (p .round) (recordOf p d) at (length-record p d) m r k h l (other-place m r (p .author) (p .round) n)
 

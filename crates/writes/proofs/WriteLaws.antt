@@ -17,7 +17,7 @@ use Rattle.base.proofs.FoldLaws.{tab-same}
 use Rattle.base.specs.Sets.{isIn, add}
 use Rattle.base.proofs.SetLaws.{in-add}
 use Rattle.base.proofs.PasteLaws.{paste-below, paste-inside, paste-above}
-use Rattle.store.specs.Table.{rowLength, headLength, recordLength, recordStart, transactionStart, Within, heldSet, heldAt, word, previousAt, countAt, endorsersAt, transactionAt, contentAt, certificateAt}
+use Rattle.store.specs.Table.{rowLength, headLength, recordLength, recordStart, transactionStart, Within, heldSet, heldAt, recordWord, previousAt, countAt, endorsersAt, transactionAt, contentAt, certificateAt}
 use Rattle.store.proofs.TableLaws.{count-le, held-member}
 use Rattle.writes.specs.Writes.{putRecord}
 
@@ -43,7 +43,7 @@ in-added s s′ a q h e k m r = by (ℕ-discrete r q)
     by (no n) = rw (k r n, ne-eqb r q n, and-false (eqb m a)) refl
 
 -- the words of a record other than its mark make what it tells
-module _ (t u : List ℕ) (m r : ℕ) (e : (k : ℕ) → k < recordLength → k ≢ 2 → word u m r k ≡ word t m r k) where
+module _ (t u : List ℕ) (m r : ℕ) (e : (k : ℕ) → k < recordLength → k ≢ 2 → recordWord u m r k ≡ recordWord t m r k) where
   pub count-same : countAt u m r ≡ countAt t m r
   unfolding countAt
   count-same = rw (e 1 (omega arith) (omega arith)) refl
@@ -68,7 +68,7 @@ module _ (t u : List ℕ) (m r : ℕ) (e : (k : ℕ) → k < recordLength → k 
       rw (previous-same, count-same, q) refl
 
 -- a place that is held as before, with the words that it had if it is, has the certificate that it had
-pub certificate-same : (t u : List ℕ) (m r : ℕ) → heldAt u m r ≡ heldAt t m r → (m < 16 → (k : ℕ) → k < recordLength → k ≢ 2 → word u m r k ≡ word t m r k)
+pub certificate-same : (t u : List ℕ) (m r : ℕ) → heldAt u m r ≡ heldAt t m r → (m < 16 → (k : ℕ) → k < recordLength → k ≢ 2 → recordWord u m r k ≡ recordWord t m r k)
     → certificateAt u m r ≡ certificateAt t m r
 unfolding certificateAt
 certificate-same t u m r h e = rw h (go (heldAt t m r) refl)
@@ -123,14 +123,14 @@ module _ (t : List ℕ) (m r : ℕ) (w : List ℕ) (at : Within t m r) (lw : len
       getD-set-other (paste t (recordStart m r) w recordLength) (r * rowLength) j (add (heldSet t r) m) 0 (omega arith)
       ∙ paste-above t (recordStart m r) w recordLength (omega arith) lw j (omega arith)
 
-  pub word-put : (k : ℕ) → k < recordLength → word (putRecord t m r w) m r k ≡ getD w k 0
-  unfolding putRecord word
+  pub word-put : (k : ℕ) → k < recordLength → recordWord (putRecord t m r w) m r k ≡ getD w k 0
+  unfolding putRecord recordWord
   word-put k h =
       getD-set-other (paste t (recordStart m r) w recordLength) (r * rowLength) (recordStart m r + k) (add (heldSet t r) m) 0 (omega arith)
       ∙ paste-inside t (recordStart m r) w recordLength (omega arith) lw k h
 
-  pub word-kept : (m′ r′ k : ℕ) → m′ < 16 → k < recordLength → (m′ ≡ m → r′ ≡ r → ⊥) → word (putRecord t m r w) m′ r′ k ≡ word t m′ r′ k
-  unfolding word
+  pub word-kept : (m′ r′ k : ℕ) → m′ < 16 → k < recordLength → (m′ ≡ m → r′ ≡ r → ⊥) → recordWord (putRecord t m r w) m′ r′ k ≡ recordWord t m′ r′ k
+  unfolding recordWord
   word-kept m′ r′ k h l n =
       ⊎-elim (λ z. put-below (recordStart m′ r′ + k) (omega arith) (omega arith)) (λ z. put-above (recordStart m′ r′ + k) (omega arith))
       (apart m r m′ r′ (at .member) h n)

@@ -7,7 +7,7 @@ use Rattle.base.specs.Sets.{add, del}
 use Rattle.terms.specs.declared.Transaction.{Transaction}
 use Rattle.terms.specs.Transactions.{kindOf, numberOf, amountOf}
 use Rattle.terms.specs.Proposals.{Content}
-use Rattle.store.specs.Table.{rowLength, recordLength, recordStart, transactionStart, used, heldSet, endorsedSet, nthOf}
+use Rattle.store.specs.Table.{rowLength, recordLength, recordStart, transactionStart, usedLength, heldSet, endorsedSet, nthOf}
 
 -- the three words of transaction k
 unfoldable pub putTransaction : List ℕ → ℕ → Transaction → List ℕ
@@ -48,4 +48,4 @@ setBlock t k r = set t (k * rowLength + 2) r
 
 -- the part that a state of ceiling n uses, cleared
 unfoldable pub clearUsed : List ℕ → ℕ → List ℕ
-clearUsed t n = replicate (used n) 0 ++ drop (used n) t
+clearUsed t n = replicate (usedLength n) 0 ++ drop (usedLength n) t

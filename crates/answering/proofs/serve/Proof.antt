@@ -9,7 +9,7 @@ use Rattle.checks.specs.declared.Outcome.{Outcome}
 use Rattle.checks.specs.Answers.{formedBy}
 use Rattle.engine.specs.Calls.{Call, aside, listing, InRange}
 use Rattle.engine.specs.Engine.{Engine, after}
-use Rattle.engine.specs.Values.{nothing, given}
+use Rattle.engine.specs.Values.{nothing, acceptedValue}
 use Rattle.engine.specs.Steps.{ruled, SetInRange}
 use Rattle.engine.proofs.OutcomeLaws.{outcomeFor, propose-outcome, endorse-outcome, certify-outcome, accept-outcome, advance-outcome}
 use Rattle.engine.proofs.CachedLaws.{leavesChain}
@@ -18,7 +18,8 @@ use Rattle.requests.specs.declared.Kind.the-variants.{Unreadable, Open, Propose
 use Rattle.requests.specs.declared.Reading.{Reading}
 use Rattle.replies.specs.declared.Reply.{Reply}
 use Rattle.replies.specs.Answers.{answerLine}
-use Rattle.replies.specs.Records.{engineOf, callAs, callOf, RecordAnswered}
+use Rattle.replies.specs.Asked.{callAs, callOf}
+use Rattle.replies.specs.Records.{engineOf, RecordAnswered}
 use Rattle.replies.specs.Replies.{OutcomeReplied}
 use Rattle.replies.proofs.RecordLaws.{called-as, unreadable-answered, call-answered}
 use Rattle.replies.proofs.ReplyLaws.{replied-left, served-answered}
@@ -48,7 +49,7 @@ endorsers-to : (c : tie.After-body) → reading c .endorsers < 65536
 endorsers-to c = omega (arith, entry c .good .1 .1 .1 .1 .0)
 
 -- a member's call d that leaves the chain has come to o, which was replied
-by-reply : (c : tie.After-body) (k : Kind) (d : Call) → callAs (reading c) k ≡ some d → given (engine c) d ≡ nothing → leavesChain (ruled d) ≡ true
+by-reply : (c : tie.After-body) (k : Kind) (d : Call) → callAs (reading c) k ≡ some d → acceptedValue (engine c) d ≡ nothing → leavesChain (ruled d) ≡ true
     → InRange d → reading c .kind ≡ k → {o : Outcome} → o ≡ outcomeFor (engine c) d → {t : List ℕ} → t ≡ after (engine c) d .table
     → {r : Reply} {x : List ℕ} {y : List ℕ} {at : ℕ} → OutcomeReplied (o .state) (formedBy (entry c .args .formed) (o .answer)) (answerLine (o .answer)) r x y at
     → RecordAnswered (engine c) (callOf (reading c)) (engineOf (r .state) t) x y at (r .next) × Cached (r .state) t (r .formed) (entry c .args .cache .now)

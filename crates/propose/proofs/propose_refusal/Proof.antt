@@ -87,11 +87,11 @@ is-taken-requires c κs = well (start₃ c) .0
 returns-4 : tie.Need-returns-4
 returns-4 c = sym (past₃ (c .before .before) ∙ refuses _ _ (sym (c .before .is-taken .ensures) ∙ c .if4 .taken))
 
-committee-refusal-requires : tie.Need-committee-refusal-requires
-committee-refusal-requires c κs = well (start₃ (c .before .before))
+membership-refusal-requires : tie.Need-membership-refusal-requires
+membership-refusal-requires c κs = well (start₃ (c .before .before))
 
 returns-5 : tie.Need-returns-5
-returns-5 c = c .committee-refusal .ensures ∙ sym (past₄ (c .before))
+returns-5 c = c .membership-refusal .ensures ∙ sym (past₄ (c .before))
 
 pub propose-refusal-spec : {M : Type 1} → statement M
 propose-refusal-spec =
@@ -105,5 +105,5 @@ propose-refusal-spec =
     returns-3
     is-taken-requires
     returns-4
-    committee-refusal-requires
+    membership-refusal-requires
     returns-5)

@@ -7,28 +7,28 @@ use Rattle.runner.proofs.SessionLaws.{advanced, refilled-cached}
 use Rattle.runner.proofs.serve_pass.Statement.{statement}
 use Rattle.runner.proofs.serve_pass.Tie as tie
 
--- the entry, as the place where the bytes at hand are lent sees it; that place, as the one after `fill` does; and this, as the one after `flush` does
-abbrev entry : tie.After-fill-arg3 → tie.Start
+-- the entry, as the place where the bytes at hand are lent sees it; that place, as the one after `work_on` does; and this, as the one after `flush` does
+abbrev entry : tie.After-work-on-arg3 → tie.Start
 entry c = c .before .before .before .before .before .before .before .before
 
-abbrev lent : tie.After-fill → tie.After-fill-arg3
+abbrev lent : tie.After-work-on → tie.After-work-on-arg3
 lent c = c .before .before
 
-abbrev filled : tie.After-flush → tie.After-fill
-filled c = c .before .before .before .before .before .before .before .before
+abbrev worked : tie.After-flush → tie.After-work-on
+worked c = c .before .before .before .before .before .before .before .before
 
 -- how many bytes are at hand
-hand : (c : tie.After-fill-arg3) → let a = entry c .args in length (take (a .s .end) (a .buf .now)) ≡ a .s .end
+hand : (c : tie.After-work-on-arg3) → let a = entry c .args in length (take (a .s .end) (a .buf .now)) ≡ a .s .end
 hand c = let a = entry c .args in length-take-le (a .s .end) (a .buf .now) (entry c .pre .hand .end-to)
 
-slice-reshare-prefix-fill : tie.Need-slice-reshare-prefix-fill
-slice-reshare-prefix-fill c = search needs
+slice-reshare-prefix-work-on : tie.Need-slice-reshare-prefix-work-on
+slice-reshare-prefix-work-on c = search needs
 
-slice-aggregate-fill : tie.Need-slice-aggregate-fill
-slice-aggregate-fill c = sym (hand c)
+slice-aggregate-work-on : tie.Need-slice-aggregate-work-on
+slice-aggregate-work-on c = sym (hand c)
 
-fill-requires : tie.Need-fill-requires
-fill-requires c κs =
+work-on-requires : tie.Need-work-on-requires
+work-on-requires c κs =
     let p = entry (c .before) .pre in
     let l = hand (c .before) in
     record {
@@ -43,9 +43,9 @@ flush-requires c κs = search needs
 
 refill-requires : tie.Need-refill-requires
 refill-requires c κs =
-    let f = filled (c .before) in
+    let f = worked (c .before) in
     let p = entry (lent f) .pre in
-    (record { from-to = rw (hand (lent f)) at (f .fill .ensures .from-to); end-to = p .hand .end-to }, p .memory .input-to)
+    (record { from-to = rw (hand (lent f)) at (f .work-on .ensures .from-to); end-to = p .hand .end-to }, p .memory .input-to)
 
 same-length : tie.Need-same-length
 same-length c = search needs
@@ -62,10 +62,10 @@ same-length-4 c = search needs
 returns : tie.Need-returns
 returns c =
     let u = c .before .before in
-    let m = filled (u .before .before) in
+    let m = worked (u .before .before) in
     let s = entry (lent m) in
     let p = s .pre in
-    let f = m .fill .ensures in
+    let f = m .work-on .ensures in
     let e = u .refill .ensures in
     let t = same-length-2 c in
     let z = p .memory in (
@@ -82,9 +82,9 @@ pub serve-pass-spec : {M : Type 1} → statement M
 serve-pass-spec =
     tie.close
     (tie.spec
-    slice-reshare-prefix-fill
-    slice-aggregate-fill
-    fill-requires
+    slice-reshare-prefix-work-on
+    slice-aggregate-work-on
+    work-on-requires
     flush-requires
     refill-requires
     same-length

@@ -6,7 +6,7 @@ use borrow.Author.Tests.{lt-ltb, le-ltb, le-leb, lt-leb, not-true, not-false}
 use borrow.Author.Needs.{needs}
 use Rattle.base.specs.Folds.{allTo}
 use Rattle.terms.specs.Proposals.{badPreviousSet}
-use Rattle.store.specs.Table.{word, countAt, previousAt, markAt}
+use Rattle.store.specs.Table.{recordWord, countAt, previousAt, markAt}
 use Rattle.scan.specs.Scan.{transactionFits, endorsersFit, recordFits}
 use Rattle.store.proofs.TableLaws.{count-le}
 use Rattle.scan.proofs.record_fits.Statement.{statement}
@@ -23,7 +23,7 @@ abbrev last3 : tie.Start → Bool
 last3 s = let a = s .args in not (badPreviousSet (a .r .0) (previousAt (a .t .now) (a .m .0) (a .r .0))) && last2 s
 
 abbrev last4 : tie.Start → Bool
-last4 s = let a = s .args in ltb (word (a .t .now) (a .m .0) (a .r .0) 0) 65536 && last3 s
+last4 s = let a = s .args in ltb (recordWord (a .t .now) (a .m .0) (a .r .0) 0) 65536 && last3 s
 
 abbrev last5 : tie.Start → Bool
 last5 s = let a = s .args in allTo (transactionFits (a .t .now) (a .m .0) (a .r .0)) (countAt (a .t .now) (a .m .0) (a .r .0)) && last4 s

@@ -5,12 +5,12 @@ use Prim.Native.Nat.{_-_, _≤_}
 use mathlib.Core.Bool.{false}
 use Rattle.base.specs.Folds.{anyTo}
 use Rattle.base.proofs.TestLaws.{any-more, true-any}
-use Rattle.sheet.specs.Ranges.{weightIn, outside}
+use Rattle.sheet.specs.Ranges.{weightIn, notWithin}
 use Rattle.sheet.proofs.has_outside.Statement.{statement}
 use Rattle.sheet.proofs.has_outside.Tie as tie
 
 abbrev Inv-loop : tie.InvT-loop
-Inv-loop w i₀ i = (i ≤ 16) × (anyTo (λ j. outside (weightIn w j) 0 1000000) i ≡ false)
+Inv-loop w i₀ i = (i ≤ 16) × (anyTo (λ j. notWithin (weightIn w j) 0 1000000) i ≡ false)
 
 abbrev μ-loop : tie.MeasureT-loop
 μ-loop w i₀ i = 16 - i

@@ -1,14 +1,14 @@
 use borrow.Author.Tests.{lt-ltb, le-ltb}
-use Rattle.sheet.specs.Ranges.{outside}
+use Rattle.sheet.specs.Ranges.{notWithin}
 use Rattle.sheet.proofs.is_outside.Statement.{statement}
 use Rattle.sheet.proofs.is_outside.Tie as tie
 
 returns : tie.Need-returns
-unfolding outside
+unfolding notWithin
 returns c = simp (lt-ltb _ _ (c .if1 .taken))
 
 returns-2 : tie.Need-returns-2
-unfolding outside
+unfolding notWithin
 returns-2 c = simp (le-ltb _ _ (c .if1 .left))
 
 pub is-outside-spec : {M : Type 1} → statement M

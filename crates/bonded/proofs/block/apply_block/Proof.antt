@@ -5,7 +5,7 @@ use native.Mathlib.Omega.{arith}
 use borrow.Author.Needs.{needs}
 use Rattle.bonded.specs.BlockChanges.{placeChange}
 use Rattle.bonded.proofs.BlockChangeLaws.{same-at}
-use Rattle.bonded.specs.Runs.{rowsOver}
+use Rattle.bonded.specs.LinkRuns.{rowsOver}
 use Rattle.bonded.proofs.RunLaws.{LinkedFrom, linked-head, linked-up, rows-first, rows-next, end-linked}
 use Rattle.bonded.proofs.BoundLaws.{rows-total}
 use Rattle.bonded.proofs.block.apply_block.Statement.{statement}

@@ -1,7 +1,7 @@
 use Prim.Native.Nat.{_+_, _*_, _/_}
 use native.Mathlib.Omega.{arith}
 use borrow.Author.Needs.{needs}
-use Rattle.bonded.specs.Runs.{rowOver}
+use Rattle.bonded.specs.LinkRuns.{rowOver}
 use Rattle.bonded.proofs.BoundLaws.{run-total}
 use Rattle.bonded.proofs.block.apply_row.Statement.{statement}
 use Rattle.bonded.proofs.block.apply_row.Tie as tie

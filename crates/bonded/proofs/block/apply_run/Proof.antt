@@ -5,7 +5,7 @@ use native.Mathlib.Omega.{arith}
 use borrow.Author.Needs.{needs}
 use Rattle.committee.specs.Totals.{totalIn}
 use Rattle.bonded.specs.BlockChanges.{recordChange}
-use Rattle.bonded.specs.Runs.{runOver, runEnd}
+use Rattle.bonded.specs.LinkRuns.{runOver, runEnd}
 use Rattle.bonded.proofs.RunLaws.{run-step, run-stop, run-none, end-step, end-stop, end-none}
 use Rattle.bonded.proofs.BoundLaws.{from-total}
 use Rattle.bonded.proofs.block.apply_run.Statement.{statement}

@@ -2,7 +2,7 @@ use mathlib.Core.Path.{_≡_, refl, sym, _∙_}
 use Prim.Native.Nat.{suc, _+_, _-_, _≤_}
 use native.Mathlib.Omega.{arith}
 use borrow.Author.Needs.{needs}
-use Rattle.bonded.specs.Runs.{runEnd}
+use Rattle.bonded.specs.LinkRuns.{runEnd}
 use Rattle.bonded.proofs.RunLaws.{end-step, end-stop, end-none}
 use Rattle.bonded.proofs.links.run_end.Statement.{statement}
 use Rattle.bonded.proofs.links.run_end.Tie as tie

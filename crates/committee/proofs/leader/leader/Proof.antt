@@ -15,11 +15,11 @@ returns-2 c = sym (ap leaderNumber (leader-early _ _ (c .if2 .taken)))
 member-set-requires : tie.Need-member-set-requires
 member-set-requires c κs = search needs
 
-count-requires : tie.Need-count-requires
-count-requires c κs = search needs
+size-requires : tie.Need-size-requires
+size-requires c κs = search needs
 
 returns-3 : tie.Need-returns-3
-returns-3 c = let a = c .before .before .before .before .before .before .before .args in let s = c .before .before .member-set in let e = leader-set (a .w .now) (a .r .0) (c .before .before .before .before .before .if1 .left) (omega arith) in sym (ap leaderNumber (e ∙ at-none _ _ (rw (← s .ensures) (omega (arith, c .before .count .ensures)))))
+returns-3 c = let a = c .before .before .before .before .before .before .before .args in let s = c .before .before .member-set in let e = leader-set (a .w .now) (a .r .0) (c .before .before .before .before .before .if1 .left) (omega arith) in sym (ap leaderNumber (e ∙ at-none _ _ (rw (← s .ensures) (omega (arith, c .before .size .ensures)))))
 
 rem-member-at : tie.Need-rem-member-at
 rem-member-at c = search needs
@@ -28,7 +28,7 @@ member-at-requires : tie.Need-member-at-requires
 member-at-requires c κs = search needs
 
 returns-4 : tie.Need-returns-4
-returns-4 c = let a = c .before .before .before .before .before .before .before .before .before .args in let s = c .before .before .before .before .member-set in let e = leader-set (a .w .now) (a .r .0) (c .before .before .before .before .before .before .before .if1 .left) (omega arith) in rw (e, ← s .ensures, ← c .before .before .before .count .ensures) (c .member-at .ensures)
+returns-4 c = let a = c .before .before .before .before .before .before .before .before .before .args in let s = c .before .before .before .before .member-set in let e = leader-set (a .w .now) (a .r .0) (c .before .before .before .before .before .before .before .if1 .left) (omega arith) in rw (e, ← s .ensures, ← c .before .before .before .size .ensures) (c .member-at .ensures)
 
 pub leader-spec : {M : Type 1} → statement M
 leader-spec =
@@ -37,7 +37,7 @@ leader-spec =
     returns
     returns-2
     member-set-requires
-    count-requires
+    size-requires
     returns-3
     rem-member-at
     member-at-requires

@@ -5,7 +5,7 @@ use native.Mathlib.Omega.{arith}
 use mathlib.Core.List.{List}
 use Prim.Native.Nat.{ℕ, _+_, _-_, _*_, _<_, _≤_}
 use lib.ListN.{length, drop, getD}
-use Rattle.fields.specs.Numbers.{plain, allDigits, value}
+use Rattle.fields.specs.Numbers.{noLeadingZero, allDigits, value}
 use Rattle.fields.proofs.NumberLaws.{value-le, digit-low, digit-high, digit, digits-at, value-at, digits-end, value-end, number-zeros, number-other, number-large, number-is}
 use Rattle.fields.specs.Cursor.{found}
 use borrow.Author.Needs.{needs}
@@ -16,7 +16,7 @@ use Rattle.fields.proofs.number.decimal.Tie as tie
 record Reading (f : List ℕ) (m v i : ℕ) : Type 0 where
   so-far : i ≤ length f
   few : v ≤ m
-  no-zeros : plain f ≡ true
+  no-zeros : noLeadingZero f ≡ true
   digits-left : allDigits f ≡ allDigits (drop i f)
   value-left : value 0 f ≡ value v (drop i f)
 

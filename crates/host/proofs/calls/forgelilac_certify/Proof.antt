@@ -33,8 +33,8 @@ cast-certify c = search needs
 certify-requires : tie.Need-certify-requires
 certify-requires c κs = search needs
 
-refusal-of-requires : tie.Need-refusal-of-requires
-refusal-of-requires c κs = search needs
+refusal-in-requires : tie.Need-refusal-in-requires
+refusal-in-requires c κs = search needs
 
 same-length : tie.Need-same-length
 same-length c = search needs
@@ -44,7 +44,7 @@ returns-3 c =
     let m = c .before .before .before in
     let d = m .before .before .before in
     let x = rw (m .before .before .state-in .ensures) at (m .certify .ensures) in
-    done-kept _ _ _ _ (no-out (state-serves (d .before))) (lt-ltb _ 65536 (d .if2 .left)) refl (c .refusal-of .ensures ∙ x .its-refusal) (x .its-table) (λ s. refl)
+    done-kept _ _ _ _ (no-out (state-serves (d .before))) (lt-ltb _ 65536 (d .if2 .left)) refl (c .refusal-in .ensures ∙ x .its-refusal) (x .its-table) (λ s. refl)
 
 pub forgelilac-certify-spec : {M : Type 1} → statement M
 forgelilac-certify-spec =
@@ -56,6 +56,6 @@ forgelilac-certify-spec =
     state-in-requires
     cast-certify
     certify-requires
-    refusal-of-requires
+    refusal-in-requires
     same-length
     returns-3)

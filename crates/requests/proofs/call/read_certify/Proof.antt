@@ -11,7 +11,7 @@ use Rattle.requests.proofs.call.read_certify.Statement.{statement}
 use Rattle.requests.proofs.call.read_certify.Tie as tie
 
 -- where there are endorsers: the call that read them, and the start
-abbrev number : tie.After-x → tie.After-number-at
+abbrev number : tie.After-x → tie.After-read-number
 number c = c .before .before
 
 abbrev start : tie.After-x → tie.Start
@@ -19,13 +19,13 @@ start c = number c .before .before
 
 -- they are a set, and the record must end
 endorsers-fit : (c : tie.After-x) → c .x .given .0 .0 ≤ 65535
-endorsers-fit c = number-fits 65535 _ _ (number c .number-at .ensures .0) (c .x .given .1)
+endorsers-fit c = number-fits 65535 _ _ (number c .read-number .ensures .0) (c .x .given .1)
 
-ends : (c : tie.After-x) → let r = start c .args .rec .now in certifyOf (fieldsFrom r (start c .args .at)) ≡ atEnd (fieldsFrom r (number c .number-at .result .next)) (certify (c .x .given .0 .0))
-ends c = let n = number c .number-at in number-goes _ _ _ _ (n .ensures .0) (n .ensures .1) (c .x .given .1)
+ends : (c : tie.After-x) → let r = start c .args .rec .now in certifyOf (fieldsFrom r (start c .args .at)) ≡ atEnd (fieldsFrom r (number c .read-number .result .next)) (certify (c .x .given .0 .0))
+ends c = let n = number c .read-number in number-goes _ _ _ _ (n .ensures .0) (n .ensures .1) (c .x .given .1)
 
-number-at-requires : tie.Need-number-at-requires
-number-at-requires c κs = search needs
+read-number-requires : tie.Need-read-number-requires
+read-number-requires c κs = search needs
 
 enum-known-x : tie.Need-enum-known-x
 enum-known-x c = search needs
@@ -37,7 +37,7 @@ unreadable-requires : tie.Need-unreadable-requires
 unreadable-requires c κs = search needs
 
 returns : tie.Need-returns
-returns c = let t = c .before in c .unreadable .ensures ∙ sym (number-stops _ _ _ _ (t .before .before .number-at .ensures .0) (t .enum-told .given .1))
+returns c = let t = c .before in c .unreadable .ensures ∙ sym (number-stops _ _ _ _ (t .before .before .read-number .ensures .0) (t .enum-told .given .1))
 
 unreadable-requires-2 : tie.Need-unreadable-requires-2
 unreadable-requires-2 c κs = search needs
@@ -63,7 +63,7 @@ pub read-certify-spec : {M : Type 1} → statement M
 read-certify-spec =
     tie.close
     (tie.spec
-    number-at-requires
+    read-number-requires
     enum-known-x
     enum-told
     unreadable-requires

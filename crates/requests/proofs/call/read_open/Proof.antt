@@ -5,7 +5,7 @@ use Prim.Native.Nat.{ℕ}
 use borrow.Author.Tests.{not-true, not-false}
 use Rattle.sheet.specs.declared.Setting.{Setting}
 use Rattle.fields.specs.Fields.{fieldsFrom}
-use Rattle.fields.specs.Numbers.{given}
+use Rattle.fields.specs.Numbers.{ifRead}
 use Rattle.fields.specs.Cursor.{found}
 use Rattle.requests.specs.Settings.{setting}
 use Rattle.requests.specs.Requests.{nextBy, weightsThen, openOf}
@@ -31,22 +31,22 @@ lookbackLeft o fs = nextBy setting fs (ceilingLeft o)
 
 -- an open is unreadable where o is none, and else what k makes of what was read and of the fields from n on
 abbrev Told : {A : Type 0} → tie.Start → Option A → ℕ → (A → List (List ℕ) → Reading) → Type 0
-Told s o n k = let r = s .args .rec .now in openOf (fieldsFrom r (s .args .at)) ≡ given o unreadable (λ x. k x (fieldsFrom r n))
+Told s o n k = let r = s .args .rec .now in openOf (fieldsFrom r (s .args .at)) ≡ ifRead o unreadable (λ x. k x (fieldsFrom r n))
 
 -- For each field: where the one before it was read, the call that read that one, the start, what is left after the field, and what it decides.
 
 -- the own number
-abbrev start1 : tie.After-number-at → tie.Start
+abbrev start1 : tie.After-read-number → tie.Start
 start1 c = c .before .before
 
-told1 : (c : tie.After-number-at) (o : Option ℕ) → c .number-at .result .number ≡ found o → Told (start1 c) o (c .number-at .result .next) lookbackLeft
-told1 c o e = number-by _ _ _ _ (c .number-at .ensures .0) o (c .number-at .ensures .1) e
+told1 : (c : tie.After-read-number) (o : Option ℕ) → c .read-number .result .number ≡ found o → Told (start1 c) o (c .read-number .result .next) lookbackLeft
+told1 c o e = number-by _ _ _ _ (c .read-number .ensures .0) o (c .read-number .ensures .1) e
 
 -- the lookback
 abbrev own : tie.After-setting-at → tie.After-own
 own c = c .before .before
 
-abbrev up2 : tie.After-setting-at → tie.After-number-at
+abbrev up2 : tie.After-setting-at → tie.After-read-number
 up2 c = own c .before .before
 
 abbrev start2 : tie.After-setting-at → tie.Start
@@ -100,8 +100,8 @@ up5 c = allowance c .before .before
 told5 : (c : tie.After-weights-at) → Told (start4 (up5 c)) (some (allowance c .allowance .given .0 .0)) (up5 c .setting-at3 .result .next) (left4 (up5 c))
 told5 c = told4 (up5 c) (some _) (allowance c .allowance .given .1)
 
-number-at-requires : tie.Need-number-at-requires
-number-at-requires c κs = search needs
+read-number-requires : tie.Need-read-number-requires
+read-number-requires c κs = search needs
 
 enum-known-own : tie.Need-enum-known-own
 enum-known-own c = search needs
@@ -179,7 +179,7 @@ pub read-open-spec : {M : Type 1} → statement M
 read-open-spec =
     tie.close
     (tie.spec
-    number-at-requires
+    read-number-requires
     enum-known-own
     enum-told
     unreadable-requires

@@ -5,12 +5,12 @@ use borrow.Author.Needs.{needs}
 use Rattle.requests.proofs.triple.added.Statement.{statement}
 use Rattle.requests.proofs.triple.added.Tie as tie
 
-refused-requires : tie.Need-refused-requires
-refused-requires c κs = search needs
+unreadable-requires : tie.Need-unreadable-requires
+unreadable-requires c κs = search needs
 
 returns : tie.Need-returns
 unfolding transaction
-returns c = simp (ne-eqb _ _ (c .before .before .if1 .taken), ne-eqb _ _ (c .before .if2 .taken), c .refused .ensures)
+returns c = simp (ne-eqb _ _ (c .before .before .if1 .taken), ne-eqb _ _ (c .before .if2 .taken), c .unreadable .ensures)
 
 read-transaction-requires : tie.Need-read-transaction-requires
 read-transaction-requires c κs = search needs
@@ -26,4 +26,4 @@ returns-2 c =
     (c .before .before .if1 .came)
 
 pub added-spec : {M : Type 1} → statement M
-added-spec = tie.close (tie.spec refused-requires returns read-transaction-requires pushed-requires returns-2)
+added-spec = tie.close (tie.spec unreadable-requires returns read-transaction-requires pushed-requires returns-2)

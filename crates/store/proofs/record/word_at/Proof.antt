@@ -1,5 +1,5 @@
 use mathlib.Core.Path.{refl}
-use Rattle.store.specs.Table.{word}
+use Rattle.store.specs.Table.{recordWord}
 use borrow.Author.Needs.{needs}
 use Rattle.store.proofs.record.word_at.Statement.{statement}
 use Rattle.store.proofs.record.word_at.Tie as tie
@@ -32,7 +32,7 @@ shared-slice-read-result : tie.Need-shared-slice-read-result
 shared-slice-read-result c = search needs
 
 returns : tie.Need-returns
-unfolding word
+unfolding recordWord
 returns c = refl
 
 pub word-at-spec : {M : Type 1} → statement M

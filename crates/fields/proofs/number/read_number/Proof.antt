@@ -3,8 +3,8 @@ use Rattle.fields.specs.Cursor.{found}
 use Rattle.fields.specs.Numbers.{numberTo}
 use Rattle.fields.proofs.CursorLaws.{stepped, stays, first-there, first-past}
 use borrow.Author.Needs.{needs}
-use Rattle.fields.proofs.number.number_at.Statement.{statement}
-use Rattle.fields.proofs.number.number_at.Tie as tie
+use Rattle.fields.proofs.number.read_number.Statement.{statement}
+use Rattle.fields.proofs.number.read_number.Tie as tie
 
 returns : tie.Need-returns
 returns c =
@@ -29,6 +29,6 @@ returns-2 c =
     let e = c .before .field-at .ensures in
     (c .decimal .ensures ∙ sym (ap found (first-there (a .rec .now) (a .at) (numberTo (a .m)) _ (e .0) (c .before .before .if1 .left))), stepped (a .rec .now) (a .at) _ (e .0) (c .before .before .if1 .left) (e .1))
 
-pub number-at-spec : {M : Type 1} → statement M
-number-at-spec =
+pub read-number-spec : {M : Type 1} → statement M
+read-number-spec =
     tie.close (tie.spec returns field-at-requires decimal-requires add-t9 add-t10 returns-2)

@@ -1,8 +1,8 @@
 use mathlib.Core.Path.{_∙_}
 use Rattle.requests.proofs.BodyLaws.{bare-of}
 use borrow.Author.Needs.{needs}
-use Rattle.requests.proofs.triple.refused.Statement.{statement}
-use Rattle.requests.proofs.triple.refused.Tie as tie
+use Rattle.requests.proofs.triple.unreadable.Statement.{statement}
+use Rattle.requests.proofs.triple.unreadable.Tie as tie
 
 bare-body-requires : tie.Need-bare-body-requires
 bare-body-requires c κs = search needs
@@ -10,5 +10,5 @@ bare-body-requires c κs = search needs
 returns : tie.Need-returns
 returns c = simp (c .bare-body .ensures ∙ bare-of 0)
 
-pub refused-spec : {M : Type 1} → statement M
-refused-spec = tie.close (tie.spec bare-body-requires returns)
+pub unreadable-spec : {M : Type 1} → statement M
+unreadable-spec = tie.close (tie.spec bare-body-requires returns)

@@ -5,8 +5,8 @@ use Prim.Native.Nat.{_+_, _-_, _≤_}
 use Rattle.base.specs.Sets.{isIn}
 use Rattle.committee.specs.Leaders.{countBelow}
 use Rattle.committee.proofs.LeaderLaws.{count-none, count-more, count-le}
-use Rattle.committee.proofs.leader.count.Statement.{statement}
-use Rattle.committee.proofs.leader.count.Tie as tie
+use Rattle.committee.proofs.leader.size.Statement.{statement}
+use Rattle.committee.proofs.leader.size.Tie as tie
 
 abbrev Inv-loop : tie.InvT-loop
 Inv-loop set n₀ i₀ n i = (i ≤ 16) × (n ≡ countBelow (isIn set) i)
@@ -35,7 +35,7 @@ loop-again c = (omega arith, rw (c .one .ensures, count-more, c .before .before 
 returns : tie.Need-returns Inv-loop μ-loop
 returns c = let e : c .before .loop .i ≡ 16 = omega arith in rw e at (c .before .loop .inv .1)
 
-pub count-spec : {M : Type 1} → statement M
-count-spec =
+pub size-spec : {M : Type 1} → statement M
+size-spec =
     tie.close
     (tie.spec Inv-loop μ-loop loop-holds one-requires add-n add-i loop-less loop-again returns)

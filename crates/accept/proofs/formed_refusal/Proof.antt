@@ -5,11 +5,11 @@ use Rattle.base.proofs.CheckLaws.{refuses, passes}
 use Rattle.terms.specs.Proposals.{contentOf}
 use Rattle.rules.specs.Calls.{accepting}
 use Rattle.state.specs.View.{view}
-use Rattle.checks.specs.SharedChecks.{formChecks, Fits}
+use Rattle.checks.specs.SharedChecks.{formChecks, FormFits}
 use Rattle.checks.proofs.PlaceLaws.{form-fits, piece-refused, piece-passed, form-numbered}
 use borrow.Author.Needs.{needs}
-use Rattle.accept.proofs.refusal_of.Statement.{statement}
-use Rattle.accept.proofs.refusal_of.Tie as tie
+use Rattle.accept.proofs.formed_refusal.Statement.{statement}
+use Rattle.accept.proofs.formed_refusal.Tie as tie
 
 -- the entry, from the place after `form_refusal`; the checks, and those of them that it makes
 abbrev entry : tie.After-form-refusal → tie.Start
@@ -25,7 +25,7 @@ form s = formChecks (s .args .s .settings) (contentOf (s .args .c .proposal))
 abbrev entry₁ : tie.Else1 → tie.Start
 entry₁ c = entry (c .before)
 
-fits : (c : tie.Else1) → let a = entry₁ c .args in Fits (a .s) (a .c .proposal)
+fits : (c : tie.Else1) → let a = entry₁ c .args in FormFits (a .s) (a .c .proposal)
 fits c = let a = entry₁ c .args in form-fits (a .s) (a .t .now) (a .c .proposal) (sym (c .before .form-refusal .ensures) ∙ c .if1 .left)
 
 past₁ : (c : tie.Else1) → refusal (whole (entry₁ c)) ≡ refusal (drop 4 (whole (entry₁ c)))
@@ -65,8 +65,8 @@ place-refusal-requires c κs = let q = entry₂ c .pre in record { formed = q .0
 returns-3 : tie.Need-returns-3
 returns-3 c = c .place-refusal .ensures ∙ sym (past₂ (c .before))
 
-pub refusal-of-spec : {M : Type 1} → statement M
-refusal-of-spec =
+pub formed-refusal-spec : {M : Type 1} → statement M
+formed-refusal-spec =
     tie.close
     (tie.spec
     form-refusal-requires

@@ -4,8 +4,8 @@ use Prim.Native.Nat.{_≤_}
 use lib.ListN.{length}
 use lib.Seq.{length-take-le}
 use borrow.Author.Needs.{needs}
-use Rattle.ceilings.proofs.open.Statement.{statement}
-use Rattle.ceilings.proofs.open.Tie as tie
+use Rattle.ceilings.proofs.try_ceiling.Statement.{statement}
+use Rattle.ceilings.proofs.try_ceiling.Tie as tie
 
 blank-requires : tie.Need-blank-requires
 blank-requires c κs = search needs
@@ -41,8 +41,8 @@ same-length c = search needs
 returns : tie.Need-returns
 returns c = search needs
 
-pub open-spec : {M : Type 1} → statement M
-open-spec =
+pub try-ceiling-spec : {M : Type 1} → statement M
+try-ceiling-spec =
     tie.close
     (tie.spec
     blank-requires

@@ -7,8 +7,8 @@ use borrow.Author.Tests.{eq-eqb, ne-eqb}
 use Rattle.fields.specs.Words.{sameBytes}
 use Rattle.fields.proofs.WordLaws.{other-length, same-at, same-end}
 use borrow.Author.Needs.{needs}
-use Rattle.fields.proofs.word.is_same.Statement.{statement}
-use Rattle.fields.proofs.word.is_same.Tie as tie
+use Rattle.fields.proofs.word.same_bytes.Statement.{statement}
+use Rattle.fields.proofs.word.same_bytes.Tie as tie
 
 -- the bytes before i are the same, so those from i on decide
 record Comparing (f w : List ℕ) (i : ℕ) : Type 0 where
@@ -59,8 +59,8 @@ returns-3 c =
     let l = c .before .loop in
     sym (l .inv .left ∙ same-end _ _ (l .i) (omega arith) (omega (arith, l .inv .lengths)))
 
-pub is-same-spec : {M : Type 1} → statement M
-is-same-spec =
+pub same-bytes-spec : {M : Type 1} → statement M
+same-bytes-spec =
     tie.close
     (tie.spec
     Inv-loop

@@ -2,8 +2,8 @@ use mathlib.Core.Path.{refl, sym, _∙_}
 use borrow.Author.Tests.{not-true, not-false}
 use Rattle.base.proofs.CheckLaws.{refuses, passes}
 use Rattle.checks.proofs.PlaceLaws.{own-within, certify-none, certify-some}
-use Rattle.certify.proofs.refusal_of.Statement.{statement}
-use Rattle.certify.proofs.refusal_of.Tie as tie
+use Rattle.certify.proofs.formed_refusal.Statement.{statement}
+use Rattle.certify.proofs.formed_refusal.Tie as tie
 
 returns : tie.Need-returns
 returns c = sym (certify-none _ _ _ (not-true _ (c .if1 .taken)))
@@ -29,8 +29,8 @@ signer-refusal-requires c κs = c .before .before .before .before .before .befor
 returns-4 : tie.Need-returns-4
 returns-4 c = c .signer-refusal .ensures ∙ sym (certify-some _ _ _ (c .before .before .before .before .before .before .before .before .before .before .pre .0) (not-false _ (c .before .before .before .before .before .before .if1 .left)) (c .before .with .ensures) ∙ passes _ _ (sym (c .before .before .before .before .before .held .ensures) ∙ c .before .before .before .before .if2 .left) ∙ passes _ _ (sym (c .before .before .before .has .ensures) ∙ c .before .before .if3 .left))
 
-pub refusal-of-spec : {M : Type 1} → statement M
-refusal-of-spec =
+pub formed-refusal-spec : {M : Type 1} → statement M
+formed-refusal-spec =
     tie.close
     (tie.spec
     returns

@@ -12,8 +12,8 @@ use Rattle.framing.proofs.FramingLaws.{step-waits}
 use Rattle.replies.specs.Records.{engineOf}
 use Rattle.serving.specs.Work.{AllAnswered}
 use Rattle.serving.proofs.WorkLaws.{all-answered-none, all-answered-next, puts-in, taken-within}
-use Rattle.serving.proofs.fill.Statement.{statement}
-use Rattle.serving.proofs.fill.Tie as tie
+use Rattle.serving.proofs.work_on.Statement.{statement}
+use Rattle.serving.proofs.work_on.Tie as tie
 
 -- between two steps: what was passed of the bytes at hand is answered, and no length has changed
 record BetweenSteps (cache₀ t₀ hand out₀ : List ℕ) (state₀ : State) (skipping₀ : Bool) (from₀ next₀ : ℕ) (cache t out : List ℕ) (state : State) (formed skipping : Bool) (from next : ℕ) : Type 0 where
@@ -176,8 +176,8 @@ returns-2 c =
     let x = c .before .loop .inv in
     record { answers = x .answers; from-to = x .from-to; next-to = x .next-to; waiting = λ e. absurd (false≢true e); cached = x .cached }
 
-pub fill-spec : {M : Type 1} → statement M
-fill-spec =
+pub work-on-spec : {M : Type 1} → statement M
+work-on-spec =
     tie.close
     (tie.spec
     Inv-loop

@@ -17,8 +17,8 @@ use Rattle.rules.specs.Calls.{proposing}
 use Rattle.state.specs.View.{view}
 use Rattle.state.proofs.Walkable.{readable}
 use Rattle.checks.proofs.SharedCheckLaws.{asked}
-use Rattle.propose.proofs.committee_refusal.Statement.{statement}
-use Rattle.propose.proofs.committee_refusal.Tie as tie
+use Rattle.propose.proofs.membership_refusal.Statement.{statement}
+use Rattle.propose.proofs.membership_refusal.Tie as tie
 
 -- the entry, from the place after `known`, and the checks
 abbrev entry : tie.After-known → tie.Start
@@ -108,8 +108,8 @@ returns-4 c = sym (past₃ (linked (c .before)) ∙ refuses _ _ (by-thin (c .bef
 returns-5 : tie.Need-returns-5
 returns-5 c = sym (past₃ (linked (c .before)) ∙ passes _ _ (by-thin (c .before) ∙ c .if4 .left) ∙ passes-all)
 
-pub committee-refusal-spec : {M : Type 1} → statement M
-committee-refusal-spec =
+pub membership-refusal-spec : {M : Type 1} → statement M
+membership-refusal-spec =
     tie.close
     (tie.spec
     known-requires
