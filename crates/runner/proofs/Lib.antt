@@ -1,2 +1,2 @@
-pub mod InputLaws
-pub mod SessionLaws
+pub mod PassLaws
+pub mod CeilingLaws

@@ -1,18 +1,24 @@
 use borrow.Author.Needs.{needs}
 use native.Mathlib.Omega.{arith}
-use mathlib.Core.Path.{_≡_, refl, _∙_}
-use mathlib.Core.List.{List}
-use Prim.Native.Nat.{ℕ}
-use lib.ListN.{length}
-use Rattle.runner.specs.declared.Session.{Session}
-use Rattle.runner.specs.Session.{SessionReady, SessionInvariant}
-use Rattle.runner.proofs.SessionLaws.{fresh-cached, so-far-none, so-far-next}
+use mathlib.Core.Path.{_≡_, refl, sym, _∙_}
+use mathlib.Core.List.{List, [], _++_}
+use Prim.Native.Nat.{ℕ, _+_}
+use lib.ListN.{length, take}
+use borrow.Author.Tests.{not-false}
+use Rattle.session.specs.declared.Session.{Session}
+use Rattle.session.specs.Session.{SessionReady}
+use Rattle.runner.specs.Passes.{Passes, no-pass, pass, stopped, all-made}
+use Rattle.session.proofs.SessionLaws.{fresh-cached}
 use Rattle.runner.proofs.serve_all.Statement.{statement}
 use Rattle.runner.proofs.serve_all.Tie as tie
 
 -- between two passes: the session goes on as it must and is ready for the next, and no length has changed
-record BetweenPasses (cache₀ t₀ buf₀ out₀ cache t buf out : List ℕ) (s : Session) : Type 0 where
-  so-far : SessionInvariant t₀ s t buf
+record BetweenPasses (cache₀ t₀ buf₀ out₀ cache t buf out : List ℕ) (s : Session) (left : ℕ) : Type 0 where
+  count : ℕ
+  read : List ℕ
+  written : List ℕ
+  passes : Passes t₀ count read written s t buf
+  all : count + left ≡ 18446744073709551615
   ready : SessionReady s cache t buf out
   cache-size : length cache ≡ length cache₀
   table-size : length t ≡ length t₀
@@ -20,7 +26,7 @@ record BetweenPasses (cache₀ t₀ buf₀ out₀ cache t buf out : List ℕ) (s
   output-size : length out ≡ length out₀
 
 abbrev Inv-loop : tie.InvT-loop
-Inv-loop cache₀ t₀ buf₀ out₀ s₀ passes₀ cache t buf out s passes = BetweenPasses cache₀ t₀ buf₀ out₀ cache t buf out s
+Inv-loop cache₀ t₀ buf₀ out₀ s₀ passes₀ cache t buf out s passes = BetweenPasses cache₀ t₀ buf₀ out₀ cache t buf out s passes
 
 abbrev μ-loop : tie.MeasureT-loop
 μ-loop cache₀ t₀ buf₀ out₀ s₀ passes₀ cache t buf out s passes = passes
@@ -32,7 +38,11 @@ loop-holds : tie.Need-loop-holds Inv-loop μ-loop
 loop-holds c =
     let f = c .start .ensures in
     record {
-      so-far = so-far-none _ _ _ f;
+      count = 0;
+      read = [];
+      written = [];
+      passes = no-pass _ _ f;
+      all = omega arith;
       ready =
           record {
             memory = c .before .before .before .before .before .pre;
@@ -45,6 +55,9 @@ loop-holds c =
       input-size = refl;
       output-size = refl;
     }
+
+is-over-requires : tie.Need-is-over-requires Inv-loop μ-loop
+is-over-requires c κs = search needs
 
 serve-pass-requires : tie.Need-serve-pass-requires Inv-loop μ-loop
 serve-pass-requires c κs = c .before .before .before .before .before .before .before .loop .inv .ready
@@ -60,7 +73,11 @@ loop-again c =
     let u = c .before .before .before .before .before .before .before .before .serve-pass in
     let x = c .before .before .before .before .before .before .before .before .before .before .before .before .before .before .before .before .loop .inv in
     record {
-      so-far = so-far-next _ _ _ _ _ _ _ _ (x .so-far) (u .ensures .0);
+      count = x .count + 1;
+      read = x .read ++ u .ensures .0 .came;
+      written = x .written ++ take (u .result .wrote .count) (u .last .1 .1 .1 .1 .0);
+      passes = pass (x .passes) _ _ _ _ (u .ensures .0);
+      all = omega (arith, x .all, sub-passes c);
       ready = u .ensures .1;
       cache-size = u .kept .1 .0 ∙ x .cache-size;
       table-size = u .kept .1 .1 .0 ∙ x .table-size;
@@ -83,7 +100,7 @@ same-length-4 c = c .before .before .before .loop .inv .output-size
 returns : tie.Need-returns Inv-loop μ-loop
 returns c =
     let x = c .before .before .before .loop .inv in
-    (x .so-far, x .ready)
+    (record { count = x .count; read = x .read; written = x .written; passes = x .passes; over = stopped (sym (c .before .is-over .ensures) ∙ not-false _ (c .if1 .left)) }, x .ready)
 
 same-length-5 : tie.Need-same-length-5 Inv-loop μ-loop
 same-length-5 c = c .before .loop .inv .cache-size
@@ -100,7 +117,7 @@ same-length-8 c = c .before .loop .inv .output-size
 returns-2 : tie.Need-returns-2 Inv-loop μ-loop
 returns-2 c =
     let x = c .before .loop .inv in
-    (x .so-far, x .ready)
+    (record { count = x .count; read = x .read; written = x .written; passes = x .passes; over = all-made (omega (arith, x .all)) }, x .ready)
 
 pub serve-all-spec : {M : Type 1} → statement M
 serve-all-spec =
@@ -110,6 +127,7 @@ serve-all-spec =
     μ-loop
     start-requires
     loop-holds
+    is-over-requires
     serve-pass-requires
     sub-passes
     loop-less
