@@ -42,7 +42,7 @@ pub fn vote_refusal(s: State, t: &[u32], l: &[u32; 1025], w: &[u64; 16]) -> u32
     if !histories::anchors::is_held_leader(store::held_set(t, top), Member(a)) {
         return 21;
     }
-    let bound = committee::fault_bound(Sheet::MARGIN, committee::total_weight(w));
+    let bound = weighing::fault_bound(Sheet::MARGIN, weighing::total_weight(w));
     let votes = crate::votes::votes_for(t, w, r, Member(a));
     if votes.0 <= bound.0 {
         return 22;
