@@ -31,7 +31,7 @@ import rt as source
 import tree
 
 HOST = "no_mangle"
-RUNNER = ["runner::run", "runner::conclude", "channel::more", "channel::flush"]
+RUNNER = ["passes::run", "passes::conclude", "channel::more", "channel::flush"]
 THEOREM = "nonforking.Theorem.demand-3"
 STATEMENT = "nonforking.Statement"
 PAGE = "docs/TRUST.md"
@@ -50,7 +50,7 @@ A proof says that code does what a definition says. Whether the definition says 
 |---|---|
 | proved | each function that a host links: on any words and lengths, its answer and every word that it leaves are those of its contract (`Done`). The runner (`RunServed`): pass after pass, what is written out is what is answered to what was read (`Passes`), more is read only when all of it was handed to be written, and where the input has ended, all that was written is the output for all that was read (`output`). It stops nowhere else but at a write that failed and after 2^64 − 1 passes. Demand 3: `DemandThree`, over every list of calls |
 | assumed by the proofs | the prover (of {kit}); the compiler's back end; the contracts of two functions of the C library, `libc::read` and `libc::write` (they answer -1 or at most as many bytes as they were lent), and that the operating system delivers what they pass on. The library calls neither |
-| on trust in the runner | five lines: in `channel` the one that calls `libc::read` on standard input and the one that calls `io::write_all` on standard output, in `session` and `runner` the three that call these two functions of `channel` and go on with what they gave |
+| on trust in the runner | five lines: in `channel` the one that calls `libc::read` on standard input and the one that calls `io::write_all` on standard output, in `session` and `passes` the three that call these two functions of `channel` and go on with what they gave |
 | assumed by demand 3 | signatures are genuine (`Signed` in `Fair`); in every committee that a correct member knows, faulty members weigh at most the fault bound (`WithinBound`) |
 | not listed | laws: whatever they say is proved. Definitions that only proofs use. Rattle's libraries, of which the last section lists the names used |
 

@@ -52,7 +52,7 @@ pub fn commit_cached(formed: bool, s: State, t: &mut [u32]) -> Outcome
     if fault != 0 {
         return refused(s, fault);
     }
-    let k = blocks::commit_blocks(t, &mut leaders, last, top, blocks);
+    let k = making::commit_blocks(t, &mut leaders, last, top, blocks);
     let mut next = s;
     next.blocks = k;
     Outcome {

@@ -4,8 +4,8 @@ use lib.Seq.{length-take-le}
 use Rattle.session.specs.Hand.{handIn}
 use Rattle.session.proofs.SessionLaws.{put-first}
 use borrow.Author.Needs.{needs}
-use Rattle.runner.proofs.conclude.Statement.{statement}
-use Rattle.runner.proofs.conclude.Tie as tie
+use Rattle.passes.proofs.conclude.Statement.{statement}
+use Rattle.passes.proofs.conclude.Tie as tie
 
 slice-aggregate-rest : tie.Need-slice-aggregate-rest
 slice-aggregate-rest c =

@@ -14,7 +14,7 @@ use Rattle.sheet.specs.Ranges.{outOfRange, weightless}
 use Rattle.store.specs.Table.{usedLength}
 use Rattle.serving.specs.Lengths.{tableLength}
 use Rattle.open.specs.Open.{openRefusal}
-use Rattle.runner.specs.Ceilings.{ServesTo64}
+use Rattle.passes.specs.Ceilings.{ServesTo64}
 
 -- the last of four checks answers 1 where those before it let pass
 last-answers : (a b c d : Bool) → refusal ((a, 4) ∷ (b, 2) ∷ (c, 3) ∷ []) ≡ 0 → d ≡ true → refusal ((a, 4) ∷ (b, 2) ∷ (c, 3) ∷ (d, 1) ∷ []) ≡ 1

@@ -6,10 +6,10 @@ use borrow.Author.Tests.{not-false, not-true}
 use Rattle.open.specs.Open.{closedState}
 use Rattle.replies.specs.Records.{engineOf}
 use Rattle.answering.specs.Streams.{output}
-use Rattle.runner.proofs.PassLaws.{output-so-far, ended-open}
+use Rattle.passes.proofs.PassLaws.{output-so-far, ended-open}
 use borrow.Author.Needs.{needs}
-use Rattle.runner.proofs.run.Statement.{statement}
-use Rattle.runner.proofs.run.Tie as tie
+use Rattle.passes.proofs.run.Statement.{statement}
+use Rattle.passes.proofs.run.Tie as tie
 
 -- the place after `serve-all`, as the one where the input has ended sees it, and its session
 abbrev served : tie.Else1 → tie.After-serve-all

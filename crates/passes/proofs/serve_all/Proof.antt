@@ -7,10 +7,10 @@ use lib.ListN.{length, take}
 use borrow.Author.Tests.{not-false}
 use Rattle.session.specs.declared.Session.{Session}
 use Rattle.session.specs.Session.{SessionReady}
-use Rattle.runner.specs.Passes.{Passes, no-pass, pass, stopped, all-made}
+use Rattle.passes.specs.Passes.{Passes, no-pass, pass, stopped, all-made}
 use Rattle.session.proofs.SessionLaws.{fresh-cached}
-use Rattle.runner.proofs.serve_all.Statement.{statement}
-use Rattle.runner.proofs.serve_all.Tie as tie
+use Rattle.passes.proofs.serve_all.Statement.{statement}
+use Rattle.passes.proofs.serve_all.Tie as tie
 
 -- between two passes: the session goes on as it must and is ready for the next, and no length has changed
 record BetweenPasses (cache₀ t₀ buf₀ out₀ cache t buf out : List ℕ) (s : Session) (left : ℕ) : Type 0 where

@@ -12,7 +12,7 @@ use Rattle.answering.specs.Streams.{output}
 use Rattle.session.specs.declared.Session.{Session}
 use Rattle.session.specs.Hand.{handIn}
 use Rattle.session.specs.Session.{answersLeft}
-use Rattle.runner.specs.Passes.{Passes, no-pass, pass, OutputSoFar}
+use Rattle.passes.specs.Passes.{Passes, no-pass, pass, OutputSoFar}
 
 -- the output for what was read is what was written, and then what is to be answered to the bytes at hand
 pub output-so-far : OutputSoFar
