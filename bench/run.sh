@@ -9,7 +9,8 @@ pace=$2
 if [ "$archive" = plain ]; then
     set -- --cfg plain
 else
-    set -- -L "$(dirname "$archive")" -l static=host
+    name=$(basename "$archive" .a)
+    set -- -L "$(dirname "$archive")" -l "static=${name#lib}"
 fi
 mkdir -p "$top/target/bench"
 rustc --edition 2021 -C opt-level=3 -C codegen-units=1 --check-cfg 'cfg(plain)' "$@" \

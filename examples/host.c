@@ -1,4 +1,6 @@
-/* A host of three members in one process, in C: the run of bindings/rust/example.rs. */
+/* A host of three members in one process, in C: the run of bindings/rust/examples/host.rs.
+ * A real host signs what it sends, checks signatures before endorse, certify and accept, and
+ * stores state and table before it sends a signature (docs/HOSTS.md). */
 #include <stdio.h>
 #include <stdlib.h>
 
@@ -19,7 +21,7 @@ static struct engine engines[MEMBERS];
 
 static void must(const char *call, uint32_t refusal) {
     if (refusal == FORGELILAC_ACCEPTED) return;
-    fprintf(stderr, "%s refused with %u\n", call, (unsigned)refusal);
+    fprintf(stderr, "%s refused with %u: %s\n", call, (unsigned)refusal, forgelilac_refusal_text(refusal));
     exit(1);
 }
 
@@ -70,30 +72,24 @@ static void commit(struct engine *e) {
     if (refusal != FORGELILAC_NO_COMMIT_ROUND) must("commit", refusal);
 }
 
-/* The leader of a block's round, by the committee read: of the m members by rising number, the
- * one at position (round / 2) mod m. 0 where there is none: then numbers just rise. */
-static uint32_t leader(const struct engine *e, uint32_t round) {
-    uint32_t weights[FORGELILAC_COMMITTEE_WORDS], members[FORGELILAC_MEMBERS], count = 0;
-    must("committee", forgelilac_committee(ENGINE(e), round, WORDS(weights)));
-    for (uint32_t m = 0; m < FORGELILAC_MEMBERS; m++)
-        if (weights[m] != 0) members[count++] = m;
-    return count == 0 ? 0 : members[round / 2 % count];
+/* Prints block k of a listed chain, and gives where the next one begins. */
+static const uint32_t *print_block(const struct engine *e, uint32_t k, const uint32_t *at, const uint32_t *end) {
+    uint64_t round = forgelilac_block(ENGINE(e), k);
+    must("block", forgelilac_refusal_of(round));
+    printf("  block %u, block round %u:", (unsigned)k, (unsigned)forgelilac_value_of(round));
+    for (; at < end && at[FORGELILAC_LISTED_BLOCK] == k; at += FORGELILAC_LISTED_WORDS)
+        printf(" %u/%u", (unsigned)at[FORGELILAC_LISTED_ROUND], (unsigned)at[FORGELILAC_LISTED_AUTHOR]);
+    printf("\n");
+    return at;
 }
 
-/* Rounds rise; within a round numbers rise from the leader's, with 0 after 15. */
-static void print_block(const struct engine *e, uint32_t number) {
-    uint32_t out[FORGELILAC_HELD_WORDS];
-    uint32_t last = forgelilac_value_of(forgelilac_block(ENGINE(e), number));
-    uint32_t first = leader(e, last);
-    printf("  block %u, block round %u:", (unsigned)number, (unsigned)last);
-    for (uint32_t round = 1; round <= last; round++)
-        for (uint32_t i = 0; i < FORGELILAC_MEMBERS; i++) {
-            uint32_t author = (first + i) % FORGELILAC_MEMBERS;
-            if (forgelilac_certificate(ENGINE(e), author, round, WORDS(out)) == 0 &&
-                out[FORGELILAC_HELD_BLOCK] == number)
-                printf(" %u/%u", (unsigned)round, (unsigned)author);
-        }
-    printf("\n");
+static void print_chain(const struct engine *e) {
+    static uint32_t list[FORGELILAC_CHAIN_WORDS(CEILING)];
+    uint64_t answer = forgelilac_chain(ENGINE(e), WORDS(list));
+    const uint32_t *at = list, *end = list + FORGELILAC_LISTED_WORDS * forgelilac_value_of(answer);
+    must("chain", forgelilac_refusal_of(answer));
+    printf("member %u\n", (unsigned)e->state[FORGELILAC_STATE_OWN]);
+    for (uint32_t k = 1; k <= e->state[FORGELILAC_STATE_BLOCKS]; k++) at = print_block(e, k, at, end);
 }
 
 /* Who endorsed what: the certificates of a round as a member holds them. */
@@ -112,11 +108,7 @@ static void print_endorsers(const struct engine *e, uint32_t round) {
 
 static void print_end(void) {
     printf("certificates as round/author\n");
-    for (uint32_t m = 0; m < MEMBERS; m++) {
-        printf("member %u\n", (unsigned)m);
-        for (uint32_t b = 1; b <= engines[m].state[FORGELILAC_STATE_BLOCKS]; b++)
-            print_block(&engines[m], b);
-    }
+    for (uint32_t m = 0; m < MEMBERS; m++) print_chain(&engines[m]);
     print_endorsers(&engines[0], LAST_ROUND);
     printf("shares in round %d, in thousandths: [", LAST_ROUND);
     for (uint32_t m = 0; m < MEMBERS; m++) {

@@ -1,5 +1,6 @@
 /* How much stack the calls need: a run to the ceiling, each call in a thread of its own whose
- * stack was painted before; what is no longer painted was used. Prints the most of each call. */
+ * stack was painted before; what is no longer painted was used. Prints the most of each call;
+ * status 1 where one used more than FORGELILAC_STACK_BYTES. */
 #define _POSIX_C_SOURCE 200809L
 #include <pthread.h>
 #include <stdio.h>
@@ -10,12 +11,13 @@
 
 enum { CEILING = 64, MEMBERS = 4, ALL = (1 << MEMBERS) - 1, STACK = 1 << 20, PAINT = 0xa5 };
 enum call { NOTHING, OPEN, PROPOSE, ENDORSE, CERTIFY, ACCEPT, ADVANCE, COMMIT,
-            COMMITTEE, SHARE, CERTIFICATE, BLOCK, CALLS };
+            COMMITTEE, SHARE, CERTIFICATE, BLOCK, CHAIN, CALLS };
 static const char *const names[CALLS] = {"", "open", "propose", "endorse", "certify", "accept", "advance",
-                                         "commit", "committee", "share", "certificate", "block"};
+                                         "commit", "committee", "share", "certificate", "block", "chain"};
 
 static uint32_t state[FORGELILAC_STATE_WORDS], table[FORGELILAC_TABLE_WORDS(CEILING)];
 static uint32_t words[FORGELILAC_SHEET_WORDS], out[FORGELILAC_HELD_WORDS];
+static uint32_t list[FORGELILAC_CHAIN_WORDS(CEILING)];
 static unsigned char *stack;
 static size_t used[CALLS];
 
@@ -39,6 +41,7 @@ static uint64_t make(enum call call) {
     case SHARE: return forgelilac_share(ENGINE, words[0], words[1]);
     case CERTIFICATE: return high(forgelilac_certificate(ENGINE, words[0], words[1], OUT));
     case BLOCK: return forgelilac_block(ENGINE, words[0]);
+    case CHAIN: return forgelilac_chain(ENGINE, list, sizeof list / 4);
     default: return 0;
     }
 }
@@ -98,6 +101,7 @@ static void look(uint32_t round) {
     measure(SHARE);
     measure(CERTIFICATE);
     if (state[FORGELILAC_STATE_BLOCKS] > 0) measure(BLOCK);
+    measure(CHAIN);
 }
 
 int main(void) {
@@ -114,7 +118,12 @@ int main(void) {
         look(round);
         if (round < CEILING) measure(ADVANCE);
     }
-    for (int call = OPEN; call < CALLS; call++)
-        printf("%-12s%8zu bytes of stack\n", names[call], used[call] - used[NOTHING]);
-    return 0;
+    size_t most = 0;
+    for (int call = OPEN; call < CALLS; call++) {
+        size_t bytes = used[call] - used[NOTHING];
+        printf("%-12s%8zu bytes of stack\n", names[call], bytes);
+        if (bytes > most) most = bytes;
+    }
+    printf("%-12s%8d bytes serve every call\n", "", FORGELILAC_STACK_BYTES);
+    return most > FORGELILAC_STACK_BYTES;
 }

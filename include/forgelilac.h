@@ -1,9 +1,24 @@
 /* Forgelilac for C and C++ hosts: one member's engine, on words that the host lends.
  *
- * Every stretch is a pointer and a length in 32-bit words. Stretches of one call do
- * not overlap, and no pointer is null. A stretch may be longer than its layout: what
- * lies beyond is not looked at and never changes. A refused call changes no word.
- * docs/HOSTS.md explains each call; the refusal numbers are the scope document's. */
+ * Link with `pkg-config --cflags --libs forgelilac`, that is -lforgelilac. C99 or later, or C++;
+ * a freestanding compiler serves. The archive asks for memcpy and memset and for nothing else.
+ *
+ * Stretches. Every stretch is a pointer and a length in 32-bit words. Stretches of one call do
+ * not overlap, and no pointer is null, also where a length is 0. Any length and any content is
+ * safe. A stretch may be longer than its layout: what lies beyond is not looked at and never
+ * changes.
+ *
+ * Answers. A call answers 0 when accepted, else the refusal number; the first check that fails
+ * gives it. A refused call changes no word. The numbers at the end of a function's comment are its
+ * refusals in the order of its checks. docs/HOSTS.md has the checks and what each refusal asks of
+ * you; docs/TABLES.md has the layouts and which words each call changes.
+ *
+ * Threads. The engine keeps nothing between calls and has no global state. Calls on distinct
+ * states and tables may run at once. One state and its table belong to one call at a time. Reads
+ * only read: several reads of one engine may run at once while no other call on it does. No call
+ * blocks, allocates, or calls back.
+ *
+ * Stack. Calls use the caller's stack, as much at every ceiling: see FORGELILAC_STACK_BYTES. */
 #ifndef FORGELILAC_H
 #define FORGELILAC_H
 
@@ -14,10 +29,22 @@
 extern "C" {
 #endif
 
+/* ---- versions */
+
+/* Of the header, and of the archive that belongs to it. */
+#define FORGELILAC_VERSION "0.3.0"
+#define FORGELILAC_VERSION_MAJOR 0
+#define FORGELILAC_VERSION_MINOR 3
+#define FORGELILAC_VERSION_PATCH 0
+/* Of the words of state and table; no word of theirs has it. Store it beside them: docs/TABLES.md
+ * tells what to do with words of an older format. */
+#define FORGELILAC_FORMAT 1
+
 /* ---- lengths, in words */
 
 #define FORGELILAC_MEMBERS 16
 #define FORGELILAC_TRANSACTIONS 4     /* the largest allowance */
+#define FORGELILAC_BLOCKS 511         /* the most blocks of a state, at ceiling 1,024 */
 #define FORGELILAC_STATE_WORDS 37
 #define FORGELILAC_BODY_WORDS 14
 #define FORGELILAC_PROPOSAL_WORDS 16
@@ -25,8 +52,16 @@ extern "C" {
 #define FORGELILAC_HELD_WORDS 18        /* as the certificate read gives it */
 #define FORGELILAC_SHEET_WORDS 38
 #define FORGELILAC_COMMITTEE_WORDS 16
+#define FORGELILAC_LISTED_WORDS 3       /* a certificate as forgelilac_chain lists it */
 /* A table for a state of this ceiling; forgelilac_table_words as a constant. */
 #define FORGELILAC_TABLE_WORDS(ceiling) (272u * (ceiling) + 272u)
+/* Room for every chain of a state of this ceiling. */
+#define FORGELILAC_CHAIN_WORDS(ceiling) (48u * (ceiling))
+
+/* Bytes of stack that serve every call and every function below on x86-64; examples/stack.c
+ * measures what they use. Propose, endorse, certify, accept and commit use about 77 KB, committee
+ * and share about 72 KB, forgelilac_chain about 3 KB, the others less than 1 KB. */
+#define FORGELILAC_STACK_BYTES 98304
 
 /* ---- words of a state */
 
@@ -40,7 +75,7 @@ extern "C" {
 #define FORGELILAC_STATE_BLOCKS 22    /* number of blocks */
 #define FORGELILAC_STATE_BODY 23      /* body of the proposal */
 
-/* ---- words of a body, a proposal, a certificate, a held certificate */
+/* ---- words of a body, a proposal, a certificate, a held certificate, a listed one */
 
 #define FORGELILAC_BODY_PREVIOUS 0
 #define FORGELILAC_BODY_COUNT 1
@@ -51,12 +86,33 @@ extern "C" {
 #define FORGELILAC_CERTIFICATE_ENDORSERS 16
 #define FORGELILAC_HELD_ENDORSERS 16 /* those that it was first stored with */
 #define FORGELILAC_HELD_BLOCK 17     /* number of its block, 0 for none; see forgelilac_block */
+#define FORGELILAC_LISTED_BLOCK 0    /* number of its block, from 1 */
+#define FORGELILAC_LISTED_ROUND 1
+#define FORGELILAC_LISTED_AUTHOR 2
 
 enum forgelilac_kind {
     FORGELILAC_BOND = 0,   /* number: member, amount: 1 to 1,000 */
     FORGELILAC_UNBOND = 1, /* number: member, amount: 0 */
     FORGELILAC_ENTRY = 2   /* number: any, amount: 0 */
 };
+
+/* ---- words of a table: a row for each round, in it a record for each author */
+
+#define FORGELILAC_ROW_WORDS 272
+#define FORGELILAC_ROW_HELD 0         /* held set */
+#define FORGELILAC_ROW_ENDORSED 1     /* endorsed set */
+#define FORGELILAC_ROW_BLOCK 2        /* in row k: the round of block k */
+#define FORGELILAC_ROW_RECORDS 16
+#define FORGELILAC_RECORD_WORDS 16
+#define FORGELILAC_RECORD_PREVIOUS 0
+#define FORGELILAC_RECORD_COUNT 1
+#define FORGELILAC_RECORD_BLOCK 2     /* commit mark: number of its block, 0 for none */
+#define FORGELILAC_RECORD_ENDORSERS 3
+#define FORGELILAC_RECORD_TRANSACTIONS 4 /* each: kind, number, amount */
+/* Where row r begins, and the record of an author and a round. */
+#define FORGELILAC_ROW(round) ((size_t)FORGELILAC_ROW_WORDS * (round))
+#define FORGELILAC_RECORD(author, round) \
+    (FORGELILAC_ROW(round) + FORGELILAC_ROW_RECORDS + (size_t)FORGELILAC_RECORD_WORDS * (author))
 
 /* ---- settings of a sheet: each two words, blank (0) or written (1), then the value */
 
@@ -98,62 +154,111 @@ enum forgelilac_refusal {
 
 /* ---- calls: 0 accepted, else the refusal number */
 
+/* Opens a member by its number and a sheet. Accepted: the state is written fresh, round 1 and
+ * nothing held, and the used part of the table cleared. Neither need be set before. It starts a
+ * new run: never open again to go on with one. 1 for words that cannot be read, 4, 2, 3, 1. */
 uint32_t forgelilac_open(uint32_t *state, size_t state_words,
                          uint32_t *table, size_t table_words,
                          uint32_t own, const uint32_t *sheet, size_t sheet_words);
+/* Proposes a body (previous set, transactions) for one's own place of the present round. Accepted:
+ * the proposal is kept in the state until advance. Store both before the signature leaves.
+ * 1, 6, 7, 10, 8, 9, 11, 12. */
 uint32_t forgelilac_propose(uint32_t *state, size_t state_words,
                             const uint32_t *table, size_t table_words,
                             const uint32_t *body, size_t body_words);
+/* Endorses another's proposal, once its signature is checked. Accepted: its place is marked
+ * endorsed. Store the table before the signature leaves. 1, 4, 5, 6, 7, 14, 10, 8, 11, 12. */
 uint32_t forgelilac_endorse(const uint32_t *state, size_t state_words,
                             uint32_t *table, size_t table_words,
                             const uint32_t *proposal, size_t proposal_words);
+/* Makes a certificate of one's own proposal with these endorsers (a set without oneself), whose
+ * signatures are checked. Accepted: it is held. 1, 15, 10, 14, 8, 9, 13. */
 uint32_t forgelilac_certify(const uint32_t *state, size_t state_words,
                             uint32_t *table, size_t table_words, uint32_t endorsers);
+/* Takes a certificate of anybody's, once its signatures are checked. Accepted: it is held with its
+ * endorsers, and its endorsed mark cleared. 1, 4, 5, 6, 7, 14, 16, 17, 8, 9, 13, 11. */
 uint32_t forgelilac_accept(const uint32_t *state, size_t state_words,
                            uint32_t *table, size_t table_words,
                            const uint32_t *certificate, size_t certificate_words);
+/* Goes on to the next round. Accepted: the proposal is dropped. 1, 18. */
 uint32_t forgelilac_advance(uint32_t *state, size_t state_words,
                             const uint32_t *table, size_t table_words);
-/* Low half: blocks added. High half: refusal number. */
+/* Makes blocks. Low half: how many were added. High half: refusal number. 1, 19, 20, 8, 21, 22. */
 uint64_t forgelilac_commit(uint32_t *state, size_t state_words,
                            uint32_t *table, size_t table_words);
 
 /* ---- reads */
 
-/* Sixteen weights into out, 0 for a non-member. */
+/* Sixteen weights of a round's committee into out, 0 for a non-member. 1, 5, 8. */
 uint32_t forgelilac_committee(const uint32_t *state, size_t state_words,
                               const uint32_t *table, size_t table_words,
                               uint32_t round, uint32_t *out, size_t out_words);
 /* Low half: the member's weight in thousandths of its committee's total, to the nearest; an
  * exact half goes to the even one: 1 of 16 (62.5) gives 62, 3 of 16 (187.5) gives 188. A member
  * may have 0 (1 of 2,000). High half: refusal number, 9 for a non-member; the low half is then 0
- * too, so look at the high half first. */
+ * too, so look at the high half first. 1, 4, 5, 8, 9. */
 uint64_t forgelilac_share(const uint32_t *state, size_t state_words,
                           const uint32_t *table, size_t table_words,
                           uint32_t member, uint32_t round);
 /* A held certificate into out: proposal, the endorsers that it was first stored with, the
- * number of its block, 0 for none. The first 17 words are a certificate as accept takes it. */
+ * number of its block, 0 for none. The first 17 words are a certificate as accept takes it.
+ * 1, 4, 5, 23. */
 uint32_t forgelilac_certificate(const uint32_t *state, size_t state_words,
                                 const uint32_t *table, size_t table_words,
                                 uint32_t author, uint32_t round,
                                 uint32_t *out, size_t out_words);
 /* Low half: the block's round. High half: refusal number. Blocks count from 1. A block's
- * certificates are those with its number: rounds rise; within a round numbers rise from that of
- * the leader of the block's round, with 0 after 15 (docs/HOSTS.md, "Order inside a block"). */
+ * certificates are those with its number; forgelilac_chain lists them in order. 1, 23. */
 uint64_t forgelilac_block(const uint32_t *state, size_t state_words,
                           const uint32_t *table, size_t table_words, uint32_t number);
 /* The words that a table for this ceiling needs. No refusal. */
 uint64_t forgelilac_table_words(uint32_t ceiling);
 
-/* ---- helpers */
+/* ---- answers */
 
+/* The value of an answer of 64 bits: its low half. */
 static inline uint32_t forgelilac_value_of(uint64_t answer) {
     return (uint32_t)(answer & 0xffffffffu);
 }
 
+/* The refusal number of an answer of 64 bits, 0 where it was accepted: its high half. */
 static inline uint32_t forgelilac_refusal_of(uint64_t answer) {
     return (uint32_t)(answer >> 32);
 }
+
+/* A refusal number in words. 24 is the runner's alone: no function here answers it. */
+static inline const char *forgelilac_refusal_text(uint32_t number) {
+    static const char *const texts[25] = {
+        "accepted",
+        "state not well formed, a table too short, or words that cannot be read",
+        "setting out of range",
+        "no positive weight",
+        "member above 15",
+        "round 0 or over the ceiling",
+        "a transaction out of range or over the allowance",
+        "previous set empty above round 1, or not empty in it",
+        "committee of the round unknown",
+        "own number, a signer or the member asked for outside the committee",
+        "a proposal exists, place held or already endorsed",
+        "a named previous certificate not held",
+        "previous set no quorum of the round before",
+        "signers short of a quorum",
+        "endorse: author is oneself; certify: oneself among them; accept: author among endorsers",
+        "no proposal this round",
+        "the same certificate held",
+        "another certificate held there",
+        "at the ceiling",
+        "the present round is even or 1",
+        "last block's round at least the round before",
+        "no anchor in the round before",
+        "votes weigh not more than the fault bound",
+        "no such certificate or block",
+        "record unreadable",
+    };
+    return number < 25 ? texts[number] : "no refusal of this version";
+}
+
+/* ---- sheets, bodies, proposals */
 
 /* All settings blank. */
 static inline void forgelilac_blank_sheet(uint32_t sheet[FORGELILAC_SHEET_WORDS]) {
@@ -187,15 +292,18 @@ static inline void forgelilac_add(uint32_t body[FORGELILAC_BODY_WORDS], uint32_t
     body[FORGELILAC_BODY_COUNT] = count + 1;
 }
 
+/* Adds a bond of a member by an amount of 1 to 1,000. */
 static inline void forgelilac_add_bond(uint32_t body[FORGELILAC_BODY_WORDS],
                                        uint32_t member, uint32_t amount) {
     forgelilac_add(body, FORGELILAC_BOND, member, amount);
 }
 
+/* Adds an unbond of a member. */
 static inline void forgelilac_add_unbond(uint32_t body[FORGELILAC_BODY_WORDS], uint32_t member) {
     forgelilac_add(body, FORGELILAC_UNBOND, member, 0);
 }
 
+/* Adds an entry: any number. */
 static inline void forgelilac_add_entry(uint32_t body[FORGELILAC_BODY_WORDS], uint32_t number) {
     forgelilac_add(body, FORGELILAC_ENTRY, number, 0);
 }
@@ -209,6 +317,116 @@ static inline int forgelilac_own_proposal(const uint32_t state[FORGELILAC_STATE_
     for (int i = 0; i < FORGELILAC_BODY_WORDS; i++)
         proposal[FORGELILAC_PROPOSAL_BODY + i] = state[FORGELILAC_STATE_BODY + i];
     return 1;
+}
+
+/* ---- the chain */
+
+/* 1 where the state is well formed, else 0: whether calls but open would answer other than 1.
+ * For words that come from storage. */
+static inline int forgelilac_is_well_formed(const uint32_t *state, size_t state_words,
+                                            const uint32_t *table, size_t table_words) {
+    /* There is no block 0: 23, unless the state is not well formed. */
+    return forgelilac_refusal_of(forgelilac_block(state, state_words, table, table_words, 0))
+           == FORGELILAC_NONE_THERE;
+}
+
+/* The leader of an even round, by the weights of its committee: of the m members by rising number,
+ * the one at position (round / 2) mod m. An empty committee has none, and so has an odd round or
+ * round 0: FORGELILAC_MEMBERS. */
+static inline uint32_t forgelilac_leader(uint32_t round, const uint32_t weights[FORGELILAC_MEMBERS]) {
+    uint32_t members[FORGELILAC_MEMBERS], count = 0;
+    for (uint32_t m = 0; m < FORGELILAC_MEMBERS; m++)
+        if (weights[m] != 0) members[count++] = m;
+    return count == 0 || round % 2 != 0 || round == 0 ? FORGELILAC_MEMBERS
+                                                      : members[round / 2 % count];
+}
+
+/* For forgelilac_chain: the transactions of the listed certificates change the weights. */
+static inline void forgelilac_apply_listed(const uint32_t *table, const uint32_t *at,
+                                           const uint32_t *end, uint32_t weights[FORGELILAC_MEMBERS]) {
+    for (; at < end; at += FORGELILAC_LISTED_WORDS) {
+        const uint32_t *record = table + FORGELILAC_RECORD(at[FORGELILAC_LISTED_AUTHOR],
+                                                           at[FORGELILAC_LISTED_ROUND]);
+        const uint32_t *transaction = record + FORGELILAC_RECORD_TRANSACTIONS;
+        for (uint32_t k = 0; k < record[FORGELILAC_RECORD_COUNT]; k++, transaction += 3) {
+            if (transaction[0] == FORGELILAC_BOND) weights[transaction[1]] += transaction[2];
+            if (transaction[0] == FORGELILAC_UNBOND) weights[transaction[1]] = 0;
+        }
+    }
+}
+
+/* For forgelilac_chain: a block that is listed by round, then author; from now on numbers rise
+ * from the first one within a round, with 0 after 15. */
+static inline void forgelilac_turn_listed(uint32_t *at, const uint32_t *end, uint32_t first) {
+    while (at < end) {
+        uint32_t authors[FORGELILAC_MEMBERS], round = at[FORGELILAC_LISTED_ROUND];
+        size_t count = 0, below = 0;
+        for (const uint32_t *one = at; one < end && one[FORGELILAC_LISTED_ROUND] == round;
+             one += FORGELILAC_LISTED_WORDS) {
+            below += one[FORGELILAC_LISTED_AUTHOR] < first;
+            authors[count++] = one[FORGELILAC_LISTED_AUTHOR];
+        }
+        for (size_t i = 0; i < count; i++, at += FORGELILAC_LISTED_WORDS)
+            at[FORGELILAC_LISTED_AUTHOR] = authors[(below + i) % count];
+    }
+}
+
+/* The chain into out: number of its block, round and author of each of its certificates, three
+ * words each, in the order of the chain. Blocks count from 1; inside a block rounds rise; within a
+ * round numbers rise from that of the leader of the block's round, with 0 after 15, and where that
+ * round has no leader they just rise. One read that tests the state, then passes over the held
+ * certificates alone. Low half: how many are listed. High half: refusal number, 1 also where out is
+ * too short (FORGELILAC_CHAIN_WORDS(ceiling) always serve). Refused, it changes no word. */
+static inline uint64_t forgelilac_chain(const uint32_t *state, size_t state_words,
+                                        const uint32_t *table, size_t table_words,
+                                        uint32_t *out, size_t out_words) {
+    uint32_t weights[FORGELILAC_MEMBERS], ends[FORGELILAC_BLOCKS + 1] = {0};
+    uint32_t blocks, ceiling, lookback, listed = 0, applied = 0;
+    if (!forgelilac_is_well_formed(state, state_words, table, table_words))
+        return (uint64_t)FORGELILAC_MALFORMED << 32;
+    blocks = state[FORGELILAC_STATE_BLOCKS];
+    ceiling = state[FORGELILAC_STATE_CEILING];
+    lookback = state[FORGELILAC_STATE_LOOKBACK];
+
+    /* How many each block has; then where each begins. */
+    for (uint32_t round = 1; round <= ceiling; round++)
+        for (uint32_t a = 0, held = table[FORGELILAC_ROW(round)]; held != 0; a++, held >>= 1)
+            if (held & 1) ends[table[FORGELILAC_RECORD(a, round) + FORGELILAC_RECORD_BLOCK]]++;
+    ends[0] = 0;
+    for (uint32_t number = 1; number <= blocks; number++) {
+        uint32_t count = ends[number];
+        ends[number] = listed;
+        listed += count;
+    }
+    if (out_words / FORGELILAC_LISTED_WORDS < listed) return (uint64_t)FORGELILAC_MALFORMED << 32;
+
+    /* Each block by round, then author; then ends has where each ends. */
+    for (uint32_t round = 1; round <= ceiling; round++)
+        for (uint32_t a = 0, held = table[FORGELILAC_ROW(round)]; held != 0; a++, held >>= 1) {
+            uint32_t number = table[FORGELILAC_RECORD(a, round) + FORGELILAC_RECORD_BLOCK];
+            if ((held & 1) == 0 || number == 0) continue;
+            uint32_t *at = out + (size_t)FORGELILAC_LISTED_WORDS * ends[number]++;
+            at[FORGELILAC_LISTED_BLOCK] = number;
+            at[FORGELILAC_LISTED_ROUND] = round;
+            at[FORGELILAC_LISTED_AUTHOR] = a;
+        }
+
+    /* Each block from its leader. The committee of a round is the starting one, changed by the
+     * blocks of rounds that lie more than the lookback below it. */
+    for (int m = 0; m < FORGELILAC_MEMBERS; m++) weights[m] = state[FORGELILAC_STATE_WEIGHTS + m];
+    for (uint32_t number = 1; number <= blocks; number++) {
+        uint32_t round = table[FORGELILAC_ROW(number) + FORGELILAC_ROW_BLOCK];
+        while (applied + 1 < number &&
+               table[FORGELILAC_ROW(applied + 1) + FORGELILAC_ROW_BLOCK] + lookback < round) {
+            applied++;
+            forgelilac_apply_listed(table, out + (size_t)FORGELILAC_LISTED_WORDS * ends[applied - 1],
+                                    out + (size_t)FORGELILAC_LISTED_WORDS * ends[applied], weights);
+        }
+        forgelilac_turn_listed(out + (size_t)FORGELILAC_LISTED_WORDS * ends[number - 1],
+                               out + (size_t)FORGELILAC_LISTED_WORDS * ends[number],
+                               forgelilac_leader(round, weights));
+    }
+    return listed;
 }
 
 #ifdef __cplusplus

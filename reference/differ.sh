@@ -2,6 +2,7 @@
 # differ.sh RUNNER LAST [FIRST]: compares RUNNER with the reference on the
 # example, the edge streams and the shuffled streams of seeds FIRST to LAST
 # (from 1 if not given). Stops at the first difference; says how much was compared.
+# Each stream is given whole; pieces.py gives them in pieces.
 [ $# -ge 2 ] || { echo "usage: differ.sh RUNNER LAST [FIRST]" >&2; exit 2; }
 runner=$(cd "$(dirname "$1")" && pwd)/$(basename "$1")
 first=${3:-1}

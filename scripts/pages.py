@@ -3,11 +3,10 @@
 A fenced block is run when its mark is one of these; what it must say stands in the next block:
   records   one record a line, CRLF ended here; then `answers`
   sh        run at the top of the repository, with `runner` to call and a folder $OUT; then `output`
-  c, rust   a whole program, with header or bindings and the archive; then `output`
+  c, rust   a whole program, with header or package and the archive; then `output`
 Other blocks are not run.
 """
 import os
-import shutil
 import subprocess
 import sys
 import tempfile
@@ -42,14 +41,14 @@ def examples_of(path):
 
 
 class Workshop:
-    """A folder with the runner and the Rust bindings in it."""
+    """A folder with the runner and the archive in it and, once a page asks for it, the Rust package."""
 
     def __init__(self, folder, runner, archive):
-        self.folder, self.archive = folder, archive
+        self.folder, self.package = folder, f"{folder}/libforgelilac"
         self.linked = os.path.exists(archive)
         self.environment = {**os.environ, "PATH": f"{folder}:{os.environ['PATH']}", "OUT": folder}
         os.symlink(runner, f"{folder}/runner")
-        shutil.copy("bindings/rust/forgelilac.rs", folder)
+        os.symlink(archive, f"{folder}/libforgelilac.a")
 
     def said(self, command, text=""):
         """Exit code and what was said, both streams together."""
@@ -67,14 +66,21 @@ class Workshop:
         return code, output.replace("\r\n", "\n")
 
     def c(self, text):
-        link = [self.archive] if self.linked else ["-c"]
+        link = ["-L", self.folder, "-lforgelilac"] if self.linked else ["-c"]
         return self.program("program.c", text, ["gcc", "-std=c11", "-O2", "-Wall", "-Wextra", "-Werror",
                                                 "-pedantic", "-Iinclude"], link)
 
     def rust(self, text):
-        folder, name = os.path.split(self.archive)
-        link = ["-L", folder, "-l", f"static={name[3:-2]}"] if self.linked else ["--emit=metadata"]
-        return self.program("program.rs", text, ["rustc", "--edition", "2021", "-O", "-D", "warnings"], link)
+        compile = ["rustc", "--edition", "2021", "-O", "-D", "warnings"]
+        form, ending = ([], "rlib") if self.linked else (["--emit=metadata"], "rmeta")
+        package = f"{self.package}.{ending}"
+        if not os.path.exists(package):
+            link = ["-L", self.folder, "-l", "static=forgelilac"] if self.linked else []
+            code, output = self.said(compile + ["--crate-name", "forgelilac", "--crate-type", "rlib", "--cfg",
+                                                'feature="alloc"', "bindings/rust/src/lib.rs", "-o", package] + form + link)
+            if code != 0:
+                return code, output
+        return self.program("program.rs", text, compile, ["--extern", f"forgelilac={package}"] + form)
 
     def program(self, name, text, command, link):
         """Compiled and, where there is an archive, run; else nothing is said."""

@@ -12,7 +12,8 @@ most=${4:-2000}
 if [ "$archive" = plain ]; then
     set -- --cfg plain
 else
-    set -- -L "$(dirname "$archive")" -l static=host
+    name=$(basename "$archive" .a)
+    set -- -L "$(dirname "$archive")" -l "static=${name#lib}"
 fi
 mkdir -p "$top/target/tests"
 rustc --edition 2021 -C opt-level=3 --check-cfg 'cfg(plain)' "$@" \

@@ -1,26 +1,31 @@
 """draw.py STREAM ANSWERS > out.svg: a member's certificates and chain as a picture.
 
 STREAM is what a runner was given, ANSWERS what it said; the stream ends in `chain`. Rounds go
-across, members down. What is held, which blocks there are and what is in them is taken from
-the answers alone.
+across, members down, the chain stands beneath. What is held, which blocks there are and what is
+in them is taken from the answers alone; leaders of rounds without a block from the chain.
+A run of up to 14 rounds is as wide as a page, so that its type is read at its own size.
 """
 import sys
 from html import escape
 
 sys.dont_write_bytecode = True      # leave no folder beside the sources
 
-from outline import path_of
+from outline import parts_of, path_of
 from run import read_run
+from telling import count, order_of, tell, transactions_of
 
-CELL = 86, 80                       # a round across, a member down
-LEFT, TOP, RIGHT = 116, 122, 36     # around the grid
-DOT, RING, INSET, RADIUS = 8.5, 14.5, 5, 14
-CHAIN_GAP, CHAIN_LINE = 58, 17      # grid to chain, one line of text
-LEGEND = 1220                       # its width
-CHAIN_LINES = 6                     # lines of transactions in a block of the chain
+WIDTH = 830                         # at least; a page's
+CELL = (51, 86), 72                 # a round across, from and to; a member down
+LEFT, TOP, RIGHT = 100, 128, 16     # around the grid
+DOT, RING, INSET, RADIUS = 8.5, 13.5, 4, 13
+TAB = 17, 15                        # a block's number on its area
+CHAIN_GAP, CHAIN_LINE = 30, 18      # grid to chain, one line of text
+CHAIN_LINES = 6                     # lines of certificates or transactions of a block
+COLUMNS = 24, 82, 136, 220, 548     # block, round, commit, certificates, transactions
+CODE_WIDE = 7.6                     # a letter of code, in pixels
+LEGEND_ROW, LEGEND_COLUMN = 34, 268
 INK, QUIET, FAINT, PAPER = "#2b2a33", "#6d6a78", "#a29eae", "#fdfcfb"
-LINK = "#a9a5b5"
-NONE = 4.5, PAPER, FAINT, 1.3, ' stroke-dasharray="2.4 2.4"'   # the sign of an empty place
+LINK = "#948fa3"
 # Of each block: area, ink.
 COLOURS = [("#e9e0f7", "#6a46a8"), ("#d8f0ea", "#1b7566"), ("#fcebcf", "#a5670d"),
            ("#dce9fb", "#2c5fa8"), ("#fbdfe5", "#ab3757"), ("#e6f2d5", "#527b1d")]
@@ -32,7 +37,9 @@ text { font-family: "Helvetica Neue", Arial, "DejaVu Sans", sans-serif; fill: %s
 .strong { font-size: 14px; font-weight: 600; }
 .small { font-size: 11.5px; }
 .code { font-family: "DejaVu Sans Mono", Menlo, Consolas, monospace; font-size: 11.5px; }
-""" % (INK, QUIET)
+""" % (INK, QUIET)                  # the map's too
+RUN_STYLE = STYLE.replace("11.5px", "12.5px") + """.tab { font-size: 12.5px; font-weight: 700; fill: %s; }
+""" % PAPER
 
 
 def text(x, y, words, kind="label", anchor="start", fill=None):
@@ -55,30 +62,57 @@ def box(x, y, width, height, fill, stroke, radius=10):
             f'fill="{fill}" stroke="{stroke}" stroke-width="1.4"/>')
 
 
-def count(number, what):
-    return f"{number} {what}" + ("" if number == 1 else "s")
+# ---- the signs, as they stand in the grid and in the legend
+
+def held_sign(at, ink):
+    return circle(at, DOT, ink, PAPER, 1.5)
 
 
-def shown(transactions):
-    return [" ".join((kind, number) + ((amount,) if kind == "B" else ())) for kind, number, amount in transactions]
+def loose_sign(at):
+    """Held, in no block."""
+    return circle(at, DOT - 0.5, PAPER, QUIET, 2.2)
+
+
+def none_sign(at):
+    return circle(at, 2.6, QUIET)
+
+
+def anchor_sign(at, ink):
+    return circle(at, RING, PAPER, ink, 2.8) + held_sign(at, ink)
+
+
+def leader_ring(at):
+    """Around the place of a leader whose round has no block."""
+    return circle(at, RING + 0.5, PAPER, QUIET, 2, ' stroke-dasharray="4.5 3.2"')
+
+
+def tab_sign(x, y, number, ink):
+    width = TAB[0] + 8 * (len(str(number)) - 1)
+    return (f'<rect x="{x:g}" y="{y:g}" width="{width}" height="{TAB[1]}" rx="4" fill="{ink}"/>'
+            + text(x + width / 2, y + TAB[1] - 2.4, str(number), "tab", "middle"))
 
 
 class Picture:
     def __init__(self, run):
         self.run = run
         self.rounds, self.members = run.rounds(), run.members()
-        self.block_of = run.block_of()
+        self.block_of, self.unblocked = run.block_of(), run.unblocked()
         self.anchors = {run.anchor(block): block for block in run.blocks}
-        self.width = LEFT + CELL[0] * len(self.rounds) + RIGHT
+        narrow, wide = CELL[0]
+        self.cell_size = max(narrow, min(wide, (WIDTH - LEFT - RIGHT) // len(self.rounds))), CELL[1]
+        self.width = max(WIDTH, LEFT + self.cell_size[0] * len(self.rounds) + RIGHT)
         self.bottom = TOP + CELL[1] * len(self.members)
 
     def cell(self, place):
         return place[0] - 1, self.members.index(place[1])
 
+    def corner(self, cell):
+        return LEFT + cell[0] * self.cell_size[0], TOP + cell[1] * self.cell_size[1]
+
     def at(self, place):
         """The middle of a place, in pixels."""
-        column, row = self.cell(place)
-        return LEFT + (column + 0.5) * CELL[0], TOP + (row + 0.5) * CELL[1]
+        x, y = self.corner(self.cell(place))
+        return x + self.cell_size[0] / 2, y + self.cell_size[1] / 2
 
     def colours(self, block):
         return COLOURS[(block.number - 1) % len(COLOURS)]
@@ -88,31 +122,33 @@ class Picture:
     def heading(self):
         run, blocks = self.run, self.run.blocks
         listed = ", ".join(str(block.round) for block in blocks) or "none"
-        yield text(LEFT, 36, f"What member {run.own} holds, and the chain it makes of it", "title")
-        yield text(LEFT, 60, f"{count(len(run.held), 'certificate')} of {count(len(self.members), 'member')} "
-                             f"in {count(len(self.rounds), 'round')}; block rounds {listed}", "quiet")
+        yield text(COLUMNS[0], 36, f"What member {run.own} holds, and the chain it makes of it", "title")
+        yield text(COLUMNS[0], 60, f"{count(len(run.held), 'certificate')} of {count(len(self.members), 'member')} "
+                                   f"in {count(len(self.rounds), 'round')}; block rounds {listed}", "quiet")
 
     def axes(self):
-        blocked = {block.round for block in self.run.blocks}
+        blocks = {block.round: block for block in self.run.blocks}
         for round in self.rounds:
             x = self.at((round, self.members[0]))[0]
-            yield text(x, TOP - 18, str(round), "strong" if round in blocked else "label", "middle",
-                       None if round in blocked else QUIET)
-            if round % 2 == 0 and round not in blocked and round < max(blocked, default=0):
-                yield text(x, TOP - 3, "no block", "small", "middle", QUIET)
-        yield text(LEFT - 18, TOP - 18, "round", "quiet", "end")
+            block = blocks.get(round)
+            yield text(x, TOP - 28, str(round), "strong" if block else "label", "middle", None if block else QUIET)
+            if block:
+                yield text(x, TOP - 9, f"block {block.number}", "small", "middle", self.colours(block)[1])
+            elif round % 2 == 0:
+                yield text(x, TOP - 9, "no block" if round < max(blocks, default=0) else "none yet", "small", "middle", QUIET)
+        yield text(LEFT - 12, TOP - 28, "round", "quiet", "end")
         for member in self.members:
             y = self.at((1, member))[1]
             own = member == self.run.own
-            yield text(LEFT - 18, y + (1 if own else 5), f"member {member}", "strong" if own else "label", "end")
+            yield text(LEFT - 12, y + (1 if own else 5), f"member {member}", "strong" if own else "label", "end")
             if own:
-                yield text(LEFT - 18, y + 18, "own", "quiet", "end")
+                yield text(LEFT - 12, y + 18, "own", "quiet", "end")
 
     def areas(self):
         for block in self.run.blocks:
             area, ink = self.colours(block)
-            path = path_of([self.cell(place) for place in block.places], CELL, (LEFT, TOP), INSET, RADIUS)
-            yield f'<path d="{path}" fill="{area}" stroke="{ink}" stroke-width="1.2" stroke-opacity="0.55"/>'
+            path = path_of([self.cell(place) for place in block.places], self.cell_size, (LEFT, TOP), INSET, RADIUS)
+            yield f'<path d="{path}" fill="{area}" stroke="{ink}" stroke-width="1.2" stroke-opacity="0.7"/>'
 
     def links(self):
         """Lines to what each certificate names as previous; those to an anchor last, as votes."""
@@ -121,102 +157,111 @@ class Picture:
             for author in certificate.previous:
                 before = certificate.round - 1, author
                 if before in self.anchors:
-                    votes.append(line(self.at(before), self.at(place), self.colours(self.anchors[before])[1], 2.2))
+                    votes.append(line(self.at(before), self.at(place), self.colours(self.anchors[before])[1], 2.4))
                 else:
                     yield line(self.at(before), self.at(place), LINK, width)
         yield from votes
 
+    def tabs(self):
+        """A block's number on each part of its area."""
+        for block in self.run.blocks:
+            for part in parts_of([self.cell(place) for place in block.places]):
+                x, y = self.corner(min(part, key=lambda cell: (cell[1], cell[0])))
+                yield tab_sign(x + INSET + 3, y + INSET + 3, block.number, self.colours(block)[1])
+
     def dots(self):
         for member in self.members:
             for round in self.rounds:
-                yield from self.dot((round, member))
+                place = round, member
+                if self.unblocked.get(round) == member:
+                    yield leader_ring(self.at(place))
+                yield self.dot(place)
 
     def dot(self, place):
-        at = self.at(place)
-        if place not in self.run.held:
-            yield circle(at, *NONE)
-            return
-        block = self.block_of.get(place)
-        ink = self.colours(block)[1] if block else QUIET
+        at, block = self.at(place), self.block_of.get(place)
         if place in self.anchors:
-            yield circle(at, RING, PAPER, ink, 2.6)
-        yield circle(at, DOT, ink if block else PAPER, PAPER if block else ink, 1.5 if block else 2)
+            return anchor_sign(at, self.colours(block)[1])
+        if block:
+            return held_sign(at, self.colours(block)[1])
+        return loose_sign(at) if place in self.run.held else none_sign(at)
 
     # ---- the chain beneath
 
-    def transactions(self, block):
-        places = [self.run.held[place].transactions for place in block.places]
-        return [one for transactions in places for one in shown(transactions)]
-
     def chain(self):
-        top, before = self.bottom + CHAIN_GAP, 0
-        yield text(LEFT - 18, top + 24, "chain", "label", "end")
+        x, y = COLUMNS, self.bottom + CHAIN_GAP
+        yield line((x[0], y), (self.width - RIGHT, y), FAINT, 1)
+        heads = ("block", "round", "commit in", "certificates in their order, round: authors", "transactions in their order")
+        for column, words in zip(x, heads if self.run.blocks else ["The chain has no block."]):
+            yield text(column, y + 22, words, "small", fill=QUIET)
+        y += 46
         for block in self.run.blocks:
-            left = LEFT + before * CELL[0] + INSET + 2
-            right = LEFT + block.round * CELL[0] - INSET - 2
-            yield from self.stem(block, top)
-            yield box(left, top, right - left, self.chain_height(), *self.colours(block))
-            for index, (words, kind) in enumerate(self.lines(block, right - left)):
-                yield text(left + 12, top + 24 + CHAIN_LINE * index, words, kind,
-                           fill=self.colours(block)[1] if index == 0 else None)
-            if before:
-                middle = top + self.chain_height() / 2
-                yield line((left - 2 * INSET - 3, middle), (left - 1, middle), QUIET, 2.4)
-            before = block.round
+            ink = self.colours(block)[1]
+            if block.number > 1:
+                yield line((x[0] + 15, y - self.tall(block.number - 2) + 7), (x[0] + 15, y - 15), QUIET, 2.4)
+            yield box(x[0], y - 15, 30, 20, ink, ink, 6)
+            yield text(x[0] + 15, y, str(block.number), "strong", "middle", PAPER)
+            yield text(x[1], y, str(block.round), "label")
+            yield text(x[2], y, f"round {block.commit}", "label")
+            for column, words in zip(x[3:], self.columns(block)):
+                for index, one in enumerate(words):
+                    yield text(column, y + CHAIN_LINE * index, one, "code")
+            y += self.tall(block.number - 1)
 
-    def stem(self, block, top):
-        """From the anchor's column down to its block."""
-        x = self.at((block.round, self.members[0]))[0]
-        yield line((x, self.bottom + 6), (x, top), self.colours(block)[1], 1.6, ' stroke-dasharray="1 5"')
+    def columns(self, block):
+        """The lines of a block's certificates and of its transactions."""
+        certificates, transactions = order_of(block), transactions_of(self.run, block)
+        return (wrapped(certificates, "; ", int((COLUMNS[4] - COLUMNS[3] - 16) / CODE_WIDE)),
+                wrapped(transactions, ", ", int((self.width - RIGHT - COLUMNS[4]) / CODE_WIDE)))
 
-    def lines(self, block, width):
-        yield f"block {block.number}, round {block.round}", "strong"
-        yield count(len(block.places), "certificate"), "small"
-        yield f"commit in round {block.commit}", "small"
-        yield from ((words, "code") for words in self.wrapped(self.transactions(block), int((width - 20) / 7.1)))
-
-    def wrapped(self, words, room):
-        lines = [""]
-        for word in words:
-            longer = f"{lines[-1]}, {word}" if lines[-1] else word
-            lines[-1:] = [longer] if len(longer) <= room - 1 or not lines[-1] else [lines[-1] + ",", word]
-        return lines if len(lines) <= CHAIN_LINES else lines[:CHAIN_LINES - 1] + ["and more"]
+    def tall(self, index):
+        """The height of a block's row."""
+        return 14 + CHAIN_LINE * max(map(len, self.columns(self.run.blocks[index])))
 
     def chain_height(self):
-        left, longest = 0, 0
-        for block in self.run.blocks:
-            width = (block.round - left) * CELL[0] - 2 * INSET - 4
-            longest = max(longest, len(list(self.lines(block, width))))
-            left = block.round
-        return 16 + CHAIN_LINE * longest
+        return CHAIN_GAP + 46 + sum(map(self.tall, range(len(self.run.blocks))))
 
     # ---- the legend
 
     def legend(self):
-        (area, ink), y = COLOURS[0], self.bottom + CHAIN_GAP + self.chain_height() + 46
-        signs = [("certificate held, in a block", 195, lambda x: circle((x, y), DOT, ink)),
-                 ("held, in no block", 130, lambda x: circle((x, y), DOT, PAPER, QUIET, 2)),
-                 ("none held", 82, lambda x: circle((x, y), *NONE)),
-                 ("anchor of a block", 130, lambda x: circle((x, y), RING, PAPER, ink, 2.6) + circle((x, y), DOT, ink)),
-                 ("names as previous", 136, lambda x: line((x - 14, y), (x + 14, y), LINK, 1.4)),
-                 ("names a block's anchor", 168, lambda x: line((x - 14, y), (x + 14, y), ink, 2.4)),
-                 ("one block", 80, lambda x: box(x - 14, y - 10, 28, 20, area, ink, 7))]
-        x = LEFT + 16
-        for words, room, sign in signs:
-            yield sign(x)
-            yield text(x + 23, y + 4.5, words, "quiet")
-            x += room + 44
+        (area, ink), top = COLOURS[0], self.bottom + self.chain_height()
+        yield line((COLUMNS[0], top - 10), (self.width - RIGHT, top - 10), FAINT, 1)
+        signs = [[("certificate held, in a block", lambda at: held_sign(at, ink)),
+                  ("held, in no block", loose_sign),
+                  ("none held", none_sign)],
+                 [("anchor of a block", lambda at: anchor_sign(at, ink)),
+                  ("leader's place, no block", lambda at: leader_ring(at) + none_sign(at))],
+                 [("a block and its number",
+                   lambda at: box(at[0] - 15, at[1] - 12, 30, 24, area, ink, 7) + tab_sign(at[0] - 10, at[1] - 7.5, 1, ink)),
+                  ("names as previous", lambda at: line((at[0] - 15, at[1]), (at[0] + 15, at[1]), LINK, 1.4)),
+                  ("names a block's anchor", lambda at: line((at[0] - 15, at[1]), (at[0] + 15, at[1]), ink, 2.4))]]
+        for column, rows in enumerate(signs):
+            for row, (words, sign) in enumerate(rows):
+                x, y = COLUMNS[0] + 16 + LEGEND_COLUMN * column, top + 20 + LEGEND_ROW * row
+                yield sign((x, y))
+                yield text(x + 26, y + 4.5, words, "quiet")
+        yield text(COLUMNS[0], top + 24.5 + LEGEND_ROW * 3,
+                   "E n: entry n.  B m a: bond, member m's weight rises by a.  U m: unbond, member m leaves.", "quiet")
 
     def svg(self):
-        height = self.bottom + CHAIN_GAP + self.chain_height() + 84
-        width = max(self.width, LEFT + LEGEND + RIGHT)
-        parts = [f'<svg xmlns="http://www.w3.org/2000/svg" width="{width}" height="{height}" '
-                 f'viewBox="0 0 {width} {height}" role="img">', f"<title>Chain of member {self.run.own}</title>",
-                 f"<style>{STYLE}</style>",
-                 f'<rect width="{width}" height="{height}" fill="{PAPER}"/>']
-        for layer in (self.heading, self.axes, self.areas, self.links, self.dots, self.chain, self.legend):
+        height = self.bottom + self.chain_height() + 4 * LEGEND_ROW + 14
+        title = f"What member {self.run.own} holds, and the chain it makes of it"
+        parts = [f'<svg xmlns="http://www.w3.org/2000/svg" width="{self.width}" height="{height}" '
+                 f'viewBox="0 0 {self.width} {height}" role="img" aria-labelledby="title desc">',
+                 f'<title id="title">{escape(title)}</title>', f'<desc id="desc">{escape(tell(self.run))}</desc>',
+                 f"<style>{RUN_STYLE}</style>",
+                 f'<rect width="{self.width}" height="{height}" fill="{PAPER}"/>']
+        for layer in (self.heading, self.axes, self.areas, self.links, self.tabs, self.dots, self.chain, self.legend):
             parts += layer()
         return "\n".join(parts + ["</svg>", ""])
+
+
+def wrapped(words, between, room):
+    """Words in lines of at most so many letters, CHAIN_LINES of them at most."""
+    lines = [""]
+    for word in words:
+        longer = f"{lines[-1]}{between}{word}" if lines[-1] else word
+        lines[-1:] = [longer] if len(longer) < room or not lines[-1] else [lines[-1] + between.strip(), word]
+    return lines if len(lines) <= CHAIN_LINES else lines[:CHAIN_LINES - 1] + ["and more"]
 
 
 def main():

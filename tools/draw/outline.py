@@ -3,6 +3,21 @@
 RIGHT_TURN = {(1, 0): (0, 1), (0, 1): (-1, 0), (-1, 0): (0, -1), (0, -1): (1, 0)}
 
 
+def parts_of(cells):
+    """The cells in parts that hang together by edges."""
+    left, parts = set(cells), []
+    while left:
+        part, new = set(), [left.pop()]
+        while new:
+            x, y = new.pop()
+            part.add((x, y))
+            beside = left & {(x + 1, y), (x - 1, y), (x, y + 1), (x, y - 1)}
+            left -= beside
+            new += beside
+        parts.append(part)
+    return sorted(parts, key=min)
+
+
 def edges_of(cells):
     """Border edges, start: ends; cells lie to the right of each (y points down)."""
     edges = {}

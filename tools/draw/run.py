@@ -1,4 +1,8 @@
-"""What a stream of records and a runner's answers tell of one member: nothing is decided here."""
+"""What a stream of records and a runner's answers tell of one member.
+
+What is held and what is in a block is taken from the answers; leaders are worked out from the
+open record and the listed chain, by the rules of the scope document.
+"""
 from collections import namedtuple
 
 Certificate = namedtuple("Certificate", "author round previous transactions")
@@ -33,11 +37,18 @@ def triples_of(fields):
     return list(zip(fields[0::3], fields[1::3], fields[2::3]))
 
 
+def filled(settings, blanks):
+    """Settings of an open record, blank ones with what a blank means."""
+    return [int(setting) if setting else blank for setting, blank in zip(settings, blanks)]
+
+
 class Run:
     """A member's run from its last accepted open on."""
 
-    def __init__(self, own):
-        self.own, self.round = own, 1
+    def __init__(self, own, lookback, ceiling, allowance, *weights):
+        self.own, self.round = int(own), 1
+        [self.lookback] = filled([lookback], [20])
+        self.weights = filled(weights, [1] * 4 + [0] * 12)
         self.held = {}      # (round, author): Certificate
         self.commits = []   # the round of the commit that made block 1, 2, ...
         self.blocks = []
@@ -75,11 +86,37 @@ class Run:
         """The block at each place that is in one."""
         return {place: block for block in self.blocks for place in block.places}
 
+    def bonded(self, round):
+        """The weights of the bonded committee of a round."""
+        weights = list(self.weights)
+        for place in (place for block in self.blocks if block.round < round for place in block.places):
+            for kind, number, amount in self.held[place].transactions:
+                if kind == "B":
+                    weights[int(number)] += int(amount)
+                elif kind == "U":
+                    weights[int(number)] = 0
+        return weights
+
+    def leader(self, round):
+        """The leader of an even round; none where the committee is empty or not known."""
+        last = self.blocks[-1].round if self.blocks else 0
+        if round > self.lookback + last + 2:
+            return None
+        weights = self.weights if round <= self.lookback else self.bonded(round - self.lookback)
+        members = [member for member in range(16) if weights[member]]
+        return members[round // 2 % len(members)] if members else None
+
+    def unblocked(self):
+        """Even rounds without a block that have a leader, each with its leader."""
+        blocked = {block.round for block in self.blocks}
+        leaders = {round: self.leader(round) for round in self.rounds() if round % 2 == 0 and round not in blocked}
+        return {round: leader for round, leader in leaders.items() if leader is not None}
+
     def rounds(self):
         return range(1, max([self.round] + [round for round, _ in self.held]) + 1)
 
     def members(self):
-        return sorted({author for _, author in self.held} | {self.own})
+        return sorted({author for _, author in self.held} | {self.own} | set(self.unblocked().values()))
 
 
 def read_run(stream, answers):
@@ -89,7 +126,7 @@ def read_run(stream, answers):
             continue
         name, *fields = record.split(",")
         if name == "open":
-            run = Run(int(fields[0]))
+            run = Run(*fields)
         else:
             run.take(name, fields, listing, answer)
         listed = name == "chain"

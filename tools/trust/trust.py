@@ -2,7 +2,7 @@
 
 They are what these unfold to, types as well as bodies:
   - the contracts of the functions that hosts link (marked #[no_mangle]),
-  - the contracts of the runner that say which bytes are written for which input (RUNNER),
+  - the contracts of the runner that say which bytes are read, and which are written for them (RUNNER),
   - the type of the theorem of demand 3, and the file of its statement (THEOREM, STATEMENT).
 A law is never followed: whatever it says is proved. How laws are told from definitions stands in tree.py.
 
@@ -31,11 +31,12 @@ import rt as source
 import tree
 
 HOST = "no_mangle"
-RUNNER = ["runner::serve_all", "runner::serve_pass", "runner::conclude"]
+RUNNER = ["passes::run", "passes::conclude", "channel::more", "channel::flush"]
 THEOREM = "nonforking.Theorem.demand-3"
 STATEMENT = "nonforking.Statement"
 PAGE = "docs/TRUST.md"
 README = "README.md"
+KIT = "rattle-kit-5b, whose logic has the sum 097e4c862dff5811"
 
 HEAD = """# What to believe
 
@@ -47,8 +48,9 @@ A proof says that code does what a definition says. Whether the definition says 
 
 | | |
 |---|---|
-| proved | each function that a host links: on any words and lengths, its answer and every word that it leaves are those of its contract (`Done`). The runner: the lines put into its buffer are those that `output` gives for the bytes taken into its buffer (`SessionInvariant`, `PassServed`, `StartsWith`); that its loop reads to the end of the input and writes out what was put is tested, not proved. Demand 3: `DemandThree`, over every list of calls |
-| assumed by the proofs | the prover; the compiler's back end; the C library's read and write, and that the operating system delivers what they pass on |
+| proved | each function that a host links: on any words and lengths, its answer and every word that it leaves are those of its contract (`Done`). The runner (`RunServed`): pass after pass, what is written out is what is answered to what was read (`Passes`), more is read only when all of it was handed to be written, and where the input has ended, all that was written is the output for all that was read (`output`). It stops nowhere else but at a write that failed and after 2^64 − 1 passes. Demand 3: `DemandThree`, over every list of calls |
+| assumed by the proofs | the prover (of {kit}); the compiler's back end; the contracts of two functions of the C library, `libc::read` and `libc::write` (they answer -1 or at most as many bytes as they were lent), and that the operating system delivers what they pass on. The library calls neither |
+| on trust in the runner | five lines: in `channel` the one that calls `libc::read` on standard input and the one that calls `io::write_all` on standard output, in `session` and `passes` the three that call these two functions of `channel` and go on with what they gave |
 | assumed by demand 3 | signatures are genuine (`Signed` in `Fair`); in every committee that a correct member knows, faulty members weigh at most the fault bound (`WithinBound`) |
 | not listed | laws: whatever they say is proved. Definitions that only proofs use. Rattle's libraries, of which the last section lists the names used |
 
@@ -250,7 +252,7 @@ def printed(listing):
 
 
 def page(listing):
-    text = [HEAD.replace("{specs}", specs_held(listing)), "## Roots\n"]
+    text = [HEAD.replace("{specs}", specs_held(listing)).replace("{kit}", KIT), "## Roots\n"]
     for mark, what in (("h", "the host's contracts"), ("r", "the runner's contracts"), ("3", "demand 3")):
         names = dict.fromkeys(name for name, _ in listing.roots[mark])
         text.append(f"- ({mark}) {what}: {', '.join(f'`{name}`' for name in names)}")

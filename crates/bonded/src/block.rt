@@ -20,7 +20,7 @@ fn apply_slot(t: &[u32], m: Member, r: Round, n: u32, k: u32, w: &mut [u64; 16])
     let kind = store::record::kind_at(t, m, r, k);
     let number = store::record::number_at(t, m, r, k);
     let amount = store::record::amount_at(t, m, r, k);
-    committee::change::apply(w, k < n, kind, number, amount);
+    weighing::change::apply(w, k < n, kind, number, amount);
 }
 
 // The transactions of a record, in order. All four slots are looked at, however many there are.

@@ -41,7 +41,7 @@ fn fill_starts(
         if s.lookback < r.0 - at.0 {
             return i;
         }
-        let a = committee::leader::leader(w, r);
+        let a = weighing::leader::leader(w, r);
         starts[i as usize] = a.0;
         i += 1;
     }

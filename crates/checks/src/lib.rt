@@ -83,7 +83,7 @@ pub fn lacks_previous_quorum(d: u32, w: &[u64; 16], p: Proposal) -> bool
     if p.round.0 == 1 {
         return false;
     }
-    !committee::is_quorum(d, w, p.body.previous as u32)
+    !weighing::is_quorum(d, w, p.body.previous as u32)
 }
 
 // Checks 8, 9, 13 of the signers of a certificate of round r.
@@ -95,10 +95,10 @@ pub fn signer_refusal(cache: &[u64], s: State, t: &[u32], r: Round, signers: u32
         return 8;
     }
     let w = cache::committee(cache, t, s.settings, s.blocks, r);
-    if committee::has_outsider(&w, signers) {
+    if weighing::has_outsider(&w, signers) {
         return 9;
     }
-    if committee::is_short(Sheet::MARGIN, &w, signers) {
+    if weighing::is_short(Sheet::MARGIN, &w, signers) {
         return 13;
     }
     0

@@ -1,5 +1,5 @@
 // Commit: the anchor of the round before, and those that its history takes, make blocks, oldest first (scope document: Commit).
-mod checks;
+mod refusals;
 mod votes;
 
 use state::State;
@@ -38,7 +38,7 @@ pub fn commit_cached(formed: bool, s: State, t: &mut [u32]) -> Outcome
     if !formed {
         return refused(s, 1);
     }
-    let late = crate::checks::time_refusal(s, t);
+    let late = crate::refusals::time_refusal(s, t);
     if late != 0 {
         return refused(s, late);
     }
@@ -48,11 +48,11 @@ pub fn commit_cached(formed: bool, s: State, t: &mut [u32]) -> Outcome
     let top = Round(s.round.0 - 1);
     let mut leaders = [16u32; 1025];
     let w = leaders::fill_leaders(t, settings, blocks, last, top, &mut leaders);
-    let fault = crate::checks::vote_refusal(s, t, &leaders, &w);
+    let fault = crate::refusals::vote_refusal(s, t, &leaders, &w);
     if fault != 0 {
         return refused(s, fault);
     }
-    let k = blocks::commit_blocks(t, &mut leaders, last, top, blocks);
+    let k = making::commit_blocks(t, &mut leaders, last, top, blocks);
     let mut next = s;
     next.blocks = k;
     Outcome {

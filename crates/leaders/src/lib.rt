@@ -26,7 +26,7 @@ fn fill_rounds(
     for q in m.0..top.0 {
         let r = Round(q + 1);
         x = bonded::running::reach_round(t, head, next, s, blocks, x, r, w, starts);
-        let a = committee::leader::leader(w, r);
+        let a = weighing::leader::leader(w, r);
         l[q as usize + 1] = a.0;
     }
     bonded::running::reach_round(t, head, next, s, blocks, x, Round(top.0 + 1), w, starts);

@@ -40,7 +40,7 @@ fn membership_refusal(cache: &[u64], s: State, t: &[u32], b: Body) -> u32
     }
     let c = cache::committees(cache, t, s.settings, s.blocks, r);
     let at = c.at;
-    if !committee::is_member(&at, s.own) {
+    if !weighing::is_member(&at, s.own) {
         return 9;
     }
     let author = s.own;

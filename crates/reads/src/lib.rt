@@ -80,10 +80,10 @@ fn share_of(s: State, t: &[u32], m: Member, r: Round) -> ShareRead
         return ShareRead::Refused(8);
     }
     let w = bonded::committee_of(t, s.settings, s.blocks, r);
-    if !committee::is_member(&w, m) {
+    if !weighing::is_member(&w, m) {
         return ShareRead::Refused(9);
     }
-    ShareRead::Thousandths(committee::share(&w, m))
+    ShareRead::Thousandths(weighing::share(&w, m))
 }
 
 pub fn share(s: State, t: &[u32], m: Member, r: Round) -> ShareRead

@@ -1,0 +1,109 @@
+//! A host of three members in one process: proposals are endorsed, certified and passed
+//! around for some rounds, every member commits, and each prints its chain.
+//! A real host signs what it sends, checks signatures before endorse, certify and accept,
+//! and stores state and table before it sends an endorsement (docs/HOSTS.md).
+
+use forgelilac::{Certificate, Engine, Refusal, Set, Sheet, Transaction};
+
+const LAST_ROUND: u32 = 9;
+
+/// Members 0, 1 and 2 of weight 1, member 3 outside.
+fn sheet() -> Sheet {
+    let mut sheet = Sheet { lookback: Some(2), ceiling: Some(64), ..Sheet::default() };
+    sheet.weights[3] = Some(0);
+    sheet
+}
+
+/// What a member proposes: an entry that its guests sent; in round 1 member 0 also bonds 2.
+fn transactions(member: u32, round: u32) -> Vec<Transaction> {
+    let mut all = vec![Transaction::Entry { number: 100 * round + member }];
+    if (member, round) == (0, 1) {
+        all.push(Transaction::Bond { member: 0, amount: 2 });
+    }
+    all
+}
+
+/// The members of a set, by rising number.
+fn members(set: Set) -> impl Iterator<Item = u32> {
+    (0..forgelilac::MEMBERS as u32).filter(move |member| set >> member & 1 == 1)
+}
+
+/// The authors whose certificates of a round are held.
+fn held(engine: &Engine, round: u32) -> Set {
+    let holds = |author: &u32| engine.certificate(*author, round).is_ok();
+    (0..forgelilac::MEMBERS as u32).filter(holds).map(|author| 1 << author).sum()
+}
+
+/// One member's proposal goes out, comes back endorsed, and becomes a certificate.
+fn certificate_of(engines: &mut [Engine], author: usize) -> Result<Certificate, Refusal> {
+    let round = engines[author].round();
+    let previous = held(&engines[author], round - 1);
+    engines[author].propose(previous, &transactions(author as u32, round))?;
+    let proposal = engines[author].proposal().expect("just proposed");
+    let mut endorsers = 0;
+    for (member, engine) in engines.iter_mut().enumerate() {
+        if member != author && engine.endorse(&proposal).is_ok() {
+            endorsers |= 1 << member;
+        }
+    }
+    engines[author].certify(endorsers)?;
+    Ok(Certificate { proposal, endorsers })
+}
+
+/// A round: every member's certificate reaches every other member.
+fn play(engines: &mut [Engine]) -> Result<(), Refusal> {
+    for author in 0..engines.len() {
+        let certificate = certificate_of(engines, author)?;
+        for (member, engine) in engines.iter_mut().enumerate() {
+            if member != author {
+                engine.accept(&certificate)?;
+            }
+        }
+    }
+    Ok(())
+}
+
+fn print_chain(engine: &Engine) -> Result<(), Refusal> {
+    println!("member {}", engine.own());
+    for (number, block) in (1..).zip(engine.chain()?) {
+        let certificates: Vec<String> =
+            block.certificates.iter().map(|(round, author)| format!("{round}/{author}")).collect();
+        println!("  block {number}, block round {}: {}", block.round, certificates.join(" "));
+    }
+    Ok(())
+}
+
+/// Who endorsed what: the certificates of a round as a member holds them.
+fn print_endorsers(engine: &Engine, round: u32) -> Result<(), Refusal> {
+    println!("endorsers in round {round}, as member {} holds them", engine.own());
+    for author in members(held(engine, round)) {
+        let endorsers = members(engine.certificate(author, round)?.endorsers);
+        let list: String = endorsers.map(|member| format!(" {member}")).collect();
+        println!("  {round}/{author}:{list}");
+    }
+    Ok(())
+}
+
+fn main() -> Result<(), Refusal> {
+    let mut engines = (0..3).map(|own| Engine::open(own, &sheet())).collect::<Result<Vec<_>, _>>()?;
+    for round in 1..=LAST_ROUND {
+        play(&mut engines)?;
+        for engine in &mut engines {
+            match engine.commit() {
+                Ok(_) | Err(Refusal::NoCommitRound) => {}
+                Err(refusal) => return Err(refusal),
+            }
+            if round < LAST_ROUND {
+                engine.advance()?;
+            }
+        }
+    }
+    println!("certificates as round/author");
+    for engine in &engines {
+        print_chain(engine)?;
+    }
+    print_endorsers(&engines[0], LAST_ROUND)?;
+    let shares = (0..3).map(|member| engines[0].share(member, LAST_ROUND)).collect::<Result<Vec<_>, _>>()?;
+    println!("shares in round {LAST_ROUND}, in thousandths: {shares:?}");
+    Ok(())
+}

@@ -1,0 +1,209 @@
+//! An engine that owns its state and table.
+
+use crate::chain::Listing;
+use crate::layout::{
+    BODY_WORDS, PROPOSAL_WORDS, STATE_BLOCKS, STATE_BODY, STATE_OWN, STATE_PROPOSED, STATE_ROUND,
+    STATE_WORDS,
+};
+use crate::lent::{self, Place};
+use crate::{body_words, table_words, CEILING, MEMBERS};
+use crate::{Block, Certificate, Held, Proposal, Refusal, Set, Sheet, Transaction};
+use alloc::vec;
+use alloc::vec::Vec;
+
+/// One member's engine: a state and the table that belongs to it. It has no part outside
+/// itself, so engines may be called from several threads at once, each by one at a time.
+///
+/// Numbers in the lists of errors are [`Refusal::number`]s, in the order of the checks.
+#[derive(Clone, PartialEq, Eq, Debug)]
+pub struct Engine {
+    pub(crate) state: [u32; STATE_WORDS],
+    pub(crate) table: Vec<u32>,
+}
+
+impl Engine {
+    /// Opens a member with a table of the length that the sheet's ceiling needs. It starts a new
+    /// run: go on with one by [`Engine::try_restore`].
+    ///
+    /// # Errors
+    /// 4 member above 15; 2 setting out of range; 3 no positive weight.
+    pub fn open(own: u32, sheet: &Sheet) -> Result<Engine, Refusal> {
+        let ceiling = sheet.ceiling.unwrap_or(CEILING).min(CEILING);
+        Engine::open_on(vec![0; table_words(ceiling) as usize], own, sheet)
+    }
+
+    /// Opens a member on a table of the host's; what lies beyond the used part never changes.
+    ///
+    /// # Errors
+    /// As [`Engine::open`], and then 1 for a table that is too short.
+    pub fn open_on(mut table: Vec<u32>, own: u32, sheet: &Sheet) -> Result<Engine, Refusal> {
+        let mut state = [0; STATE_WORDS];
+        lent::open(&mut state, &mut table, own, &sheet.to_words())?;
+        Ok(Engine { state, table })
+    }
+
+    /// An engine as it was stored. Any words are safe: on a state that is not well formed every
+    /// call answers 1. [`Engine::try_restore`] tells at once.
+    #[must_use]
+    pub fn restore(state: [u32; STATE_WORDS], table: Vec<u32>) -> Engine {
+        Engine { state, table }
+    }
+
+    /// An engine as it was stored, where the words are well formed. They must be the latest that
+    /// were stored: an older backup may have forgotten a signature.
+    ///
+    /// # Errors
+    /// [`Refusal::Malformed`] where the state is not well formed.
+    pub fn try_restore(state: [u32; STATE_WORDS], table: Vec<u32>) -> Result<Engine, Refusal> {
+        let engine = Engine::restore(state, table);
+        engine.is_well_formed().then_some(engine).ok_or(Refusal::Malformed)
+    }
+
+    /// State and table, for storing; docs/TABLES.md has which words each call changes.
+    #[must_use]
+    pub fn words(&self) -> (&[u32; STATE_WORDS], &[u32]) {
+        (&self.state, &self.table)
+    }
+
+    /// Whether the state is well formed: an engine that was opened always is.
+    #[must_use]
+    pub fn is_well_formed(&self) -> bool {
+        lent::is_well_formed(&self.state, &self.table)
+    }
+
+    // ---- calls
+
+    /// Proposes transactions for one's own place of the present round. The proposal is kept until
+    /// advance; store the engine before the signature leaves.
+    ///
+    /// # Errors
+    /// 1, 6, 7, 10, 8, 9, 11, 12.
+    pub fn propose(&mut self, previous: Set, transactions: &[Transaction]) -> Result<(), Refusal> {
+        lent::propose(&mut self.state, &self.table, &body_words(previous, transactions))
+    }
+
+    /// Endorses another's proposal, once its signature is checked: its place is marked endorsed.
+    /// Store the engine before the signature leaves.
+    ///
+    /// # Errors
+    /// 1, 4, 5, 6, 7, 14, 10, 8, 11, 12.
+    pub fn endorse(&mut self, proposal: &Proposal) -> Result<(), Refusal> {
+        lent::endorse(&self.state, &mut self.table, &proposal.to_words())
+    }
+
+    /// Makes a certificate of one's own proposal with these endorsers, whose signatures are
+    /// checked: it is held.
+    ///
+    /// # Errors
+    /// 1, 15, 10, 14, 8, 9, 13.
+    pub fn certify(&mut self, endorsers: Set) -> Result<(), Refusal> {
+        lent::certify(&self.state, &mut self.table, endorsers)
+    }
+
+    /// Takes a certificate, once its signatures are checked: it is held with its endorsers, and its
+    /// endorsed mark cleared.
+    ///
+    /// # Errors
+    /// 1, 4, 5, 6, 7, 14, 16, 17, 8, 9, 13, 11.
+    pub fn accept(&mut self, certificate: &Certificate) -> Result<(), Refusal> {
+        lent::accept(&self.state, &mut self.table, &certificate.to_words())
+    }
+
+    /// Goes on to the next round; the proposal is dropped.
+    ///
+    /// # Errors
+    /// 1, 18.
+    pub fn advance(&mut self) -> Result<(), Refusal> {
+        lent::advance(&mut self.state, &self.table)
+    }
+
+    /// Makes blocks: the number of blocks added.
+    ///
+    /// # Errors
+    /// 1, 19, 20, 8, 21, 22.
+    pub fn commit(&mut self) -> Result<u32, Refusal> {
+        lent::commit(&mut self.state, &mut self.table)
+    }
+
+    // ---- reads
+
+    /// Sixteen weights of a round's committee, 0 for a non-member.
+    ///
+    /// # Errors
+    /// 1, 5, 8.
+    pub fn committee(&self, round: u32) -> Result<[u32; MEMBERS], Refusal> {
+        lent::committee(&self.state, &self.table, round)
+    }
+
+    /// A member's weight in thousandths of its committee's total, to the nearest; an exact half
+    /// goes to the even one: 1 of 16 (62.5) gives 62, 3 of 16 (187.5) gives 188. A member may
+    /// have 0 (1 of 2,000); a non-member is refused.
+    ///
+    /// # Errors
+    /// 1, 4, 5, 8, 9.
+    pub fn share(&self, member: u32, round: u32) -> Result<u32, Refusal> {
+        lent::share(&self.state, &self.table, member, round)
+    }
+
+    /// The certificate held at a place: proposal, endorsers, block.
+    ///
+    /// # Errors
+    /// 1, 4, 5, 23.
+    pub fn certificate(&self, author: u32, round: u32) -> Result<Held, Refusal> {
+        Held::from_words(&lent::certificate(&self.state, &self.table, author, round)?)
+    }
+
+    /// The round of a block; blocks count from 1.
+    ///
+    /// # Errors
+    /// 1, 23.
+    pub fn block(&self, number: u32) -> Result<u32, Refusal> {
+        lent::block(&self.state, &self.table, number)
+    }
+
+    // ---- words of the state
+
+    /// One's own number.
+    #[must_use]
+    pub fn own(&self) -> u32 {
+        self.state[STATE_OWN]
+    }
+
+    /// The present round.
+    #[must_use]
+    pub fn round(&self) -> u32 {
+        self.state[STATE_ROUND]
+    }
+
+    /// The number of blocks.
+    #[must_use]
+    pub fn blocks(&self) -> u32 {
+        self.state[STATE_BLOCKS]
+    }
+
+    /// One's own proposal for the present round, for sending.
+    #[must_use]
+    pub fn proposal(&self) -> Option<Proposal> {
+        let mut words = [0; PROPOSAL_WORDS];
+        words[0] = self.own();
+        words[1] = self.round();
+        words[2..].copy_from_slice(&self.state[STATE_BODY..STATE_BODY + BODY_WORDS]);
+        let there = self.state[STATE_PROPOSED] == 1;
+        Proposal::from_words(&words).ok().filter(|_| there)
+    }
+
+    /// The chain, by one read that tests the state and passes over the held certificates alone.
+    /// Inside a block rounds rise; within a round numbers rise from that of the leader of the
+    /// block's round, with 0 after 15. Where that round has no leader, numbers just rise.
+    ///
+    /// # Errors
+    /// [`Refusal::Malformed`] where the state is not well formed.
+    pub fn chain(&self) -> Result<Vec<Block>, Refusal> {
+        let listing = Listing::of(&self.state, &self.table)?;
+        let mut list = vec![Place::default(); listing.len()];
+        listing.write(&mut list);
+        let certificates = |places: &[Place]| places.iter().map(|place| (place.round, place.author)).collect();
+        let blocks = listing.blocks().map(|(round, at)| Block { round, certificates: certificates(&list[at]) });
+        Ok(blocks.collect())
+    }
+}

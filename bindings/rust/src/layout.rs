@@ -1,0 +1,78 @@
+//! Where what stands in words: lengths and offsets of `include/forgelilac.h`. docs/TABLES.md
+//! explains them.
+
+/// The format of the words of state and table; no word of theirs has it. Store it beside them.
+pub const FORMAT: u32 = 1;
+
+/// Words of a state.
+pub const STATE_WORDS: usize = 37;
+/// Words of a body: previous set, number of transactions, four transactions.
+pub const BODY_WORDS: usize = 14;
+/// Words of a proposal: author, round, body.
+pub const PROPOSAL_WORDS: usize = 16;
+/// Words of a certificate as accept takes it: proposal, endorsers.
+pub const CERTIFICATE_WORDS: usize = 17;
+/// Words of a held certificate as it is read: certificate, number of its block.
+pub const HELD_WORDS: usize = 18;
+/// Words of a sheet: nineteen pairs, 0 blank or 1 written, then the value.
+pub const SHEET_WORDS: usize = 38;
+/// Transactions that a body has words for: the largest allowance.
+pub const TRANSACTIONS: usize = 4;
+/// The most blocks of a state, at ceiling 1,024.
+pub const BLOCKS: usize = 511;
+/// Bytes of stack that serve every call on x86-64; docs/HOSTS.md has what each uses.
+pub const STACK_BYTES: usize = 98_304;
+
+/// Of a state: own number.
+pub const STATE_OWN: usize = 0;
+/// Of a state: lookback.
+pub const STATE_LOOKBACK: usize = 1;
+/// Of a state: ceiling.
+pub const STATE_CEILING: usize = 2;
+/// Of a state: allowance.
+pub const STATE_ALLOWANCE: usize = 3;
+/// Of a state: the first of sixteen starting weights.
+pub const STATE_WEIGHTS: usize = 4;
+/// Of a state: present round.
+pub const STATE_ROUND: usize = 20;
+/// Of a state: is there a proposal, 0 or 1.
+pub const STATE_PROPOSED: usize = 21;
+/// Of a state: number of blocks.
+pub const STATE_BLOCKS: usize = 22;
+/// Of a state: the body of its proposal.
+pub const STATE_BODY: usize = 23;
+
+/// Words of a row of a table.
+pub const ROW_WORDS: usize = 272;
+/// Of a row: held set.
+pub const ROW_HELD: usize = 0;
+/// Of a row: endorsed set.
+pub const ROW_ENDORSED: usize = 1;
+/// Of row k: the round of block k.
+pub const ROW_BLOCK: usize = 2;
+/// Of a row: the first of sixteen records.
+pub const ROW_RECORDS: usize = 16;
+/// Words of a record.
+pub const RECORD_WORDS: usize = 16;
+/// Of a record: previous set.
+pub const RECORD_PREVIOUS: usize = 0;
+/// Of a record: number of transactions.
+pub const RECORD_COUNT: usize = 1;
+/// Of a record: commit mark, the number of its block, 0 for none.
+pub const RECORD_BLOCK: usize = 2;
+/// Of a record: endorsers that it was first stored with.
+pub const RECORD_ENDORSERS: usize = 3;
+/// Of a record: the first of its transactions, each kind, number, amount.
+pub const RECORD_TRANSACTIONS: usize = 4;
+
+/// Where the row of a round begins in a table.
+#[must_use]
+pub const fn row(round: u32) -> usize {
+    ROW_WORDS * round as usize
+}
+
+/// Where the record of an author and a round begins in a table.
+#[must_use]
+pub const fn record(author: u32, round: u32) -> usize {
+    row(round) + ROW_RECORDS + RECORD_WORDS * author as usize
+}

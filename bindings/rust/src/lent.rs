@@ -1,0 +1,208 @@
+//! Calls and reads on words that the host lends: what a host without an allocator uses. The words
+//! are those of docs/HOSTS.md; any length and any content is safe. A refused call changes no word.
+//! Numbers in the lists of errors are [`Refusal::number`]s, in the order of the checks.
+//!
+//! ```
+//! use forgelilac::{body_words, lent, table_words, Sheet, STATE_WORDS};
+//!
+//! let (mut state, mut table) = ([0; STATE_WORDS], [0; table_words(64) as usize]);
+//! let sheet = Sheet { ceiling: Some(64), ..Sheet::default() };
+//! lent::open(&mut state, &mut table, 0, &sheet.to_words())?;
+//! lent::propose(&mut state, &table, &body_words(0, &[]))?;
+//! lent::certify(&state, &mut table, 0b0110)?;
+//! assert_eq!(lent::certificate(&state, &table, 0, 1)?[16], 0b0110);
+//! # Ok::<(), forgelilac::Refusal>(())
+//! ```
+
+pub use crate::chain::{chain, Place};
+use crate::layout::HELD_WORDS;
+use crate::{Refusal, Set, MEMBERS};
+
+/// The exported functions. Each slice is a pointer and a length in words. Any length and any
+/// content is safe; pointers that come from slices are never null and do not overlap.
+mod abi {
+    unsafe extern "C" {
+        pub fn forgelilac_open(
+            state: *mut u32, state_words: usize, table: *mut u32, table_words: usize,
+            own: u32, sheet: *const u32, sheet_words: usize,
+        ) -> u32;
+        pub fn forgelilac_propose(
+            state: *mut u32, state_words: usize, table: *const u32, table_words: usize,
+            body: *const u32, body_words: usize,
+        ) -> u32;
+        pub fn forgelilac_endorse(
+            state: *const u32, state_words: usize, table: *mut u32, table_words: usize,
+            proposal: *const u32, proposal_words: usize,
+        ) -> u32;
+        pub fn forgelilac_certify(
+            state: *const u32, state_words: usize, table: *mut u32, table_words: usize,
+            endorsers: u32,
+        ) -> u32;
+        pub fn forgelilac_accept(
+            state: *const u32, state_words: usize, table: *mut u32, table_words: usize,
+            certificate: *const u32, certificate_words: usize,
+        ) -> u32;
+        pub fn forgelilac_advance(
+            state: *mut u32, state_words: usize, table: *const u32, table_words: usize,
+        ) -> u32;
+        pub fn forgelilac_commit(
+            state: *mut u32, state_words: usize, table: *mut u32, table_words: usize,
+        ) -> u64;
+        pub fn forgelilac_committee(
+            state: *const u32, state_words: usize, table: *const u32, table_words: usize,
+            round: u32, out: *mut u32, out_words: usize,
+        ) -> u32;
+        pub fn forgelilac_share(
+            state: *const u32, state_words: usize, table: *const u32, table_words: usize,
+            member: u32, round: u32,
+        ) -> u64;
+        pub fn forgelilac_certificate(
+            state: *const u32, state_words: usize, table: *const u32, table_words: usize,
+            author: u32, round: u32, out: *mut u32, out_words: usize,
+        ) -> u32;
+        pub fn forgelilac_block(
+            state: *const u32, state_words: usize, table: *const u32, table_words: usize,
+            number: u32,
+        ) -> u64;
+    }
+}
+
+fn accepted(number: u32) -> Result<(), Refusal> {
+    match number {
+        0 => Ok(()),
+        n => Err(Refusal::of(n).expect("the engine of this version answers 0 to 23")),
+    }
+}
+
+/// Low half the value, high half the refusal number.
+fn value(answer: u64) -> Result<u32, Refusal> {
+    accepted((answer >> 32) as u32)?;
+    Ok(answer as u32)
+}
+
+fn read(words: &[u32]) -> (*const u32, usize) {
+    (words.as_ptr(), words.len())
+}
+
+fn write(words: &mut [u32]) -> (*mut u32, usize) {
+    (words.as_mut_ptr(), words.len())
+}
+
+/// Calls an exported function: state, table, numbers, and after a semicolon one more stretch.
+/// Safe: the stretches are whole slices that do not overlap and outlive the call.
+macro_rules! call {
+    ($function:ident, $state:expr, $table:expr $(, $number:expr)*) => {{
+        let (state, table) = ($state, $table);
+        unsafe { abi::$function(state.0, state.1, table.0, table.1 $(, $number)*) }
+    }};
+    ($function:ident, $state:expr, $table:expr $(, $number:expr)*; $more:expr) => {{
+        let (state, table, more) = ($state, $table, $more);
+        unsafe { abi::$function(state.0, state.1, table.0, table.1 $(, $number)*, more.0, more.1) }
+    }};
+}
+
+// ---- calls
+
+/// Opens a member: the state is written fresh, and the used part of the table cleared.
+///
+/// # Errors
+/// 1, 4, 2, 3, 1: words that cannot be read, own number, sheet, table too short.
+pub fn open(state: &mut [u32], table: &mut [u32], own: u32, sheet: &[u32]) -> Result<(), Refusal> {
+    accepted(call!(forgelilac_open, write(state), write(table), own; read(sheet)))
+}
+
+/// Proposes a body for one's own place of the present round; the state keeps it until advance.
+///
+/// # Errors
+/// 1, 6, 7, 10, 8, 9, 11, 12.
+pub fn propose(state: &mut [u32], table: &[u32], body: &[u32]) -> Result<(), Refusal> {
+    accepted(call!(forgelilac_propose, write(state), read(table); read(body)))
+}
+
+/// Endorses another's proposal: its place is marked endorsed.
+///
+/// # Errors
+/// 1, 4, 5, 6, 7, 14, 10, 8, 11, 12.
+pub fn endorse(state: &[u32], table: &mut [u32], proposal: &[u32]) -> Result<(), Refusal> {
+    accepted(call!(forgelilac_endorse, read(state), write(table); read(proposal)))
+}
+
+/// Makes a certificate of one's own proposal with these endorsers: it is held.
+///
+/// # Errors
+/// 1, 15, 10, 14, 8, 9, 13.
+pub fn certify(state: &[u32], table: &mut [u32], endorsers: Set) -> Result<(), Refusal> {
+    accepted(call!(forgelilac_certify, read(state), write(table), endorsers.into()))
+}
+
+/// Takes a certificate: it is held with its endorsers, and its endorsed mark cleared.
+///
+/// # Errors
+/// 1, 4, 5, 6, 7, 14, 16, 17, 8, 9, 13, 11.
+pub fn accept(state: &[u32], table: &mut [u32], certificate: &[u32]) -> Result<(), Refusal> {
+    accepted(call!(forgelilac_accept, read(state), write(table); read(certificate)))
+}
+
+/// Goes on to the next round; the proposal is dropped.
+///
+/// # Errors
+/// 1, 18.
+pub fn advance(state: &mut [u32], table: &[u32]) -> Result<(), Refusal> {
+    accepted(call!(forgelilac_advance, write(state), read(table)))
+}
+
+/// Makes blocks: the number of blocks added.
+///
+/// # Errors
+/// 1, 19, 20, 8, 21, 22.
+pub fn commit(state: &mut [u32], table: &mut [u32]) -> Result<u32, Refusal> {
+    value(call!(forgelilac_commit, write(state), write(table)))
+}
+
+// ---- reads
+
+/// Sixteen weights of a round's committee, 0 for a non-member.
+///
+/// # Errors
+/// 1, 5, 8.
+pub fn committee(state: &[u32], table: &[u32], round: u32) -> Result<[u32; MEMBERS], Refusal> {
+    let mut out = [0; MEMBERS];
+    accepted(call!(forgelilac_committee, read(state), read(table), round; write(&mut out)))?;
+    Ok(out)
+}
+
+/// A member's weight in thousandths of its committee's total, to the nearest; an exact half goes to
+/// the even one. A member may have 0; a non-member is refused.
+///
+/// # Errors
+/// 1, 4, 5, 8, 9.
+pub fn share(state: &[u32], table: &[u32], member: u32, round: u32) -> Result<u32, Refusal> {
+    value(call!(forgelilac_share, read(state), read(table), member, round))
+}
+
+/// The words of a held certificate: proposal, endorsers, number of its block, 0 for none. The
+/// first 17 are a certificate as [`accept`] takes it.
+///
+/// # Errors
+/// 1, 4, 5, 23.
+pub fn certificate(state: &[u32], table: &[u32], author: u32, round: u32) -> Result<[u32; HELD_WORDS], Refusal> {
+    let mut out = [0; HELD_WORDS];
+    accepted(call!(forgelilac_certificate, read(state), read(table), author, round; write(&mut out)))?;
+    Ok(out)
+}
+
+/// The round of a block; blocks count from 1.
+///
+/// # Errors
+/// 1, 23.
+pub fn block(state: &[u32], table: &[u32], number: u32) -> Result<u32, Refusal> {
+    value(call!(forgelilac_block, read(state), read(table), number))
+}
+
+/// Whether the state is well formed, for words that come from storage: where it is not, every call
+/// but open answers 1.
+#[must_use]
+pub fn is_well_formed(state: &[u32], table: &[u32]) -> bool {
+    // There is no block 0: 23, unless the state is not well formed.
+    block(state, table, 0) == Err(Refusal::NoneThere)
+}

@@ -1,0 +1,479 @@
+//! The bindings, mostly by small runs whose answers follow from the rules.
+
+extern crate std;
+
+use crate::layout::{
+    record, row, CERTIFICATE_WORDS, RECORD_ENDORSERS, ROW_BLOCK, ROW_HELD, STATE_BLOCKS, TRANSACTIONS,
+};
+use crate::lent::{self, Place};
+use crate::*;
+use alloc::string::ToString;
+use alloc::vec;
+use alloc::vec::Vec;
+use core::fmt;
+
+fn entry(number: u32) -> Transaction {
+    Transaction::Entry { number }
+}
+
+/// Member 0 alone: the sheet of the scope document's example.
+fn alone() -> Engine {
+    let mut sheet = Sheet { ceiling: Some(64), ..Sheet::default() };
+    sheet.weights[..4].copy_from_slice(&[Some(1), Some(0), Some(0), Some(0)]);
+    Engine::open(0, &sheet).unwrap()
+}
+
+fn of_four(own: u32) -> Engine {
+    Engine::open(own, &Sheet { ceiling: Some(8), ..Sheet::default() }).unwrap()
+}
+
+/// Calls that must be refused with a number and change nothing.
+fn refuses<T: fmt::Debug + PartialEq>(
+    engine: &mut Engine, number: u32, call: impl Fn(&mut Engine) -> Result<T, Refusal>,
+) {
+    let before = engine.clone();
+    assert_eq!(call(engine).unwrap_err().number(), number);
+    assert!(*engine == before, "a refused call changed a word");
+}
+
+#[test]
+fn the_scope_documents_example() {
+    let mut engine = alone();
+    engine.propose(0, &[entry(7)]).unwrap();
+    engine.certify(0).unwrap();
+    engine.advance().unwrap();
+    engine.propose(1, &[]).unwrap();
+    engine.certify(0).unwrap();
+    engine.advance().unwrap();
+    engine.propose(1, &[entry(9)]).unwrap();
+    engine.certify(0).unwrap();
+    assert_eq!(engine.commit(), Ok(1));
+    assert_eq!(engine.chain(), Ok(vec![Block { round: 2, certificates: vec![(1, 0), (2, 0)] }]));
+    assert_eq!(engine.certificate(0, 1).unwrap().proposal.transactions, [entry(7)]);
+    assert_eq!(engine.certificate(0, 3).unwrap().block, None);
+    refuses(&mut engine, 20, Engine::commit);
+}
+
+/// A certificate that the other three of four endorse.
+fn of_all_four(author: u32, round: u32, previous: Set, transactions: &[Transaction]) -> Certificate {
+    let proposal = Proposal { author, round, previous, transactions: transactions.to_vec() };
+    Certificate { proposal, endorsers: 0b1111 & !(1 << author) }
+}
+
+#[test]
+fn a_full_round_reads_2_3_0_1() {
+    let mut engine = of_four(0);
+    for round in 1..=5 {
+        for author in [3, 0, 2, 1] {
+            let previous = if round == 1 { 0 } else { 0b1111 };
+            engine.accept(&of_all_four(author, round, previous, &[])).unwrap();
+        }
+        if round < 5 {
+            engine.advance().unwrap();
+        }
+    }
+    assert_eq!(engine.commit(), Ok(2));
+    let rounds = |numbers: &[(u32, &[u32])]| -> Vec<(u32, u32)> {
+        numbers.iter().flat_map(|&(round, all)| all.iter().map(move |&author| (round, author))).collect()
+    };
+    let first = Block { round: 2, certificates: rounds(&[(1, &[1, 2, 3, 0]), (2, &[1])]) };
+    let second = Block { round: 4, certificates: rounds(&[(2, &[2, 3, 0]), (3, &[2, 3, 0, 1]), (4, &[2])]) };
+    assert_eq!(engine.chain(), Ok(vec![first, second]));
+}
+
+#[test]
+fn leaders_by_the_committee_read() {
+    let weights = ones(&[0, 1, 14, 15]);
+    let leaders: Vec<_> = [2, 4, 6, 8].map(|round| leader(round, &weights)).into();
+    assert_eq!(leaders, [Some(1), Some(14), Some(15), Some(0)]);
+    assert_eq!(leader(2, &ones(&[])), None);
+}
+
+fn ones(members: &[usize]) -> [u32; MEMBERS] {
+    let mut weights = [0; MEMBERS];
+    members.iter().for_each(|&member| weights[member] = 1);
+    weights
+}
+
+/// What is no state of a run, and well formed: records written into the table by hand.
+fn write_record(engine: &mut Engine, author: u32, round: u32, block: u32, transaction: [u32; 3]) {
+    engine.table[row(round) + ROW_HELD] |= 1 << author;
+    let record = &mut engine.table[record(author, round)..][..16];
+    record.fill(0);
+    record[..4].copy_from_slice(&[(round > 1).into(), 1, block, 0]);
+    record[4..7].copy_from_slice(&transaction);
+}
+
+#[test]
+fn where_a_round_has_no_leader_numbers_just_rise() {
+    let mut sheet = Sheet { lookback: Some(1), ceiling: Some(8), ..Sheet::default() };
+    sheet.weights[..4].copy_from_slice(&[Some(0), Some(0), Some(1), Some(0)]);
+    let mut engine = Engine::open(0, &sheet).unwrap();
+    let (entry, unbond_2, bond_3) = ([2, 7, 0], [1, 2, 0], [0, 3, 1]);
+    for author in 0..4 {
+        write_record(&mut engine, author, 1, 1, if author == 1 { unbond_2 } else { entry });
+        write_record(&mut engine, author, 3, 2, if author == 0 { bond_3 } else { entry });
+        write_record(&mut engine, author, 5, 3, entry);
+    }
+    engine.state[STATE_BLOCKS] = 3;
+    (1..=3).for_each(|number| engine.table[row(number) + ROW_BLOCK] = 2 * number);
+    assert_eq!(engine.committee(4), Ok([0; MEMBERS]));
+    assert_eq!(engine.committee(6), Ok(ones(&[3])));
+    // Leaders 2, none and 3; no block has an anchor.
+    let orders = [[2, 3, 0, 1], [0, 1, 2, 3], [3, 0, 1, 2]];
+    let blocks = orders.iter().zip([1, 3, 5]).map(|(order, round)| Block {
+        round: round + 1,
+        certificates: order.iter().map(|&author| (round, author)).collect(),
+    });
+    assert_eq!(engine.chain(), Ok(blocks.collect()));
+}
+
+/// Member 4 is bonded by 0 and unbonded by 1 in the same round; or the other way.
+#[test]
+fn order_decides_committees() {
+    let weight_of_4 = |of_0, of_1| {
+        let mut engine = Engine::open(0, &Sheet { lookback: Some(1), ceiling: Some(8), ..Sheet::default() }).unwrap();
+        engine.accept(&of_all_four(0, 1, 0, &[of_0])).unwrap();
+        engine.accept(&of_all_four(1, 1, 0, &[of_1])).unwrap();
+        engine.accept(&of_all_four(1, 2, 0b0011, &[])).unwrap();
+        engine.accept(&of_all_four(0, 3, 0b0010, &[])).unwrap();
+        engine.accept(&of_all_four(2, 3, 0b0010, &[])).unwrap();
+        engine.advance().unwrap();
+        engine.advance().unwrap();
+        assert_eq!(engine.commit(), Ok(1));
+        assert_eq!(engine.chain().unwrap()[0].certificates, [(1, 1), (1, 0), (2, 1)]);
+        engine.committee(4).unwrap()[4]
+    };
+    let (bond, unbond) = (Transaction::Bond { member: 4, amount: 5 }, Transaction::Unbond { member: 4 });
+    assert_eq!(weight_of_4(bond, unbond), 5);
+    assert_eq!(weight_of_4(unbond, bond), 0);
+}
+
+#[test]
+fn numbers_and_refusals_go_both_ways() {
+    for number in 1..=23 {
+        assert_eq!(Refusal::of(number).unwrap().number(), number);
+    }
+    assert_eq!((Refusal::of(0), Refusal::of(24)), (None, None));
+    assert_eq!(Refusal::NoWeight.to_string(), "refused with 3: no positive weight");
+}
+
+#[test]
+fn open_refuses_in_its_order() {
+    let open = |own, sheet: &Sheet| Engine::open(own, sheet).unwrap_err().number();
+    let none = Sheet { weights: [Some(0); MEMBERS], ..Sheet::default() };
+    let wide = Sheet { ceiling: Some(1_025), ..none };
+    assert_eq!(open(16, &wide), 4);
+    assert_eq!(open(15, &wide), 2);
+    assert_eq!(open(15, &none), 3);
+    let short = vec![0; table_words(8) as usize - 1];
+    let sheet = Sheet { ceiling: Some(8), ..Sheet::default() };
+    assert_eq!(Engine::open_on(short, 0, &sheet), Err(Refusal::Malformed));
+}
+
+#[test]
+fn what_lies_beyond_the_table_stays() {
+    let used = table_words(3) as usize;
+    let sheet = Sheet { ceiling: Some(3), ..Sheet::default() };
+    let mut engine = Engine::open_on(vec![77; used + 5], 0, &sheet).unwrap();
+    engine.propose(0, &[]).unwrap();
+    engine.certify(0b1110).unwrap();
+    assert_eq!(engine.table[used..], [77; 5]);
+}
+
+#[test]
+fn a_proposal_comes_back_as_it_was_made() {
+    let all = [Transaction::Bond { member: 3, amount: 1_000 }, Transaction::Unbond { member: 15 },
+               entry(u32::MAX), entry(0)];
+    for count in 0..=4 {
+        let mut author = of_four(2);
+        author.propose(0, &all[..count]).unwrap();
+        let proposal = author.proposal().unwrap();
+        assert_eq!(proposal, Proposal { author: 2, round: 1, previous: 0, transactions: all[..count].to_vec() });
+        let mut other = of_four(1);
+        other.endorse(&proposal).unwrap();
+        other.accept(&Certificate { proposal: proposal.clone(), endorsers: 0b1011 }).unwrap();
+        assert_eq!(other.certificate(2, 1), Ok(Held { proposal, endorsers: 0b1011, block: None }));
+    }
+}
+
+/// Member 0 of four, its certificate of round 1 endorsed by 1 and 2; and that certificate.
+fn endorsed_by_two() -> (Engine, Certificate) {
+    let mut engine = of_four(0);
+    engine.propose(0, &[entry(5)]).unwrap();
+    engine.certify(0b0110).unwrap();
+    let proposal = engine.proposal().unwrap();
+    (engine, Certificate { proposal, endorsers: 0b0110 })
+}
+
+#[test]
+fn endorsers_stay_those_first_stored() {
+    let (author, certificate) = endorsed_by_two();
+    assert_eq!(author.certificate(0, 1).unwrap().endorsers, 0b0110);
+    assert_eq!(author.certificate(0, 1).unwrap().certificate(), certificate);
+
+    // Another member has it with other endorsers: the same certificate.
+    let copy = |endorsers| Certificate { endorsers, ..certificate.clone() };
+    let mut other = of_four(1);
+    other.accept(&copy(0b1100)).unwrap();
+    assert_eq!(other.certificate(0, 1).unwrap().endorsers, 0b1100);
+    for mut engine in [author, other] {
+        // A quorum, too few, none, outsiders.
+        for endorsers in [0b1110, 0b0110, 0b1100, 0b0010, 0, 0xfffe, 0x8000] {
+            refuses(&mut engine, 16, |e| e.accept(&copy(endorsers)));
+        }
+        // With its author.
+        for endorsers in [0b0001, 0b0111, 0xffff] {
+            refuses(&mut engine, 14, |e| e.accept(&copy(endorsers)));
+        }
+        let mut another = copy(0b0110);
+        another.proposal.transactions.clear();
+        refuses(&mut engine, 17, |e| e.accept(&another));
+    }
+}
+
+#[test]
+fn a_held_certificate_is_passed_on_as_it_is() {
+    let (author, certificate) = endorsed_by_two();
+    let held = lent::certificate(&author.state, &author.table, 0, 1).unwrap();
+    assert_eq!(held[..CERTIFICATE_WORDS], certificate.to_words());
+    assert_eq!(held[CERTIFICATE_WORDS..], [0]);
+    let mut other = of_four(3);
+    lent::accept(&other.state, &mut other.table, &held).unwrap();
+    assert_eq!(other.certificate(0, 1), author.certificate(0, 1));
+}
+
+/// Word 3 of the record of an author in round 1.
+fn endorsers_of(engine: &mut Engine, author: u32) -> &mut u32 {
+    &mut engine.table[record(author, 1) + RECORD_ENDORSERS]
+}
+
+#[test]
+fn no_author_is_among_its_own_endorsers() {
+    let (engine, certificate) = endorsed_by_two();
+    for word in [1, 0xffff, 0x1_0000, 0x1_0006, u32::MAX] {
+        let mut damaged = engine.clone();
+        *endorsers_of(&mut damaged, 0) = word;
+        refuses(&mut damaged, 1, |e| e.certificate(0, 1));
+        refuses(&mut damaged, 1, |e| e.accept(&certificate));
+        refuses(&mut damaged, 1, Engine::advance);
+        refuses(&mut damaged, 1, |e| e.block(1));
+    }
+    // Outsiders, too few, none: well formed.
+    for word in [0xfffe, 0x8000, 2, 0] {
+        let mut changed = engine.clone();
+        *endorsers_of(&mut changed, 0) = word;
+        assert_eq!(u32::from(changed.certificate(0, 1).unwrap().endorsers), word);
+        refuses(&mut changed, 16, |e| e.accept(&certificate));
+        changed.advance().unwrap();
+    }
+    // Of a place that is not held the word is not looked at, and a put writes over it.
+    let mut free = engine.clone();
+    *endorsers_of(&mut free, 1) = u32::MAX;
+    let proposal = Proposal { author: 1, round: 1, previous: 0, transactions: Vec::new() };
+    free.accept(&Certificate { proposal, endorsers: 0b1001 }).unwrap();
+    assert_eq!(*endorsers_of(&mut free, 1), 0b1001);
+}
+
+/// A table of before endorsers were kept has 0 in their word.
+#[test]
+fn certificates_stored_before_show_no_endorsers() {
+    let (mut old, certificate) = endorsed_by_two();
+    *endorsers_of(&mut old, 0) = 0;
+    let held = old.certificate(0, 1).unwrap();
+    assert_eq!((held.endorsers, &held.proposal), (0, &certificate.proposal));
+    refuses(&mut of_four(1), 13, |e| e.accept(&held.clone().certificate()));
+    refuses(&mut old, 16, |e| e.accept(&certificate));
+    // Where the author alone is a quorum, none are needed.
+    let mut author = alone();
+    author.propose(0, &[]).unwrap();
+    author.certify(0).unwrap();
+    alone().accept(&author.certificate(0, 1).unwrap().certificate()).unwrap();
+}
+
+#[test]
+fn refused_calls_change_nothing() {
+    let mut engine = of_four(0);
+    let proposal = |author, round, previous, count| Proposal {
+        author, round, previous, transactions: vec![entry(1); count],
+    };
+    refuses(&mut engine, 4, |e| e.endorse(&proposal(16, 1, 0, 0)));
+    refuses(&mut engine, 5, |e| e.endorse(&proposal(1, 9, 1, 0)));
+    refuses(&mut engine, 6, |e| e.endorse(&proposal(1, 1, 0, 5)));
+    refuses(&mut engine, 7, |e| e.endorse(&proposal(1, 1, 1, 0)));
+    refuses(&mut engine, 14, |e| e.endorse(&proposal(0, 1, 0, 0)));
+    refuses(&mut engine, 11, |e| e.endorse(&proposal(1, 2, 7, 0)));
+    refuses(&mut engine, 15, |e| e.certify(0b1110));
+    refuses(&mut engine, 19, Engine::commit);
+    refuses(&mut engine, 13, |e| e.accept(&Certificate { proposal: proposal(1, 1, 0, 0), endorsers: 1 }));
+    engine.propose(0, &[]).unwrap();
+    refuses(&mut engine, 10, |e| e.propose(0, &[]));
+    refuses(&mut engine, 9, |e| e.certify(1 << 15));
+    refuses(&mut engine, 23, |e| e.certificate(0, 1));
+    refuses(&mut engine, 23, |e| e.block(0));
+}
+
+#[test]
+fn reads_of_a_fresh_state() {
+    let engine = of_four(0);
+    let mut four = [0; MEMBERS];
+    four[..4].fill(1);
+    assert_eq!(engine.committee(8), Ok(four));
+    assert_eq!(engine.committee(9), Err(Refusal::RoundRange));
+    assert_eq!(engine.share(3, 1), Ok(250));
+    assert_eq!(engine.share(4, 1), Err(Refusal::Outside));
+    assert_eq!(engine.share(16, 1), Err(Refusal::MemberRange));
+    assert_eq!((engine.own(), engine.round(), engine.blocks()), (0, 1, 0));
+    assert_eq!(engine.chain(), Ok(Vec::new()));
+}
+
+#[test]
+fn a_half_goes_to_the_even_thousandth() {
+    let shares = |weights: &[u32]| -> Vec<u32> {
+        let mut sheet = Sheet { ceiling: Some(8), weights: [Some(0); MEMBERS], ..Sheet::default() };
+        for (setting, weight) in sheet.weights.iter_mut().zip(weights) {
+            *setting = Some(*weight);
+        }
+        let engine = Engine::open(0, &sheet).unwrap();
+        (0..weights.len() as u32).map(|member| engine.share(member, 1).unwrap()).collect()
+    };
+    assert_eq!(shares(&[1; 16]), [62; 16]);
+    assert_eq!(shares(&[1_000_000; 16]), [62; 16]);
+    assert_eq!(shares(&[1, 3, 5, 7]), [62, 188, 312, 438]);
+    assert_eq!(shares(&[1, 3, 5, 1_991]), [0, 2, 2, 996]);
+    assert_eq!(shares(&[1, 2]), [333, 667]);
+    assert_eq!(shares(&[7]), [1_000]);
+}
+
+#[test]
+fn a_stored_engine_goes_on() {
+    let mut engine = of_four(0);
+    engine.propose(0, &[entry(5)]).unwrap();
+    let stored = (*engine.words().0, engine.words().1.to_vec());
+    let mut again = Engine::restore(stored.0, stored.1.clone());
+    assert!(again == engine);
+    again.certify(0b1110).unwrap();
+
+    let mut damaged = Engine::restore([u32::MAX; STATE_WORDS], stored.1);
+    refuses(&mut damaged, 1, |e| e.certify(0b1110));
+    refuses(&mut damaged, 1, Engine::advance);
+    refuses(&mut damaged, 1, |e| e.committee(1));
+    refuses(&mut damaged, 1, |e| e.chain());
+}
+
+/// Every read refuses it, the chain too, whatever its number of blocks.
+#[test]
+fn a_malformed_state_is_refused_everywhere() {
+    let mut short = of_four(0).words().1.to_vec();
+    short.pop();
+    for (state, table) in [
+        ([0; STATE_WORDS], Vec::new()),
+        ([u32::MAX; STATE_WORDS], Vec::new()),
+        (of_four(0).state, Vec::new()),
+        (of_four(0).state, short),
+    ] {
+        assert_eq!(Engine::try_restore(state, table.clone()), Err(Refusal::Malformed));
+        let mut engine = Engine::restore(state, table);
+        assert!(!engine.is_well_formed());
+        refuses(&mut engine, 1, |e| e.chain());
+        refuses(&mut engine, 1, |e| e.block(1));
+        refuses(&mut engine, 1, |e| e.committee(1));
+        refuses(&mut engine, 1, Engine::commit);
+        assert_eq!(lent::chain(&engine.state, &engine.table, &mut []), Err(Refusal::Malformed));
+    }
+    let engine = of_four(0);
+    assert_eq!(Engine::try_restore(engine.state, engine.table.clone()), Ok(engine));
+}
+
+#[test]
+fn a_list_for_the_chain_may_be_longer_and_not_shorter() {
+    let mut engine = alone();
+    engine.propose(0, &[]).unwrap();
+    engine.certify(0).unwrap();
+    for _ in 2..=3 {
+        engine.advance().unwrap();
+        engine.propose(1, &[]).unwrap();
+        engine.certify(0).unwrap();
+    }
+    engine.commit().unwrap();
+    let blank = Place { block: 9, round: 9, author: 9 };
+    let (mut exact, mut short, mut long) = ([blank; 2], [blank; 1], [blank; 3]);
+    assert_eq!(lent::chain(&engine.state, &engine.table, &mut short), Err(Refusal::Malformed));
+    assert_eq!(short, [blank]);
+    assert_eq!(lent::chain(&engine.state, &engine.table, &mut exact), Ok(2));
+    assert_eq!(exact, [1, 2].map(|round| Place { block: 1, round, author: 0 }));
+    assert_eq!(lent::chain(&engine.state, &engine.table, &mut long), Ok(2));
+    assert_eq!((&long[..2], long[2]), (&exact[..], blank));
+}
+
+#[test]
+fn words_of_proposals_and_certificates_go_both_ways() {
+    let transactions = vec![Transaction::Bond { member: 3, amount: 1_000 }, Transaction::Unbond { member: 15 },
+                            entry(u32::MAX), entry(0)];
+    for count in 0..=TRANSACTIONS {
+        let proposal = Proposal { author: 2, round: 7, previous: 0xf00f, transactions: transactions[..count].to_vec() };
+        let certificate = Certificate { proposal: proposal.clone(), endorsers: 0x8001 };
+        assert_eq!(Proposal::from_words(&proposal.to_words()), Ok(proposal.clone()));
+        assert_eq!(Certificate::from_words(&certificate.to_words()), Ok(certificate.clone()));
+        assert_eq!(Proposal::from_words(&certificate.to_words()), Ok(proposal));
+        let words = certificate.to_words();
+        assert_eq!(Certificate::from_words(&words[..16]), Err(Refusal::Malformed));
+        assert_eq!(Proposal::from_words(&words[..15]), Err(Refusal::Malformed));
+    }
+}
+
+/// Words that endorse and accept cannot read are not read here either.
+#[test]
+fn words_that_cannot_be_read() {
+    let certificate = of_all_four(1, 1, 0, &[Transaction::Unbond { member: 2 }, entry(5)]).to_words();
+    let spoilt = |at: usize, word: u32| {
+        let mut words = certificate;
+        words[at] = word;
+        words
+    };
+    for (at, word) in [(2, 65_536), (4, 3), (6, 1), (7, 3), (9, 1), (16, 65_536)] {
+        let words = spoilt(at, word);
+        assert_eq!(Certificate::from_words(&words), Err(Refusal::Malformed), "word {at}");
+        let mut engine = of_four(0);
+        assert_eq!(lent::accept(&engine.state, &mut engine.table, &words), Err(Refusal::Malformed));
+    }
+    // Beyond the transactions nothing is looked at; more than four are over every allowance.
+    assert!(Certificate::from_words(&spoilt(10, 9)).is_ok());
+    let mut engine = of_four(0);
+    assert_eq!(lent::accept(&engine.state, &mut engine.table, &spoilt(3, 5)), Err(Refusal::TransactionsRange));
+    assert_eq!(Certificate::from_words(&spoilt(3, 5)), Err(Refusal::TransactionsRange));
+    assert_eq!(Proposal::from_words(&spoilt(3, u32::MAX)), Err(Refusal::TransactionsRange));
+}
+
+/// Lengths here and in the engine: a table one word shorter is refused.
+#[test]
+fn a_table_of_every_ceiling() {
+    for ceiling in 3..=CEILING {
+        let sheet = Sheet { ceiling: Some(ceiling), ..Sheet::default() };
+        let words = table_words(ceiling) as usize;
+        assert!(Engine::open_on(vec![0; words], 0, &sheet).is_ok());
+        assert_eq!(Engine::open_on(vec![0; words - 1], 0, &sheet), Err(Refusal::Malformed));
+    }
+}
+
+#[test]
+fn engines_may_be_called_at_once() {
+    let run = || {
+        let mut engine = alone();
+        engine.propose(0, &[]).unwrap();
+        engine.certify(0).unwrap();
+        for _ in 1..64 {
+            engine.advance().unwrap();
+            engine.propose(1, &[]).unwrap();
+            engine.certify(0).unwrap();
+            if engine.round() % 2 == 1 {
+                engine.commit().unwrap();
+            }
+        }
+        engine.blocks()
+    };
+    let threads: Vec<_> = (0..4).map(|_| std::thread::spawn(run)).collect();
+    for thread in threads {
+        assert_eq!(thread.join().unwrap(), 31);
+    }
+}

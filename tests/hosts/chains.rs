@@ -1,0 +1,298 @@
+//! The chain as header and package list it: `chains SEED STATES`.
+//!
+//! States are grown by runs, with words changed here and there and with chains made up on what they
+//! hold. Each is listed by `Engine::chain`, by `lent::chain` and by `forgelilac_chain` of the header,
+//! and must be as the reference has it; and by reads alone, one for each place and each block, which
+//! is how chains were listed before. A state that is not well formed must be refused with 1 by all.
+//! Then a full state of ceiling 1,024, with times.
+
+#![allow(dead_code)]
+
+mod calls;
+mod grow;
+mod nodes;
+#[path = "../../reference/reference.rs"]
+mod reference;
+mod words;
+
+use calls::Rng;
+use forgelilac::lent::{self, Place};
+use forgelilac::{layout, leader, Block, Certificate, Engine, Proposal, Refusal, Sheet, Transaction, MEMBERS};
+use grow::*;
+use nodes::Node;
+use std::ffi::{c_char, CStr};
+use std::time::Instant;
+use words::STATE_WORDS;
+
+mod header {
+    use super::c_char;
+    extern "C" {
+        pub fn header_chain(s: *const u32, sn: usize, t: *const u32, tn: usize, out: *mut u32, n: usize) -> u64;
+        pub fn header_is_well_formed(s: *const u32, sn: usize, t: *const u32, tn: usize) -> i32;
+        pub fn header_leader(round: u32, weights: *const u32) -> u32;
+        pub fn header_refusal_text(number: u32) -> *const c_char;
+        pub fn header_version() -> *const c_char;
+        pub fn header_number(which: u32) -> u32;
+    }
+}
+
+/// Lengths and offsets of the package, in the order of header.c.
+#[rustfmt::skip]
+const NUMBERS: [usize; 35] = [
+    layout::FORMAT as usize, MEMBERS, layout::TRANSACTIONS, layout::BLOCKS, layout::STACK_BYTES,
+    layout::STATE_WORDS, layout::BODY_WORDS, layout::PROPOSAL_WORDS, layout::CERTIFICATE_WORDS,
+    layout::HELD_WORDS, layout::SHEET_WORDS, layout::STATE_OWN, layout::STATE_LOOKBACK,
+    layout::STATE_CEILING, layout::STATE_ALLOWANCE, layout::STATE_WEIGHTS, layout::STATE_ROUND,
+    layout::STATE_PROPOSED, layout::STATE_BLOCKS, layout::STATE_BODY, layout::ROW_WORDS,
+    layout::ROW_HELD, layout::ROW_ENDORSED, layout::ROW_BLOCK, layout::ROW_RECORDS,
+    layout::RECORD_WORDS, layout::RECORD_PREVIOUS, layout::RECORD_COUNT, layout::RECORD_BLOCK,
+    layout::RECORD_ENDORSERS, layout::RECORD_TRANSACTIONS, layout::row(7),
+    layout::record(5, 7), forgelilac::table_words(64) as usize, 3 * MEMBERS * 64,
+];
+
+fn text(of: *const c_char) -> &'static str {
+    // SAFETY: a literal of the header.
+    unsafe { CStr::from_ptr(of) }.to_str().expect("plain text")
+}
+
+/// Header and package say the same: version, lengths, offsets, refusals.
+fn compare_header() {
+    // SAFETY: numbers in, numbers and literals out.
+    unsafe {
+        assert_eq!(text(header::header_version()), env!("VERSION"));
+        for (which, number) in (0..).zip(NUMBERS) {
+            assert_eq!(header::header_number(which) as usize, number, "number {which}");
+        }
+        assert_eq!(header::header_number(NUMBERS.len() as u32), u32::MAX);
+        for number in 1..=23 {
+            assert_eq!(text(header::header_refusal_text(number)), Refusal::of(number).unwrap().meaning());
+        }
+        assert_eq!(text(header::header_refusal_text(0)), "accepted");
+        assert_eq!(text(header::header_refusal_text(24)), "record unreadable");
+        for number in [25, u32::MAX] {
+            assert_eq!(text(header::header_refusal_text(number)), "no refusal of this version");
+        }
+    }
+}
+
+// -------------------------------------------------------------- listing ---
+
+/// The chain by reads alone: one for each place up to the last block's round, one for each block, one
+/// committee for each block.
+fn by_reads(engine: &Engine) -> Result<Vec<Block>, Refusal> {
+    let rounds = (1..=engine.blocks()).map(|number| engine.block(number));
+    let empty = |round| Block { round, certificates: Vec::new() };
+    let mut chain = rounds.map(|round| round.map(empty)).collect::<Result<Vec<_>, _>>()?;
+    let last = chain.last().map_or(0, |block| block.round);
+    for (round, author) in (1..=last).flat_map(|r| (0..MEMBERS as u32).map(move |a| (r, a))) {
+        match engine.certificate(author, round) {
+            Ok(held) => {
+                if let Some(number) = held.block {
+                    chain[number as usize - 1].certificates.push((round, author));
+                }
+            }
+            Err(Refusal::NoneThere) => {}
+            Err(refusal) => return Err(refusal),
+        }
+    }
+    for block in &mut chain {
+        let weights = engine.committee(block.round)?;
+        let start = leader(block.round, &weights);
+        // SAFETY: sixteen weights.
+        let found = unsafe { header::header_leader(block.round, weights.as_ptr()) };
+        assert_eq!(found, start.unwrap_or(MEMBERS as u32));
+        let (first, members) = (start.unwrap_or(0), MEMBERS as u32);
+        block.certificates.sort_by_key(|&(round, author)| (round, (author + members - first) % members));
+    }
+    Ok(chain)
+}
+
+fn flat(chain: &[Block]) -> Vec<Place> {
+    let of = |(block, one): (u32, &Block)| {
+        let places = one.certificates.iter().map(move |&(round, author)| Place { block, round, author });
+        places.collect::<Vec<_>>()
+    };
+    (1..).zip(chain).flat_map(of).collect()
+}
+
+/// By the header, into a list of some words that were 77.
+fn by_header(state: &[u32], table: &[u32], words: usize) -> Result<(usize, Vec<u32>), u32> {
+    let mut out = vec![77; words];
+    // SAFETY: whole slices.
+    let answer = unsafe {
+        header::header_chain(state.as_ptr(), state.len(), table.as_ptr(), table.len(), out.as_mut_ptr(), out.len())
+    };
+    match (answer >> 32) as u32 {
+        0 => Ok((answer as u32 as usize, out)),
+        number => {
+            assert!(out.iter().all(|&word| word == 77) && answer as u32 == 0);
+            Err(number)
+        }
+    }
+}
+
+#[derive(Default)]
+struct Figures {
+    states: u64,
+    malformed: u64,
+    without_blocks: u64,
+    large: u64,
+    blocks: u64,
+    most: usize,
+    certificates: u64,
+    turned: u64,
+    by_reads: u64,
+    above: u64,
+}
+
+impl Figures {
+    fn compare(&mut self, node: &Node) {
+        let (state, table) = (&node.state[..], &node.table[..]);
+        let words: [u32; STATE_WORDS] = state[..STATE_WORDS].try_into().unwrap();
+        let engine = Engine::restore(words, table.to_vec());
+        self.states += 1;
+        self.large += u64::from(table.len() >= words::table_words(forgelilac::CEILING));
+        // SAFETY: whole slices.
+        let formed = unsafe { header::header_is_well_formed(state.as_ptr(), state.len(), table.as_ptr(), table.len()) };
+        assert_eq!((formed == 1, engine.is_well_formed()), (node.twin.is_some(), node.twin.is_some()));
+        let Some(twin) = &node.twin else {
+            self.malformed += 1;
+            self.without_blocks += u64::from(engine.blocks() == 0);
+            assert_eq!(engine.chain(), Err(Refusal::Malformed));
+            assert_eq!(lent::chain(state, table, &mut [Place::default(); 9]), Err(Refusal::Malformed));
+            assert_eq!(by_header(state, table, 9), Err(1));
+            assert_eq!(Engine::try_restore(words, table.to_vec()), Err(Refusal::Malformed));
+            return;
+        };
+        let expected: Vec<Block> =
+            twin.chain.iter().map(|b| Block { round: b.round, certificates: b.certificates.clone() }).collect();
+        assert_eq!(engine.chain().as_ref(), Ok(&expected));
+        self.compare_lent(state, table, &flat(&expected));
+        self.blocks += expected.len() as u64;
+        self.most = self.most.max(expected.len());
+        self.turned += expected.iter().filter(|block| !block.certificates.is_sorted()).count() as u64;
+        // By reads, certificates above the last block's round were not looked for.
+        let last = twin.last_block_round();
+        if expected.iter().any(|block| block.certificates.iter().any(|&(round, _)| round > last)) {
+            self.above += 1;
+        } else {
+            self.by_reads += 1;
+            assert_eq!(by_reads(&engine), Ok(expected));
+        }
+    }
+
+    /// The two that write to a list: one that is just long enough, longer, too short.
+    fn compare_lent(&mut self, state: &[u32], table: &[u32], expected: &[Place]) {
+        let (count, blank) = (expected.len(), Place { block: 77, round: 77, author: 77 });
+        self.certificates += count as u64;
+        for more in [0, 3] {
+            let mut list = vec![blank; count + more];
+            assert_eq!(lent::chain(state, table, &mut list), Ok(count));
+            assert!(list[..count] == *expected && list[count..].iter().all(|&place| place == blank));
+            let (found, out) = by_header(state, table, 3 * count + more).unwrap();
+            assert_eq!(found, count);
+            let places = out.chunks_exact(3).map(|w| Place { block: w[0], round: w[1], author: w[2] });
+            assert!(places.take(count).eq(expected.iter().copied()));
+            assert!(out[3 * count..].iter().all(|&word| word == 77));
+        }
+        if count > 0 {
+            let mut list = vec![blank; count - 1];
+            assert_eq!(lent::chain(state, table, &mut list), Err(Refusal::Malformed));
+            assert!(list.iter().all(|&place| place == blank));
+            assert_eq!(by_header(state, table, 3 * count - 1), Err(1));
+        }
+    }
+}
+
+// --------------------------------------------------------------- a full one ---
+
+/// A full state: sixteen members, every certificate of 1,024 rounds with four transactions, blocks
+/// made as they can be.
+fn full() -> Engine {
+    let mut engine = Engine::open(0, &Sheet { weights: [Some(5); MEMBERS], ..Sheet::default() }).unwrap();
+    for round in 1..=forgelilac::CEILING {
+        for author in 0..MEMBERS as u32 {
+            let member = (author + round) % 16;
+            let transactions = vec![
+                Transaction::Entry { number: round },
+                Transaction::Unbond { member },
+                Transaction::Bond { member, amount: 5 },
+                Transaction::Entry { number: author },
+            ];
+            let previous = if round == 1 { 0 } else { 0xffff };
+            let proposal = Proposal { author, round, previous, transactions };
+            engine.accept(&Certificate { proposal, endorsers: 0xffff & !(1 << author) }).unwrap();
+        }
+        if round > 1 && round % 2 == 1 {
+            engine.commit().unwrap();
+        }
+        if round < forgelilac::CEILING {
+            engine.advance().unwrap();
+        }
+    }
+    engine
+}
+
+/// The best of some turns, in microseconds.
+fn best(turns: u32, mut run: impl FnMut()) -> f64 {
+    let times = (0..turns).map(|_| {
+        let start = Instant::now();
+        run();
+        start.elapsed().as_secs_f64() * 1e6
+    });
+    times.fold(f64::MAX, f64::min)
+}
+
+fn time_full() {
+    let engine = full();
+    let (state, table) = engine.words();
+    let expected = engine.chain().unwrap();
+    assert_eq!(by_reads(&engine).as_ref(), Ok(&expected));
+    let count = flat(&expected).len();
+    let mut list = vec![Place::default(); count];
+    let validating = best(20, || assert_eq!(engine.block(0), Err(Refusal::NoneThere)));
+    let owned = best(20, || assert_eq!(engine.chain().unwrap().len(), expected.len()));
+    let lent = best(20, || assert_eq!(lent::chain(state, table, &mut list), Ok(count)));
+    let header = best(20, || assert_eq!(by_header(state, table, 3 * count).unwrap().0, count));
+    let reads = best(3, || assert_eq!(by_reads(&engine).unwrap().len(), expected.len()));
+    println!("full state of ceiling 1,024: {} blocks of {count} certificates", expected.len());
+    println!("by reads alone {:.0} ms; one read that tests the state {validating:.0} us", reads / 1e3);
+    println!("Engine::chain {owned:.0} us, lent::chain {lent:.0} us, forgelilac_chain {header:.0} us");
+}
+
+fn main() {
+    let mut arguments = std::env::args().skip(1);
+    let seed = arguments.next().map_or(1, |a| a.parse().expect("SEED is a number"));
+    let states = arguments.next().map_or(2_000, |a| a.parse().expect("STATES is a number"));
+    compare_header();
+    let (mut rng, mut figures) = (Rng::of(seed), Figures::default());
+    while figures.states < states {
+        // One plan of fifty has a ceiling of 1,024.
+        let mut plan = Plan::any(&mut rng);
+        while figures.states % 200 == 0 && plan.ceiling < forgelilac::CEILING {
+            plan = Plan::any(&mut rng);
+        }
+        let opened = reference::Member::open(plan.owns.first().copied().unwrap_or(0), &plan.sheet, plan.ceiling);
+        let to = rng.between(1, plan.ceiling);
+        let member = grow(&mut rng, opened.expect("a plan's sheet is fine"), to, &plan);
+        let node = Node::of(member.clone(), &mut rng);
+        figures.compare(&node);
+        for turn in 0..3 {
+            let mut copy = node.clone();
+            if turn == 0 {
+                make_up_chain(&mut rng, &member, &mut copy.state, &mut copy.table);
+            } else {
+                change_word(&mut rng, &member, &mut copy.state, &mut copy.table);
+            }
+            copy.read_again();
+            figures.compare(&copy);
+        }
+    }
+    let f = figures;
+    println!("{} states, {} of ceiling 1,024; {} not well formed, {} of them without a block: refused with 1",
+             f.states, f.large, f.malformed, f.without_blocks);
+    println!("{} blocks of {} certificates, at most {} in a state, {} of them not by round, then author: as the reference has them",
+             f.blocks, f.certificates, f.most, f.turned);
+    println!("{} states listed by reads alone too: the same; {} have a mark above the last block's round", f.by_reads, f.above);
+    time_full();
+}

@@ -1,0 +1,41 @@
+/* Functions of the header that have no symbol, for the tests in Rust. */
+#include "forgelilac.h"
+
+uint64_t header_chain(const uint32_t *state, size_t state_words, const uint32_t *table, size_t table_words,
+                      uint32_t *out, size_t out_words);
+int header_is_well_formed(const uint32_t *state, size_t state_words, const uint32_t *table, size_t table_words);
+uint32_t header_leader(uint32_t round, const uint32_t *weights);
+const char *header_refusal_text(uint32_t number);
+const char *header_version(void);
+uint32_t header_number(uint32_t which);
+
+uint64_t header_chain(const uint32_t *state, size_t state_words, const uint32_t *table, size_t table_words,
+                      uint32_t *out, size_t out_words) {
+    return forgelilac_chain(state, state_words, table, table_words, out, out_words);
+}
+
+int header_is_well_formed(const uint32_t *state, size_t state_words, const uint32_t *table, size_t table_words) {
+    return forgelilac_is_well_formed(state, state_words, table, table_words);
+}
+
+uint32_t header_leader(uint32_t round, const uint32_t *weights) { return forgelilac_leader(round, weights); }
+
+const char *header_refusal_text(uint32_t number) { return forgelilac_refusal_text(number); }
+
+const char *header_version(void) { return FORGELILAC_VERSION; }
+
+/* Lengths and offsets, in the order of NUMBERS in chains.rs. */
+uint32_t header_number(uint32_t which) {
+    static const uint32_t numbers[] = {
+        FORGELILAC_FORMAT, FORGELILAC_MEMBERS, FORGELILAC_TRANSACTIONS, FORGELILAC_BLOCKS, FORGELILAC_STACK_BYTES,
+        FORGELILAC_STATE_WORDS, FORGELILAC_BODY_WORDS, FORGELILAC_PROPOSAL_WORDS, FORGELILAC_CERTIFICATE_WORDS,
+        FORGELILAC_HELD_WORDS, FORGELILAC_SHEET_WORDS, FORGELILAC_STATE_OWN, FORGELILAC_STATE_LOOKBACK,
+        FORGELILAC_STATE_CEILING, FORGELILAC_STATE_ALLOWANCE, FORGELILAC_STATE_WEIGHTS, FORGELILAC_STATE_ROUND,
+        FORGELILAC_STATE_PROPOSED, FORGELILAC_STATE_BLOCKS, FORGELILAC_STATE_BODY, FORGELILAC_ROW_WORDS,
+        FORGELILAC_ROW_HELD, FORGELILAC_ROW_ENDORSED, FORGELILAC_ROW_BLOCK, FORGELILAC_ROW_RECORDS,
+        FORGELILAC_RECORD_WORDS, FORGELILAC_RECORD_PREVIOUS, FORGELILAC_RECORD_COUNT, FORGELILAC_RECORD_BLOCK,
+        FORGELILAC_RECORD_ENDORSERS, FORGELILAC_RECORD_TRANSACTIONS, (uint32_t)FORGELILAC_ROW(7u),
+        (uint32_t)FORGELILAC_RECORD(5u, 7u), FORGELILAC_TABLE_WORDS(64u), FORGELILAC_CHAIN_WORDS(64u),
+    };
+    return which < sizeof numbers / sizeof numbers[0] ? numbers[which] : UINT32_MAX;
+}

@@ -1,0 +1,183 @@
+//! `replay STREAM...`: plays streams of records to an engine through the bindings and to the
+//! reference rules at once. Every answer must be the same, and at each chain record and at the
+//! end of a stream every read, with arguments in and out of range; the chain that the bindings
+//! read must be the reference's listing, to the byte.
+
+#[path = "../../reference/runner_ref.rs"]
+mod runner_ref;
+
+use forgelilac::{table_words, Certificate, Engine, Held, Proposal, Refusal, Sheet, Transaction, MEMBERS, STATE_WORDS};
+use runner_ref::reference::{self, Setting};
+use runner_ref::{for_each_record, read_record, Outcome, Record, Runner, SERVES};
+use std::fmt::{Debug, Write};
+
+fn sheet(sheet: &reference::Sheet) -> Sheet {
+    let of = |setting| match setting {
+        Setting::Blank => None,
+        Setting::Written(number) => Some(number),
+    };
+    Sheet {
+        lookback: of(sheet.lookback),
+        ceiling: of(sheet.ceiling),
+        allowance: of(sheet.allowance),
+        weights: sheet.weights.map(of),
+    }
+}
+
+fn transaction(transaction: &reference::Transaction) -> Transaction {
+    match *transaction {
+        reference::Transaction::Bond { member, amount } => Transaction::Bond { member, amount },
+        reference::Transaction::Unbond { member } => Transaction::Unbond { member },
+        reference::Transaction::Entry { number } => Transaction::Entry { number },
+    }
+}
+
+fn proposal(proposal: &reference::Proposal) -> Proposal {
+    Proposal {
+        author: proposal.author,
+        round: proposal.round,
+        previous: proposal.previous,
+        transactions: proposal.transactions.iter().map(transaction).collect(),
+    }
+}
+
+/// The chain as a runner lists it, by reads of the bindings.
+fn listing(engine: &Engine) -> Result<String, Refusal> {
+    let mut lines = String::new();
+    for (number, block) in (1..).zip(engine.chain()?) {
+        for (round, author) in block.certificates {
+            write!(lines, "{number},{},{round},{author}", block.round).unwrap();
+            for transaction in engine.certificate(author, round)?.proposal.transactions {
+                match transaction {
+                    Transaction::Bond { member, amount } => write!(lines, ",B,{member},{amount}"),
+                    Transaction::Unbond { member } => write!(lines, ",U,{member},0"),
+                    Transaction::Entry { number } => write!(lines, ",E,{number},0"),
+                }
+                .unwrap();
+            }
+            lines.push_str("\r\n");
+        }
+    }
+    Ok(lines)
+}
+
+fn outcome(answer: Result<(), Refusal>) -> Outcome {
+    answer.map_or_else(|refusal| Outcome::Refused(refusal.number()), |()| Outcome::Accepted)
+}
+
+/// Both sides of a replay, and how much was compared.
+struct Replay {
+    engine: Engine,
+    runner: Runner,
+    records: u64,
+    reads: u64,
+    /// Blocks listed, and those that do not go by round, then author.
+    blocks: u64,
+    turned: u64,
+}
+
+impl Replay {
+    fn new() -> Replay {
+        let closed = Engine::restore([u32::MAX; STATE_WORDS], Vec::new());
+        Replay { engine: closed, runner: Runner::default(), records: 0, reads: 0, blocks: 0, turned: 0 }
+    }
+
+    fn open(&mut self, own: u32, settings: &reference::Sheet) -> Outcome {
+        let table = vec![0; table_words(SERVES) as usize];
+        outcome(Engine::open_on(table, own, &sheet(settings)).map(|engine| self.engine = engine))
+    }
+
+    /// The engine's answer to a readable record.
+    fn answer(&mut self, record: &Record) -> Outcome {
+        let engine = &mut self.engine;
+        match record {
+            Record::Open { own, sheet } => self.open(*own, sheet),
+            Record::Propose { previous, transactions } => {
+                let all: Vec<_> = transactions.iter().map(transaction).collect();
+                outcome(engine.propose(*previous, &all))
+            }
+            Record::Endorse(one) => outcome(engine.endorse(&proposal(one))),
+            Record::Certify { endorsers } => outcome(engine.certify(*endorsers)),
+            Record::Accept(one) => {
+                let certificate = Certificate { proposal: proposal(&one.proposal), endorsers: one.endorsers };
+                outcome(engine.accept(&certificate))
+            }
+            Record::Advance => outcome(engine.advance()),
+            Record::Commit => match engine.commit() {
+                Ok(count) => Outcome::Count(count),
+                Err(refusal) => Outcome::Refused(refusal.number()),
+            },
+            Record::Chain => outcome(engine.chain().map(|_| ())),
+        }
+    }
+
+    fn record(&mut self, record: &Record) {
+        let expected = self.runner.answer(Some(record), &mut Vec::new());
+        assert_eq!(self.answer(record), expected, "record {}", self.records);
+        self.records += 1;
+        if let Some(member) = &self.runner.member {
+            assert_eq!(self.engine.round(), member.round());
+            assert_eq!(self.engine.proposal(), member.proposal().map(proposal));
+        }
+        if matches!(record, Record::Chain) {
+            self.read_all();
+        }
+    }
+
+    fn same<T: Debug + PartialEq>(&mut self, found: Result<T, Refusal>, expected: reference::Answer<T>) {
+        assert_eq!(found.map_err(Refusal::number), expected, "read after record {}", self.records);
+        self.reads += 1;
+    }
+
+    fn read_all(&mut self) {
+        let Some(member) = self.runner.member.clone() else { return };
+        for round in 0..=member.settings().ceiling + 1 {
+            let weights = self.engine.committee(round).map(|weights| weights.map(u64::from));
+            self.same(weights, member.read_committee(round));
+            for author in 0..=MEMBERS as u32 {
+                let share = self.engine.share(author, round).map(u64::from);
+                self.same(share, member.read_share(author, round));
+                let held = member.read_certificate(author, round).map(|(one, endorsers, block)| Held {
+                    proposal: proposal(one),
+                    endorsers,
+                    block: Some(block).filter(|&number| number != 0),
+                });
+                self.same(self.engine.certificate(author, round), held);
+            }
+        }
+        for number in 0..=member.chain().len() as u32 + 1 {
+            self.same(self.engine.block(number), member.read_block(number));
+        }
+        let chain = self.engine.chain().map(|blocks| blocks.into_iter().map(|b| (b.round, b.certificates)).collect());
+        self.same(chain, Ok(member.chain().iter().map(|b| (b.round, b.certificates.clone())).collect::<Vec<_>>()));
+        let mut listed = Vec::new();
+        self.runner.answer(Some(&Record::Chain), &mut listed);
+        let listed = String::from_utf8(listed).expect("a listing is plain text");
+        self.same(listing(&self.engine).map(|lines| lines + "ok\r\n"), Ok(listed));
+        self.blocks += member.chain().len() as u64;
+        self.turned += member.chain().iter().filter(|block| !block.certificates.is_sorted()).count() as u64;
+    }
+}
+
+fn main() -> std::io::Result<()> {
+    let (mut streams, mut records, mut reads, mut blocks, mut turned) = (0, 0, 0, 0, 0);
+    for path in std::env::args().skip(1) {
+        let mut replay = Replay::new();
+        let mut input = std::io::BufReader::new(std::fs::File::open(path)?);
+        for_each_record(&mut input, |text| {
+            if let Some(record) = text.and_then(read_record) {
+                replay.record(&record);
+            }
+            Ok(())
+        })?;
+        replay.read_all();
+        streams += 1;
+        records += replay.records;
+        reads += replay.reads;
+        blocks += replay.blocks;
+        turned += replay.turned;
+    }
+    println!("{streams} streams, {records} records, {reads} reads: the same as the reference");
+    println!("{blocks} blocks listed, {turned} of them not by round, then author");
+    Ok(())
+}

@@ -1,0 +1,225 @@
+//! Which words accepted calls change, as docs/TABLES.md says: `touched SEED CALLS`.
+//!
+//! Calls by chance on opened and on grown states, on words that the engine wrote and on such with
+//! noise where nothing is looked at. Before and after each call all words are compared; a word that
+//! the page does not name must not have changed, and each word that it names must have, some time.
+
+#![allow(dead_code)]
+
+mod calls;
+mod grow;
+mod nodes;
+#[path = "../../reference/reference.rs"]
+mod reference;
+mod words;
+
+use calls::*;
+use forgelilac::{lent, Refusal, Set};
+use grow::*;
+use nodes::Node;
+use words::{table_words, ROW, STATE_WORDS};
+
+/// The engine's answer: the value of commit, 0 for others.
+fn make(call: &Call, node: &mut Node) -> Result<u32, Refusal> {
+    let (state, table) = (&mut node.state[..], &mut node.table[..]);
+    match call {
+        Call::Open { own, sheet } => lent::open(state, table, *own, sheet).map(|()| 0),
+        Call::Propose { body } => lent::propose(state, table, body).map(|()| 0),
+        Call::Endorse { proposal } => lent::endorse(state, table, proposal).map(|()| 0),
+        Call::Certify { endorsers } => {
+            let endorsers = Set::try_from(*endorsers).map_err(|_| Refusal::Malformed)?;
+            lent::certify(state, table, endorsers).map(|()| 0)
+        }
+        Call::Accept { certificate } => lent::accept(state, table, certificate).map(|()| 0),
+        Call::Advance => lent::advance(state, table).map(|()| 0),
+        Call::Commit => lent::commit(state, table),
+        Call::Committee { round, .. } => lent::committee(state, table, *round).map(|_| 0),
+        Call::Share { member, round } => lent::share(state, table, *member, *round),
+        Call::Certificate { author, round, .. } => lent::certificate(state, table, *author, *round).map(|_| 0),
+        Call::Block { number } => lent::block(state, table, *number),
+    }
+}
+
+/// The words of a row that page and test tell apart.
+#[derive(Clone, Copy, PartialEq, Eq, PartialOrd, Ord, Debug)]
+enum Word {
+    State(usize),
+    Held,
+    Endorsed,
+    BlockRound,
+    Record(usize),
+    Other,
+}
+
+/// Which word of the table this is, its row, and for a record its author.
+fn word_at(at: usize) -> (Word, u32, u32) {
+    let (row, within) = ((at / ROW) as u32, at % ROW);
+    match within {
+        0 => (Word::Held, row, 0),
+        1 => (Word::Endorsed, row, 0),
+        2 => (Word::BlockRound, row, 0),
+        3..=15 => (Word::Other, row, 0),
+        _ => (Word::Record(within % 16), row, (within / 16 - 1) as u32),
+    }
+}
+
+/// The words of the state that a call may change: all, or these and the body.
+fn named_in_state(call: &Call) -> &'static [usize] {
+    const BODY_AND: [usize; 16] = [20, 21, 23, 24, 25, 26, 27, 28, 29, 30, 31, 32, 33, 34, 35, 36];
+    match call {
+        Call::Propose { .. } => &BODY_AND[1..],
+        Call::Advance => &BODY_AND,
+        Call::Commit => &[22],
+        _ => &[],
+    }
+}
+
+/// Whether the page says that the call may change this word of the table, from these words before.
+fn named_in_table(call: &Call, before: &Node, after: &Node, at: usize) -> bool {
+    let (word, row, author) = word_at(at);
+    let in_record = |a: u32, r: u32| matches!(word, Word::Record(_)) && (author, row) == (a, r);
+    match call {
+        Call::Open { .. } => at < table_words(after.state[2]),
+        Call::Endorse { proposal } => word == Word::Endorsed && row == proposal[1],
+        Call::Certify { .. } => {
+            let (own, round) = (before.state[0], before.state[20]);
+            word == Word::Held && row == round || in_record(own, round)
+        }
+        Call::Accept { certificate } => {
+            let (author, round) = (certificate[0], certificate[1]);
+            matches!(word, Word::Held | Word::Endorsed) && row == round || in_record(author, round)
+        }
+        Call::Commit => {
+            let new = before.state[22] + 1..=after.state[22];
+            let held = before.table[ROW * row as usize] >> author & 1 == 1;
+            match word {
+                Word::BlockRound => new.contains(&row),
+                Word::Record(2) => held && before.table[at] == 0 && new.contains(&after.table[at]),
+                _ => false,
+            }
+        }
+        _ => false,
+    }
+}
+
+/// A word of the state that is no part of it: the body where there is no proposal, transactions beyond
+/// their number.
+fn is_unused(state: &[u32], at: usize) -> bool {
+    (23..STATE_WORDS).contains(&at) && (state[21] == 0 || at >= 25 + 3 * state[24] as usize)
+}
+
+#[derive(Default)]
+struct Figures {
+    calls: u64,
+    accepted: [u64; Call::NAMES.len()],
+    most: [(usize, usize); Call::NAMES.len()],
+    seen: [std::collections::BTreeSet<Word>; Call::NAMES.len()],
+    noisy: u64,
+}
+
+impl Figures {
+    fn call(&mut self, node: &mut Node, call: &Call) -> Result<u32, Refusal> {
+        let before = node.clone();
+        let answer = make(call, node);
+        self.calls += 1;
+        let in_state: Vec<usize> = (0..node.state.len()).filter(|&i| before.state[i] != node.state[i]).collect();
+        let in_table: Vec<usize> = (0..node.table.len()).filter(|&i| before.table[i] != node.table[i]).collect();
+        if answer.is_err() || call.is_read() {
+            assert!(in_state.is_empty() && in_table.is_empty(), "{call:?} changed a word");
+            return answer;
+        }
+        let kind = call.kind();
+        self.accepted[kind] += 1;
+        let mut noise = 0;
+        for &at in &in_state {
+            let named = matches!(call, Call::Open { .. }) && at < STATE_WORDS || named_in_state(call).contains(&at);
+            if !named {
+                let cleared = matches!(call, Call::Commit) && is_unused(&before.state, at) && node.state[at] == 0;
+                assert!(cleared, "{call:?} changed word {at} of the state");
+                noise += 1;
+            }
+            self.seen[kind].insert(Word::State(at));
+        }
+        for &at in &in_table {
+            assert!(named_in_table(call, &before, node, at), "{call:?} changed word {at} of the table");
+            self.seen[kind].insert(word_at(at).0);
+        }
+        self.noisy += u64::from(noise > 0);
+        let most = &mut self.most[kind];
+        *most = (most.0.max(in_state.len() - noise), most.1.max(in_table.len()));
+        answer
+    }
+
+    /// Every word that the page names has changed, some time.
+    fn all_seen(&self) {
+        let state = |words: &[usize]| words.iter().map(|&at| Word::State(at)).collect::<Vec<_>>();
+        let record = || (0..16).map(Word::Record);
+        let table: [Vec<Word>; 7] = [
+            [Word::Held, Word::Endorsed, Word::BlockRound].into_iter().chain(record()).collect(),
+            Vec::new(),
+            vec![Word::Endorsed],
+            [Word::Held].into_iter().chain(record()).collect(),
+            [Word::Held, Word::Endorsed].into_iter().chain(record()).collect(),
+            Vec::new(),
+            vec![Word::BlockRound, Word::Record(2)],
+        ];
+        let all: Vec<usize> = (0..STATE_WORDS).collect();
+        let body: Vec<usize> = (23..STATE_WORDS).collect();
+        let of_state: [Vec<usize>; 7] = [
+            all,
+            [&[21], &body[..]].concat(),
+            Vec::new(),
+            Vec::new(),
+            Vec::new(),
+            [&[20, 21], &body[..]].concat(),
+            vec![22],
+        ];
+        for kind in 0..7 {
+            for word in state(&of_state[kind]).into_iter().chain(table[kind].iter().copied()) {
+                assert!(self.seen[kind].contains(&word), "{} never changed {word:?}", Call::NAMES[kind]);
+            }
+        }
+    }
+
+    fn print(&self) {
+        for kind in 0..7 {
+            let (state, table) = self.most[kind];
+            println!("{}: {} accepted, at most {state} words of the state and {table} of the table changed",
+                     Call::NAMES[kind], self.accepted[kind]);
+        }
+        println!("{} commits also cleared noise in words that are no part of the state", self.noisy);
+        println!("{} calls: no other word changed", self.calls);
+    }
+}
+
+fn main() {
+    let mut arguments = std::env::args().skip(1);
+    let seed = arguments.next().map_or(1, |a| a.parse().expect("SEED is a number"));
+    let calls = arguments.next().map_or(100_000, |a| a.parse().expect("CALLS is a number"));
+    let (mut rng, mut figures) = (Rng::of(seed), Figures::default());
+    while figures.calls < calls {
+        let plan = Plan::any(&mut rng);
+        let own = plan.owns.first().copied().unwrap_or(0);
+        let length = table_words(plan.ceiling) + 5;
+        let noise = |rng: &mut Rng, n| (0..n).map(|_| rng.word()).collect::<Vec<u32>>();
+        let mut node = Node { state: noise(&mut rng, STATE_WORDS + 2), table: noise(&mut rng, length), twin: None };
+        figures.call(&mut node, &Call::Open { own, sheet: sheet_words(&mut rng, &plan.sheet) }).expect("a plan's sheet is fine");
+        if plan.grown > 0 {
+            let member = reference::Member::open(own, &plan.sheet, plan.ceiling).expect("a plan's sheet is fine");
+            node = Node::of(grow(&mut rng, member, plan.grown, &plan), &mut rng);
+        }
+        node.read_again();
+        let mut pool = Pool::default();
+        for _ in 0..plan.calls {
+            let twin = node.twin.as_ref().expect("a state reached by calls is well formed");
+            let call = likely_call(&mut rng, twin, &mut pool);
+            let answer = figures.call(&mut node, &call);
+            if !call.is_read() && answer.is_ok() {
+                node.read_again();
+                pool.note(&call, 0, node.twin.as_ref().expect("a state reached by calls is well formed"));
+            }
+        }
+    }
+    figures.all_seen();
+    figures.print();
+}
