@@ -18,7 +18,7 @@ use Rattle.passes.specs.Passes.{Passes, no-pass, pass, OutputSoFar}
 pub output-so-far : OutputSoFar
 unfolding remaining
 output-so-far t₀ _ _ _ _ _ _ (no-pass s x f) more = rw (f .state, f .skipping, f .from, f .end) refl
-output-so-far t₀ _ _ _ _ _ _ (pass {n} {read} {written} {s} {t} {x} g r t′ x′ out h) more =
+output-so-far t₀ _ _ _ _ _ _ (pass {n} {read} {written} {s} {t} {x} g o r t′ x′ out h) more =
     ap (output (engineOf closedState t₀)) (append-assoc read (h .came) more)
     ∙ output-so-far t₀ n read written s t x g (h .came ++ more)
     ∙ ap (λ (u : List ℕ). written ++ u) (h .whole more)
@@ -27,4 +27,4 @@ output-so-far t₀ _ _ _ _ _ _ (pass {n} {read} {written} {s} {t} {x} g r t′ x
 -- where a session has ended no whole record is left
 pub ended-open : {t₀ : List ℕ} {n : ℕ} {read : List ℕ} {written : List ℕ} {s : Session} {t : List ℕ} {x : List ℕ} → Passes t₀ n read written s t x → s .ended ≡ true → hasEnd (handIn x (s .work .from) (s .end)) ≡ false
 ended-open (no-pass s x f) e = absurd (false≢true (sym (f .ended) ∙ e))
-ended-open (pass g r t′ x′ out h) e = h .no-record e
+ended-open (pass g o r t′ x′ out h) e = h .no-record e

@@ -1,6 +1,6 @@
 -- Pass after pass: all that was read, and all that was written out.
 use mathlib.Core.Path.{_≡_}
-use mathlib.Core.Bool.{true}
+use mathlib.Core.Bool.{true, false}
 use mathlib.Core.List.{List, [], _++_}
 use Prim.Native.Nat.{ℕ, _+_}
 use lib.ListN.{take}
@@ -14,7 +14,7 @@ use Rattle.session.specs.Session.{NothingRead, answersLeft, isOver, PassServed}
 -- n passes from a start with the table t₀: all that was read, all that was written out, and the session, the table and the input buffer then
 pub data Passes (t₀ : List ℕ) : ℕ → List ℕ → List ℕ → Session → List ℕ → List ℕ → Type 0 where
   no-pass : (s : Session) (x : List ℕ) → NothingRead s → Passes t₀ 0 [] [] s t₀ x
-  pass : {n : ℕ} {read written : List ℕ} {s : Session} {t x : List ℕ} → Passes t₀ n read written s t x
+  pass : {n : ℕ} {read written : List ℕ} {s : Session} {t x : List ℕ} → Passes t₀ n read written s t x → isOver s ≡ false
       → (r : Session) (t′ x′ out : List ℕ) (p : PassServed s t x r t′ x′ out) → Passes t₀ (n + 1) (read ++ p .came) (written ++ take (r .wrote .count) out) r t′ x′
 
 -- no further pass is made: that is so, or there were 2^64 − 1 of them

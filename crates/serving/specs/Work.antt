@@ -1,8 +1,8 @@
 -- What work on the bytes at hand does: whatever comes after them, the answers to what was left are the lines that it put, and then the answers to what is left.
 use mathlib.Core.Path.{_≡_}
-use mathlib.Core.Bool.{Bool, true}
+use mathlib.Core.Bool.{Bool, true, false}
 use mathlib.Core.List.{List, _++_}
-use Prim.Native.Nat.{ℕ, _+_, _*_, _≤_}
+use Prim.Native.Nat.{ℕ, _+_, _*_, _≤_, _<_}
 use lib.ListN.{length, drop}
 use Rattle.state.specs.Cached.{Cached}
 use Rattle.engine.specs.Engine.{Engine}
@@ -38,6 +38,8 @@ pub record WorkDone (w : Work) (t hand : List ℕ) (r : Work) (t′ cache x y : 
   pub from-to : r .from ≤ length hand
   pub next-to : r .next ≤ length x
   pub waiting : r .waits ≡ true → Waits (drop (r .from) hand)
+  -- else there was no room for another answer
+  pub full : r .waits ≡ false → length x < r .next + (length t * 9 + 20)
   pub cached : Cached (r .state) t′ (r .formed) cache
 
 -- r is w with the output buffer empty again, and the bytes at hand from `at` on

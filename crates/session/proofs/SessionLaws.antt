@@ -1,15 +1,15 @@
 -- Laws of a session going on: nothing of the input is lost, whatever pieces it comes in, and nothing of the output.
 use mathlib.Core.Path.{_≡_, refl, sym, ap, _∙_}
-use mathlib.Core.Bool.{true}
+use mathlib.Core.Bool.{Bool, true, false, not, true≢false}
 use mathlib.Core.List.{List, [], _∷_, _++_, append-assoc, append-nil}
-use Prim.Native.Nat.{ℕ, zero, suc, _+_, _-_, _≤_, _<_}
+use Prim.Native.Nat.{ℕ, zero, suc, _+_, _-_, _*_, _≤_, _<_}
 use native.Mathlib.Omega.{arith}
 use lib.ListN.{length, take, drop, length-drop}
 use lib.IntN.{ℤ, pos, negsuc}
 use lib.Dec.{eqb}
 use lib.Seq.{take-add, sets-eq, take-append-seam, length-take-le}
-use borrow.Author.Tests.{eqb-true}
-use Rattle.base.proofs.Bools.{both}
+use borrow.Author.Tests.{eqb-true, eq-eqb, not-false}
+use Rattle.base.proofs.Bools.{both, neither}
 use Rattle.io.specs.Counts.{clamped}
 use Rattle.framing.specs.Framing.{remaining}
 use Rattle.lines.specs.Puts.{Puts}
@@ -68,8 +68,8 @@ put-first {x} {y} {next} {l} h p = let e : next ≡ length l = omega (arith, p .
 
 -- work on the bytes at hand, from an empty output buffer on, what it answered written out, and then more bytes
 pub advanced : (s : Session) {t : List ℕ} (x : List ℕ) {w : Work} {wrote : Flushed} {t′ : List ℕ} {cache : List ℕ} {r : Session} {x′ : List ℕ} {y : List ℕ} {out : List ℕ}
-    → s .work .next ≡ 0 → WorkDone (s .work) t (take (s .end) x) w t′ cache y out → RefillReady w wrote (s .end) x → length x′ ≡ length x → BufferRefilled w wrote (s .end) x x′ r → PassServed s t x r t′ x′ out
-advanced s x {w} {wrote} {t′} {cache} {r} {x′} {y} {out} z f a l h =
+    → s .work .next ≡ 0 → WorkDone (s .work) t (take (s .end) x) w t′ cache y out → length t * 9 + 20 ≤ length y → RefillReady w wrote (s .end) x → length x′ ≡ length x → BufferRefilled w wrote (s .end) x x′ r → PassServed s t x r t′ x′ out
+advanced s {t} x {w} {wrote} {t′} {cache} {r} {x′} {y} {out} z f fits a l h =
     let g = f .answers in
     let n = hand-size x (w .from) (s .end) (a .hand .end-to) in
     let k = s .end - w .from in
@@ -90,10 +90,21 @@ advanced s x {w} {wrote} {t′} {cache} {r} {x′} {y} {out} z f a l h =
           g .whole (came ++ more)
           ∙ ap (λ (u : List ℕ). g .put ++ answersTo (engineOf (w .state) t′) (remaining (w .skipping) u)) (sym (append-assoc (handIn x (w .from) (s .end)) came more))
           ∙ rw (written, h .state, h .skipping, h .hand) refl;
+      goes-on = λ o. moved (w .waits) refl (neither (r .ended) (not (r .wrote .whole)) o);
       room = λ e. rw (n, l) (a .room (both (w .waits) (wrote .whole) (ended e .0) .0));
       none = none;
       no-record = λ e. rw (h .hand, none e, append-nil (handIn x (w .from) (s .end))) (f .waiting (both (w .waits) (wrote .whole) (ended e .0) .0) .open-ended);
     }
+  where
+    -- where no more bytes were wanted there were answers to write; else some came
+    moved : (b : Bool) → w .waits ≡ b → (r .ended ≡ false) × (not (r .wrote .whole) ≡ false) → 0 < r .wrote .count + r .came .count
+    moved false e o = let m = f .full e in let q : r .wrote .count ≡ w .next = rw (h .its-wrote) (a .all-written) in omega (arith, m, fits, q)
+    moved true e o =
+        let y : r .wrote .whole ≡ true = not-false (r .wrote .whole) (o .1) in
+        let u : wrote .whole ≡ true = rw (h .its-wrote) at y in
+        let v : eqb (r .came .count) 0 ≡ false = rw (e, u) at (sym (h .ended) ∙ o .0) in
+        let d : r .came .count ≡ 0 → ⊥ = λ q. true≢false (sym (eq-eqb (r .came .count) 0 q) ∙ v) in
+        omega (arith, d)
 
 -- the state is not well formed then, whatever the table, and nothing need be cached
 pub fresh-cached : (t cache : List ℕ) (s : Session) → NothingRead s → Cached (s .work .state) t (s .work .formed) cache

@@ -4,7 +4,7 @@ use mathlib.Core.Path.{_≡_, refl, sym, _∙_}
 use mathlib.Core.List.{List, [], _++_}
 use Prim.Native.Nat.{ℕ, _+_}
 use lib.ListN.{length, take}
-use borrow.Author.Tests.{not-false}
+use borrow.Author.Tests.{not-false, not-true}
 use Rattle.session.specs.declared.Session.{Session}
 use Rattle.session.specs.Session.{SessionReady}
 use Rattle.passes.specs.Passes.{Passes, no-pass, pass, stopped, all-made}
@@ -71,12 +71,14 @@ loop-less c = search needs
 loop-again : tie.Need-loop-again Inv-loop μ-loop
 loop-again c =
     let u = c .before .before .before .before .before .before .before .before .serve-pass in
+    let g′ = c .before .before .before .before .before .before .before .before .before .before .before .before .before in
+    let g = g′ .before in
     let x = c .before .before .before .before .before .before .before .before .before .before .before .before .before .before .before .before .loop .inv in
     record {
       count = x .count + 1;
       read = x .read ++ u .ensures .0 .came;
       written = x .written ++ take (u .result .wrote .count) (u .last .1 .1 .1 .1 .0);
-      passes = pass (x .passes) _ _ _ _ (u .ensures .0);
+      passes = pass (x .passes) (sym (g .is-over .ensures) ∙ not-true _ (g′ .if1 .taken)) _ _ _ _ (u .ensures .0);
       all = omega (arith, x .all, sub-passes c);
       ready = u .ensures .1;
       cache-size = u .kept .1 .0 ∙ x .cache-size;

@@ -134,6 +134,7 @@ returns c =
       from-to = x .inv .from-to;
       next-to = puts m;
       waiting = λ _. rw q at (step-waits _ _ z);
+      full = λ e. absurd (false≢true (sym e));
       cached = u .ensures .cached;
     }
 
@@ -174,7 +175,7 @@ same-length-6 c = c .before .loop .inv .output-size
 returns-2 : tie.Need-returns-2 Inv-loop μ-loop
 returns-2 c =
     let x = c .before .loop .inv in
-    record { answers = x .answers; from-to = x .from-to; next-to = x .next-to; waiting = λ e. absurd (false≢true e); cached = x .cached }
+    record { answers = x .answers; from-to = x .from-to; next-to = x .next-to; waiting = λ e. absurd (false≢true e); full = λ _. omega arith; cached = x .cached }
 
 pub work-on-spec : {M : Type 1} → statement M
 work-on-spec =

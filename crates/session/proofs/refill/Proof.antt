@@ -1,5 +1,5 @@
 use mathlib.Core.Path.{_≡_, refl, sym, ap, _∙_}
-use mathlib.Core.Bool.{true, false}
+use mathlib.Core.Bool.{true, false, false≢true}
 use Prim.Native.Nat.{ℕ, _+_, _-_, _≤_}
 use lib.ListN.{length, take}
 use borrow.Author.Tests.{not-false, not-true}
@@ -58,6 +58,7 @@ returns c =
             formed = e .formed;
             skipping = e .skipping;
             its-wrote = refl;
+            unread = λ _. none .0;
             ended = rw w refl;
           };
     }
@@ -98,6 +99,7 @@ returns-2 c =
             formed = e .formed;
             skipping = e .skipping;
             its-wrote = refl;
+            unread = λ e. absurd (false≢true (sym e ∙ w));
             ended = rw w refl;
           };
     }

@@ -81,7 +81,7 @@ returns c =
     let e = u .refill .ensures in
     let t = same-length-2 c in
     let z = p .memory in (
-      advanced (s .args .s) (s .args .buf .now) (p .empty) f (ready (u .before .before)) (same-length-3 c) (e .bytes),
+      advanced (s .args .s) (s .args .buf .now) (p .empty) f (p .memory .answer-to) (ready (u .before .before)) (same-length-3 c) (e .bytes),
       record {
         memory = record { table = omega (arith, z .table, t); input-from = omega (arith, z .input-from, same-length-3 c); input-to = omega (arith, z .input-to, same-length-3 c); answer-to = omega (arith, z .answer-to, t, same-length-4 c) };
         hand = e .hand;
