@@ -14,24 +14,25 @@ PIECES = [
     b"64", b"65", b"1000", b"1001", b"65535", b"65536", b"4294967295", b"4294967296",
     b"B", b"U", b"E", b",B,1,5", b",U,3,0", b",U,3,1", b",E,9,0",
     b"open,", b"propose,", b"endorse,", b"certify,", b"accept,",
-    b"advance\r\n", b"commit\r\n", b"chain\r\n",
+    b"advance\r\n", b"commit\r\n", b"chain\r\n", b"\r\r\n", b"\n\r\n", b"x" * 1100,
 ]
 
 
-def damage(stream):
-    """The stream with up to a hundred small damages."""
-    for _ in range(random.choice([0, 1, 2, 5, 20, 100])):
-        at = random.randrange(len(stream) + 1)
-        way = random.random()
+def damage(stretch, chance=random):
+    """The stretch with up to a hundred small damages."""
+    stream = bytearray(stretch)
+    for _ in range(chance.choice([0, 1, 2, 5, 20, 100])):
+        at = chance.randrange(len(stream) + 1)
+        way = chance.random()
         if way < 0.3:
-            stream[at:at + 1] = bytes([random.randrange(256)])
+            stream[at:at + 1] = bytes([chance.randrange(256)])
         elif way < 0.5:
-            del stream[at:at + random.randrange(1, 9)]
+            del stream[at:at + chance.randrange(1, 9)]
         elif way < 0.9:
-            stream[at:at] = random.choice(PIECES)
+            stream[at:at] = chance.choice(PIECES)
         else:
-            start = random.randrange(len(stream) + 1)
-            stream[at:at] = stream[start:start + random.randrange(1, 1500)]
+            start = chance.randrange(len(stream) + 1)
+            stream[at:at] = stream[start:start + chance.randrange(1, 1500)]
     return bytes(stream)
 
 
@@ -53,7 +54,7 @@ def main():
     compared = 0
     for number in range(count):
         start = whole.rfind(b"\r\nopen", 0, random.randrange(10, len(whole))) + 2
-        stream = damage(bytearray(whole[start:start + random.randrange(200, 20000)]))
+        stream = damage(whole[start:start + random.randrange(200, 20000)])
         if answers(runner, stream) != answers(here + "/bin/runner_ref", stream):
             with open("damaged.stream", "wb") as file:
                 file.write(stream)
@@ -62,4 +63,5 @@ def main():
     print(f"the same: {count} streams, {compared} bytes in")
 
 
-main()
+if __name__ == "__main__":
+    main()

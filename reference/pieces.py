@@ -22,12 +22,12 @@ import termios
 import time
 from bisect import bisect_right
 
+from damaged import damage
+
 HERE = os.path.dirname(os.path.abspath(__file__))
 LONGEST = 1024          # bytes of a record, with its CRLF
 PATIENCE = 10           # seconds until lines are taken as kept back
 DAMAGED, ENDING = 8, 8  # stretches of each seed
-SPOILS = [b"\r", b"\n", b"\r\n", b"\r\r\n", b"\n\r\n", b'"', b",", b"0", b"\x00", b"\xff", b"x" * 1100,
-          b"advance\r\n", b"chain\r\n", b"commit\r\n"]
 OPEN = b"open,0,,64,,1,0,0,0,,,,,,,,,,,,\r\n"
 
 
@@ -234,20 +234,6 @@ def unended():
             yield stream, [("whole", []), ("a cut before the end", [len(OPEN), len(stream.given) - 1])]
 
 
-def damage(chance, stretch):
-    """A stretch with some bytes changed, taken out or put in."""
-    stretch = bytearray(stretch)
-    for _ in range(chance.choice([1, 3, 10, 40])):
-        at, way = chance.randrange(len(stretch) + 1), chance.randrange(4)
-        if way == 0:
-            stretch[at:at + 1] = bytes([chance.randrange(256)])
-        elif way == 1:
-            del stretch[at:at + chance.randrange(1, 9)]
-        else:
-            stretch[at:at] = chance.choice(SPOILS)
-    return bytes(stretch)
-
-
 def of_seed(seed, chance):
     """(stream, whether it is given byte by byte too)."""
     shuffled = subprocess.run([HERE + "/bin/shuffle", str(seed)], stdout=subprocess.PIPE, check=True).stdout
@@ -256,7 +242,7 @@ def of_seed(seed, chance):
     for number in range(DAMAGED):
         start = chance.choice(opens)
         stretch = shuffled[start:start + chance.randrange(200, 8000)]
-        yield Stream(f"seed {seed}, damaged {number}", damage(chance, stretch)), number < 2
+        yield Stream(f"seed {seed}, damaged {number}", damage(stretch, chance)), number < 2
     ends = [match.end() for match in re.finditer(b"\r\n", shuffled)]
     for number in range(ENDING):
         end = chance.choice(ends[:400])

@@ -1,5 +1,6 @@
 -- What a read leaves.
 use mathlib.Core.Path.{_≡_}
+use mathlib.Core.Bool.{true}
 use mathlib.Core.List.{List}
 use Prim.Native.Nat.{ℕ, _-_}
 use lib.ListN.{length, take}
@@ -10,4 +11,5 @@ use Rattle.channel.specs.declared.Came.{Came}
 pub record ReadBehind (n : ℕ) (x y : List ℕ) (c : Came) : Type 0 where
   pub size : length y ≡ length x
   pub front : take n y ≡ take n x
+  pub made : c .read ≡ true
   pub counted : c .count ≡ clamped (c .answer) (length x - n)

@@ -3,25 +3,33 @@ use libc::STDIN_FILENO;
 use libc::STDOUT_FILENO;
 use serving::rest;
 ghost use mathlib.Core.Path.{_≡_};
+ghost use mathlib.Core.Bool.{true, false};
 ghost use Prim.Native.Nat.{_-_, _≤_};
 ghost use lib.ListN.{length, take, drop};
 ghost use lib.IntN.{pos};
 ghost use Rattle.channel.specs.Channel.{ReadBehind};
 
-// What a read answered, and how many bytes came by it.
+// Whether a read was made, what it answered, and how many bytes came by it. Only this crate makes one: whoever has it has called `more` or `no_read`.
 pub struct Came {
-    pub answer: isize,
-    pub count: usize,
+    read: bool,
+    answer: isize,
+    count: usize,
 }
 
-// No read.
-pub fn none() -> Came
-    ensures { λ r. ⌜ (r .count ≡ 0) × (r .answer ≡ pos 0) ⌝ }
+pub fn no_read() -> Came
+    ensures { λ r. ⌜ (r .read ≡ false) × (r .count ≡ 0) × (r .answer ≡ pos 0) ⌝ }
 {
     Came {
+        read: false,
         answer: 0,
         count: 0,
     }
+}
+
+pub fn count_of(c: Came) -> usize
+    ensures { λ r. ⌜ r ≡ c .count ⌝ }
+{
+    c.count
 }
 
 // Moves the bytes from `from` on and below `end` to the front, and gives how many there are.
@@ -46,13 +54,33 @@ pub fn more(buf: &mut [u8], n: usize) -> Came
     let answer = libc::read(STDIN_FILENO, &mut buf[n..]);
     let came = rest(buf, n);
     let count = io::count(answer, came);
-    Came { answer, count }
+    Came {
+        read: true,
+        answer,
+        count,
+    }
 }
 
-// How many bytes were handed to the output, and whether all of them went out.
+// How many bytes were handed to the output, and whether all of them went out. Only this crate makes one: whoever has it has called `flush` or `no_write`.
 pub struct Flushed {
-    pub count: usize,
-    pub whole: bool,
+    count: usize,
+    whole: bool,
+}
+
+pub fn no_write() -> Flushed
+    ensures { λ r. ⌜ (r .count ≡ 0) × (r .whole ≡ true) ⌝ }
+{
+    Flushed {
+        count: 0,
+        whole: true,
+    }
+}
+
+// Did all of it go out?
+pub fn went_out(f: Flushed) -> bool
+    ensures { λ r. ⌜ r ≡ f .whole ⌝ }
+{
+    f.whole
 }
 
 // Writes out the first n bytes of the buffer.

@@ -1,4 +1,4 @@
--- Pass after pass: all that was read, and all that was written out.
+-- Pass after pass: all that was read, and all that was written out, which is what was handed to the output.
 use mathlib.Core.Path.{_≡_}
 use mathlib.Core.Bool.{true, false}
 use mathlib.Core.List.{List, [], _++_}
@@ -7,8 +7,8 @@ use lib.ListN.{take}
 use Rattle.open.specs.Open.{closedState}
 use Rattle.replies.specs.Records.{engineOf}
 use Rattle.answering.specs.Streams.{output}
-use Rattle.channel.specs.declared.Flushed.{Flushed}
 use Rattle.session.specs.declared.Session.{Session}
+use Rattle.passes.specs.declared.RunEnd.{RunEnd}
 use Rattle.session.specs.Session.{NothingRead, answersLeft, isOver, PassServed}
 
 -- n passes from a start with the table t₀: all that was read, all that was written out, and the session, the table and the input buffer then
@@ -38,10 +38,10 @@ OutputSoFar = (t₀ : List ℕ) (n : ℕ) (read written : List ℕ) (s : Session
     → (more : List ℕ) → output (engineOf closedState t₀) (read ++ more) ≡ written ++ answersLeft s t x more
 
 -- a run from a start with the table t₀; out is the output buffer afterwards, of which the first bytes were written last.
--- Where the input has ended, all that was written is the output for all that was read
-pub record RunServed (t₀ : List ℕ) (last : Flushed) (out : List ℕ) : Type 0 where
-  pub session : Session
+-- Where the input has ended, all that was written is the output for all that was read; else nothing is written after the last pass
+pub record RunServed (t₀ : List ℕ) (r : RunEnd) (out : List ℕ) : Type 0 where
   pub table : List ℕ
   pub input : List ℕ
-  pub served : Served t₀ session table input
-  pub whole : session .ended ≡ true → output (engineOf closedState t₀) (served .read) ≡ served .written ++ take (last .count) out
+  pub served : Served t₀ (r .session) table input
+  pub whole : r .session .ended ≡ true → output (engineOf closedState t₀) (served .read) ≡ served .written ++ take (r .last .count) out
+  pub nothing : r .session .ended ≡ false → r .last .count ≡ 0

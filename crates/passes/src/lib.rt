@@ -30,8 +30,8 @@ fn conclude(s: Session, cache: &mut [u64], t: &mut [u32], buf: &[u8], out: &mut 
     requires { ⌜ SessionReady s (now cache) (now t) (now buf) (now out) × (hasEnd (handIn (now buf) (s .work .from) (s .end)) ≡ false) ⌝ }
     ensures { λ r. ⌜ take (r .count) (now (out .exit)) ≡ answersLeft s (now (t .entry)) (now (buf .entry)) [] ⌝ }
 {
-    let end = s.end;
-    let w = s.work;
+    let end = session::end_of(s);
+    let w = session::work_of(s);
     let from = w.from;
     let state = w.state;
     let hand = serving::rest(&buf[..end], from);
@@ -39,14 +39,24 @@ fn conclude(s: Session, cache: &mut [u64], t: &mut [u32], buf: &[u8], out: &mut 
     channel::flush(out, n)
 }
 
-// All of a run; what it wrote out last.
-pub fn run(cache: &mut [u64], t: &mut [u32], buf: &mut [u8], out: &mut [u8]) -> Flushed
+// The session after the last pass, and what was written out at the end of input.
+pub struct RunEnd {
+    pub session: Session,
+    pub last: Flushed,
+}
+
+// All of a run.
+pub fn run(cache: &mut [u64], t: &mut [u32], buf: &mut [u8], out: &mut [u8]) -> RunEnd
     requires { ⌜ Memory (now t) (now buf) (now out) ⌝ }
     ensures { λ r. ⌜ RunServed (now (t .entry)) r (now (out .exit)) ⌝ }
 {
-    let s = serve_all(cache, t, buf, out);
-    if !s.ended {
-        return s.wrote;
+    let session = serve_all(cache, t, buf, out);
+    if !session::has_ended(session) {
+        return RunEnd {
+            session,
+            last: channel::no_write(),
+        };
     }
-    conclude(s, cache, t, buf, out)
+    let last = conclude(session, cache, t, buf, out);
+    RunEnd { session, last }
 }

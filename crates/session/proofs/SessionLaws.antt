@@ -91,6 +91,8 @@ advanced s {t} x {w} {wrote} {t′} {cache} {r} {x′} {y} {out} z f fits a l h 
           ∙ ap (λ (u : List ℕ). g .put ++ answersTo (engineOf (w .state) t′) (remaining (w .skipping) u)) (sym (append-assoc (handIn x (w .from) (s .end)) came more))
           ∙ rw (written, h .state, h .skipping, h .hand) refl;
       goes-on = λ o. moved (w .waits) refl (neither (r .ended) (not (r .wrote .whole)) o);
+      unread = λ e. rw (h .unread e) refl;
+      read = λ e. h .read ∙ ended e .0;
       room = λ e. rw (n, l) (a .room (both (w .waits) (wrote .whole) (ended e .0) .0));
       none = none;
       no-record = λ e. rw (h .hand, none e, append-nil (handIn x (w .from) (s .end))) (f .waiting (both (w .waits) (wrote .whole) (ended e .0) .0) .open-ended);

@@ -70,8 +70,8 @@ pub record BufferRefilled (w : Work) (wrote : Flushed) (end : ℕ) (x y : List �
   pub formed : r .work .formed ≡ w .formed
   pub skipping : r .work .skipping ≡ w .skipping
   pub its-wrote : r .wrote ≡ wrote
-  -- no byte comes without a read
-  pub unread : wantsRead w wrote ≡ false → r .came .count ≡ 0
+  pub read : r .came .read ≡ wantsRead w wrote
+  pub unread : r .came .read ≡ false → r .came .count ≡ 0
   pub ended : r .ended ≡ (wantsRead w wrote && eqb (r .came .count) 0)
 
 -- r goes on after w: its bytes at hand lie within the input buffer, and its output buffer is empty
@@ -86,8 +86,8 @@ pub record SessionRefilled (w : Work) (wrote : Flushed) (end : ℕ) (x y : List 
 abbrev pub isOver : Session → Bool
 isOver s = s .ended || not (s .wrote .whole)
 
--- t, x and t′, x′ are the table and the input buffer before and after a pass; the first bytes of out were written out, and then `came` was read behind what was left.
--- Whatever comes after it, what was to be answered is what was written, and what is to be answered now
+-- t, x and t′, x′ are the table and the input buffer before and after a pass; the first bytes of out were handed to the output, and then `came` was read behind what was left.
+-- Whatever comes after it, what was to be answered is what was handed out, and what is to be answered now
 pub record PassServed (s : Session) (t x : List ℕ) (r : Session) (t′ x′ out : List ℕ) : Type 0 where
   pub left : List ℕ
   pub came : List ℕ
@@ -95,9 +95,12 @@ pub record PassServed (s : Session) (t x : List ℕ) (r : Session) (t′ x′ ou
   pub counted : length came ≡ r .came .count
   pub answer : r .came .count ≡ clamped (r .came .answer) (length x′ - length left)
   pub whole : (more : List ℕ) → answersLeft s t x (came ++ more) ≡ take (r .wrote .count) out ++ answersLeft r t′ x′ more
-  -- where it goes on, something was written or read
+  -- where it goes on, something was handed out or read
   pub goes-on : isOver r ≡ false → 0 < r .wrote .count + r .came .count
-  -- the input has ended: there was room for more than was left, none came, and no whole record is left
+  -- no byte comes without a read
+  pub unread : r .came .read ≡ false → came ≡ []
+  -- the input has ended: a read was made with room for more than was left, none came, and no whole record is left
+  pub read : r .ended ≡ true → r .came .read ≡ true
   pub room : r .ended ≡ true → length left < length x′
   pub none : r .ended ≡ true → came ≡ []
   pub no-record : r .ended ≡ true → hasEnd (handIn x′ (r .work .from) (r .end)) ≡ false

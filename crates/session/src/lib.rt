@@ -7,12 +7,13 @@ ghost use Rattle.serving.specs.Work.{OutputEmptied};
 ghost use Rattle.session.specs.Session.{SessionReady, NothingRead, isOver, RefillReady, wantsRead, SessionRefilled, PassServed};
 
 // The work, where the bytes at hand end in the input buffer, and whether the input has ended. Of the last pass: what it wrote out, and what it read.
+// Only this crate makes one: whoever has it has called `start`, and then `serve_pass` some times.
 pub struct Session {
-    pub work: Work,
-    pub end: usize,
-    pub wrote: Flushed,
-    pub came: Came,
-    pub ended: bool,
+    work: Work,
+    end: usize,
+    wrote: Flushed,
+    came: Came,
+    ended: bool,
 }
 
 // Before the first record there is no open member.
@@ -30,11 +31,8 @@ pub fn start() -> Session
     Session {
         work,
         end: 0,
-        wrote: Flushed {
-            count: 0,
-            whole: true,
-        },
-        came: channel::none(),
+        wrote: channel::no_write(),
+        came: channel::no_read(),
         ended: false,
     }
 }
@@ -43,7 +41,25 @@ pub fn start() -> Session
 pub fn is_over(s: Session) -> bool
     ensures { λ r. ⌜ r ≡ isOver s ⌝ }
 {
-    s.ended || !s.wrote.whole
+    s.ended || !channel::went_out(s.wrote)
+}
+
+pub fn has_ended(s: Session) -> bool
+    ensures { λ r. ⌜ r ≡ s .ended ⌝ }
+{
+    s.ended
+}
+
+pub fn work_of(s: Session) -> Work
+    ensures { λ r. ⌜ r ≡ s .work ⌝ }
+{
+    s.work
+}
+
+pub fn end_of(s: Session) -> usize
+    ensures { λ r. ⌜ r ≡ s .end ⌝ }
+{
+    s.end
 }
 
 // The work with the output buffer empty again, and the bytes at hand from another place on.
@@ -65,7 +81,7 @@ fn emptied(w: Work, from: usize) -> Work
 fn wants_read(w: Work, wrote: Flushed) -> bool
     ensures { λ r. ⌜ r ≡ wantsRead w wrote ⌝ }
 {
-    w.waits && wrote.whole
+    w.waits && channel::went_out(wrote)
 }
 
 // Goes on with the bytes at hand; where more are wanted, reads them. Where a write failed nothing more is read.
@@ -79,18 +95,19 @@ fn refill(w: Work, wrote: Flushed, buf: &mut [u8], end: usize) -> Session
             work: emptied(w, from),
             end,
             wrote,
-            came: channel::none(),
+            came: channel::no_read(),
             ended: false,
         };
     }
     let n = channel::move_to_front(buf, from, end);
     let came = channel::more(buf, n);
+    let count = channel::count_of(came);
     Session {
         work: emptied(w, 0),
-        end: n + came.count,
+        end: n + count,
         wrote,
         came,
-        ended: came.count == 0,
+        ended: count == 0,
     }
 }
 

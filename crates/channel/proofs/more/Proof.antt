@@ -36,7 +36,7 @@ returns c =
     let z = c .before .before .before .before .before .read .last .1 .0 in
     let y = putMid n k x z in
     let size : length y ≡ length x = same-length c in
-    record { size = size; front = take-put n k x z (s .pre); counted = c .count .ensures .1 ∙ rw (c .before .rest .ensures, length-drop n y, size) refl }
+    record { size = size; front = take-put n k x z (s .pre); made = refl; counted = c .count .ensures .1 ∙ rw (c .before .rest .ensures, length-drop n y, size) refl }
 
 pub more-spec : {M : Type 1} → statement M
 more-spec =
