@@ -23,8 +23,9 @@ use Rattle.state.specs.View.{view}
 use Rattle.state.specs.Formed.{Formed}
 use Rattle.state.proofs.FormedLaws.{formed-by}
 use Rattle.state.proofs.RoundLaws.{blocks-whole, blocks-same}
-use Rattle.commit.specs.Commit.{commitRefusal, leadersFor, blocksThen, committedTable}
-use Rattle.commit.proofs.AnchorLaws.{leaderOn, leader-even, leaders-on, leaders-length}
+use Rattle.commit.specs.Commit.{commitRefusal, blocksThen, committedTable}
+use Rattle.votes.specs.Checks.{leadersFor}
+use Rattle.votes.proofs.AnchorLaws.{leaderOn, leader-even, leaders-on, leaders-length}
 use Rattle.commit.proofs.CheckLaws.{Accepted, accepted}
 use Rattle.commit.proofs.CommitLaws.{committedState, only-marks}
 

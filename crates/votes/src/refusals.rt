@@ -6,8 +6,8 @@ use terms::Round;
 ghost use mathlib.Core.Path.{_≡_};
 ghost use Rattle.base.specs.Checks.{refusal};
 ghost use Rattle.state.specs.Formed.{Formed};
-ghost use Rattle.commit.specs.Commit.{timeChecks, voteChecks};
-ghost use Rattle.commit.specs.Ready.{AnchorReady};
+ghost use Rattle.votes.specs.Checks.{timeChecks, voteChecks};
+ghost use Rattle.votes.specs.Ready.{AnchorReady};
 
 // Checks 19, 20, 8.
 pub fn time_refusal(s: State, t: &[u32]) -> u32
@@ -43,7 +43,7 @@ pub fn vote_refusal(s: State, t: &[u32], l: &[u32; 1025], w: &[u64; 16]) -> u32
         return 21;
     }
     let bound = weighing::fault_bound(Sheet::MARGIN, weighing::total_weight(w));
-    let votes = crate::votes::votes_for(t, w, r, Member(a));
+    let votes = crate::counting::votes_for(t, w, r, Member(a));
     if votes.0 <= bound.0 {
         return 22;
     }

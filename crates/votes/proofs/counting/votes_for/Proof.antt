@@ -8,9 +8,9 @@ use Rattle.base.proofs.SumLaws.{sum-more}
 use Rattle.agreement.specs.Weights.{weigh}
 use Rattle.sheet.specs.Ranges.{weightIn}
 use Rattle.committee.proofs.CommitteeLaws.{weigh-le}
-use Rattle.commit.specs.Votes.{votesAt, votesFor}
-use Rattle.commit.proofs.votes.votes_for.Statement.{statement}
-use Rattle.commit.proofs.votes.votes_for.Tie as tie
+use Rattle.votes.specs.Votes.{votesAt, votesFor}
+use Rattle.votes.proofs.counting.votes_for.Statement.{statement}
+use Rattle.votes.proofs.counting.votes_for.Tie as tie
 
 abbrev Inv-loop : tie.InvT-loop
 Inv-loop t w r a sum₀ i₀ sum i = (i ≤ 16) × (sum ≡ weigh i (weightIn w) (votesAt t (r .0) (a .0)))

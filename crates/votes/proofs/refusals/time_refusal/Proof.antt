@@ -1,10 +1,10 @@
 use mathlib.Core.Path.{sym, _∙_}
 use borrow.Author.Tests.{not-true, not-false}
-use Rattle.commit.proofs.CheckLaws.{round-even, round-one, round-old, round-unknown, round-timely}
+use Rattle.votes.proofs.CheckLaws.{round-even, round-one, round-old, round-unknown, round-timely}
 use Rattle.bonded.proofs.ChainInTableLaws.{chain-in-table}
 use borrow.Author.Needs.{needs}
-use Rattle.commit.proofs.refusals.time_refusal.Statement.{statement}
-use Rattle.commit.proofs.refusals.time_refusal.Tie as tie
+use Rattle.votes.proofs.refusals.time_refusal.Statement.{statement}
+use Rattle.votes.proofs.refusals.time_refusal.Tie as tie
 
 returns : tie.Need-returns
 returns c = round-even _ _ (c .if1 .taken)

@@ -7,7 +7,7 @@ use Rattle.committee.specs.Totals.{TotalBounded}
 use Rattle.bonded.specs.BlockChanges.{lastRound}
 use Rattle.state.specs.declared.State.{State}
 use Rattle.state.specs.Formed.{Formed}
-use Rattle.commit.specs.Commit.{committeeOn, leadersFor}
+use Rattle.votes.specs.Checks.{committeeOn, leadersFor}
 
 -- round r is there, a is a member, and the weights of w can be added
 pub record VotesReady (t w : List ℕ) (r a : ℕ) : Type 0 where

@@ -31,8 +31,8 @@ use Rattle.rules.proofs.TestLaws.{unvoted-not}
 use Rattle.state.specs.declared.State.{State}
 use Rattle.state.specs.View.{view}
 use Rattle.state.proofs.ViewLaws.{dag-at, vote-dag}
-use Rattle.commit.specs.Votes.{votesAt, votesFor}
-use Rattle.commit.specs.Commit.{committeeOn, leadersFor}
+use Rattle.votes.specs.Votes.{votesAt, votesFor}
+use Rattle.votes.specs.Checks.{committeeOn, leadersFor}
 
 module _ (s : State) (t : List ℕ) where
   abbrev chain : Chain Content

@@ -1,8 +1,8 @@
 use borrow.Author.Tests.{not-true, not-false}
-use Rattle.commit.specs.Votes.{votesAt}
+use Rattle.votes.specs.Votes.{votesAt}
 use borrow.Author.Needs.{needs}
-use Rattle.commit.proofs.votes.vote_of.Statement.{statement}
-use Rattle.commit.proofs.votes.vote_of.Tie as tie
+use Rattle.votes.proofs.counting.vote_of.Statement.{statement}
+use Rattle.votes.proofs.counting.vote_of.Tie as tie
 
 held-requires : tie.Need-held-requires
 held-requires c κs = search needs

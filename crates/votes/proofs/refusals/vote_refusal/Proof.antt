@@ -12,13 +12,13 @@ use Rattle.sheet.specs.Sheets.{marginOf}
 use Rattle.sheet.specs.Ranges.{weightIn}
 use Rattle.committee.specs.Committees.{boundOf}
 use Rattle.state.specs.declared.State.{State}
-use Rattle.commit.specs.Votes.{votesFor}
-use Rattle.commit.specs.Commit.{committeeOn}
-use Rattle.commit.proofs.AnchorLaws.{leaderOn}
-use Rattle.commit.proofs.CheckLaws.{led-on, anchor-none, votes-few, votes-enough}
+use Rattle.votes.specs.Votes.{votesFor}
+use Rattle.votes.specs.Checks.{committeeOn}
+use Rattle.votes.proofs.AnchorLaws.{leaderOn}
+use Rattle.votes.proofs.CheckLaws.{led-on, anchor-none, votes-few, votes-enough}
 use borrow.Author.Needs.{needs}
-use Rattle.commit.proofs.refusals.vote_refusal.Statement.{statement}
-use Rattle.commit.proofs.refusals.vote_refusal.Tie as tie
+use Rattle.votes.proofs.refusals.vote_refusal.Statement.{statement}
+use Rattle.votes.proofs.refusals.vote_refusal.Tie as tie
 
 -- the places that the proofs speak of, each seen from a later one: the entry, the first test passed, the votes counted
 abbrev entry : tie.After-is-held-leader → tie.Start

@@ -7,8 +7,8 @@ ghost use mathlib.Core.Bool.{cond};
 ghost use Prim.Native.Nat.{_<_};
 ghost use Rattle.store.specs.Table.{Within};
 ghost use Rattle.sheet.specs.Ranges.{weightIn};
-ghost use Rattle.commit.specs.Votes.{votesAt, votesFor};
-ghost use Rattle.commit.specs.Ready.{VotesReady};
+ghost use Rattle.votes.specs.Votes.{votesAt, votesFor};
+ghost use Rattle.votes.specs.Ready.{VotesReady};
 
 // The weight of i, if its certificate of round r is held and names a.
 fn vote_of(t: &[u32], w: &[u64; 16], r: Round, a: Member, i: Member) -> Weight
