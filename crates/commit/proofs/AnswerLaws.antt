@@ -9,7 +9,7 @@ use lib.ListN.{getD}
 use borrow.Author.Tests.{eq-eqb, ne-eqb}
 use Rattle.base.specs.Checks.{refusal}
 use Rattle.base.proofs.SetLaws.{in-member}
-use Rattle.bonded.specs.BlockChanges.{lastRound}
+use Rattle.changes.specs.BlockChanges.{lastRound}
 use Rattle.blocks.specs.Blocks.{commitTable, commitCount}
 use Rattle.blocks.proofs.CommitLaws.{commit-stage}
 use Rattle.state.specs.declared.State.{State}

@@ -17,8 +17,8 @@ use Rattle.store.specs.Table.{usedLength, heldSet, contentAt}
 use Rattle.store.proofs.TableLaws.{held-in, content-author, content-round, certificate-present, certificate-absent}
 use Rattle.writes.proofs.MarkLaws.{OnlyMarks, certificate-marked, endorsed-marked}
 use Rattle.committee.specs.Chain.{chainOf}
-use Rattle.bonded.specs.BlockChanges.{lastRound}
-use Rattle.bonded.proofs.ChainLaws.{last-chain}
+use Rattle.changes.specs.BlockChanges.{lastRound}
+use Rattle.changes.proofs.ChainLaws.{last-chain}
 use Rattle.blocks.specs.Blocks.{commitTable, commitCount}
 use Rattle.blocks.proofs.CommitLaws.{commit-stage}
 use Rattle.commit.proofs.Anchors.{anchorIn, anchor-in, Ready}

@@ -14,8 +14,8 @@ use Rattle.writes.proofs.MarkLaws.{beyond-marked}
 use Rattle.scan.specs.Scan.{rowsFit}
 use Rattle.scan.proofs.FitLaws.{rows-marked}
 use Rattle.committee.proofs.ChainLaws.{chain-length}
-use Rattle.bonded.specs.BlockChanges.{lastRound}
-use Rattle.bonded.proofs.ChainLaws.{BlockFits, fits-at, last-none, last-some}
+use Rattle.changes.specs.BlockChanges.{lastRound}
+use Rattle.changes.proofs.ChainLaws.{BlockFits, fits-at, last-none, last-some}
 use Rattle.histories.proofs.TakenLaws.{taken-left}
 use Rattle.blocks.proofs.CommitLaws.{commit-stage, commit-round-old, commit-mark, commit-rounds, commit-last}
 use Rattle.state.specs.declared.State.{State}

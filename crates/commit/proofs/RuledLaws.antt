@@ -8,7 +8,7 @@ use lib.ListN.{length}
 use lib.Dec.{eqb}
 use borrow.Author.Tests.{eqb-true}
 use Rattle.rules.specs.Tests.{MemberView}
-use Rattle.bonded.specs.BlockChanges.{lastRound}
+use Rattle.changes.specs.BlockChanges.{lastRound}
 use Rattle.state.specs.declared.State.{State}
 use Rattle.commit.specs.declared.Outcome.{Outcome}
 use Rattle.commit.specs.Answers.{addedRefusal}

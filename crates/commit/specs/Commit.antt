@@ -5,7 +5,7 @@ use mathlib.Core.List.{List}
 use Prim.Native.Nat.{ℕ, _+_, _-_}
 use lib.ListN.{length}
 use lib.Dec.{eqb}
-use Rattle.bonded.specs.BlockChanges.{lastRound}
+use Rattle.changes.specs.BlockChanges.{lastRound}
 use Rattle.rules.specs.Tests.{MemberView}
 use Rattle.rules.specs.Calls as rules
 use Rattle.state.specs.declared.State.{State}

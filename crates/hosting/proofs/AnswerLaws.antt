@@ -8,7 +8,7 @@ use Rattle.sheet.specs.declared.Settings.{Settings}
 use Rattle.sheet.specs.Ranges.{weightIn, SettingsFit}
 use Rattle.committee.specs.Committees.{committeeOf}
 use Rattle.committee.specs.Chain.{chainOf}
-use Rattle.bonded.proofs.TotalBound.{committee-total}
+use Rattle.changes.proofs.TotalBound.{committee-total}
 use Rattle.state.specs.declared.State.{State}
 use Rattle.state.proofs.FormedLaws.{formed}
 use Rattle.checks.specs.declared.Answer.{Answer}

@@ -23,7 +23,7 @@ use Rattle.committee.specs.Chain.{chainOf}
 use Rattle.committee.specs.Committees.{boundOf}
 use Rattle.committee.specs.Leaders.{leaderOf, leaderNumber}
 use Rattle.committee.proofs.LeaderLaws.{leader-odd}
-use Rattle.bonded.specs.BlockChanges.{lastRound}
+use Rattle.changes.specs.BlockChanges.{lastRound}
 use Rattle.leaders.specs.Fill.{leaderAt, fillTo}
 use Rattle.leaders.proofs.FillLaws.{leader-at, fill-at, fill-length}
 use Rattle.rules.specs.Tests.{unvoted}

@@ -22,8 +22,8 @@ use Rattle.sheet.specs.Sheets.{marginOf}
 use Rattle.sheet.specs.Ranges.{weightIn}
 use Rattle.committee.specs.Chain.{chainOf}
 use Rattle.committee.specs.Committees.{knownBy, boundOf}
-use Rattle.bonded.specs.BlockChanges.{lastRound}
-use Rattle.bonded.proofs.ChainLaws.{last-chain, last-from}
+use Rattle.changes.specs.BlockChanges.{lastRound}
+use Rattle.changes.proofs.ChainLaws.{last-chain, last-from}
 use Rattle.rules.specs.Tests.{unknown}
 use Rattle.rules.proofs.TestLaws.{unknown-not}
 use Rattle.state.specs.declared.State.{State}

@@ -9,7 +9,7 @@ use Rattle.agreement.specs.Rules.{last}
 use Rattle.agreement.specs.Commits.{anchorAt}
 use Rattle.committee.specs.Chain.{chainOf}
 use Rattle.committee.specs.Committees.{committeeOf}
-use Rattle.bonded.specs.BlockChanges.{lastRound}
+use Rattle.changes.specs.BlockChanges.{lastRound}
 use Rattle.leaders.specs.Fill.{leaderAt, fillTo}
 use Rattle.rules.specs.Tests.{unknown}
 use Rattle.rules.specs.Calls as rules

@@ -4,7 +4,7 @@ use mathlib.Core.List.{List}
 use Prim.Native.Nat.{ℕ, _-_, _<_}
 use Rattle.store.specs.Table.{Row}
 use Rattle.committee.specs.Totals.{TotalBounded}
-use Rattle.bonded.specs.BlockChanges.{lastRound}
+use Rattle.changes.specs.BlockChanges.{lastRound}
 use Rattle.state.specs.declared.State.{State}
 use Rattle.state.specs.Formed.{Formed}
 use Rattle.votes.specs.Checks.{committeeOn, leadersFor}

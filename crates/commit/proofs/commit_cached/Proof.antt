@@ -5,7 +5,7 @@ use Prim.Native.Nat.{ℕ, _+_, _-_, _≤_}
 use native.Mathlib.Omega.{arith}
 use borrow.Author.Tests.{not-true, not-false}
 use Rattle.base.specs.Checks.{refusal}
-use Rattle.bonded.proofs.ChainInTableLaws.{chain-in-table}
+use Rattle.changes.proofs.ChainInTableLaws.{chain-in-table}
 use Rattle.state.specs.declared.State.{State}
 use Rattle.state.specs.WellFormed.{wellFormed}
 use Rattle.state.specs.Formed.{Formed}

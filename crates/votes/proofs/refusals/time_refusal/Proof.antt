@@ -1,7 +1,7 @@
 use mathlib.Core.Path.{sym, _∙_}
 use borrow.Author.Tests.{not-true, not-false}
 use Rattle.votes.proofs.CheckLaws.{round-even, round-one, round-old, round-unknown, round-timely}
-use Rattle.bonded.proofs.ChainInTableLaws.{chain-in-table}
+use Rattle.changes.proofs.ChainInTableLaws.{chain-in-table}
 use borrow.Author.Needs.{needs}
 use Rattle.votes.proofs.refusals.time_refusal.Statement.{statement}
 use Rattle.votes.proofs.refusals.time_refusal.Tie as tie
