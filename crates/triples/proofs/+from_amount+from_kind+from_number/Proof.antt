@@ -6,29 +6,29 @@ use Prim.Native.Nat.{_+_, _-_, ℕ, _<_}
 use lib.ListN.{length}
 use Rattle.fields.specs.Numbers.{numberRead}
 use Rattle.fields.specs.Fields.{fieldsFrom}
-use Rattle.requests.specs.Triples.{atKind}
-use Rattle.requests.specs.Bodies.{onto}
-use Rattle.requests.proofs.BodyLaws.{onto-end}
+use Rattle.triples.specs.Triples.{atKind}
+use Rattle.triples.specs.Bodies.{onto}
+use Rattle.triples.proofs.BodyLaws.{onto-end}
 use Rattle.fields.proofs.CursorLaws.{found-of, found-none, read-there}
-use Rattle.requests.proofs.TripleLaws.{kind-past, kind-fails, kind-goes, number-fails, number-goes, amount-fails, amount-refused, amount-pushed, amount-count}
+use Rattle.triples.proofs.TripleLaws.{kind-past, kind-fails, kind-goes, number-fails, number-goes, amount-fails, amount-refused, amount-pushed, amount-count}
 use borrow.Fn.Kinds.{In}
 use borrow.Fn.PlainCycle.{Measures, is, falls, and}
-use Rattle.requests.proofs.triple.from_amount.Reads as from-amount
-use Rattle.requests.proofs.triple.from_amount.Kinds as from-amount-kinds
-use Rattle.requests.proofs.triple.+from_amount+from_kind+from_number.Lts-from_amount as from-amount-lts
-use Rattle.requests.proofs.triple.from_kind.Reads as from-kind
-use Rattle.requests.proofs.triple.from_kind.Kinds as from-kind-kinds
-use Rattle.requests.proofs.triple.+from_amount+from_kind+from_number.Lts-from_kind as from-kind-lts
-use Rattle.requests.proofs.triple.from_number.Reads as from-number
-use Rattle.requests.proofs.triple.from_number.Kinds as from-number-kinds
-use Rattle.requests.proofs.triple.+from_amount+from_kind+from_number.Lts-from_number as from-number-lts
+use Rattle.triples.proofs.from_amount.Reads as from-amount
+use Rattle.triples.proofs.from_amount.Kinds as from-amount-kinds
+use Rattle.triples.proofs.+from_amount+from_kind+from_number.Lts-from_amount as from-amount-lts
+use Rattle.triples.proofs.from_kind.Reads as from-kind
+use Rattle.triples.proofs.from_kind.Kinds as from-kind-kinds
+use Rattle.triples.proofs.+from_amount+from_kind+from_number.Lts-from_kind as from-kind-lts
+use Rattle.triples.proofs.from_number.Reads as from-number
+use Rattle.triples.proofs.from_number.Kinds as from-number-kinds
+use Rattle.triples.proofs.+from_amount+from_kind+from_number.Lts-from_number as from-number-lts
 use Rattle.fields.proofs.field.field_at.Reads as field-at-reads
 use Rattle.fields.proofs.number.read_number.Reads as read-number-reads
-use Rattle.requests.proofs.triple.added.Reads as added-reads
-use Rattle.requests.proofs.triple.kind_named.Reads as kind-named-reads
-use Rattle.requests.proofs.triple.unreadable.Reads as unreadable-reads
-use Rattle.requests.proofs.triple.+from_amount+from_kind+from_number.{statement}
-use Rattle.requests.proofs.triple.+from_amount+from_kind+from_number.Tie.{close}
+use Rattle.triples.proofs.added.Reads as added-reads
+use Rattle.triples.proofs.kind_named.Reads as kind-named-reads
+use Rattle.triples.proofs.unreadable.Reads as unreadable-reads
+use Rattle.triples.proofs.+from_amount+from_kind+from_number.{statement}
+use Rattle.triples.proofs.+from_amount+from_kind+from_number.Tie.{close}
 
 abbrev μ-from-amount : Measures 1 from-amount-kinds.ps ℕ
 μ-from-amount κs a = length (a .0 .now) + 1 - a .1 .0

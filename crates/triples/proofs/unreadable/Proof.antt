@@ -1,8 +1,8 @@
 use mathlib.Core.Path.{_∙_}
-use Rattle.requests.proofs.BodyLaws.{bare-of}
+use Rattle.triples.proofs.BodyLaws.{bare-of}
 use borrow.Author.Needs.{needs}
-use Rattle.requests.proofs.triple.unreadable.Statement.{statement}
-use Rattle.requests.proofs.triple.unreadable.Tie as tie
+use Rattle.triples.proofs.unreadable.Statement.{statement}
+use Rattle.triples.proofs.unreadable.Tie as tie
 
 bare-body-requires : tie.Need-bare-body-requires
 bare-body-requires c κs = search needs

@@ -7,8 +7,11 @@ ghost use mathlib.Core.Path.{_≡_};
 ghost use Prim.Native.Nat.{_<_};
 ghost use Rattle.fields.specs.Fields.{fieldsFrom};
 ghost use Rattle.fields.specs.Cursor.{found};
-ghost use Rattle.requests.specs.Triples.{kindNamed, transaction, atKind, atNumber, atAmount};
-ghost use Rattle.requests.specs.Bodies.{push, onto, addedTo, Going, unreadableTriples};
+ghost use Rattle.triples.specs.Triples.{kindNamed, transaction, atKind, atNumber, atAmount};
+ghost use Rattle.triples.specs.Bodies.{push, onto, addedTo, Going, unreadableTriples};
+
+// The largest number.
+pub const MOST: u32 = 4294967295;
 
 // What a run of triples comes to: a body, if all of them are readable.
 pub struct Triples {

@@ -1,8 +1,8 @@
 use borrow.Author.Tests.{lt-ltb, le-ltb}
-use Rattle.requests.specs.Bodies.{push}
+use Rattle.triples.specs.Bodies.{push}
 use borrow.Author.Needs.{needs}
-use Rattle.requests.proofs.triple.pushed.Statement.{statement}
-use Rattle.requests.proofs.triple.pushed.Tie as tie
+use Rattle.triples.proofs.pushed.Statement.{statement}
+use Rattle.triples.proofs.pushed.Tie as tie
 
 add-next : tie.Need-add-next
 add-next c = search needs

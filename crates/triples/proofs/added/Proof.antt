@@ -1,9 +1,9 @@
 use mathlib.Core.Logic.{⊎-elim}
 use borrow.Author.Tests.{eq-eqb, ne-eqb}
-use Rattle.requests.specs.Triples.{transaction}
+use Rattle.triples.specs.Triples.{transaction}
 use borrow.Author.Needs.{needs}
-use Rattle.requests.proofs.triple.added.Statement.{statement}
-use Rattle.requests.proofs.triple.added.Tie as tie
+use Rattle.triples.proofs.added.Statement.{statement}
+use Rattle.triples.proofs.added.Tie as tie
 
 unreadable-requires : tie.Need-unreadable-requires
 unreadable-requires c κs = search needs

@@ -2,8 +2,8 @@ use mathlib.Core.Path.{sym, ap, _∙_}
 use Rattle.fields.specs.Cursor.{found}
 use Rattle.fields.proofs.WordLaws.{names, names-not, names-none}
 use borrow.Author.Needs.{needs}
-use Rattle.requests.proofs.triple.kind_named.Statement.{statement}
-use Rattle.requests.proofs.triple.kind_named.Tie as tie
+use Rattle.triples.proofs.kind_named.Statement.{statement}
+use Rattle.triples.proofs.kind_named.Tie as tie
 
 slice-aggregate-same-bytes : tie.Need-slice-aggregate-same-bytes
 slice-aggregate-same-bytes c = search needs

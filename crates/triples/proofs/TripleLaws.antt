@@ -12,10 +12,10 @@ use Rattle.fields.specs.Fields.{untilComma, fieldsFrom}
 use Rattle.fields.proofs.FieldLaws.{from-step, from-none}
 use Rattle.fields.specs.Numbers.{ifRead, numberRead}
 use Rattle.fields.specs.Cursor.{firstBy, rest}
-use Rattle.requests.specs.declared.triple.Triples.{Triples}
-use Rattle.requests.specs.Triples.{kindNamed, transaction, before, atKind, atNumber, atAmount}
-use Rattle.requests.specs.Bodies.{push, onto, addedTo, unreadableTriples}
-use Rattle.requests.proofs.BodyLaws.{onto-before}
+use Rattle.triples.specs.declared.Triples.{Triples}
+use Rattle.triples.specs.Triples.{kindNamed, transaction, before, atKind, atNumber, atAmount}
+use Rattle.triples.specs.Bodies.{push, onto, addedTo, unreadableTriples}
+use Rattle.triples.proofs.BodyLaws.{onto-before}
 
 -- past the record's end the triples are at their end
 pub kind-past : (s : List ℕ) (at : ℕ) → length s < at → atKind (fieldsFrom s at) ≡ some []

@@ -11,9 +11,9 @@ use Rattle.terms.specs.declared.Transaction.{Transaction}
 use Rattle.terms.specs.declared.Body.{Body}
 use Rattle.terms.specs.Proposals.{bareBody, transactionsOf, badTransactions}
 use Rattle.terms.proofs.ProposalLaws.{length-transactions, four-slots, bad-transactions-over}
-use Rattle.requests.specs.Triples.{before}
-use Rattle.requests.specs.Bodies.{bodyOf, push, pushAll, onto}
-use Rattle.requests.specs.Readings.{triplesOf}
+use Rattle.triples.specs.Triples.{before}
+use Rattle.triples.specs.Bodies.{bodyOf, push, pushAll, onto}
+use Rattle.triples.specs.Bodies.{triplesOf}
 
 -- no transactions
 pub bare-of : (p : ℕ) → bareBody p ≡ bodyOf p []

@@ -9,7 +9,7 @@ use Rattle.terms.specs.declared.Transaction.{Transaction}
 use Rattle.terms.specs.declared.Slot.{Slot}
 use Rattle.terms.specs.declared.Body.{Body}
 use Rattle.terms.specs.Transactions.{noTransaction}
-use Rattle.requests.specs.declared.triple.Triples.{Triples}
+use Rattle.triples.specs.declared.Triples.{Triples}
 
 abbrev pub slot : Transaction → Slot
 slot x = record { transaction = x }
@@ -43,6 +43,11 @@ unreadableTriples = record { ok = false; body = bodyOf 0 [] }
 abbrev pub onto : Body → Option (List Transaction) → Triples
 onto b none = unreadableTriples
 onto b (some l) = record { ok = true; body = pushAll b l }
+
+-- what reading them with a previous set comes to
+abbrev pub triplesOf : ℕ → Option (List Transaction) → Triples
+triplesOf p none = unreadableTriples
+triplesOf p (some l) = record { ok = true; body = bodyOf p l }
 
 -- what adding one transaction comes to
 abbrev pub addedTo : Body → Option Transaction → Triples
