@@ -1,10 +1,10 @@
 // The reads that a host makes: committee, share, certificate, block, and the length of a table.
+use bodies::lengths::COMMITTEE;
+use bodies::lengths::HELD;
 use checks::Answer;
 use store::lengths::ROW;
 use terms::Member;
 use terms::Round;
-use words::lengths::COMMITTEE;
-use words::lengths::HELD;
 ghost use mathlib.Core.Path.{_≡_};
 ghost use mathlib.Core.Bool.{true};
 ghost use mathlib.Core.List.{[]};
@@ -13,8 +13,8 @@ ghost use lib.ListN.{length};
 ghost use Rattle.store.specs.Table.{usedLength};
 ghost use Rattle.checks.specs.Answers.{refusalIn};
 ghost use Rattle.engine.specs.Calls.{aside, committee, share, certificate, block};
-ghost use Rattle.words.specs.Lengths.{heldLength, committeeLength};
-ghost use Rattle.words.specs.Words.{sixteen};
+ghost use Rattle.bodies.specs.Lengths.{heldLength, committeeLength};
+ghost use Rattle.bodies.specs.Words.{sixteen};
 ghost use Rattle.words.specs.Proposals.{heldWords};
 ghost use Rattle.hosting.specs.Answers.{over, WeightsFit};
 ghost use Rattle.hosting.specs.Calls.{plain, packed, Done, resultOf};

@@ -19,7 +19,7 @@ use Rattle.engine.specs.Calls.{Call, InRange}
 use Rattle.engine.specs.Engine.{Engine, after}
 use Rattle.engine.specs.Steps.{SetInRange}
 use Rattle.engine.proofs.AcceptedLaws.{accepted-left}
-use Rattle.words.specs.Words.{Narrow}
+use Rattle.bodies.specs.Words.{Narrow}
 use Rattle.hosting.specs.Answers.{WeightsFit, Writable}
 use Rattle.hosting.proofs.AnsweredLaws.{accepted-zero, Settles, committee-answer}
 

@@ -36,9 +36,9 @@ use Rattle.engine.specs.Calls.{Aside, committee, share, certificate, block, Cal
 use Rattle.engine.specs.Engine.{Engine, refusalFor, after}
 use Rattle.engine.specs.Values.{nothing, number, acceptedValue, valueOf}
 use Rattle.engine.proofs.ValueLaws.{value-refused, committee-value, certificate-value}
-use Rattle.words.specs.Lengths.{stateLength, heldLength, committeeLength}
+use Rattle.bodies.specs.Lengths.{stateLength, heldLength, committeeLength}
 use Rattle.words.specs.States.{stateIn, stateWords}
-use Rattle.words.specs.Words.{sixteen}
+use Rattle.bodies.specs.Words.{sixteen}
 use Rattle.words.specs.Proposals.{heldWords}
 use Rattle.hosting.specs.Answers.{addedAnswer, over}
 use Rattle.hosting.specs.Calls.{Result, plain, Done, reads, roomFor, useOf, valueWord, engineIn, serves, engineFor, stateOver, outOver, answered, resultOf}

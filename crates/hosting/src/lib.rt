@@ -9,7 +9,7 @@ ghost use lib.ListN.{length};
 ghost use Rattle.checks.specs.Answers.{refusalIn};
 ghost use Rattle.commit.specs.Answers.{addedRefusal, addedValue};
 ghost use Rattle.reads.specs.Answers.{sharedAnswer, sharedValue, blockedAnswer, blockedValue};
-ghost use Rattle.words.specs.Lengths.{stateLength};
+ghost use Rattle.bodies.specs.Lengths.{stateLength};
 ghost use Rattle.words.specs.States.{stateWords};
 ghost use Rattle.hosting.specs.Answers.{addedAnswer, over, Writable};
 
