@@ -12,9 +12,9 @@ use Rattle.changes.proofs.TotalBound.{committee-total}
 use Rattle.state.specs.declared.State.{State}
 use Rattle.state.proofs.FormedLaws.{formed}
 use Rattle.checks.specs.declared.Answer.{Answer}
-use Rattle.reads.specs.declared.CommitteeRead.{CommitteeRead}
-use Rattle.reads.specs.Reads.{committeeRefusal, committeeAnswer}
-use Rattle.reads.proofs.ReadLaws.{committee-given, committee-passed}
+use Rattle.standing.specs.declared.CommitteeRead.{CommitteeRead}
+use Rattle.standing.specs.Reads.{committeeRefusal, committeeAnswer}
+use Rattle.standing.proofs.ReadLaws.{committee-given, committee-passed}
 use Rattle.engine.specs.Calls.{Call, InRange}
 use Rattle.engine.specs.Engine.{Engine, after}
 use Rattle.engine.specs.Steps.{SetInRange}

@@ -1,10 +1,10 @@
 use mathlib.Core.Path.{sym, _∙_}
 use Rattle.state.proofs.Walkable.{readable}
-use Rattle.reads.proofs.ReadLaws.{committee-refused, committee-given, committee-passed}
-use Rattle.reads.proofs.AnswerLaws.{committee-told}
+use Rattle.standing.proofs.ReadLaws.{committee-refused, committee-given, committee-passed}
+use Rattle.standing.proofs.AnswerLaws.{committee-told}
 use borrow.Author.Needs.{needs}
-use Rattle.reads.proofs.committee.Statement.{statement}
-use Rattle.reads.proofs.committee.Tie as tie
+use Rattle.standing.proofs.committee.Statement.{statement}
+use Rattle.standing.proofs.committee.Tie as tie
 
 committee-refusal-requires : tie.Need-committee-refusal-requires
 committee-refusal-requires c κs = search needs

@@ -2,11 +2,11 @@ use mathlib.Core.Path.{sym, _∙_}
 use native.Mathlib.Omega.{arith}
 use borrow.Author.Tests.{not-true, not-false}
 use Rattle.state.proofs.FormedLaws.{formed}
-use Rattle.reads.proofs.ReadLaws.{share-refused, share-unformed, share-nobody}
-use Rattle.reads.proofs.AnswerLaws.{share-told}
+use Rattle.standing.proofs.ReadLaws.{share-refused, share-unformed, share-nobody}
+use Rattle.standing.proofs.AnswerLaws.{share-told}
 use borrow.Author.Needs.{needs}
-use Rattle.reads.proofs.share.Statement.{statement}
-use Rattle.reads.proofs.share.Tie as tie
+use Rattle.standing.proofs.share.Statement.{statement}
+use Rattle.standing.proofs.share.Tie as tie
 
 well-formed-requires : tie.Need-well-formed-requires
 well-formed-requires c κs = search needs

@@ -5,10 +5,10 @@ use Rattle.base.proofs.CheckLaws.{refuses, passes, passes-all}
 use Rattle.state.proofs.FormedLaws.{formed}
 use Rattle.state.proofs.Walkable.{readable}
 use Rattle.rules.proofs.TestLaws.{unknown-not}
-use Rattle.reads.specs.Reads.{committeeRefusal}
+use Rattle.standing.specs.Reads.{committeeRefusal}
 use borrow.Author.Needs.{needs}
-use Rattle.reads.proofs.committee_refusal.Statement.{statement}
-use Rattle.reads.proofs.committee_refusal.Tie as tie
+use Rattle.standing.proofs.committee_refusal.Statement.{statement}
+use Rattle.standing.proofs.committee_refusal.Tie as tie
 
 well-formed-requires : tie.Need-well-formed-requires
 well-formed-requires c κs = search needs

@@ -14,11 +14,11 @@ use Rattle.rules.proofs.TestLaws.{unknown-not}
 use Rattle.state.specs.View.{view}
 use Rattle.state.proofs.Walkable.{readable}
 use Rattle.checks.proofs.SharedCheckLaws.{asked}
-use Rattle.reads.specs.Reads.{shareRefusal}
-use Rattle.reads.proofs.ReadLaws.{share-refused, share-given, share-checks}
+use Rattle.standing.specs.Reads.{shareRefusal}
+use Rattle.standing.proofs.ReadLaws.{share-refused, share-given, share-checks}
 use borrow.Author.Needs.{needs}
-use Rattle.reads.proofs.share_of.Statement.{statement}
-use Rattle.reads.proofs.share_of.Tie as tie
+use Rattle.standing.proofs.share_of.Statement.{statement}
+use Rattle.standing.proofs.share_of.Tie as tie
 
 -- the entry, from the place after `is_bad_round`
 abbrev entry : tie.After-is-bad-round → tie.Start
