@@ -85,7 +85,7 @@ pub fn accept_cached(
     }
     let p = c.proposal;
     writes::put_certificate(t, p, c.endorsers);
-    writes::clear_endorsed(t, p.author, p.round);
+    clearing::clear_endorsed(t, p.author, p.round);
     Outcome {
         state: s,
         answer: Answer::Accepted,

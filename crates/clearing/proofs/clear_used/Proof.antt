@@ -5,10 +5,10 @@ use native.Mathlib.Omega.{arith}
 use mathlib.Core.Path.{_≡_, refl}
 use mathlib.Core.List.{List, _++_}
 use lib.ListN.{length, drop, replicate, length-set}
 use Rattle.writes.specs.Writes.{clearUsed}
 use Rattle.base.proofs.PasteLaws.{cleared-more}
-use Rattle.writes.proofs.clear_used.Statement.{statement}
-use Rattle.writes.proofs.clear_used.Tie as tie
+use Rattle.clearing.proofs.clear_used.Statement.{statement}
+use Rattle.clearing.proofs.clear_used.Tie as tie
 
 -- the first i of so many words are cleared
 record Clearing (t : List ℕ) (end : ℕ) (u : List ℕ) (i : ℕ) : Type 0 where

@@ -1,8 +1,8 @@
 use Rattle.writes.specs.Writes.{clearEndorsed}
 use Rattle.store.specs.Table.{endorsedSet}
 use borrow.Author.Needs.{needs}
-use Rattle.writes.proofs.clear_endorsed.Statement.{statement}
-use Rattle.writes.proofs.clear_endorsed.Tie as tie
+use Rattle.clearing.proofs.clear_endorsed.Statement.{statement}
+use Rattle.clearing.proofs.clear_endorsed.Tie as tie
 
 cast-word : tie.Need-cast-word
 cast-word c = search needs
