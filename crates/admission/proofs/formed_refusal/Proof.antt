@@ -8,8 +8,8 @@ use Rattle.state.specs.View.{view}
 use Rattle.checks.specs.SharedChecks.{formChecks, FormFits}
 use Rattle.checks.proofs.PlaceLaws.{form-fits, piece-refused, piece-passed, form-numbered}
 use borrow.Author.Needs.{needs}
-use Rattle.accept.proofs.formed_refusal.Statement.{statement}
-use Rattle.accept.proofs.formed_refusal.Tie as tie
+use Rattle.admission.proofs.formed_refusal.Statement.{statement}
+use Rattle.admission.proofs.formed_refusal.Tie as tie
 
 -- the entry, from the place after `form_refusal`; the checks, and those of them that it makes
 abbrev entry : tie.After-form-refusal → tie.Start

@@ -12,8 +12,8 @@ use Rattle.state.specs.View.{view}
 use Rattle.checks.specs.SharedChecks.{signerChecks}
 use Rattle.checks.proofs.PlaceLaws.{fits-within, place-same, place-other, place-free, piece-refused, piece-passed, signers-numbered}
 use borrow.Author.Needs.{needs}
-use Rattle.accept.proofs.place_refusal.Statement.{statement}
-use Rattle.accept.proofs.place_refusal.Tie as tie
+use Rattle.admission.proofs.place_refusal.Statement.{statement}
+use Rattle.admission.proofs.place_refusal.Tie as tie
 
 -- the entry, from the place after `held`, and the checks
 abbrev entry : tie.After-held → tie.Start
