@@ -1,10 +1,5 @@
 // The committees of rounds, from the chain in the table (scope document: Committees, quorums, leaders).
 // Its cost is that of one pass over the header of each row and each held certificate, of one leader for each block, and of at most two looks at each certificate in a block.
-pub mod block;
-pub mod links;
-pub mod running;
-pub mod starts;
-
 use sheet::Settings;
 use terms::Round;
 ghost use mathlib.Core.Path.{_≡_};
@@ -14,22 +9,16 @@ ghost use Rattle.store.specs.Table.{Row};
 ghost use Rattle.committee.specs.Chain.{chainOf};
 ghost use Rattle.committee.specs.Committees.{committeeOf, knownBy};
 ghost use Rattle.committee.specs.Totals.{TotalBounded};
-ghost use Rattle.bonded.specs.BlockChanges.{lastRound, blockFits, blocksFit};
+ghost use Rattle.changes.specs.BlockChanges.{lastRound, blockFits, blocksFit};
 ghost use Rattle.bonded.specs.Pairs.{PairOf};
-ghost use Rattle.bonded.specs.ChainInTable.{ChainInTable};
-ghost use Rattle.bonded.specs.Rows.{RowsTo};
-ghost use Rattle.bonded.specs.Walks.{WalkRoom};
+ghost use Rattle.changes.specs.ChainInTable.{ChainInTable};
+ghost use Rattle.changes.specs.Rows.{RowsTo};
+ghost use Rattle.running.specs.Walks.{WalkRoom};
 
 // The committees of a round and of the one before it.
 pub struct Pair {
     pub before: [u64; 16],
     pub at: [u64; 16],
-}
-
-// How many blocks are applied, and of how many the starts are written.
-pub struct Applied {
-    pub blocks: u32,
-    pub starts: u32,
 }
 
 // The round of the newest of the first k blocks, 0 for none.
@@ -105,10 +94,10 @@ fn walked(t: &[u32], s: Settings, blocks: u32, r: Round, next: &mut [u32]) -> Pa
     let mut w = s.weights;
     let end = s.ceiling.0 * 16 + 16;
     let mut head = [end; 512];
-    crate::links::link_rows(t, &mut head, next, s.ceiling);
+    changes::links::link_rows(t, &mut head, next, s.ceiling);
     let mut starts = [16u32; 512];
-    let none = crate::running::none();
-    let x = crate::running::reach_round(
+    let none = running::none();
+    let x = running::reach_round(
         t,
         &head,
         next,
@@ -120,7 +109,7 @@ fn walked(t: &[u32], s: Settings, blocks: u32, r: Round, next: &mut [u32]) -> Pa
         &mut starts,
     );
     let before = w;
-    crate::running::reach_round(t, &head, next, s, blocks, x, r, &mut w, &mut starts);
+    running::reach_round(t, &head, next, s, blocks, x, r, &mut w, &mut starts);
     Pair { before, at: w }
 }
 
@@ -133,11 +122,11 @@ pub fn committees_of(t: &[u32], s: Settings, blocks: u32, r: Round) -> Pair
         let w = s.weights;
         return Pair { before: w, at: w };
     }
-    if s.ceiling.0 <= crate::links::FEW_ROUNDS {
-        let mut few = [0u32; crate::links::FEW];
+    if s.ceiling.0 <= changes::links::FEW_ROUNDS {
+        let mut few = [0u32; changes::links::FEW];
         return walked(t, s, blocks, r, &mut few);
     }
-    let mut many = [0u32; crate::links::MANY];
+    let mut many = [0u32; changes::links::MANY];
     walked(t, s, blocks, r, &mut many)
 }
 

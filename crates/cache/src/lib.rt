@@ -13,8 +13,8 @@ ghost use Rattle.committee.specs.Committees.{committeeOf};
 ghost use Rattle.committee.specs.Totals.{TotalBounded};
 ghost use Rattle.cache.specs.Caches.{Caches};
 ghost use Rattle.bonded.specs.Pairs.{PairOf};
-ghost use Rattle.bonded.specs.ChainInTable.{ChainInTable};
-ghost use Rattle.bonded.specs.Walks.{WalkRoom, WalkStart};
+ghost use Rattle.changes.specs.ChainInTable.{ChainInTable};
+ghost use Rattle.running.specs.Walks.{WalkRoom, WalkStart};
 
 // The words of round r.
 fn cached_at(cache: &[u64], r: Round) -> [u64; 16]
@@ -80,13 +80,13 @@ fn cache_rounds(
     requires { ⌜ WalkStart s (now t) blocks (now head) (now next) (now w) (now starts) ⌝ }
     ensures { λ _. ⌜ Caches s (chainOf (s .ceiling .0) (now (t .entry)) blocks) (now (cache .exit)) ⌝ }
 {
-    let mut x = bonded::running::none();
+    let mut x = running::none();
     for q in 0..s.ceiling.0 + 1 {
         let r = Round(q);
         if cache.len() < q as usize * 16 + 16 {
             return;
         }
-        x = bonded::running::reach_round(t, head, next, s, blocks, x, r, w, starts);
+        x = running::reach_round(t, head, next, s, blocks, x, r, w, starts);
         put_committee(*w, r, cache);
     }
 }
@@ -99,7 +99,7 @@ fn fill_cache_with(t: &[u32], s: Settings, blocks: u32, next: &mut [u32], cache:
     let mut w = s.weights;
     let end = s.ceiling.0 * 16 + 16;
     let mut head = [end; 512];
-    bonded::links::link_rows(t, &mut head, next, s.ceiling);
+    changes::links::link_rows(t, &mut head, next, s.ceiling);
     let mut starts = [16u32; 512];
     cache_rounds(t, &head, next, s, blocks, &mut w, &mut starts, cache);
 }
@@ -109,11 +109,11 @@ pub fn fill_cache(t: &[u32], s: Settings, blocks: u32, cache: &mut [u64])
     requires { ⌜ ChainInTable s (now t) blocks ⌝ }
     ensures { λ _. ⌜ Caches s (chainOf (s .ceiling .0) (now (t .entry)) blocks) (now (cache .exit)) ⌝ }
 {
-    if s.ceiling.0 <= bonded::links::FEW_ROUNDS {
-        let mut few = [0u32; bonded::links::FEW];
+    if s.ceiling.0 <= changes::links::FEW_ROUNDS {
+        let mut few = [0u32; changes::links::FEW];
         fill_cache_with(t, s, blocks, &mut few, cache);
         return;
     }
-    let mut many = [0u32; bonded::links::MANY];
+    let mut many = [0u32; changes::links::MANY];
     fill_cache_with(t, s, blocks, &mut many, cache);
 }

@@ -9,15 +9,17 @@ use lib.ListN.{getD}
 use borrow.Author.Tests.{eq-eqb, ne-eqb}
 use Rattle.base.specs.Checks.{refusal}
 use Rattle.base.proofs.SetLaws.{in-member}
-use Rattle.bonded.specs.BlockChanges.{lastRound}
+use Rattle.changes.specs.BlockChanges.{lastRound}
 use Rattle.blocks.specs.Blocks.{commitTable, commitCount}
 use Rattle.blocks.proofs.CommitLaws.{commit-stage}
 use Rattle.state.specs.declared.State.{State}
 use Rattle.state.specs.WellFormed.{wellFormed}
 use Rattle.state.specs.Formed.{Formed}
 use Rattle.commit.specs.declared.Outcome.{Outcome}
-use Rattle.commit.specs.Commit.{refusedWith, addedWith, timeChecks, voteChecks, commitRefusal, leadersFor, blocksThen, committedTable, commitOutcome, commitTableAfter}
-use Rattle.commit.proofs.CheckLaws.{Timely, voted, led-on, number-unread, refusal-late, refusal-timely}
+use Rattle.commit.specs.Commit.{refusedWith, addedWith, commitRefusal, blocksThen, committedTable, commitOutcome, commitTableAfter}
+use Rattle.votes.specs.Checks.{timeChecks, voteChecks, leadersFor}
+use Rattle.votes.proofs.CheckLaws.{Timely, voted, led-on}
+use Rattle.commit.proofs.CheckLaws.{number-unread, refusal-late, refusal-timely}
 
 module _ (s : State) (t : List ℕ) where
   -- the answer and the table, as the contract has them

@@ -17,8 +17,8 @@ use Rattle.store.specs.Table.{usedLength, heldSet, contentAt}
 use Rattle.store.proofs.TableLaws.{held-in, content-author, content-round, certificate-present, certificate-absent}
 use Rattle.writes.proofs.MarkLaws.{OnlyMarks, certificate-marked, endorsed-marked}
 use Rattle.committee.specs.Chain.{chainOf}
-use Rattle.bonded.specs.BlockChanges.{lastRound}
-use Rattle.bonded.proofs.ChainLaws.{last-chain}
+use Rattle.changes.specs.BlockChanges.{lastRound}
+use Rattle.changes.proofs.ChainLaws.{last-chain}
 use Rattle.blocks.specs.Blocks.{commitTable, commitCount}
 use Rattle.blocks.proofs.CommitLaws.{commit-stage}
 use Rattle.commit.proofs.Anchors.{anchorIn, anchor-in, Ready}
@@ -29,8 +29,9 @@ use Rattle.rules.proofs.CallLaws.{after-commit}
 use Rattle.state.specs.declared.State.{State}
 use Rattle.state.specs.View.{dagOf, endorsedOf, view}
 use Rattle.state.proofs.ViewLaws.{dag-at, dag-same, endorsed-same, proposal-same}
-use Rattle.commit.specs.Commit.{withBlocks, commitRefusal, leadersFor, blocksThen, committedTable}
-use Rattle.commit.proofs.AnchorLaws.{leaderOn, anchor-on, leaders-on, leaders-length}
+use Rattle.commit.specs.Commit.{withBlocks, commitRefusal, blocksThen, committedTable}
+use Rattle.votes.specs.Checks.{leadersFor}
+use Rattle.votes.proofs.AnchorLaws.{leaderOn, anchor-on, leaders-on, leaders-length}
 use Rattle.commit.proofs.CheckLaws.{accepted}
 use Rattle.commit.proofs.ShownLaws.{shows, marks-fit, chain-shown}
 use Rattle.rules.specs.Calls as rules

@@ -1,7 +1,6 @@
 pub mod Histories
 pub mod Anchors
 pub mod Chains
-pub mod AnchorLaws
 pub mod CheckLaws
 pub mod AnswerLaws
 pub mod ShownLaws

@@ -14,8 +14,8 @@ use Rattle.writes.proofs.MarkLaws.{beyond-marked}
 use Rattle.scan.specs.Scan.{rowsFit}
 use Rattle.scan.proofs.FitLaws.{rows-marked}
 use Rattle.committee.proofs.ChainLaws.{chain-length}
-use Rattle.bonded.specs.BlockChanges.{lastRound}
-use Rattle.bonded.proofs.ChainLaws.{BlockFits, fits-at, last-none, last-some}
+use Rattle.changes.specs.BlockChanges.{lastRound}
+use Rattle.changes.proofs.ChainLaws.{BlockFits, fits-at, last-none, last-some}
 use Rattle.histories.proofs.TakenLaws.{taken-left}
 use Rattle.blocks.proofs.CommitLaws.{commit-stage, commit-round-old, commit-mark, commit-rounds, commit-last}
 use Rattle.state.specs.declared.State.{State}
@@ -23,8 +23,9 @@ use Rattle.state.specs.View.{view}
 use Rattle.state.specs.Formed.{Formed}
 use Rattle.state.proofs.FormedLaws.{formed-by}
 use Rattle.state.proofs.RoundLaws.{blocks-whole, blocks-same}
-use Rattle.commit.specs.Commit.{commitRefusal, leadersFor, blocksThen, committedTable}
-use Rattle.commit.proofs.AnchorLaws.{leaderOn, leader-even, leaders-on, leaders-length}
+use Rattle.commit.specs.Commit.{commitRefusal, blocksThen, committedTable}
+use Rattle.votes.specs.Checks.{leadersFor}
+use Rattle.votes.proofs.AnchorLaws.{leaderOn, leader-even, leaders-on, leaders-length}
 use Rattle.commit.proofs.CheckLaws.{Accepted, accepted}
 use Rattle.commit.proofs.CommitLaws.{committedState, only-marks}
 

@@ -8,11 +8,12 @@ use lib.ListN.{length}
 use lib.Dec.{eqb}
 use borrow.Author.Tests.{eqb-true}
 use Rattle.rules.specs.Tests.{MemberView}
-use Rattle.bonded.specs.BlockChanges.{lastRound}
+use Rattle.changes.specs.BlockChanges.{lastRound}
 use Rattle.state.specs.declared.State.{State}
 use Rattle.commit.specs.declared.Outcome.{Outcome}
 use Rattle.commit.specs.Answers.{addedRefusal}
-use Rattle.commit.specs.Commit.{refusedWith, addedWith, commitRefusal, leadersFor, blocksThen, committedTable, commitOutcome, commitTableAfter, ruledView, RulesGive, Commits}
+use Rattle.commit.specs.Commit.{refusedWith, addedWith, commitRefusal, blocksThen, committedTable, commitOutcome, commitTableAfter, ruledView, RulesGive, Commits}
+use Rattle.votes.specs.Checks.{leadersFor}
 use Rattle.commit.proofs.CheckLaws.{accepted}
 use Rattle.commit.proofs.AnswerLaws.{Answers, answers-accepted, blocks-more}
 use Rattle.commit.proofs.CommitLaws.{view-commit}

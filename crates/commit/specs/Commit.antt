@@ -1,22 +1,17 @@
 -- Commit on a state and its table: the number that refuses, the answer and the state, and the table.
 use mathlib.Core.Path.{_≡_}
-use mathlib.Core.Bool.{cond, _||_}
-use mathlib.Core.List.{List, [], _∷_}
-use Prim.Native.Nat.{ℕ, _+_, _-_, _%_}
-use lib.ListN.{length, replicate}
-use lib.Dec.{eqb, leb}
-use Rattle.base.specs.Checks.{Checks}
-use Rattle.agreement.specs.Rules.{last}
-use Rattle.agreement.specs.Commits.{anchorAt}
-use Rattle.committee.specs.Chain.{chainOf}
-use Rattle.committee.specs.Committees.{committeeOf}
-use Rattle.bonded.specs.BlockChanges.{lastRound}
-use Rattle.leaders.specs.Fill.{leaderAt, fillTo}
-use Rattle.rules.specs.Tests.{MemberView, unknown}
+use mathlib.Core.Bool.{cond}
+use mathlib.Core.List.{List}
+use Prim.Native.Nat.{ℕ, _+_, _-_}
+use lib.ListN.{length}
+use lib.Dec.{eqb}
+use Rattle.changes.specs.BlockChanges.{lastRound}
+use Rattle.rules.specs.Tests.{MemberView}
 use Rattle.rules.specs.Calls as rules
 use Rattle.state.specs.declared.State.{State}
 use Rattle.state.specs.View.{view}
 use Rattle.state.specs.Refusals.{refusalOf}
+use Rattle.votes.specs.Checks.{leadersFor}
 use Rattle.blocks.specs.Blocks.{commitTable, commitCount}
 use Rattle.commit.specs.declared.Committed.the-variants.{Added, Refused}
 use Rattle.commit.specs.declared.Outcome.{Outcome}
@@ -35,32 +30,16 @@ abbrev pub addedWith : State → ℕ → Outcome
 addedWith s k = record { state = withBlocks s k; answer = Added (k - s .blocks) }
 
 module _ (s : State) (t : List ℕ) where
-  -- the checks 19, 20, 8, and then 21, 22
-  abbrev pub timeChecks : Checks
-  timeChecks = (eqb (s .round .0 % 2) 0 || eqb (s .round .0) 1, 19) ∷ (leb (s .round .0 - 1) (last (view s t .chain)), 20) ∷ (unknown (s .settings) (view s t) (s .round .0), 8) ∷ []
-
-  abbrev pub voteChecks : Checks
-  voteChecks = rules.voting (s .settings) (view s t) (anchorAt (view s t) (s .round .0 - 1))
-
   -- the number of the first check that refuses, 0 for none
   unfoldable pub commitRefusal : ℕ
   commitRefusal = refusalOf s t rules.commit
 
-  -- the leaders of the rounds above the last block's, below the present one, by round, 16 for none
-  unfoldable pub leadersFor : List ℕ
-  leadersFor =
-      fillTo (leaderAt (s .settings) (chainOf (s .settings .ceiling .0) t (s .blocks))) (lastRound t (s .blocks)) (s .round .0 - 1 - lastRound t (s .blocks)) (replicate 1025 16)
-
-  -- the committee of round q
-  abbrev pub committeeOn : ℕ → List ℕ
-  committeeOn q = committeeOf (s .settings) (chainOf (s .settings .ceiling .0) t (s .blocks)) q
-
   -- how many blocks there are after an accepted commit, and the table
   unfoldable pub blocksThen : ℕ
-  blocksThen = commitCount (lastRound t (s .blocks)) (s .round .0 - 1) (s .blocks) leadersFor t
+  blocksThen = commitCount (lastRound t (s .blocks)) (s .round .0 - 1) (s .blocks) (leadersFor s t) t
 
   unfoldable pub committedTable : List ℕ
-  committedTable = commitTable (lastRound t (s .blocks)) (s .round .0 - 1) (s .blocks) leadersFor t
+  committedTable = commitTable (lastRound t (s .blocks)) (s .round .0 - 1) (s .blocks) (leadersFor s t) t
 
   -- a refused commit changes nothing
   unfoldable pub commitOutcome : Outcome

@@ -1,4 +1,2 @@
-pub mod Votes
 pub mod Answers
 pub mod Commit
-pub mod Ready

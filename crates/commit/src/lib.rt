@@ -1,7 +1,4 @@
 // Commit: the anchor of the round before, and those that its history takes, make blocks, oldest first (scope document: Commit).
-mod refusals;
-mod votes;
-
 use state::State;
 use terms::Round;
 ghost use mathlib.Core.Path.{_≡_};
@@ -38,7 +35,7 @@ pub fn commit_cached(formed: bool, s: State, t: &mut [u32]) -> Outcome
     if !formed {
         return refused(s, 1);
     }
-    let late = crate::refusals::time_refusal(s, t);
+    let late = votes::refusals::time_refusal(s, t);
     if late != 0 {
         return refused(s, late);
     }
@@ -48,7 +45,7 @@ pub fn commit_cached(formed: bool, s: State, t: &mut [u32]) -> Outcome
     let top = Round(s.round.0 - 1);
     let mut leaders = [16u32; 1025];
     let w = leaders::fill_leaders(t, settings, blocks, last, top, &mut leaders);
-    let fault = crate::refusals::vote_refusal(s, t, &leaders, &w);
+    let fault = votes::refusals::vote_refusal(s, t, &leaders, &w);
     if fault != 0 {
         return refused(s, fault);
     }

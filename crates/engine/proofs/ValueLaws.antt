@@ -6,7 +6,8 @@ use Rattle.terms.specs.declared.Member.{Member}
 use Rattle.terms.specs.declared.Round.{Round}
 use Rattle.checks.specs.Answers.{ifAccepted}
 use Rattle.reads.specs.declared.CertificateRead.{CertificateRead}
-use Rattle.reads.specs.Reads.{committeeRefusal, committeeAnswer, certificateRefusal, certificateAnswer}
+use Rattle.standing.specs.Reads.{committeeRefusal, committeeAnswer}
+use Rattle.reads.specs.Reads.{certificateRefusal, certificateAnswer}
 use Rattle.engine.specs.Calls.{committee, certificate, Call, aside}
 use Rattle.engine.specs.Engine.{Engine, refusalFor}
 use Rattle.engine.specs.Values.{Value, nothing, weights, held, acceptedValue, valueOf}

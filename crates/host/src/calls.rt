@@ -1,11 +1,11 @@
 // The calls that a host makes: open, propose, endorse, certify, accept, advance, commit.
+use bodies::lengths::STATE;
 use terms::Member;
-use words::lengths::STATE;
 ghost use mathlib.Core.Bool.{true};
 ghost use mathlib.Core.List.{[]};
 ghost use lib.Dec.{ltb};
 ghost use Rattle.engine.specs.Calls.{opens, propose, endorse, certify, accept, advance, commit};
-ghost use Rattle.words.specs.Bodies.{loneBodyReads, bodyIn};
+ghost use Rattle.bodies.specs.Bodies.{loneBodyReads, bodyIn};
 ghost use Rattle.words.specs.Proposals.{proposalReads, proposalIn, certificateReads, certificateIn};
 ghost use Rattle.words.specs.Sheets.{sheetReads, sheetIn};
 ghost use Rattle.hosting.specs.Calls.{plain, packed, Done, resultOf};
@@ -40,11 +40,11 @@ pub extern "C" fn forgelilac_propose(state: &mut [u32], table: &[u32], body: &[u
     if !words::states::state_reads(state) {
         return 1;
     }
-    if !words::bodies::lone_body_reads(body) {
+    if !bodies::lone_body_reads(body) {
         return 1;
     }
     let s = words::states::state_in(state);
-    let b = words::bodies::body_in(body, 0);
+    let b = bodies::body_in(body, 0);
     let x = propose::propose(s, table, b);
     hosting::settle(state, x)
 }

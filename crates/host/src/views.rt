@@ -1,10 +1,10 @@
 // The reads that a host makes: committee, share, certificate, block, and the length of a table.
+use bodies::lengths::COMMITTEE;
+use bodies::lengths::HELD;
 use checks::Answer;
 use store::lengths::ROW;
 use terms::Member;
 use terms::Round;
-use words::lengths::COMMITTEE;
-use words::lengths::HELD;
 ghost use mathlib.Core.Path.{_≡_};
 ghost use mathlib.Core.Bool.{true};
 ghost use mathlib.Core.List.{[]};
@@ -13,14 +13,14 @@ ghost use lib.ListN.{length};
 ghost use Rattle.store.specs.Table.{usedLength};
 ghost use Rattle.checks.specs.Answers.{refusalIn};
 ghost use Rattle.engine.specs.Calls.{aside, committee, share, certificate, block};
-ghost use Rattle.words.specs.Lengths.{heldLength, committeeLength};
-ghost use Rattle.words.specs.Words.{sixteen};
+ghost use Rattle.bodies.specs.Lengths.{heldLength, committeeLength};
+ghost use Rattle.bodies.specs.Words.{sixteen};
 ghost use Rattle.words.specs.Proposals.{heldWords};
 ghost use Rattle.hosting.specs.Answers.{over, WeightsFit};
 ghost use Rattle.hosting.specs.Calls.{plain, packed, Done, resultOf};
 
 // Writes the weights of a committee, where the read is accepted.
-fn show_committee(out: &mut [u32], x: reads::CommitteeRead) -> u32
+fn show_committee(out: &mut [u32], x: standing::CommitteeRead) -> u32
     requires { ⌜ (committeeLength ≤ length (now out)) × WeightsFit (x .answer) (x .weights) ⌝ }
     ensures { λ r. ⌜ (r ≡ refusalIn (x .answer)) × (now (out .exit) ≡ over (x .answer) (now (out .entry)) (sixteen (x .weights)) committeeLength) ⌝ }
 {
@@ -68,7 +68,7 @@ pub extern "C" fn forgelilac_committee(
         return 1;
     }
     let s = words::states::state_in(state);
-    let x = reads::committee(s, table, Round(round));
+    let x = standing::committee(s, table, Round(round));
     show_committee(out, x)
 }
 
@@ -81,7 +81,7 @@ pub extern "C" fn forgelilac_share(state: &[u32], table: &[u32], member: u32, ro
         return hosting::unread();
     }
     let s = words::states::state_in(state);
-    let x = reads::share(s, table, Member(member), Round(round));
+    let x = standing::share(s, table, Member(member), Round(round));
     hosting::share_number(x)
 }
 

@@ -8,18 +8,18 @@ use Rattle.sheet.specs.declared.Settings.{Settings}
 use Rattle.sheet.specs.Ranges.{weightIn, SettingsFit}
 use Rattle.committee.specs.Committees.{committeeOf}
 use Rattle.committee.specs.Chain.{chainOf}
-use Rattle.bonded.proofs.TotalBound.{committee-total}
+use Rattle.changes.proofs.TotalBound.{committee-total}
 use Rattle.state.specs.declared.State.{State}
 use Rattle.state.proofs.FormedLaws.{formed}
 use Rattle.checks.specs.declared.Answer.{Answer}
-use Rattle.reads.specs.declared.CommitteeRead.{CommitteeRead}
-use Rattle.reads.specs.Reads.{committeeRefusal, committeeAnswer}
-use Rattle.reads.proofs.ReadLaws.{committee-given, committee-passed}
+use Rattle.standing.specs.declared.CommitteeRead.{CommitteeRead}
+use Rattle.standing.specs.Reads.{committeeRefusal, committeeAnswer}
+use Rattle.standing.proofs.ReadLaws.{committee-given, committee-passed}
 use Rattle.engine.specs.Calls.{Call, InRange}
 use Rattle.engine.specs.Engine.{Engine, after}
 use Rattle.engine.specs.Steps.{SetInRange}
 use Rattle.engine.proofs.AcceptedLaws.{accepted-left}
-use Rattle.words.specs.Words.{Narrow}
+use Rattle.bodies.specs.Words.{Narrow}
 use Rattle.hosting.specs.Answers.{WeightsFit, Writable}
 use Rattle.hosting.proofs.AnsweredLaws.{accepted-zero, Settles, committee-answer}
 

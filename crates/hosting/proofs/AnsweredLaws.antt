@@ -26,19 +26,21 @@ use Rattle.commit.specs.declared.Committed as Made
 use Rattle.commit.specs.declared.Outcome as committed
 use Rattle.commit.specs.Answers.{addedRefusal, addedValue}
 use Rattle.commit.specs.Commit.{addedWith, refusedWith, commitRefusal, blocksThen, commitOutcome}
-use Rattle.reads.specs.declared.CommitteeRead.{CommitteeRead}
-use Rattle.reads.specs.declared.ShareRead.{ShareRead}
+use Rattle.standing.specs.declared.CommitteeRead.{CommitteeRead}
+use Rattle.standing.specs.declared.ShareRead.{ShareRead}
 use Rattle.reads.specs.declared.CertificateRead.{CertificateRead}
 use Rattle.reads.specs.declared.BlockRead.{BlockRead}
-use Rattle.reads.specs.Answers.{sharedAnswer, sharedValue, blockedAnswer, blockedValue, ValueAnswered}
-use Rattle.reads.specs.Reads.{committeeRefusal, committeeAnswer, shareRefusal, shareAnswer, shareValue, certificateRefusal, certificateAnswer, blockRefusal, blockAnswer, blockValue}
+use Rattle.standing.specs.Answers.{sharedAnswer, sharedValue, ValueAnswered}
+use Rattle.reads.specs.Answers.{blockedAnswer, blockedValue}
+use Rattle.standing.specs.Reads.{committeeRefusal, committeeAnswer, shareRefusal, shareAnswer, shareValue}
+use Rattle.reads.specs.Reads.{certificateRefusal, certificateAnswer, blockRefusal, blockAnswer, blockValue}
 use Rattle.engine.specs.Calls.{Aside, committee, share, certificate, block, Call, opens, propose, advance, commit, aside}
 use Rattle.engine.specs.Engine.{Engine, refusalFor, after}
 use Rattle.engine.specs.Values.{nothing, number, acceptedValue, valueOf}
 use Rattle.engine.proofs.ValueLaws.{value-refused, committee-value, certificate-value}
-use Rattle.words.specs.Lengths.{stateLength, heldLength, committeeLength}
+use Rattle.bodies.specs.Lengths.{stateLength, heldLength, committeeLength}
 use Rattle.words.specs.States.{stateIn, stateWords}
-use Rattle.words.specs.Words.{sixteen}
+use Rattle.bodies.specs.Words.{sixteen}
 use Rattle.words.specs.Proposals.{heldWords}
 use Rattle.hosting.specs.Answers.{addedAnswer, over}
 use Rattle.hosting.specs.Calls.{Result, plain, Done, reads, roomFor, useOf, valueWord, engineIn, serves, engineFor, stateOver, outOver, answered, resultOf}

@@ -13,8 +13,8 @@ use Rattle.terms.specs.declared.Body.{Body}
 use Rattle.state.specs.declared.State.{State}
 use Rattle.engine.specs.Calls.{Call}
 use Rattle.engine.specs.Engine.{Engine, refusalFor, after}
-use Rattle.words.specs.Lengths.{stateLength, bodyLength}
-use Rattle.words.specs.Bodies.{usedOf, usedWords, bodyWords, tripleWords}
+use Rattle.bodies.specs.Lengths.{stateLength, bodyLength}
+use Rattle.bodies.specs.Bodies.{usedOf, usedWords, bodyWords, tripleWords}
 use Rattle.words.specs.States.{ownBody, stateWords}
 use Rattle.words.proofs.ReadingLaws.{state-read}
 use Rattle.words.proofs.BackLaws.{length-state}

@@ -8,8 +8,8 @@ use lib.Dec.{ltb}
 use borrow.Author.Tests.{ltb-true}
 use Rattle.terms.specs.declared.Member.{Member}
 use Rattle.engine.specs.Calls.{Aside, opens, propose, endorse, certify, accept, advance, commit, aside}
-use Rattle.words.specs.Lengths.{proposalLength}
-use Rattle.words.specs.Bodies.{loneBodyReads, bodyIn}
+use Rattle.bodies.specs.Lengths.{proposalLength}
+use Rattle.bodies.specs.Bodies.{loneBodyReads, bodyIn}
 use Rattle.words.specs.Proposals.{proposalReads, proposalIn, certificateReads, certificateIn}
 use Rattle.words.specs.Sheets.{sheetReads, sheetIn}
 use Rattle.hosting.specs.Handed.{Handed}

@@ -28,12 +28,12 @@ use Rattle.reads.proofs.ReadLaws.{certificate-given}
 use Rattle.reads.specs.Reads.{certificateRefusal}
 use Rattle.engine.specs.Calls.{aside, certificate}
 use Rattle.engine.proofs.ValueLaws.{certificate-value}
-use Rattle.words.specs.Lengths.{proposalLength, certificateLength, heldLength}
-use Rattle.words.specs.Words.{word}
-use Rattle.words.specs.Bodies.{tripleReads, bodyReads, slotIn, bodyIn, usedOf, usedWords, bodyWords}
+use Rattle.bodies.specs.Lengths.{proposalLength, certificateLength, heldLength}
+use Rattle.bodies.specs.Words.{word}
+use Rattle.bodies.specs.Bodies.{tripleReads, bodyReads, slotIn, bodyIn, usedOf, usedWords, bodyWords}
 use Rattle.words.specs.Proposals.{proposalReads, proposalIn, certificateReads, certificateIn, heldWords}
 use Rattle.words.specs.States.{stateReads, stateIn}
-use Rattle.words.proofs.PutLaws.{length-body}
+use Rattle.bodies.proofs.BodyLaws.{length-body}
 use Rattle.words.proofs.SameLaws.{Agree, body-same, body-reads-same}
 use Rattle.words.specs.TidyStates.{tidyBody}
 use Rattle.words.proofs.BackLaws.{used-back, triple-reads, either}

@@ -20,7 +20,7 @@ use Rattle.engine.specs.Engine.{after}
 use Rattle.engine.specs.Steps.{SetInRange}
 use Rattle.engine.proofs.AfterLaws.{renewed, accepted-new}
 use Rattle.engine.proofs.AcceptedLaws.{WellLeft, accepted-left}
-use Rattle.words.specs.Lengths.{stateLength}
+use Rattle.bodies.specs.Lengths.{stateLength}
 use Rattle.words.specs.States.{stateReads, stateIn, stateWords}
 use Rattle.words.specs.TidyStates.{tidyBody, tidy}
 use Rattle.hosting.specs.Handed.{Handed}

@@ -7,7 +7,7 @@ use Rattle.state.specs.declared.State.{State}
 use Rattle.checks.specs.declared.Answer.{Answer}
 use Rattle.checks.specs.declared.Answer.the-variants.{Accepted, Refused}
 use Rattle.commit.specs.declared.Committed as Made
-use Rattle.words.specs.Words.{Narrow}
+use Rattle.bodies.specs.Words.{Narrow}
 
 -- the answer of a commit as one like the others
 abbrev pub addedAnswer : Made.Committed → Answer

@@ -11,8 +11,8 @@ use Rattle.open.specs.Open.{closedState}
 use Rattle.engine.specs.Calls.{Aside, committee, share, certificate, block, listing, Call, opens, propose, endorse, certify, accept, advance, commit, aside}
 use Rattle.engine.specs.Engine.{Engine, refusalFor, after}
 use Rattle.engine.specs.Values.{Value, nothing, number, weights, held, chain, valueOf}
-use Rattle.words.specs.Lengths.{stateLength, heldLength, committeeLength}
-use Rattle.words.specs.Words.{sixteen}
+use Rattle.bodies.specs.Lengths.{stateLength, heldLength, committeeLength}
+use Rattle.bodies.specs.Words.{sixteen}
 use Rattle.words.specs.Proposals.{heldWords}
 use Rattle.words.specs.States.{stateReads, stateIn, stateWords}
 

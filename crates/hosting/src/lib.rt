@@ -2,14 +2,15 @@
 use checks::Answer;
 use commit::Committed;
 use reads::BlockRead;
-use reads::ShareRead;
+use standing::ShareRead;
 ghost use mathlib.Core.Path.{_≡_};
 ghost use Prim.Native.Nat.{_+_, _*_, _≤_};
 ghost use lib.ListN.{length};
 ghost use Rattle.checks.specs.Answers.{refusalIn};
 ghost use Rattle.commit.specs.Answers.{addedRefusal, addedValue};
-ghost use Rattle.reads.specs.Answers.{sharedAnswer, sharedValue, blockedAnswer, blockedValue};
-ghost use Rattle.words.specs.Lengths.{stateLength};
+ghost use Rattle.standing.specs.Answers.{sharedAnswer, sharedValue};
+ghost use Rattle.reads.specs.Answers.{blockedAnswer, blockedValue};
+ghost use Rattle.bodies.specs.Lengths.{stateLength};
 ghost use Rattle.words.specs.States.{stateWords};
 ghost use Rattle.hosting.specs.Answers.{addedAnswer, over, Writable};
 

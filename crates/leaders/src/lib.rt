@@ -3,8 +3,8 @@ use sheet::Settings;
 use terms::Round;
 ghost use Rattle.committee.specs.Chain.{chainOf};
 ghost use Rattle.leaders.specs.Fill.{RoundSpan, LeadersFilled};
-ghost use Rattle.bonded.specs.ChainInTable.{ChainInTable};
-ghost use Rattle.bonded.specs.Walks.{WalkRoom, WalkStart};
+ghost use Rattle.changes.specs.ChainInTable.{ChainInTable};
+ghost use Rattle.running.specs.Walks.{WalkRoom, WalkStart};
 
 // The leaders of the rounds above m up to top, where the places of each block are linked; w is the starting committee, and then that of the round above top.
 fn fill_rounds(
@@ -22,14 +22,14 @@ fn fill_rounds(
     requires { ⌜ WalkStart s (now t) blocks (now head) (now next) (now w) (now starts) × RoundSpan (m .0) (top .0) ⌝ }
     ensures { λ _. ⌜ LeadersFilled s (chainOf (s .ceiling .0) (now (t .entry)) blocks) (m .0) (top .0) (now (l .entry)) (now (l .exit)) (now (w .exit)) ⌝ }
 {
-    let mut x = bonded::running::none();
+    let mut x = running::none();
     for q in m.0..top.0 {
         let r = Round(q + 1);
-        x = bonded::running::reach_round(t, head, next, s, blocks, x, r, w, starts);
+        x = running::reach_round(t, head, next, s, blocks, x, r, w, starts);
         let a = weighing::leader::leader(w, r);
         l[q as usize + 1] = a.0;
     }
-    bonded::running::reach_round(t, head, next, s, blocks, x, Round(top.0 + 1), w, starts);
+    running::reach_round(t, head, next, s, blocks, x, Round(top.0 + 1), w, starts);
 }
 
 // The same, where next has a word for each place; gives that committee.
@@ -48,7 +48,7 @@ fn filled_by(
     let mut w = s.weights;
     let end = s.ceiling.0 * 16 + 16;
     let mut head = [end; 512];
-    bonded::links::link_rows(t, &mut head, next, s.ceiling);
+    changes::links::link_rows(t, &mut head, next, s.ceiling);
     let mut starts = [16u32; 512];
     fill_rounds(t, &head, next, s, blocks, m, top, &mut w, &mut starts, l);
     w
@@ -66,10 +66,10 @@ pub fn fill_leaders(
     requires { ⌜ ChainInTable s (now t) blocks × RoundSpan (m .0) (top .0) ⌝ }
     ensures { λ w. ⌜ LeadersFilled s (chainOf (s .ceiling .0) (now (t .entry)) blocks) (m .0) (top .0) (now (l .entry)) (now (l .exit)) w ⌝ }
 {
-    if s.ceiling.0 <= bonded::links::FEW_ROUNDS {
-        let mut few = [0u32; bonded::links::FEW];
+    if s.ceiling.0 <= changes::links::FEW_ROUNDS {
+        let mut few = [0u32; changes::links::FEW];
         return filled_by(t, s, blocks, m, top, &mut few, l);
     }
-    let mut many = [0u32; bonded::links::MANY];
+    let mut many = [0u32; changes::links::MANY];
     filled_by(t, s, blocks, m, top, &mut many, l)
 }

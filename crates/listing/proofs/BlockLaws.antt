@@ -15,10 +15,10 @@ use Rattle.committee.proofs.OrderLaws.{row-none, row-more, rows-none, rows-more
 use Rattle.committee.specs.Chain.{holdsAt, blockAt, chainOf}
 use Rattle.committee.proofs.ChainLaws.{block-round, block-inside, chain-none, chain-more, chain-length}
 use Rattle.committee.specs.Committees.{startOf, ordered}
-use Rattle.bonded.specs.BlockChanges.{startAt}
-use Rattle.bonded.specs.Links.{Marked}
-use Rattle.bonded.specs.LinkRuns.{placesOver, rowsOver}
-use Rattle.bonded.proofs.RunLaws.{SameAt}
+use Rattle.changes.specs.BlockChanges.{startAt}
+use Rattle.changes.specs.Links.{Marked}
+use Rattle.changes.specs.LinkRuns.{placesOver, rowsOver}
+use Rattle.changes.proofs.RunLaws.{SameAt}
 use Rattle.listing.specs.Listing.{contentLines, chainLines, placeLines, addLines, rowLines}
 use Rattle.listing.proofs.ListingLaws.{lines-append, place-absent, place-other, place-present}
 use Rattle.listing.specs.Counts.{inBlock}

@@ -5,9 +5,9 @@ use Prim.Native.Nat.{ℕ, _+_, _*_, _<_, _≤_}
 use lib.ListN.{getD, length}
 use Rattle.store.specs.Table.{Within, Row, blockRound}
 use Rattle.sheet.specs.declared.Settings.{Settings}
-use Rattle.bonded.specs.BlockChanges.{startAt}
-use Rattle.bonded.specs.Links.{Links}
-use Rattle.bonded.specs.ChainInTable.{ChainInTable}
+use Rattle.changes.specs.BlockChanges.{startAt}
+use Rattle.changes.specs.Links.{Links}
+use Rattle.changes.specs.ChainInTable.{ChainInTable}
 use Rattle.listing.specs.Counts.{inBlock, rowCount, blockCount}
 
 -- the place of member m and round r, for block k, of round b

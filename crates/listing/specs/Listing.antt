@@ -10,7 +10,7 @@ use Rattle.sheet.specs.declared.Settings.{Settings}
 use Rattle.committee.specs.Committees.{ordered}
 use Rattle.lines.specs.Lines.{listingLine}
 use Rattle.committee.specs.Changes.{atMostOne}
-use Rattle.bonded.specs.LinkRuns.{placesOver}
+use Rattle.changes.specs.LinkRuns.{placesOver}
 
 -- the lines of certificates of block k, of round b, in order
 unfoldable pub contentLines : ℕ → ℕ → List Content → List ℕ

@@ -8,8 +8,8 @@ ghost use Prim.Native.Nat.{_+_, _*_, _≤_};
 ghost use lib.ListN.{length};
 ghost use Rattle.store.specs.Table.{Within, contentAt};
 ghost use Rattle.committee.specs.Chain.{chainOf};
-ghost use Rattle.bonded.specs.ChainInTable.{ChainInTable};
-ghost use Rattle.bonded.specs.LinkRuns.{rowsOver};
+ghost use Rattle.changes.specs.ChainInTable.{ChainInTable};
+ghost use Rattle.changes.specs.LinkRuns.{rowsOver};
 ghost use Rattle.lines.specs.Lines.{listingLine};
 ghost use Rattle.lines.specs.Puts.{Puts};
 ghost use Rattle.listing.specs.Listing.{chainLines, placeLines, addLines, rowLines};
@@ -73,7 +73,7 @@ fn list_block(
     let mut p = head[(k + 1) as usize];
     while p < end {
         to = list_row(t, k + 1, b, a, Round(p / 16), out, to);
-        p = bonded::links::run_end(next, p / 16 * 16 + 16, p);
+        p = changes::links::run_end(next, p / 16 * 16 + 16, p);
     }
     to
 }
@@ -116,9 +116,9 @@ fn listed_by(
 {
     let end = s.ceiling.0 * 16 + 16;
     let mut head = [end; 512];
-    bonded::links::link_rows(t, &mut head, next, s.ceiling);
+    changes::links::link_rows(t, &mut head, next, s.ceiling);
     let mut starts = [16u32; 512];
-    bonded::starts::all_starts(t, &head, next, s, blocks, &mut starts);
+    running::starts::all_starts(t, &head, next, s, blocks, &mut starts);
     list_blocks(t, &head, next, s, blocks, &starts, out, at)
 }
 
@@ -127,10 +127,10 @@ pub fn list_chain(t: &[u32], s: Settings, blocks: u32, out: &mut [u8], at: usize
     requires { ⌜ ChainInTable s (now t) blocks × (at + (s .ceiling .0 * 16 + 16) * 141 ≤ length (now out)) ⌝ }
     ensures { λ v. ⌜ Puts (now (out .entry)) (now (out .exit)) at v (chainLines s (chainOf (s .ceiling .0) (now (t .entry)) blocks)) ((s .ceiling .0 * 16 + 16) * 141) ⌝ }
 {
-    if s.ceiling.0 <= bonded::links::FEW_ROUNDS {
-        let mut few = [0u32; bonded::links::FEW];
+    if s.ceiling.0 <= changes::links::FEW_ROUNDS {
+        let mut few = [0u32; changes::links::FEW];
         return listed_by(t, s, blocks, &mut few, out, at);
     }
-    let mut many = [0u32; bonded::links::MANY];
+    let mut many = [0u32; changes::links::MANY];
     listed_by(t, s, blocks, &mut many, out, at)
 }

@@ -76,7 +76,7 @@ pub fn open(s: State, t: &mut [u32], own: Member, written: Sheet) -> Outcome
             answer: Answer::Refused(n),
         };
     }
-    writes::clear_used(t, settings.ceiling);
+    clearing::clear_used(t, settings.ceiling);
     Outcome {
         state: fresh(own, settings),
         answer: Answer::Accepted,

@@ -1,26 +1,20 @@
--- What the reads answer, by the number that refuses and by what the table tells.
+-- What the reads of a certificate and of a block answer, by the number that refuses and by what the table tells.
 use mathlib.Core.Path.{_≡_, refl, sym, ap, _∙_}
 use mathlib.Core.Bool.{true, false, not, _||_}
-use mathlib.Core.List.{List, [], _∷_}
+use mathlib.Core.List.{List}
 use mathlib.Core.Logic.{_≢_}
 use Prim.Native.Nat.{ℕ, _<_, _≤_}
 use native.Mathlib.Omega.{arith}
-use lib.ListN.{replicate}
 use lib.Dec.{eqb, ltb}
 use borrow.Author.Tests.{eq-eqb, ne-eqb, ltb-false, lt-ltb, le-ltb, not-false}
-use Rattle.base.specs.Checks.{refusal}
 use Rattle.base.proofs.CheckLaws.{numbered, passes, refuses, passes-all}
 use Rattle.terms.specs.declared.Proposal.{Proposal}
 use Rattle.store.specs.Table.{Row, Within, heldAt, markAt, endorsersAt, contentAt, blockRound, proposalOf}
 use Rattle.store.proofs.TableLaws.{certificate-present}
 use Rattle.scan.proofs.ScanLaws.{rows-held}
-use Rattle.sheet.specs.Ranges.{weightIn}
-use Rattle.agreement.specs.Weights.{total}
 use Rattle.agreement.specs.Dag.{isHeld}
-use Rattle.shares.specs.Shares.{shareOf}
-use Rattle.committee.specs.Leaders.{members}
 use Rattle.committee.proofs.ChainLaws.{chain-length}
-use Rattle.rules.specs.Tests.{badRound, unknown, committeeIn}
+use Rattle.rules.specs.Tests.{badRound}
 use Rattle.rules.specs.Reads as rules
 use Rattle.base.proofs.Passed.{passed}
 use Rattle.rules.proofs.TestLaws.{bad-over, round-fits}
@@ -32,13 +26,10 @@ use Rattle.state.specs.Formed.{Formed}
 use Rattle.state.proofs.FormedLaws.{formed, whole}
 use Rattle.checks.specs.declared.Answer.the-variants.{Accepted, Refused}
 use Rattle.checks.proofs.AnswerLaws.{answer-accepted, answer-refused, if-accepted-new, if-accepted-old}
-use Rattle.reads.specs.declared.CommitteeRead.{CommitteeRead}
-use Rattle.reads.specs.declared.ShareRead.{ShareRead}
-use Rattle.reads.specs.declared.ShareRead.the-variants as share
 use Rattle.reads.specs.declared.CertificateRead.{CertificateRead}
 use Rattle.reads.specs.declared.BlockRead.{BlockRead}
 use Rattle.reads.specs.declared.BlockRead.the-variants as block
-use Rattle.reads.specs.Reads.{noProposal, proposalShown, committeeRefusal, committeeAnswer, shareRefusal, shareAnswer, certificateRefusal, certificateAnswer, blockRefusal, blockAnswer}
+use Rattle.reads.specs.Reads.{noProposal, proposalShown, certificateRefusal, certificateAnswer, blockRefusal, blockAnswer}
 use Rattle.reads.proofs.BlockLaws.{chain-round, mark-number}
 
 -- a held certificate of a well-formed state, at the place of member m and round r
@@ -50,49 +41,6 @@ pub record HeldThere (s : State) (t : List ℕ) (m r : ℕ) : Type 0 where
   pub held : heldAt t m r ≡ true
 
 module _ (s : State) (t : List ℕ) where
-  -- ---- committee
-
-  module _ (r : ℕ) {n : ℕ} (q : n ≡ committeeRefusal s t r) where
-    pub committee-refused : n ≢ 0 → _≡_ {A = CommitteeRead} (record { answer = Refused n; weights = replicate 16 0 }) (committeeAnswer s t r)
-    unfolding committeeAnswer
-    committee-refused h = rw (← q, answer-refused n h, if-accepted-old n (rules.committeeRead (s .settings) (view s t) r) (replicate 16 0) h) refl
-
-    pub committee-given : {w : List ℕ} → n ≡ 0 → w ≡ rules.committeeRead (s .settings) (view s t) r → _≡_ {A = CommitteeRead} (record { answer = Accepted; weights = w }) (committeeAnswer s t r)
-    unfolding committeeAnswer
-    committee-given e i = rw (← q, answer-accepted n e, if-accepted-new n (rules.committeeRead (s .settings) (view s t) r) (replicate 16 0) e, i) refl
-
-  pub committee-passed : (r : ℕ) → committeeRefusal s t r ≡ 0 → Formed s t
-  unfolding committeeRefusal numbered
-  committee-passed r e = passed _ refl e λ h1 h5 h8. formed s t (not-false (wellFormed s t) h1)
-
-  -- ---- share
-
-  module _ (m r : ℕ) where
-    pub share-refused : (n : ℕ) → 0 < n → shareRefusal s t m r ≡ n → _≡_ {A = ShareRead} (share.Refused n) (shareAnswer s t m r)
-    unfolding shareAnswer
-    share-refused n h q = rw (q, ne-eqb n 0 (omega arith)) refl
-
-    -- by the committee that the code has computed
-    pub share-given : {x : ℕ} {w : List ℕ} → shareRefusal s t m r ≡ 0 → w ≡ rules.committeeRead (s .settings) (view s t) r → x ≡ shareOf (weightIn w m) (total 16 (weightIn w))
-        → _≡_ {A = ShareRead} (share.Thousandths x) (shareAnswer s t m r)
-    unfolding shareAnswer
-    share-given q e i = rw (q, i, e) refl
-
-    pub share-unformed : wellFormed s t ≡ false → shareRefusal s t m r ≡ 1
-    unfolding shareRefusal
-    share-unformed e = refuses 1 _ (ap not e)
-
-    pub share-nobody : wellFormed s t ≡ true → 15 < m → shareRefusal s t m r ≡ 4
-    unfolding shareRefusal
-    share-nobody e h = passes 1 _ (ap not e) ∙ refuses 4 _ (lt-ltb 15 m h)
-
-    -- past checks 1 and 4
-    pub share-checks : Formed s t → m < 16
-        → shareRefusal s t m r
-        ≡ refusal ((badRound (s .settings) r, 5) ∷ (unknown (s .settings) (view s t) r, 8) ∷ (not (members (committeeIn (s .settings) (view s t) r) m), 9) ∷ [])
-    unfolding shareRefusal
-    share-checks f h = passes 1 _ (ap not (whole s t f)) ∙ passes 4 _ (le-ltb 15 m (omega arith))
-
   -- ---- certificate
 
   module _ (m r : ℕ) (in-range : badRound (s .settings) r ≡ false) where

@@ -1,22 +1,9 @@
--- What a read has answered; and the answers of a share and of a block, which have a value: the answer with the paper's number, and the value, of each case.
-use mathlib.Core.Path.{_≡_}
+-- The answer of a block, which has a value: the answer with the paper's number, and the value, of each case.
 use Prim.Native.Nat.{ℕ}
 use Rattle.checks.specs.declared.Answer.{Answer}
 use Rattle.checks.specs.declared.Answer.the-variants.{Accepted, Refused}
-use Rattle.checks.specs.Answers.{refusalIn}
-use Rattle.reads.specs.declared.ShareRead.{ShareRead}
-use Rattle.reads.specs.declared.ShareRead.the-variants as share
 use Rattle.reads.specs.declared.BlockRead.{BlockRead}
 use Rattle.reads.specs.declared.BlockRead.the-variants as block
-
-abbrev pub sharedAnswer : ShareRead → Answer
-sharedAnswer (share.Thousandths n) = Accepted
-sharedAnswer (share.Refused n) = Refused n
-
--- the thousandths; none, 0, where the read is refused
-abbrev pub sharedValue : ShareRead → ℕ
-sharedValue (share.Thousandths n) = n
-sharedValue (share.Refused n) = 0
 
 abbrev pub blockedAnswer : BlockRead → Answer
 blockedAnswer (block.At r) = Accepted
@@ -26,14 +13,3 @@ blockedAnswer (block.Refused n) = Refused n
 abbrev pub blockedValue : BlockRead → ℕ
 blockedValue (block.At r) = r .0
 blockedValue (block.Refused n) = 0
-
--- a read has come to v: the whole of what it gives, and the paper's number of the answer a in it
-pub record ReadAnswered {A : Type 0} (whole : A) (refusal : ℕ) (v : A) (a : Answer) : Type 0 where
-  pub its-whole : v ≡ whole
-  pub its-refusal : refusalIn a ≡ refusal
-
--- one that has a value n besides
-pub record ValueAnswered {A : Type 0} (whole : A) (refusal value : ℕ) (v : A) (a : Answer) (n : ℕ) : Type 0 where
-  pub its-whole : v ≡ whole
-  pub its-refusal : refusalIn a ≡ refusal
-  pub its-value : n ≡ value

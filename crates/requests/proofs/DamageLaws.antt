@@ -18,7 +18,7 @@ use Rattle.fields.proofs.NumberLaws.{digit-low}
 use Rattle.fields.specs.Words.{sameBytes, namedIn}
 use Rattle.requests.specs.Kinds.{words, recordKind}
 use Rattle.fields.proofs.WordLaws.{same-bytes, names-not, names-none}
-use Rattle.requests.specs.Triples.{letters, kindNamed}
+use Rattle.triples.specs.Triples.{letters, kindNamed}
 use Rattle.requests.specs.Requests.{isMark, damaged}
 
 -- a mark is below the digits and the comma

@@ -17,7 +17,7 @@ use Rattle.fields.proofs.FieldLaws.{fields-step}
 use Rattle.fields.specs.Numbers.{ifRead, numberRead, set}
 use Rattle.requests.specs.Settings.{setting}
 use Rattle.requests.specs.Kinds.{recordKind}
-use Rattle.requests.specs.Triples.{kindNamed, transaction, before, atKind, atNumber, atAmount}
+use Rattle.triples.specs.Triples.{kindNamed, transaction, before, atKind, atNumber, atAmount}
 use Rattle.requests.specs.Requests.{nextBy, atEnd, triplesThen, inFront, cellsIn, weightsThen, byKind, byFields, tooLong, damaged, request}
 use Rattle.requests.specs.Readings.{unreadable, advance, commit, chain}
 use Rattle.requests.proofs.DamageLaws.{anyDamaged, fields-damaged, Rejects, number-damaged, setting-damaged, kind-damaged, word-damaged}

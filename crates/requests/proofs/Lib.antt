@@ -1,5 +1,3 @@
-pub mod BodyLaws
-pub mod TripleLaws
 pub mod SettingLaws
 pub mod RequestLaws
 pub mod DamageLaws

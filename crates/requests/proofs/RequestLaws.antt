@@ -23,11 +23,12 @@ use Rattle.fields.proofs.NumberLaws.{number-le}
 use Rattle.fields.specs.Cursor.{found, firstBy, rest, Stepped}
 use Rattle.fields.proofs.CursorLaws.{found-of, found-none}
 use Rattle.requests.proofs.SettingLaws.{setting-of, setting-none}
-use Rattle.requests.specs.Triples.{atKind}
-use Rattle.requests.specs.Bodies.{bodyOf}
+use Rattle.triples.specs.Triples.{atKind}
+use Rattle.triples.specs.Bodies.{bodyOf}
 use Rattle.requests.specs.Requests.{nextBy, atEnd, triplesThen, cellsIn, weightsThen, endorseOf, acceptOf}
-use Rattle.requests.specs.Readings.{unreadable, endorse, accept, triplesOf, settingFound, weightsOf}
-use Rattle.requests.specs.declared.triple.Triples.{Triples}
+use Rattle.requests.specs.Readings.{unreadable, endorse, accept, settingFound, weightsOf}
+use Rattle.triples.specs.Bodies.{triplesOf}
+use Rattle.triples.specs.declared.Triples.{Triples}
 
 -- a field that is read, and one that is not
 module _ {A : Type 0} (p : List ℕ → Option A) (k : A → List (List ℕ) → Reading) where

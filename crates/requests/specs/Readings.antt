@@ -14,11 +14,10 @@ use Rattle.sheet.specs.Sheets.{blankSheet}
 use Rattle.requests.specs.declared.Kind.{Kind}
 use Rattle.requests.specs.declared.Kind.the-variants.{Unreadable, Open, Propose, Endorse, Certify, Accept, Advance, Commit, Chain}
 use Rattle.requests.specs.declared.Reading.{Reading}
-use Rattle.requests.specs.declared.triple.Triples.{Triples}
 use Rattle.requests.specs.declared.setting.SettingRead.{SettingRead}
 use Rattle.requests.specs.declared.setting.SettingRead.the-variants.{NoSetting, Is}
 use Rattle.requests.specs.declared.setting.Weights.{Weights}
-use Rattle.requests.specs.Bodies.{bodyOf, unreadableTriples}
+use Rattle.triples.specs.Bodies.{bodyOf}
 
 -- a call of a kind with its author, round, body and endorsers
 abbrev pub callReading : Kind → ℕ → ℕ → Body → ℕ → Reading
@@ -82,11 +81,6 @@ abbrev pub chain : Reading
 chain = plainReading Chain
 
 -- ---- what the readers of parts give
-
--- triples, with a previous set
-abbrev pub triplesOf : ℕ → Option (List Transaction) → Triples
-triplesOf p none = unreadableTriples
-triplesOf p (some l) = record { ok = true; body = bodyOf p l }
 
 -- a setting, and sixteen weights
 abbrev pub settingFound : Option Setting → SettingRead

@@ -13,7 +13,7 @@ use Rattle.requests.specs.declared.Kind.the-variants.{Unreadable, Open, 
 use Rattle.fields.specs.Fields.{fields}
 use Rattle.fields.specs.Numbers.{ifRead, numberRead, set}
 use Rattle.requests.specs.Settings.{setting}
-use Rattle.requests.specs.Triples.{atKind}
+use Rattle.triples.specs.Triples.{atKind}
 use Rattle.requests.specs.Kinds.{recordKind}
 use Rattle.requests.specs.declared.Reading.{Reading}
 use Rattle.requests.specs.Readings.{unreadable, openAs, propose, endorse, certify, accept, advance, commit, chain}

@@ -2,22 +2,23 @@
 use crate::Kind;
 use crate::Reading;
 use crate::setting::SettingRead;
-use crate::triple::Triples;
 use fields::number::Number;
 use sheet::Sheet;
 use terms::Body;
 use terms::Member;
 use terms::Round;
+use triples::Triples;
 ghost use mathlib.Core.Path.{_≡_};
 ghost use mathlib.Core.Bool.{cond};
 ghost use Prim.Native.Nat.{_+_, _≤_};
 ghost use lib.ListN.{length};
 ghost use Rattle.requests.specs.declared.Kind.the-variants.{Unreadable};
 ghost use Rattle.fields.specs.Fields.{fieldsFrom};
-ghost use Rattle.requests.specs.Triples.{atKind};
-ghost use Rattle.requests.specs.Bodies.{bodyOf};
+ghost use Rattle.triples.specs.Triples.{atKind};
+ghost use Rattle.triples.specs.Bodies.{bodyOf};
 ghost use Rattle.requests.specs.Requests.{atEnd, triplesThen, openOf, proposeOf, endorseOf, certifyOf, acceptOf};
-ghost use Rattle.requests.specs.Readings.{callReading, plainReading, openAs, triplesOf};
+ghost use Rattle.requests.specs.Readings.{callReading, plainReading, openAs};
+ghost use Rattle.triples.specs.Bodies.{triplesOf};
 
 // A call of a kind with its author, round, body and endorsers.
 fn call_of(kind: Kind, author: Member, round: Round, body: Body, endorsers: u16) -> Reading
@@ -81,7 +82,7 @@ fn read_triples(rec: &[u8], at: usize, previous: u16) -> Triples
     ensures { λ r. ⌜ r ≡ triplesOf previous (atKind (fieldsFrom (now (rec .entry)) at)) ⌝ }
 {
     let none = terms::bare_body(previous);
-    crate::triple::from_kind(rec, at, none)
+    triples::from_kind(rec, at, none)
 }
 
 // A call that ends in triples.
@@ -110,7 +111,7 @@ pub fn read_open(rec: &[u8], at: usize) -> Reading
     requires { ⌜ at ≤ length (now rec) + 1 ⌝ }
     ensures { λ r. ⌜ r ≡ openOf (fieldsFrom (now (rec .entry)) at) ⌝ }
 {
-    let o = fields::number::read_number(rec, at, crate::MOST);
+    let o = fields::number::read_number(rec, at, triples::MOST);
     let own = o.number;
     let Number::Of(own_number) = own else {
         return unreadable();
@@ -170,12 +171,12 @@ fn read_proposal(rec: &[u8], at: usize, certified: bool) -> Reading
     requires { ⌜ (at ≤ length (now rec) + 1) × (length (now rec) ≤ 1022) ⌝ }
     ensures { λ r. ⌜ r ≡ cond certified (acceptOf (fieldsFrom (now (rec .entry)) at)) (endorseOf (fieldsFrom (now (rec .entry)) at)) ⌝ }
 {
-    let a = fields::number::read_number(rec, at, crate::MOST);
+    let a = fields::number::read_number(rec, at, triples::MOST);
     let x = a.number;
     let Number::Of(author) = x else {
         return unreadable();
     };
-    let r = fields::number::read_number(rec, a.next, crate::MOST);
+    let r = fields::number::read_number(rec, a.next, triples::MOST);
     let y = r.number;
     let Number::Of(round) = y else {
         return unreadable();

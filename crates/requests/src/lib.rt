@@ -1,7 +1,6 @@
 // From the bytes of one record, without its CRLF, to what it asks for (scope document: The runner).
 pub mod call;
 pub mod setting;
-pub mod triple;
 pub mod word;
 
 use sheet::Sheet;
@@ -11,9 +10,7 @@ use terms::Round;
 ghost use mathlib.Core.Path.{_≡_};
 ghost use Rattle.requests.specs.Requests.{request};
 
-// The largest number, and the largest set of members.
-pub const MOST: u32 = 4294967295;
-
+// The largest set of members.
 pub const MOST_SET: u32 = 65535;
 
 // What a record asks for.

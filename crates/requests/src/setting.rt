@@ -36,7 +36,7 @@ fn setting_in(f: &[u8]) -> SettingRead
     if f.len() == 0 {
         return SettingRead::Is(Setting::Blank);
     }
-    let n = fields::number::decimal(f, crate::MOST);
+    let n = fields::number::decimal(f, triples::MOST);
     match n {
         Number::NoNumber => SettingRead::NoSetting,
         Number::Of(v) => SettingRead::Is(Setting::Written(v)),

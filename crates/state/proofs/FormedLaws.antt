@@ -18,7 +18,7 @@ use Rattle.scan.specs.Scan.{rowsFit}
 use Rattle.sheet.specs.Ranges.{outOfRange, weightless}
 use Rattle.sheet.proofs.SheetLaws.{settings-fit}
 use Rattle.state.specs.declared.State.{State}
-use Rattle.bonded.specs.BlockChanges.{blocksFit}
+use Rattle.changes.specs.BlockChanges.{blocksFit}
 use Rattle.state.proofs.RoundLaws.{few-blocks, last-below}
 use Rattle.state.specs.WellFormed.{numbersFit, headFits, bodyFits, proposalFits, wellFormed}
 use Rattle.state.specs.Formed.{NumbersFit, BodyFits, Formed}

@@ -11,8 +11,8 @@ use Rattle.base.proofs.TestLaws.{all-hold}
 use Rattle.agreement.specs.Rules.{last}
 use Rattle.store.specs.Table.{blockRound}
 use Rattle.committee.specs.Chain.{chainOf}
-use Rattle.bonded.specs.BlockChanges.{lastRound, blockFits, blocksFit}
-use Rattle.bonded.proofs.ChainLaws.{BlockFits, fits-at, last-none, last-some, last-chain, last-from}
+use Rattle.changes.specs.BlockChanges.{lastRound, blockFits, blocksFit}
+use Rattle.changes.proofs.ChainLaws.{BlockFits, fits-at, last-none, last-some, last-chain, last-from}
 
 pub blocks-whole : (n : ℕ) (t : List ℕ) (blocks : ℕ) → ((k : ℕ) → k < blocks → BlockFits n t k) → blocksFit n t blocks ≡ true
 unfolding blocksFit blockFits

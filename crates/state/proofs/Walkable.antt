@@ -1,8 +1,8 @@
 -- A well-formed state can be walked over.
 use mathlib.Core.List.{List}
 use Prim.Native.Nat.{ℕ}
-use Rattle.bonded.specs.ChainInTable.{ChainInTable}
-use Rattle.bonded.proofs.ChainInTableLaws as walk
+use Rattle.changes.specs.ChainInTable.{ChainInTable}
+use Rattle.changes.proofs.ChainInTableLaws as walk
 use Rattle.state.specs.declared.State.{State}
 use Rattle.state.specs.Formed.{Formed}
 

@@ -11,7 +11,7 @@ use Rattle.scan.specs.Scan.{rowsFit}
 use Rattle.sheet.specs.Ranges.{outOfRange, weightless, SettingsFit}
 use Rattle.committee.specs.Chain.{chainOf}
 use Rattle.state.specs.declared.State.{State}
-use Rattle.bonded.specs.BlockChanges.{blocksFit}
+use Rattle.changes.specs.BlockChanges.{blocksFit}
 
 -- own number, present round and number of blocks are in range
 pub record NumbersFit (o r b n : ℕ) : Type 0 where

@@ -9,7 +9,7 @@ use Rattle.terms.specs.Proposals.{transactionsOf, badTransactions, badPreviousS
 use Rattle.store.specs.Table.{usedLength}
 use Rattle.scan.specs.Scan.{rowsFit}
 use Rattle.sheet.specs.Ranges.{outOfRange, weightless}
-use Rattle.bonded.specs.BlockChanges.{blocksFit}
+use Rattle.changes.specs.BlockChanges.{blocksFit}
 use Rattle.state.specs.declared.State.{State}
 
 -- own number, present round and number of blocks are in range

@@ -20,12 +20,12 @@ use Rattle.terms.specs.Proposals.{slotOf}
 use Rattle.terms.proofs.ProposalLaws.{read-back}
 use Rattle.state.specs.declared.State.{State}
 use Rattle.state.specs.States.{noBody}
-use Rattle.words.specs.Lengths.{stateLength, bodyLength}
-use Rattle.words.specs.Words.{word, sixteen}
-use Rattle.words.proofs.PasteLaws.{length-sixteen}
-use Rattle.words.specs.Bodies.{isTriple, tripleReads, bodyReads, slotIn, bodyIn, usedOf, usedWords, bodyWords}
+use Rattle.bodies.specs.Lengths.{stateLength, bodyLength}
+use Rattle.bodies.specs.Words.{word, sixteen}
+use Rattle.bodies.proofs.PasteLaws.{length-sixteen}
+use Rattle.bodies.specs.Bodies.{isTriple, tripleReads, bodyReads, slotIn, bodyIn, usedOf, usedWords, bodyWords}
 use Rattle.words.specs.States.{stateReads, settingsIn, ownBodyIn, stateIn, ownBody, stateWords}
-use Rattle.words.proofs.PutLaws.{length-body}
+use Rattle.bodies.proofs.BodyLaws.{length-body}
 use Rattle.words.proofs.SameLaws.{Agree, state-same, state-reads-same}
 use Rattle.words.specs.TidyStates.{tidyBody, tidy}
 

@@ -1,4 +1,3 @@
-pub mod PasteLaws
 pub mod ReadingLaws
 pub mod PutLaws
 pub mod SameLaws

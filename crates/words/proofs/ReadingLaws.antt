@@ -9,9 +9,9 @@ use lib.Dec.{eqb, leb, ltb}
 use borrow.Author.Tests.{leb-true, ltb-true, eqb-false, ne-eqb}
 use Rattle.base.proofs.Bools.{both}
 use Rattle.state.specs.States.{noBody}
-use Rattle.words.specs.Lengths.{stateLength, bodyLength, proposalLength, certificateLength, sheetLength}
-use Rattle.words.specs.Words.{word}
-use Rattle.words.specs.Bodies.{bodyReads, loneBodyReads, bodyIn}
+use Rattle.bodies.specs.Lengths.{stateLength, bodyLength, proposalLength, certificateLength, sheetLength}
+use Rattle.bodies.specs.Words.{word}
+use Rattle.bodies.specs.Bodies.{bodyReads, loneBodyReads, bodyIn}
 use Rattle.words.specs.Proposals.{proposalReads, certificateReads}
 use Rattle.words.specs.Sheets.{sheetReads}
 use Rattle.words.specs.States.{stateReads, ownBodyIn, stateIn}

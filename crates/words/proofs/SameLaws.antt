@@ -7,9 +7,9 @@ use lib.ListN.{length, getD}
 use borrow.Author.Tests.{le-leb}
 use Rattle.base.proofs.FoldLaws.{tab-same}
 use Rattle.base.proofs.TestLaws.{all-same}
-use Rattle.words.specs.Lengths.{stateLength, transactionLength, bodyLength}
-use Rattle.words.specs.Words.{word}
-use Rattle.words.specs.Bodies.{tripleReads, bodyReads, slotIn, bodyIn}
+use Rattle.bodies.specs.Lengths.{stateLength, transactionLength, bodyLength}
+use Rattle.bodies.specs.Words.{word}
+use Rattle.bodies.specs.Bodies.{tripleReads, bodyReads, slotIn, bodyIn}
 use Rattle.words.specs.States.{stateReads, settingsIn, ownBodyIn, stateIn}
 
 -- the first n words are the same

@@ -17,9 +17,9 @@ use Rattle.sheet.proofs.SheetLaws.{filled-weights}
 use Rattle.state.specs.declared.State.{State}
 use Rattle.state.specs.States.{noBody}
 use Rattle.commit.specs.Commit.{withBlocks}
-use Rattle.words.specs.Lengths.{transactionLength}
-use Rattle.words.specs.Words.{word, sixteen}
-use Rattle.words.specs.Bodies.{slotIn, bodyIn, usedOf}
+use Rattle.bodies.specs.Lengths.{transactionLength}
+use Rattle.bodies.specs.Words.{word, sixteen}
+use Rattle.bodies.specs.Bodies.{slotIn, bodyIn, usedOf}
 use Rattle.words.specs.States.{settingsIn, ownBodyIn, stateIn}
 use Rattle.words.specs.TidyStates.{tidyBody, tidy}
 

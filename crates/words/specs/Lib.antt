@@ -1,6 +1,3 @@
-pub mod Lengths
-pub mod Words
-pub mod Bodies
 pub mod Proposals
 pub mod Sheets
 pub mod States

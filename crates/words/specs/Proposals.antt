@@ -6,9 +6,9 @@ use lib.ListN.{length}
 use lib.Dec.{leb, ltb}
 use Rattle.terms.specs.declared.Proposal.{Proposal}
 use Rattle.terms.specs.declared.Certificate.{Certificate}
-use Rattle.words.specs.Lengths.{proposalLength, certificateLength}
-use Rattle.words.specs.Words.{word}
-use Rattle.words.specs.Bodies.{bodyReads, bodyIn, bodyWords}
+use Rattle.bodies.specs.Lengths.{proposalLength, certificateLength}
+use Rattle.bodies.specs.Words.{word}
+use Rattle.bodies.specs.Bodies.{bodyReads, bodyIn, bodyWords}
 
 unfoldable pub proposalReads : List ℕ → Bool
 proposalReads w = leb proposalLength (length w) && bodyReads w 2

@@ -3,7 +3,7 @@ use mathlib.Core.List.{List}
 use mathlib.Core.Logic.{_≢_}
 use Prim.Native.Nat.{ℕ, _<_, _≤_}
 use lib.ListN.{length, getD}
-use Rattle.words.specs.Lengths.{stateLength, proposalLength, certificateLength}
+use Rattle.bodies.specs.Lengths.{stateLength, proposalLength, certificateLength}
 
 pub record ProposalRead (w : List ℕ) : Type 0 where
   pub long : proposalLength ≤ length w

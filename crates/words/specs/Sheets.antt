@@ -9,8 +9,8 @@ use Rattle.sheet.specs.declared.Setting.{Setting}
 use Rattle.sheet.specs.declared.Setting.the-variants.{Blank, Written}
 use Rattle.sheet.specs.declared.Cell.{Cell}
 use Rattle.sheet.specs.declared.Sheet.{Sheet}
-use Rattle.words.specs.Lengths.{sheetLength}
-use Rattle.words.specs.Words.{word}
+use Rattle.bodies.specs.Lengths.{sheetLength}
+use Rattle.bodies.specs.Words.{word}
 
 unfoldable pub sheetReads : List ℕ → Bool
 sheetReads w = leb sheetLength (length w) && allTo (λ k. leb (word w (k * 2)) 1) 19

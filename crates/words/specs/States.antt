@@ -9,9 +9,9 @@ use Rattle.terms.specs.declared.Body.{Body}
 use Rattle.sheet.specs.declared.Settings.{Settings}
 use Rattle.state.specs.declared.State.{State}
 use Rattle.state.specs.States.{noBody}
-use Rattle.words.specs.Lengths.{stateLength}
-use Rattle.words.specs.Words.{word, sixteen}
-use Rattle.words.specs.Bodies.{bodyReads, bodyIn, bodyWords}
+use Rattle.bodies.specs.Lengths.{stateLength}
+use Rattle.bodies.specs.Words.{word, sixteen}
+use Rattle.bodies.specs.Bodies.{bodyReads, bodyIn, bodyWords}
 
 -- word 21 tells whether there is a proposal; its body is words 23 to 36, which are not looked at where there is none
 unfoldable pub stateReads : List ℕ → Bool

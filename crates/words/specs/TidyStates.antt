@@ -4,8 +4,8 @@ use Rattle.base.specs.Folds.{tab}
 use Rattle.terms.specs.declared.Body.{Body}
 use Rattle.state.specs.declared.State.{State}
 use Rattle.state.specs.States.{noBody}
-use Rattle.words.specs.Words.{sixteen}
-use Rattle.words.specs.Bodies.{usedOf}
+use Rattle.bodies.specs.Words.{sixteen}
+use Rattle.bodies.specs.Bodies.{usedOf}
 
 unfoldable pub tidyBody : Body → Body
 tidyBody b = record { previous = b .previous; count = b .count; slots = tab (λ k. record { transaction = usedOf b k }) 4 }

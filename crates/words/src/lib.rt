@@ -1,6 +1,4 @@
-// What a host's words mean: bodies, proposals, certificates, sheets and states as words, read and put.
-pub mod bodies;
-pub mod lengths;
+// What a host's words mean: proposals, certificates, sheets and states as words, read and put.
 pub mod proposals;
 pub mod sheets;
 pub mod states;
@@ -9,18 +7,7 @@ ghost use mathlib.Core.Path.{_≡_};
 ghost use Prim.Native.Nat.{_+_, _≤_};
 ghost use lib.ListN.{length};
 ghost use lib.Seq.{paste};
-ghost use Rattle.words.specs.Words.{sixteen, Narrow};
-
-// Puts the words x from `at` on.
-pub fn put(w: &mut [u32], at: usize, x: &[u32])
-    requires { ⌜ at + length (now x) ≤ length (now w) ⌝ }
-    ensures { λ _. ⌜ now (w .exit) ≡ paste (now (w .entry)) at (now (x .entry)) (length (now (x .entry))) ⌝ }
-{
-    let n = x.len();
-    for k in 0..n {
-        w[at + k] = x[k];
-    }
-}
+ghost use Rattle.bodies.specs.Words.{sixteen, Narrow};
 
 // Puts sixteen weights from `at` on, a word each.
 pub fn put_weights(w: &mut [u32], at: usize, x: [u64; 16])

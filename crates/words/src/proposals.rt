@@ -1,6 +1,6 @@
 // Proposals and certificates as words: read, and put.
-use crate::lengths::CERTIFICATE;
-use crate::lengths::PROPOSAL;
+use bodies::lengths::CERTIFICATE;
+use bodies::lengths::PROPOSAL;
 use terms::Certificate;
 use terms::Member;
 use terms::Proposal;
@@ -9,7 +9,7 @@ ghost use mathlib.Core.Path.{_≡_};
 ghost use Prim.Native.Nat.{_≤_};
 ghost use lib.ListN.{length};
 ghost use lib.Seq.{paste};
-ghost use Rattle.words.specs.Lengths.{heldLength};
+ghost use Rattle.bodies.specs.Lengths.{heldLength};
 ghost use Rattle.words.specs.Proposals.{proposalReads, proposalIn, certificateReads, certificateIn, heldWords};
 ghost use Rattle.words.specs.Readings.{ProposalRead, CertificateRead};
 
@@ -20,7 +20,7 @@ pub fn proposal_reads(w: &[u32]) -> bool
     if w.len() < PROPOSAL {
         return false;
     }
-    crate::bodies::body_reads(w, 2)
+    bodies::body_reads(w, 2)
 }
 
 // The proposal that the words give.
@@ -28,7 +28,7 @@ pub fn proposal_in(w: &[u32]) -> Proposal
     requires { ⌜ ProposalRead (now w) ⌝ }
     ensures { λ v. ⌜ v ≡ proposalIn (now (w .entry)) ⌝ }
 {
-    let body = crate::bodies::body_in(w, 2);
+    let body = bodies::body_in(w, 2);
     Proposal {
         author: Member(w[0]),
         round: Round(w[1]),
@@ -69,7 +69,7 @@ pub fn put_held(w: &mut [u32], p: Proposal, endorsers: u16, block: u32)
     let head = [p.author.0, p.round.0];
     let b = p.body;
     let last = [endorsers as u32, block];
-    crate::put(w, 0, &head);
-    crate::bodies::put_body(w, 2, b);
-    crate::put(w, PROPOSAL, &last);
+    bodies::stretch::put(w, 0, &head);
+    bodies::put_body(w, 2, b);
+    bodies::stretch::put(w, PROPOSAL, &last);
 }

@@ -1,5 +1,5 @@
 // A sheet as words: read.
-use crate::lengths::SHEET;
+use bodies::lengths::SHEET;
 use sheet::Cell;
 use sheet::Setting;
 use sheet::Sheet;
@@ -7,7 +7,7 @@ ghost use mathlib.Core.Path.{_≡_};
 ghost use Prim.Native.Nat.{_<_, _≤_};
 ghost use lib.ListN.{length};
 ghost use Rattle.base.specs.Folds.{tab};
-ghost use Rattle.words.specs.Lengths.{sheetLength};
+ghost use Rattle.bodies.specs.Lengths.{sheetLength};
 ghost use Rattle.words.specs.Sheets.{sheetReads, settingIn, cellIn, sheetIn};
 
 // Can the words be read as a sheet?

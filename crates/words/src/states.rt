@@ -1,5 +1,5 @@
 // A member's state as words: read, and put.
-use crate::lengths::STATE;
+use bodies::lengths::STATE;
 use sheet::Settings;
 use state::State;
 use terms::Body;
@@ -10,8 +10,8 @@ ghost use mathlib.Core.Bool.{cond};
 ghost use Prim.Native.Nat.{_≤_};
 ghost use lib.ListN.{length};
 ghost use lib.Seq.{paste};
-ghost use Rattle.words.specs.Lengths.{stateLength};
-ghost use Rattle.words.specs.Words.{Narrow};
+ghost use Rattle.bodies.specs.Lengths.{stateLength};
+ghost use Rattle.bodies.specs.Words.{Narrow};
 ghost use Rattle.words.specs.States.{stateReads, weightsIn, settingsIn, ownBodyIn, stateIn, ownBody, stateWords};
 ghost use Rattle.words.specs.Readings.{StateRead};
 
@@ -28,7 +28,7 @@ pub fn state_reads(w: &[u32]) -> bool
     if w[21] == 0 {
         return true;
     }
-    crate::bodies::body_reads(w, 23)
+    bodies::body_reads(w, 23)
 }
 
 // A word as a number of 64 bits.
@@ -71,7 +71,7 @@ fn own_body_in(w: &[u32]) -> Body
     if w[21] == 0 {
         return terms::bare_body(0);
     }
-    crate::bodies::body_in(w, 23)
+    bodies::body_in(w, 23)
 }
 
 // The state that the words give.
@@ -123,8 +123,8 @@ pub fn put_state(w: &mut [u32], s: State)
         settings.allowance,
     ];
     let middle = [s.round.0, flag(s.proposing), s.blocks];
-    crate::put(w, 0, &head);
+    bodies::stretch::put(w, 0, &head);
     crate::put_weights(w, 4, weights);
-    crate::put(w, 20, &middle);
-    crate::bodies::put_body(w, 23, b);
+    bodies::stretch::put(w, 20, &middle);
+    bodies::put_body(w, 23, b);
 }

@@ -1,4 +1,4 @@
-// Every write of the table: certificates put, endorsed marks set and cleared, marks and rounds of blocks, the used part cleared (scope document: A member's state).
+// What is written into the table: certificates put, endorsed marks set, marks and rounds of blocks (scope document: A member's state).
 use store::lengths::FIRST;
 use store::lengths::HEAD;
 use store::lengths::RECORD;
@@ -15,7 +15,7 @@ ghost use lib.ListN.{length};
 ghost use lib.Seq.{paste};
 ghost use Rattle.terms.specs.Proposals.{contentOf, contentWith};
 ghost use Rattle.store.specs.Table.{recordLength, Within, Row, nthOf};
-ghost use Rattle.writes.specs.Writes.{putTransaction, recordOf, putCertificate, setEndorsed, clearEndorsed, setMark, setBlock, clearUsed};
+ghost use Rattle.writes.specs.Writes.{putTransaction, recordOf, putCertificate, setEndorsed, setMark, setBlock};
 
 // Slot k of a proposal, nothing beyond its transactions.
 fn slot(b: Body, k: u32, a: Member, r: Round) -> Transaction
@@ -93,16 +93,6 @@ pub fn set_endorsed(t: &mut [u32], m: Member, r: Round)
     t[at] = s;
 }
 
-// Clears the endorsed mark of a place.
-pub fn clear_endorsed(t: &mut [u32], m: Member, r: Round)
-    requires { ⌜ Within (now t) (m .0) (r .0) ⌝ }
-    ensures { λ _. ⌜ now (t .exit) ≡ clearEndorsed (now (t .entry)) (m .0) (r .0) ⌝ }
-{
-    let word = r.0 as usize * ROW + 1;
-    let rest = base::without(t[word], m.0);
-    t[word] = rest;
-}
-
 // Puts the certificate of a place into block b.
 pub fn set_mark(t: &mut [u32], m: Member, r: Round, b: u32)
     requires { ⌜ Within (now t) (m .0) (r .0) ⌝ }
@@ -117,15 +107,4 @@ pub fn set_block(t: &mut [u32], k: u32, r: Round)
     ensures { λ _. ⌜ now (t .exit) ≡ setBlock (now (t .entry)) k (r .0) ⌝ }
 {
     t[k as usize * ROW + 2] = r.0;
-}
-
-// Clears what a state of ceiling n uses.
-pub fn clear_used(t: &mut [u32], n: Round)
-    requires { ⌜ Row (now t) (n .0) ⌝ }
-    ensures { λ _. ⌜ now (t .exit) ≡ clearUsed (now (t .entry)) (n .0) ⌝ }
-{
-    let end = n.0 as usize * ROW + ROW;
-    for i in 0..end {
-        t[i] = 0;
-    }
 }

@@ -1,6 +1,6 @@
 use mathlib.Core.Path.{refl}
 use borrow.Author.Tests.{lt-ltb, le-ltb, eq-eqb, ne-eqb}
-use Rattle.bonded.specs.BlockChanges.{blockFits}
+use Rattle.changes.specs.BlockChanges.{blockFits}
 use borrow.Author.Needs.{needs}
 use Rattle.bonded.proofs.block_fits.Statement.{statement}
 use Rattle.bonded.proofs.block_fits.Tie as tie

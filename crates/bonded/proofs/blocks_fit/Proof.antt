@@ -6,7 +6,7 @@ use borrow.Author.Tests.{not-true, not-false}
 use mathlib.Core.Bool.{true}
 use Rattle.base.specs.Folds.{allTo}
 use Rattle.base.proofs.TestLaws.{all-more, all-fails}
-use Rattle.bonded.specs.BlockChanges.{blockFits, blocksFit}
+use Rattle.changes.specs.BlockChanges.{blockFits, blocksFit}
 use Rattle.bonded.proofs.blocks_fit.Statement.{statement}
 use Rattle.bonded.proofs.blocks_fit.Tie as tie
 

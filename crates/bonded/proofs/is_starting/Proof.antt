@@ -1,7 +1,7 @@
 use native.Mathlib.Omega.{arith}
 use Prim.Native.Nat.{_-_}
 use borrow.Author.Tests.{leb-true}
-use Rattle.bonded.proofs.ChainInTableLaws.{committee-starts}
+use Rattle.changes.proofs.ChainInTableLaws.{committee-starts}
 use borrow.Author.Needs.{needs}
 use Rattle.bonded.proofs.is_starting.Statement.{statement}
 use Rattle.bonded.proofs.is_starting.Tie as tie

@@ -1,6 +1,6 @@
 use mathlib.Core.Path.{refl}
 use Rattle.committee.specs.Committees.{knownBy}
-use Rattle.bonded.proofs.ChainLaws.{last-chain}
+use Rattle.changes.proofs.ChainLaws.{last-chain}
 use borrow.Author.Needs.{needs}
 use Rattle.bonded.proofs.known.Statement.{statement}
 use Rattle.bonded.proofs.known.Tie as tie

@@ -1,5 +1,5 @@
 use mathlib.Core.Path.{sym, _∙_}
-use Rattle.bonded.proofs.ChainLaws.{last-none, last-some}
+use Rattle.changes.proofs.ChainLaws.{last-none, last-some}
 use borrow.Author.Needs.{needs}
 use Rattle.bonded.proofs.last_round.Statement.{statement}
 use Rattle.bonded.proofs.last_round.Tie as tie

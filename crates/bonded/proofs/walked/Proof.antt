@@ -1,8 +1,8 @@
 use mathlib.Core.Path.{refl}
 use native.Mathlib.Omega.{arith}
-use Rattle.bonded.proofs.LinkLaws.{links-start}
-use Rattle.bonded.proofs.ChainInTableLaws.{after-bounded}
-use Rattle.bonded.proofs.StartLaws.{started-none, running-none, running-up}
+use Rattle.changes.proofs.LinkLaws.{links-start}
+use Rattle.changes.proofs.ChainInTableLaws.{after-bounded}
+use Rattle.running.proofs.StartLaws.{started-none, running-none, running-up}
 use borrow.Author.Needs.{needs}
 use Rattle.bonded.proofs.walked.Statement.{statement}
 use Rattle.bonded.proofs.walked.Tie as tie

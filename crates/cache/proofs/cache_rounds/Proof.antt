@@ -6,9 +6,9 @@ use lib.ListN.{length}
 use Rattle.sheet.specs.declared.Settings.{Settings}
 use Rattle.committee.specs.Chain.{chainOf}
 use Rattle.cache.proofs.CacheLaws.{CachesTo, caches-none, caches-more, caches-all}
-use Rattle.bonded.specs.declared.Applied.{Applied}
-use Rattle.bonded.specs.Starts.{Running}
-use Rattle.bonded.proofs.StartLaws.{running-none, running-up}
+use Rattle.running.specs.declared.Applied.{Applied}
+use Rattle.running.specs.Starts.{Running}
+use Rattle.running.proofs.StartLaws.{running-none, running-up}
 use borrow.Author.Needs.{needs}
 use Rattle.cache.proofs.cache_rounds.Statement.{statement}
 use Rattle.cache.proofs.cache_rounds.Tie as tie

@@ -1,7 +1,7 @@
 use mathlib.Core.Path.{_∙_}
 use native.Mathlib.Omega.{arith}
 use Prim.Native.Nat.{_-_}
-use Rattle.bonded.proofs.ChainInTableLaws.{committee-bounded}
+use Rattle.changes.proofs.ChainInTableLaws.{committee-bounded}
 use borrow.Author.Needs.{needs}
 use Rattle.cache.proofs.committees.Statement.{statement}
 use Rattle.cache.proofs.committees.Tie as tie

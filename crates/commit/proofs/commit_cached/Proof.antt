@@ -5,14 +5,14 @@ use Prim.Native.Nat.{ℕ, _+_, _-_, _≤_}
 use native.Mathlib.Omega.{arith}
 use borrow.Author.Tests.{not-true, not-false}
 use Rattle.base.specs.Checks.{refusal}
-use Rattle.bonded.proofs.ChainInTableLaws.{chain-in-table}
+use Rattle.changes.proofs.ChainInTableLaws.{chain-in-table}
 use Rattle.state.specs.declared.State.{State}
 use Rattle.state.specs.WellFormed.{wellFormed}
 use Rattle.state.specs.Formed.{Formed}
 use Rattle.state.proofs.FormedLaws.{formed}
-use Rattle.commit.specs.Commit.{timeChecks, voteChecks, leadersFor}
-use Rattle.commit.proofs.AnchorLaws.{leaders-filled, leaders-length}
-use Rattle.commit.proofs.CheckLaws.{Timely, timely}
+use Rattle.votes.specs.Checks.{timeChecks, voteChecks, leadersFor}
+use Rattle.votes.proofs.AnchorLaws.{leaders-filled, leaders-length}
+use Rattle.votes.proofs.CheckLaws.{Timely, timely}
 use Rattle.commit.proofs.AnswerLaws.{answers-unread, answers-late, answers-unvoted, answers-made, led-low, blocks-more}
 use Rattle.commit.proofs.RuledLaws.{commits}
 use borrow.Author.Needs.{needs}

@@ -7,10 +7,10 @@ use Rattle.committee.specs.Chain.{chainOf}
 use Rattle.committee.specs.Committees.{leaderBy}
 use Rattle.leaders.specs.Fill.{leaderAt, fillTo}
 use Rattle.leaders.proofs.FillLaws.{fill-none, fill-more}
-use Rattle.bonded.specs.declared.Applied.{Applied}
-use Rattle.bonded.specs.Starts.{Running}
-use Rattle.bonded.proofs.StartLaws.{running-none, running-up}
-use Rattle.bonded.proofs.ChainInTableLaws.{after-bounded}
+use Rattle.running.specs.declared.Applied.{Applied}
+use Rattle.running.specs.Starts.{Running}
+use Rattle.running.proofs.StartLaws.{running-none, running-up}
+use Rattle.changes.proofs.ChainInTableLaws.{after-bounded}
 use borrow.Author.Needs.{needs}
 use Rattle.leaders.proofs.fill_rounds.Statement.{statement}
 use Rattle.leaders.proofs.fill_rounds.Tie as tie

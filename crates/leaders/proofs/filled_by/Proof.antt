@@ -1,6 +1,6 @@
 use mathlib.Core.Path.{refl}
-use Rattle.bonded.proofs.StartLaws.{started-none}
-use Rattle.bonded.proofs.LinkLaws.{links-start}
+use Rattle.running.proofs.StartLaws.{started-none}
+use Rattle.changes.proofs.LinkLaws.{links-start}
 use borrow.Author.Needs.{needs}
 use Rattle.leaders.proofs.filled_by.Statement.{statement}
 use Rattle.leaders.proofs.filled_by.Tie as tie

@@ -7,8 +7,8 @@ use borrow.Author.Needs.{needs}
 use Rattle.base.specs.Folds.{sumTo}
 use Rattle.lines.specs.Puts.{Puts}
 use Rattle.lines.proofs.PutLaws.{puts-then, puts-none, puts-as}
-use Rattle.bonded.specs.LinkRuns.{rowsOver}
-use Rattle.bonded.proofs.RunLaws.{LinkedFrom, linked-head, linked-up, rows-first, rows-step, end-linked}
+use Rattle.changes.specs.LinkRuns.{rowsOver}
+use Rattle.changes.proofs.RunLaws.{LinkedFrom, linked-head, linked-up, rows-first, rows-step, end-linked}
 use Rattle.listing.specs.Counts.{inBlock}
 use Rattle.listing.proofs.CountLaws.{row-next}
 use Rattle.listing.specs.Listing.{addLines}

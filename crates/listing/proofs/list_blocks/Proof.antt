@@ -3,7 +3,7 @@ use Prim.Native.Nat.{_+_, _-_, _*_}
 use native.Mathlib.Omega.{arith}
 use borrow.Author.Needs.{needs}
 use Rattle.committee.specs.Chain.{chainOf}
-use Rattle.bonded.proofs.StartLaws.{start-le}
+use Rattle.running.proofs.StartLaws.{start-le}
 use Rattle.lines.proofs.PutLaws.{Putting, puts-then, puts-none, puts-as}
 use Rattle.listing.specs.Listing.{chainLines}
 use Rattle.listing.specs.Counts.{chainCount}

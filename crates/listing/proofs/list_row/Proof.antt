@@ -7,7 +7,7 @@ use Rattle.base.specs.Folds.{foldTo, sumTo}
 use Rattle.base.proofs.FoldLaws.{fold-none, fold-more}
 use Rattle.base.proofs.SumLaws.{sum-more, sum-up}
 use Rattle.lines.proofs.PutLaws.{Putting, puts-then, puts-none, puts-as}
-use Rattle.bonded.specs.LinkRuns.{placesOver}
+use Rattle.changes.specs.LinkRuns.{placesOver}
 use Rattle.listing.specs.Counts.{inBlock}
 use Rattle.listing.proofs.CountLaws.{row-turned}
 use Rattle.listing.specs.Listing.{addLines}

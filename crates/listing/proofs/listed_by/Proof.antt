@@ -1,6 +1,6 @@
 use mathlib.Core.Path.{refl}
 use native.Mathlib.Omega.{arith}
-use Rattle.bonded.proofs.LinkLaws.{links-start}
+use Rattle.changes.proofs.LinkLaws.{links-start}
 use Rattle.listing.proofs.CountLaws.{count-all}
 use Rattle.lines.proofs.PutLaws.{puts-as}
 use borrow.Author.Needs.{needs}

@@ -1,5 +1,5 @@
-use Rattle.words.specs.Words.{sixteen}
-use Rattle.words.proofs.PasteLaws.{length-sixteen, in-sixteen}
+use Rattle.bodies.specs.Words.{sixteen}
+use Rattle.bodies.proofs.PasteLaws.{length-sixteen, in-sixteen}
 use mathlib.Core.Path.{sym}
 use Prim.Native.Nat.{_-_}
 use native.Mathlib.Omega.{arith}

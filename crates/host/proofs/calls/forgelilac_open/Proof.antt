@@ -4,7 +4,7 @@ use native.Mathlib.Omega.{arith}
 use borrow.Author.Tests.{lt-leb, le-leb}
 use Rattle.open.specs.Open.{closedState}
 use Rattle.engine.specs.Calls.{opens}
-use Rattle.words.specs.Lengths.{stateLength}
+use Rattle.bodies.specs.Lengths.{stateLength}
 use Rattle.words.specs.Sheets.{sheetReads, sheetIn}
 use Rattle.hosting.proofs.CallLaws.{not-read, is-read, done-unserved, done-unread}
 use Rattle.hosting.proofs.AnsweredLaws.{Settles, open-settles, settled-refusal, settled-words, done-still}

@@ -1,7 +1,7 @@
 use mathlib.Core.Path.{_≡_, refl, _∙_}
 use mathlib.Core.Bool.{true}
 use Rattle.engine.specs.Calls.{propose}
-use Rattle.words.specs.Bodies.{loneBodyReads, bodyIn}
+use Rattle.bodies.specs.Bodies.{loneBodyReads, bodyIn}
 use Rattle.words.specs.States.{stateReads}
 use Rattle.hosting.specs.Calls.{engineIn}
 use Rattle.hosting.proofs.CallLaws.{not-read, is-read, done-unserved, done-unread}

@@ -3,7 +3,7 @@ use mathlib.Core.Bool.{true}
 use borrow.Author.Tests.{lt-leb, le-leb}
 use Rattle.hosting.proofs.CallLaws.{not-read, is-read, left-unread, right-unread, both-read, done-unserved}
 use Rattle.hosting.proofs.AnsweredLaws.{certificate-done}
-use Rattle.words.specs.Lengths.{heldLength}
+use Rattle.bodies.specs.Lengths.{heldLength}
 use Rattle.words.specs.States.{stateReads}
 use Rattle.words.proofs.ReadingLaws.{state-read}
 use borrow.Author.Needs.{needs}

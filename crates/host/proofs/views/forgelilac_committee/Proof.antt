@@ -3,7 +3,7 @@ use mathlib.Core.Bool.{true}
 use borrow.Author.Tests.{lt-leb, le-leb}
 use Rattle.hosting.proofs.CallLaws.{not-read, is-read, left-unread, right-unread, both-read, done-unserved}
 use Rattle.hosting.proofs.AnsweredLaws.{committee-done}
-use Rattle.words.specs.Lengths.{committeeLength}
+use Rattle.bodies.specs.Lengths.{committeeLength}
 use Rattle.words.specs.States.{stateReads}
 use Rattle.words.proofs.ReadingLaws.{state-read}
 use Rattle.hosting.proofs.AnswerLaws.{committee-shown}

@@ -1,9 +1,9 @@
 use mathlib.Core.List.{[]}
 use Rattle.fields.specs.Fields.{fieldsFrom}
-use Rattle.requests.specs.Triples.{atKind}
+use Rattle.triples.specs.Triples.{atKind}
 use mathlib.Core.Path.{ap, _∙_}
 use native.Mathlib.Omega.{arith}
-use Rattle.requests.proofs.BodyLaws.{bare-of, onto-none, body-length}
+use Rattle.triples.proofs.BodyLaws.{bare-of, onto-none, body-length}
 use borrow.Author.Needs.{needs}
 use Rattle.requests.proofs.call.read_triples.Statement.{statement}
 use Rattle.requests.proofs.call.read_triples.Tie as tie

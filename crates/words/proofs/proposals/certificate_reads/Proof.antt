@@ -1,6 +1,6 @@
 use mathlib.Core.Path.{refl}
 use borrow.Author.Tests.{lt-leb, le-leb, lt-ltb, le-ltb}
-use Rattle.words.specs.Lengths.{certificateLength}
+use Rattle.bodies.specs.Lengths.{certificateLength}
 use Rattle.words.specs.Proposals.{certificateReads}
 use borrow.Author.Needs.{needs}
 use Rattle.words.proofs.proposals.certificate_reads.Statement.{statement}

@@ -1,6 +1,6 @@
 use mathlib.Core.Path.{refl}
 use borrow.Author.Tests.{lt-leb, le-leb}
-use Rattle.words.specs.Lengths.{proposalLength}
+use Rattle.bodies.specs.Lengths.{proposalLength}
 use Rattle.words.specs.Proposals.{proposalReads}
 use borrow.Author.Needs.{needs}
 use Rattle.words.proofs.proposals.proposal_reads.Statement.{statement}

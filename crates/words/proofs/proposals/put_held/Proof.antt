@@ -3,8 +3,8 @@ use mathlib.Core.List.{List, [], _∷_}
 use Prim.Native.Nat.{ℕ}
 use lib.Seq.{paste}
 use native.Mathlib.Omega.{arith}
-use Rattle.words.specs.Lengths.{bodyLength, proposalLength}
-use Rattle.words.specs.Bodies.{bodyWords}
+use Rattle.bodies.specs.Lengths.{bodyLength, proposalLength}
+use Rattle.bodies.specs.Bodies.{bodyWords}
 use Rattle.words.proofs.PutLaws.{held-put}
 use borrow.Author.Needs.{needs}
 use Rattle.words.proofs.proposals.put_held.Statement.{statement}

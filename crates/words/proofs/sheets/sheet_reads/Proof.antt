@@ -4,8 +4,8 @@ use Prim.Native.Nat.{_-_, _*_}
 use lib.Dec.{leb}
 use borrow.Author.Tests.{lt-leb, le-leb}
 use Rattle.base.proofs.TestLaws.{AllSoFar, all-start, all-next, all-done, all-fails}
-use Rattle.words.specs.Lengths.{sheetLength}
-use Rattle.words.specs.Words.{word}
+use Rattle.bodies.specs.Lengths.{sheetLength}
+use Rattle.bodies.specs.Words.{word}
 use Rattle.words.specs.Sheets.{sheetReads}
 use borrow.Author.Needs.{needs}
 use Rattle.words.proofs.sheets.sheet_reads.Statement.{statement}

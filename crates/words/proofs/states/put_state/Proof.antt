@@ -1,12 +1,12 @@
-use Rattle.words.specs.Lengths.{bodyLength}
-use Rattle.words.specs.Words.{sixteen}
+use Rattle.bodies.specs.Lengths.{bodyLength}
+use Rattle.bodies.specs.Words.{sixteen}
 use mathlib.Core.Path.{ap, ap₂, _∙_}
 use mathlib.Core.List.{List, [], _∷_}
 use Prim.Native.Nat.{ℕ}
 use lib.Seq.{paste}
 use native.Mathlib.Omega.{arith}
 use Rattle.terms.specs.declared.Body.{Body}
-use Rattle.words.specs.Bodies.{bodyWords}
+use Rattle.bodies.specs.Bodies.{bodyWords}
 use Rattle.words.proofs.PutLaws.{state-put}
 use borrow.Author.Needs.{needs}
 use Rattle.words.proofs.states.put_state.Statement.{statement}

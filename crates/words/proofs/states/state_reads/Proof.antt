@@ -1,6 +1,6 @@
 use mathlib.Core.Path.{refl}
 use borrow.Author.Tests.{lt-leb, le-leb, eq-eqb, ne-eqb}
-use Rattle.words.specs.Lengths.{stateLength}
+use Rattle.bodies.specs.Lengths.{stateLength}
 use Rattle.words.specs.States.{stateReads}
 use borrow.Author.Needs.{needs}
 use Rattle.words.proofs.states.state_reads.Statement.{statement}

@@ -2,7 +2,7 @@ use mathlib.Core.Path.{refl}
 use native.Mathlib.Omega.{arith}
 use Prim.Native.Nat.{_+_, _-_}
 use Rattle.base.proofs.FillLaws.{Filling, filling-none, filling-more, filling-all}
-use Rattle.words.specs.Words.{word}
+use Rattle.bodies.specs.Words.{word}
 use borrow.Author.Needs.{needs}
 use Rattle.words.proofs.states.weights_in.Statement.{statement}
 use Rattle.words.proofs.states.weights_in.Tie as tie

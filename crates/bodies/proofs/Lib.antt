@@ -1,0 +1,2 @@
+pub mod PasteLaws
+pub mod BodyLaws

@@ -1,0 +1,2 @@
+pub mod AnchorLaws
+pub mod CheckLaws
