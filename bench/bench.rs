@@ -25,6 +25,10 @@
 //! Every answer is compared with what is expected. Times are medians of
 //! batches; engine, plain and floor take turns, batch by batch.
 //!
+//! A batch is compared with single accepts. Everything below the last four
+//! rounds is held and nothing above, and the sixteen certificates of each of
+//! the four come in: newest first in one batch, or by 64 accepts in order.
+//!
 //! The floor is one pass that reads the state, the headers of all rows and
 //! the records of held certificates, and adds them up. For open it is one
 //! pass that writes 0 to the table.
@@ -51,6 +55,7 @@ struct Functions {
     accept: fn(&[u32], &mut [u32], &[u32]) -> u32,
     advance: fn(&mut [u32], &[u32]) -> u32,
     commit: fn(&mut [u32], &mut [u32]) -> u64,
+    batch: fn(&[u32], &mut [u32], &[[u32; 17]], &mut [u32]) -> u32,
     committee: fn(&[u32], &[u32], u32, &mut [u32]) -> u32,
     share: fn(&[u32], &[u32], u32, u32) -> u64,
     certificate: fn(&[u32], &[u32], u32, u32, &mut [u32]) -> u32,
@@ -67,6 +72,7 @@ macro_rules! functions {
             accept: $module::accept,
             advance: $module::advance,
             commit: $module::commit,
+            batch: $module::batch,
             committee: $module::committee,
             share: $module::share,
             certificate: $module::certificate,
@@ -150,6 +156,13 @@ impl Member {
         words
     }
 
+    /// A certificate that names all of the round before, held or not.
+    fn naming_all(&mut self, author: u32, round: u32) -> [u32; 17] {
+        let mut words = self.certificate(author, round);
+        words[2] = 0xffff;
+        words
+    }
+
     /// Holds the certificates of a round, but for those in `free`.
     fn fill(&mut self, round: u32, free: &[u32]) {
         for author in (0..16).filter(|a| !free.contains(a)) {
@@ -161,6 +174,14 @@ impl Member {
             });
             assert_eq!(answer, 0);
         }
+    }
+
+    /// The next round, with a commit before where one can be made.
+    fn go_on(&mut self, commit: bool) {
+        if self.state[20] % 2 == 1 && self.state[20] > 1 && commit {
+            assert!(with(self, |s, t| plain::commit(s, t)) >> 32 == 0);
+        }
+        assert_eq!(with(self, |s, t| plain::advance(s, t)), 0);
     }
 
     /// A run to the given number of rounds. `commits` says in which odd
@@ -180,10 +201,7 @@ impl Member {
                 member.fill(rounds, &[]);
                 break;
             }
-            if r % 2 == 1 && r > 1 && commits(r) {
-                assert!(with(&mut member, |s, t| plain::commit(s, t)) >> 32 == 0);
-            }
-            assert_eq!(with(&mut member, |s, t| plain::advance(s, t)), 0);
+            member.go_on(commits(r));
         }
         member
     }
@@ -400,32 +418,11 @@ impl Cases {
 
     /// Nanoseconds per call: engine, plain, floor.
     fn measure(&mut self, pace: &Pace) -> [f64; 3] {
-        let mut times = [(); 3].map(|()| Vec::new());
-        let mut sizes = [1; 3];
-        let many = self.0.len();
-        for (which, size) in sizes.iter_mut().enumerate() {
-            self.one(which, many);
-            let once = self.one(which, many).max(20.0);
-            *size = ((pace.batch_nanoseconds / once) as usize).next_multiple_of(many).max(many);
-        }
-        for _ in 0..pace.batches {
-            for which in 0..3 {
-                times[which].push(self.one(which, sizes[which]));
-            }
-        }
-        times.map(|mut all| {
-            all.sort_by(f64::total_cmp);
-            all[all.len() / 2]
-        })
-    }
-
-    fn one(&mut self, which: usize, calls: usize) -> f64 {
-        let time = match which {
+        pace.medians(self.0.len(), |which, calls| match which {
             0 => self.batch(&ENGINE, calls),
             1 => self.batch(&PLAIN, calls),
             _ => self.floor_batch(calls),
-        };
-        time.as_nanos() as f64 / calls as f64
+        })
     }
 
     fn held(&mut self) -> u32 {
@@ -436,6 +433,88 @@ impl Cases {
 struct Pace {
     batches: u32,
     batch_nanoseconds: f64,
+}
+
+impl Pace {
+    /// Nanoseconds per call of each of N that take turns; `run` makes some calls
+    /// of one of them, always a multiple of `many`.
+    fn medians<const N: usize>(
+        &self,
+        many: usize,
+        mut run: impl FnMut(usize, usize) -> Duration,
+    ) -> [f64; N] {
+        let mut one = |which, calls| run(which, calls).as_nanos() as f64 / calls as f64;
+        let mut times = [(); N].map(|()| Vec::new());
+        let mut sizes = [1; N];
+        for (which, size) in sizes.iter_mut().enumerate() {
+            one(which, many);
+            let once = one(which, many).max(20.0);
+            *size = ((self.batch_nanoseconds / once) as usize).next_multiple_of(many).max(many);
+        }
+        for _ in 0..self.batches {
+            for which in 0..N {
+                times[which].push(one(which, sizes[which]));
+            }
+        }
+        times.map(|mut all| {
+            all.sort_by(f64::total_cmp);
+            all[all.len() / 2]
+        })
+    }
+}
+
+// --------------------------------------------------------------- bundles ---
+
+/// A member that lacks the last four rounds, and their certificates: in order,
+/// and newest first.
+struct Bundle {
+    member: Member,
+    in_order: Vec<[u32; 17]>,
+    newest_first: Vec<[u32; 17]>,
+    answers: [u32; 64],
+}
+
+impl Bundle {
+    fn of(ceiling: u32, rounds: u32, seed: u64) -> Bundle {
+        let mut member = Member::open(ceiling, 20, seed);
+        for r in 1..=rounds - 4 {
+            member.fill(r, &[]);
+            member.go_on(true);
+        }
+        let places = (rounds - 3..=rounds).flat_map(|r| (0..16).map(move |author| (author, r)));
+        let in_order: Vec<_> = places.map(|(author, r)| member.naming_all(author, r)).collect();
+        let newest_first = in_order.chunks(16).rev().flatten().copied().collect();
+        Bundle { member, in_order, newest_first, answers: [1; 64] }
+    }
+
+    /// Takes the bundle in and leaves it out again: 64 certificates, and four
+    /// words to undo it.
+    #[inline(always)]
+    fn run(&mut self, f: &Functions, in_one: bool) {
+        let state = self.member.state;
+        if in_one {
+            let table = self.member.table();
+            assert_eq!((f.batch)(&state, table, &self.newest_first, &mut self.answers), 0);
+            assert!(self.answers.iter().all(|&answer| answer == 0));
+        } else {
+            for words in &self.in_order {
+                assert_eq!((f.accept)(&state, self.member.table(), words), 0);
+            }
+        }
+        let last = self.in_order[63][1];
+        (last - 3..=last).for_each(|r| self.member.table()[ROW * r as usize] = 0);
+    }
+}
+
+/// Nanoseconds of a bundle: in one batch and by 64 accepts, by the engine, then
+/// by plain.
+fn measure_bundles(bundles: &mut [Bundle], pace: &Pace) -> [f64; 4] {
+    pace.medians(bundles.len(), |which, calls| {
+        let f = if which < 2 { &ENGINE } else { &PLAIN };
+        let (many, start) = (bundles.len(), Instant::now());
+        (0..calls).for_each(|turn| black_box(&mut bundles[turn % many]).run(f, which % 2 == 0));
+        start.elapsed()
+    })
 }
 
 // ---------------------------------------------------------------- tables ---
@@ -530,6 +609,26 @@ fn print_growth(ceiling: u32, pace: &Pace) {
     }
 }
 
+fn print_batches(pace: &Pace) {
+    println!("\n## 64 certificates, one batch or 64 accepts\n");
+    println!("Microseconds: newest first in one batch, and in order by single accepts.\n");
+    println!("| ceiling | state | held | by | one batch | 64 accepts | accepts / batch |");
+    println!("|---:|---|---:|---|---:|---:|---:|");
+    for ceiling in [64, 1_024] {
+        for (rounds, name) in [(ceiling / 2, "half"), (ceiling, "full")] {
+            let seeds = 1..=u64::from(1_024 / ceiling);
+            let mut bundles: Vec<_> = seeds.map(|seed| Bundle::of(ceiling, rounds, seed)).collect();
+            let held = bundles[0].member.held_in_all();
+            let times = measure_bundles(&mut bundles, pace);
+            for (by, [batch, accepts]) in ["engine", "plain"].iter().zip(times.as_chunks::<2>().0) {
+                let (one, all) = (digits(batch / 1e3), digits(accepts / 1e3));
+                let times = digits(accepts / batch);
+                println!("| {ceiling} | {name} | {held} | {by} | {one} | {all} | {times} |");
+            }
+        }
+    }
+}
+
 fn main() {
     let quick = std::env::args().nth(1).as_deref() == Some("quick");
     let pace = if quick {
@@ -543,4 +642,5 @@ fn main() {
         print_ceiling(ceiling, &pace);
     }
     print_growth(1_024, &pace);
+    print_batches(&pace);
 }

@@ -1,5 +1,6 @@
 //! The engine's host functions (libhost.a) as Rust functions on slices: a
-//! slice goes over as a pointer and a length in words.
+//! slice goes over as a pointer and a length in words, a row as a pointer and a
+//! number of certificates, each 17 words.
 
 #![allow(dead_code)]
 
@@ -36,6 +37,16 @@ extern "C" {
         t: *mut u32,
         tn: usize,
         certificate: *const u32,
+        n: usize,
+    ) -> u32;
+    fn forgelilac_batch(
+        s: *const u32,
+        sn: usize,
+        t: *mut u32,
+        tn: usize,
+        row: *const [u32; 17],
+        records: usize,
+        answers: *mut u32,
         n: usize,
     ) -> u32;
     fn forgelilac_advance(s: *mut u32, sn: usize, t: *const u32, tn: usize) -> u32;
@@ -97,6 +108,12 @@ pub fn certify(state: &[u32], table: &mut [u32], endorsers: u32) -> u32 {
 pub fn accept(state: &[u32], table: &mut [u32], certificate: &[u32]) -> u32 {
     let (s, sn, t, tn) = (state.as_ptr(), state.len(), table.as_mut_ptr(), table.len());
     unsafe { forgelilac_accept(s, sn, t, tn, certificate.as_ptr(), certificate.len()) }
+}
+
+pub fn batch(state: &[u32], table: &mut [u32], row: &[[u32; 17]], answers: &mut [u32]) -> u32 {
+    let (s, sn, t, tn) = (state.as_ptr(), state.len(), table.as_mut_ptr(), table.len());
+    let (records, n) = (row.as_ptr(), row.len());
+    unsafe { forgelilac_batch(s, sn, t, tn, records, n, answers.as_mut_ptr(), answers.len()) }
 }
 
 pub fn advance(state: &mut [u32], table: &[u32]) -> u32 {

@@ -6,7 +6,7 @@
 
 #include "forgelilac.h"
 
-enum { MEMBERS = 3, CEILING = 64, LAST_ROUND = 9 };
+enum { MEMBERS = 3, CEILING = 64, LAST_ROUND = 9, BUNDLE = 3 * MEMBERS };
 
 struct engine {
     uint32_t state[FORGELILAC_STATE_WORDS];
@@ -106,6 +106,38 @@ static void print_endorsers(const struct engine *e, uint32_t round) {
     }
 }
 
+/* What member 0 holds of rounds 3, 2 and 1, as a link delivers it: newest first. */
+static void bundle(struct forgelilac_certificate row[BUNDLE]) {
+    uint32_t out[FORGELILAC_HELD_WORDS];
+    for (uint32_t round = 3; round >= 1; round--)
+        for (uint32_t author = 0; author < MEMBERS; author++) {
+            must("certificate", forgelilac_certificate(ENGINE(&engines[0]), author, round, WORDS(out)));
+            *row++ = forgelilac_record_of(out);
+        }
+}
+
+static void print_answers(const char *how, const uint32_t answers[BUNDLE]) {
+    printf("  %s:", how);
+    for (int i = 0; i < BUNDLE; i++) printf(" %u", (unsigned)answers[i]);
+    printf("\n");
+}
+
+/* A member that was away gets the bundle: one by one, and, opened anew, in one batch. */
+static void print_batch(void) {
+    static struct engine away;
+    struct forgelilac_certificate row[BUNDLE];
+    uint32_t answers[BUNDLE];
+    bundle(row);
+    printf("rounds 3, 2, 1 to a member that was away\n");
+    open_member(&away, MEMBERS);
+    for (int i = 0; i < BUNDLE; i++)
+        answers[i] = forgelilac_accept(ENGINE(&away), (const uint32_t *)&row[i], FORGELILAC_CERTIFICATE_WORDS);
+    print_answers("one by one", answers);
+    open_member(&away, MEMBERS);
+    must("batch", forgelilac_batch(ENGINE(&away), row, BUNDLE, WORDS(answers)));
+    print_answers("in one batch", answers);
+}
+
 static void print_end(void) {
     printf("certificates as round/author\n");
     for (uint32_t m = 0; m < MEMBERS; m++) print_chain(&engines[m]);
@@ -117,6 +149,7 @@ static void print_end(void) {
         printf("%s%u", m == 0 ? "" : ", ", (unsigned)forgelilac_value_of(share));
     }
     printf("]\n");
+    print_batch();
 }
 
 int main(void) {

@@ -10,14 +10,16 @@
 #include "forgelilac.h"
 
 enum { CEILING = 64, MEMBERS = 4, ALL = (1 << MEMBERS) - 1, STACK = 1 << 20, PAINT = 0xa5 };
-enum call { NOTHING, OPEN, PROPOSE, ENDORSE, CERTIFY, ACCEPT, ADVANCE, COMMIT,
+enum call { NOTHING, OPEN, PROPOSE, ENDORSE, CERTIFY, ACCEPT, BATCH, ADVANCE, COMMIT,
             COMMITTEE, SHARE, CERTIFICATE, BLOCK, CHAIN, CALLS };
-static const char *const names[CALLS] = {"", "open", "propose", "endorse", "certify", "accept", "advance",
+static const char *const names[CALLS] = {"", "open", "propose", "endorse", "certify", "accept", "batch", "advance",
                                          "commit", "committee", "share", "certificate", "block", "chain"};
 
 static uint32_t state[FORGELILAC_STATE_WORDS], table[FORGELILAC_TABLE_WORDS(CEILING)];
 static uint32_t words[FORGELILAC_SHEET_WORDS], out[FORGELILAC_HELD_WORDS];
 static uint32_t list[FORGELILAC_CHAIN_WORDS(CEILING)];
+static struct forgelilac_certificate row[FORGELILAC_BATCH_RECORDS];
+static uint32_t answers[FORGELILAC_BATCH_RECORDS];
 static unsigned char *stack;
 static size_t used[CALLS];
 
@@ -35,6 +37,7 @@ static uint64_t make(enum call call) {
     case ENDORSE: return high(forgelilac_endorse(ENGINE, WORDS));
     case CERTIFY: return high(forgelilac_certify(ENGINE, words[0]));
     case ACCEPT: return high(forgelilac_accept(ENGINE, WORDS));
+    case BATCH: return high(forgelilac_batch(ENGINE, row, FORGELILAC_BATCH_RECORDS, answers, FORGELILAC_BATCH_RECORDS));
     case ADVANCE: return high(forgelilac_advance(ENGINE));
     case COMMIT: return forgelilac_commit(ENGINE);
     case COMMITTEE: return high(forgelilac_committee(ENGINE, words[0], OUT));
@@ -89,8 +92,13 @@ static void sign(uint32_t round) {
         body(words + FORGELILAC_PROPOSAL_BODY, round, author);
         words[FORGELILAC_CERTIFICATE_ENDORSERS] = ALL & ~(1u << author);
         measure(ENDORSE);
-        measure(ACCEPT);
+        row[author] = forgelilac_record_of(words);
+        if (round % 2 == 1) measure(ACCEPT);
     }
+    /* Every other round comes by the batch; the rest of the row are copies. */
+    for (int i = MEMBERS; i < FORGELILAC_BATCH_RECORDS; i++) row[i] = row[i - 1];
+    row[0] = row[1];
+    if (round % 2 == 0) measure(BATCH);
 }
 
 static void look(uint32_t round) {

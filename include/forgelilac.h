@@ -3,10 +3,10 @@
  * Link with `pkg-config --cflags --libs forgelilac`, that is -lforgelilac. C99 or later, or C++;
  * a freestanding compiler serves. The archive asks for memcpy and memset and for nothing else.
  *
- * Stretches. Every stretch is a pointer and a length in 32-bit words. Stretches of one call do
- * not overlap, and no pointer is null, also where a length is 0. Any length and any content is
- * safe. A stretch may be longer than its layout: what lies beyond is not looked at and never
- * changes.
+ * Stretches. Every stretch is a pointer and a length in 32-bit words; a row of certificates has its
+ * length in records. Stretches of one call do not overlap, and no pointer is null, also where a
+ * length is 0. Any length and any content is safe. A stretch may be longer than its layout: what
+ * lies beyond is not looked at and never changes.
  *
  * Answers. A call answers 0 when accepted, else the refusal number; the first check that fails
  * gives it. A refused call changes no word. The numbers at the end of a function's comment are its
@@ -32,9 +32,9 @@ extern "C" {
 /* ---- versions */
 
 /* Of the header, and of the archive that belongs to it. */
-#define FORGELILAC_VERSION "0.3.0"
+#define FORGELILAC_VERSION "0.4.0"
 #define FORGELILAC_VERSION_MAJOR 0
-#define FORGELILAC_VERSION_MINOR 3
+#define FORGELILAC_VERSION_MINOR 4
 #define FORGELILAC_VERSION_PATCH 0
 /* Of the words of state and table; no word of theirs has it. Store it beside them: docs/TABLES.md
  * tells what to do with words of an older format. */
@@ -53,14 +53,15 @@ extern "C" {
 #define FORGELILAC_SHEET_WORDS 38
 #define FORGELILAC_COMMITTEE_WORDS 16
 #define FORGELILAC_LISTED_WORDS 3       /* a certificate as forgelilac_chain lists it */
+#define FORGELILAC_BATCH_RECORDS 64     /* the most certificates of a batch, in records */
 /* A table for a state of this ceiling; forgelilac_table_words as a constant. */
 #define FORGELILAC_TABLE_WORDS(ceiling) (272u * (ceiling) + 272u)
 /* Room for every chain of a state of this ceiling. */
 #define FORGELILAC_CHAIN_WORDS(ceiling) (48u * (ceiling))
 
 /* Bytes of stack that serve every call and every function below on x86-64; examples/stack.c
- * measures what they use. Propose, endorse, certify, accept and commit use about 77 KB, committee
- * and share about 72 KB, forgelilac_chain about 3 KB, the others less than 1 KB. */
+ * measures what they use. Batch and commit use about 75 KB, propose, endorse, certify, accept,
+ * committee and share about 72 KB, forgelilac_chain about 3 KB, the others less than 1 KB. */
 #define FORGELILAC_STACK_BYTES 98304
 
 /* ---- words of a state */
@@ -89,6 +90,12 @@ extern "C" {
 #define FORGELILAC_LISTED_BLOCK 0    /* number of its block, from 1 */
 #define FORGELILAC_LISTED_ROUND 1
 #define FORGELILAC_LISTED_AUTHOR 2
+
+/* A certificate of a row, for forgelilac_batch: its 17 words in their order. forgelilac_record_of
+ * makes one of words. The certificate read has the same name: write `struct`, in C++ too. */
+struct forgelilac_certificate {
+    uint32_t author, round, body[FORGELILAC_BODY_WORDS], endorsers;
+};
 
 enum forgelilac_kind {
     FORGELILAC_BOND = 0,   /* number: member, amount: 1 to 1,000 */
@@ -149,7 +156,8 @@ enum forgelilac_refusal {
     FORGELILAC_BLOCK_MADE = 20,        /* last block's round at least the round before */
     FORGELILAC_NO_ANCHOR = 21,         /* no anchor in the round before */
     FORGELILAC_VOTES_SHORT = 22,       /* votes weigh not more than the fault bound */
-    FORGELILAC_NONE_THERE = 23         /* no such certificate or block */
+    FORGELILAC_NONE_THERE = 23,        /* no such certificate or block */
+    FORGELILAC_LENGTH_RANGE = 25       /* a row of more than 64 certificates, or answers shorter than the row */
 };
 
 /* ---- calls: 0 accepted, else the refusal number */
@@ -180,6 +188,16 @@ uint32_t forgelilac_certify(const uint32_t *state, size_t state_words,
 uint32_t forgelilac_accept(const uint32_t *state, size_t state_words,
                            uint32_t *table, size_t table_words,
                            const uint32_t *certificate, size_t certificate_words);
+/* Takes a row of certificates of anybody's, once their signatures are checked: up to 64, in any
+ * order. They are tried by rising round, then author, then place in the row. Each gets what
+ * forgelilac_accept would have answered at its turn, 0 where it was accepted, at its own place in
+ * answers; a record that cannot be read gets 1, and the others are tried. Answers beyond the row
+ * stay. What got 11 gets 11 again straight afterwards, or 17 where the row has filled its place with
+ * another. An empty row is accepted. Refused: nothing is tried. 1, 25. */
+uint32_t forgelilac_batch(const uint32_t *state, size_t state_words,
+                          uint32_t *table, size_t table_words,
+                          const struct forgelilac_certificate *row, size_t row_records,
+                          uint32_t *answers, size_t answers_words);
 /* Goes on to the next round. Accepted: the proposal is dropped. 1, 18. */
 uint32_t forgelilac_advance(uint32_t *state, size_t state_words,
                             const uint32_t *table, size_t table_words);
@@ -228,7 +246,7 @@ static inline uint32_t forgelilac_refusal_of(uint64_t answer) {
 
 /* A refusal number in words. 24 is the runner's alone: no function here answers it. */
 static inline const char *forgelilac_refusal_text(uint32_t number) {
-    static const char *const texts[25] = {
+    static const char *const texts[26] = {
         "accepted",
         "state not well formed, a table too short, or words that cannot be read",
         "setting out of range",
@@ -254,11 +272,12 @@ static inline const char *forgelilac_refusal_text(uint32_t number) {
         "votes weigh not more than the fault bound",
         "no such certificate or block",
         "record unreadable",
+        "a row of more than 64 certificates, or answers shorter than the row",
     };
-    return number < 25 ? texts[number] : "no refusal of this version";
+    return number < 26 ? texts[number] : "no refusal of this version";
 }
 
-/* ---- sheets, bodies, proposals */
+/* ---- sheets, bodies, proposals, records */
 
 /* All settings blank. */
 static inline void forgelilac_blank_sheet(uint32_t sheet[FORGELILAC_SHEET_WORDS]) {
@@ -317,6 +336,17 @@ static inline int forgelilac_own_proposal(const uint32_t state[FORGELILAC_STATE_
     for (int i = 0; i < FORGELILAC_BODY_WORDS; i++)
         proposal[FORGELILAC_PROPOSAL_BODY + i] = state[FORGELILAC_STATE_BODY + i];
     return 1;
+}
+
+/* The words of a certificate as a record of a row. The first 17 words of the certificate read serve. */
+static inline struct forgelilac_certificate
+forgelilac_record_of(const uint32_t words[FORGELILAC_CERTIFICATE_WORDS]) {
+    struct forgelilac_certificate record;
+    record.author = words[FORGELILAC_PROPOSAL_AUTHOR];
+    record.round = words[FORGELILAC_PROPOSAL_ROUND];
+    for (int i = 0; i < FORGELILAC_BODY_WORDS; i++) record.body[i] = words[FORGELILAC_PROPOSAL_BODY + i];
+    record.endorsers = words[FORGELILAC_CERTIFICATE_ENDORSERS];
+    return record;
 }
 
 /* ---- the chain */

@@ -1,7 +1,8 @@
 #!/bin/sh
 # check.sh [LAST [FIRST]]: the tests, the example, the edge streams, shares of
 # every weight of totals to 1,000 and as many by chance, and seeds FIRST to LAST
-# (1 to 50 if not given), the reference against naive.py.
+# (1 to 50 if not given), as they are and with their accepts in batches, the
+# reference against naive.py.
 # A runner given in RUNNER is compared with the reference as well.
 cd "$(dirname "$0")" || exit 2
 bin/tests_ref -q || exit 1
@@ -23,6 +24,9 @@ for seed in $(seq "${2:-1}" "${1:-50}"); do
     for runner in "python3 naive.py" $RUNNER; do
         $runner < out/stream | cmp - out/expected || differs "seed $seed"
     done
+    python3 rows.py "$seed" > out/rows
+    bin/batches < out/rows > out/expected
+    python3 naive.py batches < out/rows | cmp - out/expected || differs "rows of seed $seed"
 done
 rm -r out
 [ $status = 0 ] && echo all the same

@@ -1,8 +1,9 @@
 #!/usr/bin/env python3
 """Spoils the reference in one place at a time and counts which streams
 notice: the edge stream and the shuffled streams of seeds 1 to N. No record
-reads a share: wrong rules of shares are given pairs of weight and total, and
-what they answer is compared with naive.py.
+reads a share or is a batch: wrong rules of shares are given pairs of weight and
+total, wrong rules of batches rows of certificates, and what they answer is
+compared with naive.py.
 
     mutants.py N        (build.sh first; works in the directory mutants)
 
@@ -173,6 +174,22 @@ S=[
 ('(1_000 * weight / n, 1_000 * weight % n)','(100 * weight / n, 100 * weight % n)'),
 ('(1_000 * weight / n, 1_000 * weight % n)','((1_000 * weight & 0xffff_ffff) / n, (1_000 * weight & 0xffff_ffff) % n)'),
 ]
+# wrong rules of batches
+B=[
+# author before round, newest first, as they stand, the later of equals first
+('(c.proposal.round, c.proposal.author)','(c.proposal.author, c.proposal.round)'),
+('(c.proposal.round, c.proposal.author)','(u32::MAX - c.proposal.round, c.proposal.author)'),
+('(c.proposal.round, c.proposal.author)','0'),
+('        for i in turns {\n            let answer','        turns.reverse();\n        turns.sort_by_key(|&i| row[i].as_ref().map(|c| (c.proposal.round, c.proposal.author)));\n        for i in turns {\n            let answer'),
+# answers in the order of the turns; accepted is 1; 65 let in, 64 refused
+('        for i in turns {\n            let answer = row[i].as_ref()','        for (i, j) in turns.into_iter().enumerate() {\n            let answer = row[j].as_ref()'),
+('answer.err().unwrap_or(0)','answer.err().unwrap_or(1)'),
+('pub const MOST_RECORDS: usize = 64;','pub const MOST_RECORDS: usize = 65;'),
+('pub const MOST_RECORDS: usize = 64;','pub const MOST_RECORDS: usize = 63;'),
+# words that cannot be read
+('map_or(Err(1), |certificate|','map_or(Ok(()), |certificate|'),
+('map_or(Err(1), |certificate|','map_or(Err(24), |certificate|'),
+]
 work = os.path.join(base, 'mutants')
 os.makedirs(work, exist_ok=True)
 good = os.path.join(base, 'bin', 'runner_ref')
@@ -224,6 +241,29 @@ def one(i):
                                                  len(streams), ' (same)' if i in SAME else '')
 
 
+# The seeds' rows, and rows of 64 and of 65.
+rows = b''.join(subprocess.run([sys.executable, os.path.join(base, 'rows.py'), str(seed)],
+                               capture_output=True).stdout for seed in range(1, 31))
+rows += b''.join(b'offer,1,1,0,13\n' * n + b'batch\n' for n in (64, 65))
+batches = subprocess.run([sys.executable, os.path.join(base, 'naive.py'), 'batches'],
+                         input=rows, capture_output=True).stdout.splitlines()
+
+
+def spoilt_batches(i):
+    place = 'batch%d' % i
+    os.makedirs(os.path.join(work, place), exist_ok=True)
+    shutil.copy(os.path.join(base, 'runner_ref.rs'), os.path.join(work, place))
+    return spoilt(place, 'batches.rs', 'reference.rs', *B[i])
+
+
+def one_batch(i):
+    program, why = spoilt_batches(i)
+    if program is None:
+        return why
+    found = answers(program, rows).splitlines()
+    return '%d of %d lines' % (sum(a != b for a, b in zip(found, batches)), len(batches))
+
+
 def one_share(i):
     program, why = spoilt('share%d' % i, 'shares.rs', 'reference.rs', *S[i])
     if program is None:
@@ -235,6 +275,8 @@ def one_share(i):
 with ThreadPoolExecutor(4) as pool:
     for i, result in enumerate(pool.map(one_share, range(len(S)))):
         print('share', i, repr(S[i][0][:44]), '->', repr(S[i][1][:44]), ':', result, flush=True)
+    for i, result in enumerate(pool.map(one_batch, range(len(B)))):
+        print('batch', i, repr(B[i][0][:44]), '->', repr(B[i][1][:44]), ':', result, flush=True)
     for i, result in enumerate(pool.map(one, range(len(M)))):
         print(i, M[i][0], repr(M[i][1][:44]), '->', repr(M[i][2][:44]), ':', result, flush=True)
 shutil.rmtree(work)

@@ -7,6 +7,7 @@ with the leader of its round in the first writing.
 
     naive.py < stream > answers
     naive.py shares < pairs > shares      (no record reads a share)
+    naive.py batches < rows > answers     (no record is a batch)
 """
 import re
 import sys
@@ -158,6 +159,18 @@ class Engine:
         self.held[author, r] = (previous, transactions)
         self.endorsed.discard((author, r))
 
+    def batch(self, row):
+        """What each of the row gets; None stands for one that cannot be read."""
+        refuse_if(len(row) > 64, 25)
+        got = [1] * len(row)
+        for _, _, place in sorted((c[1], c[0], i) for i, c in enumerate(row) if c):
+            try:
+                self.accept(*row[place])
+                got[place] = 0
+            except Refused as refusal:
+                got[place] = refusal.args[0]
+        return got
+
     def advance(self):
         refuse_if(self.round == self.ceiling, 18)
         self.round += 1
@@ -229,6 +242,8 @@ def triples(fields):
 
 def call(record):
     """The name of the call and its values."""
+    if len(record) + 2 > 1024 or any(c in record for c in '"\r\n'):
+        raise Unreadable
     name, *f = record.split(',')
     if name == 'open' and len(f) == 20:
         return name, [number(f[0]), [None if x == '' else number(x) for x in f[1:]]]
@@ -246,30 +261,31 @@ def call(record):
     raise Unreadable
 
 
+def answered(engine, text):
+    """The engine after a record, and its lines."""
+    try:
+        name, values = call(text)
+        if name == 'open':
+            return Engine(*values), ['ok']
+        refuse_if(engine is None, 1)
+        result = getattr(engine, name)(*values)
+        lines = result if name == 'chain' else []
+        return engine, lines + ['ok,%d' % result if name == 'commit' else 'ok']
+    except Unreadable:
+        return engine, ['refused,24']
+    except Refused as refusal:
+        return engine, ['refused,%d' % refusal.args[0]]
+
+
 def main():
     data = sys.stdin.buffer.read().decode('latin-1')
-    out, engine, at = [], None, 0
-    while at < len(data):
-        end = data.find('\r\n', at)
-        text = data[at:] if end < 0 else data[at:end]
-        at = len(data) if end < 0 else end + 2
-        try:
-            if end < 0 or len(text) + 2 > 1024 or any(c in text for c in '"\r\n'):
-                raise Unreadable
-            name, values = call(text)
-            if name == 'open':
-                engine = Engine(*values)
-                out.append('ok')
-            else:
-                refuse_if(engine is None, 1)
-                result = getattr(engine, name)(*values)
-                if name == 'chain':
-                    out += result
-                out.append('ok,%d' % result if name == 'commit' else 'ok')
-        except Unreadable:
-            out.append('refused,24')
-        except Refused as refusal:
-            out.append('refused,%d' % refusal.args[0])
+    *records, rest = data.split('\r\n')
+    out, engine = [], None
+    for text in records:
+        engine, lines = answered(engine, text)
+        out += lines
+    if rest:
+        out.append('refused,24')
     sys.stdout.buffer.write(''.join(line + '\r\n' for line in out).encode('latin-1'))
 
 
@@ -283,7 +299,36 @@ def shares():
         print(share(*map(int, line.split())))
 
 
+def offered(text):
+    """The values of an offer, which are an accept's; None where it cannot be read."""
+    try:
+        return call('accept' + text[len('offer'):])[1]
+    except Unreadable:
+        return None
+
+
+def batches():
+    engine, row = None, []
+    for line in sys.stdin:
+        text = line.rstrip('\n')
+        if text.startswith('offer'):
+            row.append(offered(text))
+            continue
+        if text == 'batch':
+            try:
+                refuse_if(engine is None, 1)
+                lines = [','.join(['ok'] + list(map(str, engine.batch(row))))]
+            except Refused as refusal:
+                lines = ['refused,%d' % refusal.args[0]]
+            row = []
+        else:
+            engine, lines = answered(engine, text)
+        print(*lines, sep='\n')
+
+
 if sys.argv[1:] == ['shares']:
     shares()
+elif sys.argv[1:] == ['batches']:
+    batches()
 else:
     main()

@@ -18,6 +18,9 @@ pub type Answer<T> = Result<T, u32>;
 /// Members are 0 to 15.
 pub const MEMBERS: u32 = 16;
 
+/// The most certificate records of a batch (point 4).
+pub const MOST_RECORDS: usize = 64;
+
 /// A set of members: member i counts 2 to the power i.
 pub type Set = u16;
 
@@ -538,6 +541,31 @@ impl Member {
         let here = place(c.proposal.author, c.proposal.round);
         self.held[here] = Some(Held { certificate: c.clone(), block: 0 });
         self.endorsed[here] = false;
+        Ok(())
+    }
+
+    // ---- batch (point 4)
+
+    pub fn may_batch(&self, records: usize, room: usize) -> Answer<()> {
+        if records > MOST_RECORDS || room < records {
+            return Err(25);
+        }
+        Ok(())
+    }
+
+    /// Tries a row of certificates by rising round, then author, then place in
+    /// the row, and writes what accept answers to each at its place. To a
+    /// record whose words cannot be read, `None`, it answers 1 whenever it is
+    /// asked, and leaves all as it was: so its turn may as well come first.
+    pub fn batch(&mut self, row: &[Option<Certificate>], answers: &mut [u32]) -> Answer<()> {
+        self.may_batch(row.len(), answers.len())?;
+        let mut turns: Vec<usize> = (0..row.len()).collect();
+        // A stable sort: of equals the lower place stays first.
+        turns.sort_by_key(|&i| row[i].as_ref().map(|c| (c.proposal.round, c.proposal.author)));
+        for i in turns {
+            let answer = row[i].as_ref().map_or(Err(1), |certificate| self.accept(certificate));
+            answers[i] = answer.err().unwrap_or(0);
+        }
         Ok(())
     }
 

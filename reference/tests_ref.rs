@@ -1,7 +1,7 @@
 //! `rustc --test tests_ref.rs`: the cases marked P in document 01, the slips
 //! it wants ruled out, the example, small runs worked out by hand, the order
-//! inside a block, and the shortcuts of the reference compared with the plain
-//! definitions.
+//! inside a block, batches, and the shortcuts of the reference compared with the
+//! plain definitions.
 
 #![allow(dead_code)]
 
@@ -492,6 +492,186 @@ fn no_change_on_refusal() {
     let _ = m.accept(&certificate(1, 3, 15, 0, &[]));
     let _ = m.commit();
     assert_eq!(image, format!("{m:?}"));
+}
+
+// ------------------------------------------------------- batches (point 4) ---
+
+/// Four members of weight 1, own 0, nothing held.
+fn of_four() -> Member {
+    Member::open(0, &sheet(Blank, Written(8), Blank, &[]), 8).unwrap()
+}
+
+/// A certificate of one of four, endorsed by the other three.
+fn by_all(author: u32, round: u32, previous: Set, transactions: &[Transaction]) -> Certificate {
+    certificate(author, round, previous, 15 & !single(author & 3), transactions)
+}
+
+/// A batch with just enough room.
+fn batch(m: &mut Member, row: &[Option<Certificate>]) -> Vec<u32> {
+    let mut found = vec![77; row.len()];
+    m.batch(row, &mut found).unwrap();
+    found
+}
+
+#[test]
+fn a_bundle_newest_first() {
+    let newest_first: Vec<Certificate> = (1..=3)
+        .rev()
+        .flat_map(|r| (0..4).map(move |a| by_all(a, r, if r == 1 { 0 } else { 15 }, &[])))
+        .collect();
+    let mut one_by_one = of_four();
+    let singly: Vec<_> = newest_first.iter().map(|c| one_by_one.accept(c)).collect();
+    assert_eq!(singly[..8], [Err(11); 8]);
+    assert_eq!(singly[8..], [Ok(()); 4]);
+    let mut m = of_four();
+    let row: Vec<_> = newest_first.into_iter().map(Some).collect();
+    assert_eq!(batch(&mut m, &row), [0; 12]);
+    assert_eq!((1..=3).map(|r| m.held_authors(r)).collect::<Vec<_>>(), [15; 3]);
+    // Delivered again, all are held.
+    assert_eq!(batch(&mut m, &row), [16; 12]);
+}
+
+/// By round before author before place; each answer where its record stands.
+#[test]
+fn order_of_a_batch() {
+    // The round decides, not the author and not the place: author 3 of round 1
+    // is tried before author 0 of round 2, which names it.
+    let row = [Some(by_all(0, 2, 8, &[])), Some(by_all(3, 1, 0, &[]))];
+    assert_eq!(batch(&mut of_four(), &row), [0, 0]);
+    // Of one place the lower place in the row: its endorsers are stored.
+    let copy = |endorsers| Some(certificate(1, 1, 0, endorsers, &[entry(1)]));
+    let another = Some(by_all(1, 1, 0, &[]));
+    let mut m = of_four();
+    assert_eq!(batch(&mut m, &[copy(12), copy(13), another.clone(), copy(2)]), [0, 16, 17, 14]);
+    assert_eq!(m.read_certificate(1, 1).unwrap().1, 12);
+    assert_eq!(batch(&mut of_four(), &[another.clone(), copy(12), copy(13)]), [0, 17, 17]);
+    // Of equals in between others.
+    let last = Some(by_all(2, 1, 0, &[]));
+    assert_eq!(batch(&mut of_four(), &[last, copy(4), copy(8), copy(12)]), [0, 13, 13, 0]);
+}
+
+#[test]
+fn any_words_have_their_turn() {
+    let most = u32::MAX;
+    let row = [
+        Some(by_all(3, most, 1, &[])),
+        Some(by_all(most, 2, 2, &[])),
+        None,
+        Some(by_all(0, 2, 2, &[])),
+        Some(by_all(1, 0, 1, &[])),
+        Some(by_all(most, 0, 0, &[])),
+        Some(by_all(1, 1, 0, &[])),
+        None,
+    ];
+    assert_eq!(batch(&mut of_four(), &row), [5, 4, 1, 0, 5, 4, 0, 1]);
+}
+
+#[test]
+fn lengths_of_a_batch() {
+    let one = Some(by_all(1, 1, 0, &[]));
+    for (records, room, answer) in
+        [(0, 0, Ok(())), (1, 1, Ok(())), (64, 64, Ok(())), (64, 99, Ok(())), (1, 0, Err(25)), (64, 63, Err(25)), (65, 65, Err(25)), (65, 99, Err(25))]
+    {
+        let (mut m, row, mut found) = (of_four(), vec![one.clone(); records], vec![77; room]);
+        assert_eq!(m.batch(&row, &mut found), answer, "{records} records, {room} answers");
+        let tried = if answer.is_ok() { records } else { 0 };
+        let expected = (0..room).map(|i| if i >= tried { 77 } else if i == 0 { 0 } else { 16 });
+        assert!(expected.eq(found.iter().copied()));
+        assert_eq!(m.is_held(1, 1), tried > 0);
+    }
+}
+
+#[test]
+fn offered_again_by_hand() {
+    // Author 3 of round 1 is not in the row. Place (1, 2) is filled by the one that does without.
+    let row: Vec<_> = [
+        by_all(1, 2, 9, &[]),
+        by_all(1, 2, 7, &[]),
+        by_all(0, 2, 8, &[]),
+        by_all(2, 2, 8, &[]),
+        by_all(2, 2, 8, &[]),
+        by_all(0, 1, 0, &[]),
+        by_all(1, 1, 0, &[]),
+        by_all(2, 1, 0, &[]),
+    ]
+    .map(Some)
+    .into();
+    let mut m = of_four();
+    assert_eq!(batch(&mut m, &row), [11, 0, 11, 11, 11, 0, 0, 0]);
+    let again: Vec<_> = row.iter().flatten().map(|c| m.may_accept(c).err()).collect();
+    assert_eq!(again[..5], [Some(17), Some(16), Some(11), Some(11), Some(11)]);
+}
+
+/// At each turn the first of those that are left; accepted one by one.
+fn plain_batch(m: &mut Member, row: &[Option<Certificate>]) -> Vec<u32> {
+    let key = |i: usize| row[i].as_ref().map_or((0, 0), |c| (c.proposal.round, c.proposal.author));
+    let (mut left, mut found) = (vec![true; row.len()], vec![0; row.len()]);
+    for _ in 0..row.len() {
+        let mut first = None;
+        for i in 0..row.len() {
+            if left[i] && first.is_none_or(|f| key(i) < key(f)) {
+                first = Some(i);
+            }
+        }
+        let i = first.unwrap();
+        left[i] = false;
+        found[i] = match &row[i] {
+            None => 1,
+            Some(c) => m.accept(c).map_or_else(|number| number, |()| 0),
+        };
+    }
+    found
+}
+
+/// Rows by chance on members of some rounds: the order, and what is answered
+/// to what got 11, straight afterwards.
+#[test]
+fn rows_by_chance() {
+    let mut rng = Rng(0x0123_4567_89ab_cdef);
+    let (mut accepted, mut again_11, mut again_17) = (0, 0, 0);
+    for _ in 0..2_000 {
+        let mut m = of_four();
+        for _ in 0..3 {
+            let row: Vec<_> = (0..rng.below(65)).map(|_| any_of_a_row(&mut rng)).collect();
+            let mut copy = m.clone();
+            let found = batch(&mut m, &row);
+            assert_eq!(found, plain_batch(&mut copy, &row));
+            assert_eq!(format!("{m:?}"), format!("{copy:?}"));
+            accepted += found.iter().filter(|&&answer| answer == 0).count();
+            for (c, _) in row.iter().zip(&found).filter(|(_, &answer)| answer == 11) {
+                let c = c.as_ref().unwrap();
+                let held = m.held_at(c.proposal.author, c.proposal.round);
+                let expected = if held.is_some() { 17 } else { 11 };
+                assert_eq!(m.may_accept(c), Err(expected));
+                again_11 += u32::from(expected == 11);
+                // Filled by the row, with another.
+                if let Some(held) = held {
+                    again_17 += 1;
+                    let filled = |(other, &answer): (&Option<Certificate>, &u32)| {
+                        answer == 0 && other.as_ref().unwrap().same_as(&held.certificate)
+                    };
+                    assert!(!held.certificate.same_as(c) && row.iter().zip(&found).any(filled));
+                }
+            }
+        }
+    }
+    assert!(accepted > 10_000 && again_11 > 10_000 && again_17 > 1_000, "{accepted} {again_11} {again_17}");
+}
+
+/// Mostly of rounds 1 to 4, with any previous set and few transactions; now and
+/// then endorsed by too few, or no certificate at all.
+fn any_of_a_row(rng: &mut Rng) -> Option<Certificate> {
+    if rng.below(40) == 0 {
+        return None;
+    }
+    let (author, round) = (rng.below(4) as u32, 1 + rng.below(4) as u32);
+    let previous = if round == 1 { 0 } else { 1 + rng.below(15) as Set };
+    let transactions = vec![entry(7); rng.below(2) as usize];
+    let mut c = by_all(author, round, previous, &transactions);
+    if rng.below(10) == 0 {
+        c.endorsers &= rng.below(16) as Set;
+    }
+    Some(c)
 }
 
 // -------------------------------------------------------------- runner ---

@@ -60,6 +60,7 @@ pub enum Call {
     Accept { certificate: Vec<u32> },
     Advance,
     Commit,
+    Batch { row: Vec<[u32; 17]>, answers: Vec<u32> },
     Committee { round: u32, out: Vec<u32> },
     Share { member: u32, round: u32 },
     Certificate { author: u32, round: u32, out: Vec<u32> },
@@ -67,7 +68,7 @@ pub enum Call {
 }
 
 impl Call {
-    pub const NAMES: [&'static str; 11] = [
+    pub const NAMES: [&'static str; 12] = [
         "open",
         "propose",
         "endorse",
@@ -75,6 +76,7 @@ impl Call {
         "accept",
         "advance",
         "commit",
+        "batch",
         "committee",
         "share",
         "certificate",
@@ -90,21 +92,23 @@ impl Call {
             Call::Accept { .. } => 4,
             Call::Advance => 5,
             Call::Commit => 6,
-            Call::Committee { .. } => 7,
-            Call::Share { .. } => 8,
-            Call::Certificate { .. } => 9,
-            Call::Block { .. } => 10,
+            Call::Batch { .. } => 7,
+            Call::Committee { .. } => 8,
+            Call::Share { .. } => 9,
+            Call::Certificate { .. } => 10,
+            Call::Block { .. } => 11,
         }
     }
 
     pub fn is_read(&self) -> bool {
-        self.kind() >= 7
+        self.kind() >= 8
     }
 
     /// The out stretch as it is before the call.
     pub fn out(&self) -> &[u32] {
         match self {
             Call::Committee { out, .. } | Call::Certificate { out, .. } => out,
+            Call::Batch { answers, .. } => answers,
             _ => &[],
         }
     }
@@ -158,12 +162,12 @@ pub fn any_transaction(rng: &mut Rng) -> Transaction {
     }
 }
 
-fn some_transactions(rng: &mut Rng, most: u32) -> Vec<Transaction> {
+pub fn some_transactions(rng: &mut Rng, most: u32) -> Vec<Transaction> {
     (0..rng.between(0, most)).map(|_| any_transaction(rng)).collect()
 }
 
 /// A previous set for a round: held ones, all or thinned.
-fn likely_previous(rng: &mut Rng, member: &Member, round: u32) -> Set {
+pub fn likely_previous(rng: &mut Rng, member: &Member, round: u32) -> Set {
     if round <= 1 {
         return 0;
     }
@@ -175,7 +179,7 @@ fn likely_previous(rng: &mut Rng, member: &Member, round: u32) -> Set {
     }
 }
 
-fn members_in(committee: &Committee) -> Set {
+pub fn members_in(committee: &Committee) -> Set {
     (0..MEMBERS).filter(|&m| committee[m as usize] > 0).map(single).fold(0, |a, b| a | b)
 }
 
@@ -193,7 +197,7 @@ pub fn some_quorum(rng: &mut Rng, committee: &Committee, author: u32) -> Set {
     endorsers
 }
 
-fn likely_endorsers(rng: &mut Rng, member: &Member, author: u32, round: u32) -> Set {
+pub fn likely_endorsers(rng: &mut Rng, member: &Member, author: u32, round: u32) -> Set {
     let Some(committee) = member.committee_of(round) else { return !single(author & 15) };
     let all = members_in(committee) & !single(author & 15);
     match rng.below(20) {
@@ -205,7 +209,7 @@ fn likely_endorsers(rng: &mut Rng, member: &Member, author: u32, round: u32) -> 
 
 /// A certificate that is held, with other endorsers: thinned, any others, all
 /// or none. One in four has its author among them.
-fn copy_of_held(rng: &mut Rng, member: &Member) -> Option<Certificate> {
+pub fn copy_of_held(rng: &mut Rng, member: &Member) -> Option<Certificate> {
     let round = likely_round(rng, member).clamp(1, member.settings.ceiling);
     let authors: Vec<u32> = members_of(member.held_authors(round)).collect();
     if authors.is_empty() {
@@ -378,7 +382,7 @@ fn wild_sheet(rng: &mut Rng, member: &Member) -> Vec<u32> {
 }
 
 /// A change of one or two words of an argument, or of its length.
-fn spoil(rng: &mut Rng, mut words: Vec<u32>, body: usize) -> Vec<u32> {
+pub fn spoil(rng: &mut Rng, mut words: Vec<u32>, body: usize) -> Vec<u32> {
     for _ in 0..rng.between(1, 2) {
         let k = rng.below(4) as usize;
         let count = words.get(body + 1).map_or(0, |&count| count.clamp(1, 4));
@@ -409,7 +413,7 @@ fn spoil(rng: &mut Rng, mut words: Vec<u32>, body: usize) -> Vec<u32> {
     words
 }
 
-fn noise(rng: &mut Rng, length: usize) -> Vec<u32> {
+pub fn noise(rng: &mut Rng, length: usize) -> Vec<u32> {
     (0..length).map(|_| rng.word()).collect()
 }
 

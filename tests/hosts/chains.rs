@@ -16,7 +16,7 @@ mod reference;
 mod words;
 
 use calls::Rng;
-use forgelilac::lent::{self, Place};
+use forgelilac::lent::{self, CertificateRecord, Place};
 use forgelilac::{layout, leader, Block, Certificate, Engine, Proposal, Refusal, Sheet, Transaction, MEMBERS};
 use grow::*;
 use nodes::Node;
@@ -32,13 +32,14 @@ mod header {
         pub fn header_leader(round: u32, weights: *const u32) -> u32;
         pub fn header_refusal_text(number: u32) -> *const c_char;
         pub fn header_version() -> *const c_char;
+        pub fn header_record_of(words: *const u32, record: *mut super::CertificateRecord);
         pub fn header_number(which: u32) -> u32;
     }
 }
 
 /// Lengths and offsets of the package, in the order of header.c.
 #[rustfmt::skip]
-const NUMBERS: [usize; 35] = [
+const NUMBERS: [usize; 37] = [
     layout::FORMAT as usize, MEMBERS, layout::TRANSACTIONS, layout::BLOCKS, layout::STACK_BYTES,
     layout::STATE_WORDS, layout::BODY_WORDS, layout::PROPOSAL_WORDS, layout::CERTIFICATE_WORDS,
     layout::HELD_WORDS, layout::SHEET_WORDS, layout::STATE_OWN, layout::STATE_LOOKBACK,
@@ -48,6 +49,7 @@ const NUMBERS: [usize; 35] = [
     layout::RECORD_WORDS, layout::RECORD_PREVIOUS, layout::RECORD_COUNT, layout::RECORD_BLOCK,
     layout::RECORD_ENDORSERS, layout::RECORD_TRANSACTIONS, layout::row(7),
     layout::record(5, 7), forgelilac::table_words(64) as usize, 3 * MEMBERS * 64,
+    layout::BATCH_RECORDS, size_of::<CertificateRecord>(),
 ];
 
 fn text(of: *const c_char) -> &'static str {
@@ -55,23 +57,27 @@ fn text(of: *const c_char) -> &'static str {
     unsafe { CStr::from_ptr(of) }.to_str().expect("plain text")
 }
 
-/// Header and package say the same: version, lengths, offsets, refusals.
+/// Header and package say the same: version, lengths, offsets, refusals, records of a row.
 fn compare_header() {
-    // SAFETY: numbers in, numbers and literals out.
+    // SAFETY: numbers in, numbers and literals out; 17 words, and a record of as many.
     unsafe {
         assert_eq!(text(header::header_version()), env!("VERSION"));
         for (which, number) in (0..).zip(NUMBERS) {
             assert_eq!(header::header_number(which) as usize, number, "number {which}");
         }
         assert_eq!(header::header_number(NUMBERS.len() as u32), u32::MAX);
-        for number in 1..=23 {
+        for number in (1..=23).chain([25]) {
             assert_eq!(text(header::header_refusal_text(number)), Refusal::of(number).unwrap().meaning());
         }
         assert_eq!(text(header::header_refusal_text(0)), "accepted");
         assert_eq!(text(header::header_refusal_text(24)), "record unreadable");
-        for number in [25, u32::MAX] {
+        for number in [26, u32::MAX] {
             assert_eq!(text(header::header_refusal_text(number)), "no refusal of this version");
         }
+        let words = std::array::from_fn(|at| 100 + at as u32);
+        let mut record = CertificateRecord::from([0; layout::CERTIFICATE_WORDS]);
+        header::header_record_of(words.as_ptr(), &mut record);
+        assert_eq!(record, words.into());
     }
 }
 

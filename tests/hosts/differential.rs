@@ -1,4 +1,4 @@
-//! Host functions against the reference: `differential SEED [CALLS [TOTAL]]`.
+//! Host functions against the reference: `differential SEED [CALLS [TOTAL [CERTIFICATES]]]`.
 //!
 //! Each call is made twice: by the engine on words, and by the reference on
 //! the member that the words before the call stand for. Compared after each
@@ -7,12 +7,14 @@
 //!
 //! First come single words at the edges of their ranges (`edges.rs`), then
 //! shares, among them every weight of every total up to TOTAL (`shares.rs`), then
+//! batches, until CERTIFICATES were handed over in them (`batches.rs`), then
 //! calls by chance. Their stretches start from states grown by runs, from such states
 //! with words changed here and there, and with chains made up on what they hold. Whether
 //! a changed state is well formed is judged by `words.rs`, from the papers.
 //!
 //! With `--cfg plain` the engine under test is bench/plain.rs.
 
+mod batches;
 mod calls;
 mod edges;
 #[path = "../../bench/host.rs"]
@@ -25,6 +27,7 @@ mod grow;
 mod nodes;
 #[path = "../../reference/reference.rs"]
 mod reference;
+mod rows;
 mod shares;
 mod words;
 
@@ -32,6 +35,7 @@ use calls::*;
 use grow::*;
 use nodes::*;
 use reference::*;
+use rows::some_batch;
 use words::*;
 
 // ------------------------------------------------------------- one call ---
@@ -78,6 +82,10 @@ fn by_reference(
         }
         Call::Advance => member.advance().map(|()| 0),
         Call::Commit => member.commit().map(u64::from),
+        Call::Batch { row, .. } => {
+            let row: Vec<_> = row.iter().map(|words| read_certificate(words)).collect();
+            member.batch(&row, out).map(|()| 0)
+        }
         Call::Committee { round, .. } => {
             let out = out.get_mut(..16).ok_or(1u32)?;
             let weights = member.read_committee(*round)?;
@@ -108,6 +116,7 @@ fn by_engine(call: &Call, state: &mut [u32], table: &mut [u32], out: &mut [u32])
         Call::Accept { certificate } => plain(engine::accept(state, table, certificate)),
         Call::Advance => plain(engine::advance(state, table)),
         Call::Commit => engine::commit(state, table),
+        Call::Batch { row, .. } => plain(engine::batch(state, table, row, out)),
         Call::Committee { round, .. } => plain(engine::committee(state, table, *round, out)),
         Call::Share { member, round } => engine::share(state, table, *member, *round),
         Call::Certificate { author, round, .. } => {
@@ -160,6 +169,7 @@ struct Figures {
     most_weight: u64,
     /// Calls by ceiling: up to 40, up to 255, larger.
     sizes: [u64; 3],
+    batches: batches::Figures,
 }
 
 impl Figures {
@@ -232,6 +242,7 @@ impl Figures {
             "shares read: {}, of them exact halves: {down} down, {up} up; reads of 0: {}; largest total: {}",
             self.shares, self.zeros, self.most_weight
         );
+        self.batches.print();
         let [small, middle, large] = self.sizes;
         println!("calls by ceiling: {small} up to 40, {middle} up to 255, {large} up to 1,024");
         println!("changed states: {}, of them not well formed: {}", self.changed, self.malformed);
@@ -396,6 +407,12 @@ impl Test {
                 assert!(node.twin.is_some(), "a state reached by calls is not well formed");
             }
             let Some(twin) = &node.twin else { unreachable!("a node in a stretch is well formed") };
+            if self.rng.chance(5) {
+                let call = some_batch(&mut self.rng, twin);
+                let lengths = self.lengths(node);
+                self.batch(node, &call, lengths);
+                continue;
+            }
             let call = likely_call(&mut self.rng, twin, &mut pool);
             let lengths = self.lengths(node);
             let answer = self.call(node, &call, lengths);
@@ -424,6 +441,8 @@ fn main() {
     let seed = arguments.next().map_or(1, |a| a.parse().expect("SEED is a number"));
     let calls = arguments.next().map_or(1_000_000, |a| a.parse().expect("CALLS is a number"));
     let most = arguments.next().map_or(80, |a| a.parse().expect("TOTAL is a number"));
+    let certificates =
+        arguments.next().map_or(50_000, |a| a.parse().expect("CERTIFICATES is a number"));
     let mut test = Test {
         seed,
         rng: Rng::of(seed),
@@ -439,6 +458,10 @@ fn main() {
     let before = test.figures.calls;
     test.shares(most);
     println!("shares, every pair up to total {most}: {} calls", test.figures.calls - before);
+    let shares = test.figures.calls;
+    test.batches(certificates);
+    let batches = test.figures.calls - shares;
+    println!("batches of {certificates} certificates and more: {batches} calls");
     let calls = calls + test.figures.calls - before;
     while test.figures.calls < calls {
         test.stretch();

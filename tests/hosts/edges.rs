@@ -2,6 +2,7 @@
 
 use crate::calls::*;
 use crate::reference::*;
+use crate::rows::seventeen;
 use crate::shares::*;
 use crate::words::*;
 use crate::{Node, Test};
@@ -13,11 +14,13 @@ fn each_call(member: &Member) -> Vec<Call> {
     let proposal =
         Proposal { author: (member.own + 1) % 16, round, previous, transactions: Vec::new() };
     let certificate = Certificate { proposal: proposal.clone(), endorsers: single(member.own) };
+    let words = seventeen(&certificate_words(&certificate));
     vec![
         Call::Propose { body: body_words(&proposal).to_vec() },
         Call::Endorse { proposal: proposal_words(&proposal) },
         Call::Certify { endorsers: 0 },
-        Call::Accept { certificate: certificate_words(&certificate) },
+        Call::Accept { certificate: words.to_vec() },
+        Call::Batch { row: vec![words; 2], answers: vec![7; 3] },
         Call::Commit,
         Call::Committee { round, out: vec![7; 16] },
         Call::Share { member: member.own, round },
@@ -176,6 +179,7 @@ impl Test {
     /// Edges of small states, and of the largest with room for one row more.
     pub fn edges(&mut self) {
         self.share_edges();
+        self.batch_edges();
         for (ceiling, rounds) in [(3, 1), (3, 3), (6, 5), (64, 5), (1_024, 1)] {
             let mut weights = [Setting::Written(0); 16];
             let some: &[usize] = if rounds == 1 { &[0] } else { &[0, 1, 5] };

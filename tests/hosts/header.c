@@ -7,6 +7,7 @@ int header_is_well_formed(const uint32_t *state, size_t state_words, const uint3
 uint32_t header_leader(uint32_t round, const uint32_t *weights);
 const char *header_refusal_text(uint32_t number);
 const char *header_version(void);
+void header_record_of(const uint32_t *words, struct forgelilac_certificate *record);
 uint32_t header_number(uint32_t which);
 
 uint64_t header_chain(const uint32_t *state, size_t state_words, const uint32_t *table, size_t table_words,
@@ -24,6 +25,10 @@ const char *header_refusal_text(uint32_t number) { return forgelilac_refusal_tex
 
 const char *header_version(void) { return FORGELILAC_VERSION; }
 
+void header_record_of(const uint32_t *words, struct forgelilac_certificate *record) {
+    *record = forgelilac_record_of(words);
+}
+
 /* Lengths and offsets, in the order of NUMBERS in chains.rs. */
 uint32_t header_number(uint32_t which) {
     static const uint32_t numbers[] = {
@@ -36,6 +41,7 @@ uint32_t header_number(uint32_t which) {
         FORGELILAC_RECORD_WORDS, FORGELILAC_RECORD_PREVIOUS, FORGELILAC_RECORD_COUNT, FORGELILAC_RECORD_BLOCK,
         FORGELILAC_RECORD_ENDORSERS, FORGELILAC_RECORD_TRANSACTIONS, (uint32_t)FORGELILAC_ROW(7u),
         (uint32_t)FORGELILAC_RECORD(5u, 7u), FORGELILAC_TABLE_WORDS(64u), FORGELILAC_CHAIN_WORDS(64u),
+        FORGELILAC_BATCH_RECORDS, (uint32_t)sizeof(struct forgelilac_certificate),
     };
     return which < sizeof numbers / sizeof numbers[0] ? numbers[which] : UINT32_MAX;
 }

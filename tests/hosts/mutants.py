@@ -7,6 +7,17 @@ With TEXT only those whose old text holds it.
 """
 import os, shutil, subprocess, sys
 
+
+def store_endorsers(how):
+    """The checks of accept, after which a copy's endorsers are stored."""
+    return ("    let checked = check_accept(&s, &certificate, || s.committee(certificate.round));\n"
+            "    if checked == Err(16) {\n"
+            "        let Certificate { author, round, endorsers, .. } = certificate;\n"
+            "        table[ROW * round as usize + 19 + 16 * author as usize] %s endorsers;\n"
+            "    }\n"
+            "    checked?;\n" % how)
+
+
 # (text that stands once in plain.rs, what takes its place)
 MUTANTS = [
     # states that are not well formed
@@ -131,18 +142,12 @@ MUTANTS = [
     ("first_chunk().unwrap(), endorsers);", "first_chunk().unwrap(), 0);"),
     ("write_record(table, author, round, body, endorsers);", "write_record(table, author, round, body, endorsers | 1 << author);"),
     ("write_record(table, author, round, body, endorsers);", "write_record(table, author, round, body, 0);"),
-    ("        return Err(if s.same(author, round, body) { 16 } else { 17 });\n",
-     "        let same = s.same(author, round, body);\n"
-     "        if same {\n            table[ROW * round as usize + 19 + 16 * author as usize] = endorsers;\n        }\n"
-     "        return Err(if same { 16 } else { 17 });\n"),
-    ("        return Err(if s.same(author, round, body) { 16 } else { 17 });\n",
-     "        let same = s.same(author, round, body);\n"
-     "        if same {\n            table[ROW * round as usize + 19 + 16 * author as usize] |= endorsers;\n        }\n"
-     "        return Err(if same { 16 } else { 17 });\n"),
+    ("    check_accept(&s, &certificate, || s.committee(certificate.round))?;\n", store_endorsers("=")),
+    ("    check_accept(&s, &certificate, || s.committee(certificate.round))?;\n", store_endorsers("|=")),
     ("if s.same(author, round, body) { 16 } else { 17 }",
      "if s.same(author, round, body) && s.record(author, round)[3] == endorsers { 16 } else { 17 }"),
     ("    if s.has(author, round) {\n        return Err(if",
-     "    if s.has(author, round) {\n        s.check_signers(round, endorsers | 1 << author)?;\n        return Err(if"),
+     "    if s.has(author, round) {\n        check_signers(&committee()?, endorsers | 1 << author)?;\n        return Err(if"),
     ("    out[16] = record[3];\n", "    out[16] = s.record(s.own(), round)[3];\n"),
     ("    out[16] = record[3];\n", "    out[16] = s.record(author ^ 1, round)[3];\n"),
     ("    out[16] = record[3];\n", "    out[16] = record[0];\n"),
@@ -152,6 +157,45 @@ MUTANTS = [
      "    let mut spare = [0; 18];\n    if out.len() < 17 {\n        return Err(1);\n    }\n"
      "    let out = if out.len() == 17 { &mut spare } else { out.first_chunk_mut().unwrap() };\n"),
     ("                    record[2] = block;\n", "                    record[2] = block;\n                    record[3] = 0;\n"),
+    # batches: author before round; newest first; as they stand; the later of equals first
+    ("    round: u32,\n    author: u32,\n    place: usize,\n", "    author: u32,\n    round: u32,\n    place: usize,\n"),
+    ("    turns[..row.len()].sort_unstable();\n", "    turns[..row.len()].sort_unstable_by_key(|t| (u32::MAX - t.round, t.author, t.place));\n"),
+    ("    turns[..row.len()].sort_unstable();\n", ""),
+    ("    turns[..row.len()].sort_unstable();\n", "    turns[..row.len()].sort_unstable_by_key(|t| (t.round, t.author, MOST_RECORDS - t.place));\n"),
+    # (The order of authors within a round does not show: they do not name one another.)
+    # answers in the order of the turns; words that cannot be read left out, refused as a whole
+    ("        answers[turn.place] = number(answer);\n",
+     "        let k = turns.iter().position(|t| t.place == turn.place).unwrap();\n        answers[k] = number(answer);\n"),
+    ("        answers[turn.place] = number(answer);\n", "        if answer != Err(1) {\n            answers[turn.place] = number(answer);\n        }\n"),
+    ("    let turns = &turns_of(row)[..row.len()];\n",
+     "    for words in row {\n        Certificate::read(words)?;\n    }\n    let turns = &turns_of(row)[..row.len()];\n"),
+    # the first refusal ends it; each by the table of before the batch; 11 tried twice
+    ("        answers[turn.place] = number(answer);\n",
+     "        answers[turn.place] = number(answer);\n        if answer.is_err() {\n            break;\n        }\n"),
+    ("    for (turn, committee) in turns.iter().zip(committees) {\n        let words = &row[turn.place];\n"
+     "        let answer = Certificate::read(words).and_then(|certificate| {\n            let s = Survey::known(state, table, last);\n",
+     "    let before = table.to_vec();\n    for (turn, committee) in turns.iter().zip(committees) {\n        let words = &row[turn.place];\n"
+     "        let answer = Certificate::read(words).and_then(|certificate| {\n            let s = Survey::known(state, &before, last);\n"),
+    ("    for (turn, committee) in turns.iter().zip(committees) {\n",
+     "    let twice = turns.iter().zip(committees);\n    answers[..row.len()].fill(11);\n    for (turn, committee) in twice.clone().chain(twice) {\n"
+     "        if answers[turn.place] != 11 {\n            continue;\n        }\n"),
+    # 65, 63, room too short, room to spare asked for, 25 before 1
+    ("const MOST_RECORDS: usize = 64;", "const MOST_RECORDS: usize = 65;"),
+    ("const MOST_RECORDS: usize = 64;", "const MOST_RECORDS: usize = 63;"),
+    ("answers.len() < row.len()", "answers.len() + 1 < row.len()"),
+    ("answers.len() < row.len()", "answers.len() <= row.len()"),
+    ("answers.len() < row.len()", "false"),
+    ("    let mut room = Links::new();\n    let top =",
+     "    if row.len() > MOST_RECORDS || answers.len() < row.len() {\n        return Err(25);\n    }\n    let mut room = Links::new();\n    let top ="),
+    # the rest written; an empty row refused
+    ("    let turns = &turns_of(row)[..row.len()];\n", "    answers[row.len()..].fill(0);\n    let turns = &turns_of(row)[..row.len()];\n"),
+    ("    let turns = &turns_of(row)[..row.len()];\n",
+     "    answers[row.len()..].iter_mut().take(1).for_each(|word| *word = 0);\n    let turns = &turns_of(row)[..row.len()];\n"),
+    ("    let turns = &turns_of(row)[..row.len()];\n", "    if row.is_empty() {\n        return Err(25);\n    }\n    let turns = &turns_of(row)[..row.len()];\n"),
+    # committees: the first round's for all; weights by the lowest round; unknown ones known
+    ("match k > 0 && turns[k - 1].round == turn.round {", "match k > 0 {"),
+    (".map(|words| words[1]).max().unwrap_or(0);", ".map(|words| words[1]).min().unwrap_or(0);"),
+    ("false => s.check_known(turn.round).ok().map(|()| *walk.committee(turn.round)),", "false => Some(*walk.committee(turn.round)),"),
     # order inside a block: by round, then author; from one after the leader, from one before
     ("self.survey.apply_block(block, u16::from(first),", "self.survey.apply_block(block, 0,"),
     ("self.survey.apply_block(block, u16::from(first),", "self.survey.apply_block(block, u16::from((first + 1) % 16),"),
@@ -179,7 +223,7 @@ MUTANTS = [
     # order of checks
     ("if author > 15 {\n            return Err(4);\n        }\n        if !self.in_range(round) {\n            return Err(5);\n        }",
      "if !self.in_range(round) {\n            return Err(5);\n        }\n        if author > 15 {\n            return Err(4);\n        }"),
-    ("    if signers & !committee.members() != 0 {\n            return Err(9);\n        }\n", ""),
+    ("    if signers & !committee.members() != 0 {\n        return Err(9);\n    }\n", ""),
     ("    if own > 15 {\n        return Err(4);\n    }\n    let mut fresh", "    let mut fresh"),
     ("3..=6 => (0, 1_000_000, 1),", "3..=5 => (0, 1_000_000, 1),"),
     ("table.get_mut(..used).ok_or(1u32)?.fill(0);", "table.get_mut(..used).ok_or(1u32)?;"),

@@ -11,16 +11,20 @@ mod grow;
 mod nodes;
 #[path = "../../reference/reference.rs"]
 mod reference;
+mod rows;
 mod words;
 
 use calls::*;
-use forgelilac::{lent, Refusal, Set};
+use forgelilac::lent::{self, CertificateRecord};
+use forgelilac::{Refusal, Set};
 use grow::*;
 use nodes::Node;
+use rows::some_batch;
 use words::{table_words, ROW, STATE_WORDS};
 
-/// The engine's answer: the value of commit, 0 for others.
-fn make(call: &Call, node: &mut Node) -> Result<u32, Refusal> {
+/// The engine's answer: the value of commit, 0 for others. What a batch
+/// answers to each certificate is written into `answers`.
+fn make(call: &Call, node: &mut Node, answers: &mut [u32]) -> Result<u32, Refusal> {
     let (state, table) = (&mut node.state[..], &mut node.table[..]);
     match call {
         Call::Open { own, sheet } => lent::open(state, table, *own, sheet).map(|()| 0),
@@ -33,6 +37,10 @@ fn make(call: &Call, node: &mut Node) -> Result<u32, Refusal> {
         Call::Accept { certificate } => lent::accept(state, table, certificate).map(|()| 0),
         Call::Advance => lent::advance(state, table).map(|()| 0),
         Call::Commit => lent::commit(state, table),
+        Call::Batch { row, .. } => {
+            let row: Vec<CertificateRecord> = row.iter().map(|&words| words.into()).collect();
+            lent::batch(state, table, &row, answers).map(|()| 0)
+        }
         Call::Committee { round, .. } => lent::committee(state, table, *round).map(|_| 0),
         Call::Share { member, round } => lent::share(state, table, *member, *round),
         Call::Certificate { author, round, .. } => lent::certificate(state, table, *author, *round).map(|_| 0),
@@ -74,8 +82,20 @@ fn named_in_state(call: &Call) -> &'static [usize] {
     }
 }
 
-/// Whether the page says that the call may change this word of the table, from these words before.
-fn named_in_table(call: &Call, before: &Node, after: &Node, at: usize) -> bool {
+/// Whether an accept of a certificate may change this word of the table.
+fn named_by_accept(certificate: &[u32], at: usize) -> bool {
+    let (word, row, author) = word_at(at);
+    let place = (certificate[0], certificate[1]);
+    match word {
+        Word::Held | Word::Endorsed => row == place.1,
+        Word::Record(_) => (author, row) == place,
+        _ => false,
+    }
+}
+
+/// Whether the page says that the call may change this word of the table, from these words before;
+/// `answers` is what a batch answered.
+fn named_in_table(call: &Call, before: &Node, after: &Node, answers: &[u32], at: usize) -> bool {
     let (word, row, author) = word_at(at);
     let in_record = |a: u32, r: u32| matches!(word, Word::Record(_)) && (author, row) == (a, r);
     match call {
@@ -85,9 +105,9 @@ fn named_in_table(call: &Call, before: &Node, after: &Node, at: usize) -> bool {
             let (own, round) = (before.state[0], before.state[20]);
             word == Word::Held && row == round || in_record(own, round)
         }
-        Call::Accept { certificate } => {
-            let (author, round) = (certificate[0], certificate[1]);
-            matches!(word, Word::Held | Word::Endorsed) && row == round || in_record(author, round)
+        Call::Accept { certificate } => named_by_accept(certificate, at),
+        Call::Batch { row, .. } => {
+            row.iter().zip(answers).any(|(words, &answer)| answer == 0 && named_by_accept(words, at))
         }
         Call::Commit => {
             let new = before.state[22] + 1..=after.state[22];
@@ -120,7 +140,8 @@ struct Figures {
 impl Figures {
     fn call(&mut self, node: &mut Node, call: &Call) -> Result<u32, Refusal> {
         let before = node.clone();
-        let answer = make(call, node);
+        let mut answers = call.out().to_vec();
+        let answer = make(call, node, &mut answers);
         self.calls += 1;
         let in_state: Vec<usize> = (0..node.state.len()).filter(|&i| before.state[i] != node.state[i]).collect();
         let in_table: Vec<usize> = (0..node.table.len()).filter(|&i| before.table[i] != node.table[i]).collect();
@@ -141,7 +162,7 @@ impl Figures {
             self.seen[kind].insert(Word::State(at));
         }
         for &at in &in_table {
-            assert!(named_in_table(call, &before, node, at), "{call:?} changed word {at} of the table");
+            assert!(named_in_table(call, &before, node, &answers, at), "{call:?} changed word {at} of the table");
             self.seen[kind].insert(word_at(at).0);
         }
         self.noisy += u64::from(noise > 0);
@@ -154,7 +175,7 @@ impl Figures {
     fn all_seen(&self) {
         let state = |words: &[usize]| words.iter().map(|&at| Word::State(at)).collect::<Vec<_>>();
         let record = || (0..16).map(Word::Record);
-        let table: [Vec<Word>; 7] = [
+        let table: [Vec<Word>; 8] = [
             [Word::Held, Word::Endorsed, Word::BlockRound].into_iter().chain(record()).collect(),
             Vec::new(),
             vec![Word::Endorsed],
@@ -162,10 +183,11 @@ impl Figures {
             [Word::Held, Word::Endorsed].into_iter().chain(record()).collect(),
             Vec::new(),
             vec![Word::BlockRound, Word::Record(2)],
+            [Word::Held, Word::Endorsed].into_iter().chain(record()).collect(),
         ];
         let all: Vec<usize> = (0..STATE_WORDS).collect();
         let body: Vec<usize> = (23..STATE_WORDS).collect();
-        let of_state: [Vec<usize>; 7] = [
+        let of_state: [Vec<usize>; 8] = [
             all,
             [&[21], &body[..]].concat(),
             Vec::new(),
@@ -173,8 +195,9 @@ impl Figures {
             Vec::new(),
             [&[20, 21], &body[..]].concat(),
             vec![22],
+            Vec::new(),
         ];
-        for kind in 0..7 {
+        for kind in 0..8 {
             for word in state(&of_state[kind]).into_iter().chain(table[kind].iter().copied()) {
                 assert!(self.seen[kind].contains(&word), "{} never changed {word:?}", Call::NAMES[kind]);
             }
@@ -182,7 +205,7 @@ impl Figures {
     }
 
     fn print(&self) {
-        for kind in 0..7 {
+        for kind in 0..8 {
             let (state, table) = self.most[kind];
             println!("{}: {} accepted, at most {state} words of the state and {table} of the table changed",
                      Call::NAMES[kind], self.accepted[kind]);
@@ -212,7 +235,10 @@ fn main() {
         let mut pool = Pool::default();
         for _ in 0..plan.calls {
             let twin = node.twin.as_ref().expect("a state reached by calls is well formed");
-            let call = likely_call(&mut rng, twin, &mut pool);
+            let call = match rng.chance(50) {
+                true => some_batch(&mut rng, twin),
+                false => likely_call(&mut rng, twin, &mut pool),
+            };
             let answer = figures.call(&mut node, &call);
             if !call.is_read() && answer.is_ok() {
                 node.read_again();

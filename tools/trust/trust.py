@@ -3,7 +3,7 @@
 They are what these unfold to, types as well as bodies:
   - the contracts of the functions that hosts link (marked #[no_mangle]),
   - the contracts of the runner that say which bytes are read, and which are written for them (RUNNER),
-  - the type of the theorem of demand 3, and the file of its statement (THEOREM, STATEMENT).
+  - the types of the theorems of demand 3 and of batches (THEOREMS), and the file of the first's statement (STATEMENT).
 A law is never followed: whatever it says is proved. How laws are told from definitions stands in tree.py.
 
 The list is in reading order, bottom up: files in the order in which they use one another, each file from top to bottom,
@@ -32,7 +32,9 @@ import tree
 
 HOST = "no_mangle"
 RUNNER = ["passes::run", "passes::conclude", "channel::more", "channel::flush"]
-THEOREM = "nonforking.Theorem.demand-3"
+THEOREMS = ["nonforking.Theorem.demand-3", "submissions.SubmissionLaws.demand-3-with-batches", "submissions.SubmissionLaws.leaves-as-its-calls",
+            "turns.OrderLaws.each-has-one-turn", "batch.AgainLaws.eleven-again-or-seventeen",
+            "batching.ClaimLaws.answered-as-accept", "batching.ClaimLaws.offered-again"]
 STATEMENT = "nonforking.Statement"
 PAGE = "docs/TRUST.md"
 README = "README.md"
@@ -42,13 +44,13 @@ HEAD = """# What to believe
 
 Made by `tools/trust/trust.py --page`; `scripts/pages.sh` checks that it is current.
 
-A proof says that code does what a definition says. Whether the definition says what is wanted, only a reader can tell. This page lists every definition that must be read for that, and no other: what the contracts of the library and of the runner unfold to, and what demand 3 unfolds to.
+A proof says that code does what a definition says. Whether the definition says what is wanted, only a reader can tell. This page lists every definition that must be read for that, and no other: what the contracts of the library and of the runner unfold to, and what demand 3 and the claims of batches unfold to.
 
 {specs}
 
 | | |
 |---|---|
-| proved | each function that a host links: on any words and lengths, its answer and every word that it leaves are those of its contract (`Done`). The runner, pass by pass (`PassServed`): what is handed to be written is what is answered to what was read, more is read only after that, a pass that goes on has written or read something, and the input has ended only where a read with room for more gave nothing. A run (`RunServed`): passes one after another from the start, over only at the end of the input, at a write that failed, or after 2^64 − 1 of them; at the end of the input all that was handed to be written is the output for all that was read (`output`). Demand 3: `DemandThree`, over every list of calls |
+| proved | each function that a host links: on any words and lengths, its answer and every word that it leaves are those of its contract (`Done`). The runner, pass by pass (`PassServed`): what is handed to be written is what is answered to what was read, more is read only after that, a pass that goes on has written or read something, and the input has ended only where a read with room for more gave nothing. A run (`RunServed`): passes one after another from the start, over only at the end of the input, at a write that failed, or after 2^64 − 1 of them; at the end of the input all that was handed to be written is the output for all that was read (`output`). Demand 3: `DemandThree`, over every list of calls; with batches among them `DemandThreeWithBatches`. Of batches: `EachHasOneTurn`, `AnsweredAsAccept`, `ElevenAgainOrSeventeen`, `OfferedAgain`, `LeavesAsItsCalls` |
 | assumed by the proofs | the prover (of {kit}); the compiler's back end; the contracts of two functions of the C library, `libc::read` and `libc::write` (they answer -1 or at most as many bytes as they were lent), and that the operating system delivers what they pass on. The library calls neither |
 | on trust in the runner | what no contract of this language can say, since it says nothing of the world outside: that `more` (channel) reads standard input and tells what `libc::read` answered, that `flush` (channel) writes these bytes to standard output once and tells what `io::write_all` answered, that nothing else reads or writes (the two are called at three places: `refill` and `serve_pass` of session, `conclude` of passes), and that `main` calls `run`. What `run` gives back is tied to these calls: no crate but `channel` can make what a read or a write gave, and none but `session` a session, since their fields are private; so the passes of `RunServed` lead to a session that `serve_pass` gave, and the last write is one that `flush` gave |
 | assumed by demand 3 | signatures are genuine (`Signed` in `Fair`); in every committee that a correct member knows, faulty members weigh at most the fault bound (`WithinBound`) |
@@ -56,7 +58,7 @@ A proof says that code does what a definition says. Whether the definition says 
 
 ## How to read it
 
-The list is bottom up: whatever a definition uses stands above it, in its own file or in one above. To read top down, start at the roots and look each name up. Behind a name stands the number of its lines without comments; `(h)`, `(r)`, `(3)` say that the host's contracts, the runner's, or demand 3 unfold to it. A file under `src/` has types that the code declares; contracts see them as records and cases.
+The list is bottom up: whatever a definition uses stands above it, in its own file or in one above. To read top down, start at the roots and look each name up. Behind a name stands the number of its lines without comments; `(h)`, `(r)`, `(3)` say that the host's contracts, the runner's, or demand 3 and the claims of batches unfold to it. A file under `src/` has types that the code declares; contracts see them as records and cases.
 """
 
 
@@ -116,12 +118,16 @@ class List:
         return None
 
     def demand_roots(self):
-        module = self.module_named(THEOREM.rpartition(".")[0])
-        theorem = module and module.table.get(THEOREM.rpartition(".")[2])
+        roots = []
+        for name in THEOREMS:
+            module = self.module_named(name.rpartition(".")[0])
+            theorem = module and module.table.get(name.rpartition(".")[2])
+            if not theorem:
+                sys.exit(f"trust.py: {name} is not there: mend the roots at the top")
+            roots += [(name, self.tree.lookup(module, parts)) for parts in self.tree.used(theorem).type]
         statement = self.module_named(STATEMENT)
-        if not theorem or not statement:
-            sys.exit(f"trust.py: {THEOREM} or {STATEMENT} is not there: mend the roots at the top")
-        roots = [(THEOREM, self.tree.lookup(module, parts)) for parts in self.tree.used(theorem).type]
+        if not statement:
+            sys.exit(f"trust.py: {STATEMENT} is not there: mend the roots at the top")
         return roots + [(STATEMENT, item) for item in statement.items if self.tree.kind(item) != "law"]
 
     # ---- what roots unfold to

@@ -3,7 +3,7 @@
 //! A real host signs what it sends, checks signatures before endorse, certify and accept,
 //! and stores state and table before it sends an endorsement (docs/HOSTS.md).
 
-use forgelilac::{Certificate, Engine, Refusal, Set, Sheet, Transaction};
+use forgelilac::{Certificate, Engine, Held, Refusal, Set, Sheet, Transaction};
 
 const LAST_ROUND: u32 = 9;
 
@@ -84,6 +84,25 @@ fn print_endorsers(engine: &Engine, round: u32) -> Result<(), Refusal> {
     Ok(())
 }
 
+fn print_answers(how: &str, answers: &[Result<(), Refusal>]) {
+    let list: String = answers.iter().map(|one| format!(" {}", one.map_or_else(Refusal::number, |()| 0))).collect();
+    println!("  {how}:{list}");
+}
+
+/// A member that was away gets rounds 3, 2 and 1 as a link delivers them, newest first: one by one,
+/// and, opened anew, in one batch.
+fn print_batch(engine: &Engine) -> Result<(), Refusal> {
+    let places = (1..=3).rev().flat_map(|round| (0..3).map(move |author| (author, round)));
+    let held = places.map(|(author, round)| engine.certificate(author, round));
+    let row = held.map(|held| held.map(Held::certificate)).collect::<Result<Vec<_>, _>>()?;
+    println!("rounds 3, 2, 1 to a member that was away");
+    let mut away = Engine::open(3, &sheet())?;
+    let singly: Vec<_> = row.iter().map(|certificate| away.accept(certificate)).collect();
+    print_answers("one by one", &singly);
+    print_answers("in one batch", &Engine::open(3, &sheet())?.batch(&row)?);
+    Ok(())
+}
+
 fn main() -> Result<(), Refusal> {
     let mut engines = (0..3).map(|own| Engine::open(own, &sheet())).collect::<Result<Vec<_>, _>>()?;
     for round in 1..=LAST_ROUND {
@@ -105,5 +124,5 @@ fn main() -> Result<(), Refusal> {
     print_endorsers(&engines[0], LAST_ROUND)?;
     let shares = (0..3).map(|member| engines[0].share(member, LAST_ROUND)).collect::<Result<Vec<_>, _>>()?;
     println!("shares in round {LAST_ROUND}, in thousandths: {shares:?}");
-    Ok(())
+    print_batch(&engines[0])
 }

@@ -5,7 +5,7 @@ use crate::layout::{
     BODY_WORDS, PROPOSAL_WORDS, STATE_BLOCKS, STATE_BODY, STATE_OWN, STATE_PROPOSED, STATE_ROUND,
     STATE_WORDS,
 };
-use crate::lent::{self, Place};
+use crate::lent::{self, CertificateRecord, Place};
 use crate::{body_words, table_words, CEILING, MEMBERS};
 use crate::{Block, Certificate, Held, Proposal, Refusal, Set, Sheet, Transaction};
 use alloc::vec;
@@ -107,6 +107,21 @@ impl Engine {
     /// 1, 4, 5, 6, 7, 14, 16, 17, 8, 9, 13, 11.
     pub fn accept(&mut self, certificate: &Certificate) -> Result<(), Refusal> {
         lent::accept(&self.state, &mut self.table, &certificate.to_words())
+    }
+
+    /// Takes a row of up to 64 certificates in any order, once their signatures are checked. They are
+    /// tried by rising round, then author, then place in the row. The list has for each, at its own
+    /// place, what [`Engine::accept`] would have answered at its turn. What got
+    /// [`Refusal::PreviousMissing`] gets it again straight afterwards, or [`Refusal::OtherHeld`] where
+    /// the row has filled its place with another.
+    ///
+    /// # Errors
+    /// 1, 25: then nothing is tried.
+    pub fn batch(&mut self, row: &[Certificate]) -> Result<Vec<Result<(), Refusal>>, Refusal> {
+        let records: Vec<_> = row.iter().map(|one| CertificateRecord::from(one.to_words())).collect();
+        let mut answers = vec![0; row.len()];
+        lent::batch(&self.state, &mut self.table, &records, &mut answers)?;
+        Ok(answers.into_iter().map(lent::accepted).collect())
     }
 
     /// Goes on to the next round; the proposal is dropped.

@@ -16,6 +16,8 @@ pub const CERTIFICATE_WORDS: usize = 17;
 pub const HELD_WORDS: usize = 18;
 /// Words of a sheet: nineteen pairs, 0 blank or 1 written, then the value.
 pub const SHEET_WORDS: usize = 38;
+/// The most certificates of a batch.
+pub const BATCH_RECORDS: usize = 64;
 /// Transactions that a body has words for: the largest allowance.
 pub const TRANSACTIONS: usize = 4;
 /// The most blocks of a state, at ceiling 1,024.

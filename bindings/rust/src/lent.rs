@@ -15,12 +15,14 @@
 //! ```
 
 pub use crate::chain::{chain, Place};
-use crate::layout::HELD_WORDS;
+use crate::layout::{BODY_WORDS, CERTIFICATE_WORDS, HELD_WORDS, PROPOSAL_WORDS};
 use crate::{Refusal, Set, MEMBERS};
 
-/// The exported functions. Each slice is a pointer and a length in words. Any length and any
-/// content is safe; pointers that come from slices are never null and do not overlap.
+/// The exported functions. Each slice is a pointer and a length in words, of a row in records. Any
+/// length and any content is safe; pointers that come from slices are never null and do not overlap.
 mod abi {
+    use super::CertificateRecord;
+
     unsafe extern "C" {
         pub fn forgelilac_open(
             state: *mut u32, state_words: usize, table: *mut u32, table_words: usize,
@@ -41,6 +43,10 @@ mod abi {
         pub fn forgelilac_accept(
             state: *const u32, state_words: usize, table: *mut u32, table_words: usize,
             certificate: *const u32, certificate_words: usize,
+        ) -> u32;
+        pub fn forgelilac_batch(
+            state: *const u32, state_words: usize, table: *mut u32, table_words: usize,
+            row: *const CertificateRecord, row_records: usize, answers: *mut u32, answers_words: usize,
         ) -> u32;
         pub fn forgelilac_advance(
             state: *mut u32, state_words: usize, table: *const u32, table_words: usize,
@@ -67,10 +73,11 @@ mod abi {
     }
 }
 
-fn accepted(number: u32) -> Result<(), Refusal> {
+/// A number that the engine answers.
+pub(crate) fn accepted(number: u32) -> Result<(), Refusal> {
     match number {
         0 => Ok(()),
-        n => Err(Refusal::of(n).expect("the engine of this version answers 0 to 23")),
+        n => Err(Refusal::of(n).expect("the engine of this version answers 0 to 23 and 25")),
     }
 }
 
@@ -99,6 +106,29 @@ macro_rules! call {
         let (state, table, more) = ($state, $table, $more);
         unsafe { abi::$function(state.0, state.1, table.0, table.1 $(, $number)*, more.0, more.1) }
     }};
+}
+
+/// A certificate of a row, for [`batch`]: its words in their order.
+#[derive(Clone, Copy, PartialEq, Eq, Hash, Debug)]
+#[repr(C)]
+pub struct CertificateRecord {
+    /// The member that proposed.
+    pub author: u32,
+    /// From 1.
+    pub round: u32,
+    /// Previous set, number of transactions, four transactions.
+    pub body: [u32; BODY_WORDS],
+    /// A set of members.
+    pub endorsers: u32,
+}
+
+impl From<[u32; CERTIFICATE_WORDS]> for CertificateRecord {
+    /// The record of a certificate's words, as [`accept`] takes them.
+    fn from(words: [u32; CERTIFICATE_WORDS]) -> CertificateRecord {
+        let mut body = [0; BODY_WORDS];
+        body.copy_from_slice(&words[2..PROPOSAL_WORDS]);
+        CertificateRecord { author: words[0], round: words[1], body, endorsers: words[PROPOSAL_WORDS] }
+    }
 }
 
 // ---- calls
@@ -141,6 +171,37 @@ pub fn certify(state: &[u32], table: &mut [u32], endorsers: Set) -> Result<(), R
 /// 1, 4, 5, 6, 7, 14, 16, 17, 8, 9, 13, 11.
 pub fn accept(state: &[u32], table: &mut [u32], certificate: &[u32]) -> Result<(), Refusal> {
     accepted(call!(forgelilac_accept, read(state), write(table); read(certificate)))
+}
+
+/// Takes a row of up to 64 certificates in any order. They are tried by rising round, then author,
+/// then place in the row. Each gets what [`accept`] would have answered at its turn, as a number and
+/// 0 where it was accepted, at its own place in the answers; a record that cannot be read gets 1, and
+/// the others are tried. Answers beyond the row stay. What got 11 gets 11 again straight afterwards,
+/// or 17 where the row has filled its place with another.
+///
+/// Rounds 2 and 1, newest first: one by one the first would get 11.
+///
+/// ```
+/// use forgelilac::{certificate_words, lent, proposal_words, table_words, Sheet, STATE_WORDS};
+///
+/// let (mut state, mut table) = ([0; STATE_WORDS], [0; table_words(64) as usize]);
+/// let sheet = Sheet { ceiling: Some(64), ..Sheet::default() };
+/// lent::open(&mut state, &mut table, 0, &sheet.to_words())?;
+/// let certificate = |round, previous| certificate_words(&proposal_words(3, round, previous, &[]), 0b0110);
+/// let row = [certificate(2, 0b1000), certificate(1, 0)].map(Into::into);
+/// let mut answers = [77; 3];
+/// lent::batch(&state, &mut table, &row, &mut answers)?;
+/// assert_eq!(answers, [0, 0, 77]);
+/// # Ok::<(), forgelilac::Refusal>(())
+/// ```
+///
+/// # Errors
+/// 1, 25: then nothing is tried.
+pub fn batch(
+    state: &[u32], table: &mut [u32], row: &[CertificateRecord], answers: &mut [u32],
+) -> Result<(), Refusal> {
+    let (records, count) = (row.as_ptr(), row.len());
+    accepted(call!(forgelilac_batch, read(state), write(table), records, count; write(answers)))
 }
 
 /// Goes on to the next round; the proposal is dropped.

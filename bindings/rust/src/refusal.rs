@@ -50,6 +50,7 @@ refusals! {
     NoAnchor = 21, "no anchor in the round before";
     VotesShort = 22, "votes weigh not more than the fault bound";
     NoneThere = 23, "no such certificate or block";
+    LengthRange = 25, "a row of more than 64 certificates, or answers shorter than the row";
 }
 
 impl Refusal {

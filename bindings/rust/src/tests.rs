@@ -3,9 +3,10 @@
 extern crate std;
 
 use crate::layout::{
-    record, row, CERTIFICATE_WORDS, RECORD_ENDORSERS, ROW_BLOCK, ROW_HELD, STATE_BLOCKS, TRANSACTIONS,
+    record, row, BATCH_RECORDS, CERTIFICATE_WORDS, RECORD_ENDORSERS, ROW_BLOCK, ROW_HELD, STATE_BLOCKS,
+    TRANSACTIONS,
 };
-use crate::lent::{self, Place};
+use crate::lent::{self, CertificateRecord, Place};
 use crate::*;
 use alloc::string::ToString;
 use alloc::vec;
@@ -151,10 +152,10 @@ fn order_decides_committees() {
 
 #[test]
 fn numbers_and_refusals_go_both_ways() {
-    for number in 1..=23 {
+    for number in (1..=23).chain([25]) {
         assert_eq!(Refusal::of(number).unwrap().number(), number);
     }
-    assert_eq!((Refusal::of(0), Refusal::of(24)), (None, None));
+    assert_eq!([0, 24, 26].map(Refusal::of), [None; 3]);
     assert_eq!(Refusal::NoWeight.to_string(), "refused with 3: no positive weight");
 }
 
@@ -289,6 +290,115 @@ fn certificates_stored_before_show_no_endorsers() {
     author.propose(0, &[]).unwrap();
     author.certify(0).unwrap();
     alone().accept(&author.certificate(0, 1).unwrap().certificate()).unwrap();
+}
+
+// ---- batches
+
+/// Certificates of four members, rounds 1 to the given one, newest first; each names the whole round
+/// before.
+fn newest_first(rounds: u32) -> Vec<Certificate> {
+    let previous = |round| if round == 1 { 0 } else { 0b1111 };
+    let round = |round| (0..4).map(move |author| of_all_four(author, round, previous(round), &[]));
+    (1..=rounds).rev().flat_map(round).collect()
+}
+
+/// As numbers, 0 for accepted.
+fn numbers(answers: &[Result<(), Refusal>]) -> Vec<u32> {
+    answers.iter().map(|one| one.map_or_else(Refusal::number, |()| 0)).collect()
+}
+
+#[test]
+fn a_batch_is_accepted_newest_first() {
+    let row = newest_first(3);
+    let mut singly = of_four(0);
+    let one_by_one: Vec<_> = row.iter().map(|certificate| singly.accept(certificate)).collect();
+    assert_eq!(numbers(&one_by_one), [11, 11, 11, 11, 11, 11, 11, 11, 0, 0, 0, 0]);
+    let mut engine = of_four(0);
+    assert_eq!(numbers(&engine.batch(&row).unwrap()), [0; 12]);
+    let mut in_order = of_four(0);
+    row.iter().rev().for_each(|certificate| in_order.accept(certificate).unwrap());
+    assert!(engine == in_order);
+    // A link's duplicates.
+    let before = engine.clone();
+    assert_eq!(numbers(&engine.batch(&row).unwrap()), [16; 12]);
+    assert!(engine == before);
+}
+
+/// Of equals the one that stands first in the row is tried first, and its endorsers are stored.
+#[test]
+fn of_equals_the_first_in_the_row() {
+    let first = Certificate { endorsers: 0b0110, ..of_all_four(0, 1, 0, &[]) };
+    let second = Certificate { endorsers: 0b1100, ..first.clone() };
+    let other = of_all_four(0, 1, 0, &[entry(1)]);
+    let mut engine = of_four(1);
+    assert_eq!(numbers(&engine.batch(&[first.clone(), second.clone(), other.clone()]).unwrap()), [0, 16, 17]);
+    assert_eq!(engine.certificate(0, 1).unwrap().endorsers, 0b0110);
+    let mut engine = of_four(1);
+    assert_eq!(numbers(&engine.batch(&[other, second, first]).unwrap()), [0, 17, 17]);
+}
+
+/// What got 11 gets 11 again, or 17 where the row has filled its place.
+#[test]
+fn what_got_11_is_offered_again() {
+    // Author 3 of round 1 does not come. Of place (1, 2) the first names it, the second does not.
+    let mut row = newest_first(1)[..3].to_vec();
+    row.push(of_all_four(0, 2, 0b1000, &[]));
+    row.push(of_all_four(1, 2, 0b1001, &[]));
+    row.push(of_all_four(1, 2, 0b0111, &[]));
+    row.reverse();
+    row.swap(0, 1);
+    let mut engine = of_four(2);
+    assert_eq!(numbers(&engine.batch(&row).unwrap()), [11, 0, 11, 0, 0, 0]);
+    refuses(&mut engine, 17, |e| e.accept(&row[0]));
+    refuses(&mut engine, 11, |e| e.accept(&row[2]));
+    engine.accept(&of_all_four(3, 1, 0, &[])).unwrap();
+    engine.accept(&row[2]).unwrap();
+}
+
+#[test]
+fn records_of_a_row_are_the_words_of_certificates() {
+    let words = of_all_four(1, 1, 0, &[entry(5)]).to_words();
+    let record = CertificateRecord::from(words);
+    assert_eq!((record.author, record.round, record.endorsers), (1, 1, 0b1101));
+    assert_eq!(record.body, body_words(0, &[entry(5)]));
+    assert_eq!(size_of::<CertificateRecord>(), 4 * CERTIFICATE_WORDS);
+    // One that cannot be read gets 1, one out of range its number; the others are tried.
+    let spoilt = |at: usize, word: u32| {
+        let mut words = words;
+        words[at] = word;
+        CertificateRecord::from(words)
+    };
+    let row = [spoilt(16, 65_536), spoilt(2, 65_536), spoilt(4, 3), spoilt(0, u32::MAX), spoilt(1, 0),
+               spoilt(1, u32::MAX), spoilt(3, 5), record];
+    let (mut engine, mut answers) = (of_four(0), [77; 10]);
+    lent::batch(&engine.state, &mut engine.table, &row, &mut answers).unwrap();
+    assert_eq!(answers, [1, 1, 1, 4, 5, 5, 6, 0, 77, 77]);
+}
+
+#[test]
+fn lengths_of_a_batch() {
+    let words = of_all_four(1, 1, 0, &[]).to_words();
+    let row = [CertificateRecord::from(words); BATCH_RECORDS + 1];
+    for (records, room, answer) in [(0, 0, Ok(())), (1, 1, Ok(())), (1, 2, Ok(())), (64, 64, Ok(())), (64, 70, Ok(())),
+                                    (1, 0, Err(Refusal::LengthRange)), (64, 63, Err(Refusal::LengthRange)),
+                                    (65, 65, Err(Refusal::LengthRange)), (65, 80, Err(Refusal::LengthRange))] {
+        let (mut engine, mut answers) = (of_four(0), vec![77; room]);
+        let found = lent::batch(&engine.state, &mut engine.table, &row[..records], &mut answers);
+        assert_eq!(found, answer, "{records} records, {room} answers");
+        let tried = if answer.is_ok() { records } else { 0 };
+        assert!(answers[tried..].iter().all(|&word| word == 77));
+        assert!((0..tried).all(|i| answers[i] == if i == 0 { 0 } else { 16 }));
+        assert_eq!(engine.certificate(1, 1).is_ok(), tried > 0);
+        // A malformed state comes first.
+        let mut answers = vec![77; room];
+        let found = lent::batch(&[0; STATE_WORDS], &mut engine.table, &row[..records], &mut answers);
+        assert_eq!(found, Err(Refusal::Malformed));
+        assert!(answers.iter().all(|&word| word == 77));
+    }
+    let mut engine = of_four(0);
+    let long = vec![of_all_four(1, 1, 0, &[]); BATCH_RECORDS + 1];
+    refuses(&mut engine, 25, |e| e.batch(&long));
+    assert_eq!(engine.batch(&[]), Ok(Vec::new()));
 }
 
 #[test]

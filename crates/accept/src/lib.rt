@@ -50,6 +50,7 @@ pub fn accept(s: State, t: &mut [u32], c: Certificate) -> Outcome
     ensures { λ o. ⌜ WritingCallAnswered (acceptOutcome s (now (t .entry)) c) (acceptTable s (now (t .entry)) c) (acceptRefusal s (now (t .entry)) c) o (now (t .exit)) ⌝ }
 {
     let formed = state::well_formed(s, t);
-    let none = [0u64; 1];
-    accept_cached(formed, &none[..0], s, t, c)
+    let mut cache = [cache::NO_ROUND; 17];
+    admission::cache_committees(formed, s, t, c, &mut cache);
+    accept_cached(formed, &cache, s, t, c)
 }

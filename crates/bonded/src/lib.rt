@@ -62,7 +62,7 @@ pub fn blocks_fit(t: &[u32], blocks: u32, n: Round) -> bool
 }
 
 // Does no block change the committee of round r?
-fn is_starting(t: &[u32], s: Settings, blocks: u32, r: Round) -> bool
+pub fn is_starting(t: &[u32], s: Settings, blocks: u32, r: Round) -> bool
     requires { ⌜ ChainInTable s (now t) blocks ⌝ }
     ensures { λ v. ⌜ (v ≡ true → (q : ℕ) → q ≤ r .0 → committeeOf s (chainOf (s .ceiling .0) (now (t .entry)) blocks) q ≡ s .weights) ⌝ }
 {

@@ -5,11 +5,6 @@ use mathlib.Core.Option.{Option, none, some}
 use Prim.Native.Nat.{ℕ, _+_, _*_, _-_}
 use lib.Dec.{eqb, leb}
 
--- with what was read, or d where it was unreadable
-abbrev pub ifRead : {A : Type 0} {B : Type 0} → Option A → B → (A → B) → B
-ifRead none d k = d
-ifRead (some x) d k = k x
-
 -- a byte from "0" to "9"
 unfoldable pub isDigit : ℕ → Bool
 isDigit b = leb 48 b && leb b 57

@@ -1,3 +1,4 @@
 // The engine for a host: every call and read, over words that it lends.
+mod batches;
 mod calls;
 mod views;

@@ -1,6 +1,7 @@
 // What is cached beside the state, after the calls that change it.
 use checks::Answer;
 use state::State;
+use terms::Round;
 ghost use mathlib.Core.Path.{_≡_};
 ghost use Rattle.state.specs.Cached.{Cached};
 ghost use Rattle.state.specs.WellFormed.{wellFormed};
@@ -23,6 +24,6 @@ pub fn renew(formed: bool, s: State, t: &[u32], cache: &mut [u64])
 {
     if formed {
         let settings = s.settings;
-        cache::fill_cache(t, settings, s.blocks, cache);
+        cache::fill_cache(t, settings, s.blocks, Round(0), cache);
     }
 }

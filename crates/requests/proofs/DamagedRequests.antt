@@ -14,7 +14,8 @@ use Rattle.requests.specs.declared.Kind.the-variants.{Unreadable, Open, 
 use Rattle.requests.specs.declared.Reading.{Reading}
 use Rattle.fields.specs.Fields.{untilComma, fields, fieldsFrom}
 use Rattle.fields.proofs.FieldLaws.{fields-step}
-use Rattle.fields.specs.Numbers.{ifRead, numberRead, set}
+use Rattle.base.specs.Options.{ifThere}
+use Rattle.fields.specs.Numbers.{numberRead, set}
 use Rattle.requests.specs.Settings.{setting}
 use Rattle.requests.specs.Kinds.{recordKind}
 use Rattle.triples.specs.Triples.{kindNamed, transaction, before, atKind, atNumber, atAmount}
@@ -37,7 +38,7 @@ unfolding anyDamaged
 none-damaged h = absurd (false≢true h)
 
 -- whatever is read after a field, the damage is still there
-after-damage : {A : Type 0} {B : Type 0} (o : Option A) (d : B) (k : A → B) → ((x : A) → k x ≡ d) → ifRead o d k ≡ d
+after-damage : {A : Type 0} {B : Type 0} (o : Option A) (d : B) (k : A → B) → ((x : A) → k x ≡ d) → ifThere o d k ≡ d
 after-damage none d k h = refl
 after-damage (some x) d k h = h x
 
@@ -50,8 +51,8 @@ triples-damaged (f ∷ fs) h =
     (λ q. later (triples-damaged fs q))
   where
     later : (atKind fs ≡ none) × ((k : ℕ) → atNumber fs k ≡ none) × ((k n : ℕ) → atAmount fs k n ≡ none) →
-        (ifRead (kindNamed f) none (λ k. atNumber fs k) ≡ none) × ((k : ℕ) → ifRead (numberRead f) none (λ n. atAmount fs k n) ≡ none)
-        × ((k n : ℕ) → ifRead (numberRead f) none (λ a. ifRead (transaction k n a) none (λ x. before x (atKind fs))) ≡ none)
+        (ifThere (kindNamed f) none (λ k. atNumber fs k) ≡ none) × ((k : ℕ) → ifThere (numberRead f) none (λ n. atAmount fs k n) ≡ none)
+        × ((k n : ℕ) → ifThere (numberRead f) none (λ a. ifThere (transaction k n a) none (λ x. before x (atKind fs))) ≡ none)
     later t = (
       after-damage (kindNamed f) none _ (t .1),
       λ k. after-damage (numberRead f) none _ (t .2 k),

@@ -17,7 +17,8 @@ use Rattle.requests.specs.declared.setting.SettingRead.{SettingRead}
 use Rattle.requests.specs.declared.setting.Weights.{Weights}
 use Rattle.fields.specs.Fields.{fieldsFrom}
 use Rattle.fields.proofs.FieldLaws.{from-step, from-none}
-use Rattle.fields.specs.Numbers.{ifRead, numberTo, numberRead, set}
+use Rattle.base.specs.Options.{ifThere}
+use Rattle.fields.specs.Numbers.{numberTo, numberRead, set}
 use Rattle.requests.specs.Settings.{setting}
 use Rattle.fields.proofs.NumberLaws.{number-le}
 use Rattle.fields.specs.Cursor.{found, firstBy, rest, Stepped}
@@ -58,13 +59,13 @@ module _ (m : ℕ) (s : List ℕ) (at : ℕ) (k : ℕ → List (List ℕ) → Re
   pub number-stops : r ≡ NoNumber → nextBy (numberTo m) (fieldsFrom s at) k ≡ unreadable
   number-stops q = next-fails (numberTo m) k (fieldsFrom s at) (found-none _ (sym e ∙ q))
 
-  pub number-by : (o : Option ℕ) {next : ℕ} → Stepped s at next → r ≡ found o → nextBy (numberTo m) (fieldsFrom s at) k ≡ ifRead o unreadable (λ n. k n (fieldsFrom s next))
+  pub number-by : (o : Option ℕ) {next : ℕ} → Stepped s at next → r ≡ found o → nextBy (numberTo m) (fieldsFrom s at) k ≡ ifThere o unreadable (λ n. k n (fieldsFrom s next))
   number-by none t q = number-stops q
   number-by (some n) t q = number-goes t q
 
 -- a step over a setting
 module _ (s : List ℕ) (at : ℕ) (k : Setting → List (List ℕ) → Reading) {r : SettingRead} (e : r ≡ settingFound (firstBy setting (fieldsFrom s at))) where
-  pub setting-by : (o : Option Setting) {next : ℕ} → Stepped s at next → r ≡ settingFound o → nextBy setting (fieldsFrom s at) k ≡ ifRead o unreadable (λ x. k x (fieldsFrom s next))
+  pub setting-by : (o : Option Setting) {next : ℕ} → Stepped s at next → r ≡ settingFound o → nextBy setting (fieldsFrom s at) k ≡ ifThere o unreadable (λ x. k x (fieldsFrom s next))
   setting-by none t q = next-fails setting k (fieldsFrom s at) (setting-none _ (sym e ∙ q))
   setting-by (some x) t q = next-goes setting k (fieldsFrom s at) x (setting-of _ x (sym e ∙ q)) ∙ ap (k x) (sym (t .fields-after))
 
@@ -80,7 +81,7 @@ module _ (fs : List (List ℕ)) (k : List Cell → Reading) {w : Weights} (e : w
   unfolding weightsThen
   weights-go q = rw e (go (cellsIn 16 fs) (rw e at q))
     where
-      go : (o : Option (List Cell)) → weightsOf o .ok ≡ true → ifRead o unreadable k ≡ k (weightsOf o .cells)
+      go : (o : Option (List Cell)) → weightsOf o .ok ≡ true → ifThere o unreadable k ≡ k (weightsOf o .cells)
       go none h = absurd (false≢true h)
       go (some l) h = refl
 
@@ -88,7 +89,7 @@ module _ (fs : List (List ℕ)) (k : List Cell → Reading) {w : Weights} (e : w
   unfolding weightsThen
   weights-stop q = go (cellsIn 16 fs) (rw e at q)
     where
-      go : (o : Option (List Cell)) → weightsOf o .ok ≡ false → ifRead o unreadable k ≡ unreadable
+      go : (o : Option (List Cell)) → weightsOf o .ok ≡ false → ifThere o unreadable k ≡ unreadable
       go none h = refl
       go (some l) h = absurd (true≢false h)
 
@@ -107,7 +108,7 @@ module _ (p : ℕ) (fs : List (List ℕ)) (k : Body → Reading) {t : Triples} (
   unfolding triplesThen
   triples-stop h = go (atKind fs) (rw q at h)
     where
-      go : (o : Option (List Transaction)) → triplesOf p o .ok ≡ false → ifRead o unreadable (λ l. k (bodyOf p l)) ≡ unreadable
+      go : (o : Option (List Transaction)) → triplesOf p o .ok ≡ false → ifThere o unreadable (λ l. k (bodyOf p l)) ≡ unreadable
       go none h = refl
       go (some l) h = absurd (true≢false h)
 
@@ -115,6 +116,6 @@ module _ (p : ℕ) (fs : List (List ℕ)) (k : Body → Reading) {t : Triples} (
   unfolding triplesThen
   triples-go h = rw q (go (atKind fs) (rw q at h))
     where
-      go : (o : Option (List Transaction)) → triplesOf p o .ok ≡ true → ifRead o unreadable (λ l. k (bodyOf p l)) ≡ k (triplesOf p o .body)
+      go : (o : Option (List Transaction)) → triplesOf p o .ok ≡ true → ifThere o unreadable (λ l. k (bodyOf p l)) ≡ k (triplesOf p o .body)
       go none h = absurd (false≢true h)
       go (some l) h = refl

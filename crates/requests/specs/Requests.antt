@@ -11,7 +11,8 @@ use Rattle.sheet.specs.declared.Cell.{Cell}
 use Rattle.requests.specs.declared.Kind.{Kind}
 use Rattle.requests.specs.declared.Kind.the-variants.{Unreadable, Open, Propose, Endorse, Certify, Accept, Advance, Commit, Chain}
 use Rattle.fields.specs.Fields.{fields}
-use Rattle.fields.specs.Numbers.{ifRead, numberRead, set}
+use Rattle.base.specs.Options.{ifThere}
+use Rattle.fields.specs.Numbers.{numberRead, set}
 use Rattle.requests.specs.Settings.{setting}
 use Rattle.triples.specs.Triples.{atKind}
 use Rattle.requests.specs.Kinds.{recordKind}
@@ -21,7 +22,7 @@ use Rattle.requests.specs.Readings.{unreadable, openAs, propose, endorse
 -- a field that p reads comes next; k has what it holds, and the fields after it
 unfoldable pub nextBy : {A : Type 0} → (List ℕ → Option A) → List (List ℕ) → (A → List (List ℕ) → Reading) → Reading
 nextBy p [] k = unreadable
-nextBy p (f ∷ fs) k = ifRead (p f) unreadable (λ x. k x fs)
+nextBy p (f ∷ fs) k = ifThere (p f) unreadable (λ x. k x fs)
 
 -- no field comes next
 unfoldable pub atEnd : List (List ℕ) → Reading → Reading
@@ -30,7 +31,7 @@ atEnd (f ∷ fs) r = unreadable
 
 -- triples come next, and nothing else
 unfoldable pub triplesThen : List (List ℕ) → (List Transaction → Reading) → Reading
-triplesThen fs k = ifRead (atKind fs) unreadable k
+triplesThen fs k = ifThere (atKind fs) unreadable k
 
 -- one setting more in front
 abbrev pub inFront : Option Setting → Option (List Cell) → Option (List Cell)
@@ -47,7 +48,7 @@ cellsIn (suc n) (f ∷ fs) = inFront (setting f) (cellsIn n fs)
 
 -- sixteen weights come next, and nothing else
 unfoldable pub weightsThen : List (List ℕ) → (List Cell → Reading) → Reading
-weightsThen fs k = ifRead (cellsIn 16 fs) unreadable k
+weightsThen fs k = ifThere (cellsIn 16 fs) unreadable k
 
 -- the fields after the first, by what that one names
 abbrev pub openOf : List (List ℕ) → Reading

@@ -10,7 +10,8 @@ use Rattle.terms.specs.declared.Transaction.{Transaction}
 use Rattle.terms.specs.declared.Body.{Body}
 use Rattle.fields.specs.Fields.{untilComma, fieldsFrom}
 use Rattle.fields.proofs.FieldLaws.{from-step, from-none}
-use Rattle.fields.specs.Numbers.{ifRead, numberRead}
+use Rattle.base.specs.Options.{ifThere}
+use Rattle.fields.specs.Numbers.{numberRead}
 use Rattle.fields.specs.Cursor.{firstBy, rest}
 use Rattle.triples.specs.declared.Triples.{Triples}
 use Rattle.triples.specs.Triples.{kindNamed, transaction, before, atKind, atNumber, atAmount}
@@ -48,7 +49,7 @@ module _ (k : ℕ) where
   amount-fails n [] e = refl
   amount-fails n (f ∷ fs) e = rw e refl
 
-  amount-goes : (n : ℕ) (fs : List (List ℕ)) (a : ℕ) → firstBy numberRead fs ≡ some a → atAmount fs k n ≡ ifRead (transaction k n a) none (λ x. before x (atKind (rest fs)))
+  amount-goes : (n : ℕ) (fs : List (List ℕ)) (a : ℕ) → firstBy numberRead fs ≡ some a → atAmount fs k n ≡ ifThere (transaction k n a) none (λ x. before x (atKind (rest fs)))
   unfolding atAmount
   amount-goes n [] a e = let z : _≡_ {A = ℕ} 0 1 = cc in absurd (omega arith)
   amount-goes n (f ∷ fs) a e = rw e refl
@@ -58,14 +59,14 @@ module _ (b : Body) (k n : ℕ) (fs : List (List ℕ)) {a : ℕ} {t : Triples} (
   pub amount-refused : t .ok ≡ false → onto b (atAmount fs k n) ≡ unreadableTriples
   amount-refused q = rw (amount-goes k n fs a r) (go (transaction k n a) (rw e at q))
     where
-      go : (o : Option Transaction) → addedTo b o .ok ≡ false → onto b (ifRead o none (λ x. before x (atKind (rest fs)))) ≡ unreadableTriples
+      go : (o : Option Transaction) → addedTo b o .ok ≡ false → onto b (ifThere o none (λ x. before x (atKind (rest fs)))) ≡ unreadableTriples
       go none h = refl
       go (some x) h = absurd (true≢false h)
 
   pub amount-pushed : t .ok ≡ true → onto b (atAmount fs k n) ≡ onto (t .body) (atKind (rest fs))
   amount-pushed q = rw (amount-goes k n fs a r, e) (go (transaction k n a) (rw e at q))
     where
-      go : (o : Option Transaction) → addedTo b o .ok ≡ true → onto b (ifRead o none (λ x. before x (atKind (rest fs)))) ≡ onto (addedTo b o .body) (atKind (rest fs))
+      go : (o : Option Transaction) → addedTo b o .ok ≡ true → onto b (ifThere o none (λ x. before x (atKind (rest fs)))) ≡ onto (addedTo b o .body) (atKind (rest fs))
       go none h = absurd (false≢true h)
       go (some x) h = onto-before b x (atKind (rest fs))
 

@@ -6,7 +6,8 @@ use Prim.Native.Nat.{ℕ}
 use lib.Dec.{eqb}
 use Rattle.terms.specs.declared.Transaction.{Transaction}
 use Rattle.terms.specs.Transactions.{readTransaction}
-use Rattle.fields.specs.Numbers.{ifRead, numberRead}
+use Rattle.base.specs.Options.{ifThere}
+use Rattle.fields.specs.Numbers.{numberRead}
 use Rattle.fields.specs.Words.{namedIn}
 
 -- the kinds: B is 0, U is 1, E is 2
@@ -29,12 +30,12 @@ before x (some l) = some (x ∷ l)
 unfoldable mutual
   pub atKind : List (List ℕ) → Option (List Transaction)
   atKind [] = some []
-  atKind (f ∷ fs) = ifRead (kindNamed f) none (λ k. atNumber fs k)
+  atKind (f ∷ fs) = ifThere (kindNamed f) none (λ k. atNumber fs k)
 
   pub atNumber : List (List ℕ) → ℕ → Option (List Transaction)
   atNumber [] k = none
-  atNumber (f ∷ fs) k = ifRead (numberRead f) none (λ n. atAmount fs k n)
+  atNumber (f ∷ fs) k = ifThere (numberRead f) none (λ n. atAmount fs k n)
 
   pub atAmount : List (List ℕ) → ℕ → ℕ → Option (List Transaction)
   atAmount [] k n = none
-  atAmount (f ∷ fs) k n = ifRead (numberRead f) none (λ a. ifRead (transaction k n a) none (λ x. before x (atKind fs)))
+  atAmount (f ∷ fs) k n = ifThere (numberRead f) none (λ a. ifThere (transaction k n a) none (λ x. before x (atKind fs)))

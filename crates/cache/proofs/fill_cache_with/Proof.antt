@@ -12,13 +12,13 @@ add-end : tie.Need-add-end
 add-end c = search needs
 
 link-rows-requires : tie.Need-link-rows-requires
-link-rows-requires c κs = let p = c .before .before .before .before .before .before .before .pre in (record { long = p .chain .long; round = p .chain .ceiling }, links-start _ _ _ (p .places))
+link-rows-requires c κs = let p = c .before .before .before .before .before .before .before .pre in (record { long = p .0 .chain .long; round = p .0 .chain .ceiling }, links-start _ _ _ (p .0 .places))
 
 cache-rounds-requires : tie.Need-cache-rounds-requires
 cache-rounds-requires c κs =
     let l = c .before .before .before .before .before .before .before in
     let s = l .before .before .before .before .before .before .before .before in
-    record { linked = record { chain = s .pre .chain; links = l .link-rows .ensures }; weights = refl; started = started-none 16 }
+    (record { linked = record { chain = s .pre .0 .chain; links = l .link-rows .ensures }; weights = refl; started = started-none 16 }, s .pre .1, s .pre .2)
 
 same-length : tie.Need-same-length
 same-length c = search needs

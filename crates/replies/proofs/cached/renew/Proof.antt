@@ -1,4 +1,5 @@
 use mathlib.Core.Path.{sym, _∙_}
+use native.Mathlib.Omega.{arith}
 use Rattle.state.proofs.FormedLaws.{formed}
 use Rattle.state.proofs.Walkable.{readable}
 use Rattle.replies.proofs.CachedLaws.{cached-unformed}
@@ -7,7 +8,7 @@ use Rattle.replies.proofs.cached.renew.Statement.{statement}
 use Rattle.replies.proofs.cached.renew.Tie as tie
 
 fill-cache-requires : tie.Need-fill-cache-requires
-fill-cache-requires c κs = readable _ _ (formed _ _ (sym (c .before .before .before .before .before .pre) ∙ c .before .before .if1 .taken))
+fill-cache-requires c κs = (readable _ _ (formed _ _ (sym (c .before .before .before .before .before .pre) ∙ c .before .before .if1 .taken)), omega arith)
 
 same-length : tie.Need-same-length
 same-length c = search needs

@@ -5,7 +5,7 @@ use Prim.Native.Nat.{ℕ}
 use borrow.Author.Tests.{not-true, not-false}
 use Rattle.sheet.specs.declared.Setting.{Setting}
 use Rattle.fields.specs.Fields.{fieldsFrom}
-use Rattle.fields.specs.Numbers.{ifRead}
+use Rattle.base.specs.Options.{ifThere}
 use Rattle.fields.specs.Cursor.{found}
 use Rattle.requests.specs.Settings.{setting}
 use Rattle.requests.specs.Requests.{nextBy, weightsThen, openOf}
@@ -31,7 +31,7 @@ lookbackLeft o fs = nextBy setting fs (ceilingLeft o)
 
 -- an open is unreadable where o is none, and else what k makes of what was read and of the fields from n on
 abbrev Told : {A : Type 0} → tie.Start → Option A → ℕ → (A → List (List ℕ) → Reading) → Type 0
-Told s o n k = let r = s .args .rec .now in openOf (fieldsFrom r (s .args .at)) ≡ ifRead o unreadable (λ x. k x (fieldsFrom r n))
+Told s o n k = let r = s .args .rec .now in openOf (fieldsFrom r (s .args .at)) ≡ ifThere o unreadable (λ x. k x (fieldsFrom r n))
 
 -- For each field: where the one before it was read, the call that read that one, the start, what is left after the field, and what it decides.
 

@@ -6,7 +6,8 @@ use Prim.Native.Nat.{ℕ, _≤_}
 use native.Mathlib.Omega.{arith}
 use borrow.Author.Tests.{not-true, not-false}
 use Rattle.fields.specs.Fields.{fieldsFrom}
-use Rattle.fields.specs.Numbers.{ifRead, numberRead, set}
+use Rattle.base.specs.Options.{ifThere}
+use Rattle.fields.specs.Numbers.{numberRead, set}
 use Rattle.fields.specs.Cursor.{found}
 use Rattle.requests.specs.Requests.{nextBy, triplesThen, endorseOf, acceptOf}
 use Rattle.requests.specs.declared.Reading.{Reading}
@@ -43,7 +44,7 @@ whole s = let fs = fieldsFrom (s .args .rec .now) (s .args .at) in cond (s .args
 
 -- it is unreadable where o is none, and else what k makes of the number that was read and of the fields from n on
 abbrev Told : tie.Start → Option ℕ → ℕ → (ℕ → List (List ℕ) → Reading) → Type 0
-Told s o n k = whole s ≡ ifRead o unreadable (λ x. k x (fieldsFrom (s .args .rec .now) n))
+Told s o n k = whole s ≡ ifThere o unreadable (λ x. k x (fieldsFrom (s .args .rec .now) n))
 
 -- For each field: where the one before it was read, the call that read that one, the start, what is left after the field, and what it decides.
 

@@ -1,13 +1,13 @@
 use mathlib.Core.Path.{_≡_, refl}
 use mathlib.Core.List.{List}
-use Prim.Native.Nat.{ℕ, _-_, _*_, _<_, _≤_}
+use Prim.Native.Nat.{ℕ, _-_, _<_, _≤_}
 use native.Mathlib.Omega.{arith}
 use native.Mathlib.Numerals.{add-one}
 use lib.ListN.{length, length-set}
 use lib.Seq.{paste, paste-zero, paste-suc}
 use borrow.Author.Needs.{needs}
-use Rattle.cache.proofs.put_committee.Statement.{statement}
-use Rattle.cache.proofs.put_committee.Tie as tie
+use Rattle.cache.proofs.put_words.Statement.{statement}
+use Rattle.cache.proofs.put_words.Tie as tie
 
 -- the first i words of w are put
 record WordsPut (cache₀ w : List ℕ) (at : ℕ) (cache : List ℕ) (i : ℕ) : Type 0 where
@@ -17,21 +17,15 @@ record WordsPut (cache₀ w : List ℕ) (at : ℕ) (cache : List ℕ) (i : ℕ) 
   whole : 0 < i → length w ≡ 16
 
 abbrev Inv-loop : tie.InvT-loop
-Inv-loop cache₀ w at i₀ cache i = WordsPut cache₀ w at cache i
+Inv-loop at cache₀ w i₀ cache i = WordsPut cache₀ w at cache i
 
 abbrev μ-loop : tie.MeasureT-loop
-μ-loop cache₀ w at i₀ cache i = 16 - i
-
-cast-at : tie.Need-cast-at Inv-loop μ-loop
-cast-at c = search needs
-
-mul-at : tie.Need-mul-at Inv-loop μ-loop
-mul-at c = search needs
+μ-loop at cache₀ w i₀ cache i = 16 - i
 
 loop-holds : tie.Need-loop-holds Inv-loop μ-loop
 loop-holds c =
-    let a = c .before .args in
-    record { count = omega arith; words = paste-zero (a .cache .now) (a .r .0 * 16) (a .t1); size = refl; whole = λ h. absurd (omega arith) }
+    let a = c .args in
+    record { count = omega arith; words = paste-zero (a .cache .now) (a .at) (a .t1); size = refl; whole = λ h. absurd (omega arith) }
 
 mul-cache : tie.Need-mul-cache Inv-loop μ-loop
 mul-cache c = search needs
@@ -56,12 +50,12 @@ loop-less c = search needs
 
 loop-again : tie.Need-loop-again Inv-loop μ-loop
 loop-again c =
-    let a = c .before .before .before .args in
+    let a = c .before .before .args in
     let x = c .before .loop in
     let l : length (a .t1) ≡ 16 = search needs in
     record {
       count = omega arith;
-      words = rw (add-one, x .inv .words) (paste-suc (a .cache .now) (a .r .0 * 16) (a .t1) (x .i) 0 (omega arith) (omega arith));
+      words = rw (add-one, x .inv .words) (paste-suc (a .cache .now) (a .at) (a .t1) (x .i) 0 (omega arith) (omega arith));
       size = simp length-set (x .inv .size);
       whole = λ _. l;
     }
@@ -72,14 +66,12 @@ same-length c = c .before .loop .inv .size
 returns : tie.Need-returns Inv-loop μ-loop
 returns c = let x = c .before .loop in let e : x .i ≡ 16 = omega arith in (x .inv .whole (omega arith), rw e at (x .inv .words))
 
-pub put-committee-spec : {M : Type 1} → statement M
-put-committee-spec =
+pub put-words-spec : {M : Type 1} → statement M
+put-words-spec =
     tie.close
     (tie.spec
     Inv-loop
     μ-loop
-    cast-at
-    mul-at
     loop-holds
     mul-cache
     array-read-cache

@@ -1,0 +1,4 @@
+pub mod BeginLaws
+pub mod TurnLaws
+pub mod DoneLaws
+pub mod ClaimLaws
