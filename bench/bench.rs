@@ -1,5 +1,6 @@
 //! What each call and read costs: the engine (libhost.a), plain Rust
-//! (plain.rs) and a floor. `bench [quick]` prints Markdown.
+//! (plain.rs) and a floor. `bench [quick]` prints Markdown. Built with another
+//! archive, that stands in plain's place (run.sh).
 //!
 //! States. Sixteen members; every certificate has four transactions (entries,
 //! bonds, unbonds that are bonded again at once, so that all stay inside) and
@@ -39,6 +40,10 @@ mod engine;
 #[path = "plain.rs"]
 #[cfg(plain)]
 mod engine;
+#[cfg(not(other))]
+mod plain;
+#[path = "../target/bench/other.rs"]
+#[cfg(other)]
 mod plain;
 
 use std::hint::black_box;

@@ -1,18 +1,28 @@
 #!/bin/sh
-# run.sh [ARCHIVE [quick]]: builds the benchmark and prints its tables.
+# run.sh [ARCHIVE [quick|full [OTHER]]]: builds the benchmark and prints its tables.
 # ARCHIVE is the engine's static library (target/staticlib/libhost.a if not
 # given), or `plain` to try the benchmark without it (plain.rs against itself).
+# OTHER is another archive, that of before a change: it stands in plain's place,
+# and the two take turns in one process.
 set -e
 top=$(cd "$(dirname "$0")/.." && pwd)
 archive=${1:-$top/target/staticlib/libhost.a}
 pace=$2
+other=$3
+built=$top/target/bench
+mkdir -p "$built"
 if [ "$archive" = plain ]; then
     set -- --cfg plain
 else
     name=$(basename "$archive" .a)
     set -- -L "$(dirname "$archive")" -l "static=${name#lib}"
 fi
-mkdir -p "$top/target/bench"
-rustc --edition 2021 -C opt-level=3 -C codegen-units=1 --check-cfg 'cfg(plain)' "$@" \
-    "$top/bench/bench.rs" -o "$top/target/bench/bench"
-exec "$top/target/bench/bench" $pace
+if [ -n "$other" ]; then
+    nm -g --defined-only "$other" | sed -n 's/.* \(forgelilac_[a-z_]*\)$/\1 other_\1/p' > "$built/names"
+    objcopy --redefine-syms="$built/names" "$other" "$built/libother.a"
+    sed 's/forgelilac_/other_forgelilac_/g' "$top/bench/host.rs" > "$built/other.rs"
+    set -- "$@" --cfg other -L "$built" -l static=other
+fi
+rustc --edition 2021 -C opt-level=3 -C codegen-units=1 --check-cfg 'cfg(plain, other)' "$@" \
+    "$top/bench/bench.rs" -o "$built/bench"
+exec "$built/bench" $pace

@@ -60,8 +60,8 @@ extern "C" {
 #define FORGELILAC_CHAIN_WORDS(ceiling) (48u * (ceiling))
 
 /* Bytes of stack that serve every call and every function below on x86-64; examples/stack.c
- * measures what they use. Batch and commit use about 75 KB, propose, endorse, certify, accept,
- * committee and share about 72 KB, forgelilac_chain about 3 KB, the others less than 1 KB. */
+ * measures what they use. Commit uses about 80 KB, batch about 77 KB, propose, endorse, certify,
+ * accept, committee and share about 74 KB, forgelilac_chain about 3 KB, the others less than 1 KB. */
 #define FORGELILAC_STACK_BYTES 98304
 
 /* ---- words of a state */

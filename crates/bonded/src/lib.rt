@@ -96,6 +96,7 @@ fn walked(t: &[u32], s: Settings, blocks: u32, r: Round, next: &mut [u32]) -> Pa
     let mut head = [end; 512];
     changes::links::link_rows(t, &mut head, next, s.ceiling);
     let mut starts = [16u32; 512];
+    let places = positions::places();
     let none = running::none();
     let x = running::reach_round(
         t,
@@ -105,11 +106,23 @@ fn walked(t: &[u32], s: Settings, blocks: u32, r: Round, next: &mut [u32]) -> Pa
         blocks,
         none,
         round_before(r),
+        &places,
         &mut w,
         &mut starts,
     );
     let before = w;
-    running::reach_round(t, &head, next, s, blocks, x, r, &mut w, &mut starts);
+    running::reach_round(
+        t,
+        &head,
+        next,
+        s,
+        blocks,
+        x,
+        r,
+        &places,
+        &mut w,
+        &mut starts,
+    );
     Pair { before, at: w }
 }
 

@@ -111,11 +111,12 @@ fn cache_rounds(
     s: Settings,
     blocks: u32,
     first: Round,
+    places: &[u8; 2048],
     w: &mut [u64; 16],
     starts: &mut [u32; 512],
     cache: &mut [u64],
 )
-    requires { ⌜ WalkStart s (now t) blocks (now head) (now next) (now w) (now starts) × (first .0 ≤ s .ceiling .0) × (17 ≤ length (now cache)) ⌝ }
+    requires { ⌜ WalkStart s (now t) blocks (now head) (now next) (now places) (now w) (now starts) × (first .0 ≤ s .ceiling .0) × (17 ≤ length (now cache)) ⌝ }
     ensures { λ _. ⌜ Caches s (chainOf (s .ceiling .0) (now (t .entry)) blocks) (now (cache .exit)) ⌝ }
 {
     cache[0] = first.0 as u64;
@@ -125,7 +126,7 @@ fn cache_rounds(
         if cache.len() < at + 16 {
             return;
         }
-        x = running::reach_round(t, head, next, s, blocks, x, Round(q), w, starts);
+        x = running::reach_round(t, head, next, s, blocks, x, Round(q), places, w, starts);
         put_words(*w, at, cache);
     }
 }
@@ -147,7 +148,19 @@ fn fill_cache_with(
     let mut head = [end; 512];
     changes::links::link_rows(t, &mut head, next, s.ceiling);
     let mut starts = [16u32; 512];
-    cache_rounds(t, &head, next, s, blocks, first, &mut w, &mut starts, cache);
+    let places = positions::places();
+    cache_rounds(
+        t,
+        &head,
+        next,
+        s,
+        blocks,
+        first,
+        &places,
+        &mut w,
+        &mut starts,
+        cache,
+    );
 }
 
 // Caches the committees of the rounds from the first on, for as many as there is room.

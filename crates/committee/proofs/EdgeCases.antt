@@ -6,7 +6,8 @@ use Rattle.sheet.specs.Sheets.{blankWeight, weightAt, filled}
 use Rattle.committee.specs.Changes.{changes, changesOf, row, rows}
 use Rattle.committee.specs.Committees.{committeeBy, leaderBy, stepFrom, bondedFrom, committeeOf, startOf, ordered, knownBy, boundOf, quorumWeight}
 use Rattle.shares.specs.Shares.{evenNeighbour, rounded, nearest, shareOf}
-use Rattle.committee.specs.Leaders.{countBelow, memberBelow, memberAt, leaderOf}
+use Rattle.positions.specs.Positions.{countBelow, memberBelow}
+use Rattle.committee.specs.Leaders.{memberAt, leaderOf}
 use Rattle.committee.specs.Edges.{blank, written, bond, unbond, bonding, four, full, nobody, authorAt, truth, cases, agree}
 
 pub edges : agree cases ≡ true

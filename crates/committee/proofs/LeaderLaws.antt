@@ -1,93 +1,26 @@
--- Laws of members by position, and of leaders.
+-- Laws of leaders.
 use mathlib.Core.Path.{_≡_, refl, sym, _∙_}
 use mathlib.Core.Bool.{Bool, true, false, cond, _&&_, and-false}
 use mathlib.Core.List.{List}
-use mathlib.Core.Option.{none, some}
-use Prim.Native.Nat.{ℕ, zero, suc, _+_, _/_, _%_, _≤_, _<_}
+use mathlib.Core.Option.{Option, none, some}
+use Prim.Native.Nat.{ℕ, zero, suc, _/_, _%_, _≤_, _<_}
 use native.Mathlib.Omega.{arith}
 use native.Mathlib.Decide.{ℕ-discrete, decLt}
 use lib.Dec.{eqb, leb, ltb}
 use borrow.Author.Tests.{eq-eqb, ne-eqb, le-leb, lt-leb, lt-ltb, le-ltb}
-use Rattle.base.specs.Folds.{foldTo, sumTo}
-use Rattle.base.proofs.SumLaws.{sum-same, sum-more, sum-up}
+use Rattle.base.specs.Folds.{foldTo}
 use Rattle.base.specs.Sets.{isIn, add}
 use Rattle.base.proofs.SetLaws.{in-add}
 use Rattle.base.proofs.UnionLaws.{in-none}
 use Rattle.sheet.specs.Ranges.{weightIn}
-use Rattle.committee.specs.Leaders.{countBelow, memberBelow, memberAt, members, leaderOf, leaderNumber, joined, memberSet}
-
--- ---- counting
-
-pub count-none : (set : ℕ → Bool) → countBelow set 0 ≡ 0
-unfolding countBelow sumTo
-count-none set = refl
-
-pub count-more : (set : ℕ → Bool) (n : ℕ) → countBelow set (n + 1) ≡ countBelow set n + cond (set n) 1 0
-unfolding countBelow
-count-more set n = sum-more (λ i. cond (set i) 1 0) n
-
--- of the numbers below n at most n are in a set
-pub count-le : (set : ℕ → Bool) (n : ℕ) → countBelow set n ≤ n
-unfolding countBelow sumTo
-count-le set zero = omega arith
-count-le set (suc n) = go (set n) (count-le set n)
-  where
-    go : (b : Bool) → sumTo (λ i. cond (set i) 1 0) n ≤ n → sumTo (λ i. cond (set i) 1 0) n + cond b 1 0 ≤ suc n
-    go true h = omega arith
-    go false h = omega arith
-
-count-up : (set : ℕ → Bool) (i n : ℕ) → i ≤ n → countBelow set i ≤ countBelow set n
-unfolding countBelow
-count-up set i n h = sum-up (λ j. cond (set j) 1 0) i n h
-
--- ---- positions
+use Rattle.positions.specs.Positions.{countBelow, memberBelow, orElse}
+use Rattle.positions.proofs.PositionLaws.{count-same, below-none, below-same, below-le}
+use Rattle.committee.specs.Leaders.{memberAt, members, leaderOf, leaderNumber, joined, memberSet}
 
 -- nobody stands at a position that the count does not reach
-below-none : (set : ℕ → Bool) (n k : ℕ) → countBelow set n ≤ k → memberBelow set n k ≡ none
-unfolding memberBelow countBelow sumTo
-below-none set zero k h = refl
-below-none set (suc n) k h = go (set n) h (λ l. below-none set n k l)
-  where
-    go : (b : Bool) → sumTo (λ i. cond (set i) 1 0) n + cond b 1 0 ≤ k → (sumTo (λ i. cond (set i) 1 0) n ≤ k → memberBelow set n k ≡ none)
-        → cond (b && eqb (sumTo (λ i. cond (set i) 1 0) n) k) (some n) (memberBelow set n k) ≡ none
-    go true h f = rw (ne-eqb (sumTo (λ i. cond (set i) 1 0) n) k (λ e. omega arith)) (f (omega arith))
-    go false h f = f (omega arith)
-
--- the one with whom the count passes k stands at position k
-below-some : (set : ℕ → Bool) (n k i : ℕ) → i < n → countBelow set i ≤ k → k < countBelow set (i + 1) → memberBelow set n k ≡ some i
-unfolding memberBelow
-below-some set zero k i h l p = absurd (omega arith)
-below-some set (suc n) k i h l p = go (ℕ-discrete i n) (λ q. below-some set n k i q l p)
-  where
-    found : (b : Bool) → countBelow set n ≤ k → k < countBelow set n + cond b 1 0 → cond (b && eqb (countBelow set n) k) (some n) (memberBelow set n k) ≡ some n
-    found true l p = rw (eq-eqb (countBelow set n) k (omega arith)) refl
-    found false l p = absurd (omega arith)
-
-    go : Dec (i ≡ n) → (i < n → memberBelow set n k ≡ some i) → cond (set n && eqb (countBelow set n) k) (some n) (memberBelow set n k) ≡ some i
-    go (yes e) f = rw e (found (set n) (rw e at l) (rw (e, count-more) at p))
-    go (no e) f =
-        let u = count-up set (i + 1) n (omega arith) in
-        rw (ne-eqb (countBelow set n) k (λ q. omega arith), and-false (set n)) (f (omega arith))
-
 pub at-none : (set : ℕ → Bool) (k : ℕ) → countBelow set 16 ≤ k → memberAt set k ≡ none
 unfolding memberAt
 at-none set k h = below-none set 16 k h
-
-pub at-some : (set : ℕ → Bool) (k i : ℕ) → i < 16 → countBelow set i ≤ k → k < countBelow set (i + 1) → memberAt set k ≡ some i
-unfolding memberAt
-at-some set k i h l p = below-some set 16 k i h l p
-
--- ---- sets that agree on the members
-
-count-same : (s u : ℕ → Bool) (n : ℕ) → ((i : ℕ) → i < n → s i ≡ u i) → countBelow s n ≡ countBelow u n
-unfolding countBelow
-count-same s u n e = sum-same (λ i. cond (s i) 1 0) (λ i. cond (u i) 1 0) n (λ i h. rw (e i h) refl)
-
-below-same : (s u : ℕ → Bool) (n k : ℕ) → ((i : ℕ) → i < n → s i ≡ u i) → memberBelow s n k ≡ memberBelow u n k
-unfolding memberBelow
-below-same s u zero k e = refl
-below-same s u (suc n) k e =
-    rw (e n (omega arith), count-same s u n (λ i h. e i (omega arith)), below-same s u n k (λ i h. e i (omega arith))) refl
 
 -- ---- the members as a set
 
@@ -139,19 +72,14 @@ leader-set w r e h = rw (set-at w (r / 2 % countBelow (isIn (memberSet w)) 16), 
 
 -- ---- a leader's number
 
-below-le : (set : ℕ → Bool) (n k : ℕ) → n ≤ 16 → leaderNumber (memberBelow set n k) ≤ 16
-unfolding memberBelow
-below-le set zero k h = omega arith
-below-le set (suc n) k h = go (set n && eqb (countBelow set n) k) (below-le set n k (omega arith))
-  where
-    go : (b : Bool) → leaderNumber (memberBelow set n k) ≤ 16 → leaderNumber (cond b (some n) (memberBelow set n k)) ≤ 16
-    go true l = omega arith
-    go false l = l
+pub number-else : (o : Option ℕ) → leaderNumber o ≡ orElse 16 o
+number-else none = refl
+number-else (some a) = refl
 
 pub leader-le : (w : ℕ → ℕ) (r : ℕ) → leaderNumber (leaderOf w r) ≤ 16
 unfolding leaderOf memberAt
 leader-le w r = go (eqb (r % 2) 0 && leb 2 r)
   where
     go : (b : Bool) → leaderNumber (cond b (memberBelow (members w) 16 (r / 2 % countBelow (members w) 16)) none) ≤ 16
-    go true = below-le (members w) 16 (r / 2 % countBelow (members w) 16) (omega arith)
+    go true = rw (number-else (memberBelow (members w) 16 (r / 2 % countBelow (members w) 16))) (below-le (members w) 16 16 (r / 2 % countBelow (members w) 16) (omega arith))
     go false = omega arith

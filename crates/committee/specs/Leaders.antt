@@ -2,20 +2,12 @@
 use mathlib.Core.Bool.{Bool, _&&_, cond}
 use mathlib.Core.List.{List}
 use mathlib.Core.Option.{Option, none, some}
-use Prim.Native.Nat.{ℕ, zero, suc, _/_, _%_}
+use Prim.Native.Nat.{ℕ, _/_, _%_}
 use lib.Dec.{eqb, leb, ltb}
-use Rattle.base.specs.Folds.{foldTo, sumTo}
+use Rattle.base.specs.Folds.{foldTo}
 use Rattle.base.specs.Sets.{add}
+use Rattle.positions.specs.Positions.{countBelow, memberBelow}
 use Rattle.sheet.specs.Ranges.{weightIn}
-
--- how many of the set are below n
-unfoldable pub countBelow : (ℕ → Bool) → ℕ → ℕ
-countBelow set n = sumTo (λ i. cond (set i) 1 0) n
-
--- the one below n of the set at position k, counted from 0 by rising number
-unfoldable pub memberBelow : (ℕ → Bool) → ℕ → ℕ → Option ℕ
-memberBelow set zero k = none
-memberBelow set (suc n) k = cond (set n && eqb (countBelow set n) k) (some n) (memberBelow set n k)
 
 -- the member at position k of a set
 unfoldable pub memberAt : (ℕ → Bool) → ℕ → Option ℕ

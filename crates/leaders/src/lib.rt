@@ -15,21 +15,33 @@ fn fill_rounds(
     blocks: u32,
     m: Round,
     top: Round,
+    places: &[u8; 2048],
     w: &mut [u64; 16],
     starts: &mut [u32; 512],
     l: &mut [u32; 1025],
 )
-    requires { ⌜ WalkStart s (now t) blocks (now head) (now next) (now w) (now starts) × RoundSpan (m .0) (top .0) ⌝ }
+    requires { ⌜ WalkStart s (now t) blocks (now head) (now next) (now places) (now w) (now starts) × RoundSpan (m .0) (top .0) ⌝ }
     ensures { λ _. ⌜ LeadersFilled s (chainOf (s .ceiling .0) (now (t .entry)) blocks) (m .0) (top .0) (now (l .entry)) (now (l .exit)) (now (w .exit)) ⌝ }
 {
     let mut x = running::none();
     for q in m.0..top.0 {
         let r = Round(q + 1);
-        x = running::reach_round(t, head, next, s, blocks, x, r, w, starts);
-        let a = weighing::leader::leader(w, r);
+        x = running::reach_round(t, head, next, s, blocks, x, r, places, w, starts);
+        let a = weighing::leader::leader(places, w, r);
         l[q as usize + 1] = a.0;
     }
-    running::reach_round(t, head, next, s, blocks, x, Round(top.0 + 1), w, starts);
+    running::reach_round(
+        t,
+        head,
+        next,
+        s,
+        blocks,
+        x,
+        Round(top.0 + 1),
+        places,
+        w,
+        starts,
+    );
 }
 
 // The same, where next has a word for each place; gives that committee.
@@ -50,7 +62,20 @@ fn filled_by(
     let mut head = [end; 512];
     changes::links::link_rows(t, &mut head, next, s.ceiling);
     let mut starts = [16u32; 512];
-    fill_rounds(t, &head, next, s, blocks, m, top, &mut w, &mut starts, l);
+    let places = positions::places();
+    fill_rounds(
+        t,
+        &head,
+        next,
+        s,
+        blocks,
+        m,
+        top,
+        &places,
+        &mut w,
+        &mut starts,
+        l,
+    );
     w
 }
 

@@ -118,7 +118,8 @@ fn listed_by(
     let mut head = [end; 512];
     changes::links::link_rows(t, &mut head, next, s.ceiling);
     let mut starts = [16u32; 512];
-    running::starts::all_starts(t, &head, next, s, blocks, &mut starts);
+    let places = positions::places();
+    running::starts::all_starts(t, &head, next, s, blocks, &places, &mut starts);
     list_blocks(t, &head, next, s, blocks, &starts, out, at)
 }
 

@@ -31,7 +31,8 @@ use Rattle.sheet.specs.Sheets.{blankWeight, weightAt, filled, marginOf}
 use Rattle.sheet.specs.Ranges.{notWithin, outOfRange, weightless, weightIn}
 use Rattle.committee.specs.Changes.{changes, changesOf, row, rows}
 use Rattle.committee.specs.Committees.{committeeBy, leaderBy, stepFrom, bondedFrom, committeeOf, startOf, ordered, knownBy, boundOf, quorumWeight, outsider, short, quorum}
-use Rattle.committee.specs.Leaders.{countBelow, memberBelow, memberAt, leaderOf}
+use Rattle.positions.specs.Positions.{countBelow, memberBelow}
+use Rattle.committee.specs.Leaders.{memberAt, leaderOf}
 use Rattle.rules.specs.Tests.{committeeIn, badRound, signersOf, above, unknown, missing, unvoted}
 use Rattle.rules.specs.Calls.{ruledRefusal, after, result}
 use Rattle.rules.proofs.Runs.{Group, viewAfter, chainAfter}

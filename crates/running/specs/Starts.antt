@@ -4,6 +4,7 @@ use mathlib.Core.List.{List}
 use Prim.Native.Nat.{ℕ, _+_, _<_, _≤_}
 use lib.ListN.{getD, length}
 use Rattle.store.specs.Table.{blockRound}
+use Rattle.positions.specs.Places.{placeTable}
 use Rattle.sheet.specs.declared.Settings.{Settings}
 use Rattle.changes.specs.BlockChanges.{startAt, lastRound}
 use Rattle.changes.specs.ChainInTable.{ChainInTable, AfterBlocks}
@@ -22,9 +23,10 @@ pub record Running (S : Settings) (t : List ℕ) (blocks q : ℕ) (x : Applied) 
   pub after : AfterBlocks S t blocks q (x .blocks) w
   pub started : Started S t blocks (x .blocks) (x .starts) starts
 
--- a block comes after the first k, and w is the running committee before it
-pub record BeforeBlock (S : Settings) (t : List ℕ) (blocks k f : ℕ) (w starts : List ℕ) : Type 0 where
+-- a block comes after the first k, w is the running committee before it, and places is the table of members by position
+pub record BeforeBlock (S : Settings) (t : List ℕ) (blocks k f : ℕ) (places w starts : List ℕ) : Type 0 where
   pub chain : ChainInTable S t blocks
+  pub positions : places ≡ placeTable
   pub more : k < blocks
   pub after : AfterBlocks S t blocks 1024 k w
   pub started : Started S t blocks k f starts

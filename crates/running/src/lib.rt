@@ -35,10 +35,11 @@ fn fill_starts(
     blocks: u32,
     k: u32,
     f: u32,
+    places: &[u8; 2048],
     w: &[u64; 16],
     starts: &mut [u32; 512],
 ) -> u32
-    requires { ⌜ BeforeBlock s (now t) blocks k f (now w) (now starts) ⌝ }
+    requires { ⌜ BeforeBlock s (now t) blocks k f (now places) (now w) (now starts) ⌝ }
     ensures { λ v. ⌜ StartsAhead s (now (t .entry)) blocks k v (now (starts .exit)) ⌝ }
 {
     let at = store::block_round(t, k + 1);
@@ -48,7 +49,7 @@ fn fill_starts(
         if s.lookback < r.0 - at.0 {
             return i;
         }
-        let a = weighing::leader::leader(w, r);
+        let a = weighing::leader::leader(places, w, r);
         starts[i as usize] = a.0;
         i += 1;
     }
@@ -63,14 +64,15 @@ pub fn apply_next(
     s: Settings,
     blocks: u32,
     x: Applied,
+    places: &[u8; 2048],
     w: &mut [u64; 16],
     starts: &mut [u32; 512],
 ) -> Applied
-    requires { ⌜ Walking s (now t) blocks 1024 x (now head) (now next) (now w) (now starts) × (x .blocks < blocks) ⌝ }
+    requires { ⌜ Walking s (now t) blocks 1024 x (now head) (now next) (now places) (now w) (now starts) × (x .blocks < blocks) ⌝ }
     ensures { λ v. ⌜ (v .blocks ≡ x .blocks + 1) × Running s (now (t .entry)) blocks 1024 v (now (w .exit)) (now (starts .exit)) ⌝ }
 {
     let k = x.blocks;
-    let f = fill_starts(t, s, blocks, k, x.starts, w, starts);
+    let f = fill_starts(t, s, blocks, k, x.starts, places, w, starts);
     let a = Member(starts[k as usize]);
     changes::block::apply_block(t, head, next, k + 1, a, s.ceiling, w);
     Applied {
@@ -88,10 +90,11 @@ fn apply_below(
     blocks: u32,
     x: Applied,
     q: Round,
+    places: &[u8; 2048],
     w: &mut [u64; 16],
     starts: &mut [u32; 512],
 ) -> Applied
-    requires { ⌜ Walking s (now t) blocks (q .0 - 1) x (now head) (now next) (now w) (now starts) × (1 ≤ q .0) ⌝ }
+    requires { ⌜ Walking s (now t) blocks (q .0 - 1) x (now head) (now next) (now places) (now w) (now starts) × (1 ≤ q .0) ⌝ }
     ensures { λ v. ⌜ Running s (now (t .entry)) blocks (q .0 - 1) v (now (w .exit)) (now (starts .exit)) × (now (w .exit) ≡ bondedFrom s (chainOf (s .ceiling .0) (now (t .entry)) blocks) (q .0)) ⌝ }
 {
     let mut y = x;
@@ -100,7 +103,7 @@ fn apply_below(
         if q.0 <= r.0 {
             return y;
         }
-        y = apply_next(t, head, next, s, blocks, y, w, starts);
+        y = apply_next(t, head, next, s, blocks, y, places, w, starts);
     }
     y
 }
@@ -114,10 +117,11 @@ pub fn reach_round(
     blocks: u32,
     x: Applied,
     r: Round,
+    places: &[u8; 2048],
     w: &mut [u64; 16],
     starts: &mut [u32; 512],
 ) -> Applied
-    requires { ⌜ Walking s (now t) blocks (r .0 - s .lookback - 1) x (now head) (now next) (now w) (now starts) ⌝ }
+    requires { ⌜ Walking s (now t) blocks (r .0 - s .lookback - 1) x (now head) (now next) (now places) (now w) (now starts) ⌝ }
     ensures { λ v. ⌜ Running s (now (t .entry)) blocks (r .0 - s .lookback - 1) v (now (w .exit)) (now (starts .exit)) × (now (w .exit) ≡ committeeOf s (chainOf (s .ceiling .0) (now (t .entry)) blocks) (r .0)) ⌝ }
 {
     if r.0 <= s.lookback {
@@ -131,6 +135,7 @@ pub fn reach_round(
         blocks,
         x,
         Round(r.0 - s.lookback),
+        places,
         w,
         starts,
     )

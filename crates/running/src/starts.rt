@@ -14,14 +14,15 @@ pub fn all_starts(
     next: &[u32],
     s: Settings,
     blocks: u32,
+    places: &[u8; 2048],
     starts: &mut [u32; 512],
 )
-    requires { ⌜ ChainLinked s (now t) blocks (now head) (now next) × Started s (now t) blocks 0 0 (now starts) ⌝ }
+    requires { ⌜ ChainLinked s (now t) blocks (now head) (now next) (now places) × Started s (now t) blocks 0 0 (now starts) ⌝ }
     ensures { λ _. ⌜ ((i : ℕ) → i < blocks → getD (now (starts .exit)) i 0 ≡ startAt s (now (t .entry)) i) ⌝ }
 {
     let mut w = s.weights;
     let mut x = crate::none();
     while x.starts < blocks {
-        x = crate::apply_next(t, head, next, s, blocks, x, &mut w, starts);
+        x = crate::apply_next(t, head, next, s, blocks, x, places, &mut w, starts);
     }
 }

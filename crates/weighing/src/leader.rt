@@ -2,11 +2,12 @@
 use terms::Member;
 use terms::Round;
 ghost use mathlib.Core.Path.{_≡_};
-ghost use mathlib.Core.Bool.{cond};
 ghost use Prim.Native.Nat.{_<_};
 ghost use Rattle.base.specs.Sets.{isIn};
 ghost use Rattle.sheet.specs.Ranges.{weightIn};
-ghost use Rattle.committee.specs.Leaders.{countBelow, memberAt, members, joined, memberSet, leaderOf, leaderNumber};
+ghost use Rattle.positions.specs.Positions.{countBelow};
+ghost use Rattle.positions.specs.Places.{placeTable};
+ghost use Rattle.committee.specs.Leaders.{memberAt, joined, memberSet, leaderOf, leaderNumber};
 
 // The set, with the member if it has a weight.
 fn join(w: &[u64; 16], set: u32, m: Member) -> u32
@@ -30,44 +31,32 @@ fn member_set(w: &[u64; 16]) -> u32
     set
 }
 
-// 1 for a member of the set.
-fn one(set: u32, m: Member) -> u32
-    requires { ⌜ m .0 < 16 ⌝ }
-    ensures { λ v. ⌜ v ≡ cond (isIn set (m .0)) 1 0 ⌝ }
-{
-    if base::has(set, m.0) {
-        return 1;
-    }
-    0
-}
-
 // How many are in the set.
 fn size(set: u32) -> u32
     ensures { λ v. ⌜ v ≡ countBelow (isIn set) 16 ⌝ }
 {
-    let mut n: u32 = 0;
-    for i in 0..16u32 {
-        n += one(set, Member(i));
-    }
-    n
+    u32::count_ones(set % 65536)
 }
 
-// The member at position k of the set, counted from 0 by rising number; 16 for none.
-pub fn member_at(set: u32, k: u32) -> Member
+// The member at position k of the set, counted from 0 by rising number; 16 for none. The upper half uses the same table as the lower one.
+pub fn member_at(places: &[u8; 2048], set: u32, k: u32) -> Member
+    requires { ⌜ now places ≡ placeTable ⌝ }
     ensures { λ v. ⌜ v .0 ≡ leaderNumber (memberAt (isIn set) k) ⌝ }
 {
-    let mut passed: u32 = 0;
-    for i in 0..16u32 {
-        passed += one(set, Member(i));
-        if k < passed {
-            return Member(i);
-        }
+    let low = set % 256;
+    let n = u32::count_ones(low);
+    if k < n {
+        return Member(positions::member_in(places, low, k));
     }
-    Member(16)
+    if n + 8 <= k {
+        return Member(16);
+    }
+    Member(8 + positions::member_in(places, set / 256 % 256, k - n))
 }
 
 // The leader of round r, 16 for none.
-pub fn leader(w: &[u64; 16], r: Round) -> Member
+pub fn leader(places: &[u8; 2048], w: &[u64; 16], r: Round) -> Member
+    requires { ⌜ now places ≡ placeTable ⌝ }
     ensures { λ v. ⌜ v .0 ≡ leaderNumber (leaderOf (weightIn (now (w .entry))) (r .0)) ⌝ }
 {
     if r.0 % 2 != 0 {
@@ -81,5 +70,5 @@ pub fn leader(w: &[u64; 16], r: Round) -> Member
     if n == 0 {
         return Member(16);
     }
-    member_at(set, r.0 / 2 % n)
+    member_at(places, set, r.0 / 2 % n)
 }

@@ -7,25 +7,31 @@ use borrow.Author.Needs.{needs}
 use Rattle.bonded.proofs.walked.Statement.{statement}
 use Rattle.bonded.proofs.walked.Tie as tie
 
--- the places that the proofs speak of, each seen from the next: the table's words known, the rows linked, none applied, the round before known, one committee walked to
+-- the places that the proofs speak of, each seen from the next: the table's words known, the rows linked, the positions made, none applied, the round before known, one committee walked to
 abbrev words : tie.After-link-rows-arg → tie.After-shared-slice-known
 words c = c .before .before .before .before .before
 
-abbrev linked : tie.After-none → tie.After-link-rows
+abbrev linked : tie.After-places → tie.After-link-rows
 linked c = c .before .before .before
+
+abbrev made : tie.After-none → tie.After-places
+made c = c .before
 
 abbrev none : tie.After-round-before → tie.After-none
 none c = c .before .before .before
 
 abbrev rounded : tie.After-starts → tie.After-round-before
-rounded c = c .before .before
+rounded c = c .before .before .before
 
 abbrev once : tie.After-starts2 → tie.After-reach-round
-once c = c .before .before .before .before
+once c = c .before .before .before .before .before
 
--- the first two, as the first `reach-round` sees them
+-- the first three, as the first `reach-round` sees them
+abbrev places : tie.After-starts → tie.After-places
+places c = made (none (rounded c))
+
 abbrev links : tie.After-starts → tie.After-link-rows
-links c = linked (none (rounded c))
+links c = linked (places c)
 
 abbrev known : tie.After-starts → tie.After-shared-slice-known
 known c = words (links c .before)
@@ -39,6 +45,9 @@ add-end c = search needs
 link-rows-requires : tie.Need-link-rows-requires
 link-rows-requires c κs = let p = words c .before .pre in (record { long = p .chain .long; round = p .chain .ceiling }, links-start _ _ _ (p .places))
 
+places-requires : tie.Need-places-requires
+places-requires c κs = search needs
+
 none-requires : tie.Need-none-requires
 none-requires c κs = search needs
 
@@ -48,7 +57,7 @@ round-before-requires c κs = search needs
 reach-round-requires : tie.Need-reach-round-requires
 reach-round-requires c κs =
     record {
-      linked = record { chain = known c .before .pre .chain; links = links c .link-rows .ensures };
+      linked = record { chain = known c .before .pre .chain; links = links c .link-rows .ensures; positions = places c .places .ensures };
       running = running-none _ (none (rounded c) .none .ensures) refl (started-none 16);
     }
 
@@ -57,12 +66,12 @@ reach-round-requires-2 c κs =
     let x = once c in
     let b = x .before in
     record {
-      linked = record { chain = known b .before .pre .chain; links = links b .link-rows .ensures };
+      linked = record { chain = known b .before .pre .chain; links = links b .link-rows .ensures; positions = places b .places .ensures };
       running = running-up _ (omega (arith, rounded b .round-before .ensures)) (x .reach-round .ensures .0);
     }
 
 same-length : tie.Need-same-length
-same-length c = search needs
+same-length c = links (once (c .before) .before) .link-rows .kept .1 .1 .0
 
 returns : tie.Need-returns
 returns c =
@@ -85,6 +94,7 @@ walked-spec =
     mul-end
     add-end
     link-rows-requires
+    places-requires
     none-requires
     round-before-requires
     reach-round-requires

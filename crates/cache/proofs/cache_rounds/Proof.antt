@@ -23,10 +23,10 @@ record RoundsCached (S : Settings) (t : List ℕ) (blocks first q-end : ℕ) (ca
   size : length cache ≡ length cache₀
 
 abbrev Inv-loop : tie.InvT-loop
-Inv-loop t head next s blocks first w₀ starts₀ cache₀ x₀ q₀ q-end w starts cache x q = RoundsCached s t blocks (first .0) q-end cache₀ w starts cache x q
+Inv-loop t head next s blocks first places w₀ starts₀ cache₀ x₀ q₀ q-end w starts cache x q = RoundsCached s t blocks (first .0) q-end cache₀ w starts cache x q
 
 abbrev μ-loop : tie.MeasureT-loop
-μ-loop t head next s blocks first w₀ starts₀ cache₀ x₀ q₀ q-end w starts cache x q = q-end - q
+μ-loop t head next s blocks first places w₀ starts₀ cache₀ x₀ q₀ q-end w starts cache x q = q-end - q
 
 cast-cache : tie.Need-cast-cache Inv-loop μ-loop
 cast-cache c = search needs

@@ -14,11 +14,15 @@ add-end c = search needs
 link-rows-requires : tie.Need-link-rows-requires
 link-rows-requires c κs = let p = c .before .before .before .before .before .before .before .pre in (record { long = p .0 .chain .long; round = p .0 .chain .ceiling }, links-start _ _ _ (p .0 .places))
 
+places-requires : tie.Need-places-requires
+places-requires c κs = search needs
+
 cache-rounds-requires : tie.Need-cache-rounds-requires
 cache-rounds-requires c κs =
-    let l = c .before .before .before .before .before .before .before in
+    let p = c .before .before .before .before .before .before in
+    let l = p .before .before .before in
     let s = l .before .before .before .before .before .before .before .before in
-    (record { linked = record { chain = s .pre .0 .chain; links = l .link-rows .ensures }; weights = refl; started = started-none 16 }, s .pre .1, s .pre .2)
+    (record { linked = record { chain = s .pre .0 .chain; links = l .link-rows .ensures; positions = p .places .ensures }; weights = refl; started = started-none 16 }, s .pre .1, s .pre .2)
 
 same-length : tie.Need-same-length
 same-length c = search needs
@@ -36,6 +40,7 @@ fill-cache-with-spec =
     mul-end
     add-end
     link-rows-requires
+    places-requires
     cache-rounds-requires
     same-length
     same-length-2

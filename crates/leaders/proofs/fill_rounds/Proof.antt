@@ -23,10 +23,10 @@ record LeadersTo (S : Settings) (t : List ℕ) (blocks q₀ q-end : ℕ) (l₀ w
   leaders : l ≡ fillTo (leaderAt S (chainOf (S .ceiling .0) t blocks)) q₀ (q - q₀) l₀
 
 abbrev Inv-loop : tie.InvT-loop
-Inv-loop t head next s blocks top w₀ starts₀ l₀ x₀ q₀ q-end w starts l x q = LeadersTo s t blocks q₀ q-end l₀ w starts l x q
+Inv-loop t head next s blocks top places w₀ starts₀ l₀ x₀ q₀ q-end w starts l x q = LeadersTo s t blocks q₀ q-end l₀ w starts l x q
 
 abbrev μ-loop : tie.MeasureT-loop
-μ-loop t head next s blocks top w₀ starts₀ l₀ x₀ q₀ q-end w starts l x q = q-end - q
+μ-loop t head next s blocks top places w₀ starts₀ l₀ x₀ q₀ q-end w starts l x q = q-end - q
 
 none-requires : tie.Need-none-requires Inv-loop μ-loop
 none-requires c κs = search needs
@@ -36,8 +36,8 @@ loop-holds c =
     let p = c .before .before .before .pre in
     record { from = omega arith; to = omega (arith, p .1 .from); running = running-none _ (c .none .ensures) (p .0 .weights) (p .0 .started); leaders = fill-none _ _ _ }
 
-add-t17 : tie.Need-add-t17 Inv-loop μ-loop
-add-t17 c = search needs
+add-t18 : tie.Need-add-t18 Inv-loop μ-loop
+add-t18 c = search needs
 
 reach-round-requires : tie.Need-reach-round-requires Inv-loop μ-loop
 reach-round-requires c κs =
@@ -78,8 +78,8 @@ loop-again c =
       leaders = rw (fill-more _ _ _ _ (q .inv .from), ← d .1, ← c .leader .ensures, ← q .inv .leaders) refl;
     }
 
-add-t27 : tie.Need-add-t27 Inv-loop μ-loop
-add-t27 c = search needs
+add-t28 : tie.Need-add-t28 Inv-loop μ-loop
+add-t28 c = search needs
 
 reach-round-requires-2 : tie.Need-reach-round-requires-2 Inv-loop μ-loop
 reach-round-requires-2 c κs =
@@ -108,7 +108,7 @@ fill-rounds-spec =
     μ-loop
     none-requires
     loop-holds
-    add-t17
+    add-t18
     reach-round-requires
     leader-requires
     cast-l
@@ -118,6 +118,6 @@ fill-rounds-spec =
     add-q
     loop-less
     loop-again
-    add-t27
+    add-t28
     reach-round-requires-2
     returns)

@@ -16,6 +16,9 @@ add-end c = search needs
 link-rows-requires : tie.Need-link-rows-requires
 link-rows-requires c κs = let p = c .before .before .before .before .before .before .pre in (record { long = p .chain .long; round = p .chain .ceiling }, links-start _ _ _ (p .words))
 
+places-requires : tie.Need-places-requires
+places-requires c κs = search needs
+
 all-starts-requires : tie.Need-all-starts-requires
 all-starts-requires c κs = search needs
 
@@ -30,7 +33,7 @@ same-length-2 c = search needs
 
 returns : tie.Need-returns
 returns c =
-    let a = c .before .before .before .before .before .before .before .before .before .before .before .before .before .before .before .before .before .before .before .before .args in
+    let a = c .before .before .before .before .before .before .before .before .before .before .before .before .before .before .before .before .before .before .before .before .before .before .args in
     puts-as refl (omega (arith, count-all (a .s .ceiling .0) (a .t .now) (a .blocks))) (c .before .before .list-blocks .ensures)
 
 pub listed-by-spec : {M : Type 1} → statement M
@@ -40,6 +43,7 @@ listed-by-spec =
     mul-end
     add-end
     link-rows-requires
+    places-requires
     all-starts-requires
     list-blocks-requires
     same-length

@@ -8,10 +8,10 @@ use Rattle.running.proofs.apply_below.Statement.{statement}
 use Rattle.running.proofs.apply_below.Tie as tie
 
 abbrev Inv-loop : tie.InvT-loop
-Inv-loop t head next s blocks q w₀ starts₀ y₀ w starts y = Running s t blocks (q .0 - 1) y w starts
+Inv-loop t head next s blocks q places w₀ starts₀ y₀ w starts y = Running s t blocks (q .0 - 1) y w starts
 
 abbrev μ-loop : tie.MeasureT-loop
-μ-loop t head next s blocks q w₀ starts₀ y₀ w starts y = blocks - y .blocks
+μ-loop t head next s blocks q places w₀ starts₀ y₀ w starts y = blocks - y .blocks
 
 loop-holds : tie.Need-loop-holds Inv-loop μ-loop
 loop-holds c = c .before .before .pre .0 .running

@@ -38,8 +38,8 @@ apply-block-requires c κs =
       total = rw (p .running .after .weights) (omega arith);
     }
 
-add-t18 : tie.Need-add-t18
-add-t18 c = search needs
+add-t19 : tie.Need-add-t19
+add-t19 c = search needs
 
 returns : tie.Need-returns
 returns c =
@@ -58,5 +58,5 @@ apply-next-spec =
     element-copy-out-apply-block
     add-apply-block
     apply-block-requires
-    add-t18
+    add-t19
     returns)

@@ -8,10 +8,10 @@ use Rattle.running.proofs.fill_starts.Statement.{statement}
 use Rattle.running.proofs.fill_starts.Tie as tie
 
 abbrev Inv-loop : tie.InvT-loop
-Inv-loop t s blocks k f w starts₀ at i₀ starts i = Started s t blocks k i starts
+Inv-loop t s blocks k f places w starts₀ at i₀ starts i = Started s t blocks k i starts
 
 abbrev μ-loop : tie.MeasureT-loop
-μ-loop t s blocks k f w starts₀ at i₀ starts i = blocks - i
+μ-loop t s blocks k f places w starts₀ at i₀ starts i = blocks - i
 
 add-block-round : tie.Need-add-block-round Inv-loop μ-loop
 add-block-round c = search needs

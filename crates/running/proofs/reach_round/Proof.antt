@@ -14,8 +14,8 @@ returns c =
     let e : a .r .0 - a .s .lookback - 1 ≡ 0 = omega arith in
     (p .running, rw (committee-start (a .s) _ (a .r .0) (c .if1 .taken)) (after-first (p .linked .chain) (rw e at (p .running .after))))
 
-sub-t11 : tie.Need-sub-t11
-sub-t11 c = search needs
+sub-t12 : tie.Need-sub-t12
+sub-t12 c = search needs
 
 apply-below-requires : tie.Need-apply-below-requires
 apply-below-requires c κs = search needs
@@ -24,4 +24,4 @@ returns-2 : tie.Need-returns-2
 returns-2 c = let a = c .before .before .before .before .before .before .before .before .before .before .args in (c .apply-below .ensures .0, rw (committee-bonded (a .s) _ (a .r .0) (c .before .before .before .before .before .if1 .left)) (c .apply-below .ensures .1))
 
 pub reach-round-spec : {M : Type 1} → statement M
-reach-round-spec = tie.close (tie.spec returns sub-t11 apply-below-requires returns-2)
+reach-round-spec = tie.close (tie.spec returns sub-t12 apply-below-requires returns-2)

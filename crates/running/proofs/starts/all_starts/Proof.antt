@@ -8,10 +8,10 @@ use Rattle.running.proofs.starts.all_starts.Statement.{statement}
 use Rattle.running.proofs.starts.all_starts.Tie as tie
 
 abbrev Inv-loop : tie.InvT-loop
-Inv-loop t head next s blocks starts₀ w₀ x₀ starts w x = Running s t blocks 1024 x w starts
+Inv-loop t head next s blocks places starts₀ w₀ x₀ starts w x = Running s t blocks 1024 x w starts
 
 abbrev μ-loop : tie.MeasureT-loop
-μ-loop t head next s blocks starts₀ w₀ x₀ starts w x = blocks - x .blocks
+μ-loop t head next s blocks places starts₀ w₀ x₀ starts w x = blocks - x .blocks
 
 none-requires : tie.Need-none-requires Inv-loop μ-loop
 none-requires c κs = search needs
