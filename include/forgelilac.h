@@ -196,7 +196,7 @@ uint32_t forgelilac_accept(const uint32_t *state, size_t state_words,
  * another. An empty row is accepted. Refused: nothing is tried. 1, 25. */
 uint32_t forgelilac_batch(const uint32_t *state, size_t state_words,
                           uint32_t *table, size_t table_words,
-                          const struct forgelilac_certificate *row, size_t row_records,
+                          const struct forgelilac_certificate *row, size_t row_count,
                           uint32_t *answers, size_t answers_words);
 /* Goes on to the next round. Accepted: the proposal is dropped. 1, 18. */
 uint32_t forgelilac_advance(uint32_t *state, size_t state_words,

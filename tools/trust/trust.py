@@ -3,7 +3,7 @@
 They are what these unfold to, types as well as bodies:
   - the contracts of the functions that hosts link (marked #[no_mangle]),
   - the contracts of the runner that say which bytes are read, and which are written for them (RUNNER),
-  - the types of the theorems of demand 3 and of batches (THEOREMS), and the file of the first's statement (STATEMENT).
+  - the types of the theorem of demand 3 and of those of batches (THEOREM, BATCHES), and the file of the first's statement (STATEMENT).
 A law is never followed: whatever it says is proved. How laws are told from definitions stands in tree.py.
 
 The list is in reading order, bottom up: files in the order in which they use one another, each file from top to bottom,
@@ -32,9 +32,9 @@ import tree
 
 HOST = "no_mangle"
 RUNNER = ["passes::run", "passes::conclude", "channel::more", "channel::flush"]
-THEOREMS = ["nonforking.Theorem.demand-3", "submissions.SubmissionLaws.demand-3-with-batches", "submissions.SubmissionLaws.leaves-as-its-calls",
-            "turns.OrderLaws.each-has-one-turn", "batch.AgainLaws.eleven-again-or-seventeen",
-            "batching.ClaimLaws.answered-as-accept", "batching.ClaimLaws.offered-again"]
+THEOREM = "nonforking.Theorem.demand-3"
+BATCHES = ["turns.OrderLaws.each-has-one-turn", "batch.AgainLaws.eleven-again-or-seventeen", "batching.ClaimLaws.answered-as-accept", "batching.ClaimLaws.offered-again",
+           "submissions.SubmissionLaws.leaves-as-its-calls", "submissions.SubmissionLaws.demand-3-with-batches"]
 STATEMENT = "nonforking.Statement"
 PAGE = "docs/TRUST.md"
 README = "README.md"
@@ -58,7 +58,7 @@ A proof says that code does what a definition says. Whether the definition says 
 
 ## How to read it
 
-The list is bottom up: whatever a definition uses stands above it, in its own file or in one above. To read top down, start at the roots and look each name up. Behind a name stands the number of its lines without comments; `(h)`, `(r)`, `(3)` say that the host's contracts, the runner's, or demand 3 and the claims of batches unfold to it. A file under `src/` has types that the code declares; contracts see them as records and cases.
+The list is bottom up: whatever a definition uses stands above it, in its own file or in one above. To read top down, start at the roots and look each name up. Behind a name stands the number of its lines without comments; `(h)`, `(r)`, `(3)`, `(b)` say that the host's contracts, the runner's, demand 3, or the claims of batches unfold to it. A file under `src/` has types that the code declares; contracts see them as records and cases.
 """
 
 
@@ -66,7 +66,7 @@ class List:
     def __init__(self, forest):
         self.tree = forest
         self.items, self.marks, self.why, self.laws, self.library = {}, {}, {}, {}, {}
-        self.roots = {"h": self.host_roots(), "r": self.runner_roots(), "3": self.demand_roots()}
+        self.roots = {"h": self.host_roots(), "r": self.runner_roots(), "3": self.demand_roots(), "b": self.theorem_roots(BATCHES)}
         for mark, roots in self.roots.items():
             for name, found in roots:
                 self.follow(found, mark, name)
@@ -117,18 +117,21 @@ class List:
                 return module
         return None
 
-    def demand_roots(self):
+    def theorem_roots(self, names):
         roots = []
-        for name in THEOREMS:
+        for name in names:
             module = self.module_named(name.rpartition(".")[0])
             theorem = module and module.table.get(name.rpartition(".")[2])
             if not theorem:
                 sys.exit(f"trust.py: {name} is not there: mend the roots at the top")
             roots += [(name, self.tree.lookup(module, parts)) for parts in self.tree.used(theorem).type]
+        return roots
+
+    def demand_roots(self):
         statement = self.module_named(STATEMENT)
         if not statement:
             sys.exit(f"trust.py: {STATEMENT} is not there: mend the roots at the top")
-        return roots + [(STATEMENT, item) for item in statement.items if self.tree.kind(item) != "law"]
+        return self.theorem_roots([THEOREM]) + [(STATEMENT, item) for item in statement.items if self.tree.kind(item) != "law"]
 
     # ---- what roots unfold to
 
@@ -244,14 +247,14 @@ def summary(totals):
     return [f"{totals['definitions']} definitions, {totals['lines']} lines ({totals['with comments']} with their comments): "
             f"{totals['share']:.0f} % of the lines of specs/ ({roughly(totals['every'])}).",
             f"{totals['declared']} types that the code declares, {totals['declared lines']} lines.",
-            f"Of the definitions the host's contracts unfold to {totals['h']}, the runner's to {totals['r']}, demand 3 to {totals['3']}."]
+            f"Of the definitions the host's contracts unfold to {totals['h']}, the runner's to {totals['r']}, demand 3 to {totals['3']}, the claims of batches to {totals['b']}."]
 
 
 def printed(listing):
     for path, _, items in listing.files():
         print(path)
         for item in items:
-            print(f"  {item.start:4} {listing.lines(item):3}  ({', '.join(sorted(listing.marks[id(item)], key='hr3'.index))}) "
+            print(f"  {item.start:4} {listing.lines(item):3}  ({', '.join(sorted(listing.marks[id(item)], key='hr3b'.index))}) "
                   f"{', '.join(item.names)}{described(item)}")
     print()
     print("\n".join(summary(listing.totals())))
@@ -259,7 +262,7 @@ def printed(listing):
 
 def page(listing):
     text = [HEAD.replace("{specs}", specs_held(listing)).replace("{kit}", KIT), "## Roots\n"]
-    for mark, what in (("h", "the host's contracts"), ("r", "the runner's contracts"), ("3", "demand 3")):
+    for mark, what in (("h", "the host's contracts"), ("r", "the runner's contracts"), ("3", "demand 3"), ("b", "the claims of batches")):
         names = dict.fromkeys(name for name, _ in listing.roots[mark])
         text.append(f"- ({mark}) {what}: {', '.join(f'`{name}`' for name in names)}")
     text.append("")
@@ -271,7 +274,7 @@ def page(listing):
         about = getattr(file, "comment", "")
         text.append(f"### {path}\n" + (f"\n{about}\n" if about else ""))
         for item in items:
-            marks = " ".join(f"({mark})" for mark in "hr3" if mark in listing.marks[id(item)])
+            marks = " ".join(f"({mark})" for mark in "hr3b" if mark in listing.marks[id(item)])
             names = ", ".join(f"`{name}`" for name in item.names)
             text.append(f"- {names} {listing.lines(item)} {marks}{described(item)}")
         text.append("")

@@ -46,7 +46,7 @@ mod abi {
         ) -> u32;
         pub fn forgelilac_batch(
             state: *const u32, state_words: usize, table: *mut u32, table_words: usize,
-            row: *const CertificateRecord, row_records: usize, answers: *mut u32, answers_words: usize,
+            row: *const CertificateRecord, row_count: usize, answers: *mut u32, answers_words: usize,
         ) -> u32;
         pub fn forgelilac_advance(
             state: *mut u32, state_words: usize, table: *const u32, table_words: usize,

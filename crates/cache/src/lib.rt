@@ -103,7 +103,7 @@ pub fn committee(cache: &[u64], t: &[u32], s: Settings, blocks: u32, r: Round) -
     bonded::committee_of(t, s, blocks, r)
 }
 
-// The rounds from q up to the ceiling, going up with one running committee; w is the starting one.
+// The rounds from the first up to the ceiling, going up with one running committee; w is the starting one.
 fn cache_rounds(
     t: &[u32],
     head: &[u32; 512],

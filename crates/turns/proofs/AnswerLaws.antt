@@ -1,17 +1,14 @@
--- Laws of what turns leave and answer: over parts of a list, at a place's own turn, and for two rows that agree.
+-- Laws of what turns leave and answer: over parts of a list and at a place's own turn.
 use mathlib.Core.Path.{_≡_, refl, sym, ap, _∙_, subst}
 use mathlib.Core.Bool.{Bool, true, false, cond}
 use mathlib.Core.List.{List, [], _∷_, _++_}
-use mathlib.Core.Option.{Option, none, some}
-use Prim.Native.Nat.{ℕ, zero, suc, _+_, _<_}
+use Prim.Native.Nat.{ℕ, _+_, _<_}
 use native.Mathlib.Decide.{decLt}
 use native.Mathlib.Omega.{arith}
 use lib.Dec.{eqb}
 use borrow.Author.Tests.{eq-eqb, eqb-true}
-use Rattle.base.specs.Options.{ifThere}
-use Rattle.turns.specs.Turns.{Key, but, firstOf, inTurn, leaves, answerTo}
+use Rattle.turns.specs.Turns.{Key, leaves, answerTo}
 use Rattle.turns.specs.Order.{times, earlier, EarlierThan, InOrder, OneTurnEach}
-use Rattle.turns.proofs.OrderLaws.{first-of}
 
 -- ---- parts of a list of turns
 
@@ -110,30 +107,3 @@ module _ {keys : ℕ → Key} {n : ℕ} {all : List ℕ} (o : OneTurnEach keys n
     -- those after it are later
     pub turn-later : (k : List ℕ) (i : ℕ) (j : List ℕ) → m ≡ k ++ (i ∷ j) → earlier keys p i ≡ true
     turn-later k i j f = earlier-at keys p k i j (subst (EarlierThan keys p) f (order-latter keys l (p ∷ m) (subst (InOrder keys) e (o .in-order)) .0))
-
--- ---- rows that agree below n
-
--- each of a list is below n
-abbrev pub Below : ℕ → List ℕ → Type 0
-Below n [] = Unit {0}
-Below n (p ∷ l) = (p < n) × Below n l
-
-pub in-turn-below : (keys : ℕ → Key) (n j : ℕ) (left : ℕ → Bool) → Below n (inTurn keys n j left)
-unfolding inTurn
-in-turn-below keys n zero left = tt
-in-turn-below keys n (suc j) left = go (firstOf keys left n) refl (λ left. in-turn-below keys n j left)
-  where
-    go : (o : Option ℕ) → firstOf keys left n ≡ o → ((left : ℕ → Bool) → Below n (inTurn keys n j left)) → Below n (ifThere o [] (λ p. p ∷ inTurn keys n j (but p left)))
-    go none x rec = tt
-    go (some p) x rec = (first-of keys left n p x .low, rec (but p left))
-
-module _ {A : Type 0} (next next′ : A → ℕ → A) (n : ℕ) (same : (x : A) (p : ℕ) → p < n → next x p ≡ next′ x p) where
-  pub leaves-same : (l : List ℕ) → Below n l → (x : A) → leaves next l x ≡ leaves next′ l x
-  unfolding leaves
-  leaves-same [] b x = refl
-  leaves-same (p ∷ l) b x = ap (leaves next l) (same x p (b .0)) ∙ leaves-same l (b .1) (next′ x p)
-
-  pub answer-same : (number number′ : A → ℕ → ℕ) → ((x : A) (p : ℕ) → p < n → number x p ≡ number′ x p) → (l : List ℕ) → Below n l → (x : A) (q : ℕ) → answerTo next number l x q ≡ answerTo next′ number′ l x q
-  unfolding answerTo
-  answer-same number number′ h [] b x q = refl
-  answer-same number number′ h (p ∷ l) b x q = rw (same x p (b .0), h x p (b .0), answer-same number number′ h l (b .1) (next′ x p) q) refl
