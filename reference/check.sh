@@ -18,6 +18,7 @@ mkdir -p out
 python3 pairs.py 1000 > out/pairs
 bin/shares < out/pairs > out/shares
 python3 naive.py shares < out/pairs | cmp - out/shares || differs shares
+bin/lookups | cmp - ../crates/lookups/stdout || differs lookups
 for seed in $(seq "${2:-1}" "${1:-50}"); do
     bin/shuffle "$seed" > out/stream
     bin/runner_ref < out/stream > out/expected
