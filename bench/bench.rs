@@ -1,6 +1,8 @@
 //! What each call and read costs: the engine (libhost.a), plain Rust
 //! (plain.rs) and a floor. `bench [quick]` prints Markdown. Built with another
-//! archive, that stands in plain's place (run.sh).
+//! archive, that stands in plain's place (run.sh), and the tables by call show
+//! the best time of each beside the median; where it is of before queues, their
+//! calls are left out.
 //!
 //! States. Sixteen members; every certificate has four transactions (entries,
 //! bonds, unbonds that are bonded again at once, so that all stay inside) and
@@ -29,6 +31,11 @@
 //! A batch is compared with single accepts. Everything below the last four
 //! rounds is held and nothing above, and the sixteen certificates of each of
 //! the four come in: newest first in one batch, or by 64 accepts in order.
+//!
+//! Queues are empty but for enqueue, which adds a fourth transaction to a queue,
+//! draw, which draws one of each of four guests, and the table of queues. The
+//! places of a queue all have the same transaction, so that what moves up when
+//! one leaves changes no word, and counts are all there is to undo.
 //!
 //! The floor is one pass that reads the state, the headers of all rows and
 //! the records of held certificates, and adds them up. For open it is one
@@ -61,6 +68,8 @@ struct Functions {
     advance: fn(&mut [u32], &[u32]) -> u32,
     commit: fn(&mut [u32], &mut [u32]) -> u64,
     batch: fn(&[u32], &mut [u32], &[[u32; 17]], &mut [u32]) -> u32,
+    enqueue: fn(&[u32], &mut [u32], u32, &[u32]) -> u32,
+    draw: fn(&mut [u32], &mut [u32], u32) -> u32,
     committee: fn(&[u32], &[u32], u32, &mut [u32]) -> u32,
     share: fn(&[u32], &[u32], u32, u32) -> u64,
     certificate: fn(&[u32], &[u32], u32, u32, &mut [u32]) -> u32,
@@ -78,6 +87,8 @@ macro_rules! functions {
             advance: $module::advance,
             commit: $module::commit,
             batch: $module::batch,
+            enqueue: $module::enqueue,
+            draw: $module::draw,
             committee: $module::committee,
             share: $module::share,
             certificate: $module::certificate,
@@ -106,6 +117,15 @@ struct Member {
 const OWN: u32 = 0;
 const FREE: u32 = 15;
 
+/// Whether both implementations have queues.
+const QUEUES: bool = cfg!(not(before_queues));
+/// How many wait for each guest: for most calls, for an enqueue to guest 2 and
+/// for a draw of one of each of four guests.
+const NOBODY: Waiting = [0; 8];
+const THREE: Waiting = [0, 0, 3, 0, 0, 0, 0, 0];
+const FOUR: Waiting = [0, 2, 0, 2, 2, 0, 0, 2];
+type Waiting = [u32; 8];
+
 impl Member {
     fn open(ceiling: u32, lookback: u32, seed: u64) -> Member {
         let lines = vec![Line([0; 16]); ROW * (ceiling as usize + 1) / 16];
@@ -129,6 +149,15 @@ impl Member {
 
     fn held(&mut self, round: u32) -> u32 {
         self.table()[ROW * round as usize]
+    }
+
+    /// Counts of waiting transactions; every place of a queue has the same one.
+    fn wait(&mut self, waiting: &Waiting) {
+        for guest in 0..8 {
+            let places = &mut self.table()[24 + 32 * guest..48 + 32 * guest];
+            places.chunks_exact_mut(3).for_each(|place| place.copy_from_slice(&[2, guest as u32, 0]));
+        }
+        self.table()[1..9].copy_from_slice(waiting);
     }
 
     fn held_in_all(&mut self) -> u32 {
@@ -267,26 +296,39 @@ enum Job {
     Advance,
     Commit,
     CommitMany,
+    Enqueue,
+    Draw,
     Committee,
     Share,
     Certificate,
     Block,
 }
 
-const JOBS: [(Job, &str); 12] = [
-    (Job::Open, "open"),
-    (Job::Propose, "propose"),
-    (Job::Endorse, "endorse"),
-    (Job::Certify, "certify"),
-    (Job::Accept, "accept"),
-    (Job::Advance, "advance"),
-    (Job::Commit, "commit, one block"),
-    (Job::CommitMany, "commit, many blocks"),
-    (Job::Committee, "read committee"),
-    (Job::Share, "read share"),
-    (Job::Certificate, "read certificate"),
-    (Job::Block, "read block"),
+/// Jobs, and how many transactions wait for each guest in their states.
+const JOBS: [(Job, &str, Waiting); 14] = [
+    (Job::Open, "open", NOBODY),
+    (Job::Propose, "propose", NOBODY),
+    (Job::Endorse, "endorse", NOBODY),
+    (Job::Certify, "certify", NOBODY),
+    (Job::Accept, "accept", NOBODY),
+    (Job::Advance, "advance", NOBODY),
+    (Job::Commit, "commit, one block", NOBODY),
+    (Job::CommitMany, "commit, many blocks", NOBODY),
+    (Job::Enqueue, "enqueue", THREE),
+    (Job::Draw, "draw of 4", FOUR),
+    (Job::Committee, "read committee", NOBODY),
+    (Job::Share, "read share", NOBODY),
+    (Job::Certificate, "read certificate", NOBODY),
+    (Job::Block, "read block", NOBODY),
 ];
+
+/// Those that both implementations have.
+fn jobs() -> impl Iterator<Item = (Job, &'static str, Waiting)> {
+    JOBS.into_iter().filter(|(job, ..)| QUEUES || !matches!(job, Job::Enqueue | Job::Draw))
+}
+
+/// The guest of an enqueue.
+const GUEST: u32 = 2;
 
 /// A state and a call on it that can be made again and again.
 struct Case {
@@ -294,6 +336,7 @@ struct Case {
     member: Member,
     argument: [u32; 17],
     out: [u32; 18],
+    waiting: Waiting,
     /// Words of the table that a commit changes, as they were.
     undo: Vec<(usize, u32)>,
     /// The answer: value below, refusal above.
@@ -301,13 +344,16 @@ struct Case {
 }
 
 impl Case {
-    fn of(job: Job, mut member: Member) -> Case {
+    fn of(job: Job, mut member: Member, waiting: Waiting) -> Case {
         let r = member.state[20];
         let empty = member.held(1) == 0;
         let argument = match job {
             Job::Propose | Job::Certify => member.certificate(OWN, r),
             _ => member.certificate(FREE, r),
         };
+        if waiting != NOBODY {
+            member.wait(&waiting);
+        }
         if job == Job::Certify {
             assert_eq!(with(&mut member, |s, t| plain::propose(s, t, &argument[2..])), 0);
         }
@@ -315,7 +361,8 @@ impl Case {
         if is_commit && empty {
             member.state[20] = 3;
         }
-        let mut case = Case { job, member, argument, out: [0; 18], undo: Vec::new(), expected: 0 };
+        let (out, undo) = ([0; 18], Vec::new());
+        let mut case = Case { job, member, argument, out, waiting, undo, expected: 0 };
         let before = case.member.clone();
         case.expected = case.call(&PLAIN);
         let old = before.lines.iter().flat_map(|line| line.0).enumerate();
@@ -348,6 +395,8 @@ impl Case {
             Job::Accept => refusal((f.accept)(state, table, argument)),
             Job::Advance => refusal((f.advance)(state, table)),
             Job::Commit | Job::CommitMany => (f.commit)(state, table),
+            Job::Enqueue => refusal((f.enqueue)(state, table, GUEST, &[2, GUEST, 0])),
+            Job::Draw => refusal((f.draw)(state, table, argument[2])),
             Job::Committee => refusal((f.committee)(state, table, r, &mut self.out)),
             Job::Share => (f.share)(state, table, 3, r),
             Job::Certificate => refusal((f.certificate)(state, table, 7, r, &mut self.out)),
@@ -360,10 +409,16 @@ impl Case {
     fn undo(&mut self) {
         let row = ROW * self.member.state[20] as usize;
         match self.job {
-            Job::Propose => {
+            Job::Propose | Job::Draw => {
                 self.member.state[21] = 0;
                 self.member.state[23..].fill(0);
+                if self.job == Job::Draw {
+                    let waiting = self.waiting;
+                    self.member.table()[0] = 0;
+                    self.member.table()[1..9].copy_from_slice(&waiting);
+                }
             }
+            Job::Enqueue => self.member.table()[1 + GUEST as usize] -= 1,
             Job::Endorse => self.member.table()[row + 1] &= !(1 << FREE),
             Job::Certify => self.member.table()[row] &= !(1 << OWN),
             Job::Accept => self.member.table()[row] &= !(1 << FREE),
@@ -421,9 +476,9 @@ impl Cases {
         start.elapsed()
     }
 
-    /// Nanoseconds per call: engine, plain, floor.
-    fn measure(&mut self, pace: &Pace) -> [f64; 3] {
-        pace.medians(self.0.len(), |which, calls| match which {
+    /// Times of a call: engine, plain, floor.
+    fn measure(&mut self, pace: &Pace) -> [Time; 3] {
+        pace.times(self.0.len(), |which, calls| match which {
             0 => self.batch(&ENGINE, calls),
             1 => self.batch(&PLAIN, calls),
             _ => self.floor_batch(calls),
@@ -435,19 +490,26 @@ impl Cases {
     }
 }
 
+/// Nanoseconds per call, of several batches.
+#[derive(Clone, Copy)]
+struct Time {
+    median: f64,
+    best: f64,
+}
+
 struct Pace {
     batches: u32,
     batch_nanoseconds: f64,
 }
 
 impl Pace {
-    /// Nanoseconds per call of each of N that take turns; `run` makes some calls
-    /// of one of them, always a multiple of `many`.
-    fn medians<const N: usize>(
+    /// Times of a call of each of N that take turns; `run` makes some calls of
+    /// one of them, always a multiple of `many`.
+    fn times<const N: usize>(
         &self,
         many: usize,
         mut run: impl FnMut(usize, usize) -> Duration,
-    ) -> [f64; N] {
+    ) -> [Time; N] {
         let mut one = |which, calls| run(which, calls).as_nanos() as f64 / calls as f64;
         let mut times = [(); N].map(|()| Vec::new());
         let mut sizes = [1; N];
@@ -463,7 +525,7 @@ impl Pace {
         }
         times.map(|mut all| {
             all.sort_by(f64::total_cmp);
-            all[all.len() / 2]
+            Time { median: all[all.len() / 2], best: all[0] }
         })
     }
 }
@@ -514,12 +576,13 @@ impl Bundle {
 /// Nanoseconds of a bundle: in one batch and by 64 accepts, by the engine, then
 /// by plain.
 fn measure_bundles(bundles: &mut [Bundle], pace: &Pace) -> [f64; 4] {
-    pace.medians(bundles.len(), |which, calls| {
+    let times = pace.times(bundles.len(), |which, calls| {
         let f = if which < 2 { &ENGINE } else { &PLAIN };
         let (many, start) = (bundles.len(), Instant::now());
         (0..calls).for_each(|turn| black_box(&mut bundles[turn % many]).run(f, which % 2 == 0));
         start.elapsed()
-    })
+    });
+    times.map(|time| time.median)
 }
 
 // ---------------------------------------------------------------- tables ---
@@ -548,9 +611,9 @@ impl States {
         }
     }
 
-    fn cases(&self, job: Job) -> Cases {
+    fn cases(&self, job: Job, waiting: Waiting) -> Cases {
         let members = if job == Job::CommitMany { &self.unblocked } else { &self.usual };
-        Cases(members.iter().map(|member| Case::of(job, member.clone())).collect())
+        Cases(members.iter().map(|member| Case::of(job, member.clone(), waiting)).collect())
     }
 }
 
@@ -576,21 +639,69 @@ fn digits(value: f64) -> String {
 
 fn print_ceiling(ceiling: u32, pace: &Pace) {
     println!("\n## Ceiling {ceiling}\n");
-    println!("| call | state | held | answer | engine ns | plain ns | floor ns | engine / plain | engine / floor |");
-    println!("|---|---|---:|---|---:|---:|---:|---:|---:|");
+    print_columns();
     let states = [(0, "empty"), (ceiling / 2, "half"), (ceiling, "full")];
     let states = states.map(|(rounds, name)| (States::of(ceiling, rounds), name));
-    for (job, call) in JOBS {
+    for (job, call, waiting) in jobs() {
         for (states, name) in &states {
-            let mut cases = states.cases(job);
-            let held = cases.held();
-            let [engine, plain, floor] = cases.measure(pace);
-            println!(
-                "| {call} | {name} | {held} | {} | {engine:.0} | {plain:.0} | {floor:.0} | {} | {} |",
-                answer_text(&cases.0[0]),
-                digits(engine / plain),
-                digits(engine / floor)
-            );
+            print_row(call, name, &mut states.cases(job, waiting), pace);
+        }
+    }
+}
+
+fn print_columns() {
+    if cfg!(other) {
+        println!("| call | state | held | answer | engine ns | other ns | best engine ns | best other ns | difference ns | engine / other |");
+        println!("|---|---|---:|---|---:|---:|---:|---:|---:|---:|");
+    } else {
+        println!("| call | state | held | answer | engine ns | plain ns | floor ns | engine / plain | engine / floor |");
+        println!("|---|---|---:|---|---:|---:|---:|---:|---:|");
+    }
+}
+
+/// A row of a table by call. Of two archives the last two columns compare the
+/// best times.
+fn print_row(call: &str, state: &str, cases: &mut Cases, pace: &Pace) {
+    let held = cases.held();
+    let [engine, plain, floor] = cases.measure(pace);
+    let answer = answer_text(&cases.0[0]);
+    print!("| {call} | {state} | {held} | {answer} | {:.0} | {:.0} ", engine.median, plain.median);
+    if cfg!(other) {
+        let (best, other) = (engine.best, plain.best);
+        println!("| {best:.1} | {other:.1} | {:.1} | {:.3} |", best - other, best / other);
+    } else {
+        let (by_plain, by_floor) = (engine.median / plain.median, engine.median / floor.median);
+        println!("| {:.0} | {} | {} |", floor.median, digits(by_plain), digits(by_floor));
+    }
+}
+
+/// What queues cost: adding and drawing by how many wait, and what a call takes
+/// longer that has nothing to do with them.
+fn print_queues(pace: &Pace) {
+    const ALL: Waiting = [8; 8];
+    const ONE: Waiting = [0, 0, 0, 8, 0, 0, 0, 0];
+    const SEVEN: Waiting = [0, 0, 7, 0, 0, 0, 0, 0];
+    let rows = [
+        (Job::Advance, "advance, nothing waits", NOBODY),
+        (Job::Advance, "advance, 64 wait", ALL),
+        (Job::Propose, "propose, nothing waits", NOBODY),
+        (Job::Propose, "propose, 64 wait", ALL),
+        (Job::Enqueue, "enqueue, the first", NOBODY),
+        (Job::Enqueue, "enqueue, the eighth", SEVEN),
+        (Job::Draw, "draw of nothing", NOBODY),
+        (Job::Draw, "draw of 4, one guest", ONE),
+        (Job::Draw, "draw of 4, four guests", FOUR),
+        (Job::Draw, "draw of 4, 64 wait", ALL),
+    ];
+    for ceiling in [64, 1_024] {
+        println!("\n## Queues, ceiling {ceiling}\n");
+        print_columns();
+        let states = [(0, "empty"), (ceiling, "full")];
+        let states = states.map(|(rounds, name)| (States::of(ceiling, rounds), name));
+        for (job, call, waiting) in rows {
+            for (states, name) in &states {
+                print_row(call, name, &mut states.cases(job, waiting), pace);
+            }
         }
     }
 }
@@ -602,11 +713,14 @@ fn print_growth(ceiling: u32, pace: &Pace) {
     println!("|---|---|---:|---:|---:|---:|---:|---:|");
     let states: Vec<States> =
         (0..5).map(|quarter| States::of(ceiling, ceiling * quarter / 4)).collect();
-    for (job, call) in JOBS {
-        let mut cases: Vec<Cases> = states.iter().map(|states| states.cases(job)).collect();
+    for (job, call, waiting) in jobs() {
+        let mut cases: Vec<Cases> =
+            states.iter().map(|states| states.cases(job, waiting)).collect();
         let held = f64::from(cases[4].held());
-        let times: Vec<[f64; 3]> = cases.iter_mut().map(|cases| cases.measure(pace)).collect();
-        for (which, by) in ["engine", "plain", "floor"].iter().enumerate() {
+        let medians = |cases: &mut Cases| cases.measure(pace).map(|time| time.median);
+        let times: Vec<[f64; 3]> = cases.iter_mut().map(medians).collect();
+        let second = if cfg!(other) { "other" } else { "plain" };
+        for (which, by) in ["engine", second, "floor"].iter().enumerate() {
             let row: Vec<String> = times.iter().map(|time| format!("{:.0}", time[which])).collect();
             let slope = (times[4][which] - times[0][which]) / held;
             println!("| {call} | {by} | {} | {slope:.2} |", row.join(" | "));
@@ -625,7 +739,8 @@ fn print_batches(pace: &Pace) {
             let mut bundles: Vec<_> = seeds.map(|seed| Bundle::of(ceiling, rounds, seed)).collect();
             let held = bundles[0].member.held_in_all();
             let times = measure_bundles(&mut bundles, pace);
-            for (by, [batch, accepts]) in ["engine", "plain"].iter().zip(times.as_chunks::<2>().0) {
+            let second = if cfg!(other) { "other" } else { "plain" };
+            for (by, [batch, accepts]) in ["engine", second].iter().zip(times.as_chunks::<2>().0) {
                 let (one, all) = (digits(batch / 1e3), digits(accepts / 1e3));
                 let times = digits(accepts / batch);
                 println!("| {ceiling} | {name} | {held} | {by} | {one} | {all} | {times} |");
@@ -648,4 +763,7 @@ fn main() {
     }
     print_growth(1_024, &pace);
     print_batches(&pace);
+    if QUEUES {
+        print_queues(&pace);
+    }
 }

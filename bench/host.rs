@@ -149,3 +149,28 @@ pub fn block(state: &[u32], table: &[u32], number: u32) -> u64 {
 pub fn table_words(ceiling: u32) -> u64 {
     unsafe { forgelilac_table_words(ceiling) }
 }
+
+// ---- queues: run.sh leaves this out of an archive that has none
+
+extern "C" {
+    fn forgelilac_enqueue(
+        s: *const u32,
+        sn: usize,
+        t: *mut u32,
+        tn: usize,
+        guest: u32,
+        transaction: *const u32,
+        n: usize,
+    ) -> u32;
+    fn forgelilac_draw(s: *mut u32, sn: usize, t: *mut u32, tn: usize, previous: u32) -> u32;
+}
+
+pub fn enqueue(state: &[u32], table: &mut [u32], guest: u32, transaction: &[u32]) -> u32 {
+    let (s, sn, t, tn) = (state.as_ptr(), state.len(), table.as_mut_ptr(), table.len());
+    unsafe { forgelilac_enqueue(s, sn, t, tn, guest, transaction.as_ptr(), transaction.len()) }
+}
+
+pub fn draw(state: &mut [u32], table: &mut [u32], previous: u32) -> u32 {
+    let (s, sn, t, tn) = (state.as_mut_ptr(), state.len(), table.as_mut_ptr(), table.len());
+    unsafe { forgelilac_draw(s, sn, t, tn, previous) }
+}

@@ -3,7 +3,8 @@
 # ARCHIVE is the engine's static library (target/staticlib/libhost.a if not
 # given), or `plain` to try the benchmark without it (plain.rs against itself).
 # OTHER is another archive, that of before a change: it stands in plain's place,
-# and the two take turns in one process.
+# and the two take turns in one process. One of before queues lacks two calls,
+# which are then left out.
 set -e
 top=$(cd "$(dirname "$0")/.." && pwd)
 archive=${1:-$top/target/staticlib/libhost.a}
@@ -22,7 +23,19 @@ if [ -n "$other" ]; then
     objcopy --redefine-syms="$built/names" "$other" "$built/libother.a"
     sed 's/forgelilac_/other_forgelilac_/g' "$top/bench/host.rs" > "$built/other.rs"
     set -- "$@" --cfg other -L "$built" -l static=other
+    if ! grep -q '^forgelilac_draw ' "$built/names"; then
+        sed -i '/^\/\/ ---- queues/,$d' "$built/other.rs"
+        cat >> "$built/other.rs" <<'END'
+pub fn enqueue(_: &[u32], _: &mut [u32], _: u32, _: &[u32]) -> u32 {
+    unreachable!("this archive has no queues")
+}
+pub fn draw(_: &mut [u32], _: &mut [u32], _: u32) -> u32 {
+    unreachable!("this archive has no queues")
+}
+END
+        set -- "$@" --cfg before_queues
+    fi
 fi
-rustc --edition 2021 -C opt-level=3 -C codegen-units=1 --check-cfg 'cfg(plain, other)' "$@" \
+rustc --edition 2021 -C opt-level=3 -C codegen-units=1 --check-cfg 'cfg(plain, other, before_queues)' "$@" \
     "$top/bench/bench.rs" -o "$built/bench"
 exec "$built/bench" $pace

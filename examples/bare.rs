@@ -1,18 +1,29 @@
 //! A host without the standard library and without an allocator: one member alone, three rounds, one
-//! block, on words that it lends. The status is 0 where the chain is as it must be, else the number of
+//! block, on words that it lends. Its guests' entries wait in queues, and each proposal is drawn from
+//! them. The status is 0 where the chain is as it must be, else the number of
 //! the refusal, or 100. A hypervisor has no main and no C library; this one has them to be run.
 
 #![no_std]
 #![no_main]
 
 use forgelilac::lent::{self, Place};
-use forgelilac::{body_words, table_words, Refusal, Sheet, Transaction, STATE_WORDS};
+use forgelilac::{table_words, transactions_of, Refusal, Sheet, Transaction, STATE_WORDS};
 
 const CEILING: u32 = 64;
 
-fn sign_alone(state: &mut [u32], table: &mut [u32], previous: u16, transactions: &[Transaction]) -> Result<(), Refusal> {
-    lent::propose(state, table, &body_words(previous, transactions))?;
+fn entry(number: u32) -> Transaction {
+    Transaction::Entry { number }
+}
+
+fn sign_alone(state: &mut [u32], table: &mut [u32], previous: u16) -> Result<(), Refusal> {
+    lent::draw(state, table, previous)?;
     lent::certify(state, table, 0)
+}
+
+/// Whether the certificate of a round holds these entries.
+fn holds(state: &[u32], table: &[u32], round: u32, entries: &[u32]) -> Result<bool, Refusal> {
+    let held = lent::certificate(state, table, 0, round)?;
+    Ok(transactions_of(&held)?.eq(entries.iter().map(|&number| entry(number))))
 }
 
 fn run() -> Result<bool, Refusal> {
@@ -20,10 +31,20 @@ fn run() -> Result<bool, Refusal> {
     let mut sheet = Sheet { ceiling: Some(CEILING), ..Sheet::default() };
     sheet.weights[1..4].fill(Some(0));
     lent::open(&mut state, &mut table, 0, &sheet.to_words())?;
-    sign_alone(&mut state, &mut table, 0, &[Transaction::Entry { number: 7 }])?;
+    for (guest, number) in [(3, 30), (3, 31), (3, 32), (3, 33), (5, 50)] {
+        lent::enqueue(&state, &mut table, guest, &entry(number).to_words())?;
+    }
+    sign_alone(&mut state, &mut table, 0)?;
     for _ in 2..=3 {
         lent::advance(&mut state, &table)?;
-        sign_alone(&mut state, &mut table, 1, &[])?;
+        sign_alone(&mut state, &mut table, 1)?;
+    }
+    if lent::waiting(&state, &table, 3)? != 0
+        || !holds(&state, &table, 1, &[30, 50, 31, 32])?
+        || !holds(&state, &table, 2, &[33])?
+        || !holds(&state, &table, 3, &[])?
+    {
+        return Ok(false);
     }
     lent::commit(&mut state, &mut table)?;
     let mut list = [Place::default(); 16 * CEILING as usize];

@@ -6,7 +6,7 @@
 
 #include "forgelilac.h"
 
-enum { MEMBERS = 3, CEILING = 64, LAST_ROUND = 9, BUNDLE = 3 * MEMBERS };
+enum { MEMBERS = 3, CEILING = 64, LAST_ROUND = 9, BUNDLE = 3 * MEMBERS, BUSY = 2 };
 
 struct engine {
     uint32_t state[FORGELILAC_STATE_WORDS];
@@ -138,6 +138,47 @@ static void print_batch(void) {
     print_answers("in one batch", answers);
 }
 
+static void add(struct engine *e, uint32_t guest, uint32_t number) {
+    const uint32_t entry[FORGELILAC_TRANSACTION_WORDS] = {FORGELILAC_ENTRY, number, 0};
+    must("enqueue", forgelilac_enqueue(ENGINE(e), guest, WORDS(entry)));
+}
+
+/* What the member proposes in this round: the entries of its own proposal. */
+static void print_drawn(const struct engine *e) {
+    uint32_t proposal[FORGELILAC_PROPOSAL_WORDS];
+    const uint32_t *body = proposal + FORGELILAC_PROPOSAL_BODY;
+    if (!forgelilac_own_proposal(e->state, proposal)) return;
+    printf("  round %u:", (unsigned)proposal[FORGELILAC_PROPOSAL_ROUND]);
+    for (uint32_t k = 0; k < body[FORGELILAC_BODY_COUNT]; k++)
+        printf(" %u", (unsigned)body[FORGELILAC_BODY_TRANSACTIONS + FORGELILAC_TRANSACTION_WORDS * k + 1]);
+    printf("; wait:");
+    for (uint32_t guest = 0; guest < FORGELILAC_GUESTS; guest++)
+        printf(" %u", (unsigned)forgelilac_waiting(e->table, guest));
+    printf("\n");
+}
+
+/* Guests of a fourth computer, which here is alone, share its proposals. Guest 2 is busy and fills
+ * its queue before each; guests 5 and 0 have something now and then. An entry tells its guest. */
+static void print_queues(void) {
+    static struct engine e;
+    uint32_t sheet[FORGELILAC_SHEET_WORDS], next = 100 * BUSY;
+    forgelilac_blank_sheet(sheet);
+    forgelilac_write_setting(sheet, FORGELILAC_CEILING, CEILING);
+    for (unsigned m = 0; m < 4; m++) forgelilac_write_setting(sheet, FORGELILAC_WEIGHT + m, m == 3);
+    must("open", forgelilac_open(ENGINE(&e), 3, WORDS(sheet)));
+    printf("guests share the proposals of a member alone\n");
+    for (uint32_t round = 1; round <= 4; round++) {
+        while (forgelilac_waiting(e.table, BUSY) < FORGELILAC_QUEUE_PLACES) add(&e, BUSY, next++);
+        if (round == 1) add(&e, 5, 500);
+        if (round == 1) add(&e, 5, 501);
+        if (round == 2) add(&e, 0, 0);
+        must("draw", forgelilac_draw(ENGINE(&e), held(&e, round - 1)));
+        print_drawn(&e);
+        must("certify", forgelilac_certify(ENGINE(&e), 0));
+        must("advance", forgelilac_advance(ENGINE(&e)));
+    }
+}
+
 static void print_end(void) {
     printf("certificates as round/author\n");
     for (uint32_t m = 0; m < MEMBERS; m++) print_chain(&engines[m]);
@@ -150,6 +191,7 @@ static void print_end(void) {
     }
     printf("]\n");
     print_batch();
+    print_queues();
 }
 
 int main(void) {

@@ -10,10 +10,11 @@
 #include "forgelilac.h"
 
 enum { CEILING = 64, MEMBERS = 4, ALL = (1 << MEMBERS) - 1, STACK = 1 << 20, PAINT = 0xa5 };
-enum call { NOTHING, OPEN, PROPOSE, ENDORSE, CERTIFY, ACCEPT, BATCH, ADVANCE, COMMIT,
+enum call { NOTHING, OPEN, PROPOSE, ENQUEUE, DRAW, ENDORSE, CERTIFY, ACCEPT, BATCH, ADVANCE, COMMIT,
             COMMITTEE, SHARE, CERTIFICATE, BLOCK, CHAIN, CALLS };
-static const char *const names[CALLS] = {"", "open", "propose", "endorse", "certify", "accept", "batch", "advance",
-                                         "commit", "committee", "share", "certificate", "block", "chain"};
+static const char *const names[CALLS] = {"", "open", "propose", "enqueue", "draw", "endorse", "certify", "accept",
+                                         "batch", "advance", "commit", "committee", "share", "certificate", "block",
+                                         "chain"};
 
 static uint32_t state[FORGELILAC_STATE_WORDS], table[FORGELILAC_TABLE_WORDS(CEILING)];
 static uint32_t words[FORGELILAC_SHEET_WORDS], out[FORGELILAC_HELD_WORDS];
@@ -34,6 +35,8 @@ static uint64_t make(enum call call) {
     switch (call) {
     case OPEN: return high(forgelilac_open(ENGINE, 0, WORDS));
     case PROPOSE: return high(forgelilac_propose(ENGINE, WORDS));
+    case ENQUEUE: return high(forgelilac_enqueue(ENGINE, words[3] % FORGELILAC_GUESTS, WORDS));
+    case DRAW: return high(forgelilac_draw(ENGINE, words[0]));
     case ENDORSE: return high(forgelilac_endorse(ENGINE, WORDS));
     case CERTIFY: return high(forgelilac_certify(ENGINE, words[0]));
     case ACCEPT: return high(forgelilac_accept(ENGINE, WORDS));
@@ -81,9 +84,23 @@ static void body(uint32_t *at, uint32_t round, uint32_t author) {
     if (round % 5 == author) forgelilac_add_bond(at, author, 3);
 }
 
+/* Four guests add an entry each, for the draw of the next round. */
+static void add(uint32_t round) {
+    for (uint32_t k = 0; k < FORGELILAC_TRANSACTIONS; k++) {
+        words[0] = FORGELILAC_ENTRY;
+        words[1] = round;
+        words[2] = 0;
+        words[3] = round + 3 * k;
+        measure(ENQUEUE);
+    }
+}
+
 static void sign(uint32_t round) {
     body(words, round, 0);
-    measure(PROPOSE);
+    if (round % 2 == 1) measure(PROPOSE);
+    if (round % 2 == 1) add(round);
+    words[0] = ALL;
+    if (round % 2 == 0) measure(DRAW);
     words[0] = ALL & ~1u;
     measure(CERTIFY);
     for (uint32_t author = 1; author < MEMBERS; author++) {

@@ -32,9 +32,9 @@ extern "C" {
 /* ---- versions */
 
 /* Of the header, and of the archive that belongs to it. */
-#define FORGELILAC_VERSION "0.4.0"
+#define FORGELILAC_VERSION "0.5.0"
 #define FORGELILAC_VERSION_MAJOR 0
-#define FORGELILAC_VERSION_MINOR 4
+#define FORGELILAC_VERSION_MINOR 5
 #define FORGELILAC_VERSION_PATCH 0
 /* Of the words of state and table; no word of theirs has it. Store it beside them: docs/TABLES.md
  * tells what to do with words of an older format. */
@@ -44,8 +44,11 @@ extern "C" {
 
 #define FORGELILAC_MEMBERS 16
 #define FORGELILAC_TRANSACTIONS 4     /* the largest allowance */
+#define FORGELILAC_GUESTS 8           /* guests that have a queue, 0 to 7 */
+#define FORGELILAC_QUEUE_PLACES 8     /* the most transactions that wait in a queue */
 #define FORGELILAC_BLOCKS 511         /* the most blocks of a state, at ceiling 1,024 */
 #define FORGELILAC_STATE_WORDS 37
+#define FORGELILAC_TRANSACTION_WORDS 3
 #define FORGELILAC_BODY_WORDS 14
 #define FORGELILAC_PROPOSAL_WORDS 16
 #define FORGELILAC_CERTIFICATE_WORDS 17 /* as accept takes it */
@@ -60,8 +63,9 @@ extern "C" {
 #define FORGELILAC_CHAIN_WORDS(ceiling) (48u * (ceiling))
 
 /* Bytes of stack that serve every call and every function below on x86-64; examples/stack.c
- * measures what they use. Commit uses about 80 KB, batch about 77 KB, propose, endorse, certify,
- * accept, committee and share about 74 KB, forgelilac_chain about 3 KB, the others less than 1 KB. */
+ * measures what they use. Commit, draw and propose use about 80 KB, batch about 77 KB, endorse,
+ * certify, accept, committee and share about 74 KB, forgelilac_chain about 3 KB, the others less
+ * than 1 KB. */
 #define FORGELILAC_STACK_BYTES 98304
 
 /* ---- words of a state */
@@ -121,6 +125,13 @@ enum forgelilac_kind {
 #define FORGELILAC_RECORD(author, round) \
     (FORGELILAC_ROW(round) + FORGELILAC_ROW_RECORDS + (size_t)FORGELILAC_RECORD_WORDS * (author))
 
+/* ---- words of row 0, which belongs to no round: queues of guests. The other words are kept for later */
+
+#define FORGELILAC_SERVED 0           /* the guest served last and 1 more, 0 for none */
+#define FORGELILAC_WAITING 1          /* plus the guest: how many transactions wait, 0 to 8 */
+/* Where the queue of a guest begins: eight places of a transaction's three words, the oldest first. */
+#define FORGELILAC_QUEUE(guest) (24u + 32u * (guest))
+
 /* ---- settings of a sheet: each two words, blank (0) or written (1), then the value */
 
 enum forgelilac_setting {
@@ -157,7 +168,9 @@ enum forgelilac_refusal {
     FORGELILAC_NO_ANCHOR = 21,         /* no anchor in the round before */
     FORGELILAC_VOTES_SHORT = 22,       /* votes weigh not more than the fault bound */
     FORGELILAC_NONE_THERE = 23,        /* no such certificate or block */
-    FORGELILAC_LENGTH_RANGE = 25       /* a row of more than 64 certificates, or answers shorter than the row */
+    FORGELILAC_LENGTH_RANGE = 25,      /* a row of more than 64 certificates, or answers shorter than the row */
+    FORGELILAC_GUEST_RANGE = 26,       /* guest above 7 */
+    FORGELILAC_QUEUE_FULL = 27         /* the queue holds eight transactions */
 };
 
 /* ---- calls: 0 accepted, else the refusal number */
@@ -169,11 +182,25 @@ uint32_t forgelilac_open(uint32_t *state, size_t state_words,
                          uint32_t *table, size_t table_words,
                          uint32_t own, const uint32_t *sheet, size_t sheet_words);
 /* Proposes a body (previous set, transactions) for one's own place of the present round. Accepted:
- * the proposal is kept in the state until advance. Store both before the signature leaves.
- * 1, 6, 7, 10, 8, 9, 11, 12. */
+ * the proposal is kept in the state until advance. It touches no queue. Store both before the
+ * signature leaves. 1, 6, 7, 10, 8, 9, 11, 12. */
 uint32_t forgelilac_propose(uint32_t *state, size_t state_words,
                             const uint32_t *table, size_t table_words,
                             const uint32_t *body, size_t body_words);
+/* Adds a transaction (kind, number, amount) to the queue of a guest, as its youngest. Accepted: it
+ * waits there until a draw takes it. Only the table changes; store it, or the transaction may be
+ * lost. 1, 26, 6, 27. */
+uint32_t forgelilac_enqueue(const uint32_t *state, size_t state_words,
+                            uint32_t *table, size_t table_words,
+                            uint32_t guest, const uint32_t *transaction, size_t transaction_words);
+/* Proposes what it draws from the queues: the oldest transaction of each guest with something
+ * waiting, starting after the guest served last, at first with 0, going round until the allowance
+ * is met or the queues are empty. It is propose of that list, and with nothing drawn of none.
+ * Accepted: the proposal is kept in the state until advance, what was drawn leaves its queues, and
+ * the guest of the last one is the guest served last; forgelilac_own_proposal gives the proposal.
+ * Store both before the signature leaves. 1, 7, 10, 8, 9, 11, 12. */
+uint32_t forgelilac_draw(uint32_t *state, size_t state_words,
+                         uint32_t *table, size_t table_words, uint32_t previous);
 /* Endorses another's proposal, once its signature is checked. Accepted: its place is marked
  * endorsed. Store the table before the signature leaves. 1, 4, 5, 6, 7, 14, 10, 8, 11, 12. */
 uint32_t forgelilac_endorse(const uint32_t *state, size_t state_words,
@@ -246,7 +273,7 @@ static inline uint32_t forgelilac_refusal_of(uint64_t answer) {
 
 /* A refusal number in words. 24 is the runner's alone: no function here answers it. */
 static inline const char *forgelilac_refusal_text(uint32_t number) {
-    static const char *const texts[26] = {
+    static const char *const texts[28] = {
         "accepted",
         "state not well formed, a table too short, or words that cannot be read",
         "setting out of range",
@@ -273,11 +300,13 @@ static inline const char *forgelilac_refusal_text(uint32_t number) {
         "no such certificate or block",
         "record unreadable",
         "a row of more than 64 certificates, or answers shorter than the row",
+        "guest above 7",
+        "the queue holds eight transactions",
     };
-    return number < 26 ? texts[number] : "no refusal of this version";
+    return number < 28 ? texts[number] : "no refusal of this version";
 }
 
-/* ---- sheets, bodies, proposals, records */
+/* ---- sheets, bodies, proposals, queues, records */
 
 /* All settings blank. */
 static inline void forgelilac_blank_sheet(uint32_t sheet[FORGELILAC_SHEET_WORDS]) {
@@ -336,6 +365,12 @@ static inline int forgelilac_own_proposal(const uint32_t state[FORGELILAC_STATE_
     for (int i = 0; i < FORGELILAC_BODY_WORDS; i++)
         proposal[FORGELILAC_PROPOSAL_BODY + i] = state[FORGELILAC_STATE_BODY + i];
     return 1;
+}
+
+/* How many transactions wait in the queue of a guest, 0 for a guest above 7. A word of the table and
+ * no call: ask forgelilac_is_well_formed first where something else may have written the words. */
+static inline uint32_t forgelilac_waiting(const uint32_t *table, uint32_t guest) {
+    return guest < FORGELILAC_GUESTS ? table[FORGELILAC_WAITING + guest] : 0;
 }
 
 /* The words of a certificate as a record of a row. The first 17 words of the certificate read serve. */

@@ -1,8 +1,9 @@
 #!/bin/sh
 # check.sh [LAST [FIRST]]: the tests, the example, the edge streams, shares of
 # every weight of totals to 1,000 and as many by chance, and seeds FIRST to LAST
-# (1 to 50 if not given), as they are and with their accepts in batches, the
-# reference against naive.py.
+# (1 to 50 if not given), as they are, with their accepts in batches and with
+# their proposals drawn from queues, the reference against naive.py; and that
+# guests get their turn over long runs.
 # A runner given in RUNNER is compared with the reference as well.
 cd "$(dirname "$0")" || exit 2
 bin/tests_ref -q || exit 1
@@ -19,6 +20,7 @@ python3 pairs.py 1000 > out/pairs
 bin/shares < out/pairs > out/shares
 python3 naive.py shares < out/pairs | cmp - out/shares || differs shares
 bin/lookups | cmp - ../crates/lookups/stdout || differs lookups
+bin/fair || differs fair
 for seed in $(seq "${2:-1}" "${1:-50}"); do
     bin/shuffle "$seed" > out/stream
     bin/runner_ref < out/stream > out/expected
@@ -28,6 +30,9 @@ for seed in $(seq "${2:-1}" "${1:-50}"); do
     python3 rows.py "$seed" > out/rows
     bin/batches < out/rows > out/expected
     python3 naive.py batches < out/rows | cmp - out/expected || differs "rows of seed $seed"
+    python3 guests.py "$seed" > out/guests
+    bin/queues < out/guests > out/expected
+    python3 naive.py queues < out/guests | cmp - out/expected || differs "guests of seed $seed"
 done
 rm -r out
 [ $status = 0 ] && echo all the same

@@ -1,9 +1,10 @@
 #!/usr/bin/env python3
 """Spoils the reference in one place at a time and counts which streams
 notice: the edge stream and the shuffled streams of seeds 1 to N. No record
-reads a share or is a batch: wrong rules of shares are given pairs of weight and
-total, wrong rules of batches rows of certificates, and what they answer is
-compared with naive.py.
+reads a share, is a batch, adds to a queue or draws: wrong rules of shares are
+given pairs of weight and total, wrong rules of batches rows of certificates,
+wrong rules of queues streams with draws, and what they answer is compared with
+naive.py. Of the last it also says whether fair finds a fault.
 
     mutants.py N        (build.sh first; works in the directory mutants)
 
@@ -190,6 +191,68 @@ B=[
 ('map_or(Err(1), |certificate|','map_or(Ok(()), |certificate|'),
 ('map_or(Err(1), |certificate|','map_or(Err(24), |certificate|'),
 ]
+# wrong rules of queues
+Q=[
+# the youngest; from the guest served last, from 0, downward; one lap, laps of two
+('self.queues[guest as usize].get(nth)','self.queues[guest as usize].iter().nth_back(nth)'),
+('self.served.map_or(0, |guest| guest + 1)','self.served.unwrap_or(0)'),
+('self.served.map_or(0, |guest| guest + 1)','self.served.map_or(0, |_| 0)'),
+('(first + step) % GUESTS','(first + GUESTS - step) % GUESTS'),
+('for nth in 0..QUEUE {','for nth in 0..1 {'),
+('                if let Some(transaction) = self.queues[guest as usize].get(nth) {\n                    drawn.push((guest, *transaction));\n',
+ '                for transaction in self.queues[guest as usize].iter().skip(2 * nth).take(2) {\n                    drawn.push((guest, *transaction));\n'),
+# at first with 1; over the allowance, one less
+('self.served.map_or(0, |guest| guest + 1)','self.served.map_or(1, |guest| guest + 1)'),
+('drawn.truncate(self.settings.allowance as usize)','drawn.truncate(self.settings.allowance as usize + 1)'),
+('drawn.truncate(self.settings.allowance as usize)','drawn.truncate((self.settings.allowance as usize).saturating_sub(1))'),
+# the first is served last; nobody; the last of a queue leaves; nothing leaves; with nothing drawn nobody was served
+('        for guest in guests {\n','        for guest in guests.into_iter().rev() {\n'),
+('            self.served = Some(guest);\n',''),
+('self.queues[guest as usize].pop_front();','self.queues[guest as usize].pop_back();'),
+('            self.queues[guest as usize].pop_front();\n',''),
+('        for guest in guests {\n','        self.served = None;\n        for guest in guests {\n'),
+# leaves before the checks
+('        self.may_draw(previous)?;\n','''        if self.may_draw(previous).is_err() {
+            self.drawn().into_iter().for_each(|(guest, _)| _ = self.queues[guest as usize].pop_front());
+        }
+        self.may_draw(previous)?;
+'''),
+('        self.may_draw(previous)?;\n','''        let last = self.drawn().last().map(|(guest, _)| *guest);
+        let answer = self.may_draw(previous);
+        self.served = last.filter(|_| answer.is_err()).or(self.served);
+        answer?;
+'''),
+# a queue of nine, of seven; guests 0 to 8, to 6; 27 before 6, 6 before 26
+('self.waiting(guest) >= QUEUE','self.waiting(guest) > QUEUE'),
+('self.waiting(guest) >= QUEUE','self.waiting(guest) + 1 >= QUEUE'),
+('if guest >= GUESTS {','if guest > GUESTS {'),
+('if guest >= GUESTS {','if guest >= GUESTS - 1 {'),
+('''        if !transaction.in_range() {
+            return Err(6);
+        }
+        if self.waiting(guest) >= QUEUE {
+            return Err(27);
+        }''','''        if self.waiting(guest) >= QUEUE {
+            return Err(27);
+        }
+        if !transaction.in_range() {
+            return Err(6);
+        }'''),
+('''        if guest >= GUESTS {
+            return Err(26);
+        }
+        if !transaction.in_range() {
+            return Err(6);
+        }''','''        if !transaction.in_range() {
+            return Err(6);
+        }
+        if guest >= GUESTS {
+            return Err(26);
+        }'''),
+# the youngest first in the queue; a transaction out of range let in
+('push_back(*transaction)','push_front(*transaction)'),
+('        if !transaction.in_range() {\n            return Err(6);\n        }\n        if self.waiting','        if self.waiting'),
+]
 work = os.path.join(base, 'mutants')
 os.makedirs(work, exist_ok=True)
 good = os.path.join(base, 'bin', 'runner_ref')
@@ -264,6 +327,27 @@ def one_batch(i):
     return '%d of %d lines' % (sum(a != b for a, b in zip(found, batches)), len(batches))
 
 
+# The seeds' guests.
+guests = b''.join(subprocess.run([sys.executable, os.path.join(base, 'guests.py'), str(seed)],
+                                 capture_output=True).stdout for seed in range(1, 41))
+queues = subprocess.run([sys.executable, os.path.join(base, 'naive.py'), 'queues'],
+                        input=guests, capture_output=True).stdout.splitlines()
+
+
+def one_queue(i):
+    place = 'queue%d' % i
+    os.makedirs(os.path.join(work, place), exist_ok=True)
+    shutil.copy(os.path.join(base, 'runner_ref.rs'), os.path.join(work, place))
+    program, why = spoilt(place, 'queues.rs', 'reference.rs', *Q[i])
+    fair, _ = spoilt('fair%d' % i, 'fair.rs', 'reference.rs', *Q[i])
+    if program is None or fair is None:
+        return why
+    found = answers(program, guests).splitlines()
+    same = sum(a == b for a, b in zip(found, queues))
+    faults = subprocess.run([fair, '20'], capture_output=True).returncode != 0
+    return '%d of %d lines, fair %s' % (len(queues) - same, len(queues), 'yes' if faults else 'no')
+
+
 def one_share(i):
     program, why = spoilt('share%d' % i, 'shares.rs', 'reference.rs', *S[i])
     if program is None:
@@ -277,6 +361,8 @@ with ThreadPoolExecutor(4) as pool:
         print('share', i, repr(S[i][0][:44]), '->', repr(S[i][1][:44]), ':', result, flush=True)
     for i, result in enumerate(pool.map(one_batch, range(len(B)))):
         print('batch', i, repr(B[i][0][:44]), '->', repr(B[i][1][:44]), ':', result, flush=True)
+    for i, result in enumerate(pool.map(one_queue, range(len(Q)))):
+        print('queue', i, repr(Q[i][0][:44]), '->', repr(Q[i][1][:44]), ':', result, flush=True)
     for i, result in enumerate(pool.map(one, range(len(M)))):
         print(i, M[i][0], repr(M[i][1][:44]), '->', repr(M[i][2][:44]), ':', result, flush=True)
 shutil.rmtree(work)

@@ -3,11 +3,13 @@
 that change it, as a check on the first: no caches, everything worked out from
 the state each time it is asked, dictionaries and sets throughout. Slow on
 purpose. The order inside a block starts with the author of its anchor here,
-with the leader of its round in the first writing.
+with the leader of its round in the first writing; a draw goes from transaction
+to transaction here, lap by lap there.
 
     naive.py < stream > answers
     naive.py shares < pairs > shares      (no record reads a share)
     naive.py batches < rows > answers     (no record is a batch)
+    naive.py queues < stream > answers    (no record adds to a queue or draws)
 """
 import re
 import sys
@@ -24,6 +26,12 @@ class Refused(Exception):
 def refuse_if(condition, number):
     if condition:
         raise Refused(number)
+
+
+def in_range(kind, number, amount):
+    if kind == 'B':
+        return number <= 15 and 1 <= amount <= 1000
+    return number <= 15 if kind == 'U' else True
 
 
 def bits(n):
@@ -46,6 +54,8 @@ class Engine:
         self.held = {}       # (author, round) -> (previous, transactions)
         self.endorsed = set()
         self.blocks = []     # (round, [(certificate round, author)]), in order
+        self.queues = {guest: [] for guest in range(8)}     # the oldest first
+        self.served = None   # the guest served last
 
     # committees
     def last(self):
@@ -94,12 +104,8 @@ class Engine:
 
     # shared checks
     def fit(self, transactions):
-        def good(kind, number, amount):
-            if kind == 'B':
-                return number <= 15 and 1 <= amount <= 1000
-            return number <= 15 if kind == 'U' else True
         refuse_if(len(transactions) > self.allowance or
-                  not all(good(*t) for t in transactions), 6)
+                  not all(in_range(*t) for t in transactions), 6)
 
     def shape(self, author, r, previous, transactions):
         refuse_if(author > 15, 4)
@@ -122,6 +128,24 @@ class Engine:
             self.names_held(r, previous)
             refuse_if(not self.quorum(previous, self.committee(r - 1)), 12)
         self.proposal = (previous, transactions)
+
+    def enqueue(self, guest, transaction):
+        refuse_if(guest > 7, 26)
+        refuse_if(not in_range(*transaction), 6)
+        refuse_if(len(self.queues[guest]) == 8, 27)
+        self.queues[guest].append(transaction)
+
+    def draw(self, previous):
+        queues = {guest: list(queue) for guest, queue in self.queues.items()}
+        served, drawn = self.served, []
+        while len(drawn) < self.allowance and any(queues.values()):
+            served = 0 if served is None else (served + 1) % 8
+            while not queues[served]:
+                served = (served + 1) % 8
+            drawn.append(queues[served].pop(0))
+        self.propose(previous, drawn)
+        self.queues, self.served = queues, served
+        return drawn
 
     def endorse(self, author, r, previous, transactions):
         self.shape(author, r, previous, transactions)
@@ -326,9 +350,45 @@ def batches():
         print(*lines, sep='\n')
 
 
+def queue_call(engine, name, fields):
+    """The line of a call on queues; what cannot be read gets 1."""
+    refuse_if(engine is None, 1)
+    if name == 'waiting':
+        served = 'none' if engine.served is None else engine.served
+        return [len(engine.queues[guest]) for guest in range(8)] + [served]
+    try:
+        if name == 'enqueue':
+            guest, [transaction] = number(fields[0]), triples(fields[1:])
+        else:
+            [field] = fields
+            previous = member_set(field)
+    except (Unreadable, ValueError):
+        raise Refused(1)
+    if name == 'enqueue':
+        engine.enqueue(guest, transaction)
+        return []
+    return [field for triple in engine.draw(previous) for field in triple]
+
+
+def queues():
+    engine = None
+    for line in sys.stdin:
+        name, *fields = line.rstrip('\n').split(',')
+        if name not in ('enqueue', 'draw', 'waiting'):
+            engine, lines = answered(engine, line.rstrip('\n'))
+        else:
+            try:
+                lines = [','.join(['ok'] + list(map(str, queue_call(engine, name, fields))))]
+            except Refused as refusal:
+                lines = ['refused,%d' % refusal.args[0]]
+        print(*lines, sep='\n')
+
+
 if sys.argv[1:] == ['shares']:
     shares()
 elif sys.argv[1:] == ['batches']:
     batches()
+elif sys.argv[1:] == ['queues']:
+    queues()
 else:
     main()

@@ -9,6 +9,7 @@
 #![allow(dead_code)]
 
 use std::cmp::Ordering;
+use std::collections::VecDeque;
 
 /// Refusal numbers are those of the paper.
 pub type Answer<T> = Result<T, u32>;
@@ -20,6 +21,10 @@ pub const MEMBERS: u32 = 16;
 
 /// The most certificate records of a batch (point 4).
 pub const MOST_RECORDS: usize = 64;
+
+/// Guests are 0 to 7, and each has a queue of eight transactions (point 6).
+pub const GUESTS: u32 = 8;
+pub const QUEUE: usize = 8;
 
 /// A set of members: member i counts 2 to the power i.
 pub type Set = u16;
@@ -265,6 +270,9 @@ impl Block {
     }
 }
 
+/// What waits, by guest: the oldest transaction first (point 6).
+pub type Queues = [VecDeque<Transaction>; GUESTS as usize];
+
 #[derive(Clone, Debug)]
 pub struct Member {
     pub own: u32,
@@ -275,6 +283,9 @@ pub struct Member {
     pub held: Vec<Option<Held>>,
     pub endorsed: Vec<bool>,
     pub chain: Vec<Block>,
+    pub queues: Queues,
+    /// The guest served last.
+    pub served: Option<u32>,
 }
 
 /// Places by round, then author: 16 to a round, the first round is 1.
@@ -307,6 +318,8 @@ impl Member {
             held: vec![None; places],
             endorsed: vec![false; places],
             chain: Vec::new(),
+            queues: Queues::default(),
+            served: None,
         })
     }
 
@@ -326,6 +339,11 @@ impl Member {
     }
     pub fn chain(&self) -> &[Block] {
         &self.chain
+    }
+
+    /// How many transactions wait in the queue of a guest of 0 to 7.
+    pub fn waiting(&self, guest: u32) -> usize {
+        self.queues[guest as usize].len()
     }
 
     /// The certificate held at a place that is in range.
@@ -430,6 +448,71 @@ impl Member {
             previous,
             transactions: transactions.to_vec(),
         });
+        Ok(())
+    }
+
+    // ---- queues (point 6)
+
+    pub fn may_enqueue(&self, guest: u32, transaction: &Transaction) -> Answer<()> {
+        if guest >= GUESTS {
+            return Err(26);
+        }
+        if !transaction.in_range() {
+            return Err(6);
+        }
+        if self.waiting(guest) >= QUEUE {
+            return Err(27);
+        }
+        Ok(())
+    }
+
+    /// Adds a transaction to a guest's queue, as its youngest.
+    pub fn enqueue(&mut self, guest: u32, transaction: &Transaction) -> Answer<()> {
+        self.may_enqueue(guest, transaction)?;
+        self.queues[guest as usize].push_back(*transaction);
+        Ok(())
+    }
+
+    /// The guests in the order of a lap: from the one after the guest served
+    /// last, at first from 0, with 0 after 7.
+    fn lap(&self) -> impl Iterator<Item = u32> + Clone {
+        let first = self.served.map_or(0, |guest| guest + 1);
+        (0..GUESTS).map(move |step| (first + step) % GUESTS)
+    }
+
+    /// What a draw takes, and from whom, in order. Lap by lap: in the first
+    /// one the oldest transaction of each guest that has one, in the next the
+    /// second oldest of each that has two, and so on, as far as the allowance
+    /// goes.
+    pub fn drawn(&self) -> Vec<(u32, Transaction)> {
+        let mut drawn = Vec::new();
+        for nth in 0..QUEUE {
+            for guest in self.lap() {
+                if let Some(transaction) = self.queues[guest as usize].get(nth) {
+                    drawn.push((guest, *transaction));
+                }
+            }
+        }
+        drawn.truncate(self.settings.allowance as usize);
+        drawn
+    }
+
+    /// A draw is a propose of what is drawn.
+    pub fn may_draw(&self, previous: Set) -> Answer<()> {
+        let transactions: Vec<_> = self.drawn().into_iter().map(|(_, drawn)| drawn).collect();
+        self.may_propose(previous, &transactions)
+    }
+
+    /// Accepted, what was drawn leaves its queues, and the guest of the last
+    /// one becomes the guest served last; with nothing drawn that stays.
+    pub fn draw(&mut self, previous: Set) -> Answer<()> {
+        self.may_draw(previous)?;
+        let (guests, transactions): (Vec<_>, Vec<_>) = self.drawn().into_iter().unzip();
+        self.propose(previous, &transactions)?;
+        for guest in guests {
+            self.queues[guest as usize].pop_front();
+            self.served = Some(guest);
+        }
         Ok(())
     }
 

@@ -1,7 +1,7 @@
 //! `rustc --test tests_ref.rs`: the cases marked P in document 01, the slips
 //! it wants ruled out, the example, small runs worked out by hand, the order
-//! inside a block, batches, and the shortcuts of the reference compared with the
-//! plain definitions.
+//! inside a block, batches, queues, and the shortcuts of the reference compared
+//! with the plain definitions.
 
 #![allow(dead_code)]
 
@@ -10,7 +10,7 @@ mod runner_ref;
 
 use runner_ref::reference::*;
 use runner_ref::{read_number, run};
-use std::collections::BTreeSet;
+use std::collections::{BTreeSet, VecDeque};
 use Setting::{Blank, Written};
 
 fn sheet(lookback: Setting, ceiling: Setting, allowance: Setting, weights: &[u32]) -> Sheet {
@@ -672,6 +672,204 @@ fn any_of_a_row(rng: &mut Rng) -> Option<Certificate> {
         c.endorsers &= rng.below(16) as Set;
     }
     Some(c)
+}
+
+// -------------------------------------------------------------- queues ---
+
+/// Member 0 alone with an allowance, and what waits: pairs of a guest and the
+/// number of an entry, in the order of adding.
+fn with_waiting(allowance: u32, waiting: &[(u32, u32)]) -> Member {
+    let mut m = Member::open(0, &sheet(Blank, Written(64), Written(allowance), &[1, 0, 0, 0]), 64).unwrap();
+    add_all(&mut m, waiting);
+    m
+}
+
+fn add_all(m: &mut Member, waiting: &[(u32, u32)]) {
+    waiting.iter().for_each(|&(guest, number)| m.enqueue(guest, &entry(number)).unwrap());
+}
+
+/// Draws, certifies and goes on; the numbers of the entries drawn.
+fn draw(m: &mut Member) -> Vec<u32> {
+    m.draw(u16::from(m.round() > 1)).unwrap();
+    m.certify(0).unwrap();
+    let numbers = m.proposal().unwrap().transactions.iter().map(|t| match t {
+        Transaction::Entry { number } => *number,
+        _ => unreachable!(),
+    });
+    let numbers = numbers.collect();
+    m.advance().unwrap();
+    numbers
+}
+
+fn counts(m: &Member) -> Vec<usize> {
+    (0..GUESTS).map(|guest| m.waiting(guest)).collect()
+}
+
+/// The oldest of each, with 0 first; then lap after lap; then from the guest
+/// after the one served last.
+#[test]
+fn a_draw_goes_round() {
+    let mut m = with_waiting(4, &[(5, 50), (2, 20), (2, 21), (2, 22), (2, 23), (2, 24), (7, 70), (5, 51)]);
+    assert_eq!(m.served, None);
+    assert_eq!(draw(&mut m), [20, 50, 70, 21]);
+    assert_eq!((counts(&m), m.served), (vec![0, 0, 3, 0, 0, 1, 0, 0], Some(2)));
+    add_all(&mut m, &[(0, 1), (3, 30)]);
+    // After 2: 3, 5, 0 and 2 again.
+    assert_eq!(draw(&mut m), [30, 51, 1, 22]);
+    assert_eq!((counts(&m), m.served), (vec![0, 0, 2, 0, 0, 0, 0, 0], Some(2)));
+    // One guest alone may fill the proposal, and more than one lap is made.
+    assert_eq!(draw(&mut m), [23, 24]);
+    assert_eq!((counts(&m), m.served), (vec![0; 8], Some(2)));
+    // Nothing drawn: proposed all the same, and the guest served last stays.
+    assert_eq!(draw(&mut m), []);
+    assert_eq!(m.served, Some(2));
+    add_all(&mut m, &[(1, 10), (2, 25), (7, 71), (0, 2)]);
+    assert_eq!(draw(&mut m), [71, 2, 10, 25]);
+}
+
+/// A busy guest does not fill every proposal: with 0 after 7.
+#[test]
+fn a_busy_guest_shares() {
+    let mut m = with_waiting(2, &[]);
+    let mut busy = 600;
+    for round in 0..12 {
+        while m.waiting(6) < 8 {
+            add_all(&mut m, &[(6, busy)]);
+            busy += 1;
+        }
+        add_all(&mut m, &[(1, 100 + round)]);
+        assert_eq!(draw(&mut m), [100 + round, 600 + round]);
+    }
+    let mut m = with_waiting(1, &[(6, 60), (6, 61), (0, 1), (7, 70), (7, 71), (5, 50)]);
+    let drawn: Vec<u32> = (0..7).flat_map(|_| draw(&mut m)).collect();
+    assert_eq!(drawn, [1, 50, 60, 70, 61, 71]);
+}
+
+#[test]
+fn allowances_of_a_draw() {
+    for allowance in 0..=4 {
+        let mut m = with_waiting(allowance, &[(0, 1), (0, 2), (4, 41), (4, 42), (4, 43)]);
+        assert_eq!(draw(&mut m), [1, 41, 2, 42][..allowance as usize]);
+        let served = [None, Some(0), Some(4), Some(0), Some(4)][allowance as usize];
+        assert_eq!(m.served, served);
+        assert_eq!(counts(&m).iter().sum::<usize>(), 5 - allowance as usize);
+    }
+}
+
+/// 26, then 6, then 27; a refused one adds nothing. Freed places serve again.
+#[test]
+fn adding_is_refused_in_its_order() {
+    let eight: Vec<(u32, u32)> = (0..8).map(|number| (3, number)).collect();
+    let mut m = with_waiting(4, &eight);
+    let bad = [bond(16, 1), bond(0, 0), bond(0, 1_001), unbond(16)];
+    let good = [bond(15, 1_000), bond(0, 1), unbond(15), entry(u32::MAX)];
+    for transaction in bad {
+        for (guest, answer) in [(8, 26), (u32::MAX, 26), (3, 6), (7, 6)] {
+            assert_eq!(m.enqueue(guest, &transaction), Err(answer));
+        }
+    }
+    for transaction in good {
+        assert_eq!(m.enqueue(8, &transaction), Err(26));
+        assert_eq!(m.enqueue(3, &transaction), Err(27));
+        assert_eq!(m.enqueue(7, &transaction), Ok(()));
+    }
+    assert_eq!(counts(&m), [0, 0, 0, 8, 0, 0, 0, 4]);
+    assert_eq!(m.enqueue(7, &entry(7)), Ok(()));
+    assert_eq!(m.draw(0), Ok(()));
+    assert_eq!(m.proposal().unwrap().transactions, [entry(0), good[0], entry(1), good[1]]);
+    assert_eq!(counts(&m), [0, 0, 0, 6, 0, 0, 0, 3]);
+    for answer in [Ok(()), Ok(()), Err(27)] {
+        assert_eq!(m.enqueue(3, &entry(9)), answer);
+    }
+}
+
+/// A draw answers what a propose of the same list would, and refused changes
+/// nothing; 6 is none of its answers.
+#[test]
+fn a_draw_is_a_propose() {
+    let unchanged = |m: &mut Member, previous: Set, answer: u32| {
+        let before = (counts(m), m.served, m.proposal().cloned());
+        assert_eq!(m.draw(previous), Err(answer));
+        assert_eq!((counts(m), m.served, m.proposal().cloned()), before);
+    };
+    let some = [(0, 1), (1, 10), (1, 11), (6, 60), (7, 70)];
+    let mut m = with_waiting(2, &some);
+    unchanged(&mut m, 1, 7);
+    m.draw(0).unwrap();
+    unchanged(&mut m, 0, 10);
+    m.certify(0).unwrap();
+    unchanged(&mut m, 0, 10);
+    m.advance().unwrap();
+    unchanged(&mut m, 0, 7);
+    unchanged(&mut m, 2, 11);
+    m.draw(1).unwrap();
+    assert_eq!(m.proposal().unwrap().transactions, [entry(60), entry(70)]);
+    // A list handed in touches no queue.
+    let mut m = with_waiting(2, &some);
+    m.propose(0, &[entry(99)]).unwrap();
+    assert_eq!((counts(&m), m.served), (vec![1, 2, 0, 0, 0, 0, 1, 1], None));
+    // What was drawn does not come back with advance.
+    let mut m = with_waiting(2, &some);
+    m.draw(0).unwrap();
+    m.advance().unwrap();
+    assert_eq!((counts(&m), m.proposal()), (vec![0, 1, 0, 0, 0, 0, 1, 1], None));
+    // 12: half of two members; 9: outside; 8: not known.
+    let open = |own, lookback| Member::open(own, &sheet(Written(lookback), Written(64), Blank, &[1, 1, 0, 0]), 64).unwrap();
+    let mut m = open(0, 20);
+    m.accept(&certificate(0, 1, 0, 2, &[])).unwrap();
+    m.advance().unwrap();
+    add_all(&mut m, &some);
+    unchanged(&mut m, 1, 12);
+    let mut m = open(5, 20);
+    add_all(&mut m, &some);
+    unchanged(&mut m, 0, 9);
+    let mut m = open(0, 1);
+    (0..3).for_each(|_| m.advance().unwrap());
+    add_all(&mut m, &some);
+    unchanged(&mut m, 1, 8);
+    let m = Member::open(0, &Sheet::all_blank(), 1_024).unwrap();
+    assert_eq!((counts(&m), m.served), (vec![0; 8], None));
+}
+
+/// The next transaction of a draw, one by one: from the guest after the one
+/// served last, the first with something waiting.
+fn plain_drawn(m: &Member) -> Vec<(u32, Transaction)> {
+    let (mut queues, mut at): (Vec<VecDeque<_>>, _) = (m.queues.to_vec(), m.served.map_or(0, |guest| guest + 1));
+    let mut drawn = Vec::new();
+    while drawn.len() < m.settings().allowance as usize && queues.iter().any(|queue| !queue.is_empty()) {
+        if let Some(transaction) = queues[at as usize % 8].pop_front() {
+            drawn.push((at % 8, transaction));
+        }
+        at += 1;
+    }
+    drawn
+}
+
+#[test]
+fn draws_by_chance() {
+    let mut rng = Rng(0x5eed_0f6e_57a9_1ac1);
+    let mut by_length = [0; 5];
+    for _ in 0..20_000 {
+        let mut m = with_waiting(rng.below(5) as u32, &[]);
+        m.served = Some(rng.below(9) as u32).filter(|&guest| guest < 8);
+        let most = 1 + rng.below(8);
+        for guest in 0..GUESTS {
+            if rng.below(2) == 0 {
+                (0..rng.below(most + 1)).for_each(|k| add_all(&mut m, &[(guest, 10 * guest + k as u32)]));
+            }
+        }
+        let (before, expected) = (m.clone(), plain_drawn(&m));
+        assert_eq!(m.drawn(), expected);
+        by_length[expected.len()] += 1;
+        m.draw(0).unwrap();
+        let left = |guest: u32| expected.iter().filter(|(g, _)| *g == guest).count();
+        for guest in 0..GUESTS {
+            assert!(m.queues[guest as usize].iter().eq(before.queues[guest as usize].iter().skip(left(guest))));
+        }
+        assert_eq!(m.served, expected.last().map(|(guest, _)| *guest).or(before.served));
+        assert!(m.proposal().unwrap().transactions.iter().eq(expected.iter().map(|(_, drawn)| drawn)));
+    }
+    assert!(by_length.iter().all(|&draws| draws > 1_000), "{by_length:?}");
 }
 
 // -------------------------------------------------------------- runner ---

@@ -6,7 +6,8 @@
 # editions 2021 and 2024, one without the standard library, and the archive found in each of the
 # four ways; a replay of shuffled runs (seeds 1 to SEEDS, 20 where not given) that must answer as
 # the reference does; chains, and which words calls change; and CALLS (1,000,000) calls on grown and
-# on damaged states, and 50,000 certificates in batches, compared with the reference word by word.
+# on damaged states, 50,000 certificates in batches and 50,000 calls on queues, compared with the
+# reference word by word.
 set -eu
 cd "$(dirname "$0")/.."
 top=$(pwd)

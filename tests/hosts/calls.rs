@@ -61,6 +61,8 @@ pub enum Call {
     Advance,
     Commit,
     Batch { row: Vec<[u32; 17]>, answers: Vec<u32> },
+    Enqueue { guest: u32, transaction: Vec<u32> },
+    Draw { previous: u32 },
     Committee { round: u32, out: Vec<u32> },
     Share { member: u32, round: u32 },
     Certificate { author: u32, round: u32, out: Vec<u32> },
@@ -68,7 +70,7 @@ pub enum Call {
 }
 
 impl Call {
-    pub const NAMES: [&'static str; 12] = [
+    pub const NAMES: [&'static str; 14] = [
         "open",
         "propose",
         "endorse",
@@ -77,6 +79,8 @@ impl Call {
         "advance",
         "commit",
         "batch",
+        "enqueue",
+        "draw",
         "committee",
         "share",
         "certificate",
@@ -93,15 +97,20 @@ impl Call {
             Call::Advance => 5,
             Call::Commit => 6,
             Call::Batch { .. } => 7,
-            Call::Committee { .. } => 8,
-            Call::Share { .. } => 9,
-            Call::Certificate { .. } => 10,
-            Call::Block { .. } => 11,
+            Call::Enqueue { .. } => 8,
+            Call::Draw { .. } => 9,
+            Call::Committee { .. } => Call::CHANGING,
+            Call::Share { .. } => 11,
+            Call::Certificate { .. } => 12,
+            Call::Block { .. } => 13,
         }
     }
 
+    /// The kinds of calls that may change a word come first, then the reads.
+    pub const CHANGING: usize = 10;
+
     pub fn is_read(&self) -> bool {
-        self.kind() >= 8
+        self.kind() >= Call::CHANGING
     }
 
     /// The out stretch as it is before the call.
@@ -135,7 +144,7 @@ impl Pool {
             return;
         }
         match call {
-            Call::Propose { .. } => {
+            Call::Propose { .. } | Call::Draw { .. } => {
                 Pool::keep(&mut self.proposals, proposal_words(member.proposal.as_ref().unwrap()))
             }
             Call::Certify { endorsers } => {
@@ -284,10 +293,24 @@ fn out_stretch(rng: &mut Rng, needed: usize) -> Vec<u32> {
     (0..length).map(|_| rng.word()).collect()
 }
 
+/// A guest adds a transaction: one that fits, mostly; any guest, at times those
+/// with much waiting.
+pub fn likely_enqueue(rng: &mut Rng, member: &Member) -> Call {
+    let mut guest = rng.between(0, GUESTS - 1);
+    if rng.chance(300) {
+        guest = (0..GUESTS).max_by_key(|&g| (member.waiting(g) % QUEUE, g == guest)).unwrap_or(0);
+    }
+    let transaction = transaction_words(&any_transaction(rng)).to_vec();
+    Call::Enqueue { guest, transaction: longer(rng, transaction) }
+}
+
 /// A call that fits the state, mostly; one in nine is wild.
 pub fn likely_call(rng: &mut Rng, member: &Member, pool: &mut Pool) -> Call {
     if rng.chance(110) {
         return wild_call(rng, member, pool);
+    }
+    if rng.chance(120) {
+        return likely_enqueue(rng, member);
     }
     let (r, own) = (member.round, member.own);
     let ready = u32::from(member.held_authors(r)).count_ones();
@@ -296,6 +319,9 @@ pub fn likely_call(rng: &mut Rng, member: &Member, pool: &mut Pool) -> Call {
     match rng.below(100) {
         0..=11 if member.proposal.is_none() || rng.chance(200) => {
             let previous = likely_previous(rng, member, r);
+            if rng.chance(500) {
+                return Call::Draw { previous: u32::from(previous) };
+            }
             let transactions = some_transactions(rng, member.settings.allowance);
             let p = Proposal { author: own, round: r, previous, transactions };
             Call::Propose { body: longer(rng, body_words(&p).to_vec()) }
@@ -417,10 +443,50 @@ pub fn noise(rng: &mut Rng, length: usize) -> Vec<u32> {
     (0..length).map(|_| rng.word()).collect()
 }
 
+/// A transaction that may be out of range, or that cannot be read; at times
+/// words are missing.
+pub fn wild_transaction(rng: &mut Rng) -> Vec<u32> {
+    let mut words = transaction_words(&any_transaction(rng)).to_vec();
+    match rng.below(8) {
+        0 => words[0] = rng.pick(&[0, 1, 2, 3, 4, u32::MAX]),
+        1 => words[1] = rng.pick(&[0, 15, 16, 17, u32::MAX]),
+        2 => words[2] = rng.pick(&[0, 1, 1_000, 1_001, u32::MAX]),
+        3 => words = vec![rng.between(0, 2), rng.pick(&[15, 16]), rng.pick(&[0, 1_001])],
+        4 => words.truncate(rng.below(3) as usize),
+        5 => words[rng.below(3) as usize] = rng.word(),
+        _ => {}
+    }
+    words
+}
+
+pub fn wild_enqueue(rng: &mut Rng) -> Call {
+    let guest = match rng.below(3) {
+        0 => rng.pick(&[7, 8, 9, 15, 16, u32::MAX]),
+        _ => rng.between(0, GUESTS),
+    };
+    Call::Enqueue { guest, transaction: wild_transaction(rng) }
+}
+
+/// A draw with a previous set that may fit: one more, one less, any, no set.
+pub fn wild_draw(rng: &mut Rng, member: &Member) -> Call {
+    let near = u32::from(likely_previous(rng, member, member.round));
+    let previous = match rng.below(6) {
+        0 => 0,
+        1 => near ^ 1 << rng.below(16),
+        2 => near | rng.pick(&[1 << 16, 1 << 31]),
+        3 => rng.pick(&[1, 65_535, 65_536, u32::MAX]),
+        4 => rng.word(),
+        _ => near,
+    };
+    Call::Draw { previous }
+}
+
 /// A call that fits little: spoilt arguments, or any words at all.
 pub fn wild_call(rng: &mut Rng, member: &Member, pool: &mut Pool) -> Call {
     let fit = rng.chance(850);
-    match rng.below(12) {
+    match rng.below(15) {
+        12 | 13 => wild_enqueue(rng),
+        14 => wild_draw(rng, member),
         0 => Call::Open { own: rng.between(0, 17), sheet: wild_sheet(rng, member) },
         1 => {
             let p = Proposal { author: 0, ..likely_proposal(rng, member) };

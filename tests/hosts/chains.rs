@@ -33,13 +33,14 @@ mod header {
         pub fn header_refusal_text(number: u32) -> *const c_char;
         pub fn header_version() -> *const c_char;
         pub fn header_record_of(words: *const u32, record: *mut super::CertificateRecord);
+        pub fn header_waiting(t: *const u32, guest: u32) -> u32;
         pub fn header_number(which: u32) -> u32;
     }
 }
 
 /// Lengths and offsets of the package, in the order of header.c.
 #[rustfmt::skip]
-const NUMBERS: [usize; 37] = [
+const NUMBERS: [usize; 44] = [
     layout::FORMAT as usize, MEMBERS, layout::TRANSACTIONS, layout::BLOCKS, layout::STACK_BYTES,
     layout::STATE_WORDS, layout::BODY_WORDS, layout::PROPOSAL_WORDS, layout::CERTIFICATE_WORDS,
     layout::HELD_WORDS, layout::SHEET_WORDS, layout::STATE_OWN, layout::STATE_LOOKBACK,
@@ -49,7 +50,8 @@ const NUMBERS: [usize; 37] = [
     layout::RECORD_WORDS, layout::RECORD_PREVIOUS, layout::RECORD_COUNT, layout::RECORD_BLOCK,
     layout::RECORD_ENDORSERS, layout::RECORD_TRANSACTIONS, layout::row(7),
     layout::record(5, 7), forgelilac::table_words(64) as usize, 3 * MEMBERS * 64,
-    layout::BATCH_RECORDS, size_of::<CertificateRecord>(),
+    layout::BATCH_RECORDS, size_of::<CertificateRecord>(), layout::GUESTS, layout::QUEUE_PLACES,
+    layout::TRANSACTION_WORDS, layout::SERVED, layout::WAITING, layout::queue(0), layout::queue(7),
 ];
 
 fn text(of: *const c_char) -> &'static str {
@@ -66,12 +68,12 @@ fn compare_header() {
             assert_eq!(header::header_number(which) as usize, number, "number {which}");
         }
         assert_eq!(header::header_number(NUMBERS.len() as u32), u32::MAX);
-        for number in (1..=23).chain([25]) {
+        for number in (1..=23).chain(25..=27) {
             assert_eq!(text(header::header_refusal_text(number)), Refusal::of(number).unwrap().meaning());
         }
         assert_eq!(text(header::header_refusal_text(0)), "accepted");
         assert_eq!(text(header::header_refusal_text(24)), "record unreadable");
-        for number in [26, u32::MAX] {
+        for number in [28, u32::MAX] {
             assert_eq!(text(header::header_refusal_text(number)), "no refusal of this version");
         }
         let words = std::array::from_fn(|at| 100 + at as u32);
@@ -149,6 +151,7 @@ struct Figures {
     turned: u64,
     by_reads: u64,
     above: u64,
+    waiting: u64,
 }
 
 impl Figures {
@@ -161,6 +164,7 @@ impl Figures {
         // SAFETY: whole slices.
         let formed = unsafe { header::header_is_well_formed(state.as_ptr(), state.len(), table.as_ptr(), table.len()) };
         assert_eq!((formed == 1, engine.is_well_formed()), (node.twin.is_some(), node.twin.is_some()));
+        self.compare_waiting(node, &engine);
         let Some(twin) = &node.twin else {
             self.malformed += 1;
             self.without_blocks += u64::from(engine.blocks() == 0);
@@ -184,6 +188,23 @@ impl Figures {
         } else {
             self.by_reads += 1;
             assert_eq!(by_reads(&engine), Ok(expected));
+        }
+    }
+
+    /// How many wait, as package, header and reference have it; refused where the state is malformed.
+    fn compare_waiting(&mut self, node: &Node, engine: &Engine) {
+        for guest in [0, 1, 2, 3, 4, 5, 6, 7, 8, 9, u32::MAX] {
+            let found = (engine.waiting(guest), lent::waiting(&node.state, &node.table, guest));
+            let expected = match &node.twin {
+                None => Err(Refusal::Malformed),
+                Some(_) if guest > 7 => Err(Refusal::GuestRange),
+                Some(twin) => Ok(twin.waiting(guest) as u32),
+            };
+            assert_eq!(found, (expected, expected));
+            // SAFETY: a whole table, which has a row 0.
+            let in_header = unsafe { header::header_waiting(node.table.as_ptr(), guest) };
+            assert_eq!(in_header, expected.unwrap_or_else(|_| if guest > 7 { 0 } else { node.table[1 + guest as usize] }));
+            self.waiting += u64::from(expected.unwrap_or(0));
         }
     }
 
@@ -285,6 +306,9 @@ fn main() {
         figures.compare(&node);
         for turn in 0..3 {
             let mut copy = node.clone();
+            if rng.chance(200) {
+                change_queue(&mut rng, &mut copy.table);
+            }
             if turn == 0 {
                 make_up_chain(&mut rng, &member, &mut copy.state, &mut copy.table);
             } else {
@@ -300,5 +324,6 @@ fn main() {
     println!("{} blocks of {} certificates, at most {} in a state, {} of them not by round, then author: as the reference has them",
              f.blocks, f.certificates, f.most, f.turned);
     println!("{} states listed by reads alone too: the same; {} have a mark above the last block's round", f.by_reads, f.above);
+    println!("{} transactions waiting in queues: counted alike", f.waiting);
     time_full();
 }

@@ -1,4 +1,5 @@
-//! Host functions against the reference: `differential SEED [CALLS [TOTAL [CERTIFICATES]]]`.
+//! Host functions against the reference:
+//! `differential SEED [CALLS [TOTAL [CERTIFICATES [QUEUED]]]]`.
 //!
 //! Each call is made twice: by the engine on words, and by the reference on
 //! the member that the words before the call stand for. Compared after each
@@ -8,7 +9,7 @@
 //! First come single words at the edges of their ranges (`edges.rs`), then
 //! shares, among them every weight of every total up to TOTAL (`shares.rs`), then
 //! batches, until CERTIFICATES were handed over in them (`batches.rs`), then
-//! calls by chance. Their stretches start from states grown by runs, from such states
+//! QUEUED calls on queues (`queues.rs`), then calls by chance. Their stretches start from states grown by runs, from such states
 //! with words changed here and there, and with chains made up on what they hold. Whether
 //! a changed state is well formed is judged by `words.rs`, from the papers.
 //!
@@ -25,6 +26,7 @@ mod engine;
 mod engine;
 mod grow;
 mod nodes;
+mod queues;
 #[path = "../../reference/reference.rs"]
 mod reference;
 mod rows;
@@ -34,6 +36,7 @@ mod words;
 use calls::*;
 use grow::*;
 use nodes::*;
+use queues::waiting_of;
 use reference::*;
 use rows::some_batch;
 use words::*;
@@ -86,6 +89,11 @@ fn by_reference(
             let row: Vec<_> = row.iter().map(|words| read_certificate(words)).collect();
             member.batch(&row, out).map(|()| 0)
         }
+        Call::Enqueue { guest, transaction } => {
+            let words = transaction.get(..3).ok_or(1u32)?;
+            member.enqueue(*guest, &read_transaction(words).ok_or(1u32)?).map(|()| 0)
+        }
+        Call::Draw { previous } => member.draw(read_set(*previous).ok_or(1u32)?).map(|()| 0),
         Call::Committee { round, .. } => {
             let out = out.get_mut(..16).ok_or(1u32)?;
             let weights = member.read_committee(*round)?;
@@ -117,6 +125,10 @@ fn by_engine(call: &Call, state: &mut [u32], table: &mut [u32], out: &mut [u32])
         Call::Advance => plain(engine::advance(state, table)),
         Call::Commit => engine::commit(state, table),
         Call::Batch { row, .. } => plain(engine::batch(state, table, row, out)),
+        Call::Enqueue { guest, transaction } => {
+            plain(engine::enqueue(state, table, *guest, transaction))
+        }
+        Call::Draw { previous } => plain(engine::draw(state, table, *previous)),
         Call::Committee { round, .. } => plain(engine::committee(state, table, *round, out)),
         Call::Share { member, round } => engine::share(state, table, *member, *round),
         Call::Certificate { author, round, .. } => {
@@ -131,7 +143,10 @@ fn write_after(call: &Call, member: &Member, state: &mut [u32], table: &mut [u32
     if matches!(call, Call::Open { .. }) {
         table[..table_words(member.settings.ceiling)].fill(0);
     }
-    if matches!(call, Call::Open { .. } | Call::Propose { .. } | Call::Advance | Call::Commit) {
+    if matches!(
+        call,
+        Call::Open { .. } | Call::Propose { .. } | Call::Draw { .. } | Call::Advance | Call::Commit
+    ) {
         state[..STATE_WORDS].copy_from_slice(&state_words(member));
     }
     if !matches!(call, Call::Open { .. } | Call::Propose { .. } | Call::Advance) && !call.is_read()
@@ -170,6 +185,7 @@ struct Figures {
     /// Calls by ceiling: up to 40, up to 255, larger.
     sizes: [u64; 3],
     batches: batches::Figures,
+    queues: queues::Figures,
 }
 
 impl Figures {
@@ -243,6 +259,7 @@ impl Figures {
             self.shares, self.zeros, self.most_weight
         );
         self.batches.print();
+        self.queues.print();
         let [small, middle, large] = self.sizes;
         println!("calls by ceiling: {small} up to 40, {middle} up to 255, {large} up to 1,024");
         println!("changed states: {}, of them not well formed: {}", self.changed, self.malformed);
@@ -283,6 +300,7 @@ impl Test {
         };
         let mut found_out = call.out().to_vec();
         let mut expected_out = found_out.clone();
+        let waited = waiting_of(call, node.twin.as_ref());
         self.before_state.clone_from(&node.state);
         self.before_table.clone_from(&node.table);
         let found = by_engine(call, &mut node.state[..ns], &mut node.table[..nt], &mut found_out);
@@ -312,6 +330,9 @@ impl Test {
             node.table.clone_from(&self.before_table);
         }
         self.figures.count(call, expected);
+        if matches!(call, Call::Draw { .. }) {
+            self.figures.queues.count_draw(answer, waited, waiting_of(call, node.twin.as_ref()));
+        }
         if let (Call::Committee { round, .. }, Ok(_), Some(member)) = (call, answer, &node.twin) {
             self.figures.count_committee(member, *round);
         }
@@ -443,6 +464,7 @@ fn main() {
     let most = arguments.next().map_or(80, |a| a.parse().expect("TOTAL is a number"));
     let certificates =
         arguments.next().map_or(50_000, |a| a.parse().expect("CERTIFICATES is a number"));
+    let queued = arguments.next().map_or(50_000, |a| a.parse().expect("QUEUED is a number"));
     let mut test = Test {
         seed,
         rng: Rng::of(seed),
@@ -458,12 +480,15 @@ fn main() {
     let before = test.figures.calls;
     test.shares(most);
     println!("shares, every pair up to total {most}: {} calls", test.figures.calls - before);
-    let shares = test.figures.calls;
+    let before = test.figures.calls;
     test.batches(certificates);
-    let batches = test.figures.calls - shares;
+    let batches = test.figures.calls - before;
     println!("batches of {certificates} certificates and more: {batches} calls");
-    let calls = calls + test.figures.calls - before;
-    while test.figures.calls < calls {
+    let before = test.figures.calls;
+    test.queues(queued);
+    println!("queues: {} calls", test.figures.calls - before);
+    let enough = test.figures.calls + calls;
+    while test.figures.calls < enough {
         test.stretch();
     }
     test.end()

@@ -21,6 +21,8 @@ fn each_call(member: &Member) -> Vec<Call> {
         Call::Certify { endorsers: 0 },
         Call::Accept { certificate: words.to_vec() },
         Call::Batch { row: vec![words; 2], answers: vec![7; 3] },
+        Call::Enqueue { guest: 1, transaction: vec![2, 7, 0] },
+        Call::Draw { previous: u32::from(previous) },
         Call::Commit,
         Call::Committee { round, out: vec![7; 16] },
         Call::Share { member: member.own, round },
@@ -213,5 +215,6 @@ impl Test {
             let state = state_words(&member).to_vec();
             self.try_edges(&Node { state, table, twin: Some(member) });
         }
+        self.queue_edges();
     }
 }

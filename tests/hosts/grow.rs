@@ -26,6 +26,8 @@ pub struct Plan {
     /// contested, whom some authors of a round bond and others unbond.
     contests: u32,
     contested: u32,
+    /// In 1,000: how often a guest of a grown member adds one more in a round.
+    busy: u32,
 }
 
 fn any_lookback(rng: &mut Rng, ceiling: u32) -> u32 {
@@ -102,6 +104,7 @@ impl Plan {
             full: rng.pick(&[300, 700, 1_000, 1_000]),
             contests: rng.pick(&[0, 0, 300, 700]),
             contested: rng.between(0, 15),
+            busy: rng.pick(&[0, 50, 200, 600]),
         }
     }
 
@@ -123,6 +126,26 @@ fn contest(rng: &mut Rng, member: u32) -> Transaction {
     }
 }
 
+/// A propose, or a draw in its place; whether it was accepted.
+fn proposes(rng: &mut Rng, member: &mut Member, p: &Proposal) -> bool {
+    let answer = match rng.chance(500) {
+        true => member.draw(p.previous),
+        false => member.propose(p.previous, &p.transactions),
+    };
+    answer.is_ok()
+}
+
+/// Any queues and any guest served last: empty, full, or something between.
+pub fn fill_queues(rng: &mut Rng, member: &mut Member) {
+    let (some, most) = (rng.pick(&[200, 500, 1_000]), rng.pick(&[1, 2, 4, 7, 8, 8]));
+    for queue in &mut member.queues {
+        let least = if rng.chance(300) { most } else { 0 };
+        let count = if rng.chance(some) { rng.between(least, most) } else { 0 };
+        *queue = (0..count).map(|_| any_transaction(rng)).collect();
+    }
+    member.served = Some(rng.between(0, GUESTS)).filter(|&guest| guest < GUESTS);
+}
+
 /// Runs a member on to a round, with certificates made up to fit it.
 pub fn grow(rng: &mut Rng, mut member: Member, to: u32, plan: &Plan) -> Member {
     loop {
@@ -133,6 +156,9 @@ pub fn grow(rng: &mut Rng, mut member: Member, to: u32, plan: &Plan) -> Member {
         let before = if round > 1 { member.held_authors(round - 1) } else { 0 };
         if inside == 0 || round > 1 && before == 0 {
             break;
+        }
+        for guest in 0..GUESTS {
+            while rng.chance(plan.busy) && member.enqueue(guest, &plan.transaction(rng)).is_ok() {}
         }
         for author in members_of(inside) {
             if !rng.chance(plan.full) {
@@ -145,11 +171,8 @@ pub fn grow(rng: &mut Rng, mut member: Member, to: u32, plan: &Plan) -> Member {
                 .collect();
             let proposal = Proposal { author, round, previous, transactions };
             let endorsers = some_quorum(rng, &committee, author);
-            // Its own goes the way of propose and certify where it can.
-            if author == member.own
-                && rng.chance(800)
-                && member.propose(previous, &proposal.transactions).is_ok()
-            {
+            // Its own goes the way of propose or draw and certify where it can.
+            if author == member.own && rng.chance(800) && proposes(rng, &mut member, &proposal) {
                 if rng.chance(900) {
                     member.certify(endorsers).expect("a quorum endorsed it");
                 }
@@ -197,7 +220,7 @@ pub fn change_word(rng: &mut Rng, member: &Member, state: &mut [u32], table: &mu
     let near = if rng.chance(700) { member.round } else { ceiling };
     let row = ROW * rng.between(1, near) as usize;
     let record = held_place(rng, member).map(|(a, r)| ROW * r as usize + 16 + 16 * a as usize);
-    let sort = rng.below(25);
+    let sort = rng.below(30);
     match (sort, record) {
         (0, _) => table[rng.below(table.len() as u64) as usize] = rng.word(),
         (1, _) => table[row] ^= 1 << rng.below(16),
@@ -237,8 +260,35 @@ pub fn change_word(rng: &mut Rng, member: &Member, state: &mut [u32], table: &mu
         (18, _) => table[row + 16 + 16 * rng.below(16) as usize + 3] = rng.word(),
         (19, _) => table[rng.below(ROW as u64) as usize] = rng.word(),
         (20, _) => table[row + 3 + rng.below(13) as usize] = rng.word(),
+        (21..=25, _) => change_queue(rng, table),
         _ => change_state(rng, member, state),
     }
+}
+
+/// Changes a word of row 0, at a telling place or at any.
+pub fn change_queue(rng: &mut Rng, table: &mut [u32]) {
+    let guest = rng.between(0, GUESTS - 1);
+    let count = table[waiting_word(guest)];
+    // Mostly a place of something that waits, at times any, or the one behind.
+    let place = match rng.below(4) {
+        0 => rng.below(QUEUE as u64) as usize,
+        1 => count.min(7) as usize,
+        _ => rng.below(u64::from(count.min(8))) as usize,
+    };
+    let at = queue_place(guest, place);
+    let (at, value) = match rng.below(10) {
+        0 | 1 => (SERVED, rng.pick(&[0, 1, 2, 7, 8, 8, 9, u32::MAX])),
+        2 => (waiting_word(guest), rng.pick(&[0, 1, 7, 8, 9, u32::MAX])),
+        3 => (waiting_word(guest), count.wrapping_add(1)),
+        4 => (waiting_word(guest), count.wrapping_sub(1)),
+        5 => (at, rng.between(0, 3)),
+        6 => (at + 1, rng.pick(&[0, 15, 16, u32::MAX])),
+        7 => (at + 2, rng.pick(&[0, 1, 1_000, 1_001, u32::MAX])),
+        8 => (rng.below(ROW as u64) as usize, rng.word()),
+        // Words that are kept for later.
+        _ => (rng.pick(&[9, 15, 16, 23]) + 32 * rng.below(8) as usize, rng.word()),
+    };
+    table[at] = value;
 }
 
 /// A chain that no run makes, on the certificates that are held: any even,

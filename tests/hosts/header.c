@@ -8,6 +8,7 @@ uint32_t header_leader(uint32_t round, const uint32_t *weights);
 const char *header_refusal_text(uint32_t number);
 const char *header_version(void);
 void header_record_of(const uint32_t *words, struct forgelilac_certificate *record);
+uint32_t header_waiting(const uint32_t *table, uint32_t guest);
 uint32_t header_number(uint32_t which);
 
 uint64_t header_chain(const uint32_t *state, size_t state_words, const uint32_t *table, size_t table_words,
@@ -29,6 +30,8 @@ void header_record_of(const uint32_t *words, struct forgelilac_certificate *reco
     *record = forgelilac_record_of(words);
 }
 
+uint32_t header_waiting(const uint32_t *table, uint32_t guest) { return forgelilac_waiting(table, guest); }
+
 /* Lengths and offsets, in the order of NUMBERS in chains.rs. */
 uint32_t header_number(uint32_t which) {
     static const uint32_t numbers[] = {
@@ -41,7 +44,9 @@ uint32_t header_number(uint32_t which) {
         FORGELILAC_RECORD_WORDS, FORGELILAC_RECORD_PREVIOUS, FORGELILAC_RECORD_COUNT, FORGELILAC_RECORD_BLOCK,
         FORGELILAC_RECORD_ENDORSERS, FORGELILAC_RECORD_TRANSACTIONS, (uint32_t)FORGELILAC_ROW(7u),
         (uint32_t)FORGELILAC_RECORD(5u, 7u), FORGELILAC_TABLE_WORDS(64u), FORGELILAC_CHAIN_WORDS(64u),
-        FORGELILAC_BATCH_RECORDS, (uint32_t)sizeof(struct forgelilac_certificate),
+        FORGELILAC_BATCH_RECORDS, (uint32_t)sizeof(struct forgelilac_certificate), FORGELILAC_GUESTS,
+        FORGELILAC_QUEUE_PLACES, FORGELILAC_TRANSACTION_WORDS, FORGELILAC_SERVED, FORGELILAC_WAITING,
+        FORGELILAC_QUEUE(0u), FORGELILAC_QUEUE(7u),
     };
     return which < sizeof numbers / sizeof numbers[0] ? numbers[which] : UINT32_MAX;
 }

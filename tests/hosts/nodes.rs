@@ -31,6 +31,8 @@ impl Node {
             for row in table.chunks_mut(ROW) {
                 row[0] = 0;
             }
+            // Nothing waits before the member's queues are written.
+            table[..9].fill(0);
             if member.proposal.is_none() {
                 state[23..].fill_with(|| rng.word());
             }

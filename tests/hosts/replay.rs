@@ -1,7 +1,8 @@
 //! `replay STREAM...`: plays streams of records to an engine through the bindings and to the
 //! reference rules at once. Every answer must be the same, and at each chain record and at the
 //! end of a stream every read, with arguments in and out of range; the chain that the bindings
-//! read must be the reference's listing, to the byte.
+//! read must be the reference's listing, to the byte. Of two proposes one goes by the queues: its
+//! transactions are added, and it becomes a draw.
 
 #[path = "../../reference/runner_ref.rs"]
 mod runner_ref;
@@ -74,12 +75,16 @@ struct Replay {
     /// Blocks listed, and those that do not go by round, then author.
     blocks: u64,
     turned: u64,
+    /// Transactions added, and draws that were accepted.
+    added: u64,
+    drawn: u64,
 }
 
 impl Replay {
     fn new() -> Replay {
         let closed = Engine::restore([u32::MAX; STATE_WORDS], Vec::new());
-        Replay { engine: closed, runner: Runner::default(), records: 0, reads: 0, blocks: 0, turned: 0 }
+        let runner = Runner::default();
+        Replay { engine: closed, runner, records: 0, reads: 0, blocks: 0, turned: 0, added: 0, drawn: 0 }
     }
 
     fn open(&mut self, own: u32, settings: &reference::Sheet) -> Outcome {
@@ -111,9 +116,37 @@ impl Replay {
         }
     }
 
+    /// The transactions of a propose go to queues, and what is drawn is proposed.
+    fn by_queues(&mut self, member: &mut reference::Member, previous: u16, transactions: &[reference::Transaction]) {
+        for (place, one) in transactions.iter().enumerate() {
+            // Now and then a guest above 7.
+            let guest = (self.records as u32 * 5 + place as u32 * 3) % 9;
+            let answer = member.enqueue(guest, one);
+            self.added += u64::from(answer.is_ok());
+            let found = self.engine.enqueue(guest, transaction(one));
+            self.same(found, answer);
+        }
+        let answer = member.draw(previous);
+        self.drawn += u64::from(answer.is_ok());
+        let found = self.engine.draw(previous);
+        self.same(found, answer);
+        for guest in 0..8 {
+            self.same(self.engine.waiting(guest), Ok(member.waiting(guest) as u32));
+        }
+    }
+
     fn record(&mut self, record: &Record) {
-        let expected = self.runner.answer(Some(record), &mut Vec::new());
-        assert_eq!(self.answer(record), expected, "record {}", self.records);
+        match (record, self.runner.member.take()) {
+            (Record::Propose { previous, transactions }, Some(mut member)) if self.records % 2 == 0 => {
+                self.by_queues(&mut member, *previous, transactions);
+                self.runner.member = Some(member);
+            }
+            (_, member) => {
+                self.runner.member = member;
+                let expected = self.runner.answer(Some(record), &mut Vec::new());
+                assert_eq!(self.answer(record), expected, "record {}", self.records);
+            }
+        }
         self.records += 1;
         if let Some(member) = &self.runner.member {
             assert_eq!(self.engine.round(), member.round());
@@ -160,7 +193,7 @@ impl Replay {
 }
 
 fn main() -> std::io::Result<()> {
-    let (mut streams, mut records, mut reads, mut blocks, mut turned) = (0, 0, 0, 0, 0);
+    let (mut streams, mut records, mut reads, mut blocks, mut turned, mut added, mut drawn) = (0, 0, 0, 0, 0, 0, 0);
     for path in std::env::args().skip(1) {
         let mut replay = Replay::new();
         let mut input = std::io::BufReader::new(std::fs::File::open(path)?);
@@ -176,8 +209,11 @@ fn main() -> std::io::Result<()> {
         reads += replay.reads;
         blocks += replay.blocks;
         turned += replay.turned;
+        added += replay.added;
+        drawn += replay.drawn;
     }
     println!("{streams} streams, {records} records, {reads} reads: the same as the reference");
     println!("{blocks} blocks listed, {turned} of them not by round, then author");
+    println!("{added} transactions added to queues, {drawn} draws accepted");
     Ok(())
 }

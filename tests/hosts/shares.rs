@@ -101,7 +101,8 @@ fn bonded(rng: &mut Rng, weights: &Committee, ceiling: u32) -> Option<Member> {
     }
     let chain = vec![Block::on(&[], &settings, 2, marked, &held)];
     let endorsed = vec![false; held.len()];
-    Some(Member { own: 0, settings, round: 3, proposal: None, held, endorsed, chain })
+    let queues = Queues::default();
+    Some(Member { own: 0, settings, round: 3, proposal: None, held, endorsed, chain, queues, served: None })
 }
 
 impl Test {

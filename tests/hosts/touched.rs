@@ -41,6 +41,11 @@ fn make(call: &Call, node: &mut Node, answers: &mut [u32]) -> Result<u32, Refusa
             let row: Vec<CertificateRecord> = row.iter().map(|&words| words.into()).collect();
             lent::batch(state, table, &row, answers).map(|()| 0)
         }
+        Call::Enqueue { guest, transaction } => lent::enqueue(state, table, *guest, transaction).map(|()| 0),
+        Call::Draw { previous } => {
+            let previous = Set::try_from(*previous).map_err(|_| Refusal::Malformed)?;
+            lent::draw(state, table, previous).map(|()| 0)
+        }
         Call::Committee { round, .. } => lent::committee(state, table, *round).map(|_| 0),
         Call::Share { member, round } => lent::share(state, table, *member, *round),
         Call::Certificate { author, round, .. } => lent::certificate(state, table, *author, *round).map(|_| 0),
@@ -56,13 +61,23 @@ enum Word {
     Endorsed,
     BlockRound,
     Record(usize),
+    Served,
+    Waiting,
+    Queue(usize),
     Other,
 }
 
-/// Which word of the table this is, its row, and for a record its author.
+/// Which word of the table this is, its row, and for a record its author. In row 0 the place of a
+/// queue counts, and the last is the guest.
 fn word_at(at: usize) -> (Word, u32, u32) {
     let (row, within) = ((at / ROW) as u32, at % ROW);
     match within {
+        0 if row == 0 => (Word::Served, row, 0),
+        1..=8 if row == 0 => (Word::Waiting, row, within as u32 - 1),
+        24.. if row == 0 && (within - 24) % 32 < 24 => {
+            (Word::Queue((within - 24) % 32 / 3), row, (within as u32 - 24) / 32)
+        }
+        _ if row == 0 => (Word::Other, row, 0),
         0 => (Word::Held, row, 0),
         1 => (Word::Endorsed, row, 0),
         2 => (Word::BlockRound, row, 0),
@@ -75,7 +90,7 @@ fn word_at(at: usize) -> (Word, u32, u32) {
 fn named_in_state(call: &Call) -> &'static [usize] {
     const BODY_AND: [usize; 16] = [20, 21, 23, 24, 25, 26, 27, 28, 29, 30, 31, 32, 33, 34, 35, 36];
     match call {
-        Call::Propose { .. } => &BODY_AND[1..],
+        Call::Propose { .. } | Call::Draw { .. } => &BODY_AND[1..],
         Call::Advance => &BODY_AND,
         Call::Commit => &[22],
         _ => &[],
@@ -108,6 +123,21 @@ fn named_in_table(call: &Call, before: &Node, after: &Node, answers: &[u32], at:
         Call::Accept { certificate } => named_by_accept(certificate, at),
         Call::Batch { row, .. } => {
             row.iter().zip(answers).any(|(words, &answer)| answer == 0 && named_by_accept(words, at))
+        }
+        Call::Enqueue { guest, .. } => match word {
+            Word::Waiting => author == *guest,
+            Word::Queue(place) => author == *guest && place as u32 == before.table[1 + *guest as usize],
+            _ => false,
+        },
+        Call::Draw { .. } => {
+            let drawn = |guest: u32| after.table[1 + guest as usize] < before.table[1 + guest as usize];
+            match word {
+                Word::Served => (0..8).any(drawn),
+                Word::Waiting => drawn(author),
+                // The last place stays.
+                Word::Queue(place) => drawn(author) && place < 7,
+                _ => false,
+            }
         }
         Call::Commit => {
             let new = before.state[22] + 1..=after.state[22];
@@ -175,8 +205,13 @@ impl Figures {
     fn all_seen(&self) {
         let state = |words: &[usize]| words.iter().map(|&at| Word::State(at)).collect::<Vec<_>>();
         let record = || (0..16).map(Word::Record);
-        let table: [Vec<Word>; 8] = [
-            [Word::Held, Word::Endorsed, Word::BlockRound].into_iter().chain(record()).collect(),
+        let places = |last| (0..=last).map(Word::Queue);
+        let table: [Vec<Word>; Call::CHANGING] = [
+            [Word::Held, Word::Endorsed, Word::BlockRound, Word::Served, Word::Waiting]
+                .into_iter()
+                .chain(record())
+                .chain(places(7))
+                .collect(),
             Vec::new(),
             vec![Word::Endorsed],
             [Word::Held].into_iter().chain(record()).collect(),
@@ -184,20 +219,25 @@ impl Figures {
             Vec::new(),
             vec![Word::BlockRound, Word::Record(2)],
             [Word::Held, Word::Endorsed].into_iter().chain(record()).collect(),
+            [Word::Waiting].into_iter().chain(places(7)).collect(),
+            [Word::Served, Word::Waiting].into_iter().chain(places(6)).collect(),
         ];
         let all: Vec<usize> = (0..STATE_WORDS).collect();
         let body: Vec<usize> = (23..STATE_WORDS).collect();
-        let of_state: [Vec<usize>; 8] = [
+        let proposal = [&[21], &body[..]].concat();
+        let of_state: [Vec<usize>; Call::CHANGING] = [
             all,
-            [&[21], &body[..]].concat(),
+            proposal.clone(),
             Vec::new(),
             Vec::new(),
             Vec::new(),
             [&[20, 21], &body[..]].concat(),
             vec![22],
             Vec::new(),
+            Vec::new(),
+            proposal,
         ];
-        for kind in 0..8 {
+        for kind in 0..Call::CHANGING {
             for word in state(&of_state[kind]).into_iter().chain(table[kind].iter().copied()) {
                 assert!(self.seen[kind].contains(&word), "{} never changed {word:?}", Call::NAMES[kind]);
             }
@@ -205,7 +245,7 @@ impl Figures {
     }
 
     fn print(&self) {
-        for kind in 0..8 {
+        for kind in 0..Call::CHANGING {
             let (state, table) = self.most[kind];
             println!("{}: {} accepted, at most {state} words of the state and {table} of the table changed",
                      Call::NAMES[kind], self.accepted[kind]);

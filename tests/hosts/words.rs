@@ -1,16 +1,29 @@
 //! State, table and argument words as values of the reference, and back.
 //!
-//! Written from document 01, points 1 (well formed states) and 2 (order inside
+//! Written from document 01, points 1 and 6 (well formed states) and 2 (order inside
 //! a block), docs/TABLES.md and the host's layouts. `None` stands for "refused with 1": words that
 //! cannot be read, or a state that is not well formed.
 
 use crate::reference::*;
+use std::collections::VecDeque;
 
 pub const STATE_WORDS: usize = 37;
 pub const ROW: usize = 272;
 
 pub fn table_words(ceiling: u32) -> usize {
     ROW * (ceiling as usize + 1)
+}
+
+/// Words of row 0: the guest served last and 1 more, 0 for none; how many wait
+/// for a guest; a place of its queue, the oldest transaction in place 0.
+pub const SERVED: usize = 0;
+
+pub fn waiting_word(guest: u32) -> usize {
+    1 + guest as usize
+}
+
+pub fn queue_place(guest: u32, place: usize) -> usize {
+    24 + 32 * guest as usize + 3 * place
 }
 
 // ------------------------------------------------------------- reading ---
@@ -121,7 +134,31 @@ pub fn read_member(state: &[u32], table: &[u32]) -> Option<Member> {
     let table = table.get(..table_words(ceiling))?;
     let (held, endorsed) = read_places(table, &settings, blocks)?;
     let chain = read_chain(table, &settings, blocks, &held)?;
-    Some(Member { own, settings, round, proposal, held, endorsed, chain })
+    let (queues, served) = read_queues(&table[..ROW])?;
+    Some(Member { own, settings, round, proposal, held, endorsed, chain, queues, served })
+}
+
+/// At most eight transactions in each queue, all in range, and a guest served
+/// last of 0 to 7 or none.
+fn read_queues(row: &[u32]) -> Option<(Queues, Option<u32>)> {
+    let served = match row[SERVED] {
+        0 => None,
+        word if word <= GUESTS => Some(word - 1),
+        _ => return None,
+    };
+    let mut queues = Queues::default();
+    for (guest, queue) in (0..).zip(&mut queues) {
+        let count = row[waiting_word(guest)];
+        if count > QUEUE as u32 {
+            return None;
+        }
+        let transaction = |place| {
+            let words = &row[queue_place(guest, place)..][..3];
+            read_transaction(words).filter(Transaction::in_range)
+        };
+        *queue = (0..count as usize).map(transaction).collect::<Option<VecDeque<_>>>()?;
+    }
+    Some((queues, served))
 }
 
 /// The endorsers in a held record: a set of members, its author not among
@@ -248,10 +285,29 @@ pub fn state_words(member: &Member) -> [u32; STATE_WORDS] {
     words
 }
 
-/// Writes a member's certificates, marks and blocks over a table. What is no
-/// part of the state stays, except in records of certificates that the table
-/// did not hold: all of their sixteen words are written.
+/// Writes a member's queues over row 0. Where fewer wait than the row says, so
+/// many have left: what stands at a place now stood so many places behind it,
+/// as far as the last place.
+fn write_queues(member: &Member, row: &mut [u32]) {
+    row[SERVED] = member.served.map_or(0, |guest| guest + 1);
+    for (guest, queue) in (0..).zip(&member.queues) {
+        let left = (row[waiting_word(guest)] as usize).saturating_sub(queue.len());
+        for place in 0..QUEUE {
+            let from = queue_place(guest, (place + left).min(QUEUE - 1));
+            row.copy_within(from..from + 3, queue_place(guest, place));
+        }
+        for (place, transaction) in queue.iter().enumerate() {
+            row[queue_place(guest, place)..][..3].copy_from_slice(&transaction_words(transaction));
+        }
+        row[waiting_word(guest)] = queue.len() as u32;
+    }
+}
+
+/// Writes a member's queues, certificates, marks and blocks over a table. What
+/// is no part of the state stays, except in records of certificates that the
+/// table did not hold: all of their sixteen words are written.
 pub fn write_table(member: &Member, table: &mut [u32]) {
+    write_queues(member, &mut table[..ROW]);
     for (round, row) in
         (0..).zip(table.chunks_mut(ROW)).take(member.settings.ceiling as usize + 1).skip(1)
     {

@@ -103,6 +103,50 @@ fn print_batch(engine: &Engine) -> Result<(), Refusal> {
     Ok(())
 }
 
+const BUSY: u32 = 2;
+
+/// What the member proposes in this round, and how many wait for each guest.
+fn print_drawn(engine: &Engine) -> Result<(), Refusal> {
+    let proposal = engine.proposal().expect("just drawn");
+    let number = |transaction: &Transaction| match *transaction {
+        Transaction::Entry { number } => format!(" {number}"),
+        _ => unreachable!("guests add entries alone"),
+    };
+    let drawn: String = proposal.transactions.iter().map(number).collect();
+    let waiting = (0..8).map(|guest| engine.waiting(guest)).collect::<Result<Vec<_>, _>>()?;
+    let waiting: String = waiting.iter().map(|count| format!(" {count}")).collect();
+    println!("  round {}:{drawn}; wait:{waiting}", proposal.round);
+    Ok(())
+}
+
+/// Guests of a fourth computer, which here is alone, share its proposals. Guest 2 is busy and fills
+/// its queue before each; guests 5 and 0 have something now and then. An entry tells its guest.
+fn print_queues() -> Result<(), Refusal> {
+    let mut sheet = Sheet { ceiling: Some(64), ..Sheet::default() };
+    sheet.weights[..4].copy_from_slice(&[Some(0), Some(0), Some(0), Some(1)]);
+    let mut engine = Engine::open(3, &sheet)?;
+    let mut busy = (100 * BUSY..).map(|number| Transaction::Entry { number });
+    println!("guests share the proposals of a member alone");
+    for round in 1..=4 {
+        while engine.waiting(BUSY)? < 8 {
+            engine.enqueue(BUSY, busy.next().expect("numbers enough"))?;
+        }
+        let others: &[(u32, u32)] = match round {
+            1 => &[(5, 500), (5, 501)],
+            2 => &[(0, 0)],
+            _ => &[],
+        };
+        for &(guest, number) in others {
+            engine.enqueue(guest, Transaction::Entry { number })?;
+        }
+        engine.draw(held(&engine, round - 1))?;
+        print_drawn(&engine)?;
+        engine.certify(0)?;
+        engine.advance()?;
+    }
+    Ok(())
+}
+
 fn main() -> Result<(), Refusal> {
     let mut engines = (0..3).map(|own| Engine::open(own, &sheet())).collect::<Result<Vec<_>, _>>()?;
     for round in 1..=LAST_ROUND {
@@ -124,5 +168,6 @@ fn main() -> Result<(), Refusal> {
     print_endorsers(&engines[0], LAST_ROUND)?;
     let shares = (0..3).map(|member| engines[0].share(member, LAST_ROUND)).collect::<Result<Vec<_>, _>>()?;
     println!("shares in round {LAST_ROUND}, in thousandths: {shares:?}");
-    print_batch(&engines[0])
+    print_batch(&engines[0])?;
+    print_queues()
 }

@@ -1,10 +1,7 @@
 //! An engine that owns its state and table.
 
 use crate::chain::Listing;
-use crate::layout::{
-    BODY_WORDS, PROPOSAL_WORDS, STATE_BLOCKS, STATE_BODY, STATE_OWN, STATE_PROPOSED, STATE_ROUND,
-    STATE_WORDS,
-};
+use crate::layout::{STATE_BLOCKS, STATE_OWN, STATE_ROUND, STATE_WORDS};
 use crate::lent::{self, CertificateRecord, Place};
 use crate::{body_words, table_words, CEILING, MEMBERS};
 use crate::{Block, Certificate, Held, Proposal, Refusal, Set, Sheet, Transaction};
@@ -73,13 +70,35 @@ impl Engine {
 
     // ---- calls
 
-    /// Proposes transactions for one's own place of the present round. The proposal is kept until
-    /// advance; store the engine before the signature leaves.
+    /// Proposes transactions for one's own place of the present round, and touches no queue. The
+    /// proposal is kept until advance; store the engine before the signature leaves.
     ///
     /// # Errors
     /// 1, 6, 7, 10, 8, 9, 11, 12.
     pub fn propose(&mut self, previous: Set, transactions: &[Transaction]) -> Result<(), Refusal> {
         lent::propose(&mut self.state, &self.table, &body_words(previous, transactions))
+    }
+
+    /// Adds a transaction to the queue of a guest, as its youngest. Store the engine, or the
+    /// transaction may be lost.
+    ///
+    /// # Errors
+    /// 1, 26, 6, 27.
+    pub fn enqueue(&mut self, guest: u32, transaction: Transaction) -> Result<(), Refusal> {
+        lent::enqueue(&self.state, &mut self.table, guest, &transaction.to_words())
+    }
+
+    /// Proposes what it draws from the queues: the oldest transaction of each guest with something
+    /// waiting, starting after the guest served last, at first with 0, going round until the
+    /// allowance is met or the queues are empty. What was drawn leaves its queues, and the guest of
+    /// the last one is the guest served last; with nothing drawn the proposal has no transactions.
+    /// [`Engine::proposal`] gives the proposal, which is kept until advance; store the engine before
+    /// the signature leaves.
+    ///
+    /// # Errors
+    /// 1, 7, 10, 8, 9, 11, 12.
+    pub fn draw(&mut self, previous: Set) -> Result<(), Refusal> {
+        lent::draw(&mut self.state, &mut self.table, previous)
     }
 
     /// Endorses another's proposal, once its signature is checked: its place is marked endorsed.
@@ -176,6 +195,15 @@ impl Engine {
         lent::block(&self.state, &self.table, number)
     }
 
+    /// How many transactions wait in the queue of a guest, 0 to 8: a word of the table, once a read of
+    /// block 0 has told that the state is well formed.
+    ///
+    /// # Errors
+    /// 1, 26.
+    pub fn waiting(&self, guest: u32) -> Result<u32, Refusal> {
+        lent::waiting(&self.state, &self.table, guest)
+    }
+
     // ---- words of the state
 
     /// One's own number.
@@ -196,15 +224,11 @@ impl Engine {
         self.state[STATE_BLOCKS]
     }
 
-    /// One's own proposal for the present round, for sending.
+    /// One's own proposal for the present round, for sending. After a [`Engine::draw`] its
+    /// transactions are those drawn.
     #[must_use]
     pub fn proposal(&self) -> Option<Proposal> {
-        let mut words = [0; PROPOSAL_WORDS];
-        words[0] = self.own();
-        words[1] = self.round();
-        words[2..].copy_from_slice(&self.state[STATE_BODY..STATE_BODY + BODY_WORDS]);
-        let there = self.state[STATE_PROPOSED] == 1;
-        Proposal::from_words(&words).ok().filter(|_| there)
+        Proposal::from_words(&lent::own_proposal(&self.state)?).ok()
     }
 
     /// The chain, by one read that tests the state and passes over the held certificates alone.

@@ -6,6 +6,8 @@ pub const FORMAT: u32 = 1;
 
 /// Words of a state.
 pub const STATE_WORDS: usize = 37;
+/// Words of a transaction: kind, number, amount.
+pub const TRANSACTION_WORDS: usize = 3;
 /// Words of a body: previous set, number of transactions, four transactions.
 pub const BODY_WORDS: usize = 14;
 /// Words of a proposal: author, round, body.
@@ -20,6 +22,10 @@ pub const SHEET_WORDS: usize = 38;
 pub const BATCH_RECORDS: usize = 64;
 /// Transactions that a body has words for: the largest allowance.
 pub const TRANSACTIONS: usize = 4;
+/// Guests that have a queue, 0 to 7.
+pub const GUESTS: usize = 8;
+/// The most transactions that wait in a queue.
+pub const QUEUE_PLACES: usize = 8;
 /// The most blocks of a state, at ceiling 1,024.
 pub const BLOCKS: usize = 511;
 /// Bytes of stack that serve every call on x86-64; docs/HOSTS.md has what each uses.
@@ -66,6 +72,18 @@ pub const RECORD_BLOCK: usize = 2;
 pub const RECORD_ENDORSERS: usize = 3;
 /// Of a record: the first of its transactions, each kind, number, amount.
 pub const RECORD_TRANSACTIONS: usize = 4;
+
+/// Of row 0: the guest served last and 1 more, 0 for none.
+pub const SERVED: usize = 0;
+/// Of row 0, plus the guest: how many of its transactions wait, 0 to 8.
+pub const WAITING: usize = 1;
+
+/// Where the queue of a guest begins in a table: eight places of a transaction's three words, the
+/// oldest first.
+#[must_use]
+pub const fn queue(guest: u32) -> usize {
+    24 + 32 * guest as usize
+}
 
 /// Where the row of a round begins in a table.
 #[must_use]

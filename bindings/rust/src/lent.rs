@@ -15,7 +15,10 @@
 //! ```
 
 pub use crate::chain::{chain, Place};
-use crate::layout::{BODY_WORDS, CERTIFICATE_WORDS, HELD_WORDS, PROPOSAL_WORDS};
+use crate::layout::{
+    BODY_WORDS, CERTIFICATE_WORDS, GUESTS, HELD_WORDS, PROPOSAL_WORDS, STATE_BODY, STATE_OWN,
+    STATE_PROPOSED, STATE_ROUND, STATE_WORDS, WAITING,
+};
 use crate::{Refusal, Set, MEMBERS};
 
 /// The exported functions. Each slice is a pointer and a length in words, of a row in records. Any
@@ -31,6 +34,13 @@ mod abi {
         pub fn forgelilac_propose(
             state: *mut u32, state_words: usize, table: *const u32, table_words: usize,
             body: *const u32, body_words: usize,
+        ) -> u32;
+        pub fn forgelilac_enqueue(
+            state: *const u32, state_words: usize, table: *mut u32, table_words: usize,
+            guest: u32, transaction: *const u32, transaction_words: usize,
+        ) -> u32;
+        pub fn forgelilac_draw(
+            state: *mut u32, state_words: usize, table: *mut u32, table_words: usize, previous: u32,
         ) -> u32;
         pub fn forgelilac_endorse(
             state: *const u32, state_words: usize, table: *mut u32, table_words: usize,
@@ -77,7 +87,7 @@ mod abi {
 pub(crate) fn accepted(number: u32) -> Result<(), Refusal> {
     match number {
         0 => Ok(()),
-        n => Err(Refusal::of(n).expect("the engine of this version answers 0 to 23 and 25")),
+        n => Err(Refusal::of(n).expect("the engine of this version answers 0 to 23 and 25 to 27")),
     }
 }
 
@@ -147,6 +157,43 @@ pub fn open(state: &mut [u32], table: &mut [u32], own: u32, sheet: &[u32]) -> Re
 /// 1, 6, 7, 10, 8, 9, 11, 12.
 pub fn propose(state: &mut [u32], table: &[u32], body: &[u32]) -> Result<(), Refusal> {
     accepted(call!(forgelilac_propose, write(state), read(table); read(body)))
+}
+
+/// Adds a transaction's words (kind, number, amount) to the queue of a guest, as its youngest. Only
+/// the table changes.
+///
+/// A busy guest and two others share a proposal of four:
+///
+/// ```
+/// use forgelilac::{lent, proposal_words, table_words, Sheet, Transaction, STATE_WORDS};
+///
+/// let (mut state, mut table) = ([0; STATE_WORDS], [0; table_words(64) as usize]);
+/// lent::open(&mut state, &mut table, 0, &Sheet { ceiling: Some(64), ..Sheet::default() }.to_words())?;
+/// let entry = |number| Transaction::Entry { number };
+/// for (guest, number) in [(2, 20), (2, 21), (2, 22), (7, 70), (1, 10)] {
+///     lent::enqueue(&state, &mut table, guest, &entry(number).to_words())?;
+/// }
+/// lent::draw(&mut state, &mut table, 0)?;
+/// assert_eq!(lent::own_proposal(&state), Some(proposal_words(0, 1, 0, &[10, 20, 70, 21].map(entry))));
+/// assert_eq!(lent::waiting(&state, &table, 2), Ok(1));
+/// # Ok::<(), forgelilac::Refusal>(())
+/// ```
+///
+/// # Errors
+/// 1, 26, 6, 27.
+pub fn enqueue(state: &[u32], table: &mut [u32], guest: u32, transaction: &[u32]) -> Result<(), Refusal> {
+    accepted(call!(forgelilac_enqueue, read(state), write(table), guest; read(transaction)))
+}
+
+/// Proposes what it draws from the queues: the oldest transaction of each guest with something
+/// waiting, starting after the guest served last, at first with 0, going round until the allowance is
+/// met or the queues are empty. What was drawn leaves its queues, and the guest of the last one is the
+/// guest served last; the state keeps the proposal until advance.
+///
+/// # Errors
+/// 1, 7, 10, 8, 9, 11, 12.
+pub fn draw(state: &mut [u32], table: &mut [u32], previous: Set) -> Result<(), Refusal> {
+    accepted(call!(forgelilac_draw, write(state), write(table), previous.into()))
 }
 
 /// Endorses another's proposal: its place is marked endorsed.
@@ -258,6 +305,32 @@ pub fn certificate(state: &[u32], table: &[u32], author: u32, round: u32) -> Res
 /// 1, 23.
 pub fn block(state: &[u32], table: &[u32], number: u32) -> Result<u32, Refusal> {
     value(call!(forgelilac_block, read(state), read(table), number))
+}
+
+/// How many transactions wait in the queue of a guest: a word of the table, once a read of block 0 has
+/// told that the state is well formed.
+///
+/// # Errors
+/// 1, 26.
+pub fn waiting(state: &[u32], table: &[u32], guest: u32) -> Result<u32, Refusal> {
+    if !is_well_formed(state, table) {
+        return Err(Refusal::Malformed);
+    }
+    let counts = &table[WAITING..WAITING + GUESTS];
+    counts.get(guest as usize).copied().ok_or(Refusal::GuestRange)
+}
+
+/// The words of one's own proposal for the present round, for sending; nothing where the state keeps
+/// none. They are words of the state, and no call is made. [`crate::transactions_of`] has what a
+/// [`draw`] has drawn.
+#[must_use]
+pub fn own_proposal(state: &[u32]) -> Option<[u32; PROPOSAL_WORDS]> {
+    let state = state.get(..STATE_WORDS).filter(|state| state[STATE_PROPOSED] == 1)?;
+    let mut words = [0; PROPOSAL_WORDS];
+    words[0] = state[STATE_OWN];
+    words[1] = state[STATE_ROUND];
+    words[2..].copy_from_slice(&state[STATE_BODY..STATE_BODY + BODY_WORDS]);
+    Some(words)
 }
 
 /// Whether the state is well formed, for words that come from storage: where it is not, every call

@@ -51,6 +51,8 @@ refusals! {
     VotesShort = 22, "votes weigh not more than the fault bound";
     NoneThere = 23, "no such certificate or block";
     LengthRange = 25, "a row of more than 64 certificates, or answers shorter than the row";
+    GuestRange = 26, "guest above 7";
+    QueueFull = 27, "the queue holds eight transactions";
 }
 
 impl Refusal {

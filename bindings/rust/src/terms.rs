@@ -1,6 +1,8 @@
 //! Transactions, sheets, leaders: what needs no allocation.
 
-use crate::layout::{BODY_WORDS, CERTIFICATE_WORDS, PROPOSAL_WORDS, SHEET_WORDS, TRANSACTIONS};
+use crate::layout::{
+    BODY_WORDS, CERTIFICATE_WORDS, PROPOSAL_WORDS, SHEET_WORDS, TRANSACTIONS, TRANSACTION_WORDS,
+};
 use crate::{Refusal, Set, MEMBERS};
 
 /// A transaction of a proposal.
@@ -28,7 +30,7 @@ pub enum Transaction {
 impl Transaction {
     /// Its words: kind, number, amount.
     #[must_use]
-    pub const fn to_words(self) -> [u32; 3] {
+    pub const fn to_words(self) -> [u32; TRANSACTION_WORDS] {
         match self {
             Transaction::Bond { member, amount } => [0, member, amount],
             Transaction::Unbond { member } => [1, member, 0],
@@ -40,7 +42,7 @@ impl Transaction {
     ///
     /// # Errors
     /// [`Refusal::Malformed`] for a kind above 2, and for an unbond or entry with an amount.
-    pub const fn from_words(words: [u32; 3]) -> Result<Transaction, Refusal> {
+    pub const fn from_words(words: [u32; TRANSACTION_WORDS]) -> Result<Transaction, Refusal> {
         match words {
             [0, member, amount] => Ok(Transaction::Bond { member, amount }),
             [1, member, 0] => Ok(Transaction::Unbond { member }),

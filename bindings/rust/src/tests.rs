@@ -3,8 +3,8 @@
 extern crate std;
 
 use crate::layout::{
-    record, row, BATCH_RECORDS, CERTIFICATE_WORDS, RECORD_ENDORSERS, ROW_BLOCK, ROW_HELD, STATE_BLOCKS,
-    TRANSACTIONS,
+    queue, record, row, BATCH_RECORDS, CERTIFICATE_WORDS, GUESTS, QUEUE_PLACES, RECORD_ENDORSERS, ROW_BLOCK,
+    ROW_HELD, SERVED, STATE_BLOCKS, TRANSACTIONS, TRANSACTION_WORDS, WAITING,
 };
 use crate::lent::{self, CertificateRecord, Place};
 use crate::*;
@@ -152,10 +152,10 @@ fn order_decides_committees() {
 
 #[test]
 fn numbers_and_refusals_go_both_ways() {
-    for number in (1..=23).chain([25]) {
+    for number in (1..=23).chain(25..=27) {
         assert_eq!(Refusal::of(number).unwrap().number(), number);
     }
-    assert_eq!([0, 24, 26].map(Refusal::of), [None; 3]);
+    assert_eq!([0, 24, 28].map(Refusal::of), [None; 3]);
     assert_eq!(Refusal::NoWeight.to_string(), "refused with 3: no positive weight");
 }
 
@@ -399,6 +399,160 @@ fn lengths_of_a_batch() {
     let long = vec![of_all_four(1, 1, 0, &[]); BATCH_RECORDS + 1];
     refuses(&mut engine, 25, |e| e.batch(&long));
     assert_eq!(engine.batch(&[]), Ok(Vec::new()));
+}
+
+// ---- queues
+
+/// Pairs of a guest and the number of an entry, in the order of adding.
+fn add(engine: &mut Engine, waiting: &[(u32, u32)]) {
+    waiting.iter().for_each(|&(guest, number)| engine.enqueue(guest, entry(number)).unwrap());
+}
+
+/// Draws for a member alone, certifies and goes on: what was drawn.
+fn draw(engine: &mut Engine) -> Vec<Transaction> {
+    engine.draw((engine.round() > 1).into()).unwrap();
+    let drawn = engine.proposal().unwrap().transactions;
+    engine.certify(0).unwrap();
+    assert_eq!(engine.certificate(0, engine.round()).unwrap().proposal.transactions, drawn);
+    engine.advance().unwrap();
+    drawn
+}
+
+fn waiting(engine: &Engine) -> [u32; GUESTS] {
+    core::array::from_fn(|guest| engine.waiting(guest as u32).unwrap())
+}
+
+#[test]
+fn guests_share_the_proposal() {
+    let mut engine = alone();
+    add(&mut engine, &[(2, 20), (2, 21), (2, 22), (2, 23), (7, 70), (0, 1)]);
+    assert_eq!(waiting(&engine), [1, 0, 4, 0, 0, 0, 0, 1]);
+    assert_eq!(draw(&mut engine), [1, 20, 70, 21].map(entry));
+    assert_eq!(waiting(&engine), [0, 0, 2, 0, 0, 0, 0, 0]);
+    // After guest 2: 3, then 0, then 2 twice.
+    add(&mut engine, &[(3, 30), (0, 2)]);
+    assert_eq!(draw(&mut engine), [30, 2, 22, 23].map(entry));
+    // Nothing waits: a proposal without transactions, and guest 2 is still the one served last.
+    assert_eq!(draw(&mut engine), []);
+    assert_eq!((waiting(&engine), engine.table[SERVED]), ([0; GUESTS], 3));
+    add(&mut engine, &[(1, 10), (2, 24), (3, 31)]);
+    assert_eq!(draw(&mut engine), [31, 10, 24].map(entry));
+}
+
+/// The words of row 0 as docs/TABLES.md has them.
+#[test]
+fn words_of_a_queue() {
+    let mut engine = alone();
+    engine.enqueue(7, Transaction::Bond { member: 15, amount: 1_000 }).unwrap();
+    engine.enqueue(7, Transaction::Unbond { member: 3 }).unwrap();
+    add(&mut engine, &[(0, 5)]);
+    let at = queue(7);
+    assert_eq!((at, at + QUEUE_PLACES * TRANSACTION_WORDS), (248, 272));
+    assert_eq!(engine.table[at..at + 6], [0, 15, 1_000, 1, 3, 0]);
+    assert_eq!(engine.table[queue(0)..queue(0) + 3], [2, 5, 0]);
+    assert_eq!(engine.table[SERVED..WAITING + GUESTS], [0, 1, 0, 0, 0, 0, 0, 0, 2]);
+    // Words beyond what waits stay; what leaves moves the others up.
+    engine.table[at + 6..at + 24].fill(77);
+    engine.draw(0).unwrap();
+    assert_eq!(engine.table[at..at + 6], [77; 6]);
+    assert_eq!(engine.table[SERVED..WAITING + GUESTS], [8, 0, 0, 0, 0, 0, 0, 0, 0]);
+    let drawn = [entry(5), Transaction::Bond { member: 15, amount: 1_000 }, Transaction::Unbond { member: 3 }];
+    assert_eq!(lent::own_proposal(&engine.state), Some(proposal_words(0, 1, 0, &drawn)));
+    assert_eq!(lent::own_proposal(&engine.state[1..]), None);
+    assert_eq!(lent::own_proposal(&alone().state), None);
+}
+
+/// 26, then 6, then 27; a place that is freed serves again.
+#[test]
+fn adding_is_refused_in_its_order() {
+    let mut engine = alone();
+    let bad = [Transaction::Bond { member: 16, amount: 1 }, Transaction::Bond { member: 0, amount: 0 },
+               Transaction::Bond { member: 0, amount: 1_001 }, Transaction::Unbond { member: 16 }];
+    for number in 0..8 {
+        bad.iter().for_each(|&one| refuses(&mut engine, 6, |e| e.enqueue(7, one)));
+        add(&mut engine, &[(7, number)]);
+    }
+    refuses(&mut engine, 27, |e| e.enqueue(7, entry(8)));
+    for transaction in bad {
+        refuses(&mut engine, 26, |e| e.enqueue(8, transaction));
+        refuses(&mut engine, 6, |e| e.enqueue(7, transaction));
+    }
+    refuses(&mut engine, 26, |e| e.enqueue(u32::MAX, entry(8)));
+    refuses(&mut engine, 26, |e| e.waiting(8));
+    // Words that cannot be read come first, then a malformed state.
+    for words in [&[][..], &[2, 7], &[3, 7, 0], &[2, 7, 1], &[1, 7, 1]] {
+        let mut copy = engine.clone();
+        assert_eq!(lent::enqueue(&copy.state, &mut copy.table, 8, words), Err(Refusal::Malformed));
+        assert!(copy == engine);
+    }
+    assert_eq!(draw(&mut engine), [0, 1, 2, 3].map(entry));
+    add(&mut engine, &[(7, 8), (7, 9), (7, 10), (7, 11)]);
+    refuses(&mut engine, 27, |e| e.enqueue(7, entry(12)));
+    assert_eq!(draw(&mut engine), [4, 5, 6, 7].map(entry));
+    assert_eq!(draw(&mut engine), [8, 9, 10, 11].map(entry));
+}
+
+/// A draw answers as a propose of what it draws, and refused it changes no word.
+#[test]
+fn a_draw_is_a_propose() {
+    let some = [(0, 1), (4, 40), (4, 41), (6, 60), (7, 70)];
+    let mut engine = alone();
+    add(&mut engine, &some);
+    refuses(&mut engine, 7, |e| e.draw(1));
+    let mut other = engine.clone();
+    other.propose(0, &[1, 40, 60, 70].map(entry)).unwrap();
+    engine.draw(0).unwrap();
+    assert_eq!(engine.state, other.state);
+    assert_eq!((waiting(&engine), waiting(&other)), ([0, 0, 0, 0, 1, 0, 0, 0], [1, 0, 0, 0, 2, 0, 1, 1]));
+    refuses(&mut engine, 10, |e| e.draw(0));
+    engine.certify(0).unwrap();
+    refuses(&mut engine, 10, |e| e.draw(0));
+    engine.advance().unwrap();
+    refuses(&mut engine, 7, |e| e.draw(0));
+    refuses(&mut engine, 11, |e| e.draw(1 << 5));
+    // Dropped by advance it does not come back.
+    engine.draw(1).unwrap();
+    engine.advance().unwrap();
+    assert_eq!((engine.proposal(), waiting(&engine)), (None, [0; GUESTS]));
+    // 12, 9.
+    let mut engine = of_four(0);
+    engine.accept(&of_all_four(0, 1, 0, &[])).unwrap();
+    engine.advance().unwrap();
+    add(&mut engine, &some);
+    refuses(&mut engine, 12, |e| e.draw(1));
+    let mut engine = of_four(9);
+    add(&mut engine, &some);
+    refuses(&mut engine, 9, |e| e.draw(0));
+    // An open empties the queues.
+    let again = Engine::open_on(engine.table, 9, &Sheet { ceiling: Some(8), ..Sheet::default() }).unwrap();
+    assert_eq!((waiting(&again), again.table[SERVED]), ([0; GUESTS], 0));
+}
+
+/// Row 0 is part of the state, as far as it is used.
+#[test]
+fn queues_that_are_not_well_formed() {
+    let mut engine = alone();
+    add(&mut engine, &[(3, 30), (3, 31)]);
+    let changed = |at: usize, word: u32| {
+        let mut changed = engine.clone();
+        changed.table[at] = word;
+        changed
+    };
+    let at = queue(3);
+    for (at, word) in [(SERVED, 9), (SERVED, u32::MAX), (WAITING, 9), (WAITING + 7, u32::MAX), (WAITING, 1), (at, 3),
+                       (at + 3, 0), (at + 5, 1), (at + 2, 1)] {
+        // An empty queue with a count of 1 has a bond of nothing.
+        let mut damaged = changed(at, word);
+        refuses(&mut damaged, 1, |e| e.draw(0));
+        refuses(&mut damaged, 1, |e| e.enqueue(8, entry(1)));
+        refuses(&mut damaged, 1, |e| e.waiting(8));
+        refuses(&mut damaged, 1, Engine::advance);
+        assert!(!damaged.is_well_formed());
+    }
+    for (at, word) in [(SERVED, 8), (at + 6, 9), (at + 23, 9), (9, 9), (23, 9), (16 + 32 * 3, 9)] {
+        assert_eq!(changed(at, word).waiting(3), Ok(2));
+        assert_eq!(draw(&mut changed(at, word)), [30, 31].map(entry));
+    }
 }
 
 #[test]

@@ -1,11 +1,12 @@
 -- Laws of a call's checks: tests in their order, each with the number that it refuses with.
 use mathlib.Core.Path.{_≡_, refl}
-use mathlib.Core.Bool.{Bool, true, false, cond, _&&_}
+use mathlib.Core.Bool.{Bool, true, false, not, cond, _&&_}
 use mathlib.Core.List.{[], _∷_, _++_}
+use mathlib.Core.Logic.{_≢_}
 use Prim.Native.Nat.{ℕ, _<_}
 use native.Mathlib.Omega.{arith}
-use lib.Dec.{ltb}
-use borrow.Author.Tests.{ltb-true}
+use lib.Dec.{eqb, ltb}
+use borrow.Author.Tests.{ltb-true, eqb-false, not-true}
 use Rattle.base.proofs.Bools.{both}
 use Rattle.base.specs.Checks.{Checks, refusal}
 
@@ -34,6 +35,20 @@ cleared b n l h e = go b e
 unfoldable pub numbered : Checks → Bool
 numbered [] = true
 numbered (c ∷ l) = ltb 0 (c .1) && numbered l
+
+-- no check has the number n, so it is no answer of theirs
+unfoldable pub lacks : ℕ → Checks → Bool
+lacks n [] = true
+lacks n (c ∷ l) = not (eqb (c .1) n) && lacks n l
+
+pub never : (n : ℕ) (l : Checks) → 0 < n → lacks n l ≡ true → refusal l ≢ n
+unfolding refusal lacks
+never n [] h e = λ k. absurd (omega arith)
+never n (c ∷ l) h e = let q = both (not (eqb (c .1) n)) (lacks n l) e in go (c .0) (never n l h (q .1)) (eqb-false (c .1) n (not-true (eqb (c .1) n) (q .0)))
+  where
+    go : (b : Bool) → refusal l ≢ n → (c .1 ≡ n → ⊥) → cond b (c .1) (refusal l) ≢ n
+    go true f g = g
+    go false f g = f
 
 -- checks l and then m: where l refuses, that is the answer; where it does not, it is up to m
 pub first-refuses : (l m : Checks) → 0 < refusal l → refusal (l ++ m) ≡ refusal l

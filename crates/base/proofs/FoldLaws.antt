@@ -1,6 +1,6 @@
 -- Laws of folds and lists over the numbers below a bound.
 use mathlib.Core.Path.{_≡_, refl, ap, sym, _∙_}
-use mathlib.Core.List.{[], _∷_, _++_}
+use mathlib.Core.List.{List, [], _∷_, _++_}
 use native.Mathlib.Decide.{ℕ-discrete}
 use Prim.Native.Nat.{ℕ, zero, suc, _+_, _*_, _/_, _%_, _<_, _≤_}
 use native.Mathlib.Omega.{arith}
@@ -82,3 +82,9 @@ pub tab-same : {A : Type 0} (f g : ℕ → A) (n : ℕ) → ((i : ℕ) → i < n
 unfolding tab
 tab-same f g zero e = refl
 tab-same f g (suc n) e = rw (tab-same f g n (λ i h. e i (omega arith)), e n (omega arith))
+
+-- the first of the list, and the rest
+pub tab-first : {A : Type 0} (f : ℕ → A) (n : ℕ) → tab f (suc n) ≡ f 0 ∷ tab (λ k. f (suc k)) n
+unfolding tab
+tab-first f zero = refl
+tab-first {A} f (suc n) = ap (λ (l : List A). l ++ (f (suc n) ∷ [])) (tab-first f n)

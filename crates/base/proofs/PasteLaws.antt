@@ -5,8 +5,14 @@ use Prim.Native.Nat.{ℕ, suc, _+_, _-_, _<_, _≤_}
 use native.Mathlib.Omega.{arith}
 use native.Mathlib.Numerals.{add-one}
 use lib.ListN.{length, getD, take, drop, set, replicate, length-replicate, replicate-append-replicate, List·getD-append, length-take, length-drop}
-use lib.Seq.{paste, paste-suc, length-paste, drop-cons, set-at, append-snoc, length-paste-head, getD-append-add, getD-take, getD-drop, length-take-le, ext-getD}
+use lib.Seq.{paste, paste-suc, drop-paste, length-paste, drop-cons, set-at, append-snoc, length-paste-head, getD-append-add, getD-take, getD-drop, length-take-le, ext-getD}
 use Rattle.base.specs.Parts.{part}
+
+-- above a stretch that the first n of w are written over
+pub paste-over : (t : List ℕ) (b : ℕ) (w : List ℕ) (n : ℕ) → b + n ≤ length t → n ≤ length w → (j : ℕ) → b + n ≤ j → getD (paste t b w n) j 0 ≡ getD t j 0
+paste-over t b w n h l j k =
+    let e : b + n + (j - (b + n)) ≡ j = omega arith in
+    rw e at (sym (getD-drop (b + n) (paste t b w n) (j - (b + n)) 0) ∙ ap (λ (v : List ℕ). getD v (j - (b + n)) 0) (drop-paste t b w n (omega arith) l) ∙ getD-drop (b + n) t (j - (b + n)) 0)
 
 module _ (t : List ℕ) (b : ℕ) (w : List ℕ) (n : ℕ) (hb : b + n ≤ length t) (hw : length w ≡ n) where
   head : length (take b t ++ take n w) ≡ b + n
@@ -27,13 +33,7 @@ module _ (t : List ℕ) (b : ℕ) (w : List ℕ) (n : ℕ) (hb : b + n ≤ lengt
       ∙ getD-take n w k 0 h
 
   pub paste-above : (j : ℕ) → b + n ≤ j → getD (paste t b w n) j 0 ≡ getD t j 0
-  paste-above j h =
-      let e : length (take b t ++ take n w) + (j - (b + n)) ≡ j = omega (arith, head) in
-      let f : b + n + (j - (b + n)) ≡ j = omega arith in
-      ap (λ (i : ℕ). getD (paste t b w n) i 0) (sym e)
-      ∙ getD-append-add (take b t ++ take n w) (drop (b + n) t) (j - (b + n)) 0
-      ∙ getD-drop (b + n) t (j - (b + n)) 0
-      ∙ ap (λ (i : ℕ). getD t i 0) f
+  paste-above j h = paste-over t b w n hb (omega arith) j h
 
 -- one element more written over the front
 pub paste-front : (d s : List ℕ) (j : ℕ) → j < length d → j < length s → set (paste d 0 s j) j (getD s j 0) ≡ paste d 0 s (j + 1)

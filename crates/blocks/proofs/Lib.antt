@@ -2,3 +2,4 @@ pub mod BlockLaws
 pub mod MarkLaws
 pub mod SeenLaws
 pub mod CommitLaws
+pub mod FirstRow

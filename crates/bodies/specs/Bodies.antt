@@ -1,4 +1,4 @@
--- A body as fourteen words: previous set, count, four transactions of three words each (kind, number, amount).
+-- A body as fourteen words: previous set, count, four transactions of three words each (kind, number, amount); and a transaction by itself.
 use mathlib.Core.Bool.{Bool, true, cond, _&&_, _||_}
 use mathlib.Core.List.{List, [], _∷_, _++_}
 use Prim.Native.Nat.{ℕ, zero, suc, _+_, _*_}
@@ -31,6 +31,10 @@ bodyReads w a = ltb (word w a) 65536 && allTo (tripleReads w a) 4
 unfoldable pub loneBodyReads : List ℕ → Bool
 loneBodyReads w = leb bodyLength (length w) && bodyReads w 0
 
+-- a transaction by itself
+unfoldable pub loneTripleReads : List ℕ → Bool
+loneTripleReads w = leb transactionLength (length w) && isTriple (word w 0) (word w 2)
+
 -- ---- what it gives
 
 -- what lies beyond the count is not looked at
@@ -42,6 +46,10 @@ slotsIn w a = tab (slotIn w a) 4
 
 unfoldable pub bodyIn : List ℕ → ℕ → Body
 bodyIn w a = record { previous = word w a; count = word w (a + 1); slots = slotsIn w a }
+
+-- a transaction by itself
+unfoldable pub tripleIn : List ℕ → Transaction
+tripleIn w = readTransaction (word w 0) (word w 1) (word w 2)
 
 -- ---- its words
 

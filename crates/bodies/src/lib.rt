@@ -1,4 +1,4 @@
-// A body as fourteen words: read, and put.
+// A body as fourteen words, and a transaction as three: read, and put.
 pub mod lengths;
 pub mod stretch;
 
@@ -13,7 +13,7 @@ ghost use Prim.Native.Nat.{_+_, _<_, _≤_};
 ghost use lib.ListN.{length, getD};
 ghost use lib.Seq.{paste};
 ghost use Rattle.bodies.specs.Lengths.{transactionLength, bodyLength};
-ghost use Rattle.bodies.specs.Bodies.{isTriple, tripleReads, bodyReads, loneBodyReads, slotIn, slotsIn, bodyIn, usedOf, tripleWords, bodyWords};
+ghost use Rattle.bodies.specs.Bodies.{isTriple, tripleReads, bodyReads, loneBodyReads, loneTripleReads, slotIn, slotsIn, bodyIn, tripleIn, usedOf, tripleWords, bodyWords};
 
 // Are three words with this kind and amount a transaction?
 fn is_triple(kind: u32, amount: u32) -> bool
@@ -64,6 +64,24 @@ pub fn lone_body_reads(w: &[u32]) -> bool
         return false;
     }
     body_reads(w, 0)
+}
+
+// Can the words be read as a transaction?
+pub fn lone_triple_reads(w: &[u32]) -> bool
+    ensures { λ v. ⌜ v ≡ loneTripleReads (now (w .entry)) ⌝ }
+{
+    if w.len() < TRANSACTION {
+        return false;
+    }
+    is_triple(w[0], w[2])
+}
+
+// The transaction that the words give.
+pub fn triple_in(w: &[u32]) -> Transaction
+    requires { ⌜ transactionLength ≤ length (now w) ⌝ }
+    ensures { λ v. ⌜ v ≡ tripleIn (now (w .entry)) ⌝ }
+{
+    terms::read_transaction(w[0], w[1], w[2])
 }
 
 // Slot k of the body from `at` on.

@@ -7,3 +7,4 @@ pub mod ShownLaws
 pub mod CommitLaws
 pub mod PreservedLaws
 pub mod RuledLaws
+pub mod FirstRow

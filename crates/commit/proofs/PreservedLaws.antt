@@ -1,5 +1,5 @@
 -- After an accepted commit: the state stays well formed, at least one block is new, and nothing beyond the rounds of the state changes.
-use mathlib.Core.Path.{_≡_, refl, ap}
+use mathlib.Core.Path.{_≡_, refl, ap, _∙_}
 use mathlib.Core.Bool.{true}
 use mathlib.Core.List.{List}
 use mathlib.Core.Logic.{⊎-elim}
@@ -21,7 +21,9 @@ use Rattle.blocks.proofs.CommitLaws.{commit-stage, commit-round-old, commit-mar
 use Rattle.state.specs.declared.State.{State}
 use Rattle.state.specs.View.{view}
 use Rattle.state.specs.Formed.{Formed}
+use Rattle.queues.proofs.WordLaws.{fits-same}
 use Rattle.state.proofs.FormedLaws.{formed-by}
+use Rattle.commit.proofs.FirstRow.{first-commit}
 use Rattle.state.proofs.RoundLaws.{blocks-whole, blocks-same}
 use Rattle.commit.specs.Commit.{commitRefusal, blocksThen, committedTable}
 use Rattle.votes.specs.Checks.{leadersFor}
@@ -135,7 +137,7 @@ module _ (s : State) (t : List ℕ) (ok : commitRefusal s t ≡ 0) where
       let f = y .formed in
       formed-by (committedState s t) u (f .in-range) (f .weighty)
       (record { own = f .numbers .own; round-from = f .numbers .round-from; round-to = f .numbers .round-to; blocks-to = few })
-      (f .proposal) (omega (arith, f .long, only-marks s t ok .size)) rows-then (blocks-whole n u c block-fits)
+      (f .proposal) (omega (arith, f .long, only-marks s t ok .size)) rows-then (blocks-whole n u c block-fits) (fits-same t u (first-commit s t ok) ∙ f .queues)
 
   -- ---- the answer
 

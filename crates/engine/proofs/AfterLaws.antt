@@ -19,10 +19,13 @@ use Rattle.endorse.specs.Endorse.{endorseOutcome, endorseTable}
 use Rattle.certify.specs.Certify.{certifyOutcome, certifyTable}
 use Rattle.accept.specs.Accept.{acceptOutcome, acceptTable}
 use Rattle.advance.specs.Advance.{advanceOutcome}
+use Rattle.queues.specs.Words.{addedTable, drawnTable}
+use Rattle.enqueue.specs.Enqueue.{enqueueOutcome, enqueueTable}
+use Rattle.draw.specs.Draw.{draws, drawnBody, drawRefusal, drawOutcome, drawTable}
 use Rattle.commit.specs.declared.Outcome as committed
 use Rattle.commit.specs.Commit.{commitOutcome, commitTableAfter, committedTable, blocksThen, addedWith, refusedWith}
 use Rattle.commit.proofs.CommitLaws.{committedState}
-use Rattle.engine.specs.Calls.{Call, opens, propose, endorse, certify, accept, advance, commit, aside}
+use Rattle.engine.specs.Calls.{Call, opens, propose, endorse, certify, accept, advance, commit, enqueue, draw, aside}
 use Rattle.engine.specs.Engine.{Engine, refusalFor, after}
 
 -- what an accepted call leaves
@@ -38,6 +41,8 @@ renewed e (accept c) =
     }
 renewed e advance = record { state = advanced (e .state) noBody; table = e .table }
 renewed e commit = record { state = committedState (e .state) (e .table); table = committedTable (e .state) (e .table) }
+renewed e (enqueue g x) = record { state = e .state; table = addedTable (e .table) g x }
+renewed e (draw v) = record { state = proposed (e .state) (drawnBody (e .state) (e .table) v); table = drawnTable (draws (e .state) (e .table)) (e .table) }
 renewed e (aside x) = e
 
 module _ (e : Engine) where
@@ -59,7 +64,7 @@ module _ (e : Engine) where
   commit-by x y u h false = rw h refl
 
   after-by : (c : Call) → after e c ≡ cond (eqb (refusalFor e c) 0) (renewed e c) e
-  unfolding openOutcome openTable proposeOutcome endorseOutcome endorseTable certifyOutcome certifyTable acceptOutcome acceptTable advanceOutcome commitOutcome commitTableAfter outcomeOf ifAccepted
+  unfolding openOutcome openTable proposeOutcome endorseOutcome endorseTable certifyOutcome certifyTable acceptOutcome acceptTable advanceOutcome commitOutcome commitTableAfter enqueueOutcome enqueueTable drawRefusal drawOutcome drawTable outcomeOf ifAccepted
   after-by (opens own sheet) = both-by (renewed e (opens own sheet)) (eqb (refusalFor e (opens own sheet)) 0)
   after-by (propose b) = state-by (proposed state b) (eqb (refusalFor e (propose b)) 0)
   after-by (endorse p) = both-by (renewed e (endorse p)) (eqb (refusalFor e (endorse p)) 0)
@@ -68,6 +73,8 @@ module _ (e : Engine) where
   after-by advance = state-by (advanced state noBody) (eqb (refusalFor e advance) 0)
   after-by commit =
       commit-by (addedWith state (blocksThen state table)) (refusedWith state (refusalFor e commit)) (committedTable state table) refl (eqb (refusalFor e commit) 0)
+  after-by (enqueue g x) = both-by (renewed e (enqueue g x)) (eqb (refusalFor e (enqueue g x)) 0)
+  after-by (draw v) = both-by (renewed e (draw v)) (eqb (refusalFor e (draw v)) 0)
   after-by (aside x) = sym (cond-same (eqb (refusalFor e (aside x)) 0) e)
 
   -- a refused call changes nothing

@@ -59,16 +59,16 @@ module _ (e : Engine) (low : SetInRange e) where
         go (moved a p n) = rw (answer-accepted (refusalFor e c) a) (sym (n .formed))
 
     -- where the chain is left, the committees are those that were cached
-    pub cached-after : leavesChain (ruled c) ≡ true → {b : Bool} {cache : List ℕ} → Cached (e .state) (e .table) b cache
+    pub cached-after : leavesChain (ruled e c) ≡ true → {b : Bool} {cache : List ℕ} → Cached (e .state) (e .table) b cache
         → Cached (after e c .state) (after e c .table) (formedBy b (answerOf (refusalFor e c))) cache
     cached-after l {b} {cache} k = go (every-step e low c i)
       where
         go : Step e c → Cached (after e c .state) (after e c .table) (formedBy b (answerOf (refusalFor e c))) cache
         go (refused n h) = rw (answer-refused (refusalFor e c) n, h) k
-        go (opened own sheet q a f) = absurd (false≢true (sym (ap (λ (z : Call). leavesChain (ruled z)) q) ∙ l))
+        go (opened own sheet q a f) = absurd (false≢true (sym (ap (λ (z : Call). leavesChain (ruled e z)) q) ∙ l))
         go (moved a w n) =
             let S = e .state .settings in
-            let same = ap (λ (v : MemberView S). v .chain) (n .shows) ∙ chain-left S (e .state .own .0) (viewAt S e) (ruled c) l in
+            let same = ap (λ (v : MemberView S). v .chain) (n .shows) ∙ chain-left S (e .state .own .0) (viewAt S e) (ruled e c) l in
             record {
               form = formed-after (k .form);
               committees = λ _. subst₂ (λ (T : Settings) (x : Chain Content). Caches T x cache) (sym (n .same-settings)) (sym same) (k .committees w);

@@ -1,7 +1,6 @@
 -- Every engine that calls from an accepted open lead to is well formed, with the settings of a sheet; and what calls keep holds of it.
 use mathlib.Core.Path.{_≡_, sym, ap, _∙_, subst}
 use mathlib.Core.List.{List, [], _∷_}
-use Prim.Native.Nat.{ℕ}
 use Rattle.terms.specs.declared.Member.{Member}
 use Rattle.sheet.specs.declared.Sheet.{Sheet}
 use Rattle.sheet.specs.Sheets.{filled}

@@ -20,9 +20,10 @@ use Rattle.certify.specs.Certify.{certifyRefusal}
 use Rattle.accept.specs.Accept.{acceptRefusal}
 use Rattle.advance.specs.Advance.{advanceRefusal}
 use Rattle.commit.specs.Commit.{commitRefusal}
-use Rattle.engine.specs.Calls.{Call, opens, propose, endorse, certify, accept, advance, commit, aside, InRange}
+use Rattle.draw.specs.Draw.{drawRefusal}
+use Rattle.engine.specs.Calls.{Call, opens, propose, endorse, certify, accept, advance, commit, enqueue, draw, aside, InRange}
 use Rattle.engine.specs.Engine.{Engine, refusalFor, after}
-use Rattle.engine.specs.Steps.{viewAt, ruled, FreshlyOpened, AsRuled, Step, refused, opened, moved}
+use Rattle.engine.specs.Steps.{viewAt, ruled, Step, refused, opened, moved}
 use Rattle.engine.specs.Sequences.{NoOpen}
 use Rattle.engine.specs.Reached.{Good}
 use Rattle.engine.proofs.StepLaws.{every-step}
@@ -40,36 +41,38 @@ module _ (e : Engine) (w : wellFormed (e .state) (e .table) ≡ true) where
 
   -- the rules refuse the call with the same number, or have it for a read
   abbrev Ruling : Call → Type 0
-  Ruling c = (refusalFor e c ≡ ruledRefusal (state .settings) (state .own .0) (view state table) (ruled c)) ⊎ (ruled c ≡ rules.read)
+  Ruling c = (refusalFor e c ≡ ruledRefusal (state .settings) (state .own .0) (view state table) (ruled e c)) ⊎ (ruled e c ≡ rules.read)
 
   by-rules : (c : rules.Call) → refusal (rules.checks (state .settings) (state .own .0) (view state table) c) ≡ ruledRefusal (state .settings) (state .own .0) (view state table) c
   by-rules c = sym (ruled-refusal (state .settings) (state .own .0) (view state table) c)
 
   ruling : (c : Call) → Ruling c
-  unfolding proposeRefusal endorseRefusal certifyRefusal acceptRefusal advanceRefusal commitRefusal
+  unfolding proposeRefusal endorseRefusal certifyRefusal acceptRefusal advanceRefusal commitRefusal drawRefusal
   ruling (opens own sheet) = inr refl
-  ruling (propose b) = inl (refusal-formed state table (ruled (propose b)) w ∙ by-rules (ruled (propose b)))
-  ruling (endorse p) = inl (refusal-formed state table (ruled (endorse p)) w ∙ by-rules (ruled (endorse p)))
-  ruling (certify d) = inl (refusal-formed state table (ruled (certify d)) w ∙ by-rules (ruled (certify d)))
-  ruling (accept c) = inl (refusal-formed state table (ruled (accept c)) w ∙ by-rules (ruled (accept c)))
+  ruling (propose b) = inl (refusal-formed state table (ruled e (propose b)) w ∙ by-rules (ruled e (propose b)))
+  ruling (endorse p) = inl (refusal-formed state table (ruled e (endorse p)) w ∙ by-rules (ruled e (endorse p)))
+  ruling (certify d) = inl (refusal-formed state table (ruled e (certify d)) w ∙ by-rules (ruled e (certify d)))
+  ruling (accept c) = inl (refusal-formed state table (ruled e (accept c)) w ∙ by-rules (ruled e (accept c)))
   ruling advance = inl (refusal-formed state table rules.advance w ∙ by-rules rules.advance)
   ruling commit = inl (refusal-formed state table rules.commit w ∙ by-rules rules.commit)
+  ruling (enqueue g x) = inr refl
+  ruling (draw v) = inl (refusal-formed state table (ruled e (draw v)) w ∙ by-rules (ruled e (draw v)))
   ruling (aside x) = inr refl
 
   -- the rules let an accepted call pass
-  accepted-passes : (c : Call) → refusalFor e c ≡ 0 → ruledRefusal (state .settings) (state .own .0) (view state table) (ruled c) ≡ 0
+  accepted-passes : (c : Call) → refusalFor e c ≡ 0 → ruledRefusal (state .settings) (state .own .0) (view state table) (ruled e c) ≡ 0
   accepted-passes c a = go (ruling c)
     where
-      go : Ruling c → ruledRefusal (state .settings) (state .own .0) (view state table) (ruled c) ≡ 0
+      go : Ruling c → ruledRefusal (state .settings) (state .own .0) (view state table) (ruled e c) ≡ 0
       go (inl h) = sym h ∙ a
       go (inr h) = rw h (read-passes (state .settings) (state .own .0) (view state table))
 
   -- by the rules too a refused call leaves the view
-  refused-leaves : (c : Call) → refusalFor e c ≢ 0 → result (state .settings) (state .own .0) (view state table) (ruled c) ≡ view state table
+  refused-leaves : (c : Call) → refusalFor e c ≢ 0 → result (state .settings) (state .own .0) (view state table) (ruled e c) ≡ view state table
   refused-leaves c n = go (ruling c)
     where
-      go : Ruling c → result (state .settings) (state .own .0) (view state table) (ruled c) ≡ view state table
-      go (inl h) = result-refused (state .settings) (state .own .0) (view state table) (ruled c) (rw h at n)
+      go : Ruling c → result (state .settings) (state .own .0) (view state table) (ruled e c) ≡ view state table
+      go (inl h) = result-refused (state .settings) (state .own .0) (view state table) (ruled e c) (rw h at n)
       go (inr h) = rw h (read-leaves (state .settings) (state .own .0) (view state table))
 
 -- ---- engines with the settings S and the own number k
@@ -80,19 +83,19 @@ module _ {S : Settings} {k : ℕ} {e : Engine} (g : Good S k e) where
   as-given P = subst₂ P (g .settings) (g .own)
 
   -- the number that refuses a call is the rules'; a call that the rules have for a read is refused with a number of its own
-  pub refusal-ruled : (c : Call) → (refusalFor e c ≡ ruledRefusal S k (viewAt S e) (ruled c)) ⊎ (ruled c ≡ rules.read)
-  refusal-ruled c = as-given (λ T i. (refusalFor e c ≡ ruledRefusal T i (viewAt T e) (ruled c)) ⊎ (ruled c ≡ rules.read)) (ruling e (g .formed) c)
+  pub refusal-ruled : (c : Call) → (refusalFor e c ≡ ruledRefusal S k (viewAt S e) (ruled e c)) ⊎ (ruled e c ≡ rules.read)
+  refusal-ruled c = as-given (λ T i. (refusalFor e c ≡ ruledRefusal T i (viewAt T e) (ruled e c)) ⊎ (ruled e c ≡ rules.read)) (ruling e (g .formed) c)
 
   -- the rules let an accepted call pass
-  pub accepted-ruled : (c : Call) → refusalFor e c ≡ 0 → ruledRefusal S k (viewAt S e) (ruled c) ≡ 0
-  accepted-ruled c a = as-given (λ T i. ruledRefusal T i (viewAt T e) (ruled c) ≡ 0) (accepted-passes e (g .formed) c a)
+  pub accepted-ruled : (c : Call) → refusalFor e c ≡ 0 → ruledRefusal S k (viewAt S e) (ruled e c) ≡ 0
+  accepted-ruled c a = as-given (λ T i. ruledRefusal T i (viewAt T e) (ruled e c) ≡ 0) (accepted-passes e (g .formed) c a)
 
   module _ (c : Call) (r : InRange c) (o : NoOpen e c) where
     -- an accepted call leaves what the rules say
-    pub accepted-view : refusalFor e c ≡ 0 → viewAt S (after e c) ≡ rules.after S k (viewAt S e) (ruled c)
-    accepted-view a = as-given (λ T i. viewAt T (after e c) ≡ rules.after T i (viewAt T e) (ruled c)) (go (every-step e (g .small) c r))
+    pub accepted-view : refusalFor e c ≡ 0 → viewAt S (after e c) ≡ rules.after S k (viewAt S e) (ruled e c)
+    accepted-view a = as-given (λ T i. viewAt T (after e c) ≡ rules.after T i (viewAt T e) (ruled e c)) (go (every-step e (g .small) c r))
       where
-        go : Step e c → viewAt (e .state .settings) (after e c) ≡ rules.after (e .state .settings) (e .state .own .0) (viewAt (e .state .settings) e) (ruled c)
+        go : Step e c → viewAt (e .state .settings) (after e c) ≡ rules.after (e .state .settings) (e .state .own .0) (viewAt (e .state .settings) e) (ruled e c)
         go (refused n h) = absurd (n a)
         go (opened own sheet q b f) = absurd (o own sheet q b)
         go (moved b w n) = n .shows
@@ -107,12 +110,12 @@ module _ {S : Settings} {k : ℕ} {e : Engine} (g : Good S k e) where
         go (moved b w n) = record { own = ap (λ (m : Member). m .0) (n .same-own) ∙ g .own; settings = n .same-settings ∙ g .settings; formed = n .formed; small = n .set-in-range }
 
     -- any call is the rules' call on the view
-    pub view-after : viewAt S (after e c) ≡ result S k (viewAt S e) (ruled c)
+    pub view-after : viewAt S (after e c) ≡ result S k (viewAt S e) (ruled e c)
     view-after = go (every-step e (g .small) c r)
       where
-        go : Step e c → viewAt S (after e c) ≡ result S k (viewAt S e) (ruled c)
+        go : Step e c → viewAt S (after e c) ≡ result S k (viewAt S e) (ruled e c)
         go (refused n h) =
             ap (viewAt S) h
-            ∙ as-given (λ T i. viewAt T e ≡ result T i (viewAt T e) (ruled c)) (sym (refused-leaves e (g .formed) c n))
+            ∙ as-given (λ T i. viewAt T e ≡ result T i (viewAt T e) (ruled e c)) (sym (refused-leaves e (g .formed) c n))
         go (opened own sheet q b f) = absurd (o own sheet q b)
-        go (moved b w n) = accepted-view b ∙ sym (result-accepted S k (viewAt S e) (ruled c) (accepted-ruled c b))
+        go (moved b w n) = accepted-view b ∙ sym (result-accepted S k (viewAt S e) (ruled e c) (accepted-ruled c b))

@@ -12,12 +12,14 @@ use Rattle.endorse.proofs.PassedLaws.{endorse-passed}
 use Rattle.certify.proofs.PassedLaws.{certify-passed}
 use Rattle.accept.proofs.PassedLaws.{accept-passed}
 use Rattle.advance.proofs.PassedLaws.{advance-passed}
+use Rattle.enqueue.proofs.PassedLaws.{enqueue-passed}
+use Rattle.draw.proofs.PassedLaws.{draw-passed}
 use Rattle.commit.proofs.CheckLaws as commits
-use Rattle.engine.specs.Calls.{Aside, Call, opens, propose, endorse, certify, accept, advance, commit, aside, InRange}
-use Rattle.engine.specs.Engine.{Engine, refusalFor, after, asideChecks}
+use Rattle.engine.specs.Calls.{Aside, Call, opens, propose, endorse, certify, accept, advance, commit, enqueue, draw, aside, InRange}
+use Rattle.engine.specs.Engine.{Engine, refusalFor, asideChecks}
 use Rattle.engine.specs.Steps.{AsRuled, Step, refused, opened, moved, SetInRange, EveryStep}
 use Rattle.engine.proofs.AfterLaws.{renewed, refused-same, accepted-new}
-use Rattle.engine.proofs.NextLaws.{open-fresh, propose-next, endorse-next, certify-next, accept-next, advance-next, commit-next, aside-next}
+use Rattle.engine.proofs.NextLaws.{open-fresh, propose-next, endorse-next, certify-next, accept-next, advance-next, commit-next, enqueue-next, draw-next, aside-next}
 
 module _ (e : Engine) (low : SetInRange e) where
   open Engine e using (state, table)
@@ -37,6 +39,8 @@ module _ (e : Engine) (low : SetInRange e) where
   accepted-step (accept c) r a = by-next (accept c) a (whole _ _ (accept-passed state table c a .formed)) (accept-next e low c r a)
   accepted-step advance r a = by-next advance a (whole _ _ (advance-passed state table a .formed)) (advance-next e low a)
   accepted-step commit r a = by-next commit a (whole _ _ (commits.accepted state table a .formed)) (commit-next e low a)
+  accepted-step (enqueue g x) r a = by-next (enqueue g x) a (whole _ _ (enqueue-passed state table g x a .formed)) (enqueue-next e low g x a)
+  accepted-step (draw v) r a = by-next (draw v) a (whole _ _ (draw-passed state table v a .formed)) (draw-next e v r a)
   accepted-step (aside x) r a = let w = aside-formed x a in by-next (aside x) a w (aside-next e low x w)
 
 pub every-step : EveryStep

@@ -2,6 +2,7 @@
 use Prim.Native.Nat.{ℕ, _<_}
 use Rattle.terms.specs.declared.Member.{Member}
 use Rattle.terms.specs.declared.Round.{Round}
+use Rattle.terms.specs.declared.Transaction.{Transaction}
 use Rattle.terms.specs.declared.Body.{Body}
 use Rattle.terms.specs.declared.Proposal.{Proposal}
 use Rattle.terms.specs.declared.Certificate.{Certificate}
@@ -27,6 +28,10 @@ pub data Call : Type 0 where
   accept : Certificate → Call
   advance : Call
   commit : Call
+  -- a guest, and a transaction for its queue
+  enqueue : ℕ → Transaction → Call
+  -- previous set; the transactions are drawn from guests' queues
+  draw : ℕ → Call
   aside : Aside → Call
 
 -- a set of members is a 16-bit number; all other values are any
@@ -38,4 +43,6 @@ InRange (certify d) = d < 65536
 InRange (accept c) = (c .proposal .body .previous < 65536) × (c .endorsers < 65536)
 InRange advance = Unit {0}
 InRange commit = Unit {0}
+InRange (enqueue g x) = Unit {0}
+InRange (draw v) = v < 65536
 InRange (aside x) = Unit {0}

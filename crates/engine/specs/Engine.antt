@@ -14,7 +14,9 @@ use Rattle.certify.specs.Certify.{certifyRefusal, certifyOutcome, certifyTable}
 use Rattle.accept.specs.Accept.{acceptRefusal, acceptOutcome, acceptTable}
 use Rattle.advance.specs.Advance.{advanceRefusal, advanceOutcome}
 use Rattle.commit.specs.Commit.{commitRefusal, commitOutcome, commitTableAfter}
-use Rattle.engine.specs.Calls.{Aside, committee, share, certificate, block, listing, Call, opens, propose, endorse, certify, accept, advance, commit, aside}
+use Rattle.enqueue.specs.Enqueue.{enqueueRefusal, enqueueOutcome, enqueueTable}
+use Rattle.draw.specs.Draw.{drawRefusal, drawOutcome, drawTable}
+use Rattle.engine.specs.Calls.{Aside, committee, share, certificate, block, listing, Call, opens, propose, endorse, certify, accept, advance, commit, enqueue, draw, aside}
 
 -- what a member's host keeps between calls
 pub record Engine : Type 0 where
@@ -38,6 +40,8 @@ refusalFor e (certify d) = certifyRefusal (e .state) (e .table) d
 refusalFor e (accept c) = acceptRefusal (e .state) (e .table) c
 refusalFor e advance = advanceRefusal (e .state) (e .table)
 refusalFor e commit = commitRefusal (e .state) (e .table)
+refusalFor e (enqueue g x) = enqueueRefusal (e .state) (e .table) g x
+refusalFor e (draw v) = drawRefusal (e .state) (e .table) v
 refusalFor e (aside x) = refusal (guarded (e .state) (e .table) (asideChecks e x))
 
 -- the state that the call returns, and what the lent table holds then; propose and advance leave the table, and what stands aside leaves both
@@ -49,4 +53,6 @@ after e (certify d) = record { state = certifyOutcome (e .state) (e .table) d .s
 after e (accept c) = record { state = acceptOutcome (e .state) (e .table) c .state; table = acceptTable (e .state) (e .table) c }
 after e advance = record { state = advanceOutcome (e .state) (e .table) .state; table = e .table }
 after e commit = record { state = commitOutcome (e .state) (e .table) .state; table = commitTableAfter (e .state) (e .table) }
+after e (enqueue g x) = record { state = enqueueOutcome (e .state) (e .table) g x .state; table = enqueueTable (e .state) (e .table) g x }
+after e (draw v) = record { state = drawOutcome (e .state) (e .table) v .state; table = drawTable (e .state) (e .table) v }
 after e (aside x) = e

@@ -5,6 +5,7 @@ use mathlib.Core.Logic.{_≢_}
 use Prim.Native.Nat.{_<_}
 use lib.ListN.{drop}
 use Rattle.terms.specs.declared.Member.{Member}
+use Rattle.terms.specs.declared.Body.{Body}
 use Rattle.terms.specs.Proposals.{contentOf, transactionsOf}
 use Rattle.store.specs.Table.{usedLength}
 use Rattle.sheet.specs.declared.Sheet.{Sheet}
@@ -15,7 +16,8 @@ use Rattle.rules.specs.Tests.{MemberView}
 use Rattle.rules.specs.Calls as rules
 use Rattle.state.specs.WellFormed.{wellFormed}
 use Rattle.state.specs.View.{dagOf, endorsedOf, ownProposal}
-use Rattle.engine.specs.Calls.{Call, opens, propose, endorse, certify, accept, advance, commit, aside, InRange}
+use Rattle.draw.specs.Draw.{drawnBody}
+use Rattle.engine.specs.Calls.{Call, opens, propose, endorse, certify, accept, advance, commit, enqueue, draw, aside, InRange}
 use Rattle.engine.specs.Engine.{Engine, refusalFor, after}
 
 -- the view that an engine shows, for settings that equal its own
@@ -29,16 +31,22 @@ viewAt S e =
       chain = chainOf (e .state .settings .ceiling .0) (e .table) (e .state .blocks);
     }
 
--- the call of the rules that a call stands for; a refused open changes nothing, so it stands for a read
-abbrev pub ruled : Call → rules.Call
-ruled (opens own sheet) = rules.read
-ruled (propose b) = rules.propose (b .previous) (transactionsOf b)
-ruled (endorse p) = rules.endorse (contentOf p)
-ruled (certify d) = rules.certify d
-ruled (accept c) = rules.accept (contentOf (c .proposal)) (c .endorsers)
-ruled advance = rules.advance
-ruled commit = rules.commit
-ruled (aside x) = rules.read
+-- a propose of a body
+abbrev pub ruledPropose : Body → rules.Call
+ruledPropose b = rules.propose (b .previous) (transactionsOf b)
+
+-- the call of the rules that a call on an engine stands for: a draw proposes what the engine's queues hold; a refused open changes nothing, and an enqueue nothing that the rules see, so they stand for a read
+abbrev pub ruled : Engine → Call → rules.Call
+ruled e (opens own sheet) = rules.read
+ruled e (propose b) = ruledPropose b
+ruled e (endorse p) = rules.endorse (contentOf p)
+ruled e (certify d) = rules.certify d
+ruled e (accept c) = rules.accept (contentOf (c .proposal)) (c .endorsers)
+ruled e advance = rules.advance
+ruled e commit = rules.commit
+ruled e (enqueue g x) = rules.read
+ruled e (draw v) = ruledPropose (drawnBody (e .state) (e .table) v)
+ruled e (aside x) = rules.read
 
 -- the previous set in a state is a 16-bit number
 abbrev pub SetInRange : Engine → Type 0
@@ -62,7 +70,7 @@ pub record AsRuled (e : Engine) (c : Call) (x : Engine) : Type 0 where
   pub same-own : x .state .own ≡ e .state .own
   pub same-settings : x .state .settings ≡ e .state .settings
   pub formed : wellFormed (x .state) (x .table) ≡ true
-  pub shows : viewAt (e .state .settings) x ≡ rules.after (e .state .settings) (e .state .own .0) (viewAt (e .state .settings) e) (ruled c)
+  pub shows : viewAt (e .state .settings) x ≡ rules.after (e .state .settings) (e .state .own .0) (viewAt (e .state .settings) e) (ruled e c)
   pub set-in-range : SetInRange x
   pub beyond : BeyondSame (e .state .settings) e x
 

@@ -12,7 +12,7 @@ use Rattle.state.specs.View.{view}
 use Rattle.commit.specs.Answers.{addedValue}
 use Rattle.commit.specs.Commit.{commitOutcome}
 use Rattle.reads.specs.Reads as reads
-use Rattle.engine.specs.Calls.{Aside, committee, share, certificate, block, listing, Call, opens, propose, endorse, certify, accept, advance, commit, aside}
+use Rattle.engine.specs.Calls.{Aside, committee, share, certificate, block, listing, Call, opens, propose, endorse, certify, accept, advance, commit, enqueue, draw, aside}
 use Rattle.engine.specs.Engine.{Engine, refusalFor}
 
 pub data Value : Type 0 where
@@ -43,6 +43,8 @@ acceptedValue e (certify d) = nothing
 acceptedValue e (accept c) = nothing
 acceptedValue e advance = nothing
 acceptedValue e commit = number (addedValue (commitOutcome (e .state) (e .table) .answer))
+acceptedValue e (enqueue g x) = nothing
+acceptedValue e (draw v) = nothing
 acceptedValue e (aside x) = asideValue e x
 
 -- a refused call gives none

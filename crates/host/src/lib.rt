@@ -1,4 +1,5 @@
 // The engine for a host: every call and read, over words that it lends.
 mod batches;
 mod calls;
+mod guests;
 mod views;

@@ -21,6 +21,7 @@ use Rattle.checks.specs.Answers.{refusalIn, answerOf, ifAccepted, outcomeOf}
 use Rattle.checks.proofs.AnswerLaws.{refusal-in}
 use Rattle.open.specs.Open.{openOutcome}
 use Rattle.propose.specs.Propose.{proposeOutcome}
+use Rattle.draw.specs.Draw.{drawRefusal, drawOutcome}
 use Rattle.advance.specs.Advance.{advanceOutcome}
 use Rattle.commit.specs.declared.Committed as Made
 use Rattle.commit.specs.declared.Outcome as committed
@@ -34,7 +35,7 @@ use Rattle.standing.specs.Answers.{sharedAnswer, sharedValue, ValueAnswered}
 use Rattle.reads.specs.Answers.{blockedAnswer, blockedValue}
 use Rattle.standing.specs.Reads.{committeeRefusal, committeeAnswer, shareRefusal, shareAnswer, shareValue}
 use Rattle.reads.specs.Reads.{certificateRefusal, certificateAnswer, blockRefusal, blockAnswer, blockValue}
-use Rattle.engine.specs.Calls.{Aside, committee, share, certificate, block, Call, opens, propose, advance, commit, aside}
+use Rattle.engine.specs.Calls.{Aside, committee, share, certificate, block, Call, opens, propose, advance, commit, draw, aside}
 use Rattle.engine.specs.Engine.{Engine, refusalFor, after}
 use Rattle.engine.specs.Values.{nothing, number, acceptedValue, valueOf}
 use Rattle.engine.proofs.ValueLaws.{value-refused, committee-value, certificate-value}
@@ -72,6 +73,10 @@ module _ (s : State) (t : List ℕ) where
   pub propose-settles : (b : Body) {x : Outcome} → x ≡ proposeOutcome s t b → Settles on (propose b) (x .answer) (x .state)
   unfolding proposeOutcome outcomeOf
   propose-settles b q = rw q (record { its-answer = refl; its-state = refl })
+
+  pub draw-settles : (v : ℕ) {x : Outcome} → x ≡ drawOutcome s t v → Settles on (draw v) (x .answer) (x .state)
+  unfolding drawOutcome drawRefusal proposeOutcome outcomeOf
+  draw-settles v q = rw q (record { its-answer = refl; its-state = refl })
 
   pub advance-settles : {x : Outcome} → x ≡ advanceOutcome s t → Settles on advance (x .answer) (x .state)
   unfolding advanceOutcome outcomeOf

@@ -7,9 +7,9 @@ use lib.ListN.{getD}
 use lib.Dec.{ltb}
 use borrow.Author.Tests.{ltb-true}
 use Rattle.terms.specs.declared.Member.{Member}
-use Rattle.engine.specs.Calls.{Aside, opens, propose, endorse, certify, accept, advance, commit, aside}
+use Rattle.engine.specs.Calls.{Aside, opens, propose, endorse, certify, accept, advance, commit, enqueue, draw, aside}
 use Rattle.bodies.specs.Lengths.{proposalLength}
-use Rattle.bodies.specs.Bodies.{loneBodyReads, bodyIn}
+use Rattle.bodies.specs.Bodies.{loneBodyReads, bodyIn, loneTripleReads, tripleIn}
 use Rattle.words.specs.Proposals.{proposalReads, proposalIn, certificateReads, certificateIn}
 use Rattle.words.specs.Sheets.{sheetReads, sheetIn}
 use Rattle.hosting.specs.Handed.{Handed}
@@ -52,6 +52,12 @@ advance-handed = record { in-range = λ r. tt; tidy = λ x q. cc }
 
 pub commit-handed : Handed true commit
 commit-handed = record { in-range = λ r. tt; tidy = λ x q. cc }
+
+pub enqueue-handed : (g : ℕ) (x : List ℕ) → Handed (loneTripleReads x) (enqueue g (tripleIn x))
+enqueue-handed g x = record { in-range = λ r. tt; tidy = λ x q. cc }
+
+pub draw-handed : (v : ℕ) → Handed (ltb v 65536) (draw v)
+draw-handed v = record { in-range = ltb-true v 65536; tidy = λ x q. cc }
 
 pub aside-handed : (x : Aside) → Handed true (aside x)
 aside-handed a = record { in-range = λ r. tt; tidy = λ x q. cc }

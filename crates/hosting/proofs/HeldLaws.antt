@@ -21,6 +21,7 @@ use Rattle.terms.specs.declared.Proposal.{Proposal}
 use Rattle.terms.specs.declared.Certificate.{Certificate}
 use Rattle.terms.specs.Proposals.{slotOf, transactionsOf, contentOf}
 use Rattle.terms.proofs.ProposalLaws.{slot-tab}
+use Rattle.terms.specs.Bodies.{bodyOf}
 use Rattle.store.specs.Table.{contentAt, endorsersAt, markAt, proposalOf}
 use Rattle.store.proofs.TableLaws.{content-previous, previous-lt, endorsers-lt}
 use Rattle.store.proofs.RecordLaws.{proposal-few, proposal-content}
@@ -115,7 +116,7 @@ unfolding tidyBody
 tidy-content p few = ap (λ (l : List Transaction). record { author = p .author .0; round = p .round .0; previous = p .body .previous; transactions = l }) (tidy-transactions (p .body) few)
 
 shown-passes : (t : List ℕ) (a r k : ℕ) (o : List ℕ) → heldLength ≤ length o → PassesOn t a r (paste o 0 (heldWords (proposalOf (contentAt t a r)) (endorsersAt t a r) k) heldLength)
-unfolding proposalOf
+unfolding proposalOf bodyOf
 shown-passes t a r k o l =
     let p = proposalOf (contentAt t a r) in
     let d = endorsersAt t a r in

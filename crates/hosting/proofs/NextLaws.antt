@@ -15,7 +15,9 @@ use Rattle.state.specs.declared.State.{State}
 use Rattle.state.specs.States.{proposed, advanced, noBody}
 use Rattle.open.specs.Open.{freshState}
 use Rattle.commit.specs.Commit.{blocksThen}
-use Rattle.engine.specs.Calls.{Call, opens, propose, endorse, certify, accept, advance, commit, aside}
+use Rattle.queues.specs.Queues.{transactionsIn}
+use Rattle.draw.specs.Draw.{draws, drawnBody}
+use Rattle.engine.specs.Calls.{Call, opens, propose, endorse, certify, accept, advance, commit, enqueue, draw, aside}
 use Rattle.engine.specs.Engine.{after}
 use Rattle.engine.specs.Steps.{SetInRange}
 use Rattle.engine.proofs.AfterLaws.{renewed, accepted-new}
@@ -26,7 +28,7 @@ use Rattle.words.specs.TidyStates.{tidyBody, tidy}
 use Rattle.hosting.specs.Handed.{Handed}
 use Rattle.hosting.specs.Calls.{Use, writes, rewrites, reads, useOf, serves, engineFor, stateOver, resultOf}
 use Rattle.words.proofs.ReadingLaws.{state-read, set-read}
-use Rattle.words.proofs.TidyLaws.{tidy-by, weights-tidy, filled-tidy, blocks-tidy}
+use Rattle.words.proofs.TidyLaws.{tidy-by, of-tidy, weights-tidy, filled-tidy, blocks-tidy}
 use Rattle.words.proofs.BackLaws.{put-back, put-read}
 use Rattle.hosting.proofs.CallLaws.{AcceptedCall, accepted-call}
 
@@ -55,6 +57,10 @@ module _ (w t o : List ℕ) where
   Left rewrites s = tidy s ≡ s
   Left (reads n) s = s ≡ stateIn w
 
+  drawn-tidy : (s : State) (v : ℕ) → tidyBody (drawnBody s t v) ≡ drawnBody s t v
+  unfolding drawnBody
+  drawn-tidy s v = of-tidy v (transactionsIn (draws s t))
+
   left : (c : Call) → ((x : Body) → c ≡ propose x → tidyBody x ≡ x) → Left (useOf c) (renewed (engineFor w t o (useOf c)) c .state)
   left (opens own sheet) h = tidy-by (freshState own (filled sheet)) (filled-tidy sheet) refl
   left (propose b) h = tidy-by (proposed (stateIn w) b) (weights-tidy w) (h b refl)
@@ -63,6 +69,8 @@ module _ (w t o : List ℕ) where
   left (accept c) h = refl
   left advance h = tidy-by (advanced (stateIn w) noBody) (weights-tidy w) refl
   left commit h = blocks-tidy w (blocksThen (stateIn w) t)
+  left (enqueue g x) h = refl
+  left (draw v) h = tidy-by (proposed (stateIn w) (drawnBody (stateIn w) t v)) (weights-tidy w) (drawn-tidy (stateIn w) v)
   left (aside x) h = refl
 
   put-gives : (s : State) → stateLength ≤ length w → s .body .previous < 65536 → tidy s ≡ s → Gives (paste w 0 (stateWords s) stateLength) s

@@ -8,7 +8,7 @@ use lib.Dec.{eqb, leb}
 use lib.Seq.{paste}
 use Rattle.state.specs.declared.State.{State}
 use Rattle.open.specs.Open.{closedState}
-use Rattle.engine.specs.Calls.{Aside, committee, share, certificate, block, listing, Call, opens, propose, endorse, certify, accept, advance, commit, aside}
+use Rattle.engine.specs.Calls.{Aside, committee, share, certificate, block, listing, Call, opens, propose, endorse, certify, accept, advance, commit, enqueue, draw, aside}
 use Rattle.engine.specs.Engine.{Engine, refusalFor, after}
 use Rattle.engine.specs.Values.{Value, nothing, number, weights, held, chain, valueOf}
 use Rattle.bodies.specs.Lengths.{stateLength, heldLength, committeeLength}
@@ -40,7 +40,7 @@ pub record Done (answer : Result → ℕ) (x : Result) (r : ℕ) (state table ou
 
 -- ---- what a call does with the words that are lent
 
--- an open writes the state's words without reading them; propose, advance and commit read and write them; the others read them, and may write into an out stretch of so many words
+-- an open writes the state's words without reading them; propose, advance, commit and draw read and write them; the others read them, and may write into an out stretch of so many words
 pub data Use : Type 0 where
   writes : Use
   rewrites : Use
@@ -62,6 +62,8 @@ useOf (certify d) = reads 0
 useOf (accept c) = reads 0
 useOf advance = rewrites
 useOf commit = rewrites
+useOf (enqueue g x) = reads 0
+useOf (draw v) = rewrites
 useOf (aside x) = reads (roomFor x)
 
 -- the value of a packed answer

@@ -10,7 +10,7 @@ use Rattle.sheet.specs.Ranges.{outOfRange}
 use Rattle.committee.specs.Committees.{knownBy, quorum}
 use Rattle.rules.specs.Tests.{MemberView, committeeIn}
 use Rattle.rules.proofs.Runs.{viewAfter}
-use Rattle.engine.specs.Calls.{Call, opens, propose, endorse, certify, accept, advance, commit, aside}
+use Rattle.engine.specs.Calls.{Call, opens, propose, endorse, certify, accept, advance, commit, enqueue, draw, aside}
 use Rattle.engine.specs.Engine.{Engine}
 use Rattle.engine.specs.Steps.{viewAt}
 use Rattle.nonforking.specs.Statement.{Members, Entry, engineAfter, engineBehaviour}
@@ -33,6 +33,8 @@ ofAdvance (certify d) b = true
 ofAdvance (accept c) b = true
 ofAdvance advance b = b
 ofAdvance commit b = true
+ofAdvance (enqueue g x) b = true
+ofAdvance (draw v) b = true
 ofAdvance (aside x) b = true
 
 module _ (X : Members engineBehaviour) where

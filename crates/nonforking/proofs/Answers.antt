@@ -9,6 +9,7 @@ use Rattle.base.specs.Checks.{Checks, refusal}
 use Rattle.base.proofs.Bools.{both}
 use Rattle.base.proofs.CheckLaws.{passes}
 use Rattle.terms.specs.declared.Member.{Member}
+use Rattle.terms.specs.declared.Transaction.{Transaction}
 use Rattle.sheet.specs.declared.Sheet.{Sheet}
 use Rattle.sheet.specs.declared.Settings.{Settings}
 use Rattle.sheet.specs.Ranges.{outOfRange}
@@ -17,7 +18,8 @@ use Rattle.rules.specs.Calls as rules
 use Rattle.rules.specs.Calls.{ruledRefusal}
 use Rattle.rules.specs.Reads.{readingCommittee, readingShare, readingCertificate, readingBlock}
 use Rattle.rules.proofs.Runs.{viewAfter}
-use Rattle.engine.specs.Calls.{Aside, committee, share, certificate, block, listing, Call, opens, propose, endorse, certify, accept, advance, commit, aside}
+use Rattle.enqueue.proofs.PassedLaws.{enqueue-refused}
+use Rattle.engine.specs.Calls.{Aside, committee, share, certificate, block, listing, Call, opens, propose, endorse, certify, accept, advance, commit, enqueue, draw, aside}
 use Rattle.engine.specs.Engine.{Engine, asideChecks, refusalFor}
 use Rattle.engine.specs.Steps.{viewAt, ruled}
 use Rattle.engine.specs.Reached.{Good}
@@ -39,21 +41,24 @@ entries (x ∷ l) = x .entry ∷ entries l
 pub data IsRead : rules.Call → Type 0 where
   is-read : IsRead rules.read
 
--- a call is an open, or one that never touches the view, or one that the rules have for no read
-pub data CallCase : Call → Type 0 where
-  an-open : (own : Member) (sheet : Sheet) → CallCase (opens own sheet)
-  an-aside : (x : Aside) → CallCase (aside x)
-  of-rules : (c : Call) → (IsRead (ruled c) → ⊥) → CallCase c
+-- a call on e is an open, an enqueue, or one that never touches state and table, or one that the rules have for no read
+pub data CallCase (e : Engine) : Call → Type 0 where
+  an-open : (own : Member) (sheet : Sheet) → CallCase e (opens own sheet)
+  an-enqueue : (g : ℕ) (x : Transaction) → CallCase e (enqueue g x)
+  an-aside : (x : Aside) → CallCase e (aside x)
+  of-rules : (c : Call) → (IsRead (ruled e c) → ⊥) → CallCase e c
 
-abbrev pub caseOf : (c : Call) → CallCase c
-caseOf (opens own sheet) = an-open own sheet
-caseOf (propose b) = of-rules (propose b) (λ x. elim x [ ])
-caseOf (endorse p) = of-rules (endorse p) (λ x. elim x [ ])
-caseOf (certify d) = of-rules (certify d) (λ x. elim x [ ])
-caseOf (accept c) = of-rules (accept c) (λ x. elim x [ ])
-caseOf advance = of-rules advance (λ x. elim x [ ])
-caseOf commit = of-rules commit (λ x. elim x [ ])
-caseOf (aside x) = an-aside x
+abbrev pub caseOf : (e : Engine) (c : Call) → CallCase e c
+caseOf e (opens own sheet) = an-open own sheet
+caseOf e (propose b) = of-rules (propose b) (λ x. elim x [ ])
+caseOf e (endorse p) = of-rules (endorse p) (λ x. elim x [ ])
+caseOf e (certify d) = of-rules (certify d) (λ x. elim x [ ])
+caseOf e (accept c) = of-rules (accept c) (λ x. elim x [ ])
+caseOf e advance = of-rules advance (λ x. elim x [ ])
+caseOf e commit = of-rules commit (λ x. elim x [ ])
+caseOf e (enqueue g x) = an-enqueue g x
+caseOf e (draw v) = of-rules (draw v) (λ x. elim x [ ])
+caseOf e (aside x) = an-aside x
 
 module _ (S : Settings) where
   abbrev asideBy : MemberView S → Aside → Checks
@@ -63,11 +68,12 @@ module _ (S : Settings) where
   asideBy s (block n) = readingBlock S s n
   asideBy s listing = []
 
-  -- what a view tells of it; an open is one of a number above 15
-  abbrev pub refusalBy : ℕ → MemberView S → {c : Call} → CallCase c → ℕ
-  refusalBy k s (an-open own sheet) = 4
-  refusalBy k s (an-aside x) = refusal (asideBy s x)
-  refusalBy k s (of-rules c n) = ruledRefusal S k s (ruled c)
+  -- what a view tells of it; an open is one of a number above 15, an enqueue one of a guest above 7
+  abbrev pub refusalBy : ℕ → MemberView S → {e : Engine} {c : Call} → CallCase e c → ℕ
+  refusalBy k s {e} (an-open own sheet) = 4
+  refusalBy k s {e} (an-enqueue g x) = 26
+  refusalBy k s {e} (an-aside x) = refusal (asideBy s x)
+  refusalBy k s {e} (of-rules c n) = ruledRefusal S k s (ruled e c)
 
 aside-by : (e : Engine) (x : Aside) → asideChecks e x ≡ asideBy (e .state .settings) (viewAt (e .state .settings) e) x
 aside-by e (committee r) = refl
@@ -76,12 +82,13 @@ aside-by e (certificate m r) = refl
 aside-by e (block n) = refl
 aside-by e listing = refl
 
-module _ {S : Settings} {k : ℕ} {e : Engine} (g : Good S k e) where
-  pub refusal-by : {c : Call} (x : CallCase c) → isPlain c ≡ true → refusalFor e c ≡ refusalBy S k (viewAt S e) x
+module _ {S : Settings} {k : ℕ} {e : Engine} (good : Good S k e) where
+  pub refusal-by : {c : Call} (x : CallCase e c) → isPlain c ≡ true → refusalFor e c ≡ refusalBy S k (viewAt S e) x
   refusal-by (an-open own sheet) h = open-refused e own sheet h
+  refusal-by (an-enqueue g x) h = enqueue-refused _ _ g x (good .formed) h
   refusal-by (an-aside x) h =
-      passes 1 _ (rw (g .formed) refl) ∙ ap refusal (aside-by e x) ∙ ap (λ (T : Settings). refusal (asideBy T (viewAt T e) x)) (g .settings)
-  refusal-by (of-rules c n) h = refusal-by-rules g c (λ q. n (rw q is-read))
+      passes 1 _ (rw (good .formed) refl) ∙ ap refusal (aside-by e x) ∙ ap (λ (T : Settings). refusal (asideBy T (viewAt T e) x)) (good .settings)
+  refusal-by (of-rules c n) h = refusal-by-rules good c (λ q. n (rw q is-read))
 
 -- ---- a list of calls
 
@@ -98,15 +105,17 @@ module _ (X : Members engineBehaviour) where
     areAnswered [] = true
     areAnswered (x ∷ l) =
         let i = x .entry .who in
-        correct i && (eqb (refusalBy settings i (viewAfter (onTheirViews X fit) (entries l) i) (caseOf (x .entry .call))) (x .answer) && areAnswered l)
+        let e = engineAfter X (entries l) i in
+        correct i && (eqb (refusalBy settings i (viewAfter (onTheirViews X fit) (entries l) i) (caseOf e (x .entry .call))) (x .answer) && areAnswered l)
 
     pub answered-found : (l : List Answered) → arePlain (entries l) ≡ true → areAnswered l ≡ true → AreAnswered l
     answered-found [] p h = tt
     answered-found (x ∷ l) p h =
         let i = x .entry .who in
         let c = x .entry .call in
+        let e = engineAfter X (entries l) i in
         let q = both (isPlain c) (arePlain (entries l)) p in
         let y = both (correct i) _ h in
-        let z = both (eqb (refusalBy settings i (viewAfter (onTheirViews X fit) (entries l) i) (caseOf c)) (x .answer)) _ (y .1) in
+        let z = both (eqb (refusalBy settings i (viewAfter (onTheirViews X fit) (entries l) i) (caseOf e c)) (x .answer)) _ (y .1) in
         let m = shown X fit (entries l) (plain-found X (entries l) (q .1)) i (y .0) in
-        (refusal-by (m .good) (caseOf c) (q .0) ∙ ap (λ (s : MemberView settings). refusalBy settings i s (caseOf c)) (m .shows) ∙ eqb-true _ _ (z .0), answered-found l (q .1) (z .1))
+        (refusal-by (m .good) (caseOf e c) (q .0) ∙ ap (λ (s : MemberView settings). refusalBy settings i s (caseOf e c)) (m .shows) ∙ eqb-true _ _ (z .0), answered-found l (q .1) (z .1))

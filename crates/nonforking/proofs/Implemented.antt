@@ -12,7 +12,8 @@ use Rattle.rules.proofs.RoundLaws.{IsRound}
 use Rattle.rules.proofs.Implementations.{Follows, Implementation}
 use Rattle.state.proofs.FormedLaws.{formed}
 use Rattle.state.proofs.ViewLaws.{in-dag}
-use Rattle.engine.specs.Calls.{Call, propose, endorse, InRange}
+use Rattle.draw.proofs.PassedLaws.{drawn-small}
+use Rattle.engine.specs.Calls.{Call, propose, endorse, draw, InRange}
 use Rattle.engine.specs.Engine.{Engine, refusalFor, after}
 use Rattle.engine.specs.Steps.{viewAt, ruled}
 use Rattle.engine.specs.Sequences.{NoOpen}
@@ -25,14 +26,15 @@ abbrev pub Handed : ℕ → Engine → Call → Type 0
 Handed k e c = InRange c × NoOpen e c
 
 -- the set that a propose or an endorse names
-module _ (S : Settings) (k : ℕ) (s : MemberView S) where
-  proposed-fits : (c : Call) → InRange c → (p : Content) → Proposes S k s (ruled c) p → p .previous < 65536
+module _ (S : Settings) (k : ℕ) (e : Engine) (s : MemberView S) where
+  proposed-fits : (c : Call) → InRange c → (p : Content) → Proposes S k s (ruled e c) p → p .previous < 65536
   proposed-fits (propose b) r p (proposes x l) = r
+  proposed-fits (draw v) r p (proposes x l) = drawn-small (e .state) (e .table) v r
 
-  endorsed-fits : (c : Call) → InRange c → (p : Content) → Endorses (ruled c) p → p .previous < 65536
+  endorsed-fits : (c : Call) → InRange c → (p : Content) → Endorses (ruled e c) p → p .previous < 65536
   endorsed-fits (endorse q) r p (endorses x) = r
 
-  pub sets-fit : (c : Call) → InRange c → SetsFit S k s (ruled c)
+  pub sets-fit : (c : Call) → InRange c → SetsFit S k s (ruled e c)
   sets-fit c r = record { proposed = proposed-fits c r; endorsed = endorsed-fits c r }
 
 module _ (S : Settings) (k : ℕ) (e : Engine) (g : Good S k e) where
@@ -42,11 +44,11 @@ module _ (S : Settings) (k : ℕ) (e : Engine) (g : Good S k e) where
       let i = in-dag (e .state .settings .ceiling .0) (e .table) a r p h in
       subst (λ (T : Settings). IsRound T (p .round)) (g .settings) (omega (arith, i .from, i .round), omega (arith, i .to, i .round))
 
-  pub follows : (c : Call) → Handed k e c → refusalFor e c ≡ 0 → Follows S k (viewAt S e) (ruled c) (viewAt S (after e c))
+  pub follows : (c : Call) → Handed k e c → refusalFor e c ≡ 0 → Follows S k (viewAt S e) (ruled e c) (viewAt S (after e c))
   follows c h a =
       record {
         started = formed (e .state) (e .table) (g .formed) .numbers .round-from;
-        fits = sets-fit S k (viewAt S e) c (h .0);
+        fits = sets-fit S k e (viewAt S e) c (h .0);
         accepted = accepted-ruled g c a;
         becomes = accepted-view g c (h .0) (h .1) a;
       }

@@ -20,12 +20,13 @@ use Rattle.rules.proofs.Runs as runs
 use Rattle.state.specs.View.{ownProposal}
 use Rattle.state.proofs.ViewLaws.{proposal-some}
 use Rattle.certify.proofs.PassedLaws.{certify-passed}
+use Rattle.draw.specs.Draw.{drawnBody}
 use Rattle.engine.specs.Calls.{Call, certify, accept}
 use Rattle.engine.specs.Engine.{Engine, refusalFor, after}
 use Rattle.engine.specs.Steps.{viewAt, ruled}
 use Rattle.engine.specs.Reached.{Good}
 use Rattle.engine.proofs.RuledLaws.{good-after}
-use Rattle.nonforking.specs.Statement.{chain, Prefix, draft, Members, Entry, Takes, certifies, accepts, Proposes, proposes, Endorses, endorses, engineAfter, Made, Signed, Fair, WithinBound, Run, engineBehaviour}
+use Rattle.nonforking.specs.Statement.{chain, Prefix, draft, Members, Entry, Takes, certifies, accepts, Proposes, proposes, draws, Endorses, endorses, engineAfter, Made, Signed, Fair, WithinBound, Run, engineBehaviour}
 use Rattle.nonforking.proofs.Implemented.{Handed}
 use Rattle.nonforking.proofs.StartLaws.{starts, group}
 
@@ -36,14 +37,15 @@ pub proposal-there : (e : Engine) (d : ℕ) → refusalFor e (certify d) ≡ 0 �
 proposal-there e d a = proposal-some (e .state) (certify-passed (e .state) (e .table) d a .proposing)
 
 module _ (S : Settings) (e : Engine) where
-  propose-ruled : (c : Call) (p : Content) → Proposes e c p → signatures.Proposes S (p .author) (viewAt S e) (ruled c) p
+  propose-ruled : (c : Call) (p : Content) → Proposes e c p → signatures.Proposes S (p .author) (viewAt S e) (ruled e c) p
   propose-ruled c p (proposes b) = signatures.proposes (b .previous) (transactionsOf b)
+  propose-ruled c p (draws v) = let b = drawnBody (e .state) (e .table) v in signatures.proposes (b .previous) (transactionsOf b)
 
-  endorse-ruled : (c : Call) (p : Content) → Endorses c p → signatures.Endorses (ruled c) p
+  endorse-ruled : (c : Call) (p : Content) → Endorses c p → signatures.Endorses (ruled e c) p
   endorse-ruled c p (endorses q) = signatures.endorses (contentOf q)
 
   -- what the rules' call takes in, the engine's does
-  takes-back : (c : Call) → refusalFor e c ≡ 0 → (p : Content) (d : ℕ) → signatures.Takes S (viewAt S e) (ruled c) p d → Takes e c p d
+  takes-back : (c : Call) → refusalFor e c ≡ 0 → (p : Content) (d : ℕ) → signatures.Takes S (viewAt S e) (ruled e c) p d → Takes e c p d
   takes-back (certify d) a p x (signatures.certifies q y i) =
       subst (λ (z : Content). Takes e (certify d) z d) (Option·some-injective _ q (sym (proposal-there e d a) ∙ i)) (certifies d)
   takes-back (accept c) a p x (signatures.accepts q y) = accepts c
@@ -62,7 +64,7 @@ AllHanded X l = Each (λ k e c. after e c) (starts X) Handed l
 module _ (X : Members engineBehaviour) where
   open Members X using (correct, settings)
 
-  made-ruled : (f : Engine → Call → Type 0) (h : MemberView settings → rules.Call → Type 0) → ((e : Engine) (c : Call) → f e c → h (viewAt settings e) (ruled c))
+  made-ruled : (f : Engine → Call → Type 0) (h : MemberView settings → rules.Call → Type 0) → ((e : Engine) (c : Call) → f e c → h (viewAt settings e) (ruled e c))
       → (i : ℕ) (l : List Entry) → Made X f i l → runs.Made (group X) h i l
   made-ruled f h g i [] m = absurd m
   made-ruled f h g i (e ∷ l) (inl m) = inl (m .0, m .1, g (engineAfter X l i) (e .call) (m .2))

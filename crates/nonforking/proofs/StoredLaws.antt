@@ -16,6 +16,10 @@ use Rattle.writes.proofs.PutLaws.{held-put, word-elsewhere, content-put, endors
 use Rattle.writes.proofs.EndorseLaws.{OnlyEndorsed, held-endorse, word-endorse, set-endorsed, clear-endorsed}
 use Rattle.writes.proofs.MarkLaws.{OnlyMarks, held-marked, word-marked}
 use Rattle.writes.proofs.ClearLaws.{held-cleared}
+use Rattle.writes.proofs.FirstRow.{OnlyFirst, held-only, word-only}
+use Rattle.queues.specs.Words.{queuesOf}
+use Rattle.queues.proofs.AddedLaws.{only-added}
+use Rattle.queues.proofs.DrawLaws.{only-drawn}
 use Rattle.sheet.specs.declared.Sheet.{Sheet}
 use Rattle.sheet.specs.declared.Settings.{Settings}
 use Rattle.sheet.specs.Sheets.{filled}
@@ -24,7 +28,9 @@ use Rattle.checks.proofs.PlaceLaws.{own-within, fits-within, placed, own-placed
 use Rattle.certify.proofs.PassedLaws.{certify-passed}
 use Rattle.accept.proofs.PassedLaws.{accept-passed}
 use Rattle.commit.proofs.CommitLaws.{only-marks}
-use Rattle.engine.specs.Calls.{Call, opens, propose, endorse, certify, accept, advance, commit, aside, InRange}
+use Rattle.enqueue.proofs.PassedLaws.{enqueue-passed}
+use Rattle.draw.proofs.PassedLaws.{draw-passed}
+use Rattle.engine.specs.Calls.{Call, opens, propose, endorse, certify, accept, advance, commit, enqueue, draw, aside, InRange}
 use Rattle.engine.specs.Engine.{Engine, refusalFor, after}
 use Rattle.engine.specs.Sequences.{afterCalls, AllInRange, NoOpen, Opening, afterOpening}
 use Rattle.engine.specs.Reached.{Good, Intact}
@@ -48,7 +54,7 @@ module _ {t u : List ℕ} {a r : ℕ} where
   holds-same : {p : Content} {d : ℕ} → SameRecord t u a r → Holds t a r p d → Holds u a r p d
   holds-same s x =
       let e = s .words (x .held) in
-      record { held = s .held ∙ x .held; proposal = content-same t u a r e ∙ x .proposal; endorsers = endorsers-same t u a r e ∙ x .endorsers }
+      record { from = x .from; held = s .held ∙ x .held; proposal = content-same t u a r e ∙ x .proposal; endorsers = endorsers-same t u a r e ∙ x .endorsers }
 
   same-back : SameRecord t u a r → SameRecord u t a r
   same-back s = record { held = sym (s .held); words = λ h k l n. sym (s .words (sym (s .held) ∙ h) k l n) }
@@ -58,6 +64,9 @@ module _ {t u : List ℕ} {a r : ℕ} where
 
   same-marked : {n : ℕ} → OnlyMarks n t u → SameRecord t u a r
   same-marked o = record { held = held-marked o a r; words = λ h. word-marked o a r }
+
+  same-only : OnlyFirst t u → 0 < r → SameRecord t u a r
+  same-only o h = record { held = held-only o a r h; words = λ _ k _ _. word-only o a r h k }
 
 -- the certificate of q with the endorsers i, put at its place
 module _ (t : List ℕ) (q : Content) (i : ℕ) (at : Within t (q .author) (q .round)) where
@@ -75,11 +84,12 @@ module _ (t : List ℕ) (q : Content) (i : ℕ) (at : Within t (q .author) (q .r
       go true e = let z = same-place a r (q .author) (q .round) e in absurd (true≢false (sym (x .held) ∙ rw (z .0, z .1) free))
       go false e = holds-same (same-elsewhere a r e) x
 
-  module _ (few : length (q .transactions) ≤ 4) (small : q .previous < 65536) (fits : i < 65536) where
+  module _ (from : 0 < q .round) (few : length (q .transactions) ≤ 4) (small : q .previous < 65536) (fits : i < 65536) where
     -- what is put is held
     put-holds : Holds (putCertificate t q i) (q .author) (q .round) q i
     put-holds =
         record {
+          from = from;
           held = held-put t q i at (q .author) (q .round) ∙ rw (place-self (q .author) (q .round)) refl;
           proposal = content-put t q i at few small;
           endorsers = endorsers-put t q i at fits;
@@ -116,7 +126,7 @@ record Put (e : Engine) (q : Content) (d : ℕ) (u : List ℕ) : Type 0 where
 -- what an accepted call does to the certificates that are held
 data Stores (e : Engine) (c : Call) : Type 0 where
   clears : (own : Member) (sheet : Sheet) → c ≡ opens own sheet → Stores e c
-  keeps : (IsOpen c → ⊥) → ((a r : ℕ) → SameRecord (e .table) (renewed e c .table) a r) → Stores e c
+  keeps : (IsOpen c → ⊥) → ((a r : ℕ) → 0 < r → SameRecord (e .table) (renewed e c .table) a r) → Stores e c
   puts : (q : Content) (d : ℕ) → Takes e c q d → Stores e c
 
 module _ (e : Engine) where
@@ -124,13 +134,15 @@ module _ (e : Engine) where
 
   stores : (c : Call) → refusalFor e c ≡ 0 → Stores e c
   stores (opens own sheet) n = clears own sheet refl
-  stores (propose b) n = keeps (λ x. elim x [ ]) (λ a r. same-itself)
-  stores (endorse q) n = keeps (λ x. elim x [ ]) (λ a r. same-endorsed (set-endorsed table (q .author .0) (q .round .0)))
+  stores (propose b) n = keeps (λ x. elim x [ ]) (λ a r h. same-itself)
+  stores (endorse q) n = keeps (λ x. elim x [ ]) (λ a r h. same-endorsed (set-endorsed table (q .author .0) (q .round .0)))
   stores (certify d) n = puts _ d (certifies d)
   stores (accept c) n = puts (contentOf (c .proposal)) (c .endorsers) (accepts c)
-  stores advance n = keeps (λ x. elim x [ ]) (λ a r. same-itself)
-  stores commit n = keeps (λ x. elim x [ ]) (λ a r. same-marked (only-marks state table n))
-  stores (aside x) n = keeps (λ x. elim x [ ]) (λ a r. same-itself)
+  stores advance n = keeps (λ x. elim x [ ]) (λ a r h. same-itself)
+  stores commit n = keeps (λ x. elim x [ ]) (λ a r h. same-marked (only-marks state table n))
+  stores (enqueue g x) n = keeps (λ x. elim x [ ]) (λ a r h. same-only (only-added table g x (enqueue-passed state table g x n .place)) h)
+  stores (draw v) n = let k = draw-passed state table v n in keeps (λ x. elim x [ ]) (λ a r h. same-only (only-drawn (state .settings .allowance) (queuesOf table) table (k .row)) h)
+  stores (aside x) n = keeps (λ x. elim x [ ]) (λ a r h. same-itself)
 
   -- what an accepted certify or accept took is put
   put-taken : (c : Call) → refusalFor e c ≡ 0 → (q : Content) (d : ℕ) → Takes e c q d → Put e q d (renewed e c .table)
@@ -153,7 +165,7 @@ module _ (e : Engine) where
       where
         by : refusalFor e c ≡ 0 → Stores e c → Holds (renewed e c .table) a r p d
         by n (clears own sheet q) = absurd (o own sheet q n)
-        by n (keeps f s) = holds-same (s a r) x
+        by n (keeps f s) = holds-same (s a r (x .from)) x
         by n (puts q i t) = let k = put-taken c n q i t in holds-same (k .same a r) (holds-put table q i (k .at) (k .free) x)
 
         go : Dec (refusalFor e c ≡ 0) → Holds (after e c .table) a r p d
@@ -173,14 +185,14 @@ module _ (e : Engine) where
           let k = put-taken c n p d t in
           let f = taken-fits c w n p d t in
           subst (λ (z : Engine). Holds (z .table) (p .author) (p .round) p d) (sym (accepted-new e c n))
-          (holds-same (k .same (p .author) (p .round)) (put-holds table p d (k .at) (f .0 .few) (f .0 .small) (f .1)))
+          (holds-same (k .same (p .author) (p .round)) (put-holds table p d (k .at) (f .0 .from) (f .0 .few) (f .0 .small) (f .1)))
 
       -- and what is held then was taken by it, or held before
       taken-or-held : (q : Content) (i : ℕ) → Takes e c q i → {a r : ℕ} {p : Content} {d : ℕ} → Holds (renewed e c .table) a r p d → Takes e c p d ⊎ Holds table a r p d
       taken-or-held q i t {a} {r} {p} {d} x =
           let k = put-taken c n q i t in
           let f = taken-fits c w n q i t in
-          go (put-or-held table q i (k .at) (f .0 .few) (f .0 .small) (f .1) (holds-same (same-back (k .same a r)) x))
+          go (put-or-held table q i (k .at) (f .0 .from) (f .0 .few) (f .0 .small) (f .1) (holds-same (same-back (k .same a r)) x))
         where
           go : ((q ≡ p) × (i ≡ d)) ⊎ Holds table a r p d → Takes e c p d ⊎ Holds table a r p d
           go (inl z) = inl (subst₂ (Takes e c) (z .0) (z .1) t)
@@ -226,7 +238,7 @@ stored-by x c l i a r p d to h older = by (ℕ-discrete (refusalFor e c) 0)
 
     accepted : refusalFor e c ≡ 0 → Holds (renewed e c .table) a r p d → Stores e c → Stored (afterOpening x) (c ∷ l) p d
     accepted n y (clears own sheet q) = absurd (nothing-held e own sheet (rw q at n) a r (rw q at to) (rw q at (h .held)))
-    accepted n y (keeps f s) = before (no-open f) (holds-same (same-back (s a r)) y)
+    accepted n y (keeps f s) = before (no-open f) (holds-same (same-back (s a r (y .from))) y)
     accepted n y (puts q j t) = go (taken-or-held e (g .good) c (i .0) n q j t y)
       where
         go : Takes e c p d ⊎ Holds (e .table) a r p d → Stored (afterOpening x) (c ∷ l) p d

@@ -35,16 +35,14 @@ use Rattle.positions.specs.Positions.{countBelow, memberBelow}
 use Rattle.committee.specs.Leaders.{memberAt, leaderOf}
 use Rattle.rules.specs.Tests.{committeeIn, badRound, signersOf, above, unknown, missing, unvoted}
 use Rattle.rules.specs.Calls.{ruledRefusal, after, result}
-use Rattle.rules.proofs.Runs.{Group, viewAfter, chainAfter}
-use Rattle.rules.proofs.RuleRuns.{onViews}
+use Rattle.rules.proofs.Runs.{Group, stateAfter, viewAfter, chainAfter}
 use Rattle.rules.proofs.RunTestLaws.{run-found}
 use Rattle.rules.proofs.RunTests.{isMade, isSigned, isBounded, isFair, isRun}
 use Rattle.open.specs.Open.{closedState, openRefusal}
-use Rattle.engine.specs.Steps.{ruled}
 use Rattle.engine.specs.Calls.{Call, opens, propose, endorse, certify, accept, advance, commit, aside, committee, share, certificate, block}
 use Rattle.nonforking.specs.Statement.{listed, weights, Members, Entry, engineAfter, Run, engineBehaviour}
 use Rattle.nonforking.proofs.Implemented.{sets-fit}
-use Rattle.nonforking.proofs.Converses.{Shown, onTheirViews, shown, by-view, run-back}
+use Rattle.nonforking.proofs.Converses.{Shown, besideEngines, onTheirViews, shown, by-view, run-back}
 use Rattle.nonforking.proofs.PlainTests.{isPlain, arePlain, in-range, plain-found}
 use Rattle.nonforking.proofs.Answers.{Answered, entries, AreAnswered, areAnswered, answered-found}
 use Rattle.nonforking.proofs.Advances.{AdvancesHeld, advancesHeld, advances-found}
@@ -182,7 +180,7 @@ unfolding outOfRange notWithin anyTo
 settings-fit = refl
 
 -- the members' views, after the same calls
-abbrev views : Group settings (onViews settings Call ruled)
+abbrev views : Group settings (besideEngines settings)
 views = onTheirViews members settings-fit
 
 record Computed : Type 0 where
@@ -218,9 +216,9 @@ computed =
 pub witness : Witness
 witness =
     let plain = plain-found members calls (computed .plain) in
-    let at : (i : ℕ) → ltb i 3 ≡ true → Shown settings i (engineAfter members calls i) (viewAfter views calls i) = shown members settings-fit calls plain in
+    let at : (i : ℕ) → ltb i 3 ≡ true → Shown settings i (engineAfter members calls i) (stateAfter views calls i) = shown members settings-fit calls plain in
     record {
-      premises = run-back members settings-fit calls plain (run-found views (λ k s c. isPlain c) (λ k s c h. sets-fit settings k s c (in-range c h)) calls (computed .run));
+      premises = run-back members settings-fit calls plain (run-found views (λ k s c. isPlain c) (λ k s c h. sets-fit settings k (s .0) (s .1) c (in-range c h)) calls (computed .run));
       answers = answered-found members settings-fit round4 (computed .plain) (computed .answers);
       advances = advances-found members settings-fit calls plain (computed .advances);
       listed-by-0 = by-view members settings-fit (λ S x. listing (ordered S) x ≡ made) (at 0 refl) (computed .listed-by-0);

@@ -21,7 +21,8 @@ use Rattle.sheet.specs.Sheets.{filled, marginOf}
 use Rattle.sheet.specs.Ranges.{weightIn}
 use Rattle.committee.specs.Committees.{committeeOf, ordered, knownBy, boundOf}
 use Rattle.committee.specs.Chain.{chainOf}
-use Rattle.engine.specs.Calls.{Call, opens, propose, endorse, certify, accept, InRange}
+use Rattle.draw.specs.Draw.{drawnBody}
+use Rattle.engine.specs.Calls.{Call, opens, propose, endorse, certify, accept, draw, InRange}
 use Rattle.engine.specs.Engine as engine
 use Rattle.engine.specs.Engine.{Engine, refusalFor}
 
@@ -79,9 +80,10 @@ pub data Takes (e : Engine) : Call → Content → ℕ → Type 0 where
   certifies : (d : ℕ) → Takes e (certify d) (draft e (e .state .body)) d
   accepts : (c : Certificate) → Takes e (accept c) (contentOf (c .proposal)) (c .endorsers)
 
--- the call is a propose of p
+-- the call is a propose of p: of a body that is handed in, or of what is drawn from guests' queues
 pub data Proposes (e : Engine) : Call → Content → Type 0 where
   proposes : (b : Body) → Proposes e (propose b) (draft e b)
+  draws : (v : ℕ) → Proposes e (draw v) (draft e (drawnBody (e .state) (e .table) v))
 
 -- the call is an endorse of p
 pub data Endorses : Call → Content → Type 0 where

@@ -3,7 +3,7 @@ use mathlib.Core.Path.{_≡_}
 use mathlib.Core.Bool.{true}
 use mathlib.Core.List.{List, [], _∷_}
 use mathlib.Core.Logic.{_⊎_}
-use Prim.Native.Nat.{ℕ, _≤_}
+use Prim.Native.Nat.{ℕ, _<_, _≤_}
 use Rattle.terms.specs.Proposals.{Content, contentOf}
 use Rattle.store.specs.Table.{heldAt, endorsersAt, contentAt}
 use Rattle.checks.specs.declared.Answer.the-variants.{Accepted}
@@ -13,8 +13,9 @@ use Rattle.engine.specs.Engine.{Engine, refusalFor}
 use Rattle.engine.specs.Sequences.{afterCalls, AllInRange, NoOpen, NoOpens, Opening, afterOpening}
 use Rattle.nonforking.specs.Statement.{Takes}
 
--- the table t holds the certificate of author a and round r, with its proposal p and its endorsers d
+-- the table t holds the certificate of author a and round r, with its proposal p and its endorsers d; rounds are from 1, and row 0 holds no certificates
 pub record Holds (t : List ℕ) (a r : ℕ) (p : Content) (d : ℕ) : Type 0 where
+  pub from : 0 < r
   pub held : heldAt t a r ≡ true
   pub proposal : contentAt t a r ≡ p
   pub endorsers : endorsersAt t a r ≡ d

@@ -40,7 +40,7 @@ module _ (e : Engine) {r : Reply} {t : List ℕ} {x : List ℕ} {y : List ℕ} {
         }
 
     -- where it leaves the chain, the committees are those that were cached
-    pub replied-left : leavesChain (ruled c) ≡ true → {cache : List ℕ} → Cached (e .state) (e .table) b cache → CallServed e c r t cache x y at
+    pub replied-left : leavesChain (ruled e c) ≡ true → {cache : List ℕ} → Cached (e .state) (e .table) b cache → CallServed e c r t cache x y at
     replied-left l k = replied-served (rw (p .its-state, p .its-formed, d, h) (cached-after e low c i l k))
 
   pub counted-served : {o : committed.Outcome} → o ≡ commitOutcome (e .state) (e .table) → t ≡ commitTableAfter (e .state) (e .table) → {b : Bool}

@@ -25,7 +25,7 @@ use Rattle.fields.specs.Cursor.{found, firstBy, rest, Stepped}
 use Rattle.fields.proofs.CursorLaws.{found-of, found-none}
 use Rattle.requests.proofs.SettingLaws.{setting-of, setting-none}
 use Rattle.triples.specs.Triples.{atKind}
-use Rattle.triples.specs.Bodies.{bodyOf}
+use Rattle.terms.specs.Bodies.{bodyOf}
 use Rattle.requests.specs.Requests.{nextBy, atEnd, triplesThen, cellsIn, weightsThen, endorseOf, acceptOf}
 use Rattle.requests.specs.Readings.{unreadable, endorse, accept, settingFound, weightsOf}
 use Rattle.triples.specs.Bodies.{triplesOf}

@@ -17,7 +17,7 @@ use Rattle.requests.specs.declared.Reading.{Reading}
 use Rattle.requests.specs.declared.setting.SettingRead.{SettingRead}
 use Rattle.requests.specs.declared.setting.SettingRead.the-variants.{NoSetting, Is}
 use Rattle.requests.specs.declared.setting.Weights.{Weights}
-use Rattle.triples.specs.Bodies.{bodyOf}
+use Rattle.terms.specs.Bodies.{bodyOf}
 
 -- a call of a kind with its author, round, body and endorsers
 abbrev pub callReading : Kind → ℕ → ℕ → Body → ℕ → Reading

@@ -15,7 +15,7 @@ ghost use lib.ListN.{length};
 ghost use Rattle.requests.specs.declared.Kind.the-variants.{Unreadable};
 ghost use Rattle.fields.specs.Fields.{fieldsFrom};
 ghost use Rattle.triples.specs.Triples.{atKind};
-ghost use Rattle.triples.specs.Bodies.{bodyOf};
+ghost use Rattle.terms.specs.Bodies.{bodyOf};
 ghost use Rattle.requests.specs.Requests.{atEnd, triplesThen, openOf, proposeOf, endorseOf, certifyOf, acceptOf};
 ghost use Rattle.requests.specs.Readings.{callReading, plainReading, openAs};
 ghost use Rattle.triples.specs.Bodies.{triplesOf};

@@ -33,9 +33,9 @@ pub record Follows (S : Settings) (k : ℕ) (s : MemberView S) (c : Calls.Call) 
 pub record Implementation (S : Settings) : Type 1 where
   pub State : Type 0
   pub Call : Type 0
-  -- the view that a state shows, and the call of the rules that a call stands for
+  -- the view that a state shows, and the call of the rules that a call on it stands for
   pub view : State → MemberView S
-  pub ruled : Call → Calls.Call
+  pub ruled : State → Call → Calls.Call
   -- the number that a call of member k is refused with, 0 for none, and the state after it
   pub answer : ℕ → State → Call → ℕ
   pub after : ℕ → State → Call → State
@@ -48,18 +48,18 @@ pub record Implementation (S : Settings) : Type 1 where
   pub held-rounds : (k : ℕ) (s : State) → Good k s → (a r : ℕ) (p : Content) → view s .dag a r ≡ some p → IsRound S (p .round)
   -- a refused call leaves the view, and an accepted one does what the rules say
   pub refused : (k : ℕ) (s : State) (c : Call) → Good k s → answer k s c ≢ 0 → view (after k s c) ≡ view s
-  pub follows : (k : ℕ) (s : State) (c : Call) → Good k s → Handed k s c → answer k s c ≡ 0 → Follows S k (view s) (ruled c) (view (after k s c))
+  pub follows : (k : ℕ) (s : State) (c : Call) → Good k s → Handed k s c → answer k s c ≡ 0 → Follows S k (view s) (ruled s c) (view (after k s c))
 
 module _ (S : Settings) (correct : ℕ → Bool) (low : (k : ℕ) → correct k ≡ true → k < 16) (F : Implementation S) where
   open Implementation F using (State, Call, view, ruled, answer, after, Handed, Good, good-after, refused, follows)
 
   -- what member k signs by a call: nothing by a refused one
   unfoldable pub signs : ℕ → State → Call → List Content
-  signs k s c = cond (eqb (answer k s c) 0) (Signatures.signs S k (view s) (ruled c)) []
+  signs k s c = cond (eqb (answer k s c) 0) (Signatures.signs S k (view s) (ruled s c)) []
 
   -- where it is accepted, no signature of a correct member under the certificate that it takes in is forged
   abbrev pub Genuine : Log (rules S) → ℕ → State → Call → Type 0
-  Genuine G k s c = answer k s c ≡ 0 → AcceptedMoves.Genuine S correct G k (view s) (ruled c)
+  Genuine G k s c = answer k s c ≡ 0 → AcceptedMoves.Genuine S correct G k (view s) (ruled s c)
 
   -- a call is a move
   pub call-move : (G : Log (rules S)) (k : ℕ) (s : State) (c : Call) → correct k ≡ true → Good k s → Invariant correct G k (view s) (G k) → Handed k s c → Genuine G k s c
@@ -67,11 +67,11 @@ module _ (S : Settings) (correct : ℕ → Bool) (low : (k : ℕ) → correct k 
   unfolding signs
   call-move G k s c ck good I handed g = go (ℕ-discrete (answer k s c) 0)
     where
-      go : Dec (answer k s c ≡ 0) → Move correct G k (view s) (G k) (view (after k s c)) (cond (eqb (answer k s c) 0) (Signatures.signs S k (view s) (ruled c)) [] ++ G k)
+      go : Dec (answer k s c ≡ 0) → Move correct G k (view s) (G k) (view (after k s c)) (cond (eqb (answer k s c) 0) (Signatures.signs S k (view s) (ruled s c)) [] ++ G k)
       go (yes e) =
           let f = follows k s c good handed e in
           rw (eq-eqb (answer k s c) 0 e, f .becomes)
-          (accepted-move S correct G k (view s) (G k) I (low k ck) (f .started) (ruled c) (f .fits) (g e) (f .accepted))
+          (accepted-move S correct G k (view s) (G k) I (low k ck) (f .started) (ruled s c) (f .fits) (g e) (f .accepted))
       go (no n) = rw (ne-eqb (answer k s c) 0 n, refused k s c good n) other-call
 
   -- so they are machines of the theory

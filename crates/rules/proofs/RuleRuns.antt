@@ -25,33 +25,33 @@ module _ (S : Settings) where
       go (yes e) = rw (result-accepted S k s c e) (rounds-kept S s h k c e)
       go (no n) = rw (result-refused S k s c n) h
 
-  -- C is the type of calls
-  module _ (C : Type 0) (ruled : C → Call) where
+  -- C is the type of calls, and B that of what a member has beside its view: on it depends what a call stands for, and `next` is what it becomes by a call
+  module _ (B C : Type 0) (next : B → C → B) (ruled : B → C → Call) where
     abbrev pub onViews : Implementation S
     onViews =
         record {
-          State = MemberView S;
+          State = B × MemberView S;
           Call = C;
-          view = λ s. s;
-          ruled = ruled;
-          answer = λ k s c. ruledRefusal S k s (ruled c);
-          after = λ k s c. result S k s (ruled c);
-          Handed = λ k s c. SetsFit S k s (ruled c);
-          Good = λ k s. InRounds S s;
-          good-after = λ k s c f. result-rounds k s (ruled c);
+          view = λ s. s .1;
+          ruled = λ s c. ruled (s .0) c;
+          answer = λ k s c. ruledRefusal S k (s .1) (ruled (s .0) c);
+          after = λ k s c. (next (s .0) c, result S k (s .1) (ruled (s .0) c));
+          Handed = λ k s c. SetsFit S k (s .1) (ruled (s .0) c);
+          Good = λ k s. InRounds S (s .1);
+          good-after = λ k s c f. result-rounds k (s .1) (ruled (s .0) c);
           held-rounds = λ k s h. h .held;
-          refused = λ k s c h. result-refused S k s (ruled c);
-          follows = λ k s c h f e. record { started = h .present .0; fits = f; accepted = e; becomes = result-accepted S k s (ruled c) e };
+          refused = λ k s c h. result-refused S k (s .1) (ruled (s .0) c);
+          follows = λ k s c h f e. record { started = h .present .0; fits = f; accepted = e; becomes = result-accepted S k (s .1) (ruled (s .0) c) e };
         }
 
-    module _ (fit : outOfRange S ≡ false) (correct : ℕ → Bool) (below : (k : ℕ) → correct k ≡ true → k < 16) where
+    module _ (start : ℕ → B) (fit : outOfRange S ≡ false) (correct : ℕ → Bool) (below : (k : ℕ) → correct k ≡ true → k < 16) where
       -- all members start from the fresh view
       abbrev pub opened : Group S onViews
       opened =
           record {
             correct = correct;
             below = below;
-            start = λ i. freshView S;
+            start = λ i. (start i, freshView S);
             good = λ i c. fresh-rounds S (omega (arith, settings-fit S fit .ceiling-from));
             fresh = λ i c. record { no-proposal = refl; no-certificate = λ a r. refl; no-block = refl };
           }

@@ -45,10 +45,10 @@ module _ {S : Settings} {F : Implementation S} (X : Group S F) where
   made-found : (f : MemberView S → Calls.Call → Bool) (g : MemberView S → Calls.Call → Type 0) → ((s : MemberView S) (c : Calls.Call) → f s c ≡ true → g s c) → (i : ℕ) (l : Entries X) → isMade X f i l ≡ true → Made X g i l
   unfolding isMade
   made-found f g k i [] h = absurd (false≢true h)
-  made-found f g k i (e ∷ l) h = go (eqb i (e .who) && (eqb (answer i (stateAfter X l i) (e .call)) 0 && f (viewAfter X l i) (ruled (e .call)))) refl h (made-found f g k i l)
+  made-found f g k i (e ∷ l) h = go (eqb i (e .who) && (eqb (answer i (stateAfter X l i) (e .call)) 0 && f (viewAfter X l i) (ruled (stateAfter X l i) (e .call)))) refl h (made-found f g k i l)
     where
-      go : (b : Bool) → (eqb i (e .who) && (eqb (answer i (stateAfter X l i) (e .call)) 0 && f (viewAfter X l i) (ruled (e .call)))) ≡ b → (b || isMade X f i l) ≡ true → (isMade X f i l ≡ true → Made X g i l)
-          → ((i ≡ e .who) × (answer i (stateAfter X l i) (e .call) ≡ 0) × g (viewAfter X l i) (ruled (e .call))) ⊎ Made X g i l
+      go : (b : Bool) → (eqb i (e .who) && (eqb (answer i (stateAfter X l i) (e .call)) 0 && f (viewAfter X l i) (ruled (stateAfter X l i) (e .call)))) ≡ b → (b || isMade X f i l) ≡ true → (isMade X f i l ≡ true → Made X g i l)
+          → ((i ≡ e .who) × (answer i (stateAfter X l i) (e .call) ≡ 0) × g (viewAfter X l i) (ruled (stateAfter X l i) (e .call))) ⊎ Made X g i l
       go true q h r =
           let x = both (eqb i (e .who)) _ q in
           let y = both (eqb (answer i (stateAfter X l i) (e .call)) 0) _ (x .1) in

@@ -65,7 +65,7 @@ module _ {S : Settings} {F : Implementation S} (X : Group S F) where
 
   unfoldable pub isMade : (MemberView S → Calls.Call → Bool) → ℕ → Entries X → Bool
   isMade f i [] = false
-  isMade f i (e ∷ l) = (eqb i (e .who) && (eqb (answer i (stateAfter X l i) (e .call)) 0 && f (viewAfter X l i) (ruled (e .call)))) || isMade f i l
+  isMade f i (e ∷ l) = (eqb i (e .who) && (eqb (answer i (stateAfter X l i) (e .call)) 0 && f (viewAfter X l i) (ruled (stateAfter X l i) (e .call)))) || isMade f i l
 
   unfoldable pub isSigned : Content → ℕ → Entries X → Bool
   isSigned p d l = (not (correct (p .author)) || isMade (λ s c. isOne p (proposedBy S (p .author) s c)) (p .author) l) && allTo (λ i. not (correct i && isIn d i) || isMade (λ s c. isOne p (endorsedBy c)) i l) 16
@@ -80,7 +80,7 @@ module _ {S : Settings} {F : Implementation S} (X : Group S F) where
     isFair e l =
         correct (e .who)
         && (fits (e .who) (stateAfter X l (e .who)) (e .call)
-        && (not (eqb (answer (e .who) (stateAfter X l (e .who)) (e .call)) 0) || ofCertificate S (viewAfter X l (e .who)) (ruled (e .call)) (λ p d. isSigned p d l)))
+        && (not (eqb (answer (e .who) (stateAfter X l (e .who)) (e .call)) 0) || ofCertificate S (viewAfter X l (e .who)) (ruled (stateAfter X l (e .who)) (e .call)) (λ p d. isSigned p d l)))
 
     unfoldable pub isRun : Entries X → Bool
     isRun [] = isBounded []

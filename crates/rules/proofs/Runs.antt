@@ -56,7 +56,7 @@ module _ {S : Settings} {F : Implementation S} (X : Group S F) where
   -- the list has an accepted call of member i for which f holds; f is told the view that the call is made on
   abbrev pub Made : (MemberView S → Calls.Call → Type 0) → ℕ → Entries → Type 0
   Made f i [] = ⊥
-  Made f i (e ∷ l) = ((i ≡ e .who) × (answer i (stateAfter l i) (e .call) ≡ 0) × f (viewAfter l i) (ruled (e .call))) ⊎ Made f i l
+  Made f i (e ∷ l) = ((i ≡ e .who) × (answer i (stateAfter l i) (e .call) ≡ 0) × f (viewAfter l i) (ruled (stateAfter l i) (e .call))) ⊎ Made f i l
 
   -- a correct author has an accepted propose of p in the list, and each correct endorser an accepted endorse of it
   pub record Signed (p : Content) (endorsers : ℕ) (l : Entries) : Type 0 where
@@ -68,7 +68,7 @@ module _ {S : Settings} {F : Implementation S} (X : Group S F) where
     pub by : correct (e .who) ≡ true
     pub handed : Handed (e .who) (stateAfter l (e .who)) (e .call)
     pub signed : answer (e .who) (stateAfter l (e .who)) (e .call) ≡ 0
-        → (p : Content) (endorsers : ℕ) → Takes S (viewAfter l (e .who)) (ruled (e .call)) p endorsers → Signed p endorsers l
+        → (p : Content) (endorsers : ℕ) → Takes S (viewAfter l (e .who)) (ruled (stateAfter l (e .who)) (e .call)) p endorsers → Signed p endorsers l
 
   -- in the committee of every round that a correct member knows, the faulty members weigh at most the fault bound
   abbrev pub WithinBound : Entries → Type 0

@@ -34,7 +34,7 @@ rows-kept t u a b b′ n e f = rows-whole u a b′ n (λ r h l. f r h l (rows-he
 
 -- ---- a certificate put
 
-triple-fits : (x : Transaction) → tripleFits (kindOf x) (numberOf x) (amountOf x) ≡ inRange x
+pub triple-fits : (x : Transaction) → tripleFits (kindOf x) (numberOf x) (amountOf x) ≡ inRange x
 unfolding tripleFits
 triple-fits (Bond m a) = refl
 triple-fits (Unbond m) = refl

@@ -45,7 +45,7 @@ free-row t allowance blocks r e = all-hold (placeFits t allowance blocks r) 16 (
 
 -- ---- what a record tells
 
-triple-range : (kind number amount : ℕ) → tripleFits kind number amount ≡ true → inRange (readTransaction kind number amount) ≡ true
+pub triple-range : (kind number amount : ℕ) → tripleFits kind number amount ≡ true → inRange (readTransaction kind number amount) ≡ true
 unfolding tripleFits readTransaction
 triple-range kind number amount = go (eqb kind 0) (eqb kind 1)
   where

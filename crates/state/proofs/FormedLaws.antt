@@ -15,6 +15,7 @@ use Rattle.terms.specs.Proposals.{slotOf, transactionsOf, badTransactions, badP
 use Rattle.terms.proofs.ProposalLaws.{transactions-tab, bad-transactions-tab}
 use Rattle.store.specs.Table.{usedLength, Row}
 use Rattle.scan.specs.Scan.{rowsFit}
+use Rattle.queues.specs.Words.{queuesFit}
 use Rattle.sheet.specs.Ranges.{outOfRange, weightless}
 use Rattle.sheet.proofs.SheetLaws.{settings-fit}
 use Rattle.state.specs.declared.State.{State}
@@ -70,12 +71,12 @@ module _ (s : State) (t : List ℕ) where
   -- the conditions alone
   pub formed-by : outOfRange (s .settings) ≡ false → weightless (s .settings) ≡ false → NumbersFit (s .own .0) (s .round .0) (s .blocks) (s .settings .ceiling .0)
       → (s .proposing ≡ true → BodyFits (s .settings .allowance) (s .round .0) (s .body)) → Row t (s .settings .ceiling .0)
-      → rowsFit t (s .settings .allowance) (s .blocks) (s .settings .ceiling .0) ≡ true → blocksFit (s .settings .ceiling .0) t (s .blocks) ≡ true → Formed s t
-  formed-by e w n p l r b =
+      → rowsFit t (s .settings .allowance) (s .blocks) (s .settings .ceiling .0) ≡ true → blocksFit (s .settings .ceiling .0) t (s .blocks) ≡ true → queuesFit t ≡ true → Formed s t
+  formed-by e w n p l r b q =
       let f = settings-fit (s .settings) e in
       let i = few-blocks (s .settings .ceiling .0) t (s .blocks) b (s .blocks) (omega arith) in
       let j = last-below (s .settings .ceiling .0) t (s .blocks) b (omega arith) (s .blocks) (omega arith) in
-      record { in-range = e; settings = f; weighty = w; numbers = n; proposal = p; long = l; rows = r; rounds = b; room = omega arith; last-to = j }
+      record { in-range = e; settings = f; weighty = w; numbers = n; proposal = p; long = l; rows = r; rounds = b; queues = q; room = omega arith; last-to = j }
 
   pub formed : wellFormed s t ≡ true → Formed s t
   unfolding wellFormed
@@ -84,9 +85,10 @@ module _ (s : State) (t : List ℕ) where
       let p = both (leb (usedLength n) (length t)) _ e in
       let q = both (headFits s) _ (p .1) in
       let u = both (proposalFits s) _ (q .1) in
-      let v = both (rowsFit t (s .settings .allowance) (s .blocks) n) (blocksFit n t (s .blocks)) (u .1) in
+      let v = both (rowsFit t (s .settings .allowance) (s .blocks) n) _ (u .1) in
+      let x = both (blocksFit n t (s .blocks)) (queuesFit t) (v .1) in
       let h = head-parts s (q .0) in
-      formed-by (h .0) (h .2) (h .1) (proposal-parts s (u .0)) (leb-true (usedLength n) (length t) (p .0)) (v .0) (v .1)
+      formed-by (h .0) (h .2) (h .1) (proposal-parts s (u .0)) (leb-true (usedLength n) (length t) (p .0)) (v .0) (x .0) (x .1)
 
   pub whole : Formed s t → wellFormed s t ≡ true
   unfolding wellFormed headFits
@@ -100,5 +102,6 @@ module _ (s : State) (t : List ℕ) where
         proposal-whole s (f .proposal),
         f .rows,
         f .rounds,
+        f .queues,
       )
       refl

@@ -1,5 +1,5 @@
 -- A well-formed state stays well formed: what each accepted call does to the state and the table.
-use mathlib.Core.Path.{_≡_}
+use mathlib.Core.Path.{_≡_, _∙_}
 use mathlib.Core.Bool.{Bool, true, false, false≢true}
 use mathlib.Core.List.{List}
 use Prim.Native.Nat.{ℕ, _+_, _<_, _≤_}
@@ -16,6 +16,10 @@ use Rattle.writes.specs.Writes.{putCertificate, setEndorsed, clearEndorsed, cle
 use Rattle.writes.proofs.PutLaws.{length-put, block-round-put}
 use Rattle.writes.proofs.EndorseLaws.{OnlyEndorsed, block-round-endorse, set-endorsed, clear-endorsed}
 use Rattle.writes.proofs.ClearLaws.{length-cleared}
+use Rattle.writes.proofs.FirstRow.{OnlyFirst, SameFirst, put-first, set-endorsed-first, clear-endorsed-first, cleared-first}
+use Rattle.queues.proofs.WordLaws.{fits-same, fits-clear}
+use Rattle.queues.specs.Words.{queuesFit}
+use Rattle.scan.proofs.FirstRow.{rows-only}
 use Rattle.scan.proofs.FitLaws.{rows-cleared, rows-put, rows-set-endorsed, rows-clear-endorsed}
 use Rattle.scan.specs.Scan.{rowsFit}
 use Rattle.sheet.specs.declared.Settings.{Settings}
@@ -26,6 +30,7 @@ use Rattle.state.specs.States.{withRound, proposed, advanced, fresh}
 use Rattle.state.proofs.RoundLaws.{blocks-whole, blocks-same}
 use Rattle.state.specs.Formed.{BodyFits, Formed}
 use Rattle.state.proofs.FormedLaws.{formed-by}
+use Rattle.state.proofs.FirstRow.{blocks-only}
 use Rattle.state.proofs.WriteLaws.{Storable, within}
 
 -- a body that fits has a place, with any author and round
@@ -41,7 +46,7 @@ module _ (s : State) (t : List ℕ) (f : Formed s t) where
       → Formed (withRound s r proposing b) t
   moved-kept r proposing b from to p =
       formed-by (withRound s r proposing b) t (f .in-range) (f .weighty)
-      (record { own = f .numbers .own; round-from = from; round-to = to; blocks-to = f .numbers .blocks-to }) p (f .long) (f .rows) (f .rounds)
+      (record { own = f .numbers .own; round-from = from; round-to = to; blocks-to = f .numbers .blocks-to }) p (f .long) (f .rows) (f .rounds) (f .queues)
 
   -- a proposal that fits is kept
   pub propose-kept : (b : Body) → BodyFits (s .settings .allowance) (s .round .0) b → Formed (proposed s b) t
@@ -53,25 +58,25 @@ module _ (s : State) (t : List ℕ) (f : Formed s t) where
 
   -- ---- endorse, certify, accept: another table
 
-  written : (u : List ℕ) → length u ≡ length t → rowsFit u (s .settings .allowance) (s .blocks) (s .settings .ceiling .0) ≡ true → ((k : ℕ) → blockRound u k ≡ blockRound t k) → Formed s u
-  written u l r b =
+  written : (u : List ℕ) → length u ≡ length t → rowsFit u (s .settings .allowance) (s .blocks) (s .settings .ceiling .0) ≡ true → ((k : ℕ) → blockRound u k ≡ blockRound t k) → SameFirst t u → Formed s u
+  written u l r b q =
       formed-by s u (f .in-range) (f .weighty) (f .numbers) (f .proposal) (omega arith) r
-      (blocks-same (s .settings .ceiling .0) t u (s .blocks) (λ k _. b k) (f .rounds))
+      (blocks-same (s .settings .ceiling .0) t u (s .blocks) (λ k _. b k) (f .rounds)) (fits-same t u q ∙ f .queues)
 
-  marked : {q : ℕ} {u : List ℕ} → OnlyEndorsed q t u → rowsFit u (s .settings .allowance) (s .blocks) (s .settings .ceiling .0) ≡ true → Formed s u
+  marked : {q : ℕ} {u : List ℕ} → OnlyEndorsed q t u → rowsFit u (s .settings .allowance) (s .blocks) (s .settings .ceiling .0) ≡ true → SameFirst t u → Formed s u
   marked {u = u} o r = written u (o .size) r (block-round-endorse o)
 
-  module _ (a q : ℕ) (h : a < 16) (l : q ≤ s .settings .ceiling .0) where
+  module _ (a q : ℕ) (h : a < 16) (z : 0 < q) (l : q ≤ s .settings .ceiling .0) where
     at : Within t a q
     at = record { member = h; row = omega arith }
 
     -- a place marked endorsed
     pub endorse-kept : Formed s (setEndorsed t a q)
-    endorse-kept = marked (set-endorsed t a q) (rows-set-endorsed t a q at (s .settings .allowance) (s .blocks) (s .settings .ceiling .0) (f .rows))
+    endorse-kept = marked (set-endorsed t a q) (rows-set-endorsed t a q at (s .settings .allowance) (s .blocks) (s .settings .ceiling .0) (f .rows)) (set-endorsed-first t a q z)
 
     -- its mark cleared
     pub clear-kept : Formed s (clearEndorsed t a q)
-    clear-kept = marked (clear-endorsed t a q) (rows-clear-endorsed t a q at (s .settings .allowance) (s .blocks) (s .settings .ceiling .0) (f .rows))
+    clear-kept = marked (clear-endorsed t a q) (rows-clear-endorsed t a q at (s .settings .allowance) (s .blocks) (s .settings .ceiling .0) (f .rows)) (clear-endorsed-first t a q z)
 
   -- a certificate held that passes checks 6 and 7, its author not among its endorsers
   pub put-kept : (p : Content) (d : ℕ) → d < 65536 → isIn d (p .author) ≡ false → Storable (s .settings .ceiling .0) p → badTransactions (s .settings .allowance) (p .transactions) ≡ false → badPreviousSet (p .round) (p .previous) ≡ false
@@ -80,7 +85,15 @@ module _ (s : State) (t : List ℕ) (f : Formed s t) where
       let i = within t (f .long) k in
       written (putCertificate t p d) (length-put t p d i)
       (rows-put t p d i (s .settings .allowance) (s .blocks) (f .settings .allowance-to) fit right (k .small) low apart (s .settings .ceiling .0) (f .rows))
-      (block-round-put t p d i)
+      (block-round-put t p d i) (put-first t p d i (k .from))
+
+  -- ---- enqueue and draw: another row 0, with queues that fit
+
+  pub first-kept : {u : List ℕ} → OnlyFirst t u → queuesFit u ≡ true → Formed s u
+  first-kept {u} o q =
+      let n = s .settings .ceiling .0 in
+      let l = o .size in
+      formed-by s u (f .in-range) (f .weighty) (f .numbers) (f .proposal) (omega arith) (rows-only o (s .settings .allowance) (s .blocks) n ∙ f .rows) (blocks-only o n (s .blocks) ∙ f .rounds) q
 
 -- ---- open: a fresh state and a cleared table
 
@@ -91,4 +104,4 @@ open-formed own S b t h e w l =
     let f = settings-fit S e in
     let i = length-cleared t n l in
     formed-by (fresh own S b) (clearUsed t n) e w (record { own = h; round-from = omega arith; round-to = omega arith; blocks-to = omega arith }) (λ x. absurd (false≢true x))
-    (omega arith) (rows-cleared t n (S .allowance) 0) (blocks-whole n (clearUsed t n) 0 (λ k x. absurd (omega arith)))
+    (omega arith) (rows-cleared t n (S .allowance) 0) (blocks-whole n (clearUsed t n) 0 (λ k x. absurd (omega arith))) (fits-clear (clearUsed t n) (cleared-first t n))

@@ -8,6 +8,7 @@ use Rattle.terms.specs.declared.Body.{Body}
 use Rattle.terms.specs.Proposals.{transactionsOf, badTransactions, badPreviousSet}
 use Rattle.store.specs.Table.{Row}
 use Rattle.scan.specs.Scan.{rowsFit}
+use Rattle.queues.specs.Words.{queuesFit}
 use Rattle.sheet.specs.Ranges.{outOfRange, weightless, SettingsFit}
 use Rattle.committee.specs.Chain.{chainOf}
 use Rattle.state.specs.declared.State.{State}
@@ -35,6 +36,7 @@ pub record Formed (s : State) (t : List ℕ) : Type 0 where
   pub long : Row t (s .settings .ceiling .0)
   pub rows : rowsFit t (s .settings .allowance) (s .blocks) (s .settings .ceiling .0) ≡ true
   pub rounds : blocksFit (s .settings .ceiling .0) t (s .blocks) ≡ true
+  pub queues : queuesFit t ≡ true
   -- there is room for one more block below the ceiling
   pub room : 2 * s .blocks < s .settings .ceiling .0
   pub last-to : last (chainOf (s .settings .ceiling .0) t (s .blocks)) < s .settings .ceiling .0

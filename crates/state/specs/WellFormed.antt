@@ -8,6 +8,7 @@ use Rattle.terms.specs.declared.Body.{Body}
 use Rattle.terms.specs.Proposals.{transactionsOf, badTransactions, badPreviousSet}
 use Rattle.store.specs.Table.{usedLength}
 use Rattle.scan.specs.Scan.{rowsFit}
+use Rattle.queues.specs.Words.{queuesFit}
 use Rattle.sheet.specs.Ranges.{outOfRange, weightless}
 use Rattle.changes.specs.BlockChanges.{blocksFit}
 use Rattle.state.specs.declared.State.{State}
@@ -28,11 +29,11 @@ bodyFits allowance r b = not (badTransactions allowance (transactionsOf b)) && n
 unfoldable pub proposalFits : State → Bool
 proposalFits s = cond (s .proposing) (bodyFits (s .settings .allowance) (s .round .0) (s .body)) true
 
--- the lent table has at least the length for the ceiling, the conditions above hold, and block rounds are even, rising and below the ceiling
+-- the lent table has at least the length for the ceiling, the conditions above hold, block rounds are even, rising and below the ceiling, and guests' queues are well formed
 unfoldable pub wellFormed : State → List ℕ → Bool
 wellFormed s t =
     leb (usedLength (s .settings .ceiling .0)) (length t)
     && (headFits s
     && (proposalFits s
     && (rowsFit t (s .settings .allowance) (s .blocks) (s .settings .ceiling .0)
-    && blocksFit (s .settings .ceiling .0) t (s .blocks))))
+    && (blocksFit (s .settings .ceiling .0) t (s .blocks) && queuesFit t))))

@@ -88,5 +88,8 @@ pub fn well_formed(s: State, t: &[u32]) -> bool
     if !scan::rows_fit(t, settings.allowance, blocks, n) {
         return false;
     }
-    bonded::blocks_fit(t, blocks, n)
+    if !bonded::blocks_fit(t, blocks, n) {
+        return false;
+    }
+    queues::queues_fit(t)
 }

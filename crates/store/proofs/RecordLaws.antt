@@ -16,7 +16,9 @@ use Rattle.terms.specs.declared.Body.{Body}
 use Rattle.terms.specs.declared.Proposal.{Proposal}
 use Rattle.terms.specs.Transactions.{noTransaction, sameTransaction}
 use Rattle.terms.specs.Proposals.{slotOf, transactionsOf, contentWith, contentOf, sameTransactions, sameProposal}
-use Rattle.terms.proofs.ProposalLaws.{same-tabs, other-tabs, same-placed, transactions-tab, four-slots}
+use Rattle.terms.proofs.ProposalLaws.{same-tabs, other-tabs, same-placed, transactions-tab}
+use Rattle.terms.specs.Bodies.{bodyOf}
+use Rattle.terms.proofs.BodyLaws.{body-transactions}
 use Rattle.store.specs.Table.{previousAt, countAt, transactionAt, contentAt, nthOf, proposalOf}
 use Rattle.store.proofs.TableLaws.{content-few}
 
@@ -57,20 +59,20 @@ pub proposal-by : (t : List ℕ) (m : Member) (r : Round) (v n : ℕ) (x₀ x₁
     → _≡_ {A = Proposal}
     (record { author = m; round = r; body = record { previous = v; count = n; slots = record { transaction = x₀ } ∷ record { transaction = x₁ } ∷ record { transaction = x₂ } ∷ record { transaction = x₃ } ∷ [] } })
     (proposalOf (contentAt t (m .0) (r .0)))
-unfolding proposalOf contentAt
+unfolding proposalOf bodyOf nthOf contentAt
 proposal-by t m r v n x₀ x₁ x₂ x₃ a b c₀ c₁ c₂ c₃ = rw (a, b, c₀, c₁, c₂, c₃, length-tab (transactionAt t (m .0) (r .0)) (countAt t (m .0) (r .0))) refl
 
 -- a proposal as it is handed out has its transactions, at most four
 module _ (t : List ℕ) (m r : ℕ) {p : Proposal} (e : p ≡ proposalOf (contentAt t m r)) where
   pub proposal-few : p .body .count ≤ 4
-  unfolding proposalOf
+  unfolding proposalOf bodyOf
   proposal-few = rw e (content-few t m r)
 
   pub proposal-shown : transactionsOf (p .body) ≡ contentAt t m r .transactions
-  unfolding proposalOf nthOf
-  proposal-shown = rw e (four-slots (contentAt t m r .previous) (contentAt t m r .transactions) (content-few t m r))
+  unfolding proposalOf
+  proposal-shown = rw e (body-transactions (contentAt t m r .previous) (contentAt t m r .transactions) (content-few t m r))
 
   -- and proposes what the record holds
   pub proposal-content : contentOf p ≡ contentAt t m r
-  unfolding proposalOf contentAt
+  unfolding proposalOf bodyOf contentAt
   proposal-content = rw (proposal-shown, e) refl

@@ -2,7 +2,7 @@
 use Prim.Native.Nat.{ℕ, _+_, _*_, _%_, _<_, _≤_}
 use mathlib.Core.Bool.{Bool, cond}
 use mathlib.Core.Option.{Option, none, some}
-use mathlib.Core.List.{List, [], _∷_}
+use mathlib.Core.List.{List}
 use lib.ListN.{getD, length}
 use lib.Dec.{ltb}
 use Rattle.base.specs.Folds.{tab}
@@ -10,6 +10,7 @@ use Rattle.base.specs.Sets.{isIn}
 use Rattle.terms.specs.declared.Transaction.{Transaction}
 use Rattle.terms.specs.Transactions.{readTransaction, noTransaction}
 use Rattle.terms.specs.Proposals.{Content}
+use Rattle.terms.specs.Bodies.{bodyOf}
 use Rattle.terms.specs.declared.Proposal.{Proposal}
 
 -- ---- lengths in words: of a row, of what stands before its records, of a record, of what stands before its transactions, of a transaction
@@ -126,9 +127,5 @@ proposalOf p =
     record {
       author = record { 0 = p .author };
       round = record { 0 = p .round };
-      body = record {
-        previous = p .previous;
-        count = length (p .transactions);
-        slots = record { transaction = nthOf p 0 } ∷ record { transaction = nthOf p 1 } ∷ record { transaction = nthOf p 2 } ∷ record { transaction = nthOf p 3 } ∷ [];
-      };
+      body = bodyOf (p .previous) (p .transactions);
     }

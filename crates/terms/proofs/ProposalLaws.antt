@@ -160,23 +160,6 @@ pub slot-tab : (v n : ℕ) (f : ℕ → Slot) (k : ℕ) → k < 4 → slotOf (re
 unfolding slotOf
 slot-tab v n f k h = ap (λ (z : Slot). z .transaction) (getD-tab f 4 k (record { transaction = noTransaction }) h)
 
--- four slots hold the transactions of a list that is not longer
-pub four-slots : (v : ℕ) (l : List Transaction) → length l ≤ 4
-    → transactionsOf
-    (record {
-      previous = v;
-      count = length l;
-      slots = record { transaction = getD l 0 noTransaction } ∷ record { transaction = getD l 1 noTransaction } ∷ record { transaction = getD l 2 noTransaction } ∷ record { transaction = getD l 3 noTransaction } ∷ [];
-    })
-    ≡ l
-unfolding transactionsOf slotOf tab
-four-slots v [] h = refl
-four-slots v (x ∷ []) h = refl
-four-slots v (x ∷ y ∷ []) h = refl
-four-slots v (x ∷ y ∷ z ∷ []) h = refl
-four-slots v (x ∷ y ∷ z ∷ w ∷ []) h = refl
-four-slots v (x ∷ y ∷ z ∷ w ∷ u ∷ l) h = absurd (omega arith)
-
 range-append : (l m : List Transaction) → allInRange (l ++ m) ≡ (allInRange l && allInRange m)
 unfolding allInRange
 range-append [] m = refl

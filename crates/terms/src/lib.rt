@@ -3,6 +3,7 @@ ghost use mathlib.Core.Path.{_≡_};
 ghost use Prim.Native.Nat.{_<_, _≤_};
 ghost use Rattle.base.specs.Folds.{allTo};
 ghost use Rattle.terms.specs.Transactions.{kindOf, numberOf, amountOf, readTransaction, sameTransaction, bondInRange, inRange};
+ghost use Rattle.terms.specs.Bodies.{push};
 ghost use Rattle.terms.specs.Proposals.{bareBody, slotOf, transactionsOf, badTransactions, badPreviousSet};
 
 // A member's number: 0 to 15.
@@ -54,6 +55,22 @@ pub fn bare_body(previous: u16) -> Body
         count: 0,
         slots: [slot; 4],
     }
+}
+
+// A body with one transaction more.
+pub fn pushed(b: Body, x: Transaction) -> Body
+    requires { ⌜ b .count < 4294967295 ⌝ }
+    ensures { λ r. ⌜ r ≡ push b x ⌝ }
+{
+    let n = b.count;
+    let mut next = b;
+    next.count = n + 1;
+    if 4 <= n {
+        return next;
+    }
+    let slot = Slot { transaction: x };
+    next.slots[n as usize] = slot;
+    next
 }
 
 // A transaction's kind as a number: 0 bond, 1 unbond, 2 entry.

@@ -15,7 +15,8 @@ use Rattle.fields.specs.Numbers.{numberRead}
 use Rattle.fields.specs.Cursor.{firstBy, rest}
 use Rattle.triples.specs.declared.Triples.{Triples}
 use Rattle.triples.specs.Triples.{kindNamed, transaction, before, atKind, atNumber, atAmount}
-use Rattle.triples.specs.Bodies.{push, onto, addedTo, unreadableTriples}
+use Rattle.terms.specs.Bodies.{push}
+use Rattle.triples.specs.Bodies.{onto, addedTo, unreadableTriples}
 use Rattle.triples.proofs.BodyLaws.{onto-before}
 
 -- past the record's end the triples are at their end

@@ -1,36 +1,13 @@
--- Bodies: transactions in four slots, and how a reader fills them.
-use mathlib.Core.Bool.{true, false, cond}
+-- Bodies: how a reader fills them with transactions.
+use mathlib.Core.Bool.{true, false}
 use mathlib.Core.List.{List, [], _∷_}
 use mathlib.Core.Option.{Option, none, some}
 use Prim.Native.Nat.{ℕ, _+_, _≤_}
-use lib.ListN.{getD, length, set}
-use lib.Dec.{ltb}
+use lib.ListN.{length}
 use Rattle.terms.specs.declared.Transaction.{Transaction}
-use Rattle.terms.specs.declared.Slot.{Slot}
 use Rattle.terms.specs.declared.Body.{Body}
-use Rattle.terms.specs.Transactions.{noTransaction}
+use Rattle.terms.specs.Bodies.{bodyOf, push}
 use Rattle.triples.specs.declared.Triples.{Triples}
-
-abbrev pub slot : Transaction → Slot
-slot x = record { transaction = x }
-
--- a previous set with transactions: the slots hold the first four, the count is of all
-unfoldable pub bodyOf : ℕ → List Transaction → Body
-bodyOf p l =
-    record {
-      previous = p;
-      count = length l;
-      slots = slot (getD l 0 noTransaction) ∷ slot (getD l 1 noTransaction) ∷ slot (getD l 2 noTransaction) ∷ slot (getD l 3 noTransaction) ∷ [];
-    }
-
--- a body with one transaction more
-unfoldable pub push : Body → Transaction → Body
-push b x =
-    record {
-      previous = b .previous;
-      count = b .count + 1;
-      slots = cond (ltb (b .count) 4) (set (b .slots) (b .count) (slot x)) (b .slots);
-    }
 
 unfoldable pub pushAll : Body → List Transaction → Body
 pushAll b [] = b

@@ -1,14 +1,13 @@
 // Triples: kind, number and amount of a transaction, repeated until the record ends.
 use fields::number::Number;
 use terms::Body;
-use terms::Slot;
 use terms::Transaction;
 ghost use mathlib.Core.Path.{_≡_};
 ghost use Prim.Native.Nat.{_<_};
 ghost use Rattle.fields.specs.Fields.{fieldsFrom};
 ghost use Rattle.fields.specs.Cursor.{found};
 ghost use Rattle.triples.specs.Triples.{kindNamed, transaction, atKind, atNumber, atAmount};
-ghost use Rattle.triples.specs.Bodies.{push, onto, addedTo, Going, unreadableTriples};
+ghost use Rattle.triples.specs.Bodies.{onto, addedTo, Going, unreadableTriples};
 
 // The largest number.
 pub const MOST: u32 = 4294967295;
@@ -27,22 +26,6 @@ fn unreadable() -> Triples
         ok: false,
         body: terms::bare_body(0),
     }
-}
-
-// A body with one transaction more.
-fn pushed(b: Body, x: Transaction) -> Body
-    requires { ⌜ b .count < 4294967295 ⌝ }
-    ensures { λ r. ⌜ r ≡ push b x ⌝ }
-{
-    let n = b.count;
-    let mut next = b;
-    next.count = n + 1;
-    if 4 <= n {
-        return next;
-    }
-    let slot = Slot { transaction: x };
-    next.slots[n as usize] = slot;
-    next
 }
 
 // The kind that a field names.
@@ -74,7 +57,7 @@ fn added(body: Body, kind: u32, number: u32, amount: u32) -> Triples
     let x = terms::read_transaction(kind, number, amount);
     Triples {
         ok: true,
-        body: pushed(body, x),
+        body: terms::pushed(body, x),
     }
 }
 

@@ -9,9 +9,9 @@ use lib.Dec.{eqb, leb, ltb}
 use borrow.Author.Tests.{leb-true, ltb-true, eqb-false, ne-eqb}
 use Rattle.base.proofs.Bools.{both}
 use Rattle.state.specs.States.{noBody}
-use Rattle.bodies.specs.Lengths.{stateLength, bodyLength, proposalLength, certificateLength, sheetLength}
+use Rattle.bodies.specs.Lengths.{transactionLength, stateLength, bodyLength, proposalLength, certificateLength, sheetLength}
 use Rattle.bodies.specs.Words.{word}
-use Rattle.bodies.specs.Bodies.{bodyReads, loneBodyReads, bodyIn}
+use Rattle.bodies.specs.Bodies.{bodyReads, loneBodyReads, bodyIn, loneTripleReads}
 use Rattle.words.specs.Proposals.{proposalReads, certificateReads}
 use Rattle.words.specs.Sheets.{sheetReads}
 use Rattle.words.specs.States.{stateReads, ownBodyIn, stateIn}
@@ -25,6 +25,10 @@ module _ (w : List ℕ) where
   pub lone-body-read : loneBodyReads w ≡ true → (bodyLength ≤ length w) × (getD w 0 0 < 65536)
   unfolding loneBodyReads
   lone-body-read e = let p = both (leb bodyLength (length w)) (bodyReads w 0) e in (leb-true bodyLength (length w) (p .0), body-set 0 (p .1))
+
+  pub lone-triple-read : loneTripleReads w ≡ true → transactionLength ≤ length w
+  unfolding loneTripleReads
+  lone-triple-read e = leb-true transactionLength (length w) (both (leb transactionLength (length w)) _ e .0)
 
   pub proposal-read : proposalReads w ≡ true → ProposalRead w
   unfolding proposalReads

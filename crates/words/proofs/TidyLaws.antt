@@ -1,8 +1,11 @@
 -- What is read is tidy: it has no body of no proposal, and no transactions beyond the count.
 use mathlib.Core.Path.{_≡_, refl, ap, _∙_}
 use mathlib.Core.Bool.{Bool, true, false, not, cond}
-use mathlib.Core.List.{List}
-use Prim.Native.Nat.{ℕ, _+_, _*_, _<_}
+use mathlib.Core.List.{List, [], _∷_}
+use Prim.Native.Nat.{ℕ, suc, _+_, _*_, _<_}
+use native.Mathlib.Omega.{arith}
+use lib.ListN.{length}
+use borrow.Author.Tests.{lt-ltb}
 use lib.Dec.{eqb, ltb}
 use Rattle.base.specs.Folds.{tab}
 use Rattle.base.proofs.FoldLaws.{getD-tab, tab-same}
@@ -10,6 +13,7 @@ use Rattle.terms.specs.declared.Slot.{Slot}
 use Rattle.terms.specs.declared.Transaction.{Transaction}
 use Rattle.terms.specs.Transactions.{readTransaction, noTransaction}
 use Rattle.terms.specs.Proposals.{slotOf}
+use Rattle.terms.specs.Bodies.{bodyOf}
 use Rattle.terms.proofs.ProposalLaws.{slot-tab}
 use Rattle.sheet.specs.declared.Sheet.{Sheet}
 use Rattle.sheet.specs.Sheets.{weightAt, filled}
@@ -50,6 +54,15 @@ unfolding tidyBody bodyIn
 body-tidy w a =
     ap (λ (z : List Slot). record { previous = word w a; count = word w (a + 1); slots = z })
     (tab-same (λ k. record { transaction = usedOf (bodyIn w a) k }) (slotIn w a) 4 (slot-tidy w a))
+
+-- so is a body that is made of its transactions
+pub of-tidy : (v : ℕ) (l : List Transaction) → tidyBody (bodyOf v l) ≡ bodyOf v l
+unfolding tidyBody usedOf slotOf bodyOf tab
+of-tidy v [] = refl
+of-tidy v (x ∷ []) = refl
+of-tidy v (x ∷ y ∷ []) = refl
+of-tidy v (x ∷ y ∷ z ∷ []) = refl
+of-tidy v (x ∷ y ∷ z ∷ w ∷ l) = let n = suc (suc (suc (suc (length l)))) in rw (lt-ltb 0 n (omega arith), lt-ltb 1 n (omega arith), lt-ltb 2 n (omega arith), lt-ltb 3 n (omega arith)) refl
 
 own-body-tidy : (w : List ℕ) → cond (not (eqb (word w 21) 0)) (tidyBody (ownBodyIn w)) noBody ≡ ownBodyIn w
 unfolding ownBodyIn

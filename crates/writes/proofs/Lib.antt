@@ -3,3 +3,4 @@ pub mod PutLaws
 pub mod EndorseLaws
 pub mod MarkLaws
 pub mod ClearLaws
+pub mod FirstRow

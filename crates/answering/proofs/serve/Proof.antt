@@ -49,7 +49,7 @@ endorsers-to : (c : tie.After-body) → reading c .endorsers < 65536
 endorsers-to c = omega (arith, entry c .good .1 .1 .1 .1 .0)
 
 -- a member's call d that leaves the chain has come to o, which was replied
-by-reply : (c : tie.After-body) (k : Kind) (d : Call) → callAs (reading c) k ≡ some d → acceptedValue (engine c) d ≡ nothing → leavesChain (ruled d) ≡ true
+by-reply : (c : tie.After-body) (k : Kind) (d : Call) → callAs (reading c) k ≡ some d → acceptedValue (engine c) d ≡ nothing → leavesChain (ruled (engine c) d) ≡ true
     → InRange d → reading c .kind ≡ k → {o : Outcome} → o ≡ outcomeFor (engine c) d → {t : List ℕ} → t ≡ after (engine c) d .table
     → {r : Reply} {x : List ℕ} {y : List ℕ} {at : ℕ} → OutcomeReplied (o .state) (formedBy (entry c .args .formed) (o .answer)) (answerLine (o .answer)) r x y at
     → RecordAnswered (engine c) (callOf (reading c)) (engineOf (r .state) t) x y at (r .next) × Cached (r .state) t (r .formed) (entry c .args .cache .now)

@@ -47,7 +47,14 @@ blocks-fit-requires c κs = let s = c .before .before .before .before .before .b
 
 returns-5 : tie.Need-returns-5
 unfolding wellFormed
-returns-5 c = rw (le-leb _ _ (c .before .before .before .before .before .before .before .if1 .left), sym (c .before .before .before .before .before .before .head-fits .ensures) ∙ not-false _ (c .before .before .before .before .before .if2 .left), sym (c .before .before .before .before .proposal-fits .ensures) ∙ not-false _ (c .before .before .before .if3 .left), sym (c .before .before .rows-fit .ensures) ∙ not-false _ (c .before .if4 .left)) (c .blocks-fit .ensures)
+returns-5 c = rw (le-leb _ _ (c .before .before .before .before .before .before .before .before .if1 .left), sym (c .before .before .before .before .before .before .before .head-fits .ensures) ∙ not-false _ (c .before .before .before .before .before .before .if2 .left), sym (c .before .before .before .before .before .proposal-fits .ensures) ∙ not-false _ (c .before .before .before .before .if3 .left), sym (c .before .before .before .rows-fit .ensures) ∙ not-false _ (c .before .before .if4 .left), sym (c .before .blocks-fit .ensures) ∙ not-true _ (c .if5 .taken)) refl
+
+queues-fit-requires : tie.Need-queues-fit-requires
+queues-fit-requires c κs = omega arith
+
+returns-6 : tie.Need-returns-6
+unfolding wellFormed
+returns-6 c = rw (le-leb _ _ (c .before .before .before .before .before .before .before .before .before .if1 .left), sym (c .before .before .before .before .before .before .before .before .head-fits .ensures) ∙ not-false _ (c .before .before .before .before .before .before .before .if2 .left), sym (c .before .before .before .before .before .before .proposal-fits .ensures) ∙ not-false _ (c .before .before .before .before .before .if3 .left), sym (c .before .before .before .before .rows-fit .ensures) ∙ not-false _ (c .before .before .before .if4 .left), sym (c .before .before .blocks-fit .ensures) ∙ not-false _ (c .before .if5 .left)) (c .queues-fit .ensures)
 
 pub well-formed-spec : {M : Type 1} → statement M
 well-formed-spec =
@@ -64,4 +71,6 @@ well-formed-spec =
     rows-fit-requires
     returns-4
     blocks-fit-requires
-    returns-5)
+    returns-5
+    queues-fit-requires
+    returns-6)

@@ -1,5 +1,5 @@
 use mathlib.Core.Path.{_∙_}
-use Rattle.triples.proofs.BodyLaws.{bare-of}
+use Rattle.terms.proofs.BodyLaws.{bare-of}
 use borrow.Author.Needs.{needs}
 use Rattle.triples.proofs.unreadable.Statement.{statement}
 use Rattle.triples.proofs.unreadable.Tie as tie

@@ -5,7 +5,7 @@ use Rattle.fields.specs.Fields.{fieldsFrom}
 use Rattle.requests.specs.Readings.{certify}
 use Rattle.requests.specs.Requests.{atEnd, certifyOf}
 use Rattle.requests.proofs.RequestLaws.{number-goes, number-stops, number-fits, end-past, end-here}
-use Rattle.triples.proofs.BodyLaws.{bare-of}
+use Rattle.terms.proofs.BodyLaws.{bare-of}
 use borrow.Author.Needs.{needs}
 use Rattle.requests.proofs.call.read_certify.Statement.{statement}
 use Rattle.requests.proofs.call.read_certify.Tie as tie

@@ -3,7 +3,8 @@ use Rattle.fields.specs.Fields.{fieldsFrom}
 use Rattle.triples.specs.Triples.{atKind}
 use mathlib.Core.Path.{ap, _∙_}
 use native.Mathlib.Omega.{arith}
-use Rattle.triples.proofs.BodyLaws.{bare-of, onto-none, body-length}
+use Rattle.terms.proofs.BodyLaws.{bare-of, body-length}
+use Rattle.triples.proofs.BodyLaws.{onto-none}
 use borrow.Author.Needs.{needs}
 use Rattle.requests.proofs.call.read_triples.Statement.{statement}
 use Rattle.requests.proofs.call.read_triples.Tie as tie

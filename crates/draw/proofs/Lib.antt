@@ -1,0 +1,3 @@
+pub mod PassedLaws
+pub mod ClaimLaws
+pub mod AnsweredLaws

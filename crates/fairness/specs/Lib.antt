@@ -1,0 +1,8 @@
+-- Claims about guests' queues. The proofs stand in proofs/.
+
+-- What every call leaves in the queues
+pub mod Kept
+-- Between two transactions drawn from one guest every other guest that waits all that time has one drawn
+pub mod Fairness
+-- The same with batches among the calls
+pub mod Batches
