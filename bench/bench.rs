@@ -2,7 +2,7 @@
 //! (plain.rs) and a floor. `bench [quick]` prints Markdown. Built with another
 //! archive, that stands in plain's place (run.sh), and the tables by call show
 //! the best time of each beside the median; where it is of before queues, their
-//! calls are left out.
+//! calls are left out, and a call that the two answer differently is not timed.
 //!
 //! States. Sixteen members; every certificate has four transactions (entries,
 //! bonds, unbonds that are bonded again at once, so that all stay inside) and
@@ -10,9 +10,14 @@
 //! own certificates by propose and certify, others by accept, a commit in
 //! each odd round. "Full" holds all rounds up to the ceiling, "half" up to
 //! half of it. Two places of the present round are left free, one's own and
-//! member 15's, for the calls that fill a place. The present round is the one
+//! member 15's, for the calls that fill a place; the other fourteen are a
+//! quorum, so that an advance is accepted. The present round is the one
 //! before the last that is held, which is odd, so that a commit can be made;
 //! in an empty state it is 1, and 3 for commit.
+//!
+//! An advance on an empty state is refused with 28, since nothing is held.
+//! "Advance, thin round" leaves three certificates in the present round, which
+//! are no quorum: refused with 28 too, once the committee is worked out.
 //!
 //! Calls that change something are undone after each call by writing back the
 //! few words that they changed; that is part of the time, and takes some
@@ -294,6 +299,7 @@ enum Job {
     Certify,
     Accept,
     Advance,
+    AdvanceThin,
     Commit,
     CommitMany,
     Enqueue,
@@ -305,13 +311,14 @@ enum Job {
 }
 
 /// Jobs, and how many transactions wait for each guest in their states.
-const JOBS: [(Job, &str, Waiting); 14] = [
+const JOBS: [(Job, &str, Waiting); 15] = [
     (Job::Open, "open", NOBODY),
     (Job::Propose, "propose", NOBODY),
     (Job::Endorse, "endorse", NOBODY),
     (Job::Certify, "certify", NOBODY),
     (Job::Accept, "accept", NOBODY),
     (Job::Advance, "advance", NOBODY),
+    (Job::AdvanceThin, "advance, thin round", NOBODY),
     (Job::Commit, "commit, one block", NOBODY),
     (Job::CommitMany, "commit, many blocks", NOBODY),
     (Job::Enqueue, "enqueue", THREE),
@@ -329,6 +336,8 @@ fn jobs() -> impl Iterator<Item = (Job, &'static str, Waiting)> {
 
 /// The guest of an enqueue.
 const GUEST: u32 = 2;
+/// What a thin round holds of its sixteen.
+const THIN: u32 = 0b1110;
 
 /// A state and a call on it that can be made again and again.
 struct Case {
@@ -357,6 +366,9 @@ impl Case {
         if job == Job::Certify {
             assert_eq!(with(&mut member, |s, t| plain::propose(s, t, &argument[2..])), 0);
         }
+        if job == Job::AdvanceThin {
+            member.table()[ROW * r as usize] &= THIN;
+        }
         let is_commit = matches!(job, Job::Commit | Job::CommitMany);
         if is_commit && empty {
             member.state[20] = 3;
@@ -365,6 +377,10 @@ impl Case {
         let mut case = Case { job, member, argument, out, waiting, undo, expected: 0 };
         let before = case.member.clone();
         case.expected = case.call(&PLAIN);
+        if cfg!(not(other)) && matches!(job, Job::Advance | Job::AdvanceThin) {
+            let thin = job == Job::AdvanceThin || empty;
+            assert_eq!(case.expected >> 32, if thin { 28 } else { 0 });
+        }
         let old = before.lines.iter().flat_map(|line| line.0).enumerate();
         let changed = old.zip(case.member.table().iter()).filter(|((_, old), new)| old != *new);
         case.undo = changed.map(|(old, _)| old).collect();
@@ -393,7 +409,7 @@ impl Case {
             Job::Endorse => refusal((f.endorse)(state, table, &argument[..16])),
             Job::Certify => refusal((f.certify)(state, table, 0xfffe)),
             Job::Accept => refusal((f.accept)(state, table, argument)),
-            Job::Advance => refusal((f.advance)(state, table)),
+            Job::Advance | Job::AdvanceThin => refusal((f.advance)(state, table)),
             Job::Commit | Job::CommitMany => (f.commit)(state, table),
             Job::Enqueue => refusal((f.enqueue)(state, table, GUEST, &[2, GUEST, 0])),
             Job::Draw => refusal((f.draw)(state, table, argument[2])),
@@ -422,7 +438,7 @@ impl Case {
             Job::Endorse => self.member.table()[row + 1] &= !(1 << FREE),
             Job::Certify => self.member.table()[row] &= !(1 << OWN),
             Job::Accept => self.member.table()[row] &= !(1 << FREE),
-            Job::Advance => self.member.state[20] -= 1,
+            Job::Advance if self.expected == 0 => self.member.state[20] -= 1,
             Job::Commit | Job::CommitMany if self.expected >> 32 == 0 => {
                 self.member.state[22] -= self.expected as u32;
                 let undo = std::mem::take(&mut self.undo);
@@ -487,6 +503,17 @@ impl Cases {
 
     fn held(&mut self) -> u32 {
         self.0[0].member.held_in_all()
+    }
+
+    /// Whether the engine answers as expected. Another archive, of before a
+    /// change, may not have done so.
+    fn alike(&mut self) -> bool {
+        self.0.iter_mut().all(|case| {
+            let before = case.member.clone();
+            let answer = case.call(&ENGINE);
+            case.member = before;
+            answer == case.expected
+        })
     }
 }
 
@@ -643,7 +670,9 @@ fn print_ceiling(ceiling: u32, pace: &Pace) {
     let states = [(0, "empty"), (ceiling / 2, "half"), (ceiling, "full")];
     let states = states.map(|(rounds, name)| (States::of(ceiling, rounds), name));
     for (job, call, waiting) in jobs() {
-        for (states, name) in &states {
+        // An empty state is thin as it is.
+        let from = usize::from(job == Job::AdvanceThin);
+        for (states, name) in &states[from..] {
             print_row(call, name, &mut states.cases(job, waiting), pace);
         }
     }
@@ -663,6 +692,9 @@ fn print_columns() {
 /// best times.
 fn print_row(call: &str, state: &str, cases: &mut Cases, pace: &Pace) {
     let held = cases.held();
+    if cfg!(other) && !cases.alike() {
+        return println!("| {call} | {state} | {held} | answers differ | | | | | | |");
+    }
     let [engine, plain, floor] = cases.measure(pace);
     let answer = answer_text(&cases.0[0]);
     print!("| {call} | {state} | {held} | {answer} | {:.0} | {:.0} ", engine.median, plain.median);
@@ -708,14 +740,17 @@ fn print_queues(pace: &Pace) {
 
 fn print_growth(ceiling: u32, pace: &Pace) {
     println!("\n## Growth with held certificates, ceiling {ceiling}\n");
-    println!("Nanoseconds per call; the last column is what one more certificate costs.\n");
+    println!("Nanoseconds per call; the last column is what one more certificate costs. At 0 % advance is refused with 28.\n");
     println!("| call | by | 0 % | 25 % | 50 % | 75 % | 100 % | per certificate |");
     println!("|---|---|---:|---:|---:|---:|---:|---:|");
     let states: Vec<States> =
         (0..5).map(|quarter| States::of(ceiling, ceiling * quarter / 4)).collect();
-    for (job, call, waiting) in jobs() {
+    for (job, call, waiting) in jobs().filter(|(job, ..)| *job != Job::AdvanceThin) {
         let mut cases: Vec<Cases> =
             states.iter().map(|states| states.cases(job, waiting)).collect();
+        if cfg!(other) && !cases.iter_mut().all(Cases::alike) {
+            continue;
+        }
         let held = f64::from(cases[4].held());
         let medians = |cases: &mut Cases| cases.measure(pace).map(|time| time.median);
         let times: Vec<[f64; 3]> = cases.iter_mut().map(medians).collect();
@@ -757,7 +792,8 @@ fn main() {
         Pace { batches: 15, batch_nanoseconds: 5e6 }
     };
     println!("# Cost of calls\n");
-    println!("Nanoseconds per call, median of {} batches.", pace.batches);
+    println!("Nanoseconds per call, median of {} batches.\n", pace.batches);
+    println!("Advance needs a quorum of its present round: an empty state refuses it with 28, half and full ones have one but for \"thin round\".");
     for ceiling in [64, 256, 1_024] {
         print_ceiling(ceiling, &pace);
     }

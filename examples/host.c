@@ -122,6 +122,13 @@ static void print_answers(const char *how, const uint32_t answers[BUNDLE]) {
     printf("\n");
 }
 
+/* Goes on while the present round has a quorum. */
+static void print_catching_up(struct engine *e) {
+    uint32_t refusal = FORGELILAC_ACCEPTED;
+    while (refusal == FORGELILAC_ACCEPTED) refusal = forgelilac_advance(ENGINE(e));
+    printf("    advances to round %u, then %u\n", (unsigned)e->state[FORGELILAC_STATE_ROUND], (unsigned)refusal);
+}
+
 /* A member that was away gets the bundle: one by one, and, opened anew, in one batch. */
 static void print_batch(void) {
     static struct engine away;
@@ -133,9 +140,11 @@ static void print_batch(void) {
     for (int i = 0; i < BUNDLE; i++)
         answers[i] = forgelilac_accept(ENGINE(&away), (const uint32_t *)&row[i], FORGELILAC_CERTIFICATE_WORDS);
     print_answers("one by one", answers);
+    print_catching_up(&away);
     open_member(&away, MEMBERS);
     must("batch", forgelilac_batch(ENGINE(&away), row, BUNDLE, WORDS(answers)));
     print_answers("in one batch", answers);
+    print_catching_up(&away);
 }
 
 static void add(struct engine *e, uint32_t guest, uint32_t number) {

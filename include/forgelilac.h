@@ -32,9 +32,9 @@ extern "C" {
 /* ---- versions */
 
 /* Of the header, and of the archive that belongs to it. */
-#define FORGELILAC_VERSION "0.5.0"
+#define FORGELILAC_VERSION "0.6.0"
 #define FORGELILAC_VERSION_MAJOR 0
-#define FORGELILAC_VERSION_MINOR 5
+#define FORGELILAC_VERSION_MINOR 6
 #define FORGELILAC_VERSION_PATCH 0
 /* Of the words of state and table; no word of theirs has it. Store it beside them: docs/TABLES.md
  * tells what to do with words of an older format. */
@@ -64,8 +64,8 @@ extern "C" {
 
 /* Bytes of stack that serve every call and every function below on x86-64; examples/stack.c
  * measures what they use. Commit, draw and propose use about 80 KB, batch about 77 KB, endorse,
- * certify, accept, committee and share about 74 KB, forgelilac_chain about 3 KB, the others less
- * than 1 KB. */
+ * certify, accept, advance, committee and share about 74 KB, forgelilac_chain about 3 KB, the others
+ * less than 1 KB. */
 #define FORGELILAC_STACK_BYTES 98304
 
 /* ---- words of a state */
@@ -170,7 +170,8 @@ enum forgelilac_refusal {
     FORGELILAC_NONE_THERE = 23,        /* no such certificate or block */
     FORGELILAC_LENGTH_RANGE = 25,      /* a row of more than 64 certificates, or answers shorter than the row */
     FORGELILAC_GUEST_RANGE = 26,       /* guest above 7 */
-    FORGELILAC_QUEUE_FULL = 27         /* the queue holds eight transactions */
+    FORGELILAC_QUEUE_FULL = 27,        /* the queue holds eight transactions */
+    FORGELILAC_THIN_ROUND = 28         /* the authors of the certificates held in the present round form no quorum of its committee */
 };
 
 /* ---- calls: 0 accepted, else the refusal number */
@@ -225,7 +226,9 @@ uint32_t forgelilac_batch(const uint32_t *state, size_t state_words,
                           uint32_t *table, size_t table_words,
                           const struct forgelilac_certificate *row, size_t row_count,
                           uint32_t *answers, size_t answers_words);
-/* Goes on to the next round. Accepted: the proposal is dropped. 1, 18. */
+/* Goes on to the next round, once the authors of the certificates held in the present round form a
+ * quorum of its committee. Accepted: the proposal is dropped. Refused with 28: accept more
+ * certificates of this round, and try again. 1, 18, 8 for the present round unknown, 28. */
 uint32_t forgelilac_advance(uint32_t *state, size_t state_words,
                             const uint32_t *table, size_t table_words);
 /* Makes blocks. Low half: how many were added. High half: refusal number. 1, 19, 20, 8, 21, 22. */
@@ -273,7 +276,7 @@ static inline uint32_t forgelilac_refusal_of(uint64_t answer) {
 
 /* A refusal number in words. 24 is the runner's alone: no function here answers it. */
 static inline const char *forgelilac_refusal_text(uint32_t number) {
-    static const char *const texts[28] = {
+    static const char *const texts[29] = {
         "accepted",
         "state not well formed, a table too short, or words that cannot be read",
         "setting out of range",
@@ -302,8 +305,9 @@ static inline const char *forgelilac_refusal_text(uint32_t number) {
         "a row of more than 64 certificates, or answers shorter than the row",
         "guest above 7",
         "the queue holds eight transactions",
+        "the authors of the certificates held in the present round form no quorum of its committee",
     };
-    return number < 28 ? texts[number] : "no refusal of this version";
+    return number < 29 ? texts[number] : "no refusal of this version";
 }
 
 /* ---- sheets, bodies, proposals, queues, records */

@@ -243,8 +243,10 @@ fn main() {
     e.no(19, "commit", "commit 19 in round 1, before 20");
     e.no(7, "propose,1", "propose 7: not empty in round 1");
     e.no(6, "propose,1,B,16,1", "6 before 7");
+    e.no(28, "advance", "advance 28: nothing held in round 1");
     e.ok("propose,0,E,7,0,B,4,5", "");
-    e.no(10, "propose,0", "propose 10: a proposal exists");
+    e.no(28, "advance", "a proposal is no certificate");
+    e.no(10, "propose,0", "propose 10: a proposal exists; a refused advance drops nothing");
     e.no(7, "propose,1", "7 before 10");
     e.no(6, "propose,0,E,1,0,E,2,0,E,3,0", "6 before 10");
     e.no(14, "certify,1", "certify 14: oneself among them");
@@ -301,8 +303,10 @@ fn main() {
     e.no(9, "accept,2,1,0,16", "accept 9: an endorser is outside; before 13");
     e.no(9, "accept,2,1,0,19", "accept 9: although the others are a quorum");
     e.no(13, "accept,2,1,0,1", "accept 13: weight 2 of 4");
+    e.no(28, "advance", "weight 1 of 4, the quorum is 3; the endorsed places of members 1 and 5 do not count");
     e.ok("accept,1,1,0,13,E,1,0", "all four signed; the endorsed mark is cleared");
     e.no(10, "endorse,1,1,0,E,1,0", "endorse 10: place held");
+    e.no(28, "advance", "weight 2 of 4: one certificate short, whoever signed the two");
     e.ok("accept,2,1,0,3", "not endorsed before; weight 3 of 4");
     e.no(8, "accept,5,23,1,7", "accept 8 before 9");
     e.no(8, "accept,2,23,1,3", "accept 8: round 23 is not known");
@@ -313,7 +317,7 @@ fn main() {
     e.ok("accept,1,2,1,13", "accept has no 12: the previous set is no quorum");
     e.ok("endorse,3,2,7", "endorsing a round ahead; previous set of weight 3 of 4");
     e.no(10, "endorse,3,2,8", "10 before 11");
-    e.ok("advance", "to round 2");
+    e.ok("advance", "to round 2: members 0, 1 and 2 are exactly a quorum");
     e.no(10, "endorse,3,2,7", "an endorsement is not forgotten on the way");
 
     e.part("round 2");
@@ -326,6 +330,7 @@ fn main() {
     e.ok("propose,7", "");
     e.no(10, "propose,8", "10 before 11");
     e.ok("certify,10", "");
+    e.no(28, "advance", "members 0 and 1: one certificate short in round 2, where 3 is endorsed; round 1 is a quorum still");
     e.ok("accept,2,2,7,3", "");
     e.ok("advance", "to round 3");
 
@@ -350,6 +355,10 @@ fn main() {
     e.no(13, "accept,0,23,1,14", "in at 23: total 9, bound 2, quorum 7, and 4 is short of it");
     e.no(11, "accept,0,23,1,22", "at 23 members 0, 1, 2 and 4 weigh 8");
     e.ok("accept,2,4,5,3", "the leader of round 4 is member 2");
+    e.no(28, "advance", "weight 1 of 4");
+    e.ok("accept,0,4,13,6", "");
+    e.no(28, "advance", "weight 2 of 4");
+    e.ok("accept,3,4,13,7", "");
     e.ok("advance", "to round 5");
     e.no(22, "commit", "");
     e.ok("accept,1,5,4,13", "");
@@ -362,25 +371,44 @@ fn main() {
     );
 
     e.part("ceiling 3");
-    e.ok(&open("0", "", "3", "", &ALONE), "");
+    e.ok(&open("0", "", "3", "", &[]), "");
     e.record(b"chain", &["ok"], "afresh: an empty chain");
     e.no(5, "endorse,1,4,1", "over the ceiling");
-    e.ok("advance", "");
-    e.ok("advance", "");
-    e.no(18, "advance", "advance 18");
+    e.ok("accept,0,1,0,6", "one's own place may be filled by accept");
+    for text in ["accept,2,1,0,3", "accept,3,1,0,3", "advance", "accept,0,2,13,6", "accept,2,2,13,3", "accept,3,2,13,3", "advance"] {
+        e.ok(text, "members 0, 2 and 3: a quorum without the leader of round 2, member 1");
+    }
+    e.no(18, "advance", "advance 18, before 28: nothing is held in round 3");
     e.no(21, "commit", "commit 21: the leader's certificate is not held");
     e.no(18, "advance", "still 18");
-    e.ok("accept,0,1,0,0", "one's own place may be filled by accept");
-    e.ok("accept,0,2,1,0", "");
+    e.ok("accept,1,2,13,5", "the anchor, late");
+    e.no(22, "commit", "");
+    e.ok("accept,0,3,2,6", "");
+    e.no(22, "commit", "");
+    e.ok("accept,3,3,2,3", "");
+    e.record(b"commit", &["ok,1"], "at the ceiling");
+    e.ok("accept,2,3,2,3", "");
+    e.no(18, "advance", "18 although round 3 is a quorum now");
+    e.ok(&open("0", "", "3", "", &ALONE), "member 0 alone");
+    e.no(28, "advance", "28 below the ceiling");
+    for text in ["accept,0,1,0,0", "advance", "accept,0,2,1,0", "advance"] {
+        e.ok(text, "");
+    }
+    e.no(18, "advance", "18 at it");
     e.no(22, "commit", "");
     e.ok("accept,0,3,1,0", "");
-    e.record(b"commit", &["ok,1"], "at the ceiling");
+    e.record(b"commit", &["ok,1"], "");
+    e.no(18, "advance", "");
 
     e.part("one's own certificate from elsewhere");
     e.ok(&open("0", "", "64", "", &[]), "");
     e.ok("propose,0,E,1,0", "");
     e.ok("accept,0,1,0,6,E,2,0", "another proposal in one's own place");
     e.no(10, "certify,6", "certify 10: own place held");
+    e.no(28, "advance", "1 of 4");
+    e.no(10, "certify,6", "the proposal is still there: 10, not 15");
+    e.ok("accept,1,1,0,13", "");
+    e.ok("accept,3,1,0,7", "");
     e.ok("advance", "");
     e.no(15, "certify,6", "");
     e.ok(&open("0", "", "64", "", &[]), "");
@@ -396,14 +424,19 @@ fn main() {
     e.no(15, "certify,1", "");
     e.ok("accept,0,1,0,0", "");
     e.no(9, "accept,5,1,0,1", "own certificate, outside");
-    e.ok("advance", "");
+    e.ok("advance", "one outside goes on by the certificates of others");
     e.no(9, "propose,1", "9");
     e.no(9, "propose,2", "9 before 11");
-    e.ok("advance", "");
+    e.ok("endorse,0,2,1", "");
+    e.no(28, "advance", "an endorsed place is no certificate");
+    for text in ["accept,0,2,1,0", "advance", "accept,0,3,1,0"] {
+        e.ok(text, "");
+    }
     e.ok("advance", "to round 4, no block");
     e.no(8, "propose,1", "propose 8 before 9: round 4 is not known with lookback 1 and no block");
     e.no(8, "propose,2", "8 before 11");
     e.no(7, "propose,0", "7 before 8");
+    e.no(8, "advance", "advance 8: the present round is not known");
 
     e.part("lookback 1, member 0 alone: unknown rounds");
     e.ok(&open("0", "1", "64", "", &ALONE), "");
@@ -435,15 +468,27 @@ fn main() {
     e.no(22, "commit", "no vote");
     e.ok("advance", "");
     e.no(8, "propose,1", "propose 8: round 6 needs the block of round 4 or one after it");
-    e.ok("advance", "to round 7");
+    e.no(8, "advance", "advance 8 for the same reason");
+    e.no(19, "commit", "");
+    e.ok(&open("0", "2", "64", "", &ALONE), "lookback 2: with no block round 5 is not known");
+    for text in ["propose,0", "certify,0", "advance", "propose,1", "certify,0", "advance", "propose,1", "certify,0", "advance", "propose,1", "certify,0", "advance"] {
+        e.ok(text, "");
+    }
+    e.no(8, "propose,1", "");
     e.no(8, "commit", "commit 8");
+    e.no(8, "accept,0,5,1,0", "");
+    e.no(8, "advance", "advance 8 in an odd round");
+    e.no(15, "certify,0", "");
 
     e.part("unbond and bond in one proposal");
     e.ok(&open("0", "1", "64", "", &["1", "1", "0", "0"]), "members 0 and 1 of weight 1");
     e.ok("propose,0,U,1,0,B,1,5,B,2,3,U,2,0", "member 1 leaves and comes back with 5; member 2 comes and leaves");
     e.ok("certify,2", "2 of 2");
-    e.ok("advance", "");
+    e.no(28, "advance", "1 of 2");
+    e.ok("accept,1,1,0,1", "");
+    e.ok("advance", "2 of 2");
     e.ok("accept,1,2,1,1,U,7,0", "the leader of round 2; the unbond of a non-member does nothing");
+    e.ok("accept,0,2,3,2", "");
     e.ok("advance", "");
     e.ok("accept,0,3,2,2", "");
     e.record(b"commit", &["ok,1"], "1 is more than the bound 0");
@@ -456,13 +501,27 @@ fn main() {
     e.ok("propose,0", "");
     e.no(13, "certify,2", "2 of 3");
     e.ok("certify,6", "3 of 3");
+    e.ok("accept,1,1,0,5", "");
+    e.no(28, "advance", "members 0 and 1: 2 of 3");
+    e.ok("accept,2,1,0,3", "");
+    e.ok("advance", "3 of 3");
     e.ok(&open("0", "", "64", "", &["2", "2", "2", "0"]), "total 6: bound 1, quorum 5");
     e.ok("propose,0", "");
     e.no(13, "certify,2", "4 of 6");
     e.ok("certify,6", "6 of 6");
+    e.ok("accept,2,1,0,3", "");
+    e.no(28, "advance", "members 0 and 2: 4 of 6");
+    e.ok("accept,1,1,0,5", "");
+    e.ok("advance", "6 of 6");
     e.ok(&open("0", "", "64", "", &["5", "2", "0", "0"]), "total 7: bound 2, quorum 5");
     e.ok("propose,0", "");
+    e.ok("accept,1,1,0,1", "");
+    e.no(28, "advance", "member 1: 2 of 7");
     e.ok("certify,0", "5 of 7");
+    e.ok("advance", "7 of 7");
+    e.ok("propose,1", "");
+    e.ok("certify,0", "");
+    e.ok("advance", "member 0 alone: 5 of 7 is exactly a quorum");
 
     e.part("weights that grow from block to block; votes weigh in the committee of their own round");
     e.ok(&open("0", "2", "64", "", &[]), "lookback 2, members 0 to 3 of weight 1");
@@ -473,18 +532,26 @@ fn main() {
     e.record(b"commit", &["ok,1"], "the block of round 2: 6, 1, 1, 1 from round 5 on");
     e.ok("accept,2,4,5,11,B,1,10,B,0,4", "the anchor of 4; at 4 the weights are 1, 1, 1, 1 still");
     e.ok("accept,0,4,5,6", "3 of 4");
+    e.no(28, "advance", "members 0 and 2: 2 of 4 in round 3; in the committee of 5 they would weigh 7 of 9");
+    e.ok("accept,1,3,7,13", "");
     e.ok("advance", "");
+    e.no(28, "advance", "members 0 and 2 again, in round 4");
+    e.ok("accept,1,4,5,13", "");
     e.ok("advance", "to round 5: total 9, bound 2, quorum 7");
     e.no(13, "accept,1,5,4,12", "3 of 9");
     e.ok("accept,1,5,4,1", "7 of 9");
     e.no(22, "commit", "1 of 9");
     e.ok("accept,2,5,4,1", "7 of 9");
     e.no(22, "commit", "2 of 9 equals the bound 2; the bound of round 4 would be 1");
+    e.ok("accept,3,5,1,1", "names member 0, not the anchor's author");
+    e.no(28, "advance", "members 1, 2 and 3: 3 of 9; in the committee of round 4 they would be a quorum");
     e.ok("accept,0,5,4,2", "7 of 9");
     e.record(b"commit", &["ok,1"], "the block of round 4: 10, 11, 1, 1 from round 7 on");
     e.ok("accept,3,6,1,1", "7 of 9: at 6 the weights are 6, 1, 1, 1 still");
     e.ok("advance", "");
-    e.ok("advance", "to round 7: total 23, bound 7, quorum 16");
+    e.no(28, "advance", "member 3: 1 of 9");
+    e.ok("accept,0,6,1,2", "");
+    e.ok("advance", "members 0 and 3: 7 of 9; to round 7: total 23, bound 7, quorum 16");
     e.no(13, "accept,0,7,8,12", "12 of 23");
     e.no(13, "accept,1,7,8,12", "13 of 23");
     e.ok("accept,0,7,8,2", "21 of 23");
@@ -509,8 +576,11 @@ fn main() {
     e.ok("advance", "to round 4: its committee is empty");
     e.no(9, "propose,1", "");
     e.no(9, "accept,0,4,1,0", "");
-    e.ok("advance", "to round 5");
+    e.ok("advance", "to round 5: nobody is a quorum, 0 of 0");
     e.no(21, "commit", "commit 21: an empty committee has no leader");
+    e.ok("advance", "to round 6, again with nothing held; round 5 is known and empty too");
+    e.no(8, "advance", "round 6 is not known");
+    e.no(8, "propose,1", "");
     e.ok(&open("0", "2", "64", "", &ALONE), "lookback 2: the committee of 4 is full, that of 5 empty");
     for text in ["propose,0,U,0,0", "certify,0", "advance", "propose,1", "certify,0", "advance", "propose,1", "certify,0"] {
         e.ok(text, "");
@@ -521,6 +591,82 @@ fn main() {
     }
     e.no(9, "propose,1", "");
     e.no(22, "commit", "commit 22: total 0, bound 0, votes 0");
+    e.ok("advance", "");
+    e.ok("advance", "to round 7, which is not known");
+    e.no(8, "commit", "");
+    e.no(8, "advance", "");
+    e.ok(&open("0", "3", "64", "", &ALONE), "lookback 3: the committees of 6 and 7 are empty, that of 8 has member 1");
+    for text in ["propose,0,U,0,0", "certify,0", "advance", "propose,1", "certify,0", "advance", "propose,1,B,1,2", "certify,0", "advance", "propose,1", "certify,0", "advance", "propose,1", "certify,0"] {
+        e.ok(text, "rounds 1 to 5; the block of 2 unbonds member 0, that of 4 bonds member 1");
+    }
+    e.record(b"commit", &["ok,2"], "");
+    e.ok("advance", "to round 6");
+    e.no(9, "accept,0,6,1,0", "");
+    e.ok("advance", "to round 7: 0 of 0");
+    e.ok("advance", "to round 8: 0 of 0");
+    e.no(28, "advance", "0 of 2: the committee is not empty any more");
+    e.no(11, "accept,1,8,1,0", "nor is anything held in round 7 that a certificate of 8 could name");
+    e.no(28, "advance", "so it stays thin");
+
+    e.part("advance: 18, 8, 28 in this order; certificates of the present round alone count, by its own committee");
+    e.ok(&open("0", "", "64", "", &[]), "members 0 to 3 of weight 1");
+    for text in ["endorse,1,1,0", "endorse,2,1,0", "endorse,3,1,0"] {
+        e.ok(text, "");
+    }
+    e.no(28, "advance", "three endorsed places, nothing held");
+    e.ok("accept,3,1,0,7", "");
+    for text in ["accept,0,2,8,14", "accept,1,2,8,13", "accept,2,2,8,11", "accept,3,2,8,7"] {
+        e.ok(text, "round 2, all naming member 3");
+    }
+    e.no(28, "advance", "1 of 4 in round 1, though 4 of 4 in round 2");
+    e.ok("accept,1,1,0,13", "");
+    e.no(28, "advance", "one certificate short");
+    e.ok("accept,0,1,0,14", "");
+    e.ok("advance", "accepted with it: 3 of 4");
+    e.ok("advance", "to round 3 at once");
+    e.no(28, "advance", "nothing in round 3, though 4 of 4 in round 2");
+    for text in ["accept,1,3,15,13", "accept,2,3,15,11"] {
+        e.ok(text, "");
+    }
+    e.no(28, "advance", "2 of 4");
+    e.record(b"commit", &["ok,1"], "a commit asks no quorum of the present round");
+    e.no(28, "advance", "2 of 4 still");
+    e.ok("accept,3,3,15,7", "");
+    e.ok("advance", "to round 4");
+    e.ok(&open("0", "1", "4", "", &ALONE), "lookback 1, ceiling 4: round 4 is not known without a block");
+    for text in ["propose,0", "certify,0", "advance", "propose,1", "certify,0", "advance", "propose,1", "certify,0", "advance"] {
+        e.ok(text, "");
+    }
+    e.no(8, "propose,1", "round 4 is not known");
+    e.no(18, "advance", "18 before 8");
+    e.ok(&open("0", "1", "5", "", &ALONE), "ceiling 5");
+    for text in ["propose,0", "certify,0", "advance", "propose,1", "certify,0", "advance", "propose,1", "certify,0", "advance"] {
+        e.ok(text, "");
+    }
+    e.no(8, "advance", "8 below the ceiling, not 28: nothing is held in round 4");
+    e.ok(&open("0", "1", "64", "", &ALONE), "a member joins");
+    for text in ["propose,0,B,1,5", "certify,0", "advance", "propose,1", "certify,0", "advance", "propose,1", "certify,0"] {
+        e.ok(text, "");
+    }
+    e.record(b"commit", &["ok,1"], "1 and 5 from round 4 on");
+    e.ok("advance", "to round 4: 1 of 1 in round 3, whose committee has member 0 alone");
+    e.ok("accept,0,4,1,2", "");
+    e.no(28, "advance", "1 of 6");
+    e.ok("accept,1,4,1,0", "");
+    e.ok("advance", "6 of 6");
+    e.ok("accept,1,5,2,0", "");
+    e.ok("advance", "member 1 alone: 5 of 6 is exactly a quorum");
+    e.ok(&open("0", "1", "64", "", &["1", "1", "0", "0"]), "a member leaves");
+    for text in ["accept,0,1,0,2,U,0,0", "accept,1,1,0,1", "advance", "accept,1,2,3,1", "accept,0,2,3,2", "advance", "accept,1,3,3,1"] {
+        e.ok(text, "");
+    }
+    e.record(b"commit", &["ok,1"], "member 1 alone from round 4 on");
+    e.no(28, "advance", "1 of 2 in round 3, whose committee still has member 0");
+    e.ok("accept,0,3,3,2", "");
+    e.ok("advance", "to round 4");
+    e.no(28, "advance", "0 of 1");
+    e.ok("accept,1,4,3,0", "");
+    e.ok("advance", "1 of 1: in the committee of round 3 it would be 1 of 2");
 
     e.part("several blocks in one commit");
     e.ok(&open("0", "", "64", "", &ALONE), "");
@@ -551,6 +697,9 @@ fn main() {
     e.ok("accept,3,6,1,3", "the anchor of 6");
     e.ok("accept,0,7,8,6", "a vote");
     e.ok("accept,1,7,8,5", "a vote");
+    for text in ["accept,1,4,7,5", "accept,1,5,3,5", "accept,2,5,3,3", "accept,0,6,7,6", "accept,1,6,7,5"] {
+        e.ok(text, "for a quorum in its round; in none of the histories");
+    }
     e.ok("advance", "");
     e.ok("advance", "to round 3");
     e.no(22, "commit", "weight 1 equals the bound 1");
@@ -582,6 +731,9 @@ fn main() {
     e.ok("accept,3,6,1,3", "the anchor of 6");
     e.ok("accept,0,7,8,6", "a vote");
     e.ok("accept,1,7,8,5", "a vote");
+    for text in ["accept,2,3,5,3", "accept,1,4,7,5", "accept,1,5,7,5", "accept,2,5,7,3", "accept,0,6,7,6", "accept,1,6,7,5"] {
+        e.ok(text, "for a quorum in its round; in none of the histories");
+    }
     for _ in 0..6 {
         e.ok("advance", "");
     }
@@ -605,6 +757,8 @@ fn main() {
         e.ok(text, "round 3");
     }
     e.ok("accept,2,4,15,11", "the anchor of 4");
+    e.ok("accept,3,4,15,7", "for a quorum");
+    e.ok("accept,0,4,15,14", "for a quorum");
     e.ok("accept,0,5,4,14", "a vote");
     e.ok("accept,1,5,4,13", "a vote");
     for _ in 0..4 {
@@ -631,6 +785,8 @@ fn main() {
         }
     }
     e.ok("accept,15,6,49155,16387", "the anchor of 6");
+    e.ok("accept,0,6,49155,49154", "for a quorum");
+    e.ok("accept,14,6,49155,32771", "for a quorum");
     e.ok("accept,0,7,32768,49154", "a vote");
     e.ok("accept,1,7,32768,49153", "a vote");
     for _ in 0..6 {
@@ -696,6 +852,8 @@ fn main() {
     e.ok("accept,2,1,0,11", "");
     e.ok("accept,3,1,0,7,U,0,0", "before 0: unbonds 0");
     e.ok("accept,1,2,15,13", "the anchor of 2");
+    e.ok("accept,2,2,15,11", "for a quorum");
+    e.ok("accept,3,2,15,7", "for a quorum");
     e.ok("accept,0,3,2,14", "a vote");
     e.ok("accept,2,3,2,11", "a vote");
     e.ok("advance", "");
@@ -705,8 +863,14 @@ fn main() {
     e.no(13, "accept,1,4,1,12", "3 of 13, the quorum is 9");
     e.ok("accept,4,4,1,1", "10 of 13");
     e.ok("accept,2,4,1,17", "the leader of 4: of 0, 1, 2, 3, 4 the one at position 2 mod 5; of 1, 2, 3 it would be 3");
+    e.no(28, "advance", "members 0 and 2 in round 3");
+    e.ok("accept,3,3,12,7", "names others than the anchor's author");
     e.ok("advance", "");
-    e.ok("advance", "to round 5");
+    e.no(28, "advance", "members 2 and 4: 6 of 13 in round 4");
+    e.ok("accept,3,4,1,17", "");
+    e.no(28, "advance", "members 2, 3 and 4: 7 of 13");
+    e.ok("accept,0,4,1,16", "");
+    e.ok("advance", "to round 5: 12 of 13");
     e.no(22, "commit", "");
     e.ok("accept,0,5,4,16", "a vote of weight 5");
     e.record(b"commit", &["ok,1"], "5 is more than the bound 4");
@@ -721,6 +885,8 @@ fn main() {
     e.ok("accept,2,1,0,11,U,3,0", "unbonds 3");
     e.ok("accept,3,1,0,7,B,3,5", "bonds 3, after 2 in either order");
     e.ok("accept,1,2,15,13", "the anchor of 2");
+    e.ok("accept,2,2,15,11", "for a quorum");
+    e.ok("accept,3,2,15,7", "for a quorum");
     e.ok("accept,0,3,2,14", "a vote");
     e.ok("accept,2,3,2,11", "a vote");
     e.ok("advance", "");

@@ -5,10 +5,10 @@
 //!
 //! A run is a member alone, from any queues, and calls by chance: adding to
 //! queues, draws that are accepted and draws that are refused, proposes of a
-//! list handed in, certify, advance, commit, and an open now and then. Each
-//! transaction is an entry that tells its guest and its number among those that
-//! the guest added, so that what is counted here is read from the proposals and
-//! not from the reference's queues.
+//! list handed in, certify, advance, also where the round is thin still, commit,
+//! and an open now and then. Each transaction is an entry that tells its guest
+//! and its number among those that the guest added, so that what is counted here
+//! is read from the proposals and not from the reference's queues.
 //!
 //! Time goes from moment to moment. An accepted draw has a moment for each
 //! transaction in it, any other call one. Of each moment is kept whose
@@ -176,6 +176,10 @@ impl Run<'_> {
 
     /// On to the next round, with one's own certificate of this one.
     fn go_on(&mut self) {
+        if self.member.advance().is_ok() {
+            self.fault("an advance past a round in which nothing is held");
+        }
+        self.passes();
         let _ = self.member.certify(0);
         self.passes();
         if self.member.round() % 2 == 1 && self.rng.chance(300) {

@@ -4,7 +4,9 @@ notice: the edge stream and the shuffled streams of seeds 1 to N. No record
 reads a share, is a batch, adds to a queue or draws: wrong rules of shares are
 given pairs of weight and total, wrong rules of batches rows of certificates,
 wrong rules of queues streams with draws, and what they answer is compared with
-naive.py. Of the last it also says whether fair finds a fault.
+naive.py. Of the last it also says whether fair finds a fault. Of a wrong rule of
+advance that no stream notices it says whether the unit tests do: none of the
+streams comes to hold an outsider.
 
     mutants.py N        (build.sh first; works in the directory mutants)
 
@@ -253,6 +255,57 @@ Q=[
 ('push_back(*transaction)','push_front(*transaction)'),
 ('        if !transaction.in_range() {\n            return Err(6);\n        }\n        if self.waiting','        if self.waiting'),
 ]
+# wrong rules of advance
+QUORUM = 'if !is_quorum(self.held_authors(r), committee) {\n            return Err(28);'
+CEILING = '        if r == self.settings.ceiling {\n            return Err(18);\n        }\n'
+KNOWN = '        let committee = self.committee_of(r).ok_or(8u32)?;\n'
+THIN = '        if !is_quorum(self.held_authors(r), committee) {\n            return Err(28);\n        }\n'
+A=[
+# none; by weight alone, inside or not; more than a quorum's weight; more than the fault bound; by heads
+(THIN, ''),
+('!is_quorum(self.held_authors(r), committee)', 'weight_of(self.held_authors(r), committee) < quorum_weight(total(committee))'),
+('!is_quorum(self.held_authors(r), committee)', '!inside(self.held_authors(r), committee) || weight_of(self.held_authors(r), committee) <= quorum_weight(total(committee))'),
+('!is_quorum(self.held_authors(r), committee)', 'weight_of(self.held_authors(r), committee) <= fault_bound(total(committee))'),
+('!is_quorum(self.held_authors(r), committee)', '!is_quorum(self.held_authors(r), &committee.map(|w| w.min(1)))'),
+# the committee of the round before, of the round after, the starting one, that of the chain's end
+(KNOWN + THIN, KNOWN + THIN.replace('committee)', 'self.committee_of(r.max(2) - 1).unwrap_or(committee))')),
+(KNOWN + THIN, KNOWN + THIN.replace('committee)', 'self.committee_of(r + 1).unwrap_or(committee))')),
+(KNOWN + THIN, KNOWN + THIN.replace('committee)', '&self.settings.weights)')),
+(KNOWN + THIN, KNOWN + THIN.replace('committee)', 'self.chain.last().map_or(&self.settings.weights, |b| &b.after))')),
+# 8 for the round before, for the round after
+(KNOWN + THIN, KNOWN.replace('(r)', '(r.max(2) - 1)') + THIN),
+(KNOWN + THIN, '        self.committee_of(r + 1).ok_or(8u32)?;\n' + KNOWN + THIN),
+# the certificates of the round before, of the round after
+('is_quorum(self.held_authors(r), committee)', 'is_quorum(self.held_authors(r.max(2) - 1), committee)'),
+('is_quorum(self.held_authors(r), committee)', 'is_quorum(self.held_authors(r + 1), committee)'),
+# endorsed places, held or endorsed ones, one's own proposal with them; all signers
+('is_quorum(self.held_authors(r), committee)', 'is_quorum((0..MEMBERS).filter(|&a| self.is_endorsed(a, r)).map(single).fold(0, |x, y| x | y), committee)'),
+('is_quorum(self.held_authors(r), committee)', 'is_quorum((0..MEMBERS).filter(|&a| committee[a as usize] > 0 && self.is_endorsed(a, r)).map(single).fold(self.held_authors(r), |x, y| x | y), committee)'),
+('is_quorum(self.held_authors(r), committee)', 'is_quorum(self.held_authors(r) | self.proposal.as_ref().map_or(0, |p| single(p.author)), committee)'),
+('is_quorum(self.held_authors(r), committee)', 'is_quorum(members_of(self.held_authors(r)).map(|a| self.held_at(a, r).unwrap().certificate.signers()).fold(0, |x, y| x | y), committee)'),
+# one's own certificate asked for, that of the leader; nothing asked of one outside
+(QUORUM, QUORUM.replace(' {', ' || !self.is_held(self.own, r) {', 1)),
+(QUORUM, QUORUM.replace(' {', ' || r % 2 == 0 && self.anchor(r).is_none() {', 1)),
+(QUORUM, QUORUM.replace('if ', 'if committee[self.own as usize] > 0 && ', 1)),
+# an empty committee refused; even rounds alone, odd rounds alone, round 1 left out
+(QUORUM, QUORUM.replace(' {', ' || total(committee) == 0 {', 1)),
+(QUORUM, QUORUM.replace('if ', 'if r % 2 == 0 && ', 1)),
+(QUORUM, QUORUM.replace('if ', 'if r % 2 == 1 && ', 1)),
+(QUORUM, QUORUM.replace('if ', 'if r > 1 && ', 1)),
+# 28 for an unknown round, 8 for a thin one, each for the other; an unknown round passed
+(KNOWN + THIN, KNOWN.replace('8u32', '28u32') + THIN),
+(KNOWN + THIN, KNOWN + THIN.replace('28', '8')),
+(KNOWN + THIN, KNOWN.replace('8u32', '28u32') + THIN.replace('28', '8')),
+(KNOWN + THIN, KNOWN.replace('let committee = self.committee_of(r).ok_or(8u32)?', 'let Some(committee) = self.committee_of(r) else { return Ok(()) }') + THIN),
+# 8 before 18; 28 before 18; both
+(CEILING + KNOWN, KNOWN + CEILING),
+(CEILING + KNOWN + THIN, THIN.replace('!is_quorum(self.held_authors(r), committee)', 'self.committee_of(r).is_some_and(|c| !is_quorum(self.held_authors(r), c))') + CEILING + KNOWN),
+(CEILING + KNOWN + THIN, KNOWN + THIN + CEILING),
+# refused, the proposal dropped all the same; refused, the round left all the same; accepted, the proposal kept
+('        self.may_advance()?;\n        self.round += 1;\n        self.proposal = None;', '        self.proposal = None;\n        self.may_advance()?;\n        self.round += 1;'),
+('        self.may_advance()?;\n        self.round += 1;\n        self.proposal = None;', '        let answer = self.may_advance();\n        self.round += u32::from(answer != Err(18));\n        self.proposal = None;\n        answer?;'),
+('        self.may_advance()?;\n        self.round += 1;\n        self.proposal = None;', '        self.may_advance()?;\n        self.round += 1;'),
+]
 work = os.path.join(base, 'mutants')
 os.makedirs(work, exist_ok=True)
 good = os.path.join(base, 'bin', 'runner_ref')
@@ -277,7 +330,7 @@ shares = subprocess.run([sys.executable, os.path.join(base, 'naive.py'), 'shares
                         input=pairs, capture_output=True).stdout.split()
 
 
-def spoilt(place, program, name, old, new):
+def spoilt(place, program, name, old, new, kind='-O'):
     """The program built with the change; None and why where there is none."""
     place = os.path.join(work, place)
     os.makedirs(place, exist_ok=True)
@@ -288,20 +341,40 @@ def spoilt(place, program, name, old, new):
         return None, 'the text to spoil is there %d times' % text.count(old)
     open(os.path.join(place, name), 'w').write(text.replace(old, new))
     runner = os.path.join(place, 'runner')
-    built = subprocess.run(['rustc', '--edition', '2021', '-O', '-Awarnings',
+    built = subprocess.run(['rustc', '--edition', '2021', '-O', kind, '-Awarnings',
                             os.path.join(place, program), '-o', runner],
                            capture_output=True, text=True)
     return (None, 'does not build') if built.returncode else (runner, '')
 
 
+def noticed(runner):
+    """Which streams notice, and whether any does."""
+    seeds = sum(answers(runner, s) != expected for s, expected in streams)
+    in_edge = answers(runner, edge) != edge_expected
+    said = 'edge stream %s, %d of %d seeds' % ('yes' if in_edge else 'no', seeds, len(streams))
+    return said, in_edge or seeds > 0
+
+
 def one(i):
     runner, why = spoilt(str(i), 'runner_ref.rs', *M[i])
+    return why if runner is None else noticed(runner)[0] + (' (same)' if i in SAME else '')
+
+
+def one_advance(i):
+    runner, why = spoilt('advance%d' % i, 'runner_ref.rs', 'reference.rs', *A[i])
     if runner is None:
         return why
-    noticed = sum(answers(runner, s) != expected for s, expected in streams)
-    in_edge = answers(runner, edge) != edge_expected
-    return 'edge stream %s, %d of %d seeds%s' % ('yes' if in_edge else 'no', noticed,
-                                                 len(streams), ' (same)' if i in SAME else '')
+    by_streams, found = noticed(runner)
+    if found:
+        return by_streams
+    place = 'tests%d' % i
+    os.makedirs(os.path.join(work, place), exist_ok=True)
+    shutil.copy(os.path.join(base, 'runner_ref.rs'), os.path.join(work, place))
+    tests, why = spoilt(place, 'tests_ref.rs', 'reference.rs', *A[i], kind='--test')
+    if tests is None:
+        return why
+    failed = subprocess.run([tests, '-q'], capture_output=True).returncode != 0
+    return '%s, tests %s' % (by_streams, 'yes' if failed else 'no')
 
 
 # The seeds' rows, and rows of 64 and of 65.
@@ -363,6 +436,8 @@ with ThreadPoolExecutor(4) as pool:
         print('batch', i, repr(B[i][0][:44]), '->', repr(B[i][1][:44]), ':', result, flush=True)
     for i, result in enumerate(pool.map(one_queue, range(len(Q)))):
         print('queue', i, repr(Q[i][0][:44]), '->', repr(Q[i][1][:44]), ':', result, flush=True)
+    for i, result in enumerate(pool.map(one_advance, range(len(A)))):
+        print('advance', i, repr(A[i][0][-44:]), '->', repr(A[i][1][-60:]), ':', result, flush=True)
     for i, result in enumerate(pool.map(one, range(len(M)))):
         print(i, M[i][0], repr(M[i][1][:44]), '->', repr(M[i][2][:44]), ':', result, flush=True)
 shutil.rmtree(work)

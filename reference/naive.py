@@ -197,6 +197,9 @@ class Engine:
 
     def advance(self):
         refuse_if(self.round == self.ceiling, 18)
+        refuse_if(not self.known(self.round), 8)
+        authors = {author for author, r in self.held if r == self.round}
+        refuse_if(not self.quorum(authors, self.committee(self.round)), 28)
         self.round += 1
         self.proposal = None
 

@@ -654,9 +654,16 @@ impl Member {
 
     // ---- advance
 
+    /// No advance past a thin round (point 7): the authors of the certificates
+    /// held in the present round must form a quorum of its committee.
     pub fn may_advance(&self) -> Answer<()> {
-        if self.round == self.settings.ceiling {
+        let r = self.round;
+        if r == self.settings.ceiling {
             return Err(18);
+        }
+        let committee = self.committee_of(r).ok_or(8u32)?;
+        if !is_quorum(self.held_authors(r), committee) {
+            return Err(28);
         }
         Ok(())
     }

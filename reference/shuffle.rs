@@ -6,7 +6,7 @@
 //!   duplicates; some are faulty, slow or silent. The stream is what one
 //!   correct member was called with.
 //! - puppet: one engine only, all other certificates are made up to fit it,
-//!   with free shapes of the named previous sets.
+//!   with free shapes of the named previous sets; thin rounds are filled.
 //! - chaos: calls with random values, whatever the answer.
 //! - malformed: mostly unreadable records between a few readable ones.
 //!
@@ -960,8 +960,7 @@ impl Network<'_> {
         if r == ceiling {
             return;
         }
-        let member = self.member(i);
-        let enough = member.committee_of(r).is_some_and(|c| is_quorum(member.held_authors(r), c));
+        let enough = self.member(i).may_advance().is_ok();
         let behind = self.highest_held(i) > r + 1;
         let member = self.member(i);
         let content = if r % 2 == 0 {
@@ -973,9 +972,12 @@ impl Network<'_> {
         let node = self.nodes[i as usize].as_ref().unwrap();
         let (early, patience) = (node.early, node.patience);
         let patient = if content { waited > self.rng.below(3) } else { waited > patience };
-        let ready = (enough && patient) || (behind && (content || waited > patience / 2));
-        if (ready && onward) || self.rng.chance(early) {
-            self.call(i, &Record::Advance);
+        let ready = enough && (patient || (behind && (content || waited > patience / 2)));
+        // Too early: refused while the round is thin, and asked again later.
+        let thin = i == self.chosen && !enough && self.lively() && self.rng.chance(25);
+        if ((ready && onward) || thin || self.rng.chance(early))
+            && self.call(i, &Record::Advance) == Outcome::Accepted
+        {
             let now = self.now;
             let lazy = self.node(i).lazy;
             let skips = self.rng.chance(lazy);
@@ -1219,7 +1221,8 @@ fn network(rng: &mut Rng, stream: &mut Stream, asked: Asked) -> Streams {
     Some(streams)
 }
 
-/// The rest of the rounds, with a commit now and then, and the chain.
+/// The rest of the rounds, as far as certificates that were sent fill them,
+/// with a commit now and then, and the chain.
 fn finish(rng: &mut Rng, stream: &mut Stream, pool: &Pool, market: &Market) {
     while rng.chance(980) {
         if rng.chance(300) {
@@ -1228,12 +1231,40 @@ fn finish(rng: &mut Rng, stream: &mut Stream, pool: &Pool, market: &Market) {
         if rng.chance(400) {
             stream.call(&Record::Commit);
         }
-        if let Outcome::Refused(_) = stream.call(&Record::Advance) {
-            break;
+        match stream.call(&Record::Advance) {
+            Outcome::Refused(28) if gather(rng, stream, pool) => {}
+            // In a round that is not known: some calls more.
+            Outcome::Refused(8) if rng.chance(700) => {
+                let before = stream.member().held_authors(stream.member().round() - 1);
+                stream.call(&Record::Propose { previous: before, transactions: Vec::new() });
+                stream.call(&Record::Commit);
+            }
+            Outcome::Refused(_) => break,
+            _ => {}
         }
     }
     stream.call(&Record::Commit);
     stream.call(&Record::Chain);
+}
+
+/// Late certificates of the present round and those before it, by chance one
+/// or as many as make a quorum; whether there was any.
+fn gather(rng: &mut Rng, stream: &mut Stream, pool: &Pool) -> bool {
+    let (round, mut any) = (stream.member().round(), false);
+    loop {
+        let member = stream.member();
+        let late = pool.certificates.iter().filter(|c| c.proposal.round <= round && member.may_accept(c).is_ok());
+        let late: Vec<&Rc<Certificate>> = late.collect();
+        if late.is_empty() {
+            return any;
+        }
+        let certificate = (**rng.pick(&late)).clone();
+        stream.call(&Record::Accept(certificate));
+        any = true;
+        if stream.member().may_advance().is_ok() || rng.chance(300) {
+            return any;
+        }
+    }
 }
 
 // --------------------------------------------------------------- puppet ---
@@ -1250,6 +1281,77 @@ fn fitting_endorsers(rng: &mut Rng, author: u32, committee: &Committee) -> Set {
         set |= single(m);
     }
     set
+}
+
+/// How the certificates of a puppet stretch are made up.
+struct Shape {
+    own: u32,
+    links: u32,
+    shun: u32,
+    wrong: u32,
+    endorsing: u32,
+}
+
+/// The certificate of an author in a round that is known, named previous by
+/// chance; proposed and certified or accepted.
+#[allow(clippy::too_many_arguments)]
+fn make_up(
+    rng: &mut Rng,
+    stream: &mut Stream,
+    pool: &mut Pool,
+    market: &Market,
+    shape: &Shape,
+    author: u32,
+    next: u32,
+    votes: bool,
+) {
+    let member = stream.member();
+    let (round, allowance) = (member.round(), member.settings().allowance);
+    let committee = *member.committee_of(next).expect("a known round");
+    let before = if next > 1 { member.held_authors(next - 1) } else { 0 };
+    let lead = if next > 1 && next % 2 == 1 { member.anchor(next - 1) } else { None };
+    let mut previous = 0;
+    if next > 1 {
+        previous = rng.thin(before, shape.links);
+        if let Some(l) = lead {
+            if votes && rng.chance(900) {
+                previous |= single(l);
+            } else if !votes && rng.chance(shape.shun) {
+                previous &= !single(l);
+            }
+        }
+        if previous == 0 {
+            previous = rng.member_of(before).map_or(1, single);
+        }
+    }
+    let transactions = random_transactions(rng, market, allowance);
+    let p = Proposal { author, round: next, previous, transactions };
+    pool.proposals.push(Rc::new(p.clone()));
+    if author == shape.own && next == round && rng.chance(700) {
+        stream.call(&Record::Propose { previous, transactions: p.transactions.clone() });
+        if rng.chance(300) {
+            inject(rng, stream, pool, market, 100);
+        }
+        let endorsers = fitting_endorsers(rng, author, &committee);
+        stream.call(&Record::Certify { endorsers });
+    } else {
+        if rng.chance(shape.endorsing) {
+            stream.call(&Record::Endorse(p.clone()));
+            if rng.chance(100) {
+                stream.call(&Record::Endorse(p.clone()));
+            }
+        }
+        let endorsers = fitting_endorsers(rng, author, &committee);
+        let c = Certificate { proposal: p, endorsers };
+        pool.certificates.push(Rc::new(c.clone()));
+        stream.call(&Record::Accept(c));
+    }
+    if rng.chance(shape.wrong) {
+        inject(rng, stream, pool, market, 200);
+    }
+    if rng.chance(20) {
+        stream.call(&Record::Commit);
+    }
 }
 
 fn puppet(rng: &mut Rng, stream: &mut Stream) {
@@ -1290,6 +1392,8 @@ fn puppet(rng: &mut Rng, stream: &mut Stream) {
         if braid { (1_000, 250, 250, 600, 1_000, 900) } else { (density, links, voting, shun, leading, eager) };
     let mut made = 0; // rounds whose certificates were made
     let ceiling = settings.ceiling;
+    let mut votes: Vec<bool> = vec![true]; // by round: whether it votes
+    let shape = Shape { own, links, shun, wrong, endorsing };
 
     while stream.member().round() < ceiling || made < ceiling {
         // The certificates of the next round, in any order, as far as known.
@@ -1300,57 +1404,13 @@ fn puppet(rng: &mut Rng, stream: &mut Stream) {
             let committee = *stream.member().committee_of(next).unwrap();
             let mut authors: Vec<u32> = (0..16).filter(|&m| committee[m as usize] > 0).collect();
             rng.shuffle(&mut authors);
-            let before = if next > 1 { stream.member().held_authors(next - 1) } else { 0 };
-            let lead = if next > 1 && next % 2 == 1 { stream.member().anchor(next - 1) } else { None };
             let leads = if next % 2 == 0 { leader(next, &committee) } else { None };
             let sure = authors.first().copied(); // no round without a certificate
-            let votes = rng.chance(voting);
+            votes.push(rng.chance(voting));
             for author in authors {
                 let likely = if Some(author) == leads { leading } else { density };
-                if Some(author) != sure && !rng.chance(likely) {
-                    continue;
-                }
-                let mut previous = 0;
-                if next > 1 {
-                    previous = rng.thin(before, links);
-                    if let Some(l) = lead {
-                        if votes && rng.chance(900) {
-                            previous |= single(l);
-                        } else if !votes && rng.chance(shun) {
-                            previous &= !single(l);
-                        }
-                    }
-                    if previous == 0 {
-                        previous = rng.member_of(before).map_or(1, single);
-                    }
-                }
-                let transactions = random_transactions(rng, &market, settings.allowance);
-                let p = Proposal { author, round: next, previous, transactions };
-                pool.proposals.push(Rc::new(p.clone()));
-                if author == own && next == round && rng.chance(700) {
-                    stream.call(&Record::Propose { previous, transactions: p.transactions.clone() });
-                    if rng.chance(300) {
-                        inject(rng, stream, &pool, &market, 100);
-                    }
-                    let endorsers = fitting_endorsers(rng, own, &committee);
-                    stream.call(&Record::Certify { endorsers });
-                } else {
-                    if rng.chance(endorsing) {
-                        stream.call(&Record::Endorse(p.clone()));
-                        if rng.chance(100) {
-                            stream.call(&Record::Endorse(p.clone()));
-                        }
-                    }
-                    let endorsers = fitting_endorsers(rng, author, &committee);
-                    let c = Certificate { proposal: p, endorsers };
-                    pool.certificates.push(Rc::new(c.clone()));
-                    stream.call(&Record::Accept(c));
-                }
-                if rng.chance(wrong) {
-                    inject(rng, stream, &pool, &market, 200);
-                }
-                if rng.chance(20) {
-                    stream.call(&Record::Commit);
+                if Some(author) == sure || rng.chance(likely) {
+                    make_up(rng, stream, &mut pool, &market, &shape, author, next, votes[next as usize]);
                 }
             }
             made = next;
@@ -1373,7 +1433,32 @@ fn puppet(rng: &mut Rng, stream: &mut Stream) {
         if stream.member().round() == ceiling {
             break;
         }
-        stream.call(&Record::Advance);
+        // A thin round: more is made up for it until it is a quorum, its
+        // leader's certificate last. Mostly tried before, and now and then
+        // between.
+        let mut answer = stream.member().may_advance();
+        if answer != Err(28) || rng.chance(600) {
+            stream.call(&Record::Advance);
+        }
+        let nothing = round > 1 && stream.member().held_authors(round - 1) == 0;
+        while answer == Err(28) && !nothing {
+            let committee = *stream.member().committee_of(round).unwrap();
+            let missing = (0..16).filter(|&m| committee[m as usize] > 0 && !stream.member().is_held(m, round));
+            let leads = if round % 2 == 0 { leader(round, &committee) } else { None };
+            let (mut others, last): (Vec<u32>, Vec<u32>) = missing.partition(|&m| Some(m) != leads);
+            rng.shuffle(&mut others);
+            let author = *others.iter().chain(&last).next().expect("all of a committee are a quorum");
+            make_up(rng, stream, &mut pool, &market, &shape, author, round, votes[round as usize]);
+            answer = stream.member().may_advance();
+            if answer == Err(28) && rng.chance(200) {
+                stream.call(&Record::Advance);
+            }
+        }
+        // A round that is not known, or one after an empty committee: there is
+        // nothing to name as previous. Nothing goes on from here.
+        if answer.is_err() {
+            break;
+        }
     }
     finish(rng, stream, &pool, &market);
 }
@@ -1396,18 +1481,25 @@ fn chaos(rng: &mut Rng, stream: &mut Stream) {
         let front = (1..=ceiling).rev().find(|&q| member.held_authors(q) != 0).unwrap_or(0);
         let record = match rng.below(12) {
             0 => Record::Propose {
-                previous: if r == 1 { 0 } else { member.held_authors(r - 1) },
+                previous: match r {
+                    1 => 0,
+                    _ if rng.chance(150) => rng.thin(member.held_authors(r - 1), 400),
+                    _ => member.held_authors(r - 1),
+                },
                 transactions: random_transactions(rng, &market, member.settings().allowance),
             },
             1 => Record::Certify { endorsers: rng.pick(&[0, 0, 1, 2, 4, 7, 14]) },
-            2 if r < front || rng.chance(30) => Record::Advance,
+            2 if member.may_advance().is_ok() || rng.chance(150) => Record::Advance,
             3 => Record::Commit,
             4 if rng.chance(50) => Record::Chain,
             5 | 6 => {
-                // Mostly acceptable.
-                let round = (front + rng.pick(&[0, 1, 1])).clamp(1, ceiling);
+                // Mostly acceptable, and often what the present round wants.
+                let wanted = rng.chance(500);
+                let round = if wanted { r } else { (front + rng.pick(&[0, 1, 1])).clamp(1, ceiling) };
                 let committee = member.committee_of(round).copied().unwrap_or([1; 16]);
-                let author = rng.between(0, 15);
+                let missing = (0..16).filter(|&m| committee[m as usize] > 0 && !member.is_held(m, round));
+                let missing = missing.map(single).fold(0, |a, b| a | b);
+                let author = rng.member_of(if wanted { missing } else { 0 }).unwrap_or(rng.between(0, 15));
                 let before = member.held_authors(round - 1);
                 let p = Proposal {
                     author,

@@ -3,7 +3,8 @@
 //! Of the chains at the end of each stretch it counts what the order inside a
 //! block has changed: blocks whose certificates do not go by round, then
 //! author, as in document 01, and committees, leaders and quorum weights that
-//! the same blocks would not give in that order.
+//! the same blocks would not give in that order; and how many stretches end at
+//! the ceiling, in a round that is not known, or in a thin one.
 
 #![allow(dead_code)]
 
@@ -37,10 +38,13 @@ struct Order {
     other: u64,
     leaders: u64,
     quorums: u64,
+    /// Stretches by what an advance at their end is answered, 0 for accepted.
+    ends: BTreeMap<u32, u64>,
 }
 
 impl Order {
     fn count(&mut self, member: &Member) {
+        *self.ends.entry(member.may_advance().err().unwrap_or(0)).or_default() += 1;
         let settings = member.settings();
         let mut after = settings.weights;
         let mut afters: Vec<(u32, Committee)> = Vec::new();
@@ -73,6 +77,9 @@ impl Order {
         self.other += other.other;
         self.leaders += other.leaders;
         self.quorums += other.quorums;
+        for (answer, stretches) in &other.ends {
+            *self.ends.entry(*answer).or_default() += stretches;
+        }
     }
 }
 
@@ -132,6 +139,11 @@ fn main() {
         "committees after blocks {}, other than in that order {} (streams {other}), \
          with other leaders {}, with other quorum weights {}",
         order.committees, order.other, order.leaders, order.quorums
+    );
+    let ended = |answer: u32| order.ends.get(&answer).copied().unwrap_or(0);
+    println!(
+        "stretches {}, at the ceiling {}, in a round not known {}, in a thin round {}",
+        order.ends.values().sum::<u64>(), ended(18), ended(8), ended(28)
     );
     for (call, by_number) in &answers {
         print!("{call}:");

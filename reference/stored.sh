@@ -4,16 +4,21 @@
 #   the edges    first, since they begin with calls before any open
 #   the example  of the paper
 #   shuffled runs:
-#   network 353  31 blocks up to a ceiling of 64; a contested member: 16 committees,
-#                1 leader and 12 quorum weights are other than by round, then author
-#   network 150  contested members: 18 committees and quorum weights, 6 leaders
-#   puppet 150   contested members: 22 committees and quorum weights, 11 leaders
-#   network 478  joins and leaves, up to 4 blocks in a commit, a ceiling of 64 reached
-#   network 34   commits of up to 6 blocks
-#   network 124  a commit of 7 blocks, so most anchors are skipped at first
-#   puppet 77    commits of up to 9 blocks
-#   114          95 certificates that differ from a held one at their place
-# All but the first begin with an open, which starts afresh. The edges and 114 end in the same
+#   network 205  31 blocks up to a ceiling of 64, one by one
+#   network 270  28 blocks up to a ceiling of 64, up to 4 in a commit; 27 advances of a thin round
+#   network 185  30 blocks up to a ceiling of 61; contested members: 27 committees, 10 leaders and
+#                15 quorum weights are other than by round, then author
+#   puppet 42    contested members: 26 committees, 6 leaders, 14 quorum weights
+#   network 141  commits of up to 6 blocks, a ceiling of 41 reached
+#   network 146  a commit of 7 blocks, so most anchors are skipped at first
+#   network 13   a commit of 9 blocks; one of its stretches ends in a round that is not known
+#   puppet 138   42 blocks, up to 9 in a commit; two stretches end in a round that is not known
+#   puppet 137   a commit of 14 blocks
+#   chaos 119    65 certificates that differ from a held one at their place; 28 advances of a thin
+#                round, in which one of its stretches ends
+#   154          contested members: 8 committees and quorum weights, 3 leaders; 17 advances of a
+#                thin round, 5 of one that is not known
+# All but the first begin with an open, which starts afresh. The edges and 154 end in the same
 # record without its CRLF: it is taken off both and stands once, last of all.
 # The answers must begin with those of the edges and the example, which are written by hand.
 set -e
@@ -31,7 +36,8 @@ but_last() {
     head -c "-${#last}" "$1"
 }
 
-for run in "353 network" "150 network" "150 puppet" "478 network" "34 network" "124 network" "77 puppet" 114; do
+for run in "205 network" "270 network" "185 network" "42 puppet" "141 network" "146 network" "13 network" "138 puppet" \
+        "137 puppet" "119 chaos" 154; do
     bin/shuffle $run
 done > "$parts/shuffled"
 but_last edges/edge.stream > "$parts/stdin"

@@ -1,7 +1,7 @@
 //! `rustc --test tests_ref.rs`: the cases marked P in document 01, the slips
 //! it wants ruled out, the example, small runs worked out by hand, the order
-//! inside a block, batches, queues, and the shortcuts of the reference compared
-//! with the plain definitions.
+//! inside a block, batches, queues, thin rounds, and the shortcuts of the
+//! reference compared with the plain definitions.
 
 #![allow(dead_code)]
 
@@ -293,6 +293,9 @@ fn slip_endorsement_forgotten() {
     let p = proposal(3, 3, 7, &[entry(1)]);
     m.endorse(&p).unwrap();
     assert_eq!(m.endorse(&p), Err(10));
+    for a in 0..3 {
+        m.accept(&certificate(a, 3, 15, 15 & !single(a), &[])).unwrap();
+    }
     m.advance().unwrap();
     assert_eq!(m.endorse(&p), Err(10));
     assert_eq!(m.endorse(&proposal(3, 3, 7, &[])), Err(10));
@@ -405,7 +408,9 @@ fn order_decides_committees() {
             let transactions = if a == 0 { of_0 } else if a == 1 { of_1 } else { &[] };
             m.accept(&certificate(a, 1, 0, 15 & !single(a), transactions)).unwrap();
         }
-        m.accept(&certificate(1, 2, 15, 13, &[])).unwrap();
+        for a in 1..4 {
+            m.accept(&certificate(a, 2, 15, 15 & !single(a), &[])).unwrap();
+        }
         for a in [0, 2] {
             m.accept(&certificate(a, 3, 2, 15 & !single(a), &[])).unwrap();
         }
@@ -490,6 +495,7 @@ fn no_change_on_refusal() {
     let _ = m.endorse(&proposal(1, 3, 16, &[]));
     let _ = m.certify(14);
     let _ = m.accept(&certificate(1, 3, 15, 0, &[]));
+    let _ = m.advance();
     let _ = m.commit();
     assert_eq!(image, format!("{m:?}"));
 }
@@ -808,15 +814,18 @@ fn a_draw_is_a_propose() {
     let mut m = with_waiting(2, &some);
     m.propose(0, &[entry(99)]).unwrap();
     assert_eq!((counts(&m), m.served), (vec![1, 2, 0, 0, 0, 0, 1, 1], None));
-    // What was drawn does not come back with advance.
+    // What was drawn does not come back with advance, one's own place being
+    // filled by another certificate.
     let mut m = with_waiting(2, &some);
     m.draw(0).unwrap();
+    m.accept(&certificate(0, 1, 0, 0, &[])).unwrap();
     m.advance().unwrap();
     assert_eq!((counts(&m), m.proposal()), (vec![0, 1, 0, 0, 0, 0, 1, 1], None));
     // 12: half of two members; 9: outside; 8: not known.
     let open = |own, lookback| Member::open(own, &sheet(Written(lookback), Written(64), Blank, &[1, 1, 0, 0]), 64).unwrap();
     let mut m = open(0, 20);
     m.accept(&certificate(0, 1, 0, 2, &[])).unwrap();
+    m.accept(&certificate(1, 1, 0, 1, &[])).unwrap();
     m.advance().unwrap();
     add_all(&mut m, &some);
     unchanged(&mut m, 1, 12);
@@ -824,7 +833,11 @@ fn a_draw_is_a_propose() {
     add_all(&mut m, &some);
     unchanged(&mut m, 0, 9);
     let mut m = open(0, 1);
-    (0..3).for_each(|_| m.advance().unwrap());
+    for r in 1..=3 {
+        m.accept(&certificate(0, r, if r == 1 { 0 } else { 3 }, 2, &[])).unwrap();
+        m.accept(&certificate(1, r, if r == 1 { 0 } else { 3 }, 1, &[])).unwrap();
+        m.advance().unwrap();
+    }
     add_all(&mut m, &some);
     unchanged(&mut m, 1, 8);
     let m = Member::open(0, &Sheet::all_blank(), 1_024).unwrap();
@@ -870,6 +883,174 @@ fn draws_by_chance() {
         assert!(m.proposal().unwrap().transactions.iter().eq(expected.iter().map(|(_, drawn)| drawn)));
     }
     assert!(by_length.iter().all(|&draws| draws > 1_000), "{by_length:?}");
+}
+
+// ------------------------------------------------------ advance (point 7) ---
+
+/// A certificate put where no call would put it, in a block of none.
+fn put(m: &mut Member, author: u32, round: u32) {
+    let certificate = certificate(author, round, Set::from(round > 1), 0, &[]);
+    m.held[((round - 1) * 16 + author) as usize] = Some(Held { certificate, block: 0 });
+}
+
+fn image(m: &Member) -> String {
+    format!("{m:?}")
+}
+
+/// Refused with this number, and nothing changes.
+fn stays(m: &mut Member, answer: u32) {
+    let before = image(m);
+    assert_eq!(m.may_advance(), Err(answer));
+    assert_eq!(m.advance(), Err(answer));
+    assert_eq!(image(m), before);
+}
+
+#[test]
+fn no_advance_past_a_thin_round() {
+    let mut m = of_four();
+    stays(&mut m, 28);
+    m.propose(0, &[entry(1)]).unwrap();
+    stays(&mut m, 28);
+    for a in 1..4 {
+        m.endorse(&proposal(a, 1, 0, &[])).unwrap();
+    }
+    stays(&mut m, 28); // endorsed places are no certificates
+    for a in [3, 1] {
+        m.accept(&by_all(a, 1, 0, &[])).unwrap();
+        stays(&mut m, 28);
+    }
+    // Exactly a quorum, one's own not among them: the proposal is dropped.
+    m.accept(&by_all(2, 1, 0, &[])).unwrap();
+    let mut expected = m.clone();
+    (expected.round, expected.proposal) = (2, None);
+    m.advance().unwrap();
+    assert_eq!(image(&m), image(&expected));
+    // Another round's certificates do not count.
+    stays(&mut m, 28);
+    for a in 0..4 {
+        m.accept(&by_all(a, 2, 14, &[])).unwrap();
+    }
+    m.advance().unwrap();
+    stays(&mut m, 28);
+}
+
+/// Every set of authors of some committees: by weight and not by heads.
+#[test]
+fn every_set_of_authors() {
+    for weights in [[1, 1, 1, 1], [5, 2, 0, 0], [2, 2, 2, 0], [1, 1, 1, 0], [5, 1, 0, 0], [9, 3, 3, 1], [0, 1, 0, 1]] {
+        let opened = Member::open(0, &sheet(Blank, Written(8), Blank, &weights), 8).unwrap();
+        for set in 0..64 as Set {
+            let mut m = opened.clone();
+            members_of(set).for_each(|a| put(&mut m, a, 1));
+            let (total, outside): (u32, bool) = (weights.iter().sum(), members_of(set).any(|a| a > 3 || weights[a as usize] == 0));
+            let held: u32 = members_of(set).filter(|&a| a < 4).map(|a| weights[a as usize]).sum();
+            // At least n minus (n - 1) / 3, in whole numbers: more than two thirds of n.
+            let quorum = !outside && 3 * held > 2 * total;
+            assert_eq!(m.may_advance(), if quorum { Ok(()) } else { Err(28) }, "{weights:?} {set:#b}");
+        }
+    }
+}
+
+/// A quorum is a set inside the committee. No run holds an outsider.
+#[test]
+fn an_outsider_held() {
+    let mut m = of_four();
+    (0..4).for_each(|a| put(&mut m, a, 1));
+    assert_eq!(m.may_advance(), Ok(()));
+    put(&mut m, 9, 2); // in another round
+    assert_eq!(m.may_advance(), Ok(()));
+    put(&mut m, 9, 1);
+    stays(&mut m, 28);
+}
+
+/// Nobody is a quorum of an empty committee: 0 of 0.
+#[test]
+fn an_empty_committee_passes() {
+    let mut m = alone(&sheet(Written(1), Written(64), Blank, &[1, 0, 0, 0]), 3, &[unbond(0)]);
+    m.commit().unwrap();
+    m.advance().unwrap();
+    for round in [4, 5] {
+        assert_eq!((m.round(), m.read_committee(round).unwrap(), m.held_authors(round)), (round, [0; 16], 0));
+        let mut outsider = m.clone();
+        put(&mut outsider, 0, round);
+        stays(&mut outsider, 28);
+        m.advance().unwrap();
+    }
+    stays(&mut m, 8); // the committee of round 6 is not known
+}
+
+/// By the committee of the present round, not of those beside it.
+#[test]
+fn the_rounds_own_committee_decides() {
+    let mut m = alone(&sheet(Written(1), Written(64), Blank, &[1, 0, 0, 0]), 3, &[bond(1, 5)]);
+    m.commit().unwrap();
+    assert_eq!((m.read_committee(3).unwrap()[..2].to_vec(), m.read_committee(4).unwrap()[..2].to_vec()), (vec![1, 0], vec![1, 5]));
+    m.advance().unwrap(); // 1 of 1
+    m.accept(&certificate(0, 4, 1, 2, &[])).unwrap();
+    stays(&mut m, 28); // 1 of 6
+    m.accept(&certificate(1, 4, 1, 0, &[])).unwrap();
+    m.advance().unwrap();
+    m.accept(&certificate(1, 5, 2, 0, &[])).unwrap();
+    m.advance().unwrap(); // 5 of 6
+}
+
+/// 18, then 8, then 28, whatever else holds.
+#[test]
+fn advance_is_refused_in_its_order() {
+    for (ceiling, known, full) in (0..8).map(|n| (n & 1 == 1, n & 2 == 2, n & 4 == 4)) {
+        // With no block and lookback 1 round 4 is not known.
+        let lookback = if known { 2 } else { 1 };
+        let mut m = Member::open(0, &sheet(Written(lookback), Written(if ceiling { 4 } else { 5 }), Blank, &[]), 8).unwrap();
+        m.round = 4;
+        if full {
+            (0..4).for_each(|a| put(&mut m, a, 4));
+        }
+        match (ceiling, known, full) {
+            (true, _, _) => stays(&mut m, 18),
+            (_, false, _) => stays(&mut m, 8),
+            (_, _, false) => stays(&mut m, 28),
+            _ => assert_eq!((m.advance(), m.round()), (Ok(()), 5)),
+        }
+    }
+}
+
+/// Any weights, lookbacks, rounds, held and endorsed places on an empty chain.
+#[test]
+fn advances_by_chance() {
+    let mut rng = Rng(0x7717_0bad_cafe_f00d);
+    let mut times = [0; 4];
+    for _ in 0..20_000 {
+        let weights: Vec<u32> = (0..16).map(|_| [0, 0, 1, 2, 7][rng.below(5) as usize]).collect();
+        let (lookback, ceiling) = (1 + rng.below(10) as u32, 3 + rng.below(10) as u32);
+        let Ok(mut m) = Member::open(3, &sheet(Written(lookback), Written(ceiling), Blank, &weights), 64) else { continue };
+        let round = 1 + rng.below(u64::from(ceiling)) as u32;
+        m.round = round;
+        let dense = 1 + rng.below(12);
+        let (mut held, mut outsider) = (0, false);
+        for a in 0..16 {
+            let weight = weights[a as usize];
+            let there = if weight > 0 { rng.below(dense) > 0 } else { rng.below(40) == 0 };
+            if there {
+                put(&mut m, a, round);
+                held += weight;
+                outsider |= weight == 0;
+            }
+            m.endorsed[((round - 1) * 16 + a) as usize] = rng.below(2) == 0;
+        }
+        let total: u32 = weights.iter().sum();
+        let expected = if round == ceiling {
+            Err(18)
+        } else if round > lookback + 2 {
+            Err(8)
+        } else if outsider || total - held > (total - 1) / 3 {
+            Err(28)
+        } else {
+            Ok(())
+        };
+        assert_eq!(m.may_advance(), expected);
+        times[match expected { Ok(()) => 0, Err(18) => 1, Err(8) => 2, _ => 3 }] += 1;
+    }
+    assert!(times.iter().all(|&n| n > 1_000), "{times:?}");
 }
 
 // -------------------------------------------------------------- runner ---
@@ -996,8 +1177,10 @@ fn shortcuts() {
         loop {
             let r = m.round();
             if let Some(committee) = m.committee_of(r).copied() {
-                for a in 0..16 {
-                    if committee[a as usize] == 0 || rng.below(5) == 0 {
+                // By chance, then those left out, until they are a quorum.
+                let (some, rest): (Vec<u32>, Vec<u32>) = (0..16).partition(|_| rng.below(5) > 0);
+                for a in some.iter().chain(&rest).copied() {
+                    if committee[a as usize] == 0 || rest.contains(&a) && m.may_advance().is_ok() {
                         continue;
                     }
                     let before = m.held_authors(r - 1);

@@ -304,6 +304,12 @@ pub fn likely_enqueue(rng: &mut Rng, member: &Member) -> Call {
     Call::Enqueue { guest, transaction: longer(rng, transaction) }
 }
 
+/// Whether the authors held in the present round are a quorum of its committee.
+pub fn may_go_on(member: &Member) -> bool {
+    let held = member.held_authors(member.round);
+    member.committee_of(member.round).is_some_and(|committee| is_quorum(held, committee))
+}
+
 /// A call that fits the state, mostly; one in nine is wild.
 pub fn likely_call(rng: &mut Rng, member: &Member, pool: &mut Pool) -> Call {
     if rng.chance(110) {
@@ -313,8 +319,6 @@ pub fn likely_call(rng: &mut Rng, member: &Member, pool: &mut Pool) -> Call {
         return likely_enqueue(rng, member);
     }
     let (r, own) = (member.round, member.own);
-    let ready = u32::from(member.held_authors(r)).count_ones();
-    let known = member.committee_of(r).map_or(0, members_in).count_ones();
     let could_commit = r % 2 == 1 && member.last_block_round() + 1 < r;
     match rng.below(100) {
         0..=11 if member.proposal.is_none() || rng.chance(200) => {
@@ -350,8 +354,8 @@ pub fn likely_call(rng: &mut Rng, member: &Member, pool: &mut Pool) -> Call {
             Call::Accept { certificate: longer(rng, words) }
         }
         77..=84 if could_commit || rng.chance(200) => Call::Commit,
-        // On, once most certificates of the round are there.
-        65..=84 if ready * 3 > known * 2 || rng.chance(20) => Call::Advance,
+        // On, once a quorum of the round is there; now and then before that.
+        65..=84 if may_go_on(member) || rng.chance(60) => Call::Advance,
         65..=84 => {
             Call::Accept { certificate: certificate_words(&likely_certificate(rng, member)) }
         }
@@ -545,10 +549,11 @@ fn wild_round(rng: &mut Rng, member: &Member) -> u32 {
 /// For a made-up chain: calls that ask what the blocks have made of the weights.
 pub fn call_on_chain(rng: &mut Rng, member: &Member, pool: &mut Pool) -> Call {
     let round = rng.between(1, member.settings.ceiling);
-    match rng.below(10) {
+    match rng.below(11) {
         0..=4 => Call::Committee { round, out: out_stretch(rng, 16) },
         5 => Call::Share { member: rng.between(0, 15), round },
         6..=8 => Call::Commit,
+        9 => Call::Advance,
         _ => any_call(rng, member, pool),
     }
 }

@@ -68,12 +68,12 @@ fn compare_header() {
             assert_eq!(header::header_number(which) as usize, number, "number {which}");
         }
         assert_eq!(header::header_number(NUMBERS.len() as u32), u32::MAX);
-        for number in (1..=23).chain(25..=27) {
+        for number in (1..=23).chain(25..=28) {
             assert_eq!(text(header::header_refusal_text(number)), Refusal::of(number).unwrap().meaning());
         }
         assert_eq!(text(header::header_refusal_text(0)), "accepted");
         assert_eq!(text(header::header_refusal_text(24)), "record unreadable");
-        for number in [28, u32::MAX] {
+        for number in [29, u32::MAX] {
             assert_eq!(text(header::header_refusal_text(number)), "no refusal of this version");
         }
         let words = std::array::from_fn(|at| 100 + at as u32);

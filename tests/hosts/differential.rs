@@ -182,6 +182,10 @@ struct Figures {
     halves: [u64; 2],
     zeros: u64,
     most_weight: u64,
+    /// Advances refused with 28, and those of them with a quorum's weight inside
+    /// and an outsider held.
+    thin: u64,
+    outsiders: u64,
     /// Calls by ceiling: up to 40, up to 255, larger.
     sizes: [u64; 3],
     batches: batches::Figures,
@@ -224,6 +228,14 @@ impl Figures {
         self.most_weight = self.most_weight.max(n);
     }
 
+    /// An advance was refused with 28.
+    fn count_thin(&mut self, member: &Member) {
+        let committee = member.committee_of(member.round).expect("28 comes after 8");
+        let held = member.held_authors(member.round);
+        self.thin += 1;
+        self.outsiders += u64::from(is_quorum(held & members_in(committee), committee));
+    }
+
     fn count_chain(&mut self, member: &Member) {
         self.chains += 1;
         for (k, block) in member.chain.iter().enumerate() {
@@ -257,6 +269,10 @@ impl Figures {
         println!(
             "shares read: {}, of them exact halves: {down} down, {up} up; reads of 0: {}; largest total: {}",
             self.shares, self.zeros, self.most_weight
+        );
+        println!(
+            "advances refused with 28: {}, with an outsider beside a quorum: {}",
+            self.thin, self.outsiders
         );
         self.batches.print();
         self.queues.print();
@@ -332,6 +348,9 @@ impl Test {
         self.figures.count(call, expected);
         if matches!(call, Call::Draw { .. }) {
             self.figures.queues.count_draw(answer, waited, waiting_of(call, node.twin.as_ref()));
+        }
+        if let (Call::Advance, Err(28), Some(member)) = (call, answer, &node.twin) {
+            self.figures.count_thin(member);
         }
         if let (Call::Committee { round, .. }, Ok(_), Some(member)) = (call, answer, &node.twin) {
             self.figures.count_committee(member, *round);

@@ -94,7 +94,129 @@ const TABLE_EDGES: [(usize, &[u32]); 12] = [
     (22, &[0, 1, 1_000, 1_001, u32::MAX]),
 ];
 
+/// Words of an opened member 0 with these weights, in a round. A lookback of 1
+/// and no block: rounds up to 3 are known.
+fn in_round(weights: &[u32], ceiling: u32, round: u32) -> Node {
+    let mut sheet = Sheet::all_blank();
+    (sheet.lookback, sheet.ceiling) = (Setting::Written(1), Setting::Written(ceiling));
+    sheet.weights = [Setting::Written(0); 16];
+    sheet.weights.iter_mut().zip(weights).for_each(|(one, &w)| *one = Setting::Written(w));
+    let member = Member::open(0, &sheet, ceiling).expect("in range");
+    let (mut state, mut table) = (state_words(&member).to_vec(), vec![0; table_words(ceiling)]);
+    state[20] = round;
+    write_table(&member, &mut table);
+    Node { state, table, twin: None }
+}
+
+/// Holds certificates of these authors in a round, without transactions.
+fn hold(node: &mut Node, round: u32, authors: Set) {
+    let row = &mut node.table[ROW * round as usize..][..ROW];
+    row[0] |= u32::from(authors);
+    members_of(authors).for_each(|a| row[16 + 16 * a as usize] = u32::from(round > 1));
+}
+
+/// Makes block 1, of round 2, of one certificate of round 1 with this
+/// transaction: it counts from round 4 on.
+fn put_in_block(node: &mut Node, transaction: [u32; 3]) {
+    hold(node, 1, 1);
+    (node.state[22], node.table[ROW + 2]) = (1, 2);
+    let record = &mut node.table[ROW + 16..][..16];
+    (record[1], record[2]) = (1, 1);
+    record[4..7].copy_from_slice(&transaction);
+}
+
 impl Test {
+    /// An advance on a copy of the node, whose answer is known.
+    fn try_advance(&mut self, node: &Node, answer: u32) {
+        let mut copy = node.clone();
+        copy.read_again();
+        assert!(copy.twin.is_some(), "well formed");
+        let found = self.call(&mut copy, &Call::Advance, (node.state.len(), node.table.len()));
+        assert_eq!(found, u64::from(answer) << 32);
+    }
+
+    /// An advance with every set of some authors held in the present round,
+    /// and marked endorsed or not. The quorums are listed by hand.
+    fn try_authors(&mut self, node: &Node, authors: Set, quorums: &[Set]) {
+        let round = node.state[20];
+        for held in (0..=authors).filter(|set| set & !authors == 0) {
+            let answer = if quorums.contains(&held) { 0 } else { 28 };
+            for endorsed in [0, authors & !held, 0xffff] {
+                let mut copy = node.clone();
+                hold(&mut copy, round, held);
+                copy.table[ROW * round as usize + 1] = u32::from(endorsed);
+                self.try_advance(&copy, answer);
+                // What is held in the rounds beside it does not count.
+                if round > 1 {
+                    hold(&mut copy, round - 1, 0xffff);
+                }
+                hold(&mut copy, round + 1, 0xffff);
+                self.try_advance(&copy, answer);
+            }
+        }
+    }
+
+    /// No advance past a thin round: one short and just enough, by weight and
+    /// not by number; outsiders, endorsed places, empty committees; 18, 8 and 28
+    /// in their order.
+    fn advance_edges(&mut self) {
+        // Weights, authors that may be held, and those sets of them that are a
+        // quorum. Author 4 or 5 is outside.
+        let plants: [(&[u32], Set, &[Set]); 10] = [
+            (&[1], 0b1_0001, &[0b1]),
+            (&[1, 1, 1], 0b1_0111, &[0b111]),
+            (&[1, 1, 1, 1], 0b1_1111, &[0b0111, 0b1011, 0b1101, 0b1110, 0b1111]),
+            // Total 7, bound 2, quorum 5: exactly met by one of three, by number too few.
+            (&[5, 1, 1], 0b1_0111, &[0b001, 0b011, 0b101, 0b111]),
+            // Total 6, bound 1, quorum 5.
+            (&[4, 1, 1], 0b1_0111, &[0b011, 0b101, 0b111]),
+            // Total 6: three of four by number may be too few.
+            (&[1, 1, 1, 3], 0b1_1111, &[0b1011, 0b1101, 0b1110, 0b1111]),
+            (&[0, 2, 1, 1], 0b1_1111, &[0b0110, 0b1010, 0b1110]),
+            (&[1_000_000, 1_000_000, 1_000_000, 1_000_000, 1], 0b10_1111, &[0b0111, 0b1011, 0b1101, 0b1110, 0b1111]),
+            // Total 1,500,001, bound 500,000: a weight of 1 makes it just enough.
+            (&[1_000_000, 1, 500_000], 0b1_0111, &[0b011, 0b101, 0b111]),
+            (&[1_000_000, 0, 500_001], 0b1_0111, &[0b101]),
+        ];
+        for (weights, authors, quorums) in plants {
+            for round in 1..=3 {
+                self.try_authors(&in_round(weights, 5, round), authors, quorums);
+            }
+        }
+        self.advance_after_a_block();
+        // 18 before 8 and 28; 8 before 28; whatever is held.
+        for (ceiling, round, quorum, thin) in
+            [(3, 3, 18, 18), (4, 4, 18, 18), (4, 3, 0, 28), (5, 4, 8, 8), (6, 5, 8, 8)]
+        {
+            let node = in_round(&[1, 1, 1, 1], ceiling, round);
+            for (held, answer) in [(0, thin), (0b0011, thin), (0b0111, quorum), (0b1111, quorum), (0x8111, thin)] {
+                let mut copy = node.clone();
+                hold(&mut copy, round, held);
+                self.try_advance(&copy, answer);
+            }
+        }
+    }
+
+    /// Committees that a block has changed.
+    fn advance_after_a_block(&mut self) {
+        // Member 4 bonds 5 in the block of round 2, so that it is outside in
+        // round 3 and inside in round 4: total 9, bound 2, quorum 7.
+        let four = [0b0111, 0b1011, 0b1101, 0b1110, 0b1111];
+        let with_4: Vec<Set> = (0..16 as Set).filter(|set| set.count_ones() > 1).map(|set| set | 16).collect();
+        for (round, quorums) in [(3, &four[..]), (4, &with_4)] {
+            let mut node = in_round(&[1, 1, 1, 1], 6, round);
+            put_in_block(&mut node, [0, 4, 5]);
+            self.try_authors(&node, 0b11_1111, quorums);
+        }
+        // Member 0 unbonds. Of one it leaves an empty committee, which nothing
+        // held is a quorum of; of four it leaves three.
+        for (weights, quorum) in [(&[1][..], 0), (&[1, 1, 1, 1], 0b1110)] {
+            let mut node = in_round(weights, 6, 4);
+            put_in_block(&mut node, [1, 0, 0]);
+            self.try_authors(&node, 0b1_1111, &[quorum]);
+        }
+    }
+
     /// Each call on a copy of the node.
     fn try_all(&mut self, node: &Node, calls: &[Call], lengths: (usize, usize)) {
         for call in calls {
@@ -182,7 +304,16 @@ impl Test {
     pub fn edges(&mut self) {
         self.share_edges();
         self.batch_edges();
-        for (ceiling, rounds) in [(3, 1), (3, 3), (6, 5), (64, 5), (1_024, 1)] {
+        self.advance_edges();
+        // In the last round its own certificate may be missing: then no quorum is held.
+        for (ceiling, rounds, whole) in [
+            (3, 1, false),
+            (3, 3, false),
+            (6, 5, false),
+            (6, 5, true),
+            (64, 5, false),
+            (1_024, 1, false),
+        ] {
             let mut weights = [Setting::Written(0); 16];
             let some: &[usize] = if rounds == 1 { &[0] } else { &[0, 1, 5] };
             some.iter().for_each(|&m| weights[m] = Setting::Written(1));
@@ -195,7 +326,7 @@ impl Test {
                     let transactions = vec![Transaction::Bond { member: author, amount: 1 }];
                     if author == 0 {
                         member.propose(previous, &transactions).expect("fits");
-                        if round < rounds {
+                        if round < rounds || whole {
                             member.certify(everyone & !1).expect("fits");
                         }
                         continue;
@@ -207,7 +338,7 @@ impl Test {
                 }
                 if round < rounds {
                     let _ = member.commit();
-                    member.advance().expect("below the ceiling");
+                    member.advance().expect("all are held, below the ceiling");
                 }
             }
             let mut table = vec![0; table_words(ceiling + 1) + 5];

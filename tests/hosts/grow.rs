@@ -146,15 +146,40 @@ pub fn fill_queues(rng: &mut Rng, member: &mut Member) {
     member.served = Some(rng.between(0, GUESTS)).filter(|&guest| guest < GUESTS);
 }
 
+/// A certificate of the present round, made up to fit the member.
+fn made_up(rng: &mut Rng, member: &Member, author: u32, plan: &Plan) -> Certificate {
+    let round = member.round;
+    let before = if round > 1 { member.held_authors(round - 1) } else { 0 };
+    let thin = rng.thin(before, plan.thick);
+    let previous = if thin == 0 { before } else { thin };
+    let transactions = (0..rng.between(0, member.settings.allowance))
+        .map(|_| plan.transaction(rng))
+        .collect();
+    let proposal = Proposal { author, round, previous, transactions };
+    let committee = member.committee_of(round).expect("a grown member knows its round");
+    Certificate { proposal, endorsers: some_quorum(rng, committee, author) }
+}
+
+/// Holds certificates of more authors of the present round until they are a
+/// quorum: without one a member does not advance.
+fn gather(rng: &mut Rng, member: &mut Member, committee: &Committee, plan: &Plan) {
+    let mut authors: Vec<u32> = members_of(members_in(committee)).collect();
+    while !is_quorum(member.held_authors(member.round), committee) {
+        let author = authors.swap_remove(rng.below(authors.len() as u64) as usize);
+        if !member.is_held(author, member.round) {
+            let certificate = made_up(rng, member, author, plan);
+            member.accept(&certificate).expect("it was made to fit");
+        }
+    }
+}
+
 /// Runs a member on to a round, with certificates made up to fit it.
 pub fn grow(rng: &mut Rng, mut member: Member, to: u32, plan: &Plan) -> Member {
     loop {
         let round = member.round;
         let Some(&committee) = member.committee_of(round) else { break };
-        let inside =
-            (0..MEMBERS).filter(|&m| committee[m as usize] > 0).map(single).fold(0, |a, b| a | b);
-        let before = if round > 1 { member.held_authors(round - 1) } else { 0 };
-        if inside == 0 || round > 1 && before == 0 {
+        let inside = members_in(&committee);
+        if inside == 0 || round > 1 && member.held_authors(round - 1) == 0 {
             break;
         }
         for guest in 0..GUESTS {
@@ -164,13 +189,7 @@ pub fn grow(rng: &mut Rng, mut member: Member, to: u32, plan: &Plan) -> Member {
             if !rng.chance(plan.full) {
                 continue;
             }
-            let thin = rng.thin(before, plan.thick);
-            let previous = if thin == 0 { before } else { thin };
-            let transactions = (0..rng.between(0, member.settings.allowance))
-                .map(|_| plan.transaction(rng))
-                .collect();
-            let proposal = Proposal { author, round, previous, transactions };
-            let endorsers = some_quorum(rng, &committee, author);
+            let Certificate { proposal, endorsers } = made_up(rng, &member, author, plan);
             // Its own goes the way of propose or draw and certify where it can.
             if author == member.own && rng.chance(800) && proposes(rng, &mut member, &proposal) {
                 if rng.chance(900) {
@@ -186,7 +205,11 @@ pub fn grow(rng: &mut Rng, mut member: Member, to: u32, plan: &Plan) -> Member {
         if rng.chance(plan.commits) {
             let _ = member.commit();
         }
-        if round >= to || member.advance().is_err() {
+        if round >= to {
+            break;
+        }
+        gather(rng, &mut member, &committee, plan);
+        if member.advance().is_err() {
             break;
         }
     }

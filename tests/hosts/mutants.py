@@ -18,6 +18,11 @@ def store_endorsers(how):
             "    checked?;\n" % how)
 
 
+# Checks of advance.
+CEILING = "    if r == s.ceiling() {\n        return Err(18);\n    }\n"
+QUORUM = "!s.committee(r)?.is_quorum(s.held(r))"
+THIN = "    if " + QUORUM + " {\n        return Err(28);\n    }\n"
+
 # (text that stands once in plain.rs, what takes its place)
 MUTANTS = [
     # states that are not well formed
@@ -94,7 +99,7 @@ MUTANTS = [
     ("if s.state[PROPOSED] == 1 || s.has(s.own(), r) {", "if s.has(s.own(), r) {"),
     ("if committee.members() >> s.own() & 1 == 0 {", "if false {"),
     ("s.check_previous(r, body[0], &before)?;", "s.check_previous(r, body[0], &committee)?;"),
-    ("if previous & !before.members() != 0 || ", "if "),
+    ("if !before.is_quorum(previous) {", "if !before.is_enough(previous) {"),
     ("    if author == s.own() {\n        return Err(14);\n    }\n", ""),
     ("if (row[0] | row[1]) >> author", "if row[0] >> author"),
     ("if (row[0] | row[1]) >> author", "if row[1] >> author"),
@@ -128,6 +133,41 @@ MUTANTS = [
     ("        rows[block as usize][2] = round;\n", ""),
     ("state[BLOCKS] = blocks + taken as u32;", "state[BLOCKS] = blocks + 1;"),
     ("    Ok(taken as u32)\n", "    Ok(1)\n"),
+    # advance: no 28; outsiders ignored; inside, whatever it weighs; all of them asked for
+    (THIN, ""),
+    (THIN, "    s.check_known(r)?;\n"),
+    (QUORUM, "!s.committee(r)?.is_enough(s.held(r))"),
+    (QUORUM, "s.held(r) & !s.committee(r)?.members() != 0"),
+    (QUORUM, "s.held(r) != s.committee(r)?.members()"),
+    # by number; more than a quorum's weight; more than the fault bound; more than half
+    (QUORUM, "3 * s.held(r).count_ones() <= 2 * s.committee(r)?.members().count_ones()"),
+    (QUORUM, "!s.committee(r)?.is_quorum(s.held(r)) || s.committee(r)?.weight(s.held(r)) == s.committee(r)?.total() - s.committee(r)?.bound()"),
+    (QUORUM, "s.held(r) & !s.committee(r)?.members() != 0 || s.committee(r)?.weight(s.held(r)) <= s.committee(r)?.bound()"),
+    (QUORUM, "s.held(r) & !s.committee(r)?.members() != 0 || 2 * s.committee(r)?.weight(s.held(r)) <= s.committee(r)?.total()"),
+    # held one round before, one after; endorsed for held, endorsed as well
+    (QUORUM, "!s.committee(r)?.is_quorum(s.held(r.max(2) - 1))"),
+    (QUORUM, "!s.committee(r)?.is_quorum(s.held(r + 1))"),
+    (QUORUM, "!s.committee(r)?.is_quorum(s.rows[r as usize][1])"),
+    (QUORUM, "!s.committee(r)?.is_quorum(s.rows[r as usize][0] | s.rows[r as usize][1])"),
+    # the committee of the round before, of the next, the starting one; its weights not linked
+    (QUORUM, "!{ s.check_known(r)?; s.committee(r - 1)? }.is_quorum(s.held(r))"),
+    (QUORUM, "!s.committee(r + 1)?.is_quorum(s.held(r))"),
+    (QUORUM, "!{ s.check_known(r)?; s.starting() }.is_quorum(s.held(r))"),
+    ("    let s = survey(state, table, Weights::Present, &mut room)?;\n    let r = s.round();\n    if r == s.ceiling() {",
+     "    let s = survey(state, table, Weights::None, &mut room)?;\n    let r = s.round();\n    if r == s.ceiling() {"),
+    # an empty committee, and a quorum without oneself, refused
+    (QUORUM, "s.held(r) == 0 || !s.committee(r)?.is_quorum(s.held(r))"),
+    (QUORUM, "!s.committee(r)?.is_quorum(s.held(r)) || !s.has(s.own(), r)"),
+    # 28 for 8, 8 for 28; 28 before 8; an unknown committee taken as known; 8 before 18, 28 before 18
+    (QUORUM, "!s.committee(r).map_err(|_| 28u32)?.is_quorum(s.held(r))"),
+    (THIN, THIN.replace("28", "8")),
+    (THIN, THIN.replace("s.committee(r)?", "Walk::new(&s).committee(r)") + "    s.check_known(r)?;\n"),
+    (QUORUM, "!Walk::new(&s).committee(r).is_quorum(s.held(r))"),
+    (CEILING + THIN, "    s.check_known(r)?;\n" + CEILING + THIN),
+    (CEILING + THIN, THIN + CEILING),
+    # refused, it drops the proposal; refused, it goes on
+    (THIN, THIN.replace("        return", "        state[PROPOSED] = 0;\n        state[BODY..STATE_WORDS].fill(0);\n        return")),
+    (THIN, THIN.replace("        return", "        state[ROUND] += 1;\n        return")),
     # reads
     ("*out = s.committee(round)?.0;", "*out = s.committee(round)?.0.map(|w| w & 0xffff);"),
     ("    clear_unused(&mut out[2..16]);\n", ""),

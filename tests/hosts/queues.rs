@@ -124,7 +124,7 @@ fn refusing(allowance: u32) -> Vec<(Member, u32)> {
             let certificate = Certificate { proposal, endorsers: everyone & !single(author) };
             member.accept(&certificate).expect("fits");
         }
-        member.advance().expect("below the ceiling");
+        member.advance().expect("all are held, below the ceiling");
         member
     };
     let mut proposed = opened(0, 3, allowance, true);
@@ -132,7 +132,11 @@ fn refusing(allowance: u32) -> Vec<(Member, u32)> {
     let mut held = proposed.clone();
     held.certify(0).expect("alone");
     let mut unknown = opened(0, 1, allowance, true);
-    (1..4).for_each(|_| unknown.advance().expect("below the ceiling"));
+    for round in 1..4 {
+        unknown.propose(Set::from(round > 1), &[]).expect("fits");
+        unknown.certify(0).expect("alone");
+        unknown.advance().expect("alone, and below the ceiling");
+    }
     let set = u32::from(everyone);
     vec![
         (opened(0, 3, allowance, false), 65_536),
@@ -170,7 +174,6 @@ impl Test {
                 Call::Draw { previous: u32::from(member.round > 1) },
                 Call::Enqueue { guest: 7, transaction: entry.clone() },
                 Call::Enqueue { guest: 0, transaction: entry },
-                Call::Advance,
             ]
         };
         for at in 0..ROW {
@@ -178,6 +181,9 @@ impl Test {
                 let mut copy = node.clone();
                 copy.table[at] = value;
                 self.try_calls(&copy, calls());
+                // Alone, its own certificate of round 1 lets it advance.
+                copy.table[ROW] = 1;
+                self.try_calls(&copy, [Call::Advance]);
             }
         }
     }
@@ -325,7 +331,10 @@ impl Test {
             38..=75 if proposed && !member.is_held(member.own, member.round) => {
                 Call::Certify { endorsers: u32::from(all) }
             }
-            38..=80 if proposed => Call::Advance,
+            38..=80 if proposed && (may_go_on(&member) || rng.chance(100)) => Call::Advance,
+            38..=80 if proposed => {
+                Call::Accept { certificate: certificate_words(&likely_certificate(rng, &member)) }
+            }
             81..=84 => Call::Commit,
             85..=87 if rng.chance(100) => Call::Advance,
             _ => any_call(rng, &member, pool),

@@ -89,6 +89,16 @@ fn print_answers(how: &str, answers: &[Result<(), Refusal>]) {
     println!("  {how}:{list}");
 }
 
+/// Goes on while the present round has a quorum.
+fn print_catching_up(engine: &mut Engine) {
+    let refusal = loop {
+        if let Err(refusal) = engine.advance() {
+            break refusal;
+        }
+    };
+    println!("    advances to round {}, then {}", engine.round(), refusal.number());
+}
+
 /// A member that was away gets rounds 3, 2 and 1 as a link delivers them, newest first: one by one,
 /// and, opened anew, in one batch.
 fn print_batch(engine: &Engine) -> Result<(), Refusal> {
@@ -99,7 +109,10 @@ fn print_batch(engine: &Engine) -> Result<(), Refusal> {
     let mut away = Engine::open(3, &sheet())?;
     let singly: Vec<_> = row.iter().map(|certificate| away.accept(certificate)).collect();
     print_answers("one by one", &singly);
-    print_answers("in one batch", &Engine::open(3, &sheet())?.batch(&row)?);
+    print_catching_up(&mut away);
+    let mut away = Engine::open(3, &sheet())?;
+    print_answers("in one batch", &away.batch(&row)?);
+    print_catching_up(&mut away);
     Ok(())
 }
 

@@ -143,10 +143,12 @@ impl Engine {
         Ok(answers.into_iter().map(lent::accepted).collect())
     }
 
-    /// Goes on to the next round; the proposal is dropped.
+    /// Goes on to the next round, once the authors of the certificates held in the present round form
+    /// a quorum of its committee; the proposal is dropped. After [`Refusal::ThinRound`] accept more
+    /// certificates of this round, and try again.
     ///
     /// # Errors
-    /// 1, 18.
+    /// 1, 18, 8 for the present round unknown, 28.
     pub fn advance(&mut self) -> Result<(), Refusal> {
         lent::advance(&mut self.state, &self.table)
     }

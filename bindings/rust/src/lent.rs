@@ -87,7 +87,7 @@ mod abi {
 pub(crate) fn accepted(number: u32) -> Result<(), Refusal> {
     match number {
         0 => Ok(()),
-        n => Err(Refusal::of(n).expect("the engine of this version answers 0 to 23 and 25 to 27")),
+        n => Err(Refusal::of(n).expect("the engine of this version answers 0 to 23 and 25 to 28")),
     }
 }
 
@@ -251,10 +251,27 @@ pub fn batch(
     accepted(call!(forgelilac_batch, read(state), write(table), records, count; write(answers)))
 }
 
-/// Goes on to the next round; the proposal is dropped.
+/// Goes on to the next round, once the authors of the certificates held in the present round form a
+/// quorum of its committee; the proposal is dropped. Only the state changes.
+///
+/// Of four members of weight 1 a quorum is three:
+///
+/// ```
+/// use forgelilac::{certificate_words, lent, proposal_words, table_words, Refusal, Sheet, STATE_WORDS};
+///
+/// let (mut state, mut table) = ([0; STATE_WORDS], [0; table_words(64) as usize]);
+/// lent::open(&mut state, &mut table, 0, &Sheet { ceiling: Some(64), ..Sheet::default() }.to_words())?;
+/// for author in 1..4 {
+///     assert_eq!(lent::advance(&mut state, &table), Err(Refusal::ThinRound));
+///     let certificate = certificate_words(&proposal_words(author, 1, 0, &[]), 0b1111 & !(1 << author));
+///     lent::accept(&state, &mut table, &certificate)?;
+/// }
+/// lent::advance(&mut state, &table)?;
+/// # Ok::<(), Refusal>(())
+/// ```
 ///
 /// # Errors
-/// 1, 18.
+/// 1, 18, 8 for the present round unknown, 28.
 pub fn advance(state: &mut [u32], table: &[u32]) -> Result<(), Refusal> {
     accepted(call!(forgelilac_advance, write(state), read(table)))
 }

@@ -53,6 +53,7 @@ refusals! {
     LengthRange = 25, "a row of more than 64 certificates, or answers shorter than the row";
     GuestRange = 26, "guest above 7";
     QueueFull = 27, "the queue holds eight transactions";
+    ThinRound = 28, "the authors of the certificates held in the present round form no quorum of its committee";
 }
 
 impl Refusal {

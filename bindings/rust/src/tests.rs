@@ -134,13 +134,17 @@ fn where_a_round_has_no_leader_numbers_just_rise() {
 fn order_decides_committees() {
     let weight_of_4 = |of_0, of_1| {
         let mut engine = Engine::open(0, &Sheet { lookback: Some(1), ceiling: Some(8), ..Sheet::default() }).unwrap();
+        // The anchor, 1 in round 2, names 0 and 1; the others are there for a quorum in each round.
         engine.accept(&of_all_four(0, 1, 0, &[of_0])).unwrap();
         engine.accept(&of_all_four(1, 1, 0, &[of_1])).unwrap();
-        engine.accept(&of_all_four(1, 2, 0b0011, &[])).unwrap();
+        engine.accept(&of_all_four(2, 1, 0, &[])).unwrap();
+        engine.advance().unwrap();
+        for author in 0..3 {
+            engine.accept(&of_all_four(author, 2, 0b0011, &[])).unwrap();
+        }
+        engine.advance().unwrap();
         engine.accept(&of_all_four(0, 3, 0b0010, &[])).unwrap();
         engine.accept(&of_all_four(2, 3, 0b0010, &[])).unwrap();
-        engine.advance().unwrap();
-        engine.advance().unwrap();
         assert_eq!(engine.commit(), Ok(1));
         assert_eq!(engine.chain().unwrap()[0].certificates, [(1, 1), (1, 0), (2, 1)]);
         engine.committee(4).unwrap()[4]
@@ -152,10 +156,10 @@ fn order_decides_committees() {
 
 #[test]
 fn numbers_and_refusals_go_both_ways() {
-    for number in (1..=23).chain(25..=27) {
+    for number in (1..=23).chain(25..=28) {
         assert_eq!(Refusal::of(number).unwrap().number(), number);
     }
-    assert_eq!([0, 24, 28].map(Refusal::of), [None; 3]);
+    assert_eq!([0, 24, 29].map(Refusal::of), [None; 3]);
     assert_eq!(Refusal::NoWeight.to_string(), "refused with 3: no positive weight");
 }
 
@@ -266,7 +270,7 @@ fn no_author_is_among_its_own_endorsers() {
         *endorsers_of(&mut changed, 0) = word;
         assert_eq!(u32::from(changed.certificate(0, 1).unwrap().endorsers), word);
         refuses(&mut changed, 16, |e| e.accept(&certificate));
-        changed.advance().unwrap();
+        refuses(&mut changed, 28, Engine::advance);
     }
     // Of a place that is not held the word is not looked at, and a put writes over it.
     let mut free = engine.clone();
@@ -510,16 +514,15 @@ fn a_draw_is_a_propose() {
     engine.advance().unwrap();
     refuses(&mut engine, 7, |e| e.draw(0));
     refuses(&mut engine, 11, |e| e.draw(1 << 5));
-    // Dropped by advance it does not come back.
-    engine.draw(1).unwrap();
-    engine.advance().unwrap();
-    assert_eq!((engine.proposal(), waiting(&engine)), (None, [0; GUESTS]));
-    // 12, 9.
+    // Dropped by advance it does not come back: the others go on without it.
     let mut engine = of_four(0);
-    engine.accept(&of_all_four(0, 1, 0, &[])).unwrap();
-    engine.advance().unwrap();
     add(&mut engine, &some);
-    refuses(&mut engine, 12, |e| e.draw(1));
+    engine.draw(0).unwrap();
+    (1..4).for_each(|author| engine.accept(&of_all_four(author, 1, 0, &[])).unwrap());
+    engine.advance().unwrap();
+    assert_eq!((engine.proposal(), waiting(&engine)), (None, [0, 0, 0, 0, 1, 0, 0, 0]));
+    // 12, 9.
+    refuses(&mut engine, 12, |e| e.draw(0b0010));
     let mut engine = of_four(9);
     add(&mut engine, &some);
     refuses(&mut engine, 9, |e| e.draw(0));
@@ -552,6 +555,109 @@ fn queues_that_are_not_well_formed() {
     for (at, word) in [(SERVED, 8), (at + 6, 9), (at + 23, 9), (9, 9), (23, 9), (16 + 32 * 3, 9)] {
         assert_eq!(changed(at, word).waiting(3), Ok(2));
         assert_eq!(draw(&mut changed(at, word)), [30, 31].map(entry));
+    }
+}
+
+// ---- advance
+
+/// Of four of weight 1 three are a quorum. Endorsed places and other rounds do not count.
+#[test]
+fn no_advance_past_a_thin_round() {
+    let mut engine = of_four(0);
+    for round in 1..=3 {
+        let previous = if round == 1 { 0 } else { 0b1110 };
+        let of = |author| of_all_four(author, round, previous, &[]);
+        engine.propose(previous, &[]).unwrap();
+        refuses(&mut engine, 28, Engine::advance);
+        (1..4).for_each(|author| engine.endorse(&of(author).proposal).unwrap());
+        refuses(&mut engine, 28, Engine::advance);
+        for author in [3, 1] {
+            engine.accept(&of(author)).unwrap();
+            refuses(&mut engine, 28, Engine::advance);
+        }
+        engine.accept(&of(2)).unwrap();
+        let mut all = engine.clone();
+        all.certify(0b1110).unwrap();
+        for mut engine in [engine.clone(), all] {
+            let before = engine.clone();
+            engine.advance().unwrap();
+            assert_eq!((engine.round(), engine.proposal()), (round + 1, None));
+            assert!(engine.table == before.table);
+        }
+        engine.advance().unwrap();
+    }
+}
+
+/// By weight and not by number: total 7, fault bound 2, quorum 5.
+#[test]
+fn a_quorum_is_told_by_weight() {
+    let mut sheet = Sheet { ceiling: Some(8), ..Sheet::default() };
+    sheet.weights[..4].copy_from_slice(&[Some(1), Some(1), Some(1), Some(4)]);
+    let opened = Engine::open(0, &sheet).unwrap();
+    for (authors, refused) in [(&[3][..], true), (&[0, 1, 2], true), (&[3, 1], false), (&[0, 1, 2, 3], false)] {
+        let mut engine = opened.clone();
+        authors.iter().for_each(|&author| engine.accept(&of_all_four(author, 1, 0, &[])).unwrap());
+        match refused {
+            true => refuses(&mut engine, 28, Engine::advance),
+            false => engine.advance().unwrap(),
+        }
+    }
+}
+
+/// No run holds an outsider's certificate; words written by hand may. A quorum lies inside.
+#[test]
+fn an_outsider_beside_a_quorum() {
+    let mut engine = of_four(0);
+    (0..4).for_each(|author| engine.accept(&of_all_four(author, 1, 0, &[])).unwrap());
+    let mut damaged = engine.clone();
+    write_record(&mut damaged, 9, 1, 0, [2, 7, 0]);
+    refuses(&mut damaged, 28, Engine::advance);
+    engine.advance().unwrap();
+}
+
+/// Member 0 alone unbonds in the block of round 2, and with a lookback of 1 the committee of round 4
+/// is empty: nothing held is a quorum of it, and one certificate is not.
+#[test]
+fn an_empty_committee_lets_it_pass() {
+    let mut sheet = Sheet { lookback: Some(1), ceiling: Some(8), ..Sheet::default() };
+    sheet.weights[..4].copy_from_slice(&[Some(1), Some(0), Some(0), Some(0)]);
+    let mut engine = Engine::open(0, &sheet).unwrap();
+    engine.propose(0, &[Transaction::Unbond { member: 0 }]).unwrap();
+    engine.certify(0).unwrap();
+    for _ in 2..=3 {
+        engine.advance().unwrap();
+        engine.propose(1, &[]).unwrap();
+        engine.certify(0).unwrap();
+    }
+    assert_eq!(engine.commit(), Ok(1));
+    engine.advance().unwrap();
+    assert_eq!(engine.committee(4), Ok([0; MEMBERS]));
+    let mut damaged = engine.clone();
+    write_record(&mut damaged, 0, 4, 0, [2, 7, 0]);
+    refuses(&mut damaged, 28, Engine::advance);
+    engine.advance().unwrap();
+    assert_eq!(engine.round(), 5);
+}
+
+/// With a lookback of 1 and no block round 4 is unknown: 18 at the ceiling, else 8, then 28.
+#[test]
+fn advance_is_refused_in_its_order() {
+    for (ceiling, number) in [(3, 18), (4, 18), (5, 8)] {
+        let mut sheet = Sheet { lookback: Some(1), ceiling: Some(ceiling), ..Sheet::default() };
+        sheet.weights[1..4].fill(Some(0));
+        let mut engine = Engine::open(0, &sheet).unwrap();
+        for round in 1..=ceiling.min(4) {
+            if round < 4 {
+                engine.propose((round > 1).into(), &[]).unwrap();
+                engine.certify(0).unwrap();
+            }
+            if round < ceiling.min(4) {
+                engine.advance().unwrap();
+            }
+        }
+        refuses(&mut engine, number, Engine::advance);
+        engine.state[0] = 16;
+        refuses(&mut engine, 1, Engine::advance);
     }
 }
 

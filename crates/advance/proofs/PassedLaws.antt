@@ -21,5 +21,5 @@ module _ (s : State) (t : List ℕ) where
   unfolding advanceRefusal numbered
   advance-passed e =
       let n = refusal-passed s t rules.advance e in
-      passed _ refl (n .1) λ h18.
+      passed _ refl (n .1) λ h18 h8 h28.
       record { formed = formed s t (n .0); below = leb-false (s .settings .ceiling .0) (s .round .0) h18 }

@@ -61,7 +61,7 @@ pub fn serve(
         Kind::Endorse => replied(formed, endorse_cached(formed, cache, s, t, p), out, at),
         Kind::Certify => replied(formed, certify_cached(formed, cache, s, t, e), out, at),
         Kind::Accept => replied(formed, accept_cached(formed, cache, s, t, c), out, at),
-        Kind::Advance => replied(formed, advance_cached(formed, s, t), out, at),
+        Kind::Advance => replied(formed, advance_cached(formed, cache, s, t), out, at),
         Kind::Commit => committed(formed, cache, s, t, out, at),
         Kind::Chain => Reply {
             state: s,

@@ -12,5 +12,4 @@ pub mod ShownLaws
 pub mod Converses
 pub mod PlainTests
 pub mod Answers
-pub mod Advances
 pub mod Witness

@@ -1,6 +1,6 @@
 -- The premises can be met: a run of engines in which members 0, 1 and 2 are correct and 3 is faulty.
 -- Members 0 and 1 make a block, whose bond changes a committee, and then a certificate whose signers are a quorum of that committee and were none of the starting one; member 2 has no block.
--- Reads and refused calls are among the entries, and each advance is made with a quorum of the present round held.
+-- Reads and refused calls are among the entries.
 use mathlib.Core.Path.{_≡_, refl, _∙_}
 use mathlib.Core.Bool.{true, false}
 use mathlib.Core.List.{List, [], _∷_}
@@ -45,7 +45,6 @@ use Rattle.nonforking.proofs.Implemented.{sets-fit}
 use Rattle.nonforking.proofs.Converses.{Shown, besideEngines, onTheirViews, shown, by-view, run-back}
 use Rattle.nonforking.proofs.PlainTests.{isPlain, arePlain, in-range, plain-found}
 use Rattle.nonforking.proofs.Answers.{Answered, entries, AreAnswered, areAnswered, answered-found}
-use Rattle.nonforking.proofs.Advances.{AdvancesHeld, advancesHeld, advances-found}
 
 -- lookback 1, ceiling 4, weight 3 for members 0 and 1, and nothing else written: members 2 and 3 have weight 1
 abbrev sheet : Sheet
@@ -161,8 +160,6 @@ pub record Witness : Type 0 where
   pub premises : Run members calls
   -- each entry is answered with the number that stands at it
   pub answers : AreAnswered members round4
-  -- the authors of the certificates that a member holds of its round are a quorum of that round's committee, which it knows, whenever it advances
-  pub advances : AdvancesHeld members calls
   pub listed-by-0 : listed (engineAfter members calls 0) ≡ made
   pub listed-by-1 : listed (engineAfter members calls 1) ≡ made
   pub listed-by-2 : listed (engineAfter members calls 2) ≡ []
@@ -187,7 +184,6 @@ record Computed : Type 0 where
   plain : arePlain calls ≡ true
   run : isRun views (λ k s c. isPlain c) calls ≡ true
   answers : areAnswered members settings-fit round4 ≡ true
-  advances : advancesHeld members settings-fit calls ≡ true
   listed-by-0 : listing (ordered settings) (chainAfter views calls 0) ≡ made
   listed-by-1 : listing (ordered settings) (chainAfter views calls 1) ≡ made
   listed-by-2 : listing (ordered settings) (chainAfter views calls 2) ≡ []
@@ -203,7 +199,6 @@ computed =
       plain = refl;
       run = refl;
       answers = refl;
-      advances = refl;
       listed-by-0 = refl;
       listed-by-1 = refl;
       listed-by-2 = refl;
@@ -220,7 +215,6 @@ witness =
     record {
       premises = run-back members settings-fit calls plain (run-found views (λ k s c. isPlain c) (λ k s c h. sets-fit settings k (s .0) (s .1) c (in-range c h)) calls (computed .run));
       answers = answered-found members settings-fit round4 (computed .plain) (computed .answers);
-      advances = advances-found members settings-fit calls plain (computed .advances);
       listed-by-0 = by-view members settings-fit (λ S x. listing (ordered S) x ≡ made) (at 0 refl) (computed .listed-by-0);
       listed-by-1 = by-view members settings-fit (λ S x. listing (ordered S) x ≡ made) (at 1 refl) (computed .listed-by-1);
       listed-by-2 = by-view members settings-fit (λ S x. listing (ordered S) x ≡ []) (at 2 refl) (computed .listed-by-2);

@@ -56,7 +56,7 @@ module _ (S : Settings) where
         passed (accepting S s p e) refl v λ h4 h5 h6 h7 h14 h16 h17 h8 h9 h13 h11.
         record { present = h .present; proposed = h .proposed; held = put-rounds p (round-fits S (p .round) h5) }
     rounds-kept k advance v =
-        passed (advancing S s) refl v λ h18.
+        passed (advancing S s) refl v λ h18 h8 h28.
         let l = leb-false (S .ceiling .0) (s .round) h18 in
         record { present = (omega arith, omega arith); proposed = λ p e. absurd (Option·none-ne-some p e); held = h .held }
     rounds-kept k commit v = record { present = h .present; proposed = h .proposed; held = h .held }

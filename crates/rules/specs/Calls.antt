@@ -16,7 +16,7 @@ use Rattle.sheet.specs.declared.Settings.{Settings}
 use Rattle.sheet.specs.Sheets.{marginOf}
 use Rattle.committee.specs.Committees.{outsider, short, quorum}
 use Rattle.committee.specs.Leaders.{members}
-use Rattle.rules.specs.Tests.{MemberView, badRound, signersOf, isSame, above, committeeIn, unknown, missing, unvoted}
+use Rattle.rules.specs.Tests.{MemberView, badRound, signersOf, isSame, above, committeeIn, unknown, authorsIn, missing, unvoted}
 
 pub data Call : Type 0 where
   -- previous set, transactions; author and round are one's own
@@ -89,9 +89,12 @@ module _ (S : Settings) where
       ∷ (short (marginOf S) (committeeIn S s (p .round)) (isIn (signersOf p e)), 13)
       ∷ (above (p .round) (missing S s p), 11) ∷ []
 
-  -- 18 at the ceiling
+  -- 18 at the ceiling; 8 committee of the present round unknown; 28 the authors of the certificates held in it form no quorum of its committee
   abbrev pub advancing : MemberView S → Checks
-  advancing s = (leb (S .ceiling .0) (s .round), 18) ∷ []
+  advancing s =
+      (leb (S .ceiling .0) (s .round), 18)
+      ∷ (unknown S s (s .round), 8)
+      ∷ (not (quorum (marginOf S) (committeeIn S s (s .round)) (authorsIn S s (s .round))), 28) ∷ []
 
   -- 21 no anchor in r − 1; 22 held certificates of r naming the anchor's author as previous weigh, in r's committee, not more than its fault bound
   abbrev pub voting : MemberView S → Option Content → Checks

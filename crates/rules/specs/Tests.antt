@@ -46,6 +46,10 @@ module _ (S : Settings) where
   unfoldable pub unknown : MemberView S → ℕ → Bool
   unknown s r = not (knownBy S (s .chain) r)
 
+  -- the authors of the certificates held in a round
+  abbrev pub authorsIn : MemberView S → ℕ → ℕ → Bool
+  authorsIn s r i = isHeld (s .dag i r)
+
   -- a named previous certificate is not held
   unfoldable pub missing : MemberView S → Content → Bool
   missing s p = anyTo (λ i. isIn (p .previous) i && not (isHeld (s .dag i (p .round - 1)))) 16

@@ -14,8 +14,8 @@ returns : tie.Need-returns
 unfolding advanceOutcome
 returns c = answered-refused (c .before .advance-refusal .ensures) _ _ (c .if1 .taken)
 
-add-t10 : tie.Need-add-t10
-add-t10 c = let k = advance-passed _ _ (sym (c .before .before .advance-refusal .ensures) ∙ c .before .if1 .left) in let f = k .formed .settings in omega (arith, k .below)
+add-t11 : tie.Need-add-t11
+add-t11 c = let k = advance-passed _ _ (sym (c .before .before .advance-refusal .ensures) ∙ c .before .if1 .left) in let f = k .formed .settings in omega (arith, k .below)
 
 bare-body-requires : tie.Need-bare-body-requires
 bare-body-requires c κs = search needs
@@ -28,4 +28,4 @@ returns-2 c =
 
 pub advance-cached-spec : {M : Type 1} → statement M
 advance-cached-spec =
-    tie.close (tie.spec advance-refusal-requires returns add-t10 bare-body-requires returns-2)
+    tie.close (tie.spec advance-refusal-requires returns add-t11 bare-body-requires returns-2)

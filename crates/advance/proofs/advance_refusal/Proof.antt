@@ -1,22 +1,22 @@
 use mathlib.Core.Path.{sym, _∙_}
-use borrow.Author.Tests.{not-true, not-false, le-leb, lt-leb}
-use Rattle.base.proofs.CheckLaws.{refuses, passes, passes-all}
+use borrow.Author.Tests.{not-true, not-false}
 use Rattle.state.proofs.RefusalLaws.{refusal-unformed, refusal-formed}
+use Rattle.state.proofs.CachedLaws.{cached-both}
 use Rattle.advance.specs.Advance.{advanceRefusal}
 use Rattle.advance.proofs.advance_refusal.Statement.{statement}
 use Rattle.advance.proofs.advance_refusal.Tie as tie
 
 returns : tie.Need-returns
 unfolding advanceRefusal
-returns c = sym (refusal-unformed _ _ _ (sym (c .before .pre) ∙ not-true _ (c .if1 .taken)))
+returns c = sym (refusal-unformed _ _ _ (sym (c .before .before .before .pre .form) ∙ not-true _ (c .if1 .taken)))
+
+formed-refusal-requires : tie.Need-formed-refusal-requires
+formed-refusal-requires c κs = cached-both (c .before .before .before .pre) (not-false _ (c .if1 .left))
 
 returns-2 : tie.Need-returns-2
 unfolding advanceRefusal
-returns-2 c = sym (refusal-formed _ _ _ (sym (c .before .before .before .pre) ∙ not-false _ (c .before .before .if1 .left)) ∙ refuses 18 _ (le-leb _ _ (c .if2 .taken)))
-
-returns-3 : tie.Need-returns-3
-unfolding advanceRefusal
-returns-3 c = sym (refusal-formed _ _ _ (sym (c .before .before .before .pre) ∙ not-false _ (c .before .before .if1 .left)) ∙ passes 18 _ (lt-leb _ _ (c .if2 .left)) ∙ passes-all)
+returns-2 c = c .formed-refusal .ensures ∙ sym (refusal-formed _ _ _ (sym (c .before .before .before .before .pre .form) ∙ not-false _ (c .before .if1 .left)))
 
 pub advance-refusal-spec : {M : Type 1} → statement M
-advance-refusal-spec = tie.close (tie.spec returns returns-2 returns-3)
+advance-refusal-spec =
+    tie.close (tie.spec returns formed-refusal-requires returns-2)

@@ -115,7 +115,7 @@ returns-7 : tie.Need-returns-7
 returns-7 c =
     let u = c .before .before in
     let m = u .before .before in
-    let e = m .before .before in
+    let e = m .before .before .before in
     let b = e .before .before in
     by-reply b Advance _ refl refl refl tt (e .enum-told7 .given .1) (m .advance-cached .ensures .its-outcome ∙ advance-outcome (engine b)) refl (u .replied5 .ensures)
 
@@ -183,6 +183,7 @@ serve-spec =
     (λ c. search needs)
     (λ c. search needs)
     returns-6
+    (λ c. search needs)
     (λ c. search needs)
     (λ c. search needs)
     returns-7

@@ -1,0 +1,3 @@
+pub mod RefusingLaws
+pub mod EarlierLaws
+pub mod Thin
