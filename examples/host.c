@@ -122,11 +122,17 @@ static void print_answers(const char *how, const uint32_t answers[BUNDLE]) {
     printf("\n");
 }
 
-/* Goes on while the present round has a quorum. */
+/* Goes on while the present round has a quorum, and commits before it leaves an odd one from 3 on.
+ * A refused commit does not stop it: a real host waits in its last chance (docs/HOSTS.md). */
 static void print_catching_up(struct engine *e) {
-    uint32_t refusal = FORGELILAC_ACCEPTED;
-    while (refusal == FORGELILAC_ACCEPTED) refusal = forgelilac_advance(ENGINE(e));
-    printf("    advances to round %u, then %u\n", (unsigned)e->state[FORGELILAC_STATE_ROUND], (unsigned)refusal);
+    const uint32_t *round = &e->state[FORGELILAC_STATE_ROUND];
+    uint32_t refusal;
+    do {
+        if (*round >= 3 && *round % 2 == 1) (void)forgelilac_commit(ENGINE(e));
+        refusal = forgelilac_advance(ENGINE(e));
+    } while (refusal == FORGELILAC_ACCEPTED);
+    printf("    advances to round %u, then %u; blocks: %u\n", (unsigned)*round, (unsigned)refusal,
+           (unsigned)e->state[FORGELILAC_STATE_BLOCKS]);
 }
 
 /* A member that was away gets the bundle: one by one, and, opened anew, in one batch. */

@@ -1,79 +1,94 @@
--- An engine that is just opened and holds nothing: its advance passed earlier, and is refused with 28 now.
-use mathlib.Core.Path.{_≡_, refl, sym, ap, _∙_, subst}
-use mathlib.Core.Bool.{true}
-use mathlib.Core.List.{List, [], _∷_}
-use Prim.Native.Nat.{ℕ}
-use lib.ListN.{replicate}
+-- An engine that has just opened holds nothing: its advance passed earlier, and is refused with 28 now.
+use mathlib.Core.Path.{_≡_, refl, sym, _∙_, subst}
+use mathlib.Core.Bool.{true, false, or-true}
+use mathlib.Core.List.{[]}
+use Prim.Native.Nat.{ℕ, _+_, _<_, _≤_}
+use native.Mathlib.Omega.{arith}
+use lib.Dec.{leb, ltb}
+use borrow.Author.Tests.{not-false, lt-leb, le-leb, lt-ltb, ltb-true}
 use Rattle.base.specs.Checks.{refusal}
-use Rattle.base.specs.Folds.{tab, anyTo, sumTo}
+use Rattle.base.specs.Folds.{anyTo, sumTo}
+use Rattle.base.proofs.Bools.{cond-same}
 use Rattle.base.proofs.CheckLaws.{refuses, passes, passes-all}
-use Rattle.sheet.specs.declared.Setting.the-variants.{Blank, Written}
-use Rattle.sheet.specs.declared.Sheet.{Sheet}
+use Rattle.base.proofs.TestLaws.{any-true}
+use Rattle.agreement.specs.Weights.{weigh, total}
+use Rattle.agreement.proofs.WeightLaws.{total-pos}
 use Rattle.sheet.specs.declared.Settings.{Settings}
-use Rattle.sheet.specs.Sheets.{blankWeight, weightAt, filled}
-use Rattle.sheet.specs.Ranges.{notWithin, outOfRange, weightless}
+use Rattle.sheet.specs.Sheets.{filled}
+use Rattle.sheet.specs.Ranges.{weightless, weightIn}
 use Rattle.committee.specs.Committees.{committeeBy, bondedFrom, committeeOf, knownBy, boundOf, quorumWeight, outsider, short, quorum}
 use Rattle.rules.specs.Tests.{MemberView, unknown}
 use Rattle.rules.specs.Calls.{advancing, freshView}
 use Rattle.rules.specs.Calls as rules
-use Rattle.state.specs.declared.State.{State}
-use Rattle.state.specs.WellFormed.{wellFormed}
+use Rattle.state.specs.Formed.{Formed}
 use Rattle.state.specs.View.{view}
-use Rattle.state.specs.Refusals.{guarded}
+use Rattle.state.proofs.FormedLaws.{formed}
 use Rattle.state.proofs.RefusalLaws.{refusal-formed}
-use Rattle.open.specs.Open.{closedState, openRefusal}
 use Rattle.advance.specs.Advance.{advanceRefusal}
-use Rattle.engine.specs.Calls.{advance}
-use Rattle.engine.specs.Engine.{Engine, refusalFor}
+use Rattle.engine.specs.Engine.{Engine}
 use Rattle.engine.specs.Steps.{viewAt, FreshlyOpened}
 use Rattle.engine.specs.Sequences.{Opening, afterOpening}
 use Rattle.engine.proofs.ReachedLaws.{opened-fresh}
-use Rattle.earlier.specs.Earlier.{earlierAdvancing, earlierRefusal, ThinAdvance}
+use Rattle.earlier.specs.Earlier.{earlierAdvancing, ThinAdvance}
 
--- ceiling 3, and nothing else written: members 0 to 3 have weight 1
-abbrev sheet : Sheet
-sheet = record { lookback = Blank; ceiling = Written 3; allowance = Blank; weights = replicate 16 (record { setting = Blank }) }
+-- nobody is no quorum of a committee that weighs something
 
-abbrev settings : Settings
-settings = record { lookback = 20; ceiling = record { 0 = 3 }; allowance = 4; weights = 1 ∷ 1 ∷ 1 ∷ 1 ∷ 0 ∷ 0 ∷ 0 ∷ 0 ∷ 0 ∷ 0 ∷ 0 ∷ 0 ∷ 0 ∷ 0 ∷ 0 ∷ 0 ∷ [] }
+asks : (n : ℕ) → 0 < n → 0 < quorumWeight 3 n
+unfolding quorumWeight boundOf
+asks n h = omega arith
 
-sheet-filled : filled sheet ≡ settings
-unfolding filled tab weightAt blankWeight
-sheet-filled = refl
+none-weighs : (w : ℕ → ℕ) → weigh 16 w (λ i. false) ≡ 0
+unfolding sumTo
+none-weighs w = refl
 
-sheet-accepted : openRefusal (replicate 1088 0) (record { 0 = 0 }) (filled sheet) ≡ 0
-unfolding openRefusal outOfRange notWithin weightless anyTo
-sheet-accepted = rw sheet-filled (passes 4 _ refl ∙ passes 2 _ refl ∙ passes 3 _ refl ∙ passes 1 _ refl ∙ passes-all)
+nobody : (w : ℕ → ℕ) → 0 < total 16 w → quorum 3 w (λ i. false) ≡ false
+unfolding quorum short
+nobody w h = rw (none-weighs w, lt-ltb 0 (quorumWeight 3 (total 16 w)) (asks (total 16 w) h), or-true (outsider w (λ i. false))) refl
 
-abbrev opening : Opening
-opening = record { before = record { state = closedState; table = replicate 1088 0 }; own = record { 0 = 0 }; sheet = sheet; accepted = sheet-accepted }
+module _ (S : Settings) (from : 3 ≤ S .ceiling .0) (some : weightless S ≡ false) where
+  weighs : 0 < total 16 (weightIn (S .weights))
+  unfolding weightless
+  weighs =
+      let x = any-true (λ i. ltb 0 (weightIn (S .weights) i)) 16 (not-false (anyTo (λ i. ltb 0 (weightIn (S .weights) i)) 16) some) in
+      total-pos 16 (weightIn (S .weights)) (x .1) (ltb-true 0 _ (x .2))
 
-abbrev engine : Engine
-engine = afterOpening opening
+  -- its committee is the starting one, which is known
+  is-known : unknown S (freshView S) 1 ≡ false
+  unfolding unknown knownBy
+  is-known = rw (le-leb 1 (S .lookback + (0 + 2)) (omega arith)) refl
 
-fresh : FreshlyOpened (record { 0 = 0 }) sheet (opening .before) engine
-fresh = opened-fresh (opening .before) (opening .own) sheet sheet-accepted
+  starting : committeeOf S [] 1 ≡ S .weights
+  unfolding committeeOf committeeBy bondedFrom
+  starting = cond-same (leb 1 (S .lookback)) (S .weights)
 
--- what is computed of the fresh view is so of the engine
-of-view : (P : (S : Settings) → MemberView S → Type 0) → P settings (freshView settings) → P (engine .state .settings) (view (engine .state) (engine .table))
-of-view P h =
-    let a = subst (λ (S : Settings). P S (freshView S)) (sym sheet-filled) h in
-    let b = subst (P (filled sheet)) (sym (fresh .shows)) a in
-    subst (λ (S : Settings). P S (viewAt S engine)) (sym (fresh .its-settings)) b
+  now-refused : refusal (advancing S (freshView S)) ≡ 28
+  now-refused = passes 18 _ (lt-leb (S .ceiling .0) 1 (omega arith)) ∙ passes 8 _ is-known ∙ refuses 28 _ (rw (starting, nobody (weightIn (S .weights)) weighs) refl)
 
-record Computed : Type 0 where
-  now : refusal (advancing settings (freshView settings)) ≡ 28
-  then : refusal (earlierAdvancing settings (freshView settings)) ≡ 0
+  then-passed : refusal (earlierAdvancing S (freshView S)) ≡ 0
+  then-passed = passes 18 _ (lt-leb (S .ceiling .0) 1 (omega arith)) ∙ passes-all
 
-computed : Computed
-unfolding refusal unknown knownBy committeeOf committeeBy bondedFrom quorum outsider short quorumWeight boundOf anyTo sumTo
-computed = record { now = refl; then = refl }
+module _ (x : Opening) where
+  abbrev engine : Engine
+  engine = afterOpening x
 
-pub thin-advance : ThinAdvance
-unfolding advanceRefusal
-thin-advance =
-    record {
-      opening = opening;
-      refused = refusal-formed _ _ rules.advance (fresh .formed) ∙ of-view (λ S s. refusal (advancing S s) ≡ 28) (computed .now);
-      allowed-earlier = passes 1 _ (rw (fresh .formed) refl) ∙ of-view (λ S s. refusal (earlierAdvancing S s) ≡ 0) (computed .then);
-    }
+  fresh : FreshlyOpened (x .own) (x .sheet) (x .before) engine
+  fresh = opened-fresh (x .before) (x .own) (x .sheet) (x .accepted)
+
+  -- what is so of the fresh view is so of the engine
+  of-view : (P : (S : Settings) → MemberView S → Type 0) → P (filled (x .sheet)) (freshView (filled (x .sheet))) → P (engine .state .settings) (view (engine .state) (engine .table))
+  of-view P h =
+      let b = subst (P (filled (x .sheet))) (sym (fresh .shows)) h in
+      subst (λ (S : Settings). P S (viewAt S engine)) (sym (fresh .its-settings)) b
+
+  whole : Formed (engine .state) (engine .table)
+  whole = formed (engine .state) (engine .table) (fresh .formed)
+
+  pub thin-advance : ThinAdvance x
+  unfolding advanceRefusal
+  thin-advance =
+      let from = subst (λ (S : Settings). 3 ≤ S .ceiling .0) (fresh .its-settings) (whole .settings .ceiling-from) in
+      let some = subst (λ (S : Settings). weightless S ≡ false) (fresh .its-settings) (whole .weighty) in
+      record {
+        refused = refusal-formed _ _ rules.advance (fresh .formed) ∙ of-view (λ S s. refusal (advancing S s) ≡ 28) (now-refused (filled (x .sheet)) from some);
+        allowed-earlier = passes 1 _ (rw (fresh .formed) refl) ∙ of-view (λ S s. refusal (earlierAdvancing S s) ≡ 0) (then-passed (filled (x .sheet)) from some);
+      }

@@ -102,7 +102,7 @@ pub extern "C" fn forgelilac_accept(state: &[u32], table: &mut [u32], certificat
     hosting::refusal_in(a)
 }
 
-// Advance: next round, proposal dropped.
+// Advance: next round, proposal dropped; where a quorum of the present round is held.
 #[no_mangle]
 pub extern "C" fn forgelilac_advance(state: &mut [u32], table: &[u32]) -> u32
     ensures { λ r. ⌜ Done plain (resultOf (now (state .entry)) (now (table .entry)) [] true advance) r (now (state .exit)) (now (table .entry)) [] ⌝ }
