@@ -1,8 +1,9 @@
 //! What each call and read costs: the engine (libhost.a), plain Rust
 //! (plain.rs) and a floor. `bench [quick]` prints Markdown. Built with another
 //! archive, that stands in plain's place (run.sh), and the tables by call show
-//! the best time of each beside the median; where it is of before queues, their
-//! calls are left out, and a call that the two answer differently is not timed.
+//! the best time of each beside the median; where it is of before queues or
+//! previews, their calls are left out, and a call that the two answer differently
+//! is not timed.
 //!
 //! States. Sixteen members; every certificate has four transactions (entries,
 //! bonds, unbonds that are bonded again at once, so that all stay inside) and
@@ -42,6 +43,11 @@
 //! places of a queue all have the same transaction, so that what moves up when
 //! one leaves changes no word, and counts are all there is to undo.
 //!
+//! A preview of commit is asked for in the states of commit, into a list of 16
+//! places for each round of the ceiling. "Copy, commit, list" is what a host does
+//! without it: it copies state and table, commits on the copy, and lists the new
+//! blocks there in one pass over the rows. There is nothing to undo after either.
+//!
 //! The floor is one pass that reads the state, the headers of all rows and
 //! the records of held certificates, and adds them up. For open it is one
 //! pass that writes 0 to the table.
@@ -72,6 +78,7 @@ struct Functions {
     accept: fn(&[u32], &mut [u32], &[u32]) -> u32,
     advance: fn(&mut [u32], &[u32]) -> u32,
     commit: fn(&mut [u32], &mut [u32]) -> u64,
+    preview: fn(&[u32], &[u32], &mut [u32]) -> u64,
     batch: fn(&[u32], &mut [u32], &[[u32; 17]], &mut [u32]) -> u32,
     enqueue: fn(&[u32], &mut [u32], u32, &[u32]) -> u32,
     draw: fn(&mut [u32], &mut [u32], u32) -> u32,
@@ -91,6 +98,7 @@ macro_rules! functions {
             accept: $module::accept,
             advance: $module::advance,
             commit: $module::commit,
+            preview: $module::preview,
             batch: $module::batch,
             enqueue: $module::enqueue,
             draw: $module::draw,
@@ -112,6 +120,13 @@ const PLAIN: Functions = functions!(plain);
 #[repr(C, align(64))]
 struct Line([u32; 16]);
 
+/// The words of lines.
+fn words_of(lines: &mut [Line]) -> &mut [u32] {
+    let words = lines.len() * 16;
+    // SAFETY: a line is sixteen words and nothing else.
+    unsafe { std::slice::from_raw_parts_mut(lines.as_mut_ptr().cast(), words) }
+}
+
 #[derive(Clone)]
 struct Member {
     state: [u32; 37],
@@ -124,6 +139,8 @@ const FREE: u32 = 15;
 
 /// Whether both implementations have queues.
 const QUEUES: bool = cfg!(not(before_queues));
+/// Whether both implementations have previews.
+const PREVIEWS: bool = cfg!(not(before_previews));
 /// How many wait for each guest: for most calls, for an enqueue to guest 2 and
 /// for a draw of one of each of four guests.
 const NOBODY: Waiting = [0; 8];
@@ -141,9 +158,7 @@ impl Member {
     }
 
     fn table(&mut self) -> &mut [u32] {
-        let words = self.lines.len() * 16;
-        // SAFETY: a line is sixteen words and nothing else.
-        unsafe { std::slice::from_raw_parts_mut(self.lines.as_mut_ptr().cast(), words) }
+        words_of(&mut self.lines)
     }
 
     fn below(&mut self, n: u32) -> u32 {
@@ -289,6 +304,58 @@ fn floor_of_open(table: &mut [u32]) {
     black_box(table);
 }
 
+// --------------------------------------------------------------- listing ---
+
+/// Of a block that is listed: where its next certificate goes, and the author of
+/// its anchor.
+#[derive(Clone, Copy, Default)]
+struct Room {
+    next: u32,
+    first: u32,
+}
+
+/// The certificates of the blocks above a number as a host lists them, from the
+/// words of a state that it knows to be well formed: block by block, rounds
+/// rising, in each round from the author of the anchor. The answer is how many.
+fn list_new_blocks(state: &[u32], table: &[u32], above: u32, list: &mut [[u32; 3]]) -> usize {
+    let rows = &table.as_chunks::<ROW>().0[..state[2] as usize + 1];
+    let blocks = state[22] as usize;
+    let (mut rooms, mut found) = ([Room::default(); 513], Vec::with_capacity(2 * rows.len()));
+    for (round, row) in (0..).zip(rows).take(rows[blocks][2] as usize + 1).skip(1) {
+        let records = &row.as_chunks::<16>().0[1..];
+        let those = |set: u32, is: &dyn Fn(u32) -> bool| {
+            (0..16).filter(|a| set >> a & 1 == 1 && is(records[*a][2])).fold(0, |set, a| set | 1 << a)
+        };
+        let mut left: u32 = those(row[0], &|mark| mark > above);
+        while left != 0 {
+            let block = records[left.trailing_zeros() as usize & 15][2];
+            let set = those(left, &|mark| mark == block);
+            left &= !set;
+            rooms[block as usize].next += set.count_ones();
+            if rows[block as usize][2] == round {
+                rooms[block as usize].first = set.trailing_zeros();
+            }
+            found.push((block, round, set));
+        }
+    }
+    let mut count = 0;
+    for room in &mut rooms[above as usize + 1..=blocks] {
+        let certificates = std::mem::replace(&mut room.next, count);
+        count += certificates;
+    }
+    for (block, round, set) in found {
+        let room = &mut rooms[block as usize];
+        let mut turned = (set | set << 16) >> room.first & 0xffff;
+        while turned != 0 {
+            let author = (room.first + turned.trailing_zeros()) & 15;
+            turned &= turned - 1;
+            list[room.next as usize] = [block, round, author];
+            room.next += 1;
+        }
+    }
+    count as usize
+}
+
 // ------------------------------------------------------------------ jobs ---
 
 #[derive(Clone, Copy, PartialEq)]
@@ -302,6 +369,10 @@ enum Job {
     AdvanceThin,
     Commit,
     CommitMany,
+    Preview,
+    PreviewMany,
+    Copy,
+    CopyMany,
     Enqueue,
     Draw,
     Committee,
@@ -311,7 +382,7 @@ enum Job {
 }
 
 /// Jobs, and how many transactions wait for each guest in their states.
-const JOBS: [(Job, &str, Waiting); 15] = [
+const JOBS: [(Job, &str, Waiting); 17] = [
     (Job::Open, "open", NOBODY),
     (Job::Propose, "propose", NOBODY),
     (Job::Endorse, "endorse", NOBODY),
@@ -321,6 +392,8 @@ const JOBS: [(Job, &str, Waiting); 15] = [
     (Job::AdvanceThin, "advance, thin round", NOBODY),
     (Job::Commit, "commit, one block", NOBODY),
     (Job::CommitMany, "commit, many blocks", NOBODY),
+    (Job::Preview, "preview, one block", NOBODY),
+    (Job::PreviewMany, "preview, many blocks", NOBODY),
     (Job::Enqueue, "enqueue", THREE),
     (Job::Draw, "draw of 4", FOUR),
     (Job::Committee, "read committee", NOBODY),
@@ -331,7 +404,11 @@ const JOBS: [(Job, &str, Waiting); 15] = [
 
 /// Those that both implementations have.
 fn jobs() -> impl Iterator<Item = (Job, &'static str, Waiting)> {
-    JOBS.into_iter().filter(|(job, ..)| QUEUES || !matches!(job, Job::Enqueue | Job::Draw))
+    JOBS.into_iter().filter(|(job, ..)| match job {
+        Job::Enqueue | Job::Draw => QUEUES,
+        Job::Preview | Job::PreviewMany => PREVIEWS,
+        _ => true,
+    })
 }
 
 /// The guest of an enqueue.
@@ -345,6 +422,9 @@ struct Case {
     member: Member,
     argument: [u32; 17],
     out: [u32; 18],
+    /// The list of a preview, and room for a copy of the table.
+    list: Vec<u32>,
+    copy: Vec<Line>,
     waiting: Waiting,
     /// Words of the table that a commit changes, as they were.
     undo: Vec<(usize, u32)>,
@@ -370,11 +450,14 @@ impl Case {
             member.table()[ROW * r as usize] &= THIN;
         }
         let is_commit = matches!(job, Job::Commit | Job::CommitMany);
-        if is_commit && empty {
+        let (copies, previews) = (matches!(job, Job::Copy | Job::CopyMany), matches!(job, Job::Preview | Job::PreviewMany));
+        if (is_commit || copies || previews) && empty {
             member.state[20] = 3;
         }
         let (out, undo) = ([0; 18], Vec::new());
-        let mut case = Case { job, member, argument, out, waiting, undo, expected: 0 };
+        let list = vec![0; if copies || previews { 48 * member.state[2] as usize } else { 0 }];
+        let copy = if copies { member.lines.clone() } else { Vec::new() };
+        let mut case = Case { job, member, argument, out, list, copy, waiting, undo, expected: 0 };
         let before = case.member.clone();
         case.expected = case.call(&PLAIN);
         if cfg!(not(other)) && matches!(job, Job::Advance | Job::AdvanceThin) {
@@ -393,11 +476,7 @@ impl Case {
     fn call(&mut self, f: &Functions) -> u64 {
         let r = self.member.state[20];
         let state = &mut self.member.state;
-        let words = self.member.lines.len() * 16;
-        // SAFETY: as in `table`; the state is another part of the member.
-        let table = unsafe {
-            std::slice::from_raw_parts_mut(self.member.lines.as_mut_ptr().cast::<u32>(), words)
-        };
+        let table = words_of(&mut self.member.lines);
         let refusal = |number: u32| u64::from(number) << 32;
         let argument = &self.argument;
         match self.job {
@@ -411,6 +490,15 @@ impl Case {
             Job::Accept => refusal((f.accept)(state, table, argument)),
             Job::Advance | Job::AdvanceThin => refusal((f.advance)(state, table)),
             Job::Commit | Job::CommitMany => (f.commit)(state, table),
+            Job::Preview | Job::PreviewMany => (f.preview)(state, table, &mut self.list),
+            Job::Copy | Job::CopyMany => {
+                let (mut state_copy, copy) = (*state, words_of(&mut self.copy));
+                copy.copy_from_slice(table);
+                match (f.commit)(&mut state_copy, copy) {
+                    refused if refused >> 32 > 0 => refused,
+                    _ => list_new_blocks(&state_copy, copy, state[22], self.list.as_chunks_mut::<3>().0) as u64,
+                }
+            }
             Job::Enqueue => refusal((f.enqueue)(state, table, GUEST, &[2, GUEST, 0])),
             Job::Draw => refusal((f.draw)(state, table, argument[2])),
             Job::Committee => refusal((f.committee)(state, table, r, &mut self.out)),
@@ -639,7 +727,8 @@ impl States {
     }
 
     fn cases(&self, job: Job, waiting: Waiting) -> Cases {
-        let members = if job == Job::CommitMany { &self.unblocked } else { &self.usual };
+        let many = matches!(job, Job::CommitMany | Job::PreviewMany | Job::CopyMany);
+        let members = if many { &self.unblocked } else { &self.usual };
         Cases(members.iter().map(|member| Case::of(job, member.clone(), waiting)).collect())
     }
 }
@@ -649,6 +738,7 @@ fn answer_text(case: &Case) -> String {
     match case.job {
         _ if refusal > 0 => format!("refused, {refusal}"),
         Job::Commit | Job::CommitMany => format!("{value} added"),
+        Job::Preview | Job::PreviewMany => format!("{value} listed"),
         _ => "ok".to_string(),
     }
 }
@@ -784,6 +874,44 @@ fn print_batches(pace: &Pace) {
     }
 }
 
+/// Previews beside commits, and beside what a host does without them.
+fn print_previews(pace: &Pace) {
+    println!("\n## Preview, commit, and commit on a copy\n");
+    println!("Microseconds.\n");
+    println!("| ceiling | state | blocks | entries | by | preview | commit | copy, commit, list | commit / preview | copy, commit, list / preview |");
+    println!("|---:|---|---:|---:|---|---:|---:|---:|---:|---:|");
+    for (ceiling, half) in [(64, true), (64, false), (1_024, true), (1_024, false)] {
+        let states = States::of(ceiling, if half { ceiling / 2 } else { ceiling });
+        for jobs in [[Job::Preview, Job::Commit, Job::Copy], [Job::PreviewMany, Job::CommitMany, Job::CopyMany]] {
+            let mut cases = jobs.map(|job| states.cases(job, NOBODY));
+            assert_same_entries(&mut cases);
+            let many = cases[0].0.len();
+            let times: [Time; 6] = pace.times(many, |which, calls| {
+                let f = if which < 3 { &ENGINE } else { &PLAIN };
+                cases[which % 3].batch(f, calls)
+            });
+            let (entries, blocks) = (cases[0].0[0].expected, cases[1].0[0].expected);
+            let (state, second) = (if half { "half" } else { "full" }, if cfg!(other) { "other" } else { "plain" });
+            for (by, row) in ["engine", second].iter().zip(times.map(|time| time.median).as_chunks::<3>().0) {
+                let [preview, commit, copy] = row.map(|time| digits(time / 1e3));
+                let (by_commit, by_copy) = (digits(row[1] / row[0]), digits(row[2] / row[0]));
+                println!("| {ceiling} | {state} | {blocks} | {entries} | {by} | {preview} | {commit} | {copy} | {by_commit} | {by_copy} |");
+            }
+        }
+    }
+}
+
+/// A preview and a listing after a commit on a copy write the same.
+fn assert_same_entries(cases: &mut [Cases; 3]) {
+    let [previews, _, copies] = cases;
+    for (preview, copy) in previews.0.iter_mut().zip(&mut copies.0) {
+        for f in [&ENGINE, &PLAIN] {
+            assert_eq!((preview.call(f), copy.call(f)), (preview.expected, preview.expected));
+            assert!(preview.list == copy.list, "entries and listing differ");
+        }
+    }
+}
+
 fn main() {
     let quick = std::env::args().nth(1).as_deref() == Some("quick");
     let pace = if quick {
@@ -799,6 +927,9 @@ fn main() {
     }
     print_growth(1_024, &pace);
     print_batches(&pace);
+    if PREVIEWS {
+        print_previews(&pace);
+    }
     if QUEUES {
         print_queues(&pace);
     }

@@ -174,3 +174,21 @@ pub fn draw(state: &mut [u32], table: &mut [u32], previous: u32) -> u32 {
     let (s, sn, t, tn) = (state.as_mut_ptr(), state.len(), table.as_mut_ptr(), table.len());
     unsafe { forgelilac_draw(s, sn, t, tn, previous) }
 }
+
+// ---- previews: run.sh leaves this out of an archive that has none
+
+extern "C" {
+    fn forgelilac_preview(
+        s: *const u32,
+        sn: usize,
+        t: *const u32,
+        tn: usize,
+        list: *mut u32,
+        n: usize,
+    ) -> u64;
+}
+
+pub fn preview(state: &[u32], table: &[u32], list: &mut [u32]) -> u64 {
+    let (s, sn, t, tn) = (state.as_ptr(), state.len(), table.as_ptr(), table.len());
+    unsafe { forgelilac_preview(s, sn, t, tn, list.as_mut_ptr(), list.len()) }
+}

@@ -3,8 +3,8 @@
 # ARCHIVE is the engine's static library (target/staticlib/libhost.a if not
 # given), or `plain` to try the benchmark without it (plain.rs against itself).
 # OTHER is another archive, that of before a change: it stands in plain's place,
-# and the two take turns in one process. One of before queues lacks two calls,
-# which are then left out.
+# and the two take turns in one process. One of before queues or previews lacks
+# their calls, which are then left out.
 set -e
 top=$(cd "$(dirname "$0")/.." && pwd)
 archive=${1:-$top/target/staticlib/libhost.a}
@@ -35,7 +35,16 @@ pub fn draw(_: &mut [u32], _: &mut [u32], _: u32) -> u32 {
 END
         set -- "$@" --cfg before_queues
     fi
+    if ! grep -q '^forgelilac_preview ' "$built/names"; then
+        sed -i '/^\/\/ ---- previews/,$d' "$built/other.rs"
+        cat >> "$built/other.rs" <<'END'
+pub fn preview(_: &[u32], _: &[u32], _: &mut [u32]) -> u64 {
+    unreachable!("this archive has no previews")
+}
+END
+        set -- "$@" --cfg before_previews
+    fi
 fi
-rustc --edition 2021 -C opt-level=3 -C codegen-units=1 --check-cfg 'cfg(plain, other, before_queues)' "$@" \
+rustc --edition 2021 -C opt-level=3 -C codegen-units=1 --check-cfg 'cfg(plain, other, before_queues, before_previews)' "$@" \
     "$top/bench/bench.rs" -o "$built/bench"
 exec "$built/bench" $pace

@@ -72,15 +72,36 @@ static void commit(struct engine *e) {
     if (refusal != FORGELILAC_NO_COMMIT_ROUND) must("commit", refusal);
 }
 
+/* Prints the certificates of block k in a list, and gives where the next block begins. */
+static const uint32_t *print_certificates(uint32_t k, const uint32_t *at, const uint32_t *end) {
+    for (; at < end && at[FORGELILAC_LISTED_BLOCK] == k; at += FORGELILAC_LISTED_WORDS)
+        printf(" %u/%u", (unsigned)at[FORGELILAC_LISTED_ROUND], (unsigned)at[FORGELILAC_LISTED_AUTHOR]);
+    printf("\n");
+    return at;
+}
+
+/* What would a commit do? The blocks before they are made, or why there would be none. */
+static void print_preview(const struct engine *e) {
+    static uint32_t list[FORGELILAC_PREVIEW_WORDS(CEILING)];
+    uint64_t answer = forgelilac_preview(ENGINE(e), WORDS(list));
+    uint32_t refusal = forgelilac_refusal_of(answer);
+    const uint32_t *at = list, *end = list + FORGELILAC_ENTRY_WORDS * forgelilac_value_of(answer);
+    printf("what a commit of member %u in round %u would add\n", (unsigned)e->state[FORGELILAC_STATE_OWN],
+           (unsigned)e->state[FORGELILAC_STATE_ROUND]);
+    if (refusal != FORGELILAC_ACCEPTED)
+        printf("  nothing: refused with %u, %s\n", (unsigned)refusal, forgelilac_refusal_text(refusal));
+    while (at < end) {
+        printf("  block %u:", (unsigned)at[FORGELILAC_ENTRY_BLOCK]);
+        at = print_certificates(at[FORGELILAC_ENTRY_BLOCK], at, end);
+    }
+}
+
 /* Prints block k of a listed chain, and gives where the next one begins. */
 static const uint32_t *print_block(const struct engine *e, uint32_t k, const uint32_t *at, const uint32_t *end) {
     uint64_t round = forgelilac_block(ENGINE(e), k);
     must("block", forgelilac_refusal_of(round));
     printf("  block %u, block round %u:", (unsigned)k, (unsigned)forgelilac_value_of(round));
-    for (; at < end && at[FORGELILAC_LISTED_BLOCK] == k; at += FORGELILAC_LISTED_WORDS)
-        printf(" %u/%u", (unsigned)at[FORGELILAC_LISTED_ROUND], (unsigned)at[FORGELILAC_LISTED_AUTHOR]);
-    printf("\n");
-    return at;
+    return print_certificates(k, at, end);
 }
 
 static void print_chain(const struct engine *e) {
@@ -195,7 +216,6 @@ static void print_queues(void) {
 }
 
 static void print_end(void) {
-    printf("certificates as round/author\n");
     for (uint32_t m = 0; m < MEMBERS; m++) print_chain(&engines[m]);
     print_endorsers(&engines[0], LAST_ROUND);
     printf("shares in round %d, in thousandths: [", LAST_ROUND);
@@ -210,9 +230,11 @@ static void print_end(void) {
 }
 
 int main(void) {
+    printf("certificates as round/author\n");
     for (uint32_t m = 0; m < MEMBERS; m++) open_member(&engines[m], m);
     for (int round = 1; round <= LAST_ROUND; round++) {
         for (uint32_t m = 0; m < MEMBERS; m++) circulate(m);
+        if (round + 1 >= LAST_ROUND) print_preview(&engines[0]);
         for (uint32_t m = 0; m < MEMBERS; m++) {
             commit(&engines[m]);
             if (round < LAST_ROUND) must("advance", forgelilac_advance(ENGINE(&engines[m])));

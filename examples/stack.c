@@ -11,14 +11,14 @@
 
 enum { CEILING = 64, MEMBERS = 4, ALL = (1 << MEMBERS) - 1, STACK = 1 << 20, PAINT = 0xa5 };
 enum call { NOTHING, OPEN, PROPOSE, ENQUEUE, DRAW, ENDORSE, CERTIFY, ACCEPT, BATCH, ADVANCE, COMMIT,
-            COMMITTEE, SHARE, CERTIFICATE, BLOCK, CHAIN, CALLS };
+            PREVIEW, COMMITTEE, SHARE, CERTIFICATE, BLOCK, CHAIN, CALLS };
 static const char *const names[CALLS] = {"", "open", "propose", "enqueue", "draw", "endorse", "certify", "accept",
-                                         "batch", "advance", "commit", "committee", "share", "certificate", "block",
-                                         "chain"};
+                                         "batch", "advance", "commit", "preview", "committee", "share", "certificate",
+                                         "block", "chain"};
 
 static uint32_t state[FORGELILAC_STATE_WORDS], table[FORGELILAC_TABLE_WORDS(CEILING)];
 static uint32_t words[FORGELILAC_SHEET_WORDS], out[FORGELILAC_HELD_WORDS];
-static uint32_t list[FORGELILAC_CHAIN_WORDS(CEILING)];
+static uint32_t list[FORGELILAC_CHAIN_WORDS(CEILING)], entries[FORGELILAC_PREVIEW_WORDS(CEILING)];
 static struct forgelilac_certificate row[FORGELILAC_BATCH_RECORDS];
 static uint32_t answers[FORGELILAC_BATCH_RECORDS];
 static unsigned char *stack;
@@ -43,6 +43,7 @@ static uint64_t make(enum call call) {
     case BATCH: return high(forgelilac_batch(ENGINE, row, FORGELILAC_BATCH_RECORDS, answers, FORGELILAC_BATCH_RECORDS));
     case ADVANCE: return high(forgelilac_advance(ENGINE));
     case COMMIT: return forgelilac_commit(ENGINE);
+    case PREVIEW: return forgelilac_preview(ENGINE, entries, sizeof entries / 4);
     case COMMITTEE: return high(forgelilac_committee(ENGINE, words[0], OUT));
     case SHARE: return forgelilac_share(ENGINE, words[0], words[1]);
     case CERTIFICATE: return high(forgelilac_certificate(ENGINE, words[0], words[1], OUT));
@@ -139,6 +140,7 @@ int main(void) {
     measure(OPEN);
     for (uint32_t round = 1; round <= CEILING; round++) {
         sign(round);
+        if (round % 2 == 1 && round > 1) measure(PREVIEW);
         if (round % 2 == 1 && round > 1) measure(COMMIT);
         look(round);
         if (round < CEILING) measure(ADVANCE);

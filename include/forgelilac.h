@@ -32,9 +32,9 @@ extern "C" {
 /* ---- versions */
 
 /* Of the header, and of the archive that belongs to it. */
-#define FORGELILAC_VERSION "0.6.0"
+#define FORGELILAC_VERSION "0.7.0"
 #define FORGELILAC_VERSION_MAJOR 0
-#define FORGELILAC_VERSION_MINOR 6
+#define FORGELILAC_VERSION_MINOR 7
 #define FORGELILAC_VERSION_PATCH 0
 /* Of the words of state and table; no word of theirs has it. Store it beside them: docs/TABLES.md
  * tells what to do with words of an older format. */
@@ -56,16 +56,19 @@ extern "C" {
 #define FORGELILAC_SHEET_WORDS 38
 #define FORGELILAC_COMMITTEE_WORDS 16
 #define FORGELILAC_LISTED_WORDS 3       /* a certificate as forgelilac_chain lists it */
+#define FORGELILAC_ENTRY_WORDS 3        /* an entry of a preview, the same three words */
 #define FORGELILAC_BATCH_RECORDS 64     /* the most certificates of a batch, in records */
 /* A table for a state of this ceiling; forgelilac_table_words as a constant. */
 #define FORGELILAC_TABLE_WORDS(ceiling) (272u * (ceiling) + 272u)
 /* Room for every chain of a state of this ceiling. */
 #define FORGELILAC_CHAIN_WORDS(ceiling) (48u * (ceiling))
+/* The list that a preview of a state of this ceiling asks for: 16 places for each round. */
+#define FORGELILAC_PREVIEW_WORDS(ceiling) (48u * (ceiling))
 
 /* Bytes of stack that serve every call and every function below on x86-64; examples/stack.c
- * measures what they use. Commit, draw and propose use about 80 KB, batch about 77 KB, endorse,
- * certify, accept, advance, committee and share about 74 KB, forgelilac_chain about 3 KB, the others
- * less than 1 KB. */
+ * measures what they use. Preview uses about 88 KB, commit about 84 KB, draw and propose about
+ * 80 KB, batch about 77 KB, endorse, certify, accept, advance, committee and share about 74 KB,
+ * forgelilac_chain about 3 KB, the others less than 1 KB. */
 #define FORGELILAC_STACK_BYTES 98304
 
 /* ---- words of a state */
@@ -80,7 +83,7 @@ extern "C" {
 #define FORGELILAC_STATE_BLOCKS 22    /* number of blocks */
 #define FORGELILAC_STATE_BODY 23      /* body of the proposal */
 
-/* ---- words of a body, a proposal, a certificate, a held certificate, a listed one */
+/* ---- words of a body, a proposal, a certificate, a held certificate, a listed one, an entry of a preview */
 
 #define FORGELILAC_BODY_PREVIOUS 0
 #define FORGELILAC_BODY_COUNT 1
@@ -94,6 +97,9 @@ extern "C" {
 #define FORGELILAC_LISTED_BLOCK 0    /* number of its block, from 1 */
 #define FORGELILAC_LISTED_ROUND 1
 #define FORGELILAC_LISTED_AUTHOR 2
+#define FORGELILAC_ENTRY_BLOCK 0     /* number of the block that would hold it */
+#define FORGELILAC_ENTRY_ROUND 1
+#define FORGELILAC_ENTRY_AUTHOR 2
 
 /* A certificate of a row, for forgelilac_batch: its 17 words in their order. forgelilac_record_of
  * makes one of words. The certificate read has the same name: write `struct`, in C++ too. */
@@ -168,7 +174,7 @@ enum forgelilac_refusal {
     FORGELILAC_NO_ANCHOR = 21,         /* no anchor in the round before */
     FORGELILAC_VOTES_SHORT = 22,       /* votes weigh not more than the fault bound */
     FORGELILAC_NONE_THERE = 23,        /* no such certificate or block */
-    FORGELILAC_LENGTH_RANGE = 25,      /* a row of more than 64 certificates, or answers shorter than the row */
+    FORGELILAC_LENGTH_RANGE = 25,      /* batch: a row over 64, or answers shorter than the row; preview: a list with fewer than 16 places per round of the ceiling */
     FORGELILAC_GUEST_RANGE = 26,       /* guest above 7 */
     FORGELILAC_QUEUE_FULL = 27,        /* the queue holds eight transactions */
     FORGELILAC_THIN_ROUND = 28         /* the authors of the certificates held in the present round form no quorum of its committee */
@@ -237,6 +243,19 @@ uint64_t forgelilac_commit(uint32_t *state, size_t state_words,
 
 /* ---- reads */
 
+/* What would a commit do? The certificates of each block that it would add, into list: three words
+ * each, the number of its block, its round and its author (FORGELILAC_ENTRY_BLOCK and so on). It is
+ * what committing on a copy of state and table, and reading the new blocks there, gives: the blocks
+ * oldest first, their numbers going on from those there are; inside a block rounds rise, and within
+ * a round numbers rise from that of the leader of the block's round, with 0 after 15. Low half: how
+ * many certificates, so 3 times as many words of list are written; those beyond stay. High half:
+ * refusal number; then no word of list is written. State and table are read and never written.
+ * A place is three words, and what is left over is none; 25 for fewer than 16 places per round of
+ * the ceiling (FORGELILAC_PREVIEW_WORDS), however few there are to list. Then the checks of commit.
+ * 1, 25, 19, 20, 8, 21, 22. */
+uint64_t forgelilac_preview(const uint32_t *state, size_t state_words,
+                            const uint32_t *table, size_t table_words,
+                            uint32_t *list, size_t list_words);
 /* Sixteen weights of a round's committee into out, 0 for a non-member. 1, 5, 8. */
 uint32_t forgelilac_committee(const uint32_t *state, size_t state_words,
                               const uint32_t *table, size_t table_words,
@@ -302,7 +321,7 @@ static inline const char *forgelilac_refusal_text(uint32_t number) {
         "votes weigh not more than the fault bound",
         "no such certificate or block",
         "record unreadable",
-        "a row of more than 64 certificates, or answers shorter than the row",
+        "batch: a row over 64, or answers shorter than the row; preview: a list with fewer than 16 places per round of the ceiling",
         "guest above 7",
         "the queue holds eight transactions",
         "the authors of the certificates held in the present round form no quorum of its committee",

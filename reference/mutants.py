@@ -1,14 +1,17 @@
 #!/usr/bin/env python3
 """Spoils the reference in one place at a time and counts which streams
 notice: the edge stream and the shuffled streams of seeds 1 to N. No record
-reads a share, is a batch, adds to a queue or draws: wrong rules of shares are
-given pairs of weight and total, wrong rules of batches rows of certificates,
-wrong rules of queues streams with draws, and what they answer is compared with
-naive.py. Of the last it also says whether fair finds a fault. Of a wrong rule of
-advance that no stream notices it says whether the unit tests do: none of the
-streams comes to hold an outsider.
+reads a share, is a batch, adds to a queue, draws or is a preview: wrong rules of
+shares are given pairs of weight and total, wrong rules of batches rows of
+certificates, wrong rules of queues streams with draws, wrong previews streams in
+which they are asked for, and what they answer is compared with naive.py. Of
+queues it also says whether fair finds a fault, of previews whether the unit
+tests do. Of a wrong rule of advance that no stream notices it says whether the
+unit tests do: none of the streams comes to hold an outsider.
 
-    mutants.py N        (build.sh first; works in the directory mutants)
+    mutants.py N [SORT]        (build.sh first; works in the directory mutants)
+
+With SORT only that one: share, batch, queue, preview, advance or rule.
 
 Six of the changes cannot show in a runner's answers; they are marked same.
 """
@@ -306,17 +309,94 @@ A=[
 ('        self.may_advance()?;\n        self.round += 1;\n        self.proposal = None;', '        let answer = self.may_advance();\n        self.round += u32::from(answer != Err(18));\n        self.proposal = None;\n        answer?;'),
 ('        self.may_advance()?;\n        self.round += 1;\n        self.proposal = None;', '        self.may_advance()?;\n        self.round += 1;'),
 ]
+# wrong previews
+NUMBERED = '(1..).zip(&copy.chain).skip(self.chain.len())'
+EACH = 'for &(round, author) in &block.certificates {\n                let place'
+PLACES = 'words / ENTRY < (MEMBERS * self.settings.ceiling) as usize'
+SHORT = '        if ' + PLACES + ' {\n            return Err(25);\n        }\n'
+COUNT = '        Ok(count)\n    }\n\n    // ---- reads'
+# The whole history of a block's anchor, as far as a condition goes.
+WHOLE = '''let anchor = block.certificates[block.certificates.len() - 1];
+            let history = self.history(anchor.1, anchor.0);
+            let mut whole: Vec<(u32, u32)> =
+                (1..=anchor.0).flat_map(|r| members_of(history[r as usize]).map(move |a| (r, a))).collect();
+            whole.retain(|&(r, a)| %s);
+            put_in_order(&mut whole, Some(anchor.1));
+            for &(round, author) in &whole {
+                let place'''
+P=[
+# newest block first; the newest alone, the oldest alone; the blocks of before as well
+(NUMBERED, NUMBERED + '.collect::<Vec<_>>().into_iter().rev()'),
+(NUMBERED, NUMBERED.replace('self.chain.len()', 'copy.chain.len() - 1')),
+(NUMBERED, NUMBERED + '.take(1)'),
+(NUMBERED, '(1..).zip(&copy.chain)'),
+# the same block for every anchor; what older anchors of the commit have not left out; old marks not asked
+(EACH, EACH.replace('block.', 'copy.chain[self.chain.len()].')),
+(EACH, WHOLE % 'self.held_at(a, r).unwrap().block == 0'),
+(EACH, WHOLE % 'copy.held_at(a, r).unwrap().block == number || self.held_at(a, r).unwrap().block > 0'),
+# block numbers from 1, from 0, one too low, one too high, one for all
+('&[number, round, author]', '&[number - self.chain.len() as u32, round, author]'),
+('&[number, round, author]', '&[number - self.chain.len() as u32 - 1, round, author]'),
+('&[number, round, author]', '&[number - 1, round, author]'),
+('&[number, round, author]', '&[number + 1, round, author]'),
+('&[number, round, author]', '&[self.chain.len() as u32 + 1, round, author]'),
+# round and author swapped, the number last, the round of the block
+('&[number, round, author]', '&[number, author, round]'),
+('&[number, round, author]', '&[round, author, number]'),
+('&[number, round, author]', '&[number, block.round, author]'),
+# by round, then author; the anchor left out, the anchor first
+(EACH, EACH.replace('for', 'let mut before = block.certificates.clone();\n            before.sort();\n            for')
+ .replace('&block.certificates {', '&before {')),
+(EACH, EACH.replace('block.certificates {', 'block.certificates[..block.certificates.len() - 1] {')),
+(EACH, EACH.replace('for', 'let mut turned = block.certificates.clone();\n            turned.rotate_right(1);\n            for')
+ .replace('&block.certificates {', '&turned {')),
+# the count of words, of blocks, one more
+(COUNT, COUNT.replace('Ok(count)', 'Ok(count * ENTRY as u32)')),
+(COUNT, COUNT.replace('Ok(count)', 'Ok((copy.chain.len() - self.chain.len()) as u32)')),
+(COUNT, COUNT.replace('Ok(count)', 'Ok(count + 1)')),
+# one round short; 15 places a round, 17; words for places; a started place counted; one more asked for; by the present round
+(PLACES, PLACES.replace('self.settings.ceiling', '(self.settings.ceiling - 1)')),
+(PLACES, PLACES.replace('MEMBERS', '15')),
+(PLACES, PLACES.replace('MEMBERS', '17')),
+(PLACES, PLACES.replace('words / ENTRY', 'words')),
+(PLACES, PLACES.replace('words / ENTRY', 'words.div_ceil(ENTRY)')),
+(PLACES, PLACES.replace(' < ', ' <= ')),
+(PLACES, PLACES.replace('self.settings.ceiling', 'self.round')),
+# 25 after commit's; none; 1 in its place
+(SHORT + '        self.may_commit().map(|_| ())\n', '        self.may_commit()?;\n' + SHORT + '        Ok(())\n'),
+(SHORT, ''),
+(SHORT, SHORT.replace('25', '1')),
+# the rest cleared; refused, a word written
+(COUNT, '        places.for_each(|place| place.fill(0));\n' + COUNT),
+('        self.may_preview(list.len())?;\n',
+ '        list.iter_mut().take(1).for_each(|word| *word = 0);\n        self.may_preview(list.len())?;\n'),
+]
 work = os.path.join(base, 'mutants')
 os.makedirs(work, exist_ok=True)
 good = os.path.join(base, 'bin', 'runner_ref')
 
 
 def answers(runner, stream):
-    return subprocess.run([runner], input=stream, capture_output=True).stdout
+    command = runner if isinstance(runner, list) else [runner]
+    return subprocess.run(command, input=stream, capture_output=True).stdout
+
+
+def wanted(*sorts):
+    return len(sys.argv) < 3 or sys.argv[2] in sorts
+
+
+def naive(mode, given):
+    """The lines of the second writing."""
+    return answers([sys.executable, os.path.join(base, 'naive.py'), mode], given).splitlines()
+
+
+def made(maker, seeds):
+    """The streams that a script makes of these seeds, one after another."""
+    return b''.join(answers([sys.executable, os.path.join(base, maker), str(seed)], b'') for seed in seeds)
 
 
 streams = []
-for seed in range(1, int(sys.argv[1]) + 1):
+for seed in range(1, int(sys.argv[1]) + 1) if wanted('advance', 'rule') else []:
     stream = subprocess.run([os.path.join(base, 'bin', 'shuffle'), str(seed)],
                             capture_output=True).stdout
     streams.append((stream, answers(good, stream)))
@@ -324,10 +404,8 @@ edge = open(os.path.join(base, 'edges', 'edge.stream'), 'rb').read()
 edge_expected = open(os.path.join(base, 'edges', 'edge.expected'), 'rb').read()
 
 
-pairs = subprocess.run([sys.executable, os.path.join(base, 'pairs.py'), '300'],
-                       capture_output=True).stdout
-shares = subprocess.run([sys.executable, os.path.join(base, 'naive.py'), 'shares'],
-                        input=pairs, capture_output=True).stdout.split()
+pairs = made('pairs.py', [300] if wanted('share') else [])
+shares = naive('shares', pairs)
 
 
 def spoilt(place, program, name, old, new, kind='-O'):
@@ -370,19 +448,21 @@ def one_advance(i):
     place = 'tests%d' % i
     os.makedirs(os.path.join(work, place), exist_ok=True)
     shutil.copy(os.path.join(base, 'runner_ref.rs'), os.path.join(work, place))
-    tests, why = spoilt(place, 'tests_ref.rs', 'reference.rs', *A[i], kind='--test')
+    return '%s, tests %s' % (by_streams, unit_tests(place, *A[i]))
+
+
+def unit_tests(place, old, new):
+    """Whether the unit tests notice, in a place that has the runner."""
+    tests, why = spoilt(place, 'tests_ref.rs', 'reference.rs', old, new, kind='--test')
     if tests is None:
         return why
-    failed = subprocess.run([tests, '-q'], capture_output=True).returncode != 0
-    return '%s, tests %s' % (by_streams, 'yes' if failed else 'no')
+    return 'yes' if subprocess.run([tests, '-q'], capture_output=True).returncode != 0 else 'no'
 
 
 # The seeds' rows, and rows of 64 and of 65.
-rows = b''.join(subprocess.run([sys.executable, os.path.join(base, 'rows.py'), str(seed)],
-                               capture_output=True).stdout for seed in range(1, 31))
+rows = made('rows.py', range(1, 31) if wanted('batch') else [])
 rows += b''.join(b'offer,1,1,0,13\n' * n + b'batch\n' for n in (64, 65))
-batches = subprocess.run([sys.executable, os.path.join(base, 'naive.py'), 'batches'],
-                         input=rows, capture_output=True).stdout.splitlines()
+batches = naive('batches', rows)
 
 
 def spoilt_batches(i):
@@ -401,10 +481,8 @@ def one_batch(i):
 
 
 # The seeds' guests.
-guests = b''.join(subprocess.run([sys.executable, os.path.join(base, 'guests.py'), str(seed)],
-                                 capture_output=True).stdout for seed in range(1, 41))
-queues = subprocess.run([sys.executable, os.path.join(base, 'naive.py'), 'queues'],
-                        input=guests, capture_output=True).stdout.splitlines()
+guests = made('guests.py', range(1, 41) if wanted('queue') else [])
+queues = naive('queues', guests)
 
 
 def one_queue(i):
@@ -421,6 +499,24 @@ def one_queue(i):
     return '%d of %d lines, fair %s' % (len(queues) - same, len(queues), 'yes' if faults else 'no')
 
 
+# The seeds' previews.
+leads = made('leads.py', range(1, 21) if wanted('preview') else [])
+previews = naive('previews', leads)
+
+
+def one_preview(i):
+    place = 'preview%d' % i
+    os.makedirs(os.path.join(work, place), exist_ok=True)
+    shutil.copy(os.path.join(base, 'runner_ref.rs'), os.path.join(work, place))
+    program, why = spoilt(place, 'previews.rs', 'reference.rs', *P[i])
+    if program is None:
+        return why
+    # It may end before the last line.
+    found = answers(program, leads).splitlines()
+    same = sum(a == b for a, b in zip(found, previews))
+    return '%d of %d lines, tests %s' % (len(previews) - same, len(previews), unit_tests(place, *P[i]))
+
+
 def one_share(i):
     program, why = spoilt('share%d' % i, 'shares.rs', 'reference.rs', *S[i])
     if program is None:
@@ -429,15 +525,14 @@ def one_share(i):
     return '%d of %d pairs' % (sum(a != b for a, b in zip(found, shares)), len(shares))
 
 
-with ThreadPoolExecutor(4) as pool:
-    for i, result in enumerate(pool.map(one_share, range(len(S)))):
-        print('share', i, repr(S[i][0][:44]), '->', repr(S[i][1][:44]), ':', result, flush=True)
-    for i, result in enumerate(pool.map(one_batch, range(len(B)))):
-        print('batch', i, repr(B[i][0][:44]), '->', repr(B[i][1][:44]), ':', result, flush=True)
-    for i, result in enumerate(pool.map(one_queue, range(len(Q)))):
-        print('queue', i, repr(Q[i][0][:44]), '->', repr(Q[i][1][:44]), ':', result, flush=True)
-    for i, result in enumerate(pool.map(one_advance, range(len(A)))):
-        print('advance', i, repr(A[i][0][-44:]), '->', repr(A[i][1][-60:]), ':', result, flush=True)
-    for i, result in enumerate(pool.map(one, range(len(M)))):
-        print(i, M[i][0], repr(M[i][1][:44]), '->', repr(M[i][2][:44]), ':', result, flush=True)
+with ThreadPoolExecutor(int(os.environ.get('JOBS', 4))) as pool:
+    for sort, try_one, changes in [('share', one_share, S), ('batch', one_batch, B), ('queue', one_queue, Q),
+                                   ('preview', one_preview, P), ('advance', one_advance, A), ('rule', one, M)]:
+        if not wanted(sort):
+            continue
+        for i, result in enumerate(pool.map(try_one, range(len(changes)))):
+            *name, old, new = changes[i]
+            # Of an advance or a preview the end tells more.
+            short = slice(-60, None) if sort in ('advance', 'preview') else slice(44)
+            print(sort, i, *name, repr(old[short]), '->', repr(new[short]), ':', result, flush=True)
 shutil.rmtree(work)

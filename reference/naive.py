@@ -4,12 +4,14 @@ that change it, as a check on the first: no caches, everything worked out from
 the state each time it is asked, dictionaries and sets throughout. Slow on
 purpose. The order inside a block starts with the author of its anchor here,
 with the leader of its round in the first writing; a draw goes from transaction
-to transaction here, lap by lap there.
+to transaction here, lap by lap there; a preview is told from histories here, by
+a commit on a copy there.
 
     naive.py < stream > answers
     naive.py shares < pairs > shares      (no record reads a share)
     naive.py batches < rows > answers     (no record is a batch)
     naive.py queues < stream > answers    (no record adds to a queue or draws)
+    naive.py previews < stream > answers  (no record is a preview)
 """
 import re
 import sys
@@ -203,7 +205,8 @@ class Engine:
         self.round += 1
         self.proposal = None
 
-    def commit(self):
+    def final_anchor(self):
+        """The anchor whose votes let a commit go."""
         r = self.round
         refuse_if(r == 1 or r % 2 == 0, 19)
         refuse_if(self.last() >= r - 1, 20)
@@ -214,8 +217,11 @@ class Engine:
         votes = sum(committee.get(a, 0) for (a, cr), (previous, _) in self.held.items()
                     if cr == r and anchor[0] in previous)
         refuse_if(not votes > self.bound(committee), 22)
-        taken = [anchor]
-        for even in range(r - 3, self.last(), -2):
+        return anchor
+
+    def commit(self):
+        taken = [self.final_anchor()]
+        for even in range(self.round - 3, self.last(), -2):
             older = self.anchor(even)
             if older is not None and older in self.history(taken[-1]):
                 taken.append(older)
@@ -226,6 +232,27 @@ class Engine:
             self.blocks.append((place[1], [(cr, a) for cr in range(1, place[1] + 1)
                                            for a in turn if (cr, a) in fresh]))
         return len(taken)
+
+    def preview(self, words):
+        """What a commit would add, without one. Each anchor that it takes is in
+        the history of every later one, so a certificate goes to the oldest whose
+        history has it."""
+        refuse_if(words // 3 < 16 * self.ceiling, 25)
+        newest = self.final_anchor()
+        histories = {newest: self.history(newest)}
+        oldest = newest
+        for even in range(newest[1] - 2, self.last(), -2):
+            anchor = self.anchor(even)
+            if anchor in histories[oldest]:
+                histories[anchor] = self.history(anchor)
+                oldest = anchor
+        old = {(a, cr) for _, certificates in self.blocks for cr, a in certificates}
+        numbered = list(enumerate(sorted(histories, key=lambda place: place[1]), len(self.blocks) + 1))
+        entries = []
+        for author, cr in histories[newest] - old:
+            number, anchor = min(one for one in numbered if (author, cr) in histories[one[1]])
+            entries.append((number, cr, (author - anchor[0]) % 16, author))
+        return [(number, cr, author) for number, cr, _, author in sorted(entries)]
 
     def chain(self):
         lines = []
@@ -387,11 +414,29 @@ def queues():
         print(*lines, sep='\n')
 
 
+def previews():
+    engine = None
+    for line in sys.stdin:
+        name, *fields = line.rstrip('\n').split(',')
+        if name != 'preview':
+            engine, lines = answered(engine, line.rstrip('\n'))
+        else:
+            try:
+                refuse_if(engine is None, 1)
+                entries = engine.preview(int(fields[0]))
+                lines = [','.join(map(str, ['ok', len(entries)] + [word for entry in entries for word in entry]))]
+            except Refused as refusal:
+                lines = ['refused,%d' % refusal.args[0]]
+        print(*lines, sep='\n')
+
+
 if sys.argv[1:] == ['shares']:
     shares()
 elif sys.argv[1:] == ['batches']:
     batches()
 elif sys.argv[1:] == ['queues']:
     queues()
+elif sys.argv[1:] == ['previews']:
+    previews()
 else:
     main()

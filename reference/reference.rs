@@ -22,6 +22,10 @@ pub const MEMBERS: u32 = 16;
 /// The most certificate records of a batch (point 4).
 pub const MOST_RECORDS: usize = 64;
 
+/// The words of an entry of a preview: block number, certificate round and
+/// author (point 8).
+pub const ENTRY: usize = 3;
+
 /// Guests are 0 to 7, and each has a queue of eight transactions (point 6).
 pub const GUESTS: u32 = 8;
 pub const QUEUE: usize = 8;
@@ -759,6 +763,35 @@ impl Member {
                 }
             }
             self.chain.push(Block::on(&self.chain, &self.settings, round, certificates, &self.held));
+        }
+        Ok(count)
+    }
+
+    // ---- preview of commit (point 8)
+
+    /// A place of the list is three words; what is left over is no place.
+    pub fn may_preview(&self, words: usize) -> Answer<()> {
+        if words / ENTRY < (MEMBERS * self.settings.ceiling) as usize {
+            return Err(25);
+        }
+        self.may_commit().map(|_| ())
+    }
+
+    /// Commits on a copy and reads the new blocks: block number, certificate
+    /// round and author of each of their certificates, in order. The rest of
+    /// the list is kept. The answer is how many there are.
+    pub fn preview(&self, list: &mut [u32]) -> Answer<u32> {
+        self.may_preview(list.len())?;
+        let mut copy = self.clone();
+        copy.commit()?;
+        let mut places = list.chunks_exact_mut(ENTRY);
+        let mut count = 0;
+        for (number, block) in (1..).zip(&copy.chain).skip(self.chain.len()) {
+            for &(round, author) in &block.certificates {
+                let place = places.next().expect("a place for each certificate of the ceiling");
+                place.copy_from_slice(&[number, round, author]);
+                count += 1;
+            }
         }
         Ok(count)
     }

@@ -1,7 +1,7 @@
 //! `rustc --test tests_ref.rs`: the cases marked P in document 01, the slips
 //! it wants ruled out, the example, small runs worked out by hand, the order
-//! inside a block, batches, queues, thin rounds, and the shortcuts of the
-//! reference compared with the plain definitions.
+//! inside a block, batches, queues, thin rounds, previews, and the shortcuts of
+//! the reference compared with the plain definitions.
 
 #![allow(dead_code)]
 
@@ -1053,6 +1053,212 @@ fn advances_by_chance() {
     assert!(times.iter().all(|&n| n > 1_000), "{times:?}");
 }
 
+// ----------------------------------------------- preview of commit (point 8) ---
+
+/// A preview into so many words, all 77 before: the entries. The rest is kept,
+/// a refused preview keeps all, and the state is untouched.
+fn preview(m: &Member, words: usize) -> Answer<Vec<[u32; 3]>> {
+    let (before, mut list) = (image(m), vec![77; words]);
+    let answer = m.preview(&mut list);
+    assert_eq!(m.may_preview(words), answer.map(|_| ()));
+    assert_eq!(image(m), before);
+    let written = 3 * answer.unwrap_or(0) as usize;
+    assert!(list[written..].iter().all(|&word| word == 77));
+    answer.map(|_| list[..written].chunks(3).map(|entry| [entry[0], entry[1], entry[2]]).collect())
+}
+
+/// The entries of the blocks that a commit adds to a copy, by the marks.
+fn by_commit(m: &Member) -> Answer<Vec<[u32; 3]>> {
+    let mut copy = m.clone();
+    let count = copy.commit()? as usize;
+    assert_eq!(copy.chain().len(), m.chain().len() + count);
+    let of = |k: usize| plain_block(&copy, k).into_iter().map(move |(r, a)| [k as u32 + 1, r, a]);
+    Ok((m.chain().len()..copy.chain().len()).flat_map(of).collect())
+}
+
+/// Entries of a block: of each round its authors in order.
+fn entries(block: u32, rounds: &[(u32, &[u32])]) -> Vec<[u32; 3]> {
+    rounds.iter().flat_map(|&(r, authors)| authors.iter().map(move |&a| [block, r, a])).collect()
+}
+
+/// A full round of four, but for those left out, that names these.
+fn round_of_four(m: &mut Member, round: u32, previous: Set, left_out: &[u32]) {
+    for a in (0..4).filter(|a| !left_out.contains(a)) {
+        m.accept(&by_all(a, round, previous, &[])).unwrap();
+    }
+    if m.round() < round {
+        m.advance().unwrap();
+    }
+}
+
+#[test]
+fn one_block_before_it_is_made() {
+    let mut m = of_four();
+    for (round, previous) in [(1, 0), (2, 15), (3, 15)] {
+        round_of_four(&mut m, round, previous, &[]);
+    }
+    // The leader of 2 is member 1.
+    let first = entries(1, &[(1, &[1, 2, 3, 0]), (2, &[1])]);
+    assert_eq!(preview(&m, 384), Ok(first.clone()));
+    assert_eq!(by_commit(&m), Ok(first));
+    assert_eq!(m.commit(), Ok(1));
+    assert_eq!(preview(&m, 384), Err(20));
+    // Numbers go on. The leader of 4 is member 2; what a block has already is not there.
+    for (round, previous) in [(4, 15), (5, 15)] {
+        round_of_four(&mut m, round, previous, &[]);
+    }
+    let second = entries(2, &[(2, &[2, 3, 0]), (3, &[2, 3, 0, 1]), (4, &[2])]);
+    assert_eq!(preview(&m, 384), Ok(second.clone()));
+    assert_eq!(preview(&m, 384), Ok(second)); // and again
+    assert_eq!(m.commit(), Ok(1));
+}
+
+#[test]
+fn several_blocks_before_they_are_made() {
+    let mut m = of_four();
+    // Leaders of 2, 4, 6 are 1, 2, 3. Round 3 does not name 1: that anchor is passed by.
+    for (round, previous) in [(1, 0), (2, 15), (3, 13), (4, 15), (5, 15), (6, 15), (7, 15)] {
+        round_of_four(&mut m, round, previous, &[]);
+    }
+    let older = entries(1, &[(1, &[2, 3, 0, 1]), (2, &[2, 3, 0]), (3, &[2, 3, 0, 1]), (4, &[2])]);
+    let newer = entries(2, &[(4, &[3, 0, 1]), (5, &[3, 0, 1, 2]), (6, &[3])]);
+    assert_eq!(preview(&m, 384), Ok([older, newer].concat()));
+    // With an anchor that is not held: the leader of 4 left out.
+    let mut m = of_four();
+    for (round, previous, left_out) in
+        [(1, 0, &[][..]), (2, 15, &[]), (3, 15, &[]), (4, 15, &[2]), (5, 11, &[]), (6, 15, &[]), (7, 15, &[])]
+    {
+        round_of_four(&mut m, round, previous, left_out);
+    }
+    let older = entries(1, &[(1, &[1, 2, 3, 0]), (2, &[1])]);
+    let newer = entries(2, &[(2, &[3, 0, 2]), (3, &[3, 0, 1, 2]), (4, &[3, 0, 1]), (5, &[3, 0, 1, 2]), (6, &[3])]);
+    assert_eq!(preview(&m, 384), Ok([older, newer].concat()));
+    assert_eq!(m.commit(), Ok(2));
+}
+
+/// A place is three words, and 16 of them are asked for in each round of the
+/// ceiling, however few certificates there are. 25 comes before all of commit's.
+#[test]
+fn places_of_the_list() {
+    let mut m = of_four();
+    for (round, answer) in [(1, Err(19)), (2, Err(19)), (3, Ok(5))] {
+        round_of_four(&mut m, round, if round == 1 { 0 } else { 15 }, &[]);
+        for words in [0, 1, 15, 24, 128, 3 * 120, 381, 382, 383] {
+            assert_eq!(preview(&m, words), Err(25), "{words} words in round {round}");
+        }
+        for words in [384, 385, 386, 387, 388, 1_000] {
+            assert_eq!(preview(&m, words).map(|entries| entries.len()), answer, "{words} words");
+        }
+    }
+    for ceiling in [3, 4, 5, 64, 1_023, 1_024] {
+        let m = Member::open(0, &sheet(Blank, Written(ceiling), Blank, &[]), 1_024).unwrap();
+        let just = 48 * ceiling as usize;
+        for (words, answer) in [(just - 3, 25), (just - 1, 25), (just, 19), (just + 1, 19), (just + 2, 19)] {
+            assert_eq!(preview(&m, words), Err(answer));
+        }
+    }
+}
+
+#[test]
+fn a_preview_is_refused_as_commit_is() {
+    let refused = |m: &Member, number: u32| {
+        assert_eq!(preview(m, 384), Err(number));
+        assert_eq!(preview(m, 383), Err(25));
+        assert_eq!(by_commit(m), Err(number));
+    };
+    let mut m = of_four();
+    refused(&m, 19);
+    for (round, previous) in [(1, 0), (2, 15), (3, 15)] {
+        round_of_four(&mut m, round, previous, &[]);
+    }
+    assert_eq!(preview(&m, 384).map(|entries| entries.len()), Ok(5));
+    let mut even = m.clone();
+    even.round = 4;
+    refused(&even, 19);
+    let mut done = m.clone();
+    done.commit().unwrap();
+    refused(&done, 20);
+    // With lookback 1 and no block round 5 is not known, whatever is held.
+    let mut unknown = m.clone();
+    (unknown.round, unknown.settings.lookback) = (5, 1);
+    refused(&unknown, 8);
+    let mut no_anchor = m.clone();
+    no_anchor.held[17] = None; // member 1 in round 2
+    refused(&no_anchor, 21);
+    for (round, author) in [(3, 0), (3, 1)] {
+        m.held[(round - 1) * 16 + author] = None;
+    }
+    assert_eq!(preview(&m, 384).map(|entries| entries.len()), Ok(5)); // two of four, bound 1
+    m.held[2 * 16 + 2] = None;
+    refused(&m, 22);
+}
+
+/// A state that no run reaches: all that the anchor has is in a block already.
+#[test]
+fn a_block_of_nothing_has_no_entry() {
+    let mut m = of_four();
+    for (round, previous) in [(1, 0), (2, 15), (3, 15)] {
+        round_of_four(&mut m, round, previous, &[]);
+    }
+    m.commit().unwrap();
+    for (round, previous) in [(4, 15), (5, 15), (6, 15), (7, 15)] {
+        round_of_four(&mut m, round, previous, &[]);
+    }
+    // Rounds 1 to 4 are all in block 1: the anchor of 4 makes a block of none.
+    m.held[..4 * 16].iter_mut().flatten().for_each(|held| held.block = 1);
+    assert_eq!(preview(&m, 384), Ok(entries(3, &[(5, &[3, 0, 1, 2]), (6, &[3])])));
+    m.held[..7 * 16].iter_mut().flatten().for_each(|held| held.block = 1);
+    assert_eq!(preview(&m, 384), Ok(vec![]));
+    assert_eq!(by_commit(&m), Ok(vec![]));
+    assert_eq!(m.commit(), Ok(2));
+}
+
+#[test]
+fn previews_by_chance() {
+    let mut rng = Rng(0x0b5e_7ed0_8a11_f00d);
+    let (mut by_blocks, mut refused, mut turned) = ([0; 5], [0; 32], 0);
+    for _ in 0..400 {
+        let weights: Vec<u32> = (0..16).map(|_| rng.below(4) as u32).collect();
+        let (lookback, ceiling) = (1 + rng.below(16) as u32, 3 + rng.below(22) as u32);
+        let Ok(mut m) = Member::open(0, &sheet(Written(lookback), Written(ceiling), Blank, &weights), 64) else { continue };
+        let seldom = 1 + rng.below(5);
+        loop {
+            fill_round(&mut rng, &mut m);
+            // Now and then the votes, or the anchor, are not there yet.
+            let mut fewer = m.clone();
+            for round in [m.round().max(2) - 1, m.round()] {
+                for a in 0..16 {
+                    if rng.below(3) == 0 {
+                        fewer.held[((round - 1) * 16 + a) as usize] = None;
+                    }
+                }
+            }
+            for state in [&m, &fewer] {
+                let words = 48 * ceiling as usize + rng.below(5) as usize;
+                let found = preview(state, words);
+                assert_eq!(found, by_commit(state));
+                match found {
+                    Ok(entries) => {
+                        let blocks: BTreeSet<u32> = entries.iter().map(|entry| entry[0]).collect();
+                        by_blocks[blocks.len().min(4)] += 1;
+                        turned += u32::from(!entries.is_sorted());
+                    }
+                    Err(number) => refused[number as usize] += 1,
+                }
+                assert_eq!(preview(state, 48 * ceiling as usize - 1 - rng.below(60) as usize), Err(25));
+            }
+            if rng.below(seldom) == 0 && m.commit().is_ok() {
+                assert_eq!(preview(&m, 48 * ceiling as usize), Err(20));
+            }
+            if m.advance().is_err() {
+                break;
+            }
+        }
+    }
+    assert!(by_blocks[0] == 0 && by_blocks[1..].iter().all(|&n| n > 100) && turned > 500, "{by_blocks:?} {turned}");
+    assert!([8, 19, 21, 22].iter().all(|&n: &usize| refused[n] > 50), "{refused:?}");
+}
+
 // -------------------------------------------------------------- runner ---
 
 fn answers(input: &[u8]) -> String {
@@ -1166,6 +1372,35 @@ fn plain_history(m: &Member, author: u32, round: u32) -> BTreeSet<(u32, u32)> {
     found
 }
 
+/// Certificates of the present round, where it is known: by chance, then of
+/// those left out, until their authors are a quorum.
+fn fill_round(rng: &mut Rng, m: &mut Member) {
+    let r = m.round();
+    if let Some(committee) = m.committee_of(r).copied() {
+        let (some, rest): (Vec<u32>, Vec<u32>) = (0..16).partition(|_| rng.below(5) > 0);
+        for a in some.iter().chain(&rest).copied() {
+            if committee[a as usize] == 0 || rest.contains(&a) && m.may_advance().is_ok() {
+                continue;
+            }
+            let before = m.held_authors(r - 1);
+            let mut previous = before & !(rng.below(65_536) as Set & rng.below(65_536) as Set);
+            if previous == 0 {
+                previous = before;
+            }
+            let mut transactions = Vec::new();
+            for _ in 0..rng.below(3) {
+                transactions.push(match rng.below(4) {
+                    0 => unbond(rng.below(16) as u32),
+                    1 => entry(rng.below(100) as u32),
+                    _ => bond(rng.below(16) as u32, 1 + rng.below(4) as u32),
+                });
+            }
+            let all = (0..16).filter(|&m| committee[m as usize] > 0 && m != a).map(single).fold(0, |x, y| x | y);
+            let _ = m.accept(&certificate(a, r, previous, all, &transactions));
+        }
+    }
+}
+
 #[test]
 fn shortcuts() {
     let mut rng = Rng(0x1234_5678_9abc_def1);
@@ -1175,31 +1410,7 @@ fn shortcuts() {
         let lookback = 1 + rng.below(8) as u32;
         let Ok(mut m) = Member::open(0, &sheet(Written(lookback), Written(24), Blank, &weights), 64) else { continue };
         loop {
-            let r = m.round();
-            if let Some(committee) = m.committee_of(r).copied() {
-                // By chance, then those left out, until they are a quorum.
-                let (some, rest): (Vec<u32>, Vec<u32>) = (0..16).partition(|_| rng.below(5) > 0);
-                for a in some.iter().chain(&rest).copied() {
-                    if committee[a as usize] == 0 || rest.contains(&a) && m.may_advance().is_ok() {
-                        continue;
-                    }
-                    let before = m.held_authors(r - 1);
-                    let mut previous = before & !(rng.below(65_536) as Set & rng.below(65_536) as Set);
-                    if previous == 0 {
-                        previous = before;
-                    }
-                    let mut transactions = Vec::new();
-                    for _ in 0..rng.below(3) {
-                        transactions.push(match rng.below(4) {
-                            0 => unbond(rng.below(16) as u32),
-                            1 => entry(rng.below(100) as u32),
-                            _ => bond(rng.below(16) as u32, 1 + rng.below(4) as u32),
-                        });
-                    }
-                    let all = (0..16).filter(|&m| committee[m as usize] > 0 && m != a).map(single).fold(0, |x, y| x | y);
-                    let _ = m.accept(&certificate(a, r, previous, all, &transactions));
-                }
-            }
+            fill_round(&mut rng, &mut m);
             if rng.below(3) > 0 {
                 let before = m.chain().len() as u32;
                 if let Ok(n) = m.commit() {

@@ -67,10 +67,11 @@ pub enum Call {
     Share { member: u32, round: u32 },
     Certificate { author: u32, round: u32, out: Vec<u32> },
     Block { number: u32 },
+    Preview { list: Vec<u32> },
 }
 
 impl Call {
-    pub const NAMES: [&'static str; 14] = [
+    pub const NAMES: [&'static str; 15] = [
         "open",
         "propose",
         "endorse",
@@ -85,6 +86,7 @@ impl Call {
         "share",
         "certificate",
         "block",
+        "preview",
     ];
 
     pub fn kind(&self) -> usize {
@@ -103,11 +105,13 @@ impl Call {
             Call::Share { .. } => 11,
             Call::Certificate { .. } => 12,
             Call::Block { .. } => 13,
+            Call::Preview { .. } => Call::PREVIEW,
         }
     }
 
     /// The kinds of calls that may change a word come first, then the reads.
     pub const CHANGING: usize = 10;
+    pub const PREVIEW: usize = 14;
 
     pub fn is_read(&self) -> bool {
         self.kind() >= Call::CHANGING
@@ -118,6 +122,7 @@ impl Call {
         match self {
             Call::Committee { out, .. } | Call::Certificate { out, .. } => out,
             Call::Batch { answers, .. } => answers,
+            Call::Preview { list } => list,
             _ => &[],
         }
     }
@@ -293,6 +298,31 @@ fn out_stretch(rng: &mut Rng, needed: usize) -> Vec<u32> {
     (0..length).map(|_| rng.word()).collect()
 }
 
+/// The words of the list that a preview asks for: 16 places of three words for
+/// each round of the ceiling.
+pub fn preview_words(ceiling: u32) -> usize {
+    3 * 16 * ceiling as usize
+}
+
+/// A preview into a list that is just long enough, mostly; some words more or
+/// less, much longer, much shorter, or empty.
+pub fn some_preview(rng: &mut Rng, ceiling: u32) -> Call {
+    let needed = preview_words(ceiling);
+    let words = match rng.below(40) {
+        0 => 0,
+        1 => rng.below(needed as u64) as usize,
+        2 => rng.pick(&[1, 2, 3, 15 * ceiling as usize, 16 * ceiling as usize, 45 * ceiling as usize, needed - 48]),
+        3 => needed - 1,
+        4 => needed - rng.pick(&[2, 3, 4]),
+        5..=8 => needed + 1,
+        9..=12 => needed + 2,
+        13 => needed + rng.pick(&[3, 16, 48]),
+        14 => needed + rng.below(200) as usize,
+        _ => needed,
+    };
+    Call::Preview { list: noise(rng, words) }
+}
+
 /// A guest adds a transaction: one that fits, mostly; any guest, at times those
 /// with much waiting.
 pub fn likely_enqueue(rng: &mut Rng, member: &Member) -> Call {
@@ -353,7 +383,10 @@ pub fn likely_call(rng: &mut Rng, member: &Member, pool: &mut Pool) -> Call {
             };
             Call::Accept { certificate: longer(rng, words) }
         }
-        77..=84 if could_commit || rng.chance(200) => Call::Commit,
+        77..=84 if could_commit || rng.chance(200) => match rng.below(4) {
+            0 => some_preview(rng, member.settings.ceiling),
+            _ => Call::Commit,
+        },
         // On, once a quorum of the round is there; now and then before that.
         65..=84 if may_go_on(member) || rng.chance(60) => Call::Advance,
         65..=84 => {
@@ -488,7 +521,8 @@ pub fn wild_draw(rng: &mut Rng, member: &Member) -> Call {
 /// A call that fits little: spoilt arguments, or any words at all.
 pub fn wild_call(rng: &mut Rng, member: &Member, pool: &mut Pool) -> Call {
     let fit = rng.chance(850);
-    match rng.below(15) {
+    match rng.below(16) {
+        15 => some_preview(rng, member.settings.ceiling),
         12 | 13 => wild_enqueue(rng),
         14 => wild_draw(rng, member),
         0 => Call::Open { own: rng.between(0, 17), sheet: wild_sheet(rng, member) },
@@ -549,7 +583,8 @@ fn wild_round(rng: &mut Rng, member: &Member) -> u32 {
 /// For a made-up chain: calls that ask what the blocks have made of the weights.
 pub fn call_on_chain(rng: &mut Rng, member: &Member, pool: &mut Pool) -> Call {
     let round = rng.between(1, member.settings.ceiling);
-    match rng.below(11) {
+    match rng.below(13) {
+        11 | 12 => some_preview(rng, member.settings.ceiling),
         0..=4 => Call::Committee { round, out: out_stretch(rng, 16) },
         5 => Call::Share { member: rng.between(0, 15), round },
         6..=8 => Call::Commit,
@@ -560,9 +595,10 @@ pub fn call_on_chain(rng: &mut Rng, member: &Member, pool: &mut Pool) -> Call {
 
 /// For a changed state: every sort of call about as often.
 pub fn any_call(rng: &mut Rng, member: &Member, pool: &mut Pool) -> Call {
-    match rng.below(5) {
+    match rng.below(6) {
         0 => wild_call(rng, member, pool),
         1 => Call::Commit,
+        2 if rng.chance(500) => some_preview(rng, member.settings.ceiling),
         _ => likely_call(rng, member, pool),
     }
 }

@@ -4,6 +4,8 @@
 //! hold. Each is listed by `Engine::chain`, by `lent::chain` and by `forgelilac_chain` of the header,
 //! and must be as the reference has it; and by reads alone, one for each place and each block, which
 //! is how chains were listed before. A state that is not well formed must be refused with 1 by all.
+//! What a commit would add is told by `Engine::preview`, by `lent::preview` and by the header's
+//! `forgelilac_preview`, and must be as the reference has it.
 //! Then a full state of ceiling 1,024, with times.
 
 #![allow(dead_code)]
@@ -17,7 +19,7 @@ mod words;
 
 use calls::Rng;
 use forgelilac::lent::{self, CertificateRecord, Place};
-use forgelilac::{layout, leader, Block, Certificate, Engine, Proposal, Refusal, Sheet, Transaction, MEMBERS};
+use forgelilac::{layout, leader, Block, Certificate, Engine, Entry, Proposal, Refusal, Sheet, Transaction, MEMBERS};
 use grow::*;
 use nodes::Node;
 use std::ffi::{c_char, CStr};
@@ -34,13 +36,14 @@ mod header {
         pub fn header_version() -> *const c_char;
         pub fn header_record_of(words: *const u32, record: *mut super::CertificateRecord);
         pub fn header_waiting(t: *const u32, guest: u32) -> u32;
+        pub fn header_preview(s: *const u32, sn: usize, t: *const u32, tn: usize, list: *mut u32, n: usize) -> u64;
         pub fn header_number(which: u32) -> u32;
     }
 }
 
 /// Lengths and offsets of the package, in the order of header.c.
 #[rustfmt::skip]
-const NUMBERS: [usize; 44] = [
+const NUMBERS: [usize; 49] = [
     layout::FORMAT as usize, MEMBERS, layout::TRANSACTIONS, layout::BLOCKS, layout::STACK_BYTES,
     layout::STATE_WORDS, layout::BODY_WORDS, layout::PROPOSAL_WORDS, layout::CERTIFICATE_WORDS,
     layout::HELD_WORDS, layout::SHEET_WORDS, layout::STATE_OWN, layout::STATE_LOOKBACK,
@@ -52,6 +55,7 @@ const NUMBERS: [usize; 44] = [
     layout::record(5, 7), forgelilac::table_words(64) as usize, 3 * MEMBERS * 64,
     layout::BATCH_RECORDS, size_of::<CertificateRecord>(), layout::GUESTS, layout::QUEUE_PLACES,
     layout::TRANSACTION_WORDS, layout::SERVED, layout::WAITING, layout::queue(0), layout::queue(7),
+    layout::ENTRY_WORDS, layout::ENTRY_BLOCK, layout::ENTRY_ROUND, layout::ENTRY_AUTHOR, layout::preview_words(64),
 ];
 
 fn text(of: *const c_char) -> &'static str {
@@ -152,6 +156,9 @@ struct Figures {
     by_reads: u64,
     above: u64,
     waiting: u64,
+    /// Previews that were accepted, and their entries.
+    previewed: u64,
+    entries: u64,
 }
 
 impl Figures {
@@ -165,6 +172,7 @@ impl Figures {
         let formed = unsafe { header::header_is_well_formed(state.as_ptr(), state.len(), table.as_ptr(), table.len()) };
         assert_eq!((formed == 1, engine.is_well_formed()), (node.twin.is_some(), node.twin.is_some()));
         self.compare_waiting(node, &engine);
+        self.compare_previews(node, &engine);
         let Some(twin) = &node.twin else {
             self.malformed += 1;
             self.without_blocks += u64::from(engine.blocks() == 0);
@@ -188,6 +196,34 @@ impl Figures {
         } else {
             self.by_reads += 1;
             assert_eq!(by_reads(&engine), Ok(expected));
+        }
+    }
+
+    /// What a commit would add, as package, header and reference have it, into a list that is just
+    /// long enough, longer, and one word short.
+    fn compare_previews(&mut self, node: &Node, engine: &Engine) {
+        let (state, table) = (&node.state[..], &node.table[..]);
+        let needed = layout::preview_words(state[layout::STATE_CEILING].clamp(3, forgelilac::CEILING));
+        for words in [needed, needed + 2, needed - 1] {
+            let mut expected = vec![77; words];
+            let answer = node.twin.as_ref().map_or(Err(1), |twin| twin.preview(&mut expected));
+            let (mut lent_list, mut header_list) = (vec![77; words], vec![77; words]);
+            let found = lent::preview(state, table, &mut lent_list).map_err(Refusal::number);
+            // SAFETY: whole slices.
+            let in_header = unsafe {
+                let (list, n) = (header_list.as_mut_ptr(), header_list.len());
+                header::header_preview(state.as_ptr(), state.len(), table.as_ptr(), table.len(), list, n)
+            };
+            assert_eq!(found, answer);
+            assert_eq!(in_header, answer.map_or_else(|number| u64::from(number) << 32, u64::from));
+            assert!(lent_list == expected && header_list == expected);
+            if words == needed {
+                let entry = |w: &[u32]| Entry { block: w[0], round: w[1], author: w[2] };
+                let entries = answer.map(|count| expected.chunks(3).take(count as usize).map(entry).collect::<Vec<_>>());
+                self.previewed += u64::from(entries.is_ok());
+                self.entries += entries.as_ref().map_or(0, Vec::len) as u64;
+                assert_eq!(engine.preview().map_err(Refusal::number), entries);
+            }
         }
     }
 
@@ -325,5 +361,6 @@ fn main() {
              f.blocks, f.certificates, f.most, f.turned);
     println!("{} states listed by reads alone too: the same; {} have a mark above the last block's round", f.by_reads, f.above);
     println!("{} transactions waiting in queues: counted alike", f.waiting);
+    println!("{} previews accepted, with {} entries: as the reference has them", f.previewed, f.entries);
     time_full();
 }

@@ -1,5 +1,5 @@
 //! Host functions against the reference:
-//! `differential SEED [CALLS [TOTAL [CERTIFICATES [QUEUED]]]]`.
+//! `differential SEED [CALLS [TOTAL [CERTIFICATES [QUEUED [PREVIEWED]]]]]`.
 //!
 //! Each call is made twice: by the engine on words, and by the reference on
 //! the member that the words before the call stand for. Compared after each
@@ -9,9 +9,11 @@
 //! First come single words at the edges of their ranges (`edges.rs`), then
 //! shares, among them every weight of every total up to TOTAL (`shares.rs`), then
 //! batches, until CERTIFICATES were handed over in them (`batches.rs`), then
-//! QUEUED calls on queues (`queues.rs`), then calls by chance. Their stretches start from states grown by runs, from such states
-//! with words changed here and there, and with chains made up on what they hold. Whether
-//! a changed state is well formed is judged by `words.rs`, from the papers.
+//! QUEUED calls on queues (`queues.rs`), then PREVIEWED previews of commit
+//! (`previews.rs`), then calls by chance. Their stretches start from states grown
+//! by runs, from such states with words changed here and there, and with chains
+//! made up on what they hold. Whether a changed state is well formed is judged by
+//! `words.rs`, from the papers.
 //!
 //! With `--cfg plain` the engine under test is bench/plain.rs.
 
@@ -26,6 +28,7 @@ mod engine;
 mod engine;
 mod grow;
 mod nodes;
+mod previews;
 mod queues;
 #[path = "../../reference/reference.rs"]
 mod reference;
@@ -109,6 +112,7 @@ fn by_reference(
             Ok(0)
         }
         Call::Block { number } => member.read_block(*number).map(u64::from),
+        Call::Preview { .. } => member.preview(out).map(u64::from),
     }
 }
 
@@ -135,6 +139,7 @@ fn by_engine(call: &Call, state: &mut [u32], table: &mut [u32], out: &mut [u32])
             plain(engine::certificate(state, table, *author, *round, out))
         }
         Call::Block { number } => engine::block(state, table, *number),
+        Call::Preview { .. } => engine::preview(state, table, out),
     }
 }
 
@@ -190,6 +195,7 @@ struct Figures {
     sizes: [u64; 3],
     batches: batches::Figures,
     queues: queues::Figures,
+    previews: previews::Figures,
 }
 
 impl Figures {
@@ -276,6 +282,7 @@ impl Figures {
         );
         self.batches.print();
         self.queues.print();
+        self.previews.print(&self.answers[Call::PREVIEW]);
         let [small, middle, large] = self.sizes;
         println!("calls by ceiling: {small} up to 40, {middle} up to 255, {large} up to 1,024");
         println!("changed states: {}, of them not well formed: {}", self.changed, self.malformed);
@@ -291,6 +298,8 @@ pub struct Test {
     figures: Figures,
     before_state: Vec<u32>,
     before_table: Vec<u32>,
+    /// The out stretch after the last call.
+    last_out: Vec<u32>,
 }
 
 fn first_difference(what: &str, expected: &[u32], found: &[u32]) {
@@ -304,6 +313,12 @@ impl Test {
     fn end(&self) -> ! {
         self.figures.print(self.seed);
         std::process::exit(i32::from(self.figures.differences > 0))
+    }
+
+    /// Two answers of the engine do not fit one another.
+    fn differs(&mut self, how: &str) {
+        self.figures.differences += 1;
+        println!("DIFFERENCE after call {}: {how}", self.figures.calls);
     }
 
     /// One call on a node, by both, compared. The tenth difference is the last.
@@ -338,13 +353,14 @@ impl Test {
             first_difference("table", table, &node.table);
             first_difference("out", &expected_out, &found_out);
             println!("  state now: {:?}", node.state);
-            if self.figures.differences == 10 {
+            if self.figures.differences >= 10 {
                 self.end();
             }
             // Go on from what was expected.
             node.state.clone_from(&self.before_state);
             node.table.clone_from(&self.before_table);
         }
+        self.last_out = found_out;
         self.figures.count(call, expected);
         if matches!(call, Call::Draw { .. }) {
             self.figures.queues.count_draw(answer, waited, waiting_of(call, node.twin.as_ref()));
@@ -484,12 +500,14 @@ fn main() {
     let certificates =
         arguments.next().map_or(50_000, |a| a.parse().expect("CERTIFICATES is a number"));
     let queued = arguments.next().map_or(50_000, |a| a.parse().expect("QUEUED is a number"));
+    let previewed = arguments.next().map_or(20_000, |a| a.parse().expect("PREVIEWED is a number"));
     let mut test = Test {
         seed,
         rng: Rng::of(seed),
         figures: Figures::default(),
         before_state: Vec::new(),
         before_table: Vec::new(),
+        last_out: Vec::new(),
     };
     for ceiling in (0..2_000).chain([65_535, u32::MAX]) {
         assert_eq!(engine::table_words(ceiling), 272 * u64::from(ceiling) + 272);
@@ -506,6 +524,10 @@ fn main() {
     let before = test.figures.calls;
     test.queues(queued);
     println!("queues: {} calls", test.figures.calls - before);
+    let before = test.figures.calls;
+    let accepted = test.previews(previewed);
+    let calls_made = test.figures.calls - before;
+    println!("{previewed} previews and more, {accepted} of them accepted, commits after them: {calls_made} calls");
     let enough = test.figures.calls + calls;
     while test.figures.calls < enough {
         test.stretch();

@@ -28,6 +28,7 @@ fn each_call(member: &Member) -> Vec<Call> {
         Call::Share { member: member.own, round },
         Call::Certificate { author: member.own, round: 1, out: vec![7; 18] },
         Call::Block { number: 1 },
+        Call::Preview { list: vec![7; preview_words(member.settings.ceiling)] },
         Call::Advance,
     ]
 }
@@ -347,5 +348,6 @@ impl Test {
             self.try_edges(&Node { state, table, twin: Some(member) });
         }
         self.queue_edges();
+        self.preview_edges();
     }
 }

@@ -147,7 +147,7 @@ pub fn fill_queues(rng: &mut Rng, member: &mut Member) {
 }
 
 /// A certificate of the present round, made up to fit the member.
-fn made_up(rng: &mut Rng, member: &Member, author: u32, plan: &Plan) -> Certificate {
+pub fn made_up(rng: &mut Rng, member: &Member, author: u32, plan: &Plan) -> Certificate {
     let round = member.round;
     let before = if round > 1 { member.held_authors(round - 1) } else { 0 };
     let thin = rng.thin(before, plan.thick);
@@ -162,7 +162,7 @@ fn made_up(rng: &mut Rng, member: &Member, author: u32, plan: &Plan) -> Certific
 
 /// Holds certificates of more authors of the present round until they are a
 /// quorum: without one a member does not advance.
-fn gather(rng: &mut Rng, member: &mut Member, committee: &Committee, plan: &Plan) {
+pub fn gather(rng: &mut Rng, member: &mut Member, committee: &Committee, plan: &Plan) {
     let mut authors: Vec<u32> = members_of(members_in(committee)).collect();
     while !is_quorum(member.held_authors(member.round), committee) {
         let author = authors.swap_remove(rng.below(authors.len() as u64) as usize);

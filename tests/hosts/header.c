@@ -9,6 +9,8 @@ const char *header_refusal_text(uint32_t number);
 const char *header_version(void);
 void header_record_of(const uint32_t *words, struct forgelilac_certificate *record);
 uint32_t header_waiting(const uint32_t *table, uint32_t guest);
+uint64_t header_preview(const uint32_t *state, size_t state_words, const uint32_t *table, size_t table_words,
+                        uint32_t *list, size_t list_words);
 uint32_t header_number(uint32_t which);
 
 uint64_t header_chain(const uint32_t *state, size_t state_words, const uint32_t *table, size_t table_words,
@@ -32,6 +34,11 @@ void header_record_of(const uint32_t *words, struct forgelilac_certificate *reco
 
 uint32_t header_waiting(const uint32_t *table, uint32_t guest) { return forgelilac_waiting(table, guest); }
 
+uint64_t header_preview(const uint32_t *state, size_t state_words, const uint32_t *table, size_t table_words,
+                        uint32_t *list, size_t list_words) {
+    return forgelilac_preview(state, state_words, table, table_words, list, list_words);
+}
+
 /* Lengths and offsets, in the order of NUMBERS in chains.rs. */
 uint32_t header_number(uint32_t which) {
     static const uint32_t numbers[] = {
@@ -46,7 +53,8 @@ uint32_t header_number(uint32_t which) {
         (uint32_t)FORGELILAC_RECORD(5u, 7u), FORGELILAC_TABLE_WORDS(64u), FORGELILAC_CHAIN_WORDS(64u),
         FORGELILAC_BATCH_RECORDS, (uint32_t)sizeof(struct forgelilac_certificate), FORGELILAC_GUESTS,
         FORGELILAC_QUEUE_PLACES, FORGELILAC_TRANSACTION_WORDS, FORGELILAC_SERVED, FORGELILAC_WAITING,
-        FORGELILAC_QUEUE(0u), FORGELILAC_QUEUE(7u),
+        FORGELILAC_QUEUE(0u), FORGELILAC_QUEUE(7u), FORGELILAC_ENTRY_WORDS, FORGELILAC_ENTRY_BLOCK,
+        FORGELILAC_ENTRY_ROUND, FORGELILAC_ENTRY_AUTHOR, FORGELILAC_PREVIEW_WORDS(64u),
     };
     return which < sizeof numbers / sizeof numbers[0] ? numbers[which] : UINT32_MAX;
 }

@@ -23,6 +23,20 @@ CEILING = "    if r == s.ceiling() {\n        return Err(18);\n    }\n"
 QUORUM = "!s.committee(r)?.is_quorum(s.held(r))"
 THIN = "    if " + QUORUM + " {\n        return Err(28);\n    }\n"
 
+# Of a preview: the state, its places, their number, what a commit would take, the entries.
+PREVIEWED = "    let s = survey(state, table, Weights::Present, &mut room)?;\n    let places"
+PLACES = "    let places = list.as_chunks_mut::<3>().0;\n"
+SHORT = "    if places.len() < 16 * s.ceiling() as usize {\n        return Err(25);\n    }\n"
+TAKEN = "    let mut anchors = [(0, 0); MOST_BLOCKS];\n    let taken = anchors_of_commit(&s, &mut anchors)?;\n"
+LISTED = "    Ok(list_blocks(&s, &anchors[..taken], places) as u32)\n"
+ENTRY = "[block, round, (first + step as u32) & 15]"
+FROM_FIRST = "let from_first = (set | set << 16) >> first & 0xffff;"
+
+
+def after_listing(what):
+    return "    let count = list_blocks(&s, &anchors[..taken], places);\n    %s;\n    Ok(count as u32)\n" % what
+
+
 # (text that stands once in plain.rs, what takes its place)
 MUTANTS = [
     # states that are not well formed
@@ -133,6 +147,57 @@ MUTANTS = [
     ("        rows[block as usize][2] = round;\n", ""),
     ("state[BLOCKS] = blocks + taken as u32;", "state[BLOCKS] = blocks + 1;"),
     ("    Ok(taken as u32)\n", "    Ok(1)\n"),
+    # previews: by the newest anchor first, newest block first, one number, whole histories, the oldest alone, the newest alone
+    ("in (s.blocks() + 1..).zip(anchors.iter().rev())", "in (s.blocks() + 1..).zip(anchors.iter())"),
+    (LISTED, after_listing("places[..count].sort_by_key(|entry| u32::MAX - entry[0])")),
+    (ENTRY, ENTRY.replace("block", "s.blocks() + 1")),
+    ("            reached[r] |= here;\n", ""),
+    (LISTED, LISTED.replace("&anchors[..taken]", "&anchors[taken - 1..taken]")),
+    (LISTED, LISTED.replace("&anchors[..taken]", "&anchors[..1]")),
+    # old marks not asked; the history of what is in a block left out; what is not held
+    ("unmarked |= u32::from(mark == 0) << a;", "unmarked |= u32::from(mark <= s.blocks()) << a;"),
+    ("named |= previous;", "named |= if mark == 0 { previous } else { 0 };"),
+    ("named & s.rows[r][0] & !reached[r]", "named & !reached[r]"),
+    # block numbers from 1, one too low
+    ("in (s.blocks() + 1..).zip", "in (1..).zip"),
+    ("in (s.blocks() + 1..).zip", "in (s.blocks()..).zip"),
+    # counted in words, in blocks, one more
+    (LISTED, LISTED.replace("as u32", "as u32 * 3")),
+    (LISTED, LISTED.replace("places) as u32", "places).min(taken) as u32")),
+    (LISTED, LISTED.replace("as u32", "as u32 + 1")),
+    # one round short, one place, 15 a round, 17, one more; a started place counted; words; by the present round
+    (SHORT, SHORT.replace("s.ceiling()", "(s.ceiling() - 1)")),
+    (SHORT, SHORT.replace("places.len()", "places.len() + 1")),
+    (SHORT, SHORT.replace("16", "15")),
+    (SHORT, SHORT.replace("16", "17")),
+    (SHORT, SHORT.replace("<", "<=")),
+    (PLACES + SHORT, "    let started = usize::from(list.len() % 3 > 0);\n" + PLACES + SHORT.replace("places.len()", "places.len() + started")),
+    (PLACES + SHORT, "    let words = list.len();\n" + PLACES + SHORT.replace("places.len()", "words")),
+    (SHORT, SHORT.replace("s.ceiling()", "s.round()")),
+    # 25 before 1, after commit's, never, given as 1
+    (PREVIEWED, "    if list.len() / 3 < 16 * state.get(2).copied().unwrap_or(0) as usize {\n        return Err(25);\n    }\n" + PREVIEWED),
+    (SHORT + TAKEN, TAKEN + SHORT),
+    (SHORT, ""),
+    (SHORT, SHORT.replace("25", "1")),
+    # round and author swapped, the round of the block, the number of a block for its round
+    (ENTRY, "[block, (first + step as u32) & 15, round]"),
+    (ENTRY, ENTRY.replace("round", "top")),
+    (ENTRY, "[round, block, (first + step as u32) & 15]"),
+    # numbers just rise; from the one after the leader; from another in each round; rounds fall
+    (FROM_FIRST, "let (from_first, first) = (set, 0);"),
+    (FROM_FIRST, "let first = (first + 1) & 15;\n            " + FROM_FIRST),
+    (FROM_FIRST, "let first = (first + round) & 15;\n            " + FROM_FIRST),
+    ("for round in r as u32 + 1..=top {", "for round in (r as u32 + 1..=top).rev() {"),
+    # the anchor left out, the lowest round
+    ("for round in r as u32 + 1..=top {", "for round in r as u32 + 1..top {"),
+    ("for round in r as u32 + 1..=top {", "for round in r as u32 + 2..=top {"),
+    # the rest written, one word of it; refused, a word written
+    (LISTED, after_listing("places[count..].fill([0; 3])")),
+    (LISTED, after_listing("places[count..].iter_mut().take(1).for_each(|place| place[2] = 0)")),
+    (SHORT, SHORT.replace("        return", "        places.iter_mut().take(1).for_each(|place| place[0] = 0);\n        return")),
+    (TAKEN + LISTED, "    places[0][0] = 0;\n" + TAKEN + LISTED),
+    # committees without the weights that blocks have changed
+    (PREVIEWED, PREVIEWED.replace("Present", "None")),
     # advance: no 28; outsiders ignored; inside, whatever it weighs; all of them asked for
     (THIN, ""),
     (THIN, "    s.check_known(r)?;\n"),

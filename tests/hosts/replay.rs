@@ -2,12 +2,14 @@
 //! reference rules at once. Every answer must be the same, and at each chain record and at the
 //! end of a stream every read, with arguments in and out of range; the chain that the bindings
 //! read must be the reference's listing, to the byte. Of two proposes one goes by the queues: its
-//! transactions are added, and it becomes a draw.
+//! transactions are added, and it becomes a draw. After each record a preview says what a commit
+//! would do, and what a commit then adds must be what the preview before it has said.
 
 #[path = "../../reference/runner_ref.rs"]
 mod runner_ref;
 
-use forgelilac::{table_words, Certificate, Engine, Held, Proposal, Refusal, Sheet, Transaction, MEMBERS, STATE_WORDS};
+use forgelilac::layout::preview_words;
+use forgelilac::{table_words, Certificate, Engine, Entry, Held, Proposal, Refusal, Sheet, Transaction, MEMBERS, STATE_WORDS};
 use runner_ref::reference::{self, Setting};
 use runner_ref::{for_each_record, read_record, Outcome, Record, Runner, SERVES};
 use std::fmt::{Debug, Write};
@@ -66,6 +68,22 @@ fn outcome(answer: Result<(), Refusal>) -> Outcome {
     answer.map_or_else(|refusal| Outcome::Refused(refusal.number()), |()| Outcome::Accepted)
 }
 
+/// What a preview of the reference says.
+fn preview(member: &reference::Member) -> reference::Answer<Vec<Entry>> {
+    let mut list = vec![0; preview_words(member.settings().ceiling)];
+    let count = member.preview(&mut list)?;
+    let entry = |words: &[u32]| Entry { block: words[0], round: words[1], author: words[2] };
+    Ok(list.chunks(3).take(count as usize).map(entry).collect())
+}
+
+/// The certificates of the blocks above a number, in their order.
+fn blocks_above(engine: &Engine, number: u32) -> Result<Vec<Entry>, Refusal> {
+    let of = |(block, one): (u32, forgelilac::Block)| {
+        one.certificates.into_iter().map(move |(round, author)| Entry { block, round, author }).collect::<Vec<_>>()
+    };
+    Ok((1..).zip(engine.chain()?).skip(number as usize).flat_map(of).collect())
+}
+
 /// Both sides of a replay, and how much was compared.
 struct Replay {
     engine: Engine,
@@ -78,13 +96,16 @@ struct Replay {
     /// Transactions added, and draws that were accepted.
     added: u64,
     drawn: u64,
+    /// Previews, and commits that did what the preview before had said.
+    previews: u64,
+    foretold: u64,
 }
 
 impl Replay {
     fn new() -> Replay {
         let closed = Engine::restore([u32::MAX; STATE_WORDS], Vec::new());
         let runner = Runner::default();
-        Replay { engine: closed, runner, records: 0, reads: 0, blocks: 0, turned: 0, added: 0, drawn: 0 }
+        Replay { engine: closed, runner, records: 0, reads: 0, blocks: 0, turned: 0, added: 0, drawn: 0, previews: 0, foretold: 0 }
     }
 
     fn open(&mut self, own: u32, settings: &reference::Sheet) -> Outcome {
@@ -136,6 +157,7 @@ impl Replay {
     }
 
     fn record(&mut self, record: &Record) {
+        let (told, above) = (self.engine.preview(), self.engine.blocks());
         match (record, self.runner.member.take()) {
             (Record::Propose { previous, transactions }, Some(mut member)) if self.records % 2 == 0 => {
                 self.by_queues(&mut member, *previous, transactions);
@@ -151,6 +173,13 @@ impl Replay {
         if let Some(member) = &self.runner.member {
             assert_eq!(self.engine.round(), member.round());
             assert_eq!(self.engine.proposal(), member.proposal().map(proposal));
+            let expected = preview(member);
+            self.same(self.engine.preview(), expected);
+            self.previews += 1;
+        }
+        if let (Record::Commit, Ok(entries)) = (record, told) {
+            assert_eq!(blocks_above(&self.engine, above), Ok(entries), "commit of record {}", self.records);
+            self.foretold += 1;
         }
         if matches!(record, Record::Chain) {
             self.read_all();
@@ -194,6 +223,7 @@ impl Replay {
 
 fn main() -> std::io::Result<()> {
     let (mut streams, mut records, mut reads, mut blocks, mut turned, mut added, mut drawn) = (0, 0, 0, 0, 0, 0, 0);
+    let (mut previews, mut foretold) = (0, 0);
     for path in std::env::args().skip(1) {
         let mut replay = Replay::new();
         let mut input = std::io::BufReader::new(std::fs::File::open(path)?);
@@ -211,9 +241,12 @@ fn main() -> std::io::Result<()> {
         turned += replay.turned;
         added += replay.added;
         drawn += replay.drawn;
+        previews += replay.previews;
+        foretold += replay.foretold;
     }
     println!("{streams} streams, {records} records, {reads} reads: the same as the reference");
     println!("{blocks} blocks listed, {turned} of them not by round, then author");
     println!("{added} transactions added to queues, {drawn} draws accepted");
+    println!("{previews} previews: the same as the reference; {foretold} commits did what the preview had said");
     Ok(())
 }

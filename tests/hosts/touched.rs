@@ -22,8 +22,9 @@ use nodes::Node;
 use rows::some_batch;
 use words::{table_words, ROW, STATE_WORDS};
 
-/// The engine's answer: the value of commit, 0 for others. What a batch
-/// answers to each certificate is written into `answers`.
+/// The engine's answer: the value of commit, share, block and preview, 0 for
+/// others. What a batch answers to each certificate and what a preview lists is
+/// written into `answers`.
 fn make(call: &Call, node: &mut Node, answers: &mut [u32]) -> Result<u32, Refusal> {
     let (state, table) = (&mut node.state[..], &mut node.table[..]);
     match call {
@@ -50,6 +51,7 @@ fn make(call: &Call, node: &mut Node, answers: &mut [u32]) -> Result<u32, Refusa
         Call::Share { member, round } => lent::share(state, table, *member, *round),
         Call::Certificate { author, round, .. } => lent::certificate(state, table, *author, *round).map(|_| 0),
         Call::Block { number } => lent::block(state, table, *number),
+        Call::Preview { .. } => lent::preview(state, table, answers),
     }
 }
 
@@ -165,6 +167,9 @@ struct Figures {
     most: [(usize, usize); Call::NAMES.len()],
     seen: [std::collections::BTreeSet<Word>; Call::NAMES.len()],
     noisy: u64,
+    /// Previews, and those that were accepted.
+    previews: u64,
+    previewed: u64,
 }
 
 impl Figures {
@@ -177,6 +182,9 @@ impl Figures {
         let in_table: Vec<usize> = (0..node.table.len()).filter(|&i| before.table[i] != node.table[i]).collect();
         if answer.is_err() || call.is_read() {
             assert!(in_state.is_empty() && in_table.is_empty(), "{call:?} changed a word");
+            if let Call::Preview { list } = call {
+                self.preview(list, &answers, answer);
+            }
             return answer;
         }
         let kind = call.kind();
@@ -199,6 +207,14 @@ impl Figures {
         let most = &mut self.most[kind];
         *most = (most.0.max(in_state.len() - noise), most.1.max(in_table.len()));
         answer
+    }
+
+    /// A preview writes three words of its list for each entry, and no other.
+    fn preview(&mut self, before: &[u32], list: &[u32], answer: Result<u32, Refusal>) {
+        let written = 3 * answer.unwrap_or(0) as usize;
+        assert_eq!(before[written..], list[written..], "a preview changed the rest of its list");
+        self.previews += 1;
+        self.previewed += u64::from(answer.is_ok());
     }
 
     /// Every word that the page names has changed, some time.
@@ -251,6 +267,7 @@ impl Figures {
                      Call::NAMES[kind], self.accepted[kind]);
         }
         println!("{} commits also cleared noise in words that are no part of the state", self.noisy);
+        println!("{} previews, {} accepted: the rest of the list kept", self.previews, self.previewed);
         println!("{} calls: no other word changed", self.calls);
     }
 }

@@ -1,9 +1,11 @@
-"""draw.py STREAM ANSWERS > out.svg: a member's certificates and chain as a picture.
+"""draw.py [--preview] STREAM ANSWERS > out.svg: a member's certificates and chain as a picture.
 
 STREAM is what a runner was given, ANSWERS what it said; the stream ends in `chain`. Rounds go
 across, members down, the chain stands beneath. What is held, which blocks there are and what is
 in them is taken from the answers alone; leaders of rounds without a block from the chain.
 A run of up to 14 rounds is as wide as a page, so that its type is read at its own size.
+--preview: the stream is a copy that goes on with `commit` and `chain`. What that commit adds is
+drawn dashed and light, as blocks that are not made yet; or the number that refuses it is told.
 """
 import sys
 from html import escape
@@ -12,7 +14,7 @@ sys.dont_write_bytecode = True      # leave no folder beside the sources
 
 from outline import parts_of, path_of
 from run import read_run
-from telling import count, order_of, tell, transactions_of
+from telling import count, of_preview, order_of, tell, transactions_of
 
 WIDTH = 830                         # at least; a page's
 CELL = (51, 86), 72                 # a round across, from and to; a member down
@@ -26,6 +28,7 @@ CODE_WIDE = 7.6                     # a letter of code, in pixels
 LEGEND_ROW, LEGEND_COLUMN = 34, 268
 INK, QUIET, FAINT, PAPER = "#2b2a33", "#6d6a78", "#a29eae", "#fdfcfb"
 LINK = "#948fa3"
+LIGHT, DASHED = ' fill-opacity="0.4"', ' stroke-dasharray="5 3.5"'     # what is not made yet
 # Of each block: area, ink.
 COLOURS = [("#e9e0f7", "#6a46a8"), ("#d8f0ea", "#1b7566"), ("#fcebcf", "#a5670d"),
            ("#dce9fb", "#2c5fa8"), ("#fbdfe5", "#ab3757"), ("#e6f2d5", "#527b1d")]
@@ -57,15 +60,15 @@ def circle(at, radius, fill, stroke="none", width=0.0, more=""):
             f'stroke="{stroke}" stroke-width="{width}"{more}/>')
 
 
-def box(x, y, width, height, fill, stroke, radius=10):
+def box(x, y, width, height, fill, stroke, radius=10, more=""):
     return (f'<rect x="{x:g}" y="{y:g}" width="{width:g}" height="{height:g}" rx="{radius}" '
-            f'fill="{fill}" stroke="{stroke}" stroke-width="1.4"/>')
+            f'fill="{fill}" stroke="{stroke}" stroke-width="1.4"{more}/>')
 
 
 # ---- the signs, as they stand in the grid and in the legend
 
-def held_sign(at, ink):
-    return circle(at, DOT, ink, PAPER, 1.5)
+def held_sign(at, ink, planned=False):
+    return circle(at, DOT - 0.5, PAPER, ink, 2.2) if planned else circle(at, DOT, ink, PAPER, 1.5)
 
 
 def loose_sign(at):
@@ -77,8 +80,8 @@ def none_sign(at):
     return circle(at, 2.6, QUIET)
 
 
-def anchor_sign(at, ink):
-    return circle(at, RING, PAPER, ink, 2.8) + held_sign(at, ink)
+def anchor_sign(at, ink, planned=False):
+    return circle(at, RING, PAPER, ink, 2.8, DASHED if planned else "") + held_sign(at, ink, planned)
 
 
 def leader_ring(at):
@@ -86,10 +89,16 @@ def leader_ring(at):
     return circle(at, RING + 0.5, PAPER, QUIET, 2, ' stroke-dasharray="4.5 3.2"')
 
 
-def tab_sign(x, y, number, ink):
+def tab_sign(x, y, number, ink, planned=False):
     width = TAB[0] + 8 * (len(str(number)) - 1)
-    return (f'<rect x="{x:g}" y="{y:g}" width="{width}" height="{TAB[1]}" rx="4" fill="{ink}"/>'
-            + text(x + width / 2, y + TAB[1] - 2.4, str(number), "tab", "middle"))
+    fill = f'"{PAPER}" stroke="{ink}"' if planned else f'"{ink}"'
+    return (f'<rect x="{x:g}" y="{y:g}" width="{width}" height="{TAB[1]}" rx="4" fill={fill}/>'
+            + text(x + width / 2, y + TAB[1] - 2.4, str(number), "tab", "middle", ink if planned else None))
+
+
+def planned_sign(at, area, ink):
+    """A block that a commit would add."""
+    return box(at[0] - 15, at[1] - 12, 30, 24, area, ink, 7, DASHED + LIGHT) + tab_sign(at[0] - 10, at[1] - 7.5, 2, ink, True)
 
 
 class Picture:
@@ -121,10 +130,15 @@ class Picture:
 
     def heading(self):
         run, blocks = self.run, self.run.blocks
-        listed = ", ".join(str(block.round) for block in blocks) or "none"
-        yield text(COLUMNS[0], 36, f"What member {run.own} holds, and the chain it makes of it", "title")
+        listed = ", ".join(str(block.round) for block in blocks if not block.planned) or "none"
+        yield text(COLUMNS[0], 36, self.title(), "title")
         yield text(COLUMNS[0], 60, f"{count(len(run.held), 'certificate')} of {count(len(self.members), 'member')} "
-                                   f"in {count(len(self.rounds), 'round')}; block rounds {listed}", "quiet")
+                                   f"in {count(len(self.rounds), 'round')}; block rounds {listed}"
+                                   + (f". {of_preview(run)}" if run.preview else ""), "quiet")
+
+    def title(self):
+        what = "what a commit would make" if self.run.preview else "the chain it makes"
+        return f"What member {self.run.own} holds, and {what} of it"
 
     def axes(self):
         blocks = {block.round: block for block in self.run.blocks}
@@ -133,7 +147,8 @@ class Picture:
             block = blocks.get(round)
             yield text(x, TOP - 28, str(round), "strong" if block else "label", "middle", None if block else QUIET)
             if block:
-                yield text(x, TOP - 9, f"block {block.number}", "small", "middle", self.colours(block)[1])
+                words = f"would be {block.number}" if block.planned else f"block {block.number}"
+                yield text(x, TOP - 9, words, "small", "middle", self.colours(block)[1])
             elif round % 2 == 0:
                 yield text(x, TOP - 9, "no block" if round < max(blocks, default=0) else "none yet", "small", "middle", QUIET)
         yield text(LEFT - 12, TOP - 28, "round", "quiet", "end")
@@ -148,7 +163,8 @@ class Picture:
         for block in self.run.blocks:
             area, ink = self.colours(block)
             path = path_of([self.cell(place) for place in block.places], self.cell_size, (LEFT, TOP), INSET, RADIUS)
-            yield f'<path d="{path}" fill="{area}" stroke="{ink}" stroke-width="1.2" stroke-opacity="0.7"/>'
+            more = ' stroke-width="1.6"' + DASHED + LIGHT if block.planned else ' stroke-width="1.2" stroke-opacity="0.7"'
+            yield f'<path d="{path}" fill="{area}" stroke="{ink}"{more}/>'
 
     def links(self):
         """Lines to what each certificate names as previous; those to an anchor last, as votes."""
@@ -156,8 +172,10 @@ class Picture:
         for place, certificate in sorted(self.run.held.items()):
             for author in certificate.previous:
                 before = certificate.round - 1, author
-                if before in self.anchors:
-                    votes.append(line(self.at(before), self.at(place), self.colours(self.anchors[before])[1], 2.4))
+                block = self.anchors.get(before)
+                if block:
+                    more = DASHED if block.planned else ""
+                    votes.append(line(self.at(before), self.at(place), self.colours(block)[1], 2.4, more))
                 else:
                     yield line(self.at(before), self.at(place), LINK, width)
         yield from votes
@@ -167,7 +185,7 @@ class Picture:
         for block in self.run.blocks:
             for part in parts_of([self.cell(place) for place in block.places]):
                 x, y = self.corner(min(part, key=lambda cell: (cell[1], cell[0])))
-                yield tab_sign(x + INSET + 3, y + INSET + 3, block.number, self.colours(block)[1])
+                yield tab_sign(x + INSET + 3, y + INSET + 3, block.number, self.colours(block)[1], block.planned)
 
     def dots(self):
         for member in self.members:
@@ -179,10 +197,9 @@ class Picture:
 
     def dot(self, place):
         at, block = self.at(place), self.block_of.get(place)
-        if place in self.anchors:
-            return anchor_sign(at, self.colours(block)[1])
         if block:
-            return held_sign(at, self.colours(block)[1])
+            sign = anchor_sign if place in self.anchors else held_sign
+            return sign(at, self.colours(block)[1], block.planned)
         return loose_sign(at) if place in self.run.held else none_sign(at)
 
     # ---- the chain beneath
@@ -198,10 +215,10 @@ class Picture:
             ink = self.colours(block)[1]
             if block.number > 1:
                 yield line((x[0] + 15, y - self.tall(block.number - 2) + 7), (x[0] + 15, y - 15), QUIET, 2.4)
-            yield box(x[0], y - 15, 30, 20, ink, ink, 6)
-            yield text(x[0] + 15, y, str(block.number), "strong", "middle", PAPER)
+            yield box(x[0], y - 15, 30, 20, PAPER if block.planned else ink, ink, 6, DASHED if block.planned else "")
+            yield text(x[0] + 15, y, str(block.number), "strong", "middle", ink if block.planned else PAPER)
             yield text(x[1], y, str(block.round), "label")
-            yield text(x[2], y, f"round {block.commit}", "label")
+            yield text(x[2], y, "not yet" if block.planned else f"round {block.commit}", "label")
             for column, words in zip(x[3:], self.columns(block)):
                 for index, one in enumerate(words):
                     yield text(column, y + CHAIN_LINE * index, one, "code")
@@ -234,6 +251,8 @@ class Picture:
                    lambda at: box(at[0] - 15, at[1] - 12, 30, 24, area, ink, 7) + tab_sign(at[0] - 10, at[1] - 7.5, 1, ink)),
                   ("names as previous", lambda at: line((at[0] - 15, at[1]), (at[0] + 15, at[1]), LINK, 1.4)),
                   ("names a block's anchor", lambda at: line((at[0] - 15, at[1]), (at[0] + 15, at[1]), ink, 2.4))]]
+        if self.run.preview:
+            signs[1].append(("a commit would add it", lambda at: planned_sign(at, *COLOURS[1])))
         for column, rows in enumerate(signs):
             for row, (words, sign) in enumerate(rows):
                 x, y = COLUMNS[0] + 16 + LEGEND_COLUMN * column, top + 20 + LEGEND_ROW * row
@@ -244,10 +263,9 @@ class Picture:
 
     def svg(self):
         height = self.bottom + self.chain_height() + 4 * LEGEND_ROW + 14
-        title = f"What member {self.run.own} holds, and the chain it makes of it"
         parts = [f'<svg xmlns="http://www.w3.org/2000/svg" width="{self.width}" height="{height}" '
                  f'viewBox="0 0 {self.width} {height}" role="img" aria-labelledby="title desc">',
-                 f'<title id="title">{escape(title)}</title>', f'<desc id="desc">{escape(tell(self.run))}</desc>',
+                 f'<title id="title">{escape(self.title())}</title>', f'<desc id="desc">{escape(tell(self.run))}</desc>',
                  f"<style>{RUN_STYLE}</style>",
                  f'<rect width="{self.width}" height="{height}" fill="{PAPER}"/>']
         for layer in (self.heading, self.axes, self.areas, self.links, self.tabs, self.dots, self.chain, self.legend):
@@ -265,11 +283,12 @@ def wrapped(words, between, room):
 
 
 def main():
-    if len(sys.argv) != 3:
+    preview, paths = sys.argv[1:2] == ["--preview"], sys.argv[1:]
+    if len(paths) != 2 + preview:
         sys.exit(__doc__)
-    stream, answers = (open(path, "rb").read() for path in sys.argv[1:])
+    stream, answers = (open(path, "rb").read() for path in paths[preview:])
     try:
-        run = read_run(stream, answers)
+        run = read_run(stream, answers, preview)
     except ValueError as error:
         sys.exit(f"draw.py: {error}")
     sys.stdout.write(Picture(run).svg())

@@ -6,7 +6,7 @@ open record and the listed chain, by the rules of the scope document.
 from collections import namedtuple
 
 Certificate = namedtuple("Certificate", "author round previous transactions")
-Block = namedtuple("Block", "number round places commit")
+Block = namedtuple("Block", "number round places commit planned")       # planned: not made, a commit would add it
 
 
 def records_of(stream):
@@ -53,6 +53,7 @@ class Run:
         self.commits = []   # the round of the commit that made block 1, 2, ...
         self.blocks = []
         self.proposal = None
+        self.preview = None # of a preview, what answers the commit: "ok,2", "refused,22"
 
     def hold(self, author, round, previous, transactions):
         self.held[round, author] = Certificate(author, round, members_of(previous), transactions)
@@ -76,7 +77,14 @@ class Run:
         places = {}
         for number, block_round, round, author, *_ in listing:
             places.setdefault((int(number), int(block_round)), []).append((int(round), int(author)))
-        return [Block(number, round, at, self.commits[number - 1]) for (number, round), at in places.items()]
+        return [Block(number, round, at, self.commits[number - 1], False) for (number, round), at in places.items()]
+
+    def plan(self, answer):
+        """The last commit is taken for one that would be made: its blocks are planned ones."""
+        name, number = answer.split(",")
+        made = len(self.blocks) - int(number) if name == "ok" else len(self.blocks)
+        self.preview = answer
+        self.blocks = [block._replace(planned=block.number > made) for block in self.blocks]
 
     def anchor(self, block):
         """A block's anchor is its one certificate of the block's round."""
@@ -99,7 +107,7 @@ class Run:
 
     def leader(self, round):
         """The leader of an even round; none where the committee is empty or not known."""
-        last = self.blocks[-1].round if self.blocks else 0
+        last = max((block.round for block in self.blocks if not block.planned), default=0)
         if round > self.lookback + last + 2:
             return None
         weights = self.weights if round <= self.lookback else self.bonded(round - self.lookback)
@@ -119,9 +127,11 @@ class Run:
         return sorted({author for _, author in self.held} | {self.own} | set(self.unblocked().values()))
 
 
-def read_run(stream, answers):
+def read_run(stream, answers, preview=False):
+    """The run that a stream and its answers tell; of a preview the last commit is one that would be made."""
     run, listed = None, False
-    for record, listing, answer in answered(stream, answers):
+    steps = list(answered(stream, answers))
+    for record, listing, answer in steps:
         if answer.startswith("refused"):
             continue
         name, *fields = record.split(",")
@@ -132,4 +142,9 @@ def read_run(stream, answers):
         listed = name == "chain"
     if run is None or not listed:
         raise ValueError("the stream must end in an accepted chain")
+    if preview:
+        record, _, answer = steps[-2]
+        if record != "commit":
+            raise ValueError("the stream of a preview must end in commit and chain")
+        run.plan(answer)
     return run

@@ -21,9 +21,17 @@ def transactions_of(run, block):
 
 def of_block(run, block):
     transactions = ", ".join(transactions_of(run, block)) or "none"
+    made = f"a commit in round {block.commit} would add it" if block.planned else f"the commit in round {block.commit} made it"
     return (f"Block {block.number} has round {block.round}; its anchor is the certificate of member {run.anchor(block)[1]}; "
-            f"the commit in round {block.commit} made it. Its {count(len(block.places), 'certificate')} in their order, "
+            f"{made}. Its {count(len(block.places), 'certificate')} in their order, "
             f"round: authors: {'; '.join(order_of(block))}. Its transactions in their order: {transactions}.")
+
+
+def of_preview(run):
+    """What a commit would do."""
+    name, number = run.preview.split(",")
+    does = f"add {count(int(number), 'block')}" if name == "ok" else f"be refused with {number}"
+    return f"A commit in round {run.round} would {does}"
 
 
 def of_round(run, round, leader):
@@ -37,7 +45,7 @@ def tell(run):
     """The description, a sentence or two to a line."""
     rounds, members, block_of = run.rounds(), run.members(), run.block_of()
     links = [(certificate.round - 1, author) for certificate in run.held.values() for author in certificate.previous]
-    anchors = {run.anchor(block) for block in run.blocks}
+    anchors, planned = {run.anchor(block) for block in run.blocks}, any(block.planned for block in run.blocks)
     loose = [f"round {round}, member {author}" for round, author in sorted(run.held) if (round, author) not in block_of]
     return "\n".join([
         f"Rounds 1 to {rounds[-1]} go across, members {', '.join(map(str, members))} down. "
@@ -45,5 +53,6 @@ def tell(run):
         f"A line joins a certificate to each that it names as previous: {count(len(links), 'line')}, "
         f"{sum(link in anchors for link in links)} of them to the anchor of a block.",
         *(of_block(run, block) for block in run.blocks),
+        *([f"{of_preview(run)}."] if run.preview else []),
         *(of_round(run, round, leader) for round, leader in sorted(run.unblocked().items())),
-        f"Held, in no block: {'; '.join(loose) or 'none'}."])
+        f"Held, in no block{' and in none that would be added' if planned else ''}: {'; '.join(loose) or 'none'}."])

@@ -63,6 +63,20 @@ fn play(engines: &mut [Engine]) -> Result<(), Refusal> {
     Ok(())
 }
 
+/// What would a commit do? The blocks before they are made, or why there would be none.
+fn print_preview(engine: &Engine) {
+    println!("what a commit of member {} in round {} would add", engine.own(), engine.round());
+    match engine.preview() {
+        Ok(entries) => {
+            for block in entries.chunk_by(|one, next| one.block == next.block) {
+                let certificates: String = block.iter().map(|one| format!(" {}/{}", one.round, one.author)).collect();
+                println!("  block {}:{certificates}", block[0].block);
+            }
+        }
+        Err(refusal) => println!("  nothing: refused with {}, {}", refusal.number(), refusal.meaning()),
+    }
+}
+
 fn print_chain(engine: &Engine) -> Result<(), Refusal> {
     println!("member {}", engine.own());
     for (number, block) in (1..).zip(engine.chain()?) {
@@ -165,9 +179,13 @@ fn print_queues() -> Result<(), Refusal> {
 }
 
 fn main() -> Result<(), Refusal> {
+    println!("certificates as round/author");
     let mut engines = (0..3).map(|own| Engine::open(own, &sheet())).collect::<Result<Vec<_>, _>>()?;
     for round in 1..=LAST_ROUND {
         play(&mut engines)?;
+        if round + 1 >= LAST_ROUND {
+            print_preview(&engines[0]);
+        }
         for engine in &mut engines {
             match engine.commit() {
                 Ok(_) | Err(Refusal::NoCommitRound) => {}
@@ -178,7 +196,6 @@ fn main() -> Result<(), Refusal> {
             }
         }
     }
-    println!("certificates as round/author");
     for engine in &engines {
         print_chain(engine)?;
     }

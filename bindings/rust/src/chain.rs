@@ -6,7 +6,7 @@ use crate::layout::{
 };
 use crate::{leader, lent, Refusal, MEMBERS};
 
-/// A certificate of the chain.
+/// A certificate of the chain, or of a block that a commit would add.
 #[derive(Clone, Copy, PartialEq, Eq, Hash, Debug, Default)]
 pub struct Place {
     /// The number of its block, from 1.

@@ -1,8 +1,8 @@
 //! An engine that owns its state and table.
 
 use crate::chain::Listing;
-use crate::layout::{STATE_BLOCKS, STATE_OWN, STATE_ROUND, STATE_WORDS};
-use crate::lent::{self, CertificateRecord, Place};
+use crate::layout::{preview_words, STATE_BLOCKS, STATE_CEILING, STATE_OWN, STATE_ROUND, STATE_WORDS};
+use crate::lent::{self, CertificateRecord, Entry, Place};
 use crate::{body_words, table_words, CEILING, MEMBERS};
 use crate::{Block, Certificate, Held, Proposal, Refusal, Set, Sheet, Transaction};
 use alloc::vec;
@@ -162,6 +162,19 @@ impl Engine {
     }
 
     // ---- reads
+
+    /// What would a commit do? The certificates of each block that it would add, in order, or the
+    /// refusal that it would get. It is what [`Engine::commit`] on a clone, and reading the new blocks
+    /// there, gives: blocks oldest first, their numbers going on from those there are, each in its own
+    /// order. Nothing changes.
+    ///
+    /// # Errors
+    /// Those of [`Engine::commit`]: 1, 19, 20, 8, 21, 22.
+    pub fn preview(&self) -> Result<Vec<Entry>, Refusal> {
+        let mut list = vec![0; preview_words(self.state[STATE_CEILING].min(CEILING))];
+        let count = lent::preview(&self.state, &self.table, &mut list)?;
+        Ok(lent::entries(&list, count).collect())
+    }
 
     /// Sixteen weights of a round's committee, 0 for a non-member.
     ///

@@ -1,6 +1,8 @@
 //! Where what stands in words: lengths and offsets of `include/forgelilac.h`. docs/TABLES.md
 //! explains them.
 
+use crate::MEMBERS;
+
 /// The format of the words of state and table; no word of theirs has it. Store it beside them.
 pub const FORMAT: u32 = 1;
 
@@ -18,6 +20,8 @@ pub const CERTIFICATE_WORDS: usize = 17;
 pub const HELD_WORDS: usize = 18;
 /// Words of a sheet: nineteen pairs, 0 blank or 1 written, then the value.
 pub const SHEET_WORDS: usize = 38;
+/// Words of an entry of a preview, and of a place in its list: block, round, author.
+pub const ENTRY_WORDS: usize = 3;
 /// The most certificates of a batch.
 pub const BATCH_RECORDS: usize = 64;
 /// Transactions that a body has words for: the largest allowance.
@@ -73,10 +77,23 @@ pub const RECORD_ENDORSERS: usize = 3;
 /// Of a record: the first of its transactions, each kind, number, amount.
 pub const RECORD_TRANSACTIONS: usize = 4;
 
+/// Of an entry: the number of the block that would hold it.
+pub const ENTRY_BLOCK: usize = 0;
+/// Of an entry: the certificate's round.
+pub const ENTRY_ROUND: usize = 1;
+/// Of an entry: its author.
+pub const ENTRY_AUTHOR: usize = 2;
+
 /// Of row 0: the guest served last and 1 more, 0 for none.
 pub const SERVED: usize = 0;
 /// Of row 0, plus the guest: how many of its transactions wait, 0 to 8.
 pub const WAITING: usize = 1;
+
+/// The words of the list that a preview of a state of this ceiling asks for: 16 places for each round.
+#[must_use]
+pub const fn preview_words(ceiling: u32) -> usize {
+    ENTRY_WORDS * MEMBERS * ceiling as usize
+}
 
 /// Where the queue of a guest begins in a table: eight places of a transaction's three words, the
 /// oldest first.

@@ -16,8 +16,8 @@
 
 pub use crate::chain::{chain, Place};
 use crate::layout::{
-    BODY_WORDS, CERTIFICATE_WORDS, GUESTS, HELD_WORDS, PROPOSAL_WORDS, STATE_BODY, STATE_OWN,
-    STATE_PROPOSED, STATE_ROUND, STATE_WORDS, WAITING,
+    BODY_WORDS, CERTIFICATE_WORDS, ENTRY_AUTHOR, ENTRY_BLOCK, ENTRY_ROUND, ENTRY_WORDS, GUESTS, HELD_WORDS,
+    PROPOSAL_WORDS, STATE_BODY, STATE_OWN, STATE_PROPOSED, STATE_ROUND, STATE_WORDS, WAITING,
 };
 use crate::{Refusal, Set, MEMBERS};
 
@@ -63,6 +63,10 @@ mod abi {
         ) -> u32;
         pub fn forgelilac_commit(
             state: *mut u32, state_words: usize, table: *mut u32, table_words: usize,
+        ) -> u64;
+        pub fn forgelilac_preview(
+            state: *const u32, state_words: usize, table: *const u32, table_words: usize,
+            list: *mut u32, list_words: usize,
         ) -> u64;
         pub fn forgelilac_committee(
             state: *const u32, state_words: usize, table: *const u32, table_words: usize,
@@ -117,6 +121,9 @@ macro_rules! call {
         unsafe { abi::$function(state.0, state.1, table.0, table.1 $(, $number)*, more.0, more.1) }
     }};
 }
+
+/// A certificate of a block that a commit would add, as [`chain`] lists it once it is there.
+pub type Entry = Place;
 
 /// A certificate of a row, for [`batch`]: its words in their order.
 #[derive(Clone, Copy, PartialEq, Eq, Hash, Debug)]
@@ -285,6 +292,51 @@ pub fn commit(state: &mut [u32], table: &mut [u32]) -> Result<u32, Refusal> {
 }
 
 // ---- reads
+
+/// What would a commit do? The words of the certificates of each block that it would add, in order:
+/// block number, round, author. How many certificates there are; what the list has beyond their
+/// words stays. It is what committing on a copy of state and table, and reading the new blocks
+/// there, gives. [`entries`] reads the list.
+///
+/// Of the list three words are a place, and 16 places per round of the ceiling are asked for
+/// ([`crate::layout::preview_words`]), however few there are to list.
+///
+/// One member alone, in round 3:
+///
+/// ```
+/// use forgelilac::lent::{self, Entry};
+/// use forgelilac::{body_words, layout, table_words, Refusal, Sheet, STATE_WORDS};
+///
+/// let (mut state, mut table) = ([0; STATE_WORDS], [0; table_words(64) as usize]);
+/// let mut sheet = Sheet { ceiling: Some(64), ..Sheet::default() };
+/// sheet.weights[1..4].fill(Some(0));
+/// lent::open(&mut state, &mut table, 0, &sheet.to_words())?;
+/// let mut list = [77; layout::preview_words(64)];
+/// for round in 1..=3 {
+///     lent::propose(&mut state, &table, &body_words((round > 1).into(), &[]))?;
+///     lent::certify(&state, &mut table, 0)?;
+///     if round < 3 {
+///         assert_eq!(lent::preview(&state, &table, &mut list), Err(Refusal::NoCommitRound));
+///         lent::advance(&mut state, &table)?;
+///     }
+/// }
+/// assert_eq!(lent::preview(&state, &table, &mut list), Ok(2));
+/// assert_eq!(list[..7], [1, 1, 0, 1, 2, 0, 77]);
+/// assert!(lent::entries(&list, 2).eq([1, 2].map(|round| Entry { block: 1, round, author: 0 })));
+/// # Ok::<(), Refusal>(())
+/// ```
+///
+/// # Errors
+/// 1, 25, then those of [`commit`]: 19, 20, 8, 21, 22. Nothing is written then.
+pub fn preview(state: &[u32], table: &[u32], list: &mut [u32]) -> Result<u32, Refusal> {
+    value(call!(forgelilac_preview, read(state), read(table); write(list)))
+}
+
+/// The first entries of a list that [`preview`] has written, as many as it has told.
+pub fn entries(list: &[u32], count: u32) -> impl Iterator<Item = Entry> + '_ {
+    let words = list.chunks_exact(ENTRY_WORDS).take(count as usize);
+    words.map(|at| Entry { block: at[ENTRY_BLOCK], round: at[ENTRY_ROUND], author: at[ENTRY_AUTHOR] })
+}
 
 /// Sixteen weights of a round's committee, 0 for a non-member.
 ///

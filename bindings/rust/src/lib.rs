@@ -12,7 +12,7 @@
 //! One member alone, three rounds, one block:
 //!
 //! ```
-//! use forgelilac::{Block, Engine, Refusal, Sheet, Transaction};
+//! use forgelilac::{Block, Engine, Entry, Refusal, Sheet, Transaction};
 //!
 //! let mut sheet = Sheet { ceiling: Some(64), ..Sheet::default() };
 //! sheet.weights[1..4].fill(Some(0));
@@ -24,6 +24,8 @@
 //!     engine.propose(0b1, &[])?;
 //!     engine.certify(0)?;
 //! }
+//! let entry = |round| Entry { block: 1, round, author: 0 };
+//! assert_eq!(engine.preview()?, [1, 2].map(entry));
 //! assert_eq!(engine.commit(), Ok(1));
 //! assert_eq!(engine.chain()?, [Block { round: 2, certificates: vec![(1, 0), (2, 0)] }]);
 //! assert_eq!(engine.commit(), Err(Refusal::BlockMade));
@@ -51,6 +53,7 @@ mod tests;
 #[cfg(feature = "alloc")]
 pub use engine::Engine;
 pub use layout::STATE_WORDS;
+pub use lent::Entry;
 #[cfg(feature = "alloc")]
 pub use owned::{Block, Certificate, Held, Proposal};
 pub use refusal::Refusal;

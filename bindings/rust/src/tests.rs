@@ -3,8 +3,9 @@
 extern crate std;
 
 use crate::layout::{
-    queue, record, row, BATCH_RECORDS, CERTIFICATE_WORDS, GUESTS, QUEUE_PLACES, RECORD_ENDORSERS, ROW_BLOCK,
-    ROW_HELD, SERVED, STATE_BLOCKS, TRANSACTIONS, TRANSACTION_WORDS, WAITING,
+    preview_words, queue, record, row, BATCH_RECORDS, CERTIFICATE_WORDS, ENTRY_WORDS, GUESTS, QUEUE_PLACES,
+    RECORD_BLOCK, RECORD_ENDORSERS, ROW_BLOCK, ROW_HELD, SERVED, STATE_BLOCKS, STATE_CEILING, STATE_ROUND,
+    TRANSACTIONS, TRANSACTION_WORDS, WAITING,
 };
 use crate::lent::{self, CertificateRecord, Place};
 use crate::*;
@@ -661,6 +662,159 @@ fn advance_is_refused_in_its_order() {
     }
 }
 
+// ---- previews
+
+/// What a commit on a copy adds, read there: the refusal, or the certificates of the new blocks.
+fn by_a_copy(engine: &Engine) -> Result<Vec<Entry>, Refusal> {
+    let mut copy = engine.clone();
+    copy.commit()?;
+    let mut places = vec![Place::default(); preview_words(copy.state[STATE_CEILING]) / ENTRY_WORDS];
+    let count = lent::chain(&copy.state, &copy.table, &mut places).unwrap();
+    Ok(places[..count].iter().copied().filter(|place| place.block > engine.blocks()).collect())
+}
+
+/// The preview, once it is what the copy tells and has changed nothing.
+fn preview(engine: &Engine) -> Result<Vec<Entry>, Refusal> {
+    let before = engine.clone();
+    let found = engine.preview();
+    assert!(*engine == before, "a preview changed a word");
+    assert_eq!(found, by_a_copy(engine));
+    found
+}
+
+/// Entries of a block: rounds, each with its authors.
+fn of_block(block: u32, rounds: &[(u32, &[u32])]) -> Vec<Entry> {
+    let row = |&(round, authors): &(u32, &[u32])| -> Vec<Entry> {
+        authors.iter().map(|&author| Entry { block, round, author }).collect()
+    };
+    rounds.iter().flat_map(row).collect()
+}
+
+/// Two blocks at once, each from its own leader; then one whose number goes on; refusals between.
+#[test]
+fn a_preview_is_a_commit_on_a_copy() {
+    let mut engine = of_four(0);
+    for round in 1..=7 {
+        let previous = if round == 1 { 0 } else { 0b1111 };
+        for author in [3, 0, 2, 1] {
+            preview(&engine).ok();
+            engine.accept(&of_all_four(author, round, previous, &[])).unwrap();
+        }
+        if round == 3 {
+            let first = of_block(1, &[(1, &[1, 2, 3, 0]), (2, &[1])]);
+            assert_eq!(preview(&engine), Ok(first));
+        }
+        if round == 5 {
+            let first = of_block(1, &[(1, &[1, 2, 3, 0]), (2, &[1])]);
+            let second = of_block(2, &[(2, &[2, 3, 0]), (3, &[2, 3, 0, 1]), (4, &[2])]);
+            assert_eq!(preview(&engine), Ok([first, second].concat()));
+            assert_eq!(engine.commit(), Ok(2));
+            assert_eq!(preview(&engine), Err(Refusal::BlockMade));
+        }
+        if round < 7 {
+            engine.advance().unwrap();
+        }
+    }
+    let third = of_block(3, &[(4, &[3, 0, 1]), (5, &[3, 0, 1, 2]), (6, &[3])]);
+    assert_eq!(preview(&engine), Ok(third.clone()));
+    // Again, and made.
+    assert_eq!(preview(&engine), Ok(third));
+    assert_eq!(engine.commit(), Ok(1));
+}
+
+/// 1, 25, then 19, 20, 8, 21, 22.
+#[test]
+fn a_preview_is_refused_in_its_order() {
+    let short = preview_words(8) - 1;
+    let refused = |engine: &Engine, number| {
+        assert_eq!(preview(engine).unwrap_err().number(), number);
+        let mut list = vec![77; short];
+        assert_eq!(lent::preview(&engine.state, &engine.table, &mut list), Err(Refusal::LengthRange));
+        let mut damaged = engine.clone();
+        damaged.state[0] = 16;
+        assert_eq!(lent::preview(&damaged.state, &damaged.table, &mut list), Err(Refusal::Malformed));
+        assert_eq!(damaged.preview(), Err(Refusal::Malformed));
+        assert!(list.iter().all(|&word| word == 77));
+    };
+    // No commit in round 1 and in even ones; no anchor; a vote of the weight of the bound.
+    let mut engine = Engine::open(0, &Sheet { lookback: Some(1), ceiling: Some(8), ..Sheet::default() }).unwrap();
+    refused(&engine, 19);
+    for author in 0..4 {
+        engine.accept(&of_all_four(author, 1, 0, &[])).unwrap();
+    }
+    engine.advance().unwrap();
+    refused(&engine, 19);
+    for author in [0, 2, 3] {
+        engine.accept(&of_all_four(author, 2, 0b1111, &[])).unwrap();
+    }
+    engine.advance().unwrap();
+    refused(&engine, 21);
+    engine.accept(&of_all_four(1, 2, 0b1111, &[])).unwrap();
+    refused(&engine, 22);
+    engine.accept(&of_all_four(0, 3, 0b1111, &[])).unwrap();
+    refused(&engine, 22);
+    engine.accept(&of_all_four(2, 3, 0b1101, &[])).unwrap();
+    refused(&engine, 22);
+    engine.accept(&of_all_four(3, 3, 0b1110, &[])).unwrap();
+    // The same engine without its commit comes into round 5 by hand: not known.
+    let mut late = engine.clone();
+    late.state[STATE_ROUND] = 5;
+    refused(&late, 8);
+    assert_eq!(preview(&engine), Ok(of_block(1, &[(1, &[1, 2, 3, 0]), (2, &[1])])));
+    engine.commit().unwrap();
+    refused(&engine, 20);
+}
+
+/// Three words are a place, and a started one is none. What lies beyond the entries stays.
+#[test]
+fn lengths_of_a_list() {
+    let mut engine = alone();
+    engine.propose(0, &[]).unwrap();
+    engine.certify(0).unwrap();
+    for _ in 2..=3 {
+        engine.advance().unwrap();
+        engine.propose(1, &[]).unwrap();
+        engine.certify(0).unwrap();
+    }
+    let need = preview_words(64);
+    assert_eq!((need, preview_words(3), preview_words(CEILING)), (3_072, 144, 49_152));
+    for length in [0, 1, 6, need - 3, need - 1, need, need + 1, need + 2, need + 3, 2 * need] {
+        let mut list = vec![77; length];
+        let found = lent::preview(&engine.state, &engine.table, &mut list);
+        let count = if length < need { 0 } else { 2 };
+        assert_eq!(found, if length < need { Err(Refusal::LengthRange) } else { Ok(2) }, "{length} words");
+        assert!(list[..ENTRY_WORDS * count] == [1, 1, 0, 1, 2, 0][..ENTRY_WORDS * count]);
+        assert!(list[ENTRY_WORDS * count..].iter().all(|&word| word == 77));
+        assert_eq!(lent::entries(&list, count as u32).count(), count);
+    }
+    // A longer table and a longer state are fine.
+    let table = [&engine.table[..], &[77; 5]].concat();
+    let state = [&engine.state[..], &[77; 5]].concat();
+    let mut list = vec![77; need];
+    assert_eq!(lent::preview(&state, &table, &mut list), Ok(2));
+    assert_eq!(lent::preview(&state[1..], &table, &mut list), Err(Refusal::Malformed));
+    assert_eq!(lent::preview(&state, &engine.table[1..], &mut list), Err(Refusal::Malformed));
+}
+
+/// No run marks an anchor before its block; words written by hand may. Its block has no entry.
+#[test]
+fn a_block_without_new_certificates_has_no_entry() {
+    let mut engine = alone();
+    engine.propose(0, &[]).unwrap();
+    engine.certify(0).unwrap();
+    for _ in 2..=7 {
+        engine.advance().unwrap();
+        engine.propose(1, &[]).unwrap();
+        engine.certify(0).unwrap();
+    }
+    // As if block 1, of round 2, held rounds 1 to 4.
+    engine.state[STATE_BLOCKS] = 1;
+    engine.table[row(1) + ROW_BLOCK] = 2;
+    (1..=4).for_each(|round| engine.table[record(0, round) + RECORD_BLOCK] = 1);
+    assert_eq!(preview(&engine), Ok(of_block(3, &[(5, &[0]), (6, &[0])])));
+    assert_eq!(engine.commit(), Ok(2));
+}
+
 #[test]
 fn refused_calls_change_nothing() {
     let mut engine = of_four(0);
@@ -749,7 +903,9 @@ fn a_malformed_state_is_refused_everywhere() {
         refuses(&mut engine, 1, |e| e.block(1));
         refuses(&mut engine, 1, |e| e.committee(1));
         refuses(&mut engine, 1, Engine::commit);
+        refuses(&mut engine, 1, |e| e.preview());
         assert_eq!(lent::chain(&engine.state, &engine.table, &mut []), Err(Refusal::Malformed));
+        assert_eq!(lent::preview(&engine.state, &engine.table, &mut []), Err(Refusal::Malformed));
     }
     let engine = of_four(0);
     assert_eq!(Engine::try_restore(engine.state, engine.table.clone()), Ok(engine));

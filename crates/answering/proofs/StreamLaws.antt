@@ -16,8 +16,8 @@ use Rattle.framing.specs.Streams.{hasEnd}
 use Rattle.framing.specs.Framing.{remaining, telling, stepOf, lastOf}
 use Rattle.framing.proofs.FramingLaws.{step-told, last-told}
 use Rattle.lines.specs.Lines.{refusedLine}
-use Rattle.lines.specs.Puts.{Puts}
-use Rattle.lines.proofs.PutLaws.{puts-as, puts-none}
+use Rattle.putting.specs.Puts.{Puts}
+use Rattle.putting.proofs.PutLaws.{puts-as, puts-none}
 use Rattle.replies.proofs.RecordLaws.{unreadable-answered}
 use Rattle.replies.specs.Asked.{callOf}
 use Rattle.replies.specs.Records.{servedEngine, servedLines, RecordAnswered}

@@ -11,7 +11,7 @@ use Rattle.engine.specs.Engine.{Engine}
 use Rattle.requests.specs.Requests.{request}
 use Rattle.framing.specs.Streams.{readables}
 use Rattle.framing.specs.Framing.{telling, stepOf}
-use Rattle.lines.specs.Puts.{Puts}
+use Rattle.putting.specs.Puts.{Puts}
 use Rattle.answering.specs.declared.next.Progress.{Progress}
 use Rattle.replies.specs.Asked.{callOf}
 use Rattle.replies.specs.Records.{engineOf, servedEngine, servedLines}

@@ -18,7 +18,8 @@ use Rattle.writes.specs.Writes.{setMark}
 use Rattle.writes.proofs.WriteLaws.{samePlace, same-place}
 use Rattle.writes.proofs.MarkLaws.{OnlyMarks, only-all, only-both, only-if, only-mark, only-block, mark-same, mark-other, mark-block, block-round-same, block-round-other, block-round-mark}
 use Rattle.histories.specs.History.{below}
-use Rattle.histories.proofs.HistoryLaws.{inHistory, history-split, history-above, history-marked}
+use Rattle.histories.specs.History.{inHistory}
+use Rattle.histories.proofs.HistoryLaws.{history-split, history-above, history-marked}
 use Rattle.blocks.specs.Blocks.{markPlace, markRow, markHistory, addBlock}
 
 -- ---- nothing else changes

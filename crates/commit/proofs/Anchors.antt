@@ -17,7 +17,7 @@ use Rattle.agreement.specs.Commits.{anchorAt, choose, taken}
 use Rattle.agreement.proofs.HistoryLaws.{history-held}
 use Rattle.store.specs.Table.{Row}
 use Rattle.store.proofs.TableLaws.{held-member}
-use Rattle.histories.proofs.HistoryLaws.{inHistory}
+use Rattle.histories.specs.History.{inHistory}
 use Rattle.histories.specs.Anchors.{takenLeaders}
 use Rattle.histories.proofs.TakenLaws.{taken-other, taken-at}
 use Rattle.commit.proofs.Histories.{Shows, history-same}

@@ -15,7 +15,7 @@ use Rattle.agreement.specs.View.{View}
 use Rattle.agreement.specs.Dag.{isHeld, vote, Held, Placed}
 use Rattle.agreement.proofs.HistoryLaws.{history-reach, history-here, history-down, history-above}
 use Rattle.store.specs.Table.{heldAt, previousAt}
-use Rattle.histories.proofs.HistoryLaws.{inHistory}
+use Rattle.histories.specs.History.{inHistory}
 use Rattle.histories.proofs.HistoryLaws as blocks
 use Rattle.agreement.specs.Histories as theory
 

@@ -39,16 +39,14 @@ pub fn commit_cached(formed: bool, s: State, t: &mut [u32]) -> Outcome
     if late != 0 {
         return refused(s, late);
     }
-    let settings = s.settings;
-    let blocks = s.blocks;
-    let last = bonded::last_round(t, blocks);
-    let top = Round(s.round.0 - 1);
     let mut leaders = [16u32; 1025];
-    let w = leaders::fill_leaders(t, settings, blocks, last, top, &mut leaders);
-    let fault = votes::refusals::vote_refusal(s, t, &leaders, &w);
+    let fault = votes::refusals::anchor_refusal(s, t, &mut leaders);
     if fault != 0 {
         return refused(s, fault);
     }
+    let blocks = s.blocks;
+    let last = bonded::last_round(t, blocks);
+    let top = Round(s.round.0 - 1);
     let k = making::commit_blocks(t, &mut leaders, last, top, blocks);
     let mut next = s;
     next.blocks = k;

@@ -1,6 +1,7 @@
--- The value of a call: what an accepted one gives, and none of a refused one; and the reads' values as their answers have them.
+-- The value of a call: what an accepted one gives, and none of a refused one; and the values of reads and of a preview as their answers have them.
 use mathlib.Core.Path.{_≡_, refl}
 use mathlib.Core.Logic.{_≢_}
+use Prim.Native.Nat.{ℕ}
 use borrow.Author.Tests.{eq-eqb, ne-eqb}
 use Rattle.terms.specs.declared.Member.{Member}
 use Rattle.terms.specs.declared.Round.{Round}
@@ -8,9 +9,10 @@ use Rattle.checks.specs.Answers.{ifAccepted}
 use Rattle.reads.specs.declared.CertificateRead.{CertificateRead}
 use Rattle.standing.specs.Reads.{committeeRefusal, committeeAnswer}
 use Rattle.reads.specs.Reads.{certificateRefusal, certificateAnswer}
-use Rattle.engine.specs.Calls.{committee, certificate, Call, aside}
+use Rattle.preview.specs.Preview.{previewRefusal, previewEntries}
+use Rattle.engine.specs.Calls.{committee, certificate, preview, Call, aside}
 use Rattle.engine.specs.Engine.{Engine, refusalFor}
-use Rattle.engine.specs.Values.{Value, nothing, weights, held, acceptedValue, valueOf}
+use Rattle.engine.specs.Values.{Value, nothing, weights, held, entries, acceptedValue, valueOf}
 
 -- a held certificate, as the answer of its read has it
 abbrev pub heldIn : CertificateRead → Value
@@ -35,3 +37,8 @@ module _ (e : Engine) where
   pub certificate-value : (m : Member) (r : Round) → refusalFor e (aside (certificate m r)) ≡ 0 → valueOf e (aside (certificate m r)) ≡ heldIn (certificateAnswer state table (m .0) (r .0))
   unfolding valueOf certificateAnswer certificateRefusal ifAccepted
   certificate-value m r a = rw (eq-eqb (refusalFor e (aside (certificate m r))) 0 a) refl
+
+  -- the entries of a preview, where no check refuses it
+  pub preview-value : (n : ℕ) → valueOf e (aside (preview n)) ≡ ifAccepted (previewRefusal state table n) (entries (previewEntries state table)) nothing
+  unfolding valueOf previewRefusal ifAccepted
+  preview-value n = refl

@@ -8,13 +8,15 @@ use Rattle.terms.specs.declared.Proposal.{Proposal}
 use Rattle.terms.specs.declared.Certificate.{Certificate}
 use Rattle.sheet.specs.declared.Sheet.{Sheet}
 
--- the calls that leave state and table as they are: the reads, and the listing of the chain
+-- the calls that leave state and table as they are: the reads, the preview of a commit, and the listing of the chain
 pub data Aside : Type 0 where
   committee : Round → Aside
   share : Member → Round → Aside
   certificate : Member → Round → Aside
   -- by number from 1
   block : ℕ → Aside
+  -- what a commit would add; the number of words of the lent list
+  preview : ℕ → Aside
   listing : Aside
 
 pub data Call : Type 0 where

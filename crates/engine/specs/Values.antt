@@ -11,8 +11,10 @@ use Rattle.rules.specs.Reads.{committeeRead, shareRead, blockNumber, blockRead}
 use Rattle.state.specs.View.{view}
 use Rattle.commit.specs.Answers.{addedValue}
 use Rattle.commit.specs.Commit.{commitOutcome}
+use Rattle.preview.specs.Entries.{Entry}
+use Rattle.preview.specs.Preview.{previewEntries}
 use Rattle.reads.specs.Reads as reads
-use Rattle.engine.specs.Calls.{Aside, committee, share, certificate, block, listing, Call, opens, propose, endorse, certify, accept, advance, commit, enqueue, draw, aside}
+use Rattle.engine.specs.Calls.{Aside, committee, share, certificate, block, preview, listing, Call, opens, propose, endorse, certify, accept, advance, commit, enqueue, draw, aside}
 use Rattle.engine.specs.Engine.{Engine, refusalFor}
 
 pub data Value : Type 0 where
@@ -23,6 +25,8 @@ pub data Value : Type 0 where
   weights : List ℕ → Value
   -- a held certificate: its proposal, the endorsers that it was stored with, and the number of its block, 0 for none
   held : Proposal → ℕ → ℕ → Value
+  -- the certificates of the blocks that a commit would add
+  entries : List Entry → Value
   -- the chain, newest block first
   chain : Chain Content → Value
 
@@ -32,6 +36,7 @@ asideValue e (committee r) = weights (committeeRead (e .state .settings) (view (
 asideValue e (share m r) = number (shareRead (e .state .settings) (view (e .state) (e .table)) (m .0) (r .0))
 asideValue e (certificate m r) = held (reads.proposalShown (view (e .state) (e .table) .dag (m .0) (r .0))) (endorsersAt (e .table) (m .0) (r .0)) (blockNumber (view (e .state) (e .table) .chain) (m .0) (r .0))
 asideValue e (block n) = number (blockRead (e .state .settings) (view (e .state) (e .table)) n)
+asideValue e (preview n) = entries (previewEntries (e .state) (e .table))
 asideValue e listing = chain (view (e .state) (e .table) .chain)
 
 -- of a call that is accepted

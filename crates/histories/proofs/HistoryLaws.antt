@@ -15,7 +15,7 @@ use Rattle.base.proofs.UnionLaws.{in-none, in-union, in-common, common-le}
 use Rattle.store.specs.Table.{heldSet, heldAt, previousAt}
 use Rattle.store.proofs.TableLaws.{held-in}
 use Rattle.writes.proofs.MarkLaws.{OnlyMarks, held-set-marked, previous-marked}
-use Rattle.histories.specs.History.{namedBy, named, below}
+use Rattle.histories.specs.History.{namedBy, named, below, reached, inHistory}
 
 -- nobody's certificates name anybody
 named-none : (t : List ℕ) (r n : ℕ) → foldTo (namedBy t 0 r) n 0 ≡ 0
@@ -48,15 +48,6 @@ in-below t s r a =
     (and-comm (anyTo (λ i. isIn s i && isIn (previousAt t i (suc r)) a) 16) (isIn (heldSet t r) a))
 
 -- ---- a history, round by round
-
--- what the set s of round r reaches, d rounds below
-unfoldable pub reached : List ℕ → ℕ → ℕ → ℕ → ℕ
-reached t r s zero = s
-reached t r s (suc d) = below t (reached t r s d) (r - d)
-
--- the certificate of a and round q is in the history of the set s of round r
-unfoldable pub inHistory : List ℕ → ℕ → ℕ → ℕ → ℕ → Bool
-inHistory t r s a q = leb q r && isIn (reached t r s (r - q)) a
 
 module _ (t : List ℕ) (r s a : ℕ) where
   -- of its own round it has the set

@@ -12,7 +12,8 @@ use Rattle.base.specs.Sets.{isIn, only}
 use Rattle.base.proofs.SetLaws.{in-member}
 use Rattle.store.specs.Table.{heldAt}
 use Rattle.histories.specs.History.{below}
-use Rattle.histories.proofs.HistoryLaws.{inHistory, history-here, history-below}
+use Rattle.histories.specs.History.{inHistory}
+use Rattle.histories.proofs.HistoryLaws.{history-here, history-below}
 use Rattle.histories.specs.Anchors.{takeSet, takeRow, takeFrom, takenLeaders}
 use Rattle.histories.proofs.AnchorLaws.{row-other, row-same, take-other, take-left}
 

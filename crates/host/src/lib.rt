@@ -2,4 +2,5 @@
 mod batches;
 mod calls;
 mod guests;
+mod previews;
 mod views;

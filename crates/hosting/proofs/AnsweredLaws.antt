@@ -4,9 +4,11 @@ use mathlib.Core.Bool.{Bool, true, false, cond}
 use mathlib.Core.List.{List}
 use Prim.Native.Nat.{ℕ, _+_, _*_}
 use native.Mathlib.Decide.{ℕ-discrete}
+use native.Mathlib.Omega.{arith}
 use lib.Dec.{eqb}
-use lib.Seq.{paste}
-use borrow.Author.Tests.{eq-eqb, ne-eqb}
+use lib.ListN.{length}
+use lib.Seq.{paste, sets}
+use borrow.Author.Tests.{eq-eqb, ne-eqb, le-leb}
 use Rattle.base.proofs.Bools.{cond-same}
 use Rattle.terms.specs.declared.Member.{Member}
 use Rattle.terms.specs.declared.Body.{Body}
@@ -35,17 +37,22 @@ use Rattle.standing.specs.Answers.{sharedAnswer, sharedValue, ValueAnswered}
 use Rattle.reads.specs.Answers.{blockedAnswer, blockedValue}
 use Rattle.standing.specs.Reads.{committeeRefusal, committeeAnswer, shareRefusal, shareAnswer, shareValue}
 use Rattle.reads.specs.Reads.{certificateRefusal, certificateAnswer, blockRefusal, blockAnswer, blockValue}
-use Rattle.engine.specs.Calls.{Aside, committee, share, certificate, block, Call, opens, propose, advance, commit, draw, aside}
+use Rattle.preview.specs.declared.Previewed.{Previewed}
+use Rattle.preview.specs.declared.Previewed.the-variants as listed
+use Rattle.preview.specs.Entries.{Entry, wordsOf}
+use Rattle.preview.specs.Preview.{previewRefusal, previewEntries, previewList}
+use Rattle.preview.specs.Answers.{previewedRefusal, previewedValue, previewAnswer, Previews}
+use Rattle.engine.specs.Calls.{Aside, committee, share, certificate, block, preview, Call, opens, propose, advance, commit, draw, aside}
 use Rattle.engine.specs.Engine.{Engine, refusalFor, after}
-use Rattle.engine.specs.Values.{nothing, number, acceptedValue, valueOf}
-use Rattle.engine.proofs.ValueLaws.{value-refused, committee-value, certificate-value}
+use Rattle.engine.specs.Values.{nothing, number, entries, acceptedValue, valueOf}
+use Rattle.engine.proofs.ValueLaws.{value-refused, committee-value, certificate-value, preview-value}
 use Rattle.bodies.specs.Lengths.{stateLength, heldLength, committeeLength}
-use Rattle.words.specs.States.{stateIn, stateWords}
+use Rattle.words.specs.States.{stateReads, stateIn, stateWords}
 use Rattle.bodies.specs.Words.{sixteen}
 use Rattle.words.specs.Proposals.{heldWords}
 use Rattle.hosting.specs.Answers.{addedAnswer, over}
-use Rattle.hosting.specs.Calls.{Result, plain, Done, reads, roomFor, useOf, valueWord, engineIn, serves, engineFor, stateOver, outOver, answered, resultOf}
-use Rattle.hosting.proofs.CallLaws.{done-read}
+use Rattle.hosting.specs.Calls.{Result, plain, packed, Done, reads, roomFor, useOf, valueWord, engineIn, serves, engineFor, stateOver, outOver, answered, resultOf}
+use Rattle.hosting.proofs.CallLaws.{both-read, done-read}
 
 -- an accepted answer has the number 0
 pub accepted-zero : {a : Answer} {n : ℕ} → a ≡ answerOf n → a ≡ Accepted → n ≡ 0
@@ -140,6 +147,19 @@ module _ (s : State) (t : List ℕ) where
   unfolding blockValue blockRefusal
   block-packed k x = packed-by (aside (block k)) (x .its-value ∙ number-value (aside (block k)) (blockRead (s .settings) (view s t) k) refl) (x .its-refusal)
 
+  -- the entries of a preview are counted
+  preview-count : (n : ℕ) → previewedValue (previewAnswer s t n) ≡ valueWord (valueOf on (aside (preview n)))
+  unfolding previewAnswer ifAccepted
+  preview-count n = rw (preview-value on n) (go (eqb (previewRefusal s t n) 0))
+    where
+      go : (b : Bool) → previewedValue (cond b (listed.Listed (length (previewEntries s t))) (listed.Refused (previewRefusal s t n))) ≡ valueWord (cond b (entries (previewEntries s t)) nothing)
+      go true = refl
+      go false = refl
+
+  preview-packed : {list : List ℕ} {x : Previewed} {list′ : List ℕ} → Previews s t list x list′ → previewedValue x + previewedRefusal x * 4294967296 ≡ packedFor on (aside (preview (length list)))
+  unfolding previewRefusal
+  preview-packed {list} x = packed-by (aside (preview (length list))) (ap previewedValue (x .answer) ∙ preview-count (length list)) (x .refusal)
+
 -- ---- what is written
 
 -- n words put over a stretch, by the number that refuses
@@ -209,3 +229,22 @@ module _ (w t o : List ℕ) where
   certificate-done m r {x} q =
       done-shown (certificate (record { 0 = m }) (record { 0 = r })) (heldWords (x .proposal) (x .endorsers) (x .block)) heldLength (certificate-answer (stateIn w) t m r q)
       (λ a. rw (certificate-value (engineIn w t) (record { 0 = m }) (record { 0 = r }) a, q) refl)
+
+  -- the list of a preview is the out stretch
+  preview-words : previewList (stateIn w) t o ≡ outOver w t o (valueOf (engineIn w t) (aside (preview (length o))))
+  unfolding previewList ifAccepted
+  preview-words = rw (preview-value (engineIn w t) (length o)) (go (eqb (previewRefusal (stateIn w) t (length o)) 0))
+    where
+      l : List Entry
+      l = previewEntries (stateIn w) t
+
+      go : (b : Bool) → cond b (sets o 0 (wordsOf l)) o ≡ outOver w t o (cond b (entries l) nothing)
+      go true = refl
+      go false = refl
+
+  pub preview-done : {x : Previewed} {r : ℕ} {z : List ℕ} → stateReads w ≡ true → Previews (stateIn w) t o x z → r ≡ previewedValue x + previewedRefusal x * 4294967296
+      → Done packed (resultOf w t o true (aside (preview (length o)))) r w t z
+  preview-done k x h =
+      let c = aside (preview (length o)) in
+      done-read w t o true c (both-read k (le-leb 0 (length o) (omega arith))) refl
+      (record { its-answer = h ∙ preview-packed (stateIn w) t x; its-state = sym (cond-same (eqb (refusalFor (engineIn w t) c) 0) w); its-table = refl; its-out = x .entries ∙ preview-words })

@@ -1,6 +1,7 @@
 // A host's call: words are read, the engine answers, words are written.
 use checks::Answer;
 use commit::Committed;
+use preview::Previewed;
 use reads::BlockRead;
 use standing::ShareRead;
 ghost use mathlib.Core.Path.{_≡_};
@@ -10,6 +11,7 @@ ghost use Rattle.checks.specs.Answers.{refusalIn};
 ghost use Rattle.commit.specs.Answers.{addedRefusal, addedValue};
 ghost use Rattle.standing.specs.Answers.{sharedAnswer, sharedValue};
 ghost use Rattle.reads.specs.Answers.{blockedAnswer, blockedValue};
+ghost use Rattle.preview.specs.Answers.{previewedRefusal, previewedValue};
 ghost use Rattle.bodies.specs.Lengths.{stateLength};
 ghost use Rattle.words.specs.States.{stateWords};
 ghost use Rattle.hosting.specs.Answers.{addedAnswer, over, Writable};
@@ -55,6 +57,16 @@ pub fn block_number(x: BlockRead) -> u64
     match x {
         BlockRead::At(r) => pack(r.0, 0),
         BlockRead::Refused(n) => pack(0, n),
+    }
+}
+
+// The answer of a preview.
+pub fn preview_number(x: Previewed) -> u64
+    ensures { λ r. ⌜ r ≡ previewedValue x + previewedRefusal x * 4294967296 ⌝ }
+{
+    match x {
+        Previewed::Listed(n) => pack(n, 0),
+        Previewed::Refused(n) => pack(0, n),
     }
 }
 

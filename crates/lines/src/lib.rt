@@ -9,7 +9,7 @@ ghost use Prim.Native.Nat.{_+_, _≤_, _<_};
 ghost use lib.ListN.{length};
 ghost use Rattle.terms.specs.Proposals.{transactionsOf};
 ghost use Rattle.lines.specs.Lines.{decimal, numberField, okLine, countLine, refusedLine, letterOf, tripleFields, triplesFields, listingLine};
-ghost use Rattle.lines.specs.Puts.{Puts};
+ghost use Rattle.putting.specs.Puts.{Puts};
 
 // A byte.
 fn put_byte(buf: &mut [u8], at: usize, b: u8) -> usize

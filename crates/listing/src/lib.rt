@@ -11,7 +11,7 @@ ghost use Rattle.committee.specs.Chain.{chainOf};
 ghost use Rattle.changes.specs.ChainInTable.{ChainInTable};
 ghost use Rattle.changes.specs.LinkRuns.{rowsOver};
 ghost use Rattle.lines.specs.Lines.{listingLine};
-ghost use Rattle.lines.specs.Puts.{Puts};
+ghost use Rattle.putting.specs.Puts.{Puts};
 ghost use Rattle.listing.specs.Listing.{chainLines, placeLines, addLines, rowLines};
 ghost use Rattle.listing.specs.Counts.{inBlock, rowCount, blockCount, chainCount};
 ghost use Rattle.listing.specs.Listable.{PlaceListable, RowListable, BlockListable, BlocksListable, ChainListable};

@@ -2,8 +2,8 @@
 use mathlib.Core.Path.{_≡_, refl, ap, _∙_}
 use mathlib.Core.Bool.{Bool, true, false, _&&_}
 use mathlib.Core.List.{List, [], _∷_}
-use Prim.Native.Nat.{ℕ}
-use lib.Dec.{eqb}
+use Prim.Native.Nat.{ℕ, _*_, _/_}
+use lib.Dec.{eqb, ltb}
 use borrow.Author.Tests.{eqb-true}
 use Rattle.base.specs.Checks.{Checks, refusal}
 use Rattle.base.proofs.Bools.{both}
@@ -19,7 +19,7 @@ use Rattle.rules.specs.Calls.{ruledRefusal}
 use Rattle.rules.specs.Reads.{readingCommittee, readingShare, readingCertificate, readingBlock}
 use Rattle.rules.proofs.Runs.{viewAfter}
 use Rattle.enqueue.proofs.PassedLaws.{enqueue-refused}
-use Rattle.engine.specs.Calls.{Aside, committee, share, certificate, block, listing, Call, opens, propose, endorse, certify, accept, advance, commit, enqueue, draw, aside}
+use Rattle.engine.specs.Calls.{Aside, committee, share, certificate, block, preview, listing, Call, opens, propose, endorse, certify, accept, advance, commit, enqueue, draw, aside}
 use Rattle.engine.specs.Engine.{Engine, asideChecks, refusalFor}
 use Rattle.engine.specs.Steps.{viewAt, ruled}
 use Rattle.engine.specs.Reached.{Good}
@@ -61,25 +61,27 @@ caseOf e (draw v) = of-rules (draw v) (λ x. elim x [ ])
 caseOf e (aside x) = an-aside x
 
 module _ (S : Settings) where
-  abbrev asideBy : MemberView S → Aside → Checks
-  asideBy s (committee r) = readingCommittee S s (r .0)
-  asideBy s (share m r) = readingShare S s (m .0) (r .0)
-  asideBy s (certificate m r) = readingCertificate S s (m .0) (r .0)
-  asideBy s (block n) = readingBlock S s n
-  asideBy s listing = []
+  abbrev asideBy : ℕ → MemberView S → Aside → Checks
+  asideBy k s (committee r) = readingCommittee S s (r .0)
+  asideBy k s (share m r) = readingShare S s (m .0) (r .0)
+  asideBy k s (certificate m r) = readingCertificate S s (m .0) (r .0)
+  asideBy k s (block n) = readingBlock S s n
+  asideBy k s (preview n) = (ltb (n / 3) (16 * S .ceiling .0), 25) ∷ rules.checks S k s rules.commit
+  asideBy k s listing = []
 
   -- what a view tells of it; an open is one of a number above 15, an enqueue one of a guest above 7
   abbrev pub refusalBy : ℕ → MemberView S → {e : Engine} {c : Call} → CallCase e c → ℕ
   refusalBy k s {e} (an-open own sheet) = 4
   refusalBy k s {e} (an-enqueue g x) = 26
-  refusalBy k s {e} (an-aside x) = refusal (asideBy s x)
+  refusalBy k s {e} (an-aside x) = refusal (asideBy k s x)
   refusalBy k s {e} (of-rules c n) = ruledRefusal S k s (ruled e c)
 
-aside-by : (e : Engine) (x : Aside) → asideChecks e x ≡ asideBy (e .state .settings) (viewAt (e .state .settings) e) x
+aside-by : (e : Engine) (x : Aside) → asideChecks e x ≡ asideBy (e .state .settings) (e .state .own .0) (viewAt (e .state .settings) e) x
 aside-by e (committee r) = refl
 aside-by e (share m r) = refl
 aside-by e (certificate m r) = refl
 aside-by e (block n) = refl
+aside-by e (preview n) = refl
 aside-by e listing = refl
 
 module _ {S : Settings} {k : ℕ} {e : Engine} (good : Good S k e) where
@@ -87,7 +89,10 @@ module _ {S : Settings} {k : ℕ} {e : Engine} (good : Good S k e) where
   refusal-by (an-open own sheet) h = open-refused e own sheet h
   refusal-by (an-enqueue g x) h = enqueue-refused _ _ g x (good .formed) h
   refusal-by (an-aside x) h =
-      passes 1 _ (rw (good .formed) refl) ∙ ap refusal (aside-by e x) ∙ ap (λ (T : Settings). refusal (asideBy T (viewAt T e) x)) (good .settings)
+      passes 1 _ (rw (good .formed) refl)
+      ∙ ap refusal (aside-by e x)
+      ∙ ap (λ (i : ℕ). refusal (asideBy (e .state .settings) i (viewAt (e .state .settings) e) x)) (good .own)
+      ∙ ap (λ (T : Settings). refusal (asideBy T k (viewAt T e) x)) (good .settings)
   refusal-by (of-rules c n) h = refusal-by-rules good c (λ q. n (rw q is-read))
 
 -- ---- a list of calls

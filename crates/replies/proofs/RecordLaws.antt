@@ -22,10 +22,10 @@ use Rattle.engine.proofs.OutcomeLaws.{commit-answer}
 use Rattle.requests.specs.declared.Kind.{Kind}
 use Rattle.requests.specs.declared.Reading.{Reading}
 use Rattle.lines.specs.Lines.{okLine, countLine, refusedLine}
-use Rattle.lines.specs.Puts.{Puts}
+use Rattle.putting.specs.Puts.{Puts}
 use Rattle.replies.specs.Answers.{answerLine, committedLine}
 use Rattle.listing.specs.Listing.{chainLines}
-use Rattle.lines.proofs.PutLaws.{puts-as}
+use Rattle.putting.proofs.PutLaws.{puts-as}
 use Rattle.replies.specs.Asked.{callAs, callOf}
 use Rattle.replies.specs.Records.{linesFor, servedEngine, servedLines, RecordAnswered}
 

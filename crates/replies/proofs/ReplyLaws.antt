@@ -21,7 +21,7 @@ use Rattle.replies.specs.declared.Reply.{Reply}
 use Rattle.replies.specs.Answers.{answerLine, committedLine}
 use Rattle.replies.specs.Records.{engineOf, RecordAnswered}
 use Rattle.replies.specs.Replies.{OutcomeReplied, CallServed}
-use Rattle.lines.proofs.PutLaws.{puts-as}
+use Rattle.putting.proofs.PutLaws.{puts-as}
 use Rattle.replies.proofs.RecordLaws.{answer-lines, commit-lines, call-answered}
 
 module _ (e : Engine) {r : Reply} {t : List ℕ} {x : List ℕ} {y : List ℕ} {at : ℕ} where

@@ -7,7 +7,7 @@ use Rattle.state.specs.declared.State.{State}
 use Rattle.state.specs.Cached.{Cached}
 use Rattle.engine.specs.Calls.{Call}
 use Rattle.engine.specs.Engine.{Engine, after}
-use Rattle.lines.specs.Puts.{Puts}
+use Rattle.putting.specs.Puts.{Puts}
 use Rattle.replies.specs.declared.Reply.{Reply}
 use Rattle.replies.specs.Records.{engineOf, linesFor}
 

@@ -3,7 +3,7 @@ use checks::Answer;
 use commit::Committed;
 ghost use Prim.Native.Nat.{_+_, _≤_};
 ghost use lib.ListN.{length};
-ghost use Rattle.lines.specs.Puts.{Puts};
+ghost use Rattle.putting.specs.Puts.{Puts};
 ghost use Rattle.replies.specs.Answers.{answerLine, committedLine};
 
 // The answer of a member's call.

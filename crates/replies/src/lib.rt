@@ -15,7 +15,7 @@ ghost use Rattle.state.specs.Cached.{Cached};
 ghost use Rattle.state.specs.WellFormed.{wellFormed};
 ghost use Rattle.checks.specs.Answers.{formedBy};
 ghost use Rattle.engine.specs.Calls.{opens, commit, aside, listing};
-ghost use Rattle.lines.specs.Puts.{Puts};
+ghost use Rattle.putting.specs.Puts.{Puts};
 ghost use Rattle.replies.specs.Answers.{answerLine, committedLine};
 ghost use Rattle.replies.specs.Records.{engineOf, linesFor};
 ghost use Rattle.replies.specs.Replies.{OutcomeReplied, CallServed};

@@ -8,8 +8,8 @@ use lib.ListN.{length, drop, length-drop}
 use Rattle.engine.specs.Engine.{Engine}
 use Rattle.framing.specs.Framing.{remaining, stepOf}
 use Rattle.framing.proofs.FramingLaws.{step-within}
-use Rattle.lines.specs.Puts.{Puts}
-use Rattle.lines.proofs.PutLaws.{puts-then}
+use Rattle.putting.specs.Puts.{Puts}
+use Rattle.putting.proofs.PutLaws.{puts-then}
 use Rattle.answering.specs.declared.next.Progress.{Progress}
 use Rattle.replies.specs.Records.{engineOf}
 use Rattle.answering.specs.Streams.{answersTo, engineThrough, recordsAt, StepServed}

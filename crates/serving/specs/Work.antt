@@ -7,7 +7,7 @@ use lib.ListN.{length, drop}
 use Rattle.state.specs.Cached.{Cached}
 use Rattle.engine.specs.Engine.{Engine}
 use Rattle.framing.specs.Framing.{remaining, Waits}
-use Rattle.lines.specs.Puts.{Puts}
+use Rattle.putting.specs.Puts.{Puts}
 use Rattle.replies.specs.Records.{engineOf}
 use Rattle.answering.specs.Streams.{answersTo}
 use Rattle.serving.specs.declared.Work.{Work}

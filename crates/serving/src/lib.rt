@@ -10,7 +10,7 @@ ghost use Prim.Native.Nat.{_+_, _*_, _≤_};
 ghost use lib.ListN.{length, drop};
 ghost use Rattle.state.specs.Cached.{Cached};
 ghost use Rattle.framing.specs.Streams.{hasEnd};
-ghost use Rattle.lines.specs.Puts.{Puts};
+ghost use Rattle.putting.specs.Puts.{Puts};
 ghost use Rattle.framing.specs.Framing.{remaining};
 ghost use Rattle.replies.specs.Records.{engineOf};
 ghost use Rattle.answering.specs.Streams.{answersTo};

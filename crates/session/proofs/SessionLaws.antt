@@ -12,7 +12,7 @@ use borrow.Author.Tests.{eqb-true, eq-eqb, not-false}
 use Rattle.base.proofs.Bools.{both, neither}
 use Rattle.io.specs.Counts.{clamped}
 use Rattle.framing.specs.Framing.{remaining}
-use Rattle.lines.specs.Puts.{Puts}
+use Rattle.putting.specs.Puts.{Puts}
 use Rattle.state.specs.Cached.{Cached}
 use Rattle.replies.proofs.CachedLaws.{cached-closed}
 use Rattle.replies.specs.Records.{engineOf}

@@ -6,8 +6,8 @@ use terms::Round;
 ghost use mathlib.Core.Path.{_≡_};
 ghost use Rattle.base.specs.Checks.{refusal};
 ghost use Rattle.state.specs.Formed.{Formed};
-ghost use Rattle.votes.specs.Checks.{timeChecks, voteChecks};
-ghost use Rattle.votes.specs.Ready.{AnchorReady};
+ghost use Rattle.votes.specs.Checks.{timeChecks, voteChecks, leadersFor};
+ghost use Rattle.votes.specs.Ready.{AnchorReady, LeadersWanted};
 
 // Checks 19, 20, 8.
 pub fn time_refusal(s: State, t: &[u32]) -> u32
@@ -48,4 +48,15 @@ pub fn vote_refusal(s: State, t: &[u32], l: &[u32; 1025], w: &[u64; 16]) -> u32
         return 22;
     }
     0
+}
+
+// The same of a state that passes the checks of time: l, of 16s, gets the leaders by round.
+pub fn anchor_refusal(s: State, t: &[u32], l: &mut [u32; 1025]) -> u32
+    requires { ⌜ LeadersWanted s (now t) (now l) ⌝ }
+    ensures { λ v. ⌜ (v ≡ refusal (voteChecks s (now (t .entry)))) × (now (l .exit) ≡ leadersFor s (now (t .entry))) ⌝ }
+{
+    let last = bonded::last_round(t, s.blocks);
+    let top = Round(s.round.0 - 1);
+    let w = leaders::fill_leaders(t, s.settings, s.blocks, last, top, l);
+    vote_refusal(s, t, l, &w)
 }

@@ -2,7 +2,7 @@ use borrow.Author.Needs.{needs}
 use mathlib.Core.Path.{refl}
 use native.Mathlib.Omega.{arith}
 use Prim.Native.Nat.{_≤_, ℕ, _<_}
-use Rattle.lines.proofs.PutLaws.{puts-more}
+use Rattle.putting.proofs.PutLaws.{puts-more}
 use Rattle.lines.proofs.LineLaws.{decimal-small, decimal-more, decimal-fits, decimal-tenth}
 use borrow.Fn.Kinds.{In}
 use borrow.Fn.PlainCycle.{Measures, is, falls, and}

@@ -2,7 +2,7 @@ use mathlib.Core.Path.{refl}
 use native.Mathlib.Omega.{arith}
 use Prim.Native.Nat.{_+_, _-_}
 use lib.ListN.{length, take, length-set}
-use Rattle.lines.proofs.PutLaws.{Putting, puts-copy, puts-all}
+use Rattle.putting.proofs.PutLaws.{Putting, puts-copy, puts-all}
 use borrow.Author.Needs.{needs}
 use Rattle.lines.proofs.put_bytes.Statement.{statement}
 use Rattle.lines.proofs.put_bytes.Tie as tie

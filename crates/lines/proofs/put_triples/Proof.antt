@@ -5,7 +5,7 @@ use Rattle.base.specs.Folds.{tab}
 use Rattle.terms.specs.Proposals.{slotOf}
 use Rattle.terms.proofs.ProposalLaws.{transactions-tab}
 use Rattle.lines.specs.Lines.{triplesFields}
-use Rattle.lines.proofs.PutLaws.{Putting, puts-then, puts-within}
+use Rattle.putting.proofs.PutLaws.{Putting, puts-then, puts-within}
 use Rattle.lines.proofs.LineLaws.{triples-none, triples-next}
 use borrow.Author.Needs.{needs}
 use Rattle.lines.proofs.put_triples.Statement.{statement}

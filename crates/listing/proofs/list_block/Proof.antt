@@ -5,8 +5,8 @@ use native.Mathlib.Omega.{arith}
 use lib.ListN.{length}
 use borrow.Author.Needs.{needs}
 use Rattle.base.specs.Folds.{sumTo}
-use Rattle.lines.specs.Puts.{Puts}
-use Rattle.lines.proofs.PutLaws.{puts-then, puts-none, puts-as}
+use Rattle.putting.specs.Puts.{Puts}
+use Rattle.putting.proofs.PutLaws.{puts-then, puts-none, puts-as}
 use Rattle.changes.specs.LinkRuns.{rowsOver}
 use Rattle.changes.proofs.RunLaws.{LinkedFrom, linked-head, linked-up, rows-first, rows-step, end-linked}
 use Rattle.listing.specs.Counts.{inBlock}

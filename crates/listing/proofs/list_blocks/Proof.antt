@@ -4,7 +4,7 @@ use native.Mathlib.Omega.{arith}
 use borrow.Author.Needs.{needs}
 use Rattle.committee.specs.Chain.{chainOf}
 use Rattle.running.proofs.StartLaws.{start-le}
-use Rattle.lines.proofs.PutLaws.{Putting, puts-then, puts-none, puts-as}
+use Rattle.putting.proofs.PutLaws.{Putting, puts-then, puts-none, puts-as}
 use Rattle.listing.specs.Listing.{chainLines}
 use Rattle.listing.specs.Counts.{chainCount}
 use Rattle.listing.proofs.CountLaws.{count-more, count-all}

@@ -2,7 +2,7 @@ use mathlib.Core.Path.{sym, _∙_}
 use native.Mathlib.Omega.{arith}
 use borrow.Author.Tests.{not-true, not-false}
 use Rattle.listing.proofs.BlockLaws.{line-absent, line-other, line-present, count-present}
-use Rattle.lines.proofs.PutLaws.{puts-none, puts-as}
+use Rattle.putting.proofs.PutLaws.{puts-none, puts-as}
 use borrow.Author.Needs.{needs}
 use Rattle.listing.proofs.list_marked.Statement.{statement}
 use Rattle.listing.proofs.list_marked.Tie as tie

@@ -2,7 +2,7 @@ use native.Mathlib.Omega.{arith}
 use mathlib.Core.Path.{ap, sym}
 use Rattle.lines.specs.Lines.{listingLine}
 use Rattle.store.proofs.RecordLaws.{proposal-few, proposal-shown}
-use Rattle.lines.proofs.PutLaws.{puts-as}
+use Rattle.putting.proofs.PutLaws.{puts-as}
 use borrow.Author.Needs.{needs}
 use Rattle.listing.proofs.list_place.Statement.{statement}
 use Rattle.listing.proofs.list_place.Tie as tie

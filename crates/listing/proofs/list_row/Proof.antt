@@ -6,7 +6,7 @@ use borrow.Author.Needs.{needs}
 use Rattle.base.specs.Folds.{foldTo, sumTo}
 use Rattle.base.proofs.FoldLaws.{fold-none, fold-more}
 use Rattle.base.proofs.SumLaws.{sum-more, sum-up}
-use Rattle.lines.proofs.PutLaws.{Putting, puts-then, puts-none, puts-as}
+use Rattle.putting.proofs.PutLaws.{Putting, puts-then, puts-none, puts-as}
 use Rattle.changes.specs.LinkRuns.{placesOver}
 use Rattle.listing.specs.Counts.{inBlock}
 use Rattle.listing.proofs.CountLaws.{row-turned}

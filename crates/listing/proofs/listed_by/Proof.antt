@@ -2,7 +2,7 @@ use mathlib.Core.Path.{refl}
 use native.Mathlib.Omega.{arith}
 use Rattle.changes.proofs.LinkLaws.{links-start}
 use Rattle.listing.proofs.CountLaws.{count-all}
-use Rattle.lines.proofs.PutLaws.{puts-as}
+use Rattle.putting.proofs.PutLaws.{puts-as}
 use borrow.Author.Needs.{needs}
 use Rattle.listing.proofs.listed_by.Statement.{statement}
 use Rattle.listing.proofs.listed_by.Tie as tie

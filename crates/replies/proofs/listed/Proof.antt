@@ -7,7 +7,7 @@ use Rattle.state.specs.WellFormed.{wellFormed}
 use Rattle.state.proofs.FormedLaws.{formed}
 use Rattle.state.proofs.Walkable.{readable}
 use Rattle.engine.specs.Engine.{Engine}
-use Rattle.lines.proofs.PutLaws.{puts-then, puts-as}
+use Rattle.putting.proofs.PutLaws.{puts-then, puts-as}
 use Rattle.replies.specs.Records.{engineOf}
 use Rattle.replies.proofs.RecordLaws.{listing-refused, listing-shown}
 use borrow.Author.Needs.{needs}

@@ -3,7 +3,7 @@ use mathlib.Core.List.{[]}
 use native.Mathlib.Omega.{arith}
 use Rattle.framing.specs.declared.Event.{Event}
 use Rattle.framing.specs.Framing.{telling}
-use Rattle.lines.proofs.PutLaws.{puts-as}
+use Rattle.putting.proofs.PutLaws.{puts-as}
 use Rattle.replies.specs.Records.{engineOf}
 use Rattle.answering.specs.Streams.{answersTo}
 use Rattle.answering.proofs.StreamLaws.{last-whole}

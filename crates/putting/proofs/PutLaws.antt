@@ -7,7 +7,7 @@ use native.Mathlib.Nat.{add-zero, add-suc, suc-add}
 use lib.ListN.{length, getD, take, set, length-append}
 use native.Mathlib.Numerals.{add-one}
 use lib.Seq.{sets, take-suc, take-all, length-take-le}
-use Rattle.lines.specs.Puts.{Puts}
+use Rattle.putting.specs.Puts.{Puts}
 
 -- i of n rounds of a loop have put bytes, and the buffer kept its length
 pub record Putting (t u : List ℕ) (at next : ℕ) (l : List ℕ) (m n i : ℕ) : Type 0 where

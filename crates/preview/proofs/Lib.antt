@@ -1,0 +1,9 @@
+pub mod EntryLaws
+pub mod BlockLaws
+pub mod StageLaws
+pub mod AnchoredLaws
+pub mod PreviewLaws
+pub mod ListingLaws
+pub mod RefusalLaws
+pub mod AnsweredLaws
+pub mod ClaimLaws

@@ -1,0 +1,4 @@
+pub mod BlockLaws
+pub mod StepLaws
+pub mod Stepping
+pub mod ProspectLaws
