@@ -2,7 +2,7 @@
 use mathlib.Core.Path.{_≡_, refl, sym, ap, _∙_}
 use mathlib.Core.List.{List}
 use mathlib.Core.Logic.{_≢_}
-use Prim.Native.Nat.{ℕ, _+_, _-_, _*_, _/_, _≤_}
+use Prim.Native.Nat.{ℕ, _-_, _*_, _/_, _≤_}
 use native.Mathlib.Omega.{arith}
 use lib.ListN.{length}
 use borrow.Author.Tests.{eq-eqb, ne-eqb}
@@ -14,7 +14,7 @@ use Rattle.votes.specs.Checks.{leadersFor}
 use Rattle.prospects.specs.Prospects.{wordsAfter}
 use Rattle.preview.specs.declared.Previewed.the-variants.{Listed, Refused}
 use Rattle.preview.specs.Entries.{wordsOf}
-use Rattle.preview.specs.Preview.{previewRefusal, previewEntries, previewList}
+use Rattle.preview.specs.Preview.{previewRefusal, previewEntries}
 use Rattle.preview.specs.Answers.{previewAnswer, Previews}
 use Rattle.preview.proofs.EntryLaws.{words-length}
 use Rattle.preview.proofs.PreviewLaws.{words-listed, words-room}

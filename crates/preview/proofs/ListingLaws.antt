@@ -4,7 +4,6 @@ use mathlib.Core.List.{List, [], _∷_, _++_, append-assoc, append-nil}
 use Prim.Native.Nat.{ℕ, zero, suc, _+_, _-_, _≤_}
 use native.Mathlib.Omega.{arith}
 use lib.ListN.{length, length-append}
-use Rattle.agreement.specs.Rules.{Chain}
 use Rattle.agreement.specs.Listing.{listing}
 use Rattle.terms.specs.Proposals.{Content}
 use Rattle.sheet.specs.declared.Settings.{Settings}
@@ -15,7 +14,7 @@ use Rattle.rules.specs.Tests.{MemberView}
 use Rattle.state.specs.declared.State.{State}
 use Rattle.commit.specs.Commit.{commitRefusal, commitOutcome, commitTableAfter, ruledView}
 use Rattle.commit.proofs.RuledLaws.{rules-give}
-use Rattle.preview.specs.Entries.{Entry, entriesOf, entriesAfter}
+use Rattle.preview.specs.Entries.{entriesOf, entriesAfter}
 use Rattle.preview.specs.Preview.{previewEntries}
 use Rattle.preview.specs.Claims.{listedEntries, ListsBeyond}
 use Rattle.preview.proofs.PreviewLaws.{chain-before, blocks-grow}

@@ -1,6 +1,5 @@
 -- What is claimed of a preview: it is refused with commit's number, or its entries are exactly what the chain after that commit has beyond the chain before; and there is always room for them.
 use mathlib.Core.Path.{_≡_}
-use mathlib.Core.Bool.{true}
 use mathlib.Core.List.{List, [], _∷_, _++_}
 use Prim.Native.Nat.{ℕ, suc, _*_, _/_, _≤_}
 use lib.ListN.{length}
@@ -10,7 +9,6 @@ use Rattle.terms.specs.Proposals.{Content}
 use Rattle.sheet.specs.declared.Settings.{Settings}
 use Rattle.committee.specs.Committees.{ordered}
 use Rattle.state.specs.declared.State.{State}
-use Rattle.state.specs.WellFormed.{wellFormed}
 use Rattle.state.specs.View.{view}
 use Rattle.commit.specs.Commit.{commitRefusal, ruledView}
 use Rattle.preview.specs.Entries.{Entry, entriesOf}
@@ -27,9 +25,9 @@ pub record ListsBeyond (S : Settings) (k : ℕ) (c d : Chain Content) (entries :
   pub lists : listing (ordered S) d ≡ listing (ordered S) c ++ more
   pub told : listedEntries k more ≡ entries
 
--- where the state is well formed and the list long enough, the number is commit's
+-- where the list is long enough, the number is commit's
 abbrev pub RefusedAsCommit : Type 0
-RefusedAsCommit = (s : State) (t : List ℕ) (words : ℕ) → wellFormed s t ≡ true → 16 * s .settings .ceiling .0 ≤ words / 3 → previewRefusal s t words ≡ commitRefusal s t
+RefusedAsCommit = (s : State) (t : List ℕ) (words : ℕ) → 16 * s .settings .ceiling .0 ≤ words / 3 → previewRefusal s t words ≡ commitRefusal s t
 
 -- where commit is accepted, the entries are what the chain by the rules has then beyond the chain before
 abbrev pub EntriesBeyond : Type 0

@@ -31,7 +31,7 @@ fn preview_refusal(formed: bool, s: State, t: &[u32], words: usize, l: &mut [u32
 }
 
 // The call, where it is told whether the state is well formed.
-pub fn preview_cached(formed: bool, s: State, t: &[u32], list: &mut [u32]) -> Previewed
+fn preview_cached(formed: bool, s: State, t: &[u32], list: &mut [u32]) -> Previewed
     requires { ⌜ formed ≡ wellFormed s (now t) ⌝ }
     ensures { λ a. ⌜ Previews s (now (t .entry)) (now (list .entry)) a (now (list .exit)) ⌝ }
 {

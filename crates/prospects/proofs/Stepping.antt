@@ -1,25 +1,23 @@
 -- Round after round: what has been listed and reached, and one round more.
 use mathlib.Core.Path.{_≡_, refl, sym, ap, _∙_}
-use mathlib.Core.Bool.{Bool, true, false, cond, not, _&&_, _||_, false≢true}
+use mathlib.Core.Bool.{Bool, true, false, cond, false≢true}
 use mathlib.Core.List.{List, [], _++_}
 use Prim.Native.Nat.{ℕ, zero, suc, _+_, _-_, _<_, _≤_}
 use native.Mathlib.Omega.{arith}
 use native.Mathlib.Numerals.{add-one}
-use lib.Dec.{eqb, ltb}
+use lib.Dec.{ltb}
 use lib.ListN.{length, getD, replicate, length-append, length-replicate}
-use Rattle.base.specs.Sets.{isIn, only}
 use Rattle.base.proofs.UnionLaws.{in-none}
-use Rattle.store.specs.Table.{markAt}
 use Rattle.putting.specs.Puts.{Puts}
 use Rattle.putting.proofs.PutLaws.{puts-then, puts-none, puts-as}
-use Rattle.histories.specs.History.{below, inHistory}
+use Rattle.histories.specs.History.{below}
 use Rattle.histories.proofs.HistoryLaws.{below-none}
-use Rattle.blocks.specs.Blocks.{countStep, countAfter}
+use Rattle.blocks.specs.Blocks.{countAfter}
 use Rattle.blocks.proofs.BlockLaws.{count-more, count-step}
 use Rattle.reaching.specs.Reaching.{Closed}
-use Rattle.entries.specs.Entries.{inSets, rowsEntries}
+use Rattle.entries.specs.Entries.{inSets}
 use Rattle.entries.proofs.RowLaws.{rows-same}
-use Rattle.prospects.specs.Prospects.{isNew, blockWords, reachStep, wordsStep, reachAfter, wordsAfter}
+use Rattle.prospects.specs.Prospects.{isNew, reachStep, wordsStep, reachAfter, wordsAfter}
 use Rattle.prospects.specs.Ready.{Tells, StepListed}
 
 -- after i of the rounds above m, where there were k blocks

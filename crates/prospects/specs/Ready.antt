@@ -3,12 +3,12 @@ use mathlib.Core.Path.{_≡_}
 use mathlib.Core.Bool.{Bool, _||_}
 use mathlib.Core.List.{List}
 use Prim.Native.Nat.{ℕ, _+_, _-_, _<_, _≤_}
-use lib.ListN.{length, getD}
-use Rattle.base.specs.Sets.{isIn, only}
+use lib.ListN.{length}
+use Rattle.base.specs.Sets.{only}
 use Rattle.store.specs.Table.{Row}
 use Rattle.putting.specs.Puts.{Puts}
 use Rattle.histories.specs.History.{inHistory}
-use Rattle.blocks.specs.Blocks.{countStep, countAfter}
+use Rattle.blocks.specs.Blocks.{countStep}
 use Rattle.reaching.specs.Reaching.{Closed, WalkReady}
 use Rattle.entries.specs.Entries.{inSets}
 use Rattle.prospects.specs.Prospects.{blockWords, reachStep, wordsStep, wordsAfter}

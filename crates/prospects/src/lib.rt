@@ -1,7 +1,6 @@
 // The blocks that a commit would make, listed without making them: nothing is written but the list (change request: Point 8).
 use terms::Member;
 use terms::Round;
-ghost use mathlib.Core.Path.{_≡_};
 ghost use Prim.Native.Nat.{_-_};
 ghost use lib.ListN.{length};
 ghost use Rattle.putting.specs.Puts.{Puts};

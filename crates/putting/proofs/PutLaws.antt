@@ -1,4 +1,4 @@
--- Laws of bytes put into a buffer from a place on: the rest of the buffer stays as it was.
+-- Laws of what is put into a list from a place on: the rest of the list stays as it was.
 use mathlib.Core.Path.{_≡_, refl, _∙_}
 use mathlib.Core.List.{List, [], _∷_, _++_}
 use Prim.Native.Nat.{ℕ, suc, _+_, _≤_, _<_}
