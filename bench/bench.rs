@@ -14,7 +14,7 @@
 //! member 15's, for the calls that fill a place; the other fourteen are a
 //! quorum, so that an advance is accepted. The present round is the one
 //! before the last that is held, which is odd, so that a commit can be made;
-//! in an empty state it is 1, and 3 for commit.
+//! in an empty state it is 1, and 3 for commit. The margin is 3.
 //!
 //! An advance on an empty state is refused with 28, since nothing is held.
 //! "Advance, thin round" leaves three certificates in the present round, which
@@ -68,6 +68,9 @@ use std::hint::black_box;
 use std::time::{Duration, Instant};
 
 const ROW: usize = 272;
+const STATE_WORDS: usize = 38;
+/// The word of a state that has its margin.
+const MARGIN: usize = 37;
 
 /// The functions of one implementation.
 struct Functions {
@@ -129,7 +132,7 @@ fn words_of(lines: &mut [Line]) -> &mut [u32] {
 
 #[derive(Clone)]
 struct Member {
-    state: [u32; 37],
+    state: [u32; STATE_WORDS],
     lines: Vec<Line>,
     random: u64,
 }
@@ -151,7 +154,9 @@ type Waiting = [u32; 8];
 impl Member {
     fn open(ceiling: u32, lookback: u32, seed: u64) -> Member {
         let lines = vec![Line([0; 16]); ROW * (ceiling as usize + 1) / 16];
-        let mut member = Member { state: [0; 37], lines, random: seed };
+        let mut member = Member { state: [0; STATE_WORDS], lines, random: seed };
+        // An archive of before there was a margin leaves its word as it is.
+        member.state[MARGIN] = 3;
         let answer = with(&mut member, |s, t| plain::open(s, t, OWN, &sheet(ceiling, lookback)));
         assert_eq!(answer, 0);
         member
@@ -269,9 +274,9 @@ fn with<T>(member: &mut Member, f: impl FnOnce(&mut [u32], &mut [u32]) -> T) -> 
     answer
 }
 
-fn sheet(ceiling: u32, lookback: u32) -> [u32; 38] {
-    let mut words = [1; 38];
-    (words[1], words[3], words[5]) = (lookback, ceiling, 4);
+fn sheet(ceiling: u32, lookback: u32) -> [u32; 40] {
+    let mut words = [1; 40];
+    (words[1], words[3], words[5], words[39]) = (lookback, ceiling, 4, 3);
     (3..19).for_each(|k| words[2 * k + 1] = 100 + k as u32);
     words
 }
@@ -282,7 +287,7 @@ fn sheet(ceiling: u32, lookback: u32) -> [u32; 38] {
 #[inline(never)]
 fn floor(state: &[u32], table: &[u32]) -> u32 {
     let mut sums = [0u64; 8];
-    let mut heads = state[..37].iter().fold(0u32, |sum, w| sum.wrapping_add(*w));
+    let mut heads = state[..STATE_WORDS].iter().fold(0u32, |sum, w| sum.wrapping_add(*w));
     for row in table.as_chunks::<ROW>().0[..state[2] as usize + 1].iter().skip(1) {
         heads = heads.wrapping_add(row[0]).wrapping_add(row[1]).wrapping_add(row[2]);
         let records = &row.as_chunks::<16>().0[1..];
@@ -515,7 +520,7 @@ impl Case {
         match self.job {
             Job::Propose | Job::Draw => {
                 self.member.state[21] = 0;
-                self.member.state[23..].fill(0);
+                self.member.state[23..MARGIN].fill(0);
                 if self.job == Job::Draw {
                     let waiting = self.waiting;
                     self.member.table()[0] = 0;

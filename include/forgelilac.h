@@ -32,13 +32,14 @@ extern "C" {
 /* ---- versions */
 
 /* Of the header, and of the archive that belongs to it. */
-#define FORGELILAC_VERSION "0.7.0"
+#define FORGELILAC_VERSION "0.8.0"
 #define FORGELILAC_VERSION_MAJOR 0
-#define FORGELILAC_VERSION_MINOR 7
+#define FORGELILAC_VERSION_MINOR 8
 #define FORGELILAC_VERSION_PATCH 0
 /* Of the words of state and table; no word of theirs has it. Store it beside them: docs/TABLES.md
- * tells what to do with words of an older format. */
-#define FORGELILAC_FORMAT 1
+ * tells what to do with words of an older format. Those of format 1 have a state of 37 words: write 3
+ * to word FORGELILAC_STATE_MARGIN behind them, and it is one of format 2. The table stays as it is. */
+#define FORGELILAC_FORMAT 2
 
 /* ---- lengths, in words */
 
@@ -47,13 +48,13 @@ extern "C" {
 #define FORGELILAC_GUESTS 8           /* guests that have a queue, 0 to 7 */
 #define FORGELILAC_QUEUE_PLACES 8     /* the most transactions that wait in a queue */
 #define FORGELILAC_BLOCKS 511         /* the most blocks of a state, at ceiling 1,024 */
-#define FORGELILAC_STATE_WORDS 37
+#define FORGELILAC_STATE_WORDS 38
 #define FORGELILAC_TRANSACTION_WORDS 3
 #define FORGELILAC_BODY_WORDS 14
 #define FORGELILAC_PROPOSAL_WORDS 16
 #define FORGELILAC_CERTIFICATE_WORDS 17 /* as accept takes it */
 #define FORGELILAC_HELD_WORDS 18        /* as the certificate read gives it */
-#define FORGELILAC_SHEET_WORDS 38
+#define FORGELILAC_SHEET_WORDS 40
 #define FORGELILAC_COMMITTEE_WORDS 16
 #define FORGELILAC_LISTED_WORDS 3       /* a certificate as forgelilac_chain lists it */
 #define FORGELILAC_ENTRY_WORDS 3        /* an entry of a preview, the same three words */
@@ -82,6 +83,7 @@ extern "C" {
 #define FORGELILAC_STATE_PROPOSED 21  /* is there a proposal: 0 or 1 */
 #define FORGELILAC_STATE_BLOCKS 22    /* number of blocks */
 #define FORGELILAC_STATE_BODY 23      /* body of the proposal */
+#define FORGELILAC_STATE_MARGIN 37
 
 /* ---- words of a body, a proposal, a certificate, a held certificate, a listed one, an entry of a preview */
 
@@ -140,11 +142,16 @@ enum forgelilac_kind {
 
 /* ---- settings of a sheet: each two words, blank (0) or written (1), then the value */
 
+/* All members of a plant open with equal filled settings, the margin among them. For total weight n
+ * the fault bound is (n - 1) divided by the margin, rounded down, and 0 for n = 0; a quorum is a set
+ * inside the committee of weight at least n minus that. For total 16 margin 3 gives 5 and 11, margin 5
+ * gives 3 and 13. */
 enum forgelilac_setting {
     FORGELILAC_LOOKBACK = 0,  /* 1 to 1,000, blank 20 */
     FORGELILAC_CEILING = 1,   /* 3 to 1,024, blank 1,024 */
     FORGELILAC_ALLOWANCE = 2, /* 0 to 4, blank 4 */
-    FORGELILAC_WEIGHT = 3     /* plus the member: 0 to 1,000,000, blank 1 for 0 to 3, else 0 */
+    FORGELILAC_WEIGHT = 3,    /* plus the member: 0 to 1,000,000, blank 1 for 0 to 3, else 0 */
+    FORGELILAC_MARGIN = 19    /* 3 to 5, blank 3 */
 };
 
 /* ---- refusal numbers */
@@ -336,7 +343,7 @@ static inline void forgelilac_blank_sheet(uint32_t sheet[FORGELILAC_SHEET_WORDS]
     for (int i = 0; i < FORGELILAC_SHEET_WORDS; i++) sheet[i] = 0;
 }
 
-/* Writes setting 0 to 18; a weight is FORGELILAC_WEIGHT plus the member. */
+/* Writes setting 0 to 19; a weight is FORGELILAC_WEIGHT plus the member. */
 static inline void forgelilac_write_setting(uint32_t sheet[FORGELILAC_SHEET_WORDS],
                                             unsigned setting, uint32_t value) {
     sheet[2 * setting] = 1;

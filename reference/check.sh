@@ -1,9 +1,10 @@
 #!/bin/sh
-# check.sh [LAST [FIRST]]: the tests, the example, the edge streams, shares of
-# every weight of totals to 1,000 and as many by chance, and seeds FIRST to LAST
-# (1 to 50 if not given), as they are, with their accepts in batches, with their
-# proposals drawn from queues and with previews of commit, the reference against
-# naive.py; and that guests get their turn over long runs.
+# check.sh [LAST [FIRST]]: the tests, the example, the edge streams, the runs of
+# members whose margins differ, shares of every weight of totals to 1,000 and as
+# many by chance, and seeds FIRST to LAST (1 to 50 if not given), as they are, with
+# their accepts in batches, with their proposals drawn from queues and with
+# previews of commit, the reference against naive.py; and that guests get their
+# turn over long runs.
 # A runner given in RUNNER is compared with the reference as well.
 cd "$(dirname "$0")" || exit 2
 bin/tests_ref -q || exit 1
@@ -11,10 +12,11 @@ status=0
 differs() { echo "differs: $1"; status=1; }
 for runner in bin/runner_ref "python3 naive.py" $RUNNER; do
     $runner < example.stream | cmp - example.expected || differs example
-    for stream in edges/*.stream; do
+    for stream in edges/*.stream margins/*.stream; do
         $runner < "$stream" | cmp - "${stream%.stream}.expected" || differs "$stream"
     done
 done
+python3 margins.py > /dev/null || differs margins
 mkdir -p out
 python3 pairs.py 1000 > out/pairs
 bin/shares < out/pairs > out/shares

@@ -1,7 +1,8 @@
 #!/bin/sh
 # differ.sh RUNNER LAST [FIRST]: compares RUNNER with the reference on the
-# example, the edge streams and the shuffled streams of seeds FIRST to LAST
-# (from 1 if not given). Stops at the first difference; says how much was compared.
+# example, the edge streams, those of members whose margins differ and the shuffled
+# streams of seeds FIRST to LAST (from 1 if not given). Stops at the first
+# difference; says how much was compared.
 # Each stream is given whole; pieces.py gives them in pieces.
 [ $# -ge 2 ] || { echo "usage: differ.sh RUNNER LAST [FIRST]" >&2; exit 2; }
 runner=$(cd "$(dirname "$1")" && pwd)/$(basename "$1")
@@ -24,7 +25,7 @@ compare() {
 }
 
 compare example example.stream example.expected
-for stream in edges/*.stream; do
+for stream in edges/*.stream margins/*.stream; do
     compare "$stream" "$stream" "${stream%.stream}.expected"
 done
 for seed in $(seq "$first" "$last"); do

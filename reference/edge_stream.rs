@@ -84,6 +84,147 @@ fn open(own: &str, lookback: &str, ceiling: &str, allowance: &str, weights: &[&s
 const ZEROS: [&str; 16] = ["0"; 16];
 const ALONE: [&str; 4] = ["1", "0", "0", "0"];
 
+/// The members below a number, as a set.
+fn below(number: u32) -> u32 {
+    (1 << number) - 1
+}
+
+/// Those without an author: its endorsers.
+fn others(number: u32, author: u32) -> u32 {
+    below(number) & !(1 << author)
+}
+
+/// Opens with a margin out of range or not to be read, before any open is
+/// accepted.
+fn margins_refused(e: &mut Edges) {
+    let full = open("0", "", "64", "", &[]);
+    e.part("the margin, a 21st field after the name: 3 to 5, out of range is 2");
+    for margin in ["2", "6", "0", "1", "7", "259", "4294967295"] {
+        e.no(2, &format!("{full},{margin}"), "2: margin out of range");
+    }
+    for margin in ["03", "00", "+3", "-3", " 3", "3 ", " ", "3.0", "3e0", "x", "three", "\"3\"", "4294967296", "4294967299"] {
+        e.unreadable(format!("{full},{margin}").as_bytes(), "the margin is no number");
+    }
+    e.no(4, &format!("{},6", open("16", "", "64", "", &[])), "4 before 2: the member first");
+    e.no(4, &format!("{},5", open("16", "", "64", "", &[])), "4 with a margin in range");
+    e.unreadable(format!("{},6x", open("16", "", "64", "", &[])).as_bytes(), "24 before 4");
+    e.no(2, &format!("{},2", open("0", "", "64", "", &ZEROS)), "2 before 3: no positive weight");
+    e.no(2, &format!("{},6", open("0", "", "65", "", &ZEROS)), "2 before 3 and 1");
+    e.no(2, &format!("{},5", open("0", "0", "64", "", &[])), "2 for the lookback, with a margin in range");
+    e.no(3, &format!("{},5", open("0", "", "65", "", &ZEROS)), "3 before 1, with a margin in range");
+    e.no(1, &format!("{},4", open("0", "", "65", "", &[])), "1 with a margin in range");
+    e.no(1, &format!("{},", open("0", "", "65", "", &[])), "1 with a blank margin in its field");
+    e.no(1, "advance", "none of them opened anything");
+    for margin in [",3", ",4", ",5", ",", ""] {
+        e.ok(&format!("{full}{margin}"), "a margin in range, blank in its field, left out");
+    }
+    e.no(2, &format!("{full},6"), "refused after an open too");
+    e.unreadable(format!("{full},5,").as_bytes(), "unreadable after an open too");
+}
+
+/// Members of weight 1 and a margin as it ends the open: sets one short of a
+/// quorum and exactly one, votes exactly at the bound and one above. The
+/// quorum and the bound are worked out by hand where this is called.
+fn margin_run(e: &mut Edges, members: u32, margin: &str, quorum: u32, bound: u32) {
+    let weights: Vec<&str> = (0..16).map(|m| if m < members { "1" } else { "0" }).collect();
+    let everybody = |author| others(members, author);
+    let short = format!("{} of {members}, the quorum is {quorum}", quorum - 1);
+    let just = format!("{quorum} of {members}");
+    e.ok(&format!("{}{margin}", open("0", "", "64", "", &weights)), "the leader of round 2 is member 1");
+    e.ok("propose,0", "");
+    e.no(13, &format!("certify,{}", others(quorum - 1, 0)), &short);
+    e.ok(&format!("certify,{}", others(quorum, 0)), &just);
+    e.no(13, &format!("accept,1,1,0,{}", others(quorum - 1, 1)), &short);
+    e.ok(&format!("accept,1,1,0,{}", others(quorum, 1)), &just);
+    for author in 2..quorum - 1 {
+        e.ok(&format!("accept,{author},1,0,{}", everybody(author)), "round 1, signed by all");
+    }
+    e.no(28, "advance", &short);
+    e.ok(&format!("accept,{},1,0,{}", quorum - 1, everybody(quorum - 1)), "round 1, signed by all");
+    e.ok("advance", &just);
+    let (too_few, enough) = (below(quorum - 1), below(quorum));
+    e.no(12, &format!("endorse,1,2,{too_few}"), &short);
+    e.ok(&format!("endorse,1,2,{enough}"), &just);
+    e.no(12, &format!("propose,{too_few}"), &short);
+    e.ok(&format!("propose,{enough}"), &just);
+    e.no(13, &format!("certify,{}", others(quorum - 1, 0)), &short);
+    e.ok(&format!("certify,{}", others(quorum, 0)), &just);
+    for author in 1..quorum {
+        e.ok(&format!("accept,{author},2,{enough},{}", everybody(author)), "round 2");
+    }
+    e.ok("advance", &just);
+    for author in 2..2 + bound {
+        e.no(22, "commit", "fewer votes than the bound or as many");
+        e.ok(&format!("accept,{author},3,2,{}", everybody(author)), "a vote");
+    }
+    e.no(22, "commit", &format!("{bound} votes equal the bound {bound}"));
+    e.ok(&format!("accept,0,3,2,{}", everybody(0)), "a vote");
+    e.record(b"commit", &["ok,1"], &format!("{} votes are more than the bound {bound}", bound + 1));
+    // Round 1 from member 1, with 0 last; then the anchor.
+    let mut lines: Vec<String> = (1..quorum).chain([0]).map(|author| format!("1,2,1,{author}")).collect();
+    lines.extend(["1,2,2,1".to_owned(), "ok".to_owned()]);
+    let lines: Vec<&str> = lines.iter().map(String::as_str).collect();
+    e.record(b"chain", &lines, "");
+}
+
+/// What follows the margin, by hand.
+fn margins(e: &mut Edges) {
+    e.part("total 16: margin 3 gives bound 5 and quorum 11");
+    margin_run(e, 16, "", 11, 5);
+    e.part("total 16: margin 5 gives bound 3 and quorum 13");
+    margin_run(e, 16, ",5", 13, 3);
+    e.part("total 16: a blank margin in its field is 3, also after an open with 5");
+    margin_run(e, 16, ",", 11, 5);
+    e.part("total 16: margin 4 gives bound 3 and quorum 13");
+    margin_run(e, 16, ",4", 13, 3);
+    e.part("total 13: margins 3, 4 and 5 give bounds 4, 3 and 2, quorums 9, 10 and 11");
+    margin_run(e, 13, ",3", 9, 4);
+    margin_run(e, 13, ",4", 10, 3);
+    margin_run(e, 13, ",5", 11, 2);
+
+    e.part("total 4 by margin 5: bound 0 and quorum 4; one vote is enough");
+    e.ok(&format!("{},5", open("0", "1", "64", "", &[])), "lookback 1, members 0 to 3 of weight 1");
+    e.no(13, "accept,1,1,0,12", "3 of 4; by margin 3 a quorum");
+    for text in ["accept,0,1,0,14,B,4,7", "accept,1,1,0,13", "accept,2,1,0,11"] {
+        e.ok(text, "4 of 4");
+    }
+    e.no(28, "advance", "3 of 4; by margin 3 a quorum");
+    e.ok("accept,3,1,0,7", "");
+    e.ok("advance", "4 of 4");
+    e.no(12, "propose,7", "3 of 4; by margin 3 a quorum");
+    e.no(12, "endorse,1,2,7", "3 of 4; by margin 3 a quorum");
+    for text in ["accept,1,2,15,13", "accept,0,2,15,14", "accept,2,2,15,11", "accept,3,2,15,7", "advance"] {
+        e.ok(text, "");
+    }
+    e.no(22, "commit", "no votes: 0 equals the bound 0");
+    e.no(2, &format!("{},6", open("0", "1", "64", "", &[])), "a refused open changes no margin");
+    e.no(4, &format!("{},3", open("16", "1", "64", "", &[])), "nor does one with a margin in range");
+    e.ok("accept,3,3,2,7", "a vote; any previous set that is held will do");
+    e.record(b"commit", &["ok,1"], "1 vote is more than the bound 0; by margin 3 it equals the bound 1");
+    e.part("the margin stays when weights change: from round 4 on total 11, bound 2 and quorum 9");
+    for text in ["accept,0,3,2,14", "accept,1,3,2,13", "accept,2,3,2,11", "advance"] {
+        e.ok(text, "4 of 4 in round 3");
+    }
+    e.no(13, "accept,0,4,1,16", "8 of 11; by margin 3, with bound 3, a quorum");
+    e.ok("accept,0,4,1,18", "9 of 11");
+    e.ok("accept,4,4,1,3", "9 of 11");
+    e.no(28, "advance", "members 0 and 4: 8 of 11; by margin 3 a quorum");
+    e.ok("accept,2,4,1,17", "9 of 11; the leader of round 4, at position 2 of 0 to 4");
+    e.ok("advance", "members 0, 2 and 4: 9 of 11");
+    e.no(12, "propose,17", "members 0 and 4: 8 of 11; by margin 3 a quorum");
+    for text in ["accept,0,5,4,18", "accept,1,5,4,17"] {
+        e.ok(text, "a vote of weight 1");
+    }
+    e.no(22, "commit", "2 votes equal the bound 2");
+    e.ok("accept,3,5,4,17", "a vote of weight 1");
+    e.record(b"commit", &["ok,1"], "3 votes are more than the bound 2; by margin 3 they equal the bound 3");
+    e.record(
+        b"chain",
+        &["1,2,1,1", "1,2,1,2", "1,2,1,3", "1,2,1,0,B,4,7", "1,2,2,1", "2,4,3,0", "2,4,4,2", "ok"],
+        "leaders, shares and known rounds go by no margin",
+    );
+}
+
 fn main() {
     let directory = std::env::args().nth(1).unwrap_or(".".to_owned());
     let directory = Path::new(&directory);
@@ -134,11 +275,15 @@ fn main() {
     e.unreadable(open("0", " ", "64", "", &[]).as_bytes(), "a space is no blank");
     e.unreadable(open("0", "", "4294967296", "", &[]).as_bytes(), "a number above 4,294,967,295 in the sheet");
     let full = open("0", "", "64", "", &[]);
-    e.unreadable(full[..full.len() - 1].as_bytes(), "one field short: 20");
-    e.unreadable(format!("{full},").as_bytes(), "one field over: 22");
-    e.unreadable(format!("{full},0").as_bytes(), "one field over: 22");
+    e.unreadable(full[..full.len() - 1].as_bytes(), "19 fields after the name: one short");
+    e.unreadable(format!("{full},,").as_bytes(), "22 fields, the last two blank");
+    e.unreadable(format!("{full},3,").as_bytes(), "22 fields, a margin and a blank");
+    e.unreadable(format!("{full},,3").as_bytes(), "22 fields, a blank and a margin");
+    e.unreadable(format!("{full},3,3").as_bytes(), "22 fields");
     e.unreadable(format!("{full},E,1,0").as_bytes(), "an open has no triples");
     e.no(1, "advance", "refused and unreadable opens opened nothing");
+    margins_refused(e);
+    e.part("open: ends of the ranges");
     e.ok(&open("15", "1000", "3", "0", &["1000000", "0", "0", "0", "", "", "", "", "", "", "", "", "", "", "", "1000000"]), "ends of the ranges: own 15, lookback 1,000, ceiling 3, allowance 0, weight 1,000,000");
     e.ok(&open("0", "1", "64", "4", &ALONE), "ends of the ranges: lookback 1, ceiling 64, allowance 4; another open");
 
@@ -895,6 +1040,8 @@ fn main() {
     e.no(9, "accept,4,4,1,1", "member 4 came and left");
     e.no(13, "accept,0,4,1,6", "3 of 8, the quorum is 6");
     e.ok("accept,0,4,1,8", "6 of 8");
+
+    margins(e);
 
     e.part("the last record, without its CRLF");
     e.stream.extend_from_slice(b"advance");

@@ -6,8 +6,9 @@ records.
     guests.py SEED        (build.sh first)
 
 Guests add transactions between the records, busy ones more than others; some
-are out of range, some cannot be read, some are of a guest above 7. Most proposes
-become draws, the others stay; now and then there is a draw more.
+are out of range, some cannot be read, some are of a guest above 7. In some
+stretches all are quiet, so that nothing is left to draw. Most proposes become
+draws, the others stay; now and then there is a draw more.
 """
 import os
 import random
@@ -17,6 +18,9 @@ import sys
 
 base = os.path.dirname(os.path.abspath(__file__))
 PLAIN = re.compile(rb'[a-zA-Z0-9,]*')
+# How often a guest adds something between two records.
+BUSY = [0, 0, 0.002, 0.01, 0.03, 0.2]
+QUIET = [0, 0, 0, 0.001, 0.002, 0.005]
 PROPOSE = re.compile(r'propose,([0-9]+)(?:,[BUE],[0-9]+,[0-9]+)*')
 
 
@@ -45,7 +49,8 @@ def main():
             continue
         record = record.decode()
         if record.startswith('open') or not rates:
-            rates = [rng.choice([0, 0, 0.002, 0.01, 0.03, 0.2]) for _ in range(8)]
+            some = QUIET if rng.random() < 0.3 else BUSY
+            rates = [rng.choice(some) for _ in range(8)]
         lines += added(rng, rates)
         propose = PROPOSE.fullmatch(record)
         if propose and rng.random() < 0.85:

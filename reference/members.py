@@ -2,11 +2,13 @@
 """members.py RUNNER COUNT [FIRST]: chains of shuffled members compared pairwise.
 
 From seed FIRST (1 if not given) on, COUNT shuffled runs of several members in which the
-promise is due: no forged signatures, and faulty members within the fault bound. RUNNER is
-given what each correct member was called with. Of the last listings of any two members of a
-run one must be a prefix of the other: as many blocks or more and, block by block, the same
-lines. Stops at the first pair that parts and leaves the two streams in parted-1.stream and
-parted-2.stream; says how much was compared."""
+promise is due: no forged signatures, faulty members within the fault bound, and the settings
+of all members equal once filled. RUNNER is given what each correct member was called with. Of
+the last listings of any two members of a run one must be a prefix of the other: as many blocks
+or more and, block by block, the same lines. Stops at the first pair that parts and leaves the
+two streams in parted-1.stream and parted-2.stream; says how much was compared, and how many
+runs each margin had."""
+import collections
 import itertools
 import os
 import shutil
@@ -33,6 +35,19 @@ def last_listing(answers):
     return [lines for _, lines in blocks]
 
 
+BLANKS = [20, 1024, 4] + [1] * 4 + [0] * 12 + [3]
+
+
+def filled_settings(stream):
+    """Those of the open that the stream begins with, the margin last."""
+    with open(stream, "rb") as file:
+        name, _, *fields = file.readline().decode("ascii").rstrip("\r\n").split(",")
+    if name != "open" or len(fields) not in (len(BLANKS) - 1, len(BLANKS)):
+        raise ValueError("a stream must begin with an open")
+    fields += [""] * (len(BLANKS) - len(fields))
+    return [int(field) if field else blank for field, blank in zip(fields, BLANKS)]
+
+
 def by_round_then_author(block):
     places = [tuple(map(int, line.split(",")[2:4])) for line in block]
     return places == sorted(places)
@@ -43,6 +58,7 @@ class Members:
         self.runner, self.folder = runner, folder
         self.shuffle = os.path.join(os.path.dirname(os.path.abspath(__file__)), "bin", "shuffle")
         self.members = self.pairs = self.equal = self.blocks = self.turned = self.void = 0
+        self.margins = collections.Counter()
 
     def streams(self, seed):
         """The streams of a run's correct members, none where the promise is not due."""
@@ -65,6 +81,10 @@ class Members:
         if streams is None:
             self.void += 1
             return False
+        settings = [filled_settings(stream) for stream in streams]
+        if any(other != settings[0] for other in settings):
+            sys.exit(f"seed {seed}: members with settings that differ")
+        self.margins[settings[0][-1]] += 1
         chains = [(self.chain(stream), stream) for stream in streams]
         self.members += len(chains)
         longest = max((chain for chain, _ in chains), key=len)
@@ -91,7 +111,8 @@ def main():
             seed += 1
     print(f"none parted: {due} runs, {members.members} members, {members.pairs} pairs of chains, "
           f"{members.equal} of them equally long; {members.blocks} blocks, {members.turned} of them "
-          f"not by round, then author; {members.void} runs passed over, where the promise is not due")
+          f"not by round, then author; {members.void} runs passed over, where the promise is not due; "
+          f"runs by margin: {', '.join(f'{margin}: {runs}' for margin, runs in sorted(members.margins.items()))}")
 
 
 main()

@@ -6,12 +6,12 @@ shares are given pairs of weight and total, wrong rules of batches rows of
 certificates, wrong rules of queues streams with draws, wrong previews streams in
 which they are asked for, and what they answer is compared with naive.py. Of
 queues it also says whether fair finds a fault, of previews whether the unit
-tests do. Of a wrong rule of advance that no stream notices it says whether the
-unit tests do: none of the streams comes to hold an outsider.
+tests do. Of a wrong rule of advance or of the margin that no stream notices it
+says whether the unit tests do: none of the streams comes to hold an outsider.
 
     mutants.py N [SORT]        (build.sh first; works in the directory mutants)
 
-With SORT only that one: share, batch, queue, preview, advance or rule.
+With SORT only that one: share, batch, queue, preview, advance, margin or rule.
 
 Six of the changes cannot show in a runner's answers; they are marked same.
 """
@@ -20,7 +20,7 @@ from concurrent.futures import ThreadPoolExecutor
 base = os.path.dirname(os.path.abspath(__file__))
 SAME = {4, 12, 45, 46, 49, 52}
 M=[
-('reference.rs','if votes <= fault_bound(total(committee))','if votes < fault_bound(total(committee))'),
+('reference.rs','if votes <= self.fault_bound(committee)','if votes < self.fault_bound(committee)'),
 ('reference.rs','chain.partition_point(|b| b.round < s)','chain.partition_point(|b| b.round <= s)'),
 ('reference.rs','s > self.last_block_round() + 2','s > self.last_block_round() + 1'),
 ('reference.rs','s > self.last_block_round() + 2','s > self.last_block_round() + 3'),
@@ -29,8 +29,8 @@ M=[
 ('reference.rs','self.proposal == other.proposal','self.proposal == other.proposal && self.endorsers == other.endorsers'),
 ('reference.rs','members[(round / 2) as usize % members.len()]','members[(round / 2 - 1) as usize % members.len()]'),
 ('reference.rs','members[(round / 2) as usize % members.len()]','members[round as usize % members.len()]'),
-('reference.rs','(n - 1) / 3','n / 3'),
-('reference.rs','>= quorum_weight(total(committee))','> quorum_weight(total(committee))'),
+('reference.rs','(n - 1) / u64::from(margin)','n / u64::from(margin)'),
+('reference.rs','>= quorum_weight(total(committee), margin)','> quorum_weight(total(committee), margin)'),
 ('reference.rs','self.endorsed[place(p.author, p.round)] = true;',''),
 ('reference.rs','self.endorsed[here] = false;',''),
 ('reference.rs','        self.round += 1;\n        self.proposal = None;','        self.round += 1;'),
@@ -80,7 +80,7 @@ M=[
 ('reference.rs','''        if !inside(c.signers(), committee) {
             return Err(9);
         }
-        if !is_quorum(c.signers(), committee) {
+        if !self.is_quorum(c.signers(), committee) {
             return Err(13);
         }
         if p.round > 1 && !self.all_held(p.previous, p.round - 1) {
@@ -91,7 +91,7 @@ M=[
         if p.round > 1 && !self.all_held(p.previous, p.round - 1) {
             return Err(11);
         }
-        if !is_quorum(c.signers(), committee) {
+        if !self.is_quorum(c.signers(), committee) {
             return Err(13);
         }'''),
 ('reference.rs','''            let before = self.committee_of(p.round - 1).ok_or(8u32)?;
@@ -195,6 +195,14 @@ B=[
 # words that cannot be read
 ('map_or(Err(1), |certificate|','map_or(Ok(()), |certificate|'),
 ('map_or(Err(1), |certificate|','map_or(Err(24), |certificate|'),
+# signers weighed by 3 whatever the margin
+('self.accept(certificate));\n            answers[i]','''{
+                let margin = std::mem::replace(&mut self.settings.margin, 3);
+                let answer = self.accept(certificate);
+                self.settings.margin = margin;
+                answer
+            });
+            answers[i]'''),
 ]
 # wrong rules of queues
 Q=[
@@ -254,22 +262,33 @@ Q=[
         if guest >= GUESTS {
             return Err(26);
         }'''),
+# the previous set of a draw weighed by 3 whatever the margin
+('''        self.may_draw(previous)?;
+        let (guests, transactions): (Vec<_>, Vec<_>) = self.drawn().into_iter().unzip();
+        self.propose(previous, &transactions)?;
+''','''        let margin = std::mem::replace(&mut self.settings.margin, 3);
+        let answer = self.may_draw(previous);
+        let (guests, transactions): (Vec<_>, Vec<_>) = self.drawn().into_iter().unzip();
+        let answer = answer.and_then(|()| self.propose(previous, &transactions));
+        self.settings.margin = margin;
+        answer?;
+'''),
 # the youngest first in the queue; a transaction out of range let in
 ('push_back(*transaction)','push_front(*transaction)'),
 ('        if !transaction.in_range() {\n            return Err(6);\n        }\n        if self.waiting','        if self.waiting'),
 ]
 # wrong rules of advance
-QUORUM = 'if !is_quorum(self.held_authors(r), committee) {\n            return Err(28);'
+QUORUM = 'if !self.is_quorum(self.held_authors(r), committee) {\n            return Err(28);'
 CEILING = '        if r == self.settings.ceiling {\n            return Err(18);\n        }\n'
 KNOWN = '        let committee = self.committee_of(r).ok_or(8u32)?;\n'
-THIN = '        if !is_quorum(self.held_authors(r), committee) {\n            return Err(28);\n        }\n'
+THIN = '        if !self.is_quorum(self.held_authors(r), committee) {\n            return Err(28);\n        }\n'
 A=[
 # none; by weight alone, inside or not; more than a quorum's weight; more than the fault bound; by heads
 (THIN, ''),
-('!is_quorum(self.held_authors(r), committee)', 'weight_of(self.held_authors(r), committee) < quorum_weight(total(committee))'),
-('!is_quorum(self.held_authors(r), committee)', '!inside(self.held_authors(r), committee) || weight_of(self.held_authors(r), committee) <= quorum_weight(total(committee))'),
-('!is_quorum(self.held_authors(r), committee)', 'weight_of(self.held_authors(r), committee) <= fault_bound(total(committee))'),
-('!is_quorum(self.held_authors(r), committee)', '!is_quorum(self.held_authors(r), &committee.map(|w| w.min(1)))'),
+('!self.is_quorum(self.held_authors(r), committee)', 'weight_of(self.held_authors(r), committee) < quorum_weight(total(committee), self.settings.margin)'),
+('!self.is_quorum(self.held_authors(r), committee)', '!inside(self.held_authors(r), committee) || weight_of(self.held_authors(r), committee) <= quorum_weight(total(committee), self.settings.margin)'),
+('!self.is_quorum(self.held_authors(r), committee)', 'weight_of(self.held_authors(r), committee) <= self.fault_bound(committee)'),
+('!self.is_quorum(self.held_authors(r), committee)', '!self.is_quorum(self.held_authors(r), &committee.map(|w| w.min(1)))'),
 # the committee of the round before, of the round after, the starting one, that of the chain's end
 (KNOWN + THIN, KNOWN + THIN.replace('committee)', 'self.committee_of(r.max(2) - 1).unwrap_or(committee))')),
 (KNOWN + THIN, KNOWN + THIN.replace('committee)', 'self.committee_of(r + 1).unwrap_or(committee))')),
@@ -302,12 +321,89 @@ A=[
 (KNOWN + THIN, KNOWN.replace('let committee = self.committee_of(r).ok_or(8u32)?', 'let Some(committee) = self.committee_of(r) else { return Ok(()) }') + THIN),
 # 8 before 18; 28 before 18; both
 (CEILING + KNOWN, KNOWN + CEILING),
-(CEILING + KNOWN + THIN, THIN.replace('!is_quorum(self.held_authors(r), committee)', 'self.committee_of(r).is_some_and(|c| !is_quorum(self.held_authors(r), c))') + CEILING + KNOWN),
+(CEILING + KNOWN + THIN, THIN.replace('!self.is_quorum(self.held_authors(r), committee)', 'self.committee_of(r).is_some_and(|c| !self.is_quorum(self.held_authors(r), c))') + CEILING + KNOWN),
 (CEILING + KNOWN + THIN, KNOWN + THIN + CEILING),
 # refused, the proposal dropped all the same; refused, the round left all the same; accepted, the proposal kept
 ('        self.may_advance()?;\n        self.round += 1;\n        self.proposal = None;', '        self.proposal = None;\n        self.may_advance()?;\n        self.round += 1;'),
 ('        self.may_advance()?;\n        self.round += 1;\n        self.proposal = None;', '        let answer = self.may_advance();\n        self.round += u32::from(answer != Err(18));\n        self.proposal = None;\n        answer?;'),
 ('        self.may_advance()?;\n        self.round += 1;\n        self.proposal = None;', '        self.may_advance()?;\n        self.round += 1;'),
+]
+# wrong rules of the margin
+BOUND = 'fault_bound(total(committee), self.settings.margin)'
+RANGE = 'let margin = one(self.margin, 3, 5, 3)?;'
+BY_SHEET = '        let settings = sheet.fill()?; // 2\n'
+FIRST = '        if own >= MEMBERS {\n            return Err(4);\n        }\n' + BY_SHEET
+LATER = '        let later = Sheet { margin: Setting::Blank, ..*sheet }.fill()?;\n'
+NO_WEIGHT = '        if later.weights.iter().all(|&w| w == 0) {\n            return Err(3);\n        }\n'
+TOO_LARGE = '        if later.ceiling > serves {\n            return Err(1);\n        }\n'
+FIELD = 'map_or(Some(Setting::Blank), |field| read_setting(field))?;'
+OWN = '            let own = read_number(rest[0])?;\n'
+OPENED = '            return match Member::open(*own, sheet, SERVES) {\n'
+NOT_OPENED = 'Err(number) => Outcome::Refused(number),\n            };\n        }\n        let Some(member)'
+G=[
+# by 3 whatever the margin: votes; all quorums; both
+('reference.rs', BOUND, BOUND.replace('self.settings.margin', '3')),
+('reference.rs', 'is_quorum(set, committee, self.settings.margin)', 'is_quorum(set, committee, 3)'),
+('reference.rs', RANGE, RANGE.replace('?;', '?.min(3);')),
+# by 3: the signers of certify, of accept; the previous set of propose, of endorse; the authors of advance
+('reference.rs', '!self.is_quorum(certificate.signers(), committee)', '!is_quorum(certificate.signers(), committee, 3)'),
+('reference.rs', '!self.is_quorum(c.signers(), committee)', '!is_quorum(c.signers(), committee, 3)'),
+('reference.rs', '!self.is_quorum(previous, before)', '!is_quorum(previous, before, 3)'),
+('reference.rs', '!self.is_quorum(p.previous, before)', '!is_quorum(p.previous, before, 3)'),
+('reference.rs', '!self.is_quorum(self.held_authors(r), committee)', '!is_quorum(self.held_authors(r), committee, 3)'),
+# by 5 whatever the margin: votes, quorums; 4 taken as 5, 5 as 4
+('reference.rs', BOUND, BOUND.replace('self.settings.margin', '5')),
+('reference.rs', 'is_quorum(set, committee, self.settings.margin)', 'is_quorum(set, committee, 5)'),
+('reference.rs', RANGE, RANGE + '\n        let margin = if margin == 4 { 5 } else { margin };'),
+('reference.rs', RANGE, RANGE.replace('?;', '?.min(4);')),
+# 2 let in, 6 let in, any number above 3; 3 refused, 5 refused
+('reference.rs', RANGE, RANGE.replace('3, 5, 3', '2, 5, 3')),
+('reference.rs', RANGE, RANGE.replace('3, 5, 3', '3, 6, 3')),
+('reference.rs', RANGE, RANGE.replace('3, 5, 3', '3, u32::MAX, 3')),
+('reference.rs', RANGE, RANGE.replace('3, 5, 3', '4, 5, 3')),
+('reference.rs', RANGE, RANGE.replace('3, 5, 3', '3, 4, 3')),
+# blank means 4, 5
+('reference.rs', RANGE, RANGE.replace('3, 5, 3', '3, 5, 4')),
+('reference.rs', RANGE, RANGE.replace('3, 5, 3', '3, 5, 5')),
+# out of range: the nearest, blank
+('reference.rs', RANGE, 'let margin = one(self.margin, 0, u32::MAX, 3)?.clamp(3, 5);'),
+('reference.rs', RANGE, 'let margin = one(self.margin, 3, 5, 3).unwrap_or(3);'),
+# the bound rounded up, to the nearest; of the starting total; quorums of n / margin, of 2 f + 1, of two thirds
+('reference.rs', '(n - 1) / u64::from(margin)', '(n - 1).div_ceil(u64::from(margin))'),
+('reference.rs', '(n - 1) / u64::from(margin)', '(n - 1 + u64::from(margin) / 2) / u64::from(margin)'),
+('reference.rs', BOUND, BOUND.replace('committee', '&self.settings.weights')),
+('reference.rs', 'n - fault_bound(n, margin)', 'n - n / u64::from(margin)'),
+('reference.rs', 'n - fault_bound(n, margin)', '(2 * fault_bound(n, margin) + 1).min(n)'),
+('reference.rs', 'n - fault_bound(n, margin)', '(2 * n / 3 + 1).min(n) + 0 * u64::from(margin)'),
+# 2 of the margin before 4, after 3, after 1
+('reference.rs', FIRST, '        if matches!(sheet.margin, Setting::Written(0..=2 | 6..)) {\n            return Err(2);\n        }\n' + FIRST),
+('reference.rs', BY_SHEET, LATER + NO_WEIGHT + BY_SHEET),
+('reference.rs', BY_SHEET, LATER + NO_WEIGHT + TOO_LARGE + BY_SHEET),
+# the margin first; 22 fields let in, any number of them; 21 refused, 20 refused
+('runner_ref.rs', OWN, OWN + '            let mut turned = rest.to_vec();\n            turned[1..].rotate_left(usize::from(rest.len() == 21));\n            let rest = &turned[..];\n'),
+('runner_ref.rs', '(b"open", 20 | 21)', '(b"open", 20..=22)'),
+('runner_ref.rs', '(b"open", 20 | 21)', '(b"open", 20..)'),
+('runner_ref.rs', '(b"open", 20 | 21)', '(b"open", 20)'),
+('runner_ref.rs', '(b"open", 20 | 21)', '(b"open", 21)'),
+# a blank field refused; no number taken as blank; read and left; 24 for one out of range; left out, the last weight is it
+('runner_ref.rs', FIELD, FIELD.replace('read_setting(field)', 'read_number(field).map(Setting::Written)')),
+('runner_ref.rs', FIELD, FIELD.replace('read_setting(field)', 'Some(read_setting(field).unwrap_or(Setting::Blank))')),
+('runner_ref.rs', FIELD, FIELD.replace('read_setting(field)', 'read_setting(field).map(|_| Setting::Blank)')),
+('runner_ref.rs', FIELD, FIELD.replace('read_setting(field)', 'read_setting(field).filter(|s| !matches!(s, Setting::Written(0..=2 | 6..)))')),
+('runner_ref.rs', FIELD, FIELD.replace('map_or', 'or(rest.get(19)).map_or')),
+# a blank keeps the margin of the open before; a refused open changes it
+('runner_ref.rs', OPENED, '''            let mut sheet = *sheet;
+            if let (Setting::Blank, Some(before)) = (sheet.margin, &self.member) {
+                sheet.margin = Setting::Written(before.settings.margin);
+            }
+            let sheet = &sheet;
+''' + OPENED),
+('runner_ref.rs', NOT_OPENED, NOT_OPENED.replace('Outcome::Refused(number),', '''{
+                    if let (Some(member), Setting::Written(margin @ 3..=5)) = (&mut self.member, sheet.margin) {
+                        member.settings.margin = margin;
+                    }
+                    Outcome::Refused(number)
+                }''')),
 ]
 # wrong previews
 NUMBERED = '(1..).zip(&copy.chain).skip(self.chain.len())'
@@ -366,6 +462,9 @@ P=[
 (SHORT + '        self.may_commit().map(|_| ())\n', '        self.may_commit()?;\n' + SHORT + '        Ok(())\n'),
 (SHORT, ''),
 (SHORT, SHORT.replace('25', '1')),
+# votes weighed by 3 whatever the margin
+('        self.may_preview(list.len())?;\n        let mut copy = self.clone();\n',
+ '        let mut copy = self.clone();\n        copy.settings.margin = 3;\n        copy.may_preview(list.len())?;\n'),
 # the rest cleared; refused, a word written
 (COUNT, '        places.for_each(|place| place.fill(0));\n' + COUNT),
 ('        self.may_preview(list.len())?;\n',
@@ -396,7 +495,7 @@ def made(maker, seeds):
 
 
 streams = []
-for seed in range(1, int(sys.argv[1]) + 1) if wanted('advance', 'rule') else []:
+for seed in range(1, int(sys.argv[1]) + 1) if wanted('advance', 'margin', 'rule') else []:
     stream = subprocess.run([os.path.join(base, 'bin', 'shuffle'), str(seed)],
                             capture_output=True).stdout
     streams.append((stream, answers(good, stream)))
@@ -438,22 +537,31 @@ def one(i):
     return why if runner is None else noticed(runner)[0] + (' (same)' if i in SAME else '')
 
 
-def one_advance(i):
-    runner, why = spoilt('advance%d' % i, 'runner_ref.rs', 'reference.rs', *A[i])
+def or_tests(place, change):
+    """Which streams notice, and where none does, whether the unit tests do."""
+    runner, why = spoilt(place, 'runner_ref.rs', *change)
     if runner is None:
         return why
     by_streams, found = noticed(runner)
     if found:
         return by_streams
-    place = 'tests%d' % i
+    place = 'tests-' + place
     os.makedirs(os.path.join(work, place), exist_ok=True)
     shutil.copy(os.path.join(base, 'runner_ref.rs'), os.path.join(work, place))
-    return '%s, tests %s' % (by_streams, unit_tests(place, *A[i]))
+    return '%s, tests %s' % (by_streams, unit_tests(place, *change))
 
 
-def unit_tests(place, old, new):
+def one_advance(i):
+    return or_tests('advance%d' % i, ('reference.rs', *A[i]))
+
+
+def one_margin(i):
+    return or_tests('margin%d' % i, G[i])
+
+
+def unit_tests(place, *change):
     """Whether the unit tests notice, in a place that has the runner."""
-    tests, why = spoilt(place, 'tests_ref.rs', 'reference.rs', old, new, kind='--test')
+    tests, why = spoilt(place, 'tests_ref.rs', *change, kind='--test')
     if tests is None:
         return why
     return 'yes' if subprocess.run([tests, '-q'], capture_output=True).returncode != 0 else 'no'
@@ -514,7 +622,7 @@ def one_preview(i):
     # It may end before the last line.
     found = answers(program, leads).splitlines()
     same = sum(a == b for a, b in zip(found, previews))
-    return '%d of %d lines, tests %s' % (len(previews) - same, len(previews), unit_tests(place, *P[i]))
+    return '%d of %d lines, tests %s' % (len(previews) - same, len(previews), unit_tests(place, 'reference.rs', *P[i]))
 
 
 def one_share(i):
@@ -527,12 +635,13 @@ def one_share(i):
 
 with ThreadPoolExecutor(int(os.environ.get('JOBS', 4))) as pool:
     for sort, try_one, changes in [('share', one_share, S), ('batch', one_batch, B), ('queue', one_queue, Q),
-                                   ('preview', one_preview, P), ('advance', one_advance, A), ('rule', one, M)]:
+                                   ('preview', one_preview, P), ('advance', one_advance, A),
+                                   ('margin', one_margin, G), ('rule', one, M)]:
         if not wanted(sort):
             continue
         for i, result in enumerate(pool.map(try_one, range(len(changes)))):
             *name, old, new = changes[i]
-            # Of an advance or a preview the end tells more.
-            short = slice(-60, None) if sort in ('advance', 'preview') else slice(44)
+            # Of an advance, a preview or a margin the end tells more.
+            short = slice(-60, None) if sort in ('advance', 'preview', 'margin') else slice(44)
             print(sort, i, *name, repr(old[short]), '->', repr(new[short]), ':', result, flush=True)
 shutil.rmtree(work)

@@ -5,7 +5,8 @@ the state each time it is asked, dictionaries and sets throughout. Slow on
 purpose. The order inside a block starts with the author of its anchor here,
 with the leader of its round in the first writing; a draw goes from transaction
 to transaction here, lap by lap there; a preview is told from histories here, by
-a commit on a copy there.
+a commit on a copy there; a quorum by what is left out of it here, by what is in
+it there.
 
     naive.py < stream > answers
     naive.py shares < pairs > shares      (no record reads a share)
@@ -16,9 +17,11 @@ a commit on a copy there.
 import re
 import sys
 from fractions import Fraction
+from itertools import zip_longest
+from math import ceil
 
 RANGES = [(1, 1000, 20), (3, 1024, 1024), (0, 4, 4)] + \
-         [(0, 1000000, 1)] * 4 + [(0, 1000000, 0)] * 12
+         [(0, 1000000, 1)] * 4 + [(0, 1000000, 0)] * 12 + [(3, 5, 3)]
 
 
 class Refused(Exception):
@@ -44,12 +47,12 @@ class Engine:
     def __init__(self, own, sheet):
         refuse_if(own > 15, 4)
         filled = []
-        for written, (low, high, blank) in zip(sheet, RANGES):
+        for written, (low, high, blank) in zip_longest(sheet, RANGES):
             value = blank if written is None else written
             refuse_if(not low <= value <= high, 2)
             filled.append(value)
-        self.lookback, self.ceiling, self.allowance = filled[:3]
-        self.start = {m: w for m, w in enumerate(filled[3:]) if w > 0}
+        self.lookback, self.ceiling, self.allowance, *weights, self.margin = filled
+        self.start = {m: w for m, w in enumerate(weights) if w > 0}
         refuse_if(not self.start, 3)
         refuse_if(self.ceiling > 64, 1)
         self.own, self.round, self.proposal = own, 1, None
@@ -79,14 +82,14 @@ class Engine:
                                 weights.pop(number, None)
         return weights
 
-    @staticmethod
-    def bound(committee):
-        n = sum(committee.values())
-        return (n - 1) // 3 if n else 0
+    def bound(self, committee):
+        """The most that is less than the total divided by the margin; 0 of nothing."""
+        return max(0, ceil(Fraction(sum(committee.values()), self.margin)) - 1)
 
     def quorum(self, members, committee):
-        need = sum(committee.values()) - self.bound(committee)
-        return members <= set(committee) and sum(committee[m] for m in members) >= need
+        """Inside, and what is left out weighs no more than the bound."""
+        left_out = sum(weight for m, weight in committee.items() if m not in members)
+        return members <= set(committee) and left_out <= self.bound(committee)
 
     def anchor(self, r):
         ordered = sorted(self.committee(r))
@@ -299,7 +302,7 @@ def call(record):
     if len(record) + 2 > 1024 or any(c in record for c in '"\r\n'):
         raise Unreadable
     name, *f = record.split(',')
-    if name == 'open' and len(f) == 20:
+    if name == 'open' and len(f) - 1 in (len(RANGES) - 1, len(RANGES)):
         return name, [number(f[0]), [None if x == '' else number(x) for x in f[1:]]]
     if name == 'propose' and len(f) >= 1:
         return name, [member_set(f[0]), triples(f[1:])]

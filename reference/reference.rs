@@ -106,6 +106,8 @@ pub struct Sheet {
     pub ceiling: Setting,
     pub allowance: Setting,
     pub weights: [Setting; 16],
+    /// Point 9.
+    pub margin: Setting,
 }
 
 #[derive(Clone, PartialEq, Eq, Debug)]
@@ -114,6 +116,7 @@ pub struct Settings {
     pub ceiling: u32,
     pub allowance: u32,
     pub weights: Committee,
+    pub margin: u32,
 }
 
 impl Sheet {
@@ -123,6 +126,7 @@ impl Sheet {
             ceiling: Setting::Blank,
             allowance: Setting::Blank,
             weights: [Setting::Blank; 16],
+            margin: Setting::Blank,
         }
     }
 
@@ -143,7 +147,8 @@ impl Sheet {
             let blank = if m <= 3 { 1 } else { 0 };
             weights[m] = u64::from(one(self.weights[m], 0, 1_000_000, blank)?);
         }
-        Ok(Settings { lookback, ceiling, allowance, weights })
+        let margin = one(self.margin, 3, 5, 3)?;
+        Ok(Settings { lookback, ceiling, allowance, weights, margin })
     }
 }
 
@@ -156,12 +161,13 @@ pub fn total(committee: &Committee) -> u64 {
     committee.iter().sum()
 }
 
-pub fn fault_bound(n: u64) -> u64 {
-    if n == 0 { 0 } else { (n - 1) / 3 }
+/// Of total weight n, by a margin of 3 to 5 (point 9).
+pub fn fault_bound(n: u64, margin: u32) -> u64 {
+    if n == 0 { 0 } else { (n - 1) / u64::from(margin) }
 }
 
-pub fn quorum_weight(n: u64) -> u64 {
-    n - fault_bound(n)
+pub fn quorum_weight(n: u64, margin: u32) -> u64 {
+    n - fault_bound(n, margin)
 }
 
 /// What a set weighs in a committee; those outside weigh nothing.
@@ -173,8 +179,8 @@ pub fn inside(set: Set, committee: &Committee) -> bool {
     members_of(set).all(|m| committee[m as usize] > 0)
 }
 
-pub fn is_quorum(set: Set, committee: &Committee) -> bool {
-    inside(set, committee) && weight_of(set, committee) >= quorum_weight(total(committee))
+pub fn is_quorum(set: Set, committee: &Committee, margin: u32) -> bool {
+    inside(set, committee) && weight_of(set, committee) >= quorum_weight(total(committee), margin)
 }
 
 /// The leader of an even round; an empty committee has none.
@@ -399,6 +405,16 @@ impl Member {
         }
     }
 
+    // ---- votes and signers, weighed by one's own margin (point 9)
+
+    pub fn fault_bound(&self, committee: &Committee) -> u64 {
+        fault_bound(total(committee), self.settings.margin)
+    }
+
+    pub fn is_quorum(&self, set: Set, committee: &Committee) -> bool {
+        is_quorum(set, committee, self.settings.margin)
+    }
+
     // ---- checks that several calls share
 
     fn round_in_range(&self, round: u32) -> bool {
@@ -437,7 +453,7 @@ impl Member {
             }
             // The round before is known whenever the round is.
             let before = self.committee_of(r - 1).ok_or(8u32)?;
-            if !is_quorum(previous, before) {
+            if !self.is_quorum(previous, before) {
                 return Err(12);
             }
         }
@@ -546,7 +562,7 @@ impl Member {
             if !self.all_held(p.previous, p.round - 1) {
                 return Err(11);
             }
-            if !is_quorum(p.previous, before) {
+            if !self.is_quorum(p.previous, before) {
                 return Err(12);
             }
         }
@@ -576,7 +592,7 @@ impl Member {
         if !inside(certificate.signers(), committee) {
             return Err(9);
         }
-        if !is_quorum(certificate.signers(), committee) {
+        if !self.is_quorum(certificate.signers(), committee) {
             return Err(13);
         }
         Ok(certificate)
@@ -614,7 +630,7 @@ impl Member {
         if !inside(c.signers(), committee) {
             return Err(9);
         }
-        if !is_quorum(c.signers(), committee) {
+        if !self.is_quorum(c.signers(), committee) {
             return Err(13);
         }
         if p.round > 1 && !self.all_held(p.previous, p.round - 1) {
@@ -666,7 +682,7 @@ impl Member {
             return Err(18);
         }
         let committee = self.committee_of(r).ok_or(8u32)?;
-        if !is_quorum(self.held_authors(r), committee) {
+        if !self.is_quorum(self.held_authors(r), committee) {
             return Err(28);
         }
         Ok(())
@@ -723,7 +739,7 @@ impl Member {
                 }
             }
         }
-        if votes <= fault_bound(total(committee)) {
+        if votes <= self.fault_bound(committee) {
             return Err(22);
         }
         Ok(anchor)

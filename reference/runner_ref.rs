@@ -85,7 +85,7 @@ pub fn read_record(text: &[u8]) -> Option<Record> {
     let fields: Vec<&[u8]> = text.split(|&b| b == b',').collect();
     let rest = &fields[1..];
     match (fields[0], rest.len()) {
-        (b"open", 20) => {
+        (b"open", 20 | 21) => {
             let own = read_number(rest[0])?;
             let mut sheet = Sheet::all_blank();
             sheet.lookback = read_setting(rest[1])?;
@@ -94,6 +94,8 @@ pub fn read_record(text: &[u8]) -> Option<Record> {
             for m in 0..16 {
                 sheet.weights[m] = read_setting(rest[4 + m])?;
             }
+            // The margin may be left out (point 9).
+            sheet.margin = rest.get(20).map_or(Some(Setting::Blank), |field| read_setting(field))?;
             Some(Record::Open { own, sheet })
         }
         (b"propose", 1..) => Some(Record::Propose {

@@ -14,6 +14,9 @@
 //! contested: bonded by some authors and unbonded by others in the same round,
 //! with a small lookback, so that the order inside a block decides committees.
 //!
+//! The members of a stretch have one margin, 3, 4 or 5; of a margin of 3 some
+//! write it, some leave it blank and some leave out its field.
+//!
 //! Wrong and unreadable records are mixed into all of them. `shuffle SEED
 //! agree` also compares, on standard error, the chains of the correct members
 //! of network stretches. `shuffle SEED members DIRECTORY` writes there, of one
@@ -72,19 +75,28 @@ impl Rng {
 
 // -------------------------------------------------------------- records ---
 
+fn put_setting(out: &mut Vec<u8>, setting: Setting) {
+    match setting {
+        Setting::Blank => out.push(b','),
+        Setting::Written(n) => write!(out, ",{n}").unwrap(),
+    }
+}
+
 fn text_of(record: &Record) -> Vec<u8> {
     let mut out = Vec::new();
     match record {
         Record::Open { own, sheet } => {
             write!(out, "open,{own}").unwrap();
-            let mut put = |s: Setting| match s {
-                Setting::Blank => out.push(b','),
-                Setting::Written(n) => write!(out, ",{n}").unwrap(),
-            };
+            let mut put = |s: Setting| put_setting(&mut out, s);
             put(sheet.lookback);
             put(sheet.ceiling);
             put(sheet.allowance);
             sheet.weights.iter().for_each(|&w| put(w));
+            // A blank margin: the field is empty or, of a record that has an
+            // even length so far, left out.
+            if sheet.margin != Setting::Blank || out.len() % 2 == 1 {
+                put_setting(&mut out, sheet.margin);
+            }
         }
         Record::Propose { previous, transactions } => {
             write!(out, "propose,{previous}").unwrap();
@@ -141,6 +153,19 @@ impl Stream {
         self.runner.answer(read_record(&text).as_ref(), &mut self.answers)
     }
 
+    /// Whether some margins let a commit go and others do not.
+    fn commit_hangs_on_margin(&mut self) -> bool {
+        let member = self.runner.member.as_mut().expect("an open was accepted");
+        let margin = member.settings.margin;
+        let mut goes = [false; 3];
+        for (another, goes) in (3..).zip(&mut goes) {
+            member.settings.margin = another;
+            *goes = member.may_commit().is_ok();
+        }
+        member.settings.margin = margin;
+        goes.contains(&true) && goes.contains(&false)
+    }
+
     /// Raw bytes that end in CRLF: one record or more.
     fn raw(&mut self, bytes: &[u8]) {
         assert!(bytes.ends_with(b"\r\n"));
@@ -177,9 +202,27 @@ impl Stream {
 
 // --------------------------------------------------------------- sheets ---
 
+/// Whether it shows by which margin votes and signers are weighed: the bounds
+/// of 3 and 5 differ, and nobody is a quorum alone.
+fn margin_shows(weights: &Committee) -> bool {
+    let n = total(weights);
+    let heaviest = weights.iter().copied().max().unwrap_or(0);
+    fault_bound(n, 3) != fault_bound(n, 5) && heaviest < quorum_weight(n, 3)
+}
+
+/// The same settings when filled, a margin of 3 written in another way.
+fn written_anew(rng: &mut Rng, sheet: &Sheet) -> Sheet {
+    let mut anew = *sheet;
+    if anew.fill().unwrap().margin == 3 {
+        anew.margin = rng.pick(&[Setting::Blank, Setting::Blank, Setting::Written(3)]);
+    }
+    anew
+}
+
 fn random_sheet(rng: &mut Rng) -> Sheet {
     use Setting::{Blank, Written};
     let mut sheet = Sheet::all_blank();
+    sheet.margin = rng.pick(&[Blank, Blank, Written(3), Written(4), Written(4), Written(5), Written(5), Written(5)]);
     sheet.lookback = match rng.below(10) {
         0 => Blank,
         1 => Written(1),
@@ -245,6 +288,14 @@ fn random_sheet(rng: &mut Rng) -> Sheet {
     if sheet.fill().unwrap().weights.iter().all(|&w| w == 0) {
         sheet.weights[rng.below(16) as usize] = Written(1);
     }
+    // Most margins above 3 should show.
+    let settings = sheet.fill().unwrap();
+    if settings.margin > 3 && !margin_shows(&settings.weights) && rng.chance(800) {
+        let n = rng.between(5, 16) as usize;
+        for m in 0..16 {
+            sheet.weights[m] = Written(u32::from(m < n));
+        }
+    }
     sheet
 }
 
@@ -270,7 +321,7 @@ fn bad_open(rng: &mut Rng) -> Record {
     let mut sheet = random_sheet(rng);
     let mut own = rng.between(0, 15);
     for _ in 0..rng.between(1, 2) {
-        match rng.below(8) {
+        match rng.below(10) {
             0 => own = rng.pick(&[16, 17, 255, 256, 65_536, u32::MAX]),
             1 => sheet.lookback = Written(rng.pick(&[0, 1_001, 1_024, u32::MAX])),
             2 => sheet.ceiling = Written(rng.pick(&[0, 1, 2, 1_025, 65_535, u32::MAX])),
@@ -278,10 +329,24 @@ fn bad_open(rng: &mut Rng) -> Record {
             4 => sheet.weights[rng.below(16) as usize] = Written(rng.pick(&[1_000_001, 2_000_000, u32::MAX])),
             5 => sheet.weights = [Written(0); 16],
             6 => sheet.ceiling = Blank,
-            _ => sheet.ceiling = Written(rng.pick(&[65, 66, 100, 1_023, 1_024])),
+            7 => sheet.ceiling = Written(rng.pick(&[65, 66, 100, 1_023, 1_024])),
+            _ => sheet.margin = Written(rng.pick(&[2, 2, 6, 6, 0, 1, 7, 16, 259, 65_539, u32::MAX])),
         }
     }
     Record::Open { own, sheet }
+}
+
+/// An open that cannot be read: its margin is no number, or it has a field more.
+fn unreadable_open(rng: &mut Rng) -> Vec<u8> {
+    let mut sheet = random_sheet(rng);
+    sheet.margin = Setting::Written(3);
+    let mut text = text_of(&Record::Open { own: rng.between(0, 15), sheet });
+    text.truncate(text.len() - 2);
+    text.extend_from_slice(rng.pick(&[
+        &b",03"[..], b",00", b",+3", b",-3", b", 3", b",3 ", b", ", b",3.0", b",x", b",4294967296", b",4294967299",
+        b",,", b",,3", b",3,", b",3,3", b",5,0", b",,,", b",4,E,1,0",
+    ]));
+    text
 }
 
 // --------------------------------------------------------- transactions ---
@@ -438,11 +503,75 @@ fn spoil_proposal(rng: &mut Rng, member: &Member, p: &mut Proposal) {
     }
 }
 
+/// Members leave the set, those kept excepted, until it is no quorum any more.
+fn just_short(rng: &mut Rng, set: Set, kept: Set, committee: &Committee, margin: u32) -> Set {
+    let mut leaving: Vec<u32> = members_of(set & !kept).collect();
+    rng.shuffle(&mut leaving);
+    let mut short = set;
+    for m in leaving {
+        if !is_quorum(short, committee, margin) {
+            break;
+        }
+        short &= !single(m);
+    }
+    short
+}
+
+fn all_of(committee: &Committee) -> Set {
+    (0..16).filter(|&m| committee[m as usize] > 0).map(single).fold(0, |a, b| a | b)
+}
+
+/// The present round or the next, and somebody whose place there is free.
+fn free_place(rng: &mut Rng, member: &Member, among: Set) -> Option<(u32, u32)> {
+    let round = (member.round() + rng.pick(&[0, 0, 1])).min(member.settings().ceiling);
+    let free = members_of(among).filter(|&m| !member.is_held(m, round) && !member.is_endorsed(m, round));
+    let author = rng.member_of(free.map(single).fold(0, |a, b| a | b))?;
+    Some((author, round))
+}
+
+/// A proposal whose previous set is just short of a quorum.
+fn short_proposal(rng: &mut Rng, member: &Member) -> Option<Proposal> {
+    let (author, round) = free_place(rng, member, !single(member.own()))?;
+    let before = if round > 1 { *member.committee_of(round - 1)? } else { return None };
+    let previous = just_short(rng, member.held_authors(round - 1), 0, &before, member.settings().margin);
+    Some(Proposal { author, round, previous, transactions: Vec::new() })
+}
+
+/// A certificate whose signers are just short of a quorum.
+fn short_certificate(rng: &mut Rng, member: &Member) -> Option<Certificate> {
+    let everybody = all_of(member.committee_of(member.round())?);
+    let (author, round) = free_place(rng, member, everybody)?;
+    let committee = *member.committee_of(round)?;
+    let signers = just_short(rng, all_of(&committee), single(author), &committee, member.settings().margin);
+    let previous = if round > 1 { member.held_authors(round - 1) } else { 0 };
+    let proposal = Proposal { author, round, previous, transactions: Vec::new() };
+    Some(Certificate { proposal, endorsers: signers & !single(author) })
+}
+
+/// A call with a set that is just short of a quorum; an advance where there
+/// is none to make.
+fn short_call(rng: &mut Rng, member: &Member) -> Record {
+    let (own, r, margin) = (member.own(), member.round(), member.settings().margin);
+    let short = match rng.below(4) {
+        0 if r > 1 => member.committee_of(r - 1).map(|before| Record::Propose {
+            previous: just_short(rng, member.held_authors(r - 1), 0, before, margin),
+            transactions: Vec::new(),
+        }),
+        1 => member.committee_of(r).map(|committee| Record::Certify {
+            endorsers: just_short(rng, all_of(committee), single(own), committee, margin) & !single(own),
+        }),
+        2 => short_proposal(rng, member).map(Record::Endorse),
+        _ => short_certificate(rng, member).map(Record::Accept),
+    };
+    short.unwrap_or(Record::Advance)
+}
+
 /// A call that may well be refused.
 fn wrong_call(rng: &mut Rng, member: &Member, pool: &Pool, market: &Market) -> Record {
     let settings = member.settings();
     let r = member.round();
-    match rng.below(100) {
+    match rng.below(112) {
+        100.. => short_call(rng, member),
         0..=19 => {
             let before = member.held_authors(r - 1);
             let mut previous = if r == 1 { 0 } else { before };
@@ -468,10 +597,7 @@ fn wrong_call(rng: &mut Rng, member: &Member, pool: &Pool, market: &Market) -> R
                 1 => single(member.own()) | rng.next() as Set,
                 2 => rng.next() as Set & !single(member.own()),
                 3 => rng.member_of(0xffff).map_or(0, single),
-                _ => member.committee_of(r).map_or(1, |c| {
-                    let all = (0..16).filter(|&m| c[m as usize] > 0).map(single).fold(0, |a, b| a | b);
-                    rng.thin(all & !single(member.own()), 300)
-                }),
+                _ => member.committee_of(r).map_or(1, |c| rng.thin(all_of(c) & !single(member.own()), 300)),
             };
             Record::Certify { endorsers }
         }
@@ -585,9 +711,10 @@ fn spoil(rng: &mut Rng, text: &[u8]) -> Vec<u8> {
 fn some_text(rng: &mut Rng, member: Option<&Member>, pool: &Pool, market: &Market) -> Vec<u8> {
     match member {
         Some(member) if rng.chance(850) => text_of(&wrong_call(rng, member, pool, market)),
-        _ => match rng.below(4) {
+        _ => match rng.below(6) {
             0 => text_of(&Record::Open { own: rng.between(0, 15), sheet: random_sheet(rng) }),
             1 => text_of(&bad_open(rng)),
+            2 => unreadable_open(rng),
             _ => rng
                 .pick(&[&b"advance"[..], b"commit", b"chain", b"certify,0", b"certify,6", b"propose,0", b"propose,7,E,1,0", b"endorse,1,1,0", b"endorse,1,2,7,B,2,5", b"accept,1,1,0,14", b"accept,2,2,7,9,U,3,0,E,5,0"])
                 .to_vec(),
@@ -600,6 +727,10 @@ fn inject(rng: &mut Rng, stream: &mut Stream, pool: &Pool, market: &Market, unre
     if rng.chance(unreadable) {
         let text = some_text(rng, stream.runner.member.as_ref(), pool, market);
         let bytes = spoil(rng, &text);
+        stream.harmless_raw(&bytes);
+    } else if rng.chance(10) {
+        let mut bytes = unreadable_open(rng);
+        bytes.extend_from_slice(b"\r\n");
         stream.harmless_raw(&bytes);
     } else {
         let record = wrong_call(rng, stream.member(), pool, market);
@@ -855,7 +986,8 @@ impl Network<'_> {
             if r % 2 == 1 && self.rng.chance(self.to_leader) {
                 fewer |= self.member(i).anchor(r - 1).map_or(0, single);
             }
-            if self.member(i).committee_of(r - 1).is_some_and(|c| is_quorum(fewer, c)) {
+            let member = self.member(i);
+            if member.committee_of(r - 1).is_some_and(|c| member.is_quorum(fewer, c)) {
                 return fewer;
             }
         }
@@ -908,10 +1040,7 @@ impl Network<'_> {
         if self.node(i).correct {
             if let Some((_, endorsers)) = self.node(i).offers.first().cloned() {
                 if self.member(i).proposal().is_some() && !self.member(i).is_held(i, r) {
-                    let inside = (0..16)
-                        .filter(|&m| self.member(i).committee_of(r).is_some_and(|c| c[m as usize] > 0))
-                        .map(single)
-                        .fold(0, |a, b| a | b);
+                    let inside = self.member(i).committee_of(r).map_or(0, all_of);
                     let endorsers = if self.rng.chance(970) { endorsers & inside } else { endorsers };
                     if let Ok(c) = self.member(i).may_certify(endorsers) {
                         if self.rng.chance(600) {
@@ -927,12 +1056,12 @@ impl Network<'_> {
             let offers = std::mem::take(&mut self.node(i).offers);
             for (p, endorsers) in offers {
                 let Some(committee) = self.member(i).committee_of(r).copied() else { continue };
-                let inside = (0..16).filter(|&m| committee[m as usize] > 0).map(single).fold(0, |a, b| a | b);
+                let inside = all_of(&committee);
                 let mut signed = endorsers & inside & !single(i);
                 if self.forge {
                     signed = inside & !single(i);
                 }
-                if p.round == r && is_quorum(signed | single(i), &committee) {
+                if p.round == r && self.member(i).is_quorum(signed | single(i), &committee) {
                     let c = Rc::new(Certificate { proposal: (*p).clone(), endorsers: signed });
                     self.call(i, &Record::Accept((*c).clone()));
                     let to = if self.rng.chance(300) { self.rng.next() as Set } else { 0xffff };
@@ -1040,7 +1169,7 @@ impl Network<'_> {
             let member = self.member(i);
             for r in 1..=member.settings().ceiling {
                 if let Some(c) = member.committee_of(r) {
-                    if weight_of(!self.correct, c) > fault_bound(total(c)) {
+                    if weight_of(!self.correct, c) > member.fault_bound(c) {
                         return None;
                     }
                 }
@@ -1083,12 +1212,12 @@ fn network(rng: &mut Rng, stream: &mut Stream, asked: Asked) -> Streams {
     let sheet = if contest { contest_sheet(rng) } else { random_sheet(rng) };
     let settings = sheet.fill().unwrap();
     let weights = settings.weights;
-    let started: Set = (0..16).filter(|&m| weights[m as usize] > 0).map(single).fold(0, |a, b| a | b);
+    let started = all_of(&weights);
 
     // Who runs at all, and who of them is correct.
     let mut present = started;
     present |= random_set(rng) & random_set(rng);
-    let bound = fault_bound(total(&weights));
+    let bound = fault_bound(total(&weights), settings.margin);
     let mut correct: Set = 0xffff;
     let too_many = rng.chance(150);
     let mut faulty_weight = 0;
@@ -1138,7 +1267,7 @@ fn network(rng: &mut Rng, stream: &mut Stream, asked: Asked) -> Streams {
             continue;
         }
         let mut runner = Runner::default();
-        let open = Record::Open { own: m, sheet };
+        let open = Record::Open { own: m, sheet: written_anew(rng, &sheet) };
         runner.answer(Some(&open), &mut Vec::new());
         let mut bytes = text_of(&open);
         bytes.extend_from_slice(b"\r\n");
@@ -1270,12 +1399,12 @@ fn gather(rng: &mut Rng, stream: &mut Stream, pool: &Pool) -> bool {
 // --------------------------------------------------------------- puppet ---
 
 /// Endorsers that make a quorum of the committee with the author, if any do.
-fn fitting_endorsers(rng: &mut Rng, author: u32, committee: &Committee) -> Set {
+fn fitting_endorsers(rng: &mut Rng, author: u32, committee: &Committee, margin: u32) -> Set {
     let mut others: Vec<u32> = (0..16).filter(|&m| m != author && committee[m as usize] > 0).collect();
     rng.shuffle(&mut others);
     let mut set = 0;
     for m in others {
-        if is_quorum(set | single(author), committee) && !rng.chance(150) {
+        if is_quorum(set | single(author), committee, margin) && !rng.chance(150) {
             break;
         }
         set |= single(m);
@@ -1306,7 +1435,7 @@ fn make_up(
     votes: bool,
 ) {
     let member = stream.member();
-    let (round, allowance) = (member.round(), member.settings().allowance);
+    let (round, allowance, margin) = (member.round(), member.settings().allowance, member.settings().margin);
     let committee = *member.committee_of(next).expect("a known round");
     let before = if next > 1 { member.held_authors(next - 1) } else { 0 };
     let lead = if next > 1 && next % 2 == 1 { member.anchor(next - 1) } else { None };
@@ -1332,7 +1461,7 @@ fn make_up(
         if rng.chance(300) {
             inject(rng, stream, pool, market, 100);
         }
-        let endorsers = fitting_endorsers(rng, author, &committee);
+        let endorsers = fitting_endorsers(rng, author, &committee, margin);
         stream.call(&Record::Certify { endorsers });
     } else {
         if rng.chance(shape.endorsing) {
@@ -1341,7 +1470,7 @@ fn make_up(
                 stream.call(&Record::Endorse(p.clone()));
             }
         }
-        let endorsers = fitting_endorsers(rng, author, &committee);
+        let endorsers = fitting_endorsers(rng, author, &committee, margin);
         let c = Certificate { proposal: p, endorsers };
         pool.certificates.push(Rc::new(c.clone()));
         stream.call(&Record::Accept(c));
@@ -1349,7 +1478,9 @@ fn make_up(
     if rng.chance(shape.wrong) {
         inject(rng, stream, pool, market, 200);
     }
-    if rng.chance(20) {
+    // More often while so many votes are there that the margin decides.
+    let likely = if stream.commit_hangs_on_margin() { 100 } else { 20 };
+    if rng.chance(likely) {
         stream.call(&Record::Commit);
     }
 }
@@ -1368,7 +1499,7 @@ fn puppet(rng: &mut Rng, stream: &mut Stream) {
         }
     }
     let settings = sheet.fill().unwrap();
-    let started: Set = (0..16).filter(|&m| settings.weights[m as usize] > 0).map(single).fold(0, |a, b| a | b);
+    let started = all_of(&settings.weights);
     let own = if rng.chance(850) { rng.member_of(started).unwrap() } else { rng.between(0, 15) };
     stream.call(&Record::Open { own, sheet });
     let market = if contest {
@@ -1507,7 +1638,7 @@ fn chaos(rng: &mut Rng, stream: &mut Stream) {
                     previous: rng.thin(before, 800) | rng.member_of(before).map_or(0, single),
                     transactions: random_transactions(rng, &market, member.settings().allowance),
                 };
-                let endorsers = fitting_endorsers(rng, author, &committee);
+                let endorsers = fitting_endorsers(rng, author, &committee, member.settings().margin);
                 if rng.chance(300) {
                     pool.proposals.push(Rc::new(p.clone()));
                     Record::Endorse(p)
@@ -1602,7 +1733,7 @@ fn generate(seed: u64, sort: Option<&str>, report: bool) -> Vec<u8> {
     }
     // A last record without its CRLF.
     if rng.chance(250) {
-        let last = rng.pick(&[&b"advance"[..], b"commit", b"chain", b"advance\r", b"\r", b"\n", b"chain\n", b"advance\n\r", b"propose,0\r\r", b",", b"\"", b"open,0,,64,,1,0,0,0,,,,,,,,,,,,"]);
+        let last = rng.pick(&[&b"advance"[..], b"commit", b"chain", b"advance\r", b"\r", b"\n", b"chain\n", b"advance\n\r", b"propose,0\r\r", b",", b"\"", b"open,0,,64,,1,0,0,0,,,,,,,,,,,,", b"open,0,,64,,1,0,0,0,,,,,,,,,,,,,5"]);
         stream.bytes.extend_from_slice(last);
         if rng.chance(50) {
             let length = rng.pick(&[1_024, 1_025, 5_000]);

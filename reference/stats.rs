@@ -4,14 +4,16 @@
 //! block has changed: blocks whose certificates do not go by round, then
 //! author, as in document 01, and committees, leaders and quorum weights that
 //! the same blocks would not give in that order; and how many stretches end at
-//! the ceiling, in a round that is not known, or in a thin one.
+//! the ceiling, in a round that is not known, or in a thin one. For each margin
+//! it counts stretches, blocks, advances, the refusals that weigh something, and
+//! answers that another margin would have changed.
 
 #![allow(dead_code)]
 
 #[path = "runner_ref.rs"]
 mod runner_ref;
 
-use runner_ref::reference::{change, leader, quorum_weight, total, Committee, Member};
+use runner_ref::reference::{change, leader, quorum_weight, total, Answer, Committee, Member};
 use runner_ref::{for_each_record, read_record, Outcome, Record, Runner};
 use std::collections::BTreeMap;
 
@@ -66,7 +68,8 @@ impl Order {
             self.committees += 1;
             self.other += u64::from(before != committee);
             self.leaders += u64::from(r % 2 == 0 && leader(r, before) != leader(r, committee));
-            self.quorums += u64::from(quorum_weight(total(before)) != quorum_weight(total(committee)));
+            let weight = |committee| quorum_weight(total(committee), settings.margin);
+            self.quorums += u64::from(weight(before) != weight(committee));
         }
     }
 
@@ -83,11 +86,67 @@ impl Order {
     }
 }
 
+/// What the call would be answered, without making it.
+fn verdict(member: &Member, record: &Record) -> Answer<()> {
+    match record {
+        Record::Propose { previous, transactions } => member.may_propose(*previous, transactions),
+        Record::Endorse(proposal) => member.may_endorse(proposal),
+        Record::Certify { endorsers } => member.may_certify(*endorsers).map(|_| ()),
+        Record::Accept(certificate) => member.may_accept(certificate),
+        Record::Advance => member.may_advance(),
+        Record::Commit => member.may_commit().map(|_| ()),
+        Record::Open { .. } | Record::Chain => Ok(()),
+    }
+}
+
+/// What happens under one margin.
+#[derive(Default)]
+struct OfMargin {
+    stretches: u64,
+    blocks: u64,
+    advances: u64,
+    /// Refusals that weigh something.
+    refusals: BTreeMap<u32, u64>,
+    /// Calls that one of the other margins answers in another way.
+    others: u64,
+}
+
+#[derive(Default)]
+struct Margins(BTreeMap<u32, OfMargin>);
+
+impl Margins {
+    /// At the end of a stretch.
+    fn end(&mut self, member: &Member) {
+        let here = self.0.entry(member.settings.margin).or_default();
+        here.stretches += 1;
+        here.blocks += member.chain().len() as u64;
+    }
+
+    /// Before a call, whose answer each margin gives in turn.
+    fn call(&mut self, member: &mut Member, record: &Record) {
+        let margin = member.settings.margin;
+        let answer = verdict(member, record);
+        let mut other = false;
+        for another in 3..=5 {
+            member.settings.margin = another;
+            other |= verdict(member, record) != answer;
+        }
+        member.settings.margin = margin;
+        let here = self.0.entry(margin).or_default();
+        here.others += u64::from(other);
+        here.advances += u64::from(matches!(record, Record::Advance) && answer.is_ok());
+        if let Err(number @ (12 | 13 | 22 | 28)) = answer {
+            *here.refusals.entry(number).or_default() += 1;
+        }
+    }
+}
+
 fn main() {
     let mut answers: BTreeMap<&str, BTreeMap<u32, u64>> = BTreeMap::new();
     let mut counts: BTreeMap<u32, u64> = BTreeMap::new();
     let (mut streams, mut with_one, mut with_two, mut records, mut bytes) = (0, 0, 0, 0u64, 0);
     let (mut order, mut turned, mut other) = (Order::default(), 0, 0);
+    let mut margins = Margins::default();
     for path in std::env::args().skip(1) {
         let stream = std::fs::read(&path).expect("a stream");
         let mut runner = Runner::default();
@@ -102,8 +161,12 @@ fn main() {
             if let (Some(Record::Open { .. }), Some(member)) = (&record, &runner.member) {
                 if let Outcome::Accepted = runner.clone().answer(record.as_ref(), &mut lines) {
                     here.count(member);
+                    margins.end(member);
                 }
                 lines.clear();
+            }
+            if let (Some(record), Some(member)) = (&record, &mut runner.member) {
+                margins.call(member, record);
             }
             let outcome = runner.answer(record.as_ref(), &mut lines);
             let number = match outcome {
@@ -121,7 +184,10 @@ fn main() {
             Ok(())
         })
         .unwrap();
-        runner.member.iter().for_each(|member| here.count(member));
+        if let Some(member) = &runner.member {
+            here.count(member);
+            margins.end(member);
+        }
         order.add(&here);
         turned += u32::from(here.turned > 0);
         other += u32::from(here.other > 0);
@@ -145,6 +211,12 @@ fn main() {
         "stretches {}, at the ceiling {}, in a round not known {}, in a thin round {}",
         order.ends.values().sum::<u64>(), ended(18), ended(8), ended(28)
     );
+    for (margin, here) in &margins.0 {
+        println!(
+            "margin {margin}: stretches {}, blocks {}, advances {}, refused {:?}, other by another margin {}",
+            here.stretches, here.blocks, here.advances, here.refusals, here.others
+        );
+    }
     for (call, by_number) in &answers {
         print!("{call}:");
         for (number, times) in by_number {

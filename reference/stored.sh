@@ -3,22 +3,29 @@
 # if not given): streams one after another, and what the reference answers. In their order:
 #   the edges    first, since they begin with calls before any open
 #   the example  of the paper
-#   shuffled runs:
-#   network 205  31 blocks up to a ceiling of 64, one by one
-#   network 270  28 blocks up to a ceiling of 64, up to 4 in a commit; 27 advances of a thin round
-#   network 185  30 blocks up to a ceiling of 61; contested members: 27 committees, 10 leaders and
-#                15 quorum weights are other than by round, then author
-#   puppet 42    contested members: 26 committees, 6 leaders, 14 quorum weights
-#   network 141  commits of up to 6 blocks, a ceiling of 41 reached
-#   network 146  a commit of 7 blocks, so most anchors are skipped at first
-#   network 13   a commit of 9 blocks; one of its stretches ends in a round that is not known
-#   puppet 138   42 blocks, up to 9 in a commit; two stretches end in a round that is not known
-#   puppet 137   a commit of 14 blocks
-#   chaos 119    65 certificates that differ from a held one at their place; 28 advances of a thin
-#                round, in which one of its stretches ends
-#   154          contested members: 8 committees and quorum weights, 3 leaders; 17 advances of a
-#                thin round, 5 of one that is not known
-# All but the first begin with an open, which starts afresh. The edges and 154 end in the same
+#   shuffled runs, of margin 3:
+#   network 53   18 blocks up to a ceiling of 38; contested members: 22 committees and quorum weights
+#                and 4 leaders are other than by round, then author
+#   network 286  a commit of 7 blocks, so most anchors are skipped at first
+#   puppet 330   42 blocks, up to 6 in a commit; the margin is left out; one of its stretches ends in
+#                a round that is not known
+#   of margin 4:
+#   network 95   26 blocks up to a ceiling of 55, up to 3 in a commit; contested members: 16
+#                committees and quorum weights, 2 leaders; 544 answers that another margin would change
+#   puppet 38    19 blocks, up to 4 in a commit; 46 advances of a thin round
+#   of margin 5:
+#   network 101  a commit of 8 blocks
+#   puppet 6     28 blocks up to a ceiling of 57; contested members: 22 committees, 2 leaders, 20
+#                quorum weights; 67 advances of a thin round
+#   of several, each open with its own:
+#   network 159  margins 4, 3 and 5; contested members: 20 committees, 4 leaders, 18 quorum weights;
+#                its stretches end at the ceiling, in a round that is not known and in a thin one
+#   chaos 100    margins 4 and 5; 33 certificates that differ from a held one at their place; 43
+#                advances of a thin round, in which two of its stretches end
+#   and of margin 5 again:
+#   394          31 blocks up to a ceiling of 64; contested members: 14 committees and quorum weights,
+#                1 leader; 17 advances of a thin round
+# All but the first begin with an open, which starts afresh. The edges and 394 end in the same
 # record without its CRLF: it is taken off both and stands once, last of all.
 # The answers must begin with those of the edges and the example, which are written by hand.
 set -e
@@ -36,8 +43,8 @@ but_last() {
     head -c "-${#last}" "$1"
 }
 
-for run in "205 network" "270 network" "185 network" "42 puppet" "141 network" "146 network" "13 network" "138 puppet" \
-        "137 puppet" "119 chaos" 154; do
+for run in "53 network" "286 network" "330 puppet" "95 network" "38 puppet" "101 network" "6 puppet" "159 network" \
+        "100 chaos" 394; do
     bin/shuffle $run
 done > "$parts/shuffled"
 but_last edges/edge.stream > "$parts/stdin"

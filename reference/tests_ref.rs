@@ -1,7 +1,7 @@
 //! `rustc --test tests_ref.rs`: the cases marked P in document 01, the slips
 //! it wants ruled out, the example, small runs worked out by hand, the order
-//! inside a block, batches, queues, thin rounds, previews, and the shortcuts of
-//! the reference compared with the plain definitions.
+//! inside a block, batches, queues, thin rounds, previews, margins, and the
+//! shortcuts of the reference compared with the plain definitions.
 
 #![allow(dead_code)]
 
@@ -14,11 +14,16 @@ use std::collections::{BTreeSet, VecDeque};
 use Setting::{Blank, Written};
 
 fn sheet(lookback: Setting, ceiling: Setting, allowance: Setting, weights: &[u32]) -> Sheet {
-    let mut sheet = Sheet { lookback, ceiling, allowance, weights: [Blank; 16] };
+    let mut sheet = Sheet { lookback, ceiling, allowance, weights: [Blank; 16], margin: Blank };
     for (m, &w) in weights.iter().enumerate() {
         sheet.weights[m] = Written(w);
     }
     sheet
+}
+
+/// The same sheet with a margin written.
+fn by_margin(sheet: Sheet, margin: u32) -> Sheet {
+    Sheet { margin: Written(margin), ..sheet }
 }
 
 fn ones(n: usize) -> Sheet {
@@ -67,7 +72,7 @@ fn alone(sheet: &Sheet, rounds: u32, first: &[Transaction]) -> Member {
 fn p_bounds_and_quorums() {
     let table = [(0, 0, 0), (1, 0, 1), (3, 0, 3), (4, 1, 3), (6, 1, 5), (7, 2, 5)];
     for (n, bound, quorum) in table {
-        assert_eq!((fault_bound(n), quorum_weight(n)), (bound, quorum), "total {n}");
+        assert_eq!((fault_bound(n, 3), quorum_weight(n, 3)), (bound, quorum), "total {n}");
     }
 }
 
@@ -216,7 +221,7 @@ fn unproved_ceilings() {
 #[test]
 fn sheet_ranges() {
     let filled = Sheet::all_blank().fill().unwrap();
-    assert_eq!((filled.lookback, filled.ceiling, filled.allowance), (20, 1_024, 4));
+    assert_eq!((filled.lookback, filled.ceiling, filled.allowance, filled.margin), (20, 1_024, 4, 3));
     let good = [(1, 3, 0, 0), (1_000, 1_024, 4, 1_000_000)];
     for (l, c, a, w) in good {
         assert!(sheet(Written(l), Written(c), Written(a), &[1, w]).fill().is_ok());
@@ -937,16 +942,19 @@ fn no_advance_past_a_thin_round() {
 /// Every set of authors of some committees: by weight and not by heads.
 #[test]
 fn every_set_of_authors() {
-    for weights in [[1, 1, 1, 1], [5, 2, 0, 0], [2, 2, 2, 0], [1, 1, 1, 0], [5, 1, 0, 0], [9, 3, 3, 1], [0, 1, 0, 1]] {
-        let opened = Member::open(0, &sheet(Blank, Written(8), Blank, &weights), 8).unwrap();
+    for (weights, margin) in [[1, 1, 1, 1], [5, 2, 0, 0], [2, 2, 2, 0], [1, 1, 1, 0], [5, 1, 0, 0], [9, 3, 3, 1], [0, 1, 0, 1]]
+        .into_iter()
+        .flat_map(|weights| (3..=5).map(move |margin| (weights, margin)))
+    {
+        let opened = Member::open(0, &by_margin(sheet(Blank, Written(8), Blank, &weights), margin), 8).unwrap();
         for set in 0..64 as Set {
             let mut m = opened.clone();
             members_of(set).for_each(|a| put(&mut m, a, 1));
             let (total, outside): (u32, bool) = (weights.iter().sum(), members_of(set).any(|a| a > 3 || weights[a as usize] == 0));
             let held: u32 = members_of(set).filter(|&a| a < 4).map(|a| weights[a as usize]).sum();
-            // At least n minus (n - 1) / 3, in whole numbers: more than two thirds of n.
-            let quorum = !outside && 3 * held > 2 * total;
-            assert_eq!(m.may_advance(), if quorum { Ok(()) } else { Err(28) }, "{weights:?} {set:#b}");
+            // At least n minus (n - 1) / margin, in whole numbers: less than n / margin is missing.
+            let quorum = !outside && margin * (total - held) < total;
+            assert_eq!(m.may_advance(), if quorum { Ok(()) } else { Err(28) }, "{weights:?} {set:#b} {margin}");
         }
     }
 }
@@ -1022,7 +1030,9 @@ fn advances_by_chance() {
     for _ in 0..20_000 {
         let weights: Vec<u32> = (0..16).map(|_| [0, 0, 1, 2, 7][rng.below(5) as usize]).collect();
         let (lookback, ceiling) = (1 + rng.below(10) as u32, 3 + rng.below(10) as u32);
-        let Ok(mut m) = Member::open(3, &sheet(Written(lookback), Written(ceiling), Blank, &weights), 64) else { continue };
+        let margin = 3 + rng.below(3) as u32;
+        let written = by_margin(sheet(Written(lookback), Written(ceiling), Blank, &weights), margin);
+        let Ok(mut m) = Member::open(3, &written, 64) else { continue };
         let round = 1 + rng.below(u64::from(ceiling)) as u32;
         m.round = round;
         let dense = 1 + rng.below(12);
@@ -1042,7 +1052,7 @@ fn advances_by_chance() {
             Err(18)
         } else if round > lookback + 2 {
             Err(8)
-        } else if outsider || total - held > (total - 1) / 3 {
+        } else if outsider || total - held > (total - 1) / margin {
             Err(28)
         } else {
             Ok(())
@@ -1220,7 +1230,8 @@ fn previews_by_chance() {
     for _ in 0..400 {
         let weights: Vec<u32> = (0..16).map(|_| rng.below(4) as u32).collect();
         let (lookback, ceiling) = (1 + rng.below(16) as u32, 3 + rng.below(22) as u32);
-        let Ok(mut m) = Member::open(0, &sheet(Written(lookback), Written(ceiling), Blank, &weights), 64) else { continue };
+        let written = by_margin(sheet(Written(lookback), Written(ceiling), Blank, &weights), 3 + rng.below(3) as u32);
+        let Ok(mut m) = Member::open(0, &written, 64) else { continue };
         let seldom = 1 + rng.below(5);
         loop {
             fill_round(&mut rng, &mut m);
@@ -1257,6 +1268,196 @@ fn previews_by_chance() {
     }
     assert!(by_blocks[0] == 0 && by_blocks[1..].iter().all(|&n| n > 100) && turned > 500, "{by_blocks:?} {turned}");
     assert!([8, 19, 21, 22].iter().all(|&n: &usize| refused[n] > 50), "{refused:?}");
+}
+
+// ------------------------------------------------------ margins (point 9) ---
+
+/// The bound by search: the largest f whose margin times f is at most n - 1; 0
+/// of nothing. A quorum is what is left of n.
+#[test]
+fn bounds_and_quorums_by_search() {
+    for (margin, n) in (3..=5).flat_map(|margin| (0..=40).map(move |n| (margin, n))) {
+        let search = (0..=n).rev().find(|f| n > 0 && u64::from(margin) * f <= n - 1).unwrap_or(0);
+        assert_eq!(fault_bound(n, margin), search, "total {n}, margin {margin}");
+        assert_eq!(quorum_weight(n, margin) + search, n, "total {n}, margin {margin}");
+        // Any two quorums share more than the bound, so a correct member; a quorum
+        // and votes above the bound share one.
+        let (bound, quorum) = (fault_bound(n, margin), quorum_weight(n, margin));
+        assert!(n == 0 || 2 * quorum > n + bound && quorum + bound + 1 > n);
+    }
+}
+
+#[test]
+fn bounds_and_quorums_by_hand() {
+    // total, then bound and quorum by margins 3, 4 and 5
+    let table = [
+        (0, [(0, 0); 3]), (1, [(0, 1); 3]), (2, [(0, 2); 3]), (3, [(0, 3); 3]),
+        (4, [(1, 3), (0, 4), (0, 4)]), (5, [(1, 4), (1, 4), (0, 5)]), (6, [(1, 5), (1, 5), (1, 5)]),
+        (7, [(2, 5), (1, 6), (1, 6)]), (9, [(2, 7), (2, 7), (1, 8)]), (11, [(3, 8), (2, 9), (2, 9)]),
+        (13, [(4, 9), (3, 10), (2, 11)]), (16, [(5, 11), (3, 13), (3, 13)]), (17, [(5, 12), (4, 13), (3, 14)]),
+        (21, [(6, 15), (5, 16), (4, 17)]), (100, [(33, 67), (24, 76), (19, 81)]),
+        (81_536_000, [(27_178_666, 54_357_334), (20_383_999, 61_152_001), (16_307_199, 65_228_801)]),
+    ];
+    for (n, by) in table {
+        for (margin, (bound, quorum)) in (3..).zip(by) {
+            assert_eq!((fault_bound(n, margin), quorum_weight(n, margin)), (bound, quorum), "total {n}, margin {margin}");
+        }
+    }
+}
+
+#[test]
+fn margins_of_a_sheet() {
+    let blank = Sheet::all_blank();
+    assert_eq!((blank.margin, blank.fill().unwrap().margin), (Blank, 3));
+    for margin in 3..=5 {
+        assert_eq!(by_margin(blank, margin).fill().unwrap().margin, margin);
+        // Blank and written 3 are the same settings; nothing else changes.
+        let filled = by_margin(blank, margin).fill().unwrap();
+        assert_eq!(filled == blank.fill().unwrap(), margin == 3);
+        assert_eq!(Settings { margin: 3, ..filled }, blank.fill().unwrap());
+    }
+    for margin in [0, 1, 2, 6, 7, 259, u32::MAX] {
+        assert_eq!(by_margin(blank, margin).fill(), Err(2));
+        // 4, 2, 3, 1 in this order.
+        let empty = by_margin(sheet(Blank, Blank, Blank, &[0; 4]), margin);
+        assert_eq!(Member::open(16, &empty, 3).err(), Some(4));
+        assert_eq!(Member::open(15, &empty, 3).err(), Some(2));
+        assert_eq!(Member::open(15, &by_margin(blank, margin), 3).err(), Some(2));
+    }
+    let empty = sheet(Blank, Blank, Blank, &[0; 4]);
+    assert_eq!(Member::open(15, &by_margin(empty, 5), 3).err(), Some(3));
+    assert_eq!(Member::open(15, &by_margin(blank, 5), 3).err(), Some(1));
+}
+
+/// Twenty fields after the name or twenty-one, the last blank or a margin.
+#[test]
+fn margins_of_a_record() {
+    let open = "open,0,,64,,1,0,0,0,,,,,,,,,,,,";
+    let ends = [
+        ("", "ok"), (",", "ok"), (",3", "ok"), (",4", "ok"), (",5", "ok"), (",2", "refused,2"), (",6", "refused,2"),
+        (",0", "refused,2"), (",4294967295", "refused,2"), (",4294967296", "refused,24"), (",03", "refused,24"),
+        (",x", "refused,24"), (", ", "refused,24"), (",,", "refused,24"), (",3,", "refused,24"), (",,3", "refused,24"),
+        (",3,3", "refused,24"),
+    ];
+    for (end, answer) in ends {
+        assert_eq!(answers(format!("{open}{end}\r\n").as_bytes()), format!("{answer}\r\n"), "{end}");
+    }
+    assert_eq!(answers(format!("{}\r\n", &open[..open.len() - 1]).as_bytes()), "refused,24\r\n");
+    // In the last field and in no other: 4 members, 3 signers, 13 by margin 5 alone.
+    for (end, answer) in [("", "ok"), (",", "ok"), (",3", "ok"), (",4", "refused,13"), (",5", "refused,13")] {
+        let stream = format!("open,0,5,64,4,1,1,1,1,,,,,,,,,,,,{end}\r\npropose,0\r\ncertify,6\r\n");
+        assert_eq!(answers(stream.as_bytes()), format!("ok\r\nok\r\n{answer}\r\n"), "{end}");
+    }
+}
+
+/// Sixteen members of weight 1, own 0: the margin's bound and quorum in every
+/// call that weighs, one short and exactly.
+#[test]
+fn everything_that_weighs_follows() {
+    for (margin, bound, quorum) in [(3, 5, 11), (4, 3, 13), (5, 3, 13)] {
+        let opened = Member::open(0, &by_margin(ones(16), margin), 1_024).unwrap();
+        let first = |n: u32| (1u32 << n) as Set - 1;
+        let others = |a: u32| !single(a);
+        // 13: signers of certify, accept and batch.
+        let mut m = opened.clone();
+        m.propose(0, &[]).unwrap();
+        assert_eq!(m.may_certify(first(quorum - 1) & others(0)).err(), Some(13));
+        m.certify(first(quorum) & others(0)).unwrap();
+        let signed = |n: u32| certificate(1, 1, 0, first(n) & others(1), &[]);
+        assert_eq!(m.may_accept(&signed(quorum - 1)), Err(13));
+        assert_eq!(batch(&mut m, &[Some(signed(quorum - 1)), Some(signed(quorum))]), [13, 0]);
+        // 28: authors.
+        for a in 2..16 {
+            assert_eq!(m.may_advance(), if a < quorum { Err(28) } else { Ok(()) }, "{a} of 16, margin {margin}");
+            m.accept(&certificate(a, 1, 0, others(a), &[])).unwrap();
+        }
+        m.advance().unwrap();
+        // 12: previous sets of propose, draw and endorse.
+        for n in 1..=16 {
+            let answer = if n < quorum { Err(12) } else { Ok(()) };
+            let previous = if n == 16 { !0 } else { first(n) };
+            assert_eq!(m.may_propose(previous, &[]), answer);
+            assert_eq!(m.may_draw(previous), answer);
+            assert_eq!(m.may_endorse(&proposal(9, 2, previous, &[])), answer);
+        }
+        for a in 0..16 {
+            m.accept(&certificate(a, 2, !0, others(a), &[])).unwrap();
+        }
+        m.advance().unwrap();
+        // 22: votes, in commit and its preview. The anchor of 2 is member 1's.
+        for votes in 0..16 {
+            let answer = if votes <= bound { Err(22) } else { Ok(()) };
+            assert_eq!(m.may_commit().map(|_| ()), answer, "{votes} votes, margin {margin}");
+            assert_eq!(m.may_preview(48 * 1_024), answer);
+            m.accept(&certificate(votes, 3, 2, others(votes), &[])).unwrap();
+        }
+        assert_eq!(preview(&m, 48 * 1_024).map(|entries| entries.len()), Ok(17));
+        assert_eq!(m.commit(), Ok(1));
+    }
+}
+
+/// Known rounds, committees, leaders, shares and the order inside a block are
+/// the same by every margin.
+#[test]
+fn what_does_not_follow() {
+    let run = |margin: u32| {
+        let mut m = Member::open(0, &by_margin(sheet(Written(2), Written(64), Blank, &[3, 1, 2, 1]), margin), 64).unwrap();
+        for r in 1..=3 {
+            for a in 0..4 {
+                m.accept(&by_all(a, r, if r == 1 { 0 } else { 15 }, &[bond(a, 5)])).unwrap();
+            }
+            if r < 3 {
+                m.advance().unwrap();
+            }
+        }
+        assert_eq!(m.commit(), Ok(1));
+        let seen = (1..=64).map(|r| (m.read_committee(r), (0..16).map(|a| m.read_share(a, r)).collect::<Vec<_>>(), m.anchor(r)));
+        (seen.collect::<Vec<_>>(), m.chain()[0].certificates.clone(), m.chain()[0].after)
+    };
+    assert_eq!(run(3), run(4));
+    assert_eq!(run(3), run(5));
+}
+
+/// Any weights, margin and set: inside, and what is missing weighs at most the
+/// bound found by search from below.
+#[test]
+fn quorums_by_chance() {
+    let mut rng = Rng(0x9e37_79b9_0000_0009);
+    let mut times = [[0; 2]; 3];
+    for _ in 0..30_000 {
+        let most = [2, 3, 6, 50][rng.below(4) as usize];
+        let committee: Committee = std::array::from_fn(|_| rng.below(most));
+        let (set, margin) = (!(rng.below(65_536) as Set & rng.below(65_536) as Set & rng.below(65_536) as Set), 3 + rng.below(3) as u32);
+        let set = set & if rng.below(3) == 0 { !0 } else { members_of(!0).filter(|&m| committee[m as usize] > 0).map(single).fold(0, |a, b| a | b) };
+        let (n, mut bound) = (total(&committee), 0);
+        while u64::from(margin) * (bound + 1) < n {
+            bound += 1;
+        }
+        let missing: u64 = members_of(!set).map(|m| committee[m as usize]).sum();
+        let outside = members_of(set).any(|m| committee[m as usize] == 0);
+        let quorum = !outside && missing <= bound;
+        assert_eq!(is_quorum(set, &committee, margin), quorum, "{committee:?} {set:#b} {margin}");
+        times[margin as usize - 3][usize::from(quorum)] += 1;
+    }
+    assert!(times.iter().flatten().all(|&n| n > 500), "{times:?}");
+}
+
+/// Four members of weight 1 and one vote: by margin 5 one is enough, and every
+/// certificate wants all four.
+#[test]
+fn four_by_margin_5() {
+    let open = |margin| Member::open(0, &by_margin(sheet(Blank, Written(8), Blank, &[]), margin), 8).unwrap();
+    for (margin, by_three, by_one) in [(3, Ok(()), Err(22)), (4, Err(13), Ok(1)), (5, Err(13), Ok(1))] {
+        let mut m = open(margin);
+        assert_eq!(m.may_accept(&certificate(1, 1, 0, 12, &[])), by_three);
+        for (round, previous) in [(1, 0), (2, 15)] {
+            round_of_four(&mut m, round, previous, &[]);
+        }
+        m.advance().unwrap();
+        assert_eq!(m.commit(), Err(22));
+        m.accept(&by_all(3, 3, 2, &[])).unwrap();
+        assert_eq!(m.commit(), by_one);
+    }
 }
 
 // -------------------------------------------------------------- runner ---
@@ -1408,7 +1609,8 @@ fn shortcuts() {
     for _ in 0..300 {
         let weights: Vec<u32> = (0..16).map(|_| rng.below(4) as u32).collect();
         let lookback = 1 + rng.below(8) as u32;
-        let Ok(mut m) = Member::open(0, &sheet(Written(lookback), Written(24), Blank, &weights), 64) else { continue };
+        let written = by_margin(sheet(Written(lookback), Written(24), Blank, &weights), 3 + rng.below(3) as u32);
+        let Ok(mut m) = Member::open(0, &written, 64) else { continue };
         loop {
             fill_round(&mut rng, &mut m);
             if rng.below(3) > 0 {

@@ -154,7 +154,7 @@ impl Test {
             let row: Vec<Words> = rows.iter().copied().cycle().take(records).collect();
             for room in [0, 1, records.saturating_sub(1), records, records + 1, 64, 65, 200] {
                 let call = Call::Batch { row: row.clone(), answers: vec![7; room] };
-                for lengths in [(37, needed), (36, needed), (37, needed - 1), (0, 0)] {
+                for lengths in [(STATE_WORDS, needed), (MARGIN, needed), (STATE_WORDS, needed - 1), (0, 0)] {
                     self.batch(&mut node.clone(), &call, lengths);
                 }
             }

@@ -180,17 +180,41 @@ pub fn some_transactions(rng: &mut Rng, most: u32) -> Vec<Transaction> {
     (0..rng.between(0, most)).map(|_| any_transaction(rng)).collect()
 }
 
-/// A previous set for a round: held ones, all or thinned.
+/// A previous set for a round: held ones, all, thinned, or without those that
+/// some margin can spare.
 pub fn likely_previous(rng: &mut Rng, member: &Member, round: u32) -> Set {
     if round <= 1 {
         return 0;
     }
     let held = member.held_authors(round - 1);
-    match rng.below(8) {
-        0 => rng.thin(held, 800),
-        1 => rng.thin(held, 400),
+    match (rng.below(8), member.committee_of(round - 1)) {
+        (0, _) => rng.thin(held, 800),
+        (1, _) => rng.thin(held, 400),
+        (2, Some(committee)) => {
+            let margin = some_margin(rng, member);
+            without_spare(rng, held, 0, committee, margin)
+        }
         _ => held,
     }
+}
+
+/// The member's margin, or at times another: a quorum by one margin may be one
+/// short by the next.
+fn some_margin(rng: &mut Rng, member: &Member) -> u32 {
+    if rng.chance(500) { member.settings.margin } else { rng.between(3, 5) }
+}
+
+/// Of a set what is left of it when some are left out that a quorum by a
+/// margin can spare, but none of those to be kept.
+fn without_spare(rng: &mut Rng, set: Set, kept: Set, committee: &Committee, margin: u32) -> Set {
+    let (mut left, keep) = (set, rng.pick(&[0, 500, 900]));
+    for m in members_of(set & !kept) {
+        let fewer = left & !single(m);
+        if is_quorum(fewer, committee, margin) && !rng.chance(keep) {
+            left = fewer;
+        }
+    }
+    left
 }
 
 pub fn members_in(committee: &Committee) -> Set {
@@ -199,16 +223,9 @@ pub fn members_in(committee: &Committee) -> Set {
 
 /// Endorsers that are a quorum with the author: all inside but for some that
 /// can be spared.
-pub fn some_quorum(rng: &mut Rng, committee: &Committee, author: u32) -> Set {
-    let mut endorsers = members_in(committee) & !single(author);
-    let keep = rng.pick(&[0, 500, 900]);
-    for m in members_of(endorsers) {
-        let fewer = endorsers & !single(m);
-        if is_quorum(fewer | single(author), committee) && !rng.chance(keep) {
-            endorsers = fewer;
-        }
-    }
-    endorsers
+pub fn some_quorum(rng: &mut Rng, committee: &Committee, author: u32, margin: u32) -> Set {
+    let (all, author) = (members_in(committee), single(author));
+    without_spare(rng, all | author, author, committee, margin) & !author
 }
 
 pub fn likely_endorsers(rng: &mut Rng, member: &Member, author: u32, round: u32) -> Set {
@@ -216,7 +233,10 @@ pub fn likely_endorsers(rng: &mut Rng, member: &Member, author: u32, round: u32)
     let all = members_in(committee) & !single(author & 15);
     match rng.below(20) {
         0..=2 => rng.thin(all, 700),
-        3..=8 => some_quorum(rng, committee, author & 15),
+        3..=8 => {
+            let margin = some_margin(rng, member);
+            some_quorum(rng, committee, author & 15, margin)
+        }
         _ => all,
     }
 }
@@ -337,7 +357,7 @@ pub fn likely_enqueue(rng: &mut Rng, member: &Member) -> Call {
 /// Whether the authors held in the present round are a quorum of its committee.
 pub fn may_go_on(member: &Member) -> bool {
     let held = member.held_authors(member.round);
-    member.committee_of(member.round).is_some_and(|committee| is_quorum(held, committee))
+    member.committee_of(member.round).is_some_and(|committee| member.is_quorum(held, committee))
 }
 
 /// A call that fits the state, mostly; one in nine is wild.
@@ -412,19 +432,21 @@ pub fn sheet_words(rng: &mut Rng, sheet: &Sheet) -> Vec<u32> {
         Setting::Written(value) => words.extend([1, value]),
     };
     [sheet.lookback, sheet.ceiling, sheet.allowance].into_iter().for_each(&mut put);
-    sheet.weights.into_iter().for_each(put);
+    sheet.weights.into_iter().for_each(&mut put);
+    put(sheet.margin);
     longer(rng, words)
 }
 
 /// A sheet that may be refused.
 fn wild_sheet(rng: &mut Rng, member: &Member) -> Vec<u32> {
-    let mut words = vec![0; 38];
-    for k in 0..19 {
+    let mut words = vec![0; SHEET_WORDS];
+    for k in 0..20 {
         words[2 * k] = u32::from(rng.chance(500));
         words[2 * k + 1] = match k {
             0 => rng.pick(&[1, 2, 3, 20, 999, 1_000]),
             1 => rng.pick(&[3, 4, 10, member.settings.ceiling, member.settings.ceiling + 1, 1_024]),
             2 => rng.between(0, 4),
+            19 => rng.between(3, 5),
             _ => rng.pick(&[0, 0, 0, 1, 2, 1_000_000]),
         };
     }
@@ -432,13 +454,15 @@ fn wild_sheet(rng: &mut Rng, member: &Member) -> Vec<u32> {
     if rng.chance(800) {
         (words[2], words[3]) = (1, member.settings.ceiling.min(rng.pick(&[3, 7, 1_024])));
     }
-    match rng.below(8) {
-        0 => words[2 * rng.below(19) as usize] = rng.word(),
-        1 => words[2 * rng.below(19) as usize + 1] = rng.word(),
+    match rng.below(10) {
+        0 => words[2 * rng.below(20) as usize] = rng.word(),
+        1 => words[2 * rng.below(20) as usize + 1] = rng.word(),
         2 => (words[0], words[1]) = (1, rng.pick(&[0, 1_001])),
         3 => (words[2], words[3]) = (1, rng.pick(&[0, 2, 1_025])),
         4 => (words[4], words[5]) = (1, 5),
         5 => (3..19).for_each(|k| (words[2 * k], words[2 * k + 1]) = (u32::from(k < 7), 0)),
+        6 => (words[38], words[39]) = (1, rng.pick(&[0, 2, 6, u32::MAX])),
+        7 => words.truncate(rng.pick(&[0, 1, 37, 38, 39])),
         _ => {}
     }
     words

@@ -4,6 +4,7 @@
 //! hold. Each is listed by `Engine::chain`, by `lent::chain` and by `forgelilac_chain` of the header,
 //! and must be as the reference has it; and by reads alone, one for each place and each block, which
 //! is how chains were listed before. A state that is not well formed must be refused with 1 by all.
+//! So must each without its margin, as states were stored before; brought along, it is well formed.
 //! What a commit would add is told by `Engine::preview`, by `lent::preview` and by the header's
 //! `forgelilac_preview`, and must be as the reference has it.
 //! Then a full state of ceiling 1,024, with times.
@@ -43,7 +44,7 @@ mod header {
 
 /// Lengths and offsets of the package, in the order of header.c.
 #[rustfmt::skip]
-const NUMBERS: [usize; 49] = [
+const NUMBERS: [usize; 51] = [
     layout::FORMAT as usize, MEMBERS, layout::TRANSACTIONS, layout::BLOCKS, layout::STACK_BYTES,
     layout::STATE_WORDS, layout::BODY_WORDS, layout::PROPOSAL_WORDS, layout::CERTIFICATE_WORDS,
     layout::HELD_WORDS, layout::SHEET_WORDS, layout::STATE_OWN, layout::STATE_LOOKBACK,
@@ -56,6 +57,7 @@ const NUMBERS: [usize; 49] = [
     layout::BATCH_RECORDS, size_of::<CertificateRecord>(), layout::GUESTS, layout::QUEUE_PLACES,
     layout::TRANSACTION_WORDS, layout::SERVED, layout::WAITING, layout::queue(0), layout::queue(7),
     layout::ENTRY_WORDS, layout::ENTRY_BLOCK, layout::ENTRY_ROUND, layout::ENTRY_AUTHOR, layout::preview_words(64),
+    layout::STATE_MARGIN, layout::SHEET_WORDS,
 ];
 
 fn text(of: *const c_char) -> &'static str {
@@ -159,6 +161,8 @@ struct Figures {
     /// Previews that were accepted, and their entries.
     previewed: u64,
     entries: u64,
+    /// States of before there was a margin that were brought along.
+    brought: u64,
 }
 
 impl Figures {
@@ -171,6 +175,7 @@ impl Figures {
         // SAFETY: whole slices.
         let formed = unsafe { header::header_is_well_formed(state.as_ptr(), state.len(), table.as_ptr(), table.len()) };
         assert_eq!((formed == 1, engine.is_well_formed()), (node.twin.is_some(), node.twin.is_some()));
+        self.compare_before(node);
         self.compare_waiting(node, &engine);
         self.compare_previews(node, &engine);
         let Some(twin) = &node.twin else {
@@ -196,6 +201,22 @@ impl Figures {
         } else {
             self.by_reads += 1;
             assert_eq!(by_reads(&engine), Ok(expected));
+        }
+    }
+
+    /// Without its margin a state is one of before there was one: refused. Brought along, it is well
+    /// formed where it was with its own.
+    fn compare_before(&mut self, node: &Node) {
+        let stored: [u32; 37] = node.state[..37].try_into().unwrap();
+        let (at, table) = (stored.as_ptr(), &node.table[..]);
+        // SAFETY: whole slices.
+        let formed = unsafe { header::header_is_well_formed(at, stored.len(), table.as_ptr(), table.len()) };
+        assert!(formed == 0 && !lent::is_well_formed(&stored, table));
+        let brought = layout::brought_along(&stored);
+        assert_eq!((&brought[..37], brought[37]), (&stored[..], 3));
+        if node.twin.is_some() {
+            assert!(lent::is_well_formed(&brought, table));
+            self.brought += 1;
         }
     }
 
@@ -362,5 +383,6 @@ fn main() {
     println!("{} states listed by reads alone too: the same; {} have a mark above the last block's round", f.by_reads, f.above);
     println!("{} transactions waiting in queues: counted alike", f.waiting);
     println!("{} previews accepted, with {} entries: as the reference has them", f.previewed, f.entries);
+    println!("without their margins all are refused with 1; {} of them brought along, by margin 3", f.brought);
     time_full();
 }

@@ -27,6 +27,7 @@ mod engine;
 #[cfg(plain)]
 mod engine;
 mod grow;
+mod margins;
 mod nodes;
 mod previews;
 mod queues;
@@ -196,6 +197,7 @@ struct Figures {
     batches: batches::Figures,
     queues: queues::Figures,
     previews: previews::Figures,
+    margins: margins::Figures,
 }
 
 impl Figures {
@@ -239,7 +241,7 @@ impl Figures {
         let committee = member.committee_of(member.round).expect("28 comes after 8");
         let held = member.held_authors(member.round);
         self.thin += 1;
-        self.outsiders += u64::from(is_quorum(held & members_in(committee), committee));
+        self.outsiders += u64::from(member.is_quorum(held & members_in(committee), committee));
     }
 
     fn count_chain(&mut self, member: &Member) {
@@ -283,6 +285,7 @@ impl Figures {
         self.batches.print();
         self.queues.print();
         self.previews.print(&self.answers[Call::PREVIEW]);
+        self.margins.print();
         let [small, middle, large] = self.sizes;
         println!("calls by ceiling: {small} up to 40, {middle} up to 255, {large} up to 1,024");
         println!("changed states: {}, of them not well formed: {}", self.changed, self.malformed);
@@ -332,6 +335,7 @@ impl Test {
         let mut found_out = call.out().to_vec();
         let mut expected_out = found_out.clone();
         let waited = waiting_of(call, node.twin.as_ref());
+        self.figures.margins.count(call, node.twin.as_mut());
         self.before_state.clone_from(&node.state);
         self.before_table.clone_from(&node.table);
         let found = by_engine(call, &mut node.state[..ns], &mut node.table[..nt], &mut found_out);
@@ -385,7 +389,9 @@ impl Test {
     fn lengths(&mut self, node: &Node) -> (usize, usize) {
         let (mut ns, mut nt) = (node.state.len(), node.table.len());
         if self.rng.chance(8) {
-            ns = self.rng.below(STATE_WORDS as u64 + 1) as usize;
+            // At times a state of before there was a margin.
+            let any = self.rng.below(STATE_WORDS as u64 + 1) as usize;
+            ns = if self.rng.chance(300) { MARGIN } else { any };
         }
         if self.rng.chance(12) {
             let needed = node.twin.as_ref().map_or(nt, |m| table_words(m.settings.ceiling));

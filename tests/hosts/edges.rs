@@ -61,7 +61,7 @@ fn endorser_edges(author: u32) -> [u32; 9] {
     [0, all & !own, own << 1, own, all, 65_536, 65_536 | all & !own, u32::MAX & !own, u32::MAX]
 }
 
-const STATE_EDGES: [(usize, &[u32]); 15] = [
+const STATE_EDGES: [(usize, &[u32]); 16] = [
     (0, &[0, 15, 16, u32::MAX]),
     (1, &[0, 1, 999, 1_000, 1_001, u32::MAX]),
     (2, &[0, 2, 3, 4, 63, 64, 65, 1_023, 1_024, 1_025, u32::MAX]),
@@ -77,6 +77,7 @@ const STATE_EDGES: [(usize, &[u32]); 15] = [
     (26, &[0, 15, 16, u32::MAX]),
     (27, &[0, 1, 1_000, 1_001, u32::MAX]),
     (36, &[0, 1, u32::MAX]),
+    (MARGIN, &[0, 1, 2, 3, 4, 5, 6, 7, u32::MAX]),
 ];
 
 /// Word of a row, and values.
@@ -97,7 +98,7 @@ const TABLE_EDGES: [(usize, &[u32]); 12] = [
 
 /// Words of an opened member 0 with these weights, in a round. A lookback of 1
 /// and no block: rounds up to 3 are known.
-fn in_round(weights: &[u32], ceiling: u32, round: u32) -> Node {
+pub fn in_round(weights: &[u32], ceiling: u32, round: u32) -> Node {
     let mut sheet = Sheet::all_blank();
     (sheet.lookback, sheet.ceiling) = (Setting::Written(1), Setting::Written(ceiling));
     sheet.weights = [Setting::Written(0); 16];
@@ -110,7 +111,7 @@ fn in_round(weights: &[u32], ceiling: u32, round: u32) -> Node {
 }
 
 /// Holds certificates of these authors in a round, without transactions.
-fn hold(node: &mut Node, round: u32, authors: Set) {
+pub fn hold(node: &mut Node, round: u32, authors: Set) {
     let row = &mut node.table[ROW * round as usize..][..ROW];
     row[0] |= u32::from(authors);
     members_of(authors).for_each(|a| row[16 + 16 * a as usize] = u32::from(round > 1));
@@ -210,11 +211,14 @@ impl Test {
             self.try_authors(&node, 0b11_1111, quorums);
         }
         // Member 0 unbonds. Of one it leaves an empty committee, which nothing
-        // held is a quorum of; of four it leaves three.
+        // held is a quorum of; of four it leaves three. So with every margin.
         for (weights, quorum) in [(&[1][..], 0), (&[1, 1, 1, 1], 0b1110)] {
             let mut node = in_round(weights, 6, 4);
             put_in_block(&mut node, [1, 0, 0]);
-            self.try_authors(&node, 0b1_1111, &[quorum]);
+            for margin in 3..=5 {
+                node.state[MARGIN] = margin;
+                self.try_authors(&node, 0b1_1111, &[quorum]);
+            }
         }
     }
 
@@ -274,8 +278,9 @@ impl Test {
         copy.state[4..20].fill(0);
         self.try_all(&copy, &calls, whole);
         let needed = table_words(member.settings.ceiling);
+        const N: usize = STATE_WORDS;
         for lengths in
-            [(37, needed), (36, needed), (37, needed - 1), (37, ROW), (37, 0), (0, needed), (0, 0)]
+            [(N, needed), (MARGIN, needed), (N - 2, needed), (N, needed - 1), (N, ROW), (N, 0), (0, needed), (0, 0)]
         {
             self.try_all(node, &calls, lengths);
         }
@@ -306,6 +311,7 @@ impl Test {
         self.share_edges();
         self.batch_edges();
         self.advance_edges();
+        self.margin_edges();
         // In the last round its own certificate may be missing: then no quorum is held.
         for (ceiling, rounds, whole) in [
             (3, 1, false),

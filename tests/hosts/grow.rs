@@ -61,6 +61,15 @@ fn any_weights(rng: &mut Rng) -> [Setting; 16] {
     weights
 }
 
+/// One margin for all members of a run.
+fn any_margin(rng: &mut Rng) -> Setting {
+    match rng.below(5) {
+        0 => Setting::Blank,
+        1 => Setting::Written(3),
+        _ => Setting::Written(rng.between(4, 5)),
+    }
+}
+
 impl Plan {
     pub fn any(rng: &mut Rng) -> Plan {
         let ceiling = match rng.below(1_000) {
@@ -84,6 +93,7 @@ impl Plan {
                 Setting::Written(rng.between(0, 4))
             },
             weights: any_weights(rng),
+            margin: any_margin(rng),
         };
         let weights = sheet.fill().expect("all in range").weights;
         let mut owns: Vec<u32> =
@@ -157,14 +167,14 @@ pub fn made_up(rng: &mut Rng, member: &Member, author: u32, plan: &Plan) -> Cert
         .collect();
     let proposal = Proposal { author, round, previous, transactions };
     let committee = member.committee_of(round).expect("a grown member knows its round");
-    Certificate { proposal, endorsers: some_quorum(rng, committee, author) }
+    Certificate { proposal, endorsers: some_quorum(rng, committee, author, member.settings.margin) }
 }
 
 /// Holds certificates of more authors of the present round until they are a
 /// quorum: without one a member does not advance.
 pub fn gather(rng: &mut Rng, member: &mut Member, committee: &Committee, plan: &Plan) {
     let mut authors: Vec<u32> = members_of(members_in(committee)).collect();
-    while !is_quorum(member.held_authors(member.round), committee) {
+    while !member.is_quorum(member.held_authors(member.round), committee) {
         let author = authors.swap_remove(rng.below(authors.len() as u64) as usize);
         if !member.is_held(author, member.round) {
             let certificate = made_up(rng, member, author, plan);
@@ -317,7 +327,7 @@ pub fn change_queue(rng: &mut Rng, table: &mut [u32]) {
 /// A chain that no run makes, on the certificates that are held: any even,
 /// rising block rounds; marks in any rows, far below a block or above it; few
 /// members bonded and unbonded by many authors, so that committees are empty
-/// now and then; a short lookback. Such a state is well formed.
+/// now and then; a short lookback; any margin. Such a state is well formed.
 pub fn make_up_chain(rng: &mut Rng, member: &Member, state: &mut [u32], table: &mut [u32]) {
     let settings = &member.settings;
     let ceiling = settings.ceiling;
@@ -335,6 +345,7 @@ pub fn make_up_chain(rng: &mut Rng, member: &Member, state: &mut [u32], table: &
     state[20] = round;
     state[21] = 0;
     state[22] = blocks as u32;
+    state[MARGIN] = rng.between(3, 5);
     let few: Vec<u32> = (0..rng.pick(&[1, 1, 2, 3])).map(|_| rng.between(0, 15)).collect();
     if rng.chance(700) {
         state[4..20].fill(0);
@@ -365,7 +376,7 @@ pub fn make_up_chain(rng: &mut Rng, member: &Member, state: &mut [u32], table: &
 
 fn change_state(rng: &mut Rng, member: &Member, state: &mut [u32]) {
     let settings = &member.settings;
-    let (at, value) = match rng.below(16) {
+    let (at, value) = match rng.below(20) {
         0 => (0, rng.between(0, 16)),
         1 => (1, rng.pick(&[0, 1, 2, 3, 1_000, 1_001])),
         2 => (1, rng.between(1, settings.ceiling.min(1_000))),
@@ -379,6 +390,9 @@ fn change_state(rng: &mut Rng, member: &Member, state: &mut [u32]) {
         12 => (22, rng.word()),
         13 => (23, rng.pick(&[0, 1, 65_535, 65_536])),
         14 => (24, rng.between(0, 5)),
+        15 | 16 => (MARGIN, rng.between(3, 5)),
+        17 => (MARGIN, rng.pick(&[0, 1, 2, 6, 7, 1 << 16 | 3, u32::MAX])),
+        18 => (MARGIN, rng.word()),
         _ => (rng.below(state.len() as u64) as usize, rng.word()),
     };
     state[at] = value;

@@ -18,6 +18,15 @@ def store_endorsers(how):
             "    checked?;\n" % how)
 
 
+# A state and a sheet of before there was a margin, taken for ones with a blank margin.
+BEFORE_STATE = ("    let mut before = [3; STATE_WORDS];\n"
+                "    before[..state.len().min(37)].copy_from_slice(&state[..state.len().min(37)]);\n"
+                "    let before: &[u32] = if state.len() == 37 { &*Box::leak(Box::new(before)) } else { state };\n"
+                "    let state: &State = before.first_chunk().ok_or(1u32)?;\n")
+BEFORE_SHEET = ("    let mut before = [0; 40];\n"
+                "    before[..sheet.len().min(38)].copy_from_slice(&sheet[..sheet.len().min(38)]);\n"
+                "    let sheet: &[u32; 40] = if sheet.len() == 38 { &before } else { sheet.first_chunk().ok_or(1u32)? };\n")
+
 # Checks of advance.
 CEILING = "    if r == s.ceiling() {\n        return Err(18);\n    }\n"
 QUORUM = "!s.committee(r)?.is_quorum(s.held(r))"
@@ -35,6 +44,11 @@ FROM_FIRST = "let from_first = (set | set << 16) >> first & 0xffff;"
 
 def after_listing(what):
     return "    let count = list_blocks(&s, &anchors[..taken], places);\n    %s;\n    Ok(count as u32)\n" % what
+
+
+def by_3(committee):
+    """A committee that weighs by the blank margin."""
+    return "(Committee { margin: 3, ..%s })" % committee
 
 
 # (text that stands once in plain.rs, what takes its place)
@@ -78,7 +92,7 @@ MUTANTS = [
     ("    if endorsers >= 1 << 16 {\n        return Err(1);\n    }\n    let mut room = Links::new();\n    let s = survey(state, table, Weights::Present",
      "    let endorsers = endorsers & 0xffff;\n    let mut room = Links::new();\n    let s = survey(state, table, Weights::Present"),
     # committees
-    ("self.total().saturating_sub(1) / 3", "self.total() / 3"),
+    ("self.total().saturating_sub(1) / self.margin", "self.total() / self.margin"),
     ("self.weight(set) >= self.total()", "self.weight(set) > self.total()"),
     ("for _ in 0..(round / 2) % left", "for _ in 0..round % left"),
     ("*weight = if kind == 1 { 0 } else", "*weight = if kind == 1 { *weight } else"),
@@ -86,6 +100,56 @@ MUTANTS = [
     ("if round > self.last + 2 + self.lookback() {", "if round > self.last + 1 + self.lookback() {"),
     ("if round > self.last + 2 + self.lookback() {", "if round > self.last + 3 + self.lookback() {"),
     ("if block_round >= s {", "if block_round > s {"),
+    # margins: all by 3; votes alone, signers, previous sets, thin rounds; all but votes
+    ("self.total().saturating_sub(1) / self.margin", "self.total().saturating_sub(1) / 3"),
+    ("committee.weight(votes) <= committee.bound()", "committee.weight(votes) <= " + by_3("*committee") + ".bound()"),
+    ("if !committee.is_enough(signers) {", "if !" + by_3("*committee") + ".is_enough(signers) {"),
+    ("if !before.is_quorum(previous) {", "if !" + by_3("*before") + ".is_quorum(previous) {"),
+    (QUORUM, "!" + by_3("s.committee(r)?") + ".is_quorum(s.held(r))"),
+    ("self.weight(set) >= self.total() - self.bound()", "self.weight(set) >= self.total() - self.total().saturating_sub(1) / 3"),
+    # 5 for 4, 4 for 5, 4 for 3
+    ("self.total().saturating_sub(1) / self.margin", "self.total().saturating_sub(1) / (self.margin | 1)"),
+    ("self.total().saturating_sub(1) / self.margin", "self.total().saturating_sub(1) / self.margin.min(4)"),
+    ("self.total().saturating_sub(1) / self.margin", "self.total().saturating_sub(1) / self.margin.max(4)"),
+    # the bound rounded up, to the nearest; a quorum as a part of the total, one more above margin 3
+    ("self.total().saturating_sub(1) / self.margin", "self.total().saturating_sub(1).div_ceil(self.margin)"),
+    ("self.total().saturating_sub(1) / self.margin", "(self.total().saturating_sub(1) + self.margin / 2) / self.margin"),
+    ("self.weight(set) >= self.total() - self.bound()", "self.weight(set) >= self.total() * (self.margin - 1) / self.margin"),
+    ("self.weight(set) >= self.total() - self.bound()", "self.weight(set) >= self.total() - self.bound() + u32::from(self.margin > 3)"),
+    # of a state: 2 let in, 6, 0, all; 5 not, 3 not
+    ("(3..=5).contains(&state[MARGIN])", "(2..=5).contains(&state[MARGIN])"),
+    ("(3..=5).contains(&state[MARGIN])", "(3..=6).contains(&state[MARGIN])"),
+    ("(3..=5).contains(&state[MARGIN])", "state[MARGIN] != 0"),
+    ("        && (3..=5).contains(&state[MARGIN])\n", ""),
+    ("(3..=5).contains(&state[MARGIN])", "(3..5).contains(&state[MARGIN])"),
+    ("(3..=5).contains(&state[MARGIN])", "(4..=5).contains(&state[MARGIN])"),
+    # of a sheet: 2 let in, 6; 5 not; blank 4, 5; blank for what is out of range
+    ("_ => (3, 5, 3),", "_ => (2, 5, 3),"),
+    ("_ => (3, 5, 3),", "_ => (3, 6, 3),"),
+    ("_ => (3, 5, 3),", "_ => (3, 4, 3),"),
+    ("_ => (3, 5, 3),", "_ => (3, 5, 4),"),
+    ("_ => (3, 5, 3),", "_ => (3, 5, 5),"),
+    ("        if value < low || value > high {\n", "        let value = if k == 19 && !(3..=5).contains(&value) { 3 } else { value };\n        if value < low || value > high {\n"),
+    # read from the setting's value, blank or not; not stored; stored in the present round, in the word before, in the allowance's
+    ("if setting[0] == 0 { blank }", "if setting[0] == 0 && k < 19 { blank }"),
+    ("fresh[if k < 19 { 1 + k } else { MARGIN }] = value;", "fresh[if k < 19 { 1 + k } else { MARGIN }] = if k < 19 { value } else { 3 };"),
+    ("fresh[if k < 19 { 1 + k } else { MARGIN }] = value;", "fresh[1 + k] = value;"),
+    ("fresh[if k < 19 { 1 + k } else { MARGIN }] = value;", "fresh[if k < 19 { 1 + k } else { MARGIN - 1 }] = value;"),
+    ("fresh[if k < 19 { 1 + k } else { MARGIN }] = value;", "fresh[if k < 19 { 1 + k } else { 3 }] = value;"),
+    # its word read from elsewhere: the lookback, the allowance, the last of the body, a starting weight
+    ("margin: self.state[MARGIN] }", "margin: self.state[1].clamp(3, 5) }"),
+    ("margin: self.state[MARGIN] }", "margin: self.state[3].max(3) }"),
+    ("margin: self.state[MARGIN] }", "margin: self.state[36].clamp(3, 5) }"),
+    ("margin: self.state[MARGIN] }", "margin: self.state[4].clamp(3, 5) }"),
+    # dropped with the proposal, by advance and by commit; known rounds, leaders and shares by it
+    ("    state[PROPOSED] = 0;\n    state[BODY..MARGIN].fill(0);\n", "    state[PROPOSED] = 0;\n    state[BODY..STATE_WORDS].fill(0);\n"),
+    ("        0 => state[BODY..MARGIN].fill(0),\n", "        0 => state[BODY..STATE_WORDS].fill(0),\n"),
+    ("if round > self.last + 2 + self.lookback() {", "if round > self.last + self.state[MARGIN] - 1 + self.lookback() {"),
+    ("for _ in 0..(round / 2) % left", "for _ in 0..(round / 2 + self.margin - 3) % left"),
+    ("(1_000 * weight / total, 1_000 * weight % total)", "((997 + u64::from(committee.margin)) * weight / total, 1_000 * weight % total)"),
+    # states and sheets of before there was a margin let in
+    ("    let state: &State = state.first_chunk().ok_or(1u32)?;\n    if !head_is_fine", BEFORE_STATE + "    if !head_is_fine"),
+    ("    let sheet: &[u32; 40] = sheet.first_chunk().ok_or(1u32)?;\n", BEFORE_SHEET),
     # shares: halves upward, downward, to the odd one; even by the weight, by the rest
     ("2 * rest > total || 2 * rest == total && share % 2 == 1", "2 * rest >= total"),
     ("2 * rest > total || 2 * rest == total && share % 2 == 1", "2 * rest > total"),
@@ -126,11 +190,11 @@ MUTANTS = [
     ("    table[ROW * round as usize + 1] &= !(1 << author);\n", ""),
     ("    record.fill(0);\n", ""),
     ("    state[PROPOSED] = 0;\n", ""),
-    ("    state[PROPOSED] = 0;\n    state[BODY..STATE_WORDS].fill(0);\n", "    state[PROPOSED] = 0;\n"),
-    ("    state[BODY..STATE_WORDS].copy_from_slice(body);\n    clear_unused(&mut state[BODY..STATE_WORDS]);\n",
-     "    state[BODY..STATE_WORDS].copy_from_slice(body);\n"),
-    ("        0 => state[BODY..STATE_WORDS].fill(0),\n", "        0 => {}\n"),
-    ("        _ => clear_unused(&mut state[BODY..STATE_WORDS]),\n", "        _ => {}\n"),
+    ("    state[PROPOSED] = 0;\n    state[BODY..MARGIN].fill(0);\n", "    state[PROPOSED] = 0;\n"),
+    ("    state[BODY..MARGIN].copy_from_slice(body);\n    clear_unused(&mut state[BODY..MARGIN]);\n",
+     "    state[BODY..MARGIN].copy_from_slice(body);\n"),
+    ("        0 => state[BODY..MARGIN].fill(0),\n", "        0 => {}\n"),
+    ("        _ => clear_unused(&mut state[BODY..MARGIN]),\n", "        _ => {}\n"),
     # commit
     ("if r % 2 == 0 || r == 1 {", "if r % 2 == 0 {"),
     ("if s.last >= r - 1 {", "if s.last > r - 1 {"),
@@ -231,10 +295,10 @@ MUTANTS = [
     (CEILING + THIN, "    s.check_known(r)?;\n" + CEILING + THIN),
     (CEILING + THIN, THIN + CEILING),
     # refused, it drops the proposal; refused, it goes on
-    (THIN, THIN.replace("        return", "        state[PROPOSED] = 0;\n        state[BODY..STATE_WORDS].fill(0);\n        return")),
+    (THIN, THIN.replace("        return", "        state[PROPOSED] = 0;\n        state[BODY..MARGIN].fill(0);\n        return")),
     (THIN, THIN.replace("        return", "        state[ROUND] += 1;\n        return")),
     # reads
-    ("*out = s.committee(round)?.0;", "*out = s.committee(round)?.0.map(|w| w & 0xffff);"),
+    ("*out = s.committee(round)?.weights;", "*out = s.committee(round)?.weights.map(|w| w & 0xffff);"),
     ("    clear_unused(&mut out[2..16]);\n", ""),
     ("    out[17] = record[2];\n", ""),
     ("if number == 0 || number > s.blocks() {", "if number > s.blocks() {"),

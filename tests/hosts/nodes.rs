@@ -34,7 +34,7 @@ impl Node {
             // Nothing waits before the member's queues are written.
             table[..9].fill(0);
             if member.proposal.is_none() {
-                state[23..].fill_with(|| rng.word());
+                state[23..MARGIN].fill_with(|| rng.word());
             }
         }
         write_table(&member, &mut table);

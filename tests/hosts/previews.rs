@@ -238,10 +238,10 @@ impl Test {
             // 1 comes first: a state or a table too short, a number out of range.
             let call = Call::Preview { list: vec![77; words] };
             let table = table_words(ceiling);
-            for lengths in [(36, table), (0, table), (37, table - 1), (37, 0), (0, 0)] {
+            for lengths in [(MARGIN, table), (0, table), (STATE_WORDS, table - 1), (STATE_WORDS, 0), (0, 0)] {
                 assert_eq!(self.preview(&mut node.clone(), &call, lengths), 1 << 32);
             }
-            assert_eq!(self.preview(&mut node.clone(), &call, (37, table)) >> 32 == 0, enough);
+            assert_eq!(self.preview(&mut node.clone(), &call, (STATE_WORDS, table)) >> 32 == 0, enough);
             let mut damaged = node.clone();
             damaged.state[0] = 16;
             self.try_preview(&damaged, words, Err(1));

@@ -359,7 +359,7 @@ impl Test {
 fn is_over(member: &Member) -> bool {
     let Member { own, round, .. } = *member;
     let outside = member.committee_of(round).is_none_or(|weights| weights[own as usize] == 0);
-    let before = || member.committee_of(round - 1).map(|c| is_quorum(member.held_authors(round - 1), c));
+    let before = || member.committee_of(round - 1).map(|c| member.is_quorum(member.held_authors(round - 1), c));
     outside
         || round > 1 && before() != Some(true)
         || round == member.settings.ceiling && member.is_held(own, round)

@@ -24,6 +24,7 @@ fn sheet(sheet: &reference::Sheet) -> Sheet {
         ceiling: of(sheet.ceiling),
         allowance: of(sheet.allowance),
         weights: sheet.weights.map(of),
+        margin: of(sheet.margin),
     }
 }
 

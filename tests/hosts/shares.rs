@@ -85,7 +85,7 @@ fn bonded(rng: &mut Rng, weights: &Committee, ceiling: u32) -> Option<Member> {
         return None;
     }
     (1..bonds.len()).rev().for_each(|i| bonds.swap(i, rng.below(i as u64 + 1) as usize));
-    let settings = Settings { lookback: 1, ceiling, allowance: 4, weights: start };
+    let settings = Settings { lookback: 1, ceiling, allowance: 4, weights: start, margin: rng.between(3, 5) };
     let (mut held, mut marked) = (Vec::new(), Vec::new());
     for (round, author) in (1..=ceiling).flat_map(|r| (0..MEMBERS).map(move |a| (r, a))) {
         let transactions = bonds.split_off(bonds.len().saturating_sub(4));
@@ -111,10 +111,12 @@ impl Test {
         Node { state: vec![0; STATE_WORDS], table: vec![0; table_words(3)], twin: None }
     }
 
-    /// An open with these weights, and the shares of some members in round 1.
+    /// An open with these weights and any margin, which shares do not go by, and
+    /// the shares of some members in round 1.
     pub fn open_and_read(&mut self, node: &mut Node, weights: &Committee, some: Set) {
         let weights = weights.map(|w| Setting::Written(w as u32));
-        let sheet = Sheet { ceiling: Setting::Written(3), weights, ..Sheet::all_blank() };
+        let margin = Setting::Written(self.rng.between(3, 5));
+        let sheet = Sheet { ceiling: Setting::Written(3), weights, margin, ..Sheet::all_blank() };
         let call = Call::Open { own: 0, sheet: sheet_words(&mut self.rng, &sheet) };
         let lengths = (node.state.len(), node.table.len());
         self.call(node, &call, lengths);

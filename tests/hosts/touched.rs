@@ -20,7 +20,7 @@ use forgelilac::{Refusal, Set};
 use grow::*;
 use nodes::Node;
 use rows::some_batch;
-use words::{table_words, ROW, STATE_WORDS};
+use words::{table_words, MARGIN, ROW, STATE_WORDS};
 
 /// The engine's answer: the value of commit, share, block and preview, 0 for
 /// others. What a batch answers to each certificate and what a preview lists is
@@ -157,7 +157,7 @@ fn named_in_table(call: &Call, before: &Node, after: &Node, answers: &[u32], at:
 /// A word of the state that is no part of it: the body where there is no proposal, transactions beyond
 /// their number.
 fn is_unused(state: &[u32], at: usize) -> bool {
-    (23..STATE_WORDS).contains(&at) && (state[21] == 0 || at >= 25 + 3 * state[24] as usize)
+    (23..MARGIN).contains(&at) && (state[21] == 0 || at >= 25 + 3 * state[24] as usize)
 }
 
 #[derive(Default)]
@@ -239,7 +239,7 @@ impl Figures {
             [Word::Served, Word::Waiting].into_iter().chain(places(6)).collect(),
         ];
         let all: Vec<usize> = (0..STATE_WORDS).collect();
-        let body: Vec<usize> = (23..STATE_WORDS).collect();
+        let body: Vec<usize> = (23..MARGIN).collect();
         let proposal = [&[21], &body[..]].concat();
         let of_state: [Vec<usize>; Call::CHANGING] = [
             all,

@@ -1,13 +1,17 @@
 //! State, table and argument words as values of the reference, and back.
 //!
-//! Written from document 01, points 1 and 6 (well formed states) and 2 (order inside
+//! Written from document 01, points 1, 6 and 9 (well formed states) and 2 (order inside
 //! a block), docs/TABLES.md and the host's layouts. `None` stands for "refused with 1": words that
 //! cannot be read, or a state that is not well formed.
 
 use crate::reference::*;
 use std::collections::VecDeque;
 
-pub const STATE_WORDS: usize = 37;
+pub const STATE_WORDS: usize = 38;
+/// Where a state has its margin; one of before there was a margin has so many words.
+pub const MARGIN: usize = 37;
+/// Two for each of twenty settings.
+pub const SHEET_WORDS: usize = 40;
 pub const ROW: usize = 272;
 
 pub fn table_words(ceiling: u32) -> usize {
@@ -73,7 +77,7 @@ pub fn read_certificate(words: &[u32]) -> Option<Certificate> {
 }
 
 pub fn read_sheet(words: &[u32]) -> Option<Sheet> {
-    let words = words.get(..38)?;
+    let words = words.get(..SHEET_WORDS)?;
     let mut settings = Vec::new();
     for pair in words.chunks(2) {
         settings.push(match pair[0] {
@@ -82,8 +86,9 @@ pub fn read_sheet(words: &[u32]) -> Option<Sheet> {
             _ => return None,
         });
     }
-    let weights = settings[3..].try_into().unwrap();
-    Some(Sheet { lookback: settings[0], ceiling: settings[1], allowance: settings[2], weights })
+    let (lookback, ceiling, allowance) = (settings[0], settings[1], settings[2]);
+    let weights = settings[3..19].try_into().unwrap();
+    Some(Sheet { lookback, ceiling, allowance, weights, margin: settings[19] })
 }
 
 /// Transactions in range and within the allowance, previous set empty exactly
@@ -102,6 +107,7 @@ fn read_settings(words: &[u32]) -> Option<Settings> {
         ceiling: written(1),
         allowance: written(2),
         weights: weights.try_into().unwrap(),
+        margin: Setting::Written(words[MARGIN]),
     };
     let settings = sheet.fill().ok()?;
     if total(&settings.weights) > 0 {
@@ -280,8 +286,9 @@ pub fn state_words(member: &Member) -> [u32; STATE_WORDS] {
     words[22] = member.chain.len() as u32;
     if let Some(p) = &member.proposal {
         words[21] = 1;
-        words[23..].copy_from_slice(&body_words(p));
+        words[23..MARGIN].copy_from_slice(&body_words(p));
     }
+    words[MARGIN] = settings.margin;
     words
 }
 

@@ -45,10 +45,11 @@ def filled(settings, blanks):
 class Run:
     """A member's run from its last accepted open on."""
 
-    def __init__(self, own, lookback, ceiling, allowance, *weights):
+    def __init__(self, own, lookback, ceiling, allowance, *settings):
+        """Of an open record: its weights, and a margin where it has one, which moves no leader."""
         self.own, self.round = int(own), 1
         [self.lookback] = filled([lookback], [20])
-        self.weights = filled(weights, [1] * 4 + [0] * 12)
+        self.weights = filled(settings[:16], [1] * 4 + [0] * 12)
         self.held = {}      # (round, author): Certificate
         self.commits = []   # the round of the commit that made block 1, 2, ...
         self.blocks = []

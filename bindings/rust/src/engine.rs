@@ -47,7 +47,8 @@ impl Engine {
     }
 
     /// An engine as it was stored, where the words are well formed. They must be the latest that
-    /// were stored: an older backup may have forgotten a signature.
+    /// were stored: an older backup may have forgotten a signature. A state that versions up to 0.7.0
+    /// stored has 37 words: bring it along first, by [`crate::layout::brought_along`].
     ///
     /// # Errors
     /// [`Refusal::Malformed`] where the state is not well formed.

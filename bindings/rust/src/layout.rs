@@ -4,10 +4,11 @@
 use crate::MEMBERS;
 
 /// The format of the words of state and table; no word of theirs has it. Store it beside them.
-pub const FORMAT: u32 = 1;
+/// A state of format 1 becomes one of this format by [`brought_along`].
+pub const FORMAT: u32 = 2;
 
 /// Words of a state.
-pub const STATE_WORDS: usize = 37;
+pub const STATE_WORDS: usize = 38;
 /// Words of a transaction: kind, number, amount.
 pub const TRANSACTION_WORDS: usize = 3;
 /// Words of a body: previous set, number of transactions, four transactions.
@@ -18,8 +19,8 @@ pub const PROPOSAL_WORDS: usize = 16;
 pub const CERTIFICATE_WORDS: usize = 17;
 /// Words of a held certificate as it is read: certificate, number of its block.
 pub const HELD_WORDS: usize = 18;
-/// Words of a sheet: nineteen pairs, 0 blank or 1 written, then the value.
-pub const SHEET_WORDS: usize = 38;
+/// Words of a sheet: twenty pairs, 0 blank or 1 written, then the value.
+pub const SHEET_WORDS: usize = 40;
 /// Words of an entry of a preview, and of a place in its list: block, round, author.
 pub const ENTRY_WORDS: usize = 3;
 /// The most certificates of a batch.
@@ -53,6 +54,8 @@ pub const STATE_PROPOSED: usize = 21;
 pub const STATE_BLOCKS: usize = 22;
 /// Of a state: the body of its proposal.
 pub const STATE_BODY: usize = 23;
+/// Of a state: margin.
+pub const STATE_MARGIN: usize = 37;
 
 /// Words of a row of a table.
 pub const ROW_WORDS: usize = 272;
@@ -88,6 +91,28 @@ pub const ENTRY_AUTHOR: usize = 2;
 pub const SERVED: usize = 0;
 /// Of row 0, plus the guest: how many of its transactions wait, 0 to 8.
 pub const WAITING: usize = 1;
+
+/// A state of format 1, which versions up to 0.7.0 stored, in today's format: its 37 words, and the
+/// margin by which it ran, 3. Its table stays as it is. The format that you stored beside the words
+/// tells which they are, and not their number: it may be a state of today that lost its last word.
+///
+/// ```
+/// use forgelilac::{layout, lent, table_words, Sheet, STATE_WORDS};
+///
+/// let (mut state, mut table) = ([0; STATE_WORDS], [0; table_words(64) as usize]);
+/// lent::open(&mut state, &mut table, 0, &Sheet { ceiling: Some(64), ..Sheet::default() }.to_words())?;
+/// let stored: [u32; 37] = state[..37].try_into().unwrap();
+/// assert!(!lent::is_well_formed(&stored, &table));
+/// assert_eq!(layout::brought_along(&stored), state);
+/// # Ok::<(), forgelilac::Refusal>(())
+/// ```
+#[must_use]
+pub fn brought_along(stored: &[u32; 37]) -> [u32; STATE_WORDS] {
+    let mut state = [0; STATE_WORDS];
+    state[..37].copy_from_slice(stored);
+    state[STATE_MARGIN] = 3;
+    state
+}
 
 /// The words of the list that a preview of a state of this ceiling asks for: 16 places for each round.
 #[must_use]

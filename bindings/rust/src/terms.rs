@@ -114,6 +114,9 @@ pub struct Sheet {
     pub allowance: Option<u32>,
     /// Starting weights: 0 to 1,000,000, blank 1 for members 0 to 3, else 0.
     pub weights: [Option<u32>; MEMBERS],
+    /// 3 to 5, blank 3. The fault bound is (total - 1) divided by it, rounded down, and a quorum is the
+    /// total minus that: for total 16 margin 3 gives 5 and 11, margin 5 gives 3 and 13.
+    pub margin: Option<u32>,
 }
 
 impl Sheet {
@@ -121,8 +124,9 @@ impl Sheet {
     #[must_use]
     pub fn to_words(&self) -> [u32; SHEET_WORDS] {
         let mut words = [0; SHEET_WORDS];
-        let settings = [self.lookback, self.ceiling, self.allowance];
-        for (pair, setting) in words.chunks_exact_mut(2).zip(settings.iter().chain(&self.weights)) {
+        let first = [self.lookback, self.ceiling, self.allowance];
+        let settings = first.iter().chain(&self.weights).chain([&self.margin]);
+        for (pair, setting) in words.chunks_exact_mut(2).zip(settings) {
             pair[0] = setting.is_some().into();
             pair[1] = setting.unwrap_or(0);
         }

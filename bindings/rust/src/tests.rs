@@ -3,9 +3,9 @@
 extern crate std;
 
 use crate::layout::{
-    preview_words, queue, record, row, BATCH_RECORDS, CERTIFICATE_WORDS, ENTRY_WORDS, GUESTS, QUEUE_PLACES,
-    RECORD_BLOCK, RECORD_ENDORSERS, ROW_BLOCK, ROW_HELD, SERVED, STATE_BLOCKS, STATE_CEILING, STATE_ROUND,
-    TRANSACTIONS, TRANSACTION_WORDS, WAITING,
+    brought_along, preview_words, queue, record, row, BATCH_RECORDS, CERTIFICATE_WORDS, ENTRY_WORDS, GUESTS,
+    QUEUE_PLACES, RECORD_BLOCK, RECORD_ENDORSERS, ROW_BLOCK, ROW_HELD, SERVED, STATE_BLOCKS, STATE_CEILING,
+    STATE_MARGIN, STATE_ROUND, TRANSACTIONS, TRANSACTION_WORDS, WAITING,
 };
 use crate::lent::{self, CertificateRecord, Place};
 use crate::*;
@@ -813,6 +813,182 @@ fn a_block_without_new_certificates_has_no_entry() {
     (1..=4).for_each(|round| engine.table[record(0, round) + RECORD_BLOCK] = 1);
     assert_eq!(preview(&engine), Ok(of_block(3, &[(5, &[0]), (6, &[0])])));
     assert_eq!(engine.commit(), Ok(2));
+}
+
+// ---- margins
+
+/// Member 0 of sixteen of these weights, by a margin. With lookback 1 rounds up to 3 are known.
+fn of_sixteen(margin: u32, weights: [u32; MEMBERS]) -> Engine {
+    let weights = weights.map(Some);
+    let sheet = Sheet { lookback: Some(1), ceiling: Some(8), weights, margin: Some(margin), ..Sheet::default() };
+    Engine::open(0, &sheet).unwrap()
+}
+
+/// The members below a number.
+fn below(number: u32) -> Set {
+    ((1u32 << number) - 1) as Set
+}
+
+/// A certificate without transactions that its author and the first of the others sign, so many in all.
+fn signed_by(signers: u32, author: u32, round: u32, previous: Set) -> Certificate {
+    let endorsers = if author < signers { below(signers) & !(1 << author) } else { below(signers - 1) };
+    Certificate { proposal: Proposal { author, round, previous, transactions: Vec::new() }, endorsers }
+}
+
+#[test]
+fn margins_of_a_sheet() {
+    let sheet = |margin| Sheet { ceiling: Some(8), margin, ..Sheet::default() };
+    for (margin, filled) in [(None, 3), (Some(3), 3), (Some(4), 4), (Some(5), 5)] {
+        let engine = Engine::open(0, &sheet(margin)).unwrap();
+        assert_eq!(engine.state[STATE_MARGIN], filled);
+        assert_eq!(sheet(margin).to_words()[38..], [margin.is_some().into(), margin.unwrap_or(0)]);
+    }
+    // 4, then 2, then 3, then 1.
+    for margin in [0, 1, 2, 6, 7, u32::MAX] {
+        let wrong = Sheet { weights: [Some(0); MEMBERS], ..sheet(Some(margin)) };
+        assert_eq!(Engine::open(16, &wrong), Err(Refusal::MemberRange));
+        assert_eq!(Engine::open(15, &wrong), Err(Refusal::SettingRange));
+        assert_eq!(Engine::open_on(Vec::new(), 15, &sheet(Some(margin))), Err(Refusal::SettingRange));
+    }
+    assert_eq!(Engine::open_on(Vec::new(), 15, &sheet(Some(5))), Err(Refusal::Malformed));
+    // What a blank one has for its value is not looked at; a sheet of before is too short.
+    let mut engine = of_four(0);
+    let mut words = sheet(None).to_words();
+    words[39] = 6;
+    lent::open(&mut engine.state, &mut engine.table, 0, &words).unwrap();
+    assert_eq!(engine.state[STATE_MARGIN], 3);
+    assert_eq!(lent::open(&mut engine.state, &mut engine.table, 0, &words[..38]), Err(Refusal::Malformed));
+    words[38] = 2;
+    assert_eq!(lent::open(&mut engine.state, &mut engine.table, 0, &words), Err(Refusal::Malformed));
+}
+
+/// For total 16 margin 3 gives 5 and 11, margin 5 gives 3 and 13: 13, 28, 12, one short and just enough.
+#[test]
+fn quorums_of_sixteen() {
+    for (margin, quorum) in [(3, 11), (4, 13), (5, 13)] {
+        let mut engine = of_sixteen(margin, [1; MEMBERS]);
+        engine.propose(0, &[]).unwrap();
+        refuses(&mut engine, 13, |e| e.certify(below(quorum - 1) & !1));
+        engine.certify(below(quorum) & !1).unwrap();
+        for author in 1..quorum {
+            refuses(&mut engine, 13, |e| e.accept(&signed_by(quorum - 1, author, 1, 0)));
+            refuses(&mut engine, 28, Engine::advance);
+            let row = [signed_by(quorum - 1, author, 1, 0), signed_by(quorum, author, 1, 0)];
+            assert_eq!(numbers(&engine.batch(&row).unwrap()), [13, 0]);
+        }
+        engine.advance().unwrap();
+        let (short, enough) = (below(quorum - 1), below(quorum));
+        refuses(&mut engine, 12, |e| e.propose(short, &[]));
+        refuses(&mut engine, 12, |e| e.draw(short));
+        refuses(&mut engine, 12, |e| e.endorse(&signed_by(quorum, 15, 2, short).proposal));
+        engine.endorse(&signed_by(quorum, 15, 2, enough).proposal).unwrap();
+        engine.clone().propose(enough, &[]).unwrap();
+        engine.draw(enough).unwrap();
+        assert_eq!(engine.state[STATE_MARGIN], margin);
+    }
+}
+
+/// Total 21, one of them with 6: bounds 6, 5 and 4. Votes of the weight of the bound are too few, one
+/// more is enough.
+#[test]
+fn votes_by_the_margin() {
+    for (margin, bound) in [(3, 6), (4, 5), (5, 4)] {
+        let weights = core::array::from_fn(|member| if member == 15 { 6 } else { 1 });
+        let mut engine = of_sixteen(margin, weights);
+        for round in 1..=2 {
+            let previous = if round == 1 { 0 } else { 0xffff };
+            (0..16).for_each(|author| engine.accept(&signed_by(16, author, round, previous)).unwrap());
+            engine.advance().unwrap();
+        }
+        for author in 0..=bound {
+            assert_eq!(preview(&engine), Err(Refusal::VotesShort));
+            refuses(&mut engine, 22, Engine::commit);
+            engine.accept(&signed_by(16, author, 3, 0xffff)).unwrap();
+        }
+        assert_eq!(preview(&engine).unwrap().len(), 17);
+        assert_eq!(engine.commit(), Ok(1));
+        assert_eq!(engine.state[STATE_MARGIN], margin);
+    }
+}
+
+/// Shares, committees and known rounds do not go by it.
+#[test]
+fn what_a_margin_leaves_alone() {
+    for margin in 3..=5 {
+        let engine = of_sixteen(margin, [1; MEMBERS]);
+        assert_eq!(engine.committee(3), Ok([1; MEMBERS]));
+        assert_eq!(engine.committee(4), Err(Refusal::CommitteeUnknown));
+        assert_eq!(engine.share(15, 3), Ok(62));
+        assert_eq!(leader(2, &engine.committee(2).unwrap()), Some(1));
+    }
+}
+
+/// The proposal ends where the margin stands, also with all its words in use; no call but open writes
+/// the margin.
+#[test]
+fn a_proposal_beside_a_margin() {
+    let all = [Transaction::Bond { member: 3, amount: 1_000 }, Transaction::Unbond { member: 15 }, entry(7), entry(u32::MAX)];
+    let mut sheet = Sheet { ceiling: Some(8), margin: Some(5), ..Sheet::default() };
+    sheet.weights[1..4].fill(Some(0));
+    let mut engine = Engine::open(0, &sheet).unwrap();
+    engine.propose(0, &all).unwrap();
+    assert_eq!(lent::own_proposal(&engine.state), Some(proposal_words(0, 1, 0, &all)));
+    assert_eq!(engine.proposal().unwrap().transactions, all);
+    engine.certify(0).unwrap();
+    for _ in 2..=3 {
+        engine.advance().unwrap();
+        assert_eq!((engine.proposal(), engine.state[STATE_MARGIN]), (None, 5));
+        all.iter().for_each(|&one| engine.enqueue(0, one).unwrap());
+        engine.draw(1).unwrap();
+        assert_eq!((engine.proposal().unwrap().transactions, engine.state[STATE_MARGIN]), (all.to_vec(), 5));
+        engine.certify(0).unwrap();
+    }
+    assert_eq!(engine.commit(), Ok(1));
+    assert_eq!((engine.proposal().unwrap().transactions, engine.state[STATE_MARGIN]), (all.to_vec(), 5));
+}
+
+/// A state of 37 words, as versions up to 0.7.0 stored it, is refused, and goes on when it is brought
+/// along.
+#[test]
+fn a_state_of_before_there_was_a_margin() {
+    let mut engine = of_four(0);
+    engine.propose(0, &[entry(5); 4]).unwrap();
+    let stored: [u32; 37] = engine.state[..37].try_into().unwrap();
+    let (mut short, mut table) = (stored, engine.table.clone());
+    assert_eq!(lent::certify(&short, &mut table, 0b1110), Err(Refusal::Malformed));
+    assert_eq!(lent::advance(&mut short, &table), Err(Refusal::Malformed));
+    assert_eq!(lent::commit(&mut short, &mut table), Err(Refusal::Malformed));
+    assert_eq!(lent::committee(&short, &table, 1), Err(Refusal::Malformed));
+    assert_eq!(lent::chain(&short, &table, &mut []), Err(Refusal::Malformed));
+    assert_eq!(lent::own_proposal(&short), None);
+    assert!(!lent::is_well_formed(&short, &table) && short == stored && table == engine.table);
+    let mut again = Engine::try_restore(brought_along(&stored), table).unwrap();
+    assert!(again == engine);
+    again.certify(0b0110).unwrap();
+}
+
+/// 3 to 5, else the state is not well formed. Another margin is another state.
+#[test]
+fn a_margin_out_of_range() {
+    let mut engine = of_four(0);
+    let proposal = Proposal { author: 1, round: 1, previous: 0, transactions: Vec::new() };
+    let of_three = Certificate { proposal, endorsers: 0b1001 };
+    for margin in [0, 1, 2, 6, 7, 0x1_0003, u32::MAX] {
+        engine.state[STATE_MARGIN] = margin;
+        assert_eq!(Engine::try_restore(engine.state, engine.table.clone()), Err(Refusal::Malformed));
+        refuses(&mut engine, 1, |e| e.accept(&of_three));
+        refuses(&mut engine, 1, |e| e.enqueue(8, entry(1)));
+        refuses(&mut engine, 1, Engine::advance);
+        refuses(&mut engine, 1, |e| e.share(0, 1));
+        refuses(&mut engine, 1, |e| e.chain());
+    }
+    // Of four of weight 1 margins 4 and 5 ask for all.
+    for margin in [4, 5] {
+        engine.state[STATE_MARGIN] = margin;
+        refuses(&mut engine, 13, |e| e.accept(&of_three));
+    }
+    engine.state[STATE_MARGIN] = 3;
+    engine.accept(&of_three).unwrap();
 }
 
 #[test]

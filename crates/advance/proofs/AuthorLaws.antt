@@ -6,7 +6,6 @@ use Prim.Native.Nat.{ℕ}
 use Rattle.base.specs.Sets.{isIn}
 use Rattle.store.specs.Table.{heldSet}
 use Rattle.store.proofs.TableLaws.{held-in}
-use Rattle.sheet.specs.Sheets.{marginOf}
 use Rattle.sheet.specs.Ranges.{weightIn}
 use Rattle.committee.specs.Committees.{committeeOf, quorum}
 use Rattle.rules.specs.Tests.{committeeIn, authorsIn}
@@ -20,6 +19,6 @@ module _ (s : State) (t : List ℕ) (f : Formed s t) where
   authors-held = fun-ext λ i. held-dag (s .settings .ceiling .0) t i (s .round .0) (f .numbers .round-from) (f .numbers .round-to) ∙ held-in t i (s .round .0)
 
   -- check 28, by the committee w and the set h that the code has
-  pub thin-by : {w : List ℕ} {h : ℕ} {b : Bool} → w ≡ committeeOf (s .settings) (view s t .chain) (s .round .0) → h ≡ heldSet t (s .round .0) → b ≡ quorum (marginOf (s .settings)) (weightIn w) (isIn h)
-      → not (quorum (marginOf (s .settings)) (committeeIn (s .settings) (view s t) (s .round .0)) (authorsIn (s .settings) (view s t) (s .round .0))) ≡ not b
+  pub thin-by : {w : List ℕ} {h : ℕ} {b : Bool} → w ≡ committeeOf (s .settings) (view s t .chain) (s .round .0) → h ≡ heldSet t (s .round .0) → b ≡ quorum (s .settings .margin) (weightIn w) (isIn h)
+      → not (quorum (s .settings .margin) (committeeIn (s .settings) (view s t) (s .round .0)) (authorsIn (s .settings) (view s t) (s .round .0))) ≡ not b
   thin-by e i k = rw (authors-held, ← e, ← i, k) refl

@@ -1,7 +1,6 @@
 // Advance: the next round, and the proposal dropped; not past a round in which no quorum is held (scope document: Calls, in the order of their checks; Point 7).
 use checks::Answer;
 use checks::Outcome;
-use sheet::Sheet;
 use state::State;
 use terms::Round;
 ghost use mathlib.Core.Path.{_≡_};
@@ -26,7 +25,7 @@ fn formed_refusal(cache: &[u64], s: State, t: &[u32]) -> u32
     }
     let w = cache::committee(cache, t, s.settings, s.blocks, s.round);
     let authors = store::held_set(t, s.round);
-    if !weighing::is_quorum(Sheet::MARGIN, &w, authors) {
+    if !weighing::is_quorum(s.settings.margin, &w, authors) {
         return 28;
     }
     0

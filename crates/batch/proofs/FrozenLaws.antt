@@ -22,7 +22,6 @@ use Rattle.agreement.proofs.PlaceLaws.{place-true}
 use Rattle.terms.specs.Proposals.{Content, sameProposal}
 use Rattle.terms.proofs.ProposalLaws.{same-content}
 use Rattle.sheet.specs.declared.Settings.{Settings}
-use Rattle.sheet.specs.Sheets.{marginOf}
 use Rattle.committee.specs.Instance.{rules}
 use Rattle.committee.specs.Committees.{outsider, short}
 use Rattle.rules.specs.Tests.{MemberView, signersOf, isSame, above, committeeIn, unknown, missing}
@@ -153,12 +152,12 @@ module _ (S : Settings) where
       other m n (inr x) = rw (x .held) (not-same (p .round) v p (x .content) m (x .whole))
 
       place : (b : Bool) → isHeld (w .dag (p .author) (p .round)) ≡ b → unknown S v (p .round) ≡ false → outsider (committeeIn S v (p .round)) (isIn (signersOf p e)) ≡ false
-          → short (marginOf S) (committeeIn S v (p .round)) (isIn (signersOf p e)) ≡ false → above (p .round) (missing S v p) ≡ true → 0 < p .round
+          → short (S .margin) (committeeIn S v (p .round)) (isIn (signersOf p e)) ≡ false → above (p .round) (missing S v p) ≡ true → 0 < p .round
           → refusal
           ((isHeld (w .dag (p .author) (p .round)), 17)
           ∷ (unknown S w (p .round), 8)
           ∷ (outsider (committeeIn S w (p .round)) (isIn (signersOf p e)), 9)
-          ∷ (short (marginOf S) (committeeIn S w (p .round)) (isIn (signersOf p e)), 13)
+          ∷ (short (S .margin) (committeeIn S w (p .round)) (isIn (signersOf p e)), 13)
           ∷ (above (p .round) (missing S w p), 11) ∷ [])
           ≡ cond b 17 11
       place true x a8 a9 a13 a11 from = refuses 17 _ x

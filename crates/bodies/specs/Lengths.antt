@@ -2,7 +2,7 @@
 use Prim.Native.Nat.{ℕ}
 
 abbrev pub stateLength : ℕ
-stateLength = 37
+stateLength = 38
 
 abbrev pub transactionLength : ℕ
 transactionLength = 3
@@ -21,7 +21,7 @@ abbrev pub heldLength : ℕ
 heldLength = 18
 
 abbrev pub sheetLength : ℕ
-sheetLength = 38
+sheetLength = 40
 
 abbrev pub committeeLength : ℕ
 committeeLength = 16

@@ -1,7 +1,7 @@
 // Lengths in words of what a host lends, in one place.
 
 // A state.
-pub const STATE: usize = 37;
+pub const STATE: usize = 38;
 // A transaction.
 pub const TRANSACTION: usize = 3;
 // A body.
@@ -13,6 +13,6 @@ pub const CERTIFICATE: usize = 17;
 // A held certificate as it is read.
 pub const HELD: usize = 18;
 // A sheet.
-pub const SHEET: usize = 38;
+pub const SHEET: usize = 40;
 // A committee.
 pub const COMMITTEE: usize = 16;

@@ -16,6 +16,7 @@ fn try_ceiling(t: &mut [u32], ceiling: u32) {
         ceiling: Setting::Written(ceiling),
         allowance: Setting::Blank,
         weights,
+        margin: Setting::Blank,
     };
     let o = open::open(open::closed(), t, Member(0), written);
     let a = o.answer;

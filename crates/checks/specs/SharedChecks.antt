@@ -7,7 +7,6 @@ use Rattle.base.specs.Checks.{Checks}
 use Rattle.base.specs.Sets.{isIn}
 use Rattle.terms.specs.Proposals.{Content, badTransactions, badPreviousSet}
 use Rattle.sheet.specs.declared.Settings.{Settings}
-use Rattle.sheet.specs.Sheets.{marginOf}
 use Rattle.committee.specs.Committees.{outsider, short, quorum}
 use Rattle.rules.specs.Tests.{MemberView, badRound, above, committeeIn, unknown, missing}
 use Rattle.terms.specs.declared.Proposal.{Proposal}
@@ -22,11 +21,11 @@ module _ (S : Settings) where
 
   -- 11, 12
   abbrev pub previousChecks : MemberView S → Content → Checks
-  previousChecks s p = (above (p .round) (missing S s p), 11) ∷ (above (p .round) (not (quorum (marginOf S) (committeeIn S s (p .round - 1)) (isIn (p .previous)))), 12) ∷ []
+  previousChecks s p = (above (p .round) (missing S s p), 11) ∷ (above (p .round) (not (quorum (S .margin) (committeeIn S s (p .round - 1)) (isIn (p .previous)))), 12) ∷ []
 
   -- 8, 9, 13
   abbrev pub signerChecks : MemberView S → ℕ → ℕ → Checks
-  signerChecks s r signers = (unknown S s r, 8) ∷ (outsider (committeeIn S s r) (isIn signers), 9) ∷ (short (marginOf S) (committeeIn S s r) (isIn signers), 13) ∷ []
+  signerChecks s r signers = (unknown S s r, 8) ∷ (outsider (committeeIn S s r) (isIn signers), 9) ∷ (short (S .margin) (committeeIn S s r) (isIn signers), 13) ∷ []
 
 -- author, round and body of a proposal that passes checks 4, 5, 6, 7
 pub record FormFits (s : State) (p : Proposal) : Type 0 where

@@ -1,6 +1,5 @@
 // What a call answers and leaves, and the checks that several calls share (scope document: Calls, in the order of their checks).
 use sheet::Settings;
-use sheet::Sheet;
 use state::State;
 use terms::Proposal;
 use terms::Round;
@@ -98,7 +97,7 @@ pub fn signer_refusal(cache: &[u64], s: State, t: &[u32], r: Round, signers: u32
     if weighing::has_outsider(&w, signers) {
         return 9;
     }
-    if weighing::is_short(Sheet::MARGIN, &w, signers) {
+    if weighing::is_short(s.settings.margin, &w, signers) {
         return 13;
     }
     0

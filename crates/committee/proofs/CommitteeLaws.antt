@@ -1,14 +1,14 @@
 -- Laws of weights, fault bounds and quorums.
 use mathlib.Core.Path.{_≡_, refl}
 use mathlib.Core.Bool.{Bool, true, false, not, cond}
-use Prim.Native.Nat.{ℕ, _-_, _*_, _/_, _≤_, _<_}
+use Prim.Native.Nat.{ℕ, _-_, _*_, _≤_, _<_}
 use native.Mathlib.Omega.{arith}
 use native.Mathlib.Decide.{ℕ-discrete}
 use borrow.Author.Tests.{le-leb, lt-leb}
 use Rattle.agreement.specs.Rules.{Chain}
 use Rattle.terms.specs.Proposals.{Content}
 use Rattle.sheet.specs.declared.Settings.{Settings}
-use Rattle.sheet.specs.Sheets.{marginOf}
+use Rattle.sheet.specs.Ranges.{SettingsFit}
 use Rattle.base.proofs.SumLaws.{sum-mono, sum-up}
 use Rattle.agreement.specs.Weights.{weigh, total}
 use Rattle.committee.specs.Committees.{committeeBy, bondedFrom, committeeOf, MarginFits, boundOf, outsider, short, quorum}
@@ -34,18 +34,19 @@ weigh-le w S i n h =
     part true x = omega arith
     part false x = omega arith
 
-pub margin-fits : (S : Settings) → MarginFits (marginOf S)
-margin-fits S = record { from = omega arith; to = omega arith }
-
 -- by any margin in its range, less than a third of a total may be faulty
 pub bound-low : {d : ℕ} → MarginFits d → (n : ℕ) → 3 * boundOf d n ≤ n - 1
 unfolding boundOf
 bound-low {d} f n = go (ℕ-discrete d 3) (ℕ-discrete d 4)
   where
-    go : Dec (d ≡ 3) → Dec (d ≡ 4) → 3 * ((n - 1) / d) ≤ n - 1
+    go : Dec (d ≡ 3) → Dec (d ≡ 4) → 3 * boundOf d n ≤ n - 1
     go (yes e) x = rw e (omega arith)
     go (no e) (yes x) = rw x (omega arith)
     go (no e) (no x) = let y : d ≡ 5 = omega (arith, f .from, f .to) in rw y (omega arith)
+
+-- which every margin is that check 2 lets pass
+pub margin-fits : {S : Settings} → SettingsFit S → MarginFits (S .margin)
+margin-fits f = record { from = f .margin-from; to = f .margin-to }
 
 pub quorum-not : (d : ℕ) (w : ℕ → ℕ) (set : ℕ → Bool) → outsider w set ≡ true → quorum d w set ≡ false
 unfolding quorum

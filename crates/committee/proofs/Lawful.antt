@@ -1,4 +1,4 @@
--- The rules of the scope document are lawful, whatever the settings.
+-- The rules of the scope document are lawful, whatever the settings: of them only the margin must be in its range.
 use mathlib.Core.Path.{_≡_, refl, _∙_}
 use mathlib.Core.Bool.{Bool, true, false, _&&_, cond}
 use mathlib.Core.Option.{Option, none, some, Option·none-ne-some}
@@ -14,10 +14,9 @@ use Rattle.agreement.specs.Laws.{Lawful}
 use Rattle.agreement.specs.Prefixes.{_≼_, same, grown}
 use Rattle.terms.specs.Proposals.{Content}
 use Rattle.sheet.specs.declared.Settings.{Settings}
-use Rattle.sheet.specs.Sheets.{marginOf}
 use Rattle.sheet.specs.Ranges.{weightIn}
-use Rattle.committee.specs.Committees.{committeeBy, bondedFrom, committeeOf, knownBy, boundOf}
-use Rattle.committee.proofs.CommitteeLaws.{margin-fits, bound-low}
+use Rattle.committee.specs.Committees.{committeeBy, bondedFrom, committeeOf, knownBy, MarginFits, boundOf}
+use Rattle.committee.proofs.CommitteeLaws.{bound-low}
 use Rattle.committee.proofs.BondedLaws.{step-waits, bonded-step}
 use Rattle.committee.specs.Leaders.{leaderOf}
 use Rattle.committee.specs.Instance.{rules}
@@ -44,10 +43,10 @@ bonded-same : (S : Settings) (b : Block Content) (c : Chain Content) (s : ℕ) �
 bonded-same S b c s h = bonded-step S s b c ∙ step-waits S s b c (bondedFrom S c s) h
 
 module _ (S : Settings) where
-  bound-below : (w : ℕ → ℕ) → 0 < total 16 w → 3 * boundOf (marginOf S) (total 16 w) < total 16 w
-  bound-below w h = omega (arith, bound-low (margin-fits S) (total 16 w))
+  bound-below : MarginFits (S .margin) → (w : ℕ → ℕ) → 0 < total 16 w → 3 * boundOf (S .margin) (total 16 w) < total 16 w
+  bound-below f w h = omega (arith, bound-low f (total 16 w))
 
-  known-low : (c : Chain Content) {r s : ℕ} → r ≤ s → knownBy S c s ≡ true → knownBy S c r ≡ true
+  pub known-low : (c : Chain Content) {r s : ℕ} → r ≤ s → knownBy S c s ≡ true → knownBy S c r ≡ true
   unfolding knownBy
   known-low c {r} {s} l k = let h = leb-true s (S .lookback + (last c + 2)) k in le-leb r (S .lookback + (last c + 2)) (omega arith)
 
@@ -72,10 +71,10 @@ module _ (S : Settings) where
   committee-below {b} {c} same = rw (bonded-same S b c (b .round - S .lookback) (omega arith)) refl
   committee-below {b} {c} (grown g {d = d} l h) = rw (bonded-same S g d (b .round - S .lookback) (omega (arith, rises h))) (committee-below h)
 
-  pub lawful : Lawful (rules S)
-  lawful =
+  pub lawful : MarginFits (S .margin) → Lawful (rules S)
+  lawful f =
       record {
-        bound-law = bound-below;
+        bound-law = bound-below f;
         known-down = known-low;
         known-grow = known-still;
         committee-grow = committee-same;

@@ -26,7 +26,7 @@ blank = filled blankSheet
 
 -- the blank sheet with member 3's weight written as 0
 unfoldable pub written : Sheet
-written = record { lookback = blankSheet .lookback; ceiling = blankSheet .ceiling; allowance = blankSheet .allowance; weights = set (blankSheet .weights) 3 (record { setting = Written 0 }) }
+written = record { lookback = blankSheet .lookback; ceiling = blankSheet .ceiling; allowance = blankSheet .allowance; weights = set (blankSheet .weights) 3 (record { setting = Written 0 }); margin = blankSheet .margin }
 
 unfoldable pub bond : ℕ → ℕ → Transaction
 bond m a = Bond (record { 0 = m }) a
@@ -40,7 +40,7 @@ bonding = record { round = 2; holds = λ a r. cond (eqb a 0 && eqb r 1) (some (r
 
 -- four members of weight 1, rounds up to 6
 unfoldable pub four : Settings
-four = record { lookback = blank .lookback; ceiling = record { 0 = 6 }; allowance = blank .allowance; weights = blank .weights }
+four = record { lookback = blank .lookback; ceiling = record { 0 = 6 }; allowance = blank .allowance; weights = blank .weights; margin = blank .margin }
 
 -- the block of round 4, whose anchor is member 2's: a full round of members 0 to 3, and the anchor
 unfoldable pub full : Block Content
@@ -48,7 +48,7 @@ full = record { round = 4; holds = λ a r. cond ((ltb a 4 && eqb r 3) || (eqb a 
 
 -- nobody has a weight: the committee is empty
 unfoldable pub nobody : Settings
-nobody = record { lookback = blank .lookback; ceiling = record { 0 = 6 }; allowance = blank .allowance; weights = tab (λ i. 0) 16 }
+nobody = record { lookback = blank .lookback; ceiling = record { 0 = 6 }; allowance = blank .allowance; weights = tab (λ i. 0) 16; margin = blank .margin }
 
 -- the author of the certificate at place k of a list, 16 for none
 unfoldable pub authorAt : List Content → ℕ → ℕ
@@ -64,6 +64,7 @@ unfoldable pub cases : List (ℕ × ℕ)
 cases =
     (boundOf 3 0, 0) ∷ (boundOf 3 1, 0) ∷ (boundOf 3 3, 0) ∷ (boundOf 3 4, 1) ∷ (boundOf 3 6, 1) ∷ (boundOf 3 7, 2)
     ∷ (quorumWeight 3 0, 0) ∷ (quorumWeight 3 1, 1) ∷ (quorumWeight 3 3, 3) ∷ (quorumWeight 3 4, 3) ∷ (quorumWeight 3 6, 5) ∷ (quorumWeight 3 7, 5)
+    ∷ (boundOf 3 16, 5) ∷ (quorumWeight 3 16, 11) ∷ (boundOf 5 16, 3) ∷ (quorumWeight 5 16, 13) ∷ (boundOf 5 0, 0) ∷ (quorumWeight 5 0, 0) ∷ (blank .margin, 3)
     ∷ (truth (knownBy blank [] 22), 1) ∷ (truth (knownBy blank [] 23), 0)
     ∷ (weightIn (committeeOf blank bonding 22) 5, 0) ∷ (weightIn (committeeOf blank bonding 23) 5, 7)
     ∷ (leaderNumber (leaderOf (weightIn (blank .weights)) 2), 1) ∷ (leaderNumber (leaderOf (weightIn (blank .weights)) 4), 2)

@@ -4,7 +4,6 @@ use Rattle.agreement.specs.Weights.{total}
 use Rattle.agreement.specs.Rules.{Rules}
 use Rattle.terms.specs.Proposals.{Content}
 use Rattle.sheet.specs.declared.Settings.{Settings}
-use Rattle.sheet.specs.Sheets.{marginOf}
 use Rattle.sheet.specs.Ranges.{weightIn}
 use Rattle.committee.specs.Committees.{committeeOf, knownBy, boundOf}
 use Rattle.committee.specs.Leaders.{leaderOf}
@@ -17,7 +16,7 @@ rules S =
       author = λ p. p .author;
       round = λ p. p .round;
       names = λ p. isIn (p .previous);
-      bound = λ w. boundOf (marginOf S) (total 16 w);
+      bound = λ w. boundOf (S .margin) (total 16 w);
       known = knownBy S;
       committee = λ c r. weightIn (committeeOf S c r);
       leader = leaderOf;

@@ -9,7 +9,6 @@ use borrow.Author.Tests.{eqb-true, eqb-false}
 use Rattle.agreement.specs.Weights.{weigh, total, outside}
 use Rattle.agreement.specs.Entries.{states}
 use Rattle.terms.specs.Proposals.{Content}
-use Rattle.sheet.specs.Sheets.{marginOf}
 use Rattle.committee.specs.Committees.{boundOf}
 use Rattle.engine.specs.Calls.{Call, opens}
 use Rattle.engine.specs.Engine.{Engine}
@@ -68,7 +67,7 @@ module _ {E D : Behaviour} (R : RefusesMore E D) (X : Members E) where
 
   bound-left : (l : List Entry) → WithinBound X l → WithinBound Y (acceptedOnly X l)
   bound-left l b j r c from to =
-      subst (λ (e : Engine). Knows e r → weigh 16 (weights e r) (outside correct) ≤ boundOf (marginOf settings) (total 16 (weights e r))) (sym (same-engine l j)) (b j r c from to)
+      subst (λ (e : Engine). Knows e r → weigh 16 (weights e r) (outside correct) ≤ boundOf (settings .margin) (total 16 (weights e r))) (sym (same-engine l j)) (b j r c from to)
 
   fair-left : (e : Entry) (l : List Entry) → numberAt e l ≡ 0 → Fair X e l → Fair Y e (acceptedOnly X l)
   fair-left e l a x =

@@ -2,7 +2,7 @@
 use mathlib.Core.Path.{_≡_, refl, sym, _∙_, subst}
 use mathlib.Core.Bool.{true, false, or-true}
 use mathlib.Core.List.{[]}
-use Prim.Native.Nat.{ℕ, _+_, _<_, _≤_}
+use Prim.Native.Nat.{ℕ, _+_, _<_}
 use native.Mathlib.Omega.{arith}
 use lib.Dec.{leb, ltb}
 use borrow.Author.Tests.{not-false, lt-leb, le-leb, lt-ltb, ltb-true}
@@ -15,8 +15,9 @@ use Rattle.agreement.specs.Weights.{weigh, total}
 use Rattle.agreement.proofs.WeightLaws.{total-pos}
 use Rattle.sheet.specs.declared.Settings.{Settings}
 use Rattle.sheet.specs.Sheets.{filled}
-use Rattle.sheet.specs.Ranges.{weightless, weightIn}
-use Rattle.committee.specs.Committees.{committeeBy, bondedFrom, committeeOf, knownBy, boundOf, quorumWeight, outsider, short, quorum}
+use Rattle.sheet.specs.Ranges.{weightless, weightIn, SettingsFit}
+use Rattle.committee.specs.Committees.{committeeBy, bondedFrom, committeeOf, knownBy, MarginFits, quorumWeight, outsider, short, quorum}
+use Rattle.committee.proofs.CommitteeLaws.{margin-fits, bound-low}
 use Rattle.rules.specs.Tests.{MemberView, unknown}
 use Rattle.rules.specs.Calls.{advancing, freshView}
 use Rattle.rules.specs.Calls as rules
@@ -33,19 +34,19 @@ use Rattle.earlier.specs.Earlier.{earlierAdvancing, ThinAdvance}
 
 -- nobody is no quorum of a committee that weighs something
 
-asks : (n : ℕ) → 0 < n → 0 < quorumWeight 3 n
-unfolding quorumWeight boundOf
-asks n h = omega arith
+asks : {d : ℕ} → MarginFits d → (n : ℕ) → 0 < n → 0 < quorumWeight d n
+unfolding quorumWeight
+asks f n h = omega (arith, bound-low f n)
 
 none-weighs : (w : ℕ → ℕ) → weigh 16 w (λ i. false) ≡ 0
 unfolding sumTo
 none-weighs w = refl
 
-nobody : (w : ℕ → ℕ) → 0 < total 16 w → quorum 3 w (λ i. false) ≡ false
+nobody : {d : ℕ} → MarginFits d → (w : ℕ → ℕ) → 0 < total 16 w → quorum d w (λ i. false) ≡ false
 unfolding quorum short
-nobody w h = rw (none-weighs w, lt-ltb 0 (quorumWeight 3 (total 16 w)) (asks (total 16 w) h), or-true (outsider w (λ i. false))) refl
+nobody {d} f w h = rw (none-weighs w, lt-ltb 0 (quorumWeight d (total 16 w)) (asks f (total 16 w) h), or-true (outsider w (λ i. false))) refl
 
-module _ (S : Settings) (from : 3 ≤ S .ceiling .0) (some : weightless S ≡ false) where
+module _ (S : Settings) (fits : SettingsFit S) (some : weightless S ≡ false) where
   weighs : 0 < total 16 (weightIn (S .weights))
   unfolding weightless
   weighs =
@@ -62,10 +63,10 @@ module _ (S : Settings) (from : 3 ≤ S .ceiling .0) (some : weightless S ≡ fa
   starting = cond-same (leb 1 (S .lookback)) (S .weights)
 
   now-refused : refusal (advancing S (freshView S)) ≡ 28
-  now-refused = passes 18 _ (lt-leb (S .ceiling .0) 1 (omega arith)) ∙ passes 8 _ is-known ∙ refuses 28 _ (rw (starting, nobody (weightIn (S .weights)) weighs) refl)
+  now-refused = passes 18 _ (lt-leb (S .ceiling .0) 1 (omega (arith, fits .ceiling-from))) ∙ passes 8 _ is-known ∙ refuses 28 _ (rw (starting, nobody (margin-fits fits) (weightIn (S .weights)) weighs) refl)
 
   then-passed : refusal (earlierAdvancing S (freshView S)) ≡ 0
-  then-passed = passes 18 _ (lt-leb (S .ceiling .0) 1 (omega arith)) ∙ passes-all
+  then-passed = passes 18 _ (lt-leb (S .ceiling .0) 1 (omega (arith, fits .ceiling-from))) ∙ passes-all
 
 module _ (x : Opening) where
   abbrev engine : Engine
@@ -86,9 +87,9 @@ module _ (x : Opening) where
   pub thin-advance : ThinAdvance x
   unfolding advanceRefusal
   thin-advance =
-      let from = subst (λ (S : Settings). 3 ≤ S .ceiling .0) (fresh .its-settings) (whole .settings .ceiling-from) in
+      let fits = subst SettingsFit (fresh .its-settings) (whole .settings) in
       let some = subst (λ (S : Settings). weightless S ≡ false) (fresh .its-settings) (whole .weighty) in
       record {
-        refused = refusal-formed _ _ rules.advance (fresh .formed) ∙ of-view (λ S s. refusal (advancing S s) ≡ 28) (now-refused (filled (x .sheet)) from some);
-        allowed-earlier = passes 1 _ (rw (fresh .formed) refl) ∙ of-view (λ S s. refusal (earlierAdvancing S s) ≡ 0) (then-passed (filled (x .sheet)) from some);
+        refused = refusal-formed _ _ rules.advance (fresh .formed) ∙ of-view (λ S s. refusal (advancing S s) ≡ 28) (now-refused (filled (x .sheet)) fits some);
+        allowed-earlier = passes 1 _ (rw (fresh .formed) refl) ∙ of-view (λ S s. refusal (earlierAdvancing S s) ≡ 0) (then-passed (filled (x .sheet)) fits some);
       }

@@ -1,7 +1,6 @@
 // Endorse: the place of a proposal is marked endorsed. One's own membership is not tested (scope document: Calls, in the order of their checks).
 use checks::Answer;
 use checks::Outcome;
-use sheet::Sheet;
 use state::State;
 use terms::Proposal;
 use terms::Round;
@@ -11,7 +10,6 @@ ghost use Prim.Native.Nat.{_-_, _<_};
 ghost use lib.ListN.{drop};
 ghost use Rattle.store.specs.Table.{Within, heldAt, endorsedAt};
 ghost use Rattle.base.specs.Sets.{isIn};
-ghost use Rattle.sheet.specs.Sheets.{marginOf};
 ghost use Rattle.committee.specs.Committees.{quorum};
 ghost use Rattle.rules.specs.Tests.{above, committeeIn, unknown};
 ghost use Rattle.base.specs.Checks.{refusal};
@@ -49,11 +47,11 @@ fn is_unknown(s: State, t: &[u32], r: Round) -> bool
 // Check 12 above round 1: is the previous set no quorum of the round before?
 fn lacks_quorum(cache: &[u64], s: State, t: &[u32], p: Proposal) -> bool
     requires { ⌜ RoundFits s (now t) (p .round .0) × CachesFor s (now t) (now cache) ⌝ }
-    ensures { λ v. ⌜ v ≡ above (p .round .0) (not (quorum (marginOf (s .settings)) (committeeIn (s .settings) (view s (now (t .entry))) (p .round .0 - 1)) (isIn (p .body .previous)))) ⌝ }
+    ensures { λ v. ⌜ v ≡ above (p .round .0) (not (quorum (s .settings .margin) (committeeIn (s .settings) (view s (now (t .entry))) (p .round .0 - 1)) (isIn (p .body .previous)))) ⌝ }
 {
     let before = Round(p.round.0 - 1);
     let w = cache::committee(cache, t, s.settings, s.blocks, before);
-    checks::lacks_previous_quorum(Sheet::MARGIN, &w, p)
+    checks::lacks_previous_quorum(s.settings.margin, &w, p)
 }
 
 // Checks 11 and 12.

@@ -9,7 +9,6 @@ use Rattle.agreement.specs.Rules.{Chain}
 use Rattle.agreement.proofs.EntryLaws.{related}
 use Rattle.terms.specs.Proposals.{Content, contentWith}
 use Rattle.sheet.specs.declared.Settings.{Settings}
-use Rattle.sheet.specs.Sheets.{marginOf}
 use Rattle.sheet.specs.Ranges.{outOfRange, weightIn}
 use Rattle.committee.specs.Committees.{committeeOf, knownBy, boundOf}
 use Rattle.rules.specs.Tests.{MemberView}
@@ -125,7 +124,7 @@ module _ (X : Members engineBehaviour) (fit : outOfRange (X .settings) ≡ false
 
   bound-back : (l : List Entry) → AllHanded X l → runs.WithinBound onTheirViews l → WithinBound X l
   bound-back l k b j r c from to =
-      by-view (λ T x. knownBy T x r ≡ true → weigh 16 (weightIn (committeeOf T x r)) (outside correct) ≤ boundOf (marginOf settings) (total 16 (weightIn (committeeOf T x r)))) (shown l k j c) (b j r c (from, to))
+      by-view (λ T x. knownBy T x r ≡ true → weigh 16 (weightIn (committeeOf T x r)) (outside correct) ≤ boundOf (settings .margin) (total 16 (weightIn (committeeOf T x r)))) (shown l k j c) (b j r c (from, to))
 
   pub run-back : (l : List Entry) → AllHanded X l → runs.Run onTheirViews l → Run X l
   run-back [] k r = bound-back [] k r

@@ -31,10 +31,10 @@ module _ (X : Members engineBehaviour) where
   module _ (m l : List Entry) (r : Run X (m ++ l)) (i : ℕ) (c : correct i ≡ true) where
     -- a block once made stays, with its number, its round and its certificates
     pub block-kept : (n : ℕ) {b : Block Content} → blockNumbered (chain (engineAfter X l i)) n ≡ some b → blockNumbered (chain (engineAfter X (m ++ l) i)) n ≡ some b
-    block-kept n = agreement.block-kept (group X) m l (run-ruled X (m ++ l) r) i n
+    block-kept n = agreement.block-kept (group X) m l (run-ruled X (m ++ l) r) i c n
 
     -- and as chains are listed: the later one lists the same blocks, with the same certificates in the same order, and perhaps more
     pub chain-kept : Prefix (engineAfter X l i) (engineAfter X (m ++ l) i)
     chain-kept =
         prefix-own (engineAfter X l i) (engineAfter X (m ++ l) i) (run-good X l (earlier m l r) i c) (run-good X (m ++ l) r i c)
-        (lists-prefix (ordered settings) (agreement.chain-grows (group X) m l (run-ruled X (m ++ l) r) i))
+        (lists-prefix (ordered settings) (agreement.chain-grows (group X) m l (run-ruled X (m ++ l) r) i c))

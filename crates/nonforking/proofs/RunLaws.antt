@@ -10,7 +10,6 @@ use Rattle.agreement.specs.Listing.{listing, Lists}
 use Rattle.agreement.proofs.EntryLaws.{Each, kept}
 use Rattle.terms.specs.Proposals.{Content, contentOf, transactionsOf}
 use Rattle.sheet.specs.declared.Settings.{Settings}
-use Rattle.sheet.specs.Sheets.{marginOf}
 use Rattle.sheet.specs.Ranges.{weightIn}
 use Rattle.committee.specs.Committees.{committeeOf, ordered, knownBy, boundOf}
 use Rattle.rules.specs.Tests.{MemberView}
@@ -96,7 +95,7 @@ module _ (X : Members engineBehaviour) where
   bound-ruled l r b j q c i =
       let x = chain (engineAfter X l j) in
       subst
-      (λ (T : Settings). knownBy T x q ≡ true → weigh 16 (weightIn (committeeOf T x q)) (outside correct) ≤ boundOf (marginOf settings) (total 16 (weightIn (committeeOf T x q))))
+      (λ (T : Settings). knownBy T x q ≡ true → weigh 16 (weightIn (committeeOf T x q)) (outside correct) ≤ boundOf (settings .margin) (total 16 (weightIn (committeeOf T x q))))
       (run-good l r j c .settings) (b j q c (i .0) (i .1))
 
   pub run-ruled : (l : List Entry) → Run X l → runs.Run (group X) l

@@ -5,6 +5,8 @@ use Prim.Native.Nat.{ℕ, _<_}
 use native.Mathlib.Omega.{arith}
 use Rattle.agreement.specs.Runs.{Initial}
 use Rattle.sheet.specs.declared.Settings.{Settings}
+use Rattle.sheet.specs.Ranges.{SettingsFit}
+use Rattle.committee.proofs.CommitteeLaws.{margin-fits}
 use Rattle.rules.specs.Tests.{MemberView}
 use Rattle.rules.specs.Calls.{freshView}
 use Rattle.rules.proofs.Runs.{Group}
@@ -45,5 +47,8 @@ module _ (X : Members engineBehaviour) where
     pub correct-below : k < 16
     correct-below = let g = start-good in omega (arith, g .own, formed (starts k .state) (starts k .table) (g .formed) .numbers .own)
 
+    pub start-fits : SettingsFit settings
+    start-fits = let g = start-good in subst SettingsFit (g .settings) (formed (starts k .state) (starts k .table) (g .formed) .settings)
+
   abbrev pub group : Group settings (implementation settings)
-  group = record { correct = correct; below = correct-below; start = starts; good = start-good; fresh = start-initial }
+  group = record { correct = correct; below = correct-below; fits = λ k c. margin-fits (start-fits k c); start = starts; good = start-good; fresh = start-initial }

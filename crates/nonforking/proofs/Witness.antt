@@ -27,7 +27,7 @@ use Rattle.terms.specs.Transactions.{noTransaction, bondInRange, sameTransactio
 use Rattle.sheet.specs.declared.Setting.the-variants.{Blank, Written}
 use Rattle.sheet.specs.declared.Sheet.{Sheet}
 use Rattle.sheet.specs.declared.Settings.{Settings}
-use Rattle.sheet.specs.Sheets.{blankWeight, weightAt, filled, marginOf}
+use Rattle.sheet.specs.Sheets.{blankWeight, weightAt, filled}
 use Rattle.sheet.specs.Ranges.{notWithin, outOfRange, weightless, weightIn}
 use Rattle.committee.specs.Changes.{changes, changesOf, row, rows}
 use Rattle.committee.specs.Committees.{committeeBy, leaderBy, stepFrom, bondedFrom, committeeOf, startOf, ordered, knownBy, boundOf, quorumWeight, outsider, short, quorum}
@@ -48,10 +48,10 @@ use Rattle.nonforking.proofs.Answers.{Answered, entries, AreAnswered, a
 
 -- lookback 1, ceiling 4, weight 3 for members 0 and 1, and nothing else written: members 2 and 3 have weight 1
 abbrev sheet : Sheet
-sheet = record { lookback = Written 1; ceiling = Written 4; allowance = Blank; weights = record { setting = Written 3 } ∷ record { setting = Written 3 } ∷ replicate 14 (record { setting = Blank }) }
+sheet = record { lookback = Written 1; ceiling = Written 4; allowance = Blank; weights = record { setting = Written 3 } ∷ record { setting = Written 3 } ∷ replicate 14 (record { setting = Blank }); margin = Blank }
 
 abbrev settings : Settings
-settings = record { lookback = 1; ceiling = record { 0 = 4 }; allowance = 4; weights = 3 ∷ 3 ∷ 1 ∷ 1 ∷ 0 ∷ 0 ∷ 0 ∷ 0 ∷ 0 ∷ 0 ∷ 0 ∷ 0 ∷ 0 ∷ 0 ∷ 0 ∷ 0 ∷ [] }
+settings = record { lookback = 1; ceiling = record { 0 = 4 }; allowance = 4; weights = 3 ∷ 3 ∷ 1 ∷ 1 ∷ 0 ∷ 0 ∷ 0 ∷ 0 ∷ 0 ∷ 0 ∷ 0 ∷ 0 ∷ 0 ∷ 0 ∷ 0 ∷ 0 ∷ []; margin = 3 }
 
 pub sheet-filled : filled sheet ≡ settings
 unfolding filled tab weightAt blankWeight
@@ -167,8 +167,8 @@ pub record Witness : Type 0 where
   pub weight-before : weights (engineAfter members calls 1) 3 0 ≡ 3
   pub weight-after : weights (engineAfter members calls 1) 4 0 ≡ 8
   -- the signers of the certificate of round 4 are no quorum of the starting committee, and are one of the changed committee
-  pub short-before : quorum (marginOf settings) (weights (engineAfter members calls 1) 1) (isIn 9) ≡ false
-  pub enough-after : quorum (marginOf settings) (weights (engineAfter members calls 1) 4) (isIn 9) ≡ true
+  pub short-before : quorum (settings .margin) (weights (engineAfter members calls 1) 1) (isIn 9) ≡ false
+  pub enough-after : quorum (settings .margin) (weights (engineAfter members calls 1) 4) (isIn 9) ≡ true
 
 -- ---- the proof: all is computed on the views of the rules
 
@@ -189,8 +189,8 @@ record Computed : Type 0 where
   listed-by-2 : listing (ordered settings) (chainAfter views calls 2) ≡ []
   weight-before : committeeIn settings (viewAfter views calls 1) 3 0 ≡ 3
   weight-after : committeeIn settings (viewAfter views calls 1) 4 0 ≡ 8
-  short-before : quorum (marginOf settings) (committeeIn settings (viewAfter views calls 1) 1) (isIn 9) ≡ false
-  enough-after : quorum (marginOf settings) (committeeIn settings (viewAfter views calls 1) 4) (isIn 9) ≡ true
+  short-before : quorum (settings .margin) (committeeIn settings (viewAfter views calls 1) 1) (isIn 9) ≡ false
+  enough-after : quorum (settings .margin) (committeeIn settings (viewAfter views calls 1) 4) (isIn 9) ≡ true
 
 computed : Computed
 unfolding transactionsOf slotOf tab states result ruledRefusal after put mark isPlace refusal badTransactions allInRange bondInRange badPreviousSet isEmpty unknown knownBy committeeOf committeeBy leaderBy stepFrom bondedFrom startOf ordered rows row changesOf changes above missing quorum outsider short quorumWeight boundOf anyTo sumTo isIn mem add signersOf badRound sameProposal sameTransactions sameTransaction unvoted anchorAt leaderOf memberAt memberBelow countBelow inChain blockOf blocksOf taken committed level inHistory listing isMade isSigned isBounded isFair isRun allTo
@@ -220,6 +220,6 @@ witness =
       listed-by-2 = by-view members settings-fit (λ S x. listing (ordered S) x ≡ []) (at 2 refl) (computed .listed-by-2);
       weight-before = by-view members settings-fit (λ S x. weightIn (committeeOf S x 3) 0 ≡ 3) (at 1 refl) (computed .weight-before);
       weight-after = by-view members settings-fit (λ S x. weightIn (committeeOf S x 4) 0 ≡ 8) (at 1 refl) (computed .weight-after);
-      short-before = by-view members settings-fit (λ S x. quorum (marginOf settings) (weightIn (committeeOf S x 1)) (isIn 9) ≡ false) (at 1 refl) (computed .short-before);
-      enough-after = by-view members settings-fit (λ S x. quorum (marginOf settings) (weightIn (committeeOf S x 4)) (isIn 9) ≡ true) (at 1 refl) (computed .enough-after);
+      short-before = by-view members settings-fit (λ S x. quorum (settings .margin) (weightIn (committeeOf S x 1)) (isIn 9) ≡ false) (at 1 refl) (computed .short-before);
+      enough-after = by-view members settings-fit (λ S x. quorum (settings .margin) (weightIn (committeeOf S x 4)) (isIn 9) ≡ true) (at 1 refl) (computed .enough-after);
     }

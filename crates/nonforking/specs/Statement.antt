@@ -17,7 +17,7 @@ use Rattle.terms.specs.declared.Certificate.{Certificate}
 use Rattle.terms.specs.Proposals.{Content, contentWith, contentOf}
 use Rattle.sheet.specs.declared.Sheet.{Sheet}
 use Rattle.sheet.specs.declared.Settings.{Settings}
-use Rattle.sheet.specs.Sheets.{filled, marginOf}
+use Rattle.sheet.specs.Sheets.{filled}
 use Rattle.sheet.specs.Ranges.{weightIn}
 use Rattle.committee.specs.Committees.{committeeOf, ordered, knownBy, boundOf}
 use Rattle.committee.specs.Chain.{chainOf}
@@ -120,7 +120,7 @@ module _ {B : Behaviour} (X : Members B) where
   -- in the committee of every round that a correct member knows, the faulty members weigh together at most the fault bound
   abbrev pub WithinBound : List Entry → Type 0
   WithinBound l = (j r : ℕ) → correct j ≡ true → 1 ≤ r → r ≤ settings .ceiling .0 → Knows (engineAfter l j) r
-      → weigh 16 (weights (engineAfter l j) r) (outside correct) ≤ boundOf (marginOf settings) (total 16 (weights (engineAfter l j) r))
+      → weigh 16 (weights (engineAfter l j) r) (outside correct) ≤ boundOf (settings .margin) (total 16 (weights (engineAfter l j) r))
 
   -- the premises: every entry is fair, and the bound holds at the start and after each entry
   abbrev pub Run : List Entry → Type 0

@@ -22,7 +22,7 @@ abbrev pub closedState : State
 closedState =
     record {
       own = record { 0 = 0 };
-      settings = record { lookback = 0; ceiling = record { 0 = 0 }; allowance = 0; weights = replicate 16 0 };
+      settings = record { lookback = 0; ceiling = record { 0 = 0 }; allowance = 0; weights = replicate 16 0; margin = 0 };
       round = record { 0 = 0 };
       proposing = false;
       body = noBody;

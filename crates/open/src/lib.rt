@@ -23,6 +23,7 @@ pub fn closed() -> State
             ceiling: Round(0),
             allowance: 0,
             weights: [0u64; 16],
+            margin: 0,
         },
         round: Round(0),
         proposing: false,

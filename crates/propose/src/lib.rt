@@ -1,7 +1,6 @@
 // Propose: a proposal for the present round is kept. Author and round are one's own (scope document: Calls, in the order of their checks).
 use checks::Answer;
 use checks::Outcome;
-use sheet::Sheet;
 use state::State;
 use terms::Body;
 use terms::Proposal;
@@ -53,7 +52,7 @@ fn membership_refusal(cache: &[u64], s: State, t: &[u32], b: Body) -> u32
         return 11;
     }
     let before = c.before;
-    if checks::lacks_previous_quorum(Sheet::MARGIN, &before, p) {
+    if checks::lacks_previous_quorum(s.settings.margin, &before, p) {
         return 12;
     }
     0

@@ -3,8 +3,9 @@ use mathlib.Core.Path.{_≡_, refl, sym, _∙_}
 use mathlib.Core.Bool.{Bool, true, false, cond, _||_, false≢true}
 use mathlib.Core.List.{List, [], _∷_}
 use mathlib.Core.Option.{Option, none, some}
+use mathlib.Core.Logic.{_⊎_, inl, inr}
 use Prim.Native.Nat.{ℕ, zero, suc, _+_, _≤_, _<_}
-use lib.ListN.{length}
+use lib.ListN.{length, drop}
 use borrow.Author.Tests.{lt-ltb, le-ltb}
 use Rattle.terms.specs.declared.Transaction.{Transaction}
 use Rattle.sheet.specs.declared.Setting.{Setting}
@@ -19,7 +20,7 @@ use Rattle.fields.specs.Numbers.{numberRead, set}
 use Rattle.requests.specs.Settings.{setting}
 use Rattle.requests.specs.Kinds.{recordKind}
 use Rattle.triples.specs.Triples.{kindNamed, transaction, before, atKind, atNumber, atAmount}
-use Rattle.requests.specs.Requests.{nextBy, atEnd, triplesThen, inFront, cellsIn, weightsThen, byKind, byFields, tooLong, damaged, request}
+use Rattle.requests.specs.Requests.{nextBy, atEnd, triplesThen, inFront, cellsIn, weightsThen, lastSetting, marginThen, byKind, byFields, tooLong, damaged, request}
 use Rattle.requests.specs.Readings.{unreadable, advance, commit, chain}
 use Rattle.requests.proofs.DamageLaws.{anyDamaged, fields-damaged, Rejects, number-damaged, setting-damaged, kind-damaged, word-damaged}
 
@@ -59,16 +60,20 @@ triples-damaged (f ∷ fs) h =
       λ k n. after-damage (numberRead f) none _ (λ a. after-damage (transaction k n a) none _ (λ x. rw (t .0) refl)),
     )
 
-cells-damaged : (n : ℕ) (fs : List (List ℕ)) → anyDamaged fs ≡ true → cellsIn n fs ≡ none
+-- one of the first n fields is damaged, or one after them
+cells-damaged : (n : ℕ) (fs : List (List ℕ)) → anyDamaged fs ≡ true → (cellsIn n fs ≡ none) ⊎ (anyDamaged (drop n fs) ≡ true)
 unfolding cellsIn Rejects
-cells-damaged zero [] h = none-damaged h
-cells-damaged zero (f ∷ fs) h = refl
-cells-damaged (suc n) [] h = refl
-cells-damaged (suc n) (f ∷ fs) h = first-or-later f fs h (λ q. rw (setting-damaged f q) refl) (λ q. rw (cells-damaged n fs q) (last (setting f)))
+cells-damaged zero fs h = inr h
+cells-damaged (suc n) [] h = inl refl
+cells-damaged (suc n) (f ∷ fs) h = first-or-later f fs h (λ q. inl (rw (setting-damaged f q) refl)) (λ q. later (cells-damaged n fs q))
   where
     last : (o : Option Setting) → inFront o none ≡ none
     last none = refl
     last (some x) = refl
+
+    later : (cellsIn n fs ≡ none) ⊎ (anyDamaged (drop n fs) ≡ true) → (inFront (setting f) (cellsIn n fs) ≡ none) ⊎ (anyDamaged (drop n fs) ≡ true)
+    later (inl e) = inl (rw e (last (setting f)))
+    later (inr e) = inr e
 
 -- a request that damaged fields do not make
 Refuses : (List (List ℕ) → Reading) → Type 0
@@ -88,16 +93,26 @@ runs-damaged : (k : List Transaction → Reading) → Refuses (λ fs. triplesThe
 unfolding triplesThen Refuses
 runs-damaged k fs h = rw (triples-damaged fs h .0) refl
 
-weights-damaged : (k : List Cell → Reading) → Refuses (λ fs. weightsThen fs k)
+weights-damaged : (k : List Cell → List (List ℕ) → Reading) → ((w : List Cell) → Refuses (k w)) → Refuses (λ fs. weightsThen fs k)
 unfolding weightsThen Refuses
-weights-damaged k fs h = rw (cells-damaged 16 fs h) refl
+weights-damaged k r fs h = go (cells-damaged 16 fs h)
+  where
+    go : (cellsIn 16 fs ≡ none) ⊎ (anyDamaged (drop 16 fs) ≡ true) → ifThere (cellsIn 16 fs) unreadable (λ w. k w (drop 16 fs)) ≡ unreadable
+    go (inl e) = rw e refl
+    go (inr e) = after-damage (cellsIn 16 fs) unreadable _ (λ w. r w (drop 16 fs) e)
+
+margin-damaged : (k : Setting → Reading) → Refuses (λ fs. marginThen fs k)
+unfolding marginThen lastSetting Refuses Rejects
+margin-damaged k [] h = none-damaged h
+margin-damaged k (f ∷ []) h = first-or-later f [] h (λ q. rw (setting-damaged f q) refl) none-damaged
+margin-damaged k (f ∷ g ∷ fs) h = refl
 
 by-kind-damaged : (K : Kind) → Refuses (byKind K)
 unfolding Refuses
 by-kind-damaged Unreadable = λ fs h. refl
 by-kind-damaged Open =
     next-damaged numberRead _ (number-damaged 4294967295)
-    (λ o. next-damaged setting _ setting-damaged (λ l. next-damaged setting _ setting-damaged (λ c. next-damaged setting _ setting-damaged (λ a. weights-damaged _))))
+    (λ o. next-damaged setting _ setting-damaged (λ l. next-damaged setting _ setting-damaged (λ c. next-damaged setting _ setting-damaged (λ a. weights-damaged _ (λ w. margin-damaged _)))))
 by-kind-damaged Propose = next-damaged set _ (number-damaged 65535) (λ p. runs-damaged _)
 by-kind-damaged Endorse =
     next-damaged numberRead _ (number-damaged 4294967295)

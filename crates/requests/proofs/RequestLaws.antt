@@ -26,8 +26,8 @@ use Rattle.fields.proofs.CursorLaws.{found-of, found-none}
 use Rattle.requests.proofs.SettingLaws.{setting-of, setting-none}
 use Rattle.triples.specs.Triples.{atKind}
 use Rattle.terms.specs.Bodies.{bodyOf}
-use Rattle.requests.specs.Requests.{nextBy, atEnd, triplesThen, cellsIn, weightsThen, endorseOf, acceptOf}
-use Rattle.requests.specs.Readings.{unreadable, endorse, accept, settingFound, weightsOf}
+use Rattle.requests.specs.Requests.{nextBy, atEnd, triplesThen, WeightsRead, weightsThen, lastSetting, marginThen, endorseOf, acceptOf}
+use Rattle.requests.specs.Readings.{unreadable, endorse, accept, settingFound}
 use Rattle.triples.specs.Bodies.{triplesOf}
 use Rattle.triples.specs.declared.Triples.{Triples}
 
@@ -76,22 +76,20 @@ part-late true fs = refl
 part-late false fs = refl
 
 -- the weights
-module _ (fs : List (List ℕ)) (k : List Cell → Reading) {w : Weights} (e : w ≡ weightsOf (cellsIn 16 fs)) where
-  pub weights-go : w .ok ≡ true → weightsThen fs k ≡ k (w .cells)
+module _ {s : List ℕ} {at : ℕ} (k : List Cell → List (List ℕ) → Reading) {w : Weights} (e : WeightsRead s at w) where
+  pub weights-go : w .ok ≡ true → weightsThen (fieldsFrom s at) k ≡ k (w .cells) (fieldsFrom s (w .next))
   unfolding weightsThen
-  weights-go q = rw e (go (cellsIn 16 fs) (rw e at q))
-    where
-      go : (o : Option (List Cell)) → weightsOf o .ok ≡ true → ifThere o unreadable k ≡ k (weightsOf o .cells)
-      go none h = absurd (false≢true h)
-      go (some l) h = refl
+  weights-go q = rw (e .readable q, e .fields-after q) refl
 
-  pub weights-stop : w .ok ≡ false → weightsThen fs k ≡ unreadable
+  pub weights-stop : w .ok ≡ false → weightsThen (fieldsFrom s at) k ≡ unreadable
   unfolding weightsThen
-  weights-stop q = go (cellsIn 16 fs) (rw e at q)
-    where
-      go : (o : Option (List Cell)) → weightsOf o .ok ≡ false → ifThere o unreadable k ≡ unreadable
-      go none h = refl
-      go (some l) h = absurd (true≢false h)
+  weights-stop q = rw (e .not-readable q) refl
+
+-- the margin
+pub margin-by : (fs : List (List ℕ)) (k : Setting → Reading) {r : SettingRead} → r ≡ settingFound (lastSetting fs) → (o : Option Setting) → r ≡ settingFound o → marginThen fs k ≡ ifThere o unreadable k
+unfolding marginThen
+margin-by fs k e none q = rw (setting-none (lastSetting fs) (sym e ∙ q)) refl
+margin-by fs k e (some x) q = rw (setting-of (lastSetting fs) x (sym e ∙ q)) refl
 
 -- whether a record ends at a place
 pub end-past : (q : Reading) (s : List ℕ) (at : ℕ) → at ≤ length s → atEnd (fieldsFrom s at) q ≡ unreadable

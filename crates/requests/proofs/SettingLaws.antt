@@ -3,8 +3,8 @@ use mathlib.Core.Path.{_≡_, refl, ap, sym, _∙_}
 use mathlib.Core.List.{List, [], _∷_, _++_, append-nil}
 use mathlib.Core.Option.{Option, none, some}
 use native.Mathlib.Omega.{arith}
-use Prim.Native.Nat.{ℕ, suc, _≤_, _<_}
-use lib.ListN.{length}
+use Prim.Native.Nat.{ℕ, zero, suc, _≤_, _<_}
+use lib.ListN.{length, drop}
 use lib.Seq.{append-snoc}
 use Rattle.sheet.specs.declared.Setting.{Setting}
 use Rattle.sheet.specs.declared.Setting.the-variants.{Blank, Written}
@@ -16,7 +16,7 @@ use Rattle.fields.proofs.FieldLaws.{from-step, from-none}
 use Rattle.fields.specs.Numbers.{numberRead}
 use Rattle.requests.specs.Settings.{setting}
 use Rattle.fields.specs.Cursor.{firstBy, rest, Stepped}
-use Rattle.requests.specs.Requests.{inFront, cellsIn}
+use Rattle.requests.specs.Requests.{inFront, cellsIn, lastSetting}
 use Rattle.requests.specs.Readings.{settingFound}
 
 -- an empty field is blank, and another is a number
@@ -80,12 +80,36 @@ module _ (l : List Cell) {m : ℕ} {n : ℕ} (h : m ≡ suc n) (s : List ℕ) (a
       let fs = fieldsFrom s at in
       rw (h, cells-front n fs, setting-none (firstBy setting fs) (sym e ∙ q)) (following-none l)
 
--- no field more
-module _ (l : List Cell) {m : ℕ} (z : m ≡ 0) (s : List ℕ) (at : ℕ) where
-  pub cells-end : length s < at → following l (cellsIn m (fieldsFrom s at)) ≡ some l
-  unfolding cellsIn following
-  cells-end h = rw (z, from-none s at h, append-nil l) refl
+-- all are read
+pub cells-end : (l : List Cell) {m : ℕ} → m ≡ 0 → (fs : List (List ℕ)) → following l (cellsIn m fs) ≡ some l
+unfolding cellsIn following
+cells-end l z fs = rw (z, append-nil l) refl
 
-  pub cells-past : at ≤ length s → following l (cellsIn m (fieldsFrom s at)) ≡ none
-  unfolding cellsIn following
-  cells-past h = rw (z, from-step s at h) refl
+-- one field more is passed
+pub rest-drop : (i : ℕ) (fs : List (List ℕ)) → rest (drop i fs) ≡ drop (suc i) fs
+rest-drop zero [] = refl
+rest-drop zero (f ∷ fs) = refl
+rest-drop (suc i) [] = refl
+rest-drop (suc i) (f ∷ fs) = rest-drop i fs
+
+-- ---- the margin
+
+one-left : {f : List ℕ} {gs : List (List ℕ)} (fs : List (List ℕ)) → fs ≡ f ∷ gs → rest fs ≡ [] → lastSetting fs ≡ firstBy setting fs
+unfolding lastSetting
+one-left fs e h = rw (e, sym (ap rest e) ∙ h) refl
+
+more-left : {f g : List ℕ} {gs hs : List (List ℕ)} (fs : List (List ℕ)) → fs ≡ f ∷ gs → rest fs ≡ g ∷ hs → lastSetting fs ≡ none
+unfolding lastSetting
+more-left fs e h = rw (e, sym (ap rest e) ∙ h) refl
+
+module _ (s : List ℕ) (at : ℕ) where
+  pub last-none : length s < at → lastSetting (fieldsFrom s at) ≡ some Blank
+  unfolding lastSetting
+  last-none h = rw (from-none s at h) refl
+
+  module _ (h : at ≤ length s) {next : ℕ} (t : Stepped s at next) where
+    pub last-one : length s < next → lastSetting (fieldsFrom s at) ≡ firstBy setting (fieldsFrom s at)
+    last-one k = one-left (fieldsFrom s at) (from-step s at h) (sym (t .fields-after) ∙ from-none s next k)
+
+    pub last-more : next ≤ length s → lastSetting (fieldsFrom s at) ≡ none
+    last-more k = more-left (fieldsFrom s at) (from-step s at h) (sym (t .fields-after) ∙ from-step s next k)

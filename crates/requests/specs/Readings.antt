@@ -1,14 +1,10 @@
 -- What a record is read as: its kind and its values, blank where its kind has none.
-use mathlib.Core.Bool.{true, false}
 use mathlib.Core.List.{List, []}
 use mathlib.Core.Option.{Option, none, some}
 use Prim.Native.Nat.{ℕ}
-use lib.ListN.{replicate}
 use Rattle.terms.specs.declared.Transaction.{Transaction}
 use Rattle.terms.specs.declared.Body.{Body}
 use Rattle.sheet.specs.declared.Setting.{Setting}
-use Rattle.sheet.specs.declared.Setting.the-variants.{Blank}
-use Rattle.sheet.specs.declared.Cell.{Cell}
 use Rattle.sheet.specs.declared.Sheet.{Sheet}
 use Rattle.sheet.specs.Sheets.{blankSheet}
 use Rattle.requests.specs.declared.Kind.{Kind}
@@ -16,7 +12,6 @@ use Rattle.requests.specs.declared.Kind.the-variants.{Unreadable, Open, 
 use Rattle.requests.specs.declared.Reading.{Reading}
 use Rattle.requests.specs.declared.setting.SettingRead.{SettingRead}
 use Rattle.requests.specs.declared.setting.SettingRead.the-variants.{NoSetting, Is}
-use Rattle.requests.specs.declared.setting.Weights.{Weights}
 use Rattle.terms.specs.Bodies.{bodyOf}
 
 -- a call of a kind with its author, round, body and endorsers
@@ -82,14 +77,7 @@ chain = plainReading Chain
 
 -- ---- what the readers of parts give
 
--- a setting, and sixteen weights
+-- a setting
 abbrev pub settingFound : Option Setting → SettingRead
 settingFound none = NoSetting
 settingFound (some x) = Is x
-
-abbrev pub noWeights : Weights
-noWeights = record { ok = false; cells = replicate 16 (record { setting = Blank }) }
-
-abbrev pub weightsOf : Option (List Cell) → Weights
-weightsOf none = noWeights
-weightsOf (some l) = record { ok = true; cells = l }

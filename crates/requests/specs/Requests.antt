@@ -1,22 +1,25 @@
 -- What a record asks for: how its bytes are read.
-use mathlib.Core.Bool.{Bool, false, cond, _||_}
+use mathlib.Core.Path.{_≡_}
+use mathlib.Core.Bool.{Bool, true, false, cond, _||_}
 use mathlib.Core.List.{List, [], _∷_}
 use mathlib.Core.Option.{Option, none, some}
-use Prim.Native.Nat.{ℕ, zero, suc}
-use lib.ListN.{length}
+use Prim.Native.Nat.{ℕ, zero, suc, _+_, _≤_}
+use lib.ListN.{length, drop}
 use lib.Dec.{eqb, ltb}
 use Rattle.terms.specs.declared.Transaction.{Transaction}
 use Rattle.sheet.specs.declared.Setting.{Setting}
+use Rattle.sheet.specs.declared.Setting.the-variants.{Blank}
 use Rattle.sheet.specs.declared.Cell.{Cell}
 use Rattle.requests.specs.declared.Kind.{Kind}
 use Rattle.requests.specs.declared.Kind.the-variants.{Unreadable, Open, Propose, Endorse, Certify, Accept, Advance, Commit, Chain}
-use Rattle.fields.specs.Fields.{fields}
+use Rattle.fields.specs.Fields.{fields, fieldsFrom}
 use Rattle.base.specs.Options.{ifThere}
 use Rattle.fields.specs.Numbers.{numberRead, set}
 use Rattle.requests.specs.Settings.{setting}
 use Rattle.triples.specs.Triples.{atKind}
 use Rattle.requests.specs.Kinds.{recordKind}
 use Rattle.requests.specs.declared.Reading.{Reading}
+use Rattle.requests.specs.declared.setting.Weights.{Weights}
 use Rattle.requests.specs.Readings.{unreadable, openAs, propose, endorse, certify, accept, advance, commit, chain}
 
 -- a field that p reads comes next; k has what it holds, and the fields after it
@@ -39,22 +42,39 @@ inFront none l = none
 inFront (some x) none = none
 inFront (some x) (some l) = some (record { setting = x } ∷ l)
 
--- n settings, and nothing else
+-- the first n fields, as settings
 unfoldable pub cellsIn : ℕ → List (List ℕ) → Option (List Cell)
-cellsIn zero [] = some []
-cellsIn zero (f ∷ fs) = none
+cellsIn zero fs = some []
 cellsIn (suc n) [] = none
 cellsIn (suc n) (f ∷ fs) = inFront (setting f) (cellsIn n fs)
 
--- sixteen weights come next, and nothing else
-unfoldable pub weightsThen : List (List ℕ) → (List Cell → Reading) → Reading
-weightsThen fs k = ifThere (cellsIn 16 fs) unreadable k
+-- what reading sixteen weights in the fields from `at` of the record s on comes to
+pub record WeightsRead (s : List ℕ) (at : ℕ) (w : Weights) : Type 0 where
+  pub readable : w .ok ≡ true → cellsIn 16 (fieldsFrom s at) ≡ some (w .cells)
+  pub not-readable : w .ok ≡ false → cellsIn 16 (fieldsFrom s at) ≡ none
+  -- the place of the next field
+  pub fields-after : w .ok ≡ true → fieldsFrom s (w .next) ≡ drop 16 (fieldsFrom s at)
+  pub place : w .next ≤ length s + 1
+
+-- sixteen weights come next; k has them, and the fields after them
+unfoldable pub weightsThen : List (List ℕ) → (List Cell → List (List ℕ) → Reading) → Reading
+weightsThen fs k = ifThere (cellsIn 16 fs) unreadable (λ w. k w (drop 16 fs))
+
+-- the margin as a last field: without it the margin is blank
+unfoldable pub lastSetting : List (List ℕ) → Option Setting
+lastSetting [] = some Blank
+lastSetting (f ∷ []) = setting f
+lastSetting (f ∷ g ∷ fs) = none
+
+-- the margin comes next, or nothing does, and nothing else
+unfoldable pub marginThen : List (List ℕ) → (Setting → Reading) → Reading
+marginThen fs k = ifThere (lastSetting fs) unreadable k
 
 -- the fields after the first, by what that one names
 abbrev pub openOf : List (List ℕ) → Reading
 openOf fs =
     nextBy numberRead fs (λ own fs. nextBy setting fs (λ l fs. nextBy setting fs (λ c fs. nextBy setting fs (λ a fs.
-    weightsThen fs (λ w. openAs own (record { lookback = l; ceiling = c; allowance = a; weights = w }))))))
+    weightsThen fs (λ w fs. marginThen fs (λ m. openAs own (record { lookback = l; ceiling = c; allowance = a; weights = w; margin = m })))))))
 
 abbrev pub proposeOf : List (List ℕ) → Reading
 proposeOf fs = nextBy set fs (λ p fs. triplesThen fs (λ l. propose p l))

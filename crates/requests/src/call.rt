@@ -106,7 +106,7 @@ fn with_triples(
     call_of(kind, author, round, body, endorsers)
 }
 
-// open, own, lookback, ceiling, allowance, sixteen weights
+// open, own, lookback, ceiling, allowance, sixteen weights, and perhaps margin
 pub fn read_open(rec: &[u8], at: usize) -> Reading
     requires { ⌜ at ≤ length (now rec) + 1 ⌝ }
     ensures { λ r. ⌜ r ≡ openOf (fieldsFrom (now (rec .entry)) at) ⌝ }
@@ -135,12 +135,17 @@ pub fn read_open(rec: &[u8], at: usize) -> Reading
     if !w.ok {
         return unreadable();
     }
+    let margin = crate::setting::margin_at(rec, w.next);
+    let SettingRead::Is(margin_set) = margin else {
+        return unreadable();
+    };
     let cells = w.cells;
     let sheet = Sheet {
         lookback: lookback_set,
         ceiling: ceiling_set,
         allowance: allowance_set,
         weights: cells,
+        margin: margin_set,
     };
     open_of(Member(own_number), sheet)
 }

@@ -8,8 +8,8 @@ ghost use lib.ListN.{length};
 ghost use Rattle.fields.specs.Fields.{fieldsFrom};
 ghost use Rattle.requests.specs.Settings.{setting};
 ghost use Rattle.fields.specs.Cursor.{firstBy, Stepped};
-ghost use Rattle.requests.specs.Requests.{cellsIn};
-ghost use Rattle.requests.specs.Readings.{settingFound, noWeights, weightsOf};
+ghost use Rattle.requests.specs.Requests.{lastSetting, WeightsRead};
+ghost use Rattle.requests.specs.Readings.{settingFound};
 
 // What a field of the sheet holds.
 pub enum SettingRead {
@@ -23,10 +23,11 @@ pub struct SettingStep {
     pub next: usize,
 }
 
-// Sixteen weights, if all of them are readable.
+// Sixteen weights, if all of them are readable, and the place of the next field.
 pub struct Weights {
     pub ok: bool,
     pub cells: [Cell; 16],
+    pub next: usize,
 }
 
 // The setting that the field holds.
@@ -61,23 +62,10 @@ pub fn setting_at(rec: &[u8], at: usize) -> SettingStep
     }
 }
 
-// Unreadable weights.
-fn no_weights() -> Weights
-    ensures { λ r. ⌜ r ≡ noWeights ⌝ }
-{
-    let cell = Cell {
-        setting: Setting::Blank,
-    };
-    Weights {
-        ok: false,
-        cells: [cell; 16],
-    }
-}
-
-// The sixteen weights in the fields from `at` to the record's end.
+// The sixteen weights in the fields from `at` on.
 pub fn weights_at(rec: &[u8], at: usize) -> Weights
     requires { ⌜ at ≤ length (now rec) + 1 ⌝ }
-    ensures { λ r. ⌜ r ≡ weightsOf (cellsIn 16 (fieldsFrom (now (rec .entry)) at)) ⌝ }
+    ensures { λ r. ⌜ WeightsRead (now (rec .entry)) at r ⌝ }
 {
     let blank = Cell {
         setting: Setting::Blank,
@@ -89,18 +77,35 @@ pub fn weights_at(rec: &[u8], at: usize) -> Weights
         let s = setting_at(rec, place);
         let x = s.setting;
         let SettingRead::Is(setting) = x else {
-            return no_weights();
+            return Weights {
+                ok: false,
+                cells: cells,
+                next: place,
+            };
         };
         let cell = Cell { setting: setting };
         cells[i] = cell;
         place = s.next;
         i += 1;
     }
-    if place <= rec.len() {
-        return no_weights();
-    }
     Weights {
         ok: true,
         cells: cells,
+        next: place,
     }
+}
+
+// The margin in the field that starts at `at`, the record's last; blank where no field is left.
+pub fn margin_at(rec: &[u8], at: usize) -> SettingRead
+    requires { ⌜ at ≤ length (now rec) + 1 ⌝ }
+    ensures { λ r. ⌜ r ≡ settingFound (lastSetting (fieldsFrom (now (rec .entry)) at)) ⌝ }
+{
+    if rec.len() < at {
+        return SettingRead::Is(Setting::Blank);
+    }
+    let s = setting_at(rec, at);
+    if s.next <= rec.len() {
+        return SettingRead::NoSetting;
+    }
+    s.setting
 }

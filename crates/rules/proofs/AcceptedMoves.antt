@@ -13,6 +13,7 @@ use Rattle.agreement.specs.Moves.{Move}
 use Rattle.agreement.specs.Commits.{anchorAt}
 use Rattle.terms.specs.Proposals.{Content}
 use Rattle.sheet.specs.declared.Settings.{Settings}
+use Rattle.committee.specs.Committees.{MarginFits}
 use Rattle.committee.specs.Instance.{rules}
 use Rattle.rules.specs.Tests.{MemberView}
 use Rattle.rules.specs.Calls.{Call, propose, endorse, certify, accept, advance, commit, read, drafted, certifying, ruledRefusal, certified, after}
@@ -32,7 +33,7 @@ module _ (S : Settings) (correct : ℕ → Bool) (G : Log (rules S)) (k : ℕ) (
   abbrev pub Genuine : Call → Type 0
   Genuine c = (p : Content) (e : ℕ) → Takes S s c p e → SignedBy S correct G p e
 
-  module _ (l : List Content) (I : Invariant correct G k s l) (low : k < 16) (from : 1 ≤ s .round) where
+  module _ (l : List Content) (I : Invariant correct G k s l) (fits : MarginFits (S .margin)) (low : k < 16) (from : 1 ≤ s .round) where
     certify-call-move : (e : ℕ) (o : Option Content) → s .proposal ≡ o → Genuine (certify e) → refusal (certifying S k s e o) ≡ 0 → Move correct G k s l (certified S s o) l
     unfolding numbered
     certify-call-move e none i g h = passed _ refl h λ h15. absurd (true≢false h15)
@@ -45,5 +46,5 @@ module _ (S : Settings) (correct : ℕ → Bool) (G : Log (rules S)) (k : ℕ) (
     accepted-move (certify e) f g h = certify-call-move e (s .proposal) refl g h
     accepted-move (accept p e) f g h = accept-move S correct G k s l p e (g p e (accepts p e)) h
     accepted-move advance f g h = Moves.advance
-    accepted-move commit f g h = commit-call-move S I (anchorAt s (s .round - 1)) refl h
+    accepted-move commit f g h = commit-call-move S fits I (anchorAt s (s .round - 1)) refl h
     accepted-move read f g h = Moves.other-call

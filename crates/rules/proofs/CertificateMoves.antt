@@ -18,7 +18,6 @@ use Rattle.agreement.specs.Moves as Moves
 use Rattle.agreement.specs.Moves.{Move, afterCertify, afterAccept}
 use Rattle.terms.specs.Proposals.{Content}
 use Rattle.sheet.specs.declared.Settings.{Settings}
-use Rattle.sheet.specs.Sheets.{marginOf}
 use Rattle.committee.specs.Committees.{outsider, short}
 use Rattle.committee.specs.Instance.{rules}
 use Rattle.rules.specs.Tests.{MemberView, signersOf, committeeIn}
@@ -40,7 +39,7 @@ module _ (S : Settings) (correct : ℕ → Bool) (G : Log (rules S)) where
   module _ (k : ℕ) (s : MemberView S) (l : List Content) where
     -- checks 8, 9 and 13, for the round r of p
     certified-made : (p : Content) (e r : ℕ) → p .author < 16 → p .round ≡ r → Knows s r → outsider (committeeIn S s r) (isIn (signersOf p e)) ≡ false
-        → short (marginOf S) (committeeIn S s r) (isIn (signersOf p e)) ≡ false → SignedBy p e → Certified correct G s p
+        → short (S .margin) (committeeIn S s r) (isIn (signersOf p e)) ≡ false → SignedBy p e → Certified correct G s p
     certified-made p e r low i aware h9 h13 f =
         let set = isIn (signersOf p e) in
         record {

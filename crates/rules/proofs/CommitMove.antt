@@ -21,8 +21,7 @@ use Rattle.agreement.specs.Commits.{anchorAt}
 use Rattle.agreement.proofs.CommitLaws.{commit-move}
 use Rattle.terms.specs.Proposals.{Content}
 use Rattle.sheet.specs.declared.Settings.{Settings}
-use Rattle.sheet.specs.Sheets.{marginOf}
-use Rattle.committee.specs.Committees.{boundOf}
+use Rattle.committee.specs.Committees.{MarginFits, boundOf}
 use Rattle.committee.specs.Instance.{rules}
 use Rattle.committee.proofs.Lawful.{lawful}
 use Rattle.rules.specs.Tests.{MemberView, committeeIn, unvoted}
@@ -35,7 +34,7 @@ outweighs : (S : Settings) (s : MemberView S) (x : Content) → unvoted S s x �
 unfolding unvoted
 outweighs S s x h =
     let w = committeeIn S s (suc (x .round)) in
-    ltb-true (boundOf (marginOf S) (total 16 w)) (weigh 16 w (votes s x)) (not-false (ltb (boundOf (marginOf S) (total 16 w)) (weigh 16 w (votes s x))) h)
+    ltb-true (boundOf (S .margin) (total 16 w)) (weigh 16 w (votes s x)) (not-false (ltb (boundOf (S .margin) (total 16 w)) (weigh 16 w (votes s x))) h)
 
 -- an odd round from 3 on has one below it
 round-before : (r : ℕ) → (eqb (r % 2) 0 || eqb r 1) ≡ false → suc (r - 1) ≡ r
@@ -45,10 +44,10 @@ round-before r h = let k = eqb-false (r % 2) 0 (neither (eqb (r % 2) 0) (eqb r 1
     nonzero zero f = absurd (f refl)
     nonzero (suc n) f = omega arith
 
-module _ (S : Settings) {correct : ℕ → Bool} {G : Log (rules S)} {k : ℕ} {s : MemberView S} {l : List Content} (I : Invariant correct G k s l) where
+module _ (S : Settings) (fits : MarginFits (S .margin)) {correct : ℕ → Bool} {G : Log (rules S)} {k : ℕ} {s : MemberView S} {l : List Content} (I : Invariant correct G k s l) where
   pub commit-call-move : (o : Option Content) → anchorAt s (s .round - 1) ≡ o → refusal (committing S s o) ≡ 0 → Move correct G k s l (afterCommit s (added S s o)) l
   unfolding numbered
   commit-call-move none i h = passed _ refl h λ h19 h20 h8 h21. absurd (true≢false h21)
   commit-call-move (some x) i h =
       passed _ refl h λ h19 h20 h8 h22.
-      commit-move (lawful S) I (s .round - 1) x i (leb-false (s .round - 1) (last (s .chain)) h20) (rw (round-before (s .round) h19) (is-known S s (s .round) h8)) (outweighs S s x h22)
+      commit-move (lawful S fits) I (s .round - 1) x i (leb-false (s .round - 1) (last (s .chain)) h20) (rw (round-before (s .round) h19) (is-known S s (s .round) h8)) (outweighs S s x h22)

@@ -14,6 +14,7 @@ use Rattle.agreement.specs.Moves.{Move, other-call}
 use Rattle.agreement.specs.Machines.{Machine}
 use Rattle.terms.specs.Proposals.{Content}
 use Rattle.sheet.specs.declared.Settings.{Settings}
+use Rattle.committee.specs.Committees.{MarginFits}
 use Rattle.committee.specs.Instance.{rules}
 use Rattle.rules.specs.Tests.{MemberView}
 use Rattle.rules.specs.Calls as Calls
@@ -50,7 +51,7 @@ pub record Implementation (S : Settings) : Type 1 where
   pub refused : (k : ℕ) (s : State) (c : Call) → Good k s → answer k s c ≢ 0 → view (after k s c) ≡ view s
   pub follows : (k : ℕ) (s : State) (c : Call) → Good k s → Handed k s c → answer k s c ≡ 0 → Follows S k (view s) (ruled s c) (view (after k s c))
 
-module _ (S : Settings) (correct : ℕ → Bool) (low : (k : ℕ) → correct k ≡ true → k < 16) (F : Implementation S) where
+module _ (S : Settings) (correct : ℕ → Bool) (fits : (k : ℕ) → correct k ≡ true → MarginFits (S .margin)) (low : (k : ℕ) → correct k ≡ true → k < 16) (F : Implementation S) where
   open Implementation F using (State, Call, view, ruled, answer, after, Handed, Good, good-after, refused, follows)
 
   -- what member k signs by a call: nothing by a refused one
@@ -71,7 +72,7 @@ module _ (S : Settings) (correct : ℕ → Bool) (low : (k : ℕ) → correct k 
       go (yes e) =
           let f = follows k s c good handed e in
           rw (eq-eqb (answer k s c) 0 e, f .becomes)
-          (accepted-move S correct G k (view s) (G k) I (low k ck) (f .started) (ruled s c) (f .fits) (g e) (f .accepted))
+          (accepted-move S correct G k (view s) (G k) I (fits k ck) (low k ck) (f .started) (ruled s c) (f .fits) (g e) (f .accepted))
       go (no n) = rw (ne-eqb (answer k s c) 0 n, refused k s c good n) other-call
 
   -- so they are machines of the theory

@@ -16,7 +16,6 @@ use Rattle.agreement.specs.Invariants.{Signable}
 use Rattle.terms.specs.Proposals.{Content, badPreviousSet}
 use Rattle.terms.proofs.ProposalLaws.{first-names, later-names}
 use Rattle.sheet.specs.declared.Settings.{Settings}
-use Rattle.sheet.specs.Sheets.{marginOf}
 use Rattle.committee.specs.Committees.{quorum}
 use Rattle.rules.specs.Tests.{MemberView, above, committeeIn, missing}
 use Rattle.rules.proofs.TestLaws.{later}
@@ -40,7 +39,7 @@ module _ (S : Settings) (s : MemberView S) (p : Content) (right : badPreviousSet
 
   -- checks 8, 11 and 12, of a proposal of round 1 or above
   pub signable-made : 1 ≤ p .round → p .previous < 65536 → (p .round ≢ 1 → Knows s (p .round - 1)) → above (p .round) (missing S s p) ≡ false
-      → above (p .round) (not (quorum (marginOf S) (committeeIn S s (p .round - 1)) (isIn (p .previous)))) ≡ false → Signable s p
+      → above (p .round) (not (quorum (S .margin) (committeeIn S s (p .round - 1)) (isIn (p .previous)))) ≡ false → Signable s p
   signable-made low small aware h11 h12 = go (ℕ-discrete (p .round) 1)
     where
       go : Dec (p .round ≡ 1) → Signable s p
@@ -54,7 +53,7 @@ module _ (S : Settings) (s : MemberView S) (p : Content) (right : badPreviousSet
               before = p .round - 1;
               follows = omega arith;
               aware = aware n;
-              quorum = quorum-found S w (isIn (p .previous)) (in-member (p .previous)) (later (p .round) (not (quorum (marginOf S) w (isIn (p .previous)))) n h12);
+              quorum = quorum-found S w (isIn (p .previous)) (in-member (p .previous)) (later (p .round) (not (quorum (S .margin) w (isIn (p .previous)))) n h12);
               someone = x .0;
               named = x .2;
             });

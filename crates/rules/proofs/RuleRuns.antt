@@ -7,6 +7,7 @@ use native.Mathlib.Omega.{arith}
 use Rattle.sheet.specs.declared.Settings.{Settings}
 use Rattle.sheet.specs.Ranges.{outOfRange}
 use Rattle.sheet.proofs.SheetLaws.{settings-fit}
+use Rattle.committee.proofs.CommitteeLaws.{margin-fits}
 use Rattle.rules.specs.Tests.{MemberView}
 use Rattle.rules.specs.Calls.{Call, freshView, ruledRefusal, result}
 use Rattle.rules.proofs.CallLaws.{result-refused, result-accepted}
@@ -51,6 +52,7 @@ module _ (S : Settings) where
           record {
             correct = correct;
             below = below;
+            fits = λ k c. margin-fits (settings-fit S fit);
             start = λ i. (start i, freshView S);
             good = λ i c. fresh-rounds S (omega (arith, settings-fit S fit .ceiling-from));
             fresh = λ i c. record { no-proposal = refl; no-certificate = λ a r. refl; no-block = refl };

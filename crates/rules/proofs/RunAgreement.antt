@@ -50,7 +50,7 @@ endorse-signs S k s c p (endorses q) = List·Memᴰ·head refl
 
 module _ {S : Settings} {F : Implementation S} (X : Group S F) where
   open Implementation F using (answer, after, Handed, Good, good-after, held-rounds)
-  open Group X using (correct, start, fresh)
+  open Group X using (correct, fits, start, fresh)
 
   -- what was signed in the list is in the log
   made-signed : (p : Content) (i : ℕ) (f : MemberView S → Calls.Call → Type 0) → ((s : MemberView S) (c : Calls.Call) → f s c → Among p (Signatures.signs S i s c))
@@ -91,24 +91,24 @@ module _ {S : Settings} {F : Implementation S} (X : Group S F) where
   -- what the theory says of a correct member holds in every state of a run
   pub run-invariant : (l : Entries X) → Run X l → (i : ℕ) → correct i ≡ true
       → Invariant correct (log (asMachine X) start l) i (viewAfter X l i) (log (asMachine X) start l i)
-  run-invariant l r i c = machines-sound (asMachine X) start (lawful S) (X .good) fresh l (legal l r) .members i c
+  run-invariant l r i c = machines-sound (asMachine X) start (lawful S (fits i c)) (X .good) fresh l (legal l r) .members i c
 
   -- the chains of correct members never fork
   pub never-fork : (l : Entries X) → Run X l → Agree correct (viewAfter X l)
-  never-fork l r = machines-never-fork (asMachine X) start (lawful S) (X .good) fresh l (legal l r)
+  never-fork l r i j ci cj = machines-never-fork (asMachine X) start (lawful S (fits i ci)) (X .good) fresh l (legal l r) i j ci cj
 
   -- demand 3
   pub runs-agree : (l : Entries X) → Run X l → Agreed X l
   runs-agree l r =
       record {
         chains = λ i j ci cj. lists-comparable (ordered S) (never-fork l r i j ci cj);
-        committees = λ i j n ci cj ki kj m. ap (λ (w : ℕ → ℕ). w m) (machines-committees (asMachine X) start (lawful S) (X .good) fresh l (legal l r) i j n ci cj ki kj);
+        committees = λ i j n ci cj ki kj m. ap (λ (w : ℕ → ℕ). w m) (machines-committees (asMachine X) start (lawful S (fits i ci)) (X .good) fresh l (legal l r) i j n ci cj ki kj);
       }
 
   -- later calls only add blocks
-  pub chain-grows : (m l : Entries X) → Run X (m ++ l) → (i : ℕ) → chainAfter X l i ≼ chainAfter X (m ++ l) i
-  chain-grows m l r = machines-grow (asMachine X) start (lawful S) (X .good) fresh m l (legal (m ++ l) r)
+  pub chain-grows : (m l : Entries X) → Run X (m ++ l) → (i : ℕ) → correct i ≡ true → chainAfter X l i ≼ chainAfter X (m ++ l) i
+  chain-grows m l r i c = machines-grow (asMachine X) start (lawful S (fits i c)) (X .good) fresh m l (legal (m ++ l) r) i
 
   -- so a block once made stays, with its number, its round and its certificates
-  pub block-kept : (m l : Entries X) → Run X (m ++ l) → (i n : ℕ) {b : Block Content} → blockNumbered (chainAfter X l i) n ≡ some b → blockNumbered (chainAfter X (m ++ l) i) n ≡ some b
-  block-kept m l r i n = block-stays (chain-grows m l r i) n
+  pub block-kept : (m l : Entries X) → Run X (m ++ l) → (i : ℕ) → correct i ≡ true → (n : ℕ) {b : Block Content} → blockNumbered (chainAfter X l i) n ≡ some b → blockNumbered (chainAfter X (m ++ l) i) n ≡ some b
+  block-kept m l r i c n = block-stays (chain-grows m l r i c) n

@@ -10,7 +10,6 @@ use Rattle.agreement.specs.Weights.{weigh, total, outside}
 use Rattle.agreement.specs.Entries.{Entry}
 use Rattle.terms.specs.Proposals.{Content, sameProposal}
 use Rattle.sheet.specs.declared.Settings.{Settings}
-use Rattle.sheet.specs.Sheets.{marginOf}
 use Rattle.committee.specs.Committees.{knownBy, boundOf}
 use Rattle.rules.specs.Tests.{MemberView, committeeIn}
 use Rattle.rules.specs.Calls as Calls
@@ -72,7 +71,7 @@ module _ {S : Settings} {F : Implementation S} (X : Group S F) where
 
   unfoldable pub isBounded : Entries X → Bool
   isBounded l =
-      allTo (λ j. not (correct j) || allTo (λ r. not (knownBy S (chainAfter X l j) r) || leb (weigh 16 (committeeIn S (viewAfter X l j) r) (outside correct)) (boundOf (marginOf S) (total 16 (committeeIn S (viewAfter X l j) r)))) (suc (S .ceiling .0))) 16
+      allTo (λ j. not (correct j) || allTo (λ r. not (knownBy S (chainAfter X l j) r) || leb (weigh 16 (committeeIn S (viewAfter X l j) r) (outside correct)) (boundOf (S .margin) (total 16 (committeeIn S (viewAfter X l j) r)))) (suc (S .ceiling .0))) 16
 
   -- `fits` tests what is handed in
   module _ (fits : ℕ → State → Call → Bool) where

@@ -14,7 +14,7 @@ use Rattle.agreement.specs.Machines.{Machine}
 use Rattle.agreement.specs.Listing.{Lists}
 use Rattle.terms.specs.Proposals.{Content}
 use Rattle.sheet.specs.declared.Settings.{Settings}
-use Rattle.committee.specs.Committees.{ordered}
+use Rattle.committee.specs.Committees.{MarginFits, ordered}
 use Rattle.committee.specs.Instance.{rules}
 use Rattle.rules.specs.Tests.{MemberView, committeeIn}
 use Rattle.rules.specs.Calls as Calls
@@ -27,6 +27,8 @@ pub record Group (S : Settings) (F : Implementation S) : Type 0 where
   -- any set of numbers 0 to 15 may be the correct members; every other number is faulty
   pub correct : ℕ → Bool
   pub below : (k : ℕ) → correct k ≡ true → k < 16
+  -- whoever has opened has a margin in its range
+  pub fits : (k : ℕ) → correct k ≡ true → MarginFits (S .margin)
   -- each correct member starts from a fresh state
   pub start : ℕ → F .State
   pub good : (i : ℕ) → correct i ≡ true → F .Good i (start i)
@@ -34,10 +36,10 @@ pub record Group (S : Settings) (F : Implementation S) : Type 0 where
 
 module _ {S : Settings} {F : Implementation S} (X : Group S F) where
   open Implementation F using (State, Call, view, ruled, answer, after, Handed)
-  open Group X using (correct, below, start)
+  open Group X using (correct, below, fits, start)
 
   abbrev pub asMachine : Machine (rules S) correct
-  asMachine = machine S correct below F
+  asMachine = machine S correct fits below F
 
   -- a list of entries, newest first: who makes a call, and which
   abbrev pub Entries : Type 0

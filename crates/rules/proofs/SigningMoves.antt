@@ -17,7 +17,7 @@ use Rattle.terms.specs.declared.Transaction.{Transaction}
 use Rattle.terms.specs.Proposals.{Content}
 use Rattle.sheet.specs.declared.Settings.{Settings}
 use Rattle.committee.specs.Instance.{rules}
-use Rattle.committee.proofs.Lawful.{lawful}
+use Rattle.committee.proofs.Lawful.{known-low}
 use Rattle.rules.specs.Tests.{MemberView, unknown}
 use Rattle.rules.specs.Calls.{drafted, proposing, endorsing}
 use Rattle.base.proofs.Passed.{passed}
@@ -32,7 +32,7 @@ module _ (S : Settings) (correct : ℕ → Bool) (G : Log (rules S)) (k : ℕ) (
       let p = drafted S k s previous txs in
       passed _ refl h λ h6 h7 h10 h8 h9 h11 h12.
       Moves.propose p refl refl (absent (s .proposal) (neither (isHeld (s .proposal)) (isHeld (s .dag k (s .round))) h10 .0))
-      (signable-made S s p h7 low small (λ n. lawful S .known-down (s .chain) (s .round - 1) (s .round) (omega arith) (is-known S s (s .round) h8)) h11 h12)
+      (signable-made S s p h7 low small (λ n. known-low S (s .chain) (omega arith) (is-known S s (s .round) h8)) h11 h12)
 
   pub endorse-move : (p : Content) → p .previous < 65536 → refusal (endorsing S k s p) ≡ 0 → Move correct G k s l (afterEndorse s p) (p ∷ l)
   unfolding numbered

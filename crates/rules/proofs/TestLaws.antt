@@ -12,7 +12,6 @@ use Rattle.agreement.specs.View.{Knows}
 use Rattle.agreement.specs.Anchors.{votes}
 use Rattle.terms.specs.Proposals.{Content}
 use Rattle.sheet.specs.declared.Settings.{Settings}
-use Rattle.sheet.specs.Sheets.{marginOf}
 use Rattle.committee.specs.Committees.{knownBy, boundOf}
 use Rattle.rules.specs.Tests.{MemberView, badRound, above, committeeIn, unknown, unvoted}
 
@@ -59,6 +58,6 @@ is-known S s r h = not-false (knownBy S (s .chain) r) (sym (unknown-not S s r) �
 
 -- check 22, where w is the committee of the round above the anchor
 pub unvoted-not : (S : Settings) (m : MemberView S) (x : Content)
-    → let w = committeeIn S m (suc (x .round)) in unvoted S m x ≡ not (ltb (boundOf (marginOf S) (total 16 w)) (weigh 16 w (votes m x)))
+    → let w = committeeIn S m (suc (x .round)) in unvoted S m x ≡ not (ltb (boundOf (S .margin) (total 16 w)) (weigh 16 w (votes m x)))
 unfolding unvoted
 unvoted-not S m x = refl

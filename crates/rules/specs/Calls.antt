@@ -13,7 +13,6 @@ use Rattle.agreement.specs.Moves.{afterPropose, afterEndorse, afterCertify, aft
 use Rattle.terms.specs.declared.Transaction.{Transaction}
 use Rattle.terms.specs.Proposals.{Content, badTransactions, badPreviousSet}
 use Rattle.sheet.specs.declared.Settings.{Settings}
-use Rattle.sheet.specs.Sheets.{marginOf}
 use Rattle.committee.specs.Committees.{outsider, short, quorum}
 use Rattle.committee.specs.Leaders.{members}
 use Rattle.rules.specs.Tests.{MemberView, badRound, signersOf, isSame, above, committeeIn, unknown, authorsIn, missing, unvoted}
@@ -49,7 +48,7 @@ module _ (S : Settings) where
       ∷ (unknown S s (p .round), 8)
       ∷ (not (members (committeeIn S s (p .round)) k), 9)
       ∷ (above (p .round) (missing S s p), 11)
-      ∷ (above (p .round) (not (quorum (marginOf S) (committeeIn S s (p .round - 1)) (isIn (p .previous)))), 12) ∷ []
+      ∷ (above (p .round) (not (quorum (S .margin) (committeeIn S s (p .round - 1)) (isIn (p .previous)))), 12) ∷ []
 
   -- 4 author; 5 round 0 or over the ceiling; 6; 7; 14 author is oneself; 10 place held or already endorsed; then, above round 1, 8 for the round before, 11, 12
   abbrev pub endorsing : ℕ → MemberView S → Content → Checks
@@ -62,7 +61,7 @@ module _ (S : Settings) where
       ∷ (isHeld (s .dag (p .author) (p .round)) || s .endorsed (p .author) (p .round), 10)
       ∷ (above (p .round) (unknown S s (p .round - 1)), 8)
       ∷ (above (p .round) (missing S s p), 11)
-      ∷ (above (p .round) (not (quorum (marginOf S) (committeeIn S s (p .round - 1)) (isIn (p .previous)))), 12) ∷ []
+      ∷ (above (p .round) (not (quorum (S .margin) (committeeIn S s (p .round - 1)) (isIn (p .previous)))), 12) ∷ []
 
   -- 15 no proposal this round; 10 own place held; 14 oneself among them; 8; 9 a signer outside the committee; 13 signers short of a quorum
   abbrev pub certifying : ℕ → MemberView S → ℕ → Option Content → Checks
@@ -72,7 +71,7 @@ module _ (S : Settings) where
       ∷ (isIn e k, 14)
       ∷ (unknown S s (s .round), 8)
       ∷ (outsider (committeeIn S s (s .round)) (isIn (signersOf p e)), 9)
-      ∷ (short (marginOf S) (committeeIn S s (s .round)) (isIn (signersOf p e)), 13) ∷ []
+      ∷ (short (S .margin) (committeeIn S s (s .round)) (isIn (signersOf p e)), 13) ∷ []
 
   -- 4; 5; 6; 7; 14 author among endorsers; 16 the same certificate held; 17 another held there; 8; 9 a signer outside; 13; 11
   abbrev pub accepting : MemberView S → Content → ℕ → Checks
@@ -86,7 +85,7 @@ module _ (S : Settings) where
       ∷ (isHeld (s .dag (p .author) (p .round)), 17)
       ∷ (unknown S s (p .round), 8)
       ∷ (outsider (committeeIn S s (p .round)) (isIn (signersOf p e)), 9)
-      ∷ (short (marginOf S) (committeeIn S s (p .round)) (isIn (signersOf p e)), 13)
+      ∷ (short (S .margin) (committeeIn S s (p .round)) (isIn (signersOf p e)), 13)
       ∷ (above (p .round) (missing S s p), 11) ∷ []
 
   -- 18 at the ceiling; 8 committee of the present round unknown; 28 the authors of the certificates held in it form no quorum of its committee
@@ -94,7 +93,7 @@ module _ (S : Settings) where
   advancing s =
       (leb (S .ceiling .0) (s .round), 18)
       ∷ (unknown S s (s .round), 8)
-      ∷ (not (quorum (marginOf S) (committeeIn S s (s .round)) (authorsIn S s (s .round))), 28) ∷ []
+      ∷ (not (quorum (S .margin) (committeeIn S s (s .round)) (authorsIn S s (s .round))), 28) ∷ []
 
   -- 21 no anchor in r − 1; 22 held certificates of r naming the anchor's author as previous weigh, in r's committee, not more than its fault bound
   abbrev pub voting : MemberView S → Option Content → Checks

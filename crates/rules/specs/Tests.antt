@@ -11,7 +11,6 @@ use Rattle.agreement.specs.Dag.{isHeld}
 use Rattle.agreement.specs.Anchors.{votes}
 use Rattle.terms.specs.Proposals.{Content, sameProposal}
 use Rattle.sheet.specs.declared.Settings.{Settings}
-use Rattle.sheet.specs.Sheets.{marginOf}
 use Rattle.sheet.specs.Ranges.{weightIn}
 use Rattle.committee.specs.Committees.{committeeOf, knownBy, boundOf}
 use Rattle.committee.specs.Instance.{rules}
@@ -56,4 +55,4 @@ module _ (S : Settings) where
 
   -- the votes for the anchor x weigh, in the committee of the round above it, not more than the fault bound
   unfoldable pub unvoted : MemberView S → Content → Bool
-  unvoted s x = not (ltb (boundOf (marginOf S) (total 16 (committeeIn s (suc (x .round))))) (weigh 16 (committeeIn s (suc (x .round))) (votes s x)))
+  unvoted s x = not (ltb (boundOf (S .margin) (total 16 (committeeIn s (suc (x .round))))) (weigh 16 (committeeIn s (suc (x .round))) (votes s x)))

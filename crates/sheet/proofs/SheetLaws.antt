@@ -25,18 +25,23 @@ pub settings-fit : (S : Settings) → outOfRange S ≡ false → SettingsFit S
 unfolding outOfRange
 settings-fit S h =
     let w = anyTo (λ i. notWithin (weightIn (S .weights) i) 0 1000000) 16 in
-    let p = neither (notWithin (S .lookback) 1 1000) (notWithin (S .ceiling .0) 3 1024 || (notWithin (S .allowance) 0 4 || w)) h in
-    let q = neither (notWithin (S .ceiling .0) 3 1024) (notWithin (S .allowance) 0 4 || w) (p .1) in
-    let r = neither (notWithin (S .allowance) 0 4) w (q .1) in
+    let d = notWithin (S .margin) 3 5 in
+    let p = neither (notWithin (S .lookback) 1 1000) (notWithin (S .ceiling .0) 3 1024 || (notWithin (S .allowance) 0 4 || (w || d))) h in
+    let q = neither (notWithin (S .ceiling .0) 3 1024) (notWithin (S .allowance) 0 4 || (w || d)) (p .1) in
+    let r = neither (notWithin (S .allowance) 0 4) (w || d) (q .1) in
+    let s = neither w d (r .1) in
     let l = inside (S .lookback) 1 1000 (p .0) in
     let c = inside (S .ceiling .0) 3 1024 (q .0) in
+    let m = inside (S .margin) 3 5 (s .1) in
     record {
       lookback-from = l .0;
       lookback-to = l .1;
       ceiling-from = c .0;
       ceiling-to = c .1;
       allowance-to = inside (S .allowance) 0 4 (r .0) .1;
-      weight-to = λ i k. inside (weightIn (S .weights) i) 0 1000000 (any-false (λ j. notWithin (weightIn (S .weights) j) 0 1000000) 16 i k (r .1)) .1;
+      weight-to = λ i k. inside (weightIn (S .weights) i) 0 1000000 (any-false (λ j. notWithin (weightIn (S .weights) j) 0 1000000) 16 i k (s .0)) .1;
+      margin-from = m .0;
+      margin-to = m .1;
     }
 
 -- settings that check 3 lets pass have a member
@@ -75,6 +80,7 @@ written S =
       ceiling = Written (S .ceiling .0);
       allowance = Written (S .allowance);
       weights = tab (λ i. cell (weightIn (S .weights) i)) 16;
+      margin = Written (S .margin);
     }
 
 written-weight : (f : ℕ → ℕ) (i : ℕ) → i < 16 → weightAt (tab (λ j. cell (f j)) 16) i ≡ f i

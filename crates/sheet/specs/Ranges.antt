@@ -17,7 +17,12 @@ notWithin x a b = ltb x a || ltb b x
 
 -- check 2: a setting out of range
 unfoldable pub outOfRange : Settings → Bool
-outOfRange S = notWithin (S .lookback) 1 1000 || (notWithin (S .ceiling .0) 3 1024 || (notWithin (S .allowance) 0 4 || anyTo (λ i. notWithin (weightIn (S .weights) i) 0 1000000) 16))
+outOfRange S =
+    notWithin (S .lookback) 1 1000
+    || (notWithin (S .ceiling .0) 3 1024
+    || (notWithin (S .allowance) 0 4
+    || (anyTo (λ i. notWithin (weightIn (S .weights) i) 0 1000000) 16
+    || notWithin (S .margin) 3 5)))
 
 -- check 3: no positive weight
 unfoldable pub weightless : Settings → Bool
@@ -31,3 +36,5 @@ pub record SettingsFit (S : Settings) : Type 0 where
   pub ceiling-to : S .ceiling .0 ≤ 1024
   pub allowance-to : S .allowance ≤ 4
   pub weight-to : (i : ℕ) → i < 16 → weightIn (S .weights) i ≤ 1000000
+  pub margin-from : 3 ≤ S .margin
+  pub margin-to : S .margin ≤ 5

@@ -13,7 +13,7 @@ use Rattle.sheet.specs.declared.Settings.{Settings}
 
 -- the sheet with nothing written
 abbrev pub blankSheet : Sheet
-blankSheet = record { lookback = Blank; ceiling = Blank; allowance = Blank; weights = replicate 16 (record { setting = Blank }) }
+blankSheet = record { lookback = Blank; ceiling = Blank; allowance = Blank; weights = replicate 16 (record { setting = Blank }); margin = Blank }
 
 -- the number of a setting, d where it is blank
 abbrev pub valueOr : Setting → ℕ → ℕ
@@ -36,8 +36,5 @@ filled s =
       ceiling = record { 0 = valueOr (s .ceiling) 1024 };
       allowance = valueOr (s .allowance) 4;
       weights = tab (weightAt (s .weights)) 16;
+      margin = valueOr (s .margin) 3;
     }
-
--- what a total less 1 is divided by for its fault bound
-abbrev pub marginOf : Settings → ℕ
-marginOf S = 3

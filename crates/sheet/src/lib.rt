@@ -23,17 +23,19 @@ pub struct Sheet {
     pub ceiling: Setting,
     pub allowance: Setting,
     pub weights: [Cell; 16],
+    pub margin: Setting,
 }
 
 // A member's weight.
 pub struct Weight(pub u64);
 
-// The filled settings: the ceiling is the last round, and the weights are the starting ones.
+// The filled settings: the ceiling is the last round, the weights are the starting ones, and the margin is what a total less 1 is divided by for its fault bound.
 pub struct Settings {
     pub lookback: u32,
     pub ceiling: Round,
     pub allowance: u32,
     pub weights: [u64; 16],
+    pub margin: u32,
 }
 
 impl Sheet {
@@ -67,8 +69,11 @@ impl Sheet {
 
     pub const WEIGHT_MAX: u32 = 1000000;
 
-    // What a total less 1 is divided by for its fault bound.
     pub const MARGIN: u32 = 3;
+
+    pub const MARGIN_MIN: u32 = 3;
+
+    pub const MARGIN_MAX: u32 = 5;
 
     // The sheet with nothing written.
     pub fn blank() -> Sheet
@@ -82,6 +87,7 @@ impl Sheet {
             ceiling: Setting::Blank,
             allowance: Setting::Blank,
             weights: [cell; 16],
+            margin: Setting::Blank,
         }
     }
 }
@@ -139,11 +145,13 @@ pub fn fill(s: Sheet) -> Settings
     let ceiling = s.ceiling;
     let allowance = s.allowance;
     let cells = s.weights;
+    let margin = s.margin;
     Settings {
         lookback: value_or(lookback, Sheet::LOOKBACK),
         ceiling: Round(value_or(ceiling, Sheet::CEILING)),
         allowance: value_or(allowance, Sheet::ALLOWANCE),
         weights: weights(cells),
+        margin: value_or(margin, Sheet::MARGIN),
     }
 }
 
@@ -187,7 +195,10 @@ pub fn is_out_of_range(s: Settings) -> bool
         return true;
     }
     let w = s.weights;
-    has_outside(w)
+    if has_outside(w) {
+        return true;
+    }
+    is_outside(s.margin as u64, Sheet::MARGIN_MIN, Sheet::MARGIN_MAX)
 }
 
 // Check 3: is no starting weight positive?

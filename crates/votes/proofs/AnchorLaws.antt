@@ -17,7 +17,6 @@ use Rattle.agreement.specs.Commits.{byLeader, anchorAt}
 use Rattle.terms.specs.Proposals.{Content}
 use Rattle.store.specs.Table.{heldSet, contentAt}
 use Rattle.store.proofs.TableLaws.{held-in, certificate-at, content-author, content-round}
-use Rattle.sheet.specs.Sheets.{marginOf}
 use Rattle.sheet.specs.Ranges.{weightIn}
 use Rattle.committee.specs.Chain.{chainOf}
 use Rattle.committee.specs.Committees.{boundOf}
@@ -53,13 +52,13 @@ module _ (s : State) (t : List ℕ) where
 
   -- check 22: the votes of the round above it weigh not more than the bound
   pub unvoted-on : (a q : ℕ) → suc q ≤ s .settings .ceiling .0
-      → unvoted (s .settings) (view s t) (contentAt t a q) ≡ not (ltb (boundOf (marginOf (s .settings)) (total 16 (weightIn (committeeOn s t (suc q))))) (votesFor t (committeeOn s t (suc q)) (suc q) a))
+      → unvoted (s .settings) (view s t) (contentAt t a q) ≡ not (ltb (boundOf (s .settings .margin) (total 16 (weightIn (committeeOn s t (suc q))))) (votesFor t (committeeOn s t (suc q)) (suc q) a))
   unfolding votesFor votesAt
   unvoted-on a q to =
       let w = weightIn (committeeOn s t (suc q)) in
       unvoted-not (s .settings) (view s t) (contentAt t a q)
       ∙ rw (content-round t a q, content-author t a q)
-      (ap (λ (z : ℕ). not (ltb (boundOf (marginOf (s .settings)) (total 16 w)) z))
+      (ap (λ (z : ℕ). not (ltb (boundOf (s .settings .margin) (total 16 w)) z))
       (sum-same _ _ 16 (λ i h. ap (λ (b : Bool). cond b (w i) 0) (vote-dag (s .settings .ceiling .0) t i (suc q) (omega arith) to (s .settings) a))))
 
   -- only even rounds have leaders

@@ -18,7 +18,6 @@ use Rattle.agreement.specs.Weights.{total}
 use Rattle.agreement.specs.Commits.{anchorAt}
 use Rattle.terms.specs.Proposals.{Content}
 use Rattle.store.specs.Table.{heldSet, contentAt}
-use Rattle.sheet.specs.Sheets.{marginOf}
 use Rattle.sheet.specs.Ranges.{weightIn}
 use Rattle.committee.specs.Chain.{chainOf}
 use Rattle.committee.specs.Committees.{knownBy, boundOf}
@@ -110,7 +109,7 @@ module _ (s : State) (t : List ℕ) where
       anchor-led = anchor ∙ rw led refl
 
       abbrev bound : ℕ
-      bound = boundOf (marginOf (s .settings)) (total 16 (weightIn w))
+      bound = boundOf (s .settings .margin) (total 16 (weightIn w))
 
       weighing : refusal (voteChecks s t) ≡ refusal ((not (ltb bound (votesFor t w r a)), 22) ∷ [])
       weighing =

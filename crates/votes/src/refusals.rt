@@ -1,5 +1,4 @@
 // The checks of a commit in a well-formed state, each the number of the first that refuses, 0 for none.
-use sheet::Sheet;
 use state::State;
 use terms::Member;
 use terms::Round;
@@ -42,7 +41,7 @@ pub fn vote_refusal(s: State, t: &[u32], l: &[u32; 1025], w: &[u64; 16]) -> u32
     if !histories::anchors::is_held_leader(store::held_set(t, top), Member(a)) {
         return 21;
     }
-    let bound = weighing::fault_bound(Sheet::MARGIN, weighing::total_weight(w));
+    let bound = weighing::fault_bound(s.settings.margin, weighing::total_weight(w));
     let votes = crate::counting::votes_for(t, w, r, Member(a));
     if votes.0 <= bound.0 {
         return 22;

@@ -54,9 +54,9 @@ length-state s =
     let head = s .own .0 ∷ s .settings .lookback ∷ s .settings .ceiling .0 ∷ s .settings .allowance ∷ [] in
     let middle = s .round .0 ∷ cond (s .proposing) 1 0 ∷ s .blocks ∷ [] in
     let b = bodyWords (ownBody s) in
-    length-append (head ++ w ++ middle) b
-    ∙ ap (λ (k : ℕ). length (head ++ w ++ middle) + k) (length-body (ownBody s))
-    ∙ ap (λ (k : ℕ). k + bodyLength) (length-append (head ++ w) middle ∙ ap (λ (k : ℕ). k + 3) (length-append head w ∙ ap (λ (k : ℕ). 4 + k) (length-sixteen (s .settings .weights))))
+    length-append (head ++ w ++ middle ++ b) (s .settings .margin ∷ [])
+    ∙ ap (λ (k : ℕ). k + 1) (length-append (head ++ w ++ middle) b ∙ ap (λ (k : ℕ). length (head ++ w ++ middle) + k) (length-body (ownBody s)))
+    ∙ ap (λ (k : ℕ). k + bodyLength + 1) (length-append (head ++ w) middle ∙ ap (λ (k : ℕ). k + 3) (length-append head w ∙ ap (λ (k : ℕ). 4 + k) (length-sixteen (s .settings .weights))))
 
 body-back : (s : State) → bodyIn (stateWords s) 23 ≡ tidyBody (ownBody s)
 unfolding bodyIn slotIn stateWords bodyWords usedWords sixteen tab tidyBody
@@ -83,7 +83,7 @@ own-body-back s = rw (flag-back s) (choose (s .proposing) (bodyIn (stateWords s)
     choose false x y f = refl
 
 head-back : (s : State) → settingsIn (stateWords s) ≡ tidy s .settings
-unfolding settingsIn stateWords sixteen tab tidy
+unfolding settingsIn stateWords bodyWords usedWords sixteen tab tidy
 head-back s = refl
 
 numbers-back : (s : State) → (word (stateWords s) 0 ≡ s .own .0) × ((word (stateWords s) 20 ≡ s .round .0) × (word (stateWords s) 22 ≡ s .blocks))

@@ -1,5 +1,5 @@
 -- Laws of the words of a held certificate and of a state, put piece by piece.
-use mathlib.Core.Path.{_≡_, refl, ap, _∙_}
+use mathlib.Core.Path.{_≡_, refl, ap, ap₂, _∙_}
 use mathlib.Core.Bool.{cond}
 use mathlib.Core.List.{List, [], _∷_, _++_}
 use Prim.Native.Nat.{ℕ, _+_, _≤_}
@@ -29,13 +29,17 @@ held-put p d k t h =
 pub state-put : (s : State) (t : List ℕ) → stateLength ≤ length t
     → paste
     (paste
+    (paste
     (paste (paste t 0 (s .own .0 ∷ s .settings .lookback ∷ s .settings .ceiling .0 ∷ s .settings .allowance ∷ []) 4) 4 (sixteen (s .settings .weights)) 16)
     20
     (s .round .0 ∷ cond (s .proposing) 1 0 ∷ s .blocks ∷ [])
     3)
     23
     (bodyWords (ownBody s))
-    bodyLength
+    bodyLength)
+    37
+    (s .settings .margin ∷ [])
+    1
     ≡ paste t 0 (stateWords s) stateLength
 unfolding stateWords
 state-put s t h =
@@ -45,6 +49,9 @@ state-put s t h =
     let b = bodyWords (ownBody s) in
     let l : length (head ++ w) ≡ 20 = length-append head w ∙ ap (λ (z : ℕ). 4 + z) (length-sixteen (s .settings .weights)) in
     let m : length (head ++ w ++ middle) ≡ 23 = length-append (head ++ w) middle ∙ ap (λ (z : ℕ). z + 3) l in
-    ap (λ (z : List ℕ). paste (paste z 20 middle 3) 23 b bodyLength) (paste-append t 0 head w 4 16 refl (omega arith))
-    ∙ ap (λ (z : List ℕ). paste z 23 b bodyLength) (paste-append t 0 (head ++ w) middle 20 3 l (omega arith))
-    ∙ paste-append t 0 (head ++ w ++ middle) b 23 bodyLength m (omega arith)
+    let n : length (head ++ w ++ middle ++ b) ≡ 37 = length-append (head ++ w ++ middle) b ∙ ap₂ (λ (y z : ℕ). y + z) m (length-body (ownBody s)) in
+    let d = s .settings .margin ∷ [] in
+    ap (λ (z : List ℕ). paste (paste (paste z 20 middle 3) 23 b bodyLength) 37 d 1) (paste-append t 0 head w 4 16 refl (omega arith))
+    ∙ ap (λ (z : List ℕ). paste (paste z 23 b bodyLength) 37 d 1) (paste-append t 0 (head ++ w) middle 20 3 l (omega arith))
+    ∙ ap (λ (z : List ℕ). paste z 37 d 1) (paste-append t 0 (head ++ w ++ middle) b 23 bodyLength m (omega arith))
+    ∙ paste-append t 0 (head ++ w ++ middle ++ b) d 37 1 n (omega arith)

@@ -39,7 +39,7 @@ module _ (u v : List ℕ) (e : Agree stateLength u v) where
   settings-same : settingsIn u ≡ settingsIn v
   unfolding settingsIn
   settings-same =
-      rw (e 1 (omega arith), e 2 (omega arith), e 3 (omega arith), tab-same (λ i. word u (4 + i)) (λ i. word v (4 + i)) 16 (λ i h. e (4 + i) (omega arith))) refl
+      rw (e 1 (omega arith), e 2 (omega arith), e 3 (omega arith), tab-same (λ i. word u (4 + i)) (λ i. word v (4 + i)) 16 (λ i h. e (4 + i) (omega arith)), e 37 (omega arith)) refl
 
   own-body-same : ownBodyIn u ≡ ownBodyIn v
   unfolding ownBodyIn

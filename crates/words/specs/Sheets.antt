@@ -1,4 +1,4 @@
--- A sheet as words: nineteen settings of two words each (0 blank or 1 written, value), in the order lookback, ceiling, allowance, sixteen weights.
+-- A sheet as words: twenty settings of two words each (0 blank or 1 written, value), in the order lookback, ceiling, allowance, sixteen weights, margin.
 use mathlib.Core.Bool.{Bool, cond, _&&_}
 use mathlib.Core.List.{List}
 use Prim.Native.Nat.{ℕ, _+_, _*_}
@@ -13,7 +13,7 @@ use Rattle.bodies.specs.Lengths.{sheetLength}
 use Rattle.bodies.specs.Words.{word}
 
 unfoldable pub sheetReads : List ℕ → Bool
-sheetReads w = leb sheetLength (length w) && allTo (λ k. leb (word w (k * 2)) 1) 19
+sheetReads w = leb sheetLength (length w) && allTo (λ k. leb (word w (k * 2)) 1) 20
 
 -- setting k; the value of a blank is not looked at
 unfoldable pub settingIn : List ℕ → ℕ → Setting
@@ -23,4 +23,4 @@ abbrev pub cellIn : List ℕ → ℕ → Cell
 cellIn w i = record { setting = settingIn w (3 + i) }
 
 unfoldable pub sheetIn : List ℕ → Sheet
-sheetIn w = record { lookback = settingIn w 0; ceiling = settingIn w 1; allowance = settingIn w 2; weights = tab (cellIn w) 16 }
+sheetIn w = record { lookback = settingIn w 0; ceiling = settingIn w 1; allowance = settingIn w 2; weights = tab (cellIn w) 16; margin = settingIn w 19 }

@@ -21,7 +21,7 @@ abbrev pub weightsIn : List ℕ → List ℕ
 weightsIn w = tab (λ i. word w (4 + i)) 16
 
 unfoldable pub settingsIn : List ℕ → Settings
-settingsIn w = record { lookback = word w 1; ceiling = record { 0 = word w 2 }; allowance = word w 3; weights = weightsIn w }
+settingsIn w = record { lookback = word w 1; ceiling = record { 0 = word w 2 }; allowance = word w 3; weights = weightsIn w; margin = word w 37 }
 
 unfoldable pub ownBodyIn : List ℕ → Body
 ownBodyIn w = cond (eqb (word w 21) 0) noBody (bodyIn w 23)
@@ -42,10 +42,11 @@ stateIn w =
 unfoldable pub ownBody : State → Body
 ownBody s = cond (s .proposing) (s .body) noBody
 
--- own number, lookback, ceiling, allowance; sixteen weights; round, is there a proposal, number of blocks; the proposal's body, all 0 where there is none
+-- own number, lookback, ceiling, allowance; sixteen weights; round, is there a proposal, number of blocks; the proposal's body, all 0 where there is none; margin
 unfoldable pub stateWords : State → List ℕ
 stateWords s =
     (s .own .0 ∷ s .settings .lookback ∷ s .settings .ceiling .0 ∷ s .settings .allowance ∷ [])
     ++ sixteen (s .settings .weights)
     ++ (s .round .0 ∷ cond (s .proposing) 1 0 ∷ s .blocks ∷ [])
     ++ bodyWords (ownBody s)
+    ++ (s .settings .margin ∷ [])

@@ -14,7 +14,7 @@ unfoldable pub tidy : State → State
 tidy s =
     record {
       own = s .own;
-      settings = record { lookback = s .settings .lookback; ceiling = s .settings .ceiling; allowance = s .settings .allowance; weights = sixteen (s .settings .weights) };
+      settings = record { lookback = s .settings .lookback; ceiling = s .settings .ceiling; allowance = s .settings .allowance; weights = sixteen (s .settings .weights); margin = s .settings .margin };
       round = s .round;
       proposing = s .proposing;
       body = cond (s .proposing) (tidyBody (s .body)) noBody;

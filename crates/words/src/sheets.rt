@@ -17,7 +17,7 @@ pub fn sheet_reads(w: &[u32]) -> bool
     if w.len() < SHEET {
         return false;
     }
-    for k in 0..19usize {
+    for k in 0..20usize {
         if 1 < w[k * 2] {
             return false;
         }
@@ -27,7 +27,7 @@ pub fn sheet_reads(w: &[u32]) -> bool
 
 // Setting k of the words: blank, or written with the value.
 fn setting_in(w: &[u32], k: usize) -> Setting
-    requires { ⌜ (sheetLength ≤ length (now w)) × (k < 19) ⌝ }
+    requires { ⌜ (sheetLength ≤ length (now w)) × (k < 20) ⌝ }
     ensures { λ v. ⌜ v ≡ settingIn (now (w .entry)) k ⌝ }
 {
     if w[k * 2] == 0 {
@@ -64,5 +64,6 @@ pub fn sheet_in(w: &[u32]) -> Sheet
         ceiling: setting_in(w, 1),
         allowance: setting_in(w, 2),
         weights: cells_in(w),
+        margin: setting_in(w, 19),
     }
 }

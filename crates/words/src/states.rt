@@ -60,6 +60,7 @@ fn settings_in(w: &[u32]) -> Settings
         ceiling: Round(w[2]),
         allowance: w[3],
         weights: weights_in(w),
+        margin: w[37],
     }
 }
 
@@ -123,8 +124,10 @@ pub fn put_state(w: &mut [u32], s: State)
         settings.allowance,
     ];
     let middle = [s.round.0, flag(s.proposing), s.blocks];
+    let last = [settings.margin];
     bodies::stretch::put(w, 0, &head);
     crate::put_weights(w, 4, weights);
     bodies::stretch::put(w, 20, &middle);
     bodies::put_body(w, 23, b);
+    bodies::stretch::put(w, 37, &last);
 }

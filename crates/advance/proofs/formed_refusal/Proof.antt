@@ -4,8 +4,8 @@ use lib.ListN.{drop}
 use borrow.Author.Tests.{le-leb, lt-leb}
 use Rattle.base.specs.Checks.{Checks, refusal}
 use Rattle.base.proofs.CheckLaws.{passes-all, refuses, passes}
-use Rattle.sheet.specs.Sheets.{marginOf}
 use Rattle.committee.specs.Committees.{quorum}
+use Rattle.committee.proofs.CommitteeLaws.{margin-fits}
 use Rattle.rules.specs.Tests.{committeeIn, unknown, authorsIn}
 use Rattle.rules.specs.Calls.{advancing}
 use Rattle.rules.proofs.TestLaws.{unknown-not}
@@ -51,12 +51,15 @@ past₂ c = past₁ (c .before) ∙ passes 8 _ (by-known (c .before) ∙ c .if2 
 committee-requires : tie.Need-committee-requires
 committee-requires c κs = let p = entry (c .before) .pre in (readable _ _ (p .0), p .1)
 
+is-quorum-requires : tie.Need-is-quorum-requires
+is-quorum-requires c κs = let w = c .before .before in (margin-fits (entry (w .before .before) .pre .0 .settings), w .committee .ensures .1)
+
 -- where the authors are weighed: the place where the committee is known
 abbrev told : tie.After-is-quorum → tie.Else2
 told c = c .before .before .before .before
 
 by-quorum : (c : tie.After-is-quorum) → let a = entry (told c .before) .args in
-    not (quorum (marginOf (a .s .settings)) (committeeIn (a .s .settings) (view (a .s) (a .t .now)) (a .s .round .0)) (authorsIn (a .s .settings) (view (a .s) (a .t .now)) (a .s .round .0))) ≡ not (c .is-quorum .result)
+    not (quorum (a .s .settings .margin) (committeeIn (a .s .settings) (view (a .s) (a .t .now)) (a .s .round .0)) (authorsIn (a .s .settings) (view (a .s) (a .t .now)) (a .s .round .0))) ≡ not (c .is-quorum .result)
 by-quorum c = thin-by _ _ (entry (told c .before) .pre .0) (c .before .before .before .committee .ensures .0) (c .before .before .held-set .ensures) (c .is-quorum .ensures)
 
 returns-3 : tie.Need-returns-3
@@ -65,8 +68,8 @@ returns-3 c = sym (past₂ (told (c .before)) ∙ refuses 28 _ (by-quorum (c .be
 returns-4 : tie.Need-returns-4
 returns-4 c = sym (past₂ (told (c .before)) ∙ passes 28 _ (by-quorum (c .before) ∙ c .if3 .left) ∙ passes-all)
 
--- the needs that the search finds stand in the list without a name
+-- a need that the search finds stands in the list without a name
 pub formed-refusal-spec : {M : Type 1} → statement M
 formed-refusal-spec =
     tie.close
-    (tie.spec returns known-requires returns-2 committee-requires (λ c κs. search needs) (λ c κs. search needs) returns-3 returns-4)
+    (tie.spec returns known-requires returns-2 committee-requires (λ c κs. search needs) is-quorum-requires returns-3 returns-4)

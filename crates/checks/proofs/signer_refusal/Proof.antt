@@ -6,9 +6,9 @@ use lib.ListN.{drop}
 use Rattle.base.specs.Checks.{Checks, refusal}
 use Rattle.base.proofs.CheckLaws.{passes-all, refuses, passes}
 use Rattle.base.specs.Sets.{isIn}
-use Rattle.sheet.specs.Sheets.{marginOf}
 use Rattle.sheet.specs.Ranges.{weightIn}
 use Rattle.committee.specs.Committees.{outsider, short}
+use Rattle.committee.proofs.CommitteeLaws.{margin-fits}
 use Rattle.rules.specs.Tests.{committeeIn, unknown}
 use Rattle.rules.proofs.TestLaws.{unknown-not}
 use Rattle.state.specs.View.{view}
@@ -75,13 +75,13 @@ returns-2 c = sym (past₁ (computed (c .before) .before) ∙ refuses _ _ (by-ou
 abbrev inside : tie.After-is-short → tie.Else2
 inside c = c .before .before
 
-by-short : (c : tie.After-is-short) → let s = entry₂ (inside c .before) in short (marginOf (s .args .s .settings)) (weights s) (isIn (s .args .signers)) ≡ c .is-short .result
+by-short : (c : tie.After-is-short) → let s = entry₂ (inside c .before) in short (s .args .s .settings .margin) (weights s) (isIn (s .args .signers)) ≡ c .is-short .result
 by-short c =
     let o = inside c .before in
-    asked (λ (w : List ℕ). short (marginOf (entry₂ o .args .s .settings)) (weightIn w) (isIn (entry₂ o .args .signers))) (computed o .committee .ensures .0) (c .is-short .ensures) refl
+    asked (λ (w : List ℕ). short (entry₂ o .args .s .settings .margin) (weightIn w) (isIn (entry₂ o .args .signers))) (computed o .committee .ensures .0) (c .is-short .ensures) refl
 
 is-short-requires : tie.Need-is-short-requires
-is-short-requires c κs = search needs
+is-short-requires c κs = let o = c .before .before in (margin-fits (entry₂ o .pre .0 .settings), computed o .committee .ensures .1)
 
 returns-3 : tie.Need-returns-3
 returns-3 c = sym (past₂ (inside (c .before)) ∙ refuses _ _ (by-short (c .before) ∙ c .if3 .taken))

@@ -6,7 +6,6 @@ use Rattle.base.specs.Checks.{Checks, refusal}
 use Rattle.base.proofs.CheckLaws.{passes-all, refuses, passes}
 use Rattle.base.specs.Sets.{isIn}
 use Rattle.terms.specs.Proposals.{contentWith}
-use Rattle.sheet.specs.Sheets.{marginOf}
 use Rattle.sheet.specs.Ranges.{weightIn}
 use Rattle.committee.specs.Committees.{quorum}
 use Rattle.committee.specs.Leaders.{members}
@@ -94,13 +93,13 @@ abbrev linked : tie.After-lacks-previous-quorum → tie.Else3
 linked c = c .before .before .before
 
 by-thin : (c : tie.After-lacks-previous-quorum) → let a = entry₃ (linked c) .args in
-    above (a .s .round .0) (not (quorum (marginOf (a .s .settings)) (committeeIn (a .s .settings) (view (a .s) (a .t .now)) (a .s .round .0 - 1)) (isIn (a .b .previous)))) ≡ c .lacks-previous-quorum .result
+    above (a .s .round .0) (not (quorum (a .s .settings .margin) (committeeIn (a .s .settings) (view (a .s) (a .t .now)) (a .s .round .0 - 1)) (isIn (a .b .previous)))) ≡ c .lacks-previous-quorum .result
 by-thin c =
     let a = entry₃ (linked c) .args in
-    asked (λ w. above (a .s .round .0) (not (quorum (marginOf (a .s .settings)) (weightIn w) (isIn (a .b .previous))))) (pair₃ (linked c) .committees .ensures .before) (c .lacks-previous-quorum .ensures) refl
+    asked (λ w. above (a .s .round .0) (not (quorum (a .s .settings .margin) (weightIn w) (isIn (a .b .previous))))) (pair₃ (linked c) .committees .ensures .before) (c .lacks-previous-quorum .ensures) refl
 
 lacks-previous-quorum-requires : tie.Need-lacks-previous-quorum-requires
-lacks-previous-quorum-requires c κs = let k = c .before .before in (margin-fits (entry₃ k .args .s .settings), pair₃ k .committees .ensures .bounded-before)
+lacks-previous-quorum-requires c κs = let k = c .before .before in (margin-fits (entry₃ k .pre .0 .settings), pair₃ k .committees .ensures .bounded-before)
 
 returns-4 : tie.Need-returns-4
 returns-4 c = sym (past₃ (linked (c .before)) ∙ refuses _ _ (by-thin (c .before) ∙ c .if4 .taken))

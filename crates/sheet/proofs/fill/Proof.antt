@@ -15,11 +15,17 @@ value-or-requires-3 c κs = search needs
 weights-requires : tie.Need-weights-requires
 weights-requires c κs = search needs
 
+value-or-requires-4 : tie.Need-value-or-requires-4
+value-or-requires-4 c κs = search needs
+
 returns : tie.Need-returns
 unfolding filled
-returns c = simp (c .weights .ensures, c .before .value-or3 .ensures, c .before .before .value-or2 .ensures, c .before .before .before .value-or .ensures)
+returns c =
+    let w = c .before in
+    let a = w .before in
+    simp (c .value-or4 .ensures, w .weights .ensures, a .value-or3 .ensures, a .before .value-or2 .ensures, a .before .before .value-or .ensures)
 
 pub fill-spec : {M : Type 1} → statement M
 fill-spec =
     tie.close
-    (tie.spec value-or-requires value-or-requires-2 value-or-requires-3 weights-requires returns)
+    (tie.spec value-or-requires value-or-requires-2 value-or-requires-3 weights-requires value-or-requires-4 returns)

@@ -228,8 +228,8 @@ module _ {M : Type 1} (𝓤 : URA M) (H : Heap 𝓤) (A : Atoms 𝓤) (W : Given
         nothing ! $ owned ! usize (Is usize) (uint-makes 𝓤 H A W w64) (y .turns) _ (has .1 .1 .0) $ fjoin ! $ owned ! B.the-row (Is B.the-row) (LL.makes B.the-type B′.the-plain 𝓤 H A) (y .progress) _ (has .1 .1 .1 .0) $ fjoin ! $ owned ! S.the-row (Is S.the-row) (LL.makes S.the-type S′.the-plain 𝓤 H A) (y .state) _ (has .1 .0) $ fjoin ! $
         move ! (1 ∷ 0 ∷ []) $ fjoin ! $ move ! (2 ∷ 0 ∷ []) $ fjoin ! $ move ! (3 ∷ []) $ move ! (7 ∷ 0 ∷ []) $ join ! $ move ! (3 ∷ 0 ∷ []) $ join ! $
         use2 W (raw (Run 𝓤 H A mem run .pre (to₂ y))) (asked₂ y (begun .ready)) $
-        -- [what run asks; row; κ₀; state; κ₃; answers; _14; …]; in what begin gives, the state lies at byte 8, the turns at 232, the progress at 240
-        calls-at ! fm (Run 𝓤 H A mem run) known₂ (to₂ y) (and-then ! (load ! (from ! (stop !)) (look ! 10 refl)) (and-then ! (load ! (from ! (stop !)) (look ! 28 refl)) (and-then ! (load ! (from ! (fld ! {τ = S′.mir} {d = 8} refl (stop !))) (look-in ! 24 (sub ! 1 {τ = S′.mir} {d = 8} refl (whole !)))) (and-then ! (load ! (from ! (fld ! {τ = B′.mir} {d = 240} refl (stop !))) (look-in ! 24 (sub ! 3 {τ = B′.mir} {d = 240} refl (whole !)))) (and-then ! (load ! (from ! (fld ! {τ = tyInt w64} {d = 232} refl (stop !))) (look-in ! 24 (sub ! 2 {τ = tyInt w64} {d = 232} refl (whole !)))) (no-more !)))))) (λ u₂.
+        -- [what run asks; row; κ₀; state; κ₃; answers; _14; …]; in what begin gives, the state lies at byte 8, the turns at 240, the progress at 248
+        calls-at ! fm (Run 𝓤 H A mem run) known₂ (to₂ y) (and-then ! (load ! (from ! (stop !)) (look ! 10 refl)) (and-then ! (load ! (from ! (stop !)) (look ! 28 refl)) (and-then ! (load ! (from ! (fld ! {τ = S′.mir} {d = 8} refl (stop !))) (look-in ! 24 (sub ! 1 {τ = S′.mir} {d = 8} refl (whole !)))) (and-then ! (load ! (from ! (fld ! {τ = B′.mir} {d = 248} refl (stop !))) (look-in ! 24 (sub ! 3 {τ = B′.mir} {d = 248} refl (whole !)))) (and-then ! (load ! (from ! (fld ! {τ = tyInt w64} {d = 240} refl (stop !))) (look-in ! 24 (sub ! 2 {τ = tyInt w64} {d = 240} refl (whole !)))) (no-more !)))))) (λ u₂.
         use1 W (later (some (λ (r : Progress). ((‵ (flft κ₁ q₁) ⊛ ‵ (flft κ₂ q₂) ⊛ ‵ ftrue) ⊛ ‵ (B.the-row .own r (u₂ ∷ []))) ⊛ raw (ensured 𝓤 H A runs.ended (runs.clauses 𝓤 H A mem run) (κ₁, (κ₂, tt)) (given₂ y) tt r)))) (id⊢ 𝓤 _) $ await ! tt $ pick ! (λ r.
         split ! $ move ! (1 ∷ []) $ use1 W (some (λ (zs : List ℕ × (Unit {0} × (Unit {0} × (Unit {0} × (Unit {0} × Unit {0}))))). ‵ (lasts runs.ended (κ₁, (κ₂, tt)) (given₂ y) zs) ⊛ raw (fact 𝓤 (Said₂ y r (zs .0))))) (id⊢ 𝓤 _) $ pick ! (λ us.
         split ! $ move ! (1 ∷ []) $ heard ! (Said₂ y r (us .0)) (λ ran. fsplit ! $ fsplit ! $ move ! (1 ∷ []) $ feqL ! (λ e₁. move ! (1 ∷ []) $ drop ! $

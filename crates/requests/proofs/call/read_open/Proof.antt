@@ -4,21 +4,25 @@ use mathlib.Core.Option.{Option, none, some}
 use Prim.Native.Nat.{ℕ}
 use borrow.Author.Tests.{not-true, not-false}
 use Rattle.sheet.specs.declared.Setting.{Setting}
+use Rattle.sheet.specs.declared.Cell.{Cell}
 use Rattle.fields.specs.Fields.{fieldsFrom}
 use Rattle.base.specs.Options.{ifThere}
 use Rattle.fields.specs.Cursor.{found}
 use Rattle.requests.specs.Settings.{setting}
-use Rattle.requests.specs.Requests.{nextBy, weightsThen, openOf}
+use Rattle.requests.specs.Requests.{nextBy, weightsThen, marginThen, openOf}
 use Rattle.requests.specs.declared.Reading.{Reading}
 use Rattle.requests.specs.Readings.{unreadable, openAs, settingFound}
-use Rattle.requests.proofs.RequestLaws.{number-by, setting-by, weights-go, weights-stop}
+use Rattle.requests.proofs.RequestLaws.{number-by, setting-by, weights-go, weights-stop, margin-by}
 use borrow.Author.Needs.{needs}
 use Rattle.requests.proofs.call.read_open.Statement.{statement}
 use Rattle.requests.proofs.call.read_open.Tie as tie
 
--- what is left of an open after its allowance, its ceiling, its lookback and its own number
+-- what is left of an open after its margin, its allowance, its ceiling, its lookback and its own number
+abbrev marginLeft : ℕ → Setting → Setting → Setting → List Cell → Setting → Reading
+marginLeft o l c a w m = openAs o (record { lookback = l; ceiling = c; allowance = a; weights = w; margin = m })
+
 abbrev weightsLeft : ℕ → Setting → Setting → Setting → List (List ℕ) → Reading
-weightsLeft o l c a fs = weightsThen fs (λ w. openAs o (record { lookback = l; ceiling = c; allowance = a; weights = w }))
+weightsLeft o l c a fs = weightsThen fs (λ w fs. marginThen fs (marginLeft o l c a w))
 
 abbrev allowanceLeft : ℕ → Setting → Setting → List (List ℕ) → Reading
 allowanceLeft o l c fs = nextBy setting fs (weightsLeft o l c)
@@ -100,6 +104,18 @@ up5 c = allowance c .before .before
 told5 : (c : tie.After-weights-at) → Told (start4 (up5 c)) (some (allowance c .allowance .given .0 .0)) (up5 c .setting-at3 .result .next) (left4 (up5 c))
 told5 c = told4 (up5 c) (some _) (allowance c .allowance .given .1)
 
+-- the margin
+abbrev up6 : tie.After-margin-at → tie.After-weights-at
+up6 c = c .before .before .before
+
+abbrev left6 : tie.After-margin-at → Setting → Reading
+left6 c = let w = up6 c in let a = up5 w in
+    marginLeft (own (up3 (up4 a)) .own .given .0 .0) (lookback (up4 a) .lookback .given .0 .0) (ceiling a .ceiling .given .0 .0) (allowance w .allowance .given .0 .0) (w .weights-at .result .cells)
+
+told6 : (c : tie.After-margin-at) (o : Option Setting) → c .margin-at .result ≡ settingFound o
+    → openOf (fieldsFrom (start4 (up5 (up6 c)) .args .rec .now) (start4 (up5 (up6 c)) .args .at)) ≡ ifThere o unreadable (left6 c)
+told6 c o e = let w = up6 c in told5 w ∙ weights-go _ (w .weights-at .ensures) (not-false _ (c .before .if1 .left)) ∙ margin-by _ _ (c .margin-at .ensures) o e
+
 read-number-requires : tie.Need-read-number-requires
 read-number-requires c κs = search needs
 
@@ -167,13 +183,28 @@ unreadable-requires-5 : tie.Need-unreadable-requires-5
 unreadable-requires-5 c κs = search needs
 
 returns-5 : tie.Need-returns-5
-returns-5 c = let t = c .before in let w = t .before .before in c .unreadable5 .ensures ∙ sym (told5 w ∙ weights-stop _ _ (w .weights-at .ensures) (not-true _ (t .if1 .taken)))
+returns-5 c = let t = c .before in let w = t .before .before in c .unreadable5 .ensures ∙ sym (told5 w ∙ weights-stop _ (w .weights-at .ensures) (not-true _ (t .if1 .taken)))
+
+margin-at-requires : tie.Need-margin-at-requires
+margin-at-requires c κs = search needs
+
+enum-known-margin : tie.Need-enum-known-margin
+enum-known-margin c = search needs
+
+enum-told-5 : tie.Need-enum-told-5
+enum-told-5 c = search needs
+
+unreadable-requires-6 : tie.Need-unreadable-requires-6
+unreadable-requires-6 c κs = search needs
+
+returns-6 : tie.Need-returns-6
+returns-6 c = let t = c .before in c .unreadable6 .ensures ∙ sym (told6 (t .before .before) none (t .enum-told5 .given .1))
 
 open-of-requires : tie.Need-open-of-requires
 open-of-requires c κs = search needs
 
-returns-6 : tie.Need-returns-6
-returns-6 c = let t = c .before .before in let w = t .before .before in c .open-of .ensures ∙ sym (told5 w ∙ weights-go _ _ (w .weights-at .ensures) (not-false _ (t .if1 .left)))
+returns-7 : tie.Need-returns-7
+returns-7 c = let m = c .before .before .before in c .open-of .ensures ∙ sym (told6 (m .before .before) (some _) (m .margin .given .1))
 
 pub read-open-spec : {M : Type 1} → statement M
 read-open-spec =
@@ -202,5 +233,10 @@ read-open-spec =
     weights-at-requires
     unreadable-requires-5
     returns-5
+    margin-at-requires
+    enum-known-margin
+    enum-told-5
+    unreadable-requires-6
+    returns-6
     open-of-requires
-    returns-6)
+    returns-7)

@@ -1,15 +1,17 @@
 use mathlib.Core.Path.{_≡_, refl, sym, ap, _∙_}
 use native.Mathlib.Omega.{arith}
 use native.Mathlib.Numerals.{add-one}
+use mathlib.Core.Bool.{true≢false, false≢true}
 use mathlib.Core.List.{List}
+use mathlib.Core.Option.{Option, some}
 use Prim.Native.Nat.{ℕ, suc, _+_, _-_, _<_, _≤_}
-use lib.ListN.{length, take, length-set}
+use lib.ListN.{length, take, drop, length-set}
 use lib.Seq.{take-suc-set, take-all}
 use Rattle.sheet.specs.declared.Cell.{Cell}
 use Rattle.fields.specs.Fields.{fieldsFrom}
 use Rattle.requests.specs.Requests.{cellsIn}
-use Rattle.requests.specs.Readings.{weightsOf}
-use Rattle.requests.proofs.SettingLaws.{following, following-all, cells-more, cells-stop, cells-end, cells-past}
+use Rattle.fields.specs.Cursor.{rest}
+use Rattle.requests.proofs.SettingLaws.{following, following-all, cells-more, cells-stop, cells-end, rest-drop}
 use borrow.Author.Needs.{needs}
 use Rattle.requests.proofs.setting.weights_at.Statement.{statement}
 use Rattle.requests.proofs.setting.weights_at.Tie as tie
@@ -20,6 +22,7 @@ record Reading (rec : List ℕ) (at : ℕ) (cells : List Cell) (place i : ℕ) :
   sixteen : length cells ≡ 16
   inside : place ≤ length rec + 1
   left : cellsIn 16 (fieldsFrom rec at) ≡ following (take i cells) (cellsIn (16 - i) (fieldsFrom rec place))
+  passed : fieldsFrom rec place ≡ drop i (fieldsFrom rec at)
 
 abbrev Inv-loop : tie.InvT-loop
 Inv-loop rec at cells₀ place₀ i₀ cells place i = Reading rec at cells place i
@@ -28,7 +31,7 @@ abbrev μ-loop : tie.MeasureT-loop
 μ-loop rec at cells₀ place₀ i₀ cells place i = 16 - i
 
 loop-holds : tie.Need-loop-holds Inv-loop μ-loop
-loop-holds c = record { so-far = omega arith; sixteen = refl; inside = c .before .pre; left = following-all _ }
+loop-holds c = record { so-far = omega arith; sixteen = refl; inside = c .before .pre; left = following-all _; passed = refl }
 
 setting-at-requires : tie.Need-setting-at-requires Inv-loop μ-loop
 setting-at-requires c κs = search needs
@@ -39,15 +42,17 @@ enum-known-x c = search needs
 enum-told : tie.Need-enum-told Inv-loop μ-loop
 enum-told c = search needs
 
-no-weights-requires : tie.Need-no-weights-requires Inv-loop μ-loop
-no-weights-requires c κs = search needs
-
 returns : tie.Need-returns Inv-loop μ-loop
 returns c =
-    let a = c .before .before .before .before .before .before .before .args in
-    let l = c .before .before .before .before .before .loop in
+    let a = c .before .before .before .before .before .before .args in
+    let l = c .before .before .before .before .loop in
     let e : 16 - l .i ≡ suc (16 - (l .i + 1)) = omega arith in
-    c .no-weights .ensures ∙ sym (ap weightsOf (l .inv .left ∙ cells-stop (take (l .i) (l .cells)) e (a .rec .now) (l .place) (c .before .before .before .setting-at .ensures .0) (c .before .enum-told .given .1)))
+    record {
+      readable = λ h. absurd (false≢true h);
+      not-readable = λ h. l .inv .left ∙ cells-stop (take (l .i) (l .cells)) e (a .rec .now) (l .place) (c .before .before .setting-at .ensures .0) (c .enum-told .given .1);
+      fields-after = λ h. absurd (false≢true h);
+      place = l .inv .inside;
+    }
 
 mul-cells : tie.Need-mul-cells Inv-loop μ-loop
 mul-cells c = search needs
@@ -74,25 +79,22 @@ loop-again c =
       sixteen = simp length-set (l .inv .sixteen);
       inside = s .1 .place;
       left = l .inv .left ∙ m ∙ rw (add-one (l .i), take-suc-set (l .cells) (l .i) _ h) refl;
+      passed = s .1 .fields-after ∙ ap rest (l .inv .passed) ∙ rw (add-one (l .i)) (rest-drop (l .i) _);
     }
-
-no-weights-requires-2 : tie.Need-no-weights-requires-2 Inv-loop μ-loop
-no-weights-requires-2 c κs = search needs
 
 returns-2 : tie.Need-returns-2 Inv-loop μ-loop
 returns-2 c =
-    let a = c .before .before .before .before .before .args in
-    let l = c .before .before .before .loop in
+    let a = c .before .before .before .args in
+    let l = c .before .loop in
     let e : 16 - l .i ≡ 0 = omega arith in
-    c .no-weights2 .ensures ∙ sym (ap weightsOf (l .inv .left ∙ cells-past (take (l .i) (l .cells)) e (a .rec .now) (l .place) (c .before .if1 .taken)))
-
-returns-3 : tie.Need-returns-3 Inv-loop μ-loop
-returns-3 c =
-    let a = c .before .before .before .before .args in
-    let l = c .before .before .loop in
-    let e : 16 - l .i ≡ 0 = omega arith in
+    let all : l .i ≡ 16 = omega (arith, l .inv .so-far) in
     let t = take-all (l .i) (l .cells) (omega (arith, l .inv .sixteen)) in
-    rw (← t) (sym (ap weightsOf (l .inv .left ∙ cells-end (take (l .i) (l .cells)) e (a .rec .now) (l .place) (c .if1 .left))))
+    record {
+      readable = λ h. l .inv .left ∙ cells-end (take (l .i) (l .cells)) e (fieldsFrom (a .rec .now) (l .place)) ∙ ap {B = Option (List Cell)} some t;
+      not-readable = λ h. absurd (true≢false h);
+      fields-after = λ h. l .inv .passed ∙ ap (λ (k : ℕ). drop k (fieldsFrom (a .rec .now) (a .at))) all;
+      place = l .inv .inside;
+    }
 
 pub weights-at-spec : {M : Type 1} → statement M
 weights-at-spec =
@@ -104,13 +106,10 @@ weights-at-spec =
     setting-at-requires
     enum-known-x
     enum-told
-    no-weights-requires
     returns
     mul-cells
     array-set-from-cells
     add-i
     loop-less
     loop-again
-    no-weights-requires-2
-    returns-2
-    returns-3)
+    returns-2)

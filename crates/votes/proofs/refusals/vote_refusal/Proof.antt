@@ -8,9 +8,9 @@ use Rattle.base.specs.Sets.{isIn}
 use Rattle.base.proofs.SetLaws.{in-member}
 use Rattle.agreement.specs.Weights.{total}
 use Rattle.store.specs.Table.{heldSet}
-use Rattle.sheet.specs.Sheets.{marginOf}
 use Rattle.sheet.specs.Ranges.{weightIn}
 use Rattle.committee.specs.Committees.{boundOf}
+use Rattle.committee.proofs.CommitteeLaws.{margin-fits}
 use Rattle.state.specs.declared.State.{State}
 use Rattle.votes.specs.Votes.{votesFor}
 use Rattle.votes.specs.Checks.{committeeOn}
@@ -56,11 +56,11 @@ votes c =
     let p = entry a .pre in
     c .votes-for .ensures ∙ ap₂ (λ (w : List ℕ) (x : ℕ). votesFor (T a) w (R a) x) (p .committee) (led-on _ _ (p .formed) (p .from) _ (p .leaders) (p .above))
 
-bound : (c : tie.After-fault-bound) → let a = asked c .before in c .fault-bound .result .0 ≡ boundOf (marginOf (S a .settings)) (total 16 (weightIn (committeeOn (S a) (T a) (R a))))
+bound : (c : tie.After-fault-bound) → let a = asked c .before in c .fault-bound .result .0 ≡ boundOf (S a .settings .margin) (total 16 (weightIn (committeeOn (S a) (T a) (R a))))
 bound c =
     let a = asked c .before in
     let p = entry a .pre in
-    c .fault-bound .ensures ∙ ap (boundOf (marginOf (S a .settings))) (c .before .total-weight .ensures ∙ ap (λ (w : List ℕ). total 16 (weightIn w)) (p .committee))
+    c .fault-bound .ensures ∙ ap (boundOf (S a .settings .margin)) (c .before .total-weight .ensures ∙ ap (λ (w : List ℕ). total 16 (weightIn w)) (p .committee))
 
 sub-a : tie.Need-sub-a
 sub-a c = search needs
@@ -87,7 +87,7 @@ total-weight-requires : tie.Need-total-weight-requires
 total-weight-requires c κs = search needs
 
 fault-bound-requires : tie.Need-fault-bound-requires
-fault-bound-requires c κs = search needs
+fault-bound-requires c κs = margin-fits (entry (c .before .before) .pre .formed .settings)
 
 votes-for-requires : tie.Need-votes-for-requires
 votes-for-requires c κs =

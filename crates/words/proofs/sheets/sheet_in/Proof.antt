@@ -16,9 +16,15 @@ setting-in-requires-3 c κs = search needs
 cells-in-requires : tie.Need-cells-in-requires
 cells-in-requires c κs = search needs
 
+setting-in-requires-4 : tie.Need-setting-in-requires-4
+setting-in-requires-4 c κs = search needs
+
 returns : tie.Need-returns
 unfolding sheetIn
-returns c = rw (c .cells-in .ensures, c .before .setting-in3 .ensures, c .before .before .setting-in2 .ensures, c .before .before .before .setting-in .ensures) refl
+returns c =
+    let w = c .before in
+    let a = w .before in
+    rw (c .setting-in4 .ensures, w .cells-in .ensures, a .setting-in3 .ensures, a .before .setting-in2 .ensures, a .before .before .setting-in .ensures) refl
 
 pub sheet-in-spec : {M : Type 1} → statement M
 sheet-in-spec =
@@ -28,4 +34,5 @@ sheet-in-spec =
     setting-in-requires-2
     setting-in-requires-3
     cells-in-requires
+    setting-in-requires-4
     returns)

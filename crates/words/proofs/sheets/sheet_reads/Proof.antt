@@ -12,17 +12,17 @@ use Rattle.words.proofs.sheets.sheet_reads.Statement.{statement}
 use Rattle.words.proofs.sheets.sheet_reads.Tie as tie
 
 abbrev Inv-loop : tie.InvT-loop
-Inv-loop w k₀ k = AllSoFar (λ i. leb (word w (i * 2)) 1) 19 k
+Inv-loop w k₀ k = AllSoFar (λ i. leb (word w (i * 2)) 1) 20 k
 
 abbrev μ-loop : tie.MeasureT-loop
-μ-loop w k₀ k = 19 - k
+μ-loop w k₀ k = 20 - k
 
 returns : tie.Need-returns Inv-loop μ-loop
 unfolding sheetReads
 returns c = rw (lt-leb sheetLength _ (c .if1 .taken)) refl
 
 loop-holds : tie.Need-loop-holds Inv-loop μ-loop
-loop-holds c = all-start _ 19
+loop-holds c = all-start _ 20
 
 mul-if2 : tie.Need-mul-if2 Inv-loop μ-loop
 mul-if2 c = search needs
@@ -37,7 +37,7 @@ returns-2 : tie.Need-returns-2 Inv-loop μ-loop
 unfolding sheetReads
 returns-2 c =
     let w = c .before .before .before .before .before .args .w .now in
-    rw (le-leb sheetLength _ (c .before .before .before .before .if1 .left)) (sym (all-fails (λ i. leb (word w (i * 2)) 1) 19 (c .before .before .before .loop .k) (omega arith) (lt-leb _ 1 (c .if2 .taken))))
+    rw (le-leb sheetLength _ (c .before .before .before .before .if1 .left)) (sym (all-fails (λ i. leb (word w (i * 2)) 1) 20 (c .before .before .before .loop .k) (omega arith) (lt-leb _ 1 (c .if2 .taken))))
 
 add-k : tie.Need-add-k Inv-loop μ-loop
 add-k c = search needs

@@ -16,9 +16,12 @@ shared-slice-read-t8 c = search needs
 weights-in-requires : tie.Need-weights-in-requires
 weights-in-requires c κs = search needs
 
+shared-slice-read-t11 : tie.Need-shared-slice-read-t11
+shared-slice-read-t11 c = search needs
+
 returns : tie.Need-returns
 unfolding settingsIn
-returns c = rw (c .weights-in .ensures) refl
+returns c = rw (c .before .weights-in .ensures) refl
 
 pub settings-in-spec : {M : Type 1} → statement M
 settings-in-spec =
@@ -28,4 +31,5 @@ settings-in-spec =
     shared-slice-read-t5
     shared-slice-read-t8
     weights-in-requires
+    shared-slice-read-t11
     returns)
