@@ -83,7 +83,7 @@ extern "C" {
 #define FORGELILAC_STATE_PROPOSED 21  /* is there a proposal: 0 or 1 */
 #define FORGELILAC_STATE_BLOCKS 22    /* number of blocks */
 #define FORGELILAC_STATE_BODY 23      /* body of the proposal */
-#define FORGELILAC_STATE_MARGIN 37
+#define FORGELILAC_STATE_MARGIN 37    /* margin, 3 to 5 */
 
 /* ---- words of a body, a proposal, a certificate, a held certificate, a listed one, an entry of a preview */
 
