@@ -17,12 +17,13 @@ use Rattle.terms.specs.declared.Transaction.the-variants.{Bond, Unbond, Entry}
 use Rattle.terms.specs.Transactions.{kindOf, numberOf, amountOf, inRange}
 use Rattle.terms.specs.Proposals.{Content, badTransactions, badPreviousSet}
 use Rattle.terms.proofs.ProposalLaws.{bad-transactions-tab}
-use Rattle.store.specs.Table.{Within, heldSet, endorsedSet, heldAt, markAt, nthOf}
+use Rattle.store.specs.Table.{Row, Within, heldSet, endorsedSet, heldAt, markAt, nthOf}
 use Rattle.store.proofs.TableLaws.{held-member}
-use Rattle.writes.specs.Writes.{putCertificate, setEndorsed, clearEndorsed, setMark, setBlock, clearUsed}
+use Rattle.writes.specs.Writes.{putCertificate, setEndorsed, clearEndorsed, clearHeld, setMark, setBlock, clearUsed}
 use Rattle.writes.proofs.WriteLaws.{samePlace, same-place}
 use Rattle.writes.proofs.PutLaws.{record-previous, record-count, record-endorsers, endorsers-put, tab-nth, word-at-place, word-elsewhere, triple-put, held-set-put-same, held-set-put-other, endorsed-set-put, held-put, mark-put, mark-kept, previous-put, count-put}
 use Rattle.writes.proofs.EndorseLaws.{OnlyEndorsed, held-set-endorse, held-endorse, word-endorse, mark-endorse, set-endorsed, clear-endorsed, endorsed-set-lt, endorsed-clear-lt}
+use Rattle.writes.proofs.HeldLaws.{OnlyHeld, clear-held, held-clear, held-clear-lt, endorsed-set-held, word-held, mark-held}
 use Rattle.writes.proofs.MarkLaws.{OnlyMarks, only-all, only-mark, only-block, held-set-marked, endorsed-set-marked, held-marked, word-marked, mark-set, mark-block}
 use Rattle.writes.proofs.ClearLaws.{held-set-cleared, endorsed-set-cleared, held-cleared}
 use Rattle.scan.specs.Scan.{tripleFits, transactionFits, rowsFit}
@@ -111,6 +112,29 @@ module _ (t : List ℕ) (m r : ℕ) (at : Within t m r) (a b n : ℕ) where
 
   pub rows-clear-endorsed : rowsFit t a b n ≡ true → rowsFit (clearEndorsed t m r) a b n ≡ true
   rows-clear-endorsed = rows-endorse (clear-endorsed t m r) (endorsed-clear-lt t m r at) a b n
+
+-- ---- a certificate held no more
+
+pub rows-clear-held : (t : List ℕ) (a q : ℕ) → Row t q → (allowance blocks n : ℕ) → rowsFit t allowance blocks n ≡ true → rowsFit (clearHeld t a q) allowance blocks n ≡ true
+rows-clear-held t a q at allowance blocks n e = rows-kept t u allowance blocks blocks n e (λ r _ _ w. row r w)
+  where
+    u : List ℕ
+    u = clearHeld t a q
+
+    o : OnlyHeld q t u
+    o = clear-held t a q at
+
+    still : (m r : ℕ) (b : Bool) → samePlace m r a q ≡ b → heldAt u m r ≡ true → heldAt t m r ≡ true
+    still m r true k h = absurd (true≢false (sym h ∙ held-clear t a q at m r ∙ rw k refl))
+    still m r false k h = sym (held-clear t a q at m r ∙ rw k refl) ∙ h
+
+    row : (r : ℕ) → RowFits t allowance blocks r → RowFits u allowance blocks r
+    row r w = record { held = held-clear-lt t a q at r (w .held); endorsed = rw (endorsed-set-held o r) (w .endorsed); records = λ m h. go m (still m r (samePlace m r a q) refl h) }
+      where
+        go : (m : ℕ) → heldAt t m r ≡ true → RecordFits u allowance blocks m r
+        go m h =
+            let i = held-member t m r h in
+            record-same (λ k l _. word-held o m r i k l) (rw (mark-held o m r i) (w .records m h .mark)) (w .records m h)
 
 -- ---- marks and block rounds
 

@@ -12,15 +12,16 @@ use Rattle.terms.specs.declared.Round.{Round}
 use Rattle.terms.specs.Proposals.{Content, contentWith, badTransactions, badPreviousSet}
 use Rattle.terms.proofs.ProposalLaws.{length-transactions}
 use Rattle.store.specs.Table.{Row, Within, blockRound}
-use Rattle.writes.specs.Writes.{putCertificate, setEndorsed, clearEndorsed, clearUsed}
+use Rattle.writes.specs.Writes.{putCertificate, setEndorsed, clearEndorsed, clearHeld, clearUsed}
 use Rattle.writes.proofs.PutLaws.{length-put, block-round-put}
 use Rattle.writes.proofs.EndorseLaws.{OnlyEndorsed, block-round-endorse, set-endorsed, clear-endorsed}
+use Rattle.writes.proofs.HeldLaws.{clear-held, block-round-held}
 use Rattle.writes.proofs.ClearLaws.{length-cleared}
-use Rattle.writes.proofs.FirstRow.{OnlyFirst, SameFirst, put-first, set-endorsed-first, clear-endorsed-first, cleared-first}
+use Rattle.writes.proofs.FirstRow.{OnlyFirst, SameFirst, put-first, clear-held-first, set-endorsed-first, clear-endorsed-first, cleared-first}
 use Rattle.queues.proofs.WordLaws.{fits-same, fits-clear}
 use Rattle.queues.specs.Words.{queuesFit}
 use Rattle.scan.proofs.FirstRow.{rows-only}
-use Rattle.scan.proofs.FitLaws.{rows-cleared, rows-put, rows-set-endorsed, rows-clear-endorsed}
+use Rattle.scan.proofs.FitLaws.{rows-cleared, rows-put, rows-set-endorsed, rows-clear-endorsed, rows-clear-held}
 use Rattle.scan.specs.Scan.{rowsFit}
 use Rattle.sheet.specs.declared.Settings.{Settings}
 use Rattle.sheet.specs.Ranges.{outOfRange, weightless}
@@ -73,6 +74,12 @@ module _ (s : State) (t : List ℕ) (f : Formed s t) where
     -- a place marked endorsed
     pub endorse-kept : Formed s (setEndorsed t a q)
     endorse-kept = marked (set-endorsed t a q) (rows-set-endorsed t a q at (s .settings .allowance) (s .blocks) (s .settings .ceiling .0) (f .rows)) (set-endorsed-first t a q z)
+
+    -- its certificate held no more
+    pub absent-kept : Formed s (clearHeld t a q)
+    absent-kept =
+        let o = clear-held t a q (at .row) in
+        written (clearHeld t a q) (o .size) (rows-clear-held t a q (at .row) (s .settings .allowance) (s .blocks) (s .settings .ceiling .0) (f .rows)) (block-round-held o) (clear-held-first t a q z)
 
     -- its mark cleared
     pub clear-kept : Formed s (clearEndorsed t a q)

@@ -16,10 +16,11 @@ use Rattle.agreement.proofs.PlaceLaws.{put-own, put-old, put-only, mark-own, ma
 use Rattle.terms.specs.Proposals.{Content}
 use Rattle.store.specs.Table.{Row, Within, heldAt, endorsedAt, markAt, certificateAt}
 use Rattle.store.proofs.TableLaws.{held-member, certificate-absent}
-use Rattle.writes.specs.Writes.{putCertificate, setEndorsed, clearEndorsed, clearUsed}
-use Rattle.writes.proofs.WriteLaws.{samePlace, same-place, other-place}
+use Rattle.writes.specs.Writes.{putCertificate, setEndorsed, clearEndorsed, clearHeld, clearUsed}
+use Rattle.writes.proofs.WriteLaws.{samePlace, same-place, place-self, other-place}
 use Rattle.writes.proofs.PutLaws.{block-round-put, endorsed-put, mark-put, mark-kept, certificate-put}
 use Rattle.writes.proofs.EndorseLaws.{OnlyEndorsed, block-round-endorse, mark-endorse, certificate-endorse, endorsed-set, endorsed-clear}
+use Rattle.writes.proofs.HeldLaws.{OnlyHeld, clear-held, block-round-held, mark-held, certificate-clear}
 use Rattle.writes.proofs.ClearLaws.{endorsed-cleared, certificate-cleared}
 use Rattle.sheet.specs.declared.Settings.{Settings}
 use Rattle.committee.specs.Chain.{isRound, holdsAt, chainOf}
@@ -121,6 +122,38 @@ module _ (n : ℕ) (t : List ℕ) (p : Content) (d : ℕ) (long : Row t n) (k : 
             rw (i .0, i .1)
             (holds-at (putCertificate t p d) j (p .author) (p .round) ∙ rw (mark-put t p d at, ne-eqb 0 j (omega arith)) (sym (free-holds-none t j (p .author) (p .round) free)))
         here j a r z false e = holds-same t (putCertificate t p d) j a r (certificate-put t p d at (k .few) (k .small) a r ∙ rw e refl) (λ h. mark-kept t p d at a r (held-member t a r h) e)
+
+-- ---- a certificate held no more
+
+module _ (n : ℕ) (t : List ℕ) (a q : ℕ) (row : Row t q) where
+  pub dag-absent : (m r : ℕ) → dagOf n (clearHeld t a q) m r ≡ cond (samePlace m r a q) none (dagOf n t m r)
+  unfolding dagOf
+  dag-absent m r = rw (certificate-clear t a q row m r) (go (samePlace m r a q) (isRound n r))
+    where
+      go : (b c : Bool) → cond c (cond b none (certificateAt t m r)) none ≡ cond b none (cond c (certificateAt t m r) none)
+      go true true = refl
+      go true false = refl
+      go false c = refl
+
+  -- where it was in no block the chain is as it was
+  pub chain-absent : markAt t a q ≡ 0 → (b : ℕ) → chainOf n (clearHeld t a q) b ≡ chainOf n t b
+  chain-absent free b = chain-same n t u b (λ j _ _. block-round-held o j) (λ j m r z _. here j m r z (samePlace m r a q) refl)
+    where
+      u : List ℕ
+      u = clearHeld t a q
+
+      o : OnlyHeld q t u
+      o = clear-held t a q row
+
+      gone : (j : ℕ) → holdsAt u j a q ≡ none
+      gone j = holds-at u j a q ∙ rw (certificate-clear t a q row a q, place-self a q) (cond-same (eqb (markAt u a q) j) none)
+
+      never : (j : ℕ) → 0 < j → holdsAt t j a q ≡ none
+      never j z = holds-at t j a q ∙ rw (free, ne-eqb 0 j (omega arith)) refl
+
+      here : (j m r : ℕ) → 0 < j → (b : Bool) → samePlace m r a q ≡ b → holdsAt u j m r ≡ holdsAt t j m r
+      here j m r z true e = let i = same-place m r a q e in rw (i .0, i .1) (gone j ∙ sym (never j z))
+      here j m r z false e = holds-same t u j m r (certificate-clear t a q row m r ∙ rw e refl) (λ h. mark-held o m r (held-member t m r h))
 
 -- ---- an endorsed mark set or cleared
 

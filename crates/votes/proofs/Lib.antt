@@ -1,2 +1,3 @@
 pub mod AnchorLaws
 pub mod CheckLaws
+pub mod AbsenceLaws

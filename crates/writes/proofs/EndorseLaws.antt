@@ -1,21 +1,18 @@
 -- What the table says after an endorsed mark is set or cleared.
 use mathlib.Core.Path.{_≡_, refl}
-use mathlib.Core.Bool.{Bool, true, false, not, cond, _&&_, _||_, and-true, and-false}
+use mathlib.Core.Bool.{false, cond, _||_}
 use mathlib.Core.List.{List}
 use mathlib.Core.Logic.{_≢_}
 use native.Mathlib.Decide.{ℕ-discrete}
 use Prim.Native.Nat.{ℕ, _+_, _*_, _<_, _≤_}
 use native.Mathlib.Omega.{arith}
-use lib.Dec.{eqb}
 use lib.ListN.{length, getD, set, drop, length-set}
 use lib.Seq.{getD-set-same, getD-set-other}
-use borrow.Author.Tests.{eq-eqb, ne-eqb}
-use Rattle.base.proofs.Bools.{eqb-flip}
-use Rattle.base.specs.Sets.{isIn, add, del}
-use Rattle.base.proofs.SetLaws.{add-lt, del-le, in-del}
+use Rattle.base.specs.Sets.{add, del}
+use Rattle.base.proofs.SetLaws.{add-lt, del-le}
 use Rattle.store.specs.Table.{rowLength, recordLength, recordStart, usedLength, Row, Within, heldSet, endorsedSet, blockRound, heldAt, endorsedAt, recordWord, markAt, contentAt, certificateAt}
 use Rattle.writes.specs.Writes.{setEndorsed, clearEndorsed}
-use Rattle.writes.proofs.WriteLaws.{samePlace, in-added, content-same, certificate-same, same-beyond}
+use Rattle.writes.proofs.WriteLaws.{samePlace, in-added, in-removed, content-same, certificate-same, same-beyond}
 
 -- u is t but for the endorsed set of row q
 pub record OnlyEndorsed (q : ℕ) (t u : List ℕ) : Type 0 where
@@ -96,15 +93,7 @@ module _ (t : List ℕ) (a q : ℕ) (at : Within t a q) where
 
   pub endorsed-clear : (m r : ℕ) → endorsedAt (clearEndorsed t a q) m r ≡ cond (samePlace m r a q) false (endorsedAt t m r)
   unfolding endorsedAt
-  endorsed-clear m r = by (ℕ-discrete r q)
-    where
-      off : (b c : Bool) → (not b && c) ≡ cond b false c
-      off true c = refl
-      off false c = refl
-
-      by : Dec (r ≡ q) → isIn (endorsedSet (clearEndorsed t a q) r) m ≡ cond (samePlace m r a q) false (isIn (endorsedSet t r) m)
-      by (yes e) = rw (e, endorsed-clear-same, in-del (endorsedSet t q) a m, eq-eqb q q refl, and-true (eqb m a), eqb-flip a m) (off (eqb m a) (isIn (endorsedSet t q) m))
-      by (no n) = rw (endorsed-set-other (clear-endorsed t a q) r n, ne-eqb r q n, and-false (eqb m a)) refl
+  endorsed-clear m r = in-removed (endorsedSet t) (endorsedSet (clearEndorsed t a q)) a q endorsed-clear-same (endorsed-set-other (clear-endorsed t a q)) m r
 
   pub endorsed-set-lt : (r : ℕ) → endorsedSet t r < 65536 → endorsedSet (setEndorsed t a q) r < 65536
   endorsed-set-lt = endorsed-lt (set-endorsed t a q) (λ h. rw endorsed-set-same (add-lt 16 a (endorsedSet t q) (at .member) h))

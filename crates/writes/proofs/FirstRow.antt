@@ -9,7 +9,7 @@ use Rattle.base.specs.Sets.{add, del}
 use Rattle.base.proofs.PasteLaws.{paste-below, paste-over}
 use Rattle.terms.specs.Proposals.{Content}
 use Rattle.store.specs.Table.{rowLength, recordLength, recordStart, usedLength, Within, heldSet, endorsedSet, blockRound, heldAt, endorsedAt, recordWord, previousAt, countAt, markAt, endorsersAt, contentAt, certificateAt}
-use Rattle.writes.specs.Writes.{putTransaction, recordOf, putRecord, putCertificate, setEndorsed, clearEndorsed, setMark, setBlock, clearUsed}
+use Rattle.writes.specs.Writes.{putTransaction, recordOf, putRecord, putCertificate, setEndorsed, clearEndorsed, setHeld, clearHeld, setMark, setBlock, clearUsed}
 use Rattle.writes.proofs.WriteLaws.{count-same, previous-same, endorsers-same, content-same, certificate-same, same-beyond}
 use Rattle.writes.proofs.ClearLaws.{cleared-take}
 
@@ -110,6 +110,10 @@ module _ (t : List ℕ) (m r : ℕ) (from : 0 < r) where
   pub set-endorsed-first : SameFirst t (setEndorsed t m r)
   unfolding setEndorsed
   set-endorsed-first = set-first t (r * rowLength + 1) (add (endorsedSet t r) m) (omega arith)
+
+  pub clear-held-first : SameFirst t (clearHeld t m r)
+  unfolding clearHeld setHeld
+  clear-held-first = set-first t (r * rowLength) (del (heldSet t r) m) (omega arith)
 
   pub clear-endorsed-first : SameFirst t (clearEndorsed t m r)
   unfolding clearEndorsed

@@ -1,6 +1,6 @@
 -- Which words the store's writes change, and which words a read looks at.
 use mathlib.Core.Path.{_≡_, refl, sym, _∙_}
-use mathlib.Core.Bool.{Bool, true, false, cond, _&&_, _||_, and-true, and-false, true≢false}
+use mathlib.Core.Bool.{Bool, true, false, not, cond, _&&_, _||_, and-true, and-false, true≢false}
 use mathlib.Core.List.{List}
 use mathlib.Core.Logic.{⊎-elim, _⊎_, inl, inr, _≢_}
 use mathlib.Core.Option.{none, some}
@@ -14,8 +14,8 @@ use borrow.Author.Tests.{eq-eqb, ne-eqb, eqb-true}
 use Rattle.base.proofs.Bools.{both, eqb-flip}
 use Rattle.base.specs.Folds.{tab}
 use Rattle.base.proofs.FoldLaws.{tab-same}
-use Rattle.base.specs.Sets.{isIn, add}
-use Rattle.base.proofs.SetLaws.{in-add}
+use Rattle.base.specs.Sets.{isIn, add, del}
+use Rattle.base.proofs.SetLaws.{in-add, in-del}
 use Rattle.base.proofs.PasteLaws.{paste-below, paste-inside, paste-above}
 use Rattle.store.specs.Table.{rowLength, headLength, recordLength, recordStart, transactionStart, Within, heldSet, heldAt, recordWord, previousAt, countAt, endorsersAt, transactionAt, contentAt, certificateAt}
 use Rattle.store.proofs.TableLaws.{count-le, held-member}
@@ -40,6 +40,18 @@ in-added s s′ a q h e k m r = by (ℕ-discrete r q)
   where
     by : Dec (r ≡ q) → isIn (s′ r) m ≡ (samePlace m r a q || isIn (s r) m)
     by (yes x) = rw (x, e, in-add (s q) a m h, eq-eqb q q refl, and-true (eqb m a), eqb-flip a m) refl
+    by (no n) = rw (k r n, ne-eqb r q n, and-false (eqb m a)) refl
+
+-- where it gets one less, that place is out
+pub in-removed : (s s′ : ℕ → ℕ) (a q : ℕ) → s′ q ≡ del (s q) a → ((r : ℕ) → r ≢ q → s′ r ≡ s r) → (m r : ℕ) → isIn (s′ r) m ≡ cond (samePlace m r a q) false (isIn (s r) m)
+in-removed s s′ a q e k m r = by (ℕ-discrete r q)
+  where
+    off : (b c : Bool) → (not b && c) ≡ cond b false c
+    off true c = refl
+    off false c = refl
+
+    by : Dec (r ≡ q) → isIn (s′ r) m ≡ cond (samePlace m r a q) false (isIn (s r) m)
+    by (yes x) = rw (x, e, in-del (s q) a m, eq-eqb q q refl, and-true (eqb m a), eqb-flip a m) (off (eqb m a) (isIn (s q) m))
     by (no n) = rw (k r n, ne-eqb r q n, and-false (eqb m a)) refl
 
 -- the words of a record other than its mark make what it tells

@@ -38,6 +38,14 @@ setEndorsed t m r = set t (r * rowLength + 1) (add (endorsedSet t r) m)
 unfoldable pub clearEndorsed : List ℕ → ℕ → ℕ → List ℕ
 clearEndorsed t m r = set t (r * rowLength + 1) (del (endorsedSet t r) m)
 
+-- the authors whose certificates of round r are held
+unfoldable pub setHeld : List ℕ → ℕ → ℕ → List ℕ
+setHeld t r x = set t (r * rowLength) x
+
+-- the certificate of m and round r is held no more: its words stay, and mean nothing
+unfoldable pub clearHeld : List ℕ → ℕ → ℕ → List ℕ
+clearHeld t m r = setHeld t r (del (heldSet t r) m)
+
 -- the certificate of m and round r in block b
 unfoldable pub setMark : List ℕ → ℕ → ℕ → ℕ → List ℕ
 setMark t m r b = set t (recordStart m r + 2) b

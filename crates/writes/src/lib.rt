@@ -15,7 +15,7 @@ ghost use lib.ListN.{length};
 ghost use lib.Seq.{paste};
 ghost use Rattle.terms.specs.Proposals.{contentOf, contentWith};
 ghost use Rattle.store.specs.Table.{recordLength, Within, Row, nthOf};
-ghost use Rattle.writes.specs.Writes.{putTransaction, recordOf, putCertificate, setEndorsed, setMark, setBlock};
+ghost use Rattle.writes.specs.Writes.{putTransaction, recordOf, putCertificate, setEndorsed, setHeld, setMark, setBlock};
 
 // Slot k of a proposal, nothing beyond its transactions.
 fn slot(b: Body, k: u32, a: Member, r: Round) -> Transaction
@@ -91,6 +91,14 @@ pub fn set_endorsed(t: &mut [u32], m: Member, r: Round)
     let at = r.0 as usize * ROW + 1;
     let s = base::with(t[at], m.0);
     t[at] = s;
+}
+
+// Writes the authors whose certificates of round r are held.
+pub fn set_held(t: &mut [u32], r: Round, authors: u32)
+    requires { ⌜ Row (now t) (r .0) ⌝ }
+    ensures { λ _. ⌜ now (t .exit) ≡ setHeld (now (t .entry)) (r .0) authors ⌝ }
+{
+    t[r.0 as usize * ROW] = authors;
 }
 
 // Puts the certificate of a place into block b.
