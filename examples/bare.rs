@@ -55,7 +55,7 @@ fn run() -> Result<bool, Refusal> {
     }
     let mut words = [0; CRITICAL_WORDS];
     let count = lent::critical(&state, &mut table, &mut words)?;
-    if !lent::places(&words, count).eq([2, 3].map(|round| Critical { round, author: 0 })) {
+    if !lent::criticals(&words, count).eq([2, 3].map(|round| Critical { round, author: 0 })) {
         return Ok(false);
     }
     lent::commit(&mut state, &mut table)?;

@@ -213,7 +213,7 @@ impl Engine {
     pub fn critical(&mut self) -> Result<Vec<Critical>, Refusal> {
         let mut list = [0; CRITICAL_WORDS];
         let count = lent::critical(&self.state, &mut self.table, &mut list)?;
-        Ok(lent::places(&list, count).collect())
+        Ok(lent::criticals(&list, count).collect())
     }
 
     /// Sixteen weights of a round's committee, 0 for a non-member.

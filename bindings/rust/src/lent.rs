@@ -347,7 +347,7 @@ pub fn entries(list: &[u32], count: u32) -> impl Iterator<Item = Entry> + '_ {
 /// and the one before whose absence alone would turn that commit into a refusal, by round, then author:
 /// round, author. How many certificates there are; what the list has beyond their words stays. In every
 /// state that calls lead to from an opening it is the anchor, and each vote without which the remaining
-/// votes weigh not more than the fault bound. [`places`] reads the list.
+/// votes weigh not more than the fault bound. [`criticals`] reads the list.
 ///
 /// Of the list two words are a place, and 32 places are asked for ([`crate::layout::CRITICAL_WORDS`]),
 /// however few there are to list.
@@ -384,7 +384,7 @@ pub fn entries(list: &[u32], count: u32) -> impl Iterator<Item = Entry> + '_ {
 /// assert_eq!(list[..7], [2, 1, 3, 0, 3, 2, 77]);
 /// lent::accept(&state, &mut table, &certificate(3, 3, 0b0111))?;
 /// assert_eq!(lent::critical(&state, &mut table, &mut list), Ok(1));
-/// assert!(lent::places(&list, 1).eq([Critical { round: 2, author: 1 }]));
+/// assert!(lent::criticals(&list, 1).eq([Critical { round: 2, author: 1 }]));
 /// # Ok::<(), Refusal>(())
 /// ```
 ///
@@ -395,7 +395,7 @@ pub fn critical(state: &[u32], table: &mut [u32], list: &mut [u32]) -> Result<u3
 }
 
 /// The first places of a list that [`critical`] has written, as many as it has told.
-pub fn places(list: &[u32], count: u32) -> impl Iterator<Item = crate::Critical> + '_ {
+pub fn criticals(list: &[u32], count: u32) -> impl Iterator<Item = crate::Critical> + '_ {
     let words = list.chunks_exact(PLACE_WORDS).take(count as usize);
     words.map(|at| crate::Critical { round: at[PLACE_ROUND], author: at[PLACE_AUTHOR] })
 }

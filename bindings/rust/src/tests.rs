@@ -997,7 +997,7 @@ fn lengths_of_a_list_of_places() {
         assert_eq!(found, if length < 64 { Err(Refusal::LengthRange) } else { Ok(2) }, "{length} words");
         assert!(list[..PLACE_WORDS * count] == [2, 0, 3, 0][..PLACE_WORDS * count]);
         assert!(list[PLACE_WORDS * count..].iter().all(|&word| word == 77));
-        assert_eq!(lent::places(&list, count as u32).count(), count);
+        assert_eq!(lent::criticals(&list, count as u32).count(), count);
         assert!(engine == before);
     }
     // A longer table and a longer state are fine.

@@ -33,13 +33,13 @@ use Rattle.critical.specs.declared.Weighed.{Weighed}
 
 module _ {s : State} {t : List ℕ} {a q : ℕ} (m : MayLack s t a q) where
   row : Row t q
-  row = omega (arith, m .formed .long, m .to)
+  row = omega (arith, m .timely .formed .long, m .to)
 
   pub lacking-formed : Formed s (clearHeld t a q)
-  lacking-formed = absent-kept s t (m .formed) a q (m .member) (m .from) (m .to)
+  lacking-formed = absent-kept s t (m .timely .formed) a q (m .member) (m .from) (m .to)
 
   pub lacking-timely : refusal (timeChecks s (clearHeld t a q)) ≡ 0
-  lacking-timely = time-same s t a q row (m .in-time)
+  lacking-timely = time-same s t a q row (m .timely .in-time)
 
   -- the votes decide
   pub without-votes : refusalWithout s t a q ≡ refusal (voteChecks s (clearHeld t a q))
@@ -59,11 +59,21 @@ module _ {s : State} {t : List ℕ} {x : Weighed} (w : Weighs s t x) where
   abbrev lead : ℕ
   lead = leaderOn s t (r - 1)
 
+  -- the bound, and the votes that are left without the certificate of a and q
+  abbrev bound : ℕ
+  bound = boundOf (s .settings .margin) (total 16 (weightIn (committeeOn s t r)))
+
+  abbrev left : ℕ → ℕ → ℕ
+  left a q = votesFor (clearHeld t a q) (committeeOn s t r) r lead
+
+  formed : Formed s t
+  formed = w .timely .formed
+
   time : Timely s t
-  time = timely s t (w .formed) (w .in-time)
+  time = timely s t (formed) (w .timely .in-time)
 
   led : isIn (heldSet t (r - 1)) lead ≡ true
-  led = voted s t (w .formed) (time .from) (w .voted)
+  led = voted s t (formed) (time .from) (w .voted)
 
   -- the votes weigh more than the bound
   pub enough : x .bound .0 < x .votes .0
@@ -71,9 +81,9 @@ module _ {s : State} {t : List ℕ} {x : Weighed} (w : Weighs s t x) where
     where
       go : Dec (x .bound .0 < x .votes .0) → x .bound .0 < x .votes .0
       go (yes h) = h
-      go (no n) = absurd (omega (arith, w .voted, votes-few s t (w .formed) (time .from) led (few n)))
+      go (no n) = absurd (omega (arith, w .voted, votes-few s t (formed) (time .from) led (few n)))
         where
-          few : (x .bound .0 < x .votes .0 → ⊥) → votesFor t (committeeOn s t r) r lead ≤ boundOf (s .settings .margin) (total 16 (weightIn (committeeOn s t r)))
+          few : (x .bound .0 < x .votes .0 → ⊥) → votesFor t (committeeOn s t r) r lead ≤ bound
           few n = rw (sym (w .its-weights), sym (w .its-leader), sym (w .its-votes), sym (w .its-bound)) (omega arith)
 
   pub leader-low : x .leader .0 < 16
@@ -81,75 +91,78 @@ module _ {s : State} {t : List ℕ} {x : Weighed} (w : Weighs s t x) where
 
   -- a vote is one of them
   pub vote-le : {a v : ℕ} → a < 16 → v ≡ cond (votesAt t r (x .leader .0) a) (weightIn (x .weights) a) 0 → v ≤ x .votes .0
-  vote-le {a} h e = omega (arith, weight-without t a r (omega (arith, w .formed .long, w .formed .numbers .round-to)) (x .weights) (x .leader .0) h, e, w .its-votes)
+  vote-le {a} h e = omega (arith, weight-without t a r (omega (arith, formed .long, formed .numbers .round-to)) (x .weights) (x .leader .0) h, e, w .its-votes)
 
   module _ {a q : ℕ} (i : InView s a q) where
     pub may : MayLack s t a q
-    may = record { formed = w .formed; in-time = w .in-time; member = i .member; from = low (i .near); to = high (i .near) }
+    may = record { timely = w .timely; member = i .member; from = low (i .near); to = high (i .near) }
       where
         low : (q ≡ r) ⊎ (q ≡ r - 1) → 0 < q
         low (inl e) = omega (arith, time .from)
         low (inr e) = omega (arith, time .from)
 
         high : (q ≡ r) ⊎ (q ≡ r - 1) → q ≤ s .settings .ceiling .0
-        high (inl e) = omega (arith, w .formed .numbers .round-to)
-        high (inr e) = omega (arith, w .formed .numbers .round-to)
+        high (inl e) = omega (arith, formed .numbers .round-to)
+        high (inr e) = omega (arith, formed .numbers .round-to)
 
     pub place : Within t a q
-    place = record { member = i .member; row = omega (arith, w .formed .long, may .to) }
+    place = record { member = i .member; row = omega (arith, formed .long, may .to) }
 
   module _ {a q : ℕ} (i : InView s a q) (f : Free t a q) where
-    critical-by : (n : ℕ) → refusal (voteChecks s (clearHeld t a q)) ≡ n → isCritical s t q a ≡ not (eqb n 0)
+    critical-by : (n : ℕ) → refusal (voteChecks s (clearHeld t a q)) ≡ n → isCritical s t a q ≡ not (eqb n 0)
     unfolding isCritical
     critical-by n e = rw (f .held, without-votes (may i), e) refl
 
+    -- as the anchor
+    anchor-then : a ≡ lead → q ≡ r - 1 → isCritical s t a q ≡ true
+    anchor-then e k = critical-by 21 (anchor-absent s t formed (time .from) led a (i .member) q (may i .from) (may i .to) (f .unmarked) e k)
+
+    -- as another, by the votes that are left, which in the round before are all
+    module _ (other : samePlace lead (r - 1) a q ≡ false) where
+      few-then : left a q ≤ bound → isCritical s t a q ≡ true
+      few-then h = critical-by 22 (few-left s t formed (time .from) led a (i .member) q (may i .from) (may i .to) (f .unmarked) other h)
+
+      enough-then : bound < left a q → isCritical s t a q ≡ false
+      enough-then h = critical-by 0 (enough-left s t formed (time .from) led a (i .member) q (may i .from) (may i .to) (f .unmarked) other h)
+
+      all-left : q ≢ r → left a q ≡ votesFor t (committeeOn s t r) r lead
+      all-left n = votes-left s t formed (time .from) led a (i .member) q (may i .from) (may i .to) (f .unmarked) other n
+
     -- in the round before it is critical where it is the anchor
-    pub before-critical : q ≢ r → isCritical s t q a ≡ eqb a (x .leader .0)
+    pub before-critical : q ≢ r → isCritical s t a q ≡ eqb a (x .leader .0)
     before-critical n = go (ℕ-discrete a lead)
       where
-        below : q ≡ r - 1
-        below = at (i .near)
-          where
-            at : (q ≡ r) ⊎ (q ≡ r - 1) → q ≡ r - 1
-            at (inl e) = absurd (n e)
-            at (inr e) = e
+        below : (q ≡ r) ⊎ (q ≡ r - 1) → q ≡ r - 1
+        below (inl e) = absurd (n e)
+        below (inr e) = e
 
-        go : Dec (a ≡ lead) → isCritical s t q a ≡ eqb a (x .leader .0)
-        go (yes e) = critical-by 21 (anchor-absent s t (w .formed) (time .from) led a (i .member) q (may i .from) (may i .to) (f .unmarked) e below) ∙ sym (eq-eqb a (x .leader .0) (e ∙ sym (w .its-leader)))
+        go : Dec (a ≡ lead) → isCritical s t a q ≡ eqb a (x .leader .0)
+        go (yes e) = anchor-then e (below (i .near)) ∙ sym (eq-eqb a (x .leader .0) (e ∙ sym (w .its-leader)))
         go (no k) =
             let other : samePlace lead (r - 1) a q ≡ false = rw (ne-eqb lead a (λ e. k (sym e))) refl in
-            critical-by 0 (enough-left s t (w .formed) (time .from) led a (i .member) q (may i .from) (may i .to) (f .unmarked) other (still other))
-            ∙ sym (ne-eqb a (x .leader .0) (λ e. k (e ∙ w .its-leader)))
-          where
-            still : samePlace lead (r - 1) a q ≡ false → boundOf (s .settings .margin) (total 16 (weightIn (committeeOn s t r))) < votesFor (clearHeld t a q) (committeeOn s t r) r lead
-            still other =
-                rw (votes-left s t (w .formed) (time .from) led a (i .member) q (may i .from) (may i .to) (f .unmarked) other n, sym (w .its-weights), sym (w .its-leader), sym (w .its-votes), sym (w .its-bound)) enough
+            enough-then other (rw (all-left other n, sym (w .its-weights), sym (w .its-leader), sym (w .its-votes), sym (w .its-bound)) enough) ∙ sym (ne-eqb a (x .leader .0) (λ e. k (e ∙ w .its-leader)))
 
     -- in the present round, where the votes without it weigh not more than the bound
-    pub now-critical : q ≡ r → (v : ℕ) → v ≡ cond (votesAt t r (x .leader .0) a) (weightIn (x .weights) a) 0 → isCritical s t q a ≡ leb (x .votes .0 - v) (x .bound .0)
+    pub now-critical : q ≡ r → (v : ℕ) → v ≡ cond (votesAt t r (x .leader .0) a) (weightIn (x .weights) a) 0 → isCritical s t a q ≡ leb (x .votes .0 - v) (x .bound .0)
     now-critical e v h = go (decLt (x .bound .0) (x .votes .0 - v))
       where
         other : samePlace lead (r - 1) a q ≡ false
         other = rw (ne-eqb (r - 1) q (λ k. omega (arith, time .from)), and-false (eqb lead a)) refl
 
-        left : votesFor (clearHeld t a q) (x .weights) r (x .leader .0) ≡ x .votes .0 - v
-        left = rw e (omega (arith, weight-without t a r (omega (arith, w .formed .long, w .formed .numbers .round-to)) (x .weights) (x .leader .0) (i .member), h, w .its-votes))
+        rest : votesFor (clearHeld t a q) (x .weights) r (x .leader .0) ≡ x .votes .0 - v
+        rest = rw e (omega (arith, weight-without t a r (omega (arith, formed .long, formed .numbers .round-to)) (x .weights) (x .leader .0) (i .member), h, w .its-votes))
 
-        go : Dec (x .bound .0 < x .votes .0 - v) → isCritical s t q a ≡ leb (x .votes .0 - v) (x .bound .0)
-        go (yes k) =
-            critical-by 0 (enough-left s t (w .formed) (time .from) led a (i .member) q (may i .from) (may i .to) (f .unmarked) other (rw (sym (w .its-weights), sym (w .its-leader), left, sym (w .its-bound)) k))
-            ∙ sym (lt-leb (x .votes .0 - v) (x .bound .0) k)
-        go (no k) =
-            critical-by 22 (few-left s t (w .formed) (time .from) led a (i .member) q (may i .from) (may i .to) (f .unmarked) other (rw (sym (w .its-weights), sym (w .its-leader), left, sym (w .its-bound)) (omega arith)))
-            ∙ sym (le-leb (x .votes .0 - v) (x .bound .0) (omega arith))
+        go : Dec (x .bound .0 < x .votes .0 - v) → isCritical s t a q ≡ leb (x .votes .0 - v) (x .bound .0)
+        go (yes k) = enough-then other (rw (sym (w .its-weights), sym (w .its-leader), rest, sym (w .its-bound)) k) ∙ sym (lt-leb (x .votes .0 - v) (x .bound .0) k)
+        go (no k) = few-then other (rw (sym (w .its-weights), sym (w .its-leader), rest, sym (w .its-bound)) (omega arith)) ∙ sym (le-leb (x .votes .0 - v) (x .bound .0) (omega arith))
 
 -- ---- what is not held, and what is held
 
 module _ (s : State) (t : List ℕ) (a q : ℕ) where
-  pub absent-critical : heldAt t a q ≡ false → isCritical s t q a ≡ false
+  pub absent-critical : heldAt t a q ≡ false → isCritical s t a q ≡ false
   unfolding isCritical
   absent-critical e = rw e refl
 
-  pub held-critical : heldAt t a q ≡ true → isCritical s t q a ≡ not (eqb (refusalWithout s t a q) 0)
+  pub held-critical : heldAt t a q ≡ true → isCritical s t a q ≡ not (eqb (refusalWithout s t a q) 0)
   unfolding isCritical
   held-critical e = rw e refl

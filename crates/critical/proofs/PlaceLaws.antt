@@ -14,11 +14,11 @@ words-append [] m = refl
 words-append (x ∷ l) m = ap (λ (w : List ℕ). x .round ∷ x .author ∷ w) (words-append l m)
 
 module _ (s : State) (t : List ℕ) (q : ℕ) where
-  pub place-there : (a : ℕ) → isCritical s t q a ≡ true → placeWords (criticalAt s t q a) ≡ q ∷ a ∷ []
+  pub place-there : (a : ℕ) → isCritical s t a q ≡ true → placeWords (criticalAt s t a q) ≡ q ∷ a ∷ []
   unfolding criticalAt placeWords
   place-there a e = rw e refl
 
-  pub place-none : (a : ℕ) → isCritical s t q a ≡ false → placeWords (criticalAt s t q a) ≡ []
+  pub place-none : (a : ℕ) → isCritical s t a q ≡ false → placeWords (criticalAt s t a q) ≡ []
   unfolding criticalAt placeWords
   place-none a e = rw e refl
 
@@ -26,11 +26,11 @@ module _ (s : State) (t : List ℕ) (q : ℕ) where
   unfolding criticalIn placeWords
   row-none = refl
 
-  row-suc : (k : ℕ) → placeWords (criticalIn s t q (suc k)) ≡ placeWords (criticalIn s t q k) ++ placeWords (criticalAt s t q k)
+  row-suc : (k : ℕ) → placeWords (criticalIn s t q (suc k)) ≡ placeWords (criticalIn s t q k) ++ placeWords (criticalAt s t k q)
   unfolding criticalIn
-  row-suc k = words-append (criticalIn s t q k) (criticalAt s t q k)
+  row-suc k = words-append (criticalIn s t q k) (criticalAt s t k q)
 
-  pub row-more : (n : ℕ) → placeWords (criticalIn s t q (n + 1)) ≡ placeWords (criticalIn s t q n) ++ placeWords (criticalAt s t q n)
+  pub row-more : (n : ℕ) → placeWords (criticalIn s t q (n + 1)) ≡ placeWords (criticalIn s t q n) ++ placeWords (criticalAt s t n q)
   row-more n = let e : n + 1 ≡ suc n = omega arith in rw e (row-suc n)
 
 pub words-length : (l : List Place) → length (placeWords l) ≡ 2 * length l

@@ -34,18 +34,17 @@ module _ (s : State) (t : List ℕ) where
     pub table : t′ ≡ t
     pub places : list′ ≡ criticalList s t list
 
-  -- the state passes the checks of time, and the certificate of author a and round q has a place
-  pub record MayLack (a q : ℕ) : Type 0 where
-    pub formed : Formed s t
-    pub in-time : refusal (timeChecks s t) ≡ 0
-    pub member : a < 16
-    pub from : 0 < q
-    pub to : q ≤ s .settings .ceiling .0
-
   -- the checks of time let the state pass
   pub record InTime : Type 0 where
     pub formed : Formed s t
     pub in-time : refusal (timeChecks s t) ≡ 0
+
+  -- so it is, and the certificate of author a and round q has a place
+  pub record MayLack (a q : ℕ) : Type 0 where
+    pub timely : InTime
+    pub member : a < 16
+    pub from : 0 < q
+    pub to : q ≤ s .settings .ceiling .0
 
   -- p has what the votes answer, the leader of the round before and the committee of the present round
   pub record Polls (p : Polled) : Type 0 where
@@ -56,8 +55,7 @@ module _ (s : State) (t : List ℕ) where
 
   -- the state would commit; x has the leader of the round before, and of the present round the committee, its bound and the votes
   pub record Weighs (x : Weighed) : Type 0 where
-    pub formed : Formed s t
-    pub in-time : refusal (timeChecks s t) ≡ 0
+    pub timely : InTime
     pub voted : refusal (voteChecks s t) ≡ 0
     pub its-leader : x .leader .0 ≡ leaderAt (s .settings) (chainOf (s .settings .ceiling .0) t (s .blocks)) (s .round .0 - 1)
     pub its-weights : x .weights ≡ committeeOn s t (s .round .0)

@@ -32,16 +32,16 @@ module _ (s : State) (t : List ℕ) where
 
   -- it is held, and its absence alone turns the commit into a refusal
   unfoldable pub isCritical : ℕ → ℕ → Bool
-  isCritical q a = heldAt t a q && not (eqb (refusalWithout a q) 0)
+  isCritical a q = heldAt t a q && not (eqb (refusalWithout a q) 0)
 
   -- that of author a and round q, if it is
   unfoldable pub criticalAt : ℕ → ℕ → List Place
-  criticalAt q a = cond (isCritical q a) (record { round = q; author = a } ∷ []) []
+  criticalAt a q = cond (isCritical a q) (record { round = q; author = a } ∷ []) []
 
   -- those of round q whose authors are below n, by rising author
   unfoldable pub criticalIn : ℕ → ℕ → List Place
   criticalIn q zero = []
-  criticalIn q (suc n) = criticalIn q n ++ criticalAt q n
+  criticalIn q (suc n) = criticalIn q n ++ criticalAt n q
 
   -- those of the present round and the one before: by round, then author
   unfoldable pub criticalPlaces : List Place

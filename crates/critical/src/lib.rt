@@ -9,11 +9,10 @@ ghost use Prim.Native.Nat.{_+_, _≤_};
 ghost use mathlib.Core.List.{[], _∷_};
 ghost use lib.ListN.{length};
 ghost use Rattle.putting.specs.Puts.{Puts};
-ghost use Rattle.critical.specs.Critical.{placeWords, refusalWithout, isCritical, criticalAt, criticalIn, criticalPlaces};
+ghost use Rattle.critical.specs.Critical.{placeWords, refusalWithout, isCritical, criticalAt, criticalIn, criticalPlaces, earlyChecks};
 ghost use Rattle.critical.specs.Answers.{Lists, InTime, Polls, MayLack, Weighs, Near, InView, Free};
 ghost use Rattle.base.specs.Checks.{refusal};
 ghost use Rattle.state.specs.WellFormed.{wellFormed};
-ghost use Rattle.critical.specs.Critical.{earlyChecks};
 
 // What a commit goes by after the checks of time: the number of the check that refuses then, 0 for none; the leader of the round before, 16 for none; and the committee of the present round.
 pub struct Polled {
@@ -30,7 +29,7 @@ pub struct Weighed {
     pub votes: Weight,
 }
 
-// The leaders are worked out here and nowhere else, so that their memory is in use once at a time.
+// Checks 21, 22, and what they go by. The leaders are worked out here and nowhere else, so that their memory is in use once at a time.
 fn poll(s: State, t: &[u32]) -> Polled
     requires { ⌜ InTime s (now t) ⌝ }
     ensures { λ p. ⌜ Polls s (now (t .entry)) p ⌝ }
@@ -63,7 +62,7 @@ fn absent_refusal(s: State, t: &mut [u32], a: Member, q: Round) -> u32
 // Of a certificate that is held and in no block: is it the anchor, or a vote without which the others weigh not more than the bound? One that is no vote adds nothing to them.
 fn is_pivotal(s: State, t: &[u32], x: Weighed, a: Member, q: Round) -> bool
     requires { ⌜ Weighs s (now t) x × (InView s (a .0) (q .0) × Free (now t) (a .0) (q .0)) ⌝ }
-    ensures { λ v. ⌜ v ≡ isCritical s (now (t .entry)) (q .0) (a .0) ⌝ }
+    ensures { λ v. ⌜ v ≡ isCritical s (now (t .entry)) (a .0) (q .0) ⌝ }
 {
     if q.0 != s.round.0 {
         return a.0 == x.leader.0;
@@ -76,7 +75,7 @@ fn is_pivotal(s: State, t: &[u32], x: Weighed, a: Member, q: Round) -> bool
 // Does the commit hang on the certificate of a place?
 fn is_critical(s: State, t: &mut [u32], x: Weighed, a: Member, q: Round) -> bool
     requires { ⌜ Weighs s (now t) x × InView s (a .0) (q .0) ⌝ }
-    ensures { λ v. ⌜ (v ≡ isCritical s (now (t .entry)) (q .0) (a .0)) × (now (t .exit) ≡ now (t .entry)) ⌝ }
+    ensures { λ v. ⌜ (v ≡ isCritical s (now (t .entry)) (a .0) (q .0)) × (now (t .exit) ≡ now (t .entry)) ⌝ }
 {
     if !store::held(t, a, q) {
         return false;
@@ -88,7 +87,7 @@ fn is_critical(s: State, t: &mut [u32], x: Weighed, a: Member, q: Round) -> bool
 }
 
 // One place.
-fn put_place(list: &mut [u32], at: usize, q: Round, a: Member) -> usize
+fn put_place(list: &mut [u32], at: usize, a: Member, q: Round) -> usize
     requires { ⌜ at + 2 ≤ length (now list) ⌝ }
     ensures { λ v. ⌜ Puts (now (list .entry)) (now (list .exit)) at v (q .0 ∷ a .0 ∷ []) 2 ⌝ }
 {
@@ -102,16 +101,16 @@ fn list_place(
     s: State,
     t: &mut [u32],
     x: Weighed,
-    q: Round,
     a: Member,
+    q: Round,
     list: &mut [u32],
     at: usize,
 ) -> usize
     requires { ⌜ Weighs s (now t) x × (InView s (a .0) (q .0) × (at + 2 ≤ length (now list))) ⌝ }
-    ensures { λ v. ⌜ (now (t .exit) ≡ now (t .entry)) × Puts (now (list .entry)) (now (list .exit)) at v (placeWords (criticalAt s (now (t .entry)) (q .0) (a .0))) 2 ⌝ }
+    ensures { λ v. ⌜ (now (t .exit) ≡ now (t .entry)) × Puts (now (list .entry)) (now (list .exit)) at v (placeWords (criticalAt s (now (t .entry)) (a .0) (q .0))) 2 ⌝ }
 {
     if is_critical(s, t, x, a, q) {
-        return put_place(list, at, q, a);
+        return put_place(list, at, a, q);
     }
     at
 }
@@ -123,7 +122,7 @@ fn list_row(s: State, t: &mut [u32], x: Weighed, q: Round, list: &mut [u32], at:
 {
     let mut to = at;
     for i in 0..16u32 {
-        to = list_place(s, t, x, q, Member(i), list, to);
+        to = list_place(s, t, x, Member(i), q, list, to);
     }
     to
 }

@@ -15,7 +15,6 @@ use Rattle.terms.specs.Proposals.{Content}
 use Rattle.terms.specs.declared.Member.{Member}
 use Rattle.sheet.specs.declared.Sheet.{Sheet}
 use Rattle.sheet.specs.declared.Settings.{Settings}
-use Rattle.sheet.specs.Sheets.{filled}
 use Rattle.rules.specs.Tests.{MemberView}
 use Rattle.rules.specs.Calls as rules
 use Rattle.committee.specs.Chain.{chainOf}

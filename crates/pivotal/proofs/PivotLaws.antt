@@ -1,27 +1,22 @@
 -- Which places are critical in an engine that calls lead to, round by round; and the claim.
 use mathlib.Core.Path.{_≡_, refl, sym, ap, ap₂, _∙_}
 use mathlib.Core.Bool.{Bool, true, false, not, cond, _&&_, true≢false}
-use mathlib.Core.Option.{some}
 use mathlib.Core.List.{List, [], _∷_, _++_}
-use mathlib.Core.Logic.{_⊎_, inl, inr, _≢_}
+use mathlib.Core.Logic.{inl, inr, _≢_}
 use Prim.Native.Nat.{ℕ, zero, suc, _+_, _-_, _<_, _≤_}
 use native.Mathlib.Decide.{decLt, ℕ-discrete}
 use native.Mathlib.Omega.{arith}
 use lib.Dec.{eqb, leb, ltb}
 use borrow.Author.Tests.{eq-eqb, ne-eqb, lt-leb, le-leb, lt-ltb, le-ltb}
-use Rattle.base.specs.Sets.{isIn}
 use Rattle.base.proofs.SumLaws.{sum-same, sum-without}
 use Rattle.agreement.specs.Weights.{weigh, total}
 use Rattle.agreement.specs.Anchors.{votes}
-use Rattle.agreement.specs.Commits.{anchorAt}
-use Rattle.agreement.specs.Rules.{Chain}
 use Rattle.terms.specs.Proposals.{Content}
-use Rattle.store.specs.Table.{heldSet, heldAt, previousAt, contentAt}
+use Rattle.store.specs.Table.{heldAt, contentAt}
 use Rattle.store.proofs.TableLaws.{held-in, content-author, content-round}
 use Rattle.sheet.specs.Ranges.{weightIn}
 use Rattle.committee.specs.Chain.{chainOf}
 use Rattle.committee.specs.Committees.{boundOf}
-use Rattle.changes.specs.BlockChanges.{lastRound}
 use Rattle.rules.specs.Tests.{committeeIn}
 use Rattle.state.specs.declared.State.{State}
 use Rattle.state.specs.View.{view}
@@ -31,14 +26,11 @@ use Rattle.votes.specs.Checks.{committeeOn}
 use Rattle.votes.proofs.AnchorLaws.{leaderOn}
 use Rattle.votes.proofs.CheckLaws.{anchor-led}
 use Rattle.critical.specs.Critical.{Place, isCritical, criticalAt, criticalIn, criticalPlaces}
-use Rattle.critical.specs.Answers.{Weighs, InView, Free}
+use Rattle.critical.specs.Answers.{Weighs, Free}
 use Rattle.critical.specs.declared.Weighed.{Weighed}
 use Rattle.critical.proofs.LackLaws.{enough, leader-low, before-critical, now-critical, absent-critical}
 use Rattle.commit.proofs.CheckLaws.{Accepted, accepted}
-use Rattle.engine.specs.Engine.{Engine, refusalFor}
-use Rattle.engine.specs.Calls.{commit}
-use Rattle.engine.specs.Reached.{Reached}
-use Rattle.pivotal.specs.Pivotal.{unvotedWithout, pivotalVotes, pivots, HangsOnPivots, CommitsHangOnPivots}
+use Rattle.pivotal.specs.Pivotal.{unvotedWithout, pivotalVotes, pivots, CommitsHangOnPivots}
 use Rattle.pivotal.proofs.BelowLaws.{Below, reached-below}
 use Rattle.pivotal.proofs.FreeLaws.{free-above}
 
@@ -78,7 +70,7 @@ module _ (s : State) (t : List ℕ) (y : Accepted s t) (b : Below (chainOf (s .s
   weighed = record { leader = record { 0 = lead }; weights = w; bound = record { 0 = boundOf (s .settings .margin) (total 16 (weightIn w)) }; votes = record { 0 = votesFor t w r lead } }
 
   weighs : Weighs s t weighed
-  weighs = record { formed = y .formed; in-time = y .in-time; voted = y .voted; its-leader = refl; its-weights = refl; its-bound = refl; its-votes = refl }
+  weighs = record { timely = record { formed = y .formed; in-time = y .in-time }; voted = y .voted; its-leader = refl; its-weights = refl; its-bound = refl; its-votes = refl }
 
   above : suc (r - 1) ≡ r
   above = omega (arith, y .timely .from)
@@ -91,10 +83,10 @@ module _ (s : State) (t : List ℕ) (y : Accepted s t) (b : Below (chainOf (s .s
 
   -- ---- the round before: the anchor
 
-  pub before : (a : ℕ) → a < 16 → isCritical s t (r - 1) a ≡ eqb a lead
+  pub before : (a : ℕ) → a < 16 → isCritical s t a (r - 1) ≡ eqb a lead
   before a m = go (heldAt t a (r - 1)) refl
     where
-      go : (h : Bool) → heldAt t a (r - 1) ≡ h → isCritical s t (r - 1) a ≡ eqb a lead
+      go : (h : Bool) → heldAt t a (r - 1) ≡ h → isCritical s t a (r - 1) ≡ eqb a lead
       go true h = before-critical weighs (record { member = m; near = inr refl }) (free a (r - 1) h (omega arith) (omega arith)) (λ e. omega (arith, y .timely .from))
       go false h = absent-critical s t a (r - 1) h ∙ sym (ne-eqb a lead (λ e. true≢false (sym (y .led) ∙ sym (held-in t lead (r - 1)) ∙ rw e at h)))
 
@@ -104,7 +96,7 @@ module _ (s : State) (t : List ℕ) (y : Accepted s t) (b : Below (chainOf (s .s
   row-before : (n : ℕ) → n ≤ 16 → criticalIn s t (r - 1) n ≡ cond (ltb lead n) (anchor ∷ []) []
   unfolding criticalIn criticalAt
   row-before zero l = rw (le-ltb lead 0 (omega arith)) refl
-  row-before (suc n) l = ap (λ (k : List Place). k ++ criticalAt s t (r - 1) n) (row-before n (omega arith)) ∙ rw (before n (omega arith)) (go (decLt lead n) (ℕ-discrete n lead))
+  row-before (suc n) l = ap (λ (k : List Place). k ++ criticalAt s t n (r - 1)) (row-before n (omega arith)) ∙ rw (before n (omega arith)) (go (decLt lead n) (ℕ-discrete n lead))
     where
       go : Dec (lead < n) → Dec (n ≡ lead)
           → (cond (ltb lead n) (anchor ∷ []) [] ++ cond (eqb n lead) (record { round = r - 1; author = n } ∷ []) []) ≡ cond (ltb lead (suc n)) (anchor ∷ []) []
@@ -139,10 +131,10 @@ module _ (s : State) (t : List ℕ) (y : Accepted s t) (b : Below (chainOf (s .s
       (ap (λ (q : ℕ). weigh 16 (voters q) (λ i. votes (view s t) x i && not (eqb i a))) up ∙ others a m e)
       ∙ sym (leb-not (votesFor t w r lead - weightIn w a) (boundOf (s .settings .margin) (total 16 (weightIn w))))
 
-  pub now : (a : ℕ) → a < 16 → isCritical s t r a ≡ (votes (view s t) x a && unvotedWithout (s .settings) (view s t) x a)
+  pub now : (a : ℕ) → a < 16 → isCritical s t a r ≡ (votes (view s t) x a && unvotedWithout (s .settings) (view s t) x a)
   now a m = rw (votes-at a) (go (heldAt t a r) refl (votesAt t r lead a) refl)
     where
-      go : (h : Bool) → heldAt t a r ≡ h → (v : Bool) → votesAt t r lead a ≡ v → isCritical s t r a ≡ (v && unvotedWithout (s .settings) (view s t) x a)
+      go : (h : Bool) → heldAt t a r ≡ h → (v : Bool) → votesAt t r lead a ≡ v → isCritical s t a r ≡ (v && unvotedWithout (s .settings) (view s t) x a)
       go true h true e =
           now-critical weighs (record { member = m; near = inl refl }) (free a r h (omega arith) (omega arith)) refl (weightIn w a) (rw e refl) ∙ sym (unvoted-without a m e)
       go true h false e =

@@ -1,9 +1,9 @@
 -- What a commit hangs on: its anchor, and each vote without which the others weigh not more than the bound; and what is claimed of the list.
 use mathlib.Core.Path.{_≡_}
-use mathlib.Core.Bool.{Bool, not, cond, _&&_}
+use mathlib.Core.Bool.{Bool, true, not, cond, _&&_}
 use mathlib.Core.Option.{some}
 use mathlib.Core.List.{List, [], _∷_, _++_}
-use Prim.Native.Nat.{ℕ, zero, suc, _-_, _/_, _≤_}
+use Prim.Native.Nat.{ℕ, zero, suc, _-_, _/_, _<_, _≤_}
 use lib.Dec.{eqb, ltb}
 use lib.ListN.{length}
 use Rattle.agreement.specs.Weights.{weigh, total}
@@ -13,7 +13,9 @@ use Rattle.terms.specs.Proposals.{Content}
 use Rattle.sheet.specs.declared.Settings.{Settings}
 use Rattle.committee.specs.Committees.{boundOf}
 use Rattle.rules.specs.Tests.{MemberView, committeeIn}
-use Rattle.critical.specs.Critical.{Place, criticalPlaces}
+use Rattle.writes.specs.Writes.{clearHeld}
+use Rattle.state.specs.WellFormed.{wellFormed}
+use Rattle.critical.specs.Critical.{Place, refusalWithout, criticalPlaces}
 use Rattle.engine.specs.Calls.{commit, critical, aside}
 use Rattle.engine.specs.Engine.{Engine, refusalFor}
 use Rattle.engine.specs.Steps.{viewAt}
@@ -29,7 +31,7 @@ module _ (S : Settings) (s : MemberView S) (x : Content) where
   unfoldable pub unvotedWithout : ℕ → Bool
   unvotedWithout a = not (ltb (boundOf (S .margin) (total 16 voters)) (weigh 16 voters (λ i. votes s x i && not (eqb i a))))
 
-  -- the votes for x without which the others weigh no more, of authors below n, by rising author
+  -- the votes for x without which the others weigh not more than the fault bound, of authors below n, by rising author
   unfoldable pub pivotalVotes : ℕ → List Place
   pivotalVotes zero = []
   pivotalVotes (suc n) = pivotalVotes n ++ cond (votes s x n && unvotedWithout n) (record { round = suc (x .round); author = n } ∷ []) []
@@ -47,6 +49,12 @@ pub record HangsOnPivots (e : Engine) : Type 0 where
 -- the claim: of every engine that calls lead to, where a commit would be accepted
 abbrev pub CommitsHangOnPivots : Type 0
 CommitsHangOnPivots = (e : Engine) → Reached e → refusalFor e commit ≡ 0 → HangsOnPivots e
+
+-- on a well-formed state without the certificate a commit is refused with the number that the list goes by: so check 1 need not be asked again
+abbrev pub AbsentAsCommit : Type 0
+AbsentAsCommit =
+    (e : Engine) → wellFormed (e .state) (e .table) ≡ true → (a q : ℕ) → a < 16 → 0 < q → q ≤ e .state .settings .ceiling .0
+    → refusalFor (record { state = e .state; table = clearHeld (e .table) a q }) commit ≡ refusalWithout (e .state) (e .table) a q
 
 -- a list of 32 places is refused as a commit would be, with the same number
 abbrev pub CriticalRefusedAsCommit : Type 0

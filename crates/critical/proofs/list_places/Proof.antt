@@ -14,7 +14,7 @@ abbrev start : tie.After-list-row → tie.Start
 start c = c .before .before .before .before .before .before
 
 sub-t7 : tie.Need-sub-t7
-sub-t7 c = c .before .before .before .pre .0 .formed .numbers .round-from
+sub-t7 c = c .before .before .before .pre .0 .timely .formed .numbers .round-from
 
 list-row-requires : tie.Need-list-row-requires
 list-row-requires c κs = let p = c .before .before .before .before .before .pre in (p .0, (inr refl, omega (arith, p .1)))

@@ -5,7 +5,6 @@ use native.Mathlib.Omega.{arith}
 use lib.ListN.{length}
 use Rattle.state.specs.declared.State.{State}
 use Rattle.putting.proofs.PutLaws.{Putting, puts-then, puts-none, puts-as}
-use Rattle.critical.specs.declared.Weighed.{Weighed}
 use Rattle.critical.specs.Critical.{placeWords, criticalIn}
 use Rattle.critical.specs.Answers.{Weighs}
 use Rattle.critical.proofs.PlaceLaws.{row-none, row-more}

@@ -40,8 +40,7 @@ returns c =
     let s = b .before .before .before .before .before .before in
     let p = s .pre in
     record {
-      formed = p .0 .formed;
-      in-time = p .0 .in-time;
+      timely = p .0;
       voted = votes-pass s;
       its-leader = p .1 .0 .its-leader;
       its-weights = p .1 .0 .its-weights;
