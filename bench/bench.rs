@@ -1,9 +1,9 @@
 //! What each call and read costs: the engine (libhost.a), plain Rust
 //! (plain.rs) and a floor. `bench [quick]` prints Markdown. Built with another
 //! archive, that stands in plain's place (run.sh), and the tables by call show
-//! the best time of each beside the median; where it is of before queues or
-//! previews, their calls are left out, and a call that the two answer differently
-//! is not timed.
+//! the best time of each beside the median; where it is of before queues, previews
+//! or lists of what a commit hangs on, their calls are left out, and a call that
+//! the two answer differently is not timed.
 //!
 //! States. Sixteen members; every certificate has four transactions (entries,
 //! bonds, unbonds that are bonded again at once, so that all stay inside) and
@@ -48,6 +48,11 @@
 //! without it: it copies state and table, commits on the copy, and lists the new
 //! blocks there in one pass over the rows. There is nothing to undo after either.
 //!
+//! What a commit hangs on is asked for in the states of commit too. A commit's
+//! checks alone are timed by "commit, a vote short": of the certificates of the
+//! present round as many are taken away, the highest author first, as make the
+//! votes too few. It is refused with 22, all checks made and nothing done.
+//!
 //! The floor is one pass that reads the state, the headers of all rows and
 //! the records of held certificates, and adds them up. For open it is one
 //! pass that writes 0 to the table.
@@ -82,6 +87,7 @@ struct Functions {
     advance: fn(&mut [u32], &[u32]) -> u32,
     commit: fn(&mut [u32], &mut [u32]) -> u64,
     preview: fn(&[u32], &[u32], &mut [u32]) -> u64,
+    critical: fn(&[u32], &mut [u32], &mut [u32]) -> u64,
     batch: fn(&[u32], &mut [u32], &[[u32; 17]], &mut [u32]) -> u32,
     enqueue: fn(&[u32], &mut [u32], u32, &[u32]) -> u32,
     draw: fn(&mut [u32], &mut [u32], u32) -> u32,
@@ -102,6 +108,7 @@ macro_rules! functions {
             advance: $module::advance,
             commit: $module::commit,
             preview: $module::preview,
+            critical: $module::critical,
             batch: $module::batch,
             enqueue: $module::enqueue,
             draw: $module::draw,
@@ -144,6 +151,8 @@ const FREE: u32 = 15;
 const QUEUES: bool = cfg!(not(before_queues));
 /// Whether both implementations have previews.
 const PREVIEWS: bool = cfg!(not(before_previews));
+/// Whether both implementations tell what a commit hangs on.
+const CRITICAL: bool = cfg!(not(before_critical));
 /// How many wait for each guest: for most calls, for an enqueue to guest 2 and
 /// for a draw of one of each of four guests.
 const NOBODY: Waiting = [0; 8];
@@ -232,6 +241,30 @@ impl Member {
                 false => plain::accept(s, t, &words),
             });
             assert_eq!(answer, 0);
+        }
+    }
+
+    /// Takes certificates of the present round away, the highest author first, until
+    /// a commit is refused for its votes. The answer is what it held just before.
+    fn take_votes(&mut self) -> u32 {
+        let row = ROW * self.state[20] as usize;
+        loop {
+            let held = self.table()[row];
+            self.table()[row] = held & !(1 << held.ilog2());
+            let answer = with(&mut self.clone(), |s, t| plain::commit(s, t));
+            if answer >> 32 != 0 {
+                assert_eq!(answer >> 32, 22);
+                return held;
+            }
+        }
+    }
+
+    /// Puts the certificates of the present round and the one before into block 1,
+    /// as no run does.
+    fn mark_two_rounds(&mut self) {
+        for r in [self.state[20] - 1, self.state[20]] {
+            let row = &mut self.table()[ROW * r as usize..][..ROW];
+            (0..16).for_each(|author| row[16 + 16 * author + 2] = 1);
         }
     }
 
@@ -374,10 +407,12 @@ enum Job {
     AdvanceThin,
     Commit,
     CommitMany,
+    CommitShort,
     Preview,
     PreviewMany,
     Copy,
     CopyMany,
+    Critical,
     Enqueue,
     Draw,
     Committee,
@@ -387,7 +422,7 @@ enum Job {
 }
 
 /// Jobs, and how many transactions wait for each guest in their states.
-const JOBS: [(Job, &str, Waiting); 17] = [
+const JOBS: [(Job, &str, Waiting); 19] = [
     (Job::Open, "open", NOBODY),
     (Job::Propose, "propose", NOBODY),
     (Job::Endorse, "endorse", NOBODY),
@@ -397,6 +432,8 @@ const JOBS: [(Job, &str, Waiting); 17] = [
     (Job::AdvanceThin, "advance, thin round", NOBODY),
     (Job::Commit, "commit, one block", NOBODY),
     (Job::CommitMany, "commit, many blocks", NOBODY),
+    (Job::CommitShort, "commit, a vote short", NOBODY),
+    (Job::Critical, "critical", NOBODY),
     (Job::Preview, "preview, one block", NOBODY),
     (Job::PreviewMany, "preview, many blocks", NOBODY),
     (Job::Enqueue, "enqueue", THREE),
@@ -412,6 +449,7 @@ fn jobs() -> impl Iterator<Item = (Job, &'static str, Waiting)> {
     JOBS.into_iter().filter(|(job, ..)| match job {
         Job::Enqueue | Job::Draw => QUEUES,
         Job::Preview | Job::PreviewMany => PREVIEWS,
+        Job::Critical => CRITICAL,
         _ => true,
     })
 }
@@ -427,7 +465,8 @@ struct Case {
     member: Member,
     argument: [u32; 17],
     out: [u32; 18],
-    /// The list of a preview, and room for a copy of the table.
+    /// The list of a preview or of what a commit hangs on, and room for a copy of
+    /// the table.
     list: Vec<u32>,
     copy: Vec<Line>,
     waiting: Waiting,
@@ -454,13 +493,20 @@ impl Case {
         if job == Job::AdvanceThin {
             member.table()[ROW * r as usize] &= THIN;
         }
-        let is_commit = matches!(job, Job::Commit | Job::CommitMany);
+        let is_commit = matches!(job, Job::Commit | Job::CommitMany | Job::CommitShort | Job::Critical);
         let (copies, previews) = (matches!(job, Job::Copy | Job::CopyMany), matches!(job, Job::Preview | Job::PreviewMany));
         if (is_commit || copies || previews) && empty {
             member.state[20] = 3;
         }
+        if job == Job::CommitShort && !empty {
+            member.take_votes();
+        }
         let (out, undo) = ([0; 18], Vec::new());
-        let list = vec![0; if copies || previews { 48 * member.state[2] as usize } else { 0 }];
+        let list = vec![0; match job {
+            Job::Critical => 64,
+            _ if copies || previews => 48 * member.state[2] as usize,
+            _ => 0,
+        }];
         let copy = if copies { member.lines.clone() } else { Vec::new() };
         let mut case = Case { job, member, argument, out, list, copy, waiting, undo, expected: 0 };
         let before = case.member.clone();
@@ -494,7 +540,8 @@ impl Case {
             Job::Certify => refusal((f.certify)(state, table, 0xfffe)),
             Job::Accept => refusal((f.accept)(state, table, argument)),
             Job::Advance | Job::AdvanceThin => refusal((f.advance)(state, table)),
-            Job::Commit | Job::CommitMany => (f.commit)(state, table),
+            Job::Commit | Job::CommitMany | Job::CommitShort => (f.commit)(state, table),
+            Job::Critical => (f.critical)(state, table, &mut self.list),
             Job::Preview | Job::PreviewMany => (f.preview)(state, table, &mut self.list),
             Job::Copy | Job::CopyMany => {
                 let (mut state_copy, copy) = (*state, words_of(&mut self.copy));
@@ -731,6 +778,16 @@ impl States {
         }
     }
 
+    /// The same states, each changed.
+    fn changed(&self, change: impl Fn(&mut Member)) -> States {
+        let each = |members: &[Member]| -> Vec<Member> {
+            let mut members = members.to_vec();
+            members.iter_mut().for_each(&change);
+            members
+        };
+        States { usual: each(&self.usual), unblocked: each(&self.unblocked) }
+    }
+
     fn cases(&self, job: Job, waiting: Waiting) -> Cases {
         let many = matches!(job, Job::CommitMany | Job::PreviewMany | Job::CopyMany);
         let members = if many { &self.unblocked } else { &self.usual };
@@ -743,7 +800,7 @@ fn answer_text(case: &Case) -> String {
     match case.job {
         _ if refusal > 0 => format!("refused, {refusal}"),
         Job::Commit | Job::CommitMany => format!("{value} added"),
-        Job::Preview | Job::PreviewMany => format!("{value} listed"),
+        Job::Preview | Job::PreviewMany | Job::Critical => format!("{value} listed"),
         _ => "ok".to_string(),
     }
 }
@@ -765,8 +822,8 @@ fn print_ceiling(ceiling: u32, pace: &Pace) {
     let states = [(0, "empty"), (ceiling / 2, "half"), (ceiling, "full")];
     let states = states.map(|(rounds, name)| (States::of(ceiling, rounds), name));
     for (job, call, waiting) in jobs() {
-        // An empty state is thin as it is.
-        let from = usize::from(job == Job::AdvanceThin);
+        // An empty state is thin as it is, and has no votes.
+        let from = usize::from(matches!(job, Job::AdvanceThin | Job::CommitShort));
         for (states, name) in &states[from..] {
             print_row(call, name, &mut states.cases(job, waiting), pace);
         }
@@ -840,7 +897,7 @@ fn print_growth(ceiling: u32, pace: &Pace) {
     println!("|---|---|---:|---:|---:|---:|---:|---:|");
     let states: Vec<States> =
         (0..5).map(|quarter| States::of(ceiling, ceiling * quarter / 4)).collect();
-    for (job, call, waiting) in jobs().filter(|(job, ..)| *job != Job::AdvanceThin) {
+    for (job, call, waiting) in jobs().filter(|(job, ..)| !matches!(job, Job::AdvanceThin | Job::CommitShort)) {
         let mut cases: Vec<Cases> =
             states.iter().map(|states| states.cases(job, waiting)).collect();
         if cfg!(other) && !cases.iter_mut().all(Cases::alike) {
@@ -917,6 +974,59 @@ fn assert_same_entries(cases: &mut [Cases; 3]) {
     }
 }
 
+/// What a commit hangs on, beside a commit's checks and a commit.
+fn print_critical(pace: &Pace) {
+    println!("\n## What a commit hangs on, and a commit's checks\n");
+    println!("Microseconds. \"A vote short\": the commit of the state with votes too few, refused with 22, an empty state's with 21. States: with all votes; with just enough; with many blocks to make; and, as no run leaves one, with all certificates of the two rounds in block 1, each of which is tried without.\n");
+    println!("| ceiling | state | answer | by | critical | commit, a vote short | commit | critical / a vote short | critical / commit |");
+    println!("|---:|---|---|---|---:|---:|---:|---:|---:|");
+    for ceiling in [64, 256, 1_024] {
+        print_critical_row(ceiling, "empty", &States::of(ceiling, 0), pace);
+        for (rounds, name) in [(ceiling / 2, "half"), (ceiling, "full")] {
+            let all = States::of(ceiling, rounds);
+            let few = all.changed(|member| {
+                let (held, row) = (member.take_votes(), ROW * member.state[20] as usize);
+                member.table()[row] = held;
+            });
+            let unblocked = States { usual: all.unblocked.clone(), unblocked: Vec::new() };
+            print_critical_row(ceiling, name, &all, pace);
+            print_critical_row(ceiling, &format!("{name}, few votes"), &few, pace);
+            print_critical_row(ceiling, &format!("{name}, many blocks"), &unblocked, pace);
+            print_critical_row(ceiling, &format!("{name}, in blocks"), &all.changed(Member::mark_two_rounds), pace);
+        }
+    }
+}
+
+fn print_critical_row(ceiling: u32, state: &str, states: &States, pace: &Pace) {
+    let mut cases = [Job::Critical, Job::CommitShort, Job::Commit].map(|job| states.cases(job, NOBODY));
+    assert_same_places(&mut cases[0]);
+    let many = cases[0].0.len();
+    let times: [Time; 6] = pace.times(many, |which, calls| {
+        let f = if which < 3 { &ENGINE } else { &PLAIN };
+        cases[which % 3].batch(f, calls)
+    });
+    let (answer, second) = (answer_text(&cases[0].0[0]), if cfg!(other) { "other" } else { "plain" });
+    for (by, row) in ["engine", second].iter().zip(times.map(|time| time.median).as_chunks::<3>().0) {
+        let [critical, short, commit] = row.map(|time| digits(time / 1e3));
+        let (by_short, by_commit) = (digits(row[0] / row[1]), digits(row[0] / row[2]));
+        println!("| {ceiling} | {state} | {answer} | {by} | {critical} | {short} | {commit} | {by_short} | {by_commit} |");
+    }
+}
+
+/// Both list the same, and leave the table as it was.
+fn assert_same_places(cases: &mut Cases) {
+    for case in &mut cases.0 {
+        let before = case.member.clone();
+        let lists = [&ENGINE, &PLAIN].map(|f| {
+            case.list.fill(77);
+            assert_eq!(case.call(f), case.expected);
+            assert!(case.member.table() == before.clone().table(), "the table is not as it was");
+            case.list.clone()
+        });
+        assert!(lists[0] == lists[1], "places differ");
+    }
+}
+
 fn main() {
     let quick = std::env::args().nth(1).as_deref() == Some("quick");
     let pace = if quick {
@@ -934,6 +1044,9 @@ fn main() {
     print_batches(&pace);
     if PREVIEWS {
         print_previews(&pace);
+    }
+    if CRITICAL {
+        print_critical(&pace);
     }
     if QUEUES {
         print_queues(&pace);

@@ -192,3 +192,21 @@ pub fn preview(state: &[u32], table: &[u32], list: &mut [u32]) -> u64 {
     let (s, sn, t, tn) = (state.as_ptr(), state.len(), table.as_ptr(), table.len());
     unsafe { forgelilac_preview(s, sn, t, tn, list.as_mut_ptr(), list.len()) }
 }
+
+// ---- critical: run.sh leaves this out of an archive that has none
+
+extern "C" {
+    fn forgelilac_critical(
+        s: *const u32,
+        sn: usize,
+        t: *mut u32,
+        tn: usize,
+        list: *mut u32,
+        n: usize,
+    ) -> u64;
+}
+
+pub fn critical(state: &[u32], table: &mut [u32], list: &mut [u32]) -> u64 {
+    let (s, sn, t, tn) = (state.as_ptr(), state.len(), table.as_mut_ptr(), table.len());
+    unsafe { forgelilac_critical(s, sn, t, tn, list.as_mut_ptr(), list.len()) }
+}

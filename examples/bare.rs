@@ -1,15 +1,14 @@
 //! A host without the standard library and without an allocator: one member alone, three rounds, one
 //! block, on words that it lends. Its guests' entries wait in queues, and each proposal is drawn from
-//! them. The block is previewed before it is made. The status is 0 where preview and chain are as they
-//! must be, else the number of the refusal, or 100. A hypervisor has no main and no C library; this one
-//! has them to be run.
+//! them. The block is previewed before it is made, and what the commit hangs on is listed. The status is
+//! 0 where preview, list and chain are as they must be, else the number of the refusal, or 100. A
+//! hypervisor has no main and no C library; this one has them to be run.
 
 #![no_std]
 #![no_main]
 
-use forgelilac::layout::preview_words;
-use forgelilac::lent::{self, Place};
-use forgelilac::{table_words, transactions_of, Refusal, Sheet, Transaction, STATE_WORDS};
+use forgelilac::layout::{preview_words, CRITICAL_WORDS};
+use forgelilac::{lent, table_words, transactions_of, Critical, Entry, Refusal, Sheet, Transaction, STATE_WORDS};
 
 const CEILING: u32 = 64;
 
@@ -48,14 +47,19 @@ fn run() -> Result<bool, Refusal> {
     {
         return Ok(false);
     }
-    let block = [1, 2].map(|round| Place { block: 1, round, author: 0 });
+    let block = [1, 2].map(|round| Entry { block: 1, round, author: 0 });
     let mut words = [0; preview_words(CEILING)];
     let count = lent::preview(&state, &table, &mut words)?;
     if !lent::entries(&words, count).eq(block) {
         return Ok(false);
     }
+    let mut words = [0; CRITICAL_WORDS];
+    let count = lent::critical(&state, &mut table, &mut words)?;
+    if !lent::criticals(&words, count).eq([2, 3].map(|round| Critical { round, author: 0 })) {
+        return Ok(false);
+    }
     lent::commit(&mut state, &mut table)?;
-    let mut list = [Place::default(); 16 * CEILING as usize];
+    let mut list = [Entry::default(); 16 * CEILING as usize];
     let count = lent::chain(&state, &table, &mut list)?;
     Ok(list[..count] == block)
 }

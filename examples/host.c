@@ -96,6 +96,20 @@ static void print_preview(const struct engine *e) {
     }
 }
 
+/* Which computers must not be unplugged? The certificates that a commit hangs on, now that the one of
+ * this author is there too. The table is lent for writing, so the engine is not const here. */
+static void print_critical(struct engine *e, uint32_t author) {
+    uint32_t list[FORGELILAC_CRITICAL_WORDS], round = e->state[FORGELILAC_STATE_ROUND];
+    uint64_t answer = forgelilac_critical(ENGINE(e), WORDS(list));
+    const uint32_t *at = list, *end = list + FORGELILAC_PLACE_WORDS * forgelilac_value_of(answer);
+    must("critical", forgelilac_refusal_of(answer));
+    printf("with %u/%u a commit of member %u hangs on", (unsigned)round, (unsigned)author,
+           (unsigned)e->state[FORGELILAC_STATE_OWN]);
+    for (; at < end; at += FORGELILAC_PLACE_WORDS)
+        printf(" %u/%u", (unsigned)at[FORGELILAC_PLACE_ROUND], (unsigned)at[FORGELILAC_PLACE_AUTHOR]);
+    printf("\n");
+}
+
 /* Prints block k of a listed chain, and gives where the next one begins. */
 static const uint32_t *print_block(const struct engine *e, uint32_t k, const uint32_t *at, const uint32_t *end) {
     uint64_t round = forgelilac_block(ENGINE(e), k);
@@ -233,7 +247,10 @@ int main(void) {
     printf("certificates as round/author\n");
     for (uint32_t m = 0; m < MEMBERS; m++) open_member(&engines[m], m);
     for (int round = 1; round <= LAST_ROUND; round++) {
-        for (uint32_t m = 0; m < MEMBERS; m++) circulate(m);
+        for (uint32_t m = 0; m < MEMBERS; m++) {
+            circulate(m);
+            if (round == LAST_ROUND) print_critical(&engines[0], m);
+        }
         if (round + 1 >= LAST_ROUND) print_preview(&engines[0]);
         for (uint32_t m = 0; m < MEMBERS; m++) {
             commit(&engines[m]);

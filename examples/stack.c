@@ -11,14 +11,15 @@
 
 enum { CEILING = 64, MEMBERS = 4, ALL = (1 << MEMBERS) - 1, STACK = 1 << 20, PAINT = 0xa5 };
 enum call { NOTHING, OPEN, PROPOSE, ENQUEUE, DRAW, ENDORSE, CERTIFY, ACCEPT, BATCH, ADVANCE, COMMIT,
-            PREVIEW, COMMITTEE, SHARE, CERTIFICATE, BLOCK, CHAIN, CALLS };
+            PREVIEW, CRITICAL, COMMITTEE, SHARE, CERTIFICATE, BLOCK, CHAIN, CALLS };
 static const char *const names[CALLS] = {"", "open", "propose", "enqueue", "draw", "endorse", "certify", "accept",
-                                         "batch", "advance", "commit", "preview", "committee", "share", "certificate",
-                                         "block", "chain"};
+                                         "batch", "advance", "commit", "preview", "critical", "committee", "share",
+                                         "certificate", "block", "chain"};
 
 static uint32_t state[FORGELILAC_STATE_WORDS], table[FORGELILAC_TABLE_WORDS(CEILING)];
 static uint32_t words[FORGELILAC_SHEET_WORDS], out[FORGELILAC_HELD_WORDS];
 static uint32_t list[FORGELILAC_CHAIN_WORDS(CEILING)], entries[FORGELILAC_PREVIEW_WORDS(CEILING)];
+static uint32_t places[FORGELILAC_CRITICAL_WORDS];
 static struct forgelilac_certificate row[FORGELILAC_BATCH_RECORDS];
 static uint32_t answers[FORGELILAC_BATCH_RECORDS];
 static unsigned char *stack;
@@ -44,6 +45,7 @@ static uint64_t make(enum call call) {
     case ADVANCE: return high(forgelilac_advance(ENGINE));
     case COMMIT: return forgelilac_commit(ENGINE);
     case PREVIEW: return forgelilac_preview(ENGINE, entries, sizeof entries / 4);
+    case CRITICAL: return forgelilac_critical(ENGINE, places, sizeof places / 4);
     case COMMITTEE: return high(forgelilac_committee(ENGINE, words[0], OUT));
     case SHARE: return forgelilac_share(ENGINE, words[0], words[1]);
     case CERTIFICATE: return high(forgelilac_certificate(ENGINE, words[0], words[1], OUT));
@@ -119,6 +121,16 @@ static void sign(uint32_t round) {
     if (round % 2 == 0) measure(BATCH);
 }
 
+/* What a commit hangs on: as a run leaves the state, and with a vote that is in block 1 already, as no
+ * run has it; that one is tried with its bit cleared, which takes more. */
+static void hang(uint32_t round) {
+    uint32_t *mark = table + FORGELILAC_RECORD(1, round) + FORGELILAC_RECORD_BLOCK;
+    measure(CRITICAL);
+    *mark = state[FORGELILAC_STATE_BLOCKS] > 0;
+    measure(CRITICAL);
+    *mark = 0;
+}
+
 static void look(uint32_t round) {
     words[0] = round;
     measure(COMMITTEE);
@@ -141,6 +153,7 @@ int main(void) {
     for (uint32_t round = 1; round <= CEILING; round++) {
         sign(round);
         if (round % 2 == 1 && round > 1) measure(PREVIEW);
+        if (round % 2 == 1 && round > 1) hang(round);
         if (round % 2 == 1 && round > 1) measure(COMMIT);
         look(round);
         if (round < CEILING) measure(ADVANCE);

@@ -15,8 +15,9 @@
  *
  * Threads. The engine keeps nothing between calls and has no global state. Calls on distinct
  * states and tables may run at once. One state and its table belong to one call at a time. Reads
- * only read: several reads of one engine may run at once while no other call on it does. No call
- * blocks, allocates, or calls back.
+ * only read: several reads of one engine may run at once while no other call on it does. One of them
+ * is lent the table for writing and runs alone: forgelilac_critical. No call blocks, allocates, or
+ * calls back.
  *
  * Stack. Calls use the caller's stack, as much at every ceiling: see FORGELILAC_STACK_BYTES. */
 #ifndef FORGELILAC_H
@@ -32,9 +33,9 @@ extern "C" {
 /* ---- versions */
 
 /* Of the header, and of the archive that belongs to it. */
-#define FORGELILAC_VERSION "0.8.0"
+#define FORGELILAC_VERSION "0.9.0"
 #define FORGELILAC_VERSION_MAJOR 0
-#define FORGELILAC_VERSION_MINOR 8
+#define FORGELILAC_VERSION_MINOR 9
 #define FORGELILAC_VERSION_PATCH 0
 /* Of the words of state and table; no word of theirs has it. Store it beside them: docs/TABLES.md
  * tells what to do with words of an older format. Those of format 1 have a state of 37 words: write 3
@@ -58,6 +59,8 @@ extern "C" {
 #define FORGELILAC_COMMITTEE_WORDS 16
 #define FORGELILAC_LISTED_WORDS 3       /* a certificate as forgelilac_chain lists it */
 #define FORGELILAC_ENTRY_WORDS 3        /* an entry of a preview, the same three words */
+#define FORGELILAC_PLACE_WORDS 2        /* a certificate as forgelilac_critical lists it */
+#define FORGELILAC_CRITICAL_WORDS 64    /* the list that forgelilac_critical asks for: 32 places */
 #define FORGELILAC_BATCH_RECORDS 64     /* the most certificates of a batch, in records */
 /* A table for a state of this ceiling; forgelilac_table_words as a constant. */
 #define FORGELILAC_TABLE_WORDS(ceiling) (272u * (ceiling) + 272u)
@@ -67,9 +70,9 @@ extern "C" {
 #define FORGELILAC_PREVIEW_WORDS(ceiling) (48u * (ceiling))
 
 /* Bytes of stack that serve every call and every function below on x86-64; examples/stack.c
- * measures what they use. Preview uses about 88 KB, commit about 84 KB, draw and propose about
- * 80 KB, batch about 77 KB, endorse, certify, accept, advance, committee and share about 74 KB,
- * forgelilac_chain about 3 KB, the others less than 1 KB. */
+ * measures what they use. Preview uses about 88 KB, commit about 84 KB, critical about 81 KB, draw
+ * and propose about 80 KB, batch about 77 KB, endorse, certify, accept, advance, committee and share
+ * about 74 KB, forgelilac_chain about 3 KB, the others less than 1 KB. */
 #define FORGELILAC_STACK_BYTES 98304
 
 /* ---- words of a state */
@@ -85,7 +88,8 @@ extern "C" {
 #define FORGELILAC_STATE_BODY 23      /* body of the proposal */
 #define FORGELILAC_STATE_MARGIN 37    /* margin, 3 to 5 */
 
-/* ---- words of a body, a proposal, a certificate, a held certificate, a listed one, an entry of a preview */
+/* ---- words of a body, a proposal, a certificate, a held certificate, a listed one, an entry of a
+ * preview, a place that a commit hangs on */
 
 #define FORGELILAC_BODY_PREVIOUS 0
 #define FORGELILAC_BODY_COUNT 1
@@ -102,6 +106,8 @@ extern "C" {
 #define FORGELILAC_ENTRY_BLOCK 0     /* number of the block that would hold it */
 #define FORGELILAC_ENTRY_ROUND 1
 #define FORGELILAC_ENTRY_AUTHOR 2
+#define FORGELILAC_PLACE_ROUND 0
+#define FORGELILAC_PLACE_AUTHOR 1
 
 /* A certificate of a row, for forgelilac_batch: its 17 words in their order. forgelilac_record_of
  * makes one of words. The certificate read has the same name: write `struct`, in C++ too. */
@@ -181,7 +187,7 @@ enum forgelilac_refusal {
     FORGELILAC_NO_ANCHOR = 21,         /* no anchor in the round before */
     FORGELILAC_VOTES_SHORT = 22,       /* votes weigh not more than the fault bound */
     FORGELILAC_NONE_THERE = 23,        /* no such certificate or block */
-    FORGELILAC_LENGTH_RANGE = 25,      /* batch: a row over 64, or answers shorter than the row; preview: a list with fewer than 16 places per round of the ceiling */
+    FORGELILAC_LENGTH_RANGE = 25,      /* batch: a row over 64, or answers shorter than the row; preview: a list with fewer than 16 places per round of the ceiling; critical: a list with fewer than 32 places */
     FORGELILAC_GUEST_RANGE = 26,       /* guest above 7 */
     FORGELILAC_QUEUE_FULL = 27,        /* the queue holds eight transactions */
     FORGELILAC_THIN_ROUND = 28         /* the authors of the certificates held in the present round form no quorum of its committee */
@@ -263,6 +269,24 @@ uint64_t forgelilac_commit(uint32_t *state, size_t state_words,
 uint64_t forgelilac_preview(const uint32_t *state, size_t state_words,
                             const uint32_t *table, size_t table_words,
                             uint32_t *list, size_t list_words);
+/* Which certificates does a commit hang on? Every held certificate of the present round and the one
+ * before whose absence alone would turn that commit into a refusal, into list: two words each, its
+ * round and its author (FORGELILAC_PLACE_ROUND, FORGELILAC_PLACE_AUTHOR), by round, then author. In
+ * every state that calls lead to from an opening it is the anchor, and each vote without which the
+ * remaining votes weigh not more than the fault bound. Low half: how many, so 2 times as many words
+ * of list are written; those beyond stay. High half: refusal number; then no word of list is written.
+ * A place is two words, and what is left over is none; 25 for fewer than 32 places
+ * (FORGELILAC_CRITICAL_WORDS), however few there are to list. Then the checks of commit: where it
+ * would be refused, the list is refused with the same number.
+ *
+ * The table is lent for writing, and is afterwards word for word as it was. Where a commit would be
+ * accepted and a certificate of the two rounds already is in a block, as in no state that calls lead
+ * to from an opening, the engine clears its held bit, makes the checks, and sets the bit again. So
+ * lend a table in memory that can be written, and let no other call run on it meanwhile, no read
+ * either. The state is only read. There is nothing to store afterwards. 1, 25, 19, 20, 8, 21, 22. */
+uint64_t forgelilac_critical(const uint32_t *state, size_t state_words,
+                             uint32_t *table, size_t table_words,
+                             uint32_t *list, size_t list_words);
 /* Sixteen weights of a round's committee into out, 0 for a non-member. 1, 5, 8. */
 uint32_t forgelilac_committee(const uint32_t *state, size_t state_words,
                               const uint32_t *table, size_t table_words,
@@ -328,7 +352,7 @@ static inline const char *forgelilac_refusal_text(uint32_t number) {
         "votes weigh not more than the fault bound",
         "no such certificate or block",
         "record unreadable",
-        "batch: a row over 64, or answers shorter than the row; preview: a list with fewer than 16 places per round of the ceiling",
+        "batch: a row over 64, or answers shorter than the row; preview: a list with fewer than 16 places per round of the ceiling; critical: a list with fewer than 32 places",
         "guest above 7",
         "the queue holds eight transactions",
         "the authors of the certificates held in the present round form no quorum of its committee",

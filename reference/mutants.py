@@ -1,17 +1,20 @@
 #!/usr/bin/env python3
 """Spoils the reference in one place at a time and counts which streams
 notice: the edge stream and the shuffled streams of seeds 1 to N. No record
-reads a share, is a batch, adds to a queue, draws or is a preview: wrong rules of
-shares are given pairs of weight and total, wrong rules of batches rows of
-certificates, wrong rules of queues streams with draws, wrong previews streams in
-which they are asked for, and what they answer is compared with naive.py. Of
-queues it also says whether fair finds a fault, of previews whether the unit
-tests do. Of a wrong rule of advance or of the margin that no stream notices it
-says whether the unit tests do: none of the streams comes to hold an outsider.
+reads a share, is a batch, adds to a queue, draws, is a preview or lists what a
+commit hangs on: wrong rules of shares are given pairs of weight and total, wrong
+rules of batches rows of certificates, wrong rules of queues streams with draws,
+wrong previews and wrong lists streams in which they are asked for, and what they
+answer is compared with naive.py. Of queues it also says whether fair finds a
+fault, of previews and lists whether the unit tests do: no stream comes to a state
+that no run reaches. Of a wrong rule of advance or of the margin that no stream
+notices it says whether the unit tests do: none of the streams comes to hold an
+outsider.
 
     mutants.py N [SORT]        (build.sh first; works in the directory mutants)
 
-With SORT only that one: share, batch, queue, preview, advance, margin or rule.
+With SORT only that one: share, batch, queue, preview, critical, advance, margin
+or rule.
 
 Six of the changes cannot show in a runner's answers; they are marked same.
 """
@@ -410,7 +413,7 @@ NUMBERED = '(1..).zip(&copy.chain).skip(self.chain.len())'
 EACH = 'for &(round, author) in &block.certificates {\n                let place'
 PLACES = 'words / ENTRY < (MEMBERS * self.settings.ceiling) as usize'
 SHORT = '        if ' + PLACES + ' {\n            return Err(25);\n        }\n'
-COUNT = '        Ok(count)\n    }\n\n    // ---- reads'
+COUNT = '        Ok(count)\n    }\n\n    // ---- what a commit hangs on'
 # The whole history of a block's anchor, as far as a condition goes.
 WHOLE = '''let anchor = block.certificates[block.certificates.len() - 1];
             let history = self.history(anchor.1, anchor.0);
@@ -469,6 +472,104 @@ P=[
 (COUNT, '        places.for_each(|place| place.fill(0));\n' + COUNT),
 ('        self.may_preview(list.len())?;\n',
  '        list.iter_mut().take(1).for_each(|word| *word = 0);\n        self.may_preview(list.len())?;\n'),
+]
+# wrong lists of what a commit hangs on
+FEW = '        if words / PAIR < PAIRS {\n            return Err(25);\n        }\n'
+LIST = '        self.may_critical(list.len())?;\n'
+ROUNDS = 'for round in [self.round - 1, self.round] {'
+EACH_OF = 'for author in members_of(self.held_authors(round)) {\n                if self'
+ABSENT = 'self.without(author, round).may_commit().is_err()'
+LOOP = '        let mut count = 0;\n        ' + ROUNDS + '\n            ' + EACH_OF + ABSENT[len('self'):]
+WRITTEN = 'place.copy_from_slice(&[round, author]);'
+LISTED = '        Ok(count)\n    }\n\n    // ---- reads'
+GONE = '        copy.held[place(author, round)] = None;\n'
+AGAIN = '            copy.chain.push(Block::on(&copy.chain, &copy.settings, block.round, certificates, &copy.held));\n'
+# By the votes where a certificate is in no block, with %s for the anchor, for a vote, and for what remains of them.
+BY_VOTES = '''{
+                    let (r, anchor) = (self.round, self.may_commit()?);
+                    let committee = self.committee_of(r).unwrap();
+                    let votes = |a: u32| self.held_at(a, r).is_some_and(|held| in_set(held.certificate.proposal.previous, anchor));
+                    let left: u64 = (0..MEMBERS).filter(|&a| a != author && votes(a)).map(|a| committee[a as usize]).sum();
+                    if in_block { absent } else if round < r { %s } else { %s && %s }
+                }'''.replace('in_block', 'self.held_at(author, round).unwrap().block > 0').replace('absent', ABSENT)
+DECIDES = 'left <= self.fault_bound(committee)'
+
+
+def by_votes(anchor='author == anchor', vote='votes(author)', decides=DECIDES):
+    return BY_VOTES % (anchor, vote, decides)
+
+
+K=[
+# by the votes alone, in a block or not: only the unit tests can tell
+(ABSENT, by_votes().replace('.block > 0', '.block > u32::MAX - 1')),
+# what remains is the bound and taken as enough; one above the bound; against a quorum; by 3; by heads; the bound without that member
+(ABSENT, by_votes(decides=DECIDES.replace('<=', '<'))),
+(ABSENT, by_votes(decides=DECIDES + ' + 1')),
+(ABSENT, by_votes(decides='left < quorum_weight(total(committee), self.settings.margin)')),
+(ABSENT, by_votes(decides='left <= fault_bound(total(committee), 3)')),
+(ABSENT, by_votes(decides='(0..MEMBERS).filter(|&a| a != author && votes(a)).count() as u64 <= self.fault_bound(committee)')),
+(ABSENT, by_votes(decides='left <= fault_bound(total(committee) - committee[author as usize], self.settings.margin)')),
+# no anchor; all of its round; the anchor alone; every vote; all of the present round
+(ABSENT, by_votes(anchor='false')),
+(ABSENT, by_votes(anchor='true')),
+(ABSENT, by_votes(vote='false')),
+(ABSENT, by_votes(decides='true')),
+(ABSENT, by_votes(vote='true', decides='true')),
+# the anchor where its author is inside in the present round; both certificates of one author gone
+(ABSENT, by_votes(anchor='author == anchor && committee[author as usize] > 0')),
+(ABSENT, 'self.without(author, self.round - 1).without(author, self.round).may_commit().is_err()'),
+# refused with 21 alone, with 22 alone; those that the commit can spare
+(ABSENT, ABSENT.replace('.is_err()', ' == Err(21)')),
+(ABSENT, ABSENT.replace('.is_err()', ' == Err(22)')),
+(ABSENT, ABSENT.replace('is_err', 'is_ok')),
+# absent and still in its block; its bonds gone and it is held; the chain of before; the order of before; weights of the starting
+(GONE, '        let absent = copy.held[place(author, round)].take();\n        if absent.as_ref().is_some_and(|held| held.block > 0) {\n            copy.chain = self.chain.clone();\n            return copy;\n        }\n'),
+(GONE, '        copy.held[place(author, round)].as_mut().unwrap().block = 0;\n'),
+(AGAIN, AGAIN + '''            let (at, mut after) = (copy.chain.len() - 1, copy.chain.iter().rev().nth(1).map_or(copy.settings.weights, |b| b.after));
+            for &(r, a) in block.certificates.iter().filter(|&&one| one != (round, author)) {
+                copy.held_at(a, r).unwrap().certificate.proposal.transactions.iter().for_each(|t| change(&mut after, t));
+            }
+            copy.chain[at].after = after;
+'''),
+(AGAIN, AGAIN + '            copy.chain.last_mut().unwrap().after = block.after;\n'),
+# one after another, not put back
+(LOOP, '        let mut rest = self.clone();\n' + LOOP.replace(ABSENT, '{ rest = rest.without(author, round); rest.may_commit().is_err() }')),
+# the present round alone, the round before alone, the present round first, one round more, one less
+(ROUNDS, 'for round in [self.round] {'),
+(ROUNDS, 'for round in [self.round - 1] {'),
+(ROUNDS, 'for round in [self.round, self.round - 1] {'),
+(ROUNDS, 'for round in [self.round, (self.round + 1).min(self.settings.ceiling)] {'),
+(ROUNDS, 'for round in [self.round - 2, self.round - 1] {'),
+# authors falling, from the one after the anchor, only one's own, not one's own
+(EACH_OF, EACH_OF.replace('members_of(self.held_authors(round))', 'members_of(self.held_authors(round)).collect::<Vec<_>>().into_iter().rev()')),
+(EACH_OF, EACH_OF.replace('members_of(self.held_authors(round))', '(0..MEMBERS).map(|step| (self.may_commit().unwrap() + step) % MEMBERS).filter(|&a| self.is_held(a, round))')),
+(EACH_OF, EACH_OF.replace('if self', 'if author == self.own && self')),
+(EACH_OF, EACH_OF.replace('if self', 'if author != self.own && self')),
+# author, then round; the present round for both; counted from 1
+(WRITTEN, WRITTEN.replace('round, author', 'author, round')),
+(WRITTEN, WRITTEN.replace('round, author', 'self.round, author')),
+(WRITTEN, WRITTEN.replace('author]', 'author + 1]')),
+# the count of words, without the anchor, one more
+(LISTED, LISTED.replace('Ok(count)', 'Ok(count * PAIR as u32)')),
+(LISTED, LISTED.replace('Ok(count)', 'Ok(count - u32::from(count > 0))')),
+(LISTED, LISTED.replace('Ok(count)', 'Ok(count + 1)')),
+# 31 places, 33, 16; words for places; a started place counted; three words a place; 16 a round of the ceiling
+(FEW, FEW.replace('PAIRS', 'PAIRS - 1')),
+(FEW, FEW.replace(' < ', ' <= ')),
+(FEW, FEW.replace('PAIRS', 'PAIRS / 2')),
+(FEW, FEW.replace('words / PAIR ', 'words ')),
+(FEW, FEW.replace('words / PAIR ', 'words.div_ceil(PAIR) ')),
+(FEW, FEW.replace('words / PAIR ', 'words / ENTRY ')),
+(FEW, FEW.replace('PAIRS', '(MEMBERS * self.settings.ceiling) as usize')),
+# 25 after commit's; none; 1 in its place
+(FEW + '        self.may_commit().map(|_| ())\n', '        self.may_commit()?;\n' + FEW + '        Ok(())\n'),
+(FEW, ''),
+(FEW, FEW.replace('25', '1')),
+# weighed by 3 whatever the margin, in what is asked again
+(ABSENT, '{ let mut copy = self.without(author, round); copy.settings.margin = 3; copy.may_commit().is_err() }'),
+# the rest cleared; refused, a word written
+(LISTED, '        places.for_each(|place| place.fill(0));\n' + LISTED),
+(LIST, '        list.iter_mut().take(1).for_each(|word| *word = 0);\n' + LIST),
 ]
 work = os.path.join(base, 'mutants')
 os.makedirs(work, exist_ok=True)
@@ -625,6 +726,24 @@ def one_preview(i):
     return '%d of %d lines, tests %s' % (len(previews) - same, len(previews), unit_tests(place, 'reference.rs', *P[i]))
 
 
+# The seeds' lists of what a commit hangs on.
+plugs = made('plugs.py', range(1, 21) if wanted('critical') else [])
+criticals = naive('criticals', plugs)
+
+
+def one_critical(i):
+    place = 'critical%d' % i
+    os.makedirs(os.path.join(work, place), exist_ok=True)
+    shutil.copy(os.path.join(base, 'runner_ref.rs'), os.path.join(work, place))
+    program, why = spoilt(place, 'criticals.rs', 'reference.rs', *K[i])
+    if program is None:
+        return why
+    # It may end before the last line.
+    found = answers(program, plugs).splitlines()
+    same = sum(a == b for a, b in zip(found, criticals))
+    return '%d of %d lines, tests %s' % (len(criticals) - same, len(criticals), unit_tests(place, 'reference.rs', *K[i]))
+
+
 def one_share(i):
     program, why = spoilt('share%d' % i, 'shares.rs', 'reference.rs', *S[i])
     if program is None:
@@ -635,13 +754,13 @@ def one_share(i):
 
 with ThreadPoolExecutor(int(os.environ.get('JOBS', 4))) as pool:
     for sort, try_one, changes in [('share', one_share, S), ('batch', one_batch, B), ('queue', one_queue, Q),
-                                   ('preview', one_preview, P), ('advance', one_advance, A),
+                                   ('preview', one_preview, P), ('critical', one_critical, K), ('advance', one_advance, A),
                                    ('margin', one_margin, G), ('rule', one, M)]:
         if not wanted(sort):
             continue
         for i, result in enumerate(pool.map(try_one, range(len(changes)))):
             *name, old, new = changes[i]
-            # Of an advance, a preview or a margin the end tells more.
-            short = slice(-60, None) if sort in ('advance', 'preview', 'margin') else slice(44)
+            # Of an advance, a list or a margin the end tells more.
+            short = slice(-60, None) if sort in ('advance', 'preview', 'critical', 'margin') else slice(44)
             print(sort, i, *name, repr(old[short]), '->', repr(new[short]), ':', result, flush=True)
 shutil.rmtree(work)

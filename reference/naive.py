@@ -5,14 +5,16 @@ the state each time it is asked, dictionaries and sets throughout. Slow on
 purpose. The order inside a block starts with the author of its anchor here,
 with the leader of its round in the first writing; a draw goes from transaction
 to transaction here, lap by lap there; a preview is told from histories here, by
-a commit on a copy there; a quorum by what is left out of it here, by what is in
-it there.
+a commit on a copy there; what a commit hangs on by the votes that remain here,
+by taking each certificate away there; a quorum by what is left out of it here,
+by what is in it there.
 
     naive.py < stream > answers
     naive.py shares < pairs > shares      (no record reads a share)
     naive.py batches < rows > answers     (no record is a batch)
     naive.py queues < stream > answers    (no record adds to a queue or draws)
     naive.py previews < stream > answers  (no record is a preview)
+    naive.py criticals < stream > answers (no record lists what a commit hangs on)
 """
 import re
 import sys
@@ -257,6 +259,18 @@ class Engine:
             entries.append((number, cr, (author - anchor[0]) % 16, author))
         return [(number, cr, author) for number, cr, _, author in sorted(entries)]
 
+    def critical(self, words):
+        """The anchor, and each vote for it without which the others weigh no more
+        than the bound: so it is in every state that a run reaches."""
+        refuse_if(words // 2 < 32, 25)
+        anchor, before = self.final_anchor()
+        committee = self.committee(self.round)
+        votes = {a: committee.get(a, 0) for (a, cr), (previous, _) in self.held.items()
+                 if cr == self.round and anchor in previous}
+        pivotal = [a for a in sorted(votes)
+                   if sum(weight for b, weight in votes.items() if b != a) <= self.bound(committee)]
+        return [(before, anchor)] + [(self.round, a) for a in pivotal]
+
     def chain(self):
         lines = []
         for number, (block_round, certificates) in enumerate(self.blocks, 1):
@@ -417,16 +431,17 @@ def queues():
         print(*lines, sep='\n')
 
 
-def previews():
+def lists(asked):
+    """Streams in which a list is asked for: a preview, or what a commit hangs on."""
     engine = None
     for line in sys.stdin:
         name, *fields = line.rstrip('\n').split(',')
-        if name != 'preview':
+        if name != asked:
             engine, lines = answered(engine, line.rstrip('\n'))
         else:
             try:
                 refuse_if(engine is None, 1)
-                entries = engine.preview(int(fields[0]))
+                entries = getattr(engine, asked)(int(fields[0]))
                 lines = [','.join(map(str, ['ok', len(entries)] + [word for entry in entries for word in entry]))]
             except Refused as refusal:
                 lines = ['refused,%d' % refusal.args[0]]
@@ -440,6 +455,8 @@ elif sys.argv[1:] == ['batches']:
 elif sys.argv[1:] == ['queues']:
     queues()
 elif sys.argv[1:] == ['previews']:
-    previews()
+    lists('preview')
+elif sys.argv[1:] == ['criticals']:
+    lists('critical')
 else:
     main()

@@ -26,6 +26,11 @@ pub const MOST_RECORDS: usize = 64;
 /// author (point 8).
 pub const ENTRY: usize = 3;
 
+/// The words of a place in the list of what a commit hangs on: certificate round
+/// and author; and how many places are asked for (point 10).
+pub const PAIR: usize = 2;
+pub const PAIRS: usize = 32;
+
 /// Guests are 0 to 7, and each has a queue of eight transactions (point 6).
 pub const GUESTS: u32 = 8;
 pub const QUEUE: usize = 8;
@@ -807,6 +812,50 @@ impl Member {
                 let place = places.next().expect("a place for each certificate of the ceiling");
                 place.copy_from_slice(&[number, round, author]);
                 count += 1;
+            }
+        }
+        Ok(count)
+    }
+
+    // ---- what a commit hangs on (point 10)
+
+    /// The state with one held certificate absent: not held, and so in no block
+    /// either. What the blocks make of the weights, and with it the order inside
+    /// them, is worked out again.
+    pub fn without(&self, author: u32, round: u32) -> Member {
+        let mut copy = Member { chain: Vec::new(), ..self.clone() };
+        copy.held[place(author, round)] = None;
+        for block in &self.chain {
+            let mut certificates = block.certificates.clone();
+            certificates.retain(|&one| one != (round, author));
+            copy.chain.push(Block::on(&copy.chain, &copy.settings, block.round, certificates, &copy.held));
+        }
+        copy
+    }
+
+    /// A place of the list is two words; one left over is no place.
+    pub fn may_critical(&self, words: usize) -> Answer<()> {
+        if words / PAIR < PAIRS {
+            return Err(25);
+        }
+        self.may_commit().map(|_| ())
+    }
+
+    /// Takes each held certificate of the round before and of the present one
+    /// away by itself, by round, then author, and lists those without which the
+    /// commit would be refused. The rest of the list is kept. The answer is how
+    /// many there are.
+    pub fn critical(&self, list: &mut [u32]) -> Answer<u32> {
+        self.may_critical(list.len())?;
+        let mut places = list.chunks_exact_mut(PAIR);
+        let mut count = 0;
+        for round in [self.round - 1, self.round] {
+            for author in members_of(self.held_authors(round)) {
+                if self.without(author, round).may_commit().is_err() {
+                    let place = places.next().expect("a place for each certificate of two rounds");
+                    place.copy_from_slice(&[round, author]);
+                    count += 1;
+                }
             }
         }
         Ok(count)

@@ -1,7 +1,7 @@
 //! `rustc --test tests_ref.rs`: the cases marked P in document 01, the slips
 //! it wants ruled out, the example, small runs worked out by hand, the order
-//! inside a block, batches, queues, thin rounds, previews, margins, and the
-//! shortcuts of the reference compared with the plain definitions.
+//! inside a block, batches, queues, thin rounds, previews, margins, what a commit
+//! hangs on, and the shortcuts of the reference compared with the plain definitions.
 
 #![allow(dead_code)]
 
@@ -1457,6 +1457,468 @@ fn four_by_margin_5() {
         assert_eq!(m.commit(), Err(22));
         m.accept(&by_all(3, 3, 2, &[])).unwrap();
         assert_eq!(m.commit(), by_one);
+    }
+}
+
+// ------------------------------------------ what a commit hangs on (point 10) ---
+
+/// A list of so many words, all 77 before: round and author of each place. The
+/// rest is kept, a refused list keeps all, and the state is untouched.
+fn critical(m: &Member, words: usize) -> Answer<Vec<(u32, u32)>> {
+    let (before, mut list) = (image(m), vec![77; words]);
+    let answer = m.critical(&mut list);
+    assert_eq!(m.may_critical(words), answer.map(|_| ()));
+    assert_eq!(image(m), before);
+    let written = 2 * answer.unwrap_or(0) as usize;
+    assert!(list[written..].iter().all(|&word| word == 77));
+    answer.map(|_| list[..written].chunks(2).map(|pair| (pair[0], pair[1])).collect())
+}
+
+/// Members of these weights, rounds 1 and 2 full, in round 3: the anchor of 2 is
+/// member 1's.
+fn two_full_rounds(weights: &[u32], margin: u32) -> Member {
+    let mut all = [0; 16];
+    all[..weights.len()].copy_from_slice(weights);
+    let mut m = Member::open(0, &by_margin(sheet(Blank, Written(8), Blank, &all), margin), 8).unwrap();
+    let everybody = (0..16).filter(|&a| all[a as usize] > 0).map(single).fold(0, |x, y| x | y);
+    for (round, previous) in [(1, 0), (2, everybody)] {
+        for a in members_of(everybody) {
+            m.accept(&certificate(a, round, previous, everybody & !single(a), &[])).unwrap();
+        }
+        m.advance().unwrap();
+    }
+    m
+}
+
+/// Votes of some members of round 3, the others naming member 0 alone: what the
+/// commit hangs on, the anchor left out, which must be the first.
+fn hanging(weights: &[u32], margin: u32, votes: Set) -> Answer<Vec<u32>> {
+    let mut m = two_full_rounds(weights, margin);
+    let everybody = m.held_authors(2);
+    for a in members_of(everybody) {
+        let previous = if in_set(votes, a) { 0b11 } else { 0b01 };
+        m.accept(&certificate(a, 3, previous, everybody & !single(a), &[])).unwrap();
+    }
+    let list = critical(&m, 64)?;
+    assert_eq!(m.without(1, 2).may_commit(), Err(21));
+    assert!(list.iter().skip(1).all(|&(round, a)| m.without(a, round).may_commit() == Err(22)));
+    assert_eq!(list[0], (2, 1));
+    assert!(list[1..].iter().all(|&(round, _)| round == 3));
+    Ok(list[1..].iter().map(|&(_, a)| a).collect())
+}
+
+/// Weights, margin, votes, and those without which the others weigh too little.
+const DECIDING: [(&[u32], u32, Set, &[u32]); 31] = [
+    // Bound 1. Of three votes two are left, of two one, which is the bound.
+    (&[1, 1, 1, 1], 3, 0b1111, &[]),
+    (&[1, 1, 1, 1], 3, 0b0111, &[]),
+    (&[1, 1, 1, 1], 3, 0b1101, &[]),
+    (&[1, 1, 1, 1], 3, 0b0011, &[0, 1]),
+    (&[1, 1, 1, 1], 3, 0b1100, &[2, 3]),
+    (&[1, 1, 1, 1], 3, 0b1010, &[1, 3]),
+    // Bound 0: one vote is enough, and then all hangs on it.
+    (&[1, 1, 1, 1], 4, 0b0100, &[2]),
+    (&[1, 1, 1, 1], 4, 0b0101, &[]),
+    (&[1, 1, 1, 1], 5, 0b0001, &[0]),
+    (&[1, 1, 1, 1], 5, 0b0011, &[]),
+    (&[1, 1, 1, 1, 1], 5, 0b1_0000, &[4]),
+    // Six by margin 5: bound 1.
+    (&[1, 1, 1, 1, 1, 1], 5, 0b10_0001, &[0, 5]),
+    (&[1, 1, 1, 1, 1, 1], 5, 0b10_0011, &[]),
+    // Total 7. By margin 3 the bound is 2, and without member 0 just that is left.
+    (&[5, 1, 1], 3, 0b111, &[0]),
+    (&[5, 1, 1], 3, 0b011, &[0]),
+    (&[5, 1, 1], 3, 0b001, &[0]),
+    // By margins 4 and 5 it is 1.
+    (&[5, 1, 1], 4, 0b111, &[]),
+    (&[5, 1, 1], 5, 0b111, &[]),
+    (&[5, 1, 1], 5, 0b110, &[1, 2]),
+    (&[5, 1, 1], 5, 0b101, &[0]),
+    // Total 11: bounds 3, 2 and 2.
+    (&[3, 2, 2, 4], 3, 0b1111, &[]),
+    (&[3, 2, 2, 4], 3, 0b0110, &[1, 2]),
+    (&[3, 2, 2, 4], 3, 0b0011, &[0, 1]),
+    (&[3, 2, 2, 4], 3, 0b1001, &[3]),
+    (&[3, 2, 2, 4], 3, 0b0111, &[]),
+    (&[3, 2, 2, 4], 4, 0b1001, &[]),
+    (&[3, 2, 2, 4], 5, 0b0001, &[0]),
+    (&[3, 2, 2, 4], 5, 0b0011, &[0]),
+    (&[3, 2, 2, 4], 5, 0b0110, &[1, 2]),
+    // Total 1,500,001: bounds 500,000 and 300,000.
+    (&[500_001, 500_000, 500_000], 3, 0b011, &[0]),
+    (&[500_001, 500_000, 500_000], 5, 0b011, &[]),
+];
+
+#[test]
+fn the_anchor_and_votes_that_decide() {
+    for (weights, margin, votes, expected) in DECIDING {
+        assert_eq!(hanging(weights, margin, votes), Ok(expected.to_vec()), "{weights:?} {margin} {votes:#b}");
+    }
+    for (weights, margin, votes) in [(&[1, 1, 1, 1][..], 3, 0b0010), (&[5, 1, 1], 3, 0b110), (&[3, 2, 2, 4], 3, 0b0001)] {
+        assert_eq!(hanging(weights, margin, votes), Err(22));
+    }
+}
+
+/// Sixteen of weight 1: one vote above the bound, and each of them decides; one
+/// more, and none does.
+#[test]
+fn one_vote_to_spare() {
+    for (margin, bound) in [(3, 5), (4, 3), (5, 3)] {
+        for votes in 0..=16u32 {
+            let set = ((1u32 << votes) - 1) as Set;
+            let expected = match votes {
+                n if n <= bound => Err(22),
+                n if n == bound + 1 => Ok((0..n).collect()),
+                _ => Ok(vec![]),
+            };
+            assert_eq!(hanging(&[1; 16], margin, set), expected, "{votes} votes, margin {margin}");
+        }
+    }
+}
+
+/// A place is two words, and 32 of them are asked for, whatever the ceiling. 25
+/// comes before all of commit's.
+#[test]
+fn places_for_two_rounds() {
+    for ceiling in [3, 8, 64, 1_024] {
+        let mut m = Member::open(0, &sheet(Blank, Written(ceiling), Blank, &[]), 1_024).unwrap();
+        for (round, answer) in [(1, Err(19)), (2, Err(19)), (3, Ok(vec![(2, 1)]))] {
+            round_of_four(&mut m, round, if round == 1 { 0 } else { 15 }, &[]);
+            for words in [0, 1, 2, 3, 31, 32, 33, 48, 61, 62, 63] {
+                assert_eq!(critical(&m, words), Err(25), "{words} words in round {round}");
+            }
+            for words in [64, 65, 66, 67, 96, 1_000] {
+                assert_eq!(critical(&m, words), answer, "{words} words");
+            }
+        }
+    }
+}
+
+#[test]
+fn a_list_is_refused_as_commit_is() {
+    let refused = |m: &Member, number: u32| {
+        assert_eq!(critical(m, 64), Err(number));
+        assert_eq!(critical(m, 63), Err(25));
+        assert_eq!(m.may_commit(), Err(number));
+    };
+    let mut m = of_four();
+    refused(&m, 19);
+    for (round, previous) in [(1, 0), (2, 15), (3, 15)] {
+        round_of_four(&mut m, round, previous, &[]);
+    }
+    assert_eq!(critical(&m, 64), Ok(vec![(2, 1)]));
+    let mut even = m.clone();
+    even.round = 4;
+    refused(&even, 19);
+    let mut done = m.clone();
+    done.commit().unwrap();
+    refused(&done, 20);
+    let mut unknown = m.clone();
+    (unknown.round, unknown.settings.lookback) = (5, 1);
+    refused(&unknown, 8);
+    refused(&m.without(1, 2), 21);
+    let two = m.without(0, 3).without(1, 3);
+    assert_eq!(critical(&two, 64), Ok(vec![(2, 1), (3, 2), (3, 3)]));
+    refused(&two.without(3, 3), 22);
+}
+
+/// The author of the anchor may be outside in the next round; its vote weighs
+/// nothing there.
+#[test]
+fn an_anchor_that_has_left() {
+    // Lookback 2: the block of round 2 unbonds member 2 from round 5 on, where the
+    // bound is 0. The leader of 4 is member 2.
+    let mut held: Vec<Place> = vec![(1, 1, 0, 1, vec![unbond(2)])];
+    held.extend((4..=5).flat_map(|r| (0..4).map(move |a| (r, a, 0b1111, 0, vec![]))));
+    let m = put_together(&[1, 1, 1, 1], 2, 3, 5, &[2], &held);
+    assert_eq!(m.committee_of(4).unwrap()[..4], [1, 1, 1, 1]);
+    assert_eq!(m.committee_of(5).unwrap()[..4], [1, 1, 0, 1]);
+    assert_eq!(critical(&m, 64), Ok(vec![(4, 2)]));
+    let one = m.without(0, 5).without(1, 5);
+    assert_eq!(critical(&one, 64), Ok(vec![(4, 2), (5, 3)]));
+}
+
+/// Round, author, previous set, number of the block, transactions.
+type Place = (u32, u32, Set, u32, Vec<Transaction>);
+
+/// A state, also one that no run reaches: blocks of these rounds, and what is held.
+fn put_together(weights: &[u32], lookback: u32, margin: u32, round: u32, blocks: &[u32], held: &[Place]) -> Member {
+    let mut all = [0; 16];
+    all[..weights.len()].copy_from_slice(weights);
+    let mut m = Member::open(0, &by_margin(sheet(Written(lookback), Written(9), Blank, &all), margin), 9).unwrap();
+    m.round = round;
+    m.chain = blocks.iter().map(|&round| Block { round, certificates: Vec::new(), after: [0; 16] }).collect();
+    for (r, a, previous, block, transactions) in held {
+        let certificate = certificate(*a, *r, *previous, 0, transactions);
+        m.held[((r - 1) * 16 + a) as usize] = Some(Held { certificate, block: *block });
+    }
+    tell_again(&mut m);
+    m
+}
+
+/// Puts the blocks together again, by the marks.
+fn tell_again(m: &mut Member) {
+    for (k, before) in std::mem::take(&mut m.chain).into_iter().enumerate() {
+        let mut marked = Vec::new();
+        for (r, a) in (1..=m.settings.ceiling).flat_map(|r| (0..16).map(move |a| (r, a))) {
+            if m.held_at(a, r).is_some_and(|held| held.block == k as u32 + 1) {
+                marked.push((r, a));
+            }
+        }
+        m.chain.push(Block::on(&m.chain, &m.settings, before.round, marked, &m.held));
+    }
+}
+
+/// Lookback 1, block 1 of round 2, in round 5, by margin 3; certificates of rounds
+/// 4 and 5: author, previous set, block, transactions.
+fn marked(weights: &[u32], fourth: &[(u32, u32, Vec<Transaction>)], fifth: &[(u32, Set, u32, Vec<Transaction>)]) -> Member {
+    let fourth = fourth.iter().map(|(a, block, list)| (4, *a, 0b1110, *block, list.clone()));
+    let fifth = fifth.iter().map(|(a, previous, block, list)| (5, *a, *previous, *block, list.clone()));
+    put_together(weights, 1, 3, 5, &[2], &fourth.chain(fifth).collect::<Vec<_>>())
+}
+
+/// A certificate of the round before that is in a block, in a state that no run
+/// reaches. Member 0 is inside by its bond, and the leader of 4 is member 2;
+/// without the bond it is member 3.
+#[test]
+fn in_a_block_and_of_the_round_before() {
+    // Who has the bond, what the votes name, what the commit hangs on.
+    let table: [(u32, Set, &[(u32, u32)]); 6] = [
+        // Member 3 leads then, and has no votes; it has, with enough of them.
+        (1, 0b0100, &[(4, 1), (4, 2)]),
+        (1, 0b1100, &[(4, 2)]),
+        // The anchor itself: another is in its place, with votes or without.
+        (2, 0b1100, &[]),
+        (2, 0b0100, &[(4, 2)]),
+        // The one that would lead is the absent one.
+        (3, 0b1100, &[(4, 2), (4, 3)]),
+        (3, 0b0100, &[(4, 2), (4, 3)]),
+    ];
+    for (author, named, expected) in table {
+        let fourth: Vec<_> = (1..4)
+            .map(|a| if a == author { (a, 1, vec![bond(0, 1)]) } else { (a, 0, vec![]) })
+            .collect();
+        let fifth: Vec<_> = (1..4).map(|a| (a, named, 0, vec![])).collect();
+        let m = marked(&[0, 1, 1, 1], &fourth, &fifth);
+        assert_eq!(m.may_commit(), Ok(2));
+        assert_eq!(critical(&m, 64), Ok(expected.to_vec()), "bond of {author}, votes name {named:#b}");
+    }
+}
+
+/// A certificate of the present round that is in a block: the bound is another
+/// without it. The leader of 4 is member 2, the starting weights are 1, 1, 1, 1.
+#[test]
+fn in_a_block_and_of_the_present_round() {
+    let fourth = [(2, 0, vec![])];
+    let vote = |a: u32| (a, 0b0100, 0, vec![]);
+    // An unbond makes three of four, bound 0. Without it the bound is 1: of two
+    // votes the other one is too little, though it is above 0.
+    let by_vote = (0, 0b0100, 1, vec![unbond(3)]);
+    let m = marked(&[1, 1, 1, 1], &fourth, &[by_vote.clone(), vote(1)]);
+    assert_eq!(critical(&m, 64), Ok(vec![(4, 2), (5, 0)]));
+    let m = marked(&[1, 1, 1, 1], &fourth, &[by_vote, vote(1), vote(2)]);
+    assert_eq!(critical(&m, 64), Ok(vec![(4, 2)]));
+    // The same where it is no vote at all.
+    let m = marked(&[1, 1, 1, 1], &fourth, &[(0, 0b0010, 1, vec![unbond(3)]), vote(1)]);
+    assert_eq!(critical(&m, 64), Ok(vec![(4, 2), (5, 0), (5, 1)]));
+    // A bond makes 1, 1, 1, 4 of it, bound 2. Of three votes any two are too
+    // little; but without the bond the bound is 1.
+    let with_bond = (0, 0b0100, 1, vec![bond(3, 3)]);
+    let votes = [with_bond, vote(1), vote(2)];
+    let mut m = marked(&[1, 1, 1, 1], &fourth, &votes);
+    assert_eq!(critical(&m, 64), Ok(vec![(4, 2), (5, 1), (5, 2)]));
+    // A block of round 2 that counts no more in round 5.
+    m.settings.lookback = 3;
+    tell_again(&mut m);
+    assert_eq!(critical(&m, 64), Ok(vec![(4, 2)]));
+    // Its own weight comes from its own bond: without it the others are two of two.
+    let m = marked(&[0, 1, 1], &[(2, 0, vec![]), (1, 0, vec![])], &[(0, 0b0111, 1, vec![bond(0, 7)]), vote(1), vote(2)]);
+    assert_eq!((m.committee_of(5).unwrap()[0], m.may_commit()), (7, Ok(2)));
+    assert_eq!(critical(&m, 64), Ok(vec![(4, 2), (5, 0)]));
+}
+
+/// What is absent decides who leads the round of a later block, and so the order
+/// inside it: lookback 1, blocks of rounds 2 and 4, in round 7.
+#[test]
+fn order_without_it() {
+    // With the bond of member 0 the leader of 4 is member 2: member 4 is bonded,
+    // then unbonded. Without it member 3 is, and member 4 stays.
+    let mut held: Vec<Place> = vec![(3, 2, 1, 2, vec![bond(4, 5)]), (3, 3, 1, 2, vec![unbond(4)])];
+    held.extend([(6, 1, 1, 0, vec![]), (6, 2, 1, 1, vec![bond(0, 1)]), (6, 3, 1, 0, vec![])]);
+    held.extend((1..4).map(|a| (7, a, 0b1010, 0, vec![])));
+    let m = put_together(&[0, 1, 1, 1], 1, 3, 7, &[2, 4], &held);
+    assert_eq!(m.chain()[1].certificates, [(3, 2), (3, 3)]);
+    assert_eq!((m.committee_of(7).unwrap()[..5].to_vec(), m.may_commit()), (vec![1, 1, 1, 1, 0], Ok(3)));
+    // Of members 1 to 4 the leader of 6 is member 4; of 1 to 3 it would be 1, whom all name.
+    let absent = m.without(2, 6);
+    assert_eq!(absent.chain()[1].certificates, [(3, 3), (3, 2)]);
+    assert_eq!((absent.committee_of(7).unwrap()[..5].to_vec(), absent.may_commit()), (vec![0, 1, 1, 1, 5], Err(21)));
+    assert_eq!(critical(&m, 64), Ok(vec![(6, 2), (6, 3)]));
+}
+
+/// What the paper says of states that a run reaches: the anchor, and each vote
+/// where the remaining ones do not exceed the bound.
+fn by_votes(m: &Member) -> Answer<Vec<(u32, u32)>> {
+    let (r, anchor) = (m.round(), m.may_commit()?);
+    let committee = *m.committee_of(r).unwrap();
+    let votes: Vec<u32> = members_of(m.held_authors(r))
+        .filter(|&a| in_set(m.held_at(a, r).unwrap().certificate.proposal.previous, anchor))
+        .collect();
+    let left = |a: u32| votes.iter().filter(|&&b| b != a).map(|&b| committee[b as usize]).sum::<u64>();
+    let decides = votes.iter().filter(|&&a| left(a) <= m.fault_bound(&committee));
+    Ok([(r - 1, anchor)].into_iter().chain(decides.map(|&a| (r, a))).collect())
+}
+
+/// What commit answers, by the marks: nothing that is kept with the blocks but
+/// their rounds is looked at.
+fn plain_commit(m: &Member) -> Answer<()> {
+    let (r, last, lookback) = (m.round(), m.last_block_round(), m.settings().lookback);
+    if r % 2 == 0 || r == 1 {
+        return Err(19);
+    }
+    if last >= r - 1 {
+        return Err(20);
+    }
+    if r.saturating_sub(lookback) > last + 2 {
+        return Err(8);
+    }
+    let of = |r: u32| plain_bonded(m, m.chain().len(), r.saturating_sub(lookback));
+    let anchor = leader(r - 1, &of(r - 1)).filter(|&a| m.is_held(a, r - 1)).ok_or(21u32)?;
+    let names = |a: u32| m.held_at(a, r).is_some_and(|held| in_set(held.certificate.proposal.previous, anchor));
+    let votes: u64 = (0..16).filter(|&a| names(a)).map(|a| of(r)[a as usize]).sum();
+    if votes > m.fault_bound(&of(r)) { Ok(()) } else { Err(22) }
+}
+
+/// The definition, by the marks: places that are held no more, and what commit
+/// answers then.
+fn by_absence(m: &Member) -> Answer<Vec<(u32, u32)>> {
+    plain_commit(m)?;
+    let mut list = Vec::new();
+    for (r, a) in [m.round() - 1, m.round()].into_iter().flat_map(|r| (0..16).map(move |a| (r, a))) {
+        let mut copy = m.clone();
+        if copy.held[((r - 1) * 16 + a) as usize].take().is_some() && plain_commit(&copy).is_err() {
+            list.push((r, a));
+        }
+    }
+    Ok(list)
+}
+
+/// A member of any weights, lookback, ceiling and margin.
+fn any_member(rng: &mut Rng, most: u64) -> Option<Member> {
+    let weights: Vec<u32> = (0..16).map(|_| rng.below(most) as u32).collect();
+    let (lookback, ceiling) = (1 + rng.below(12) as u32, 3 + rng.below(30) as u32);
+    let written = by_margin(sheet(Written(lookback), Written(ceiling), Blank, &weights), 3 + rng.below(3) as u32);
+    Member::open(0, &written, 64).ok()
+}
+
+/// The certificates of the present round as fill_round makes them, in any order;
+/// some name the anchor of the round before as well.
+fn some_of_round(rng: &mut Rng, m: &Member, thick: u64) -> Vec<Certificate> {
+    let (r, mut full) = (m.round(), m.clone());
+    fill_round(rng, &mut full);
+    let mut all: Vec<Certificate> =
+        members_of(full.held_authors(r)).map(|a| full.held_at(a, r).unwrap().certificate.clone()).collect();
+    (1..all.len()).for_each(|i| all.swap(i, rng.below(i as u64 + 1) as usize));
+    for one in &mut all {
+        if let (true, Some(anchor)) = (r > 1 && rng.below(4) < thick, m.anchor(r.max(2) - 1)) {
+            one.proposal.previous |= single(anchor);
+        }
+    }
+    all
+}
+
+/// Runs from an opening: a list after each certificate.
+#[test]
+fn reached_by_chance() {
+    let mut rng = Rng(0x10_1010_1010_1010_11);
+    let (mut refused, mut by_margins, mut lengths) = ([0; 32], [[0; 2]; 3], [0; 4]);
+    for _ in 0..200 {
+        let most = 2 + rng.below(6);
+        let Some(mut m) = any_member(&mut rng, most) else { continue };
+        let (seldom, thick) = (1 + rng.below(4), rng.below(4));
+        loop {
+            for one in some_of_round(&mut rng, &m, thick) {
+                m.accept(&one).unwrap();
+                let list = critical(&m, 64);
+                assert_eq!(list, by_votes(&m));
+                let Ok(list) = list.map_err(|number| refused[number as usize] += 1) else { continue };
+                // Nothing of the two rounds is in a block.
+                assert!(m.held[(m.round() as usize - 2) * 16..].iter().flatten().all(|held| held.block == 0));
+                by_margins[m.settings().margin as usize - 3][usize::from(list.len() > 1)] += 1;
+                lengths[(list.len() - 1).min(3)] += 1;
+            }
+            if rng.below(seldom) == 0 && m.commit().is_ok() {
+                assert_eq!(critical(&m, 64), Err(20));
+            }
+            if m.advance().is_err() {
+                break;
+            }
+        }
+    }
+    assert!(by_margins.iter().flatten().all(|&n| n > 200) && lengths.iter().all(|&n| n > 200), "{by_margins:?} {lengths:?}");
+    assert!([19, 21, 22].iter().all(|&n: &usize| refused[n] > 300), "{refused:?}");
+}
+
+/// States that no run reaches: blocks of any rounds, certificates of both rounds
+/// in them, few members bonded and unbonded there.
+#[test]
+fn absences_by_chance() {
+    let mut rng = Rng(0x0dd_ba11_cafe_f00d);
+    let (mut accepted, mut otherwise, mut no_anchor, mut others) = (0, 0, 0, 0);
+    for _ in 0..300 {
+        let Some(mut m) = any_member(&mut rng, 4) else { continue };
+        m.settings.lookback = 40;
+        for _ in 0..2 * rng.below(u64::from(m.settings.ceiling) / 2) {
+            fill_round(&mut rng, &mut m);
+            let _ = m.advance();
+        }
+        fill_round(&mut rng, &mut m);
+        for _ in 0..8 {
+            let mut damaged = m.clone();
+            damage(&mut rng, &mut damaged);
+            let list = critical(&damaged, 64 + rng.below(3) as usize);
+            assert_eq!(list, by_absence(&damaged));
+            if let Ok(list) = list {
+                let told = by_votes(&damaged).unwrap();
+                accepted += 1;
+                otherwise += u32::from(list != told);
+                no_anchor += u32::from(!list.contains(&told[0]));
+                others += u32::from(list.iter().any(|one| !told.contains(one)));
+            }
+        }
+    }
+    assert!(accepted > 500 && otherwise > 100 && no_anchor > 3 && others > 80, "{accepted} {otherwise} {no_anchor} {others}");
+}
+
+/// Block rounds below the round before, by which the present one is known; marks
+/// in the two rounds, and bonds and unbonds of few members there, who have no
+/// weight but by them; and some votes less.
+fn damage(rng: &mut Rng, m: &mut Member) {
+    let (r, few) = (m.round, [rng.below(16) as u32, rng.below(16) as u32]);
+    m.settings.lookback = 1 + rng.below(3) as u32;
+    few.iter().for_each(|&one| m.settings.weights[one as usize] = 0);
+    let none = Block { round: 0, certificates: Vec::new(), after: [0; 16] };
+    let rounds = (2..r.max(3) - 2).step_by(2).filter(|&round| rng.below(2) == 0 || round + 3 >= r);
+    m.chain = rounds.map(|round| Block { round, ..none.clone() }).collect();
+    let often = 2 + rng.below(6);
+    for (round, a) in [r.max(2) - 1, r].into_iter().flat_map(|round| (0..16).map(move |a| (round, a))) {
+        let place = &mut m.held[((round - 1) * 16 + a) as usize];
+        if round == r && rng.below(2) == 0 {
+            *place = None;
+        }
+        let Some(held) = place.as_mut().filter(|_| rng.below(often) == 0) else { continue };
+        held.block = rng.below(m.chain.len() as u64 + 1) as u32;
+        let one = few[rng.below(2) as usize];
+        let list = [bond(one, 1 + rng.below(9) as u32), unbond(one)];
+        held.certificate.proposal.transactions = vec![list[usize::from(rng.below(4) == 0)]];
+    }
+    tell_again(m);
+    // The anchor itself, at times.
+    if let (true, Some(anchor)) = (r > 1 && rng.below(2) == 0, m.anchor(r.max(2) - 1)) {
+        let held = m.held[((r - 2) * 16 + anchor) as usize].as_mut().unwrap();
+        held.block = u32::from(!m.chain.is_empty());
+        held.certificate.proposal.transactions = vec![bond(few[0], 1)];
+        tell_again(m);
     }
 }
 

@@ -68,10 +68,11 @@ pub enum Call {
     Certificate { author: u32, round: u32, out: Vec<u32> },
     Block { number: u32 },
     Preview { list: Vec<u32> },
+    Critical { list: Vec<u32> },
 }
 
 impl Call {
-    pub const NAMES: [&'static str; 15] = [
+    pub const NAMES: [&'static str; 16] = [
         "open",
         "propose",
         "endorse",
@@ -87,6 +88,7 @@ impl Call {
         "certificate",
         "block",
         "preview",
+        "critical",
     ];
 
     pub fn kind(&self) -> usize {
@@ -106,12 +108,14 @@ impl Call {
             Call::Certificate { .. } => 12,
             Call::Block { .. } => 13,
             Call::Preview { .. } => Call::PREVIEW,
+            Call::Critical { .. } => Call::CRITICAL,
         }
     }
 
     /// The kinds of calls that may change a word come first, then the reads.
     pub const CHANGING: usize = 10;
     pub const PREVIEW: usize = 14;
+    pub const CRITICAL: usize = 15;
 
     pub fn is_read(&self) -> bool {
         self.kind() >= Call::CHANGING
@@ -122,7 +126,7 @@ impl Call {
         match self {
             Call::Committee { out, .. } | Call::Certificate { out, .. } => out,
             Call::Batch { answers, .. } => answers,
-            Call::Preview { list } => list,
+            Call::Preview { list } | Call::Critical { list } => list,
             _ => &[],
         }
     }
@@ -343,6 +347,28 @@ pub fn some_preview(rng: &mut Rng, ceiling: u32) -> Call {
     Call::Preview { list: noise(rng, words) }
 }
 
+/// The words of the list that tells what a commit hangs on: 32 places of two
+/// words, whatever the ceiling.
+pub const CRITICAL_WORDS: usize = 64;
+
+/// What a commit hangs on, into a list that is just long enough, mostly; a word or
+/// a place more or less, much longer, much shorter, or empty.
+pub fn some_critical(rng: &mut Rng) -> Call {
+    let words = match rng.below(40) {
+        0 => 0,
+        1 => rng.below(64) as usize,
+        2 => rng.pick(&[1, 2, 16, 31, 32, 33, 48, 60, 61]),
+        3 => 62,
+        4 => 63,
+        5..=9 => 65,
+        10..=12 => 66,
+        13 => rng.pick(&[67, 96, 128]),
+        14 => 64 + rng.below(200) as usize,
+        _ => CRITICAL_WORDS,
+    };
+    Call::Critical { list: noise(rng, words) }
+}
+
 /// A guest adds a transaction: one that fits, mostly; any guest, at times those
 /// with much waiting.
 pub fn likely_enqueue(rng: &mut Rng, member: &Member) -> Call {
@@ -403,8 +429,9 @@ pub fn likely_call(rng: &mut Rng, member: &Member, pool: &mut Pool) -> Call {
             };
             Call::Accept { certificate: longer(rng, words) }
         }
-        77..=84 if could_commit || rng.chance(200) => match rng.below(4) {
-            0 => some_preview(rng, member.settings.ceiling),
+        77..=84 if could_commit || rng.chance(200) => match rng.below(8) {
+            0 | 1 => some_preview(rng, member.settings.ceiling),
+            2 | 3 => some_critical(rng),
             _ => Call::Commit,
         },
         // On, once a quorum of the round is there; now and then before that.
@@ -545,8 +572,9 @@ pub fn wild_draw(rng: &mut Rng, member: &Member) -> Call {
 /// A call that fits little: spoilt arguments, or any words at all.
 pub fn wild_call(rng: &mut Rng, member: &Member, pool: &mut Pool) -> Call {
     let fit = rng.chance(850);
-    match rng.below(16) {
+    match rng.below(17) {
         15 => some_preview(rng, member.settings.ceiling),
+        16 => some_critical(rng),
         12 | 13 => wild_enqueue(rng),
         14 => wild_draw(rng, member),
         0 => Call::Open { own: rng.between(0, 17), sheet: wild_sheet(rng, member) },
@@ -607,8 +635,9 @@ fn wild_round(rng: &mut Rng, member: &Member) -> u32 {
 /// For a made-up chain: calls that ask what the blocks have made of the weights.
 pub fn call_on_chain(rng: &mut Rng, member: &Member, pool: &mut Pool) -> Call {
     let round = rng.between(1, member.settings.ceiling);
-    match rng.below(13) {
+    match rng.below(15) {
         11 | 12 => some_preview(rng, member.settings.ceiling),
+        13 | 14 => some_critical(rng),
         0..=4 => Call::Committee { round, out: out_stretch(rng, 16) },
         5 => Call::Share { member: rng.between(0, 15), round },
         6..=8 => Call::Commit,
@@ -623,6 +652,7 @@ pub fn any_call(rng: &mut Rng, member: &Member, pool: &mut Pool) -> Call {
         0 => wild_call(rng, member, pool),
         1 => Call::Commit,
         2 if rng.chance(500) => some_preview(rng, member.settings.ceiling),
+        2 => some_critical(rng),
         _ => likely_call(rng, member, pool),
     }
 }

@@ -6,7 +6,9 @@
 //! is how chains were listed before. A state that is not well formed must be refused with 1 by all.
 //! So must each without its margin, as states were stored before; brought along, it is well formed.
 //! What a commit would add is told by `Engine::preview`, by `lent::preview` and by the header's
-//! `forgelilac_preview`, and must be as the reference has it.
+//! `forgelilac_preview`, and must be as the reference has it. So is what a commit hangs on, by
+//! `Engine::critical`, `lent::critical` and `forgelilac_critical`, which leave the table as it was; also
+//! where certificates of the present round and the one before are in blocks already, as no run has them.
 //! Then a full state of ceiling 1,024, with times.
 
 #![allow(dead_code)]
@@ -21,6 +23,7 @@ mod words;
 use calls::Rng;
 use forgelilac::lent::{self, CertificateRecord, Place};
 use forgelilac::{layout, leader, Block, Certificate, Engine, Entry, Proposal, Refusal, Sheet, Transaction, MEMBERS};
+use forgelilac::Critical;
 use grow::*;
 use nodes::Node;
 use std::ffi::{c_char, CStr};
@@ -38,13 +41,14 @@ mod header {
         pub fn header_record_of(words: *const u32, record: *mut super::CertificateRecord);
         pub fn header_waiting(t: *const u32, guest: u32) -> u32;
         pub fn header_preview(s: *const u32, sn: usize, t: *const u32, tn: usize, list: *mut u32, n: usize) -> u64;
+        pub fn header_critical(s: *const u32, sn: usize, t: *mut u32, tn: usize, list: *mut u32, n: usize) -> u64;
         pub fn header_number(which: u32) -> u32;
     }
 }
 
 /// Lengths and offsets of the package, in the order of header.c.
 #[rustfmt::skip]
-const NUMBERS: [usize; 51] = [
+const NUMBERS: [usize; 55] = [
     layout::FORMAT as usize, MEMBERS, layout::TRANSACTIONS, layout::BLOCKS, layout::STACK_BYTES,
     layout::STATE_WORDS, layout::BODY_WORDS, layout::PROPOSAL_WORDS, layout::CERTIFICATE_WORDS,
     layout::HELD_WORDS, layout::SHEET_WORDS, layout::STATE_OWN, layout::STATE_LOOKBACK,
@@ -57,7 +61,8 @@ const NUMBERS: [usize; 51] = [
     layout::BATCH_RECORDS, size_of::<CertificateRecord>(), layout::GUESTS, layout::QUEUE_PLACES,
     layout::TRANSACTION_WORDS, layout::SERVED, layout::WAITING, layout::queue(0), layout::queue(7),
     layout::ENTRY_WORDS, layout::ENTRY_BLOCK, layout::ENTRY_ROUND, layout::ENTRY_AUTHOR, layout::preview_words(64),
-    layout::STATE_MARGIN, layout::SHEET_WORDS,
+    layout::STATE_MARGIN, layout::SHEET_WORDS, layout::PLACE_WORDS, layout::PLACE_ROUND, layout::PLACE_AUTHOR,
+    layout::CRITICAL_WORDS,
 ];
 
 fn text(of: *const c_char) -> &'static str {
@@ -161,6 +166,13 @@ struct Figures {
     /// Previews that were accepted, and their entries.
     previewed: u64,
     entries: u64,
+    /// Lists of what a commit hangs on that were accepted, their places, and those of certificates that
+    /// are in a block already; lists without the anchor, and with more than it and votes.
+    criticals: u64,
+    places: u64,
+    marked: u64,
+    without_anchor: u64,
+    with_others: u64,
     /// States of before there was a margin that were brought along.
     brought: u64,
 }
@@ -178,6 +190,7 @@ impl Figures {
         self.compare_before(node);
         self.compare_waiting(node, &engine);
         self.compare_previews(node, &engine);
+        self.compare_criticals(node, engine.clone());
         let Some(twin) = &node.twin else {
             self.malformed += 1;
             self.without_blocks += u64::from(engine.blocks() == 0);
@@ -246,6 +259,52 @@ impl Figures {
                 assert_eq!(engine.preview().map_err(Refusal::number), entries);
             }
         }
+    }
+
+    /// What a commit hangs on, as package, header and reference have it, into a list that is just long
+    /// enough, longer, and one word short. The table is lent for writing, and is then as it was.
+    fn compare_criticals(&mut self, node: &Node, mut engine: Engine) {
+        let state = &node.state[..];
+        for words in [layout::CRITICAL_WORDS, layout::CRITICAL_WORDS + 1, layout::CRITICAL_WORDS - 1] {
+            let mut expected = vec![77; words];
+            let answer = node.twin.as_ref().map_or(Err(1), |twin| twin.critical(&mut expected));
+            let (mut lent_list, mut header_list) = (vec![77; words], vec![77; words]);
+            let (mut lent_table, mut header_table) = (node.table.clone(), node.table.clone());
+            let found = lent::critical(state, &mut lent_table, &mut lent_list).map_err(Refusal::number);
+            // SAFETY: whole slices.
+            let in_header = unsafe {
+                let (table, tn) = (header_table.as_mut_ptr(), header_table.len());
+                let (list, n) = (header_list.as_mut_ptr(), header_list.len());
+                header::header_critical(state.as_ptr(), state.len(), table, tn, list, n)
+            };
+            assert_eq!(found, answer);
+            assert_eq!(in_header, answer.map_or_else(|number| u64::from(number) << 32, u64::from));
+            assert!(lent_list == expected && header_list == expected);
+            assert!(lent_table == node.table && header_table == node.table);
+            if words == layout::CRITICAL_WORDS {
+                let place = |w: &[u32]| Critical { round: w[0], author: w[1] };
+                let places = answer.map(|count| expected.chunks(2).take(count as usize).map(place).collect::<Vec<_>>());
+                let before = engine.clone();
+                assert_eq!(engine.critical().map_err(Refusal::number), places);
+                assert!(engine == before);
+                if let (Ok(places), Some(twin)) = (places, &node.twin) {
+                    self.count_places(twin, &places);
+                }
+            }
+        }
+    }
+
+    fn count_places(&mut self, twin: &reference::Member, places: &[Critical]) {
+        let anchor = Critical { round: twin.round - 1, author: twin.may_commit().expect("a commit would go") };
+        let held = |place: &Critical| twin.held_at(place.author, place.round).expect("listed is held");
+        let is_vote = |place: &Critical| {
+            place.round == twin.round && held(place).certificate.proposal.previous >> anchor.author & 1 == 1
+        };
+        self.criticals += 1;
+        self.places += places.len() as u64;
+        self.marked += places.iter().filter(|place| held(place).block > 0).count() as u64;
+        self.without_anchor += u64::from(!places.contains(&anchor));
+        self.with_others += u64::from(places.iter().any(|place| *place != anchor && !is_vote(place)));
     }
 
     /// How many wait, as package, header and reference have it; refused where the state is malformed.
@@ -344,6 +403,36 @@ fn time_full() {
     println!("Engine::chain {owned:.0} us, lent::chain {lent:.0} us, forgelilac_chain {header:.0} us");
 }
 
+/// Takes some certificates of the present round and the one before away, and puts some of the others into
+/// a block, with bonds and unbonds of two members in them, so that committees and leaders hang on them; as
+/// short a lookback as will do, or 1 more. Where there is no block, one is made up. No run reaches such a
+/// state. The round is above 3.
+fn mark_two_rounds(rng: &mut Rng, member: &reference::Member, node: &mut Node) {
+    let round = member.round;
+    let places = [round - 1, round].into_iter().flat_map(|r| (0..16).map(move |a| (a, r)));
+    let held: Vec<_> = places.filter(|&(author, round)| member.is_held(author, round)).collect();
+    let few = [rng.pick(&held).0, rng.pick(&held).0];
+    if member.chain.is_empty() {
+        node.table[layout::row(1) + layout::ROW_BLOCK] = round - 3;
+        node.state[layout::STATE_BLOCKS] = 1;
+    }
+    let last = member.chain.last().map_or(round - 3, |block| block.round);
+    node.state[layout::STATE_LOOKBACK] = round - last - 2 + rng.between(0, 1);
+    node.state[layout::STATE_ALLOWANCE] = 4;
+    let gone = rng.pick(&[0, 100, 300]);
+    for (author, round) in held {
+        if rng.chance(gone) {
+            node.table[layout::row(round) + layout::ROW_HELD] &= !(1 << author);
+        } else if rng.chance(400) {
+            let record = &mut node.table[layout::record(author, round)..][..layout::RECORD_WORDS];
+            let transactions = [[0, rng.pick(&few), rng.pick(&[1, 2, 10, 1_000])], [1, rng.pick(&few), 0]];
+            record[layout::RECORD_BLOCK] = rng.between(1, node.state[layout::STATE_BLOCKS]);
+            record[layout::RECORD_COUNT] = 1;
+            record[layout::RECORD_TRANSACTIONS..][..3].copy_from_slice(&rng.pick(&transactions));
+        }
+    }
+}
+
 fn main() {
     let mut arguments = std::env::args().skip(1);
     let seed = arguments.next().map_or(1, |a| a.parse().expect("SEED is a number"));
@@ -374,6 +463,12 @@ fn main() {
             copy.read_again();
             figures.compare(&copy);
         }
+        for _ in 0..if member.round > 3 && member.may_commit().is_ok() { 8 } else { 0 } {
+            let mut copy = node.clone();
+            mark_two_rounds(&mut rng, &member, &mut copy);
+            copy.read_again();
+            figures.compare(&copy);
+        }
     }
     let f = figures;
     println!("{} states, {} of ceiling 1,024; {} not well formed, {} of them without a block: refused with 1",
@@ -383,6 +478,8 @@ fn main() {
     println!("{} states listed by reads alone too: the same; {} have a mark above the last block's round", f.by_reads, f.above);
     println!("{} transactions waiting in queues: counted alike", f.waiting);
     println!("{} previews accepted, with {} entries: as the reference has them", f.previewed, f.entries);
+    println!("{} lists of what a commit hangs on accepted, with {} places, {} of them in a block already; {} without the anchor, {} with more than it and votes: as the reference has them",
+             f.criticals, f.places, f.marked, f.without_anchor, f.with_others);
     println!("without their margins all are refused with 1; {} of them brought along, by margin 3", f.brought);
     time_full();
 }

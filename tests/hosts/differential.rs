@@ -1,5 +1,5 @@
 //! Host functions against the reference:
-//! `differential SEED [CALLS [TOTAL [CERTIFICATES [QUEUED [PREVIEWED]]]]]`.
+//! `differential SEED [CALLS [TOTAL [CERTIFICATES [QUEUED [PREVIEWED [CRITICALS]]]]]]`.
 //!
 //! Each call is made twice: by the engine on words, and by the reference on
 //! the member that the words before the call stand for. Compared after each
@@ -10,7 +10,8 @@
 //! shares, among them every weight of every total up to TOTAL (`shares.rs`), then
 //! batches, until CERTIFICATES were handed over in them (`batches.rs`), then
 //! QUEUED calls on queues (`queues.rs`), then PREVIEWED previews of commit
-//! (`previews.rs`), then calls by chance. Their stretches start from states grown
+//! (`previews.rs`), then CRITICALS lists of what a commit hangs on
+//! (`criticals.rs`), then calls by chance. Their stretches start from states grown
 //! by runs, from such states with words changed here and there, and with chains
 //! made up on what they hold. Whether a changed state is well formed is judged by
 //! `words.rs`, from the papers.
@@ -19,6 +20,7 @@
 
 mod batches;
 mod calls;
+mod criticals;
 mod edges;
 #[path = "../../bench/host.rs"]
 #[cfg(not(plain))]
@@ -114,6 +116,7 @@ fn by_reference(
         }
         Call::Block { number } => member.read_block(*number).map(u64::from),
         Call::Preview { .. } => member.preview(out).map(u64::from),
+        Call::Critical { .. } => member.critical(out).map(u64::from),
     }
 }
 
@@ -141,6 +144,7 @@ fn by_engine(call: &Call, state: &mut [u32], table: &mut [u32], out: &mut [u32])
         }
         Call::Block { number } => engine::block(state, table, *number),
         Call::Preview { .. } => engine::preview(state, table, out),
+        Call::Critical { .. } => engine::critical(state, table, out),
     }
 }
 
@@ -197,6 +201,7 @@ struct Figures {
     batches: batches::Figures,
     queues: queues::Figures,
     previews: previews::Figures,
+    criticals: criticals::Figures,
     margins: margins::Figures,
 }
 
@@ -256,6 +261,22 @@ impl Figures {
         }
     }
 
+    /// What a call of a member has shown; `out` is its out stretch afterwards.
+    fn count_of(&mut self, call: &Call, answer: Answer<u64>, member: &Member, out: &[u32]) {
+        match (call, answer) {
+            (Call::Advance, Err(28)) => self.count_thin(member),
+            (Call::Critical { .. }, Ok(count)) => {
+                self.criticals.count(member, &out.as_chunks::<2>().0[..count as usize])
+            }
+            (Call::Committee { round, .. }, Ok(_)) => self.count_committee(member, *round),
+            (Call::Share { member: m, round }, Ok(share)) => {
+                let committee = member.committee_of(*round).expect("a share was read");
+                self.count_share(committee[*m as usize], total(committee), share);
+            }
+            _ => {}
+        }
+    }
+
     fn print(&self, seed: u64) {
         for (name, answers) in Call::NAMES.iter().zip(&self.answers) {
             let made: u64 = answers.iter().sum();
@@ -285,6 +306,7 @@ impl Figures {
         self.batches.print();
         self.queues.print();
         self.previews.print(&self.answers[Call::PREVIEW]);
+        self.criticals.print(&self.answers[Call::CRITICAL]);
         self.margins.print();
         let [small, middle, large] = self.sizes;
         println!("calls by ceiling: {small} up to 40, {middle} up to 255, {large} up to 1,024");
@@ -369,17 +391,8 @@ impl Test {
         if matches!(call, Call::Draw { .. }) {
             self.figures.queues.count_draw(answer, waited, waiting_of(call, node.twin.as_ref()));
         }
-        if let (Call::Advance, Err(28), Some(member)) = (call, answer, &node.twin) {
-            self.figures.count_thin(member);
-        }
-        if let (Call::Committee { round, .. }, Ok(_), Some(member)) = (call, answer, &node.twin) {
-            self.figures.count_committee(member, *round);
-        }
-        if let (Call::Share { member: m, round }, Ok(share), Some(member)) =
-            (call, answer, &node.twin)
-        {
-            let committee = member.committee_of(*round).expect("a share was read");
-            self.figures.count_share(committee[*m as usize], total(committee), share);
+        if let Some(member) = &node.twin {
+            self.figures.count_of(call, answer, member, &expected_out);
         }
         self.figures.sizes[size] += 1;
         expected
@@ -507,6 +520,7 @@ fn main() {
         arguments.next().map_or(50_000, |a| a.parse().expect("CERTIFICATES is a number"));
     let queued = arguments.next().map_or(50_000, |a| a.parse().expect("QUEUED is a number"));
     let previewed = arguments.next().map_or(20_000, |a| a.parse().expect("PREVIEWED is a number"));
+    let criticals = arguments.next().map_or(20_000, |a| a.parse().expect("CRITICALS is a number"));
     let mut test = Test {
         seed,
         rng: Rng::of(seed),
@@ -534,6 +548,10 @@ fn main() {
     let accepted = test.previews(previewed);
     let calls_made = test.figures.calls - before;
     println!("{previewed} previews and more, {accepted} of them accepted, commits after them: {calls_made} calls");
+    let before = test.figures.calls;
+    let accepted = test.criticals(criticals);
+    let calls_made = test.figures.calls - before;
+    println!("{criticals} lists of what a commit hangs on and more, {accepted} of them accepted, commits after them: {calls_made} calls");
     let enough = test.figures.calls + calls;
     while test.figures.calls < enough {
         test.stretch();

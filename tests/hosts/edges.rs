@@ -29,6 +29,7 @@ fn each_call(member: &Member) -> Vec<Call> {
         Call::Certificate { author: member.own, round: 1, out: vec![7; 18] },
         Call::Block { number: 1 },
         Call::Preview { list: vec![7; preview_words(member.settings.ceiling)] },
+        Call::Critical { list: vec![7; CRITICAL_WORDS + 1] },
         Call::Advance,
     ]
 }
@@ -355,5 +356,6 @@ impl Test {
         }
         self.queue_edges();
         self.preview_edges();
+        self.critical_edges();
     }
 }

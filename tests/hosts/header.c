@@ -11,6 +11,8 @@ void header_record_of(const uint32_t *words, struct forgelilac_certificate *reco
 uint32_t header_waiting(const uint32_t *table, uint32_t guest);
 uint64_t header_preview(const uint32_t *state, size_t state_words, const uint32_t *table, size_t table_words,
                         uint32_t *list, size_t list_words);
+uint64_t header_critical(const uint32_t *state, size_t state_words, uint32_t *table, size_t table_words,
+                         uint32_t *list, size_t list_words);
 uint32_t header_number(uint32_t which);
 
 uint64_t header_chain(const uint32_t *state, size_t state_words, const uint32_t *table, size_t table_words,
@@ -39,6 +41,11 @@ uint64_t header_preview(const uint32_t *state, size_t state_words, const uint32_
     return forgelilac_preview(state, state_words, table, table_words, list, list_words);
 }
 
+uint64_t header_critical(const uint32_t *state, size_t state_words, uint32_t *table, size_t table_words,
+                         uint32_t *list, size_t list_words) {
+    return forgelilac_critical(state, state_words, table, table_words, list, list_words);
+}
+
 /* Lengths and offsets, in the order of NUMBERS in chains.rs. */
 uint32_t header_number(uint32_t which) {
     static const uint32_t numbers[] = {
@@ -55,7 +62,8 @@ uint32_t header_number(uint32_t which) {
         FORGELILAC_QUEUE_PLACES, FORGELILAC_TRANSACTION_WORDS, FORGELILAC_SERVED, FORGELILAC_WAITING,
         FORGELILAC_QUEUE(0u), FORGELILAC_QUEUE(7u), FORGELILAC_ENTRY_WORDS, FORGELILAC_ENTRY_BLOCK,
         FORGELILAC_ENTRY_ROUND, FORGELILAC_ENTRY_AUTHOR, FORGELILAC_PREVIEW_WORDS(64u), FORGELILAC_STATE_MARGIN,
-        2 * FORGELILAC_MARGIN + 2,
+        2 * FORGELILAC_MARGIN + 2, FORGELILAC_PLACE_WORDS, FORGELILAC_PLACE_ROUND, FORGELILAC_PLACE_AUTHOR,
+        FORGELILAC_CRITICAL_WORDS,
     };
     return which < sizeof numbers / sizeof numbers[0] ? numbers[which] : UINT32_MAX;
 }

@@ -79,7 +79,7 @@ fn verdict(call: &Call, member: &Member) -> Option<Answer<()>> {
 }
 
 /// Margin, total, fault bound, quorum.
-const BOUNDS: [[u32; 4]; 30] = [
+pub const BOUNDS: [[u32; 4]; 30] = [
     [3, 3, 0, 3],
     [3, 4, 1, 3],
     [3, 6, 1, 5],
@@ -139,14 +139,14 @@ fn first(members: u32) -> Set {
 }
 
 /// Member 0 of members of these weights, in a round, by a margin.
-fn plant(weights: &[u32], margin: u32, round: u32) -> Node {
+pub fn plant(weights: &[u32], margin: u32, round: u32) -> Node {
     let mut node = in_round(weights, 5, round);
     node.state[MARGIN] = margin;
     node
 }
 
 /// Holds certificates of some authors in a round, with a previous set.
-fn hold_naming(node: &mut Node, round: u32, authors: Set, previous: Set) {
+pub fn hold_naming(node: &mut Node, round: u32, authors: Set, previous: Set) {
     hold(node, round, authors);
     let row = &mut node.table[ROW * round as usize..][..ROW];
     members_of(authors).for_each(|a| row[16 + 16 * a as usize] = u32::from(previous));

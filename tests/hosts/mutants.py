@@ -33,13 +33,28 @@ QUORUM = "!s.committee(r)?.is_quorum(s.held(r))"
 THIN = "    if " + QUORUM + " {\n        return Err(28);\n    }\n"
 
 # Of a preview: the state, its places, their number, what a commit would take, the entries.
-PREVIEWED = "    let s = survey(state, table, Weights::Present, &mut room)?;\n    let places"
+PREVIEWED = "    let s = survey(state, table, Weights::Present, &mut room)?;\n    let places = list.as_chunks_mut::<3>()"
 PLACES = "    let places = list.as_chunks_mut::<3>().0;\n"
 SHORT = "    if places.len() < 16 * s.ceiling() as usize {\n        return Err(25);\n    }\n"
 TAKEN = "    let mut anchors = [(0, 0); MOST_BLOCKS];\n    let taken = anchors_of_commit(&s, &mut anchors)?;\n"
 LISTED = "    Ok(list_blocks(&s, &anchors[..taken], places) as u32)\n"
 ENTRY = "[block, round, (first + step as u32) & 15]"
 FROM_FIRST = "let from_first = (set | set << 16) >> first & 0xffff;"
+
+# Of what a commit hangs on: the state and the places, their number, commit's checks, what is told of each
+# round, those of them in no block, those in a block tried without, the place of one, the count.
+HUNG = "    let s = survey(state, table, Weights::Present, &mut room)?;\n    let places = list.as_chunks_mut::<2>().0;\n"
+FEW = "    if places.len() < PLACES {\n        return Err(25);\n    }\n"
+CHECKED = "    check_time(&s)?;\n    let support = check_votes(&s, &mut Walk::new(&s))?;\n"
+TOLD = "[(r - 1, 1 << support.anchor), (r, support.pivotal())]"
+FREE = "        let mut set = told & !in_blocks;\n"
+TRIED = "        if in_blocks != 0 {\n            set |= missed(state, table, round, in_blocks);\n        }\n"
+PAIR = "[round, author as u32]"
+COUNT = "    Ok(count as u32)\n}\n\nimpl Support"
+DECIDES = "weight - self.committee.weights[*a & 15] <= bound"
+CLEARED = "        table[at] = held & !(1 << a);\n"
+ASKED = "        missed |= u32::from(check_commit(state, table).is_err()) << a;\n"
+SET_AGAIN = "        table[at] = held;\n    }\n    missed\n"
 
 
 def after_listing(what):
@@ -102,7 +117,7 @@ MUTANTS = [
     ("if block_round >= s {", "if block_round > s {"),
     # margins: all by 3; votes alone, signers, previous sets, thin rounds; all but votes
     ("self.total().saturating_sub(1) / self.margin", "self.total().saturating_sub(1) / 3"),
-    ("committee.weight(votes) <= committee.bound()", "committee.weight(votes) <= " + by_3("*committee") + ".bound()"),
+    ("committee.weight(votes) <= committee.bound()", "committee.weight(votes) <= " + by_3("committee") + ".bound()"),
     ("if !committee.is_enough(signers) {", "if !" + by_3("*committee") + ".is_enough(signers) {"),
     ("if !before.is_quorum(previous) {", "if !" + by_3("*before") + ".is_quorum(previous) {"),
     (QUORUM, "!" + by_3("s.committee(r)?") + ".is_quorum(s.held(r))"),
@@ -199,7 +214,7 @@ MUTANTS = [
     ("if r % 2 == 0 || r == 1 {", "if r % 2 == 0 {"),
     ("if s.last >= r - 1 {", "if s.last > r - 1 {"),
     ("if committee.weight(votes) <= committee.bound() {", "if committee.weight(votes) < committee.bound() {"),
-    ("let committee = walk.committee(r);", "let committee = walk.committee(r - 1);"),
+    ("let committee = *walk.committee(r);", "let committee = *walk.committee(r - 1);"),
     ("            history = 1 << leader;\n", ""),
     ("if r % 2 == 0 && history >> leader", "if history >> leader"),
     ("history = named & s.held(r);", "history = named;"),
@@ -262,6 +277,94 @@ MUTANTS = [
     (TAKEN + LISTED, "    places[0][0] = 0;\n" + TAKEN + LISTED),
     # committees without the weights that blocks have changed
     (PREVIEWED, PREVIEWED.replace("Present", "None")),
+    # what a commit hangs on: a remaining weight equal to the bound is enough; every vote, none, every certificate
+    (DECIDES, DECIDES.replace("<=", "<")),
+    (DECIDES, DECIDES.replace("<= bound", "<= bound + 1")),
+    (TOLD, TOLD.replace("support.pivotal()", "support.votes")),
+    (TOLD, TOLD.replace("support.pivotal()", "0")),
+    (TOLD, TOLD.replace("support.pivotal()", "s.held(r)")),
+    # against a quorum's weight, by 3, by the starting weights; the bound without that member; by number
+    (DECIDES, DECIDES.replace("bound", "self.committee.total() - bound")),
+    (DECIDES, DECIDES.replace("bound", by_3("self.committee") + ".bound()")),
+    (TOLD, TOLD.replace("support.pivotal()", "Support { committee: s.starting(), ..check_votes(&s, &mut Walk::new(&s))? }.pivotal()")),
+    (DECIDES, DECIDES.replace("bound", "(self.committee.total() - self.committee.weights[*a & 15]).saturating_sub(1) / self.committee.margin")),
+    (DECIDES, "self.votes.count_ones() - 1 <= bound"),
+    # the anchor left out, all of its round, the vote of its author for it; only those inside in the present round
+    (TOLD, TOLD.replace("1 << support.anchor", "0")),
+    (TOLD, TOLD.replace("1 << support.anchor", "s.held(r - 1)")),
+    (TOLD, TOLD.replace("1 << support.anchor", "support.pivotal() & s.held(r - 1)")),
+    (TOLD, TOLD.replace("1 << support.anchor", "(1 << support.anchor) & support.committee.members()")),
+    # both certificates of one computer taken away at once
+    (TOLD, "[(r - 1, 1 << support.anchor | support.pivotal() & s.held(r - 1)), (r, support.pivotal() | 1 << support.anchor & s.held(r))]"),
+    # those in a block told as the others are, left out, both; of one round only; the anchor always
+    (FREE + TRIED, "        let set = told;\n"),
+    (FREE + TRIED, "        let set = told & !in_blocks;\n"),
+    (FREE, "        let mut set = told;\n"),
+    (TRIED, TRIED.replace("in_blocks != 0", "in_blocks != 0 && round == r")),
+    (TRIED, TRIED.replace("in_blocks != 0", "in_blocks != 0 && round < r")),
+    (TRIED, TRIED + "        if round < r {\n            set |= 1 << support.anchor;\n        }\n"),
+    # only the first of them; block 1 taken for none, all blocks but the last
+    (TRIED, TRIED.replace("round, in_blocks", "round, in_blocks & in_blocks.wrapping_neg()")),
+    ("self.record(a as u32, round)[2] != 0", "self.record(a as u32, round)[2] > 1"),
+    ("self.record(a as u32, round)[2] != 0", "self.record(a as u32, round)[2] == self.blocks()"),
+    # refused with 22 alone, with 21 alone; accepted ones for refused ones
+    (ASKED, ASKED.replace(".is_err()", " == Err(22)")),
+    (ASKED, ASKED.replace(".is_err()", " == Err(21)")),
+    (ASKED, ASKED.replace("is_err", "is_ok")),
+    # the bit not set again, only where it is needed, only where it is not; all cleared one after another; another bit
+    (SET_AGAIN, SET_AGAIN.replace("        table[at] = held;\n", "")),
+    (SET_AGAIN, SET_AGAIN.replace("table[at] = held;", "table[at] |= missed & 1 << a;")),
+    (SET_AGAIN, SET_AGAIN.replace("table[at] = held;", "table[at] |= !missed & 1 << a;")),
+    (CLEARED + ASKED + SET_AGAIN, CLEARED.replace("= held &", "&=") + ASKED + "    }\n    table[at] = held;\n    missed\n"),
+    (SET_AGAIN, SET_AGAIN.replace("= held;", "= held | 1 << a | 1 << 16;")),
+    (SET_AGAIN, SET_AGAIN.replace("= held;", "= held;\n        table[at + 1] |= 1 << a;")),
+    # its mark cleared and not its bit; its transactions; the mark gone for good
+    (CLEARED + ASKED + SET_AGAIN, "        let mark = std::mem::take(&mut table[at + 18 + 16 * a]);\n" + ASKED
+     + SET_AGAIN.replace("table[at] = held;", "(table[at + 18 + 16 * a], table[at]) = (mark, held);")),
+    (CLEARED + ASKED + SET_AGAIN, "        let count = std::mem::take(&mut table[at + 17 + 16 * a]);\n" + ASKED
+     + SET_AGAIN.replace("table[at] = held;", "(table[at + 17 + 16 * a], table[at]) = (count, held);")),
+    (SET_AGAIN, SET_AGAIN.replace("= held;", "= held;\n        table[at + 18 + 16 * a] = 0;")),
+    # without the weights that blocks have changed, of all that is tried
+    (HUNG, HUNG.replace("Present", "None")),
+    ("    let s = survey(state, table, Weights::Present, &mut room)?;\n    check_time(&s)?;\n    check_votes",
+     "    let s = survey(state, table, Weights::None, &mut room)?;\n    check_time(&s)?;\n    check_votes"),
+    # author before round, the present round first, authors falling, from the anchor's on; round and author swapped
+    (COUNT, "    places[..count].sort_by_key(|place| (place[1], place[0]));\n" + COUNT),
+    (COUNT, "    places[..count].sort_by_key(|place| (r - place[0], place[1]));\n" + COUNT),
+    (COUNT, "    places[..count].sort_by_key(|place| (place[0], 15 - place[1]));\n" + COUNT),
+    (COUNT, "    places[..count].sort_by_key(|place| (place[0], (place[1] + 16 - support.anchor) % 16));\n" + COUNT),
+    (PAIR, "[author as u32, round]"),
+    # another round: one more, one less, the anchor's for all, the present one for all
+    (PAIR, "[round + 1, author as u32]"),
+    (PAIR, "[round - 1, author as u32]"),
+    (PAIR, "[r - 1, author as u32]"),
+    (PAIR, "[r, author as u32]"),
+    (TOLD, TOLD.replace("(r, ", "((r + 1).min(s.ceiling()), ")),
+    (TOLD, TOLD.replace("(r - 1, ", "(r - 2, ")),
+    # counted in words, without the anchor, one more
+    (COUNT, COUNT.replace("count as u32", "count as u32 * 2")),
+    (COUNT, COUNT.replace("count as u32", "(count as u32).saturating_sub(1)")),
+    (COUNT, COUNT.replace("count as u32", "count as u32 + 1")),
+    # 31 places let in, 33 asked for, 16, a started one counted, words, by the ceiling, as many as there are
+    (FEW, FEW.replace("places.len()", "places.len() + 1")),
+    (FEW, FEW.replace("<", "<=")),
+    (FEW, FEW.replace("PLACES", "PLACES / 2")),
+    (HUNG + FEW, "    let started = list.len() % 2;\n" + HUNG + FEW.replace("places.len()", "places.len() + started")),
+    (HUNG + FEW, "    let words = list.len();\n" + HUNG + FEW.replace("places.len()", "words")),
+    (FEW, FEW.replace("PLACES", "16 * s.ceiling() as usize")),
+    (FEW, FEW.replace("PLACES", "s.held(s.round()).count_ones() as usize + 1")),
+    # 25 before 1, after commit's, given as 1
+    (HUNG, "    if list.len() < 2 * PLACES {\n        return Err(25);\n    }\n" + HUNG),
+    (FEW + CHECKED, CHECKED + FEW),
+    (FEW, FEW.replace("25", "1")),
+    # 19 and 20 not asked
+    (CHECKED, CHECKED.replace("check_time(&s)?", "s.check_known(s.round())?")),
+    # the rest written, one word of it, the last odd word; refused, a word written
+    (COUNT, "    places[count..].fill([0; 2]);\n" + COUNT),
+    (COUNT, "    places[count..].iter_mut().take(1).for_each(|place| place[1] = 0);\n" + COUNT),
+    (HUNG, HUNG.replace("    let places", "    let words = list.len();\n    list[words - words % 2..].fill(0);\n    let places")),
+    (FEW, FEW.replace("        return", "        places.iter_mut().take(1).for_each(|place| place[0] = 0);\n        return")),
+    (CHECKED, "    places[0] = [s.round(), 0];\n" + CHECKED),
     # advance: no 28; outsiders ignored; inside, whatever it weighs; all of them asked for
     (THIN, ""),
     (THIN, "    s.check_known(r)?;\n"),

@@ -77,7 +77,7 @@ fn by_all(author: u32, round: u32, previous: Set, all: Set) -> Certificate {
 
 /// Member 0 of these members of weight 1, with so many full rounds: in the last
 /// of them.
-fn full_rounds(ceiling: u32, lookback: u32, all: Set, rounds: u32, commit_in: u32) -> Member {
+pub fn full_rounds(ceiling: u32, lookback: u32, all: Set, rounds: u32, commit_in: u32) -> Member {
     let mut sheet = Sheet::all_blank();
     (sheet.lookback, sheet.ceiling) = (Setting::Written(lookback), Setting::Written(ceiling));
     sheet.weights = std::array::from_fn(|m| Setting::Written(u32::from(in_set(all, m as u32))));
@@ -98,7 +98,7 @@ fn full_rounds(ceiling: u32, lookback: u32, all: Set, rounds: u32, commit_in: u3
 }
 
 /// Its words, with some beyond them.
-fn node_of(member: Member) -> Node {
+pub fn node_of(member: Member) -> Node {
     let mut table = vec![0; table_words(member.settings.ceiling) + 5];
     write_table(&member, &mut table);
     Node { state: state_words(&member).to_vec(), table, twin: Some(member) }
@@ -106,7 +106,7 @@ fn node_of(member: Member) -> Node {
 
 /// Goes on to an odd round, the anchor of the round before held, mostly, and
 /// votes for it, mostly.
-fn towards_commit(rng: &mut Rng, member: &mut Member, plan: &Plan) {
+pub fn towards_commit(rng: &mut Rng, member: &mut Member, plan: &Plan) {
     loop {
         let round = member.round;
         let Some(&committee) = member.committee_of(round) else { return };
@@ -148,7 +148,7 @@ fn towards_commit(rng: &mut Rng, member: &mut Member, plan: &Plan) {
 /// Changes that a commit looks at and that leave a state well formed: marks of
 /// single certificates or of whole rounds, taken away or put there, and what
 /// certificates name as previous, held or not.
-fn change_marks(rng: &mut Rng, member: &Member, table: &mut [u32]) {
+pub fn change_marks(rng: &mut Rng, member: &Member, table: &mut [u32]) {
     let blocks = member.chain.len() as u32;
     let low = if rng.chance(500) { 1 } else { rng.between(1, member.round) };
     let high = if rng.chance(500) { member.round } else { rng.between(low, member.round) };
@@ -347,7 +347,7 @@ impl Test {
 
 /// From a node in round 3 with three full rounds: nodes where a commit is
 /// refused, and with what.
-fn refusing(node: &Node) -> Vec<(Node, u32)> {
+pub fn refusing(node: &Node) -> Vec<(Node, u32)> {
     let with = |change: &dyn Fn(&mut Node)| {
         let mut copy = node.clone();
         change(&mut copy);

@@ -3,13 +3,14 @@
 //! end of a stream every read, with arguments in and out of range; the chain that the bindings
 //! read must be the reference's listing, to the byte. Of two proposes one goes by the queues: its
 //! transactions are added, and it becomes a draw. After each record a preview says what a commit
-//! would do, and what a commit then adds must be what the preview before it has said.
+//! would do, and what a commit then adds must be what the preview before it has said; and a list says
+//! what that commit hangs on.
 
 #[path = "../../reference/runner_ref.rs"]
 mod runner_ref;
 
-use forgelilac::layout::preview_words;
-use forgelilac::{table_words, Certificate, Engine, Entry, Held, Proposal, Refusal, Sheet, Transaction, MEMBERS, STATE_WORDS};
+use forgelilac::layout::{preview_words, CRITICAL_WORDS};
+use forgelilac::{table_words, Certificate, Critical, Engine, Entry, Held, Proposal, Refusal, Sheet, Transaction, MEMBERS, STATE_WORDS};
 use runner_ref::reference::{self, Setting};
 use runner_ref::{for_each_record, read_record, Outcome, Record, Runner, SERVES};
 use std::fmt::{Debug, Write};
@@ -77,6 +78,14 @@ fn preview(member: &reference::Member) -> reference::Answer<Vec<Entry>> {
     Ok(list.chunks(3).take(count as usize).map(entry).collect())
 }
 
+/// What a commit hangs on, as the reference has it.
+fn critical(member: &reference::Member) -> reference::Answer<Vec<Critical>> {
+    let mut list = [0; CRITICAL_WORDS];
+    let count = member.critical(&mut list)?;
+    let place = |words: &[u32]| Critical { round: words[0], author: words[1] };
+    Ok(list.chunks(2).take(count as usize).map(place).collect())
+}
+
 /// The certificates of the blocks above a number, in their order.
 fn blocks_above(engine: &Engine, number: u32) -> Result<Vec<Entry>, Refusal> {
     let of = |(block, one): (u32, forgelilac::Block)| {
@@ -100,13 +109,29 @@ struct Replay {
     /// Previews, and commits that did what the preview before had said.
     previews: u64,
     foretold: u64,
+    /// Lists of what a commit hangs on that were accepted, and their places.
+    criticals: u64,
+    places: u64,
 }
 
 impl Replay {
     fn new() -> Replay {
         let closed = Engine::restore([u32::MAX; STATE_WORDS], Vec::new());
         let runner = Runner::default();
-        Replay { engine: closed, runner, records: 0, reads: 0, blocks: 0, turned: 0, added: 0, drawn: 0, previews: 0, foretold: 0 }
+        Replay {
+            engine: closed,
+            runner,
+            records: 0,
+            reads: 0,
+            blocks: 0,
+            turned: 0,
+            added: 0,
+            drawn: 0,
+            previews: 0,
+            foretold: 0,
+            criticals: 0,
+            places: 0,
+        }
     }
 
     fn open(&mut self, own: u32, settings: &reference::Sheet) -> Outcome {
@@ -174,9 +199,10 @@ impl Replay {
         if let Some(member) = &self.runner.member {
             assert_eq!(self.engine.round(), member.round());
             assert_eq!(self.engine.proposal(), member.proposal().map(proposal));
-            let expected = preview(member);
+            let (expected, hangs_on) = (preview(member), critical(member));
             self.same(self.engine.preview(), expected);
             self.previews += 1;
+            self.compare_critical(hangs_on);
         }
         if let (Record::Commit, Ok(entries)) = (record, told) {
             assert_eq!(blocks_above(&self.engine, above), Ok(entries), "commit of record {}", self.records);
@@ -185,6 +211,16 @@ impl Replay {
         if matches!(record, Record::Chain) {
             self.read_all();
         }
+    }
+
+    /// What a commit hangs on; the engine is as it was.
+    fn compare_critical(&mut self, expected: reference::Answer<Vec<Critical>>) {
+        let before = self.engine.clone();
+        let found = self.engine.critical();
+        assert!(self.engine == before, "a list changed a word after record {}", self.records);
+        self.criticals += u64::from(found.is_ok());
+        self.places += found.as_ref().map_or(0, |places| places.len() as u64);
+        self.same(found, expected);
     }
 
     fn same<T: Debug + PartialEq>(&mut self, found: Result<T, Refusal>, expected: reference::Answer<T>) {
@@ -224,7 +260,7 @@ impl Replay {
 
 fn main() -> std::io::Result<()> {
     let (mut streams, mut records, mut reads, mut blocks, mut turned, mut added, mut drawn) = (0, 0, 0, 0, 0, 0, 0);
-    let (mut previews, mut foretold) = (0, 0);
+    let (mut previews, mut foretold, mut criticals, mut places) = (0, 0, 0, 0);
     for path in std::env::args().skip(1) {
         let mut replay = Replay::new();
         let mut input = std::io::BufReader::new(std::fs::File::open(path)?);
@@ -244,10 +280,13 @@ fn main() -> std::io::Result<()> {
         drawn += replay.drawn;
         previews += replay.previews;
         foretold += replay.foretold;
+        criticals += replay.criticals;
+        places += replay.places;
     }
     println!("{streams} streams, {records} records, {reads} reads: the same as the reference");
     println!("{blocks} blocks listed, {turned} of them not by round, then author");
     println!("{added} transactions added to queues, {drawn} draws accepted");
     println!("{previews} previews: the same as the reference; {foretold} commits did what the preview had said");
+    println!("{criticals} lists of what a commit hangs on, with {places} places: the same as the reference");
     Ok(())
 }

@@ -1,10 +1,12 @@
 #!/bin/sh
-# run.sh [SEED [CALLS [ARCHIVE [TOTAL [CERTIFICATES [QUEUED [PREVIEWED]]]]]]]: host functions against the reference.
+# run.sh [SEED [CALLS [ARCHIVE [TOTAL [CERTIFICATES [QUEUED [PREVIEWED [CRITICALS]]]]]]]]:
+# host functions against the reference.
 # ARCHIVE is the engine's static library (target/staticlib/libhost.a if not
 # given), or `plain` for bench/plain.rs. Shares are read of every weight of every
 # total up to TOTAL, 2,000 if not given. CERTIFICATES are handed over in batches,
-# 50,000 if not given, QUEUED calls are made on queues, 50,000 if not given, and
-# PREVIEWED previews of commit are asked for, 20,000 if not given.
+# 50,000 if not given, QUEUED calls are made on queues, 50,000 if not given,
+# PREVIEWED previews of commit are asked for, 20,000 if not given, and CRITICALS
+# lists of what a commit hangs on, 20,000 if not given.
 set -e
 top=$(cd "$(dirname "$0")/../.." && pwd)
 seed=${1:-1}
@@ -14,6 +16,7 @@ most=${4:-2000}
 certificates=${5:-50000}
 queued=${6:-50000}
 previewed=${7:-20000}
+criticals=${8:-20000}
 if [ "$archive" = plain ]; then
     set -- --cfg plain
 else
@@ -23,4 +26,4 @@ fi
 mkdir -p "$top/target/tests"
 rustc --edition 2021 -C opt-level=3 --check-cfg 'cfg(plain)' "$@" \
     "$top/tests/hosts/differential.rs" -o "$top/target/tests/differential"
-exec "$top/target/tests/differential" "$seed" "$calls" "$most" "$certificates" "$queued" "$previewed"
+exec "$top/target/tests/differential" "$seed" "$calls" "$most" "$certificates" "$queued" "$previewed" "$criticals"

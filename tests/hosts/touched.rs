@@ -22,9 +22,9 @@ use nodes::Node;
 use rows::some_batch;
 use words::{table_words, MARGIN, ROW, STATE_WORDS};
 
-/// The engine's answer: the value of commit, share, block and preview, 0 for
-/// others. What a batch answers to each certificate and what a preview lists is
-/// written into `answers`.
+/// The engine's answer: the value of commit, share, block and lists, 0 for
+/// others. What a batch answers to each certificate and what is listed is written
+/// into `answers`.
 fn make(call: &Call, node: &mut Node, answers: &mut [u32]) -> Result<u32, Refusal> {
     let (state, table) = (&mut node.state[..], &mut node.table[..]);
     match call {
@@ -52,6 +52,7 @@ fn make(call: &Call, node: &mut Node, answers: &mut [u32]) -> Result<u32, Refusa
         Call::Certificate { author, round, .. } => lent::certificate(state, table, *author, *round).map(|_| 0),
         Call::Block { number } => lent::block(state, table, *number),
         Call::Preview { .. } => lent::preview(state, table, answers),
+        Call::Critical { .. } => lent::critical(state, table, answers),
     }
 }
 
@@ -160,6 +161,14 @@ fn is_unused(state: &[u32], at: usize) -> bool {
     (23..MARGIN).contains(&at) && (state[21] == 0 || at >= 25 + 3 * state[24] as usize)
 }
 
+/// A list has so many words written for each entry, and no other; one more is
+/// counted.
+fn listed([made, accepted]: [u64; 2], entry: usize, before: &[u32], list: &[u32], answer: Result<u32, Refusal>) -> [u64; 2] {
+    let written = entry * answer.unwrap_or(0) as usize;
+    assert_eq!(before[written..], list[written..], "the rest of a list was changed");
+    [made + 1, accepted + u64::from(answer.is_ok())]
+}
+
 #[derive(Default)]
 struct Figures {
     calls: u64,
@@ -167,9 +176,9 @@ struct Figures {
     most: [(usize, usize); Call::NAMES.len()],
     seen: [std::collections::BTreeSet<Word>; Call::NAMES.len()],
     noisy: u64,
-    /// Previews, and those that were accepted.
-    previews: u64,
-    previewed: u64,
+    /// Previews, and those that were accepted; lists of what a commit hangs on.
+    previews: [u64; 2],
+    criticals: [u64; 2],
 }
 
 impl Figures {
@@ -182,8 +191,10 @@ impl Figures {
         let in_table: Vec<usize> = (0..node.table.len()).filter(|&i| before.table[i] != node.table[i]).collect();
         if answer.is_err() || call.is_read() {
             assert!(in_state.is_empty() && in_table.is_empty(), "{call:?} changed a word");
-            if let Call::Preview { list } = call {
-                self.preview(list, &answers, answer);
+            match call {
+                Call::Preview { list } => self.previews = listed(self.previews, 3, list, &answers, answer),
+                Call::Critical { list } => self.criticals = listed(self.criticals, 2, list, &answers, answer),
+                _ => {}
             }
             return answer;
         }
@@ -207,14 +218,6 @@ impl Figures {
         let most = &mut self.most[kind];
         *most = (most.0.max(in_state.len() - noise), most.1.max(in_table.len()));
         answer
-    }
-
-    /// A preview writes three words of its list for each entry, and no other.
-    fn preview(&mut self, before: &[u32], list: &[u32], answer: Result<u32, Refusal>) {
-        let written = 3 * answer.unwrap_or(0) as usize;
-        assert_eq!(before[written..], list[written..], "a preview changed the rest of its list");
-        self.previews += 1;
-        self.previewed += u64::from(answer.is_ok());
     }
 
     /// Every word that the page names has changed, some time.
@@ -267,7 +270,9 @@ impl Figures {
                      Call::NAMES[kind], self.accepted[kind]);
         }
         println!("{} commits also cleared noise in words that are no part of the state", self.noisy);
-        println!("{} previews, {} accepted: the rest of the list kept", self.previews, self.previewed);
+        let ([previews, previewed], [criticals, told]) = (self.previews, self.criticals);
+        println!("{previews} previews, {previewed} accepted: the rest of the list kept");
+        println!("{criticals} lists of what a commit hangs on, {told} accepted: the rest of the list kept");
         println!("{} calls: no other word changed", self.calls);
     }
 }

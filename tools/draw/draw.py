@@ -5,7 +5,8 @@ across, members down, the chain stands beneath. What is held, which blocks there
 in them is taken from the answers alone; leaders of rounds without a block from the chain.
 A run of up to 14 rounds is as wide as a page, so that its type is read at its own size.
 --preview: the stream is a copy that goes on with `commit` and `chain`. What that commit adds is
-drawn dashed and light, as blocks that are not made yet; or the number that refuses it is told.
+drawn dashed and light, as blocks that are not made yet, and what it hangs on stands in a frame; or
+the number that refuses it is told.
 """
 import sys
 from html import escape
@@ -19,7 +20,7 @@ from telling import count, of_preview, order_of, tell, transactions_of
 WIDTH = 830                         # at least; a page's
 CELL = (51, 86), 72                 # a round across, from and to; a member down
 LEFT, TOP, RIGHT = 100, 128, 16     # around the grid
-DOT, RING, INSET, RADIUS = 8.5, 13.5, 4, 13
+DOT, RING, FRAME, INSET, RADIUS = 8.5, 13.5, 18, 4, 13
 TAB = 17, 15                        # a block's number on its area
 CHAIN_GAP, CHAIN_LINE = 30, 18      # grid to chain, one line of text
 CHAIN_LINES = 6                     # lines of certificates or transactions of a block
@@ -89,6 +90,11 @@ def leader_ring(at):
     return circle(at, RING + 0.5, PAPER, QUIET, 2, ' stroke-dasharray="4.5 3.2"')
 
 
+def critical_frame(at):
+    """Around a certificate that a commit hangs on."""
+    return box(at[0] - FRAME, at[1] - FRAME, 2 * FRAME, 2 * FRAME, "none", INK, 5, ' style="stroke-width:2.4"')
+
+
 def tab_sign(x, y, number, ink, planned=False):
     width = TAB[0] + 8 * (len(str(number)) - 1)
     fill = f'"{PAPER}" stroke="{ink}"' if planned else f'"{ink}"'
@@ -105,7 +111,7 @@ class Picture:
     def __init__(self, run):
         self.run = run
         self.rounds, self.members = run.rounds(), run.members()
-        self.block_of, self.unblocked = run.block_of(), run.unblocked()
+        self.block_of, self.unblocked, self.critical = run.block_of(), run.unblocked(), run.critical()
         self.anchors = {run.anchor(block): block for block in run.blocks}
         narrow, wide = CELL[0]
         self.cell_size = max(narrow, min(wide, (WIDTH - LEFT - RIGHT) // len(self.rounds))), CELL[1]
@@ -180,6 +186,9 @@ class Picture:
                     yield line(self.at(before), self.at(place), LINK, width)
         yield from votes
 
+    def frames(self):
+        return (critical_frame(self.at(place)) for place in self.critical)
+
     def tabs(self):
         """A block's number on each part of its area."""
         for block in self.run.blocks:
@@ -253,22 +262,28 @@ class Picture:
                   ("names a block's anchor", lambda at: line((at[0] - 15, at[1]), (at[0] + 15, at[1]), ink, 2.4))]]
         if self.run.preview:
             signs[1].append(("a commit would add it", lambda at: planned_sign(at, *COLOURS[1])))
+        if self.critical:
+            signs[0].append(("the commit hangs on it", lambda at: loose_sign(at) + critical_frame(at)))
         for column, rows in enumerate(signs):
             for row, (words, sign) in enumerate(rows):
                 x, y = COLUMNS[0] + 16 + LEGEND_COLUMN * column, top + 20 + LEGEND_ROW * row
                 yield sign((x, y))
                 yield text(x + 26, y + 4.5, words, "quiet")
-        yield text(COLUMNS[0], top + 24.5 + LEGEND_ROW * 3,
+        yield text(COLUMNS[0], top + 24.5 + LEGEND_ROW * self.legend_rows(),
                    "E n: entry n.  B m a: bond, member m's weight rises by a.  U m: unbond, member m leaves.", "quiet")
 
+    def legend_rows(self):
+        return 4 if self.critical else 3
+
     def svg(self):
-        height = self.bottom + self.chain_height() + 4 * LEGEND_ROW + 14
+        height = self.bottom + self.chain_height() + (self.legend_rows() + 1) * LEGEND_ROW + 14
         parts = [f'<svg xmlns="http://www.w3.org/2000/svg" width="{self.width}" height="{height}" '
                  f'viewBox="0 0 {self.width} {height}" role="img" aria-labelledby="title desc">',
                  f'<title id="title">{escape(self.title())}</title>', f'<desc id="desc">{escape(tell(self.run))}</desc>',
                  f"<style>{RUN_STYLE}</style>",
                  f'<rect width="{self.width}" height="{height}" fill="{PAPER}"/>']
-        for layer in (self.heading, self.axes, self.areas, self.links, self.tabs, self.dots, self.chain, self.legend):
+        for layer in (self.heading, self.axes, self.areas, self.links, self.frames, self.tabs, self.dots,
+                      self.chain, self.legend):
             parts += layer()
         return "\n".join(parts + ["</svg>", ""])
 

@@ -49,7 +49,7 @@ class Run:
         """Of an open record: its weights, and a margin where it has one, which moves no leader."""
         self.own, self.round = int(own), 1
         [self.lookback] = filled([lookback], [20])
-        self.weights = filled(settings[:16], [1] * 4 + [0] * 12)
+        *self.weights, self.margin = filled([*settings, ""][:17], [1] * 4 + [0] * 12 + [3])
         self.held = {}      # (round, author): Certificate
         self.commits = []   # the round of the commit that made block 1, 2, ...
         self.blocks = []
@@ -106,12 +106,16 @@ class Run:
                     weights[int(number)] = 0
         return weights
 
+    def committee(self, round):
+        """The weights of a round's committee."""
+        return self.weights if round <= self.lookback else self.bonded(round - self.lookback)
+
     def leader(self, round):
         """The leader of an even round; none where the committee is empty or not known."""
         last = max((block.round for block in self.blocks if not block.planned), default=0)
         if round > self.lookback + last + 2:
             return None
-        weights = self.weights if round <= self.lookback else self.bonded(round - self.lookback)
+        weights = self.committee(round)
         members = [member for member in range(16) if weights[member]]
         return members[round // 2 % len(members)] if members else None
 
@@ -120,6 +124,17 @@ class Run:
         blocked = {block.round for block in self.blocks}
         leaders = {round: self.leader(round) for round in self.rounds() if round % 2 == 0 and round not in blocked}
         return {round: leader for round, leader in leaders.items() if leader is not None}
+
+    def critical(self):
+        """What a commit that would add blocks hangs on: the anchor, and each vote without which the others weigh not more
+        than the fault bound."""
+        if not any(block.planned for block in self.blocks):
+            return []
+        anchor, weights = self.anchor(self.blocks[-1]), self.committee(self.round)
+        votes = {place: weights[place[1]] for place, certificate in sorted(self.held.items())
+                 if place[0] == self.round and anchor[1] in certificate.previous}
+        bound = (sum(weights) - 1) // self.margin
+        return [anchor] + [place for place, weight in votes.items() if sum(votes.values()) - weight <= bound]
 
     def rounds(self):
         return range(1, max([self.round] + [round for round, _ in self.held]) + 1)

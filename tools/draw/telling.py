@@ -34,6 +34,12 @@ def of_preview(run):
     return f"A commit in round {run.round} would {does}"
 
 
+def of_critical(run):
+    """What that commit hangs on, where it would be accepted."""
+    places = "; ".join(f"round {round}, member {author}" for round, author in run.critical())
+    return [f"It hangs on {count(len(run.critical()), 'certificate')}: {places}."] if places else []
+
+
 def of_round(run, round, leader):
     """A round without a block."""
     when = "" if run.blocks and round < run.blocks[-1].round else " yet"
@@ -53,6 +59,6 @@ def tell(run):
         f"A line joins a certificate to each that it names as previous: {count(len(links), 'line')}, "
         f"{sum(link in anchors for link in links)} of them to the anchor of a block.",
         *(of_block(run, block) for block in run.blocks),
-        *([f"{of_preview(run)}."] if run.preview else []),
+        *([f"{of_preview(run)}.", *of_critical(run)] if run.preview else []),
         *(of_round(run, round, leader) for round, leader in sorted(run.unblocked().items())),
         f"Held, in no block{' and in none that would be added' if planned else ''}: {'; '.join(loose) or 'none'}."])

@@ -50,6 +50,14 @@ fn certificate_of(engines: &mut [Engine], author: usize) -> Result<Certificate, 
     Ok(Certificate { proposal, endorsers })
 }
 
+/// Which computers must not be unplugged? The certificates that a commit hangs on, now that the one of
+/// this author is there too.
+fn print_critical(engine: &mut Engine, author: usize) -> Result<(), Refusal> {
+    let places: String = engine.critical()?.iter().map(|one| format!(" {}/{}", one.round, one.author)).collect();
+    println!("with {}/{author} a commit of member {} hangs on{places}", engine.round(), engine.own());
+    Ok(())
+}
+
 /// A round: every member's certificate reaches every other member.
 fn play(engines: &mut [Engine]) -> Result<(), Refusal> {
     for author in 0..engines.len() {
@@ -58,6 +66,9 @@ fn play(engines: &mut [Engine]) -> Result<(), Refusal> {
             if member != author {
                 engine.accept(&certificate)?;
             }
+        }
+        if engines[0].round() == LAST_ROUND {
+            print_critical(&mut engines[0], author)?;
         }
     }
     Ok(())

@@ -6,7 +6,8 @@ use crate::layout::{
 };
 use crate::{leader, lent, Refusal, MEMBERS};
 
-/// A certificate of the chain, or of a block that a commit would add.
+/// A certificate of the chain, or of a block that a commit would add. One that a commit hangs on is a
+/// [`crate::Critical`], which names no block.
 #[derive(Clone, Copy, PartialEq, Eq, Hash, Debug, Default)]
 pub struct Place {
     /// The number of its block, from 1.

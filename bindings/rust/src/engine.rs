@@ -1,10 +1,12 @@
 //! An engine that owns its state and table.
 
 use crate::chain::Listing;
-use crate::layout::{preview_words, STATE_BLOCKS, STATE_CEILING, STATE_OWN, STATE_ROUND, STATE_WORDS};
+use crate::layout::{
+    preview_words, CRITICAL_WORDS, STATE_BLOCKS, STATE_CEILING, STATE_OWN, STATE_ROUND, STATE_WORDS,
+};
 use crate::lent::{self, CertificateRecord, Entry, Place};
 use crate::{body_words, table_words, CEILING, MEMBERS};
-use crate::{Block, Certificate, Held, Proposal, Refusal, Set, Sheet, Transaction};
+use crate::{Block, Certificate, Critical, Held, Proposal, Refusal, Set, Sheet, Transaction};
 use alloc::vec;
 use alloc::vec::Vec;
 
@@ -175,6 +177,43 @@ impl Engine {
         let mut list = vec![0; preview_words(self.state[STATE_CEILING].min(CEILING))];
         let count = lent::preview(&self.state, &self.table, &mut list)?;
         Ok(lent::entries(&list, count).collect())
+    }
+
+    /// Which certificates does a commit hang on? Every held certificate of the present round and the one
+    /// before whose absence alone would turn [`Engine::commit`] into a refusal, by round, then author; or
+    /// the refusal that it would get. In every state that calls lead to from an opening it is the anchor,
+    /// and each vote without which the remaining votes weigh not more than the fault bound.
+    ///
+    /// It takes the engine as a call that changes it does, since the table is lent for writing
+    /// ([`lent::critical`] tells why); afterwards every word is as it was, and there is nothing to store.
+    ///
+    /// Two of four members of weight 1 have voted; without either of them there are not enough:
+    ///
+    /// ```
+    /// use forgelilac::{Certificate, Critical, Engine, Proposal, Refusal, Sheet};
+    ///
+    /// let mut engine = Engine::open(0, &Sheet { ceiling: Some(64), ..Sheet::default() })?;
+    /// for (round, previous, authors) in [(1, 0, 0..4), (2, 0b1111, 0..4), (3, 0b1111, 0..2)] {
+    ///     for author in authors {
+    ///         let proposal = Proposal { author, round, previous, transactions: Vec::new() };
+    ///         engine.accept(&Certificate { proposal, endorsers: 0b1111 & !(1 << author) })?;
+    ///     }
+    ///     if round < 3 {
+    ///         assert_eq!(engine.critical(), Err(Refusal::NoCommitRound));
+    ///         engine.advance()?;
+    ///     }
+    /// }
+    /// let place = |round, author| Critical { round, author };
+    /// assert_eq!(engine.critical()?, [place(2, 1), place(3, 0), place(3, 1)]);
+    /// # Ok::<(), Refusal>(())
+    /// ```
+    ///
+    /// # Errors
+    /// Those of [`Engine::commit`]: 1, 19, 20, 8, 21, 22.
+    pub fn critical(&mut self) -> Result<Vec<Critical>, Refusal> {
+        let mut list = [0; CRITICAL_WORDS];
+        let count = lent::critical(&self.state, &mut self.table, &mut list)?;
+        Ok(lent::criticals(&list, count).collect())
     }
 
     /// Sixteen weights of a round's committee, 0 for a non-member.

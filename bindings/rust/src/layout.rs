@@ -23,6 +23,10 @@ pub const HELD_WORDS: usize = 18;
 pub const SHEET_WORDS: usize = 40;
 /// Words of an entry of a preview, and of a place in its list: block, round, author.
 pub const ENTRY_WORDS: usize = 3;
+/// Words of a place, in the list of certificates that a commit hangs on: round, author.
+pub const PLACE_WORDS: usize = 2;
+/// The words of the list that [`crate::lent::critical`] asks for: 32 places.
+pub const CRITICAL_WORDS: usize = 64;
 /// The most certificates of a batch.
 pub const BATCH_RECORDS: usize = 64;
 /// Transactions that a body has words for: the largest allowance.
@@ -86,6 +90,11 @@ pub const ENTRY_BLOCK: usize = 0;
 pub const ENTRY_ROUND: usize = 1;
 /// Of an entry: its author.
 pub const ENTRY_AUTHOR: usize = 2;
+
+/// Of a place: the certificate's round.
+pub const PLACE_ROUND: usize = 0;
+/// Of a place: its author.
+pub const PLACE_AUTHOR: usize = 1;
 
 /// Of row 0: the guest served last and 1 more, 0 for none.
 pub const SERVED: usize = 0;

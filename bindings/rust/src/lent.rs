@@ -17,7 +17,8 @@
 pub use crate::chain::{chain, Place};
 use crate::layout::{
     BODY_WORDS, CERTIFICATE_WORDS, ENTRY_AUTHOR, ENTRY_BLOCK, ENTRY_ROUND, ENTRY_WORDS, GUESTS, HELD_WORDS,
-    PROPOSAL_WORDS, STATE_BODY, STATE_OWN, STATE_PROPOSED, STATE_ROUND, STATE_WORDS, WAITING,
+    PLACE_AUTHOR, PLACE_ROUND, PLACE_WORDS, PROPOSAL_WORDS, STATE_BODY, STATE_OWN, STATE_PROPOSED, STATE_ROUND,
+    STATE_WORDS, WAITING,
 };
 use crate::{Refusal, Set, MEMBERS};
 
@@ -66,6 +67,10 @@ mod abi {
         ) -> u64;
         pub fn forgelilac_preview(
             state: *const u32, state_words: usize, table: *const u32, table_words: usize,
+            list: *mut u32, list_words: usize,
+        ) -> u64;
+        pub fn forgelilac_critical(
+            state: *const u32, state_words: usize, table: *mut u32, table_words: usize,
             list: *mut u32, list_words: usize,
         ) -> u64;
         pub fn forgelilac_committee(
@@ -336,6 +341,63 @@ pub fn preview(state: &[u32], table: &[u32], list: &mut [u32]) -> Result<u32, Re
 pub fn entries(list: &[u32], count: u32) -> impl Iterator<Item = Entry> + '_ {
     let words = list.chunks_exact(ENTRY_WORDS).take(count as usize);
     words.map(|at| Entry { block: at[ENTRY_BLOCK], round: at[ENTRY_ROUND], author: at[ENTRY_AUTHOR] })
+}
+
+/// Which certificates does a commit hang on? The words of every held certificate of the present round
+/// and the one before whose absence alone would turn that commit into a refusal, by round, then author:
+/// round, author. How many certificates there are; what the list has beyond their words stays. In every
+/// state that calls lead to from an opening it is the anchor, and each vote without which the remaining
+/// votes weigh not more than the fault bound. [`criticals`] reads the list.
+///
+/// Of the list two words are a place, and 32 places are asked for ([`crate::layout::CRITICAL_WORDS`]),
+/// however few there are to list.
+///
+/// The table is lent for writing, and is afterwards word for word as it was. Where a commit would be
+/// accepted and a certificate of the two rounds already is in a block, as in no state that calls lead to
+/// from an opening, the engine clears its held bit, makes the checks, and sets the bit again. So the table
+/// must lie in memory that can be written, and no other call may run on it meanwhile, no read either.
+/// There is nothing to store afterwards.
+///
+/// Of four members of weight 1 the bound is 1. The commit hangs on the anchor, on both of two votes, and
+/// on none of three:
+///
+/// ```
+/// use forgelilac::{certificate_words, lent, proposal_words, table_words};
+/// use forgelilac::{layout::CRITICAL_WORDS, Critical, Refusal, Sheet, STATE_WORDS};
+///
+/// let (mut state, mut table) = ([0; STATE_WORDS], [0; table_words(64) as usize]);
+/// lent::open(&mut state, &mut table, 0, &Sheet { ceiling: Some(64), ..Sheet::default() }.to_words())?;
+/// let certificate = |author, round, previous| {
+///     certificate_words(&proposal_words(author, round, previous, &[]), 0b1111 & !(1 << author))
+/// };
+/// for (round, previous) in [(1, 0), (2, 0b0111)] {
+///     for author in 0..3 {
+///         lent::accept(&state, &mut table, &certificate(author, round, previous))?;
+///     }
+///     lent::advance(&mut state, &table)?;
+/// }
+/// let mut list = [77; CRITICAL_WORDS];
+/// lent::accept(&state, &mut table, &certificate(0, 3, 0b0111))?;
+/// assert_eq!(lent::critical(&state, &mut table, &mut list), Err(Refusal::VotesShort));
+/// lent::accept(&state, &mut table, &certificate(2, 3, 0b0111))?;
+/// assert_eq!(lent::critical(&state, &mut table, &mut list), Ok(3));
+/// assert_eq!(list[..7], [2, 1, 3, 0, 3, 2, 77]);
+/// lent::accept(&state, &mut table, &certificate(3, 3, 0b0111))?;
+/// assert_eq!(lent::critical(&state, &mut table, &mut list), Ok(1));
+/// assert!(lent::criticals(&list, 1).eq([Critical { round: 2, author: 1 }]));
+/// # Ok::<(), Refusal>(())
+/// ```
+///
+/// # Errors
+/// 1, 25, then those of [`commit`]: 19, 20, 8, 21, 22. The list is not written then.
+pub fn critical(state: &[u32], table: &mut [u32], list: &mut [u32]) -> Result<u32, Refusal> {
+    value(call!(forgelilac_critical, read(state), write(table); write(list)))
+}
+
+/// The first places of a list that [`critical`] has written, as many as it has told.
+pub fn criticals(list: &[u32], count: u32) -> impl Iterator<Item = crate::Critical> + '_ {
+    let words = list.chunks_exact(PLACE_WORDS).take(count as usize);
+    words.map(|at| crate::Critical { round: at[PLACE_ROUND], author: at[PLACE_AUTHOR] })
 }
 
 /// Sixteen weights of a round's committee, 0 for a non-member.

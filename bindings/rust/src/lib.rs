@@ -12,7 +12,7 @@
 //! One member alone, three rounds, one block:
 //!
 //! ```
-//! use forgelilac::{Block, Engine, Entry, Refusal, Sheet, Transaction};
+//! use forgelilac::{Block, Critical, Engine, Entry, Refusal, Sheet, Transaction};
 //!
 //! let mut sheet = Sheet { ceiling: Some(64), ..Sheet::default() };
 //! sheet.weights[1..4].fill(Some(0));
@@ -26,6 +26,7 @@
 //! }
 //! let entry = |round| Entry { block: 1, round, author: 0 };
 //! assert_eq!(engine.preview()?, [1, 2].map(entry));
+//! assert_eq!(engine.critical()?, [2, 3].map(|round| Critical { round, author: 0 }));
 //! assert_eq!(engine.commit(), Ok(1));
 //! assert_eq!(engine.chain()?, [Block { round: 2, certificates: vec![(1, 0), (2, 0)] }]);
 //! assert_eq!(engine.commit(), Err(Refusal::BlockMade));
@@ -57,7 +58,8 @@ pub use lent::Entry;
 #[cfg(feature = "alloc")]
 pub use owned::{Block, Certificate, Held, Proposal};
 pub use refusal::Refusal;
-pub use terms::{body_words, certificate_words, leader, proposal_words, transactions_of, Sheet, Transaction};
+pub use terms::{body_words, certificate_words, leader, proposal_words, transactions_of};
+pub use terms::{Critical, Sheet, Transaction};
 
 /// Members are 0 to 15.
 pub const MEMBERS: usize = 16;

@@ -1,4 +1,4 @@
-//! Transactions, sheets, leaders: what needs no allocation.
+//! Transactions, sheets, leaders, places: what needs no allocation.
 
 use crate::layout::{
     BODY_WORDS, CERTIFICATE_WORDS, PROPOSAL_WORDS, SHEET_WORDS, TRANSACTIONS, TRANSACTION_WORDS,
@@ -132,6 +132,15 @@ impl Sheet {
         }
         words
     }
+}
+
+/// A held certificate that a commit hangs on. They are ordered by round, then author.
+#[derive(Clone, Copy, PartialEq, Eq, PartialOrd, Ord, Hash, Debug, Default)]
+pub struct Critical {
+    /// Its round.
+    pub round: u32,
+    /// Its author.
+    pub author: u32,
 }
 
 /// The leader of an even round, by the weights of its committee: of the m members by rising

@@ -3,11 +3,11 @@
 extern crate std;
 
 use crate::layout::{
-    brought_along, preview_words, queue, record, row, BATCH_RECORDS, CERTIFICATE_WORDS, ENTRY_WORDS, GUESTS,
-    QUEUE_PLACES, RECORD_BLOCK, RECORD_ENDORSERS, ROW_BLOCK, ROW_HELD, SERVED, STATE_BLOCKS, STATE_CEILING,
-    STATE_MARGIN, STATE_ROUND, TRANSACTIONS, TRANSACTION_WORDS, WAITING,
+    brought_along, preview_words, queue, record, row, BATCH_RECORDS, CERTIFICATE_WORDS, CRITICAL_WORDS, ENTRY_WORDS,
+    GUESTS, PLACE_WORDS, QUEUE_PLACES, RECORD_BLOCK, RECORD_ENDORSERS, ROW_BLOCK, ROW_HELD, SERVED, STATE_BLOCKS,
+    STATE_CEILING, STATE_MARGIN, STATE_ROUND, TRANSACTIONS, TRANSACTION_WORDS, WAITING,
 };
-use crate::lent::{self, CertificateRecord, Place};
+use crate::lent::{self, CertificateRecord};
 use crate::*;
 use alloc::string::ToString;
 use alloc::vec;
@@ -668,7 +668,7 @@ fn advance_is_refused_in_its_order() {
 fn by_a_copy(engine: &Engine) -> Result<Vec<Entry>, Refusal> {
     let mut copy = engine.clone();
     copy.commit()?;
-    let mut places = vec![Place::default(); preview_words(copy.state[STATE_CEILING]) / ENTRY_WORDS];
+    let mut places = vec![Entry::default(); preview_words(copy.state[STATE_CEILING]) / ENTRY_WORDS];
     let count = lent::chain(&copy.state, &copy.table, &mut places).unwrap();
     Ok(places[..count].iter().copied().filter(|place| place.block > engine.blocks()).collect())
 }
@@ -813,6 +813,262 @@ fn a_block_without_new_certificates_has_no_entry() {
     (1..=4).for_each(|round| engine.table[record(0, round) + RECORD_BLOCK] = 1);
     assert_eq!(preview(&engine), Ok(of_block(3, &[(5, &[0]), (6, &[0])])));
     assert_eq!(engine.commit(), Ok(2));
+}
+
+// ---- what a commit hangs on
+
+/// By absence alone: the refusal of a commit, or the held certificates of the two rounds without which
+/// a commit on a copy is refused.
+fn by_absence(engine: &Engine) -> Result<Vec<Critical>, Refusal> {
+    engine.clone().commit()?;
+    let without = |place: &Critical| {
+        let mut copy = engine.clone();
+        copy.table[row(place.round) + ROW_HELD] &= !(1 << place.author);
+        copy.commit()
+    };
+    let places = (engine.round() - 1..=engine.round()).flat_map(|round| (0..16).map(move |author| Critical { round, author }));
+    let held = places.filter(|place| engine.certificate(place.author, place.round).is_ok());
+    Ok(held.filter(|place| without(place).is_err()).collect())
+}
+
+/// The list, once it is what absence tells and no word has changed.
+fn critical(engine: &mut Engine) -> Result<Vec<Critical>, Refusal> {
+    let before = engine.clone();
+    let found = engine.critical();
+    assert!(*engine == before, "a word is not as it was");
+    assert_eq!(found, by_absence(engine));
+    assert_eq!(found.as_ref().err(), engine.preview().err().as_ref());
+    found
+}
+
+/// The anchor of a round, and votes of the next.
+fn hangs_on(anchor: u32, round: u32, votes: &[u32]) -> Result<Vec<Critical>, Refusal> {
+    let votes = votes.iter().map(|&author| Critical { round: round + 1, author });
+    Ok([Critical { round, author: anchor }].into_iter().chain(votes).collect())
+}
+
+/// Of four of weight 1 the bound is 1: both of two votes, none of three or four. Then the next anchors.
+#[test]
+fn a_commit_hangs_on_its_anchor_and_on_few_votes() {
+    let mut engine = of_four(0);
+    for (round, anchor) in [(1, None), (2, None), (3, Some(1)), (4, None), (5, Some(2)), (6, None), (7, Some(3))] {
+        let previous = if round == 1 { 0 } else { 0b1111 };
+        for (votes, author) in (1..).zip([3, 0, 2, 1]) {
+            engine.accept(&of_all_four(author, round, previous, &[])).unwrap();
+            let expected = match (anchor, votes) {
+                (None, _) => Err(Refusal::NoCommitRound),
+                (Some(_), 1) => Err(Refusal::VotesShort),
+                (Some(anchor), 2) => hangs_on(anchor, round - 1, &[0, 3]),
+                (Some(anchor), _) => hangs_on(anchor, round - 1, &[]),
+            };
+            assert_eq!(critical(&mut engine), expected);
+        }
+        // Round 5 commits two anchors, round 7 goes on from there.
+        if round == 5 {
+            assert_eq!(engine.commit(), Ok(2));
+            assert_eq!(critical(&mut engine), Err(Refusal::BlockMade));
+        }
+        if round < 7 {
+            engine.advance().unwrap();
+        }
+    }
+}
+
+/// A vote is there exactly when the remaining ones weigh not more than the bound: total 7, bound 2.
+#[test]
+fn votes_are_told_by_what_remains() {
+    let mut sheet = Sheet { ceiling: Some(8), ..Sheet::default() };
+    sheet.weights[..4].copy_from_slice(&[Some(1), Some(1), Some(1), Some(4)]);
+    let mut engine = Engine::open(0, &sheet).unwrap();
+    for round in 1..=2 {
+        let previous = if round == 1 { 0 } else { 0b1111 };
+        (0..4).for_each(|author| engine.accept(&of_all_four(author, round, previous, &[])).unwrap());
+        engine.advance().unwrap();
+    }
+    // What does not name the anchor, 1, is no vote.
+    for (votes, others, there) in [(&[3][..], &[][..], &[3][..]), (&[3], &[0, 1, 2], &[3]), (&[0, 3], &[], &[3]),
+                                   (&[0, 1, 3], &[2], &[3]), (&[0, 1, 2], &[3], &[0, 1, 2]),
+                                   (&[0, 1, 2, 3], &[], &[])] {
+        let mut engine = engine.clone();
+        votes.iter().for_each(|&author| engine.accept(&of_all_four(author, 3, 0b1111, &[])).unwrap());
+        others.iter().for_each(|&author| engine.accept(&of_all_four(author, 3, 0b1101, &[])).unwrap());
+        assert_eq!(critical(&mut engine), hangs_on(1, 2, there), "votes {votes:?}");
+        // No run holds an outsider's certificate; it weighs nothing.
+        write_record(&mut engine, 9, 3, 0, [2, 7, 0]);
+        engine.table[record(9, 3)] = 0b1111;
+        assert_eq!(critical(&mut engine), hangs_on(1, 2, there), "votes {votes:?}, and an outsider's");
+    }
+}
+
+/// Member 0 of sixteen in round 3, with all of rounds 1 and 2.
+fn in_round_3(margin: u32, weights: [u32; MEMBERS]) -> Engine {
+    let mut engine = of_sixteen(margin, weights);
+    for round in 1..=2 {
+        let previous = if round == 1 { 0 } else { 0xffff };
+        (0..16).for_each(|author| engine.accept(&signed_by(16, author, round, previous)).unwrap());
+        engine.advance().unwrap();
+    }
+    engine
+}
+
+/// Sixteen of weight 1: bounds 5, 3 and 3. One vote more than the bound, and all are there; one more, and none.
+#[test]
+fn the_bound_is_that_of_the_margin() {
+    for (margin, bound) in [(3, 5), (4, 3), (5, 3)] {
+        let mut engine = in_round_3(margin, [1; MEMBERS]);
+        for author in 0..16 {
+            engine.accept(&signed_by(16, author, 3, 0xffff)).unwrap();
+            let all: Vec<u32> = (0..=author).collect();
+            match author {
+                _ if author < bound => assert_eq!(critical(&mut engine), Err(Refusal::VotesShort)),
+                _ if author == bound => assert_eq!(critical(&mut engine), hangs_on(1, 2, &all)),
+                _ => assert_eq!(critical(&mut engine), hangs_on(1, 2, &[])),
+            }
+        }
+    }
+}
+
+/// Fifteen of weight 1 and one of 30, who does not vote: total 45, bound 14, and no vote can be spared.
+#[test]
+fn a_commit_may_hang_on_fifteen_votes() {
+    let weights = core::array::from_fn(|member| if member == 15 { 30 } else { 1 });
+    let mut engine = in_round_3(3, weights);
+    (0..15).for_each(|author| engine.accept(&signed_by(16, author, 3, 0xffff)).unwrap());
+    let all: Vec<u32> = (0..15).collect();
+    assert_eq!(critical(&mut engine), hangs_on(1, 2, &all));
+    engine.accept(&signed_by(16, 15, 3, 0xffff)).unwrap();
+    assert_eq!(critical(&mut engine), hangs_on(1, 2, &[]));
+}
+
+/// 1, 25, then 19, 20, 8, 21, 22.
+#[test]
+fn a_list_of_places_is_refused_in_its_order() {
+    let refused = |engine: &mut Engine, number| {
+        assert_eq!(critical(engine).unwrap_err().number(), number);
+        let mut list = [77; CRITICAL_WORDS - 1];
+        assert_eq!(lent::critical(&engine.state, &mut engine.table, &mut list), Err(Refusal::LengthRange));
+        let mut damaged = engine.clone();
+        damaged.state[0] = 16;
+        assert_eq!(lent::critical(&damaged.state, &mut damaged.table, &mut list), Err(Refusal::Malformed));
+        refuses(&mut damaged, 1, Engine::critical);
+        assert!(list.iter().all(|&word| word == 77));
+    };
+    let mut engine = Engine::open(0, &Sheet { lookback: Some(1), ceiling: Some(8), ..Sheet::default() }).unwrap();
+    refused(&mut engine, 19);
+    (0..4).for_each(|author| engine.accept(&of_all_four(author, 1, 0, &[])).unwrap());
+    engine.advance().unwrap();
+    refused(&mut engine, 19);
+    [0, 2, 3].iter().for_each(|&author| engine.accept(&of_all_four(author, 2, 0b1111, &[])).unwrap());
+    engine.advance().unwrap();
+    refused(&mut engine, 21);
+    engine.accept(&of_all_four(1, 2, 0b1111, &[])).unwrap();
+    refused(&mut engine, 22);
+    engine.accept(&of_all_four(0, 3, 0b1111, &[])).unwrap();
+    refused(&mut engine, 22);
+    engine.accept(&of_all_four(2, 3, 0b1101, &[])).unwrap();
+    refused(&mut engine, 22);
+    engine.accept(&of_all_four(3, 3, 0b1110, &[])).unwrap();
+    let mut late = engine.clone();
+    late.state[STATE_ROUND] = 5;
+    refused(&mut late, 8);
+    assert_eq!(critical(&mut engine), hangs_on(1, 2, &[0, 3]));
+    engine.commit().unwrap();
+    refused(&mut engine, 20);
+}
+
+/// Two words are a place, and a started one is none. What lies beyond the places stays.
+#[test]
+fn lengths_of_a_list_of_places() {
+    let mut engine = alone();
+    engine.propose(0, &[]).unwrap();
+    engine.certify(0).unwrap();
+    for _ in 2..=3 {
+        engine.advance().unwrap();
+        engine.propose(1, &[]).unwrap();
+        engine.certify(0).unwrap();
+    }
+    assert_eq!(critical(&mut engine), hangs_on(0, 2, &[0]));
+    assert_eq!(CRITICAL_WORDS, 32 * PLACE_WORDS);
+    let before = engine.clone();
+    for length in [0, 1, 4, 31, 32, 62, 63, 64, 65, 66, 128] {
+        let mut list = vec![77; length];
+        let found = lent::critical(&engine.state, &mut engine.table, &mut list);
+        let count = if length < 64 { 0 } else { 2 };
+        assert_eq!(found, if length < 64 { Err(Refusal::LengthRange) } else { Ok(2) }, "{length} words");
+        assert!(list[..PLACE_WORDS * count] == [2, 0, 3, 0][..PLACE_WORDS * count]);
+        assert!(list[PLACE_WORDS * count..].iter().all(|&word| word == 77));
+        assert_eq!(lent::criticals(&list, count as u32).count(), count);
+        assert!(engine == before);
+    }
+    // A longer table and a longer state are fine.
+    let mut table = [&engine.table[..], &[77; 5]].concat();
+    let state = [&engine.state[..], &[77; 5]].concat();
+    let (mut list, before) = ([77; CRITICAL_WORDS], table.clone());
+    assert_eq!(lent::critical(&state, &mut table, &mut list), Ok(2));
+    assert_eq!(lent::critical(&state[1..], &mut table, &mut list), Err(Refusal::Malformed));
+    assert_eq!(lent::critical(&state, &mut engine.table[1..], &mut list), Err(Refusal::Malformed));
+    assert!(table == before);
+}
+
+/// Four of weight 1 in round 5, with the block of round 2, all of rounds 1 to 4, and votes of some. With
+/// a lookback of 1 that block makes the committees of rounds 4 and 5.
+fn in_round_5(author: u32, transaction: Transaction, votes: &[u32]) -> Engine {
+    let mut engine = Engine::open(0, &Sheet { lookback: Some(1), ceiling: Some(8), ..Sheet::default() }).unwrap();
+    for round in 1..=4 {
+        let previous = if round == 1 { 0 } else { 0b1111 };
+        for one in 0..4 {
+            let transactions = if (one, round) == (author, 4) { vec![transaction] } else { Vec::new() };
+            engine.accept(&of_all_four(one, round, previous, &transactions)).unwrap();
+        }
+        if round == 3 {
+            assert_eq!(engine.commit(), Ok(1));
+        }
+        engine.advance().unwrap();
+    }
+    votes.iter().for_each(|&one| engine.accept(&of_all_four(one, 5, 0b1111, &[])).unwrap());
+    engine
+}
+
+/// No run marks a certificate of the two rounds; words written by hand may. Its absence changes the
+/// chain, and with it committees, so that other certificates may be there, and the anchor not.
+#[test]
+fn a_certificate_of_a_block_is_tried_without() {
+    let mark = |engine: &mut Engine, author: u32, round: u32| engine.table[record(author, round) + RECORD_BLOCK] = 1;
+    // A bond of 10 for member 0 gives its vote its weight: total 14, bound 4.
+    let mut engine = in_round_5(3, Transaction::Bond { member: 0, amount: 10 }, &[0]);
+    assert_eq!(critical(&mut engine), Err(Refusal::VotesShort));
+    mark(&mut engine, 3, 4);
+    let place = |round, author| Critical { round, author };
+    assert_eq!(critical(&mut engine), Ok(vec![place(4, 2), place(4, 3), place(5, 0)]));
+    // Without member 0 the leader of round 4 is 3, else 2, and both have a certificate and votes: the
+    // commit goes without this anchor, by the other.
+    let mut engine = in_round_5(3, Transaction::Unbond { member: 0 }, &[1, 2, 3]);
+    assert_eq!(critical(&mut engine), hangs_on(2, 4, &[]));
+    mark(&mut engine, 3, 4);
+    assert_eq!(critical(&mut engine), Ok(Vec::new()));
+    // Marked without a transaction that changes weights: as any other.
+    let mut engine = in_round_5(3, entry(7), &[0, 1]);
+    [(2, 4), (3, 4), (1, 5)].iter().for_each(|&(author, round)| mark(&mut engine, author, round));
+    assert_eq!(critical(&mut engine), hangs_on(2, 4, &[0, 1]));
+}
+
+/// As many as there are places. Member 0's vote alone is there, of weight 1 and of 32 bonds that block 1
+/// has of rounds 4 and 5: 33, and with 66 of the others the bound is 32, with or without one bond.
+#[test]
+fn a_commit_may_hang_on_all_that_is_held() {
+    let weights = core::array::from_fn(|member| if member == 1 { 52 } else { 1 });
+    let mut engine = of_sixteen(3, weights);
+    engine.state[STATE_ROUND] = 5;
+    engine.state[STATE_BLOCKS] = 1;
+    engine.table[row(1) + ROW_BLOCK] = 2;
+    let places: Vec<_> = (4..=5).flat_map(|round| (0..16).map(move |author| Critical { round, author })).collect();
+    places.iter().for_each(|place| write_record(&mut engine, place.author, place.round, 1, [0, 0, 1]));
+    // The anchor is that of 2.
+    engine.table[record(0, 5)] = 0b0100;
+    assert_eq!(critical(&mut engine), Ok(places));
+    let mut list = [77; CRITICAL_WORDS + 1];
+    assert_eq!(lent::critical(&engine.state, &mut engine.table, &mut list), Ok(32));
+    assert_eq!((list[0], list[63], list[64]), (4, 15, 77));
 }
 
 // ---- margins
@@ -1080,8 +1336,10 @@ fn a_malformed_state_is_refused_everywhere() {
         refuses(&mut engine, 1, |e| e.committee(1));
         refuses(&mut engine, 1, Engine::commit);
         refuses(&mut engine, 1, |e| e.preview());
+        refuses(&mut engine, 1, Engine::critical);
         assert_eq!(lent::chain(&engine.state, &engine.table, &mut []), Err(Refusal::Malformed));
         assert_eq!(lent::preview(&engine.state, &engine.table, &mut []), Err(Refusal::Malformed));
+        assert_eq!(lent::critical(&engine.state, &mut engine.table, &mut []), Err(Refusal::Malformed));
     }
     let engine = of_four(0);
     assert_eq!(Engine::try_restore(engine.state, engine.table.clone()), Ok(engine));
@@ -1098,12 +1356,12 @@ fn a_list_for_the_chain_may_be_longer_and_not_shorter() {
         engine.certify(0).unwrap();
     }
     engine.commit().unwrap();
-    let blank = Place { block: 9, round: 9, author: 9 };
+    let blank = lent::Place { block: 9, round: 9, author: 9 };
     let (mut exact, mut short, mut long) = ([blank; 2], [blank; 1], [blank; 3]);
     assert_eq!(lent::chain(&engine.state, &engine.table, &mut short), Err(Refusal::Malformed));
     assert_eq!(short, [blank]);
     assert_eq!(lent::chain(&engine.state, &engine.table, &mut exact), Ok(2));
-    assert_eq!(exact, [1, 2].map(|round| Place { block: 1, round, author: 0 }));
+    assert_eq!(exact, [1, 2].map(|round| lent::Place { block: 1, round, author: 0 }));
     assert_eq!(lent::chain(&engine.state, &engine.table, &mut long), Ok(2));
     assert_eq!((&long[..2], long[2]), (&exact[..], blank));
 }

@@ -1,6 +1,7 @@
 -- Laws of sums over the numbers below a bound.
 use mathlib.Core.Path.{_≡_, refl, sym, ap}
 use mathlib.Core.Bool.{cond}
+use mathlib.Core.Logic.{_≢_}
 use native.Mathlib.Decide.{ℕ-discrete, decLt}
 use Prim.Native.Nat.{ℕ, zero, suc, _+_, _*_, _%_, _<_, _≤_}
 use native.Mathlib.Omega.{arith}
@@ -18,6 +19,20 @@ pub sum-same : (f g : ℕ → ℕ) (n : ℕ) → ((i : ℕ) → i < n → f i �
 unfolding sumTo
 sum-same f g zero e = refl
 sum-same f g (suc n) e = rw (sum-same f g n (λ i h. e i (omega arith)), e n (omega arith)) refl
+
+-- a sum without one part
+pub sum-without : (f g : ℕ → ℕ) (n a : ℕ) → a < n → g a ≡ 0 → ((i : ℕ) → i ≢ a → g i ≡ f i) → sumTo g n + f a ≡ sumTo f n
+unfolding sumTo
+sum-without f g zero a h z e = absurd (omega arith)
+sum-without f g (suc n) a h z e = go (ℕ-discrete a n) (λ l. sum-without f g n a l z e)
+  where
+    go : Dec (a ≡ n) → (a < n → sumTo g n + f a ≡ sumTo f n) → sumTo g n + g n + f a ≡ sumTo f n + f n
+    go (yes x) k =
+        let s = sum-same g f n (λ i l. e i (λ y. omega arith)) in
+        let y : g n ≡ 0 = rw (sym x) z in
+        let p : f a ≡ f n = ap f x in
+        omega arith
+    go (no x) k = let s = k (omega arith) in let y = e n (λ q. x (sym q)) in omega arith
 
 -- each at most b
 pub sum-le : (f : ℕ → ℕ) (b n : ℕ) → ((i : ℕ) → i < n → f i ≤ b) → sumTo f n ≤ n * b

@@ -75,12 +75,12 @@ module _ (n : ℕ) (t : List ℕ) (blocks : ℕ) (fit : blocksFit n t blocks ≡
       let q = fits-at k (omega arith) in
       rw (eqb·suc-zero k, ← add-one k) (omega arith)
 
-  last-next : (k : ℕ) → lastRound t (suc k) ≡ blockRound t (k + 1)
+  pub last-next : (k : ℕ) → lastRound t (suc k) ≡ blockRound t (k + 1)
   unfolding lastRound
   last-next k = rw (eqb·suc-zero k, add-one k) refl
 
   -- an older block has no later round
-  last-up : (j k : ℕ) → j ≤ k → k ≤ blocks → lastRound t j ≤ lastRound t k
+  pub last-up : (j k : ℕ) → j ≤ k → k ≤ blocks → lastRound t j ≤ lastRound t k
   last-up j zero h l = let e : j ≡ 0 = omega arith in rw e (omega arith)
   last-up j (suc k) h l = go (ℕ-discrete j (suc k)) (λ q. last-up j k q (omega arith))
     where

@@ -9,8 +9,9 @@ use borrow.Author.Tests.{eq-eqb, ne-eqb, eqb-true}
 use Rattle.base.proofs.Bools.{cond-same}
 use Rattle.state.specs.declared.State.{State}
 use Rattle.checks.specs.declared.Answer.the-variants.{Accepted, Refused}
+use Rattle.checks.specs.declared.Listed.the-variants as listed
 use Rattle.checks.specs.declared.Outcome.{Outcome}
-use Rattle.checks.specs.Answers.{refusalIn, answerOf, ifAccepted, outcomeOf, CallAnswered, WritingCallAnswered}
+use Rattle.checks.specs.Answers.{refusalIn, answerOf, ifAccepted, listedRefusal, listedValue, listedOf, outcomeOf, CallAnswered, WritingCallAnswered}
 
 -- an answer tells its refusal
 pub refusal-in : (n : ℕ) → refusalIn (answerOf n) ≡ n
@@ -37,6 +38,32 @@ module _ {A : Type 0} (n : ℕ) (new old : A) where
   pub if-accepted-old : n ≢ 0 → ifAccepted n new old ≡ old
   unfolding ifAccepted
   if-accepted-old h = rw (ne-eqb n 0 h) refl
+
+-- of a call that lists k
+module _ (n k : ℕ) where
+  pub listed-count : n ≡ 0 → listedOf n k ≡ listed.Count k
+  unfolding listedOf
+  listed-count = if-accepted-new n (listed.Count k) (listed.Refused n)
+
+  pub listed-refused : n ≢ 0 → listedOf n k ≡ listed.Refused n
+  unfolding listedOf
+  listed-refused = if-accepted-old n (listed.Count k) (listed.Refused n)
+
+  pub listed-refusal : listedRefusal (listedOf n k) ≡ n
+  unfolding listedOf ifAccepted
+  listed-refusal = go (eqb n 0) refl
+    where
+      go : (b : Bool) → eqb n 0 ≡ b → listedRefusal (cond b (listed.Count k) (listed.Refused n)) ≡ n
+      go true e = sym (eqb-true n 0 e)
+      go false e = refl
+
+  pub listed-value : listedValue (listedOf n k) ≡ ifAccepted n k 0
+  unfolding listedOf ifAccepted
+  listed-value = go (eqb n 0)
+    where
+      go : (b : Bool) → listedValue (cond b (listed.Count k) (listed.Refused n)) ≡ cond b k 0
+      go true = refl
+      go false = refl
 
 pub if-accepted-same : {A : Type 0} (n : ℕ) (x : A) → ifAccepted n x x ≡ x
 unfolding ifAccepted

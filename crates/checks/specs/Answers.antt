@@ -7,6 +7,8 @@ use lib.Dec.{eqb}
 use Rattle.state.specs.declared.State.{State}
 use Rattle.checks.specs.declared.Answer.{Answer}
 use Rattle.checks.specs.declared.Answer.the-variants.{Accepted, Refused}
+use Rattle.checks.specs.declared.Listed.{Listed}
+use Rattle.checks.specs.declared.Listed.the-variants as listed
 use Rattle.checks.specs.declared.Outcome.{Outcome}
 
 -- the paper's number of an answer: 0 where the call is accepted
@@ -21,6 +23,19 @@ answerOf n = cond (eqb n 0) Accepted (Refused n)
 -- what a call leaves: the new where it is accepted, the old where it is refused
 unfoldable pub ifAccepted : {A : Type 0} → ℕ → A → A → A
 ifAccepted n new old = cond (eqb n 0) new old
+
+-- of a call that lists: the number, and the value, which is how many are listed; none, 0, where it is refused
+abbrev pub listedRefusal : Listed → ℕ
+listedRefusal (listed.Count k) = 0
+listedRefusal (listed.Refused n) = n
+
+abbrev pub listedValue : Listed → ℕ
+listedValue (listed.Count k) = k
+listedValue (listed.Refused n) = 0
+
+-- its answer, where k are listed
+unfoldable pub listedOf : ℕ → ℕ → Listed
+listedOf n k = ifAccepted n (listed.Count k) (listed.Refused n)
 
 -- the answer and the state
 unfoldable pub outcomeOf : ℕ → State → State → Outcome

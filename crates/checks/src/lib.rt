@@ -24,6 +24,12 @@ pub enum Answer {
     Refused(u32),
 }
 
+// What a call that lists in a lent stretch answers: how many it has listed, or the number of the first check that refuses it.
+pub enum Listed {
+    Count(u32),
+    Refused(u32),
+}
+
 // The answer, and the state that the call leaves.
 pub struct Outcome {
     pub state: State,

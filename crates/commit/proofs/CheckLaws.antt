@@ -43,7 +43,9 @@ module _ (s : State) (t : List ℕ) where
   -- what an accepted commit gives: the leader of the round before has its certificate held
   pub record Accepted : Type 0 where
     pub formed : Formed s t
+    pub in-time : refusal (timeChecks s t) ≡ 0
     pub timely : Timely s t
+    pub voted : refusal (voteChecks s t) ≡ 0
     pub led : isIn (heldSet t (s .round .0 - 1)) (leaderOn s t (s .round .0 - 1)) ≡ true
 
   pub accepted : commitRefusal s t ≡ 0 → Accepted
@@ -55,5 +57,6 @@ module _ (s : State) (t : List ℕ) where
           let p = refusal-passed s t rules.commit e in
           let f = formed s t (p .0) in
           let w = timely s t f z in
-          record { formed = f; timely = w; led = voted s t f (w .from) (sym (refusal-timely (p .0) z) ∙ e) }
+          let v = sym (refusal-timely (p .0) z) ∙ e in
+          record { formed = f; in-time = z; timely = w; voted = v; led = voted s t f (w .from) v }
       go (no z) = absurd (z (sym (refusal-late (refusal-passed s t rules.commit e .0) z) ∙ e))

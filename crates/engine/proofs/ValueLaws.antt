@@ -1,4 +1,4 @@
--- The value of a call: what an accepted one gives, and none of a refused one; and the values of reads and of a preview as their answers have them.
+-- The value of a call: what an accepted one gives, and none of a refused one; the values of reads as their answers have them; and the refusals of calls that list.
 use mathlib.Core.Path.{_≡_, refl}
 use mathlib.Core.Logic.{_≢_}
 use Prim.Native.Nat.{ℕ}
@@ -9,10 +9,11 @@ use Rattle.checks.specs.Answers.{ifAccepted}
 use Rattle.reads.specs.declared.CertificateRead.{CertificateRead}
 use Rattle.standing.specs.Reads.{committeeRefusal, committeeAnswer}
 use Rattle.reads.specs.Reads.{certificateRefusal, certificateAnswer}
-use Rattle.preview.specs.Preview.{previewRefusal, previewEntries}
-use Rattle.engine.specs.Calls.{committee, certificate, preview, Call, aside}
+use Rattle.preview.specs.Preview.{previewRefusal}
+use Rattle.critical.specs.Critical.{criticalRefusal}
+use Rattle.engine.specs.Calls.{committee, certificate, preview, critical, Call, aside}
 use Rattle.engine.specs.Engine.{Engine, refusalFor}
-use Rattle.engine.specs.Values.{Value, nothing, weights, held, entries, acceptedValue, valueOf}
+use Rattle.engine.specs.Values.{Value, nothing, weights, held, acceptedValue, valueOf}
 
 -- a held certificate, as the answer of its read has it
 abbrev pub heldIn : CertificateRead → Value
@@ -38,7 +39,12 @@ module _ (e : Engine) where
   unfolding valueOf certificateAnswer certificateRefusal ifAccepted
   certificate-value m r a = rw (eq-eqb (refusalFor e (aside (certificate m r))) 0 a) refl
 
-  -- the entries of a preview, where no check refuses it
-  pub preview-value : (n : ℕ) → valueOf e (aside (preview n)) ≡ ifAccepted (previewRefusal state table n) (entries (previewEntries state table)) nothing
-  unfolding valueOf previewRefusal ifAccepted
-  preview-value n = refl
+  -- ---- the calls that list are refused as their crates have it
+
+  pub preview-refusal : (words : ℕ) → refusalFor e (aside (preview words)) ≡ previewRefusal state table words
+  unfolding previewRefusal
+  preview-refusal words = refl
+
+  pub critical-refusal : (words : ℕ) → refusalFor e (aside (critical words)) ≡ criticalRefusal state table words
+  unfolding criticalRefusal
+  critical-refusal words = refl

@@ -8,7 +8,7 @@ use Rattle.terms.specs.declared.Proposal.{Proposal}
 use Rattle.terms.specs.declared.Certificate.{Certificate}
 use Rattle.sheet.specs.declared.Sheet.{Sheet}
 
--- the calls that leave state and table as they are: the reads, the preview of a commit, and the listing of the chain
+-- the calls that leave state and table as they are: the reads, the preview of a commit, the certificates that it hangs on, and the listing of the chain
 pub data Aside : Type 0 where
   committee : Round → Aside
   share : Member → Round → Aside
@@ -17,6 +17,8 @@ pub data Aside : Type 0 where
   block : ℕ → Aside
   -- what a commit would add; the number of words of the lent list
   preview : ℕ → Aside
+  -- the certificates that a commit hangs on; the number of words of the lent list
+  critical : ℕ → Aside
   listing : Aside
 
 pub data Call : Type 0 where

@@ -15,9 +15,10 @@ use Rattle.accept.specs.Accept.{acceptRefusal, acceptOutcome, acceptTable}
 use Rattle.advance.specs.Advance.{advanceRefusal, advanceOutcome}
 use Rattle.commit.specs.Commit.{commitRefusal, commitOutcome, commitTableAfter}
 use Rattle.preview.specs.Preview.{previewing}
+use Rattle.critical.specs.Critical.{readingCritical}
 use Rattle.enqueue.specs.Enqueue.{enqueueRefusal, enqueueOutcome, enqueueTable}
 use Rattle.draw.specs.Draw.{drawRefusal, drawOutcome, drawTable}
-use Rattle.engine.specs.Calls.{Aside, committee, share, certificate, block, preview, listing, Call, opens, propose, endorse, certify, accept, advance, commit, enqueue, draw, aside}
+use Rattle.engine.specs.Calls.{Aside, committee, share, certificate, block, preview, critical, listing, Call, opens, propose, endorse, certify, accept, advance, commit, enqueue, draw, aside}
 
 -- what a member's host keeps between calls
 pub record Engine : Type 0 where
@@ -31,6 +32,7 @@ asideChecks e (share m r) = readingShare (e .state .settings) (view (e .state) (
 asideChecks e (certificate m r) = readingCertificate (e .state .settings) (view (e .state) (e .table)) (m .0) (r .0)
 asideChecks e (block n) = readingBlock (e .state .settings) (view (e .state) (e .table)) n
 asideChecks e (preview n) = previewing (e .state) (e .table) n
+asideChecks e (critical n) = readingCritical (e .state) (e .table) n
 asideChecks e listing = []
 
 -- the number of the first check that refuses the call, 0 for none: then it is accepted

@@ -13,8 +13,9 @@ use Rattle.commit.specs.Answers.{addedValue}
 use Rattle.commit.specs.Commit.{commitOutcome}
 use Rattle.preview.specs.Entries.{Entry}
 use Rattle.preview.specs.Preview.{previewEntries}
+use Rattle.critical.specs.Critical.{Place, criticalPlaces}
 use Rattle.reads.specs.Reads as reads
-use Rattle.engine.specs.Calls.{Aside, committee, share, certificate, block, preview, listing, Call, opens, propose, endorse, certify, accept, advance, commit, enqueue, draw, aside}
+use Rattle.engine.specs.Calls.{Aside, committee, share, certificate, block, preview, critical, listing, Call, opens, propose, endorse, certify, accept, advance, commit, enqueue, draw, aside}
 use Rattle.engine.specs.Engine.{Engine, refusalFor}
 
 pub data Value : Type 0 where
@@ -27,6 +28,8 @@ pub data Value : Type 0 where
   held : Proposal → ℕ → ℕ → Value
   -- the certificates of the blocks that a commit would add
   entries : List Entry → Value
+  -- those that a commit hangs on
+  places : List Place → Value
   -- the chain, newest block first
   chain : Chain Content → Value
 
@@ -37,6 +40,7 @@ asideValue e (share m r) = number (shareRead (e .state .settings) (view (e .stat
 asideValue e (certificate m r) = held (reads.proposalShown (view (e .state) (e .table) .dag (m .0) (r .0))) (endorsersAt (e .table) (m .0) (r .0)) (blockNumber (view (e .state) (e .table) .chain) (m .0) (r .0))
 asideValue e (block n) = number (blockRead (e .state .settings) (view (e .state) (e .table)) n)
 asideValue e (preview n) = entries (previewEntries (e .state) (e .table))
+asideValue e (critical n) = places (criticalPlaces (e .state) (e .table))
 asideValue e listing = chain (view (e .state) (e .table) .chain)
 
 -- of a call that is accepted

@@ -14,5 +14,5 @@ pub extern "C" fn forgelilac_preview(state: &[u32], table: &[u32], list: &mut [u
     }
     let s = words::states::state_in(state);
     let x = preview::preview(s, table, list);
-    hosting::preview_number(x)
+    hosting::listed_number(x)
 }

@@ -7,20 +7,19 @@ use native.Mathlib.Decide.{ℕ-discrete}
 use native.Mathlib.Omega.{arith}
 use lib.Dec.{eqb}
 use lib.ListN.{length}
-use lib.Seq.{paste, sets}
+use lib.Seq.{paste}
 use borrow.Author.Tests.{eq-eqb, ne-eqb, le-leb}
 use Rattle.base.proofs.Bools.{cond-same}
 use Rattle.terms.specs.declared.Member.{Member}
 use Rattle.terms.specs.declared.Body.{Body}
 use Rattle.sheet.specs.declared.Sheet.{Sheet}
-use Rattle.rules.specs.Reads.{shareRead, blockRead}
 use Rattle.state.specs.declared.State.{State}
-use Rattle.state.specs.View.{view}
 use Rattle.checks.specs.declared.Answer.{Answer}
 use Rattle.checks.specs.declared.Answer.the-variants.{Accepted, Refused}
 use Rattle.checks.specs.declared.Outcome.{Outcome}
-use Rattle.checks.specs.Answers.{refusalIn, answerOf, ifAccepted, outcomeOf}
-use Rattle.checks.proofs.AnswerLaws.{refusal-in}
+use Rattle.checks.specs.declared.Listed.{Listed}
+use Rattle.checks.specs.Answers.{refusalIn, answerOf, ifAccepted, listedRefusal, listedValue, listedOf, outcomeOf}
+use Rattle.checks.proofs.AnswerLaws.{refusal-in, listed-refusal, listed-value}
 use Rattle.open.specs.Open.{openOutcome}
 use Rattle.propose.specs.Propose.{proposeOutcome}
 use Rattle.draw.specs.Draw.{drawRefusal, drawOutcome}
@@ -37,15 +36,14 @@ use Rattle.standing.specs.Answers.{sharedAnswer, sharedValue, ValueAnswered}
 use Rattle.reads.specs.Answers.{blockedAnswer, blockedValue}
 use Rattle.standing.specs.Reads.{committeeRefusal, committeeAnswer, shareRefusal, shareAnswer, shareValue}
 use Rattle.reads.specs.Reads.{certificateRefusal, certificateAnswer, blockRefusal, blockAnswer, blockValue}
-use Rattle.preview.specs.declared.Previewed.{Previewed}
-use Rattle.preview.specs.declared.Previewed.the-variants as listed
-use Rattle.preview.specs.Entries.{Entry, wordsOf}
-use Rattle.preview.specs.Preview.{previewRefusal, previewEntries, previewList}
-use Rattle.preview.specs.Answers.{previewedRefusal, previewedValue, previewAnswer, Previews}
-use Rattle.engine.specs.Calls.{Aside, committee, share, certificate, block, preview, Call, opens, propose, advance, commit, draw, aside}
+use Rattle.preview.specs.Preview.{previewRefusal, previewList}
+use Rattle.preview.specs.Answers.{previewAnswer, Previews}
+use Rattle.critical.specs.Critical.{criticalRefusal, criticalList}
+use Rattle.critical.specs.Answers.{criticalAnswer, Lists}
+use Rattle.engine.specs.Calls.{Aside, committee, share, certificate, block, preview, critical, Call, opens, propose, advance, commit, draw, aside}
 use Rattle.engine.specs.Engine.{Engine, refusalFor, after}
-use Rattle.engine.specs.Values.{nothing, number, entries, acceptedValue, valueOf}
-use Rattle.engine.proofs.ValueLaws.{value-refused, committee-value, certificate-value, preview-value}
+use Rattle.engine.specs.Values.{nothing, number, asideValue, acceptedValue, valueOf}
+use Rattle.engine.proofs.ValueLaws.{value-refused, committee-value, certificate-value}
 use Rattle.bodies.specs.Lengths.{stateLength, heldLength, committeeLength}
 use Rattle.words.specs.States.{stateReads, stateIn, stateWords}
 use Rattle.bodies.specs.Words.{sixteen}
@@ -126,39 +124,31 @@ module _ (s : State) (t : List ℕ) where
   pub commit-packed : {x : committed.Outcome} → x ≡ commitOutcome s t → addedRefusal (x .answer) ≡ commitRefusal s t → addedValue (x .answer) + addedRefusal (x .answer) * 4294967296 ≡ packedFor on commit
   commit-packed q h = packed-by commit (rw q commit-value) h
 
-  -- of a read that gives the number x
-  number-value : (c : Call) (x : ℕ) → acceptedValue on c ≡ number x → ifAccepted (refusalFor on c) x 0 ≡ valueWord (valueOf on c)
+  -- the value's word is that of the accepted call, 0 where it is refused
+  value-word : (c : Call) → ifAccepted (refusalFor on c) (valueWord (acceptedValue on c)) 0 ≡ valueWord (valueOf on c)
   unfolding valueOf ifAccepted
-  number-value c x q = rw q (go (eqb (refusalFor on c) 0))
+  value-word c = go (eqb (refusalFor on c) 0)
     where
-      go : (b : Bool) → cond b x 0 ≡ valueWord (cond b (number x) nothing)
+      go : (b : Bool) → cond b (valueWord (acceptedValue on c)) 0 ≡ valueWord (cond b (acceptedValue on c) nothing)
       go true = refl
       go false = refl
 
   pub share-packed : (m r : ℕ) {x : ShareRead} → ValueAnswered (shareAnswer s t m r) (shareRefusal s t m r) (shareValue s t m r) x (sharedAnswer x) (sharedValue x)
       → sharedValue x + refusalIn (sharedAnswer x) * 4294967296 ≡ packedFor on (aside (share (record { 0 = m }) (record { 0 = r })))
   unfolding shareValue shareRefusal
-  share-packed m r x =
-      let c = aside (share (record { 0 = m }) (record { 0 = r })) in
-      packed-by c (x .its-value ∙ number-value c (shareRead (s .settings) (view s t) m r) refl) (x .its-refusal)
+  share-packed m r x = let c = aside (share (record { 0 = m }) (record { 0 = r })) in packed-by c (x .its-value ∙ value-word c) (x .its-refusal)
 
   pub block-packed : (k : ℕ) {x : BlockRead} → ValueAnswered (blockAnswer s t k) (blockRefusal s t k) (blockValue s t k) x (blockedAnswer x) (blockedValue x)
       → blockedValue x + refusalIn (blockedAnswer x) * 4294967296 ≡ packedFor on (aside (block k))
   unfolding blockValue blockRefusal
-  block-packed k x = packed-by (aside (block k)) (x .its-value ∙ number-value (aside (block k)) (blockRead (s .settings) (view s t) k) refl) (x .its-refusal)
+  block-packed k x = packed-by (aside (block k)) (x .its-value ∙ value-word (aside (block k))) (x .its-refusal)
 
-  -- the entries of a preview are counted
-  preview-count : (n : ℕ) → previewedValue (previewAnswer s t n) ≡ valueWord (valueOf on (aside (preview n)))
-  unfolding previewAnswer ifAccepted
-  preview-count n = rw (preview-value on n) (go (eqb (previewRefusal s t n) 0))
-    where
-      go : (b : Bool) → previewedValue (cond b (listed.Listed (length (previewEntries s t))) (listed.Refused (previewRefusal s t n))) ≡ valueWord (cond b (entries (previewEntries s t)) nothing)
-      go true = refl
-      go false = refl
-
-  preview-packed : {list : List ℕ} {x : Previewed} {list′ : List ℕ} → Previews s t list x list′ → previewedValue x + previewedRefusal x * 4294967296 ≡ packedFor on (aside (preview (length list)))
-  unfolding previewRefusal
-  preview-packed {list} x = packed-by (aside (preview (length list))) (ap previewedValue (x .answer) ∙ preview-count (length list)) (x .refusal)
+  -- of a call that lists
+  listed-packed : (x : Aside) {a : Listed} → a ≡ listedOf (refusalFor on (aside x)) (valueWord (asideValue on x)) → listedValue a + listedRefusal a * 4294967296 ≡ packedFor on (aside x)
+  listed-packed x q =
+      let n = refusalFor on (aside x) in
+      let k = valueWord (asideValue on x) in
+      packed-by (aside x) (ap listedValue q ∙ listed-value n k ∙ value-word (aside x)) (ap listedRefusal q ∙ listed-refusal n k)
 
 -- ---- what is written
 
@@ -230,21 +220,29 @@ module _ (w t o : List ℕ) where
       done-shown (certificate (record { 0 = m }) (record { 0 = r })) (heldWords (x .proposal) (x .endorsers) (x .block)) heldLength (certificate-answer (stateIn w) t m r q)
       (λ a. rw (certificate-value (engineIn w t) (record { 0 = m }) (record { 0 = r }) a, q) refl)
 
-  -- the list of a preview is the out stretch
-  preview-words : previewList (stateIn w) t o ≡ outOver w t o (valueOf (engineIn w t) (aside (preview (length o))))
-  unfolding previewList ifAccepted
-  preview-words = rw (preview-value (engineIn w t) (length o)) (go (eqb (previewRefusal (stateIn w) t (length o)) 0))
-    where
-      l : List Entry
-      l = previewEntries (stateIn w) t
+  -- a call that lists in the out stretch
+  module _ (x : Aside) where
+    listed-words : ifAccepted (refusalFor (engineIn w t) (aside x)) (outOver w t o (asideValue (engineIn w t) x)) o ≡ outOver w t o (valueOf (engineIn w t) (aside x))
+    unfolding valueOf ifAccepted
+    listed-words = go (eqb (refusalFor (engineIn w t) (aside x)) 0)
+      where
+        go : (b : Bool) → cond b (outOver w t o (asideValue (engineIn w t) x)) o ≡ outOver w t o (cond b (asideValue (engineIn w t) x) nothing)
+        go true = refl
+        go false = refl
 
-      go : (b : Bool) → cond b (sets o 0 (wordsOf l)) o ≡ outOver w t o (cond b (entries l) nothing)
-      go true = refl
-      go false = refl
+    listed-done : {a : Listed} {r : ℕ} {z : List ℕ} → roomFor x ≡ 0 → stateReads w ≡ true → a ≡ listedOf (refusalFor (engineIn w t) (aside x)) (valueWord (asideValue (engineIn w t) x))
+        → z ≡ ifAccepted (refusalFor (engineIn w t) (aside x)) (outOver w t o (asideValue (engineIn w t) x)) o → r ≡ listedValue a + listedRefusal a * 4294967296
+        → Done packed (resultOf w t o true (aside x)) r w t z
+    listed-done m k q l h =
+        done-read w t o true (aside x) (both-read k (le-leb (roomFor x) (length o) (omega (arith, m)))) refl
+        (record { its-answer = h ∙ listed-packed (stateIn w) t x q; its-state = sym (cond-same (eqb (refusalFor (engineIn w t) (aside x)) 0) w); its-table = refl; its-out = l ∙ listed-words })
 
-  pub preview-done : {x : Previewed} {r : ℕ} {z : List ℕ} → stateReads w ≡ true → Previews (stateIn w) t o x z → r ≡ previewedValue x + previewedRefusal x * 4294967296
+  pub preview-done : {a : Listed} {r : ℕ} {z : List ℕ} → stateReads w ≡ true → Previews (stateIn w) t o a z → r ≡ listedValue a + listedRefusal a * 4294967296
       → Done packed (resultOf w t o true (aside (preview (length o)))) r w t z
-  preview-done k x h =
-      let c = aside (preview (length o)) in
-      done-read w t o true c (both-read k (le-leb 0 (length o) (omega arith))) refl
-      (record { its-answer = h ∙ preview-packed (stateIn w) t x; its-state = sym (cond-same (eqb (refusalFor (engineIn w t) c) 0) w); its-table = refl; its-out = x .entries ∙ preview-words })
+  unfolding previewRefusal previewAnswer previewList
+  preview-done k p = listed-done (preview (length o)) refl k (p .answer) (p .entries)
+
+  pub critical-done : {a : Listed} {r : ℕ} {u z : List ℕ} → stateReads w ≡ true → Lists (stateIn w) t o a u z → r ≡ listedValue a + listedRefusal a * 4294967296
+      → Done packed (resultOf w t o true (aside (critical (length o)))) r w u z
+  unfolding criticalRefusal criticalAnswer criticalList
+  critical-done k p h = rw (p .table) (listed-done (critical (length o)) refl k (p .answer) (p .places) h)

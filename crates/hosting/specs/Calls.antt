@@ -9,9 +9,10 @@ use lib.Seq.{paste, sets}
 use Rattle.state.specs.declared.State.{State}
 use Rattle.open.specs.Open.{closedState}
 use Rattle.preview.specs.Entries.{wordsOf}
-use Rattle.engine.specs.Calls.{Aside, committee, share, certificate, block, preview, listing, Call, opens, propose, endorse, certify, accept, advance, commit, enqueue, draw, aside}
+use Rattle.critical.specs.Critical.{placeWords}
+use Rattle.engine.specs.Calls.{Aside, committee, share, certificate, block, preview, critical, listing, Call, opens, propose, endorse, certify, accept, advance, commit, enqueue, draw, aside}
 use Rattle.engine.specs.Engine.{Engine, refusalFor, after}
-use Rattle.engine.specs.Values.{Value, nothing, number, weights, held, entries, chain, valueOf}
+use Rattle.engine.specs.Values.{Value, nothing, number, weights, held, entries, places, chain, valueOf}
 use Rattle.bodies.specs.Lengths.{stateLength, heldLength, committeeLength}
 use Rattle.bodies.specs.Words.{sixteen}
 use Rattle.words.specs.Proposals.{heldWords}
@@ -47,13 +48,14 @@ pub data Use : Type 0 where
   rewrites : Use
   reads : ℕ → Use
 
--- how many words of the out stretch a read needs; a preview tests by itself whether there are enough, and hosts are offered no listing of the chain
+-- how many words of the out stretch a read needs; a preview and the list of critical certificates test by themselves whether there are enough, and hosts are offered no listing of the chain
 abbrev pub roomFor : Aside → ℕ
 roomFor (committee r) = committeeLength
 roomFor (share m r) = 0
 roomFor (certificate m r) = heldLength
 roomFor (block n) = 0
 roomFor (preview n) = 0
+roomFor (critical n) = 0
 roomFor listing = 0
 
 abbrev pub useOf : Call → Use
@@ -68,13 +70,14 @@ useOf (enqueue g x) = reads 0
 useOf (draw v) = rewrites
 useOf (aside x) = reads (roomFor x)
 
--- the value of a packed answer; of a preview the number of its entries
+-- the value of a packed answer; of what is listed its number
 abbrev pub valueWord : Value → ℕ
 valueWord nothing = 0
 valueWord (number n) = n
 valueWord (weights x) = 0
 valueWord (held p endorsers k) = 0
 valueWord (entries l) = length l
+valueWord (places l) = length l
 valueWord (chain c) = 0
 
 -- the engine that the state's words and the table give
@@ -105,13 +108,14 @@ module _ (w t o : List ℕ) where
   stateOver rewrites s = paste w 0 (stateWords s) stateLength
   stateOver (reads n) s = w
 
-  -- the out stretch; entries have three words each, and its rest stays
+  -- the out stretch; entries have three words each, places two, and its rest stays
   abbrev pub outOver : Value → List ℕ
   outOver nothing = o
   outOver (number n) = o
   outOver (weights x) = paste o 0 (sixteen x) committeeLength
   outOver (held p endorsers k) = paste o 0 (heldWords p endorsers k) heldLength
   outOver (entries l) = sets o 0 (wordsOf l)
+  outOver (places l) = sets o 0 (placeWords l)
   outOver (chain c) = o
 
   -- ---- a call

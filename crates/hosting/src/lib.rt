@@ -1,17 +1,16 @@
 // A host's call: words are read, the engine answers, words are written.
 use checks::Answer;
+use checks::Listed;
 use commit::Committed;
-use preview::Previewed;
 use reads::BlockRead;
 use standing::ShareRead;
 ghost use mathlib.Core.Path.{_≡_};
 ghost use Prim.Native.Nat.{_+_, _*_, _≤_};
 ghost use lib.ListN.{length};
-ghost use Rattle.checks.specs.Answers.{refusalIn};
+ghost use Rattle.checks.specs.Answers.{refusalIn, listedRefusal, listedValue};
 ghost use Rattle.commit.specs.Answers.{addedRefusal, addedValue};
 ghost use Rattle.standing.specs.Answers.{sharedAnswer, sharedValue};
 ghost use Rattle.reads.specs.Answers.{blockedAnswer, blockedValue};
-ghost use Rattle.preview.specs.Answers.{previewedRefusal, previewedValue};
 ghost use Rattle.bodies.specs.Lengths.{stateLength};
 ghost use Rattle.words.specs.States.{stateWords};
 ghost use Rattle.hosting.specs.Answers.{addedAnswer, over, Writable};
@@ -60,13 +59,13 @@ pub fn block_number(x: BlockRead) -> u64
     }
 }
 
-// The answer of a preview.
-pub fn preview_number(x: Previewed) -> u64
-    ensures { λ r. ⌜ r ≡ previewedValue x + previewedRefusal x * 4294967296 ⌝ }
+// The answer of a call that lists.
+pub fn listed_number(x: Listed) -> u64
+    ensures { λ r. ⌜ r ≡ listedValue x + listedRefusal x * 4294967296 ⌝ }
 {
     match x {
-        Previewed::Listed(n) => pack(n, 0),
-        Previewed::Refused(n) => pack(0, n),
+        Listed::Count(n) => pack(n, 0),
+        Listed::Refused(n) => pack(0, n),
     }
 }
 

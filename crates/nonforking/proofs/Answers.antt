@@ -19,7 +19,7 @@ use Rattle.rules.specs.Calls.{ruledRefusal}
 use Rattle.rules.specs.Reads.{readingCommittee, readingShare, readingCertificate, readingBlock}
 use Rattle.rules.proofs.Runs.{viewAfter}
 use Rattle.enqueue.proofs.PassedLaws.{enqueue-refused}
-use Rattle.engine.specs.Calls.{Aside, committee, share, certificate, block, preview, listing, Call, opens, propose, endorse, certify, accept, advance, commit, enqueue, draw, aside}
+use Rattle.engine.specs.Calls.{Aside, committee, share, certificate, block, preview, critical, listing, Call, opens, propose, endorse, certify, accept, advance, commit, enqueue, draw, aside}
 use Rattle.engine.specs.Engine.{Engine, asideChecks, refusalFor}
 use Rattle.engine.specs.Steps.{viewAt, ruled}
 use Rattle.engine.specs.Reached.{Good}
@@ -67,6 +67,7 @@ module _ (S : Settings) where
   asideBy k s (certificate m r) = readingCertificate S s (m .0) (r .0)
   asideBy k s (block n) = readingBlock S s n
   asideBy k s (preview n) = (ltb (n / 3) (16 * S .ceiling .0), 25) ∷ rules.checks S k s rules.commit
+  asideBy k s (critical n) = (ltb (n / 2) 32, 25) ∷ rules.checks S k s rules.commit
   asideBy k s listing = []
 
   -- what a view tells of it; an open is one of a number above 15, an enqueue one of a guest above 7
@@ -82,6 +83,7 @@ aside-by e (share m r) = refl
 aside-by e (certificate m r) = refl
 aside-by e (block n) = refl
 aside-by e (preview n) = refl
+aside-by e (critical n) = refl
 aside-by e listing = refl
 
 module _ {S : Settings} {k : ℕ} {e : Engine} (good : Good S k e) where

@@ -134,7 +134,7 @@ round3 =
     ∷ by 0 advance
     ∷ round2
 
--- all reads, and an open that is refused; member 2 has no block and does not know round 4
+-- the four reads, and an open that is refused; member 2 has no block and does not know round 4
 abbrev reading : List Answered
 reading =
     by 0 (aside (committee (record { 0 = 4 }))) ∷ by 0 (aside (share (record { 0 = 2 }) (record { 0 = 4 }))) ∷ by 0 (aside (certificate (record { 0 = 3 }) (record { 0 = 1 }))) ∷ by 1 (aside (block 1))

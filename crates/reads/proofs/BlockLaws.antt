@@ -35,7 +35,7 @@ module _ (n : ℕ) (t : List ℕ) where
 
   module _ (a r : ℕ) (from : 0 < r) (to : r ≤ n) (held : heldAt t a r ≡ true) where
     -- a block holds the certificate of a place if it is marked with its number
-    block-held : (k : ℕ) → isHeld (blockAt n t k .holds a r) ≡ eqb (markAt t a r) k
+    pub block-held : (k : ℕ) → isHeld (blockAt n t k .holds a r) ≡ eqb (markAt t a r) k
     block-held k = rw (block-inside n t k a r from to, holds-at t k a r, certificate-present t a r held) (go (eqb (markAt t a r) k))
       where
         go : (b : Bool) → isHeld (cond b (some (contentAt t a r)) none) ≡ b

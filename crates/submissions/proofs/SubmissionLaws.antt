@@ -16,12 +16,13 @@ use Rattle.accept.specs.Accept.{acceptTable}
 use Rattle.turns.specs.Turns.{leaves}
 use Rattle.engine.specs.Calls.{Call, accept}
 use Rattle.engine.specs.Engine.{Engine, after}
-use Rattle.engine.specs.Sequences.{afterCalls}
+use Rattle.engine.specs.Sequences.{afterCalls, AllInRange}
+use Rattle.engine.specs.Reached.{Reached, by-call}
 use Rattle.batch.specs.Batch.{Row, turnsOf, tableAfter, batchRefusal}
 use Rattle.batch.proofs.BatchLaws.{after-accepts, batch-refused, batch-table}
 use Rattle.nonforking.specs.Statement.{Members, Entry, engineAfter, engineBehaviour}
 use Rattle.nonforking.proofs.Theorem.{demand-3}
-use Rattle.submissions.specs.Submissions.{Submission, one, batch, afterSubmission, acceptsOf, callsOf, entriesOf, engineThen, unrolled, LeavesAsItsCalls, DemandThreeWithBatches}
+use Rattle.submissions.specs.Submissions.{Submission, one, batch, afterSubmission, acceptsOf, callsOf, entriesOf, engineThen, unrolled, LeavesAsItsCalls, BatchesLeadTo, DemandThreeWithBatches}
 
 -- ---- one submission
 
@@ -56,6 +57,14 @@ leaves-as-its-calls e (batch row answers) = go (ℕ-discrete (batchRefusal (e .s
     go : Dec (batchRefusal (e .state) (e .table) (row .count) (length answers) ≡ 0) → afterSubmission e (batch row answers) ≡ afterCalls e (callsOf e (batch row answers))
     go (yes h) = rw (eq-eqb (batchRefusal (e .state) (e .table) (row .count) (length answers)) 0 h) (with-table (batch-table (e .state) (e .table) row answers h) ∙ sym (after-turns row (turnsOf row) e))
     go (no n) = rw (ne-eqb (batchRefusal (e .state) (e .table) (row .count) (length answers)) 0 n) (with-table (batch-refused (e .state) (e .table) row answers n .0))
+
+calls-lead-to : (e : Engine) → Reached e → (l : List Call) → AllInRange l → Reached (afterCalls e l)
+unfolding afterCalls
+calls-lead-to e r [] i = r
+calls-lead-to e r (c ∷ l) i = by-call (afterCalls e l) (calls-lead-to e r l (i .1)) c (i .0)
+
+pub batches-lead-to : BatchesLeadTo
+batches-lead-to e r x i = rw (leaves-as-its-calls e x) (calls-lead-to e r (callsOf e x) i)
 
 -- ---- a list of submissions
 

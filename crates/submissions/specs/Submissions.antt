@@ -10,7 +10,8 @@ use Rattle.agreement.specs.Entries as entries
 use Rattle.agreement.specs.Entries.{states}
 use Rattle.engine.specs.Calls.{Call, opens, accept}
 use Rattle.engine.specs.Engine.{Engine, after}
-use Rattle.engine.specs.Sequences.{afterCalls}
+use Rattle.engine.specs.Sequences.{afterCalls, AllInRange}
+use Rattle.engine.specs.Reached.{Reached}
 use Rattle.batch.specs.Batch.{Row, turnsOf, batchRefusal, batchTable}
 use Rattle.nonforking.specs.Statement.{Members, Entry, engineAfter, engineBehaviour, Run, Agreed}
 
@@ -54,6 +55,10 @@ module _ (X : Members engineBehaviour) where
 -- a submission leaves what its calls leave, one by one
 abbrev pub LeavesAsItsCalls : Type 0
 LeavesAsItsCalls = (e : Engine) (x : Submission) → afterSubmission e x ≡ afterCalls e (callsOf e x)
+
+-- so what is so of every engine that calls lead to is so of those that batches lead to
+abbrev pub BatchesLeadTo : Type 0
+BatchesLeadTo = (e : Engine) → Reached e → (x : Submission) → AllInRange (callsOf e x) → Reached (afterSubmission e x)
 
 -- demand 3 with batches as entries: premises and claim are those of the unrolled list, and each member's engine is the one after it
 pub record AgreedThen (X : Members engineBehaviour) (l : List (entries.Entry Submission)) : Type 0 where

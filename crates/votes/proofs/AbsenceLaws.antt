@@ -4,14 +4,12 @@ use mathlib.Core.Bool.{Bool, true, false, cond, _&&_}
 use mathlib.Core.List.{List}
 use mathlib.Core.Logic.{_≢_}
 use Prim.Native.Nat.{ℕ, zero, suc, _+_, _-_, _<_, _≤_}
-use native.Mathlib.Decide.{ℕ-discrete}
 use native.Mathlib.Omega.{arith}
 use lib.Dec.{eqb}
 use borrow.Author.Tests.{eq-eqb, ne-eqb}
 use Rattle.base.specs.Checks.{refusal}
-use Rattle.base.specs.Folds.{sumTo}
 use Rattle.base.specs.Sets.{isIn}
-use Rattle.base.proofs.SumLaws.{sum-same}
+use Rattle.base.proofs.SumLaws.{sum-same, sum-without}
 use Rattle.agreement.specs.Rules.{Chain, last}
 use Rattle.agreement.specs.Weights.{total}
 use Rattle.terms.specs.Proposals.{Content}
@@ -35,20 +33,6 @@ use Rattle.votes.specs.Votes.{votesAt, votesFor}
 use Rattle.votes.specs.Checks.{timeChecks, voteChecks, committeeOn}
 use Rattle.votes.proofs.AnchorLaws.{leaderOn}
 use Rattle.votes.proofs.CheckLaws.{anchor-none, votes-few, votes-enough}
-
--- a sum without one part
-sum-without : (f g : ℕ → ℕ) (n a : ℕ) → a < n → g a ≡ 0 → ((i : ℕ) → i ≢ a → g i ≡ f i) → sumTo g n + f a ≡ sumTo f n
-unfolding sumTo
-sum-without f g zero a h z e = absurd (omega arith)
-sum-without f g (suc n) a h z e = go (ℕ-discrete a n) (λ l. sum-without f g n a l z e)
-  where
-    go : Dec (a ≡ n) → (a < n → sumTo g n + f a ≡ sumTo f n) → sumTo g n + g n + f a ≡ sumTo f n + f n
-    go (yes x) k =
-        let s = sum-same g f n (λ i l. e i (λ y. omega arith)) in
-        let y : g n ≡ 0 = rw (sym x) z in
-        let p : f a ≡ f n = ap f x in
-        omega arith
-    go (no x) k = let s = k (omega arith) in let y = e n (λ q. x (sym q)) in omega arith
 
 module _ (t : List ℕ) (a r : ℕ) (row : Row t r) where
   -- the votes of the round without a's

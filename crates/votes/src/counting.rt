@@ -11,7 +11,7 @@ ghost use Rattle.votes.specs.Votes.{votesAt, votesFor};
 ghost use Rattle.votes.specs.Ready.{VotesReady};
 
 // The weight of i, if its certificate of round r is held and names a.
-fn vote_of(t: &[u32], w: &[u64; 16], r: Round, a: Member, i: Member) -> Weight
+pub fn vote_of(t: &[u32], w: &[u64; 16], r: Round, a: Member, i: Member) -> Weight
     requires { ⌜ Within (now t) (i .0) (r .0) × (a .0 < 16) ⌝ }
     ensures { λ v. ⌜ v .0 ≡ cond (votesAt (now (t .entry)) (r .0) (a .0) (i .0)) (weightIn (now (w .entry)) (i .0)) 0 ⌝ }
 {

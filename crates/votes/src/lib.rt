@@ -1,3 +1,3 @@
 // The checks of a commit, and the votes for the anchor of the round before (scope document: Commit).
-mod counting;
+pub mod counting;
 pub mod refusals;

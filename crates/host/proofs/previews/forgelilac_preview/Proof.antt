@@ -29,8 +29,8 @@ state-in-requires c κs = state-read _ (state-serves c)
 preview-requires : tie.Need-preview-requires
 preview-requires c κs = search needs
 
-preview-number-requires : tie.Need-preview-number-requires
-preview-number-requires c κs = search needs
+listed-number-requires : tie.Need-listed-number-requires
+listed-number-requires c κs = search needs
 
 same-length : tie.Need-same-length
 same-length c = search needs
@@ -39,7 +39,7 @@ returns-2 : tie.Need-returns-2
 returns-2 c =
     let m = c .before .before .before in
     let x = rw (m .before .before .state-in .ensures) at (m .preview .ensures) in
-    preview-done _ _ _ (state-serves (m .before .before .before)) x (c .preview-number .ensures)
+    preview-done _ _ _ (state-serves (m .before .before .before)) x (c .listed-number .ensures)
 
 pub forgelilac-preview-spec : {M : Type 1} → statement M
 forgelilac-preview-spec =
@@ -50,6 +50,6 @@ forgelilac-preview-spec =
     returns
     state-in-requires
     preview-requires
-    preview-number-requires
+    listed-number-requires
     same-length
     returns-2)

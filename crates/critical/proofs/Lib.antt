@@ -1,0 +1,3 @@
+pub mod LackLaws
+pub mod PlaceLaws
+pub mod AnswerLaws

@@ -1,0 +1,4 @@
+pub mod BelowLaws
+pub mod FreeLaws
+pub mod PivotLaws
+pub mod RefusalLaws
