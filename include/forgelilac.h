@@ -76,8 +76,8 @@ extern "C" {
 #define FORGELILAC_PREVIEW_WORDS(ceiling) (48u * (ceiling))
 
 /* Bytes of stack that serve every call and every function below on x86-64; examples/stack.c
- * measures what they use. Preview uses about 88 KB, commit about 84 KB, critical about 81 KB, draw
- * and propose about 80 KB, batch about 77 KB, endorse, certify, accept, advance, committee and share
+ * measures what they use. Preview uses about 88 KB, commit about 84 KB, batch about 83 KB, critical
+ * about 81 KB, draw and propose about 80 KB, endorse, certify, accept, advance, committee and share
  * about 74 KB, forgelilac_chain about 3 KB, the others less than 1 KB; a guest's form little more
  * than the host's call. */
 #define FORGELILAC_STACK_BYTES 98304
