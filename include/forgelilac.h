@@ -44,7 +44,7 @@ extern "C" {
 /* Of the words of state and table; no word of theirs has it. Store it beside them: docs/TABLES.md
  * tells what to do with words of an older format. Those of format 1 have a state of 37 words: write 3
  * to word FORGELILAC_STATE_MARGIN behind them, and it is one of format 2. Those of format 2 have a
- * state of 38 words: write the rights of guests to word FORGELILAC_STATE_RIGHTS behind them,
+ * state of 38 words: write the rights of callers to word FORGELILAC_STATE_RIGHTS behind them,
  * FORGELILAC_NO_RIGHTS or others, and it is one of format 3. The table stays as it is. */
 #define FORGELILAC_FORMAT 3
 
@@ -94,7 +94,7 @@ extern "C" {
 #define FORGELILAC_STATE_BLOCKS 22    /* number of blocks */
 #define FORGELILAC_STATE_BODY 23      /* body of the proposal */
 #define FORGELILAC_STATE_MARGIN 37    /* margin, 3 to 5 */
-#define FORGELILAC_STATE_RIGHTS 38    /* rights of guests, any word */
+#define FORGELILAC_STATE_RIGHTS 38    /* rights of callers, any word */
 
 /* ---- rights: what guests may do, fixed at opening */
 
@@ -221,7 +221,7 @@ enum forgelilac_refusal {
 
 /* ---- calls: 0 accepted, else the refusal number */
 
-/* Opens a member by its number, a sheet and the rights of guests (FORGELILAC_RIGHTS, or
+/* Opens a member by its number, a sheet and the rights of callers (FORGELILAC_RIGHTS, or
  * FORGELILAC_NO_RIGHTS). Accepted: the state is written fresh, round 1 and nothing held, and the used
  * part of the table cleared. Neither need be set before. No later call changes the rights, and no
  * rights are refused; members of a plant need not have equal ones. It starts a new run: never open
@@ -485,7 +485,7 @@ static inline const char *forgelilac_refusal_text(uint32_t number) {
  * the stretch ends before the word of the rights. A word of the state and no call: it can be read in any
  * state. The guests' forms ask for themselves. */
 static inline int forgelilac_may(const uint32_t *state, size_t state_words,
-                                 unsigned right, uint32_t caller) {
+                                 uint32_t caller, unsigned right) {
     return state_words > FORGELILAC_STATE_RIGHTS && right <= FORGELILAC_RIGHT_READ
            && caller < FORGELILAC_GUESTS
            && (state[FORGELILAC_STATE_RIGHTS] >> (8 * right + caller) & 1) == 1;

@@ -40,7 +40,7 @@ mod header {
             caller: u32, s: *const u32, sn: usize, t: *const u32, tn: usize, out: *mut u32, n: usize,
         ) -> u64;
         pub fn header_is_well_formed(s: *const u32, sn: usize, t: *const u32, tn: usize) -> i32;
-        pub fn header_may(s: *const u32, sn: usize, right: u32, caller: u32) -> i32;
+        pub fn header_may(s: *const u32, sn: usize, caller: u32, right: u32) -> i32;
         pub fn header_rights(propose: u32, sign: u32, drive: u32, read: u32) -> u32;
         pub fn header_leader(round: u32, weights: *const u32) -> u32;
         pub fn header_refusal_text(number: u32) -> *const c_char;
@@ -273,11 +273,11 @@ impl Figures {
             assert_eq!(engine.rights().may(caller, right), may);
             for (words, expected) in [(state.len(), may), (39, may), (38, false), (0, false)] {
                 // SAFETY: the beginning of a slice.
-                let in_header = unsafe { header::header_may(state.as_ptr(), words, right as u32, caller) };
+                let in_header = unsafe { header::header_may(state.as_ptr(), words, caller, right as u32) };
                 assert_eq!(in_header, expected.into());
             }
             // SAFETY: a whole slice. There is no right 4.
-            assert_eq!(unsafe { header::header_may(state.as_ptr(), state.len(), 4, caller) }, 0);
+            assert_eq!(unsafe { header::header_may(state.as_ptr(), state.len(), caller, 4) }, 0);
         }
     }
 

@@ -33,8 +33,8 @@ int header_is_well_formed(const uint32_t *state, size_t state_words, const uint3
     return forgelilac_is_well_formed(state, state_words, table, table_words);
 }
 
-int header_may(const uint32_t *state, size_t state_words, unsigned right, uint32_t caller) {
-    return forgelilac_may(state, state_words, right, caller);
+int header_may(const uint32_t *state, size_t state_words, uint32_t caller, unsigned right) {
+    return forgelilac_may(state, state_words, caller, right);
 }
 
 uint32_t header_rights(uint32_t propose, uint32_t sign, uint32_t drive, uint32_t read) {

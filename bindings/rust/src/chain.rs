@@ -133,7 +133,7 @@ pub fn chain(state: &[u32], table: &[u32], list: &mut [Place]) -> Result<usize, 
     Listing::of(lent::block(state, table, 0), state, table)?.fill(list)
 }
 
-/// The chain for a guest, who needs the read right.
+/// The chain for a guest, who needs the right to read.
 ///
 /// # Errors
 /// 26, 29, then as [`chain`]; nothing is written then.

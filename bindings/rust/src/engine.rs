@@ -30,7 +30,7 @@ impl Engine {
         Engine::open_with_rights(own, sheet, Rights::NONE)
     }
 
-    /// Opens a member as [`Engine::open`] does, with rights of guests. They cannot be changed later.
+    /// Opens a member as [`Engine::open`] does, with rights of callers. They cannot be changed later.
     ///
     /// # Errors
     /// As [`Engine::open`]; no rights are refused.
@@ -95,7 +95,7 @@ impl Engine {
         Guest::of(self, caller)
     }
 
-    /// The rights of guests, as they were fixed at opening: a word of the state, in any state.
+    /// The rights of callers, as they were fixed at opening: a word of the state, in any state.
     #[must_use]
     pub fn rights(&self) -> Rights {
         lent::rights(&self.state)

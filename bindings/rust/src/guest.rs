@@ -61,7 +61,7 @@ impl<E> Guest<E> {
 
 /// Calls that change the engine, and critical, which is lent its table for writing.
 impl<E: DerefMut<Target = Engine>> Guest<E> {
-    /// As [`Engine::propose`]. It needs the propose right.
+    /// As [`Engine::propose`]. It needs the right to propose.
     ///
     /// # Errors
     /// 26, 29, then those of [`Engine::propose`].
@@ -70,7 +70,7 @@ impl<E: DerefMut<Target = Engine>> Guest<E> {
         lent::guest_propose(self.caller, &mut engine.state, &engine.table, &body_words(previous, transactions))
     }
 
-    /// As [`Engine::enqueue`], to the caller's own queue. It needs the propose right.
+    /// As [`Engine::enqueue`], to the caller's own queue. It needs the right to propose.
     ///
     /// # Errors
     /// 26, 29, 1, 6, 27.
@@ -79,7 +79,7 @@ impl<E: DerefMut<Target = Engine>> Guest<E> {
         lent::guest_enqueue(self.caller, &engine.state, &mut engine.table, &transaction.to_words())
     }
 
-    /// As [`Engine::draw`], from the queues of all guests. It needs the propose right.
+    /// As [`Engine::draw`], from the queues of all guests. It needs the right to propose.
     ///
     /// # Errors
     /// 26, 29, then those of [`Engine::draw`].
@@ -88,7 +88,7 @@ impl<E: DerefMut<Target = Engine>> Guest<E> {
         lent::guest_draw(self.caller, &mut engine.state, &mut engine.table, previous)
     }
 
-    /// As [`Engine::endorse`]. It needs the sign right.
+    /// As [`Engine::endorse`]. It needs the right to sign.
     ///
     /// # Errors
     /// 26, 29, then those of [`Engine::endorse`].
@@ -97,7 +97,7 @@ impl<E: DerefMut<Target = Engine>> Guest<E> {
         lent::guest_endorse(self.caller, &engine.state, &mut engine.table, &proposal.to_words())
     }
 
-    /// As [`Engine::certify`]. It needs the sign right.
+    /// As [`Engine::certify`]. It needs the right to sign.
     ///
     /// # Errors
     /// 26, 29, then those of [`Engine::certify`].
@@ -106,7 +106,7 @@ impl<E: DerefMut<Target = Engine>> Guest<E> {
         lent::guest_certify(self.caller, &engine.state, &mut engine.table, endorsers)
     }
 
-    /// As [`Engine::accept`]. It needs the sign right.
+    /// As [`Engine::accept`]. It needs the right to sign.
     ///
     /// # Errors
     /// 26, 29, then those of [`Engine::accept`].
@@ -115,7 +115,7 @@ impl<E: DerefMut<Target = Engine>> Guest<E> {
         lent::guest_accept(self.caller, &engine.state, &mut engine.table, &certificate.to_words())
     }
 
-    /// As [`Engine::batch`]. It needs the sign right.
+    /// As [`Engine::batch`]. It needs the right to sign.
     ///
     /// # Errors
     /// 26, 29, then those of [`Engine::batch`]: then nothing is tried.
@@ -124,7 +124,7 @@ impl<E: DerefMut<Target = Engine>> Guest<E> {
         by_batch(row, |row, answers| lent::guest_batch(self.caller, &engine.state, &mut engine.table, row, answers))
     }
 
-    /// As [`Engine::advance`]. It needs the drive right.
+    /// As [`Engine::advance`]. It needs the right to drive.
     ///
     /// # Errors
     /// 26, 29, then those of [`Engine::advance`].
@@ -133,7 +133,7 @@ impl<E: DerefMut<Target = Engine>> Guest<E> {
         lent::guest_advance(self.caller, &mut engine.state, &engine.table)
     }
 
-    /// As [`Engine::commit`]. It needs the drive right.
+    /// As [`Engine::commit`]. It needs the right to drive.
     ///
     /// # Errors
     /// 26, 29, then those of [`Engine::commit`].
@@ -142,7 +142,7 @@ impl<E: DerefMut<Target = Engine>> Guest<E> {
         lent::guest_commit(self.caller, &mut engine.state, &mut engine.table)
     }
 
-    /// As [`Engine::critical`]. It needs the read right.
+    /// As [`Engine::critical`]. It needs the right to read.
     ///
     /// # Errors
     /// 26, 29, then those of [`Engine::critical`].
@@ -152,7 +152,7 @@ impl<E: DerefMut<Target = Engine>> Guest<E> {
     }
 }
 
-/// Reads that only read. Each needs the read right.
+/// Reads that only read. Each needs the right to read.
 impl<E: Deref<Target = Engine>> Guest<E> {
     /// As [`Engine::preview`].
     ///

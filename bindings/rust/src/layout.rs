@@ -60,7 +60,7 @@ pub const STATE_BLOCKS: usize = 22;
 pub const STATE_BODY: usize = 23;
 /// Of a state: margin.
 pub const STATE_MARGIN: usize = 37;
-/// Of a state: rights of guests, any word ([`crate::Rights::to_word`]).
+/// Of a state: rights of callers, any word ([`crate::Rights::to_word`]).
 pub const STATE_RIGHTS: usize = 38;
 
 /// Words of a row of a table.

@@ -534,7 +534,7 @@ pub fn own_proposal(state: &[u32]) -> Option<[u32; PROPOSAL_WORDS]> {
     Some(words)
 }
 
-/// The rights of guests. They are a word of the state, and no call is made: they can be read in any state,
+/// The rights of callers. They are a word of the state, and no call is made: they can be read in any state,
 /// well formed or not. Nobody has a right where the words end before that one.
 #[must_use]
 pub fn rights(state: &[u32]) -> Rights {
@@ -551,7 +551,7 @@ pub fn is_well_formed(state: &[u32], table: &[u32]) -> bool {
 
 // ---- guests' forms
 
-/// A guest's [`propose`]. It needs the propose right.
+/// A guest's [`propose`]. It needs the right to propose.
 ///
 /// # Errors
 /// 26, 29, then those of [`propose`].
@@ -559,7 +559,7 @@ pub fn guest_propose(caller: u32, state: &mut [u32], table: &[u32], body: &[u32]
     accepted(call!(forgelilac_guest_propose(caller), write(state), read(table); read(body)))
 }
 
-/// A guest's [`draw`], which draws from the queues of all guests. It needs the propose right.
+/// A guest's [`draw`], which draws from the queues of all guests. It needs the right to propose.
 ///
 /// # Errors
 /// 26, 29, then those of [`draw`].
@@ -567,7 +567,7 @@ pub fn guest_draw(caller: u32, state: &mut [u32], table: &mut [u32], previous: S
     accepted(call!(forgelilac_guest_draw(caller), write(state), write(table), previous.into()))
 }
 
-/// A guest's [`enqueue`], to its own queue. It needs the propose right.
+/// A guest's [`enqueue`], to its own queue. It needs the right to propose.
 ///
 /// Guest 3 may propose and do nothing else, guest 5 may do nothing:
 ///
@@ -592,7 +592,7 @@ pub fn guest_enqueue(caller: u32, state: &[u32], table: &mut [u32], transaction:
     accepted(call!(forgelilac_guest_enqueue(caller), read(state), write(table); read(transaction)))
 }
 
-/// A guest's [`endorse`]. It needs the sign right.
+/// A guest's [`endorse`]. It needs the right to sign.
 ///
 /// # Errors
 /// 26, 29, then those of [`endorse`].
@@ -600,7 +600,7 @@ pub fn guest_endorse(caller: u32, state: &[u32], table: &mut [u32], proposal: &[
     accepted(call!(forgelilac_guest_endorse(caller), read(state), write(table); read(proposal)))
 }
 
-/// A guest's [`certify`]. It needs the sign right.
+/// A guest's [`certify`]. It needs the right to sign.
 ///
 /// # Errors
 /// 26, 29, then those of [`certify`].
@@ -608,7 +608,7 @@ pub fn guest_certify(caller: u32, state: &[u32], table: &mut [u32], endorsers: S
     accepted(call!(forgelilac_guest_certify(caller), read(state), write(table), endorsers.into()))
 }
 
-/// A guest's [`accept`]. It needs the sign right.
+/// A guest's [`accept`]. It needs the right to sign.
 ///
 /// # Errors
 /// 26, 29, then those of [`accept`].
@@ -616,7 +616,7 @@ pub fn guest_accept(caller: u32, state: &[u32], table: &mut [u32], certificate: 
     accepted(call!(forgelilac_guest_accept(caller), read(state), write(table); read(certificate)))
 }
 
-/// A guest's [`batch`]. It needs the sign right.
+/// A guest's [`batch`]. It needs the right to sign.
 ///
 /// # Errors
 /// 26, 29, then those of [`batch`]: then nothing is tried.
@@ -627,7 +627,7 @@ pub fn guest_batch(
     accepted(call!(forgelilac_guest_batch(caller), read(state), write(table), records, count; write(answers)))
 }
 
-/// A guest's [`advance`]. It needs the drive right.
+/// A guest's [`advance`]. It needs the right to drive.
 ///
 /// # Errors
 /// 26, 29, then those of [`advance`].
@@ -635,7 +635,7 @@ pub fn guest_advance(caller: u32, state: &mut [u32], table: &[u32]) -> Result<()
     accepted(call!(forgelilac_guest_advance(caller), write(state), read(table)))
 }
 
-/// A guest's [`commit`]. It needs the drive right.
+/// A guest's [`commit`]. It needs the right to drive.
 ///
 /// # Errors
 /// 26, 29, then those of [`commit`].
@@ -643,7 +643,7 @@ pub fn guest_commit(caller: u32, state: &mut [u32], table: &mut [u32]) -> Result
     value(call!(forgelilac_guest_commit(caller), write(state), write(table)))
 }
 
-/// A guest's [`preview`]. It needs the read right.
+/// A guest's [`preview`]. It needs the right to read.
 ///
 /// # Errors
 /// 26, 29, then those of [`preview`]. Nothing is written then.
@@ -651,7 +651,7 @@ pub fn guest_preview(caller: u32, state: &[u32], table: &[u32], list: &mut [u32]
     value(call!(forgelilac_guest_preview(caller), read(state), read(table); write(list)))
 }
 
-/// A guest's [`critical`]. It needs the read right.
+/// A guest's [`critical`]. It needs the right to read.
 ///
 /// # Errors
 /// 26, 29, then those of [`critical`]. The list is not written then.
@@ -659,7 +659,7 @@ pub fn guest_critical(caller: u32, state: &[u32], table: &mut [u32], list: &mut 
     value(call!(forgelilac_guest_critical(caller), read(state), write(table); write(list)))
 }
 
-/// A guest's [`committee`]. It needs the read right.
+/// A guest's [`committee`]. It needs the right to read.
 ///
 /// # Errors
 /// 26, 29, then those of [`committee`].
@@ -669,7 +669,7 @@ pub fn guest_committee(caller: u32, state: &[u32], table: &[u32], round: u32) ->
     Ok(out)
 }
 
-/// A guest's [`share`]. It needs the read right.
+/// A guest's [`share`]. It needs the right to read.
 ///
 /// # Errors
 /// 26, 29, then those of [`share`].
@@ -677,7 +677,7 @@ pub fn guest_share(caller: u32, state: &[u32], table: &[u32], member: u32, round
     value(call!(forgelilac_guest_share(caller), read(state), read(table), member, round))
 }
 
-/// A guest's [`certificate`]. It needs the read right.
+/// A guest's [`certificate`]. It needs the right to read.
 ///
 /// # Errors
 /// 26, 29, then those of [`certificate`].
@@ -689,7 +689,7 @@ pub fn guest_certificate(
     Ok(out)
 }
 
-/// A guest's [`block`]. It needs the read right.
+/// A guest's [`block`]. It needs the right to read.
 ///
 /// # Errors
 /// 26, 29, then those of [`block`].

@@ -15,7 +15,7 @@ use Rattle.base.proofs.FoldLaws.{length-tab, getD-tab}
 use Rattle.base.proofs.PasteLaws.{same-part}
 use Rattle.checks.specs.Answers.{ifAccepted}
 use Rattle.checks.proofs.AnswerLaws.{if-accepted-old, if-accepted-new}
-use Rattle.rights.specs.declared.Right.the-variants.{Sign}
+use Rattle.guests.specs.Guests.{batchNeeds}
 use Rattle.words.specs.States.{stateReads, stateIn}
 use Rattle.batch.specs.Batch.{batchRefusal, triedTable, answerAt}
 use Rattle.batch.proofs.BatchLaws.{batch-refused, batch-table, batch-answers}
@@ -114,7 +114,7 @@ module _ (k : ℕ) (w t : List ℕ) (row : List CertificateRecord) (answers : Li
       go (no z) = by-caller z (eqb k 0) (b .refusal)
 
 -- a guest's, where c is the caller's number
-pub guest-batch-done : (c : ℕ) (w t : List ℕ) (row : List CertificateRecord) (answers : List ℕ) (x : Start) (r : Progress) (u : List ℕ) → Begun (callerNumber w t answers c Sign) w t (length row) (length answers) x → Ran row (x .state) (x .turns) t (x .progress) r u
-    → (m : ℕ) (out : List ℕ) → m ≡ x .refusal → out ≡ ifAccepted (x .refusal) (paste answers 0 (r .stage .answers) (r .stage .count)) answers → Done plain (asGuest w t answers c Sign (batchResult w t row answers)) m w u out
+pub guest-batch-done : (c : ℕ) (w t : List ℕ) (row : List CertificateRecord) (answers : List ℕ) (x : Start) (r : Progress) (u : List ℕ) → Begun (callerNumber w c batchNeeds) w t (length row) (length answers) x → Ran row (x .state) (x .turns) t (x .progress) r u
+    → (m : ℕ) (out : List ℕ) → m ≡ x .refusal → out ≡ ifAccepted (x .refusal) (paste answers 0 (r .stage .answers) (r .stage .count)) answers → Done plain (asGuest w t answers c batchNeeds (batchResult w t row answers)) m w u out
 unfolding asGuest
-guest-batch-done c w t row answers x r u b ran m out e o = batch-done (callerNumber w t answers c Sign) w t row answers x r u b ran m out e o
+guest-batch-done c w t row answers x r u b ran m out e o = batch-done (callerNumber w c batchNeeds) w t row answers x r u b ran m out e o

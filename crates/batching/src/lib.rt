@@ -12,8 +12,8 @@ ghost use lib.Seq.{paste};
 ghost use Rattle.cache.specs.Caches.{firstRound};
 ghost use Rattle.checks.specs.Answers.{ifAccepted};
 ghost use Rattle.batch.specs.Batch.{batchRefusal};
-ghost use Rattle.rights.specs.declared.Right.the-variants.{Sign};
 ghost use Rattle.rights.specs.Rights.{callerRefusal};
+ghost use Rattle.guests.specs.Guests.{batchNeeds};
 ghost use Rattle.guesting.specs.Guested.{rightsIn};
 ghost use Rattle.batching.specs.Begun.{freshStage, Begun};
 
@@ -98,14 +98,14 @@ pub fn begin(state: &[u32], t: &[u32], n: usize, room: usize) -> Start
 
 // The same for a guest: where its caller is refused no turn is to be taken.
 pub fn begin_guest(caller: u32, state: &[u32], t: &[u32], n: usize, room: usize) -> Start
-    ensures { λ x. ⌜ Begun (callerRefusal (rightsIn (now (state .entry))) Sign caller) (now (state .entry)) (now (t .entry)) n room x ⌝ }
+    ensures { λ x. ⌜ Begun (callerRefusal (rightsIn (now (state .entry))) batchNeeds caller) (now (state .entry)) (now (t .entry)) n room x ⌝ }
 {
-    let refusal = guesting::refusal(state, Right::Sign, caller);
-    if refusal != 0 {
+    let barred = guesting::refusal(state, Right::Sign, caller);
+    if barred != 0 {
         let progress = fresh(n);
         let closed = open::closed();
         return Start {
-            refusal,
+            refusal: barred,
             state: closed,
             turns: 0,
             progress,

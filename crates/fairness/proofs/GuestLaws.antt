@@ -12,16 +12,15 @@ use Rattle.base.specs.Options.{ifThere}
 use Rattle.terms.specs.declared.Transaction.{Transaction}
 use Rattle.checks.specs.Answers.{ifAccepted}
 use Rattle.checks.proofs.AnswerLaws.{if-accepted-new, if-accepted-old}
-use Rattle.queues.specs.Queues.{Queues, Draw, younger, served, added, afterDraws}
+use Rattle.queues.specs.Queues.{Queues, Draw, younger, served, afterDraws}
 use Rattle.engine.specs.Engine.{Engine, refusalFor, after}
 use Rattle.guests.specs.Guests as guest
 use Rattle.guests.specs.Guests.{GuestCall, asHost}
-use Rattle.submissions.specs.Submissions.{Submission, one, batch, afterSubmission}
+use Rattle.submissions.specs.Submissions.{Submission, afterSubmission}
 use Rattle.submissions.specs.Requests as request
 use Rattle.submissions.specs.Requests.{Asked, asks, asksBatch, submittedBy, Request, callerNumber, resultOf, submissionOf}
 use Rattle.submissions.proofs.RequestLaws.{left-by}
 use Rattle.fairness.specs.Kept.{queues, acceptedQueues, queuesAfter}
-use Rattle.fairness.specs.Fairness.{Moment}
 use Rattle.fairness.specs.Batches.{submissionMoments}
 use Rattle.fairness.specs.Guests.{LeftOf, AddsToNoOther, requestMoments, momentsAsked, FairnessWithGuests}
 use Rattle.fairness.proofs.KeptLaws.{queues-kept}

@@ -1,6 +1,5 @@
 -- Laws of guests' calls over words: a caller lacking the right is refused and changes no word, one with it gets the host's answer, and the word of rights stays.
 use mathlib.Core.Path.{_≡_, refl, sym, ap, _∙_}
-use mathlib.Core.Bool.{Bool}
 use mathlib.Core.List.{List}
 use mathlib.Core.Logic.{_≢_}
 use Prim.Native.Nat.{ℕ, _*_}
@@ -9,27 +8,26 @@ use native.Mathlib.Decide.{ℕ-discrete}
 use borrow.Author.Tests.{eq-eqb, ne-eqb}
 use Rattle.state.specs.declared.State.{State}
 use Rattle.rights.specs.declared.Right.{Right}
-use Rattle.rights.proofs.RightLaws.{barred}
+use Rattle.rights.proofs.RightLaws.{allowed, barred}
 use Rattle.engine.specs.Calls.{Call, opens, propose, endorse, certify, accept, advance, commit, enqueue, draw, aside}
 use Rattle.guests.proofs.GuestLaws.{call-rights}
 use Rattle.words.specs.States.{stateIn}
 use Rattle.hosting.specs.Calls.{Result, packed, Done, useOf, engineFor, refused, resultOf}
-use Rattle.hosting.specs.Handed.{Handed}
 use Rattle.hosting.proofs.RefusalLaws.{refused-same}
 use Rattle.hosting.proofs.NextLaws.{accepted-gives}
-use Rattle.guesting.specs.Guested.{rightsIn, callerNumber, asGuest, Noninterference, NoOpening, RightsWordStays}
+use Rattle.guesting.specs.Guested.{rightsIn, callerNumber, asGuest, AllowedOverWords, NoninterferenceOverWords, NoOpening, RightsWordStays}
 
 module _ (w t o : List ℕ) (c : ℕ) (r : Right) (x : Result) where
-  pub guest-barred : callerNumber w t o c r ≢ 0 → asGuest w t o c r x ≡ refused w t o (callerNumber w t o c r)
+  pub guest-barred : callerNumber w c r ≢ 0 → asGuest w t o c r x ≡ refused w t o (callerNumber w c r)
   unfolding asGuest
-  guest-barred n = rw (ne-eqb (callerNumber w t o c r) 0 n) refl
+  guest-barred n = rw (ne-eqb (callerNumber w c r) 0 n) refl
 
-  pub guest-allowed : callerNumber w t o c r ≡ 0 → asGuest w t o c r x ≡ x
+  pub guest-allowed : callerNumber w c r ≡ 0 → asGuest w t o c r x ≡ x
   unfolding asGuest
-  guest-allowed h = rw (eq-eqb (callerNumber w t o c r) 0 h) refl
+  guest-allowed h = rw (eq-eqb (callerNumber w c r) 0 h) refl
 
   -- what the code does: the number n refuses, or is 0
-  module _ {answer : Result → ℕ} {n : ℕ} {a : ℕ} (e : n ≡ callerNumber w t o c r) where
+  module _ {answer : Result → ℕ} {n : ℕ} {a : ℕ} (e : n ≡ callerNumber w c r) where
     pub done-barred : n ≢ 0 → a ≡ answer (refused w t o n) → Done answer (asGuest w t o c r x) a w t o
     done-barred h q = rw (guest-barred (λ z. h (e ∙ z)), ← e) (record { its-answer = q; its-state = refl; its-table = refl; its-out = refl })
 
@@ -37,12 +35,15 @@ module _ (w t o : List ℕ) (c : ℕ) (r : Right) (x : Result) where
     done-allowed h d = rw (guest-allowed (sym e ∙ h)) d
 
   -- refused, where the answer has a value
-  pub done-barred-packed : {n : ℕ} {a : ℕ} → n ≡ callerNumber w t o c r → n ≢ 0 → a ≡ n * 4294967296 → Done packed (asGuest w t o c r x) a w t o
+  pub done-barred-packed : {n : ℕ} {a : ℕ} → n ≡ callerNumber w c r → n ≢ 0 → a ≡ n * 4294967296 → Done packed (asGuest w t o c r x) a w t o
   done-barred-packed e h q = done-barred e h (omega arith)
 
 -- the claims
-pub noninterference : Noninterference
-noninterference w t o v u p q c r h x y =
+pub allowed-over-words : AllowedOverWords
+allowed-over-words w t o c r h x = guest-allowed w t o c r x (allowed (rightsIn w) r c h)
+
+pub noninterference-over-words : NoninterferenceOverWords
+noninterference-over-words w t o v u p q c r h x y =
     let n = barred (rightsIn w) r c h in
     record { first = guest-barred w t o c r x n; second = rw (← q) at (guest-barred v u p c r y (rw (← q) n)) }
 

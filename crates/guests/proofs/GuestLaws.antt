@@ -6,7 +6,7 @@ use Prim.Native.Nat.{ℕ}
 use native.Mathlib.Decide.{ℕ-discrete}
 use Rattle.engine.specs.Calls.{Call, opens, propose, endorse, certify, accept, advance, commit, enqueue, draw, aside}
 use Rattle.engine.specs.Engine.{Engine, refusalFor, after}
-use Rattle.engine.specs.Sequences.{Opening, afterOpening, afterCalls, NoOpen, NoOpens}
+use Rattle.engine.specs.Sequences.{afterCalls, NoOpen, NoOpens}
 use Rattle.engine.proofs.AfterLaws.{renewed, refused-same, accepted-new}
 use Rattle.guests.specs.Guests as guest
 use Rattle.guests.specs.Guests.{GuestCall, asHost, RightsStay}

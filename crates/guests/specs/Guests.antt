@@ -40,6 +40,10 @@ needs advance = Drive
 needs commit = Drive
 needs (aside x) = Read
 
+-- and of a batch, which is signing
+abbrev pub batchNeeds : Right
+batchNeeds = Sign
+
 -- the host's own call that does the same for caller c
 abbrev pub asHost : ℕ → GuestCall → Call
 asHost c (propose b) = host.propose b

@@ -1,6 +1,6 @@
 // The batch that a host or a guest hands over: a row of certificates, each with the answer of accept at its turn (change request: Point 4).
 use rows::CertificateRecord;
-ghost use Rattle.rights.specs.declared.Right.the-variants.{Sign};
+ghost use Rattle.guests.specs.Guests.{batchNeeds};
 ghost use Rattle.hosting.specs.Calls.{plain, Done};
 ghost use Rattle.guesting.specs.Guested.{asGuest};
 ghost use Rattle.batching.specs.Batched.{batchResult};
@@ -29,7 +29,7 @@ pub extern "C" fn forgelilac_guest_batch(
     row: &[CertificateRecord],
     answers: &mut [u32],
 ) -> u32
-    ensures { λ r. ⌜ Done plain (asGuest (now (state .entry)) (now (table .entry)) (now (answers .entry)) caller Sign (batchResult (now (state .entry)) (now (table .entry)) (now (row .entry)) (now (answers .entry)))) r (now (state .entry)) (now (table .exit)) (now (answers .exit)) ⌝ }
+    ensures { λ r. ⌜ Done plain (asGuest (now (state .entry)) (now (table .entry)) (now (answers .entry)) caller batchNeeds (batchResult (now (state .entry)) (now (table .entry)) (now (row .entry)) (now (answers .entry)))) r (now (state .entry)) (now (table .exit)) (now (answers .exit)) ⌝ }
 {
     let start = batching::begin_guest(caller, state, table, row.len(), answers.len());
     let done = trying::run(table, row, start.state, start.progress, start.turns);

@@ -11,7 +11,7 @@ ghost use Rattle.words.specs.Proposals.{proposalReads, proposalIn, certificateR
 ghost use Rattle.words.specs.Sheets.{sheetReads, sheetIn};
 ghost use Rattle.hosting.specs.Calls.{plain, packed, Done, resultOf};
 
-// Open: the state is written fresh, with the rights of guests, and the used part of the table cleared.
+// Open: the state is written fresh, with the rights of callers, and the used part of the table cleared.
 #[no_mangle]
 pub extern "C" fn forgelilac_open(
     state: &mut [u32],

@@ -9,7 +9,7 @@ use lib.Dec.{ltb}
 use borrow.Author.Tests.{ltb-true, le-ltb}
 use Rattle.base.specs.Checks.{refusal}
 use Rattle.base.proofs.Bools.{both}
-use Rattle.base.proofs.CheckLaws.{refuses, passes, passes-all}
+use Rattle.base.proofs.CheckLaws.{passes, passes-all}
 use Rattle.sheet.specs.declared.Rights.{Rights}
 use Rattle.rights.specs.declared.Right.{Right}
 use Rattle.rights.specs.declared.Right.the-variants.{Propose, Sign, Drive, Read}

@@ -5,7 +5,6 @@ use mathlib.Core.List.{List, [], _∷_}
 use mathlib.Core.Logic.{_≢_}
 use mathlib.Core.Option.{Option, none, some}
 use Prim.Native.Nat.{ℕ}
-use native.Mathlib.Decide.{ℕ-discrete}
 use lib.Dec.{eqb}
 use borrow.Author.Tests.{eq-eqb, ne-eqb, eqb-true}
 use Rattle.base.specs.Options.{ifThere}
@@ -16,10 +15,10 @@ use Rattle.engine.specs.Engine.{Engine}
 use Rattle.engine.specs.Reached.{Reached}
 use Rattle.guests.proofs.GuestLaws.{call-rights, guest-opens-none}
 use Rattle.guests.specs.Guests.{asHost}
-use Rattle.nonforking.specs.Statement.{Members, engineAfter, engineBehaviour}
+use Rattle.nonforking.specs.Statement.{Members, engineBehaviour}
 use Rattle.nonforking.proofs.Theorem.{demand-3}
 use Rattle.submissions.specs.Submissions.{Submission, one, batch, afterSubmission, engineThen, unrolled}
-use Rattle.submissions.specs.Requests.{Asked, asks, asksBatch, neededFor, submittedBy, Request, host, guest, refusedWith, hostResult, callerNumber, resultOf, AllowedAsHost, Noninterference, submissionOf, OpensNone, afterRequests, OpenNone, RightsStayThen, InRangeThen, RequestsLeadTo, engineAsked, submitted, DemandThreeWithGuests}
+use Rattle.submissions.specs.Requests.{Asked, asks, asksBatch, neededFor, submittedBy, Request, host, guest, refusedWith, hostResult, callerNumber, resultOf, AllowedAsHost, Noninterference, submissionOf, NoOpenAsked, afterRequests, RightsStayThen, InRangeThen, RequestsLeadTo, engineAsked, submitted, DemandThreeWithGuests}
 use Rattle.submissions.proofs.SubmissionLaws.{batches-lead-to, then-unrolled}
 
 -- ---- one request
@@ -82,7 +81,7 @@ submission-rights : (e : Engine) (c : ℕ) (a : Asked) → afterSubmission e (su
 submission-rights e c (asks k) = call-rights e (asHost c k) (guest-opens-none e c k)
 submission-rights e c (asksBatch row answers) = refl
 
-request-rights : (e : Engine) (x : Request) → OpensNone e x → resultOf e x .engine .state .rights ≡ e .state .rights
+request-rights : (e : Engine) (x : Request) → NoOpenAsked e x → resultOf e x .engine .state .rights ≡ e .state .rights
 unfolding resultOf
 request-rights e (host (one c)) n = call-rights e c n
 request-rights e (host (batch row answers)) n = refl

@@ -10,14 +10,13 @@ use Rattle.base.specs.Options.{ifThere}
 use Rattle.agreement.specs.Entries as entries
 use Rattle.agreement.specs.Entries.{states}
 use Rattle.rights.specs.declared.Right.{Right}
-use Rattle.rights.specs.declared.Right.the-variants.{Sign}
 use Rattle.rights.specs.Rights.{may, callerRefusal}
 use Rattle.engine.specs.Calls.{opens}
 use Rattle.engine.specs.Engine.{Engine, refusalFor, after}
 use Rattle.engine.specs.Values.{Value, nothing, valueOf}
 use Rattle.engine.specs.Sequences.{AllInRange, NoOpen}
 use Rattle.engine.specs.Reached.{Reached}
-use Rattle.guests.specs.Guests.{GuestCall, needs, asHost}
+use Rattle.guests.specs.Guests.{GuestCall, needs, batchNeeds, asHost}
 use Rattle.batch.specs.Batch.{Row, batchRefusal, batchAnswers}
 use Rattle.nonforking.specs.Statement.{Members, engineAfter, engineBehaviour, Run, Agreed}
 use Rattle.submissions.specs.Submissions.{Submission, one, batch, afterSubmission, callsOf, unrolled}
@@ -29,10 +28,9 @@ pub data Asked : Type 0 where
   asks : GuestCall → Asked
   asksBatch : Row → List ℕ → Asked
 
--- a batch is signing
 abbrev pub neededFor : Asked → Right
 neededFor (asks k) = needs k
-neededFor (asksBatch row answers) = Sign
+neededFor (asksBatch row answers) = batchNeeds
 
 -- what the host itself would submit for caller c
 abbrev pub submittedBy : ℕ → Asked → Submission
@@ -116,10 +114,10 @@ submissionOf e (host x) = some x
 submissionOf e (guest c a) = cond (eqb (callerNumber e c a) 0) (some (submittedBy c a)) none
 
 -- the request is no accepted open
-abbrev pub OpensNone : Engine → Request → Type 0
-OpensNone e (host (one c)) = NoOpen e c
-OpensNone e (host (batch row answers)) = Unit {0}
-OpensNone e (guest c a) = Unit {0}
+abbrev pub NoOpenAsked : Engine → Request → Type 0
+NoOpenAsked e (host (one c)) = NoOpen e c
+NoOpenAsked e (host (batch row answers)) = Unit {0}
+NoOpenAsked e (guest c a) = Unit {0}
 
 -- the engine after a list of requests, newest first
 unfoldable pub afterRequests : Engine → List Request → Engine
@@ -127,13 +125,13 @@ afterRequests e [] = e
 afterRequests e (x ∷ l) = resultOf (afterRequests e l) x .engine
 
 -- none of them is an accepted open
-abbrev pub OpenNone : Engine → List Request → Type 0
-OpenNone e [] = Unit {0}
-OpenNone e (x ∷ l) = OpensNone (afterRequests e l) x × OpenNone e l
+abbrev pub NoOpensAsked : Engine → List Request → Type 0
+NoOpensAsked e [] = Unit {0}
+NoOpensAsked e (x ∷ l) = NoOpenAsked (afterRequests e l) x × NoOpensAsked e l
 
 -- rights stay as the open fixed them, whatever hosts and guests ask
 abbrev pub RightsStayThen : Type 0
-RightsStayThen = (e : Engine) (l : List Request) → OpenNone e l → afterRequests e l .state .rights ≡ e .state .rights
+RightsStayThen = (e : Engine) (l : List Request) → NoOpensAsked e l → afterRequests e l .state .rights ≡ e .state .rights
 
 -- what is submitted, if anything, has values of their types
 abbrev pub InRangeThen : Engine → Option Submission → Type 0

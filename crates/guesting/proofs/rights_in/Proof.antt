@@ -2,7 +2,6 @@ use mathlib.Core.Path.{sym, ap}
 use Prim.Native.Nat.{ℕ}
 use native.Mathlib.Omega.{arith}
 use lib.ListN.{List·getD-eq-default}
-use Rattle.sheet.specs.declared.Rights.{Rights}
 use borrow.Author.Needs.{needs}
 use Rattle.guesting.proofs.rights_in.Statement.{statement}
 use Rattle.guesting.proofs.rights_in.Tie as tie
