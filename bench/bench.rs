@@ -1,9 +1,9 @@
 //! What each call and read costs: the engine (libhost.a), plain Rust
 //! (plain.rs) and a floor. `bench [quick]` prints Markdown. Built with another
 //! archive, that stands in plain's place (run.sh), and the tables by call show
-//! the best time of each beside the median; where it is of before queues, previews
-//! or lists of what a commit hangs on, their calls are left out, and a call that
-//! the two answer differently is not timed.
+//! the best time of each beside the median; where it is of before queues, previews,
+//! lists of what a commit hangs on or guests' calls, these are left out, and a call
+//! that the two answer differently is not timed.
 //!
 //! States. Sixteen members; every certificate has four transactions (entries,
 //! bonds, unbonds that are bonded again at once, so that all stay inside) and
@@ -53,6 +53,10 @@
 //! present round as many are taken away, the highest author first, as make the
 //! votes too few. It is refused with 22, all checks made and nothing done.
 //!
+//! A guest's call is asked for in the same states as the host's own, by a caller
+//! who has its right: the two differ in the test of the right alone. A caller who
+//! lacks it is refused with 29 before anything else is looked at.
+//!
 //! The floor is one pass that reads the state, the headers of all rows and
 //! the records of held certificates, and adds them up. For open it is one
 //! pass that writes 0 to the table.
@@ -73,13 +77,14 @@ use std::hint::black_box;
 use std::time::{Duration, Instant};
 
 const ROW: usize = 272;
-const STATE_WORDS: usize = 38;
-/// The word of a state that has its margin.
+const STATE_WORDS: usize = 39;
+/// The words of a state that have its margin and its rights.
 const MARGIN: usize = 37;
+const RIGHTS: usize = 38;
 
 /// The functions of one implementation.
 struct Functions {
-    open: fn(&mut [u32], &mut [u32], u32, &[u32]) -> u32,
+    open: fn(&mut [u32], &mut [u32], u32, &[u32], u32) -> u32,
     propose: fn(&mut [u32], &[u32], &[u32]) -> u32,
     endorse: fn(&[u32], &mut [u32], &[u32]) -> u32,
     certify: fn(&[u32], &mut [u32], u32) -> u32,
@@ -95,6 +100,9 @@ struct Functions {
     share: fn(&[u32], &[u32], u32, u32) -> u64,
     certificate: fn(&[u32], &[u32], u32, u32, &mut [u32]) -> u32,
     block: fn(&[u32], &[u32], u32) -> u64,
+    guest_advance: fn(u32, &mut [u32], &[u32]) -> u32,
+    guest_commit: fn(u32, &mut [u32], &mut [u32]) -> u64,
+    guest_block: fn(u32, &[u32], &[u32], u32) -> u64,
 }
 
 macro_rules! functions {
@@ -116,6 +124,9 @@ macro_rules! functions {
             share: $module::share,
             certificate: $module::certificate,
             block: $module::block,
+            guest_advance: $module::guest_advance,
+            guest_commit: $module::guest_commit,
+            guest_block: $module::guest_block,
         }
     };
 }
@@ -153,6 +164,12 @@ const QUEUES: bool = cfg!(not(before_queues));
 const PREVIEWS: bool = cfg!(not(before_previews));
 /// Whether both implementations tell what a commit hangs on.
 const CRITICAL: bool = cfg!(not(before_critical));
+/// Whether both implementations have guests' calls.
+const GUESTS: bool = cfg!(not(before_guests));
+/// All rights for callers 0 to 6, none for caller 7.
+const GIVEN: u32 = 0x7f7f_7f7f;
+const CALLER: u32 = 3;
+const LACKING: u32 = 7;
 /// How many wait for each guest: for most calls, for an enqueue to guest 2 and
 /// for a draw of one of each of four guests.
 const NOBODY: Waiting = [0; 8];
@@ -164,9 +181,10 @@ impl Member {
     fn open(ceiling: u32, lookback: u32, seed: u64) -> Member {
         let lines = vec![Line([0; 16]); ROW * (ceiling as usize + 1) / 16];
         let mut member = Member { state: [0; STATE_WORDS], lines, random: seed };
-        // An archive of before there was a margin leaves its word as it is.
-        member.state[MARGIN] = 3;
-        let answer = with(&mut member, |s, t| plain::open(s, t, OWN, &sheet(ceiling, lookback)));
+        // An archive of before there was a margin leaves its word as it is, one of
+        // before there were rights theirs.
+        (member.state[MARGIN], member.state[RIGHTS]) = (3, GIVEN);
+        let answer = with(&mut member, |s, t| plain::open(s, t, OWN, &sheet(ceiling, lookback), GIVEN));
         assert_eq!(answer, 0);
         member
     }
@@ -419,6 +437,10 @@ enum Job {
     Share,
     Certificate,
     Block,
+    /// By this caller.
+    GuestAdvance(u32),
+    GuestCommit(u32),
+    GuestBlock(u32),
 }
 
 /// Jobs, and how many transactions wait for each guest in their states.
@@ -493,7 +515,7 @@ impl Case {
         if job == Job::AdvanceThin {
             member.table()[ROW * r as usize] &= THIN;
         }
-        let is_commit = matches!(job, Job::Commit | Job::CommitMany | Job::CommitShort | Job::Critical);
+        let is_commit = matches!(job, Job::Commit | Job::CommitMany | Job::CommitShort | Job::Critical | Job::GuestCommit(_));
         let (copies, previews) = (matches!(job, Job::Copy | Job::CopyMany), matches!(job, Job::Preview | Job::PreviewMany));
         if (is_commit || copies || previews) && empty {
             member.state[20] = 3;
@@ -533,7 +555,7 @@ impl Case {
         match self.job {
             Job::Open => {
                 let sheet = sheet(state[2], state[1]);
-                refusal((f.open)(state, table, OWN, &sheet))
+                refusal((f.open)(state, table, OWN, &sheet, GIVEN))
             }
             Job::Propose => refusal((f.propose)(state, table, &argument[2..16])),
             Job::Endorse => refusal((f.endorse)(state, table, &argument[..16])),
@@ -557,6 +579,9 @@ impl Case {
             Job::Share => (f.share)(state, table, 3, r),
             Job::Certificate => refusal((f.certificate)(state, table, 7, r, &mut self.out)),
             Job::Block => (f.block)(state, table, state[22]),
+            Job::GuestAdvance(caller) => refusal((f.guest_advance)(caller, state, table)),
+            Job::GuestCommit(caller) => (f.guest_commit)(caller, state, table),
+            Job::GuestBlock(caller) => (f.guest_block)(caller, state, table, state[22]),
         }
     }
 
@@ -578,8 +603,8 @@ impl Case {
             Job::Endorse => self.member.table()[row + 1] &= !(1 << FREE),
             Job::Certify => self.member.table()[row] &= !(1 << OWN),
             Job::Accept => self.member.table()[row] &= !(1 << FREE),
-            Job::Advance if self.expected == 0 => self.member.state[20] -= 1,
-            Job::Commit | Job::CommitMany if self.expected >> 32 == 0 => {
+            Job::Advance | Job::GuestAdvance(_) if self.expected == 0 => self.member.state[20] -= 1,
+            Job::Commit | Job::CommitMany | Job::GuestCommit(_) if self.expected >> 32 == 0 => {
                 self.member.state[22] -= self.expected as u32;
                 let undo = std::mem::take(&mut self.undo);
                 let table = self.member.table();
@@ -606,7 +631,7 @@ struct Cases(Vec<Case>);
 impl Cases {
     /// The time of a batch of calls, undone.
     fn batch(&mut self, f: &Functions, calls: usize) -> Duration {
-        let one_by_one = matches!(self.0[0].job, Job::Commit | Job::CommitMany);
+        let one_by_one = matches!(self.0[0].job, Job::Commit | Job::CommitMany | Job::GuestCommit(_));
         let (many, mut time) = (self.0.len(), Duration::ZERO);
         let start = Instant::now();
         for turn in 0..calls {
@@ -1027,6 +1052,38 @@ fn assert_same_places(cases: &mut Cases) {
     }
 }
 
+/// Guests' calls beside the host's own, with the right and without it.
+fn print_guests(pace: &Pace) {
+    type ByGuest = fn(u32) -> Job;
+    const CALLS: [(&str, Job, ByGuest); 3] = [
+        ("read block", Job::Block, Job::GuestBlock),
+        ("advance", Job::Advance, Job::GuestAdvance),
+        ("commit, one block", Job::Commit, Job::GuestCommit),
+    ];
+    println!("\n## Guests' calls and the host's own\n");
+    println!("Nanoseconds, the best of {} batches. The difference is what the test of the right costs, and of a full state less than two measurements of one call differ by; without the right a call is refused with 29.\n", pace.batches);
+    println!("| call | ceiling | state | answer | by | the host's | a guest's | difference | a guest's, without the right |");
+    println!("|---|---:|---|---|---|---:|---:|---:|---:|");
+    let states = [64, 1_024].into_iter().flat_map(|ceiling| [(ceiling, 0, "empty"), (ceiling, ceiling, "full")]);
+    let states: Vec<_> = states.map(|(ceiling, rounds, name)| (States::of(ceiling, rounds), ceiling, name)).collect();
+    for (call, host, guest) in CALLS {
+        for (states, ceiling, name) in &states {
+            let mut cases = [host, guest(CALLER), guest(LACKING)].map(|job| states.cases(job, NOBODY));
+            let (answer, lacking) = (cases[0].0[0].expected, cases[2].0[0].expected);
+            assert_eq!((cases[1].0[0].expected, lacking), (answer, 29 << 32));
+            let answer = answer_text(&cases[0].0[0]);
+            let times: [Time; 6] = pace.times(cases[0].0.len(), |which, calls| {
+                let f = if which < 3 { &ENGINE } else { &PLAIN };
+                cases[which % 3].batch(f, calls)
+            });
+            let second = if cfg!(other) { "other" } else { "plain" };
+            for (by, [host, guest, lacking]) in ["engine", second].iter().zip(times.map(|time| time.best).as_chunks::<3>().0) {
+                println!("| {call} | {ceiling} | {name} | {answer} | {by} | {host:.1} | {guest:.1} | {:.1} | {lacking:.1} |", guest - host);
+            }
+        }
+    }
+}
+
 fn main() {
     let quick = std::env::args().nth(1).as_deref() == Some("quick");
     let pace = if quick {
@@ -1047,6 +1104,9 @@ fn main() {
     }
     if CRITICAL {
         print_critical(&pace);
+    }
+    if GUESTS {
+        print_guests(&pace);
     }
     if QUEUES {
         print_queues(&pace);

@@ -3,8 +3,8 @@
 # ARCHIVE is the engine's static library (target/staticlib/libhost.a if not
 # given), or `plain` to try the benchmark without it (plain.rs against itself).
 # OTHER is another archive, that of before a change: it stands in plain's place,
-# and the two take turns in one process. One of before queues, previews or lists
-# of what a commit hangs on lacks their calls, which are then left out.
+# and the two take turns in one process. One of before queues, previews, lists of
+# what a commit hangs on or guests' calls lacks these, which are then left out.
 set -e
 top=$(cd "$(dirname "$0")/.." && pwd)
 archive=${1:-$top/target/staticlib/libhost.a}
@@ -53,8 +53,23 @@ pub fn critical(_: &[u32], _: &mut [u32], _: &mut [u32]) -> u64 {
 END
         set -- "$@" --cfg before_critical
     fi
+    if ! grep -q '^forgelilac_guest_block ' "$built/names"; then
+        sed -i '/^\/\/ ---- guests/,$d' "$built/other.rs"
+        cat >> "$built/other.rs" <<'END'
+pub fn guest_advance(_: u32, _: &mut [u32], _: &[u32]) -> u32 {
+    unreachable!("this archive has no guests' calls")
+}
+pub fn guest_commit(_: u32, _: &mut [u32], _: &mut [u32]) -> u64 {
+    unreachable!("this archive has no guests' calls")
+}
+pub fn guest_block(_: u32, _: &[u32], _: &[u32], _: u32) -> u64 {
+    unreachable!("this archive has no guests' calls")
+}
+END
+        set -- "$@" --cfg before_guests
+    fi
 fi
-before='before_queues, before_previews, before_critical'
+before='before_queues, before_previews, before_critical, before_guests'
 rustc --edition 2021 -C opt-level=3 -C codegen-units=1 --check-cfg "cfg(plain, other, $before)" "$@" \
     "$top/bench/bench.rs" -o "$built/bench"
 exec "$built/bench" $pace

@@ -1,16 +1,18 @@
 //! A host without the standard library and without an allocator: one member alone, three rounds, one
 //! block, on words that it lends. Its guests' entries wait in queues, and each proposal is drawn from
-//! them. The block is previewed before it is made, and what the commit hangs on is listed. The status is
-//! 0 where preview, list and chain are as they must be, else the number of the refusal, or 100. A
-//! hypervisor has no main and no C library; this one has them to be run.
+//! them: guest 3 adds its own, and may do nothing but that, guest 5 may only read, and the host adds for
+//! it. The block is previewed before it is made, and what the commit hangs on is listed. The status is 0
+//! where preview, list, chain and what guests are refused are as they must be, else the number of the
+//! refusal, or 100. A hypervisor has no main and no C library; this one has them to be run.
 
 #![no_std]
 #![no_main]
 
 use forgelilac::layout::{preview_words, CRITICAL_WORDS};
-use forgelilac::{lent, table_words, transactions_of, Critical, Entry, Refusal, Sheet, Transaction, STATE_WORDS};
+use forgelilac::{lent, table_words, transactions_of, Critical, Entry, Refusal, Rights, Sheet, Transaction, STATE_WORDS};
 
 const CEILING: u32 = 64;
+const RIGHTS: Rights = Rights { propose: 1 << 3, read: 1 << 5, ..Rights::NONE };
 
 fn entry(number: u32) -> Transaction {
     Transaction::Entry { number }
@@ -27,14 +29,23 @@ fn holds(state: &[u32], table: &[u32], round: u32, entries: &[u32]) -> Result<bo
     Ok(transactions_of(&held)?.eq(entries.iter().map(|&number| entry(number))))
 }
 
+/// Whether guests 3 and 5 and one that there is not are refused what they may not do.
+fn is_refused(state: &mut [u32], table: &mut [u32]) -> bool {
+    lent::guest_enqueue(5, state, table, &entry(51).to_words()) == Err(Refusal::NoRight)
+        && lent::guest_commit(3, state, table) == Err(Refusal::NoRight)
+        && lent::guest_block(3, state, table, 1) == Err(Refusal::NoRight)
+        && lent::guest_commit(8, state, table) == Err(Refusal::GuestRange)
+}
+
 fn run() -> Result<bool, Refusal> {
     let (mut state, mut table) = ([0; STATE_WORDS], [0; table_words(CEILING) as usize]);
     let mut sheet = Sheet { ceiling: Some(CEILING), ..Sheet::default() };
     sheet.weights[1..4].fill(Some(0));
-    lent::open(&mut state, &mut table, 0, &sheet.to_words())?;
-    for (guest, number) in [(3, 30), (3, 31), (3, 32), (3, 33), (5, 50)] {
-        lent::enqueue(&state, &mut table, guest, &entry(number).to_words())?;
+    lent::open(&mut state, &mut table, 0, &sheet.to_words(), RIGHTS.to_word())?;
+    for number in 30..=33 {
+        lent::guest_enqueue(3, &state, &mut table, &entry(number).to_words())?;
     }
+    lent::enqueue(&state, &mut table, 5, &entry(50).to_words())?;
     sign_alone(&mut state, &mut table, 0)?;
     for _ in 2..=3 {
         lent::advance(&mut state, &table)?;
@@ -58,9 +69,12 @@ fn run() -> Result<bool, Refusal> {
     if !lent::criticals(&words, count).eq([2, 3].map(|round| Critical { round, author: 0 })) {
         return Ok(false);
     }
+    if !is_refused(&mut state, &mut table) || lent::rights(&state) != RIGHTS {
+        return Ok(false);
+    }
     lent::commit(&mut state, &mut table)?;
     let mut list = [Entry::default(); 16 * CEILING as usize];
-    let count = lent::chain(&state, &table, &mut list)?;
+    let count = lent::guest_chain(5, &state, &table, &mut list)?;
     Ok(list[..count] == block)
 }
 

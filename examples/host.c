@@ -6,7 +6,7 @@
 
 #include "forgelilac.h"
 
-enum { MEMBERS = 3, CEILING = 64, LAST_ROUND = 9, BUNDLE = 3 * MEMBERS, BUSY = 2 };
+enum { MEMBERS = 3, CEILING = 64, LAST_ROUND = 9, BUNDLE = 3 * MEMBERS, BUSY = 2, LINE = 3, CLOCK = 5 };
 
 struct engine {
     uint32_t state[FORGELILAC_STATE_WORDS];
@@ -31,7 +31,16 @@ static void open_member(struct engine *e, uint32_t own) {
     forgelilac_write_setting(sheet, FORGELILAC_LOOKBACK, 2);
     forgelilac_write_setting(sheet, FORGELILAC_CEILING, CEILING);
     forgelilac_write_setting(sheet, FORGELILAC_WEIGHT + 3, 0);
-    must("open", forgelilac_open(ENGINE(e), own, WORDS(sheet)));
+    must("open", forgelilac_open(ENGINE(e), own, WORDS(sheet), FORGELILAC_NO_RIGHTS));
+}
+
+/* A fourth computer, which here is alone, with rights of its guests. */
+static void open_alone(struct engine *e, uint32_t rights) {
+    uint32_t sheet[FORGELILAC_SHEET_WORDS];
+    forgelilac_blank_sheet(sheet);
+    forgelilac_write_setting(sheet, FORGELILAC_CEILING, CEILING);
+    for (unsigned m = 0; m < 4; m++) forgelilac_write_setting(sheet, FORGELILAC_WEIGHT + m, m == 3);
+    must("open", forgelilac_open(ENGINE(e), 3, WORDS(sheet), rights));
 }
 
 /* The authors whose certificates of a round are held. */
@@ -207,15 +216,12 @@ static void print_drawn(const struct engine *e) {
     printf("\n");
 }
 
-/* Guests of a fourth computer, which here is alone, share its proposals. Guest 2 is busy and fills
- * its queue before each; guests 5 and 0 have something now and then. An entry tells its guest. */
+/* Guests of a computer that is alone share its proposals. Guest 2 is busy and fills its queue before
+ * each; guests 5 and 0 have something now and then. An entry tells its guest. */
 static void print_queues(void) {
     static struct engine e;
-    uint32_t sheet[FORGELILAC_SHEET_WORDS], next = 100 * BUSY;
-    forgelilac_blank_sheet(sheet);
-    forgelilac_write_setting(sheet, FORGELILAC_CEILING, CEILING);
-    for (unsigned m = 0; m < 4; m++) forgelilac_write_setting(sheet, FORGELILAC_WEIGHT + m, m == 3);
-    must("open", forgelilac_open(ENGINE(&e), 3, WORDS(sheet)));
+    uint32_t next = 100 * BUSY;
+    open_alone(&e, FORGELILAC_NO_RIGHTS);
     printf("guests share the proposals of a member alone\n");
     for (uint32_t round = 1; round <= 4; round++) {
         while (forgelilac_waiting(e.table, BUSY) < FORGELILAC_QUEUE_PLACES) add(&e, BUSY, next++);
@@ -227,6 +233,54 @@ static void print_queues(void) {
         must("certify", forgelilac_certify(ENGINE(&e), 0));
         must("advance", forgelilac_advance(ENGINE(&e)));
     }
+}
+
+static void print_answer(uint32_t guest, const char *call, uint32_t answer) {
+    printf(", guest %u %s %u", (unsigned)guest, call, (unsigned)answer);
+}
+
+/* Of a guest's commit: how many blocks it adds, or why it adds none. */
+static void print_commit(struct engine *e, uint32_t guest) {
+    uint64_t answer = forgelilac_guest_commit(guest, ENGINE(e));
+    uint32_t refusal = forgelilac_refusal_of(answer);
+    printf("  guest %u commit: ", (unsigned)guest);
+    if (refusal == FORGELILAC_ACCEPTED) printf("blocks added %u\n", (unsigned)forgelilac_value_of(answer));
+    else printf("refused with %u, %s\n", (unsigned)refusal, forgelilac_refusal_text(refusal));
+}
+
+/* The chain as a guest reads it, or why it may not. */
+static void print_read(const struct engine *e, uint32_t guest) {
+    static uint32_t list[FORGELILAC_CHAIN_WORDS(CEILING)];
+    uint64_t answer = forgelilac_guest_chain(guest, ENGINE(e), WORDS(list));
+    uint32_t refusal = forgelilac_refusal_of(answer);
+    printf("  guest %u chain:", (unsigned)guest);
+    if (refusal == FORGELILAC_ACCEPTED)
+        print_certificates(1, list, list + FORGELILAC_LISTED_WORDS * forgelilac_value_of(answer));
+    else printf(" refused with %u, %s\n", (unsigned)refusal, forgelilac_refusal_text(refusal));
+}
+
+/* Guests of a computer that is alone call by themselves: one may propose and read, one may drive, and
+ * the host signs. A hypervisor passes the number of the guest that was running, which it knows itself. */
+static void print_guests(void) {
+    static struct engine e;
+    const uint32_t entry[FORGELILAC_TRANSACTION_WORDS] = {FORGELILAC_ENTRY, 100 * LINE, 0};
+    open_alone(&e, FORGELILAC_RIGHTS(1 << LINE, 0, 1 << CLOCK, 1 << LINE));
+    printf("guests call by themselves: %d may propose and read, %d may drive\n", LINE, CLOCK);
+    for (uint32_t round = 1; round <= 3; round++) {
+        printf("  round %u", (unsigned)round);
+        print_answer(LINE, "enqueue", forgelilac_guest_enqueue(LINE, ENGINE(&e), WORDS(entry)));
+        print_answer(CLOCK, "enqueue", forgelilac_guest_enqueue(CLOCK, ENGINE(&e), WORDS(entry)));
+        print_answer(LINE, "draw", forgelilac_guest_draw(LINE, ENGINE(&e), held(&e, round - 1)));
+        must("certify", forgelilac_certify(ENGINE(&e), 0));
+        if (round < 3) print_answer(LINE, "advance", forgelilac_guest_advance(LINE, ENGINE(&e)));
+        if (round < 3) print_answer(CLOCK, "advance", forgelilac_guest_advance(CLOCK, ENGINE(&e)));
+        printf("\n");
+    }
+    print_commit(&e, LINE);
+    print_commit(&e, FORGELILAC_GUESTS);
+    print_commit(&e, CLOCK);
+    print_read(&e, LINE);
+    print_read(&e, CLOCK);
 }
 
 static void print_end(void) {
@@ -241,6 +295,7 @@ static void print_end(void) {
     printf("]\n");
     print_batch();
     print_queues();
+    print_guests();
 }
 
 int main(void) {

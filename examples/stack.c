@@ -1,6 +1,7 @@
 /* How much stack the calls need: a run to the ceiling, each call in a thread of its own whose
- * stack was painted before; what is no longer painted was used. Prints the most of each call;
- * status 1 where one used more than FORGELILAC_STACK_BYTES. */
+ * stack was painted before; what is no longer painted was used. Then the same run by a guest who may
+ * do everything. Prints the most of each call, as the host's and as a guest's; status 1 where one used
+ * more than FORGELILAC_STACK_BYTES. */
 #define _POSIX_C_SOURCE 200809L
 #include <pthread.h>
 #include <stdio.h>
@@ -10,6 +11,8 @@
 #include "forgelilac.h"
 
 enum { CEILING = 64, MEMBERS = 4, ALL = (1 << MEMBERS) - 1, STACK = 1 << 20, PAINT = 0xa5 };
+enum { CALLER = 7, ME = 1 << CALLER };
+enum by { HOST, GUEST, BOTH };
 enum call { NOTHING, OPEN, PROPOSE, ENQUEUE, DRAW, ENDORSE, CERTIFY, ACCEPT, BATCH, ADVANCE, COMMIT,
             PREVIEW, CRITICAL, COMMITTEE, SHARE, CERTIFICATE, BLOCK, CHAIN, CALLS };
 static const char *const names[CALLS] = {"", "open", "propose", "enqueue", "draw", "endorse", "certify", "accept",
@@ -23,25 +26,27 @@ static uint32_t places[FORGELILAC_CRITICAL_WORDS];
 static struct forgelilac_certificate row[FORGELILAC_BATCH_RECORDS];
 static uint32_t answers[FORGELILAC_BATCH_RECORDS];
 static unsigned char *stack;
-static size_t used[CALLS];
+static size_t used[BOTH][CALLS];
+static enum by by;
 
 #define ENGINE state, sizeof state / 4, table, sizeof table / 4
 #define WORDS words, sizeof words / 4
 #define OUT out, sizeof out / 4
+#define ROW row, FORGELILAC_BATCH_RECORDS, answers, FORGELILAC_BATCH_RECORDS
 
 static uint64_t high(uint32_t refusal) { return (uint64_t)refusal << 32; }
 
-/* The call, with its numbers at the start of words. */
+/* The host's own call, with its numbers at the start of words. The caller gets every right. */
 static uint64_t make(enum call call) {
     switch (call) {
-    case OPEN: return high(forgelilac_open(ENGINE, 0, WORDS));
+    case OPEN: return high(forgelilac_open(ENGINE, 0, WORDS, FORGELILAC_RIGHTS(ME, ME, ME, ME)));
     case PROPOSE: return high(forgelilac_propose(ENGINE, WORDS));
     case ENQUEUE: return high(forgelilac_enqueue(ENGINE, words[3] % FORGELILAC_GUESTS, WORDS));
     case DRAW: return high(forgelilac_draw(ENGINE, words[0]));
     case ENDORSE: return high(forgelilac_endorse(ENGINE, WORDS));
     case CERTIFY: return high(forgelilac_certify(ENGINE, words[0]));
     case ACCEPT: return high(forgelilac_accept(ENGINE, WORDS));
-    case BATCH: return high(forgelilac_batch(ENGINE, row, FORGELILAC_BATCH_RECORDS, answers, FORGELILAC_BATCH_RECORDS));
+    case BATCH: return high(forgelilac_batch(ENGINE, ROW));
     case ADVANCE: return high(forgelilac_advance(ENGINE));
     case COMMIT: return forgelilac_commit(ENGINE);
     case PREVIEW: return forgelilac_preview(ENGINE, entries, sizeof entries / 4);
@@ -55,11 +60,34 @@ static uint64_t make(enum call call) {
     }
 }
 
+/* The guest's form of the call; there is none of open. */
+static uint64_t make_by_guest(enum call call) {
+    switch (call) {
+    case PROPOSE: return high(forgelilac_guest_propose(CALLER, ENGINE, WORDS));
+    case ENQUEUE: return high(forgelilac_guest_enqueue(CALLER, ENGINE, WORDS));
+    case DRAW: return high(forgelilac_guest_draw(CALLER, ENGINE, words[0]));
+    case ENDORSE: return high(forgelilac_guest_endorse(CALLER, ENGINE, WORDS));
+    case CERTIFY: return high(forgelilac_guest_certify(CALLER, ENGINE, words[0]));
+    case ACCEPT: return high(forgelilac_guest_accept(CALLER, ENGINE, WORDS));
+    case BATCH: return high(forgelilac_guest_batch(CALLER, ENGINE, ROW));
+    case ADVANCE: return high(forgelilac_guest_advance(CALLER, ENGINE));
+    case COMMIT: return forgelilac_guest_commit(CALLER, ENGINE);
+    case PREVIEW: return forgelilac_guest_preview(CALLER, ENGINE, entries, sizeof entries / 4);
+    case CRITICAL: return forgelilac_guest_critical(CALLER, ENGINE, places, sizeof places / 4);
+    case COMMITTEE: return high(forgelilac_guest_committee(CALLER, ENGINE, words[0], OUT));
+    case SHARE: return forgelilac_guest_share(CALLER, ENGINE, words[0], words[1]);
+    case CERTIFICATE: return high(forgelilac_guest_certificate(CALLER, ENGINE, words[0], words[1], OUT));
+    case BLOCK: return forgelilac_guest_block(CALLER, ENGINE, words[0]);
+    case CHAIN: return forgelilac_guest_chain(CALLER, ENGINE, list, sizeof list / 4);
+    default: return make(call);
+    }
+}
+
 struct job { enum call call; uint64_t answer; };
 
 static void *work(void *argument) {
     struct job *job = argument;
-    job->answer = make(job->call);
+    job->answer = by == GUEST ? make_by_guest(job->call) : make(job->call);
     return NULL;
 }
 
@@ -75,7 +103,7 @@ static void measure(enum call call) {
     if (pthread_create(&thread, &attributes, work, &job) != 0) abort();
     pthread_join(thread, NULL);
     while (clean < STACK && stack[clean] == PAINT) clean++;
-    if (STACK - clean > used[call]) used[call] = STACK - clean;
+    if (STACK - clean > used[by][call]) used[by][call] = STACK - clean;
     if (forgelilac_refusal_of(job.answer) == FORGELILAC_ACCEPTED) return;
     fprintf(stderr, "%s refused with %u\n", names[call], (unsigned)forgelilac_refusal_of(job.answer));
     exit(1);
@@ -142,9 +170,8 @@ static void look(uint32_t round) {
     measure(CHAIN);
 }
 
-int main(void) {
-    stack = aligned_alloc(4096, STACK);
-    if (stack == NULL) abort();
+/* A run from an opening to the ceiling. */
+static void run(void) {
     measure(NOTHING);
     forgelilac_blank_sheet(words);
     forgelilac_write_setting(words, FORGELILAC_LOOKBACK, 4);
@@ -158,11 +185,22 @@ int main(void) {
         look(round);
         if (round < CEILING) measure(ADVANCE);
     }
+}
+
+int main(void) {
     size_t most = 0;
+    stack = aligned_alloc(4096, STACK);
+    if (stack == NULL) abort();
+    for (by = HOST; by < BOTH; by++) run();
     for (int call = OPEN; call < CALLS; call++) {
-        size_t bytes = used[call] - used[NOTHING];
-        printf("%-12s%8zu bytes of stack\n", names[call], bytes);
-        if (bytes > most) most = bytes;
+        size_t bytes[BOTH];
+        for (int i = HOST; i < BOTH; i++) {
+            bytes[i] = used[i][call] - used[i][NOTHING];
+            if (bytes[i] > most) most = bytes[i];
+        }
+        printf("%-12s%8zu bytes of stack", names[call], bytes[HOST]);
+        if (call == OPEN) printf("\n");
+        else printf(", as a guest's %zu\n", bytes[GUEST]);
     }
     printf("%-12s%8d bytes serve every call\n", "", FORGELILAC_STACK_BYTES);
     return most > FORGELILAC_STACK_BYTES;

@@ -13,11 +13,15 @@
  * refusals in the order of its checks. docs/HOSTS.md has the checks and what each refusal asks of
  * you; docs/TABLES.md has the layouts and which words each call changes.
  *
+ * Guests. What a guest asks for goes by the guest's form of the call, forgelilac_guest_..., with the
+ * number of the caller: it is refused with 26 or 29, or does and answers what the host's own call
+ * would. The rights are fixed at opening. See "calls of guests" below.
+ *
  * Threads. The engine keeps nothing between calls and has no global state. Calls on distinct
  * states and tables may run at once. One state and its table belong to one call at a time. Reads
  * only read: several reads of one engine may run at once while no other call on it does. One of them
- * is lent the table for writing and runs alone: forgelilac_critical. No call blocks, allocates, or
- * calls back.
+ * is lent the table for writing and runs alone: forgelilac_critical. A guest's form counts as the
+ * host's call. No call blocks, allocates, or calls back.
  *
  * Stack. Calls use the caller's stack, as much at every ceiling: see FORGELILAC_STACK_BYTES. */
 #ifndef FORGELILAC_H
@@ -33,23 +37,25 @@ extern "C" {
 /* ---- versions */
 
 /* Of the header, and of the archive that belongs to it. */
-#define FORGELILAC_VERSION "0.9.0"
+#define FORGELILAC_VERSION "0.10.0"
 #define FORGELILAC_VERSION_MAJOR 0
-#define FORGELILAC_VERSION_MINOR 9
+#define FORGELILAC_VERSION_MINOR 10
 #define FORGELILAC_VERSION_PATCH 0
 /* Of the words of state and table; no word of theirs has it. Store it beside them: docs/TABLES.md
  * tells what to do with words of an older format. Those of format 1 have a state of 37 words: write 3
- * to word FORGELILAC_STATE_MARGIN behind them, and it is one of format 2. The table stays as it is. */
-#define FORGELILAC_FORMAT 2
+ * to word FORGELILAC_STATE_MARGIN behind them, and it is one of format 2. Those of format 2 have a
+ * state of 38 words: write the rights of callers to word FORGELILAC_STATE_RIGHTS behind them,
+ * FORGELILAC_NO_RIGHTS or others, and it is one of format 3. The table stays as it is. */
+#define FORGELILAC_FORMAT 3
 
 /* ---- lengths, in words */
 
 #define FORGELILAC_MEMBERS 16
 #define FORGELILAC_TRANSACTIONS 4     /* the largest allowance */
-#define FORGELILAC_GUESTS 8           /* guests that have a queue, 0 to 7 */
+#define FORGELILAC_GUESTS 8           /* guests that have a queue and may be callers, 0 to 7 */
 #define FORGELILAC_QUEUE_PLACES 8     /* the most transactions that wait in a queue */
 #define FORGELILAC_BLOCKS 511         /* the most blocks of a state, at ceiling 1,024 */
-#define FORGELILAC_STATE_WORDS 38
+#define FORGELILAC_STATE_WORDS 39
 #define FORGELILAC_TRANSACTION_WORDS 3
 #define FORGELILAC_BODY_WORDS 14
 #define FORGELILAC_PROPOSAL_WORDS 16
@@ -70,9 +76,10 @@ extern "C" {
 #define FORGELILAC_PREVIEW_WORDS(ceiling) (48u * (ceiling))
 
 /* Bytes of stack that serve every call and every function below on x86-64; examples/stack.c
- * measures what they use. Preview uses about 88 KB, commit about 84 KB, critical about 81 KB, draw
- * and propose about 80 KB, batch about 77 KB, endorse, certify, accept, advance, committee and share
- * about 74 KB, forgelilac_chain about 3 KB, the others less than 1 KB. */
+ * measures what they use. Preview uses about 88 KB, commit about 84 KB, batch about 83 KB, critical
+ * about 81 KB, draw and propose about 80 KB, endorse, certify, accept, advance, committee and share
+ * about 74 KB, forgelilac_chain about 3 KB, the others less than 1 KB; a guest's form little more
+ * than the host's call. */
 #define FORGELILAC_STACK_BYTES 98304
 
 /* ---- words of a state */
@@ -87,6 +94,24 @@ extern "C" {
 #define FORGELILAC_STATE_BLOCKS 22    /* number of blocks */
 #define FORGELILAC_STATE_BODY 23      /* body of the proposal */
 #define FORGELILAC_STATE_MARGIN 37    /* margin, 3 to 5 */
+#define FORGELILAC_STATE_RIGHTS 38    /* rights of callers, any word */
+
+/* ---- rights: what guests may do, fixed at opening */
+
+/* Which calls each of them is for. A guest adds to no queue but its own, and never opens. */
+enum forgelilac_right {
+    FORGELILAC_RIGHT_PROPOSE = 0, /* propose, draw, enqueue */
+    FORGELILAC_RIGHT_SIGN = 1,    /* endorse, certify, accept, batch */
+    FORGELILAC_RIGHT_DRIVE = 2,   /* advance, commit */
+    FORGELILAC_RIGHT_READ = 3     /* committee, share, certificate, block, preview, critical; the chain */
+};
+/* Rights of callers 0 to 7 as a word, of four sets of callers, caller c counting 2 to the power c: bit
+ * 8 * right + caller is set where the caller has the right. Any word is some rights. */
+#define FORGELILAC_RIGHTS(propose, sign, drive, read)                            \
+    (((uint32_t)(propose) & 0xffu) | ((uint32_t)(sign) & 0xffu) << 8             \
+     | ((uint32_t)(drive) & 0xffu) << 16 | ((uint32_t)(read) & 0xffu) << 24)
+/* Nobody may do anything. */
+#define FORGELILAC_NO_RIGHTS 0u
 
 /* ---- words of a body, a proposal, a certificate, a held certificate, a listed one, an entry of a
  * preview, a place that a commit hangs on */
@@ -188,19 +213,23 @@ enum forgelilac_refusal {
     FORGELILAC_VOTES_SHORT = 22,       /* votes weigh not more than the fault bound */
     FORGELILAC_NONE_THERE = 23,        /* no such certificate or block */
     FORGELILAC_LENGTH_RANGE = 25,      /* batch: a row over 64, or answers shorter than the row; preview: a list with fewer than 16 places per round of the ceiling; critical: a list with fewer than 32 places */
-    FORGELILAC_GUEST_RANGE = 26,       /* guest above 7 */
+    FORGELILAC_GUEST_RANGE = 26,       /* guest or caller above 7 */
     FORGELILAC_QUEUE_FULL = 27,        /* the queue holds eight transactions */
-    FORGELILAC_THIN_ROUND = 28         /* the authors of the certificates held in the present round form no quorum of its committee */
+    FORGELILAC_THIN_ROUND = 28,        /* the authors of the certificates held in the present round form no quorum of its committee */
+    FORGELILAC_NO_RIGHT = 29           /* the caller lacks the right that the call needs */
 };
 
 /* ---- calls: 0 accepted, else the refusal number */
 
-/* Opens a member by its number and a sheet. Accepted: the state is written fresh, round 1 and
- * nothing held, and the used part of the table cleared. Neither need be set before. It starts a
- * new run: never open again to go on with one. 1 for words that cannot be read, 4, 2, 3, 1. */
+/* Opens a member by its number, a sheet and the rights of callers (FORGELILAC_RIGHTS, or
+ * FORGELILAC_NO_RIGHTS). Accepted: the state is written fresh, round 1 and nothing held, and the used
+ * part of the table cleared. Neither need be set before. No later call changes the rights, and no
+ * rights are refused; members of a plant need not have equal ones. It starts a new run: never open
+ * again to go on with one. 1 for words that cannot be read, 4, 2, 3, 1. */
 uint32_t forgelilac_open(uint32_t *state, size_t state_words,
                          uint32_t *table, size_t table_words,
-                         uint32_t own, const uint32_t *sheet, size_t sheet_words);
+                         uint32_t own, const uint32_t *sheet, size_t sheet_words,
+                         uint32_t rights);
 /* Proposes a body (previous set, transactions) for one's own place of the present round. Accepted:
  * the proposal is kept in the state until advance. It touches no queue. Store both before the
  * signature leaves. 1, 6, 7, 10, 8, 9, 11, 12. */
@@ -312,6 +341,95 @@ uint64_t forgelilac_block(const uint32_t *state, size_t state_words,
 /* The words that a table for this ceiling needs. No refusal. */
 uint64_t forgelilac_table_words(uint32_t ceiling);
 
+/* ---- calls of guests
+ *
+ * Guests reach the engine directly: the hypervisor takes what a guest asks for, and calls the guest's
+ * form with the number of that guest. It passes the number that it knows itself, of the guest that was
+ * running, never one that the guest wrote. State and table are the host's and out of the guests' reach,
+ * the rights among them; and no stretch may change while a call runs, so copy what a guest hands over
+ * into memory of the host's first, and what it gets back out of it.
+ *
+ * Each answers 26 for a caller above 7, then 29 where the caller lacks the right that the call needs.
+ * Both come before everything else, before 1 too: the rights are read from the state's word alone, in
+ * any state, well formed or not, and where the stretch ends before that word nobody has a right. Refused
+ * so, it looks at nothing else and changes no word of state, table, out, list or answers. Else it does
+ * and answers what the host's own call does, with the refusals of that one; what the host has to store
+ * after its own call it has to store after this one. In answers of 64 bits 26 and 29 are in the high half
+ * like the others, and the low half is 0. The host's own calls look at no rights. */
+
+/* Right: propose. */
+uint32_t forgelilac_guest_propose(uint32_t caller,
+                                  uint32_t *state, size_t state_words,
+                                  const uint32_t *table, size_t table_words,
+                                  const uint32_t *body, size_t body_words);
+/* Right: propose. Draws from the queues of all guests, as the host's. */
+uint32_t forgelilac_guest_draw(uint32_t caller,
+                               uint32_t *state, size_t state_words,
+                               uint32_t *table, size_t table_words, uint32_t previous);
+/* Right: propose. To the caller's own queue, so no guest is named. 26, 29, 1, 6, 27. */
+uint32_t forgelilac_guest_enqueue(uint32_t caller,
+                                  const uint32_t *state, size_t state_words,
+                                  uint32_t *table, size_t table_words,
+                                  const uint32_t *transaction, size_t transaction_words);
+/* Right: sign. */
+uint32_t forgelilac_guest_endorse(uint32_t caller,
+                                  const uint32_t *state, size_t state_words,
+                                  uint32_t *table, size_t table_words,
+                                  const uint32_t *proposal, size_t proposal_words);
+/* Right: sign. */
+uint32_t forgelilac_guest_certify(uint32_t caller,
+                                  const uint32_t *state, size_t state_words,
+                                  uint32_t *table, size_t table_words, uint32_t endorsers);
+/* Right: sign. */
+uint32_t forgelilac_guest_accept(uint32_t caller,
+                                 const uint32_t *state, size_t state_words,
+                                 uint32_t *table, size_t table_words,
+                                 const uint32_t *certificate, size_t certificate_words);
+/* Right: sign. */
+uint32_t forgelilac_guest_batch(uint32_t caller,
+                                const uint32_t *state, size_t state_words,
+                                uint32_t *table, size_t table_words,
+                                const struct forgelilac_certificate *row, size_t row_count,
+                                uint32_t *answers, size_t answers_words);
+/* Right: drive. */
+uint32_t forgelilac_guest_advance(uint32_t caller,
+                                  uint32_t *state, size_t state_words,
+                                  const uint32_t *table, size_t table_words);
+/* Right: drive. */
+uint64_t forgelilac_guest_commit(uint32_t caller,
+                                 uint32_t *state, size_t state_words,
+                                 uint32_t *table, size_t table_words);
+/* Right: read. */
+uint64_t forgelilac_guest_preview(uint32_t caller,
+                                  const uint32_t *state, size_t state_words,
+                                  const uint32_t *table, size_t table_words,
+                                  uint32_t *list, size_t list_words);
+/* Right: read. The table is lent for writing, as by the host's. */
+uint64_t forgelilac_guest_critical(uint32_t caller,
+                                   const uint32_t *state, size_t state_words,
+                                   uint32_t *table, size_t table_words,
+                                   uint32_t *list, size_t list_words);
+/* Right: read. */
+uint32_t forgelilac_guest_committee(uint32_t caller,
+                                    const uint32_t *state, size_t state_words,
+                                    const uint32_t *table, size_t table_words,
+                                    uint32_t round, uint32_t *out, size_t out_words);
+/* Right: read. */
+uint64_t forgelilac_guest_share(uint32_t caller,
+                                const uint32_t *state, size_t state_words,
+                                const uint32_t *table, size_t table_words,
+                                uint32_t member, uint32_t round);
+/* Right: read. */
+uint32_t forgelilac_guest_certificate(uint32_t caller,
+                                      const uint32_t *state, size_t state_words,
+                                      const uint32_t *table, size_t table_words,
+                                      uint32_t author, uint32_t round,
+                                      uint32_t *out, size_t out_words);
+/* Right: read. */
+uint64_t forgelilac_guest_block(uint32_t caller,
+                                const uint32_t *state, size_t state_words,
+                                const uint32_t *table, size_t table_words, uint32_t number);
+
 /* ---- answers */
 
 /* The value of an answer of 64 bits: its low half. */
@@ -326,7 +444,7 @@ static inline uint32_t forgelilac_refusal_of(uint64_t answer) {
 
 /* A refusal number in words. 24 is the runner's alone: no function here answers it. */
 static inline const char *forgelilac_refusal_text(uint32_t number) {
-    static const char *const texts[29] = {
+    static const char *const texts[30] = {
         "accepted",
         "state not well formed, a table too short, or words that cannot be read",
         "setting out of range",
@@ -353,14 +471,25 @@ static inline const char *forgelilac_refusal_text(uint32_t number) {
         "no such certificate or block",
         "record unreadable",
         "batch: a row over 64, or answers shorter than the row; preview: a list with fewer than 16 places per round of the ceiling; critical: a list with fewer than 32 places",
-        "guest above 7",
+        "guest or caller above 7",
         "the queue holds eight transactions",
         "the authors of the certificates held in the present round form no quorum of its committee",
+        "the caller lacks the right that the call needs",
     };
-    return number < 29 ? texts[number] : "no refusal of this version";
+    return number < 30 ? texts[number] : "no refusal of this version";
 }
 
-/* ---- sheets, bodies, proposals, queues, records */
+/* ---- rights, sheets, bodies, proposals, queues, records */
+
+/* 1 where the caller has the right (FORGELILAC_RIGHT_...), else 0, also for a caller above 7 and where
+ * the stretch ends before the word of the rights. A word of the state and no call: it can be read in any
+ * state. The guests' forms ask for themselves. */
+static inline int forgelilac_may(const uint32_t *state, size_t state_words,
+                                 uint32_t caller, unsigned right) {
+    return state_words > FORGELILAC_STATE_RIGHTS && right <= FORGELILAC_RIGHT_READ
+           && caller < FORGELILAC_GUESTS
+           && (state[FORGELILAC_STATE_RIGHTS] >> (8 * right + caller) & 1) == 1;
+}
 
 /* All settings blank. */
 static inline void forgelilac_blank_sheet(uint32_t sheet[FORGELILAC_SHEET_WORDS]) {
@@ -490,19 +619,13 @@ static inline void forgelilac_turn_listed(uint32_t *at, const uint32_t *end, uin
     }
 }
 
-/* The chain into out: number of its block, round and author of each of its certificates, three
- * words each, in the order of the chain. Blocks count from 1; inside a block rounds rise; within a
- * round numbers rise from that of the leader of the block's round, with 0 after 15, and where that
- * round has no leader they just rise. One read that tests the state, then passes over the held
- * certificates alone. Low half: how many are listed. High half: refusal number, 1 also where out is
- * too short (FORGELILAC_CHAIN_WORDS(ceiling) always serve). Refused, it changes no word. */
-static inline uint64_t forgelilac_chain(const uint32_t *state, size_t state_words,
-                                        const uint32_t *table, size_t table_words,
-                                        uint32_t *out, size_t out_words) {
+/* For forgelilac_chain: lists the chain, where asked is the answer of a read of block 0. There is none:
+ * 23, unless the state is not well formed or a guest may not read. */
+static inline uint64_t forgelilac_list_chain(uint64_t asked, const uint32_t *state, const uint32_t *table,
+                                             uint32_t *out, size_t out_words) {
     uint32_t weights[FORGELILAC_MEMBERS], ends[FORGELILAC_BLOCKS + 1] = {0};
     uint32_t blocks, ceiling, lookback, listed = 0, applied = 0;
-    if (!forgelilac_is_well_formed(state, state_words, table, table_words))
-        return (uint64_t)FORGELILAC_MALFORMED << 32;
+    if (forgelilac_refusal_of(asked) != FORGELILAC_NONE_THERE) return asked;
     blocks = state[FORGELILAC_STATE_BLOCKS];
     ceiling = state[FORGELILAC_STATE_CEILING];
     lookback = state[FORGELILAC_STATE_LOOKBACK];
@@ -546,6 +669,28 @@ static inline uint64_t forgelilac_chain(const uint32_t *state, size_t state_word
                                forgelilac_leader(round, weights));
     }
     return listed;
+}
+
+/* The chain into out: number of its block, round and author of each of its certificates, three
+ * words each, in the order of the chain. Blocks count from 1; inside a block rounds rise; within a
+ * round numbers rise from that of the leader of the block's round, with 0 after 15, and where that
+ * round has no leader they just rise. One read that tests the state, then passes over the held
+ * certificates alone. Low half: how many are listed. High half: refusal number, 1 also where out is
+ * too short (FORGELILAC_CHAIN_WORDS(ceiling) always serve). Refused, it changes no word. */
+static inline uint64_t forgelilac_chain(const uint32_t *state, size_t state_words,
+                                        const uint32_t *table, size_t table_words,
+                                        uint32_t *out, size_t out_words) {
+    return forgelilac_list_chain(forgelilac_block(state, state_words, table, table_words, 0),
+                                 state, table, out, out_words);
+}
+
+/* The chain for a guest; right: read. 26, 29, then as forgelilac_chain. */
+static inline uint64_t forgelilac_guest_chain(uint32_t caller,
+                                              const uint32_t *state, size_t state_words,
+                                              const uint32_t *table, size_t table_words,
+                                              uint32_t *out, size_t out_words) {
+    return forgelilac_list_chain(forgelilac_guest_block(caller, state, state_words, table, table_words, 0),
+                                 state, table, out, out_words);
 }
 
 #ifdef __cplusplus

@@ -3,8 +3,8 @@
 # members whose margins differ, shares of every weight of totals to 1,000 and as
 # many by chance, and seeds FIRST to LAST (1 to 50 if not given), as they are, with
 # their accepts in batches, with their proposals drawn from queues, with previews of
-# commit and with lists of what a commit hangs on, the reference against naive.py;
-# and that guests get their turn over long runs.
+# commit, with lists of what a commit hangs on and with guests' calls, the reference
+# against naive.py; and that guests get their turn over long runs.
 # A runner given in RUNNER is compared with the reference as well.
 cd "$(dirname "$0")" || exit 2
 bin/tests_ref -q || exit 1
@@ -41,6 +41,9 @@ for seed in $(seq "${2:-1}" "${1:-50}"); do
     python3 plugs.py "$seed" > out/plugs
     bin/criticals < out/plugs > out/expected
     python3 naive.py criticals < out/plugs | cmp - out/expected || differs "plugs of seed $seed"
+    python3 callers.py "$seed" > out/callers
+    bin/rights < out/callers > out/expected
+    python3 naive.py rights < out/callers | cmp - out/expected || differs "callers of seed $seed"
 done
 rm -r out
 [ $status = 0 ] && echo all the same

@@ -1,20 +1,20 @@
 #!/usr/bin/env python3
 """Spoils the reference in one place at a time and counts which streams
 notice: the edge stream and the shuffled streams of seeds 1 to N. No record
-reads a share, is a batch, adds to a queue, draws, is a preview or lists what a
-commit hangs on: wrong rules of shares are given pairs of weight and total, wrong
+reads a share, is a batch, adds to a queue, draws, is a preview, lists what a
+commit hangs on or is a guest's: wrong rules of shares are given pairs of weight and total, wrong
 rules of batches rows of certificates, wrong rules of queues streams with draws,
-wrong previews and wrong lists streams in which they are asked for, and what they
-answer is compared with naive.py. Of queues it also says whether fair finds a
-fault, of previews and lists whether the unit tests do: no stream comes to a state
-that no run reaches. Of a wrong rule of advance or of the margin that no stream
+wrong previews and wrong lists streams in which they are asked for, wrong rights
+streams in which guests call, and what they answer is compared with naive.py. Of
+queues it also says whether fair finds a fault, of previews, lists and rights whether
+the unit tests do: no stream comes to a state that no run reaches. Of a wrong rule of advance or of the margin that no stream
 notices it says whether the unit tests do: none of the streams comes to hold an
 outsider.
 
     mutants.py N [SORT]        (build.sh first; works in the directory mutants)
 
-With SORT only that one: share, batch, queue, preview, critical, advance, margin
-or rule.
+With SORT only that one: share, batch, queue, preview, critical, right, advance,
+margin or rule.
 
 Six of the changes cannot show in a runner's answers; they are marked same.
 """
@@ -571,6 +571,59 @@ K=[
 (LISTED, '        places.for_each(|place| place.fill(0));\n' + LISTED),
 (LIST, '        list.iter_mut().take(1).for_each(|word| *word = 0);\n' + LIST),
 ]
+# wrong rights
+ABOVE = "rights.get(caller as usize).ok_or(26u32)?"
+HAS = "of_caller[request.needs() as usize]"
+LACKS = "    if !" + HAS + " {\n        return Err(29);\n    }\n"
+SIGN = "Request::Endorse | Request::Certify | Request::Accept | Request::Batch => Right::Sign"
+READ = "Request::Committee | Request::Share | Request::Certificate | Request::Block => Right::Read"
+ASK = "        may_ask(&self.rights, caller, request)?;\n        call(self)\n"
+W=[
+# the right of a neighbour, of the next, of anybody; callers above 7 taken as below, caller 8 as 0
+(ABOVE, "rights.get((caller ^ 1) as usize).ok_or(26u32)?"),
+(ABOVE, "{\n        rights.get(caller as usize).ok_or(26u32)?;\n        &rights[(caller as usize + 1) % 8]\n    }"),
+(LACKS, "    let _ = of_caller;\n    if !rights.iter().any(|one| one[request.needs() as usize]) {\n        return Err(29);\n    }\n"),
+(ABOVE, "&rights[caller as usize % 8]"),
+(ABOVE, "rights.get(caller as usize % 9 % 8).ok_or(26u32)?"),
+# 29 for 26, 26 for 29, 1 for 29; no right asked; any right of the caller, all four, none; the next right
+(ABOVE, ABOVE.replace("26", "29")),
+(LACKS, LACKS.replace("29", "26")),
+(LACKS, LACKS.replace("29", "1")),
+(LACKS, "    let _ = of_caller;\n"),
+("!" + HAS, "!of_caller.contains(&true)"),
+("!" + HAS, "of_caller.contains(&false)"),
+("!" + HAS, HAS),
+(HAS, "of_caller[(request.needs() as usize + 1) % 4]"),
+(HAS, "of_caller[3 - request.needs() as usize]"),
+# another right for a call
+("Request::Propose | Request::Draw | Request::Enqueue => Right::Propose", "Request::Propose | Request::Draw | Request::Enqueue => Right::Sign"),
+("Request::Propose | Request::Draw | Request::Enqueue => Right::Propose", "Request::Propose | Request::Draw => Right::Propose,\n            Request::Enqueue => Right::Sign"),
+("Request::Propose | Request::Draw | Request::Enqueue => Right::Propose", "Request::Propose | Request::Enqueue => Right::Propose,\n            Request::Draw => Right::Drive"),
+(SIGN, SIGN.replace("Sign", "Propose")),
+(SIGN, SIGN.replace(" | Request::Batch", "") + ",\n            Request::Batch => Right::Drive"),
+(SIGN, SIGN.replace(" | Request::Accept", "") + ",\n            Request::Accept => Right::Propose"),
+(SIGN, SIGN.replace("Request::Endorse | ", "") + ",\n            Request::Endorse => Right::Propose"),
+(SIGN, SIGN.replace(" | Request::Certify", "") + ",\n            Request::Certify => Right::Propose"),
+("Request::Advance | Request::Commit => Right::Drive", "Request::Advance | Request::Commit => Right::Sign"),
+("Request::Advance | Request::Commit => Right::Drive", "Request::Advance => Right::Drive,\n            Request::Commit => Right::Read"),
+(READ, READ.replace("Right::Read", "Right::Drive")),
+(READ, READ.replace(" | Request::Block", "") + ",\n            Request::Block => Right::Propose"),
+("Request::Preview | Request::Critical => Right::Read", "Request::Preview | Request::Critical => Right::Drive"),
+("Request::Preview | Request::Critical => Right::Read", "Request::Preview => Right::Drive,\n            Request::Critical => Right::Read"),
+# the call before the right; refused all the same, it was made; by the host's own rights, by those of nobody
+(ASK, "        let answer = call(self)?;\n        may_ask(&self.rights, caller, request)?;\n        Ok(answer)\n"),
+(ASK, "        let may = may_ask(&self.rights, caller, request);\n        let answer = call(self);\n        may?;\n        answer\n"),
+(ASK, "        let _ = (caller, request);\n        call(self)\n"),
+(ASK, ASK.replace("&self.rights", "&NO_RIGHTS")),
+# rights that change: used up, given by a call that is accepted, gone with the proposal, with a block
+(ASK, "        may_ask(&self.rights, caller, request)?;\n        self.rights[caller as usize][request.needs() as usize] = false;\n        call(self)\n"),
+(ASK, "        may_ask(&self.rights, caller, request)?;\n        self.rights[caller as usize] = [true; 4];\n        call(self)\n"),
+("        self.round += 1;\n        self.proposal = None;", "        self.round += 1;\n        self.rights = NO_RIGHTS;\n        self.proposal = None;"),
+("        let anchor = self.may_commit()?;\n        let last", "        let anchor = self.may_commit()?;\n        self.rights.rotate_left(1);\n        let last"),
+# an open gives none, all
+("            rights: *rights,\n", "            rights: if rights == &NO_RIGHTS { *rights } else { NO_RIGHTS },\n"),
+("            rights: *rights,\n", "            rights: [[rights[0][0] || true; 4]; 8],\n"),
+]
 work = os.path.join(base, 'mutants')
 os.makedirs(work, exist_ok=True)
 good = os.path.join(base, 'bin', 'runner_ref')
@@ -744,6 +797,24 @@ def one_critical(i):
     return '%d of %d lines, tests %s' % (len(criticals) - same, len(criticals), unit_tests(place, 'reference.rs', *K[i]))
 
 
+# The seeds' callers.
+callers = made('callers.py', range(1, 13) if wanted('right') else [])
+by_rights = naive('rights', callers)
+
+
+def one_right(i):
+    place = 'right%d' % i
+    os.makedirs(os.path.join(work, place), exist_ok=True)
+    shutil.copy(os.path.join(base, 'runner_ref.rs'), os.path.join(work, place))
+    program, why = spoilt(place, 'rights.rs', 'reference.rs', *W[i])
+    if program is None:
+        return why
+    # It may end before the last line.
+    found = answers(program, callers).splitlines()
+    same = sum(a == b for a, b in zip(found, by_rights))
+    return '%d of %d lines, tests %s' % (len(by_rights) - same, len(by_rights), unit_tests(place, 'reference.rs', *W[i]))
+
+
 def one_share(i):
     program, why = spoilt('share%d' % i, 'shares.rs', 'reference.rs', *S[i])
     if program is None:
@@ -754,7 +825,7 @@ def one_share(i):
 
 with ThreadPoolExecutor(int(os.environ.get('JOBS', 4))) as pool:
     for sort, try_one, changes in [('share', one_share, S), ('batch', one_batch, B), ('queue', one_queue, Q),
-                                   ('preview', one_preview, P), ('critical', one_critical, K), ('advance', one_advance, A),
+                                   ('preview', one_preview, P), ('critical', one_critical, K), ('right', one_right, W), ('advance', one_advance, A),
                                    ('margin', one_margin, G), ('rule', one, M)]:
         if not wanted(sort):
             continue

@@ -7,7 +7,7 @@ with the leader of its round in the first writing; a draw goes from transaction
 to transaction here, lap by lap there; a preview is told from histories here, by
 a commit on a copy there; what a commit hangs on by the votes that remain here,
 by taking each certificate away there; a quorum by what is left out of it here,
-by what is in it there.
+by what is in it there; rights are pairs of a caller and a word here, a table there.
 
     naive.py < stream > answers
     naive.py shares < pairs > shares      (no record reads a share)
@@ -15,6 +15,7 @@ by what is in it there.
     naive.py queues < stream > answers    (no record adds to a queue or draws)
     naive.py previews < stream > answers  (no record is a preview)
     naive.py criticals < stream > answers (no record lists what a commit hangs on)
+    naive.py rights < stream > answers    (no record is a guest's)
 """
 import re
 import sys
@@ -24,6 +25,13 @@ from math import ceil
 
 RANGES = [(1, 1000, 20), (3, 1024, 1024), (0, 4, 4)] + \
          [(0, 1000000, 1)] * 4 + [(0, 1000000, 0)] * 12 + [(3, 5, 3)]
+
+
+# The calls that need each right.
+NEED = {'propose': {'propose', 'draw', 'enqueue'},
+        'sign': {'endorse', 'certify', 'accept', 'batch'},
+        'drive': {'advance', 'commit'},
+        'read': {'committee', 'share', 'certificate', 'block', 'preview', 'critical'}}
 
 
 class Refused(Exception):
@@ -63,6 +71,7 @@ class Engine:
         self.blocks = []     # (round, [(certificate round, author)]), in order
         self.queues = {guest: [] for guest in range(8)}     # the oldest first
         self.served = None   # the guest served last
+        self.rights = set()  # (caller, right)
 
     # committees
     def last(self):
@@ -271,6 +280,31 @@ class Engine:
                    if sum(weight for b, weight in votes.items() if b != a) <= self.bound(committee)]
         return [(before, anchor)] + [(self.round, a) for a in pivotal]
 
+    # reads
+    def read_committee(self, r):
+        refuse_if(r == 0 or r > self.ceiling, 5)
+        refuse_if(not self.known(r), 8)
+        return [self.committee(r).get(m, 0) for m in range(16)]
+
+    def read_share(self, member, r):
+        refuse_if(member > 15, 4)
+        weights = self.read_committee(r)
+        refuse_if(weights[member] == 0, 9)
+        return [share(weights[member], sum(weights))]
+
+    def read_certificate(self, author, r):
+        """Previous set, number of its block, triples."""
+        refuse_if(author > 15, 4)
+        refuse_if(r == 0 or r > self.ceiling, 5)
+        refuse_if((author, r) not in self.held, 23)
+        previous, transactions = self.held[author, r]
+        block = [n for n, (_, certificates) in enumerate(self.blocks, 1) if (r, author) in certificates]
+        return [sum(1 << m for m in previous)] + (block or [0]) + [field for triple in transactions for field in triple]
+
+    def read_block(self, n):
+        refuse_if(not 1 <= n <= len(self.blocks), 23)
+        return [self.blocks[n - 1][0]]
+
     def chain(self):
         lines = []
         for number, (block_round, certificates) in enumerate(self.blocks, 1):
@@ -448,6 +482,69 @@ def lists(asked):
         print(*lines, sep='\n')
 
 
+def values_of(engine, caller, name, fields, row):
+    """What a call gives; of no caller it is the host's. What cannot be read gets 1."""
+    refuse_if(engine is None, 1)
+    try:
+        if name == 'enqueue' and caller is not None:
+            fields = [str(caller)] + fields
+        if name in ('enqueue', 'draw'):
+            return queue_call(engine, name, fields)
+        if name == 'batch':
+            return engine.batch(row)
+        if name in ('preview', 'critical'):
+            entries = getattr(engine, name)(*map(number, fields))
+            return [len(entries)] + [word for entry in entries for word in entry]
+        if name in NEED['read']:
+            return getattr(engine, 'read_' + name)(*map(number, fields))
+        _, values = call(','.join([name] + fields))
+    except (Unreadable, TypeError):
+        raise Refused(1)
+    count = getattr(engine, name)(*values)
+    return [] if count is None else [count]
+
+
+def guests_values(engine, caller, name, fields, row):
+    """26, then 29, then what the host would get."""
+    refuse_if(caller > 7, 26)
+    [right] = [right for right in NEED if name in NEED[right]]
+    refuse_if(engine is None or (caller, right) not in engine.rights, 29)
+    return values_of(engine, caller, name, fields, row)
+
+
+def rights():
+    engine, given, row = None, set(), []
+    for line in sys.stdin:
+        who, *fields = line.rstrip('\n').split(',')
+        if who == 'rights':
+            given = {(caller, right) for right, field in zip(('propose', 'sign', 'drive', 'read'), fields)
+                     for caller in bits(int(field))}
+            continue
+        if who == 'offer':
+            row.append(offered(line.rstrip('\n')))
+            continue
+        try:
+            if who == 'guest':
+                values = guests_values(engine, int(fields[0]), fields[1], fields[2:], row)
+            elif who == 'host':
+                values = values_of(engine, None, fields[0], fields[1:], row)
+            elif who == 'waiting':
+                refuse_if(engine is None, 1)
+                values = [len(engine.queues[guest]) for guest in range(8)]
+            else:
+                before = engine
+                engine, lines = answered(engine, line.rstrip('\n'))
+                if engine is not before:
+                    engine.rights = given
+                print(*lines, sep='\n')
+                continue
+            print(*['ok'] + values, sep=',')
+        except Refused as refusal:
+            print('refused,%d' % refusal.args[0])
+        if 'batch' in fields:
+            row = []
+
+
 if sys.argv[1:] == ['shares']:
     shares()
 elif sys.argv[1:] == ['batches']:
@@ -458,5 +555,7 @@ elif sys.argv[1:] == ['previews']:
     lists('preview')
 elif sys.argv[1:] == ['criticals']:
     lists('critical')
+elif sys.argv[1:] == ['rights']:
+    rights()
 else:
     main()

@@ -218,6 +218,66 @@ pub fn change(committee: &mut Committee, transaction: &Transaction) {
     }
 }
 
+// ------------------------------------------------------ who may do what ---
+
+/// The four rights (point 11).
+#[derive(Clone, Copy, PartialEq, Eq, Debug)]
+pub enum Right {
+    Propose,
+    Sign,
+    Drive,
+    Read,
+}
+
+/// Which rights each caller of 0 to 7 has, in the order of `Right`.
+pub type Rights = [[bool; 4]; GUESTS as usize];
+
+/// Nobody has one.
+pub const NO_RIGHTS: Rights = [[false; 4]; GUESTS as usize];
+
+/// What a guest can ask for. It never opens.
+#[derive(Clone, Copy, PartialEq, Eq, Debug)]
+pub enum Request {
+    Propose,
+    Draw,
+    Enqueue,
+    Endorse,
+    Certify,
+    Accept,
+    Batch,
+    Advance,
+    Commit,
+    Committee,
+    Share,
+    Certificate,
+    Block,
+    Preview,
+    Critical,
+}
+
+impl Request {
+    /// The right that it needs.
+    pub fn needs(self) -> Right {
+        match self {
+            Request::Propose | Request::Draw | Request::Enqueue => Right::Propose,
+            Request::Endorse | Request::Certify | Request::Accept | Request::Batch => Right::Sign,
+            Request::Advance | Request::Commit => Right::Drive,
+            Request::Committee | Request::Share | Request::Certificate | Request::Block => Right::Read,
+            Request::Preview | Request::Critical => Right::Read,
+        }
+    }
+}
+
+/// 26 for a caller above 7, then 29 for a missing right. Nothing but the rights is
+/// looked at: it can be asked where no state is well formed.
+pub fn may_ask(rights: &Rights, caller: u32, request: Request) -> Answer<()> {
+    let of_caller = rights.get(caller as usize).ok_or(26u32)?;
+    if !of_caller[request.needs() as usize] {
+        return Err(29);
+    }
+    Ok(())
+}
+
 // ------------------------------------------------------- a member's state ---
 
 #[derive(Clone, Debug)]
@@ -301,6 +361,8 @@ pub struct Member {
     pub queues: Queues,
     /// The guest served last.
     pub served: Option<u32>,
+    /// Fixed by the open (point 11).
+    pub rights: Rights,
 }
 
 /// Places by round, then author: 16 to a round, the first round is 1.
@@ -312,8 +374,14 @@ fn place(author: u32, round: u32) -> usize {
 pub type History = Vec<Set>;
 
 impl Member {
-    /// Open. `serves` is the largest ceiling the lent tables have room for.
+    /// Open, with a right for nobody.
     pub fn open(own: u32, sheet: &Sheet, serves: u32) -> Answer<Member> {
+        Member::open_with(own, sheet, &NO_RIGHTS, serves)
+    }
+
+    /// Open. `serves` is the largest ceiling the lent tables have room for. Any
+    /// rights will do.
+    pub fn open_with(own: u32, sheet: &Sheet, rights: &Rights, serves: u32) -> Answer<Member> {
         if own >= MEMBERS {
             return Err(4);
         }
@@ -335,6 +403,7 @@ impl Member {
             chain: Vec::new(),
             queues: Queues::default(),
             served: None,
+            rights: *rights,
         })
     }
 
@@ -900,5 +969,24 @@ impl Member {
             return Err(23);
         }
         self.chain.get(number as usize - 1).map(|b| b.round).ok_or(23)
+    }
+
+    // ---- guests' calls (point 11)
+
+    /// A guest's call: its caller is asked for the right, before everything else;
+    /// then it does and answers what the host's own call does.
+    pub fn by_guest<T>(
+        &mut self,
+        caller: u32,
+        request: Request,
+        call: impl FnOnce(&mut Member) -> Answer<T>,
+    ) -> Answer<T> {
+        may_ask(&self.rights, caller, request)?;
+        call(self)
+    }
+
+    /// A guest adds to its own queue, and to no other.
+    pub fn guest_enqueue(&mut self, caller: u32, transaction: &Transaction) -> Answer<()> {
+        self.by_guest(caller, Request::Enqueue, |member| member.enqueue(caller, transaction))
     }
 }

@@ -1,7 +1,8 @@
 //! `rustc --test tests_ref.rs`: the cases marked P in document 01, the slips
 //! it wants ruled out, the example, small runs worked out by hand, the order
 //! inside a block, batches, queues, thin rounds, previews, margins, what a commit
-//! hangs on, and the shortcuts of the reference compared with the plain definitions.
+//! hangs on, guests' calls, and the shortcuts of the reference compared with the
+//! plain definitions.
 
 #![allow(dead_code)]
 
@@ -9,7 +10,7 @@
 mod runner_ref;
 
 use runner_ref::reference::*;
-use runner_ref::{read_number, run};
+use runner_ref::{read_number, read_record, run, Runner};
 use std::collections::{BTreeSet, VecDeque};
 use Setting::{Blank, Written};
 
@@ -1920,6 +1921,207 @@ fn damage(rng: &mut Rng, m: &mut Member) {
         held.certificate.proposal.transactions = vec![bond(few[0], 1)];
         tell_again(m);
     }
+}
+
+// ---------------------------------------------- who may do what (point 11) ---
+
+/// The right that each call of a guest needs.
+const NEEDS: [(Request, Right); 15] = [
+    (Request::Propose, Right::Propose),
+    (Request::Draw, Right::Propose),
+    (Request::Enqueue, Right::Propose),
+    (Request::Endorse, Right::Sign),
+    (Request::Certify, Right::Sign),
+    (Request::Accept, Right::Sign),
+    (Request::Batch, Right::Sign),
+    (Request::Advance, Right::Drive),
+    (Request::Commit, Right::Drive),
+    (Request::Committee, Right::Read),
+    (Request::Share, Right::Read),
+    (Request::Certificate, Right::Read),
+    (Request::Block, Right::Read),
+    (Request::Preview, Right::Read),
+    (Request::Critical, Right::Read),
+];
+
+const ALL_RIGHTS: Rights = [[true; 4]; 8];
+
+/// Those who may propose, sign, drive, read.
+fn given(sets: [&[u32]; 4]) -> Rights {
+    std::array::from_fn(|caller| sets.map(|set| set.contains(&(caller as u32))))
+}
+
+/// A call of the host's own with values that mostly fit, adding to the queue of a
+/// guest: its answer with all that it gives.
+fn host_asks(m: &mut Member, request: Request, guest: u32, author: u32) -> Answer<String> {
+    let (r, mut list) = (m.round(), vec![77; 48 * 64 + 1]);
+    let previous = if r == 1 { 0 } else { m.held_authors(r - 1) };
+    let committee = m.committee_of(r).copied().unwrap_or([1; 16]);
+    let inside = (0..16).filter(|&a| committee[a as usize] > 0).map(single).fold(0, |a, b| a | b);
+    let one = certificate(author, r, previous, inside & !single(author), &[entry(author)]);
+    let told = match request {
+        Request::Propose => format!("{:?}", m.propose(previous, &[entry(5)])?),
+        Request::Draw => format!("{:?}", m.draw(previous)?),
+        Request::Enqueue => format!("{:?}", m.enqueue(guest, &entry(author))?),
+        Request::Endorse => format!("{:?}", m.endorse(&one.proposal)?),
+        Request::Certify => format!("{:?}", m.certify(inside & !single(m.own()))?),
+        Request::Accept => format!("{:?}", m.accept(&one)?),
+        Request::Batch => format!("{:?}", m.batch(&[None, Some(one)], &mut list)?),
+        Request::Advance => format!("{:?}", m.advance()?),
+        Request::Commit => format!("{:?}", m.commit()?),
+        Request::Committee => format!("{:?}", m.read_committee(r)?),
+        Request::Share => format!("{:?}", m.read_share(author, r)?),
+        Request::Certificate => format!("{:?}", m.read_certificate(author, r)?),
+        Request::Block => format!("{:?}", m.read_block(1)?),
+        Request::Preview => format!("{:?}", m.preview(&mut list)?),
+        Request::Critical => format!("{:?}", m.critical(&mut list)?),
+    };
+    Ok(format!("{told} {list:?}"))
+}
+
+/// The same as a guest's call, which adds to its own queue.
+fn guest_asks(m: &mut Member, caller: u32, request: Request, author: u32) -> Answer<String> {
+    m.by_guest(caller, request, |m| host_asks(m, request, caller, author))
+}
+
+/// One right of one caller, and everything but it: only that caller's calls that
+/// need it pass, or all others do. Above 7 nothing does.
+#[test]
+fn each_right_alone() {
+    for (caller, right) in (0..8).flat_map(|caller| (0..4).map(move |right| (caller, right))) {
+        let (mut alone, mut all_but) = (NO_RIGHTS, ALL_RIGHTS);
+        (alone[caller][right], all_but[caller][right]) = (true, false);
+        for (request, needed) in NEEDS {
+            assert_eq!(request.needs(), needed);
+            for other in 0..8 {
+                let it = other == caller && needed as usize == right;
+                let or_29 = |may| if may { Ok(()) } else { Err(29) };
+                assert_eq!(may_ask(&alone, other as u32, request), or_29(it), "{request:?} by {other}");
+                assert_eq!(may_ask(&all_but, other as u32, request), or_29(!it), "{request:?} by {other}");
+            }
+            for above in [8, 9, 16, 255, 256, u32::MAX] {
+                for rights in [alone, all_but, NO_RIGHTS, ALL_RIGHTS] {
+                    assert_eq!(may_ask(&rights, above, request), Err(26));
+                }
+            }
+        }
+    }
+}
+
+/// Guest 3 may propose and read, guest 5 may sign, guest 0 may drive.
+#[test]
+fn four_guests() {
+    let rights = given([&[3], &[5], &[0], &[3, 7]]);
+    let mut m = Member::open_with(0, &sheet(Blank, Written(8), Blank, &[]), &rights, 8).unwrap();
+    assert_eq!(m.guest_enqueue(3, &entry(30)), Ok(()));
+    assert_eq!(m.guest_enqueue(5, &entry(50)), Err(29));
+    assert_eq!(m.guest_enqueue(8, &entry(80)), Err(26));
+    assert_eq!(m.enqueue(5, &entry(50)), Ok(()));
+    assert_eq!(counts(&m), [0, 0, 0, 1, 0, 1, 0, 0]);
+    assert_eq!(m.by_guest(0, Request::Draw, |m| m.draw(0)), Err(29));
+    assert_eq!(m.by_guest(3, Request::Draw, |m| m.draw(0)), Ok(()));
+    // What the host has added for another goes with it.
+    assert_eq!(m.proposal().unwrap().transactions, [entry(30), entry(50)]);
+    assert_eq!(m.by_guest(3, Request::Certify, |m| m.certify(0b1110)), Err(29));
+    assert_eq!(m.by_guest(5, Request::Certify, |m| m.certify(0b1110)), Ok(()));
+    for author in 1..3 {
+        let one = certificate(author, 1, 0, 0b1111 & !single(author), &[]);
+        assert_eq!(m.by_guest(5, Request::Accept, |m| m.accept(&one)), Ok(()));
+    }
+    assert_eq!(m.by_guest(5, Request::Advance, |m| m.advance()), Err(29));
+    assert_eq!(m.by_guest(0, Request::Advance, |m| m.advance()), Ok(()));
+    assert_eq!(m.by_guest(0, Request::Advance, |m| m.advance()), Err(28));
+    assert_eq!(m.by_guest(0, Request::Commit, |m| m.commit()), Err(19));
+    assert_eq!(m.by_guest(0, Request::Committee, |m| m.read_committee(9)), Err(29));
+    assert_eq!(m.by_guest(7, Request::Committee, |m| m.read_committee(9)), Err(5));
+    assert_eq!(m.by_guest(7, Request::Share, |m| m.read_share(1, 2)), Ok(250));
+    assert_eq!(m.rights, rights);
+}
+
+/// A guest adds to its own queue, and to no other.
+#[test]
+fn own_queues() {
+    let mut m = Member::open_with(0, &Sheet::all_blank(), &ALL_RIGHTS, 1_024).unwrap();
+    for (caller, times) in [(0, 3), (7, 8), (2, 1)] {
+        (0..times).for_each(|k| assert_eq!(m.guest_enqueue(caller, &entry(10 * caller + k)), Ok(())));
+    }
+    assert_eq!(counts(&m), [3, 0, 1, 0, 0, 0, 0, 8]);
+    assert_eq!(m.queues[7][7], entry(77));
+    // 26 and 29 before 6 and 27.
+    assert_eq!(m.guest_enqueue(7, &entry(1)), Err(27));
+    assert_eq!(m.guest_enqueue(7, &bond(16, 1)), Err(6));
+    assert_eq!(m.guest_enqueue(8, &bond(16, 1)), Err(26));
+    m.rights = NO_RIGHTS;
+    assert_eq!(m.guest_enqueue(7, &bond(16, 1)), Err(29));
+    assert_eq!(m.enqueue(7, &bond(16, 1)), Err(6));
+}
+
+/// An open gives the rights that it is handed, whatever they are, and asks what it
+/// asked before; a runner's gives none.
+#[test]
+fn rights_of_an_open() {
+    let blank = Sheet::all_blank();
+    for rights in [NO_RIGHTS, ALL_RIGHTS, given([&[0], &[1, 2], &[], &[7]])] {
+        assert_eq!(Member::open_with(0, &blank, &rights, 1_024).unwrap().rights, rights);
+        assert_eq!(Member::open_with(16, &sheet(Written(0), Blank, Blank, &[0; 4]), &rights, 3).err(), Some(4));
+        assert_eq!(Member::open_with(15, &sheet(Written(0), Blank, Blank, &[0; 4]), &rights, 3).err(), Some(2));
+        assert_eq!(Member::open_with(15, &sheet(Blank, Blank, Blank, &[0; 4]), &rights, 3).err(), Some(3));
+        assert_eq!(Member::open_with(15, &blank, &rights, 3).err(), Some(1));
+        // Equal settings and equal rights open equal states; else they differ in these alone.
+        let written = by_margin(sheet(Written(20), Blank, Written(4), &[1, 1]), 3);
+        let mut other = Member::open(0, &written, 1_024).unwrap();
+        other.rights = rights;
+        assert_eq!(image(&Member::open_with(0, &blank, &rights, 1_024).unwrap()), image(&other));
+    }
+    let mut runner = Runner::default();
+    runner.answer(read_record(b"open,0,,64,,1,0,0,0,,,,,,,,,,,,").as_ref(), &mut Vec::new());
+    assert_eq!(runner.member.unwrap().rights, NO_RIGHTS);
+}
+
+/// With the right a guest's call is the host's, without it every state with these
+/// rights gives the same and stays as it is; rights never change.
+#[test]
+fn guests_by_chance() {
+    let mut rng = Rng(0x11_1e57_0f9a_7e57);
+    let (mut accepted, mut refused) = ([0; 15], [0; 32]);
+    let mut other = of_four();
+    for _ in 0..60 {
+        let Some(mut m) = any_member(&mut rng, 4) else { continue };
+        m.rights = std::array::from_fn(|_| [(); 4].map(|()| rng.below(3) > 0));
+        let rights = m.rights;
+        for _ in 0..rng.below(6) {
+            fill_round(&mut rng, &mut m);
+            let _ = m.advance();
+        }
+        for _ in 0..150 {
+            if rng.below(12) == 0 {
+                fill_round(&mut rng, &mut m);
+            }
+            let which = rng.below(15) as usize;
+            let (request, caller, author) = (NEEDS[which].0, rng.below(10) as u32, rng.below(16) as u32);
+            let (before, mut copy) = (image(&m), m.clone());
+            let answer = guest_asks(&mut m, caller, request, author);
+            assert_eq!(m.rights, rights);
+            match may_ask(&rights, caller, request) {
+                Ok(()) => {
+                    assert_eq!(answer, host_asks(&mut copy, request, caller, author));
+                    assert_eq!(image(&m), image(&copy));
+                }
+                Err(number) => {
+                    other.rights = rights;
+                    let others = image(&other);
+                    assert_eq!((answer.clone(), guest_asks(&mut other, caller, request, author)), (Err(number), Err(number)));
+                    assert_eq!((image(&m), image(&other)), (before, others));
+                }
+            }
+            match answer {
+                Ok(_) => accepted[which] += 1,
+                Err(number) => refused[number as usize] += 1,
+            }
+        }
+        other = m;
+    }
+    assert!(accepted.iter().all(|&n| n > 10) && refused[26] > 1_000 && refused[29] > 1_000, "{accepted:?} {refused:?}");
 }
 
 // -------------------------------------------------------------- runner ---

@@ -2,12 +2,13 @@
 # hosts.sh [ARCHIVE [SEEDS [CALLS]]]: builds and runs everything that hosts link, against the
 # static library (target/staticlib/libhost.a where none is given; `rt staticlib host` makes it):
 # the header in C99, freestanding too, C11 and C++; `make install`, and the examples in C and C++
-# through pkg-config; the stack that calls need; the Rust package: its tests and doctests, users of
-# editions 2021 and 2024, one without the standard library, and the archive found in each of the
-# four ways; a replay of shuffled runs (seeds 1 to SEEDS, 20 where not given) that must answer as
-# the reference does; chains, and which words calls change; and CALLS (1,000,000) calls on grown and
-# on damaged states, 50,000 certificates in batches, 50,000 calls on queues, 20,000 previews and
-# 20,000 lists of what a commit hangs on, compared with the reference word by word.
+# through pkg-config; the stack that calls need, the host's own and guests'; the Rust package: its
+# tests and doctests, users of editions 2021 and 2024, one without the standard library, and the
+# archive found in each of the four ways; a replay of shuffled runs (seeds 1 to SEEDS, 20 where not
+# given) that must answer as the reference does; chains, and which words calls change; and CALLS
+# (1,000,000) calls on grown and on damaged states, 50,000 certificates in batches, 50,000 calls on
+# queues, 20,000 previews, 20,000 lists of what a commit hangs on and 50,000 calls of guests,
+# compared with the reference word by word.
 set -eu
 cd "$(dirname "$0")/.."
 top=$(pwd)
@@ -67,7 +68,7 @@ echo "user of edition 2024, archive by pkg-config: as examples/host.expected"
 user bare 2024 examples/bare.rs --no-default-features
 printf '[profile.release]\npanic = "abort"\n' >> "$out/bare/Cargo.toml"
 cargo run -q --release --manifest-path "$out/bare/Cargo.toml"
-echo "user without the standard library: its preview, what its commit hangs on and its chain are as they must be"
+echo "user without the standard library: its preview, what its commit hangs on, its chain and its guests are as they must be"
 
 # The package in a tree of its own, first with an archive in it, then with an rt that makes one.
 unset PKG_CONFIG_PATH

@@ -6,12 +6,12 @@
 #   ARCHIVE  the static library (target/staticlib/libhost.a); without it C and Rust are only compiled
 set -eu
 cd "$(dirname "$0")/.."
+[ -x reference/bin/runner_ref ] || sh reference/build.sh
 python3 tools/trust/trust.py --check
 python3 tools/map/map.py --check
 if [ -z "${RUNNER:-}" ]; then
     RUNNER=target/bin/runner
     [ -x "$RUNNER" ] || RUNNER=reference/bin/runner_ref
 fi
-[ -x reference/bin/runner_ref ] || sh reference/build.sh
 [ $# -gt 0 ] || set -- docs/*.md
 exec python3 scripts/pages.py "$(realpath "$RUNNER")" "$(realpath -m "${ARCHIVE:-target/staticlib/libhost.a}")" "$@"

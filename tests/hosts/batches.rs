@@ -91,8 +91,7 @@ impl Test {
         while self.figures.batches.handed < enough {
             let plan = self.plan_for_rows();
             let own = plan.owns.first().copied().unwrap_or(0);
-            let opened =
-                Member::open(own, &plan.sheet, plan.ceiling).expect("a plan's sheet is fine");
+            let opened = plan.open(&mut self.rng, own);
             let member = match self.rng.between(0, plan.grown) {
                 0 => opened,
                 to => grow(&mut self.rng, opened, to, &plan),
@@ -154,7 +153,7 @@ impl Test {
             let row: Vec<Words> = rows.iter().copied().cycle().take(records).collect();
             for room in [0, 1, records.saturating_sub(1), records, records + 1, 64, 65, 200] {
                 let call = Call::Batch { row: row.clone(), answers: vec![7; room] };
-                for lengths in [(STATE_WORDS, needed), (MARGIN, needed), (STATE_WORDS, needed - 1), (0, 0)] {
+                for lengths in [(STATE_WORDS, needed), (RIGHTS, needed), (STATE_WORDS, needed - 1), (0, 0)] {
                     self.batch(&mut node.clone(), &call, lengths);
                 }
             }

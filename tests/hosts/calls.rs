@@ -53,7 +53,7 @@ impl Rng {
 
 #[derive(Clone, Debug)]
 pub enum Call {
-    Open { own: u32, sheet: Vec<u32> },
+    Open { own: u32, sheet: Vec<u32>, rights: u32 },
     Propose { body: Vec<u32> },
     Endorse { proposal: Vec<u32> },
     Certify { endorsers: u32 },
@@ -121,6 +121,28 @@ impl Call {
         self.kind() >= Call::CHANGING
     }
 
+    /// What it is as a guest's call; nothing for an open.
+    pub fn request(&self) -> Option<Request> {
+        Some(match self {
+            Call::Open { .. } => return None,
+            Call::Propose { .. } => Request::Propose,
+            Call::Endorse { .. } => Request::Endorse,
+            Call::Certify { .. } => Request::Certify,
+            Call::Accept { .. } => Request::Accept,
+            Call::Advance => Request::Advance,
+            Call::Commit => Request::Commit,
+            Call::Batch { .. } => Request::Batch,
+            Call::Enqueue { .. } => Request::Enqueue,
+            Call::Draw { .. } => Request::Draw,
+            Call::Committee { .. } => Request::Committee,
+            Call::Share { .. } => Request::Share,
+            Call::Certificate { .. } => Request::Certificate,
+            Call::Block { .. } => Request::Block,
+            Call::Preview { .. } => Request::Preview,
+            Call::Critical { .. } => Request::Critical,
+        })
+    }
+
     /// The out stretch as it is before the call.
     pub fn out(&self) -> &[u32] {
         match self {
@@ -130,6 +152,26 @@ impl Call {
             _ => &[],
         }
     }
+}
+
+/// Who makes a call: the host, or a guest, by its number.
+#[derive(Clone, Copy, PartialEq, Eq, Debug)]
+pub enum Caller {
+    Host,
+    Guest(u32),
+}
+
+/// A guest of 0 to 9, now and then one far above.
+pub fn any_guest(rng: &mut Rng) -> u32 {
+    match rng.below(40) {
+        0 => rng.pick(&[15, 16, 31, 32, 255, 256, 65_536, 1 << 31, u32::MAX - 1, u32::MAX]),
+        _ => rng.between(0, 9),
+    }
+}
+
+/// The host, mostly.
+pub fn any_caller(rng: &mut Rng) -> Caller {
+    if rng.chance(200) { Caller::Guest(any_guest(rng)) } else { Caller::Host }
 }
 
 /// Certificates and proposals that members of a stretch have seen.
@@ -270,7 +312,7 @@ pub fn copy_of_held(rng: &mut Rng, member: &Member) -> Option<Certificate> {
     Some(copy)
 }
 
-fn likely_round(rng: &mut Rng, member: &Member) -> u32 {
+pub fn likely_round(rng: &mut Rng, member: &Member) -> u32 {
     let r = member.round;
     match rng.below(12) {
         0 => rng.between(1, r),
@@ -312,7 +354,7 @@ fn longer(rng: &mut Rng, mut words: Vec<u32>) -> Vec<u32> {
     words
 }
 
-fn out_stretch(rng: &mut Rng, needed: usize) -> Vec<u32> {
+pub fn out_stretch(rng: &mut Rng, needed: usize) -> Vec<u32> {
     let length = match rng.below(20) {
         0 => rng.below(needed as u64) as usize,
         1 => needed - 1,
@@ -577,7 +619,7 @@ pub fn wild_call(rng: &mut Rng, member: &Member, pool: &mut Pool) -> Call {
         16 => some_critical(rng),
         12 | 13 => wild_enqueue(rng),
         14 => wild_draw(rng, member),
-        0 => Call::Open { own: rng.between(0, 17), sheet: wild_sheet(rng, member) },
+        0 => Call::Open { own: rng.between(0, 17), sheet: wild_sheet(rng, member), rights: rng.word() },
         1 => {
             let p = Proposal { author: 0, ..likely_proposal(rng, member) };
             let body = if fit { body_words(&p).to_vec() } else { noise(rng, 14) };

@@ -4,11 +4,13 @@
 //! hold. Each is listed by `Engine::chain`, by `lent::chain` and by `forgelilac_chain` of the header,
 //! and must be as the reference has it; and by reads alone, one for each place and each block, which
 //! is how chains were listed before. A state that is not well formed must be refused with 1 by all.
-//! So must each without its margin, as states were stored before; brought along, it is well formed.
-//! What a commit would add is told by `Engine::preview`, by `lent::preview` and by the header's
-//! `forgelilac_preview`, and must be as the reference has it. So is what a commit hangs on, by
-//! `Engine::critical`, `lent::critical` and `forgelilac_critical`, which leave the table as it was; also
-//! where certificates of the present round and the one before are in blocks already, as no run has them.
+//! So must each without its rights, and without its margin too, as states were stored before; brought
+//! along, it is well formed. Rights are told alike by header and package, and a guest lists what the host
+//! does where it has the read right, else nothing. What a commit would add is told by `Engine::preview`, by
+//! `lent::preview` and by the header's `forgelilac_preview`, and must be as the reference has it. So is what
+//! a commit hangs on, by `Engine::critical`, `lent::critical` and `forgelilac_critical`, which leave the
+//! table as it was; also where certificates of the present round and the one before are in blocks already,
+//! as no run has them.
 //! Then a full state of ceiling 1,024, with times.
 
 #![allow(dead_code)]
@@ -23,7 +25,7 @@ mod words;
 use calls::Rng;
 use forgelilac::lent::{self, CertificateRecord, Place};
 use forgelilac::{layout, leader, Block, Certificate, Engine, Entry, Proposal, Refusal, Sheet, Transaction, MEMBERS};
-use forgelilac::Critical;
+use forgelilac::{Critical, Right, Rights};
 use grow::*;
 use nodes::Node;
 use std::ffi::{c_char, CStr};
@@ -34,7 +36,12 @@ mod header {
     use super::c_char;
     extern "C" {
         pub fn header_chain(s: *const u32, sn: usize, t: *const u32, tn: usize, out: *mut u32, n: usize) -> u64;
+        pub fn header_guest_chain(
+            caller: u32, s: *const u32, sn: usize, t: *const u32, tn: usize, out: *mut u32, n: usize,
+        ) -> u64;
         pub fn header_is_well_formed(s: *const u32, sn: usize, t: *const u32, tn: usize) -> i32;
+        pub fn header_may(s: *const u32, sn: usize, caller: u32, right: u32) -> i32;
+        pub fn header_rights(propose: u32, sign: u32, drive: u32, read: u32) -> u32;
         pub fn header_leader(round: u32, weights: *const u32) -> u32;
         pub fn header_refusal_text(number: u32) -> *const c_char;
         pub fn header_version() -> *const c_char;
@@ -48,7 +55,7 @@ mod header {
 
 /// Lengths and offsets of the package, in the order of header.c.
 #[rustfmt::skip]
-const NUMBERS: [usize; 55] = [
+const NUMBERS: [usize; 62] = [
     layout::FORMAT as usize, MEMBERS, layout::TRANSACTIONS, layout::BLOCKS, layout::STACK_BYTES,
     layout::STATE_WORDS, layout::BODY_WORDS, layout::PROPOSAL_WORDS, layout::CERTIFICATE_WORDS,
     layout::HELD_WORDS, layout::SHEET_WORDS, layout::STATE_OWN, layout::STATE_LOOKBACK,
@@ -62,7 +69,8 @@ const NUMBERS: [usize; 55] = [
     layout::TRANSACTION_WORDS, layout::SERVED, layout::WAITING, layout::queue(0), layout::queue(7),
     layout::ENTRY_WORDS, layout::ENTRY_BLOCK, layout::ENTRY_ROUND, layout::ENTRY_AUTHOR, layout::preview_words(64),
     layout::STATE_MARGIN, layout::SHEET_WORDS, layout::PLACE_WORDS, layout::PLACE_ROUND, layout::PLACE_AUTHOR,
-    layout::CRITICAL_WORDS,
+    layout::CRITICAL_WORDS, layout::STATE_RIGHTS, Rights::NONE.to_word() as usize, Right::Propose as usize,
+    Right::Sign as usize, Right::Drive as usize, Right::Read as usize, Refusal::NoRight as usize,
 ];
 
 fn text(of: *const c_char) -> &'static str {
@@ -79,18 +87,24 @@ fn compare_header() {
             assert_eq!(header::header_number(which) as usize, number, "number {which}");
         }
         assert_eq!(header::header_number(NUMBERS.len() as u32), u32::MAX);
-        for number in (1..=23).chain(25..=28) {
+        for number in (1..=23).chain(25..=29) {
             assert_eq!(text(header::header_refusal_text(number)), Refusal::of(number).unwrap().meaning());
         }
         assert_eq!(text(header::header_refusal_text(0)), "accepted");
         assert_eq!(text(header::header_refusal_text(24)), "record unreadable");
-        for number in [29, u32::MAX] {
+        for number in [30, u32::MAX] {
             assert_eq!(text(header::header_refusal_text(number)), "no refusal of this version");
         }
         let words = std::array::from_fn(|at| 100 + at as u32);
         let mut record = CertificateRecord::from([0; layout::CERTIFICATE_WORDS]);
         header::header_record_of(words.as_ptr(), &mut record);
         assert_eq!(record, words.into());
+        // Of a set of callers more than eight bits are none.
+        for [propose, sign, drive, read] in [[0; 4], [1, 2, 4, 8], [255; 4], [0x1a5, 0x5a, 0xff00, 0x80]] {
+            let sets = [propose, sign, drive, read].map(|set| set as u8);
+            let rights = Rights { propose: sets[0], sign: sets[1], drive: sets[2], read: sets[3] };
+            assert_eq!(header::header_rights(propose, sign, drive, read), rights.to_word());
+        }
     }
 }
 
@@ -134,12 +148,16 @@ fn flat(chain: &[Block]) -> Vec<Place> {
     (1..).zip(chain).flat_map(of).collect()
 }
 
-/// By the header, into a list of some words that were 77.
-fn by_header(state: &[u32], table: &[u32], words: usize) -> Result<(usize, Vec<u32>), u32> {
+/// By the header, as the host or as a guest, into a list of some words that were 77.
+fn by_header(caller: Option<u32>, state: &[u32], table: &[u32], words: usize) -> Result<(usize, Vec<u32>), u32> {
     let mut out = vec![77; words];
+    let (s, sn, t, tn) = (state.as_ptr(), state.len(), table.as_ptr(), table.len());
     // SAFETY: whole slices.
     let answer = unsafe {
-        header::header_chain(state.as_ptr(), state.len(), table.as_ptr(), table.len(), out.as_mut_ptr(), out.len())
+        match caller {
+            None => header::header_chain(s, sn, t, tn, out.as_mut_ptr(), out.len()),
+            Some(caller) => header::header_guest_chain(caller, s, sn, t, tn, out.as_mut_ptr(), out.len()),
+        }
     };
     match (answer >> 32) as u32 {
         0 => Ok((answer as u32 as usize, out)),
@@ -173,8 +191,10 @@ struct Figures {
     marked: u64,
     without_anchor: u64,
     with_others: u64,
-    /// States of before there was a margin that were brought along.
-    brought: u64,
+    /// States of before there was a margin, and of before there were rights, that were brought along.
+    brought: [u64; 2],
+    /// Chains asked for by guests: listed, refused with 1, 26 and 29.
+    guests: [u64; 4],
 }
 
 impl Figures {
@@ -188,6 +208,8 @@ impl Figures {
         let formed = unsafe { header::header_is_well_formed(state.as_ptr(), state.len(), table.as_ptr(), table.len()) };
         assert_eq!((formed == 1, engine.is_well_formed()), (node.twin.is_some(), node.twin.is_some()));
         self.compare_before(node);
+        self.compare_rights(node, &engine);
+        self.compare_guest(node, &engine);
         self.compare_waiting(node, &engine);
         self.compare_previews(node, &engine);
         self.compare_criticals(node, engine.clone());
@@ -196,7 +218,7 @@ impl Figures {
             self.without_blocks += u64::from(engine.blocks() == 0);
             assert_eq!(engine.chain(), Err(Refusal::Malformed));
             assert_eq!(lent::chain(state, table, &mut [Place::default(); 9]), Err(Refusal::Malformed));
-            assert_eq!(by_header(state, table, 9), Err(1));
+            assert_eq!(by_header(None, state, table, 9), Err(1));
             assert_eq!(Engine::try_restore(words, table.to_vec()), Err(Refusal::Malformed));
             return;
         };
@@ -217,20 +239,66 @@ impl Figures {
         }
     }
 
-    /// Without its margin a state is one of before there was one: refused. Brought along, it is well
-    /// formed where it was with its own.
+    /// Without its rights, or its margin too, a state is one of before: refused. Brought along, it is well
+    /// formed where it was with its own, whatever rights it is given.
     fn compare_before(&mut self, node: &Node) {
-        let stored: [u32; 37] = node.state[..37].try_into().unwrap();
-        let (at, table) = (stored.as_ptr(), &node.table[..]);
-        // SAFETY: whole slices.
-        let formed = unsafe { header::header_is_well_formed(at, stored.len(), table.as_ptr(), table.len()) };
-        assert!(formed == 0 && !lent::is_well_formed(&stored, table));
-        let brought = layout::brought_along(&stored);
-        assert_eq!((&brought[..37], brought[37]), (&stored[..], 3));
-        if node.twin.is_some() {
-            assert!(lent::is_well_formed(&brought, table));
-            self.brought += 1;
+        let table = &node.table[..];
+        for (format, words) in [(1, layout::STATE_MARGIN), (2, layout::STATE_RIGHTS)] {
+            let stored = &node.state[..words];
+            // SAFETY: whole slices.
+            let formed =
+                unsafe { header::header_is_well_formed(stored.as_ptr(), words, table.as_ptr(), table.len()) };
+            assert!(formed == 0 && !lent::is_well_formed(stored, table));
+            let rights = node.state[layout::STATE_RIGHTS].rotate_left(7);
+            let brought = layout::brought_along(format, stored, rights).unwrap();
+            assert_eq!((&brought[..words], brought[layout::STATE_RIGHTS]), (stored, rights));
+            assert!(format == 2 || brought[layout::STATE_MARGIN] == 3);
+            if node.twin.is_some() {
+                assert!(lent::is_well_formed(&brought, table));
+                self.brought[format as usize - 1] += 1;
+            }
         }
+        assert_eq!(layout::brought_along(3, &node.state, 5).unwrap(), node.state[..STATE_WORDS]);
+    }
+
+    /// Rights as header, package and reference tell them.
+    fn compare_rights(&mut self, node: &Node, engine: &Engine) {
+        let (state, rights) = (&node.state[..], words::rights_in(&node.state));
+        assert_eq!(lent::rights(state), engine.rights());
+        assert_eq!(engine.rights().to_word(), state[layout::STATE_RIGHTS]);
+        assert_eq!(lent::rights(&state[..layout::STATE_RIGHTS]), Rights::NONE);
+        let callers = (0..10).chain([u32::MAX]);
+        for (caller, right) in callers.flat_map(|caller| Right::ALL.map(|right| (caller, right))) {
+            let may = rights.get(caller as usize).is_some_and(|of_caller| of_caller[right as usize]);
+            assert_eq!(engine.rights().may(caller, right), may);
+            for (words, expected) in [(state.len(), may), (39, may), (38, false), (0, false)] {
+                // SAFETY: the beginning of a slice.
+                let in_header = unsafe { header::header_may(state.as_ptr(), words, caller, right as u32) };
+                assert_eq!(in_header, expected.into());
+            }
+            // SAFETY: a whole slice. There is no right 4.
+            assert_eq!(unsafe { header::header_may(state.as_ptr(), state.len(), caller, 4) }, 0);
+        }
+    }
+
+    /// The chain as a guest lists it: as the host does with the read right, else not at all. At times the
+    /// list is short.
+    fn compare_guest(&mut self, node: &Node, engine: &Engine) {
+        let (state, table) = (&node.state[..], &node.table[..]);
+        let caller = (self.states % 10) as u32;
+        let ceiling = node.twin.as_ref().map_or(3, |twin| twin.settings.ceiling as usize);
+        let room = if self.states % 7 == 0 { 1 } else { MEMBERS * ceiling };
+        let may = reference::may_ask(&words::rights_in(state), caller, reference::Request::Block);
+        let expected = may.and_then(|()| engine.chain().map_err(Refusal::number));
+        assert_eq!(engine.reader(caller).chain().map_err(Refusal::number), expected);
+        let mut list = vec![Place { block: 77, round: 77, author: 77 }; room];
+        let mut by_host = list.clone();
+        let expected = may.and_then(|()| lent::chain(state, table, &mut by_host).map_err(Refusal::number));
+        assert_eq!(lent::guest_chain(caller, state, table, &mut list).map_err(Refusal::number), expected);
+        assert!(list == by_host);
+        let by_host = may.and_then(|()| by_header(None, state, table, 3 * room));
+        assert!(by_header(Some(caller), state, table, 3 * room) == by_host);
+        self.guests[match expected { Ok(_) => 0, Err(1) => 1, Err(26) => 2, _ => 3 }] += 1;
     }
 
     /// What a commit would add, as package, header and reference have it, into a list that is just
@@ -332,7 +400,7 @@ impl Figures {
             let mut list = vec![blank; count + more];
             assert_eq!(lent::chain(state, table, &mut list), Ok(count));
             assert!(list[..count] == *expected && list[count..].iter().all(|&place| place == blank));
-            let (found, out) = by_header(state, table, 3 * count + more).unwrap();
+            let (found, out) = by_header(None, state, table, 3 * count + more).unwrap();
             assert_eq!(found, count);
             let places = out.chunks_exact(3).map(|w| Place { block: w[0], round: w[1], author: w[2] });
             assert!(places.take(count).eq(expected.iter().copied()));
@@ -342,7 +410,7 @@ impl Figures {
             let mut list = vec![blank; count - 1];
             assert_eq!(lent::chain(state, table, &mut list), Err(Refusal::Malformed));
             assert!(list.iter().all(|&place| place == blank));
-            assert_eq!(by_header(state, table, 3 * count - 1), Err(1));
+            assert_eq!(by_header(None, state, table, 3 * count - 1), Err(1));
         }
     }
 }
@@ -396,7 +464,7 @@ fn time_full() {
     let validating = best(20, || assert_eq!(engine.block(0), Err(Refusal::NoneThere)));
     let owned = best(20, || assert_eq!(engine.chain().unwrap().len(), expected.len()));
     let lent = best(20, || assert_eq!(lent::chain(state, table, &mut list), Ok(count)));
-    let header = best(20, || assert_eq!(by_header(state, table, 3 * count).unwrap().0, count));
+    let header = best(20, || assert_eq!(by_header(None, state, table, 3 * count).unwrap().0, count));
     let reads = best(3, || assert_eq!(by_reads(&engine).unwrap().len(), expected.len()));
     println!("full state of ceiling 1,024: {} blocks of {count} certificates", expected.len());
     println!("by reads alone {:.0} ms; one read that tests the state {validating:.0} us", reads / 1e3);
@@ -445,9 +513,9 @@ fn main() {
         while figures.states % 200 == 0 && plan.ceiling < forgelilac::CEILING {
             plan = Plan::any(&mut rng);
         }
-        let opened = reference::Member::open(plan.owns.first().copied().unwrap_or(0), &plan.sheet, plan.ceiling);
+        let opened = plan.open(&mut rng, plan.owns.first().copied().unwrap_or(0));
         let to = rng.between(1, plan.ceiling);
-        let member = grow(&mut rng, opened.expect("a plan's sheet is fine"), to, &plan);
+        let member = grow(&mut rng, opened, to, &plan);
         let node = Node::of(member.clone(), &mut rng);
         figures.compare(&node);
         for turn in 0..3 {
@@ -480,6 +548,9 @@ fn main() {
     println!("{} previews accepted, with {} entries: as the reference has them", f.previewed, f.entries);
     println!("{} lists of what a commit hangs on accepted, with {} places, {} of them in a block already; {} without the anchor, {} with more than it and votes: as the reference has them",
              f.criticals, f.places, f.marked, f.without_anchor, f.with_others);
-    println!("without their margins all are refused with 1; {} of them brought along, by margin 3", f.brought);
+    println!("without their margins all are refused with 1; {} of them brought along, by margin 3", f.brought[0]);
+    println!("without their rights all are refused with 1; {} of them brought along, with any rights", f.brought[1]);
+    let [listed, malformed, above, without] = f.guests;
+    println!("{listed} chains listed by guests as by the host, {malformed} refused with 1, {above} with 26, {without} with 29");
     time_full();
 }

@@ -340,7 +340,7 @@ impl Test {
             // 1 comes first: a state or a table too short, a number out of range.
             let call = Call::Critical { list: vec![77; words] };
             let table = table_words(ceiling);
-            for lengths in [(MARGIN, table), (0, table), (STATE_WORDS, table - 1), (STATE_WORDS, 0), (0, 0)] {
+            for lengths in [(RIGHTS, table), (MARGIN, table), (0, table), (STATE_WORDS, table - 1), (STATE_WORDS, 0), (0, 0)] {
                 assert_eq!(self.critical(&mut node.clone(), &call, lengths, true), 1 << 32);
             }
             assert_eq!(self.critical(&mut node.clone(), &call, (STATE_WORDS, table), true) >> 32 == 0, enough);
@@ -464,7 +464,7 @@ impl Test {
         while asked(self) < enough {
             let plan = Plan::any(&mut self.rng);
             let own = plan.owns.first().copied().unwrap_or(0);
-            let opened = Member::open(own, &plan.sheet, plan.ceiling).expect("a plan's sheet is fine");
+            let opened = plan.open(&mut self.rng, own);
             let to = self.rng.between(plan.ceiling.min(4), plan.ceiling);
             let mut member = grow(&mut self.rng, opened, to, &plan);
             for _ in 0..self.rng.between(1, 4) {

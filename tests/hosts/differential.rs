@@ -1,17 +1,19 @@
 //! Host functions against the reference:
-//! `differential SEED [CALLS [TOTAL [CERTIFICATES [QUEUED [PREVIEWED [CRITICALS]]]]]]`.
+//! `differential SEED [CALLS [TOTAL [CERTIFICATES [QUEUED [PREVIEWED [CRITICALS [GUESTED]]]]]]]`.
 //!
 //! Each call is made twice: by the engine on words, and by the reference on
 //! the member that the words before the call stand for. Compared after each
 //! call: the answer, every word of state, table and out stretch, also beyond
-//! what the call may touch. A refused call must have changed nothing.
+//! what the call may touch. A refused call must have changed nothing, and no call
+//! but an accepted open the rights. Of the calls by chance some are a guest's.
 //!
 //! First come single words at the edges of their ranges (`edges.rs`), then
 //! shares, among them every weight of every total up to TOTAL (`shares.rs`), then
 //! batches, until CERTIFICATES were handed over in them (`batches.rs`), then
 //! QUEUED calls on queues (`queues.rs`), then PREVIEWED previews of commit
 //! (`previews.rs`), then CRITICALS lists of what a commit hangs on
-//! (`criticals.rs`), then calls by chance. Their stretches start from states grown
+//! (`criticals.rs`), then GUESTED calls of guests (`guests.rs`), then calls by
+//! chance. Their stretches start from states grown
 //! by runs, from such states with words changed here and there, and with chains
 //! made up on what they hold. Whether a changed state is well formed is judged by
 //! `words.rs`, from the papers.
@@ -29,6 +31,7 @@ mod engine;
 #[cfg(plain)]
 mod engine;
 mod grow;
+mod guests;
 mod margins;
 mod nodes;
 mod previews;
@@ -57,17 +60,29 @@ fn wide(answer: Answer<u64>) -> u64 {
     }
 }
 
-/// Makes the call on the twin; writes what it gives into `out`.
+/// What a caller is refused with before anything but the rights is looked at.
+fn asks(caller: Caller, call: &Call, rights: &Rights) -> Answer<()> {
+    match caller {
+        Caller::Host => Ok(()),
+        Caller::Guest(guest) => may_ask(rights, guest, call.request().expect("a guest never opens")),
+    }
+}
+
+/// Makes the call on the twin; writes what it gives into `out`. The rights are
+/// those in the words: there may be no twin.
 fn by_reference(
+    caller: Caller,
     call: &Call,
+    rights: &Rights,
     twin: &mut Option<Member>,
     lengths: (usize, usize),
     out: &mut [u32],
 ) -> Answer<u64> {
-    if let Call::Open { own, sheet } = call {
+    asks(caller, call, rights)?;
+    if let Call::Open { own, sheet, rights } = call {
         let sheet = read_sheet(sheet).filter(|_| lengths.0 >= STATE_WORDS).ok_or(1u32)?;
         let serves = (lengths.1 as u32 / ROW as u32).saturating_sub(1);
-        *twin = Some(Member::open(*own, &sheet, serves)?);
+        *twin = Some(Member::open_with(*own, &sheet, &read_rights(*rights), serves)?);
         return Ok(0);
     }
     let member = twin.as_mut().ok_or(1u32)?;
@@ -96,8 +111,11 @@ fn by_reference(
             member.batch(&row, out).map(|()| 0)
         }
         Call::Enqueue { guest, transaction } => {
-            let words = transaction.get(..3).ok_or(1u32)?;
-            member.enqueue(*guest, &read_transaction(words).ok_or(1u32)?).map(|()| 0)
+            let transaction = transaction.get(..3).and_then(read_transaction).ok_or(1u32)?;
+            match caller {
+                Caller::Host => member.enqueue(*guest, &transaction).map(|()| 0),
+                Caller::Guest(guest) => member.guest_enqueue(guest, &transaction).map(|()| 0),
+            }
         }
         Call::Draw { previous } => member.draw(read_set(*previous).ok_or(1u32)?).map(|()| 0),
         Call::Committee { round, .. } => {
@@ -120,12 +138,12 @@ fn by_reference(
     }
 }
 
-/// Makes the call on the words. Answers without a value have the refusal
-/// number moved up, so that all answers look alike.
+/// Makes the call on the words, as the host's own. Answers without a value have
+/// the refusal number moved up, so that all answers look alike.
 fn by_engine(call: &Call, state: &mut [u32], table: &mut [u32], out: &mut [u32]) -> u64 {
     let plain = |answer: u32| u64::from(answer) << 32;
     match call {
-        Call::Open { own, sheet } => plain(engine::open(state, table, *own, sheet)),
+        Call::Open { own, sheet, rights } => plain(engine::open(state, table, *own, sheet, *rights)),
         Call::Propose { body } => plain(engine::propose(state, table, body)),
         Call::Endorse { proposal } => plain(engine::endorse(state, table, proposal)),
         Call::Certify { endorsers } => plain(engine::certify(state, table, *endorsers)),
@@ -148,6 +166,35 @@ fn by_engine(call: &Call, state: &mut [u32], table: &mut [u32], out: &mut [u32])
     }
 }
 
+/// Makes the call on the words, as a guest's.
+fn by_guest(guest: u32, call: &Call, state: &mut [u32], table: &mut [u32], out: &mut [u32]) -> u64 {
+    let plain = |answer: u32| u64::from(answer) << 32;
+    match call {
+        Call::Open { .. } => unreachable!("a guest never opens"),
+        Call::Propose { body } => plain(engine::guest_propose(guest, state, table, body)),
+        Call::Endorse { proposal } => plain(engine::guest_endorse(guest, state, table, proposal)),
+        Call::Certify { endorsers } => plain(engine::guest_certify(guest, state, table, *endorsers)),
+        Call::Accept { certificate } => plain(engine::guest_accept(guest, state, table, certificate)),
+        Call::Advance => plain(engine::guest_advance(guest, state, table)),
+        Call::Commit => engine::guest_commit(guest, state, table),
+        Call::Batch { row, .. } => plain(engine::guest_batch(guest, state, table, row, out)),
+        Call::Enqueue { transaction, .. } => {
+            plain(engine::guest_enqueue(guest, state, table, transaction))
+        }
+        Call::Draw { previous } => plain(engine::guest_draw(guest, state, table, *previous)),
+        Call::Committee { round, .. } => {
+            plain(engine::guest_committee(guest, state, table, *round, out))
+        }
+        Call::Share { member, round } => engine::guest_share(guest, state, table, *member, *round),
+        Call::Certificate { author, round, .. } => {
+            plain(engine::guest_certificate(guest, state, table, *author, *round, out))
+        }
+        Call::Block { number } => engine::guest_block(guest, state, table, *number),
+        Call::Preview { .. } => engine::guest_preview(guest, state, table, out),
+        Call::Critical { .. } => engine::guest_critical(guest, state, table, out),
+    }
+}
+
 /// What the words must be after an accepted call.
 fn write_after(call: &Call, member: &Member, state: &mut [u32], table: &mut [u32]) {
     if matches!(call, Call::Open { .. }) {
@@ -166,6 +213,14 @@ fn write_after(call: &Call, member: &Member, state: &mut [u32], table: &mut [u32
 }
 
 // --------------------------------------------------------------- figures ---
+
+/// How many calls got each answer.
+fn told(answers: &[u64; 32]) -> String {
+    let refusals = (1..32).filter(|&n| answers[n] > 0);
+    let list: Vec<String> = refusals.map(|n| format!("{n} x {}", answers[n])).collect();
+    let made: u64 = answers.iter().sum();
+    format!("{made} calls, {} accepted; refused: {}", answers[0], list.join(", "))
+}
 
 #[derive(Default)]
 struct Figures {
@@ -202,13 +257,18 @@ struct Figures {
     queues: queues::Figures,
     previews: previews::Figures,
     criticals: criticals::Figures,
+    guests: guests::Figures,
     margins: margins::Figures,
 }
 
 impl Figures {
-    fn count(&mut self, call: &Call, answer: u64) {
+    fn count(&mut self, caller: Caller, call: &Call, answer: u64) {
         self.calls += 1;
-        self.answers[call.kind()][(answer >> 32) as usize & 31] += 1;
+        let answers = match caller {
+            Caller::Host => &mut self.answers,
+            Caller::Guest(_) => &mut self.guests.answers,
+        };
+        answers[call.kind()][(answer >> 32) as usize & 31] += 1;
         if matches!(call, Call::Commit) && answer >> 32 == 0 {
             self.blocks += answer;
             self.most_blocks = self.most_blocks.max(answer);
@@ -279,11 +339,7 @@ impl Figures {
 
     fn print(&self, seed: u64) {
         for (name, answers) in Call::NAMES.iter().zip(&self.answers) {
-            let made: u64 = answers.iter().sum();
-            print!("{name}: {made} calls, {} accepted", answers[0]);
-            let refusals = (1..32).filter(|&n| answers[n] > 0);
-            let list: Vec<String> = refusals.map(|n| format!("{n} x {}", answers[n])).collect();
-            println!("; refused: {}", list.join(", "));
+            println!("{name}: {}", told(answers));
         }
         println!("blocks made: {}, at most {} at once", self.blocks, self.most_blocks);
         println!(
@@ -307,6 +363,7 @@ impl Figures {
         self.queues.print();
         self.previews.print(&self.answers[Call::PREVIEW]);
         self.criticals.print(&self.answers[Call::CRITICAL]);
+        self.guests.print();
         self.margins.print();
         let [small, middle, large] = self.sizes;
         println!("calls by ceiling: {small} up to 40, {middle} up to 255, {large} up to 1,024");
@@ -323,7 +380,8 @@ pub struct Test {
     figures: Figures,
     before_state: Vec<u32>,
     before_table: Vec<u32>,
-    /// The out stretch after the last call.
+    /// What the engine answered to the last call, and the out stretch after it.
+    last_answer: u64,
     last_out: Vec<u32>,
 }
 
@@ -346,8 +404,13 @@ impl Test {
         println!("DIFFERENCE after call {}: {how}", self.figures.calls);
     }
 
-    /// One call on a node, by both, compared. The tenth difference is the last.
+    /// A call of the host's own.
     pub fn call(&mut self, node: &mut Node, call: &Call, lengths: (usize, usize)) -> u64 {
+        self.call_by(Caller::Host, node, call, lengths)
+    }
+
+    /// One call on a node, by both, compared. The tenth difference is the last.
+    pub fn call_by(&mut self, caller: Caller, node: &mut Node, call: &Call, lengths: (usize, usize)) -> u64 {
         let (ns, nt) = lengths;
         let size = match node.table.len() / ROW {
             0..=42 => 0,
@@ -357,12 +420,22 @@ impl Test {
         let mut found_out = call.out().to_vec();
         let mut expected_out = found_out.clone();
         let waited = waiting_of(call, node.twin.as_ref());
-        self.figures.margins.count(call, node.twin.as_mut());
+        let rights = rights_in(&node.state[..ns]);
+        let may = asks(caller, call, &rights).is_ok();
+        if may {
+            self.figures.margins.count(call, node.twin.as_mut());
+        }
         self.before_state.clone_from(&node.state);
         self.before_table.clone_from(&node.table);
-        let found = by_engine(call, &mut node.state[..ns], &mut node.table[..nt], &mut found_out);
-        let answer = by_reference(call, &mut node.twin, lengths, &mut expected_out);
+        let (state, table) = (&mut node.state[..ns], &mut node.table[..nt]);
+        let found = match caller {
+            Caller::Host => by_engine(call, state, table, &mut found_out),
+            Caller::Guest(guest) => by_guest(guest, call, state, table, &mut found_out),
+        };
+        let answer = by_reference(caller, call, &rights, &mut node.twin, lengths, &mut expected_out);
         let expected = wide(answer);
+        let opened = matches!(call, Call::Open { .. }) && answer.is_ok();
+        let other_rights = !opened && self.before_state.get(RIGHTS) != node.state.get(RIGHTS);
         let (state, table) = (&mut self.before_state, &mut self.before_table);
         if let (Ok(_), Some(member)) = (answer, &node.twin) {
             write_after(call, member, state, table);
@@ -370,10 +443,11 @@ impl Test {
         let same = found == expected
             && *state == node.state
             && *table == node.table
-            && found_out == expected_out;
+            && found_out == expected_out
+            && !other_rights;
         if !same {
             self.figures.differences += 1;
-            println!("DIFFERENCE at call {}: {call:?}, lengths {lengths:?}", self.figures.calls);
+            println!("DIFFERENCE at call {}: {call:?} by {caller:?}, lengths {lengths:?}", self.figures.calls);
             println!("  answer: expected {expected:#x}, found {found:#x}");
             first_difference("state", state, &node.state);
             first_difference("table", table, &node.table);
@@ -386,15 +460,18 @@ impl Test {
             node.state.clone_from(&self.before_state);
             node.table.clone_from(&self.before_table);
         }
-        self.last_out = found_out;
-        self.figures.count(call, expected);
+        (self.last_answer, self.last_out) = (found, found_out);
+        self.figures.count(caller, call, expected);
+        self.figures.sizes[size] += 1;
+        if !may {
+            return expected;
+        }
         if matches!(call, Call::Draw { .. }) {
             self.figures.queues.count_draw(answer, waited, waiting_of(call, node.twin.as_ref()));
         }
         if let Some(member) = &node.twin {
             self.figures.count_of(call, answer, member, &expected_out);
         }
-        self.figures.sizes[size] += 1;
         expected
     }
 
@@ -402,9 +479,9 @@ impl Test {
     fn lengths(&mut self, node: &Node) -> (usize, usize) {
         let (mut ns, mut nt) = (node.state.len(), node.table.len());
         if self.rng.chance(8) {
-            // At times a state of before there was a margin.
+            // At times a state of before there was a margin, or of before there were rights.
             let any = self.rng.below(STATE_WORDS as u64 + 1) as usize;
-            ns = if self.rng.chance(300) { MARGIN } else { any };
+            ns = if self.rng.chance(500) { self.rng.pick(&[MARGIN, RIGHTS]) } else { any };
         }
         if self.rng.chance(12) {
             let needed = node.twin.as_ref().map_or(nt, |m| table_words(m.settings.ceiling));
@@ -445,7 +522,8 @@ impl Test {
                 any_call(&mut self.rng, hint, pool)
             };
             let lengths = self.lengths(&copy);
-            self.call(&mut copy, &call, lengths);
+            let caller = self.caller_of(&call);
+            self.call_by(caller, &mut copy, &call, lengths);
         }
         if copy.twin.is_some() && self.rng.chance(if made_up { 10 } else { 100 }) {
             *node = copy;
@@ -458,12 +536,11 @@ impl Test {
         let mut pool = Pool::default();
         let mut nodes: Vec<Node> = Vec::new();
         for own in &plan.owns {
-            let member =
-                Member::open(*own, &plan.sheet, plan.ceiling).expect("a plan's sheet is fine");
             let mut node = if plan.grown == 0 {
                 self.opened(&plan, *own)
             } else {
-                let grown = grow(&mut self.rng, member, plan.grown, &plan);
+                let opened = plan.open(&mut self.rng, *own);
+                let grown = grow(&mut self.rng, opened, plan.grown, &plan);
                 Node::of(grown, &mut self.rng)
             };
             if self.rng.chance(500) {
@@ -490,8 +567,17 @@ impl Test {
             }
             let call = likely_call(&mut self.rng, twin, &mut pool);
             let lengths = self.lengths(node);
-            let answer = self.call(node, &call, lengths);
+            let caller = self.caller_of(&call);
+            let answer = self.call_by(caller, node, &call, lengths);
             pool.note(&call, answer, node.twin.as_ref().unwrap());
+        }
+    }
+
+    /// Who makes a call: the host, mostly.
+    fn caller_of(&mut self, call: &Call) -> Caller {
+        match call {
+            Call::Open { .. } => Caller::Host,
+            _ => any_caller(&mut self.rng),
         }
     }
 
@@ -503,7 +589,8 @@ impl Test {
         let table = (0..length).map(|_| rng.word()).collect();
         let mut node = Node { state, table, twin: None };
         node.read_again();
-        let call = Call::Open { own, sheet: sheet_words(rng, &plan.sheet) };
+        let rights = rights_word(&any_rights(rng));
+        let call = Call::Open { own, sheet: sheet_words(rng, &plan.sheet), rights };
         let lengths = (node.state.len(), node.table.len());
         self.call(&mut node, &call, lengths);
         assert!(node.twin.is_some(), "a plan's open is accepted");
@@ -521,12 +608,14 @@ fn main() {
     let queued = arguments.next().map_or(50_000, |a| a.parse().expect("QUEUED is a number"));
     let previewed = arguments.next().map_or(20_000, |a| a.parse().expect("PREVIEWED is a number"));
     let criticals = arguments.next().map_or(20_000, |a| a.parse().expect("CRITICALS is a number"));
+    let guested = arguments.next().map_or(50_000, |a| a.parse().expect("GUESTED is a number"));
     let mut test = Test {
         seed,
         rng: Rng::of(seed),
         figures: Figures::default(),
         before_state: Vec::new(),
         before_table: Vec::new(),
+        last_answer: 0,
         last_out: Vec::new(),
     };
     for ceiling in (0..2_000).chain([65_535, u32::MAX]) {
@@ -552,6 +641,10 @@ fn main() {
     let accepted = test.criticals(criticals);
     let calls_made = test.figures.calls - before;
     println!("{criticals} lists of what a commit hangs on and more, {accepted} of them accepted, commits after them: {calls_made} calls");
+    let before = test.figures.calls;
+    test.guests(guested);
+    let calls_made = test.figures.calls - before;
+    println!("{guested} calls of guests and more, the host's own beside them: {calls_made} calls");
     let enough = test.figures.calls + calls;
     while test.figures.calls < enough {
         test.stretch();

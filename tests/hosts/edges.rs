@@ -62,7 +62,7 @@ fn endorser_edges(author: u32) -> [u32; 9] {
     [0, all & !own, own << 1, own, all, 65_536, 65_536 | all & !own, u32::MAX & !own, u32::MAX]
 }
 
-const STATE_EDGES: [(usize, &[u32]); 16] = [
+const STATE_EDGES: [(usize, &[u32]); 17] = [
     (0, &[0, 15, 16, u32::MAX]),
     (1, &[0, 1, 999, 1_000, 1_001, u32::MAX]),
     (2, &[0, 2, 3, 4, 63, 64, 65, 1_023, 1_024, 1_025, u32::MAX]),
@@ -79,6 +79,7 @@ const STATE_EDGES: [(usize, &[u32]); 16] = [
     (27, &[0, 1, 1_000, 1_001, u32::MAX]),
     (36, &[0, 1, u32::MAX]),
     (MARGIN, &[0, 1, 2, 3, 4, 5, 6, 7, u32::MAX]),
+    (RIGHTS, &[0, 1, 3, 255, 256, 1 << 31, u32::MAX]),
 ];
 
 /// Word of a row, and values.
@@ -281,7 +282,7 @@ impl Test {
         let needed = table_words(member.settings.ceiling);
         const N: usize = STATE_WORDS;
         for lengths in
-            [(N, needed), (MARGIN, needed), (N - 2, needed), (N, needed - 1), (N, ROW), (N, 0), (0, needed), (0, 0)]
+            [(N, needed), (RIGHTS, needed), (MARGIN, needed), (N - 3, needed), (N, needed - 1), (N, ROW), (N, 0), (0, needed), (0, 0)]
         {
             self.try_all(node, &calls, lengths);
         }
@@ -357,5 +358,6 @@ impl Test {
         self.queue_edges();
         self.preview_edges();
         self.critical_edges();
+        self.guest_edges();
     }
 }

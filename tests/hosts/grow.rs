@@ -70,6 +70,18 @@ fn any_margin(rng: &mut Rng) -> Setting {
     }
 }
 
+/// Rights for nobody, all of them, one of one caller, all but one, or any.
+pub fn any_rights(rng: &mut Rng) -> Rights {
+    let one = 1 << rng.below(32);
+    read_rights(match rng.below(10) {
+        0 => 0,
+        1..=3 => u32::MAX,
+        4 => one,
+        5 => !one,
+        _ => rng.next() as u32,
+    })
+}
+
 impl Plan {
     pub fn any(rng: &mut Rng) -> Plan {
         let ceiling = match rng.below(1_000) {
@@ -116,6 +128,13 @@ impl Plan {
             contested: rng.between(0, 15),
             busy: rng.pick(&[0, 50, 200, 600]),
         }
+    }
+
+    /// An open of one of its members, with rights by chance: members of a run need
+    /// not have the same.
+    pub fn open(&self, rng: &mut Rng, own: u32) -> Member {
+        let rights = any_rights(rng);
+        Member::open_with(own, &self.sheet, &rights, self.ceiling).expect("a plan's sheet is fine")
     }
 
     fn transaction(&self, rng: &mut Rng) -> Transaction {
@@ -376,7 +395,7 @@ pub fn make_up_chain(rng: &mut Rng, member: &Member, state: &mut [u32], table: &
 
 fn change_state(rng: &mut Rng, member: &Member, state: &mut [u32]) {
     let settings = &member.settings;
-    let (at, value) = match rng.below(20) {
+    let (at, value) = match rng.below(22) {
         0 => (0, rng.between(0, 16)),
         1 => (1, rng.pick(&[0, 1, 2, 3, 1_000, 1_001])),
         2 => (1, rng.between(1, settings.ceiling.min(1_000))),
@@ -393,6 +412,7 @@ fn change_state(rng: &mut Rng, member: &Member, state: &mut [u32]) {
         15 | 16 => (MARGIN, rng.between(3, 5)),
         17 => (MARGIN, rng.pick(&[0, 1, 2, 6, 7, 1 << 16 | 3, u32::MAX])),
         18 => (MARGIN, rng.word()),
+        19 | 20 => (RIGHTS, rights_word(&any_rights(rng))),
         _ => (rng.below(state.len() as u64) as usize, rng.word()),
     };
     state[at] = value;

@@ -3,7 +3,11 @@
 
 uint64_t header_chain(const uint32_t *state, size_t state_words, const uint32_t *table, size_t table_words,
                       uint32_t *out, size_t out_words);
+uint64_t header_guest_chain(uint32_t caller, const uint32_t *state, size_t state_words, const uint32_t *table,
+                            size_t table_words, uint32_t *out, size_t out_words);
 int header_is_well_formed(const uint32_t *state, size_t state_words, const uint32_t *table, size_t table_words);
+int header_may(const uint32_t *state, size_t state_words, unsigned right, uint32_t caller);
+uint32_t header_rights(uint32_t propose, uint32_t sign, uint32_t drive, uint32_t read);
 uint32_t header_leader(uint32_t round, const uint32_t *weights);
 const char *header_refusal_text(uint32_t number);
 const char *header_version(void);
@@ -20,8 +24,21 @@ uint64_t header_chain(const uint32_t *state, size_t state_words, const uint32_t 
     return forgelilac_chain(state, state_words, table, table_words, out, out_words);
 }
 
+uint64_t header_guest_chain(uint32_t caller, const uint32_t *state, size_t state_words, const uint32_t *table,
+                            size_t table_words, uint32_t *out, size_t out_words) {
+    return forgelilac_guest_chain(caller, state, state_words, table, table_words, out, out_words);
+}
+
 int header_is_well_formed(const uint32_t *state, size_t state_words, const uint32_t *table, size_t table_words) {
     return forgelilac_is_well_formed(state, state_words, table, table_words);
+}
+
+int header_may(const uint32_t *state, size_t state_words, uint32_t caller, unsigned right) {
+    return forgelilac_may(state, state_words, caller, right);
+}
+
+uint32_t header_rights(uint32_t propose, uint32_t sign, uint32_t drive, uint32_t read) {
+    return FORGELILAC_RIGHTS(propose, sign, drive, read);
 }
 
 uint32_t header_leader(uint32_t round, const uint32_t *weights) { return forgelilac_leader(round, weights); }
@@ -63,7 +80,8 @@ uint32_t header_number(uint32_t which) {
         FORGELILAC_QUEUE(0u), FORGELILAC_QUEUE(7u), FORGELILAC_ENTRY_WORDS, FORGELILAC_ENTRY_BLOCK,
         FORGELILAC_ENTRY_ROUND, FORGELILAC_ENTRY_AUTHOR, FORGELILAC_PREVIEW_WORDS(64u), FORGELILAC_STATE_MARGIN,
         2 * FORGELILAC_MARGIN + 2, FORGELILAC_PLACE_WORDS, FORGELILAC_PLACE_ROUND, FORGELILAC_PLACE_AUTHOR,
-        FORGELILAC_CRITICAL_WORDS,
+        FORGELILAC_CRITICAL_WORDS, FORGELILAC_STATE_RIGHTS, FORGELILAC_NO_RIGHTS, FORGELILAC_RIGHT_PROPOSE,
+        FORGELILAC_RIGHT_SIGN, FORGELILAC_RIGHT_DRIVE, FORGELILAC_RIGHT_READ, FORGELILAC_NO_RIGHT,
     };
     return which < sizeof numbers / sizeof numbers[0] ? numbers[which] : UINT32_MAX;
 }

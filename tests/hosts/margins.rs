@@ -237,7 +237,7 @@ impl Test {
             let answer = first.map_or(0, |(_, number)| number << 32);
             let words = table_words(3) - short;
             let mut node = Node { state: vec![7; STATE_WORDS + 2], table: vec![7; words], twin: None };
-            let found = self.call(&mut node, &Call::Open { own, sheet }, (STATE_WORDS + 2, words));
+            let found = self.call(&mut node, &Call::Open { own, sheet, rights: 9 }, (STATE_WORDS + 2, words));
             assert_eq!(found, answer, "margin {written}, {value}");
             if answer == 0 {
                 let margin = node.twin.expect("opened").settings.margin;
@@ -246,11 +246,12 @@ impl Test {
         }
     }
 
-    /// Sheets and states of before there was a margin, and lengths beside them.
+    /// Sheets and states of before there was a margin, states of before there were
+    /// rights, and lengths beside them.
     fn try_open_lengths(&mut self) {
-        for (words, sheet) in (36..=40).flat_map(|words| (36..=42).map(move |sheet| (words, sheet))) {
-            let call = Call::Open { own: 0, sheet: [[1, 3]; 21].concat()[..sheet].to_vec() };
-            let mut node = Node { state: vec![7; 40], table: vec![7; table_words(3)], twin: None };
+        for (words, sheet) in (36..=41).flat_map(|words| (36..=42).map(move |sheet| (words, sheet))) {
+            let call = Call::Open { own: 0, sheet: [[1, 3]; 21].concat()[..sheet].to_vec(), rights: 9 };
+            let mut node = Node { state: vec![7; 41], table: vec![7; table_words(3)], twin: None };
             let found = self.call(&mut node, &call, (words, table_words(3)));
             let fits = words >= STATE_WORDS && sheet >= SHEET_WORDS;
             assert_eq!(found, if fits { 0 } else { 1 << 32 }, "{words} and {sheet} words");

@@ -26,6 +26,8 @@ BEFORE_STATE = ("    let mut before = [3; STATE_WORDS];\n"
 BEFORE_SHEET = ("    let mut before = [0; 40];\n"
                 "    before[..sheet.len().min(38)].copy_from_slice(&sheet[..sheet.len().min(38)]);\n"
                 "    let sheet: &[u32; 40] = if sheet.len() == 38 { &before } else { sheet.first_chunk().ok_or(1u32)? };\n")
+# A state of before there were rights, taken for one that gives nobody a right.
+BEFORE_RIGHTS = BEFORE_STATE.replace("[3; STATE", "[0; STATE").replace("37", "38")
 
 # Checks of advance.
 CEILING = "    if r == s.ceiling() {\n        return Err(18);\n    }\n"
@@ -55,6 +57,63 @@ DECIDES = "weight - self.committee.weights[*a & 15] <= bound"
 CLEARED = "        table[at] = held & !(1 << a);\n"
 ASKED = "        missed |= u32::from(check_commit(state, table).is_err()) << a;\n"
 SET_AGAIN = "        table[at] = held;\n    }\n    missed\n"
+
+
+# Of guests: the two checks of a caller, and where the rights stand.
+ABOVE = "        if caller >= GUESTS {\n            return Err(26);\n        }\n"
+RIGHTS = "state.get(RIGHTS).copied().unwrap_or(0)"
+HAS_NOT = "rights >> self.shift >> caller & 1 == 0"
+LACKS = "        let rights = " + RIGHTS + ";\n        if " + HAS_NOT + " {\n            return Err(29);\n        }\n"
+GIVEN = "    fresh[RIGHTS] = rights;\n"
+
+# The right that each call of a guest needs, and what its function hands on.
+NEEDS = {
+    "propose": ("PROPOSE", "state, table, body"),
+    "draw": ("PROPOSE", "state, table, previous"),
+    "enqueue": ("PROPOSE", "state, table, caller, transaction"),
+    "endorse": ("SIGN", "state, table, proposal"),
+    "certify": ("SIGN", "state, table, endorsers"),
+    "accept": ("SIGN", "state, table, certificate"),
+    "batch": ("SIGN", "state, table, row, answers"),
+    "advance": ("DRIVE", "state, table"),
+    "commit": ("DRIVE", "state, table"),
+    "committee": ("READ", "state, table, round, out"),
+    "share": ("READ", "state, table, member, round"),
+    "certificate": ("READ", "state, table, author, round, out"),
+    "block": ("READ", "state, table, number"),
+    "preview": ("READ", "state, table, list"),
+    "critical": ("READ", "state, table, list"),
+}
+
+
+def check_of(call):
+    """The check of a guest's call, and what comes after it."""
+    right, values = NEEDS[call]
+    return "%s.check(state, caller).and_then(|()| try_%s(%s))" % (right, call, values)
+
+
+def by_other_rights(call):
+    """The same call by each other right: of another byte, or of two of them."""
+    right = NEEDS[call][0]
+    others = [other for other in ("PROPOSE", "SIGN", "DRIVE", "READ") if other != right]
+    other = others[sorted(NEEDS).index(call) % 3]
+    check = right + ".check(state, caller)"
+    return [(check_of(call), check_of(call).replace(right + ".", other + ".")),
+            (check_of(call), check_of(call).replace(check, "%s.or_else(|_| %s.check(state, caller))" % (check, other)))]
+
+
+def refused_after(call, what):
+    """Where the right is missing, something is done all the same."""
+    check = NEEDS[call][0] + ".check(state, caller)"
+    return (check_of(call), check_of(call).replace(check, check + ".inspect_err(|_| " + what + ")"))
+
+
+def asked_after(call, what):
+    """Something else is asked before the right."""
+    return (check_of(call), "%s.and_then(|_| %s)" % (what, check_of(call)))
+
+
+WELL_FORMED = "survey(state, table, Weights::None, &mut Links::new()).map(|_| ())"
 
 
 def after_listing(what):
@@ -157,8 +216,8 @@ MUTANTS = [
     ("margin: self.state[MARGIN] }", "margin: self.state[36].clamp(3, 5) }"),
     ("margin: self.state[MARGIN] }", "margin: self.state[4].clamp(3, 5) }"),
     # dropped with the proposal, by advance and by commit; known rounds, leaders and shares by it
-    ("    state[PROPOSED] = 0;\n    state[BODY..MARGIN].fill(0);\n", "    state[PROPOSED] = 0;\n    state[BODY..STATE_WORDS].fill(0);\n"),
-    ("        0 => state[BODY..MARGIN].fill(0),\n", "        0 => state[BODY..STATE_WORDS].fill(0),\n"),
+    ("    state[PROPOSED] = 0;\n    state[BODY..MARGIN].fill(0);\n", "    state[PROPOSED] = 0;\n    state[BODY..RIGHTS].fill(0);\n"),
+    ("        0 => state[BODY..MARGIN].fill(0),\n", "        0 => state[BODY..RIGHTS].fill(0),\n"),
     ("if round > self.last + 2 + self.lookback() {", "if round > self.last + self.state[MARGIN] - 1 + self.lookback() {"),
     ("for _ in 0..(round / 2) % left", "for _ in 0..(round / 2 + self.margin - 3) % left"),
     ("(1_000 * weight / total, 1_000 * weight % total)", "((997 + u64::from(committee.margin)) * weight / total, 1_000 * weight % total)"),
@@ -576,6 +635,102 @@ MUTANTS = [
     # links: the records of a round the other way round, blocks one off
     ("for a in members(changing) {", "for a in (0..16).rev().filter(|a| changing >> a & 1 == 1) {"),
     ("blocks: if survey.changed { survey.blocks() } else { 0 },", "blocks: survey.blocks().saturating_sub(1),"),
+    # guests: the right of a neighbour, of the next, of anybody, of the caller mirrored; any right of the caller, all four
+    (HAS_NOT, "rights >> self.shift >> (caller ^ 1) & 1 == 0"),
+    (HAS_NOT, "rights >> self.shift >> ((caller + 1) & 7) & 1 == 0"),
+    (HAS_NOT, "rights >> self.shift & 0xff == 0"),
+    (HAS_NOT, "rights >> self.shift >> (7 - caller) & 1 == 0"),
+    (HAS_NOT, "rights >> caller & 0x0101_0101 == 0"),
+    (HAS_NOT, "rights >> caller & 0x0101_0101 != 0x0101_0101"),
+    # four rights by caller, the rights from behind; missing ones for given ones; no right asked
+    (HAS_NOT, "rights >> (4 * caller + self.shift / 8) & 1 == 0"),
+    (HAS_NOT, "rights >> (24 - self.shift) >> caller & 1 == 0"),
+    (HAS_NOT, "rights >> self.shift >> caller & 1 == 1"),
+    (LACKS, ""),
+    # 29 before 26; callers above 7 taken as below, asked for the next right; caller 8 let in, caller 7 not
+    (ABOVE + LACKS, LACKS.replace(">> caller", ">> (caller & 7)") + ABOVE),
+    (ABOVE, "        let caller = caller % GUESTS;\n"),
+    (ABOVE, ""),
+    (ABOVE, ABOVE.replace(">=", ">")),
+    (ABOVE, ABOVE.replace("GUESTS", "GUESTS - 1")),
+    # 26 given as 29, 29 as 26, 29 as 1
+    (ABOVE, ABOVE.replace("26", "29")),
+    (LACKS, LACKS.replace("29", "26")),
+    (LACKS, LACKS.replace("29", "1")),
+    # a stretch too short gives all, gets 1, gives the last of its words, the margin
+    (RIGHTS, RIGHTS.replace("0)", "u32::MAX)")),
+    (RIGHTS, "*state.get(RIGHTS).ok_or(1u32)?"),
+    (RIGHTS, "state.get(RIGHTS).or(state.last()).copied().unwrap_or(0)"),
+    (RIGHTS, "state.get(RIGHTS).or(state.get(MARGIN)).copied().unwrap_or(0)"),
+    # read from the word before, from the last of a longer stretch
+    (RIGHTS, RIGHTS.replace("RIGHTS", "MARGIN")),
+    (RIGHTS, "state.get(RIGHTS).and(state.last()).copied().unwrap_or(0)"),
+    # the state tested before the right: its length, its number, all of it and the table; of single calls
+    (ABOVE, "        if state.len() < STATE_WORDS {\n            return Err(1);\n        }\n" + ABOVE),
+    (LACKS, "        if state.first().is_some_and(|&own| own > 15) {\n            return Err(1);\n        }\n" + LACKS),
+    *[asked_after(call, WELL_FORMED) for call in ("propose", "advance", "commit", "accept", "block", "critical")],
+    # words that cannot be read, room for the answers, a queue's guest before the right
+    asked_after("certify", "if endorsers >> 16 > 0 { Err(1) } else { Ok(()) }"),
+    asked_after("draw", "if previous >> 16 > 0 { Err(1) } else { Ok(()) }"),
+    asked_after("accept", "if certificate.len() < 17 { Err(1) } else { Ok(()) }"),
+    asked_after("propose", "body.first_chunk().filter(|body| readable(body)).ok_or(1u32)"),
+    asked_after("committee", "if out.len() < 16 { Err(1) } else { Ok(()) }"),
+    asked_after("batch", "if answers.len() < row.len() { Err(25) } else { Ok(()) }"),
+    asked_after("critical", "if list.len() < 64 { Err(25) } else { Ok(()) }"),
+    asked_after("enqueue", "if transaction.len() < 3 { Err(1) } else { Ok(()) }"),
+    (check_of("enqueue"), "if caller < GUESTS { Ok(()) } else { try_enqueue(state, table, caller, transaction) }.and_then(|()| " + check_of("enqueue") + ")"),
+    # sign lets propose, drive lets read, and so on: another right in the place of one, another right as well
+    *[row for call in sorted(NEEDS) for row in by_other_rights(call)],
+    # a batch needs the right to drive; drawing needs none
+    (check_of("batch"), check_of("batch").replace("SIGN", "DRIVE")),
+    (check_of("draw"), "try_draw(state, table, previous)"),
+    # refused for the right, a word is written: of a list, of answers, of an out stretch, of the state, of the table
+    refused_after("preview", "list.iter_mut().take(1).for_each(|word| *word = 0)"),
+    refused_after("critical", "list.fill(0)"),
+    refused_after("critical", "if let Some(word) = list.last_mut() { *word ^= 1 }"),
+    refused_after("batch", "answers.iter_mut().for_each(|word| *word = 29)"),
+    refused_after("committee", "out.fill(0)"),
+    refused_after("certificate", "out.iter_mut().take(1).for_each(|word| *word = author)"),
+    refused_after("advance", "if let Some(word) = state.get_mut(PROPOSED) { *word = 0 }"),
+    refused_after("propose", "if let Some(word) = state.get_mut(RIGHTS) { *word ^= 1 }"),
+    refused_after("commit", "table.iter_mut().take(1).for_each(|word| *word ^= 1)"),
+    refused_after("accept", "table.iter_mut().last().into_iter().for_each(|word| *word ^= 1)"),
+    # refused for the right, something of the state is told: the round beside the number, another number in a later round
+    ("    wide(" + check_of("block") + ")\n", "    wide(" + check_of("block") + ") | u64::from(caller < GUESTS && state.get(RIGHTS) == Some(&0) && state[BLOCKS] > 0)\n"),
+    ("    wide(" + check_of("commit") + ")\n", "    let told = table.first().is_some_and(|&served| served > 0);\n    let answer = wide(" + check_of("commit")
+     + ");\n    if answer >> 32 == 29 && told { 28 << 32 } else { answer }\n"),
+    # the number in the low half, the value lost
+    ("    wide(" + check_of("share") + ")\n", "    let answer = wide(" + check_of("share") + ");\n    if answer >> 32 == 29 { 29 } else { answer }\n"),
+    ("    wide(" + check_of("preview") + ")\n", "    wide(" + check_of("preview") + ") & !0xffff_ffff\n"),
+    # to another queue: the next, a neighbour's, the first, the one that the words name; the host's own
+    (check_of("enqueue"), check_of("enqueue").replace("caller, transaction", "(caller + 1) % GUESTS, transaction")),
+    (check_of("enqueue"), check_of("enqueue").replace("caller, transaction", "caller ^ 1, transaction")),
+    (check_of("enqueue"), check_of("enqueue").replace("caller, transaction", "0, transaction")),
+    (check_of("enqueue"), check_of("enqueue").replace("caller, transaction", "transaction.get(1).copied().unwrap_or(0) % 8, transaction")),
+    # a guest draws only what it has added, or else nothing
+    asked_after("draw", "if table.get(WAITING + caller as usize & 15) == Some(&0) { Err(29) } else { Ok(()) }"),
+    # an open keeps the old rights, adds to them, gives none, all, those of seven callers; refuses some
+    (GIVEN, "    fresh[RIGHTS] = state[RIGHTS];\n"),
+    (GIVEN, "    fresh[RIGHTS] = rights | state[RIGHTS];\n"),
+    (GIVEN, ""),
+    (GIVEN, "    fresh[RIGHTS] = u32::MAX;\n"),
+    (GIVEN, GIVEN.replace("rights;", "rights & 0x7f7f_7f7f;")),
+    (GIVEN, "    if rights == 0 {\n        return Err(2);\n    }\n" + GIVEN),
+    (GIVEN, "    if rights >> 31 > 0 {\n        return Err(2);\n    }\n" + GIVEN),
+    # refused, it writes them
+    ("    if own > 15 {\n        return Err(4);\n    }\n    let mut fresh", "    state[RIGHTS] = rights;\n    if own > 15 {\n        return Err(4);\n    }\n    let mut fresh"),
+    # not well formed without a right; states of before there were rights let in
+    ("        && (3..=5).contains(&state[MARGIN])\n", "        && (3..=5).contains(&state[MARGIN])\n        && state[RIGHTS] != 0\n"),
+    ("    let state: &State = state.first_chunk().ok_or(1u32)?;\n    if !head_is_fine", BEFORE_RIGHTS + "    if !head_is_fine"),
+    # another call changes them: they go with the proposal, a guest gets one more by a call that it may make
+    ("    state[PROPOSED] = 0;\n    state[BODY..MARGIN].fill(0);\n", "    state[PROPOSED] = 0;\n    state[BODY..MARGIN].fill(0);\n    state[RIGHTS] = 0;\n"),
+    ("        0 => state[BODY..MARGIN].fill(0),\n", "        0 => {\n            state[BODY..MARGIN].fill(0);\n            state[RIGHTS] = 0;\n        }\n"),
+    ("    clear_unused(&mut state[BODY..MARGIN]);\n}", "    clear_unused(&mut state[BODY..MARGIN]);\n    state[RIGHTS] &= !1;\n}"),
+    (check_of("advance"), check_of("advance") + ".inspect(|_| state[RIGHTS] |= 1 << caller)"),
+    # the host's own calls ask for a right
+    ("    number(try_advance(state, table))\n", "    number(DRIVE.check(state, 0).and_then(|()| try_advance(state, table)))\n"),
+    ("    number(try_enqueue(state, table, guest, transaction))\n", "    number(PROPOSE.check(state, guest).and_then(|()| try_enqueue(state, table, guest, transaction)))\n"),
+    ("    wide(try_block(state, table, number))\n", "    wide(READ.check(state, 0).and_then(|()| try_block(state, table, number)))\n"),
     # order of checks
     ("if author > 15 {\n            return Err(4);\n        }\n        if !self.in_range(round) {\n            return Err(5);\n        }",
      "if !self.in_range(round) {\n            return Err(5);\n        }\n        if author > 15 {\n            return Err(4);\n        }"),

@@ -238,7 +238,7 @@ impl Test {
             // 1 comes first: a state or a table too short, a number out of range.
             let call = Call::Preview { list: vec![77; words] };
             let table = table_words(ceiling);
-            for lengths in [(MARGIN, table), (0, table), (STATE_WORDS, table - 1), (STATE_WORDS, 0), (0, 0)] {
+            for lengths in [(RIGHTS, table), (MARGIN, table), (0, table), (STATE_WORDS, table - 1), (STATE_WORDS, 0), (0, 0)] {
                 assert_eq!(self.preview(&mut node.clone(), &call, lengths), 1 << 32);
             }
             assert_eq!(self.preview(&mut node.clone(), &call, (STATE_WORDS, table)) >> 32 == 0, enough);
@@ -284,7 +284,7 @@ impl Test {
         while asked(self) < enough {
             let plan = Plan::any(&mut self.rng);
             let own = plan.owns.first().copied().unwrap_or(0);
-            let opened = Member::open(own, &plan.sheet, plan.ceiling).expect("a plan's sheet is fine");
+            let opened = plan.open(&mut self.rng, own);
             let to = self.rng.between(1, plan.ceiling);
             let mut member = grow(&mut self.rng, opened, to, &plan);
             for _ in 0..self.rng.between(1, 4) {

@@ -304,7 +304,8 @@ impl Test {
             sheet.weights = [Setting::Written(0); 16];
             sheet.weights[own as usize] = Setting::Written(self.rng.between(1, 5));
         }
-        let opened = Member::open(own, &sheet, plan.ceiling).expect("a plan's sheet is fine");
+        let rights = any_rights(&mut self.rng);
+        let opened = Member::open_with(own, &sheet, &rights, plan.ceiling).expect("a plan's sheet is fine");
         let mut member = match plan.grown {
             0 => opened,
             to => grow(&mut self.rng, opened, to, &plan),

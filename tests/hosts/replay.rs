@@ -4,13 +4,15 @@
 //! read must be the reference's listing, to the byte. Of two proposes one goes by the queues: its
 //! transactions are added, and it becomes a draw. After each record a preview says what a commit
 //! would do, and what a commit then adds must be what the preview before it has said; and a list says
-//! what that commit hangs on.
+//! what that commit hangs on. Four guests have one right each. Two records of three are answered through
+//! the guest that may; before that all others are refused, with 29 or 26, and nothing changes.
 
 #[path = "../../reference/runner_ref.rs"]
 mod runner_ref;
 
 use forgelilac::layout::{preview_words, CRITICAL_WORDS};
-use forgelilac::{table_words, Certificate, Critical, Engine, Entry, Held, Proposal, Refusal, Sheet, Transaction, MEMBERS, STATE_WORDS};
+use forgelilac::{table_words, Certificate, Critical, Engine, Entry, Held, Proposal, Refusal, Right, Rights};
+use forgelilac::{Sheet, Transaction, MEMBERS, STATE_WORDS};
 use runner_ref::reference::{self, Setting};
 use runner_ref::{for_each_record, read_record, Outcome, Record, Runner, SERVES};
 use std::fmt::{Debug, Write};
@@ -44,6 +46,25 @@ fn proposal(proposal: &reference::Proposal) -> Proposal {
         previous: proposal.previous,
         transactions: proposal.transactions.iter().map(transaction).collect(),
     }
+}
+
+/// Guest 0 may propose, 1 sign, 2 drive, 3 read; the others have no right.
+const RIGHTS: Rights = Rights { propose: 1 << 0, sign: 1 << 1, drive: 1 << 2, read: 1 << 3 };
+
+/// The right that a guest needs for a record's call; nothing for open, which is the host's alone.
+fn needs(record: &Record) -> Option<Right> {
+    match record {
+        Record::Open { .. } => None,
+        Record::Propose { .. } => Some(Right::Propose),
+        Record::Endorse(_) | Record::Certify { .. } | Record::Accept(_) => Some(Right::Sign),
+        Record::Advance | Record::Commit => Some(Right::Drive),
+        Record::Chain => Some(Right::Read),
+    }
+}
+
+/// The answer of a commit.
+fn counted(answer: Result<u32, Refusal>) -> Outcome {
+    answer.map_or_else(|refusal| Outcome::Refused(refusal.number()), Outcome::Count)
 }
 
 /// The chain as a runner lists it, by reads of the bindings.
@@ -112,6 +133,9 @@ struct Replay {
     /// Lists of what a commit hangs on that were accepted, and their places.
     criticals: u64,
     places: u64,
+    /// Calls made through the guest that may, and through others.
+    guests: u64,
+    refused: u64,
 }
 
 impl Replay {
@@ -131,12 +155,14 @@ impl Replay {
             foretold: 0,
             criticals: 0,
             places: 0,
+            guests: 0,
+            refused: 0,
         }
     }
 
     fn open(&mut self, own: u32, settings: &reference::Sheet) -> Outcome {
         let table = vec![0; table_words(SERVES) as usize];
-        outcome(Engine::open_on(table, own, &sheet(settings)).map(|engine| self.engine = engine))
+        outcome(Engine::open_on(table, own, &sheet(settings), RIGHTS).map(|engine| self.engine = engine))
     }
 
     /// The engine's answer to a readable record.
@@ -155,12 +181,46 @@ impl Replay {
                 outcome(engine.accept(&certificate))
             }
             Record::Advance => outcome(engine.advance()),
-            Record::Commit => match engine.commit() {
-                Ok(count) => Outcome::Count(count),
-                Err(refusal) => Outcome::Refused(refusal.number()),
-            },
+            Record::Commit => counted(engine.commit()),
             Record::Chain => outcome(engine.chain().map(|_| ())),
         }
+    }
+
+    /// The engine's answer to a readable record that a guest asks for; an open is the host's.
+    fn answer_guest(&mut self, caller: u32, record: &Record) -> Outcome {
+        let mut guest = self.engine.guest(caller);
+        match record {
+            Record::Open { own, sheet } => self.open(*own, sheet),
+            Record::Propose { previous, transactions } => {
+                let all: Vec<_> = transactions.iter().map(transaction).collect();
+                outcome(guest.propose(*previous, &all))
+            }
+            Record::Endorse(one) => outcome(guest.endorse(&proposal(one))),
+            Record::Certify { endorsers } => outcome(guest.certify(*endorsers)),
+            Record::Accept(one) => {
+                let certificate = Certificate { proposal: proposal(&one.proposal), endorsers: one.endorsers };
+                outcome(guest.accept(&certificate))
+            }
+            Record::Advance => outcome(guest.advance()),
+            Record::Commit => counted(guest.commit()),
+            Record::Chain => outcome(guest.chain().map(|_| ())),
+        }
+    }
+
+    /// By the host, or by the guest that may, once the others were refused.
+    fn answer_by_some(&mut self, record: &Record) -> Outcome {
+        let Some(right) = needs(record).filter(|_| self.records % 3 > 0 && self.runner.member.is_some()) else {
+            return self.answer(record);
+        };
+        let before = self.engine.clone();
+        for caller in (0..10).filter(|&caller| caller != right as u32) {
+            let number = if caller < 8 { 29 } else { 26 };
+            assert_eq!(self.answer_guest(caller, record), Outcome::Refused(number), "record {}", self.records);
+            assert!(self.engine == before, "a refused guest changed a word at record {}", self.records);
+            self.refused += 1;
+        }
+        self.guests += 1;
+        self.answer_guest(right as u32, record)
     }
 
     /// The transactions of a propose go to queues, and what is drawn is proposed.
@@ -170,12 +230,19 @@ impl Replay {
             let guest = (self.records as u32 * 5 + place as u32 * 3) % 9;
             let answer = member.enqueue(guest, one);
             self.added += u64::from(answer.is_ok());
-            let found = self.engine.enqueue(guest, transaction(one));
+            // Guest 0 adds its own.
+            let found = match guest {
+                0 => self.engine.guest(0).enqueue(transaction(one)),
+                _ => self.engine.enqueue(guest, transaction(one)),
+            };
+            self.guests += u64::from(guest == 0);
             self.same(found, answer);
         }
         let answer = member.draw(previous);
         self.drawn += u64::from(answer.is_ok());
-        let found = self.engine.draw(previous);
+        let by_guest = self.records % 4 == 0;
+        let found = if by_guest { self.engine.guest(0).draw(previous) } else { self.engine.draw(previous) };
+        self.guests += u64::from(by_guest);
         self.same(found, answer);
         for guest in 0..8 {
             self.same(self.engine.waiting(guest), Ok(member.waiting(guest) as u32));
@@ -192,7 +259,7 @@ impl Replay {
             (_, member) => {
                 self.runner.member = member;
                 let expected = self.runner.answer(Some(record), &mut Vec::new());
-                assert_eq!(self.answer(record), expected, "record {}", self.records);
+                assert_eq!(self.answer_by_some(record), expected, "record {}", self.records);
             }
         }
         self.records += 1;
@@ -200,6 +267,7 @@ impl Replay {
             assert_eq!(self.engine.round(), member.round());
             assert_eq!(self.engine.proposal(), member.proposal().map(proposal));
             let (expected, hangs_on) = (preview(member), critical(member));
+            self.same(self.engine.reader(3).preview(), expected.clone());
             self.same(self.engine.preview(), expected);
             self.previews += 1;
             self.compare_critical(hangs_on);
@@ -216,6 +284,8 @@ impl Replay {
     /// What a commit hangs on; the engine is as it was.
     fn compare_critical(&mut self, expected: reference::Answer<Vec<Critical>>) {
         let before = self.engine.clone();
+        let found = self.engine.guest(3).critical();
+        self.same(found, expected.clone());
         let found = self.engine.critical();
         assert!(self.engine == before, "a list changed a word after record {}", self.records);
         self.criticals += u64::from(found.is_ok());
@@ -260,7 +330,7 @@ impl Replay {
 
 fn main() -> std::io::Result<()> {
     let (mut streams, mut records, mut reads, mut blocks, mut turned, mut added, mut drawn) = (0, 0, 0, 0, 0, 0, 0);
-    let (mut previews, mut foretold, mut criticals, mut places) = (0, 0, 0, 0);
+    let (mut previews, mut foretold, mut criticals, mut places, mut guests, mut refused) = (0, 0, 0, 0, 0, 0);
     for path in std::env::args().skip(1) {
         let mut replay = Replay::new();
         let mut input = std::io::BufReader::new(std::fs::File::open(path)?);
@@ -282,11 +352,14 @@ fn main() -> std::io::Result<()> {
         foretold += replay.foretold;
         criticals += replay.criticals;
         places += replay.places;
+        guests += replay.guests;
+        refused += replay.refused;
     }
     println!("{streams} streams, {records} records, {reads} reads: the same as the reference");
     println!("{blocks} blocks listed, {turned} of them not by round, then author");
     println!("{added} transactions added to queues, {drawn} draws accepted");
     println!("{previews} previews: the same as the reference; {foretold} commits did what the preview had said");
     println!("{criticals} lists of what a commit hangs on, with {places} places: the same as the reference");
+    println!("{guests} of the calls through a guest that may; {refused} through others: refused with 26 or 29, and nothing changed");
     Ok(())
 }

@@ -2,6 +2,7 @@
 //! rare by chance: they are made on purpose, and pairs just beside them.
 
 use crate::calls::*;
+use crate::grow::*;
 use crate::reference::*;
 use crate::words::*;
 use crate::{Node, Test};
@@ -102,7 +103,8 @@ fn bonded(rng: &mut Rng, weights: &Committee, ceiling: u32) -> Option<Member> {
     let chain = vec![Block::on(&[], &settings, 2, marked, &held)];
     let endorsed = vec![false; held.len()];
     let queues = Queues::default();
-    Some(Member { own: 0, settings, round: 3, proposal: None, held, endorsed, chain, queues, served: None })
+    let rights = any_rights(rng);
+    Some(Member { own: 0, settings, round: 3, proposal: None, held, endorsed, chain, queues, served: None, rights })
 }
 
 impl Test {
@@ -117,7 +119,7 @@ impl Test {
         let weights = weights.map(|w| Setting::Written(w as u32));
         let margin = Setting::Written(self.rng.between(3, 5));
         let sheet = Sheet { ceiling: Setting::Written(3), weights, margin, ..Sheet::all_blank() };
-        let call = Call::Open { own: 0, sheet: sheet_words(&mut self.rng, &sheet) };
+        let call = Call::Open { own: 0, sheet: sheet_words(&mut self.rng, &sheet), rights: self.rng.word() };
         let lengths = (node.state.len(), node.table.len());
         self.call(node, &call, lengths);
         for member in members_of(some) {

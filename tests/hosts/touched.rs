@@ -2,7 +2,9 @@
 //!
 //! Calls by chance on opened and on grown states, on words that the engine wrote and on such with
 //! noise where nothing is looked at. Before and after each call all words are compared; a word that
-//! the page does not name must not have changed, and each word that it names must have, some time.
+//! the page does not name must not have changed, and each word that it names must have, some time. Some
+//! calls are a guest's: with the right they change what the host's would, without it no word. No call but
+//! an open changes the rights.
 
 #![allow(dead_code)]
 
@@ -20,7 +22,7 @@ use forgelilac::{Refusal, Set};
 use grow::*;
 use nodes::Node;
 use rows::some_batch;
-use words::{table_words, MARGIN, ROW, STATE_WORDS};
+use words::{rights_in, rights_word, table_words, MARGIN, RIGHTS, ROW, STATE_WORDS};
 
 /// The engine's answer: the value of commit, share, block and lists, 0 for
 /// others. What a batch answers to each certificate and what is listed is written
@@ -28,7 +30,7 @@ use words::{table_words, MARGIN, ROW, STATE_WORDS};
 fn make(call: &Call, node: &mut Node, answers: &mut [u32]) -> Result<u32, Refusal> {
     let (state, table) = (&mut node.state[..], &mut node.table[..]);
     match call {
-        Call::Open { own, sheet } => lent::open(state, table, *own, sheet).map(|()| 0),
+        Call::Open { own, sheet, rights } => lent::open(state, table, *own, sheet, *rights).map(|()| 0),
         Call::Propose { body } => lent::propose(state, table, body).map(|()| 0),
         Call::Endorse { proposal } => lent::endorse(state, table, proposal).map(|()| 0),
         Call::Certify { endorsers } => {
@@ -53,6 +55,59 @@ fn make(call: &Call, node: &mut Node, answers: &mut [u32]) -> Result<u32, Refusa
         Call::Block { number } => lent::block(state, table, *number),
         Call::Preview { .. } => lent::preview(state, table, answers),
         Call::Critical { .. } => lent::critical(state, table, answers),
+    }
+}
+
+/// The engine's answer to the call as a guest's.
+fn make_by_guest(guest: u32, call: &Call, node: &mut Node, answers: &mut [u32]) -> Result<u32, Refusal> {
+    let (state, table) = (&mut node.state[..], &mut node.table[..]);
+    match call {
+        Call::Open { .. } => unreachable!("a guest never opens"),
+        Call::Propose { body } => lent::guest_propose(guest, state, table, body).map(|()| 0),
+        Call::Endorse { proposal } => lent::guest_endorse(guest, state, table, proposal).map(|()| 0),
+        Call::Certify { endorsers } => {
+            let endorsers = Set::try_from(*endorsers).map_err(|_| Refusal::Malformed)?;
+            lent::guest_certify(guest, state, table, endorsers).map(|()| 0)
+        }
+        Call::Accept { certificate } => lent::guest_accept(guest, state, table, certificate).map(|()| 0),
+        Call::Advance => lent::guest_advance(guest, state, table).map(|()| 0),
+        Call::Commit => lent::guest_commit(guest, state, table),
+        Call::Batch { row, .. } => {
+            let row: Vec<CertificateRecord> = row.iter().map(|&words| words.into()).collect();
+            lent::guest_batch(guest, state, table, &row, answers).map(|()| 0)
+        }
+        Call::Enqueue { transaction, .. } => lent::guest_enqueue(guest, state, table, transaction).map(|()| 0),
+        Call::Draw { previous } => {
+            let previous = Set::try_from(*previous).map_err(|_| Refusal::Malformed)?;
+            lent::guest_draw(guest, state, table, previous).map(|()| 0)
+        }
+        Call::Committee { round, .. } => lent::guest_committee(guest, state, table, *round).map(|_| 0),
+        Call::Share { member, round } => lent::guest_share(guest, state, table, *member, *round),
+        Call::Certificate { author, round, .. } => {
+            lent::guest_certificate(guest, state, table, *author, *round).map(|_| 0)
+        }
+        Call::Block { number } => lent::guest_block(guest, state, table, *number),
+        Call::Preview { .. } => lent::guest_preview(guest, state, table, answers),
+        Call::Critical { .. } => lent::guest_critical(guest, state, table, answers),
+    }
+}
+
+/// A set that the package cannot hand over: it is refused before the engine is asked.
+fn is_no_set(call: &Call) -> bool {
+    match call {
+        Call::Certify { endorsers: set } | Call::Draw { previous: set } => Set::try_from(*set).is_err(),
+        _ => false,
+    }
+}
+
+/// Who makes a call, and the call: a guest adds to its own queue and never opens.
+fn by_whom(rng: &mut Rng, call: Call) -> (Caller, Call) {
+    match (any_caller(rng), call) {
+        (_, call) if matches!(call, Call::Open { .. }) || is_no_set(&call) => (Caller::Host, call),
+        (Caller::Guest(guest), Call::Enqueue { transaction, .. }) => {
+            (Caller::Guest(guest), Call::Enqueue { guest, transaction })
+        }
+        other => other,
     }
 }
 
@@ -179,16 +234,38 @@ struct Figures {
     /// Previews, and those that were accepted; lists of what a commit hangs on.
     previews: [u64; 2],
     criticals: [u64; 2],
+    /// Calls of guests, those that were accepted, and those that were refused with 26 and 29.
+    guests: [u64; 4],
 }
 
 impl Figures {
-    fn call(&mut self, node: &mut Node, call: &Call) -> Result<u32, Refusal> {
+    /// The answer of a call, by the host or by a guest: 26 and 29 are as the rights before it say.
+    fn answer(&mut self, node: &mut Node, caller: Caller, call: &Call, answers: &mut [u32]) -> Result<u32, Refusal> {
+        let Caller::Guest(guest) = caller else { return make(call, node, answers) };
+        let request = call.request().expect("a guest never opens");
+        let may = reference::may_ask(&rights_in(&node.state), guest, request);
+        let before = answers.to_vec();
+        let answer = make_by_guest(guest, call, node, answers);
+        self.guests[0] += 1;
+        self.guests[1] += u64::from(answer.is_ok());
+        // With the right, no call of a guest gets 26 either: its queue is its own.
+        let by_rights = answer.map_err(Refusal::number).err().filter(|number| [26, 29].contains(number));
+        assert_eq!(by_rights, may.err(), "{call:?} of guest {guest}");
+        if let Some(number) = by_rights {
+            self.guests[if number == 26 { 2 } else { 3 }] += 1;
+            assert!(answers == before, "{call:?} of guest {guest} wrote to what it was lent");
+        }
+        answer
+    }
+
+    fn call(&mut self, node: &mut Node, caller: Caller, call: &Call) -> Result<u32, Refusal> {
         let before = node.clone();
         let mut answers = call.out().to_vec();
-        let answer = make(call, node, &mut answers);
+        let answer = self.answer(node, caller, call, &mut answers);
         self.calls += 1;
         let in_state: Vec<usize> = (0..node.state.len()).filter(|&i| before.state[i] != node.state[i]).collect();
         let in_table: Vec<usize> = (0..node.table.len()).filter(|&i| before.table[i] != node.table[i]).collect();
+        assert!(matches!(call, Call::Open { .. }) || !in_state.contains(&RIGHTS), "{call:?} changed the rights");
         if answer.is_err() || call.is_read() {
             assert!(in_state.is_empty() && in_table.is_empty(), "{call:?} changed a word");
             match call {
@@ -273,7 +350,9 @@ impl Figures {
         let ([previews, previewed], [criticals, told]) = (self.previews, self.criticals);
         println!("{previews} previews, {previewed} accepted: the rest of the list kept");
         println!("{criticals} lists of what a commit hangs on, {told} accepted: the rest of the list kept");
-        println!("{} calls: no other word changed", self.calls);
+        let [guests, accepted, above, without] = self.guests;
+        println!("{guests} calls of guests, {accepted} accepted; {above} refused with 26, {without} with 29: no word changed");
+        println!("{} calls: no other word changed, the rights by open alone", self.calls);
     }
 }
 
@@ -288,9 +367,11 @@ fn main() {
         let length = table_words(plan.ceiling) + 5;
         let noise = |rng: &mut Rng, n| (0..n).map(|_| rng.word()).collect::<Vec<u32>>();
         let mut node = Node { state: noise(&mut rng, STATE_WORDS + 2), table: noise(&mut rng, length), twin: None };
-        figures.call(&mut node, &Call::Open { own, sheet: sheet_words(&mut rng, &plan.sheet) }).expect("a plan's sheet is fine");
+        let (sheet, rights) = (sheet_words(&mut rng, &plan.sheet), rights_word(&any_rights(&mut rng)));
+        figures.call(&mut node, Caller::Host, &Call::Open { own, sheet, rights }).expect("a plan's sheet is fine");
+        assert_eq!(node.state[RIGHTS], rights);
         if plan.grown > 0 {
-            let member = reference::Member::open(own, &plan.sheet, plan.ceiling).expect("a plan's sheet is fine");
+            let member = plan.open(&mut rng, own);
             node = Node::of(grow(&mut rng, member, plan.grown, &plan), &mut rng);
         }
         node.read_again();
@@ -301,7 +382,8 @@ fn main() {
                 true => some_batch(&mut rng, twin),
                 false => likely_call(&mut rng, twin, &mut pool),
             };
-            let answer = figures.call(&mut node, &call);
+            let (caller, call) = by_whom(&mut rng, call);
+            let answer = figures.call(&mut node, caller, &call);
             if !call.is_read() && answer.is_ok() {
                 node.read_again();
                 pool.note(&call, 0, node.twin.as_ref().expect("a state reached by calls is well formed"));

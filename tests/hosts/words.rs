@@ -1,15 +1,17 @@
 //! State, table and argument words as values of the reference, and back.
 //!
-//! Written from document 01, points 1, 6 and 9 (well formed states) and 2 (order inside
-//! a block), docs/TABLES.md and the host's layouts. `None` stands for "refused with 1": words that
+//! Written from document 01, points 1, 6 and 9 (well formed states), 2 (order inside
+//! a block) and 11 (rights), docs/TABLES.md and the host's layouts. `None` stands for "refused with 1": words that
 //! cannot be read, or a state that is not well formed.
 
 use crate::reference::*;
 use std::collections::VecDeque;
 
-pub const STATE_WORDS: usize = 38;
+pub const STATE_WORDS: usize = 39;
 /// Where a state has its margin; one of before there was a margin has so many words.
 pub const MARGIN: usize = 37;
+/// Where it has its rights; one of before there were rights has so many words.
+pub const RIGHTS: usize = 38;
 /// Two for each of twenty settings.
 pub const SHEET_WORDS: usize = 40;
 pub const ROW: usize = 272;
@@ -117,6 +119,18 @@ fn read_settings(words: &[u32]) -> Option<Settings> {
     }
 }
 
+/// Four bytes, each a set of callers: those that may propose, sign, drive, read.
+pub fn read_rights(word: u32) -> Rights {
+    let sets = word.to_le_bytes();
+    std::array::from_fn(|caller| sets.map(|set| set & (1 << caller) != 0))
+}
+
+/// The rights in a stretch of words, whatever else they are; nobody has one where
+/// it is too short.
+pub fn rights_in(state: &[u32]) -> Rights {
+    state.get(RIGHTS).map_or(NO_RIGHTS, |&word| read_rights(word))
+}
+
 /// The member whose state the words are.
 pub fn read_member(state: &[u32], table: &[u32]) -> Option<Member> {
     let state = state.get(..STATE_WORDS)?;
@@ -141,7 +155,8 @@ pub fn read_member(state: &[u32], table: &[u32]) -> Option<Member> {
     let (held, endorsed) = read_places(table, &settings, blocks)?;
     let chain = read_chain(table, &settings, blocks, &held)?;
     let (queues, served) = read_queues(&table[..ROW])?;
-    Some(Member { own, settings, round, proposal, held, endorsed, chain, queues, served })
+    let rights = rights_in(state);
+    Some(Member { own, settings, round, proposal, held, endorsed, chain, queues, served, rights })
 }
 
 /// At most eight transactions in each queue, all in range, and a guest served
@@ -270,6 +285,14 @@ pub fn certificate_words(c: &Certificate) -> Vec<u32> {
     words
 }
 
+pub fn rights_word(rights: &Rights) -> u32 {
+    let mut sets = [0; 4];
+    for (caller, of_caller) in rights.iter().enumerate() {
+        sets.iter_mut().zip(of_caller).for_each(|(set, &has)| *set |= u8::from(has) << caller);
+    }
+    u32::from_le_bytes(sets)
+}
+
 pub fn state_words(member: &Member) -> [u32; STATE_WORDS] {
     let mut words = [0; STATE_WORDS];
     let settings = &member.settings;
@@ -289,6 +312,7 @@ pub fn state_words(member: &Member) -> [u32; STATE_WORDS] {
         words[23..MARGIN].copy_from_slice(&body_words(p));
     }
     words[MARGIN] = settings.margin;
+    words[RIGHTS] = rights_word(&member.rights);
     words
 }
 

@@ -3,7 +3,7 @@
 //! A real host signs what it sends, checks signatures before endorse, certify and accept,
 //! and stores state and table before it sends an endorsement (docs/HOSTS.md).
 
-use forgelilac::{Certificate, Engine, Held, Refusal, Set, Sheet, Transaction};
+use forgelilac::{Certificate, Engine, Held, Refusal, Right, Rights, Set, Sheet, Transaction};
 
 const LAST_ROUND: u32 = 9;
 
@@ -11,6 +11,13 @@ const LAST_ROUND: u32 = 9;
 fn sheet() -> Sheet {
     let mut sheet = Sheet { lookback: Some(2), ceiling: Some(64), ..Sheet::default() };
     sheet.weights[3] = Some(0);
+    sheet
+}
+
+/// The sheet of a fourth computer, which is alone.
+fn alone() -> Sheet {
+    let mut sheet = Sheet { ceiling: Some(64), ..Sheet::default() };
+    sheet.weights[..4].copy_from_slice(&[Some(0), Some(0), Some(0), Some(1)]);
     sheet
 }
 
@@ -161,12 +168,10 @@ fn print_drawn(engine: &Engine) -> Result<(), Refusal> {
     Ok(())
 }
 
-/// Guests of a fourth computer, which here is alone, share its proposals. Guest 2 is busy and fills
-/// its queue before each; guests 5 and 0 have something now and then. An entry tells its guest.
+/// Guests of a computer that is alone share its proposals. Guest 2 is busy and fills its queue before
+/// each; guests 5 and 0 have something now and then. An entry tells its guest.
 fn print_queues() -> Result<(), Refusal> {
-    let mut sheet = Sheet { ceiling: Some(64), ..Sheet::default() };
-    sheet.weights[..4].copy_from_slice(&[Some(0), Some(0), Some(0), Some(1)]);
-    let mut engine = Engine::open(3, &sheet)?;
+    let mut engine = Engine::open(3, &alone())?;
     let mut busy = (100 * BUSY..).map(|number| Transaction::Entry { number });
     println!("guests share the proposals of a member alone");
     for round in 1..=4 {
@@ -185,6 +190,53 @@ fn print_queues() -> Result<(), Refusal> {
         print_drawn(&engine)?;
         engine.certify(0)?;
         engine.advance()?;
+    }
+    Ok(())
+}
+
+const LINE: u32 = 3;
+const CLOCK: u32 = 5;
+
+/// A guest's call: who, what, and the answer, 0 for accepted.
+fn answered(guest: u32, call: &str, answer: Result<(), Refusal>) -> String {
+    format!(", guest {guest} {call} {}", answer.map_or_else(Refusal::number, |()| 0))
+}
+
+/// What a guest was given, or why nothing.
+fn given(answer: Result<String, Refusal>) -> String {
+    answer.unwrap_or_else(|refusal| format!(" refused with {}, {}", refusal.number(), refusal.meaning()))
+}
+
+/// Guests of a computer that is alone call by themselves: one may propose and read, one may drive, and
+/// the host signs. A hypervisor passes the number of the guest that was running, which it knows itself.
+fn print_guests() -> Result<(), Refusal> {
+    let rights = Rights::NONE.allow(LINE, Right::Propose)?.allow(LINE, Right::Read)?.allow(CLOCK, Right::Drive)?;
+    let mut engine = Engine::open_with_rights(3, &alone(), rights)?;
+    println!("guests call by themselves: {LINE} may propose and read, {CLOCK} may drive");
+    for round in 1..=3 {
+        let entry = Transaction::Entry { number: 100 * LINE };
+        let mut line = format!("  round {round}");
+        line += &answered(LINE, "enqueue", engine.guest(LINE).enqueue(entry));
+        line += &answered(CLOCK, "enqueue", engine.guest(CLOCK).enqueue(entry));
+        let previous = held(&engine, round - 1);
+        line += &answered(LINE, "draw", engine.guest(LINE).draw(previous));
+        engine.certify(0)?;
+        if round < 3 {
+            line += &answered(LINE, "advance", engine.guest(LINE).advance());
+            line += &answered(CLOCK, "advance", engine.guest(CLOCK).advance());
+        }
+        println!("{line}");
+    }
+    for guest in [LINE, 8, CLOCK] {
+        let added = engine.guest(guest).commit().map(|count| format!(" blocks added {count}"));
+        println!("  guest {guest} commit:{}", given(added));
+    }
+    for guest in [LINE, CLOCK] {
+        let places = engine.reader(guest).chain().map(|blocks| {
+            let places = blocks.iter().flat_map(|block| &block.certificates);
+            places.map(|(round, author)| format!(" {round}/{author}")).collect()
+        });
+        println!("  guest {guest} chain:{}", given(places));
     }
     Ok(())
 }
@@ -214,5 +266,6 @@ fn main() -> Result<(), Refusal> {
     let shares = (0..3).map(|member| engines[0].share(member, LAST_ROUND)).collect::<Result<Vec<_>, _>>()?;
     println!("shares in round {LAST_ROUND}, in thousandths: {shares:?}");
     print_batch(&engines[0])?;
-    print_queues()
+    print_queues()?;
+    print_guests()
 }

@@ -27,9 +27,13 @@ pub(crate) struct Listing<'a> {
 }
 
 impl<'a> Listing<'a> {
-    pub(crate) fn of(state: &'a [u32], table: &'a [u32]) -> Result<Self, Refusal> {
-        if !lent::is_well_formed(state, table) {
-            return Err(Refusal::Malformed);
+    /// By what a read of block 0 has answered. There is none: 23, unless the state is not well formed or
+    /// a guest may not read.
+    pub(crate) fn of(asked: Result<u32, Refusal>, state: &'a [u32], table: &'a [u32]) -> Result<Self, Refusal> {
+        match asked {
+            Err(Refusal::NoneThere) => {}
+            Err(refusal) => return Err(refusal),
+            Ok(_) => return Err(Refusal::Malformed),
         }
         let mut listing = Listing { state, table, ends: [0; BLOCKS + 1] };
         let mut ends = [0; BLOCKS + 1];
@@ -63,6 +67,12 @@ impl<'a> Listing<'a> {
             authors.map(move |author| Place { block: table[record(author, round) + RECORD_BLOCK], round, author })
         };
         (1..=ceiling).flat_map(in_round).filter(|place| place.block > 0)
+    }
+
+    /// The chain into the list, and how many certificates it has; refused where the list is too short.
+    fn fill(&self, list: &mut [Place]) -> Result<usize, Refusal> {
+        self.write(list.get_mut(..self.len()).ok_or(Refusal::Malformed)?);
+        Ok(self.len())
     }
 
     /// Writes the chain, in order, to the start of the list.
@@ -120,8 +130,13 @@ fn turn(block: &mut [Place], leader: Option<u32>) {
 /// [`Refusal::Malformed`] where the state is not well formed or the list is too short; nothing is
 /// written then.
 pub fn chain(state: &[u32], table: &[u32], list: &mut [Place]) -> Result<usize, Refusal> {
-    let listing = Listing::of(state, table)?;
-    let room = list.get_mut(..listing.len()).ok_or(Refusal::Malformed)?;
-    listing.write(room);
-    Ok(listing.len())
+    Listing::of(lent::block(state, table, 0), state, table)?.fill(list)
+}
+
+/// The chain for a guest, who needs the right to read.
+///
+/// # Errors
+/// 26, 29, then as [`chain`]; nothing is written then.
+pub fn guest_chain(caller: u32, state: &[u32], table: &[u32], list: &mut [Place]) -> Result<usize, Refusal> {
+    Listing::of(lent::guest_block(caller, state, table, 0), state, table)?.fill(list)
 }

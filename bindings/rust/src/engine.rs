@@ -6,7 +6,7 @@ use crate::layout::{
 };
 use crate::lent::{self, CertificateRecord, Entry, Place};
 use crate::{body_words, table_words, CEILING, MEMBERS};
-use crate::{Block, Certificate, Critical, Held, Proposal, Refusal, Set, Sheet, Transaction};
+use crate::{Block, Certificate, Critical, Guest, Held, Proposal, Refusal, Rights, Set, Sheet, Transaction};
 use alloc::vec;
 use alloc::vec::Vec;
 
@@ -21,23 +21,31 @@ pub struct Engine {
 }
 
 impl Engine {
-    /// Opens a member with a table of the length that the sheet's ceiling needs. It starts a new
-    /// run: go on with one by [`Engine::try_restore`].
+    /// Opens a member with a table of the length that the sheet's ceiling needs; no guest has a right.
+    /// It starts a new run: go on with one by [`Engine::try_restore`].
     ///
     /// # Errors
     /// 4 member above 15; 2 setting out of range; 3 no positive weight.
     pub fn open(own: u32, sheet: &Sheet) -> Result<Engine, Refusal> {
+        Engine::open_with_rights(own, sheet, Rights::NONE)
+    }
+
+    /// Opens a member as [`Engine::open`] does, with rights of callers. They cannot be changed later.
+    ///
+    /// # Errors
+    /// As [`Engine::open`]; no rights are refused.
+    pub fn open_with_rights(own: u32, sheet: &Sheet, rights: Rights) -> Result<Engine, Refusal> {
         let ceiling = sheet.ceiling.unwrap_or(CEILING).min(CEILING);
-        Engine::open_on(vec![0; table_words(ceiling) as usize], own, sheet)
+        Engine::open_on(vec![0; table_words(ceiling) as usize], own, sheet, rights)
     }
 
     /// Opens a member on a table of the host's; what lies beyond the used part never changes.
     ///
     /// # Errors
     /// As [`Engine::open`], and then 1 for a table that is too short.
-    pub fn open_on(mut table: Vec<u32>, own: u32, sheet: &Sheet) -> Result<Engine, Refusal> {
+    pub fn open_on(mut table: Vec<u32>, own: u32, sheet: &Sheet, rights: Rights) -> Result<Engine, Refusal> {
         let mut state = [0; STATE_WORDS];
-        lent::open(&mut state, &mut table, own, &sheet.to_words())?;
+        lent::open(&mut state, &mut table, own, &sheet.to_words(), rights.to_word())?;
         Ok(Engine { state, table })
     }
 
@@ -50,7 +58,8 @@ impl Engine {
 
     /// An engine as it was stored, where the words are well formed. They must be the latest that
     /// were stored: an older backup may have forgotten a signature. A state that versions up to 0.7.0
-    /// stored has 37 words: bring it along first, by [`crate::layout::brought_along`].
+    /// stored has 37 words, one of 0.8.0 or 0.9.0 has 38: bring it along first, by
+    /// [`crate::layout::brought_along`].
     ///
     /// # Errors
     /// [`Refusal::Malformed`] where the state is not well formed.
@@ -69,6 +78,27 @@ impl Engine {
     #[must_use]
     pub fn is_well_formed(&self) -> bool {
         lent::is_well_formed(&self.state, &self.table)
+    }
+
+    // ---- guests
+
+    /// A guest of this engine by its number, the one that the host knows itself, never one that the guest
+    /// wrote. What the guest asks for goes through it, and is refused where it has not the right.
+    #[must_use]
+    pub fn guest(&mut self, caller: u32) -> Guest<&mut Engine> {
+        Guest::of(self, caller)
+    }
+
+    /// A guest that reads alone: several may read at once, while nothing changes the engine.
+    #[must_use]
+    pub fn reader(&self, caller: u32) -> Guest<&Engine> {
+        Guest::of(self, caller)
+    }
+
+    /// The rights of callers, as they were fixed at opening: a word of the state, in any state.
+    #[must_use]
+    pub fn rights(&self) -> Rights {
+        lent::rights(&self.state)
     }
 
     // ---- calls
@@ -140,10 +170,7 @@ impl Engine {
     /// # Errors
     /// 1, 25: then nothing is tried.
     pub fn batch(&mut self, row: &[Certificate]) -> Result<Vec<Result<(), Refusal>>, Refusal> {
-        let records: Vec<_> = row.iter().map(|one| CertificateRecord::from(one.to_words())).collect();
-        let mut answers = vec![0; row.len()];
-        lent::batch(&self.state, &mut self.table, &records, &mut answers)?;
-        Ok(answers.into_iter().map(lent::accepted).collect())
+        by_batch(row, |row, answers| lent::batch(&self.state, &mut self.table, row, answers))
     }
 
     /// Goes on to the next round, once the authors of the certificates held in the present round form
@@ -174,9 +201,12 @@ impl Engine {
     /// # Errors
     /// Those of [`Engine::commit`]: 1, 19, 20, 8, 21, 22.
     pub fn preview(&self) -> Result<Vec<Entry>, Refusal> {
-        let mut list = vec![0; preview_words(self.state[STATE_CEILING].min(CEILING))];
-        let count = lent::preview(&self.state, &self.table, &mut list)?;
-        Ok(lent::entries(&list, count).collect())
+        by_preview(self.preview_room(), |list| lent::preview(&self.state, &self.table, list))
+    }
+
+    /// The words of the list that a preview asks for.
+    pub(crate) fn preview_room(&self) -> usize {
+        preview_words(self.state[STATE_CEILING].min(CEILING))
     }
 
     /// Which certificates does a commit hang on? Every held certificate of the present round and the one
@@ -211,9 +241,7 @@ impl Engine {
     /// # Errors
     /// Those of [`Engine::commit`]: 1, 19, 20, 8, 21, 22.
     pub fn critical(&mut self) -> Result<Vec<Critical>, Refusal> {
-        let mut list = [0; CRITICAL_WORDS];
-        let count = lent::critical(&self.state, &mut self.table, &mut list)?;
-        Ok(lent::criticals(&list, count).collect())
+        by_critical(|list| lent::critical(&self.state, &mut self.table, list))
     }
 
     /// Sixteen weights of a round's committee, 0 for a non-member.
@@ -293,11 +321,42 @@ impl Engine {
     /// # Errors
     /// [`Refusal::Malformed`] where the state is not well formed.
     pub fn chain(&self) -> Result<Vec<Block>, Refusal> {
-        let listing = Listing::of(&self.state, &self.table)?;
-        let mut list = vec![Place::default(); listing.len()];
-        listing.write(&mut list);
-        let certificates = |places: &[Place]| places.iter().map(|place| (place.round, place.author)).collect();
-        let blocks = listing.blocks().map(|(round, at)| Block { round, certificates: certificates(&list[at]) });
-        Ok(blocks.collect())
+        Ok(blocks_of(&Listing::of(self.block(0), &self.state, &self.table)?))
     }
+}
+
+// ---- what calls of the engine and of its guests share
+
+/// The certificates as a row, and the answers to each, by a call that is lent both.
+pub(crate) fn by_batch(
+    row: &[Certificate], call: impl FnOnce(&[CertificateRecord], &mut [u32]) -> Result<(), Refusal>,
+) -> Result<Vec<Result<(), Refusal>>, Refusal> {
+    let records: Vec<_> = row.iter().map(|one| CertificateRecord::from(one.to_words())).collect();
+    let mut answers = vec![0; row.len()];
+    call(&records, &mut answers)?;
+    Ok(answers.into_iter().map(lent::accepted).collect())
+}
+
+/// The entries of a preview, by a call that is lent a list of so many words.
+pub(crate) fn by_preview(
+    room: usize, call: impl FnOnce(&mut [u32]) -> Result<u32, Refusal>,
+) -> Result<Vec<Entry>, Refusal> {
+    let mut list = vec![0; room];
+    let count = call(&mut list)?;
+    Ok(lent::entries(&list, count).collect())
+}
+
+/// What a commit hangs on, by a call that is lent its list.
+pub(crate) fn by_critical(call: impl FnOnce(&mut [u32]) -> Result<u32, Refusal>) -> Result<Vec<Critical>, Refusal> {
+    let mut list = [0; CRITICAL_WORDS];
+    let count = call(&mut list)?;
+    Ok(lent::criticals(&list, count).collect())
+}
+
+/// The blocks of a listing.
+pub(crate) fn blocks_of(listing: &Listing) -> Vec<Block> {
+    let mut list = vec![Place::default(); listing.len()];
+    listing.write(&mut list);
+    let certificates = |places: &[Place]| places.iter().map(|place| (place.round, place.author)).collect();
+    listing.blocks().map(|(round, at)| Block { round, certificates: certificates(&list[at]) }).collect()
 }

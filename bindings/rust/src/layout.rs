@@ -1,14 +1,14 @@
 //! Where what stands in words: lengths and offsets of `include/forgelilac.h`. docs/TABLES.md
 //! explains them.
 
-use crate::MEMBERS;
+use crate::{Refusal, MEMBERS};
 
 /// The format of the words of state and table; no word of theirs has it. Store it beside them.
-/// A state of format 1 becomes one of this format by [`brought_along`].
-pub const FORMAT: u32 = 2;
+/// A state of format 1 or 2 becomes one of this format by [`brought_along`].
+pub const FORMAT: u32 = 3;
 
 /// Words of a state.
-pub const STATE_WORDS: usize = 38;
+pub const STATE_WORDS: usize = 39;
 /// Words of a transaction: kind, number, amount.
 pub const TRANSACTION_WORDS: usize = 3;
 /// Words of a body: previous set, number of transactions, four transactions.
@@ -31,7 +31,7 @@ pub const CRITICAL_WORDS: usize = 64;
 pub const BATCH_RECORDS: usize = 64;
 /// Transactions that a body has words for: the largest allowance.
 pub const TRANSACTIONS: usize = 4;
-/// Guests that have a queue, 0 to 7.
+/// Guests that have a queue and may be callers, 0 to 7.
 pub const GUESTS: usize = 8;
 /// The most transactions that wait in a queue.
 pub const QUEUE_PLACES: usize = 8;
@@ -60,6 +60,8 @@ pub const STATE_BLOCKS: usize = 22;
 pub const STATE_BODY: usize = 23;
 /// Of a state: margin.
 pub const STATE_MARGIN: usize = 37;
+/// Of a state: rights of callers, any word ([`crate::Rights::to_word`]).
+pub const STATE_RIGHTS: usize = 38;
 
 /// Words of a row of a table.
 pub const ROW_WORDS: usize = 272;
@@ -101,26 +103,45 @@ pub const SERVED: usize = 0;
 /// Of row 0, plus the guest: how many of its transactions wait, 0 to 8.
 pub const WAITING: usize = 1;
 
-/// A state of format 1, which versions up to 0.7.0 stored, in today's format: its 37 words, and the
-/// margin by which it ran, 3. Its table stays as it is. The format that you stored beside the words
-/// tells which they are, and not their number: it may be a state of today that lost its last word.
+/// A stored state in today's format. The table stays as it is.
+///
+/// | format | stored by versions | words | what is written behind them |
+/// |---|---|---|---|
+/// | 1 | up to 0.7.0 | 37 | the margin by which it ran, 3, and the rights |
+/// | 2 | 0.8.0 and 0.9.0 | 38 | the rights |
+/// | 3 | of today | 39 | nothing: its rights were fixed at its opening and stay, whatever is handed in |
+///
+/// The rights are those that guests are to have, as a word; 0 gives nobody one. The format is the one
+/// that you stored beside the words, and not told by their number: they may be a state of today that
+/// lost its last word. What lies beyond the words of the format is not looked at.
 ///
 /// ```
 /// use forgelilac::{layout, lent, table_words, Sheet, STATE_WORDS};
 ///
 /// let (mut state, mut table) = ([0; STATE_WORDS], [0; table_words(64) as usize]);
-/// lent::open(&mut state, &mut table, 0, &Sheet { ceiling: Some(64), ..Sheet::default() }.to_words())?;
-/// let stored: [u32; 37] = state[..37].try_into().unwrap();
-/// assert!(!lent::is_well_formed(&stored, &table));
-/// assert_eq!(layout::brought_along(&stored), state);
+/// lent::open(&mut state, &mut table, 0, &Sheet { ceiling: Some(64), ..Sheet::default() }.to_words(), 7)?;
+/// for (format, words) in [(1, 37), (2, 38)] {
+///     let stored = &state[..words];
+///     assert!(!lent::is_well_formed(stored, &table));
+///     assert_eq!(layout::brought_along(format, stored, 7)?, state);
+/// }
 /// # Ok::<(), forgelilac::Refusal>(())
 /// ```
-#[must_use]
-pub fn brought_along(stored: &[u32; 37]) -> [u32; STATE_WORDS] {
+///
+/// # Errors
+/// [`Refusal::Malformed`] for a format that there is not, and for fewer words than it has.
+pub fn brought_along(format: u32, stored: &[u32], rights: u32) -> Result<[u32; STATE_WORDS], Refusal> {
+    let words = match format {
+        1 => STATE_MARGIN,
+        2 => STATE_RIGHTS,
+        FORMAT => STATE_WORDS,
+        _ => return Err(Refusal::Malformed),
+    };
     let mut state = [0; STATE_WORDS];
-    state[..37].copy_from_slice(stored);
     state[STATE_MARGIN] = 3;
-    state
+    state[STATE_RIGHTS] = rights;
+    state[..words].copy_from_slice(stored.get(..words).ok_or(Refusal::Malformed)?);
+    Ok(state)
 }
 
 /// The words of the list that a preview of a state of this ceiling asks for: 16 places for each round.

@@ -2,25 +2,31 @@
 //! are those of docs/HOSTS.md; any length and any content is safe. A refused call changes no word.
 //! Numbers in the lists of errors are [`Refusal::number`]s, in the order of the checks.
 //!
+//! What a guest asks for goes by the guest's form of the call, with the number of the caller first:
+//! [`guest_commit`] and so on. The number is the one that the host knows itself, never one that the guest
+//! wrote. A guest's form answers 26 for a caller above 7, then 29 where the caller lacks the right that
+//! the call needs; both come before everything else, before 1 too, and no word changes. Else it does and
+//! answers what the host's own call does. [`rights`] tells who may do what.
+//!
 //! ```
 //! use forgelilac::{body_words, lent, table_words, Sheet, STATE_WORDS};
 //!
 //! let (mut state, mut table) = ([0; STATE_WORDS], [0; table_words(64) as usize]);
 //! let sheet = Sheet { ceiling: Some(64), ..Sheet::default() };
-//! lent::open(&mut state, &mut table, 0, &sheet.to_words())?;
+//! lent::open(&mut state, &mut table, 0, &sheet.to_words(), 0)?;
 //! lent::propose(&mut state, &table, &body_words(0, &[]))?;
 //! lent::certify(&state, &mut table, 0b0110)?;
 //! assert_eq!(lent::certificate(&state, &table, 0, 1)?[16], 0b0110);
 //! # Ok::<(), forgelilac::Refusal>(())
 //! ```
 
-pub use crate::chain::{chain, Place};
+pub use crate::chain::{chain, guest_chain, Place};
 use crate::layout::{
     BODY_WORDS, CERTIFICATE_WORDS, ENTRY_AUTHOR, ENTRY_BLOCK, ENTRY_ROUND, ENTRY_WORDS, GUESTS, HELD_WORDS,
-    PLACE_AUTHOR, PLACE_ROUND, PLACE_WORDS, PROPOSAL_WORDS, STATE_BODY, STATE_OWN, STATE_PROPOSED, STATE_ROUND,
-    STATE_WORDS, WAITING,
+    PLACE_AUTHOR, PLACE_ROUND, PLACE_WORDS, PROPOSAL_WORDS, STATE_BODY, STATE_OWN, STATE_PROPOSED, STATE_RIGHTS,
+    STATE_ROUND, STATE_WORDS, WAITING,
 };
-use crate::{Refusal, Set, MEMBERS};
+use crate::{Refusal, Rights, Set, MEMBERS};
 
 /// The exported functions. Each slice is a pointer and a length in words, of a row in records. Any
 /// length and any content is safe; pointers that come from slices are never null and do not overlap.
@@ -30,7 +36,7 @@ mod abi {
     unsafe extern "C" {
         pub fn forgelilac_open(
             state: *mut u32, state_words: usize, table: *mut u32, table_words: usize,
-            own: u32, sheet: *const u32, sheet_words: usize,
+            own: u32, sheet: *const u32, sheet_words: usize, rights: u32,
         ) -> u32;
         pub fn forgelilac_propose(
             state: *mut u32, state_words: usize, table: *const u32, table_words: usize,
@@ -89,6 +95,65 @@ mod abi {
             state: *const u32, state_words: usize, table: *const u32, table_words: usize,
             number: u32,
         ) -> u64;
+
+        // Guests' forms.
+        pub fn forgelilac_guest_propose(
+            caller: u32, state: *mut u32, state_words: usize, table: *const u32, table_words: usize,
+            body: *const u32, body_words: usize,
+        ) -> u32;
+        pub fn forgelilac_guest_enqueue(
+            caller: u32, state: *const u32, state_words: usize, table: *mut u32, table_words: usize,
+            transaction: *const u32, transaction_words: usize,
+        ) -> u32;
+        pub fn forgelilac_guest_draw(
+            caller: u32, state: *mut u32, state_words: usize, table: *mut u32, table_words: usize, previous: u32,
+        ) -> u32;
+        pub fn forgelilac_guest_endorse(
+            caller: u32, state: *const u32, state_words: usize, table: *mut u32, table_words: usize,
+            proposal: *const u32, proposal_words: usize,
+        ) -> u32;
+        pub fn forgelilac_guest_certify(
+            caller: u32, state: *const u32, state_words: usize, table: *mut u32, table_words: usize,
+            endorsers: u32,
+        ) -> u32;
+        pub fn forgelilac_guest_accept(
+            caller: u32, state: *const u32, state_words: usize, table: *mut u32, table_words: usize,
+            certificate: *const u32, certificate_words: usize,
+        ) -> u32;
+        pub fn forgelilac_guest_batch(
+            caller: u32, state: *const u32, state_words: usize, table: *mut u32, table_words: usize,
+            row: *const CertificateRecord, row_count: usize, answers: *mut u32, answers_words: usize,
+        ) -> u32;
+        pub fn forgelilac_guest_advance(
+            caller: u32, state: *mut u32, state_words: usize, table: *const u32, table_words: usize,
+        ) -> u32;
+        pub fn forgelilac_guest_commit(
+            caller: u32, state: *mut u32, state_words: usize, table: *mut u32, table_words: usize,
+        ) -> u64;
+        pub fn forgelilac_guest_preview(
+            caller: u32, state: *const u32, state_words: usize, table: *const u32, table_words: usize,
+            list: *mut u32, list_words: usize,
+        ) -> u64;
+        pub fn forgelilac_guest_critical(
+            caller: u32, state: *const u32, state_words: usize, table: *mut u32, table_words: usize,
+            list: *mut u32, list_words: usize,
+        ) -> u64;
+        pub fn forgelilac_guest_committee(
+            caller: u32, state: *const u32, state_words: usize, table: *const u32, table_words: usize,
+            round: u32, out: *mut u32, out_words: usize,
+        ) -> u32;
+        pub fn forgelilac_guest_share(
+            caller: u32, state: *const u32, state_words: usize, table: *const u32, table_words: usize,
+            member: u32, round: u32,
+        ) -> u64;
+        pub fn forgelilac_guest_certificate(
+            caller: u32, state: *const u32, state_words: usize, table: *const u32, table_words: usize,
+            author: u32, round: u32, out: *mut u32, out_words: usize,
+        ) -> u32;
+        pub fn forgelilac_guest_block(
+            caller: u32, state: *const u32, state_words: usize, table: *const u32, table_words: usize,
+            number: u32,
+        ) -> u64;
     }
 }
 
@@ -96,7 +161,7 @@ mod abi {
 pub(crate) fn accepted(number: u32) -> Result<(), Refusal> {
     match number {
         0 => Ok(()),
-        n => Err(Refusal::of(n).expect("the engine of this version answers 0 to 23 and 25 to 28")),
+        n => Err(Refusal::of(n).expect("the engine of this version answers 0 to 23 and 25 to 29")),
     }
 }
 
@@ -114,16 +179,19 @@ fn write(words: &mut [u32]) -> (*mut u32, usize) {
     (words.as_mut_ptr(), words.len())
 }
 
-/// Calls an exported function: state, table, numbers, and after a semicolon one more stretch.
+/// Calls an exported function, a guest's form with its caller in parentheses: state, table, numbers,
+/// after a semicolon one more stretch, and numbers after it.
 /// Safe: the stretches are whole slices that do not overlap and outlive the call.
 macro_rules! call {
-    ($function:ident, $state:expr, $table:expr $(, $number:expr)*) => {{
+    ($function:ident $(($caller:expr))?, $state:expr, $table:expr $(, $number:expr)*) => {{
         let (state, table) = ($state, $table);
-        unsafe { abi::$function(state.0, state.1, table.0, table.1 $(, $number)*) }
+        unsafe { abi::$function($($caller,)? state.0, state.1, table.0, table.1 $(, $number)*) }
     }};
-    ($function:ident, $state:expr, $table:expr $(, $number:expr)*; $more:expr) => {{
+    ($function:ident $(($caller:expr))?, $state:expr, $table:expr $(, $number:expr)*; $more:expr $(, $last:expr)*) => {{
         let (state, table, more) = ($state, $table, $more);
-        unsafe { abi::$function(state.0, state.1, table.0, table.1 $(, $number)*, more.0, more.1) }
+        unsafe {
+            abi::$function($($caller,)? state.0, state.1, table.0, table.1 $(, $number)*, more.0, more.1 $(, $last)*)
+        }
     }};
 }
 
@@ -155,12 +223,14 @@ impl From<[u32; CERTIFICATE_WORDS]> for CertificateRecord {
 
 // ---- calls
 
-/// Opens a member: the state is written fresh, and the used part of the table cleared.
+/// Opens a member: the state is written fresh, and the used part of the table cleared. The rights of
+/// guests are a word ([`Rights::to_word`]), 0 for none; any word is some rights, and no later call
+/// changes them.
 ///
 /// # Errors
 /// 1, 4, 2, 3, 1: words that cannot be read, own number, sheet, table too short.
-pub fn open(state: &mut [u32], table: &mut [u32], own: u32, sheet: &[u32]) -> Result<(), Refusal> {
-    accepted(call!(forgelilac_open, write(state), write(table), own; read(sheet)))
+pub fn open(state: &mut [u32], table: &mut [u32], own: u32, sheet: &[u32], rights: u32) -> Result<(), Refusal> {
+    accepted(call!(forgelilac_open, write(state), write(table), own; read(sheet), rights))
 }
 
 /// Proposes a body for one's own place of the present round; the state keeps it until advance.
@@ -180,7 +250,7 @@ pub fn propose(state: &mut [u32], table: &[u32], body: &[u32]) -> Result<(), Ref
 /// use forgelilac::{lent, proposal_words, table_words, Sheet, Transaction, STATE_WORDS};
 ///
 /// let (mut state, mut table) = ([0; STATE_WORDS], [0; table_words(64) as usize]);
-/// lent::open(&mut state, &mut table, 0, &Sheet { ceiling: Some(64), ..Sheet::default() }.to_words())?;
+/// lent::open(&mut state, &mut table, 0, &Sheet { ceiling: Some(64), ..Sheet::default() }.to_words(), 0)?;
 /// let entry = |number| Transaction::Entry { number };
 /// for (guest, number) in [(2, 20), (2, 21), (2, 22), (7, 70), (1, 10)] {
 ///     lent::enqueue(&state, &mut table, guest, &entry(number).to_words())?;
@@ -245,7 +315,7 @@ pub fn accept(state: &[u32], table: &mut [u32], certificate: &[u32]) -> Result<(
 ///
 /// let (mut state, mut table) = ([0; STATE_WORDS], [0; table_words(64) as usize]);
 /// let sheet = Sheet { ceiling: Some(64), ..Sheet::default() };
-/// lent::open(&mut state, &mut table, 0, &sheet.to_words())?;
+/// lent::open(&mut state, &mut table, 0, &sheet.to_words(), 0)?;
 /// let certificate = |round, previous| certificate_words(&proposal_words(3, round, previous, &[]), 0b0110);
 /// let row = [certificate(2, 0b1000), certificate(1, 0)].map(Into::into);
 /// let mut answers = [77; 3];
@@ -272,7 +342,7 @@ pub fn batch(
 /// use forgelilac::{certificate_words, lent, proposal_words, table_words, Refusal, Sheet, STATE_WORDS};
 ///
 /// let (mut state, mut table) = ([0; STATE_WORDS], [0; table_words(64) as usize]);
-/// lent::open(&mut state, &mut table, 0, &Sheet { ceiling: Some(64), ..Sheet::default() }.to_words())?;
+/// lent::open(&mut state, &mut table, 0, &Sheet { ceiling: Some(64), ..Sheet::default() }.to_words(), 0)?;
 /// for author in 1..4 {
 ///     assert_eq!(lent::advance(&mut state, &table), Err(Refusal::ThinRound));
 ///     let certificate = certificate_words(&proposal_words(author, 1, 0, &[]), 0b1111 & !(1 << author));
@@ -315,7 +385,7 @@ pub fn commit(state: &mut [u32], table: &mut [u32]) -> Result<u32, Refusal> {
 /// let (mut state, mut table) = ([0; STATE_WORDS], [0; table_words(64) as usize]);
 /// let mut sheet = Sheet { ceiling: Some(64), ..Sheet::default() };
 /// sheet.weights[1..4].fill(Some(0));
-/// lent::open(&mut state, &mut table, 0, &sheet.to_words())?;
+/// lent::open(&mut state, &mut table, 0, &sheet.to_words(), 0)?;
 /// let mut list = [77; layout::preview_words(64)];
 /// for round in 1..=3 {
 ///     lent::propose(&mut state, &table, &body_words((round > 1).into(), &[]))?;
@@ -366,7 +436,7 @@ pub fn entries(list: &[u32], count: u32) -> impl Iterator<Item = Entry> + '_ {
 /// use forgelilac::{layout::CRITICAL_WORDS, Critical, Refusal, Sheet, STATE_WORDS};
 ///
 /// let (mut state, mut table) = ([0; STATE_WORDS], [0; table_words(64) as usize]);
-/// lent::open(&mut state, &mut table, 0, &Sheet { ceiling: Some(64), ..Sheet::default() }.to_words())?;
+/// lent::open(&mut state, &mut table, 0, &Sheet { ceiling: Some(64), ..Sheet::default() }.to_words(), 0)?;
 /// let certificate = |author, round, previous| {
 ///     certificate_words(&proposal_words(author, round, previous, &[]), 0b1111 & !(1 << author))
 /// };
@@ -464,10 +534,165 @@ pub fn own_proposal(state: &[u32]) -> Option<[u32; PROPOSAL_WORDS]> {
     Some(words)
 }
 
+/// The rights of callers. They are a word of the state, and no call is made: they can be read in any state,
+/// well formed or not. Nobody has a right where the words end before that one.
+#[must_use]
+pub fn rights(state: &[u32]) -> Rights {
+    state.get(STATE_RIGHTS).map_or(Rights::NONE, |&word| Rights::from_word(word))
+}
+
 /// Whether the state is well formed, for words that come from storage: where it is not, every call
 /// but open answers 1.
 #[must_use]
 pub fn is_well_formed(state: &[u32], table: &[u32]) -> bool {
     // There is no block 0: 23, unless the state is not well formed.
     block(state, table, 0) == Err(Refusal::NoneThere)
+}
+
+// ---- guests' forms
+
+/// A guest's [`propose`]. It needs the right to propose.
+///
+/// # Errors
+/// 26, 29, then those of [`propose`].
+pub fn guest_propose(caller: u32, state: &mut [u32], table: &[u32], body: &[u32]) -> Result<(), Refusal> {
+    accepted(call!(forgelilac_guest_propose(caller), write(state), read(table); read(body)))
+}
+
+/// A guest's [`draw`], which draws from the queues of all guests. It needs the right to propose.
+///
+/// # Errors
+/// 26, 29, then those of [`draw`].
+pub fn guest_draw(caller: u32, state: &mut [u32], table: &mut [u32], previous: Set) -> Result<(), Refusal> {
+    accepted(call!(forgelilac_guest_draw(caller), write(state), write(table), previous.into()))
+}
+
+/// A guest's [`enqueue`], to its own queue. It needs the right to propose.
+///
+/// Guest 3 may propose and do nothing else, guest 5 may do nothing:
+///
+/// ```
+/// use forgelilac::{lent, table_words, Refusal, Right, Rights, Sheet, Transaction, STATE_WORDS};
+///
+/// let (mut state, mut table) = ([0; STATE_WORDS], [0; table_words(64) as usize]);
+/// let (sheet, rights) = (Sheet { ceiling: Some(64), ..Sheet::default() }, Rights::NONE.allow(3, Right::Propose)?);
+/// lent::open(&mut state, &mut table, 0, &sheet.to_words(), rights.to_word())?;
+/// let words = Transaction::Entry { number: 7 }.to_words();
+/// lent::guest_enqueue(3, &state, &mut table, &words)?;
+/// assert_eq!(lent::waiting(&state, &table, 3), Ok(1));
+/// assert_eq!(lent::guest_enqueue(5, &state, &mut table, &words), Err(Refusal::NoRight));
+/// assert_eq!(lent::guest_enqueue(8, &state, &mut table, &words), Err(Refusal::GuestRange));
+/// assert_eq!(lent::guest_commit(3, &mut state, &mut table), Err(Refusal::NoRight));
+/// # Ok::<(), Refusal>(())
+/// ```
+///
+/// # Errors
+/// 26, 29, 1, 6, 27.
+pub fn guest_enqueue(caller: u32, state: &[u32], table: &mut [u32], transaction: &[u32]) -> Result<(), Refusal> {
+    accepted(call!(forgelilac_guest_enqueue(caller), read(state), write(table); read(transaction)))
+}
+
+/// A guest's [`endorse`]. It needs the right to sign.
+///
+/// # Errors
+/// 26, 29, then those of [`endorse`].
+pub fn guest_endorse(caller: u32, state: &[u32], table: &mut [u32], proposal: &[u32]) -> Result<(), Refusal> {
+    accepted(call!(forgelilac_guest_endorse(caller), read(state), write(table); read(proposal)))
+}
+
+/// A guest's [`certify`]. It needs the right to sign.
+///
+/// # Errors
+/// 26, 29, then those of [`certify`].
+pub fn guest_certify(caller: u32, state: &[u32], table: &mut [u32], endorsers: Set) -> Result<(), Refusal> {
+    accepted(call!(forgelilac_guest_certify(caller), read(state), write(table), endorsers.into()))
+}
+
+/// A guest's [`accept`]. It needs the right to sign.
+///
+/// # Errors
+/// 26, 29, then those of [`accept`].
+pub fn guest_accept(caller: u32, state: &[u32], table: &mut [u32], certificate: &[u32]) -> Result<(), Refusal> {
+    accepted(call!(forgelilac_guest_accept(caller), read(state), write(table); read(certificate)))
+}
+
+/// A guest's [`batch`]. It needs the right to sign.
+///
+/// # Errors
+/// 26, 29, then those of [`batch`]: then nothing is tried.
+pub fn guest_batch(
+    caller: u32, state: &[u32], table: &mut [u32], row: &[CertificateRecord], answers: &mut [u32],
+) -> Result<(), Refusal> {
+    let (records, count) = (row.as_ptr(), row.len());
+    accepted(call!(forgelilac_guest_batch(caller), read(state), write(table), records, count; write(answers)))
+}
+
+/// A guest's [`advance`]. It needs the right to drive.
+///
+/// # Errors
+/// 26, 29, then those of [`advance`].
+pub fn guest_advance(caller: u32, state: &mut [u32], table: &[u32]) -> Result<(), Refusal> {
+    accepted(call!(forgelilac_guest_advance(caller), write(state), read(table)))
+}
+
+/// A guest's [`commit`]. It needs the right to drive.
+///
+/// # Errors
+/// 26, 29, then those of [`commit`].
+pub fn guest_commit(caller: u32, state: &mut [u32], table: &mut [u32]) -> Result<u32, Refusal> {
+    value(call!(forgelilac_guest_commit(caller), write(state), write(table)))
+}
+
+/// A guest's [`preview`]. It needs the right to read.
+///
+/// # Errors
+/// 26, 29, then those of [`preview`]. Nothing is written then.
+pub fn guest_preview(caller: u32, state: &[u32], table: &[u32], list: &mut [u32]) -> Result<u32, Refusal> {
+    value(call!(forgelilac_guest_preview(caller), read(state), read(table); write(list)))
+}
+
+/// A guest's [`critical`]. It needs the right to read.
+///
+/// # Errors
+/// 26, 29, then those of [`critical`]. The list is not written then.
+pub fn guest_critical(caller: u32, state: &[u32], table: &mut [u32], list: &mut [u32]) -> Result<u32, Refusal> {
+    value(call!(forgelilac_guest_critical(caller), read(state), write(table); write(list)))
+}
+
+/// A guest's [`committee`]. It needs the right to read.
+///
+/// # Errors
+/// 26, 29, then those of [`committee`].
+pub fn guest_committee(caller: u32, state: &[u32], table: &[u32], round: u32) -> Result<[u32; MEMBERS], Refusal> {
+    let mut out = [0; MEMBERS];
+    accepted(call!(forgelilac_guest_committee(caller), read(state), read(table), round; write(&mut out)))?;
+    Ok(out)
+}
+
+/// A guest's [`share`]. It needs the right to read.
+///
+/// # Errors
+/// 26, 29, then those of [`share`].
+pub fn guest_share(caller: u32, state: &[u32], table: &[u32], member: u32, round: u32) -> Result<u32, Refusal> {
+    value(call!(forgelilac_guest_share(caller), read(state), read(table), member, round))
+}
+
+/// A guest's [`certificate`]. It needs the right to read.
+///
+/// # Errors
+/// 26, 29, then those of [`certificate`].
+pub fn guest_certificate(
+    caller: u32, state: &[u32], table: &[u32], author: u32, round: u32,
+) -> Result<[u32; HELD_WORDS], Refusal> {
+    let mut out = [0; HELD_WORDS];
+    accepted(call!(forgelilac_guest_certificate(caller), read(state), read(table), author, round; write(&mut out)))?;
+    Ok(out)
+}
+
+/// A guest's [`block`]. It needs the right to read.
+///
+/// # Errors
+/// 26, 29, then those of [`block`].
+pub fn guest_block(caller: u32, state: &[u32], table: &[u32], number: u32) -> Result<u32, Refusal> {
+    value(call!(forgelilac_guest_block(caller), read(state), read(table), number))
 }

@@ -4,7 +4,8 @@
 //! unless you turn it off. Without it there are the calls of [`lent`] on slices that the host lends:
 //! the crate needs neither the standard library nor any other crate. docs/HOSTS.md explains the
 //! calls, what each refusal asks of a host, and what the promise asks; signatures, network, clocks
-//! and storage are the host's.
+//! and storage are the host's. Guests call by their rights, which the host fixes at opening:
+//! `Engine::guest`, and the guests' forms of [`lent`].
 //!
 //! The build script finds the engine's archive: the file that `FORGELILAC_ARCHIVE` names, an
 //! installed one by pkg-config, or that of the tree.
@@ -42,22 +43,28 @@ extern crate alloc;
 mod chain;
 #[cfg(feature = "alloc")]
 mod engine;
+#[cfg(feature = "alloc")]
+mod guest;
 pub mod layout;
 pub mod lent;
 #[cfg(feature = "alloc")]
 mod owned;
 mod refusal;
+mod rights;
 mod terms;
 #[cfg(all(test, feature = "alloc"))]
 mod tests;
 
 #[cfg(feature = "alloc")]
 pub use engine::Engine;
+#[cfg(feature = "alloc")]
+pub use guest::Guest;
 pub use layout::STATE_WORDS;
 pub use lent::Entry;
 #[cfg(feature = "alloc")]
 pub use owned::{Block, Certificate, Held, Proposal};
 pub use refusal::Refusal;
+pub use rights::{Right, Rights};
 pub use terms::{body_words, certificate_words, leader, proposal_words, transactions_of};
 pub use terms::{Critical, Sheet, Transaction};
 

@@ -51,9 +51,10 @@ refusals! {
     VotesShort = 22, "votes weigh not more than the fault bound";
     NoneThere = 23, "no such certificate or block";
     LengthRange = 25, "batch: a row over 64, or answers shorter than the row; preview: a list with fewer than 16 places per round of the ceiling; critical: a list with fewer than 32 places";
-    GuestRange = 26, "guest above 7";
+    GuestRange = 26, "guest or caller above 7";
     QueueFull = 27, "the queue holds eight transactions";
     ThinRound = 28, "the authors of the certificates held in the present round form no quorum of its committee";
+    NoRight = 29, "the caller lacks the right that the call needs";
 }
 
 impl Refusal {

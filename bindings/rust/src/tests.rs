@@ -9,10 +9,12 @@ use crate::layout::{
 };
 use crate::lent::{self, CertificateRecord};
 use crate::*;
-use alloc::string::ToString;
+use alloc::string::{String, ToString};
 use alloc::vec;
 use alloc::vec::Vec;
 use core::fmt;
+
+mod guests;
 
 fn entry(number: u32) -> Transaction {
     Transaction::Entry { number }
@@ -157,10 +159,10 @@ fn order_decides_committees() {
 
 #[test]
 fn numbers_and_refusals_go_both_ways() {
-    for number in (1..=23).chain(25..=28) {
+    for number in (1..=23).chain(25..=29) {
         assert_eq!(Refusal::of(number).unwrap().number(), number);
     }
-    assert_eq!([0, 24, 29].map(Refusal::of), [None; 3]);
+    assert_eq!([0, 24, 30].map(Refusal::of), [None; 3]);
     assert_eq!(Refusal::NoWeight.to_string(), "refused with 3: no positive weight");
 }
 
@@ -174,14 +176,14 @@ fn open_refuses_in_its_order() {
     assert_eq!(open(15, &none), 3);
     let short = vec![0; table_words(8) as usize - 1];
     let sheet = Sheet { ceiling: Some(8), ..Sheet::default() };
-    assert_eq!(Engine::open_on(short, 0, &sheet), Err(Refusal::Malformed));
+    assert_eq!(Engine::open_on(short, 0, &sheet, Rights::NONE), Err(Refusal::Malformed));
 }
 
 #[test]
 fn what_lies_beyond_the_table_stays() {
     let used = table_words(3) as usize;
     let sheet = Sheet { ceiling: Some(3), ..Sheet::default() };
-    let mut engine = Engine::open_on(vec![77; used + 5], 0, &sheet).unwrap();
+    let mut engine = Engine::open_on(vec![77; used + 5], 0, &sheet, Rights::NONE).unwrap();
     engine.propose(0, &[]).unwrap();
     engine.certify(0b1110).unwrap();
     assert_eq!(engine.table[used..], [77; 5]);
@@ -528,7 +530,8 @@ fn a_draw_is_a_propose() {
     add(&mut engine, &some);
     refuses(&mut engine, 9, |e| e.draw(0));
     // An open empties the queues.
-    let again = Engine::open_on(engine.table, 9, &Sheet { ceiling: Some(8), ..Sheet::default() }).unwrap();
+    let sheet = Sheet { ceiling: Some(8), ..Sheet::default() };
+    let again = Engine::open_on(engine.table, 9, &sheet, Rights::NONE).unwrap();
     assert_eq!((waiting(&again), again.table[SERVED]), ([0; GUESTS], 0));
 }
 
@@ -1104,18 +1107,18 @@ fn margins_of_a_sheet() {
         let wrong = Sheet { weights: [Some(0); MEMBERS], ..sheet(Some(margin)) };
         assert_eq!(Engine::open(16, &wrong), Err(Refusal::MemberRange));
         assert_eq!(Engine::open(15, &wrong), Err(Refusal::SettingRange));
-        assert_eq!(Engine::open_on(Vec::new(), 15, &sheet(Some(margin))), Err(Refusal::SettingRange));
+        assert_eq!(Engine::open_on(Vec::new(), 15, &sheet(Some(margin)), Rights::NONE), Err(Refusal::SettingRange));
     }
-    assert_eq!(Engine::open_on(Vec::new(), 15, &sheet(Some(5))), Err(Refusal::Malformed));
+    assert_eq!(Engine::open_on(Vec::new(), 15, &sheet(Some(5)), Rights::NONE), Err(Refusal::Malformed));
     // What a blank one has for its value is not looked at; a sheet of before is too short.
     let mut engine = of_four(0);
     let mut words = sheet(None).to_words();
     words[39] = 6;
-    lent::open(&mut engine.state, &mut engine.table, 0, &words).unwrap();
+    lent::open(&mut engine.state, &mut engine.table, 0, &words, 0).unwrap();
     assert_eq!(engine.state[STATE_MARGIN], 3);
-    assert_eq!(lent::open(&mut engine.state, &mut engine.table, 0, &words[..38]), Err(Refusal::Malformed));
+    assert_eq!(lent::open(&mut engine.state, &mut engine.table, 0, &words[..38], 0), Err(Refusal::Malformed));
     words[38] = 2;
-    assert_eq!(lent::open(&mut engine.state, &mut engine.table, 0, &words), Err(Refusal::Malformed));
+    assert_eq!(lent::open(&mut engine.state, &mut engine.table, 0, &words, 0), Err(Refusal::Malformed));
 }
 
 /// For total 16 margin 3 gives 5 and 11, margin 5 gives 3 and 13: 13, 28, 12, one short and just enough.
@@ -1203,24 +1206,40 @@ fn a_proposal_beside_a_margin() {
     assert_eq!((engine.proposal().unwrap().transactions, engine.state[STATE_MARGIN]), (all.to_vec(), 5));
 }
 
-/// A state of 37 words, as versions up to 0.7.0 stored it, is refused, and goes on when it is brought
+/// States of 37 and 38 words, as earlier versions stored them, are refused, and go on when they are brought
 /// along.
 #[test]
-fn a_state_of_before_there_was_a_margin() {
+fn states_of_before() {
     let mut engine = of_four(0);
     engine.propose(0, &[entry(5); 4]).unwrap();
-    let stored: [u32; 37] = engine.state[..37].try_into().unwrap();
-    let (mut short, mut table) = (stored, engine.table.clone());
-    assert_eq!(lent::certify(&short, &mut table, 0b1110), Err(Refusal::Malformed));
-    assert_eq!(lent::advance(&mut short, &table), Err(Refusal::Malformed));
-    assert_eq!(lent::commit(&mut short, &mut table), Err(Refusal::Malformed));
-    assert_eq!(lent::committee(&short, &table, 1), Err(Refusal::Malformed));
-    assert_eq!(lent::chain(&short, &table, &mut []), Err(Refusal::Malformed));
-    assert_eq!(lent::own_proposal(&short), None);
-    assert!(!lent::is_well_formed(&short, &table) && short == stored && table == engine.table);
-    let mut again = Engine::try_restore(brought_along(&stored), table).unwrap();
-    assert!(again == engine);
-    again.certify(0b0110).unwrap();
+    for (format, words) in [(1, 37), (2, 38)] {
+        let stored = engine.state[..words].to_vec();
+        let (mut short, mut table) = (stored.clone(), engine.table.clone());
+        assert_eq!(lent::certify(&short, &mut table, 0b1110), Err(Refusal::Malformed));
+        assert_eq!(lent::advance(&mut short, &table), Err(Refusal::Malformed));
+        assert_eq!(lent::commit(&mut short, &mut table), Err(Refusal::Malformed));
+        assert_eq!(lent::committee(&short, &table, 1), Err(Refusal::Malformed));
+        assert_eq!(lent::chain(&short, &table, &mut []), Err(Refusal::Malformed));
+        assert_eq!(lent::own_proposal(&short), None);
+        assert!(!lent::is_well_formed(&short, &table) && short == stored && table == engine.table);
+        for rights in [0, 0x8000_0001, u32::MAX] {
+            let brought = brought_along(format, &stored, rights).unwrap();
+            let mut again = Engine::try_restore(brought, table.clone()).unwrap();
+            assert_eq!((again.rights().to_word(), again.state[STATE_MARGIN]), (rights, 3));
+            assert!(again.state[..37] == engine.state[..37] && again.table == engine.table);
+            again.certify(0b0110).unwrap();
+        }
+        assert_eq!(brought_along(format, &stored, 0), Ok(engine.state));
+        assert_eq!(brought_along(format, &stored[1..], 0), Err(Refusal::Malformed));
+    }
+    // Another margin stays, and so does what a state of today has; more words are not looked at.
+    engine.state[STATE_MARGIN..].copy_from_slice(&[5, 7]);
+    assert_eq!(brought_along(2, &engine.state, 9).unwrap()[STATE_MARGIN..], [5, 9]);
+    assert_eq!(brought_along(3, &engine.state, 9), Ok(engine.state));
+    assert_eq!(brought_along(3, &engine.state[1..], 9), Err(Refusal::Malformed));
+    for format in [0, 4, u32::MAX] {
+        assert_eq!(brought_along(format, &engine.state, 9), Err(Refusal::Malformed));
+    }
 }
 
 /// 3 to 5, else the state is not well formed. Another margin is another state.
@@ -1411,8 +1430,8 @@ fn a_table_of_every_ceiling() {
     for ceiling in 3..=CEILING {
         let sheet = Sheet { ceiling: Some(ceiling), ..Sheet::default() };
         let words = table_words(ceiling) as usize;
-        assert!(Engine::open_on(vec![0; words], 0, &sheet).is_ok());
-        assert_eq!(Engine::open_on(vec![0; words - 1], 0, &sheet), Err(Refusal::Malformed));
+        assert!(Engine::open_on(vec![0; words], 0, &sheet, Rights::NONE).is_ok());
+        assert_eq!(Engine::open_on(vec![0; words - 1], 0, &sheet, Rights::NONE), Err(Refusal::Malformed));
     }
 }
 

@@ -8,16 +8,19 @@ use native.Mathlib.Omega.{arith}
 use native.Mathlib.Decide.{ℕ-discrete}
 use lib.ListN.{length, getD, drop, take, length-replicate}
 use lib.Seq.{paste}
-use borrow.Author.Tests.{eq-eqb, ne-eqb}
+use lib.Dec.{eqb}
+use borrow.Author.Tests.{eq-eqb, ne-eqb, eqb-true}
 use Rattle.base.specs.Folds.{tab}
 use Rattle.base.proofs.FoldLaws.{length-tab, getD-tab}
 use Rattle.base.proofs.PasteLaws.{same-part}
 use Rattle.checks.specs.Answers.{ifAccepted}
 use Rattle.checks.proofs.AnswerLaws.{if-accepted-old, if-accepted-new}
+use Rattle.guests.specs.Guests.{batchNeeds}
 use Rattle.words.specs.States.{stateReads, stateIn}
 use Rattle.batch.specs.Batch.{batchRefusal, triedTable, answerAt}
 use Rattle.batch.proofs.BatchLaws.{batch-refused, batch-table, batch-answers}
 use Rattle.hosting.specs.Calls.{plain, Done, refused}
+use Rattle.guesting.specs.Guested.{callerNumber, asGuest}
 use Rattle.rows.specs.declared.CertificateRecord.{CertificateRecord}
 use Rattle.rows.specs.Rows.{rowOf}
 use Rattle.offering.specs.declared.Stage.{Stage}
@@ -33,7 +36,7 @@ use Rattle.batching.proofs.TurnLaws.{all-turns}
 put-same : (d x y : List ℕ) (n : ℕ) → n ≤ length x → n ≤ length y → ((i : ℕ) → i < n → getD x i 0 ≡ getD y i 0) → paste d 0 x n ≡ paste d 0 y n
 put-same d x y n h k e = ap (λ (z : List ℕ). take 0 d ++ z ++ drop (0 + n) d) (same-part x y 0 0 n (omega arith) (omega arith) (λ i l. let z : 0 + i ≡ i = omega arith in rw z (e i l)))
 
-module _ (w t : List ℕ) (row : List CertificateRecord) (answers : List ℕ) (x : Start) (r : Progress) (u : List ℕ) (b : Begun w t (length row) (length answers) x) (ran : Ran row (x .state) (x .turns) t (x .progress) r u) where
+module _ (k : ℕ) (w t : List ℕ) (row : List CertificateRecord) (answers : List ℕ) (x : Start) (r : Progress) (u : List ℕ) (b : Begun k w t (length row) (length answers) x) (ran : Ran row (x .state) (x .turns) t (x .progress) r u) where
   room : SameRoom row (x .state) (freshStage (length row)) (r .stage)
   room = rw (ran .stage, b .stage) (ran-room row (x .state) (x .turns) (freshStage (length row)) t)
 
@@ -47,15 +50,25 @@ module _ (w t : List ℕ) (row : List CertificateRecord) (answers : List ℕ) (x
   -- ---- accepted
 
   module _ (z : x .refusal ≡ 0) where
+    caller : k ≡ 0
+    caller = go (eqb k 0) refl (sym (b .refusal) ∙ z)
+      where
+        go : (c : Bool) → eqb k 0 ≡ c → cond c (cond (stateReads w) (batchRefusal (stateIn w) t (length row) (length answers)) 1) k ≡ 0 → k ≡ 0
+        go true e f = eqb-true k 0 e
+        go false e f = f
+
+    number : x .refusal ≡ cond (stateReads w) (batchRefusal (stateIn w) t (length row) (length answers)) 1
+    number = rw (eq-eqb k 0 caller) at (b .refusal)
+
     can-read : stateReads w ≡ true
-    can-read = go (stateReads w) refl (sym (b .refusal) ∙ z)
+    can-read = go (stateReads w) refl (sym number ∙ z)
       where
         go : (c : Bool) → stateReads w ≡ c → cond c (batchRefusal (stateIn w) t (length row) (length answers)) 1 ≡ 0 → c ≡ true
         go true e f = refl
         go false e f = absurd (omega arith)
 
     accepted : batchRefusal (stateIn w) t (length row) (length answers) ≡ 0
-    accepted = sym (rw can-read at (b .refusal)) ∙ z
+    accepted = sym (rw can-read at number) ∙ z
 
     -- the turns, from a fresh stage
     all : (u ≡ triedTable (stateIn w) (rowOf row) t) × ((q : ℕ) → q < length row → getD (r .stage .answers) q 0 ≡ answerAt (stateIn w) (rowOf row) t q)
@@ -78,7 +91,7 @@ module _ (w t : List ℕ) (row : List CertificateRecord) (answers : List ℕ) (x
 
   -- ---- the whole
 
-  pub batch-done : (m : ℕ) (out : List ℕ) → m ≡ x .refusal → out ≡ ifAccepted (x .refusal) (paste answers 0 (r .stage .answers) (r .stage .count)) answers → Done plain (batchResult w t row answers) m w u out
+  pub batch-done : (m : ℕ) (out : List ℕ) → m ≡ x .refusal → out ≡ ifAccepted (x .refusal) (paste answers 0 (r .stage .answers) (r .stage .count)) answers → Done plain (cond (eqb k 0) (batchResult w t row answers) (refused w t answers k)) m w u out
   unfolding batchResult
   batch-done m out e o = go (ℕ-discrete (x .refusal) 0)
     where
@@ -92,6 +105,16 @@ module _ (w t : List ℕ) (row : List CertificateRecord) (answers : List ℕ) (x
           record { its-answer = e ∙ y; its-state = refl; its-table = still z ∙ sym (k .0); its-out = o ∙ if-accepted-old (x .refusal) _ answers z ∙ sym (k .1) }
       not-taken z false y = record { its-answer = e ∙ y; its-state = refl; its-table = still z; its-out = o ∙ if-accepted-old (x .refusal) _ answers z }
 
-      go : Dec (x .refusal ≡ 0) → Done plain (batchResult w t row answers) m w u out
-      go (yes z) = rw (can-read z) (taken z e o)
-      go (no z) = not-taken z (stateReads w) (b .refusal)
+      by-caller : x .refusal ≢ 0 → (c : Bool) → x .refusal ≡ cond c (cond (stateReads w) (batchRefusal (stateIn w) t (length row) (length answers)) 1) k → Done plain (cond c (batchResult w t row answers) (refused w t answers k)) m w u out
+      by-caller z true y = not-taken z (stateReads w) y
+      by-caller z false y = record { its-answer = e ∙ y; its-state = refl; its-table = still z; its-out = o ∙ if-accepted-old (x .refusal) _ answers z }
+
+      go : Dec (x .refusal ≡ 0) → Done plain (cond (eqb k 0) (batchResult w t row answers) (refused w t answers k)) m w u out
+      go (yes z) = rw (eq-eqb k 0 (caller z), can-read z) (taken z e o)
+      go (no z) = by-caller z (eqb k 0) (b .refusal)
+
+-- a guest's, where c is the caller's number
+pub guest-batch-done : (c : ℕ) (w t : List ℕ) (row : List CertificateRecord) (answers : List ℕ) (x : Start) (r : Progress) (u : List ℕ) → Begun (callerNumber w c batchNeeds) w t (length row) (length answers) x → Ran row (x .state) (x .turns) t (x .progress) r u
+    → (m : ℕ) (out : List ℕ) → m ≡ x .refusal → out ≡ ifAccepted (x .refusal) (paste answers 0 (r .stage .answers) (r .stage .count)) answers → Done plain (asGuest w t answers c batchNeeds (batchResult w t row answers)) m w u out
+unfolding asGuest
+guest-batch-done c w t row answers x r u b ran m out e o = batch-done (callerNumber w c batchNeeds) w t row answers x r u b ran m out e o

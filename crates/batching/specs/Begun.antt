@@ -15,9 +15,9 @@ use Rattle.batching.specs.declared.Start.{Start}
 abbrev pub freshStage : ℕ → Stage
 freshStage n = record { count = n; seen = 0; place = 0; rounds = replicate 64 0; authors = replicate 64 0; left = replicate 64 false; answers = replicate 64 0 }
 
--- a batch of n records, with room for so many answers, has begun with x
-pub record Begun (w t : List ℕ) (n room : ℕ) (x : Start) : Type 0 where
-  pub refusal : x .refusal ≡ cond (stateReads w) (batchRefusal (stateIn w) t n room) 1
+-- a batch of n records, with room for so many answers, has begun with x; k is the number that refuses its caller, 0 for none and for the host
+pub record Begun (k : ℕ) (w t : List ℕ) (n room : ℕ) (x : Start) : Type 0 where
+  pub refusal : x .refusal ≡ cond (eqb k 0) (cond (stateReads w) (batchRefusal (stateIn w) t n room) 1) k
   -- two turns for each record, none where it is refused
   pub turns : x .turns ≡ cond (eqb (x .refusal) 0) (n + n) 0
   pub stage : x .progress .stage ≡ freshStage n

@@ -1,6 +1,7 @@
 // A batch from its checks to its answers, around the turns over the row (change request: Point 4).
 use offering::Progress;
 use offering::Stage;
+use rights::Right;
 use state::State;
 ghost use mathlib.Core.Path.{_≡_};
 ghost use mathlib.Core.Bool.{cond};
@@ -11,6 +12,9 @@ ghost use lib.Seq.{paste};
 ghost use Rattle.cache.specs.Caches.{firstRound};
 ghost use Rattle.checks.specs.Answers.{ifAccepted};
 ghost use Rattle.batch.specs.Batch.{batchRefusal};
+ghost use Rattle.rights.specs.Rights.{callerRefusal};
+ghost use Rattle.guests.specs.Guests.{batchNeeds};
+ghost use Rattle.guesting.specs.Guested.{rightsIn};
 ghost use Rattle.batching.specs.Begun.{freshStage, Begun};
 
 // The refusal's number, 0 for none, the state, how many turns are to be taken, and what they start from.
@@ -69,7 +73,7 @@ fn turns_for(refusal: u32, n: usize) -> usize
 
 // The checks of a batch of n records with room for so many answers, and its start.
 pub fn begin(state: &[u32], t: &[u32], n: usize, room: usize) -> Start
-    ensures { λ x. ⌜ Begun (now (state .entry)) (now (t .entry)) n room x ⌝ }
+    ensures { λ x. ⌜ Begun 0 (now (state .entry)) (now (t .entry)) n room x ⌝ }
 {
     let progress = fresh(n);
     if !words::states::state_reads(state) {
@@ -90,6 +94,24 @@ pub fn begin(state: &[u32], t: &[u32], n: usize, room: usize) -> Start
         turns,
         progress,
     }
+}
+
+// The same for a guest: where its caller is refused no turn is to be taken.
+pub fn begin_guest(caller: u32, state: &[u32], t: &[u32], n: usize, room: usize) -> Start
+    ensures { λ x. ⌜ Begun (callerRefusal (rightsIn (now (state .entry))) batchNeeds caller) (now (state .entry)) (now (t .entry)) n room x ⌝ }
+{
+    let barred = guesting::refusal(state, Right::Sign, caller);
+    if barred != 0 {
+        let progress = fresh(n);
+        let closed = open::closed();
+        return Start {
+            refusal: barred,
+            state: closed,
+            turns: 0,
+            progress,
+        };
+    }
+    begin(state, t, n, room)
 }
 
 // Puts the answers, each at its place, where the batch is not refused; gives the refusal's number.

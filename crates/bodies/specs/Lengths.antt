@@ -2,7 +2,7 @@
 use Prim.Native.Nat.{ℕ}
 
 abbrev pub stateLength : ℕ
-stateLength = 38
+stateLength = 39
 
 abbrev pub transactionLength : ℕ
 transactionLength = 3

@@ -1,7 +1,7 @@
 // Lengths in words of what a host lends, in one place.
 
 // A state.
-pub const STATE: usize = 38;
+pub const STATE: usize = 39;
 // A transaction.
 pub const TRANSACTION: usize = 3;
 // A body.

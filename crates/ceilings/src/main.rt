@@ -1,5 +1,6 @@
 // The largest ceiling and one above it: 1,024 opens, and 1,025 is out of range (scope document: Edges).
 use libc::STDOUT_FILENO;
+use sheet::Rights;
 use sheet::Setting;
 use sheet::Sheet;
 use terms::Member;
@@ -17,6 +18,7 @@ fn try_ceiling(t: &mut [u32], ceiling: u32) {
         allowance: Setting::Blank,
         weights,
         margin: Setting::Blank,
+        rights: Rights(0),
     };
     let o = open::open(open::closed(), t, Member(0), written);
     let a = o.answer;

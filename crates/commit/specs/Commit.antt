@@ -23,7 +23,7 @@ refusedWith s n = record { state = s; answer = Refused n }
 
 -- the state with k blocks
 abbrev pub withBlocks : State → ℕ → State
-withBlocks s k = record { own = s .own; settings = s .settings; round = s .round; proposing = s .proposing; body = s .body; blocks = k }
+withBlocks s k = record { own = s .own; settings = s .settings; round = s .round; proposing = s .proposing; body = s .body; blocks = k; rights = s .rights }
 
 -- accepted, where there are k blocks then: the answer is the number of blocks added
 abbrev pub addedWith : State → ℕ → Outcome

@@ -26,7 +26,7 @@ blank = filled blankSheet
 
 -- the blank sheet with member 3's weight written as 0
 unfoldable pub written : Sheet
-written = record { lookback = blankSheet .lookback; ceiling = blankSheet .ceiling; allowance = blankSheet .allowance; weights = set (blankSheet .weights) 3 (record { setting = Written 0 }); margin = blankSheet .margin }
+written = record { lookback = blankSheet .lookback; ceiling = blankSheet .ceiling; allowance = blankSheet .allowance; weights = set (blankSheet .weights) 3 (record { setting = Written 0 }); margin = blankSheet .margin; rights = blankSheet .rights }
 
 unfoldable pub bond : ℕ → ℕ → Transaction
 bond m a = Bond (record { 0 = m }) a

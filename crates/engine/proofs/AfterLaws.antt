@@ -30,7 +30,7 @@ use Rattle.engine.specs.Engine.{Engine, refusalFor, after}
 
 -- what an accepted call leaves
 abbrev pub renewed : Engine → Call → Engine
-renewed e (opens own sheet) = record { state = freshState own (filled sheet); table = clearUsed (e .table) (filled sheet .ceiling .0) }
+renewed e (opens own sheet) = record { state = freshState own (filled sheet) (sheet .rights); table = clearUsed (e .table) (filled sheet .ceiling .0) }
 renewed e (propose b) = record { state = proposed (e .state) b; table = e .table }
 renewed e (endorse p) = record { state = e .state; table = setEndorsed (e .table) (p .author .0) (p .round .0) }
 renewed e (certify d) = record { state = e .state; table = putCertificate (e .table) (contentWith (e .state .own .0) (e .state .round .0) (e .state .body)) d }

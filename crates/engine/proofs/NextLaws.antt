@@ -54,8 +54,9 @@ module _ (e : Engine) where
       record {
         its-own = refl;
         its-settings = refl;
-        formed = whole _ _ (open-formed own (filled sheet) noBody table (k .member) (k .in-range) (k .weighty) (k .long));
-        shows = view-open own (filled sheet) noBody table;
+        its-rights = refl;
+        formed = whole _ _ (open-formed own (filled sheet) (sheet .rights) noBody table (k .member) (k .in-range) (k .weighty) (k .long));
+        shows = view-open own (filled sheet) (sheet .rights) noBody table;
         set-in-range = omega arith;
         beyond = cleared-beyond table (filled sheet .ceiling .0);
       }
@@ -66,6 +67,7 @@ module _ (e : Engine) where
       record {
         same-own = refl;
         same-settings = refl;
+        same-rights = refl;
         formed = whole _ _ (propose-kept state table (k .formed) b (k .fits));
         shows = view-propose state table b ∙ sym (after-propose (state .settings) (state .own .0) (view state table) (b .previous) (transactionsOf b));
         set-in-range = r;
@@ -80,6 +82,7 @@ module _ (e : Engine) where
       record {
         same-own = refl;
         same-settings = refl;
+        same-rights = refl;
         formed = whole _ _ (first-kept (proposed state b) table (propose-kept state table (k .formed) b (k .fits)) o (fits-drawn (state .settings .allowance) table (k .row) (k .formed .queues)));
         shows = view-only (proposed state b) o ∙ view-propose state table b ∙ sym (after-propose (state .settings) (state .own .0) (view state table) (b .previous) (transactionsOf b));
         set-in-range = drawn-small state table v r;
@@ -94,6 +97,7 @@ module _ (e : Engine) where
         record {
           same-own = refl;
           same-settings = refl;
+          same-rights = refl;
           formed = whole _ _ (endorse-kept state table (k .formed) (p .author .0) (p .round .0) (k .fits .author) (k .fits .from) (k .fits .to));
           shows = view-endorse state table (contentOf p) (k .formed .long) (placed state table p (k .formed) (k .fits) r) ∙ sym (after-endorse (state .settings) (state .own .0) (view state table) (contentOf p));
           set-in-range = low;
@@ -109,6 +113,7 @@ module _ (e : Engine) where
         record {
           same-own = refl;
           same-settings = refl;
+          same-rights = refl;
           formed = whole _ _ (put-kept state table (k .formed) p d r (k .not-among) place (b .fit) (b .right));
           shows = view-certify state table p (k .formed .long) place d (k .free) ∙ sym (after-certify (state .settings) (state .own .0) (view state table) d p (proposal-some state (k .proposing)));
           set-in-range = low;
@@ -126,6 +131,7 @@ module _ (e : Engine) where
         record {
           same-own = refl;
           same-settings = refl;
+          same-rights = refl;
           formed = whole _ _ (clear-kept state held g (p .author .0) (p .round .0) (f .author) (f .from) (f .to));
           shows = view-accept state table (contentOf p) (k .formed .long) place (c .endorsers) (k .free) ∙ sym (after-accept (state .settings) (state .own .0) (view state table) (contentOf p) (c .endorsers));
           set-in-range = low;
@@ -139,6 +145,7 @@ module _ (e : Engine) where
         record {
           same-own = refl;
           same-settings = refl;
+          same-rights = refl;
           formed = whole _ _ (advance-kept state table (k .formed) noBody (k .below));
           shows = view-advance state table noBody ∙ sym (after-advance (state .settings) (state .own .0) (view state table));
           set-in-range = omega arith;
@@ -150,6 +157,7 @@ module _ (e : Engine) where
         record {
           same-own = refl;
           same-settings = refl;
+          same-rights = refl;
           formed = whole _ _ (formed-commit state table a);
           shows = view-commit state table a;
           set-in-range = low;
@@ -163,6 +171,7 @@ module _ (e : Engine) where
         record {
           same-own = refl;
           same-settings = refl;
+          same-rights = refl;
           formed = whole _ _ (first-kept state table (k .formed) o (fits-added table g x (k .place) (k .formed .queues) (k .in-range)));
           shows = view-only state o ∙ sym (after-read (state .settings) (state .own .0) (view state table));
           set-in-range = low;
@@ -174,6 +183,7 @@ module _ (e : Engine) where
         record {
           same-own = refl;
           same-settings = refl;
+          same-rights = refl;
           formed = w;
           shows = sym (after-read (state .settings) (state .own .0) (view state table));
           set-in-range = low;

@@ -60,15 +60,17 @@ BeyondSame S e x = drop (usedLength (S .ceiling .0)) (x .table) ≡ drop (usedLe
 pub record FreshlyOpened (own : Member) (sheet : Sheet) (e x : Engine) : Type 0 where
   pub its-own : x .state .own ≡ own
   pub its-settings : x .state .settings ≡ filled sheet
+  pub its-rights : x .state .rights ≡ sheet .rights
   pub formed : wellFormed (x .state) (x .table) ≡ true
   pub shows : viewAt (filled sheet) x ≡ rules.freshView (filled sheet)
   pub set-in-range : SetInRange x
   pub beyond : BeyondSame (filled sheet) e x
 
--- x is what any other accepted call c on e leaves: own number and settings as they were, a well-formed state, and the rules' next view
+-- x is what any other accepted call c on e leaves: own number, settings and rights as they were, a well-formed state, and the rules' next view
 pub record AsRuled (e : Engine) (c : Call) (x : Engine) : Type 0 where
   pub same-own : x .state .own ≡ e .state .own
   pub same-settings : x .state .settings ≡ e .state .settings
+  pub same-rights : x .state .rights ≡ e .state .rights
   pub formed : wellFormed (x .state) (x .table) ≡ true
   pub shows : viewAt (e .state .settings) x ≡ rules.after (e .state .settings) (e .state .own .0) (viewAt (e .state .settings) e) (ruled e c)
   pub set-in-range : SetInRange x

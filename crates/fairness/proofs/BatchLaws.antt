@@ -54,11 +54,11 @@ batch-keeps-queues e row answers = ap queues (leaves-as-its-calls e (batch row a
 
 -- ---- lists
 
-submission-timeline : (e : Engine) (x : Submission) → Timeline (queues e) (submissionMoments e x)
+pub submission-timeline : (e : Engine) (x : Submission) → Timeline (queues e) (submissionMoments e x)
 submission-timeline e (one c) = timeline-call e c
 submission-timeline e (batch row answers) = (by-call _ (ap (λ (q : Queues). q .from) (batch-keeps-queues e row answers)), tt)
 
-submission-last : (e : Engine) (x : Submission) → last (queues e) (submissionMoments e x) ≡ queues (afterSubmission e x)
+pub submission-last : (e : Engine) (x : Submission) → last (queues e) (submissionMoments e x) ≡ queues (afterSubmission e x)
 submission-last e (one c) = last-call e c
 submission-last e (batch row answers) = refl
 

@@ -4,3 +4,4 @@ pub mod Timelines
 pub mod CallMoments
 pub mod FairLaws
 pub mod BatchLaws
+pub mod GuestLaws

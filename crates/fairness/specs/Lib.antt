@@ -6,3 +6,5 @@ pub mod Kept
 pub mod Fairness
 -- The same with batches among the calls
 pub mod Batches
+-- The same with guests' requests, and that a guest adds to no other queue
+pub mod Guests

@@ -1,1 +1,2 @@
+pub mod BatchTurns
 pub mod Lent

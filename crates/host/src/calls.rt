@@ -1,5 +1,6 @@
 // The calls that a host makes: open, propose, endorse, certify, accept, advance, commit.
 use bodies::lengths::STATE;
+use sheet::Rights;
 use terms::Member;
 ghost use mathlib.Core.Bool.{true};
 ghost use mathlib.Core.List.{[]};
@@ -10,15 +11,16 @@ ghost use Rattle.words.specs.Proposals.{proposalReads, proposalIn, certificateR
 ghost use Rattle.words.specs.Sheets.{sheetReads, sheetIn};
 ghost use Rattle.hosting.specs.Calls.{plain, packed, Done, resultOf};
 
-// Open: the state is written fresh, and the used part of the table cleared.
+// Open: the state is written fresh, with the rights of callers, and the used part of the table cleared.
 #[no_mangle]
 pub extern "C" fn forgelilac_open(
     state: &mut [u32],
     table: &mut [u32],
     own: u32,
     sheet: &[u32],
+    rights: u32,
 ) -> u32
-    ensures { λ r. ⌜ Done plain (resultOf (now (state .entry)) (now (table .entry)) [] (sheetReads (now (sheet .entry))) (opens (record { 0 = own }) (sheetIn (now (sheet .entry))))) r (now (state .exit)) (now (table .exit)) [] ⌝ }
+    ensures { λ r. ⌜ Done plain (resultOf (now (state .entry)) (now (table .entry)) [] (sheetReads (now (sheet .entry))) (opens (record { 0 = own }) (sheetIn (now (sheet .entry)) (record { 0 = rights })))) r (now (state .exit)) (now (table .exit)) [] ⌝ }
 {
     if state.len() < STATE {
         return 1;
@@ -26,7 +28,7 @@ pub extern "C" fn forgelilac_open(
     if !words::sheets::sheet_reads(sheet) {
         return 1;
     }
-    let written = words::sheets::sheet_in(sheet);
+    let written = words::sheets::sheet_in(sheet, Rights(rights));
     let closed = open::closed();
     let x = open::open(closed, table, Member(own), written);
     hosting::settle(state, x)

@@ -1,7 +1,9 @@
-// The engine for a host: every call and read, over words that it lends.
+// The engine for a host: every call and read, its own and its guests', over words that it lends.
 mod batches;
 mod calls;
 mod criticals;
-mod guests;
+mod guest_calls;
+mod guest_views;
 mod previews;
+mod queues;
 mod views;

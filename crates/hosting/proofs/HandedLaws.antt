@@ -11,6 +11,7 @@ use Rattle.engine.specs.Calls.{Aside, opens, propose, endorse, certify, accept,
 use Rattle.bodies.specs.Lengths.{proposalLength}
 use Rattle.bodies.specs.Bodies.{loneBodyReads, bodyIn, loneTripleReads, tripleIn}
 use Rattle.words.specs.Proposals.{proposalReads, proposalIn, certificateReads, certificateIn}
+use Rattle.sheet.specs.declared.Rights.{Rights}
 use Rattle.words.specs.Sheets.{sheetReads, sheetIn}
 use Rattle.hosting.specs.Handed.{Handed}
 use Rattle.words.proofs.ReadingLaws.{lone-body-read, proposal-read, certificate-read}
@@ -32,8 +33,8 @@ certificate-sets c h d = (proposal-set c h, d)
 
 -- ---- call by call
 
-pub open-handed : (own : Member) (sheet : List ℕ) → Handed (sheetReads sheet) (opens own (sheetIn sheet))
-open-handed own sheet = record { in-range = λ r. tt; tidy = λ x q. cc }
+pub open-handed : (own : Member) (sheet : List ℕ) (R : Rights) → Handed (sheetReads sheet) (opens own (sheetIn sheet R))
+open-handed own sheet R = record { in-range = λ r. tt; tidy = λ x q. cc }
 
 pub propose-handed : (b : List ℕ) → Handed (loneBodyReads b) (propose (bodyIn b 0))
 propose-handed b = record { in-range = body-set b; tidy = λ x q. cc (body-tidy b 0) }

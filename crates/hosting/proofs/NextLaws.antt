@@ -62,7 +62,7 @@ module _ (w t o : List ℕ) where
   drawn-tidy s v = of-tidy v (transactionsIn (draws s t))
 
   left : (c : Call) → ((x : Body) → c ≡ propose x → tidyBody x ≡ x) → Left (useOf c) (renewed (engineFor w t o (useOf c)) c .state)
-  left (opens own sheet) h = tidy-by (freshState own (filled sheet)) (filled-tidy sheet) refl
+  left (opens own sheet) h = tidy-by (freshState own (filled sheet) (sheet .rights)) (filled-tidy sheet) refl
   left (propose b) h = tidy-by (proposed (stateIn w) b) (weights-tidy w) (h b refl)
   left (endorse p) h = refl
   left (certify d) h = refl

@@ -48,7 +48,7 @@ use Rattle.nonforking.proofs.Answers.{Answered, entries, AreAnswered, a
 
 -- lookback 1, ceiling 4, weight 3 for members 0 and 1, and nothing else written: members 2 and 3 have weight 1
 abbrev sheet : Sheet
-sheet = record { lookback = Written 1; ceiling = Written 4; allowance = Blank; weights = record { setting = Written 3 } ∷ record { setting = Written 3 } ∷ replicate 14 (record { setting = Blank }); margin = Blank }
+sheet = record { lookback = Written 1; ceiling = Written 4; allowance = Blank; weights = record { setting = Written 3 } ∷ record { setting = Written 3 } ∷ replicate 14 (record { setting = Blank }); margin = Blank; rights = record { 0 = 0 } }
 
 abbrev settings : Settings
 settings = record { lookback = 1; ceiling = record { 0 = 4 }; allowance = 4; weights = 3 ∷ 3 ∷ 1 ∷ 1 ∷ 0 ∷ 0 ∷ 0 ∷ 0 ∷ 0 ∷ 0 ∷ 0 ∷ 0 ∷ 0 ∷ 0 ∷ 0 ∷ 0 ∷ []; margin = 3 }

@@ -1,4 +1,4 @@
--- Laws of open: what an accepted one has passed, and that only the filled settings of a sheet are seen.
+-- Laws of open: what an accepted one has passed, and that only the filled settings of a sheet and the rights are seen.
 use mathlib.Core.Path.{_≡_, refl, sym, _∙_}
 use mathlib.Core.Bool.{false}
 use mathlib.Core.List.{List, [], _∷_}
@@ -43,18 +43,18 @@ pub opened-take : (t : List ℕ) (own : Member) (a : Sheet) → openRefusal t ow
 unfolding openTable
 opened-take t own a h = rw (if-accepted-new (openRefusal t own (filled a)) (clearUsed t (filled a .ceiling .0)) t h) (cleared-take t (filled a .ceiling .0))
 
--- sheets with equal filled settings open equal states and, in the used part, equal tables, whatever was there before
-pub same-opened : (s v : State) (t u : List ℕ) (own : Member) (a b : Sheet) → filled a ≡ filled b → openRefusal t own (filled a) ≡ 0 → openRefusal u own (filled b) ≡ 0
+-- sheets with equal filled settings and equal rights open equal states and, in the used part, equal tables, whatever was there before
+pub same-opened : (s v : State) (t u : List ℕ) (own : Member) (a b : Sheet) → filled a ≡ filled b → a .rights ≡ b .rights → openRefusal t own (filled a) ≡ 0 → openRefusal u own (filled b) ≡ 0
     → (openOutcome s t own a ≡ openOutcome v u own b) × (take (usedLength (filled a .ceiling .0)) (openTable t own a) ≡ take (usedLength (filled a .ceiling .0)) (openTable u own b))
 unfolding openOutcome
-same-opened s v t u own a b e h k = (
-  sym (outcome-accepted {n = openRefusal t own (filled a)} refl (freshState own (filled a)) s h)
-      ∙ rw e (outcome-accepted {n = openRefusal u own (filled b)} refl (freshState own (filled b)) v k),
+same-opened s v t u own a b e r h k = (
+  sym (outcome-accepted {n = openRefusal t own (filled a)} refl (freshState own (filled a) (a .rights)) s h)
+      ∙ rw (e, r) (outcome-accepted {n = openRefusal u own (filled b)} refl (freshState own (filled b) (b .rights)) v k),
   opened-take t own a h ∙ rw e (sym (opened-take u own b k)),
 )
 
--- sheets with equal filled settings open alike, accepted or refused: the same answer, state and table
-pub equal-settings-open : (s : State) (t : List ℕ) (own : Member) (a b : Sheet) → filled a ≡ filled b
+-- sheets with equal filled settings and equal rights open alike, accepted or refused: the same answer, state and table
+pub equal-settings-open : (s : State) (t : List ℕ) (own : Member) (a b : Sheet) → filled a ≡ filled b → a .rights ≡ b .rights
     → (openOutcome s t own a ≡ openOutcome s t own b) × (openTable t own a ≡ openTable t own b)
 unfolding openOutcome openTable
-equal-settings-open s t own a b e = rw e (refl, refl)
+equal-settings-open s t own a b e r = rw (e, r) (refl, refl)

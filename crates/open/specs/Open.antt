@@ -8,6 +8,7 @@ use Rattle.base.specs.Checks.{Checks, refusal}
 use Rattle.terms.specs.declared.Member.{Member}
 use Rattle.store.specs.Table.{usedLength}
 use Rattle.writes.specs.Writes.{clearUsed}
+use Rattle.sheet.specs.declared.Rights.{Rights}
 use Rattle.sheet.specs.declared.Settings.{Settings}
 use Rattle.sheet.specs.declared.Sheet.{Sheet}
 use Rattle.sheet.specs.Sheets.{filled}
@@ -27,11 +28,12 @@ closedState =
       proposing = false;
       body = noBody;
       blocks = 0;
+      rights = record { 0 = 0 };
     }
 
--- a fresh state has round 1 and nothing else
-abbrev pub freshState : Member → Settings → State
-freshState own S = fresh own S noBody
+-- a fresh state has round 1 and nothing else, beside the rights
+abbrev pub freshState : Member → Settings → Rights → State
+freshState own S R = fresh own S R noBody
 
 -- 4 member above 15; 2 setting out of range; 3 no positive weight; 1 lent table too short
 abbrev pub opening : List ℕ → Member → Settings → Checks
@@ -40,9 +42,9 @@ opening t own S = (ltb 15 (own .0), 4) ∷ (outOfRange S, 2) ∷ (weightless S, 
 unfoldable pub openRefusal : List ℕ → Member → Settings → ℕ
 openRefusal t own S = refusal (opening t own S)
 
--- of a sheet only its filled settings are seen
+-- of a sheet only its filled settings and the rights are seen
 unfoldable pub openOutcome : State → List ℕ → Member → Sheet → Outcome
-openOutcome s t own sheet = outcomeOf (openRefusal t own (filled sheet)) (freshState own (filled sheet)) s
+openOutcome s t own sheet = outcomeOf (openRefusal t own (filled sheet)) (freshState own (filled sheet) (sheet .rights)) s
 
 unfoldable pub openTable : List ℕ → Member → Sheet → List ℕ
 openTable t own sheet = ifAccepted (openRefusal t own (filled sheet)) (clearUsed t (filled sheet .ceiling .0)) t

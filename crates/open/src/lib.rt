@@ -1,6 +1,7 @@
 // Open: a fresh state, and the used part of the table cleared (scope document: Calls, in the order of their checks).
 use checks::Answer;
 use checks::Outcome;
+use sheet::Rights;
 use sheet::Settings;
 use sheet::Sheet;
 use state::State;
@@ -29,12 +30,13 @@ pub fn closed() -> State
         proposing: false,
         body: terms::bare_body(0),
         blocks: 0,
+        rights: Rights(0),
     }
 }
 
-// Round 1 and nothing else.
-fn fresh(own: Member, settings: Settings) -> State
-    ensures { λ s. ⌜ s ≡ freshState own settings ⌝ }
+// Round 1 and nothing else, beside the rights.
+fn fresh(own: Member, settings: Settings, rights: Rights) -> State
+    ensures { λ s. ⌜ s ≡ freshState own settings rights ⌝ }
 {
     State {
         own,
@@ -43,6 +45,7 @@ fn fresh(own: Member, settings: Settings) -> State
         proposing: false,
         body: terms::bare_body(0),
         blocks: 0,
+        rights,
     }
 }
 
@@ -79,7 +82,7 @@ pub fn open(s: State, t: &mut [u32], own: Member, written: Sheet) -> Outcome
     }
     clearing::clear_used(t, settings.ceiling);
     Outcome {
-        state: fresh(own, settings),
+        state: fresh(own, settings, written.rights),
         answer: Answer::Accepted,
     }
 }

@@ -74,7 +74,7 @@ marginThen fs k = ifThere (lastSetting fs) unreadable k
 abbrev pub openOf : List (List ℕ) → Reading
 openOf fs =
     nextBy numberRead fs (λ own fs. nextBy setting fs (λ l fs. nextBy setting fs (λ c fs. nextBy setting fs (λ a fs.
-    weightsThen fs (λ w fs. marginThen fs (λ m. openAs own (record { lookback = l; ceiling = c; allowance = a; weights = w; margin = m })))))))
+    weightsThen fs (λ w fs. marginThen fs (λ m. openAs own (record { lookback = l; ceiling = c; allowance = a; weights = w; margin = m; rights = record { 0 = 0 } })))))))
 
 abbrev pub proposeOf : List (List ℕ) → Reading
 proposeOf fs = nextBy set fs (λ p fs. triplesThen fs (λ l. propose p l))

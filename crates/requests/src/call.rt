@@ -3,6 +3,7 @@ use crate::Kind;
 use crate::Reading;
 use crate::setting::SettingRead;
 use fields::number::Number;
+use sheet::Rights;
 use sheet::Sheet;
 use terms::Body;
 use terms::Member;
@@ -146,6 +147,7 @@ pub fn read_open(rec: &[u8], at: usize) -> Reading
         allowance: allowance_set,
         weights: cells,
         margin: margin_set,
+        rights: Rights(0),
     };
     open_of(Member(own_number), sheet)
 }

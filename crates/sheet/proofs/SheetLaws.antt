@@ -12,6 +12,7 @@ use Rattle.base.proofs.FoldLaws.{getD-tab, tab-same}
 use Rattle.base.proofs.TestLaws.{any-true, any-false}
 use Rattle.sheet.specs.declared.Setting.the-variants.{Blank, Written}
 use Rattle.sheet.specs.declared.Cell.{Cell}
+use Rattle.sheet.specs.declared.Rights.{Rights}
 use Rattle.sheet.specs.declared.Sheet.{Sheet}
 use Rattle.sheet.specs.declared.Settings.{Settings}
 use Rattle.sheet.specs.Sheets.{weightAt, filled}
@@ -72,15 +73,16 @@ same-sheets s u e = ap settingChecks e
 abbrev cell : ℕ → Cell
 cell n = record { setting = Written n }
 
--- the sheet with every setting written
-unfoldable pub written : Settings → Sheet
-written S =
+-- the sheet with every setting written, and the rights beside them
+unfoldable pub written : Settings → Rights → Sheet
+written S R =
     record {
       lookback = Written (S .lookback);
       ceiling = Written (S .ceiling .0);
       allowance = Written (S .allowance);
       weights = tab (λ i. cell (weightIn (S .weights) i)) 16;
       margin = Written (S .margin);
+      rights = R;
     }
 
 written-weight : (f : ℕ → ℕ) (i : ℕ) → i < 16 → weightAt (tab (λ j. cell (f j)) 16) i ≡ f i
@@ -88,7 +90,7 @@ unfolding weightAt
 written-weight f i h = rw (getD-tab (λ j. cell (f j)) 16 i (record { setting = Blank }) h) refl
 
 -- a blank is the same as its default, written
-pub fill-written : (s : Sheet) → filled (written (filled s)) ≡ filled s
+pub fill-written : (s : Sheet) → filled (written (filled s) (s .rights)) ≡ filled s
 unfolding filled written
 fill-written s =
     let f = weightAt (s .weights) in

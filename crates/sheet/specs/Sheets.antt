@@ -11,9 +11,9 @@ use Rattle.sheet.specs.declared.Cell.{Cell}
 use Rattle.sheet.specs.declared.Sheet.{Sheet}
 use Rattle.sheet.specs.declared.Settings.{Settings}
 
--- the sheet with nothing written
+-- the sheet with nothing written, and no rights
 abbrev pub blankSheet : Sheet
-blankSheet = record { lookback = Blank; ceiling = Blank; allowance = Blank; weights = replicate 16 (record { setting = Blank }); margin = Blank }
+blankSheet = record { lookback = Blank; ceiling = Blank; allowance = Blank; weights = replicate 16 (record { setting = Blank }); margin = Blank; rights = record { 0 = 0 } }
 
 -- the number of a setting, d where it is blank
 abbrev pub valueOr : Setting → ℕ → ℕ

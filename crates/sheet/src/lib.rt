@@ -18,12 +18,17 @@ pub struct Cell {
     pub setting: Setting,
 }
 
+// What callers 0 to 7 may do, a bit each: bit 8 r + c is caller c's right r, where 0 is propose, 1 sign, 2 drive and 3 read (change request: Point 11).
+pub struct Rights(pub u32);
+
+// The settings, and the rights that the host fixes beside them.
 pub struct Sheet {
     pub lookback: Setting,
     pub ceiling: Setting,
     pub allowance: Setting,
     pub weights: [Cell; 16],
     pub margin: Setting,
+    pub rights: Rights,
 }
 
 // A member's weight.
@@ -75,7 +80,7 @@ impl Sheet {
 
     pub const MARGIN_MAX: u32 = 5;
 
-    // The sheet with nothing written.
+    // The sheet with nothing written, and no rights.
     pub fn blank() -> Sheet
         ensures { λ r. ⌜ r ≡ blankSheet ⌝ }
     {
@@ -88,6 +93,7 @@ impl Sheet {
             allowance: Setting::Blank,
             weights: [cell; 16],
             margin: Setting::Blank,
+            rights: Rights(0),
         }
     }
 }

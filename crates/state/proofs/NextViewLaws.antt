@@ -14,6 +14,7 @@ use Rattle.store.specs.Table.{Row, heldAt}
 use Rattle.writes.specs.Writes.{putCertificate, setEndorsed, clearEndorsed, clearUsed}
 use Rattle.writes.proofs.PutLaws.{length-put}
 use Rattle.writes.proofs.EndorseLaws.{set-endorsed, clear-endorsed}
+use Rattle.sheet.specs.declared.Rights.{Rights}
 use Rattle.sheet.specs.declared.Settings.{Settings}
 use Rattle.committee.specs.Instance.{rules}
 use Rattle.committee.proofs.ChainLaws.{chain-none}
@@ -64,8 +65,8 @@ module _ (s : State) (t : List ℕ) where
           λ i. record { round = s .round .0; proposal = ownProposal s; dag = g i; endorsed = e i; chain = c i }
 
 -- a fresh state has round 1 and nothing else
-pub view-open : (own : Member) (S : Settings) (b : Body) (t : List ℕ)
-    → _≡_ {A = tests.MemberView S} (view (fresh own S b) (clearUsed t (S .ceiling .0))) (record { round = 1; proposal = none; dag = λ a r. none; endorsed = λ a r. false; chain = [] })
-view-open own S b t =
+pub view-open : (own : Member) (S : Settings) (R : Rights) (b : Body) (t : List ℕ)
+    → _≡_ {A = tests.MemberView S} (view (fresh own S R b) (clearUsed t (S .ceiling .0))) (record { round = 1; proposal = none; dag = λ a r. none; endorsed = λ a r. false; chain = [] })
+view-open own S R b t =
     let n = S .ceiling .0 in
-    λ i. record { round = 1; proposal = proposal-none (fresh own S b) refl i; dag = dag-cleared n t i; endorsed = endorsed-of-cleared n t i; chain = chain-none n (clearUsed t n) i }
+    λ i. record { round = 1; proposal = proposal-none (fresh own S R b) refl i; dag = dag-cleared n t i; endorsed = endorsed-of-cleared n t i; chain = chain-none n (clearUsed t n) i }

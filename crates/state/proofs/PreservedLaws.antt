@@ -23,6 +23,7 @@ use Rattle.queues.specs.Words.{queuesFit}
 use Rattle.scan.proofs.FirstRow.{rows-only}
 use Rattle.scan.proofs.FitLaws.{rows-cleared, rows-put, rows-set-endorsed, rows-clear-endorsed, rows-clear-held}
 use Rattle.scan.specs.Scan.{rowsFit}
+use Rattle.sheet.specs.declared.Rights.{Rights}
 use Rattle.sheet.specs.declared.Settings.{Settings}
 use Rattle.sheet.specs.Ranges.{outOfRange, weightless}
 use Rattle.sheet.proofs.SheetLaws.{settings-fit}
@@ -104,11 +105,11 @@ module _ (s : State) (t : List ℕ) (f : Formed s t) where
 
 -- ---- open: a fresh state and a cleared table
 
-pub open-formed : (own : Member) (S : Settings) (b : Body) (t : List ℕ) → own .0 < 16 → outOfRange S ≡ false → weightless S ≡ false → Row t (S .ceiling .0)
-    → Formed (fresh own S b) (clearUsed t (S .ceiling .0))
-open-formed own S b t h e w l =
+pub open-formed : (own : Member) (S : Settings) (R : Rights) (b : Body) (t : List ℕ) → own .0 < 16 → outOfRange S ≡ false → weightless S ≡ false → Row t (S .ceiling .0)
+    → Formed (fresh own S R b) (clearUsed t (S .ceiling .0))
+open-formed own S R b t h e w l =
     let n = S .ceiling .0 in
     let f = settings-fit S e in
     let i = length-cleared t n l in
-    formed-by (fresh own S b) (clearUsed t n) e w (record { own = h; round-from = omega arith; round-to = omega arith; blocks-to = omega arith }) (λ x. absurd (false≢true x))
+    formed-by (fresh own S R b) (clearUsed t n) e w (record { own = h; round-from = omega arith; round-to = omega arith; blocks-to = omega arith }) (λ x. absurd (false≢true x))
     (omega arith) (rows-cleared t n (S .allowance) 0) (blocks-whole n (clearUsed t n) 0 (λ k x. absurd (omega arith))) (fits-clear (clearUsed t n) (cleared-first t n))

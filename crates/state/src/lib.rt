@@ -1,4 +1,5 @@
 // A member's state, the view that it shows, and whether it is well formed (scope document: A member's state).
+use sheet::Rights;
 use sheet::Settings;
 use store::lengths::ROW;
 use terms::Body;
@@ -18,6 +19,8 @@ pub struct State {
     pub body: Body,
     // The number of blocks.
     pub blocks: u32,
+    // What guests may do, fixed at opening.
+    pub rights: Rights,
 }
 
 fn numbers_fit(own: Member, round: Round, blocks: u32, ceiling: Round) -> bool

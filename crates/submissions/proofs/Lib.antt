@@ -1,1 +1,2 @@
 pub mod SubmissionLaws
+pub mod RequestLaws

@@ -85,7 +85,7 @@ module _ (X : Members engineBehaviour) where
       go false = refl
 
   -- each member's engine is the one after the unrolled list
-  then-unrolled : (l : List (entries.Entry Submission)) (i : ℕ) → engineThen X l i ≡ engineAfter X (unrolled X l) i
+  pub then-unrolled : (l : List (entries.Entry Submission)) (i : ℕ) → engineThen X l i ≡ engineAfter X (unrolled X l) i
   unfolding states unrolled
   then-unrolled [] i = refl
   then-unrolled (x ∷ l) i = go (eqb i (x .who)) refl (then-unrolled l i) ∙ sym (after-entries (x .who) (callsOf (engineThen X l (x .who)) (x .call)) (unrolled X l) i)

@@ -1,1 +1,2 @@
 pub mod Submissions
+pub mod Requests

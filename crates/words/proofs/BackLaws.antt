@@ -54,9 +54,9 @@ length-state s =
     let head = s .own .0 ∷ s .settings .lookback ∷ s .settings .ceiling .0 ∷ s .settings .allowance ∷ [] in
     let middle = s .round .0 ∷ cond (s .proposing) 1 0 ∷ s .blocks ∷ [] in
     let b = bodyWords (ownBody s) in
-    length-append (head ++ w ++ middle ++ b) (s .settings .margin ∷ [])
-    ∙ ap (λ (k : ℕ). k + 1) (length-append (head ++ w ++ middle) b ∙ ap (λ (k : ℕ). length (head ++ w ++ middle) + k) (length-body (ownBody s)))
-    ∙ ap (λ (k : ℕ). k + bodyLength + 1) (length-append (head ++ w) middle ∙ ap (λ (k : ℕ). k + 3) (length-append head w ∙ ap (λ (k : ℕ). 4 + k) (length-sixteen (s .settings .weights))))
+    length-append (head ++ w ++ middle ++ b) (s .settings .margin ∷ s .rights .0 ∷ [])
+    ∙ ap (λ (k : ℕ). k + 2) (length-append (head ++ w ++ middle) b ∙ ap (λ (k : ℕ). length (head ++ w ++ middle) + k) (length-body (ownBody s)))
+    ∙ ap (λ (k : ℕ). k + bodyLength + 2) (length-append (head ++ w) middle ∙ ap (λ (k : ℕ). k + 3) (length-append head w ∙ ap (λ (k : ℕ). 4 + k) (length-sixteen (s .settings .weights))))
 
 body-back : (s : State) → bodyIn (stateWords s) 23 ≡ tidyBody (ownBody s)
 unfolding bodyIn slotIn stateWords bodyWords usedWords sixteen tab tidyBody
@@ -90,9 +90,13 @@ numbers-back : (s : State) → (word (stateWords s) 0 ≡ s .own .0) × ((word (
 unfolding stateWords sixteen tab
 numbers-back s = (refl, (refl, refl))
 
+rights-back : (s : State) → word (stateWords s) 38 ≡ s .rights .0
+unfolding stateWords bodyWords usedWords sixteen tab
+rights-back s = refl
+
 words-back : (s : State) → stateIn (stateWords s) ≡ tidy s
 unfolding stateIn tidy
-words-back s = let n = numbers-back s in rw (head-back s, own-body-back s, flag-back s, there-back (s .proposing), n .0, n .1 .0, n .1 .1) refl
+words-back s = let n = numbers-back s in rw (head-back s, own-body-back s, flag-back s, there-back (s .proposing), n .0, n .1 .0, n .1 .1, rights-back s) refl
 
 pub either : (b : Bool) {x : Bool} → x ≡ true → cond b x true ≡ true
 either b e = rw e (cond-same b true)

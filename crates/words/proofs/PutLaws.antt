@@ -38,8 +38,8 @@ pub state-put : (s : State) (t : List ℕ) → stateLength ≤ length t
     (bodyWords (ownBody s))
     bodyLength)
     37
-    (s .settings .margin ∷ [])
-    1
+    (s .settings .margin ∷ s .rights .0 ∷ [])
+    2
     ≡ paste t 0 (stateWords s) stateLength
 unfolding stateWords
 state-put s t h =
@@ -50,8 +50,8 @@ state-put s t h =
     let l : length (head ++ w) ≡ 20 = length-append head w ∙ ap (λ (z : ℕ). 4 + z) (length-sixteen (s .settings .weights)) in
     let m : length (head ++ w ++ middle) ≡ 23 = length-append (head ++ w) middle ∙ ap (λ (z : ℕ). z + 3) l in
     let n : length (head ++ w ++ middle ++ b) ≡ 37 = length-append (head ++ w ++ middle) b ∙ ap₂ (λ (y z : ℕ). y + z) m (length-body (ownBody s)) in
-    let d = s .settings .margin ∷ [] in
-    ap (λ (z : List ℕ). paste (paste (paste z 20 middle 3) 23 b bodyLength) 37 d 1) (paste-append t 0 head w 4 16 refl (omega arith))
-    ∙ ap (λ (z : List ℕ). paste (paste z 23 b bodyLength) 37 d 1) (paste-append t 0 (head ++ w) middle 20 3 l (omega arith))
-    ∙ ap (λ (z : List ℕ). paste z 37 d 1) (paste-append t 0 (head ++ w ++ middle) b 23 bodyLength m (omega arith))
-    ∙ paste-append t 0 (head ++ w ++ middle ++ b) d 37 1 n (omega arith)
+    let d = s .settings .margin ∷ s .rights .0 ∷ [] in
+    ap (λ (z : List ℕ). paste (paste (paste z 20 middle 3) 23 b bodyLength) 37 d 2) (paste-append t 0 head w 4 16 refl (omega arith))
+    ∙ ap (λ (z : List ℕ). paste (paste z 23 b bodyLength) 37 d 2) (paste-append t 0 (head ++ w) middle 20 3 l (omega arith))
+    ∙ ap (λ (z : List ℕ). paste z 37 d 2) (paste-append t 0 (head ++ w ++ middle) b 23 bodyLength m (omega arith))
+    ∙ paste-append t 0 (head ++ w ++ middle ++ b) d 37 2 n (omega arith)

@@ -47,7 +47,7 @@ module _ (u v : List ℕ) (e : Agree stateLength u v) where
 
   pub state-same : stateIn u ≡ stateIn v
   unfolding stateIn
-  state-same = rw (e 0 (omega arith), e 20 (omega arith), e 21 (omega arith), e 22 (omega arith), settings-same, own-body-same) refl
+  state-same = rw (e 0 (omega arith), e 20 (omega arith), e 21 (omega arith), e 22 (omega arith), e 38 (omega arith), settings-same, own-body-same) refl
 
   pub state-reads-same : stateLength ≤ length u → stateLength ≤ length v → stateReads u ≡ stateReads v
   unfolding stateReads

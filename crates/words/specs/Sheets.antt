@@ -8,6 +8,7 @@ use Rattle.base.specs.Folds.{allTo, tab}
 use Rattle.sheet.specs.declared.Setting.{Setting}
 use Rattle.sheet.specs.declared.Setting.the-variants.{Blank, Written}
 use Rattle.sheet.specs.declared.Cell.{Cell}
+use Rattle.sheet.specs.declared.Rights.{Rights}
 use Rattle.sheet.specs.declared.Sheet.{Sheet}
 use Rattle.bodies.specs.Lengths.{sheetLength}
 use Rattle.bodies.specs.Words.{word}
@@ -22,5 +23,6 @@ settingIn w k = cond (eqb (word w (k * 2)) 0) Blank (Written (word w (k * 2 + 1)
 abbrev pub cellIn : List ℕ → ℕ → Cell
 cellIn w i = record { setting = settingIn w (3 + i) }
 
-unfoldable pub sheetIn : List ℕ → Sheet
-sheetIn w = record { lookback = settingIn w 0; ceiling = settingIn w 1; allowance = settingIn w 2; weights = tab (cellIn w) 16; margin = settingIn w 19 }
+-- and the rights beside it
+unfoldable pub sheetIn : List ℕ → Rights → Sheet
+sheetIn w R = record { lookback = settingIn w 0; ceiling = settingIn w 1; allowance = settingIn w 2; weights = tab (cellIn w) 16; margin = settingIn w 19; rights = R }

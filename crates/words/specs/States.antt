@@ -35,6 +35,7 @@ stateIn w =
       proposing = not (eqb (word w 21) 0);
       body = ownBodyIn w;
       blocks = word w 22;
+      rights = record { 0 = word w 38 };
     }
 
 -- ---- its words
@@ -42,11 +43,11 @@ stateIn w =
 unfoldable pub ownBody : State → Body
 ownBody s = cond (s .proposing) (s .body) noBody
 
--- own number, lookback, ceiling, allowance; sixteen weights; round, is there a proposal, number of blocks; the proposal's body, all 0 where there is none; margin
+-- own number, lookback, ceiling, allowance; sixteen weights; round, is there a proposal, number of blocks; the proposal's body, all 0 where there is none; margin, rights
 unfoldable pub stateWords : State → List ℕ
 stateWords s =
     (s .own .0 ∷ s .settings .lookback ∷ s .settings .ceiling .0 ∷ s .settings .allowance ∷ [])
     ++ sixteen (s .settings .weights)
     ++ (s .round .0 ∷ cond (s .proposing) 1 0 ∷ s .blocks ∷ [])
     ++ bodyWords (ownBody s)
-    ++ (s .settings .margin ∷ [])
+    ++ (s .settings .margin ∷ s .rights .0 ∷ [])

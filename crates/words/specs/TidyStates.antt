@@ -19,4 +19,5 @@ tidy s =
       proposing = s .proposing;
       body = cond (s .proposing) (tidyBody (s .body)) noBody;
       blocks = s .blocks;
+      rights = s .rights;
     }

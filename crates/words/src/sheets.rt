@@ -1,6 +1,7 @@
 // A sheet as words: read.
 use bodies::lengths::SHEET;
 use sheet::Cell;
+use sheet::Rights;
 use sheet::Setting;
 use sheet::Sheet;
 ghost use mathlib.Core.Path.{_≡_};
@@ -54,10 +55,10 @@ fn cells_in(w: &[u32]) -> [Cell; 16]
     cells
 }
 
-// The sheet that the words give.
-pub fn sheet_in(w: &[u32]) -> Sheet
+// The sheet that the words give, and the rights beside them.
+pub fn sheet_in(w: &[u32], rights: Rights) -> Sheet
     requires { ⌜ sheetLength ≤ length (now w) ⌝ }
-    ensures { λ v. ⌜ v ≡ sheetIn (now (w .entry)) ⌝ }
+    ensures { λ v. ⌜ v ≡ sheetIn (now (w .entry)) rights ⌝ }
 {
     Sheet {
         lookback: setting_in(w, 0),
@@ -65,5 +66,6 @@ pub fn sheet_in(w: &[u32]) -> Sheet
         allowance: setting_in(w, 2),
         weights: cells_in(w),
         margin: setting_in(w, 19),
+        rights,
     }
 }

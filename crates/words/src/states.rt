@@ -1,5 +1,6 @@
 // A member's state as words: read, and put.
 use bodies::lengths::STATE;
+use sheet::Rights;
 use sheet::Settings;
 use state::State;
 use terms::Body;
@@ -89,6 +90,7 @@ pub fn state_in(w: &[u32]) -> State
         proposing: w[21] != 0,
         body,
         blocks: w[22],
+        rights: Rights(w[38]),
     }
 }
 
@@ -124,7 +126,7 @@ pub fn put_state(w: &mut [u32], s: State)
         settings.allowance,
     ];
     let middle = [s.round.0, flag(s.proposing), s.blocks];
-    let last = [settings.margin];
+    let last = [settings.margin, s.rights.0];
     bodies::stretch::put(w, 0, &head);
     crate::put_weights(w, 4, weights);
     bodies::stretch::put(w, 20, &middle);

@@ -26,7 +26,7 @@ served c = c .before .before .before .before
 
 settles : (c : tie.After-open)
     → let a = entry (served c .before .before) .args in
-    Settles (record { state = closedState; table = a .table .now }) (opens (record { 0 = a .own }) (sheetIn (a .sheet .now))) (c .«open» .result .answer) (c .«open» .result .state)
+    Settles (record { state = closedState; table = a .table .now }) (opens (record { 0 = a .own }) (sheetIn (a .sheet .now) (record { 0 = a .rights }))) (c .«open» .result .answer) (c .«open» .result .state)
 settles c = open-settles _ _ _ _ (rw (c .before .before .before .sheet-in .ensures, c .before .before .closed .ensures) at (c .«open» .ensures .its-outcome))
 
 returns : tie.Need-returns

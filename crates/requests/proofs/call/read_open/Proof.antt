@@ -19,7 +19,7 @@ use Rattle.requests.proofs.call.read_open.Tie as tie
 
 -- what is left of an open after its margin, its allowance, its ceiling, its lookback and its own number
 abbrev marginLeft : ℕ → Setting → Setting → Setting → List Cell → Setting → Reading
-marginLeft o l c a w m = openAs o (record { lookback = l; ceiling = c; allowance = a; weights = w; margin = m })
+marginLeft o l c a w m = openAs o (record { lookback = l; ceiling = c; allowance = a; weights = w; margin = m; rights = record { 0 = 0 } })
 
 abbrev weightsLeft : ℕ → Setting → Setting → Setting → List (List ℕ) → Reading
 weightsLeft o l c a fs = weightsThen fs (λ w fs. marginThen fs (marginLeft o l c a w))

@@ -74,7 +74,7 @@ returns c =
     let a = entry f .args in
     let s = a .s in
     l .put3 .ensures
-    ∙ ap (λ (z : List ℕ). paste z 37 (s .settings .margin ∷ []) 1)
+    ∙ ap (λ (z : List ℕ). paste z 37 (s .settings .margin ∷ s .rights .0 ∷ []) 2)
     (b .put-body .ensures
     ∙ ap₂ (λ (z : List ℕ) (x : Body). paste z 23 (bodyWords x) bodyLength)
     (m .put2 .ensures

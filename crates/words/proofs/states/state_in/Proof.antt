@@ -22,9 +22,12 @@ shared-slice-read-t11 c = search needs
 shared-slice-read-t14 : tie.Need-shared-slice-read-t14
 shared-slice-read-t14 c = search needs
 
+shared-slice-read-t16 : tie.Need-shared-slice-read-t16
+shared-slice-read-t16 c = search needs
+
 returns : tie.Need-returns
 unfolding stateIn
-returns c = rw (c .before .before .before .before .before .settings-in .ensures, c .before .before .before .before .own-body-in .ensures) refl
+returns c = rw (c .before .before .before .before .before .before .settings-in .ensures, c .before .before .before .before .before .own-body-in .ensures) refl
 
 pub state-in-spec : {M : Type 1} → statement M
 state-in-spec =
@@ -36,4 +39,5 @@ state-in-spec =
     shared-slice-read-t8
     shared-slice-read-t11
     shared-slice-read-t14
+    shared-slice-read-t16
     returns)

@@ -6,8 +6,8 @@ use Rattle.bodies.specs.Bodies.{loneTripleReads}
 use Rattle.words.specs.States.{stateReads}
 use Rattle.words.proofs.ReadingLaws.{state-read, lone-triple-read}
 use borrow.Author.Needs.{needs}
-use Rattle.host.proofs.guests.forgelilac_enqueue.Statement.{statement}
-use Rattle.host.proofs.guests.forgelilac_enqueue.Tie as tie
+use Rattle.host.proofs.queues.forgelilac_enqueue.Statement.{statement}
+use Rattle.host.proofs.queues.forgelilac_enqueue.Tie as tie
 
 abbrev entry : tie.After-state-reads → tie.Start
 entry c = c .before .before .before .before

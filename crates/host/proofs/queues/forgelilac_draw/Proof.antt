@@ -11,8 +11,8 @@ use Rattle.hosting.proofs.AnswerLaws.{writable}
 use Rattle.hosting.proofs.HandedLaws.{draw-handed}
 use Rattle.words.proofs.ReadingLaws.{state-read, set-read}
 use borrow.Author.Needs.{needs}
-use Rattle.host.proofs.guests.forgelilac_draw.Statement.{statement}
-use Rattle.host.proofs.guests.forgelilac_draw.Tie as tie
+use Rattle.host.proofs.queues.forgelilac_draw.Statement.{statement}
+use Rattle.host.proofs.queues.forgelilac_draw.Tie as tie
 
 abbrev entry : tie.After-state-reads → tie.Start
 entry c = c .before .before .before .before
