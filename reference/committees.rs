@@ -1,8 +1,8 @@
 //! `committees < stream`: of the chain that a stream of records leaves, a line for
 //! each block: its number, its round, and the sixteen weights of the committee of
-//! the round from which on it counts, lookback + block's round + 1, as read; no
-//! weights where that is above the ceiling. `owners.py` compares a register of
-//! weights with these lines.
+//! the round from which on it counts, lookback + block's round + 1, as read; where
+//! that is above the ceiling no read shows it, and the reference's own committee is
+//! taken. `owners.py` compares a register of weights with these lines.
 
 #[path = "runner_ref.rs"]
 mod runner_ref;
@@ -21,10 +21,12 @@ fn main() -> std::io::Result<()> {
     let Some(member) = runner.member else { return Ok(()) };
     for (number, block) in (1..).zip(member.chain()) {
         write!(out, "{number},{}", block.round)?;
-        match member.read_committee(member.settings().lookback + block.round + 1) {
-            Ok(weights) => weights.iter().try_for_each(|weight| write!(out, ",{weight}"))?,
-            Err(number) => assert_eq!(number, 5, "a round from which on a block counts is known"),
-        }
+        let counts = member.settings().lookback + block.round + 1;
+        let weights = match member.read_committee(counts) {
+            Err(5) => *member.committee_of(counts).expect("a round from which on a block counts is known"),
+            read => read.expect("a round from which on a block counts is known"),
+        };
+        weights.iter().try_for_each(|weight| write!(out, ",{weight}"))?;
         writeln!(out)?;
     }
     out.flush()

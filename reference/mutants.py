@@ -7,9 +7,10 @@ rules of batches rows of certificates, wrong rules of queues streams with draws,
 wrong previews and wrong lists streams in which they are asked for, wrong rights
 streams in which guests call, and what they answer is compared with naive.py. Wrong
 ledgers, wrong registers and committees that do not add up are given seeds 1 to N: it
-counts in how many the ledger, and whether a register, is other than the committees. Of
-queues it also says whether fair finds a fault, of previews, lists and rights whether
-the unit tests do: no stream comes to a state that no run reaches. Of a wrong rule of advance or of the margin that no stream
+counts in how many the ledger, and whether a register, is other than the committees, or
+whether a register takes what it must refuse. Of queues it also says whether fair finds
+a fault, of previews, lists and rights whether the unit tests do: no stream comes to a
+state that no run reaches. Of a wrong rule of advance or of the margin that no stream
 notices it says whether the unit tests do: none of the streams comes to hold an
 outsider.
 
@@ -629,6 +630,8 @@ W=[
 # wrong ledgers, wrong registers, committees that do not add up
 RELEASED = "let released = account.since + start;"
 ORDER = "(line.0, line.1, (line.2 + MEMBERS - firsts[line.0 as usize]) % MEMBERS)"
+ANCHORS = "if len(anchors) != 1:"
+SORTED = "if turns != sorted(turns):"
 L=[
 # starting weight not released; released by every unbond; bonds before the last unbond released again
 ('ledger.rs', "if account.unbonded { 0 } else { account.start }", "0"),
@@ -663,6 +666,26 @@ L=[
 ('register.py', "for block in blocks]\n\n    def releases", "for block in blocks[:-1]] + [{} for _ in blocks[-1:]]\n\n    def releases"),
 ('register.py', "        last.transactions.extend(transactions)\n", "        last.transactions[:] = transactions + last.transactions\n"),
 ('register.py', "for kind, member, amount in transactions:", "for kind, member, amount in sorted(transactions):"),
+# registers that take any order; rounds alone in order; all but the last line; numbers that rise from 0
+('register.py', "        see_order(block)\n", "        pass\n"),
+('register.py', SORTED, "if False:"),
+('register.py', SORTED, "if turns != sorted(turns, key=lambda turn: turn[0]):"),
+('register.py', SORTED, "if turns[:-1] != sorted(turns[:-1]):"),
+('register.py', "(author - anchors[0]) % 16)", "author)"),
+# two anchors, none; odd block rounds, the same once more, above 1,022; a block left out; a certificate twice
+('register.py', ANCHORS, "if not anchors:"),
+('register.py', ANCHORS, "if not anchors:\n        return\n    " + ANCHORS),
+('register.py', "if block_round % 2 or block_round", "if block_round"),
+('register.py', "block_round <= last.round", "block_round < last.round"),
+('register.py', "2, 1022,", "2, 1024,"),
+('register.py', "if number == last.number + 1:", "if number > last.number:"),
+('register.py', "if place in seen:", "if False:"),
+# five transactions, no weight; fewer blocks than were made; a chain that is told a number; calls after it
+('register.py', "if len(fields) > 16:\n        raise ValueError(\"a cert", "if False:\n        raise ValueError(\"a cert"),
+('register.py', "if not any(weights):", "if False:"),
+('register.py', "if len(blocks) != made:", "if False:"),
+('register.py', 'if line.startswith("ok") and', 'if record != b"chain" and line.startswith("ok") and'),
+('register.py', 'listing = listed if name == "chain" else None', 'listing = listed if name == "chain" else listing'),
 ]
 work = os.path.join(base, 'mutants')
 os.makedirs(work, exist_ok=True)

@@ -2370,7 +2370,7 @@ fn weights_by_hand() {
                commit\ncommit\nopen,0,1,2,,,,,,,,,,,,,,,,,\nopen,0,,,,,,,,,,,,,,,,,,,\nopen,0,,64,,,,,,,,,,,,,,,,,\n";
     let mut figures = ledger::Figures::default();
     figures.stream(&mut run.replace('\n', "\r\n").as_bytes()).unwrap();
-    // Two opens and two commits, each time anew: 5 bonded, then 102 and 105 released.
+    // Two opens and two commits, each time anew: 5 bonded, then 102 bonded and 105 released.
     assert_eq!((figures.commits, figures.read, figures.above), (4, 4, 0));
     assert_eq!((figures.bonded, figures.released, figures.unbonds), (107, 105, [4, 1, 1, 2]));
     assert_eq!((figures.transactions, figures.most), (8, 105));

@@ -14,9 +14,9 @@
 //! (`previews.rs`), then CRITICALS lists of what a commit hangs on
 //! (`criticals.rs`), then GUESTED calls of guests (`guests.rs`), then LEDGERS
 //! ledgers of weights after commits (`ledgers.rs`), then calls by chance. Their
-//! stretches start from states grown by runs, from such states with words changed here and there, and with chains
-//! made up on what they hold. Whether a changed state is well formed is judged by
-//! `words.rs`, from the papers.
+//! stretches start from states grown by runs, from such states with words changed
+//! here and there, and with chains made up on what they hold. Whether a changed
+//! state is well formed is judged by `words.rs`, from the papers.
 //!
 //! With `--cfg plain` the engine under test is bench/plain.rs.
 

@@ -148,15 +148,12 @@ impl Test {
         places.into_iter().filter_map(line).collect()
     }
 
-    /// Keeps the ledger of a node's chain and compares. In a state that a run reaches
-    /// a block's order is told by its anchor, its one certificate of its own round;
-    /// else by the leader of its round.
-    fn ledger(&mut self, node: &Node, reached: bool) {
-        let block = |number| engine::block(&node.state, &node.table, number);
-        let rounds: Vec<u32> = (1..).map(block).take_while(|answer| answer >> 32 == 0).map(|answer| answer as u32).collect();
-        let mut lines = self.lines(node);
+    /// Of each block, after one for none, the number from which on numbers rise in a
+    /// round. In a state that a run reaches it is told by the block's anchor, its one
+    /// certificate of its own round; else by the leader of its round.
+    fn firsts(&mut self, node: &Node, rounds: &[u32], lines: &[Line], reached: bool) -> Vec<u32> {
         let mut firsts = vec![0];
-        for (number, &round) in (1..).zip(&rounds) {
+        for (number, &round) in (1..).zip(rounds) {
             let anchors: Vec<u32> = lines.iter().filter(|line| (line.0, line.1) == (number, round)).map(|line| line.2).collect();
             let lead = || leader(round, &committee_read(node, round).unwrap_or([0; 16]));
             if reached && anchors.len() != 1 {
@@ -164,6 +161,15 @@ impl Test {
             }
             firsts.push(if reached { anchors.first().copied() } else { lead() }.unwrap_or(0));
         }
+        firsts
+    }
+
+    /// Keeps the ledger of a node's chain and compares.
+    fn ledger(&mut self, node: &Node, reached: bool) {
+        let block = |number| engine::block(&node.state, &node.table, number);
+        let rounds: Vec<u32> = (1..).map(block).take_while(|answer| answer >> 32 == 0).map(|answer| answer as u32).collect();
+        let mut lines = self.lines(node);
+        let firsts = self.firsts(node, &rounds, &lines, reached);
         lines.sort_by_key(|line| (line.0, line.1, line.2));
         let start = committee_read(node, 1).expect("the starting committee");
         let rising = Ledger::of(start, lines.iter()).weights();

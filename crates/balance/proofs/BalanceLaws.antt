@@ -4,21 +4,23 @@ use mathlib.Core.List.{List}
 use Prim.Native.Nat.{ℕ, _+_, _-_, _<_, _≤_}
 use native.Mathlib.Omega.{arith}
 use lib.ListN.{length}
+use borrow.Author.Tests.{le-leb}
 use Rattle.base.proofs.FoldLaws.{length-tab}
 use Rattle.agreement.specs.Rules.{last}
 use Rattle.store.specs.Table.{blockRound}
 use Rattle.sheet.specs.declared.Settings.{Settings}
 use Rattle.sheet.specs.Sheets.{weightAt}
 use Rattle.sheet.proofs.SheetLaws.{filled-weights}
-use Rattle.committee.specs.Committees.{committeeOf}
+use Rattle.committee.specs.Committees.{committeeOf, knownBy}
 use Rattle.committee.proofs.CommitteeLaws.{committee-bonded}
-use Rattle.changes.proofs.ChainLaws.{last-chain, fits-at, bonded-below}
+use Rattle.changes.proofs.ChainLaws.{last-chain, fits-at, last-up, bonded-below}
 use Rattle.changes.proofs.TotalBound.{committee-total}
 use Rattle.state.specs.Formed.{Formed}
 use Rattle.state.proofs.FormedLaws.{formed}
 use Rattle.engine.specs.Engine.{Engine}
 use Rattle.engine.specs.Reached.{Intact}
 use Rattle.engine.proofs.ReachedLaws.{intact}
+use Rattle.nonforking.specs.Statement.{Knows}
 use Rattle.ledger.proofs.LedgerLaws.{weightsAfter, bonded-journal, member-adds}
 use Rattle.ledger.proofs.TotalLaws.{total-adds}
 use Rattle.ledger.proofs.JournalLaws.{all-below, journal-fit}
@@ -54,11 +56,18 @@ module _ (e : Engine) (r : Intact e) where
       committee-bonded S (chainTo e blocks) (roundAfter e k) (omega arith)
       ∙ rw i (bonded-below S t blocks (whole-state .rounds) s k blocks h (omega arith) (next-above k) ∙ bonded-journal S s (chainTo e k) (rw (last-chain n t k) b))
 
+  known-after : (k : ℕ) → k ≤ blocks → Knows e (roundAfter e k)
+  unfolding knownBy
+  known-after k h =
+      let u = last-up n t blocks (whole-state .rounds) k blocks h (omega arith) in
+      le-leb (roundAfter e k) (S .lookback + (last (chainTo e blocks) + 2)) (omega (arith, u, last-chain n t k, last-chain n t blocks))
+
   adds-up-to : (k : ℕ) → k ≤ blocks → AddsUpTo e k
   adds-up-to k h =
       let long : length (S .weights) ≡ 16 = rw (r .good .settings, filled-weights (r .sheet)) (length-tab (weightAt (r .sheet .weights)) 16) in
       let q = journal-fit t (S .allowance) blocks n (whole-state .rows) S k in
       record {
+        known = known-after k h;
         each = λ m l. rw (committee-after k h) (member-adds (S .weights) (transactionsTo e k) m long l);
         whole = rw (committee-after k h) (total-adds (S .weights) (transactionsTo e k) long q);
       }

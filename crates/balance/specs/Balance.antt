@@ -10,7 +10,7 @@ use Rattle.sheet.specs.Ranges.{weightIn}
 use Rattle.committee.specs.Chain.{chainOf}
 use Rattle.engine.specs.Engine.{Engine}
 use Rattle.engine.specs.Reached.{Reached}
-use Rattle.nonforking.specs.Statement.{listed, weights}
+use Rattle.nonforking.specs.Statement.{listed, Knows, weights}
 use Rattle.ledger.specs.Ledger.{entered, journal, listedTransactions, bondedTo, releasedFrom, bondedAll, releasedAll}
 
 -- the starting weights
@@ -25,12 +25,14 @@ chainTo e k = chainOf (e .state .settings .ceiling .0) (e .table) k
 abbrev pub transactionsTo : Engine → ℕ → List Transaction
 transactionsTo e k = journal (e .state .settings) (chainTo e k)
 
--- the first round whose committee they all change
+-- the first round whose committee they all change; the first above the lookback where there are none
 abbrev pub roundAfter : Engine → ℕ → ℕ
 roundAfter e k = e .state .settings .lookback + (last (chainTo e k) + 1)
 
 -- after the first k blocks: what there is and what was released is what there was and what was bonded; so no more is released than that, and "less" is exact
 pub record AddsUpTo (e : Engine) (k : ℕ) : Type 0 where
+  -- that round is known
+  pub known : Knows e (roundAfter e k)
   -- each member alone
   pub each : (m : ℕ) → m < 16 → weights e (roundAfter e k) m + releasedFrom (start e) m (transactionsTo e k) ≡ start e m + bondedTo m (transactionsTo e k)
   -- all together

@@ -1,6 +1,6 @@
 -- The journal of a well-formed state: its blocks are of rounds that rise, and its transactions are in range.
-use mathlib.Core.Path.{_≡_, refl, sym, ap, _∙_}
-use mathlib.Core.Bool.{Bool, true, false, not, cond, _&&_, _||_}
+use mathlib.Core.Path.{_≡_, refl}
+use mathlib.Core.Bool.{Bool, true, false, not, cond}
 use mathlib.Core.List.{List, [], _∷_, _++_}
 use mathlib.Core.Option.{Option, none, some, Option·none-ne-some}
 use Prim.Native.Nat.{ℕ, zero, suc, _+_, _%_, _<_, _≤_}
@@ -18,7 +18,7 @@ use Rattle.store.specs.Table.{blockRound, markAt, certificateAt, contentAt}
 use Rattle.store.proofs.TableLaws.{held-certificate}
 use Rattle.scan.specs.Scan.{rowsFit}
 use Rattle.scan.proofs.ScanLaws.{transactions-fit, rows-held}
-use Rattle.committee.specs.Chain.{isRound, holdsAt, blockAt, chainOf}
+use Rattle.committee.specs.Chain.{isRound, blockAt, chainOf}
 use Rattle.committee.proofs.ChainLaws.{round-parts, holds-at, block-round, block-holds, chain-none, chain-more}
 use Rattle.sheet.specs.declared.Settings.{Settings}
 use Rattle.committee.specs.Changes.{atMostOne, row, rows}

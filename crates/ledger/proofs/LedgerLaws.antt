@@ -1,15 +1,15 @@
 -- Each member's weight adds up.
-use mathlib.Core.Path.{_≡_, refl, sym, ap, _∙_}
+use mathlib.Core.Path.{_≡_, refl, sym, _∙_}
 use mathlib.Core.Bool.{Bool, true, false, cond, false≢true}
 use mathlib.Core.List.{List, [], _∷_}
-use Prim.Native.Nat.{ℕ, _+_, _<_, _≤_}
+use Prim.Native.Nat.{ℕ, _+_, _<_}
 use native.Mathlib.Omega.{arith}
 use native.Mathlib.Decide.{ℕ-discrete, decLt}
 use lib.ListN.{set, length, length-set}
 use lib.Seq.{getD-set-same, getD-set-other}
 use lib.Dec.{eqb, ltb}
 use borrow.Author.Tests.{eq-eqb, ne-eqb, lt-ltb, le-ltb}
-use Rattle.agreement.specs.Rules.{Block, Chain}
+use Rattle.agreement.specs.Rules.{Chain}
 use Rattle.terms.specs.declared.Transaction.{Transaction}
 use Rattle.terms.specs.declared.Transaction.the-variants.{Bond, Unbond, Entry}
 use Rattle.terms.specs.Proposals.{Content}
@@ -109,6 +109,6 @@ unfolding bondedFrom
 bonded-start S s = refl
 
 pub bonded-journal : (S : Settings) (s : ℕ) (c : Chain Content) → AllBelow c s → bondedFrom S c s ≡ weightsAfter (S .weights) (journal S c)
-unfolding journal weightsAfter
+unfolding journal weightsAfter ordered
 bonded-journal S s [] h = bonded-start S s
 bonded-journal S s (b ∷ c) h = bonded-step S s b c ∙ step-counts S s b c (bondedFrom S c s) (h .0) ∙ rw (bonded-journal S s c (h .1)) (changes-of-entered (ordered S b c) (journal S c) (S .weights))

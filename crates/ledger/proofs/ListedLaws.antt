@@ -2,7 +2,6 @@
 use mathlib.Core.Path.{_≡_, refl, sym, ap, _∙_}
 use mathlib.Core.List.{List, [], _∷_, _++_, append-assoc, append-nil}
 use Prim.Native.Nat.{ℕ}
-use Rattle.agreement.specs.Rules.{Chain}
 use Rattle.agreement.specs.Listing.{listing}
 use Rattle.terms.specs.declared.Transaction.{Transaction}
 use Rattle.terms.specs.Proposals.{Content}

@@ -1,8 +1,8 @@
 -- The total weight adds up.
-use mathlib.Core.Path.{_≡_, refl, sym, ap, _∙_}
-use mathlib.Core.Bool.{Bool, true, false, cond, _&&_}
+use mathlib.Core.Path.{_≡_, refl, sym, _∙_}
+use mathlib.Core.Bool.{true, cond, _&&_}
 use mathlib.Core.List.{List, [], _∷_}
-use Prim.Native.Nat.{ℕ, zero, suc, _+_, _<_, _≤_}
+use Prim.Native.Nat.{ℕ, zero, suc, _+_, _<_}
 use native.Mathlib.Omega.{arith}
 use native.Mathlib.Decide.{ℕ-discrete}
 use lib.ListN.{length}
@@ -10,14 +10,14 @@ use lib.Dec.{eqb, ltb, leb}
 use borrow.Author.Tests.{eq-eqb, ne-eqb, ltb-true}
 use Rattle.base.proofs.Bools.{both}
 use Rattle.base.specs.Folds.{sumTo}
-use Rattle.base.proofs.SumLaws.{sum-same, sum-add, sum-none, sum-one}
+use Rattle.base.proofs.SumLaws.{sum-same, sum-add, sum-none}
 use Rattle.terms.specs.declared.Transaction.{Transaction}
 use Rattle.terms.specs.declared.Transaction.the-variants.{Bond, Unbond, Entry}
 use Rattle.terms.specs.Transactions.{amountOf, inRange, bondInRange}
 use Rattle.terms.specs.Proposals.{allInRange}
 use Rattle.sheet.specs.Ranges.{weightIn}
 use Rattle.committee.specs.Totals.{totalIn}
-use Rattle.ledger.specs.Ledger.{bondOf, unbonds, releases, bondedTo, releasedFrom, bondedAll, freed, releasedAll}
+use Rattle.ledger.specs.Ledger.{bondOf, unbonds, releases, bondedTo, releasedFrom, bondedAll, releasedBy, releasedAll}
 use Rattle.ledger.proofs.LedgerLaws.{weightsAfter, member-adds}
 
 -- one part alone, that is there
@@ -39,10 +39,10 @@ bond-all (Bond i a) h = sum-only (λ m. a) (i .0) 16 (ltb-true (i .0) 16 (both (
 bond-all (Unbond i) h = sum-none 16
 bond-all (Entry n) h = sum-none 16
 
-freed-all : (w : ℕ → ℕ) (e : List Transaction) (x : Transaction) → inRange x ≡ true → sumTo (λ m. cond (unbonds m x) (releases w m e) 0) 16 ≡ freed w e x
-freed-all w e (Bond i a) h = sum-none 16
-freed-all w e (Unbond i) h = sum-only (λ m. releases w m e) (i .0) 16 (ltb-true (i .0) 16 h)
-freed-all w e (Entry n) h = sum-none 16
+released-by-all : (w : ℕ → ℕ) (e : List Transaction) (x : Transaction) → inRange x ≡ true → sumTo (λ m. cond (unbonds m x) (releases w m e) 0) 16 ≡ releasedBy w e x
+released-by-all w e (Bond i a) h = sum-none 16
+released-by-all w e (Unbond i) h = sum-only (λ m. releases w m e) (i .0) 16 (ltb-true (i .0) 16 h)
+released-by-all w e (Entry n) h = sum-none 16
 
 bonded-sum : (e : List Transaction) → allInRange e ≡ true → sumTo (λ m. bondedTo m e) 16 ≡ bondedAll e
 unfolding bondedTo bondedAll allInRange
@@ -56,7 +56,7 @@ unfolding releasedFrom releasedAll allInRange
 released-sum w [] h = sum-none 16
 released-sum w (x ∷ e) h =
     let p = both (inRange x) (allInRange e) h in
-    sum-add (λ m. cond (unbonds m x) (releases w m e) 0) (λ m. releasedFrom w m e) 16 ∙ rw (freed-all w e x (p .0), released-sum w e (p .1)) refl
+    sum-add (λ m. cond (unbonds m x) (releases w m e) 0) (λ m. releasedFrom w m e) 16 ∙ rw (released-by-all w e x (p .0), released-sum w e (p .1)) refl
 
 pub total-adds : (w : List ℕ) (e : List Transaction) → length w ≡ 16 → allInRange e ≡ true
     → totalIn (weightsAfter w e) + releasedAll (weightIn w) e ≡ totalIn w + bondedAll e

@@ -1,6 +1,6 @@
 -- The ledger of a chain: what its transactions, in the chain's order, bond and release (change request: Point 12).
 use mathlib.Core.Path.{_≡_}
-use mathlib.Core.Bool.{Bool, true, false, cond}
+use mathlib.Core.Bool.{Bool, false, cond}
 use mathlib.Core.List.{List, [], _∷_, _++_}
 use Prim.Native.Nat.{ℕ, _+_}
 use lib.Dec.{eqb}
@@ -83,12 +83,12 @@ bondedAll [] = 0
 bondedAll (x ∷ e) = amountOf x + bondedAll e
 
 -- what a transaction releases after e
-abbrev pub freed : (ℕ → ℕ) → List Transaction → Transaction → ℕ
-freed w e (Bond i a) = 0
-freed w e (Unbond i) = releases w (i .0) e
-freed w e (Entry n) = 0
+abbrev pub releasedBy : (ℕ → ℕ) → List Transaction → Transaction → ℕ
+releasedBy w e (Bond i a) = 0
+releasedBy w e (Unbond i) = releases w (i .0) e
+releasedBy w e (Entry n) = 0
 
 -- all weight released
 unfoldable pub releasedAll : (ℕ → ℕ) → List Transaction → ℕ
 releasedAll w [] = 0
-releasedAll w (x ∷ e) = freed w e x + releasedAll w e
+releasedAll w (x ∷ e) = releasedBy w e x + releasedAll w e
