@@ -4,7 +4,8 @@
 # many by chance, and seeds FIRST to LAST (1 to 50 if not given), as they are, with
 # their accepts in batches, with their proposals drawn from queues, with previews of
 # commit, with lists of what a commit hangs on and with guests' calls, the reference
-# against naive.py; and that guests get their turn over long runs.
+# against naive.py; that weights add up after every commit, and the register of plant
+# owners (tools/register) with them; and that guests get their turn over long runs.
 # A runner given in RUNNER is compared with the reference as well.
 cd "$(dirname "$0")" || exit 2
 bin/tests_ref -q || exit 1
@@ -26,6 +27,7 @@ bin/fair || differs fair
 for seed in $(seq "${2:-1}" "${1:-50}"); do
     bin/shuffle "$seed" > out/stream
     bin/runner_ref < out/stream > out/expected
+    bin/ledger < out/stream > out/ledger || { cat out/ledger; differs "weights of seed $seed"; }
     for runner in "python3 naive.py" $RUNNER; do
         $runner < out/stream | cmp - out/expected || differs "seed $seed"
     done
@@ -44,6 +46,10 @@ for seed in $(seq "${2:-1}" "${1:-50}"); do
     python3 callers.py "$seed" > out/callers
     bin/rights < out/callers > out/expected
     python3 naive.py rights < out/callers | cmp - out/expected || differs "callers of seed $seed"
+done
+first=${2:-1}
+for runner in bin/runner_ref $RUNNER; do
+    python3 owners.py "$runner" bin/committees $((${1:-50} - first + 1)) "$first" || differs register
 done
 rm -r out
 [ $status = 0 ] && echo all the same

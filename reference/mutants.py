@@ -5,16 +5,19 @@ reads a share, is a batch, adds to a queue, draws, is a preview, lists what a
 commit hangs on or is a guest's: wrong rules of shares are given pairs of weight and total, wrong
 rules of batches rows of certificates, wrong rules of queues streams with draws,
 wrong previews and wrong lists streams in which they are asked for, wrong rights
-streams in which guests call, and what they answer is compared with naive.py. Of
-queues it also says whether fair finds a fault, of previews, lists and rights whether
-the unit tests do: no stream comes to a state that no run reaches. Of a wrong rule of advance or of the margin that no stream
+streams in which guests call, and what they answer is compared with naive.py. Wrong
+ledgers, wrong registers and committees that do not add up are given seeds 1 to N: it
+counts in how many the ledger, and whether a register, is other than the committees, or
+whether a register takes what it must refuse. Of queues it also says whether fair finds
+a fault, of previews, lists and rights whether the unit tests do: no stream comes to a
+state that no run reaches. Of a wrong rule of advance or of the margin that no stream
 notices it says whether the unit tests do: none of the streams comes to hold an
 outsider.
 
     mutants.py N [SORT]        (build.sh first; works in the directory mutants)
 
-With SORT only that one: share, batch, queue, preview, critical, right, advance,
-margin or rule.
+With SORT only that one: share, batch, queue, preview, critical, right, ledger,
+advance, margin or rule.
 
 Six of the changes cannot show in a runner's answers; they are marked same.
 """
@@ -624,6 +627,66 @@ W=[
 ("            rights: *rights,\n", "            rights: if rights == &NO_RIGHTS { *rights } else { NO_RIGHTS },\n"),
 ("            rights: *rights,\n", "            rights: [[rights[0][0] || true; 4]; 8],\n"),
 ]
+# wrong ledgers, wrong registers, committees that do not add up
+RELEASED = "let released = account.since + start;"
+ORDER = "(line.0, line.1, (line.2 + MEMBERS - firsts[line.0 as usize]) % MEMBERS)"
+ANCHORS = "if len(anchors) != 1:"
+SORTED = "if turns != sorted(turns):"
+L=[
+# starting weight not released; released by every unbond; bonds before the last unbond released again
+('ledger.rs', "if account.unbonded { 0 } else { account.start }", "0"),
+('ledger.rs', "if account.unbonded { 0 } else { account.start }", "account.start"),
+('ledger.rs', "                account.since = 0;\n", ""),
+# only the bonds since, of the last one alone; nothing for one who never was a member
+('ledger.rs', "account.since += u64::from(amount);", "account.since = u64::from(amount);"),
+('ledger.rs', RELEASED, "let released = if account.start == 0 { 0 } else { account.since + start };"),
+# another member's unbond counts: of the next number, of anybody
+('ledger.rs', "Transaction::Unbond { member } => {\n                let account = self.accounts.get_mut(&member)", "Transaction::Unbond { member } => {\n                let account = self.accounts.get_mut(&(member ^ 1))"),
+('ledger.rs', "                account.unbonded = true;\n", "                self.accounts.values_mut().for_each(|one| one.unbonded = true);\n"),
+('ledger.rs', "                account.since = 0;\n", "                account.since = 0;\n                let (since, before) = (0, member.wrapping_sub(1));\n                self.accounts.entry(before).and_modify(|one| one.since = since);\n                let account = self.accounts.get_mut(&member).expect(\"a member\");\n"),
+# the last block not counted; rising order, falling order, from the first member's number
+('ledger.rs', "            if number == 0 {", "            if number == 0 || number as usize == blocks.len() {"),
+('ledger.rs', ORDER, "(line.0, line.1, line.2)"),
+('ledger.rs', ORDER, "(line.0, line.1, MEMBERS - line.2)"),
+('ledger.rs', ORDER, ORDER.replace("firsts[line.0 as usize]", "firsts[line.0 as usize] - 1 ")),
+# by author, then round; the newest block first; the round of the block
+('ledger.rs', ORDER, "(line.0, (line.2 + MEMBERS - firsts[line.0 as usize]) % MEMBERS, line.1)"),
+('ledger.rs', ORDER, "(u32::MAX - line.0, line.1, (line.2 + MEMBERS - firsts[line.0 as usize]) % MEMBERS)"),
+('ledger.rs', "settings.lookback + last + 1;", "settings.lookback + last;"),
+# bonds that replace, unbonds that leave one or do nothing, blocks that forget the ones before
+('reference.rs', 'committee[member as usize] += u64::from(amount)', 'committee[member as usize] = u64::from(amount)'),
+('reference.rs', 'Transaction::Unbond { member } => committee[member as usize] = 0,', 'Transaction::Unbond { member } => committee[member as usize] = committee[member as usize].min(1),'),
+('reference.rs', 'Transaction::Unbond { member } => committee[member as usize] = 0,', 'Transaction::Unbond { .. } => {}'),
+('reference.rs', 'below.last().map_or(settings.weights, |b| b.after)', 'settings.weights'),
+# registers
+('register.py', "return self.starting[member] + self.bonds.get(member, 0)", "return self.bonds.get(member, 0)"),
+('register.py', "            return self.since[member]\n", "            return self.starting[member] + self.since[member]\n"),
+('register.py', "                self.since[member] = 0\n", "                self.since.setdefault(member, 0)\n"),
+('register.py', "                self.since[member] = 0\n", "                self.since[member] = 0\n                self.since[member ^ 1] = 0\n"),
+('register.py', "for block in blocks]\n\n    def releases", "for block in blocks[:-1]] + [{} for _ in blocks[-1:]]\n\n    def releases"),
+('register.py', "        last.transactions.extend(transactions)\n", "        last.transactions[:] = transactions + last.transactions\n"),
+('register.py', "for kind, member, amount in transactions:", "for kind, member, amount in sorted(transactions):"),
+# registers that take any order; rounds alone in order; all but the last line; numbers that rise from 0
+('register.py', "        see_order(block)\n", "        pass\n"),
+('register.py', SORTED, "if False:"),
+('register.py', SORTED, "if turns != sorted(turns, key=lambda turn: turn[0]):"),
+('register.py', SORTED, "if turns[:-1] != sorted(turns[:-1]):"),
+('register.py', "(author - anchors[0]) % 16)", "author)"),
+# two anchors, none; odd block rounds, the same once more, above 1,022; a block left out; a certificate twice
+('register.py', ANCHORS, "if not anchors:"),
+('register.py', ANCHORS, "if not anchors:\n        return\n    " + ANCHORS),
+('register.py', "if block_round % 2 or block_round", "if block_round"),
+('register.py', "block_round <= last.round", "block_round < last.round"),
+('register.py', "2, 1022,", "2, 1024,"),
+('register.py', "if number == last.number + 1:", "if number > last.number:"),
+('register.py', "if place in seen:", "if False:"),
+# five transactions, no weight; fewer blocks than were made; a chain that is told a number; calls after it
+('register.py', "if len(fields) > 16:\n        raise ValueError(\"a cert", "if False:\n        raise ValueError(\"a cert"),
+('register.py', "if not any(weights):", "if False:"),
+('register.py', "if len(blocks) != made:", "if False:"),
+('register.py', 'if line.startswith("ok") and', 'if record != b"chain" and line.startswith("ok") and'),
+('register.py', 'listing = listed if name == "chain" else None', 'listing = listed if name == "chain" else listing'),
+]
 work = os.path.join(base, 'mutants')
 os.makedirs(work, exist_ok=True)
 good = os.path.join(base, 'bin', 'runner_ref')
@@ -649,7 +712,7 @@ def made(maker, seeds):
 
 
 streams = []
-for seed in range(1, int(sys.argv[1]) + 1) if wanted('advance', 'margin', 'rule') else []:
+for seed in range(1, int(sys.argv[1]) + 1) if wanted('ledger', 'advance', 'margin', 'rule') else []:
     stream = subprocess.run([os.path.join(base, 'bin', 'shuffle'), str(seed)],
                             capture_output=True).stdout
     streams.append((stream, answers(good, stream)))
@@ -665,7 +728,7 @@ def spoilt(place, program, name, old, new, kind='-O'):
     """The program built with the change; None and why where there is none."""
     place = os.path.join(work, place)
     os.makedirs(place, exist_ok=True)
-    for source in ('reference.rs', program):
+    for source in ('reference.rs', program) + (('ledger.rs',) if program == 'tests_ref.rs' else ()):
         shutil.copy(os.path.join(base, source), place)
     text = open(os.path.join(place, name)).read()
     if text.count(old) != 1:
@@ -815,6 +878,29 @@ def one_right(i):
     return '%d of %d lines, tests %s' % (len(by_rights) - same, len(by_rights), unit_tests(place, 'reference.rs', *W[i]))
 
 
+def one_ledger(i):
+    """In how many streams a wrong ledger or wrong committees are noticed; of a register, whether it is."""
+    name, old, new = L[i]
+    place = os.path.join(work, 'ledger%d' % i)
+    os.makedirs(place, exist_ok=True)
+    if name == 'register.py':
+        text = open(os.path.join(base, '..', 'tools', 'register', name)).read()
+        if text.count(old) != 1:
+            return 'the text to spoil is there %d times' % text.count(old)
+        open(os.path.join(place, name), 'w').write(text.replace(old, new))
+        compared = [sys.executable, os.path.join(base, 'owners.py'), good, os.path.join(base, 'bin', 'committees'),
+                    str(len(streams)), '1', os.path.join(place, name)]
+        done = subprocess.run(compared, capture_output=True, text=True)
+        return 'noticed: ' + done.stderr.strip()[:60] if done.returncode and 'Traceback' not in done.stderr else 'no'
+    shutil.copy(os.path.join(base, 'runner_ref.rs'), place)
+    program, why = spoilt('ledger%d' % i, 'ledger.rs', *L[i])
+    if program is None:
+        return why
+    # 1 is a difference; a program that breaks off has noticed nothing.
+    found = sum(subprocess.run([program], input=stream, capture_output=True).returncode == 1 for stream, _ in streams)
+    return '%d of %d seeds' % (found, len(streams))
+
+
 def one_share(i):
     program, why = spoilt('share%d' % i, 'shares.rs', 'reference.rs', *S[i])
     if program is None:
@@ -825,7 +911,8 @@ def one_share(i):
 
 with ThreadPoolExecutor(int(os.environ.get('JOBS', 4))) as pool:
     for sort, try_one, changes in [('share', one_share, S), ('batch', one_batch, B), ('queue', one_queue, Q),
-                                   ('preview', one_preview, P), ('critical', one_critical, K), ('right', one_right, W), ('advance', one_advance, A),
+                                   ('preview', one_preview, P), ('critical', one_critical, K), ('right', one_right, W), ('ledger', one_ledger, L),
+                                   ('advance', one_advance, A),
                                    ('margin', one_margin, G), ('rule', one, M)]:
         if not wanted(sort):
             continue

@@ -1,11 +1,13 @@
 //! `rustc --test tests_ref.rs`: the cases marked P in document 01, the slips
 //! it wants ruled out, the example, small runs worked out by hand, the order
 //! inside a block, batches, queues, thin rounds, previews, margins, what a commit
-//! hangs on, guests' calls, and the shortcuts of the reference compared with the
-//! plain definitions.
+//! hangs on, guests' calls, ledgers of weights, and the shortcuts of the reference
+//! compared with the plain definitions.
 
 #![allow(dead_code)]
 
+#[path = "ledger.rs"]
+mod ledger;
 #[path = "runner_ref.rs"]
 mod runner_ref;
 
@@ -2321,4 +2323,83 @@ fn shortcuts() {
         }
     }
     assert!(blocks > 300 && turned > 150, "{blocks} {turned}");
+}
+
+// ---------------------------------------------- weights that add up (12) ---
+
+/// What each unbond releases, in a list of transactions written by hand.
+#[test]
+fn released_by_hand() {
+    use ledger::runner_ref::reference::Transaction::{Bond, Entry, Unbond};
+    let mut weights = [0; 16];
+    weights[0] = 5;
+    let mut book = ledger::Ledger::of(&weights);
+    let steps = [
+        (Bond { member: 0, amount: 2 }, 0),
+        (Entry { number: 1 }, 0),
+        // Start and bond.
+        (Unbond { member: 0 }, 7),
+        (Bond { member: 0, amount: 4 }, 0),
+        // Never a member.
+        (Unbond { member: 1 }, 0),
+        (Bond { member: 1, amount: 3 }, 0),
+        // The bond since, and not the start once more; then nothing is left.
+        (Unbond { member: 0 }, 4),
+        (Unbond { member: 0 }, 0),
+        // Bonds on both sides of another's unbond.
+        (Bond { member: 1, amount: 1 }, 0),
+        (Unbond { member: 1 }, 4),
+        (Bond { member: 0, amount: 1_000 }, 0),
+    ];
+    for (transaction, released) in steps {
+        let before = book.whole().2;
+        book.enter(&transaction);
+        assert_eq!(book.whole().2 - before, released, "{transaction:?}");
+    }
+    let of = |m: u32| (book.accounts[&m].start, book.accounts[&m].bonded, book.accounts[&m].released, book.accounts[&m].weight());
+    assert_eq!((of(0), of(1), of(2)), ((5, 1_006, 11, 1_000), (0, 4, 4, 0), (0, 0, 0, 0)));
+    assert_eq!(book.whole(), (5, 1_010, 15));
+    assert_eq!((book.unbonds, book.of_start, book.of_bonds, book.of_nothing), (5, 1, 2, 2));
+}
+
+/// A run of one heavy member: two commits, and an open that starts afresh.
+#[test]
+fn weights_by_hand() {
+    let run = "open,0,1,64,,100,0,0,0,,,,,,,,,,,,\npropose,0,B,1,5,U,2,0\ncertify,0\nadvance\npropose,1\ncertify,0\nadvance\n\
+               propose,1,U,1,0,B,1,7,U,0,0,B,0,90\ncertify,0\ncommit\nadvance\npropose,1\ncertify,0\nadvance\npropose,1\ncertify,0\n\
+               commit\ncommit\nopen,0,1,2,,,,,,,,,,,,,,,,,\nopen,0,,,,,,,,,,,,,,,,,,,\nopen,0,,64,,,,,,,,,,,,,,,,,\n";
+    let mut figures = ledger::Figures::default();
+    figures.stream(&mut run.replace('\n', "\r\n").as_bytes()).unwrap();
+    // Two opens and two commits, each time anew: 5 bonded, then 102 bonded and 105 released.
+    assert_eq!((figures.commits, figures.read, figures.above), (4, 4, 0));
+    assert_eq!((figures.bonded, figures.released, figures.unbonds), (107, 105, [4, 1, 1, 2]));
+    assert_eq!((figures.transactions, figures.most), (8, 105));
+}
+
+/// The most that a run can weigh: sixteen of the largest weight, each round full,
+/// each certificate with four of the largest bonds.
+#[test]
+fn weights_at_most() {
+    use ledger::runner_ref::reference as own;
+    assert_eq!(ledger::MOST, 16 * 1_000_000 + 1_024 * 16 * 4 * 1_000);
+    let mut written = own::Sheet::all_blank();
+    written.weights = [own::Setting::Written(1_000_000); 16];
+    let mut m = own::Member::open(0, &written, 1_024).unwrap();
+    for round in 1..=1_023 {
+        for author in 0..16 {
+            let bonds = std::array::from_fn::<_, 4, _>(|k| own::Transaction::Bond { member: (author + k as u32) % 16, amount: 1_000 });
+            let previous = if round == 1 { 0 } else { 0xffff };
+            let proposal = own::Proposal { author, round, previous, transactions: bonds.to_vec() };
+            m.accept(&own::Certificate { proposal, endorsers: !(1 << author) }).unwrap();
+        }
+        if round % 2 == 1 && round > 1 {
+            m.commit().unwrap();
+        }
+        m.advance().unwrap();
+    }
+    let mut figures = ledger::Figures::default();
+    figures.compare(&m).unwrap();
+    // All of rounds up to 1,021, and the anchor of 1,022.
+    assert_eq!(figures.most, 16_000_000 + (1_021 * 16 + 1) * 4_000);
+    assert_eq!((figures.above, figures.bonded), (1, (1_021 * 16 + 1) * 4_000));
 }

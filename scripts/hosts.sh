@@ -5,10 +5,11 @@
 # through pkg-config; the stack that calls need, the host's own and guests'; the Rust package: its
 # tests and doctests, users of editions 2021 and 2024, one without the standard library, and the
 # archive found in each of the four ways; a replay of shuffled runs (seeds 1 to SEEDS, 20 where not
-# given) that must answer as the reference does; chains, and which words calls change; and CALLS
-# (1,000,000) calls on grown and on damaged states, 50,000 certificates in batches, 50,000 calls on
-# queues, 20,000 previews, 20,000 lists of what a commit hangs on and 50,000 calls of guests,
-# compared with the reference word by word.
+# given) that must answer as the reference does; chains, and which words calls change; the register
+# of plant owners against reads of committees; and CALLS (1,000,000) calls on grown and on damaged
+# states, 50,000 certificates in batches, 50,000 calls on queues, 20,000 previews, 20,000 lists of
+# what a commit hangs on and 50,000 calls of guests, compared with the reference word by word, and
+# 3,000 ledgers of weights.
 set -eu
 cd "$(dirname "$0")/.."
 top=$(pwd)

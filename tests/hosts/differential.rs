@@ -1,5 +1,5 @@
 //! Host functions against the reference:
-//! `differential SEED [CALLS [TOTAL [CERTIFICATES [QUEUED [PREVIEWED [CRITICALS [GUESTED]]]]]]]`.
+//! `differential SEED [CALLS [TOTAL [CERTIFICATES [QUEUED [PREVIEWED [CRITICALS [GUESTED [LEDGERS]]]]]]]]`.
 //!
 //! Each call is made twice: by the engine on words, and by the reference on
 //! the member that the words before the call stand for. Compared after each
@@ -12,11 +12,11 @@
 //! batches, until CERTIFICATES were handed over in them (`batches.rs`), then
 //! QUEUED calls on queues (`queues.rs`), then PREVIEWED previews of commit
 //! (`previews.rs`), then CRITICALS lists of what a commit hangs on
-//! (`criticals.rs`), then GUESTED calls of guests (`guests.rs`), then calls by
-//! chance. Their stretches start from states grown
-//! by runs, from such states with words changed here and there, and with chains
-//! made up on what they hold. Whether a changed state is well formed is judged by
-//! `words.rs`, from the papers.
+//! (`criticals.rs`), then GUESTED calls of guests (`guests.rs`), then LEDGERS
+//! ledgers of weights after commits (`ledgers.rs`), then calls by chance. Their
+//! stretches start from states grown by runs, from such states with words changed
+//! here and there, and with chains made up on what they hold. Whether a changed
+//! state is well formed is judged by `words.rs`, from the papers.
 //!
 //! With `--cfg plain` the engine under test is bench/plain.rs.
 
@@ -32,6 +32,7 @@ mod engine;
 mod engine;
 mod grow;
 mod guests;
+mod ledgers;
 mod margins;
 mod nodes;
 mod previews;
@@ -258,6 +259,7 @@ struct Figures {
     previews: previews::Figures,
     criticals: criticals::Figures,
     guests: guests::Figures,
+    ledgers: ledgers::Figures,
     margins: margins::Figures,
 }
 
@@ -364,6 +366,7 @@ impl Figures {
         self.previews.print(&self.answers[Call::PREVIEW]);
         self.criticals.print(&self.answers[Call::CRITICAL]);
         self.guests.print();
+        self.ledgers.print();
         self.margins.print();
         let [small, middle, large] = self.sizes;
         println!("calls by ceiling: {small} up to 40, {middle} up to 255, {large} up to 1,024");
@@ -609,6 +612,7 @@ fn main() {
     let previewed = arguments.next().map_or(20_000, |a| a.parse().expect("PREVIEWED is a number"));
     let criticals = arguments.next().map_or(20_000, |a| a.parse().expect("CRITICALS is a number"));
     let guested = arguments.next().map_or(50_000, |a| a.parse().expect("GUESTED is a number"));
+    let ledgers = arguments.next().map_or(3_000, |a| a.parse().expect("LEDGERS is a number"));
     let mut test = Test {
         seed,
         rng: Rng::of(seed),
@@ -645,6 +649,8 @@ fn main() {
     test.guests(guested);
     let calls_made = test.figures.calls - before;
     println!("{guested} calls of guests and more, the host's own beside them: {calls_made} calls");
+    test.ledgers(ledgers);
+    println!("{ledgers} ledgers of weights and more");
     let enough = test.figures.calls + calls;
     while test.figures.calls < enough {
         test.stretch();

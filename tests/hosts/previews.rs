@@ -60,7 +60,7 @@ impl Figures {
 }
 
 /// The certificates of the blocks above a number, as the words tell them.
-fn new_blocks(node: &Node, above: u32) -> Vec<[u32; 3]> {
+pub fn new_blocks(node: &Node, above: u32) -> Vec<[u32; 3]> {
     let member = read_member(&node.state, &node.table).expect("well formed after a commit");
     let of = |(number, block): (u32, &Block)| {
         block.certificates.iter().map(|&(round, author)| [number, round, author]).collect::<Vec<_>>()

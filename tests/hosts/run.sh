@@ -1,13 +1,14 @@
 #!/bin/sh
-# run.sh [SEED [CALLS [ARCHIVE [TOTAL [CERTIFICATES [QUEUED [PREVIEWED [CRITICALS [GUESTED]]]]]]]]]:
+# run.sh [SEED [CALLS [ARCHIVE [TOTAL [CERTIFICATES [QUEUED [PREVIEWED [CRITICALS [GUESTED [LEDGERS]]]]]]]]]]:
 # host functions against the reference.
 # ARCHIVE is the engine's static library (target/staticlib/libhost.a if not
 # given), or `plain` for bench/plain.rs. Shares are read of every weight of every
 # total up to TOTAL, 2,000 if not given. CERTIFICATES are handed over in batches,
 # 50,000 if not given, QUEUED calls are made on queues, 50,000 if not given,
 # PREVIEWED previews of commit are asked for, 20,000 if not given, CRITICALS
-# lists of what a commit hangs on, 20,000 if not given, and GUESTED calls are made
-# by guests, 50,000 if not given.
+# lists of what a commit hangs on, 20,000 if not given, GUESTED calls are made by
+# guests, 50,000 if not given, and LEDGERS ledgers of weights are kept, 3,000 if not
+# given.
 set -e
 top=$(cd "$(dirname "$0")/../.." && pwd)
 seed=${1:-1}
@@ -19,6 +20,7 @@ queued=${6:-50000}
 previewed=${7:-20000}
 criticals=${8:-20000}
 guested=${9:-50000}
+ledgers=${10:-3000}
 if [ "$archive" = plain ]; then
     set -- --cfg plain
 else
@@ -28,4 +30,4 @@ fi
 mkdir -p "$top/target/tests"
 rustc --edition 2021 -C opt-level=3 --check-cfg 'cfg(plain)' "$@" \
     "$top/tests/hosts/differential.rs" -o "$top/target/tests/differential"
-exec "$top/target/tests/differential" "$seed" "$calls" "$most" "$certificates" "$queued" "$previewed" "$criticals" "$guested"
+exec "$top/target/tests/differential" "$seed" "$calls" "$most" "$certificates" "$queued" "$previewed" "$criticals" "$guested" "$ledgers"

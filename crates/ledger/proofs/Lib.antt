@@ -1,0 +1,4 @@
+pub mod LedgerLaws
+pub mod TotalLaws
+pub mod JournalLaws
+pub mod ListedLaws
