@@ -46,7 +46,8 @@ noninterference e d q c a h =
     record {
       same-refusal = rw (x, y, q) refl;
       same-value = rw (x, y) refl;
-      same-answers = rw (x, y) refl;
+      first-answers = rw x refl;
+      second-answers = rw y refl;
       first-unchanged = rw x refl;
       second-unchanged = rw y refl;
     }

@@ -94,11 +94,17 @@ Lacks e c a = may (e .state .rights) (neededFor a) c ≡ false
 abbrev pub AllowedAsHost : Type 0
 AllowedAsHost = (e : Engine) (c : ℕ) (a : Asked) → Allowed e c a → resultOf e (guest c a) ≡ resultOf e (host (submittedBy c a))
 
--- the same answers on e and d, and neither changes
+-- the answers lent for a request
+abbrev pub lentBy : Request → List ℕ
+lentBy (host x) = lentAnswers x
+lentBy (guest c a) = lentAnswers (submittedBy c a)
+
+-- the same answers on e and d, the lent ones as they came, and neither changes
 pub record AlikeAndUnchanged (e d : Engine) (x : Request) : Type 0 where
   pub same-refusal : resultOf e x .refusal ≡ resultOf d x .refusal
   pub same-value : resultOf e x .value ≡ resultOf d x .value
-  pub same-answers : resultOf e x .answers ≡ resultOf d x .answers
+  pub first-answers : resultOf e x .answers ≡ lentBy x
+  pub second-answers : resultOf d x .answers ≡ lentBy x
   pub first-unchanged : resultOf e x .engine ≡ e
   pub second-unchanged : resultOf d x .engine ≡ d
 
