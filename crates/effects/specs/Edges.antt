@@ -1,0 +1,33 @@
+-- Bonds by numbers, as one table: one that moves a share as far as it can, a sole member, exact halves on both sides.
+use mathlib.Core.Bool.{cond}
+use mathlib.Core.List.{List, [], _∷_}
+use Prim.Native.Nat.{ℕ}
+use lib.ListN.{getD}
+use lib.Dec.{eqb}
+use Rattle.base.specs.Folds.{tab}
+use Rattle.committee.specs.Totals.{totalIn}
+use Rattle.effects.specs.Effects.{bondEffect, mostMoved}
+
+-- member 0 alone, with weight 1
+unfoldable pub sole : List ℕ
+sole = tab (λ i. cond (eqb i 0) 1 0) 16
+
+-- sixteen members of weight 1
+unfoldable pub even : List ℕ
+even = tab (λ i. 1) 16
+
+unfoldable pub before : ℕ → ℕ → List ℕ → ℕ → ℕ
+before m a w i = getD (bondEffect m a w .before) i 0
+
+unfoldable pub after : ℕ → ℕ → List ℕ → ℕ → ℕ
+after m a w i = getD (bondEffect m a w .after) i 0
+
+unfoldable pub cases : List (ℕ × ℕ)
+cases =
+    -- member 1 joins by 2: 0 becomes two thirds, and the bound is met
+    (before 1 2 sole 1, 0) ∷ (after 1 2 sole 1, 667) ∷ (before 1 2 sole 0, 1000) ∷ (after 1 2 sole 0, 333) ∷ (bondEffect 1 2 sole .largest, 667) ∷ (mostMoved (totalIn sole) 2, 667)
+    -- a sole member has all before and after
+    ∷ (before 0 1000 sole 0, 1000) ∷ (after 0 1000 sole 0, 1000) ∷ (bondEffect 0 1000 sole .largest, 0)
+    -- member 0 of sixteen bonds 64: 62.5 becomes 812.5, and the others' 12.5
+    ∷ (before 0 64 even 0, 62) ∷ (after 0 64 even 0, 812) ∷ (before 0 64 even 15, 62) ∷ (after 0 64 even 15, 12) ∷ (bondEffect 0 64 even .largest, 750) ∷ (mostMoved (totalIn even) 64, 801)
+    ∷ []
