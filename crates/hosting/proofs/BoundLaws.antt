@@ -21,8 +21,8 @@ use Rattle.bodies.specs.Words.{word, sixteen}
 use Rattle.bodies.proofs.PasteLaws.{length-sixteen}
 use Rattle.words.specs.Effects.{effectWords}
 use Rattle.words.specs.States.{settingsIn, stateReads, stateIn}
-use Rattle.hosting.specs.Calls.{engineIn}
-use Rattle.hosting.specs.Bounds.{BoundedOverWords}
+use Rattle.hosting.specs.Calls.{engineIn, outOver}
+use Rattle.hosting.specs.Bounds.{effectResult, BoundedOverWords}
 use Rattle.hosting.proofs.CallLaws.{accepted-call}
 
 -- the words of an effect: the largest difference is the last
@@ -55,4 +55,6 @@ bounded-over-words w t o m r a z =
     let s = stateIn w in
     let room = leb-true effectLength (length o) (both (stateReads w) (leb effectLength (length o)) (c .serving) .1) in
     let b = effect-bounded s t (weights-long w) (m .0) (r .0) a (c .accepted) in
-    rw (c .its-out, effect-value (engineIn w t) m r a (c .accepted), out-largest (effectAnswer s t (m .0) (r .0) a .effect) o room) b
+    let x = effectAnswer s t (m .0) (r .0) a .effect in
+    let e : word (effectResult w t o m r a .out) 32 ≡ x .largest = ap (λ (z : List ℕ). word z 32) (c .its-out ∙ ap (outOver w t o) (effect-value (engineIn w t) m r a (c .accepted))) ∙ out-largest x o room in
+    omega (arith, e, b)

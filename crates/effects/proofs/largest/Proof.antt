@@ -1,5 +1,5 @@
-use mathlib.Core.Path.{_≡_, sym, _∙_}
-use Prim.Native.Nat.{_-_, _≤_}
+use mathlib.Core.Path.{_≡_, sym, ap₂, _∙_}
+use Prim.Native.Nat.{ℕ, _-_, max, _≤_}
 use native.Mathlib.Omega.{arith}
 use borrow.Author.Needs.{needs}
 use Rattle.effects.specs.Effects.{largestTo}
@@ -41,7 +41,7 @@ loop-less : tie.Need-loop-less Inv-loop μ-loop
 loop-less c = search needs
 
 loop-again : tie.Need-loop-again Inv-loop μ-loop
-loop-again c = (omega arith, c .greater .ensures ∙ rw (c .before .before .before .before .before .loop .inv .1, c .before .distance .ensures) (sym (largest-more _ _ _)))
+loop-again c = (omega arith, c .greater .ensures ∙ ap₂ (λ (most d : ℕ). max most d) (c .before .before .before .before .before .loop .inv .1) (c .before .distance .ensures) ∙ sym (largest-more _ _ _))
 
 returns : tie.Need-returns Inv-loop μ-loop
 returns c = let e : c .before .loop .i ≡ 16 = omega arith in rw e at (c .before .loop .inv .1)
