@@ -340,7 +340,8 @@ uint64_t forgelilac_share(const uint32_t *state, size_t state_words,
  * difference is never more than 1 plus the whole part of 1,000 * k / (n + k). Nothing is bonded:
  * state and table are read and never written. A bond that a block holds counts in the committees
  * of rounds above that block's plus the lookback, together with what else the chain changes until
- * then. Refused: no word of out is written. 1, 4, 5, 6 for an amount other than 1 to 1,000, 8, 30. */
+ * then: ask for round lookback + last block's round + 1, which all blocks of now change.
+ * Refused: no word of out is written. 1, 4, 5, 6 for an amount other than 1 to 1,000, 8, 30. */
 uint32_t forgelilac_bond_effect(const uint32_t *state, size_t state_words,
                                 const uint32_t *table, size_t table_words,
                                 uint32_t member, uint32_t round, uint32_t amount,

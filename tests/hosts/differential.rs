@@ -385,7 +385,8 @@ impl Figures {
         self.criticals.print(&self.answers[Call::CRITICAL]);
         self.guests.print();
         self.ledgers.print();
-        self.effects.print(&self.answers[Call::EFFECT]);
+        let (by_host, by_guests) = (&self.answers[Call::EFFECT], &self.guests.answers[Call::EFFECT]);
+        self.effects.print(by_host.iter().chain(by_guests).sum(), by_host[0] + by_guests[0]);
         self.margins.print();
         let [small, middle, large] = self.sizes;
         println!("calls by ceiling: {small} up to 40, {middle} up to 255, {large} up to 1,024");

@@ -99,11 +99,11 @@ impl Figures {
         self.most_weight = self.most_weight.max(n);
     }
 
-    /// `answers` are those of all reads.
-    pub fn print(&self, answers: &[u64; 32]) {
+    /// Of so many reads, by the host and by guests.
+    pub fn print(&self, reads: u64, accepted: u64) {
         let kinds: Vec<String> = KINDS.iter().zip(self.kinds).map(|((name, ..), count)| format!("{count} {name}")).collect();
         let ([just, more], [changed, of_them]) = (self.stretches, self.changed);
-        println!("what a bond does to the shares: {} reads, {} accepted: {}", answers.iter().sum::<u64>(), answers[0], kinds.join(", "));
+        println!("what a bond does to the shares: {reads} reads, {accepted} accepted: {}", kinds.join(", "));
         println!(
             "of them {just} into {EFFECT} words, {more} into more; largest total: {}; of changed states {changed} reads, {of_them} accepted; \
              read again by other calls: {}",

@@ -144,7 +144,7 @@ pub struct Critical {
     pub author: u32,
 }
 
-/// How far a bond moves the shares of a committee, all in thousandths of its total.
+/// How far a bond moves the shares of a committee, in thousandths: of its total before the bond, and of its total after it.
 #[derive(Clone, Copy, PartialEq, Eq, Hash, Debug)]
 pub struct Effect {
     /// The share of each member before the bond, 0 for a non-member.

@@ -1,4 +1,4 @@
--- The bound, of every read that is accepted.
+-- The claims of every read of a bond's effect that is accepted.
 use mathlib.Core.Path.{_≡_, refl, sym, _∙_}
 use mathlib.Core.List.{List}
 use Prim.Native.Nat.{ℕ, _<_}
@@ -10,13 +10,13 @@ use Rattle.base.proofs.Passed.{passed}
 use Rattle.committee.specs.Totals.{totalIn}
 use Rattle.committee.proofs.ChangeLaws.{bond-at}
 use Rattle.committee.proofs.BondedLaws.{length-committee}
-use Rattle.effects.specs.Effects.{bonded, bondEffect}
-use Rattle.effects.proofs.EffectLaws.{share-at, share-none, total-bonded, effect-le}
+use Rattle.effects.specs.Effects.{sharesOf, bonded, bondEffect}
+use Rattle.effects.proofs.EffectLaws.{share-at, share-none, at-most-largest, is-largest, total-bonded, effect-le}
 use Rattle.rules.specs.Reads.{committeeRead}
 use Rattle.state.specs.declared.State.{State}
 use Rattle.state.specs.View.{view}
 use Rattle.standing.specs.Reads.{shareRefusal}
-use Rattle.bonding.specs.Bounds.{EffectBounded, EffectOfShares, NoneWithoutWeight}
+use Rattle.bonding.specs.Bounds.{EffectBounded, LargestOfAll, EffectOfShares, NoneWithoutWeight}
 use Rattle.bonding.proofs.ReadLaws.{accepted-total, effect-accepted}
 
 module _ (s : State) (t : List ℕ) where
@@ -28,13 +28,19 @@ module _ (s : State) (t : List ℕ) where
       let k = accepted-total s t m r a e in
       rw (effect-accepted s t m r a e) (effect-le (weights r) m a (length-committee (s .settings) (view s t .chain) r ∙ l) (k .0) (k .1))
 
-  share-member : (i r : ℕ) → shareRefusal s t i r ≡ 0 → i < 16
+  pub largest-of-all : LargestOfAll s t
+  unfolding bondEffect
+  largest-of-all m r a e =
+      rw (effect-accepted s t m r a e)
+      (at-most-largest (sharesOf (weights r)) (sharesOf (bonded m a (weights r))) 16, is-largest (sharesOf (weights r)) (sharesOf (bonded m a (weights r))) 15)
+
+  pub member-shared : (i r : ℕ) → shareRefusal s t i r ≡ 0 → i < 16
   unfolding shareRefusal numbered
-  share-member i r e = passed _ refl e λ h1 h4 h5 h8 h9. omega (arith, ltb-false 15 i h4)
+  member-shared i r e = passed _ refl e λ h1 h4 h5 h8 h9. omega (arith, ltb-false 15 i h4)
 
   pub effect-of-shares : EffectOfShares s t
   unfolding bondEffect
-  effect-of-shares m r a i e k = rw (effect-accepted s t m r a e) (share-at (weights r) i (share-member i r k))
+  effect-of-shares m r a i e k = rw (effect-accepted s t m r a e) (share-at (weights r) i (member-shared i r k))
 
   pub none-without-weight : NoneWithoutWeight s t
   unfolding bondEffect

@@ -60,6 +60,6 @@ pub fn effect(s: State, t: &[u32], m: Member, r: Round, a: u32) -> EffectRead
     }
     EffectRead {
         answer: Answer::Accepted,
-        effect: effects::bond_effect(w, m, a),
+        effect: effects::bond_effect(w, total, m, a),
     }
 }

@@ -1,9 +1,10 @@
 -- No share moves by more than 1 plus the whole part of 1,000 times the amount divided by the total after the bond.
-use mathlib.Core.Path.{_≡_, refl}
+use mathlib.Core.Path.{_≡_, refl, _∙_}
 use mathlib.Core.Bool.{Bool, true, false, cond}
 use mathlib.Core.List.{List}
 use Prim.Native.Nat.{ℕ, zero, suc, _+_, _*_, _<_, _≤_, max}
 use native.Mathlib.Omega.{arith}
+use native.Mathlib.Decide.{ℕ-discrete, decLt}
 use lib.ListN.{length, getD}
 use lib.Dec.{eqb}
 use Rattle.base.specs.Folds.{foldTo}
@@ -41,6 +42,33 @@ pub largest-le : (x y : List ℕ) (b n : ℕ) → ((i : ℕ) → i < n → apart
 unfolding largestTo foldTo
 largest-le x y b zero h = omega arith
 largest-le x y b (suc n) h = let p = largest-le x y b n (λ i l. h i (omega arith)) in let q = h n (omega arith) in omega arith
+
+-- none is above it
+pub at-most-largest : (x y : List ℕ) (n i : ℕ) → i < n → apart (getD x i 0) (getD y i 0) ≤ largestTo n x y
+unfolding largestTo foldTo
+at-most-largest x y zero i h = absurd (omega arith)
+at-most-largest x y (suc n) i h = go (ℕ-discrete i n) (λ l. at-most-largest x y n i l)
+  where
+    go : Dec (i ≡ n) → (i < n → apart (getD x i 0) (getD y i 0) ≤ largestTo n x y) → apart (getD x i 0) (getD y i 0) ≤ max (largestTo n x y) (apart (getD x n 0) (getD y n 0))
+    go (yes e) k = rw e (omega arith)
+    go (no e) k = let q = k (omega arith) in omega arith
+
+larger-last : (m d : ℕ) → m < d → d ≡ max m d
+larger-last m d l = omega arith
+
+larger-before : (m d : ℕ) → (m < d → ⊥) → m ≡ max m d
+larger-before m d l = omega arith
+
+-- and one is it
+pub is-largest : (x y : List ℕ) (n : ℕ) → (i : ℕ) × (i < suc n) × (apart (getD x i 0) (getD y i 0) ≡ largestTo (suc n) x y)
+unfolding largestTo foldTo
+is-largest x y zero = (0, omega arith, omega arith)
+is-largest x y (suc n) = go (decLt (largestTo (suc n) x y) (apart (getD x (suc n) 0) (getD y (suc n) 0))) (is-largest x y n)
+  where
+    go : Dec (largestTo (suc n) x y < apart (getD x (suc n) 0) (getD y (suc n) 0)) → (i : ℕ) × (i < suc n) × (apart (getD x i 0) (getD y i 0) ≡ largestTo (suc n) x y)
+        → (i : ℕ) × (i < suc (suc n)) × (apart (getD x i 0) (getD y i 0) ≡ max (largestTo (suc n) x y) (apart (getD x (suc n) 0) (getD y (suc n) 0)))
+    go (yes l) k = (suc n, omega arith, larger-last (largestTo (suc n) x y) (apart (getD x (suc n) 0) (getD y (suc n) 0)) l)
+    go (no l) k = (k .0, omega (arith, k .1), k .2 ∙ larger-before (largestTo (suc n) x y) (apart (getD x (suc n) 0) (getD y (suc n) 0)) l)
 
 -- ---- a bond
 

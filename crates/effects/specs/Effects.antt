@@ -45,8 +45,9 @@ pub record TotalOf (w : List ℕ) (n : ℕ) : Type 0 where
   pub some : 0 < n
   pub bounded : n ≤ 1125899906842624
 
--- a committee that is not empty, and a member who bonds
-pub record Bonds (w : List ℕ) (m : ℕ) : Type 0 where
+-- a committee of the total n, which is not 0, and a member who bonds
+pub record Bonds (w : List ℕ) (n m : ℕ) : Type 0 where
   pub member : m < 16
-  pub some : 0 < totalIn w
+  pub total : n ≡ totalIn w
+  pub some : 0 < n
   pub bounded : TotalBounded w

@@ -56,14 +56,14 @@ fn largest(x: &[u32; 16], y: &[u32; 16]) -> u32
     most
 }
 
-// What a bond of member m by a does to the shares of the committee w.
-pub fn bond_effect(w: [u64; 16], m: Member, a: u32) -> Effect
-    requires { ⌜ Bonds w (m .0) ⌝ }
+// What a bond of member m by a does to the shares of the committee w, where n is the total.
+pub fn bond_effect(w: [u64; 16], n: Weight, m: Member, a: u32) -> Effect
+    requires { ⌜ Bonds w (n .0) (m .0) ⌝ }
     ensures { λ v. ⌜ v ≡ bondEffect (m .0) a w ⌝ }
 {
-    let n = weighing::total_weight(&w);
     let before = shares_of(&w, n);
     let mut v = w;
+    // kind 0 is a bond, and it is there
     weighing::change::apply(&mut v, true, 0, m.0, a);
     let after = shares_of(&v, Weight(n.0 + a as u64));
     let d = largest(&before, &after);

@@ -23,14 +23,12 @@ module _ (n k w w′ s s′ d : ℕ) (a : Near (1000 * w) n s) (b : Near (1000 *
       go (yes l) = let p = mul-le-mul-left (n + k) l in let q = mul-le-mul-left k t in absurd (omega (arith, a .above, b .below))
       go (no l) = omega arith
 
-top-of : (k m : ℕ) → 0 < m → 1000 * k < 1000 * k / m * m + m
-top-of k m h = lt-div-mul-add h
-
 pub moves : (n k w w′ : ℕ) → 0 < n → w ≤ n → w ≤ w′ → w′ ≤ w + k → apart (shareOf w n) (shareOf w′ (n + k)) ≤ 1 + 1000 * k / (n + k)
 moves n k w w′ h l from to =
     let a = share-near w n h in
     let b = share-near w′ (n + k) (omega arith) in
-    let t = top-of k (n + k) (omega arith) in
+    let some : 0 < n + k = omega arith in
+    let t : 1000 * k < 1000 * k / (n + k) * (n + k) + (n + k) = lt-div-mul-add some in
     let r = rises n k w w′ (shareOf w n) (shareOf w′ (n + k)) (1000 * k / (n + k)) a b t to in
     let f = falls n k w w′ (shareOf w n) (shareOf w′ (n + k)) (1000 * k / (n + k)) a b t from (share-le w n h l) in
     omega arith

@@ -55,7 +55,7 @@ returns-2 c =
 bond-effect-requires : tie.Need-bond-effect-requires
 bond-effect-requires c κs =
     let w = c .before .before in
-    record { member = past (weights w) .member; some = omega (arith, w .total-weight .ensures, c .if2 .left); bounded = w .before .before .committee-of .ensures .1 }
+    record { member = past (weights w) .member; total = w .total-weight .ensures; some = omega (arith, c .if2 .left); bounded = w .before .before .committee-of .ensures .1 }
 
 returns-3 : tie.Need-returns-3
 returns-3 c =
