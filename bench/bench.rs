@@ -2,8 +2,8 @@
 //! (plain.rs) and a floor. `bench [quick]` prints Markdown. Built with another
 //! archive, that stands in plain's place (run.sh), and the tables by call show
 //! the best time of each beside the median; where it is of before queues, previews,
-//! lists of what a commit hangs on or guests' calls, these are left out, and a call
-//! that the two answer differently is not timed.
+//! lists of what a commit hangs on, guests' calls or what a bond does to the shares,
+//! these are left out, and a call that the two answer differently is not timed.
 //!
 //! States. Sixteen members; every certificate has four transactions (entries,
 //! bonds, unbonds that are bonded again at once, so that all stay inside) and
@@ -53,6 +53,9 @@
 //! present round as many are taken away, the highest author first, as make the
 //! votes too few. It is refused with 22, all checks made and nothing done.
 //!
+//! What a bond does to the shares is read of the present round, as committee and
+//! share are: a bond of 7 by member 3.
+//!
 //! A guest's call is asked for in the same states as the host's own, by a caller
 //! who has its right: the two differ in the test of the right alone. A caller who
 //! lacks it is refused with 29 before anything else is looked at.
@@ -98,6 +101,7 @@ struct Functions {
     draw: fn(&mut [u32], &mut [u32], u32) -> u32,
     committee: fn(&[u32], &[u32], u32, &mut [u32]) -> u32,
     share: fn(&[u32], &[u32], u32, u32) -> u64,
+    bond_effect: fn(&[u32], &[u32], u32, u32, u32, &mut [u32]) -> u32,
     certificate: fn(&[u32], &[u32], u32, u32, &mut [u32]) -> u32,
     block: fn(&[u32], &[u32], u32) -> u64,
     guest_advance: fn(u32, &mut [u32], &[u32]) -> u32,
@@ -122,6 +126,7 @@ macro_rules! functions {
             draw: $module::draw,
             committee: $module::committee,
             share: $module::share,
+            bond_effect: $module::bond_effect,
             certificate: $module::certificate,
             block: $module::block,
             guest_advance: $module::guest_advance,
@@ -166,6 +171,8 @@ const PREVIEWS: bool = cfg!(not(before_previews));
 const CRITICAL: bool = cfg!(not(before_critical));
 /// Whether both implementations have guests' calls.
 const GUESTS: bool = cfg!(not(before_guests));
+/// Whether both implementations tell what a bond does to the shares.
+const EFFECTS: bool = cfg!(not(before_effects));
 /// All rights for callers 0 to 6, none for caller 7.
 const GIVEN: u32 = 0x7f7f_7f7f;
 const CALLER: u32 = 3;
@@ -435,6 +442,7 @@ enum Job {
     Draw,
     Committee,
     Share,
+    Effect,
     Certificate,
     Block,
     /// By this caller.
@@ -444,7 +452,7 @@ enum Job {
 }
 
 /// Jobs, and how many transactions wait for each guest in their states.
-const JOBS: [(Job, &str, Waiting); 19] = [
+const JOBS: [(Job, &str, Waiting); 20] = [
     (Job::Open, "open", NOBODY),
     (Job::Propose, "propose", NOBODY),
     (Job::Endorse, "endorse", NOBODY),
@@ -462,6 +470,7 @@ const JOBS: [(Job, &str, Waiting); 19] = [
     (Job::Draw, "draw of 4", FOUR),
     (Job::Committee, "read committee", NOBODY),
     (Job::Share, "read share", NOBODY),
+    (Job::Effect, "bond effect", NOBODY),
     (Job::Certificate, "read certificate", NOBODY),
     (Job::Block, "read block", NOBODY),
 ];
@@ -472,6 +481,7 @@ fn jobs() -> impl Iterator<Item = (Job, &'static str, Waiting)> {
         Job::Enqueue | Job::Draw => QUEUES,
         Job::Preview | Job::PreviewMany => PREVIEWS,
         Job::Critical => CRITICAL,
+        Job::Effect => EFFECTS,
         _ => true,
     })
 }
@@ -486,7 +496,7 @@ struct Case {
     job: Job,
     member: Member,
     argument: [u32; 17],
-    out: [u32; 18],
+    out: [u32; 33],
     /// The list of a preview or of what a commit hangs on, and room for a copy of
     /// the table.
     list: Vec<u32>,
@@ -523,7 +533,7 @@ impl Case {
         if job == Job::CommitShort && !empty {
             member.take_votes();
         }
-        let (out, undo) = ([0; 18], Vec::new());
+        let (out, undo) = ([0; 33], Vec::new());
         let list = vec![0; match job {
             Job::Critical => 64,
             _ if copies || previews => 48 * member.state[2] as usize,
@@ -577,6 +587,7 @@ impl Case {
             Job::Draw => refusal((f.draw)(state, table, argument[2])),
             Job::Committee => refusal((f.committee)(state, table, r, &mut self.out)),
             Job::Share => (f.share)(state, table, 3, r),
+            Job::Effect => refusal((f.bond_effect)(state, table, 3, r, 7, &mut self.out)),
             Job::Certificate => refusal((f.certificate)(state, table, 7, r, &mut self.out)),
             Job::Block => (f.block)(state, table, state[22]),
             Job::GuestAdvance(caller) => refusal((f.guest_advance)(caller, state, table)),

@@ -446,3 +446,58 @@ pub fn guest_critical(caller: u32, state: &[u32], table: &mut [u32], list: &mut 
     let (s, sn, t, tn) = (state.as_ptr(), state.len(), table.as_mut_ptr(), table.len());
     unsafe { forgelilac_guest_critical(caller, s, sn, t, tn, list.as_mut_ptr(), list.len()) }
 }
+
+// ---- effects: run.sh leaves this out of an archive that has none
+
+extern "C" {
+    fn forgelilac_bond_effect(
+        s: *const u32,
+        sn: usize,
+        t: *const u32,
+        tn: usize,
+        member: u32,
+        round: u32,
+        amount: u32,
+        out: *mut u32,
+        n: usize,
+    ) -> u32;
+    fn forgelilac_guest_bond_effect(
+        caller: u32,
+        s: *const u32,
+        sn: usize,
+        t: *const u32,
+        tn: usize,
+        member: u32,
+        round: u32,
+        amount: u32,
+        out: *mut u32,
+        n: usize,
+    ) -> u32;
+}
+
+pub fn bond_effect(
+    state: &[u32],
+    table: &[u32],
+    member: u32,
+    round: u32,
+    amount: u32,
+    out: &mut [u32],
+) -> u32 {
+    let (s, sn, t, tn) = (state.as_ptr(), state.len(), table.as_ptr(), table.len());
+    let (out, n) = (out.as_mut_ptr(), out.len());
+    unsafe { forgelilac_bond_effect(s, sn, t, tn, member, round, amount, out, n) }
+}
+
+pub fn guest_bond_effect(
+    caller: u32,
+    state: &[u32],
+    table: &[u32],
+    member: u32,
+    round: u32,
+    amount: u32,
+    out: &mut [u32],
+) -> u32 {
+    let (s, sn, t, tn) = (state.as_ptr(), state.len(), table.as_ptr(), table.len());
+    let (out, n) = (out.as_mut_ptr(), out.len());
+    unsafe { forgelilac_guest_bond_effect(caller, s, sn, t, tn, member, round, amount, out, n) }
+}

@@ -1,9 +1,10 @@
 //! A host without the standard library and without an allocator: one member alone, three rounds, one
 //! block, on words that it lends. Its guests' entries wait in queues, and each proposal is drawn from
 //! them: guest 3 adds its own, and may do nothing but that, guest 5 may only read, and the host adds for
-//! it. The block is previewed before it is made, and what the commit hangs on is listed. The status is 0
-//! where preview, list, chain and what guests are refused are as they must be, else the number of the
-//! refusal, or 100. A hypervisor has no main and no C library; this one has them to be run.
+//! it. The block is previewed before it is made, and what the commit hangs on is listed; guest 5 reads how
+//! far a bond would move the shares. The status is 0 where preview, list, shares, chain and what guests are
+//! refused are as they must be, else the number of the refusal, or 100. A hypervisor has no main and no C
+//! library; this one has them to be run.
 
 #![no_std]
 #![no_main]
@@ -34,6 +35,7 @@ fn is_refused(state: &mut [u32], table: &mut [u32]) -> bool {
     lent::guest_enqueue(5, state, table, &entry(51).to_words()) == Err(Refusal::NoRight)
         && lent::guest_commit(3, state, table) == Err(Refusal::NoRight)
         && lent::guest_block(3, state, table, 1) == Err(Refusal::NoRight)
+        && lent::guest_bond_effect(3, state, table, 1, 3, 3) == Err(Refusal::NoRight)
         && lent::guest_commit(8, state, table) == Err(Refusal::GuestRange)
 }
 
@@ -70,6 +72,11 @@ fn run() -> Result<bool, Refusal> {
         return Ok(false);
     }
     if !is_refused(&mut state, &mut table) || lent::rights(&state) != RIGHTS {
+        return Ok(false);
+    }
+    // Member 1 would join with 3.
+    let effect = lent::guest_bond_effect(5, &state, &table, 1, 3, 3)?;
+    if effect.before[..2] != [1_000, 0] || effect.after[..2] != [250, 750] || effect.largest != 750 {
         return Ok(false);
     }
     lent::commit(&mut state, &mut table)?;

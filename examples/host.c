@@ -150,6 +150,19 @@ static void print_endorsers(const struct engine *e, uint32_t round) {
     }
 }
 
+/* Before bonding: how far a bond would move everyone's share, of those that have one before or after it. */
+static void print_effect(const struct engine *e, uint32_t member, uint32_t amount) {
+    uint32_t out[FORGELILAC_EFFECT_WORDS], round = e->state[FORGELILAC_STATE_ROUND];
+    const uint32_t *before = out + FORGELILAC_EFFECT_BEFORE, *after = out + FORGELILAC_EFFECT_AFTER;
+    must("bond effect", forgelilac_bond_effect(ENGINE(e), member, round, amount, WORDS(out)));
+    printf("how far a bond of member %u by %u would move the shares in round %u\n", (unsigned)member,
+           (unsigned)amount, (unsigned)round);
+    for (uint32_t m = 0; m < FORGELILAC_MEMBERS; m++)
+        if (before[m] + after[m] > 0)
+            printf("  member %u: from %u to %u\n", (unsigned)m, (unsigned)before[m], (unsigned)after[m]);
+    printf("  largest difference: %u\n", (unsigned)out[FORGELILAC_EFFECT_LARGEST]);
+}
+
 /* What member 0 holds of rounds 3, 2 and 1, as a link delivers it: newest first. */
 static void bundle(struct forgelilac_certificate row[BUNDLE]) {
     uint32_t out[FORGELILAC_HELD_WORDS];
@@ -293,6 +306,7 @@ static void print_end(void) {
         printf("%s%u", m == 0 ? "" : ", ", (unsigned)forgelilac_value_of(share));
     }
     printf("]\n");
+    print_effect(&engines[0], 3, 11);
     print_batch();
     print_queues();
     print_guests();

@@ -14,13 +14,13 @@ enum { CEILING = 64, MEMBERS = 4, ALL = (1 << MEMBERS) - 1, STACK = 1 << 20, PAI
 enum { CALLER = 7, ME = 1 << CALLER };
 enum by { HOST, GUEST, BOTH };
 enum call { NOTHING, OPEN, PROPOSE, ENQUEUE, DRAW, ENDORSE, CERTIFY, ACCEPT, BATCH, ADVANCE, COMMIT,
-            PREVIEW, CRITICAL, COMMITTEE, SHARE, CERTIFICATE, BLOCK, CHAIN, CALLS };
+            PREVIEW, CRITICAL, COMMITTEE, SHARE, EFFECT, CERTIFICATE, BLOCK, CHAIN, CALLS };
 static const char *const names[CALLS] = {"", "open", "propose", "enqueue", "draw", "endorse", "certify", "accept",
                                          "batch", "advance", "commit", "preview", "critical", "committee", "share",
-                                         "certificate", "block", "chain"};
+                                         "bond effect", "certificate", "block", "chain"};
 
 static uint32_t state[FORGELILAC_STATE_WORDS], table[FORGELILAC_TABLE_WORDS(CEILING)];
-static uint32_t words[FORGELILAC_SHEET_WORDS], out[FORGELILAC_HELD_WORDS];
+static uint32_t words[FORGELILAC_SHEET_WORDS], out[FORGELILAC_EFFECT_WORDS];
 static uint32_t list[FORGELILAC_CHAIN_WORDS(CEILING)], entries[FORGELILAC_PREVIEW_WORDS(CEILING)];
 static uint32_t places[FORGELILAC_CRITICAL_WORDS];
 static struct forgelilac_certificate row[FORGELILAC_BATCH_RECORDS];
@@ -53,6 +53,7 @@ static uint64_t make(enum call call) {
     case CRITICAL: return forgelilac_critical(ENGINE, places, sizeof places / 4);
     case COMMITTEE: return high(forgelilac_committee(ENGINE, words[0], OUT));
     case SHARE: return forgelilac_share(ENGINE, words[0], words[1]);
+    case EFFECT: return high(forgelilac_bond_effect(ENGINE, words[0], words[1], words[2], OUT));
     case CERTIFICATE: return high(forgelilac_certificate(ENGINE, words[0], words[1], OUT));
     case BLOCK: return forgelilac_block(ENGINE, words[0]);
     case CHAIN: return forgelilac_chain(ENGINE, list, sizeof list / 4);
@@ -76,6 +77,7 @@ static uint64_t make_by_guest(enum call call) {
     case CRITICAL: return forgelilac_guest_critical(CALLER, ENGINE, places, sizeof places / 4);
     case COMMITTEE: return high(forgelilac_guest_committee(CALLER, ENGINE, words[0], OUT));
     case SHARE: return forgelilac_guest_share(CALLER, ENGINE, words[0], words[1]);
+    case EFFECT: return high(forgelilac_guest_bond_effect(CALLER, ENGINE, words[0], words[1], words[2], OUT));
     case CERTIFICATE: return high(forgelilac_guest_certificate(CALLER, ENGINE, words[0], words[1], OUT));
     case BLOCK: return forgelilac_guest_block(CALLER, ENGINE, words[0]);
     case CHAIN: return forgelilac_guest_chain(CALLER, ENGINE, list, sizeof list / 4);
@@ -165,6 +167,8 @@ static void look(uint32_t round) {
     words[0] = 1;
     words[1] = round;
     measure(SHARE);
+    words[2] = 1000;
+    measure(EFFECT);
     measure(CERTIFICATE);
     if (state[FORGELILAC_STATE_BLOCKS] > 0) measure(BLOCK);
     measure(CHAIN);

@@ -37,9 +37,9 @@ extern "C" {
 /* ---- versions */
 
 /* Of the header, and of the archive that belongs to it. */
-#define FORGELILAC_VERSION "0.10.0"
+#define FORGELILAC_VERSION "0.11.0"
 #define FORGELILAC_VERSION_MAJOR 0
-#define FORGELILAC_VERSION_MINOR 10
+#define FORGELILAC_VERSION_MINOR 11
 #define FORGELILAC_VERSION_PATCH 0
 /* Of the words of state and table; no word of theirs has it. Store it beside them: docs/TABLES.md
  * tells what to do with words of an older format. Those of format 1 have a state of 37 words: write 3
@@ -63,6 +63,7 @@ extern "C" {
 #define FORGELILAC_HELD_WORDS 18        /* as the certificate read gives it */
 #define FORGELILAC_SHEET_WORDS 40
 #define FORGELILAC_COMMITTEE_WORDS 16
+#define FORGELILAC_EFFECT_WORDS 33      /* as forgelilac_bond_effect gives them */
 #define FORGELILAC_LISTED_WORDS 3       /* a certificate as forgelilac_chain lists it */
 #define FORGELILAC_ENTRY_WORDS 3        /* an entry of a preview, the same three words */
 #define FORGELILAC_PLACE_WORDS 2        /* a certificate as forgelilac_critical lists it */
@@ -77,9 +78,9 @@ extern "C" {
 
 /* Bytes of stack that serve every call and every function below on x86-64; examples/stack.c
  * measures what they use. Preview uses about 88 KB, commit about 84 KB, batch about 83 KB, critical
- * about 81 KB, draw and propose about 80 KB, endorse, certify, accept, advance, committee and share
- * about 74 KB, forgelilac_chain about 3 KB, the others less than 1 KB; a guest's form little more
- * than the host's call. */
+ * about 81 KB, draw and propose about 80 KB, endorse, certify, accept, advance, committee, share and
+ * bond effect about 74 KB, forgelilac_chain about 3 KB, the others less than 1 KB; a guest's form
+ * little more than the host's call. */
 #define FORGELILAC_STACK_BYTES 98304
 
 /* ---- words of a state */
@@ -103,7 +104,7 @@ enum forgelilac_right {
     FORGELILAC_RIGHT_PROPOSE = 0, /* propose, draw, enqueue */
     FORGELILAC_RIGHT_SIGN = 1,    /* endorse, certify, accept, batch */
     FORGELILAC_RIGHT_DRIVE = 2,   /* advance, commit */
-    FORGELILAC_RIGHT_READ = 3     /* committee, share, certificate, block, preview, critical; the chain */
+    FORGELILAC_RIGHT_READ = 3     /* committee, share, bond effect, certificate, block, preview, critical; the chain */
 };
 /* Rights of callers 0 to 7 as a word, of four sets of callers, caller c counting 2 to the power c: bit
  * 8 * right + caller is set where the caller has the right. Any word is some rights. */
@@ -114,7 +115,7 @@ enum forgelilac_right {
 #define FORGELILAC_NO_RIGHTS 0u
 
 /* ---- words of a body, a proposal, a certificate, a held certificate, a listed one, an entry of a
- * preview, a place that a commit hangs on */
+ * preview, a place that a commit hangs on, the effect of a bond */
 
 #define FORGELILAC_BODY_PREVIOUS 0
 #define FORGELILAC_BODY_COUNT 1
@@ -133,6 +134,9 @@ enum forgelilac_right {
 #define FORGELILAC_ENTRY_AUTHOR 2
 #define FORGELILAC_PLACE_ROUND 0
 #define FORGELILAC_PLACE_AUTHOR 1
+#define FORGELILAC_EFFECT_BEFORE 0   /* sixteen shares before the bond */
+#define FORGELILAC_EFFECT_AFTER 16   /* sixteen after it */
+#define FORGELILAC_EFFECT_LARGEST 32 /* the largest difference, without sign */
 
 /* A certificate of a row, for forgelilac_batch: its 17 words in their order. forgelilac_record_of
  * makes one of words. The certificate read has the same name: write `struct`, in C++ too. */
@@ -216,7 +220,8 @@ enum forgelilac_refusal {
     FORGELILAC_GUEST_RANGE = 26,       /* guest or caller above 7 */
     FORGELILAC_QUEUE_FULL = 27,        /* the queue holds eight transactions */
     FORGELILAC_THIN_ROUND = 28,        /* the authors of the certificates held in the present round form no quorum of its committee */
-    FORGELILAC_NO_RIGHT = 29           /* the caller lacks the right that the call needs */
+    FORGELILAC_NO_RIGHT = 29,          /* the caller lacks the right that the call needs */
+    FORGELILAC_EMPTY_COMMITTEE = 30    /* committee of the round empty */
 };
 
 /* ---- calls: 0 accepted, else the refusal number */
@@ -327,6 +332,20 @@ uint32_t forgelilac_committee(const uint32_t *state, size_t state_words,
 uint64_t forgelilac_share(const uint32_t *state, size_t state_words,
                           const uint32_t *table, size_t table_words,
                           uint32_t member, uint32_t round);
+/* How far does a bond move the shares? Into out the sixteen shares of a round's committee, the
+ * sixteen that it would have after a bond of the member by the amount, and the largest difference of
+ * a member's two, without sign: 33 words (FORGELILAC_EFFECT_BEFORE and so on); those beyond stay.
+ * Shares are those of forgelilac_share, and 0 for a non-member. The bond adds the amount to the
+ * member's weight; a non-member joins. With total n before the bond and amount k the largest
+ * difference is never more than 1 plus the whole part of 1,000 * k / (n + k). Nothing is bonded:
+ * state and table are read and never written. A bond that a block holds counts in the committees
+ * of rounds above that block's plus the lookback, together with what else the chain changes until
+ * then: ask for round lookback + last block's round + 1, which all blocks of now change.
+ * Refused: no word of out is written. 1, 4, 5, 6 for an amount other than 1 to 1,000, 8, 30. */
+uint32_t forgelilac_bond_effect(const uint32_t *state, size_t state_words,
+                                const uint32_t *table, size_t table_words,
+                                uint32_t member, uint32_t round, uint32_t amount,
+                                uint32_t *out, size_t out_words);
 /* A held certificate into out: proposal, the endorsers that it was first stored with, the
  * number of its block, 0 for none. The first 17 words are a certificate as accept takes it.
  * 1, 4, 5, 23. */
@@ -420,6 +439,12 @@ uint64_t forgelilac_guest_share(uint32_t caller,
                                 const uint32_t *table, size_t table_words,
                                 uint32_t member, uint32_t round);
 /* Right: read. */
+uint32_t forgelilac_guest_bond_effect(uint32_t caller,
+                                      const uint32_t *state, size_t state_words,
+                                      const uint32_t *table, size_t table_words,
+                                      uint32_t member, uint32_t round, uint32_t amount,
+                                      uint32_t *out, size_t out_words);
+/* Right: read. */
 uint32_t forgelilac_guest_certificate(uint32_t caller,
                                       const uint32_t *state, size_t state_words,
                                       const uint32_t *table, size_t table_words,
@@ -444,7 +469,7 @@ static inline uint32_t forgelilac_refusal_of(uint64_t answer) {
 
 /* A refusal number in words. 24 is the runner's alone: no function here answers it. */
 static inline const char *forgelilac_refusal_text(uint32_t number) {
-    static const char *const texts[30] = {
+    static const char *const texts[31] = {
         "accepted",
         "state not well formed, a table too short, or words that cannot be read",
         "setting out of range",
@@ -475,8 +500,9 @@ static inline const char *forgelilac_refusal_text(uint32_t number) {
         "the queue holds eight transactions",
         "the authors of the certificates held in the present round form no quorum of its committee",
         "the caller lacks the right that the call needs",
+        "committee of the round empty",
     };
-    return number < 30 ? texts[number] : "no refusal of this version";
+    return number < 31 ? texts[number] : "no refusal of this version";
 }
 
 /* ---- rights, sheets, bodies, proposals, queues, records */

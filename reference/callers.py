@@ -67,6 +67,8 @@ def asked(rng, by, accepts):
         'block,%d' % rng.randrange(6),
         'preview,%d' % rng.choice([48 * 64, 48 * 64, 48 * 64, 5]),
         'critical,%d' % rng.choice([64, 64, 64, 63]),
+        'effect,%d,%d,%d' % (rng.randrange(17), rng.randrange(30), rng.choice([0, 1, 7, 1000, 1001])),
+        'effect,3,1',
         'endorse,1,1',
     ])]
 

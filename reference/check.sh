@@ -3,10 +3,11 @@
 # members whose margins differ, shares of every weight of totals to 1,000 and as
 # many by chance, and seeds FIRST to LAST (1 to 50 if not given), as they are, with
 # their accepts in batches, with their proposals drawn from queues, with previews of
-# commit, with lists of what a commit hangs on and with guests' calls, the reference
-# against naive.py; that weights add up after every commit, and the register of plant
-# owners (tools/register) with them; and that guests get their turn over long runs.
-# A runner given in RUNNER is compared with the reference as well.
+# commit, with lists of what a commit hangs on, with guests' calls and with reads of
+# what a bond does to the shares, the reference against naive.py; that weights add up
+# after every commit, and the register of plant owners (tools/register) with them; that
+# no bond moves a share further than its bound; and that guests get their turn over long
+# runs. A runner given in RUNNER is compared with the reference as well.
 cd "$(dirname "$0")" || exit 2
 bin/tests_ref -q || exit 1
 status=0
@@ -46,6 +47,9 @@ for seed in $(seq "${2:-1}" "${1:-50}"); do
     python3 callers.py "$seed" > out/callers
     bin/rights < out/callers > out/expected
     python3 naive.py rights < out/callers | cmp - out/expected || differs "callers of seed $seed"
+    python3 bonds.py "$seed" > out/bonds
+    bin/effects < out/bonds > out/expected || differs "bound of seed $seed"
+    python3 naive.py effects < out/bonds | cmp - out/expected || differs "bonds of seed $seed"
 done
 first=${2:-1}
 for runner in bin/runner_ref $RUNNER; do

@@ -2,22 +2,23 @@
 """Spoils the reference in one place at a time and counts which streams
 notice: the edge stream and the shuffled streams of seeds 1 to N. No record
 reads a share, is a batch, adds to a queue, draws, is a preview, lists what a
-commit hangs on or is a guest's: wrong rules of shares are given pairs of weight and total, wrong
-rules of batches rows of certificates, wrong rules of queues streams with draws,
-wrong previews and wrong lists streams in which they are asked for, wrong rights
-streams in which guests call, and what they answer is compared with naive.py. Wrong
+commit hangs on, is a guest's or tells what a bond does: wrong rules of shares are given
+pairs of weight and total, wrong rules of batches rows of certificates, wrong rules of
+queues streams with draws, wrong previews, wrong lists and wrong effects streams in which
+they are asked for, wrong rights streams in which guests call, and what they answer is
+compared with naive.py. Wrong
 ledgers, wrong registers and committees that do not add up are given seeds 1 to N: it
 counts in how many the ledger, and whether a register, is other than the committees, or
 whether a register takes what it must refuse. Of queues it also says whether fair finds
-a fault, of previews, lists and rights whether the unit tests do: no stream comes to a
-state that no run reaches. Of a wrong rule of advance or of the margin that no stream
+a fault, of previews, lists, rights and effects whether the unit tests do: no stream comes
+to a state that no run reaches. Of a wrong rule of advance or of the margin that no stream
 notices it says whether the unit tests do: none of the streams comes to hold an
 outsider.
 
     mutants.py N [SORT]        (build.sh first; works in the directory mutants)
 
-With SORT only that one: share, batch, queue, preview, critical, right, ledger,
-advance, margin or rule.
+With SORT only that one: share, batch, queue, preview, critical, right, effect,
+ledger, advance, margin or rule.
 
 Six of the changes cannot show in a runner's answers; they are marked same.
 """
@@ -613,6 +614,7 @@ W=[
 (READ, READ.replace(" | Request::Block", "") + ",\n            Request::Block => Right::Propose"),
 ("Request::Preview | Request::Critical => Right::Read", "Request::Preview | Request::Critical => Right::Drive"),
 ("Request::Preview | Request::Critical => Right::Read", "Request::Preview => Right::Drive,\n            Request::Critical => Right::Read"),
+("Request::Effect => Right::Read", "Request::Effect => Right::Propose"),
 # the call before the right; refused all the same, it was made; by the host's own rights, by those of nobody
 (ASK, "        let answer = call(self)?;\n        may_ask(&self.rights, caller, request)?;\n        Ok(answer)\n"),
 (ASK, "        let may = may_ask(&self.rights, caller, request);\n        let answer = call(self);\n        may?;\n        answer\n"),
@@ -626,6 +628,113 @@ W=[
 # an open gives none, all
 ("            rights: *rights,\n", "            rights: if rights == &NO_RIGHTS { *rights } else { NO_RIGHTS },\n"),
 ("            rights: *rights,\n", "            rights: [[rights[0][0] || true; 4]; 8],\n"),
+]
+# wrong effects of a bond: the checks in their order, the bond, the shares, the largest difference, the words
+MAY = "    pub fn may_effect(&self, member: u32, round: u32, amount: u32) -> Answer<&Committee> {\n"
+OF_MEMBER = "        if member >= MEMBERS {\n            return Err(4);\n        }\n"
+OF_ROUND = "        if !self.round_in_range(round) {\n            return Err(5);\n        }\n"
+OF_AMOUNT = "        if amount == 0 || amount > 1_000 {\n            return Err(6);\n        }\n"
+OF_KNOWN = "        let committee = self.committee_of(round).ok_or(8u32)?;\n"
+OF_NOBODY = "        if total(committee) == 0 {\n            return Err(30);\n        }\n"
+CHECKS = MAY + OF_MEMBER + OF_ROUND + OF_AMOUNT + OF_KNOWN + OF_NOBODY
+OUTSIDE = "        if committee[member as usize] == 0 {\n            return Err(9);\n        }\n"
+LEFT_EMPTY = "        if self.chain.last().is_some_and(|block| total(&block.after) == 0) && round > 3 {\n            return Err(30);\n        }\n"
+BOND = "        change(&mut after, &Transaction::Bond { member, amount });\n"
+BETWEEN = "        Ok(Effect::between(before, &after))\n"
+OF_TOTAL = "        let shares = |of: &Committee| of.map(|weight| nearest_thousandth(weight, total(of)));\n"
+TOLD = "Effect { before, after, largest: moved.max().expect(\"sixteen of them\") }"
+SHARE = "off(*s) < n || off(*s) == n && s % 2 == 0"
+WORDS = "self.before.iter().chain(&self.after).chain([&self.largest])"
+
+
+def largest(what):
+    """Another largest difference, told from the shares before and after."""
+    return "        let effect = Effect::between(before, &after);\n        Ok(Effect { largest: " + what + ", ..effect })\n"
+
+
+def checked(*checks):
+    return CHECKS, MAY + "".join(checks)
+
+
+E=[
+# before and after exchanged; the total not raised, raised twice, that of the others alone
+(TOLD, TOLD.replace("before, after,", "before: after, after: before,")),
+(OF_TOTAL, "        let n = total(before);\n        let shares = |of: &Committee| of.map(|weight| nearest_thousandth(weight.min(n), n));\n"),
+(OF_TOTAL, "        let twice = total(after) - total(before);\n        let shares = |of: &Committee| of.map(|weight| nearest_thousandth(weight, total(of) + if of == after { twice } else { 0 }));\n"),
+(OF_TOTAL, "        let n = total(after);\n        let shares = |of: &Committee| of.map(|weight| nearest_thousandth(weight, n));\n"),
+# no bond, twice, by another, in the place of the weight, to all, one more, one less
+(BOND, ""),
+(BOND, BOND + BOND),
+(BOND, BOND.replace("{ member,", "{ member: member ^ 1,")),
+(BOND, "        after[member as usize] = u64::from(amount);\n"),
+(BOND, "        after.iter_mut().for_each(|weight| *weight += u64::from(amount));\n"),
+(BOND, BOND.replace("amount }", "amount: amount + 1 }")),
+(BOND, "        change(&mut after, &Transaction::Unbond { member });\n" + BOND),
+# who joins stays outside; who is a member does not get more
+(BOND, "        if after[member as usize] > 0 {\n    " + BOND + "        }\n"),
+(BOND, "        if after[member as usize] == 0 {\n    " + BOND + "        }\n"),
+# the bonded member's difference alone, that of the others, falls not seen, rises not seen
+(BETWEEN, largest("effect.before[member as usize].abs_diff(effect.after[member as usize])")),
+(BETWEEN, largest("(0..16).filter(|m| *m != member as usize).map(|m| effect.before[m].abs_diff(effect.after[m])).max().unwrap_or(0)")),
+("one.abs_diff(*other)", "other.saturating_sub(*one)"),
+("one.abs_diff(*other)", "one.saturating_sub(*other)"),
+# the smallest, their sum, without member 15, without member 0, of sorted shares, what it never exceeds
+("moved.max()", "moved.min()"),
+("moved.max()", "moved.reduce(|all, one| all + one)"),
+("moved.max()", "moved.take(15).max()"),
+("moved.max()", "moved.skip(1).max()"),
+(BETWEEN, largest("effect.before.iter().max().unwrap().abs_diff(*effect.after.iter().max().unwrap())")),
+(BETWEEN, largest("most_moved(total(before), amount)")),
+# halves upward, downward, to the odd one; cut, any rest upward; 0 for a share of 0.5 and less is 1; 999 at most
+(SHARE, "off(*s) < n || off(*s) == n && u128::from(2 * s) * n > 2_000 * u128::from(weight)"),
+(SHARE, "off(*s) <= n"),
+(SHARE, "off(*s) < n || off(*s) == n && s % 2 == 1"),
+(SHARE, "u128::from(*s + 1) * n > 1_000 * u128::from(weight)"),
+(SHARE, "u128::from(*s) * n >= 1_000 * u128::from(weight)"),
+("(0..=1_000).find(is_share)", "(u64::from(weight > 0)..=1_000).find(|s| *s == 1 && off(0) <= n || is_share(s))"),
+("(0..=1_000).find(is_share)", "(0..=999).find(is_share).or(Some(999))"),
+# an amount of 0, of 1,001, any; not 1, not 1,000
+checked(OF_MEMBER, OF_ROUND, OF_AMOUNT.replace("amount == 0 || ", ""), OF_KNOWN, OF_NOBODY),
+checked(OF_MEMBER, OF_ROUND, OF_AMOUNT.replace("1_000", "1_001"), OF_KNOWN, OF_NOBODY),
+checked(OF_MEMBER, OF_ROUND, OF_KNOWN, OF_NOBODY),
+checked(OF_MEMBER, OF_ROUND, OF_AMOUNT.replace("== 0", "<= 1"), OF_KNOWN, OF_NOBODY),
+checked(OF_MEMBER, OF_ROUND, OF_AMOUNT.replace(">", ">="), OF_KNOWN, OF_NOBODY),
+# 5 before 4; 6 before 5, before 4; 8 before 6, before 5; 30 before 6, before 8, and as 8
+checked(OF_ROUND, OF_MEMBER, OF_AMOUNT, OF_KNOWN, OF_NOBODY),
+checked(OF_MEMBER, OF_AMOUNT, OF_ROUND, OF_KNOWN, OF_NOBODY),
+checked(OF_AMOUNT, OF_MEMBER, OF_ROUND, OF_KNOWN, OF_NOBODY),
+checked(OF_MEMBER, OF_ROUND, OF_KNOWN, OF_AMOUNT, OF_NOBODY),
+checked(OF_MEMBER, OF_KNOWN, OF_ROUND, OF_AMOUNT, OF_NOBODY),
+checked(OF_MEMBER, OF_ROUND, OF_KNOWN, OF_NOBODY, OF_AMOUNT),
+checked(OF_MEMBER, OF_ROUND, OF_AMOUNT, LEFT_EMPTY, OF_KNOWN, OF_NOBODY),
+checked(OF_MEMBER, OF_ROUND, OF_AMOUNT, OF_KNOWN, OF_NOBODY.replace("30", "8")),
+# an empty committee let in, refused with 9; a non-member refused with 9, before 30 and after it; with 30
+checked(OF_MEMBER, OF_ROUND, OF_AMOUNT, OF_KNOWN),
+checked(OF_MEMBER, OF_ROUND, OF_AMOUNT, OF_KNOWN, OF_NOBODY.replace("30", "9")),
+checked(OF_MEMBER, OF_ROUND, OF_AMOUNT, OF_KNOWN, OUTSIDE, OF_NOBODY),
+checked(OF_MEMBER, OF_ROUND, OF_AMOUNT, OF_KNOWN, OF_NOBODY, OUTSIDE),
+checked(OF_MEMBER, OF_ROUND, OF_AMOUNT, OF_KNOWN, OUTSIDE.replace("9", "30")),
+# member 15 refused, 16 let in; round 0 let in, the ceiling's refused
+checked(OF_MEMBER.replace("MEMBERS", "MEMBERS - 1"), OF_ROUND, OF_AMOUNT, OF_KNOWN, OF_NOBODY),
+checked(OF_MEMBER.replace(">=", ">"), OF_ROUND, OF_AMOUNT, OF_KNOWN, OF_NOBODY),
+checked(OF_MEMBER, OF_ROUND.replace("(round)", "(round.max(1))"), OF_AMOUNT, OF_KNOWN, OF_NOBODY),
+checked(OF_MEMBER, OF_ROUND.replace("(round)", "(round.saturating_add(1))"), OF_AMOUNT, OF_KNOWN, OF_NOBODY),
+# another round's committee: the next one's, the one's before, the present one's, the starting one; that of all blocks
+checked(OF_MEMBER, OF_ROUND, OF_AMOUNT, OF_KNOWN.replace("(round)", "(round + 1)"), OF_NOBODY),
+checked(OF_MEMBER, OF_ROUND, OF_AMOUNT, OF_KNOWN, OF_KNOWN.replace("(round)", "(round - 1)"), OF_NOBODY),
+checked(OF_MEMBER, OF_ROUND, OF_AMOUNT, OF_KNOWN, OF_KNOWN.replace("(round)", "(self.round)"), OF_NOBODY),
+checked(OF_MEMBER, OF_ROUND, OF_AMOUNT, OF_KNOWN, OF_NOBODY, "        let committee = &self.settings.weights;\n"),
+checked(OF_MEMBER, OF_ROUND, OF_AMOUNT, OF_KNOWN, OF_NOBODY, "        let committee = self.chain.last().map_or(committee, |block| &block.after);\n"),
+# words: after first, the largest first, by member, members from behind, without the largest
+(WORDS, "self.after.iter().chain(&self.before).chain([&self.largest])"),
+(WORDS, "[&self.largest].into_iter().chain(&self.before).chain(&self.after)"),
+(WORDS, "self.before.iter().zip(&self.after).flat_map(|(one, other)| [one, other]).chain([&self.largest])"),
+(WORDS, "self.before.iter().rev().chain(self.after.iter().rev()).chain([&self.largest])"),
+(WORDS, WORDS.replace("&self.largest", "&0")),
+# what it never exceeds: without the 1, by the total before, by half the amount
+("    1 + 1_000 * u64::from(k) /", "    1_000 * u64::from(k) /"),
+("/ (n + u64::from(k))", "/ n"),
+("    1 + 1_000 * u64::from(k) /", "    1 + 500 * u64::from(k) /"),
 ]
 # wrong ledgers, wrong registers, committees that do not add up
 RELEASED = "let released = account.since + start;"
@@ -878,6 +987,24 @@ def one_right(i):
     return '%d of %d lines, tests %s' % (len(by_rights) - same, len(by_rights), unit_tests(place, 'reference.rs', *W[i]))
 
 
+# The seeds' bonds.
+bonds = made('bonds.py', range(1, 13) if wanted('effect') else [])
+effects = naive('effects', bonds)
+
+
+def one_effect(i):
+    place = 'effect%d' % i
+    os.makedirs(os.path.join(work, place), exist_ok=True)
+    shutil.copy(os.path.join(base, 'runner_ref.rs'), os.path.join(work, place))
+    program, why = spoilt(place, 'effects.rs', 'reference.rs', *E[i])
+    if program is None:
+        return why
+    # It may end before the last line.
+    found = answers(program, bonds).splitlines()
+    same = sum(a == b for a, b in zip(found, effects))
+    return '%d of %d lines, tests %s' % (len(effects) - same, len(effects), unit_tests(place, 'reference.rs', *E[i]))
+
+
 def one_ledger(i):
     """In how many streams a wrong ledger or wrong committees are noticed; of a register, whether it is."""
     name, old, new = L[i]
@@ -911,8 +1038,8 @@ def one_share(i):
 
 with ThreadPoolExecutor(int(os.environ.get('JOBS', 4))) as pool:
     for sort, try_one, changes in [('share', one_share, S), ('batch', one_batch, B), ('queue', one_queue, Q),
-                                   ('preview', one_preview, P), ('critical', one_critical, K), ('right', one_right, W), ('ledger', one_ledger, L),
-                                   ('advance', one_advance, A),
+                                   ('preview', one_preview, P), ('critical', one_critical, K), ('right', one_right, W),
+                                   ('effect', one_effect, E), ('ledger', one_ledger, L), ('advance', one_advance, A),
                                    ('margin', one_margin, G), ('rule', one, M)]:
         if not wanted(sort):
             continue

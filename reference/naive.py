@@ -7,7 +7,8 @@ with the leader of its round in the first writing; a draw goes from transaction
 to transaction here, lap by lap there; a preview is told from histories here, by
 a commit on a copy there; what a commit hangs on by the votes that remain here,
 by taking each certificate away there; a quorum by what is left out of it here,
-by what is in it there; rights are pairs of a caller and a word here, a table there.
+by what is in it there; rights are pairs of a caller and a word here, a table there;
+what a bond does to the shares by fractions here, by cross multiplication there.
 
     naive.py < stream > answers
     naive.py shares < pairs > shares      (no record reads a share)
@@ -16,12 +17,13 @@ by what is in it there; rights are pairs of a caller and a word here, a table th
     naive.py previews < stream > answers  (no record is a preview)
     naive.py criticals < stream > answers (no record lists what a commit hangs on)
     naive.py rights < stream > answers    (no record is a guest's)
+    naive.py effects < stream > answers   (no record tells what a bond does)
 """
 import re
 import sys
 from fractions import Fraction
 from itertools import zip_longest
-from math import ceil
+from math import ceil, floor
 
 RANGES = [(1, 1000, 20), (3, 1024, 1024), (0, 4, 4)] + \
          [(0, 1000000, 1)] * 4 + [(0, 1000000, 0)] * 12 + [(3, 5, 3)]
@@ -31,7 +33,8 @@ RANGES = [(1, 1000, 20), (3, 1024, 1024), (0, 4, 4)] + \
 NEED = {'propose': {'propose', 'draw', 'enqueue'},
         'sign': {'endorse', 'certify', 'accept', 'batch'},
         'drive': {'advance', 'commit'},
-        'read': {'committee', 'share', 'certificate', 'block', 'preview', 'critical'}}
+        'read': {'committee', 'share', 'certificate', 'block', 'preview', 'critical',
+                 'effect'}}
 
 
 class Refused(Exception):
@@ -292,6 +295,20 @@ class Engine:
         refuse_if(weights[member] == 0, 9)
         return [share(weights[member], sum(weights))]
 
+    def read_effect(self, member, r, amount):
+        """All shares before a bond and after it, and the largest difference."""
+        refuse_if(member > 15, 4)
+        refuse_if(r == 0 or r > self.ceiling, 5)
+        refuse_if(not 1 <= amount <= 1000, 6)
+        refuse_if(not self.known(r), 8)
+        before = self.committee(r)
+        refuse_if(not before, 30)
+        after = {**before, member: before.get(member, 0) + amount}
+        shares = [[share(weights.get(m, 0), sum(weights.values())) for m in range(16)] for weights in (before, after)]
+        largest = max(abs(one - other) for one, other in zip(*shares))
+        assert largest <= 1 + floor(Fraction(1000 * amount, sum(after.values()))), (before, member, amount)
+        return sum(shares, []) + [largest]
+
     def read_certificate(self, author, r):
         """Previous set, number of its block, triples."""
         refuse_if(author > 15, 4)
@@ -465,21 +482,26 @@ def queues():
         print(*lines, sep='\n')
 
 
-def lists(asked):
-    """Streams in which a list is asked for: a preview, or what a commit hangs on."""
+def asking(name, told):
+    """Streams in which something is asked for that is no record; `told` gives its values."""
     engine = None
     for line in sys.stdin:
-        name, *fields = line.rstrip('\n').split(',')
-        if name != asked:
+        asked, *fields = line.rstrip('\n').split(',')
+        if asked != name:
             engine, lines = answered(engine, line.rstrip('\n'))
         else:
             try:
                 refuse_if(engine is None, 1)
-                entries = getattr(engine, asked)(int(fields[0]))
-                lines = [','.join(map(str, ['ok', len(entries)] + [word for entry in entries for word in entry]))]
+                lines = [','.join(map(str, ['ok'] + told(engine, *map(int, fields))))]
             except Refused as refusal:
                 lines = ['refused,%d' % refusal.args[0]]
         print(*lines, sep='\n')
+
+
+def listed(engine, name, words):
+    """The count and the places of a list: a preview, or what a commit hangs on."""
+    entries = getattr(engine, name)(words)
+    return [len(entries)] + [word for entry in entries for word in entry]
 
 
 def values_of(engine, caller, name, fields, row):
@@ -493,8 +515,7 @@ def values_of(engine, caller, name, fields, row):
         if name == 'batch':
             return engine.batch(row)
         if name in ('preview', 'critical'):
-            entries = getattr(engine, name)(*map(number, fields))
-            return [len(entries)] + [word for entry in entries for word in entry]
+            return listed(engine, name, *map(number, fields))
         if name in NEED['read']:
             return getattr(engine, 'read_' + name)(*map(number, fields))
         _, values = call(','.join([name] + fields))
@@ -552,10 +573,12 @@ elif sys.argv[1:] == ['batches']:
 elif sys.argv[1:] == ['queues']:
     queues()
 elif sys.argv[1:] == ['previews']:
-    lists('preview')
+    asking('preview', lambda engine, words: listed(engine, 'preview', words))
 elif sys.argv[1:] == ['criticals']:
-    lists('critical')
+    asking('critical', lambda engine, words: listed(engine, 'critical', words))
 elif sys.argv[1:] == ['rights']:
     rights()
+elif sys.argv[1:] == ['effects']:
+    asking('effect', Engine.read_effect)
 else:
     main()

@@ -31,6 +31,10 @@ pub const ENTRY: usize = 3;
 pub const PAIR: usize = 2;
 pub const PAIRS: usize = 32;
 
+/// The words of what a bond does to the shares: sixteen before it, sixteen after it,
+/// and the largest difference (point 13).
+pub const EFFECT: usize = 33;
+
 /// Guests are 0 to 7, and each has a queue of eight transactions (point 6).
 pub const GUESTS: u32 = 8;
 pub const QUEUE: usize = 8;
@@ -209,6 +213,47 @@ pub fn thousandths(weight: u64, n: u64) -> u64 {
     }
 }
 
+/// The same once more, by search and without a division: of 0 to 1,000 the one of
+/// which the weight is no further than half a thousandth of n, and at an exact half
+/// the even one.
+pub fn nearest_thousandth(weight: u64, n: u64) -> u64 {
+    let n = u128::from(n);
+    // Twice n times the distance.
+    let off = |s: u64| (2_000 * u128::from(weight)).abs_diff(2 * u128::from(s) * n);
+    let is_share = |s: &u64| off(*s) < n || off(*s) == n && s % 2 == 0;
+    (0..=1_000).find(is_share).expect("a weight that is no more than the total")
+}
+
+/// What a bond does to the shares (point 13): all sixteen before it and after it, 0
+/// for a non-member, and the largest difference, of a rise or of a fall.
+#[derive(Clone, Copy, PartialEq, Eq, Debug)]
+pub struct Effect {
+    pub before: [u64; 16],
+    pub after: [u64; 16],
+    pub largest: u64,
+}
+
+impl Effect {
+    /// Of two committees that are not empty.
+    pub fn between(before: &Committee, after: &Committee) -> Effect {
+        let shares = |of: &Committee| of.map(|weight| nearest_thousandth(weight, total(of)));
+        let (before, after) = (shares(before), shares(after));
+        let moved = before.iter().zip(&after).map(|(one, other)| one.abs_diff(*other));
+        Effect { before, after, largest: moved.max().expect("sixteen of them") }
+    }
+
+    pub fn words(&self) -> [u32; EFFECT] {
+        let all = self.before.iter().chain(&self.after).chain([&self.largest]);
+        let words: Vec<u32> = all.map(|&word| word as u32).collect();
+        words.try_into().expect("sixteen, sixteen and one")
+    }
+}
+
+/// What the largest difference never exceeds: of total n before a bond of k.
+pub fn most_moved(n: u64, k: u32) -> u64 {
+    1 + 1_000 * u64::from(k) / (n + u64::from(k))
+}
+
 /// What one transaction of a block does to the bonded committee.
 pub fn change(committee: &mut Committee, transaction: &Transaction) {
     match *transaction {
@@ -253,6 +298,7 @@ pub enum Request {
     Block,
     Preview,
     Critical,
+    Effect,
 }
 
 impl Request {
@@ -264,6 +310,7 @@ impl Request {
             Request::Advance | Request::Commit => Right::Drive,
             Request::Committee | Request::Share | Request::Certificate | Request::Block => Right::Read,
             Request::Preview | Request::Critical => Right::Read,
+            Request::Effect => Right::Read,
         }
     }
 }
@@ -948,6 +995,34 @@ impl Member {
             return Err(9);
         }
         Ok(thousandths(committee[member as usize], total(&committee)))
+    }
+
+    /// The committee of the round, for a bond by any member, inside or not; 30 where
+    /// it is empty.
+    pub fn may_effect(&self, member: u32, round: u32, amount: u32) -> Answer<&Committee> {
+        if member >= MEMBERS {
+            return Err(4);
+        }
+        if !self.round_in_range(round) {
+            return Err(5);
+        }
+        if amount == 0 || amount > 1_000 {
+            return Err(6);
+        }
+        let committee = self.committee_of(round).ok_or(8u32)?;
+        if total(committee) == 0 {
+            return Err(30);
+        }
+        Ok(committee)
+    }
+
+    /// How far that bond would move the shares: the round's committee as it is, and
+    /// with the bond made in it.
+    pub fn read_effect(&self, member: u32, round: u32, amount: u32) -> Answer<Effect> {
+        let before = self.may_effect(member, round, amount)?;
+        let mut after = *before;
+        change(&mut after, &Transaction::Bond { member, amount });
+        Ok(Effect::between(before, &after))
     }
 
     /// The proposal, the endorsers it was first stored with, and the number of

@@ -5,10 +5,10 @@
 //! `endorse`, `certify`, `accept`, `advance` and `commit` as in a record; `draw` and
 //! a previous set; `enqueue` and a triple, before it the guest where it is the
 //! host's; `batch`, of what `offer` lines before it offer; `committee`, `share`,
-//! `certificate`, `block` and their numbers; `preview` and `critical` and a number
-//! of words. Its line is the answer and its values. What cannot be read gets 1, after
-//! 26 and 29. `waiting` says how many wait for each guest. `naive.py rights` gives
-//! the same lines.
+//! `certificate`, `block`, `effect` and their numbers; `preview` and `critical` and a
+//! number of words. Its line is the answer and its values. What cannot be read gets 1,
+//! after 26 and 29. `waiting` says how many wait for each guest. `naive.py rights`
+//! gives the same lines.
 
 #[path = "runner_ref.rs"]
 mod runner_ref;
@@ -37,6 +37,7 @@ fn request(name: &str) -> Option<Request> {
         "block" => Request::Block,
         "preview" => Request::Preview,
         "critical" => Request::Critical,
+        "effect" => Request::Effect,
         _ => return None,
     })
 }
@@ -50,6 +51,10 @@ fn one(fields: &str) -> Answer<u32> {
 }
 
 fn two(fields: &str) -> Answer<[u32; 2]> {
+    numbers(fields)?.try_into().map_err(|_| 1)
+}
+
+fn three(fields: &str) -> Answer<[u32; 3]> {
     numbers(fields)?.try_into().map_err(|_| 1)
 }
 
@@ -83,10 +88,11 @@ fn list(words: u32, ask: impl FnOnce(&mut [u32]) -> Answer<u32>) -> Answer<Strin
 fn call(
     member: &mut Member,
     caller: Option<u32>,
-    (name, fields): (&str, &str),
+    text: &str,
     row: &[Option<Certificate>],
 ) -> Answer<String> {
     let nothing = |()| String::new();
+    let (name, fields) = split(text);
     match request(name).ok_or(1u32)? {
         Request::Draw => {
             let (previous, handed) = proposed(fields)?;
@@ -127,13 +133,17 @@ fn call(
         Request::Block => member.read_block(one(fields)?).map(|round| format!(",{round}")),
         Request::Preview => list(one(fields)?, |list| member.preview(list)),
         Request::Critical => list(one(fields)?, |list| member.critical(list)),
-        Request::Commit if fields.is_empty() => member.commit().map(|count| format!(",{count}")),
-        Request::Advance if fields.is_empty() => member.advance().map(nothing),
-        _ => match read_record(format!("{name},{fields}").as_bytes()).ok_or(1u32)? {
+        Request::Effect => {
+            let [of, round, amount] = three(fields)?;
+            member.read_effect(of, round, amount).map(|effect| joined(&effect.words()))
+        }
+        _ => match read_record(text.as_bytes()).ok_or(1u32)? {
+            Record::Commit => return member.commit().map(|count| format!(",{count}")),
             Record::Propose { previous, transactions } => member.propose(previous, &transactions),
             Record::Endorse(proposal) => member.endorse(&proposal),
             Record::Certify { endorsers } => member.certify(endorsers),
             Record::Accept(certificate) => member.accept(&certificate),
+            Record::Advance => member.advance(),
             _ => Err(1),
         }
         .map(nothing),
@@ -144,14 +154,14 @@ fn call(
 fn guests_call(
     member: Option<&mut Member>,
     caller: u32,
-    named: (&str, &str),
+    text: &str,
     row: &[Option<Certificate>],
 ) -> Answer<String> {
-    let request = request(named.0).expect("a call that a guest has");
+    let request = request(split(text).0).expect("a call that a guest has");
     match member {
         None => may_ask(&NO_RIGHTS, caller, request).and(Err(1)),
         Some(member) => {
-            member.by_guest(caller, request, |member| call(member, Some(caller), named, row))
+            member.by_guest(caller, request, |member| call(member, Some(caller), text, row))
         }
     }
 }
@@ -189,12 +199,12 @@ fn main() -> std::io::Result<()> {
                 continue;
             }
             "guest" => {
-                let (caller, named) = split(fields);
+                let (caller, text) = split(fields);
                 let caller = one(caller).expect("a caller");
-                guests_call(runner.member.as_mut(), caller, split(named), &row)
+                guests_call(runner.member.as_mut(), caller, text, &row)
             }
             "host" => match runner.member.as_mut() {
-                Some(member) => call(member, None, split(fields), &row),
+                Some(member) => call(member, None, fields, &row),
                 None => Err(1),
             },
             "waiting" => runner.member.as_ref().ok_or(1).map(|member| {

@@ -1,8 +1,8 @@
 //! `rustc --test tests_ref.rs`: the cases marked P in document 01, the slips
 //! it wants ruled out, the example, small runs worked out by hand, the order
 //! inside a block, batches, queues, thin rounds, previews, margins, what a commit
-//! hangs on, guests' calls, ledgers of weights, and the shortcuts of the reference
-//! compared with the plain definitions.
+//! hangs on, guests' calls, ledgers of weights, what a bond does to the shares, and
+//! the shortcuts of the reference compared with the plain definitions.
 
 #![allow(dead_code)]
 
@@ -142,6 +142,7 @@ fn shares_by_hand() {
     ];
     for (weight, n, share) in table {
         assert_eq!(thousandths(weight, n), share, "{weight} of {n}");
+        assert_eq!(nearest_thousandth(weight, n), share, "{weight} of {n}");
     }
 }
 
@@ -162,6 +163,18 @@ fn shares_by_search() {
             assert_eq!(thousandths(weight, n), nearest, "{weight} of {n}");
             // A half comes of multiples of 16 alone.
             assert!(!tie || n % 16 == 0);
+        }
+    }
+}
+
+/// The two ways to a share, of every weight of totals to 400 and of more that have
+/// exact halves; a non-member's is 0.
+#[test]
+fn shares_by_cross_multiplication() {
+    for n in (1..=400).chain((416..=2_000).step_by(16)) {
+        assert_eq!(nearest_thousandth(0, n), 0);
+        for weight in 1..=n {
+            assert_eq!(nearest_thousandth(weight, n), thousandths(weight, n), "{weight} of {n}");
         }
     }
 }
@@ -1928,7 +1941,7 @@ fn damage(rng: &mut Rng, m: &mut Member) {
 // ---------------------------------------------- who may do what (point 11) ---
 
 /// The right that each call of a guest needs.
-const NEEDS: [(Request, Right); 15] = [
+const NEEDS: [(Request, Right); 16] = [
     (Request::Propose, Right::Propose),
     (Request::Draw, Right::Propose),
     (Request::Enqueue, Right::Propose),
@@ -1944,6 +1957,7 @@ const NEEDS: [(Request, Right); 15] = [
     (Request::Block, Right::Read),
     (Request::Preview, Right::Read),
     (Request::Critical, Right::Read),
+    (Request::Effect, Right::Read),
 ];
 
 const ALL_RIGHTS: Rights = [[true; 4]; 8];
@@ -1977,6 +1991,7 @@ fn host_asks(m: &mut Member, request: Request, guest: u32, author: u32) -> Answe
         Request::Block => format!("{:?}", m.read_block(1)?),
         Request::Preview => format!("{:?}", m.preview(&mut list)?),
         Request::Critical => format!("{:?}", m.critical(&mut list)?),
+        Request::Effect => format!("{:?}", m.read_effect(author, r, 1 + author)?),
     };
     Ok(format!("{told} {list:?}"))
 }
@@ -2037,6 +2052,10 @@ fn four_guests() {
     assert_eq!(m.by_guest(0, Request::Committee, |m| m.read_committee(9)), Err(29));
     assert_eq!(m.by_guest(7, Request::Committee, |m| m.read_committee(9)), Err(5));
     assert_eq!(m.by_guest(7, Request::Share, |m| m.read_share(1, 2)), Ok(250));
+    assert_eq!(m.by_guest(7, Request::Effect, |m| m.read_effect(1, 2, 2)).unwrap().largest, 250);
+    assert_eq!(m.by_guest(7, Request::Effect, |m| m.read_effect(16, 9, 0)), Err(4));
+    assert_eq!(m.by_guest(5, Request::Effect, |m| m.read_effect(16, 9, 0)), Err(29));
+    assert_eq!(m.by_guest(8, Request::Effect, |m| m.read_effect(16, 9, 0)), Err(26));
     assert_eq!(m.rights, rights);
 }
 
@@ -2085,7 +2104,7 @@ fn rights_of_an_open() {
 #[test]
 fn guests_by_chance() {
     let mut rng = Rng(0x11_1e57_0f9a_7e57);
-    let (mut accepted, mut refused) = ([0; 15], [0; 32]);
+    let (mut accepted, mut refused) = ([0; 16], [0; 32]);
     let mut other = of_four();
     for _ in 0..60 {
         let Some(mut m) = any_member(&mut rng, 4) else { continue };
@@ -2099,7 +2118,7 @@ fn guests_by_chance() {
             if rng.below(12) == 0 {
                 fill_round(&mut rng, &mut m);
             }
-            let which = rng.below(15) as usize;
+            let which = rng.below(16) as usize;
             let (request, caller, author) = (NEEDS[which].0, rng.below(10) as u32, rng.below(16) as u32);
             let (before, mut copy) = (image(&m), m.clone());
             let answer = guest_asks(&mut m, caller, request, author);
@@ -2402,4 +2421,177 @@ fn weights_at_most() {
     // All of rounds up to 1,021, and the anchor of 1,022.
     assert_eq!(figures.most, 16_000_000 + (1_021 * 16 + 1) * 4_000);
     assert_eq!((figures.above, figures.bonded), (1, (1_021 * 16 + 1) * 4_000));
+}
+
+// --------------------------------- how far a bond moves the shares (point 13) ---
+
+/// An opened member with these weights.
+fn weighing(weights: &[u32]) -> Member {
+    let mut all = [0; 16];
+    all[..weights.len()].copy_from_slice(weights);
+    Member::open(0, &sheet(Written(1), Written(9), Blank, &all), 9).unwrap()
+}
+
+/// Sixteen of them, 0 where there is no more.
+fn sixteen(some: &[u64]) -> [u64; 16] {
+    std::array::from_fn(|m| some.get(m).copied().unwrap_or(0))
+}
+
+/// Weights, member, amount; shares before and after, the largest difference, and what
+/// it never exceeds.
+type Bonded = (&'static [u32], u32, u32, &'static [u64], &'static [u64], u64, u64);
+
+#[rustfmt::skip]
+const BONDED: [Bonded; 19] = [
+    // A sole member has all before and after, whatever its number.
+    (&[5], 0, 3, &[1_000], &[1_000], 0, 376),
+    (&[1], 0, 1_000, &[1_000], &[1_000], 0, 1_000),
+    (&[1_000_000], 0, 1, &[1_000], &[1_000], 0, 1),
+    (&[0, 0, 7], 2, 7, &[0, 0, 1_000], &[0, 0, 1_000], 0, 501),
+    // Joining: as a second one, as a fifth, as a sixth of six alike.
+    (&[1], 1, 1_000, &[1_000], &[1, 999], 999, 1_000),
+    (&[1, 1, 1, 1], 5, 2, &[250, 250, 250, 250], &[167, 167, 167, 167, 0, 333], 333, 334),
+    (&[1, 1, 1, 1, 1], 5, 1, &[200; 5], &[167; 6], 167, 167),
+    // Adding to what one has.
+    (&[1, 1, 1, 1], 0, 2, &[250, 250, 250, 250], &[500, 167, 167, 167], 250, 334),
+    (&[1, 999], 0, 1_000, &[1, 999], &[500, 500], 499, 501),
+    // Exact halves before: 62.5, 187.5, 312.5, 437.5.
+    (&[1, 3, 5, 7], 0, 16, &[62, 188, 312, 438], &[531, 94, 156, 219], 469, 501),
+    // After: 62.5, 187.5.
+    (&[2, 6, 8], 2, 16, &[125, 375, 500], &[62, 188, 750], 250, 501),
+    // On both sides of one bond: 187.5 and 62.5; 62.5 and 687.5.
+    (&[3, 1, 12], 1, 32, &[188, 62, 750], &[62, 688, 250], 626, 667),
+    // The bonded one's alone: 0 and 562.5; 0 and 437.5.
+    (&[14], 1, 18, &[1_000], &[438, 562], 562, 563),
+    (&[18], 1, 14, &[1_000], &[562, 438], 438, 438),
+    // The bound is met: by the bonded one's rise alone, 666.67; by a fall alone, 985.51 to
+    // 971.43, and 987.5 to 975.31; with a bound of 1, by 0.5 to 1.0 and 999.5 to 999.0.
+    (&[0, 1, 1], 0, 4, &[0, 500, 500], &[667, 167, 167], 667, 667),
+    (&[1, 68], 2, 1, &[14, 986], &[14, 971, 14], 15, 15),
+    (&[1, 79], 2, 1, &[12, 988], &[12, 975, 12], 13, 13),
+    (&[1, 1_999], 0, 1, &[0, 1_000], &[1, 999], 1, 1),
+    // Nobody moves by a thousandth.
+    (&[1_000_000, 1_000_000], 2, 999, &[500, 500], &[500, 500], 0, 1),
+];
+
+#[test]
+fn bonds_by_hand() {
+    for (weights, member, amount, before, after, largest, bound) in BONDED {
+        let (before, after) = (sixteen(before), sixteen(after));
+        let found = weighing(weights).read_effect(member, 1, amount).unwrap();
+        assert_eq!(found, Effect { before, after, largest }, "{weights:?}, {amount} by {member}");
+        assert_eq!(most_moved(weights.iter().map(|&w| u64::from(w)).sum(), amount), bound);
+        assert!(largest <= bound);
+        let words = found.words();
+        assert_eq!(words.map(u64::from), *[&before[..], &after, &[largest]].concat());
+    }
+}
+
+/// The largest weights: a full table of bonds has total 81,536,000.
+#[test]
+fn bonds_to_the_largest_total() {
+    let mut c = [5_096_000; 16];
+    let mut with = c;
+    change(&mut with, &bond(3, 1_000));
+    // 62.5 each; 5,096,000 of 81,537,000 is 62.499, one thousand more 62.51.
+    let expected = |m: usize| if m == 3 { 63 } else { 62 };
+    let found = Effect::between(&c, &with);
+    assert_eq!((found.before, found.after, found.largest), ([62; 16], std::array::from_fn(expected), 1));
+    assert_eq!(most_moved(total(&c), 1_000), 1);
+    c = [0; 16];
+    (c[0], c[15]) = (40_768, 81_495_232);
+    with = c;
+    change(&mut with, &bond(0, 1));
+    // 0.5 and 999.5; 0.500012 and 999.499988.
+    let found = Effect::between(&c, &with);
+    assert_eq!((found.before[0], found.before[15], found.after[0], found.after[15]), (0, 1_000, 1, 999));
+    assert_eq!(found.largest, 1);
+}
+
+/// Member 0 alone leaves in the block of round 2: rounds up to 3 have it, 4 and 5
+/// nobody, 6 is not known. Every combination of what can be wrong, and of what is not.
+#[test]
+fn an_effect_is_refused_in_its_order() {
+    let written = sheet(Written(1), Written(9), Blank, &[4, 0, 0, 0]);
+    let mut m = alone(&written, 3, &[unbond(0)]);
+    m.commit().unwrap();
+    let image = image(&m);
+    for member in [0, 1, 15, 16, 17, u32::MAX] {
+        for round in [0, 1, 2, 3, 4, 5, 6, 7, 9, 10, 1_024, u32::MAX] {
+            for amount in [0, 1, 2, 999, 1_000, 1_001, 65_536, u32::MAX] {
+                let refused = [
+                    (member > 15, 4),
+                    (round == 0 || round > 9, 5),
+                    (amount == 0 || amount > 1_000, 6),
+                    (round > 5, 8),
+                    (round > 3, 30),
+                ];
+                let first = refused.iter().find(|(wrong, _)| *wrong).map(|&(_, number)| number);
+                let found = m.read_effect(member, round, amount);
+                assert_eq!(found.err(), first, "member {member}, round {round}, amount {amount}");
+                assert_eq!(m.may_effect(member, round, amount).err(), first);
+            }
+        }
+    }
+    assert_eq!(format!("{m:?}"), image);
+    // One of its block joins: the committee is no longer empty.
+    let mut m = alone(&written, 3, &[unbond(0), bond(7, 16)]);
+    m.commit().unwrap();
+    assert_eq!(m.read_effect(0, 6, 1), Err(8));
+    let found = m.read_effect(0, 5, 16).unwrap();
+    assert_eq!((found.before[7], found.after[0], found.after[7], found.largest), (1_000, 500, 500, 500));
+}
+
+/// The committee is the round's: neither the starting one nor the present round's.
+#[test]
+fn an_effect_of_another_round() {
+    let mut m = alone(&sheet(Written(1), Written(9), Blank, &[4, 0, 0, 0]), 3, &[bond(7, 4), bond(8, 8)]);
+    m.commit().unwrap();
+    let of = |round| m.read_effect(7, round, 16).unwrap();
+    // 4 and 20; then 4, 4, 8 of 16 and 4, 20, 8 of 32.
+    assert_eq!((m.round(), of(3).before[0], of(3).after[7], of(3).largest), (3, 1_000, 800, 800));
+    for round in [4, 5] {
+        let (before, after) = (of(round).before, of(round).after);
+        assert_eq!([before[0], before[7], before[8]], [250, 250, 500]);
+        assert_eq!([after[0], after[7], after[8]], [125, 625, 250]);
+        assert_eq!(of(round).largest, 375);
+    }
+}
+
+/// Grown members: shares before are those that are read, shares after those of an
+/// opening with the weights that the bond leaves; and the bound.
+#[test]
+fn effects_by_chance() {
+    let mut rng = Rng(0x13_b0d5_5eed);
+    let (mut accepted, mut joined, mut met) = (0, 0, 0);
+    for _ in 0..120 {
+        let Some(mut m) = any_member(&mut rng, 4) else { continue };
+        loop {
+            fill_round(&mut rng, &mut m);
+            let _ = m.commit();
+            if m.advance().is_err() {
+                break;
+            }
+        }
+        for _ in 0..60 {
+            let (member, round) = (rng.below(17) as u32, rng.below(u64::from(m.settings().ceiling) + 2) as u32);
+            let amount = [1, 2, 16, 1_000, rng.below(1_002) as u32][rng.below(5) as usize];
+            let Ok(found) = m.read_effect(member, round, amount) else { continue };
+            let committee = m.read_committee(round).unwrap();
+            let read = |m: &Member, round| std::array::from_fn(|member| m.read_share(member as u32, round).unwrap_or(0));
+            assert_eq!(found.before, read(&m, round));
+            let weights = committee.map(|weight| weight as u32);
+            let mut with = weighing(&weights);
+            with.settings.weights[member as usize] += u64::from(amount);
+            assert_eq!(found.after, read(&with, 1));
+            let moved = (0..16).map(|m| (found.before[m] as i64 - found.after[m] as i64).abs()).max();
+            assert_eq!(moved, Some(found.largest as i64));
+            let bound = 1 + (1_000 * u64::from(amount)) / (total(&committee) + u64::from(amount));
+            assert!(found.largest <= bound && bound == most_moved(total(&committee), amount));
+            accepted += 1;
+            joined += u32::from(committee[member as usize] == 0);
+            met += u32::from(found.largest == bound);
+        }
+    }
+    assert!(accepted > 1_000 && joined > 100 && met > 10, "{accepted} {joined} {met}");
 }

@@ -8,8 +8,8 @@
 # given) that must answer as the reference does; chains, and which words calls change; the register
 # of plant owners against reads of committees; and CALLS (1,000,000) calls on grown and on damaged
 # states, 50,000 certificates in batches, 50,000 calls on queues, 20,000 previews, 20,000 lists of
-# what a commit hangs on and 50,000 calls of guests, compared with the reference word by word, and
-# 3,000 ledgers of weights.
+# what a commit hangs on, 50,000 calls of guests and 500,000 reads of what a bond does to the shares,
+# compared with the reference word by word, and 3,000 ledgers of weights.
 set -eu
 cd "$(dirname "$0")/.."
 top=$(pwd)
@@ -69,7 +69,7 @@ echo "user of edition 2024, archive by pkg-config: as examples/host.expected"
 user bare 2024 examples/bare.rs --no-default-features
 printf '[profile.release]\npanic = "abort"\n' >> "$out/bare/Cargo.toml"
 cargo run -q --release --manifest-path "$out/bare/Cargo.toml"
-echo "user without the standard library: its preview, what its commit hangs on, its chain and its guests are as they must be"
+echo "user without the standard library: its preview, what its commit hangs on, what a bond does, its chain and its guests are as they must be"
 
 # The package in a tree of its own, first with an archive in it, then with an rt that makes one.
 unset PKG_CONFIG_PATH

@@ -69,10 +69,11 @@ pub enum Call {
     Block { number: u32 },
     Preview { list: Vec<u32> },
     Critical { list: Vec<u32> },
+    Effect { member: u32, round: u32, amount: u32, out: Vec<u32> },
 }
 
 impl Call {
-    pub const NAMES: [&'static str; 16] = [
+    pub const NAMES: [&'static str; 17] = [
         "open",
         "propose",
         "endorse",
@@ -89,6 +90,7 @@ impl Call {
         "block",
         "preview",
         "critical",
+        "bond effect",
     ];
 
     pub fn kind(&self) -> usize {
@@ -109,6 +111,7 @@ impl Call {
             Call::Block { .. } => 13,
             Call::Preview { .. } => Call::PREVIEW,
             Call::Critical { .. } => Call::CRITICAL,
+            Call::Effect { .. } => Call::EFFECT,
         }
     }
 
@@ -116,6 +119,7 @@ impl Call {
     pub const CHANGING: usize = 10;
     pub const PREVIEW: usize = 14;
     pub const CRITICAL: usize = 15;
+    pub const EFFECT: usize = 16;
 
     pub fn is_read(&self) -> bool {
         self.kind() >= Call::CHANGING
@@ -140,13 +144,14 @@ impl Call {
             Call::Block { .. } => Request::Block,
             Call::Preview { .. } => Request::Preview,
             Call::Critical { .. } => Request::Critical,
+            Call::Effect { .. } => Request::Effect,
         })
     }
 
     /// The out stretch as it is before the call.
     pub fn out(&self) -> &[u32] {
         match self {
-            Call::Committee { out, .. } | Call::Certificate { out, .. } => out,
+            Call::Committee { out, .. } | Call::Certificate { out, .. } | Call::Effect { out, .. } => out,
             Call::Batch { answers, .. } => answers,
             Call::Preview { list } | Call::Critical { list } => list,
             _ => &[],
@@ -411,6 +416,29 @@ pub fn some_critical(rng: &mut Rng) -> Call {
     Call::Critical { list: noise(rng, words) }
 }
 
+/// An amount of a bond: in range, its edges often; at times out of range.
+pub fn some_amount(rng: &mut Rng) -> u32 {
+    match rng.below(40) {
+        0 => 0,
+        1 => 1_001,
+        2 => rng.word(),
+        3..=6 => 1,
+        7..=10 => 1_000,
+        11..=16 => 16 * rng.between(1, 62),
+        17..=22 => rng.pick(&[2, 3, 5, 7, 999]),
+        _ => rng.between(1, 1_000),
+    }
+}
+
+/// What a bond does to the shares of a round: any member, inside or not, and an out
+/// stretch that is just long enough, mostly; some words more or less, or none.
+pub fn some_effect(rng: &mut Rng, round: u32) -> Call {
+    let member = if rng.chance(20) { rng.pick(&[16, 17, u32::MAX]) } else { rng.between(0, 15) };
+    let amount = some_amount(rng);
+    let out = if rng.chance(10) { Vec::new() } else { out_stretch(rng, EFFECT) };
+    Call::Effect { member, round, amount, out }
+}
+
 /// A guest adds a transaction: one that fits, mostly; any guest, at times those
 /// with much waiting.
 pub fn likely_enqueue(rng: &mut Rng, member: &Member) -> Call {
@@ -482,7 +510,11 @@ pub fn likely_call(rng: &mut Rng, member: &Member, pool: &mut Pool) -> Call {
             Call::Accept { certificate: certificate_words(&likely_certificate(rng, member)) }
         }
         85..=88 => Call::Committee { round: likely_round(rng, member), out: out_stretch(rng, 16) },
-        89..=92 => Call::Share { member: rng.between(0, 15), round: likely_round(rng, member) },
+        89..=91 => Call::Share { member: rng.between(0, 15), round: likely_round(rng, member) },
+        92 => {
+            let round = likely_round(rng, member);
+            some_effect(rng, round)
+        }
         93..=97 => Call::Certificate {
             author: rng.between(0, 15),
             round: rng.between(1, r),
@@ -614,9 +646,13 @@ pub fn wild_draw(rng: &mut Rng, member: &Member) -> Call {
 /// A call that fits little: spoilt arguments, or any words at all.
 pub fn wild_call(rng: &mut Rng, member: &Member, pool: &mut Pool) -> Call {
     let fit = rng.chance(850);
-    match rng.below(17) {
+    match rng.below(18) {
         15 => some_preview(rng, member.settings.ceiling),
         16 => some_critical(rng),
+        17 => {
+            let round = wild_round(rng, member);
+            some_effect(rng, round)
+        }
         12 | 13 => wild_enqueue(rng),
         14 => wild_draw(rng, member),
         0 => Call::Open { own: rng.between(0, 17), sheet: wild_sheet(rng, member), rights: rng.word() },
@@ -677,9 +713,10 @@ fn wild_round(rng: &mut Rng, member: &Member) -> u32 {
 /// For a made-up chain: calls that ask what the blocks have made of the weights.
 pub fn call_on_chain(rng: &mut Rng, member: &Member, pool: &mut Pool) -> Call {
     let round = rng.between(1, member.settings.ceiling);
-    match rng.below(15) {
+    match rng.below(17) {
         11 | 12 => some_preview(rng, member.settings.ceiling),
         13 | 14 => some_critical(rng),
+        15 | 16 => some_effect(rng, round),
         0..=4 => Call::Committee { round, out: out_stretch(rng, 16) },
         5 => Call::Share { member: rng.between(0, 15), round },
         6..=8 => Call::Commit,

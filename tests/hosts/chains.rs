@@ -10,7 +10,8 @@
 //! `lent::preview` and by the header's `forgelilac_preview`, and must be as the reference has it. So is what
 //! a commit hangs on, by `Engine::critical`, `lent::critical` and `forgelilac_critical`, which leave the
 //! table as it was; also where certificates of the present round and the one before are in blocks already,
-//! as no run has them.
+//! as no run has them. So is what a bond does to the shares, by `Engine::bond_effect`, `lent::bond_effect`
+//! and `forgelilac_bond_effect`.
 //! Then a full state of ceiling 1,024, with times.
 
 #![allow(dead_code)]
@@ -25,7 +26,7 @@ mod words;
 use calls::Rng;
 use forgelilac::lent::{self, CertificateRecord, Place};
 use forgelilac::{layout, leader, Block, Certificate, Engine, Entry, Proposal, Refusal, Sheet, Transaction, MEMBERS};
-use forgelilac::{Critical, Right, Rights};
+use forgelilac::{Critical, Effect, Right, Rights};
 use grow::*;
 use nodes::Node;
 use std::ffi::{c_char, CStr};
@@ -49,13 +50,16 @@ mod header {
         pub fn header_waiting(t: *const u32, guest: u32) -> u32;
         pub fn header_preview(s: *const u32, sn: usize, t: *const u32, tn: usize, list: *mut u32, n: usize) -> u64;
         pub fn header_critical(s: *const u32, sn: usize, t: *mut u32, tn: usize, list: *mut u32, n: usize) -> u64;
+        pub fn header_bond_effect(
+            s: *const u32, sn: usize, t: *const u32, tn: usize, member: u32, round: u32, amount: u32, out: *mut u32, n: usize,
+        ) -> u32;
         pub fn header_number(which: u32) -> u32;
     }
 }
 
 /// Lengths and offsets of the package, in the order of header.c.
 #[rustfmt::skip]
-const NUMBERS: [usize; 62] = [
+const NUMBERS: [usize; 67] = [
     layout::FORMAT as usize, MEMBERS, layout::TRANSACTIONS, layout::BLOCKS, layout::STACK_BYTES,
     layout::STATE_WORDS, layout::BODY_WORDS, layout::PROPOSAL_WORDS, layout::CERTIFICATE_WORDS,
     layout::HELD_WORDS, layout::SHEET_WORDS, layout::STATE_OWN, layout::STATE_LOOKBACK,
@@ -71,6 +75,8 @@ const NUMBERS: [usize; 62] = [
     layout::STATE_MARGIN, layout::SHEET_WORDS, layout::PLACE_WORDS, layout::PLACE_ROUND, layout::PLACE_AUTHOR,
     layout::CRITICAL_WORDS, layout::STATE_RIGHTS, Rights::NONE.to_word() as usize, Right::Propose as usize,
     Right::Sign as usize, Right::Drive as usize, Right::Read as usize, Refusal::NoRight as usize,
+    layout::EFFECT_WORDS, layout::EFFECT_BEFORE, layout::EFFECT_AFTER, layout::EFFECT_LARGEST,
+    Refusal::EmptyCommittee as usize,
 ];
 
 fn text(of: *const c_char) -> &'static str {
@@ -87,12 +93,12 @@ fn compare_header() {
             assert_eq!(header::header_number(which) as usize, number, "number {which}");
         }
         assert_eq!(header::header_number(NUMBERS.len() as u32), u32::MAX);
-        for number in (1..=23).chain(25..=29) {
+        for number in (1..=23).chain(25..=30) {
             assert_eq!(text(header::header_refusal_text(number)), Refusal::of(number).unwrap().meaning());
         }
         assert_eq!(text(header::header_refusal_text(0)), "accepted");
         assert_eq!(text(header::header_refusal_text(24)), "record unreadable");
-        for number in [30, u32::MAX] {
+        for number in [31, u32::MAX] {
             assert_eq!(text(header::header_refusal_text(number)), "no refusal of this version");
         }
         let words = std::array::from_fn(|at| 100 + at as u32);
@@ -191,6 +197,8 @@ struct Figures {
     marked: u64,
     without_anchor: u64,
     with_others: u64,
+    /// Reads of what a bond does to the shares that were accepted, and those refused with 30.
+    effects: [u64; 2],
     /// States of before there was a margin, and of before there were rights, that were brought along.
     brought: [u64; 2],
     /// Chains asked for by guests: listed, refused with 1, 26 and 29.
@@ -213,6 +221,7 @@ impl Figures {
         self.compare_waiting(node, &engine);
         self.compare_previews(node, &engine);
         self.compare_criticals(node, engine.clone());
+        self.compare_effects(node, &engine);
         let Some(twin) = &node.twin else {
             self.malformed += 1;
             self.without_blocks += u64::from(engine.blocks() == 0);
@@ -358,6 +367,36 @@ impl Figures {
                 if let (Ok(places), Some(twin)) = (places, &node.twin) {
                     self.count_places(twin, &places);
                 }
+            }
+        }
+    }
+
+    /// What a bond does to the shares, as package, header and reference have it, into a stretch that is
+    /// just long enough, longer, and one word short.
+    fn compare_effects(&mut self, node: &Node, engine: &Engine) {
+        let (state, table) = (&node.state[..], &node.table[..]);
+        let known = node.twin.as_ref().map_or(1, |twin| twin.settings.lookback + twin.last_block_round() + 2);
+        let bonds = [(0, 1, 1), (5, known, 16), (15, known, 1_000), (15, known + 1, 7), (3, 1, 0), (3, 1, 1_001), (3, 0, 0), (16, 0, 0)];
+        for (member, round, amount) in bonds {
+            let answer = node.twin.as_ref().map_or(Err(1), |twin| twin.read_effect(member, round, amount));
+            self.effects[0] += u64::from(answer.is_ok());
+            self.effects[1] += u64::from(answer == Err(30));
+            let shares = |shares: [u64; MEMBERS]| shares.map(|share| share as u32);
+            let effect = answer.map(|told| {
+                Effect { before: shares(told.before), after: shares(told.after), largest: told.largest as u32 }
+            });
+            assert_eq!(lent::bond_effect(state, table, member, round, amount).map_err(Refusal::number), effect);
+            assert_eq!(engine.bond_effect(member, round, amount).map_err(Refusal::number), effect);
+            for words in [layout::EFFECT_WORDS, layout::EFFECT_WORDS + 1, layout::EFFECT_WORDS - 1] {
+                let (mut out, mut expected) = (vec![77; words], vec![77; words]);
+                let answer = if words < layout::EFFECT_WORDS { Err(1) } else { answer };
+                answer.iter().for_each(|told| expected[..layout::EFFECT_WORDS].copy_from_slice(&told.words()));
+                // SAFETY: whole slices.
+                let found = unsafe {
+                    let (s, sn, t, tn) = (state.as_ptr(), state.len(), table.as_ptr(), table.len());
+                    header::header_bond_effect(s, sn, t, tn, member, round, amount, out.as_mut_ptr(), out.len())
+                };
+                assert_eq!((found, out), (answer.err().unwrap_or(0), expected));
             }
         }
     }
@@ -548,6 +587,8 @@ fn main() {
     println!("{} previews accepted, with {} entries: as the reference has them", f.previewed, f.entries);
     println!("{} lists of what a commit hangs on accepted, with {} places, {} of them in a block already; {} without the anchor, {} with more than it and votes: as the reference has them",
              f.criticals, f.places, f.marked, f.without_anchor, f.with_others);
+    println!("{} reads of what a bond does to the shares accepted, {} refused with 30: as the reference has them",
+             f.effects[0], f.effects[1]);
     println!("without their margins all are refused with 1; {} of them brought along, by margin 3", f.brought[0]);
     println!("without their rights all are refused with 1; {} of them brought along, with any rights", f.brought[1]);
     let [listed, malformed, above, without] = f.guests;

@@ -1,5 +1,5 @@
 //! Host functions against the reference:
-//! `differential SEED [CALLS [TOTAL [CERTIFICATES [QUEUED [PREVIEWED [CRITICALS [GUESTED [LEDGERS]]]]]]]]`.
+//! `differential SEED [CALLS [TOTAL [CERTIFICATES [QUEUED [PREVIEWED [CRITICALS [GUESTED [LEDGERS [EFFECTS]]]]]]]]]`.
 //!
 //! Each call is made twice: by the engine on words, and by the reference on
 //! the member that the words before the call stand for. Compared after each
@@ -13,10 +13,11 @@
 //! QUEUED calls on queues (`queues.rs`), then PREVIEWED previews of commit
 //! (`previews.rs`), then CRITICALS lists of what a commit hangs on
 //! (`criticals.rs`), then GUESTED calls of guests (`guests.rs`), then LEDGERS
-//! ledgers of weights after commits (`ledgers.rs`), then calls by chance. Their
-//! stretches start from states grown by runs, from such states with words changed
-//! here and there, and with chains made up on what they hold. Whether a changed
-//! state is well formed is judged by `words.rs`, from the papers.
+//! ledgers of weights after commits (`ledgers.rs`), then EFFECTS reads of what a bond
+//! does to the shares (`effects.rs`), then calls by chance. Their stretches start from
+//! states grown by runs, from such states with words changed here and there, and with
+//! chains made up on what they hold. Whether a changed state is well formed is judged
+//! by `words.rs`, from the papers.
 //!
 //! With `--cfg plain` the engine under test is bench/plain.rs.
 
@@ -24,6 +25,7 @@ mod batches;
 mod calls;
 mod criticals;
 mod edges;
+mod effects;
 #[path = "../../bench/host.rs"]
 #[cfg(not(plain))]
 mod engine;
@@ -136,6 +138,11 @@ fn by_reference(
         Call::Block { number } => member.read_block(*number).map(u64::from),
         Call::Preview { .. } => member.preview(out).map(u64::from),
         Call::Critical { .. } => member.critical(out).map(u64::from),
+        Call::Effect { member: m, round, amount, .. } => {
+            let out = out.get_mut(..EFFECT).ok_or(1u32)?;
+            out.copy_from_slice(&member.read_effect(*m, *round, *amount)?.words());
+            Ok(0)
+        }
     }
 }
 
@@ -164,6 +171,9 @@ fn by_engine(call: &Call, state: &mut [u32], table: &mut [u32], out: &mut [u32])
         Call::Block { number } => engine::block(state, table, *number),
         Call::Preview { .. } => engine::preview(state, table, out),
         Call::Critical { .. } => engine::critical(state, table, out),
+        Call::Effect { member, round, amount, .. } => {
+            plain(engine::bond_effect(state, table, *member, *round, *amount, out))
+        }
     }
 }
 
@@ -193,6 +203,9 @@ fn by_guest(guest: u32, call: &Call, state: &mut [u32], table: &mut [u32], out: 
         Call::Block { number } => engine::guest_block(guest, state, table, *number),
         Call::Preview { .. } => engine::guest_preview(guest, state, table, out),
         Call::Critical { .. } => engine::guest_critical(guest, state, table, out),
+        Call::Effect { member, round, amount, .. } => {
+            plain(engine::guest_bond_effect(guest, state, table, *member, *round, *amount, out))
+        }
     }
 }
 
@@ -260,6 +273,7 @@ struct Figures {
     criticals: criticals::Figures,
     guests: guests::Figures,
     ledgers: ledgers::Figures,
+    effects: effects::Figures,
     margins: margins::Figures,
 }
 
@@ -331,6 +345,10 @@ impl Figures {
                 self.criticals.count(member, &out.as_chunks::<2>().0[..count as usize])
             }
             (Call::Committee { round, .. }, Ok(_)) => self.count_committee(member, *round),
+            (Call::Effect { member: m, round, amount, out: lent }, Ok(_)) => {
+                let committee = member.committee_of(*round).expect("an effect was read");
+                self.effects.count(committee, *m, *amount, &out[..EFFECT], lent.len());
+            }
             (Call::Share { member: m, round }, Ok(share)) => {
                 let committee = member.committee_of(*round).expect("a share was read");
                 self.count_share(committee[*m as usize], total(committee), share);
@@ -367,6 +385,8 @@ impl Figures {
         self.criticals.print(&self.answers[Call::CRITICAL]);
         self.guests.print();
         self.ledgers.print();
+        let (by_host, by_guests) = (&self.answers[Call::EFFECT], &self.guests.answers[Call::EFFECT]);
+        self.effects.print(by_host.iter().chain(by_guests).sum(), by_host[0] + by_guests[0]);
         self.margins.print();
         let [small, middle, large] = self.sizes;
         println!("calls by ceiling: {small} up to 40, {middle} up to 255, {large} up to 1,024");
@@ -376,6 +396,9 @@ impl Figures {
 }
 
 // ------------------------------------------------------------ comparison ---
+
+/// Words on both sides of an out stretch, which are not lent.
+const GUARD: [u32; 4] = [0x6a09_e667, 77, 0, u32::MAX];
 
 pub struct Test {
     seed: u64,
@@ -420,8 +443,9 @@ impl Test {
             43..=256 => 1,
             _ => 2,
         };
-        let mut found_out = call.out().to_vec();
-        let mut expected_out = found_out.clone();
+        let mut expected_out = call.out().to_vec();
+        let mut guarded_out = [&GUARD, call.out(), &GUARD].concat();
+        let lent_out = &mut guarded_out[GUARD.len()..][..expected_out.len()];
         let waited = waiting_of(call, node.twin.as_ref());
         let rights = rights_in(&node.state[..ns]);
         let may = asks(caller, call, &rights).is_ok();
@@ -432,9 +456,11 @@ impl Test {
         self.before_table.clone_from(&node.table);
         let (state, table) = (&mut node.state[..ns], &mut node.table[..nt]);
         let found = match caller {
-            Caller::Host => by_engine(call, state, table, &mut found_out),
-            Caller::Guest(guest) => by_guest(guest, call, state, table, &mut found_out),
+            Caller::Host => by_engine(call, state, table, lent_out),
+            Caller::Guest(guest) => by_guest(guest, call, state, table, lent_out),
         };
+        let found_out = lent_out.to_vec();
+        let guarded = guarded_out.starts_with(&GUARD) && guarded_out.ends_with(&GUARD);
         let answer = by_reference(caller, call, &rights, &mut node.twin, lengths, &mut expected_out);
         let expected = wide(answer);
         let opened = matches!(call, Call::Open { .. }) && answer.is_ok();
@@ -447,6 +473,7 @@ impl Test {
             && *state == node.state
             && *table == node.table
             && found_out == expected_out
+            && guarded
             && !other_rights;
         if !same {
             self.figures.differences += 1;
@@ -464,6 +491,9 @@ impl Test {
             node.table.clone_from(&self.before_table);
         }
         (self.last_answer, self.last_out) = (found, found_out);
+        if found == 0 && !effects::within_bound(call, node.twin.as_ref(), &self.last_out) {
+            self.differs("a bond moves a share further than its bound, or the largest difference is another");
+        }
         self.figures.count(caller, call, expected);
         self.figures.sizes[size] += 1;
         if !may {
@@ -613,6 +643,7 @@ fn main() {
     let criticals = arguments.next().map_or(20_000, |a| a.parse().expect("CRITICALS is a number"));
     let guested = arguments.next().map_or(50_000, |a| a.parse().expect("GUESTED is a number"));
     let ledgers = arguments.next().map_or(3_000, |a| a.parse().expect("LEDGERS is a number"));
+    let effects = arguments.next().map_or(50_000, |a| a.parse().expect("EFFECTS is a number"));
     let mut test = Test {
         seed,
         rng: Rng::of(seed),
@@ -651,6 +682,10 @@ fn main() {
     println!("{guested} calls of guests and more, the host's own beside them: {calls_made} calls");
     test.ledgers(ledgers);
     println!("{ledgers} ledgers of weights and more");
+    let before = test.figures.calls;
+    let accepted = test.effects(effects);
+    let calls_made = test.figures.calls - before;
+    println!("{effects} reads of what a bond does to the shares and more, {accepted} of them accepted: {calls_made} calls");
     let enough = test.figures.calls + calls;
     while test.figures.calls < enough {
         test.stretch();

@@ -30,6 +30,7 @@ fn each_call(member: &Member) -> Vec<Call> {
         Call::Block { number: 1 },
         Call::Preview { list: vec![7; preview_words(member.settings.ceiling)] },
         Call::Critical { list: vec![7; CRITICAL_WORDS + 1] },
+        Call::Effect { member: member.own, round, amount: 16, out: vec![7; EFFECT + 1] },
         Call::Advance,
     ]
 }
@@ -121,7 +122,7 @@ pub fn hold(node: &mut Node, round: u32, authors: Set) {
 
 /// Makes block 1, of round 2, of one certificate of round 1 with this
 /// transaction: it counts from round 4 on.
-fn put_in_block(node: &mut Node, transaction: [u32; 3]) {
+pub fn put_in_block(node: &mut Node, transaction: [u32; 3]) {
     hold(node, 1, 1);
     (node.state[22], node.table[ROW + 2]) = (1, 2);
     let record = &mut node.table[ROW + 16..][..16];
@@ -358,6 +359,7 @@ impl Test {
         self.queue_edges();
         self.preview_edges();
         self.critical_edges();
+        self.effect_edges();
         self.guest_edges();
     }
 }

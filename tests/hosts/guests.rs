@@ -1,4 +1,4 @@
-//! Guests' calls: each of the fifteen by hand, with every right alone and every
+//! Guests' calls: each of the sixteen by hand, with every right alone and every
 //! right but one, by callers below and above 7; on states and stretches of all
 //! sorts 26 before 29 before 1. Then by chance: every call on grown, damaged,
 //! malformed and short states. With the right it must be the host's own call on a
@@ -87,6 +87,7 @@ fn each_accepted() -> Vec<(u32, Node, Call, u64)> {
         (3, of_four(3, 3), Call::Block { number: 1 }, 2),
         (3, of_four(3, 0), Call::Preview { list: vec![7; preview_words(5) + 1] }, 5),
         (3, of_four(3, 0), Call::Critical { list: vec![7; CRITICAL_WORDS + 1] }, 1),
+        (3, of_four(1, 0), Call::Effect { member: 5, round: 1, amount: 2, out: vec![7; EFFECT + 1] }, 0),
     ]
 }
 
@@ -103,6 +104,7 @@ fn unreadable(call: &Call) -> Option<Call> {
         Call::Accept { certificate } => certificate[16] = 65_536,
         Call::Committee { out, .. } => out.truncate(15),
         Call::Certificate { out, .. } => out.truncate(17),
+        Call::Effect { out, .. } => out.truncate(EFFECT - 1),
         _ => return None,
     }
     Some(call)
@@ -303,7 +305,11 @@ fn call_of(rng: &mut Rng, member: &Member, kind: usize) -> Call {
         12 => Call::Certificate { author: rng.between(0, 15), round: rng.between(1, round), out: out_stretch(rng, 18) },
         13 => Call::Block { number: rng.between(0, member.chain.len() as u32 + 1) },
         14 => some_preview(rng, member.settings.ceiling),
-        _ => some_critical(rng),
+        15 => some_critical(rng),
+        _ => {
+            let round = likely_round(rng, member);
+            some_effect(rng, round)
+        }
     };
     if rng.chance(150) { spoilt(rng, call) } else { call }
 }
@@ -321,6 +327,7 @@ fn spoilt(rng: &mut Rng, call: Call) -> Call {
         Call::Share { .. } => Call::Share { member: rng.word(), round: rng.word() },
         Call::Certificate { out, .. } => Call::Certificate { author: rng.word(), round: rng.word(), out },
         Call::Block { .. } => Call::Block { number: rng.word() },
+        Call::Effect { out, .. } => Call::Effect { member: rng.word(), round: rng.word(), amount: rng.word(), out },
         call => call,
     }
 }

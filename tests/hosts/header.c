@@ -17,6 +17,8 @@ uint64_t header_preview(const uint32_t *state, size_t state_words, const uint32_
                         uint32_t *list, size_t list_words);
 uint64_t header_critical(const uint32_t *state, size_t state_words, uint32_t *table, size_t table_words,
                          uint32_t *list, size_t list_words);
+uint32_t header_bond_effect(const uint32_t *state, size_t state_words, const uint32_t *table, size_t table_words,
+                            uint32_t member, uint32_t round, uint32_t amount, uint32_t *out, size_t out_words);
 uint32_t header_number(uint32_t which);
 
 uint64_t header_chain(const uint32_t *state, size_t state_words, const uint32_t *table, size_t table_words,
@@ -63,6 +65,11 @@ uint64_t header_critical(const uint32_t *state, size_t state_words, uint32_t *ta
     return forgelilac_critical(state, state_words, table, table_words, list, list_words);
 }
 
+uint32_t header_bond_effect(const uint32_t *state, size_t state_words, const uint32_t *table, size_t table_words,
+                            uint32_t member, uint32_t round, uint32_t amount, uint32_t *out, size_t out_words) {
+    return forgelilac_bond_effect(state, state_words, table, table_words, member, round, amount, out, out_words);
+}
+
 /* Lengths and offsets, in the order of NUMBERS in chains.rs. */
 uint32_t header_number(uint32_t which) {
     static const uint32_t numbers[] = {
@@ -82,6 +89,8 @@ uint32_t header_number(uint32_t which) {
         2 * FORGELILAC_MARGIN + 2, FORGELILAC_PLACE_WORDS, FORGELILAC_PLACE_ROUND, FORGELILAC_PLACE_AUTHOR,
         FORGELILAC_CRITICAL_WORDS, FORGELILAC_STATE_RIGHTS, FORGELILAC_NO_RIGHTS, FORGELILAC_RIGHT_PROPOSE,
         FORGELILAC_RIGHT_SIGN, FORGELILAC_RIGHT_DRIVE, FORGELILAC_RIGHT_READ, FORGELILAC_NO_RIGHT,
+        FORGELILAC_EFFECT_WORDS, FORGELILAC_EFFECT_BEFORE, FORGELILAC_EFFECT_AFTER, FORGELILAC_EFFECT_LARGEST,
+        FORGELILAC_EMPTY_COMMITTEE,
     };
     return which < sizeof numbers / sizeof numbers[0] ? numbers[which] : UINT32_MAX;
 }

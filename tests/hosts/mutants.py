@@ -59,6 +59,37 @@ ASKED = "        missed |= u32::from(check_commit(state, table).is_err()) << a;\
 SET_AGAIN = "        table[at] = held;\n    }\n    missed\n"
 
 
+# Of what a bond does to the shares: the out stretch and the state, the checks in their order, the bond, the
+# words, a share.
+STRETCH = "    let out: &mut [u32; EFFECT] = out.first_chunk_mut().ok_or(1u32)?;\n    let mut room = Links::new();\n"
+OF_STATE = "    let s = survey(state, table, Weights::Of(round), &mut room)?;\n"
+OF_MEMBER = "    if member > 15 {\n        return Err(4);\n    }\n"
+OF_ROUND = "    if !s.in_range(round) {\n        return Err(5);\n    }\n"
+OF_AMOUNT = "    if amount.wrapping_sub(1) >= 1_000 {\n        return Err(6);\n    }\n"
+OF_KNOWN = "    let mut committee = s.committee(round)?;\n"
+OF_NOBODY = "    if committee.total() == 0 {\n        return Err(30);\n    }\n"
+BEFORE = "    let before = committee.shares();\n"
+BONDED = "    committee.weights[member as usize] += amount;\n"
+AFTER = "    let after = committee.shares();\n"
+MOVED = "before[m].abs_diff(after[m])"
+FOLDED = "    out[32] = moved.fold(0, u32::max);\n"
+SHARES = "    out[..16].copy_from_slice(&before);\n    out[16..32].copy_from_slice(&after);\n"
+EFFECT = (STRETCH + OF_STATE + OF_MEMBER + OF_ROUND + OF_AMOUNT + OF_KNOWN + OF_NOBODY + BEFORE + BONDED + AFTER +
+          "    let moved = (0..16).map(|m| " + MOVED + ");\n" + FOLDED + SHARES)
+HALVES = "let halves = 2_000 * u64::from(weight) + n;"
+UPWARD = "upward - u64::from(rest == 0 && upward % 2 == 1)"
+OUTSIDE = "    if committee.weights[member as usize] == 0 {\n        return Err(9);\n    }\n"
+
+
+def effect(*pairs):
+    """The read of what a bond does with parts of it changed."""
+    changed = EFFECT
+    for old, new in pairs:
+        assert EFFECT.count(old) == 1, old
+        changed = changed.replace(old, new)
+    return EFFECT, changed
+
+
 # Of guests: the two checks of a caller, and where the rights stand.
 ABOVE = "        if caller >= GUESTS {\n            return Err(26);\n        }\n"
 RIGHTS = "state.get(RIGHTS).copied().unwrap_or(0)"
@@ -83,6 +114,7 @@ NEEDS = {
     "block": ("READ", "state, table, number"),
     "preview": ("READ", "state, table, list"),
     "critical": ("READ", "state, table, list"),
+    "bond_effect": ("READ", "state, table, member, round, amount, out"),
 }
 
 
@@ -244,6 +276,98 @@ MUTANTS = [
     ("    Ok((share + u64::from(up)) as u32)\n", "    if share + u64::from(up) == 0 {\n        return Err(9);\n    }\n    Ok((share + u64::from(up)) as u32)\n"),
     ("    if weight == 0 {\n        return Err(9);\n    }\n", "    if weight == 0 {\n        return Ok(0);\n    }\n"),
     ("    Ok((share + u64::from(up)) as u32)\n", "    Ok(999.min(share + u64::from(up)) as u32)\n"),
+    # what a bond does to the shares: before and after exchanged; the total not raised, no more than an open's; after for both
+    effect((SHARES, "    out[..16].copy_from_slice(&after);\n    out[16..32].copy_from_slice(&before);\n")),
+    effect((AFTER, "    let n = u64::from(committee.total() - amount);\n    let after = committee.weights.map(|weight| ((2_000 * u64::from(weight) + n) / (2 * n)) as u32);\n")),
+    ("        let n = u64::from(self.total());\n", "        let n = u64::from(self.total().min(16_000_000));\n"),
+    effect((BEFORE, "    let before = { let mut with = committee; with.weights[member as usize] += amount; with.shares() };\n")),
+    # no bond, twice, by another, in the place of the weight, of all; who joins stays outside, who is inside gets no more
+    effect((BONDED, "")),
+    effect((BONDED, BONDED + BONDED)),
+    effect((BONDED, BONDED.replace("member as usize", "member as usize ^ 1"))),
+    effect((BONDED, BONDED.replace("+=", "="))),
+    effect((BONDED, "    committee.weights.iter_mut().for_each(|weight| *weight += amount);\n")),
+    effect((BONDED, "    if committee.weights[member as usize] > 0 {\n    " + BONDED + "    }\n")),
+    effect((BONDED, "    if committee.weights[member as usize] == 0 {\n    " + BONDED + "    }\n")),
+    effect((BONDED, BONDED.replace("+= amount", "+= amount.min(999)"))),
+    effect((BONDED, BONDED.replace("+= amount", "+= amount & 0xff"))),
+    # the largest: of the bonded member alone, of the others, rises alone, falls alone, the smallest, the sum, one left out
+    effect((FOLDED, "    out[32] = moved.clone().nth(member as usize).unwrap_or(0);\n")),
+    effect((FOLDED, "    out[32] = moved.enumerate().filter(|(m, _)| *m != member as usize).fold(0, |most, (_, one)| most.max(one));\n")),
+    effect((MOVED, "after[m].saturating_sub(before[m])")),
+    effect((MOVED, "before[m].saturating_sub(after[m])")),
+    effect((FOLDED, FOLDED.replace("fold(0, u32::max)", "fold(u32::MAX, u32::min)"))),
+    effect((FOLDED, FOLDED.replace("fold(0, u32::max)", "sum()"))),
+    effect((FOLDED, FOLDED.replace("moved.", "moved.take(15)."))),
+    effect((FOLDED, FOLDED.replace("moved.", "moved.skip(1)."))),
+    effect((FOLDED, FOLDED.replace("fold(0, u32::max)", "fold(1, u32::max)"))),
+    effect((FOLDED, "    out[32] = before.into_iter().max().unwrap_or(0).abs_diff(after.into_iter().max().unwrap_or(0));\n")),
+    # halves upward, downward, to the odd one; cut, any rest upward; one beside a half; 999 at most; 32 bits
+    (UPWARD, "upward"),
+    (UPWARD, "upward - u64::from(rest == 0)"),
+    (UPWARD, "upward - u64::from(rest == 0 && upward % 2 == 0)"),
+    (HALVES, HALVES.replace("+ n", "+ 0")),
+    (HALVES, HALVES.replace("+ n", "+ 2 * n - 1")),
+    (HALVES, HALVES.replace("+ n", "+ n - 1")),
+    (HALVES, HALVES.replace("+ n", "+ n + 1")),
+    (UPWARD, "(" + UPWARD + ").min(999)"),
+    (HALVES, "let halves = (2_000 * u64::from(weight) & 0xffff_ffff) + n;"),
+    # halves of the bonded member another way; a share of 0 read as 1
+    effect((AFTER, AFTER.replace("let after", "let mut after") + "    let up = 2_000 * u64::from(committee.weights[member as usize]) % (2 * u64::from(committee.total())) == "
+            "u64::from(committee.total());\n    after[member as usize] |= u32::from(up);\n")),
+    effect((BEFORE, "    let before: [u32; 16] = std::array::from_fn(|m| committee.shares()[m].max((committee.weights[m] > 0) as u32));\n")),
+    # amounts of 0 and 1,001, any, not 1, not 1,000
+    effect((OF_AMOUNT, OF_AMOUNT.replace("amount.wrapping_sub(1) >= 1_000", "amount > 1_000"))),
+    effect((OF_AMOUNT, OF_AMOUNT.replace(">= 1_000", "> 1_000"))),
+    effect((OF_AMOUNT, OF_AMOUNT.replace(">= 1_000", ">= 1 << 20"))),
+    effect((OF_AMOUNT, OF_AMOUNT.replace("sub(1)", "sub(2)"))),
+    effect((OF_AMOUNT, OF_AMOUNT.replace(">= 1_000", ">= 999"))),
+    # members and rounds beside their ranges
+    effect((OF_MEMBER, OF_MEMBER.replace("> 15", "> 14"))),
+    effect((OF_MEMBER, "    let member = if member == 16 { 15 } else { member };\n" + OF_MEMBER)),
+    effect((OF_ROUND, OF_ROUND.replace("(round)", "(round.max(1))"))),
+    effect((OF_ROUND, OF_ROUND.replace("(round)", "(round.wrapping_add(1))"))),
+    # order: 4 after 5, 6 before 5, before 4, before 1; 8 before 6; 30 before 6, before 8; the stretch last, and not asked
+    effect((OF_MEMBER + OF_ROUND, OF_ROUND + OF_MEMBER)),
+    effect((OF_ROUND + OF_AMOUNT, OF_AMOUNT + OF_ROUND)),
+    effect((OF_MEMBER + OF_ROUND + OF_AMOUNT, OF_AMOUNT + OF_MEMBER + OF_ROUND)),
+    effect((OF_STATE, OF_AMOUNT + OF_STATE)),
+    effect((OF_STATE, OF_MEMBER + OF_STATE)),
+    effect((OF_AMOUNT + OF_KNOWN, OF_KNOWN + OF_AMOUNT)),
+    effect((OF_AMOUNT + OF_KNOWN + OF_NOBODY, OF_KNOWN + OF_NOBODY + OF_AMOUNT)),
+    effect((OF_KNOWN, "    if s.last > 0 && Walk::new(&s).committee(s.last + 1 + s.lookback()).total() == 0 && round > s.last + 1 + s.lookback() {\n"
+            "        return Err(30);\n    }\n" + OF_KNOWN)),
+    effect((STRETCH, "    let short = out.len() < EFFECT;\n    let mut spare = [0; EFFECT];\n    let out = out.first_chunk_mut().unwrap_or(&mut spare);\n"
+            "    let mut room = Links::new();\n"), (OF_NOBODY, OF_NOBODY + "    if short {\n        return Err(1);\n    }\n")),
+    effect((STRETCH, "    let mut spare = [0; EFFECT];\n    let out = out.first_chunk_mut().unwrap_or(&mut spare);\n    let mut room = Links::new();\n")),
+    # 25 for a stretch too short; one of 34 asked for
+    effect((STRETCH, STRETCH.replace("ok_or(1u32)", "ok_or(25u32)"))),
+    effect((STRETCH, "    if out.len() < EFFECT + 1 {\n        return Err(1);\n    }\n" + STRETCH)),
+    # an empty committee let in, refused with 9 or 8; a non-member refused; a sole member refused
+    effect((OF_NOBODY, "    if committee.total() == 0 {\n        return Ok(());\n    }\n")),
+    effect((OF_NOBODY, OF_NOBODY.replace("30", "9"))),
+    effect((OF_NOBODY, OF_NOBODY.replace("30", "8"))),
+    effect((OF_NOBODY, OUTSIDE + OF_NOBODY)),
+    effect((OF_NOBODY, OF_NOBODY + OUTSIDE)),
+    effect((OF_NOBODY, OF_NOBODY.replace("== 0", "== committee.weights[member as usize]"))),
+    # another round's committee: the next, the one before, the present, the starting one
+    effect((OF_KNOWN, OF_KNOWN.replace("(round)", "(round + 1)"))),
+    effect((OF_KNOWN, "    s.check_known(round)?;\n" + OF_KNOWN.replace("(round)", "(round - 1)"))),
+    effect((OF_KNOWN, "    s.check_known(round)?;\n" + OF_KNOWN.replace("(round)", "(s.round().min(round))"))),
+    effect((OF_KNOWN, OF_KNOWN + "    committee = s.starting();\n")),
+    # words: the largest first, members from behind, those beyond cleared, written where refused, one left as it was
+    effect((SHARES, SHARES + "    out.rotate_right(1);\n")),
+    effect((SHARES, SHARES + "    out[..16].reverse();\n")),
+    effect((STRETCH, "    out.iter_mut().skip(EFFECT).for_each(|word| *word = 0);\n" + STRETCH)),
+    effect((STRETCH, STRETCH + "    out.fill(0);\n")),
+    effect((OF_NOBODY, OF_NOBODY.replace("return", "out[32] = 0;\n        return"))),
+    effect((SHARES, SHARES.replace("out[16..32].copy_from_slice(&after)", "out[16..31].copy_from_slice(&after[..15])"))),
+    # by the guest's rules: the stretch before the right, written where refused
+    asked_after("bond_effect", "if out.len() < 33 { Err(1) } else { Ok(()) }"),
+    asked_after("bond_effect", "if amount == 0 { Err(6) } else { Ok(()) }"),
+    asked_after("bond_effect", WELL_FORMED),
+    refused_after("bond_effect", "out.iter_mut().take(33).for_each(|word| *word = 0)"),
+    (check_of("bond_effect"), check_of("bond_effect").replace("amount, out", "amount.min(1_000), out")),
     # calls
     ("body[1] <= allowance &&", "body[1] <= 4 &&"),
     ("if (body[0] == 0) != (round == 1) {", "if body[0] == 0 && round > 1 {"),

@@ -4,14 +4,15 @@
 //! read must be the reference's listing, to the byte. Of two proposes one goes by the queues: its
 //! transactions are added, and it becomes a draw. After each record a preview says what a commit
 //! would do, and what a commit then adds must be what the preview before it has said; and a list says
-//! what that commit hangs on. Four guests have one right each. Two records of three are answered through
+//! what that commit hangs on. Among the reads is what bonds do to the shares, by the host and by the guest
+//! that may read. Four guests have one right each. Two records of three are answered through
 //! the guest that may; before that all others are refused, with 29 or 26, and nothing changes.
 
 #[path = "../../reference/runner_ref.rs"]
 mod runner_ref;
 
 use forgelilac::layout::{preview_words, CRITICAL_WORDS};
-use forgelilac::{table_words, Certificate, Critical, Engine, Entry, Held, Proposal, Refusal, Right, Rights};
+use forgelilac::{table_words, Certificate, Critical, Effect, Engine, Entry, Held, Proposal, Refusal, Right, Rights};
 use forgelilac::{Sheet, Transaction, MEMBERS, STATE_WORDS};
 use runner_ref::reference::{self, Setting};
 use runner_ref::{for_each_record, read_record, Outcome, Record, Runner, SERVES};
@@ -107,6 +108,13 @@ fn critical(member: &reference::Member) -> reference::Answer<Vec<Critical>> {
     Ok(list.chunks(2).take(count as usize).map(place).collect())
 }
 
+/// What a bond does to the shares, as the reference has it.
+fn effect(member: &reference::Member, of: u32, round: u32, amount: u32) -> reference::Answer<Effect> {
+    let reference::Effect { before, after, largest } = member.read_effect(of, round, amount)?;
+    let (before, after) = (before.map(|share| share as u32), after.map(|share| share as u32));
+    Ok(Effect { before, after, largest: largest as u32 })
+}
+
 /// The certificates of the blocks above a number, in their order.
 fn blocks_above(engine: &Engine, number: u32) -> Result<Vec<Entry>, Refusal> {
     let of = |(block, one): (u32, forgelilac::Block)| {
@@ -133,6 +141,8 @@ struct Replay {
     /// Lists of what a commit hangs on that were accepted, and their places.
     criticals: u64,
     places: u64,
+    /// Reads of what a bond does to the shares that were accepted.
+    effects: u64,
     /// Calls made through the guest that may, and through others.
     guests: u64,
     refused: u64,
@@ -155,6 +165,7 @@ impl Replay {
             foretold: 0,
             criticals: 0,
             places: 0,
+            effects: 0,
             guests: 0,
             refused: 0,
         }
@@ -298,6 +309,20 @@ impl Replay {
         self.reads += 1;
     }
 
+    /// Bonds of one member in one round, by amounts in and out of range; one of them by the guest that
+    /// may read.
+    fn compare_effects(&mut self, member: &reference::Member, of: u32, round: u32) {
+        for amount in [0, 1 + (7 * of + round) % 1_000, 1_000, 1_001] {
+            let expected = effect(member, of, round, amount);
+            self.effects += u64::from(expected.is_ok());
+            let found = match amount {
+                1_000 => self.engine.reader(3).bond_effect(of, round, amount),
+                _ => self.engine.bond_effect(of, round, amount),
+            };
+            self.same(found, expected);
+        }
+    }
+
     fn read_all(&mut self) {
         let Some(member) = self.runner.member.clone() else { return };
         for round in 0..=member.settings().ceiling + 1 {
@@ -312,6 +337,7 @@ impl Replay {
                     block: Some(block).filter(|&number| number != 0),
                 });
                 self.same(self.engine.certificate(author, round), held);
+                self.compare_effects(&member, author, round);
             }
         }
         for number in 0..=member.chain().len() as u32 + 1 {
@@ -331,6 +357,7 @@ impl Replay {
 fn main() -> std::io::Result<()> {
     let (mut streams, mut records, mut reads, mut blocks, mut turned, mut added, mut drawn) = (0, 0, 0, 0, 0, 0, 0);
     let (mut previews, mut foretold, mut criticals, mut places, mut guests, mut refused) = (0, 0, 0, 0, 0, 0);
+    let mut effects = 0;
     for path in std::env::args().skip(1) {
         let mut replay = Replay::new();
         let mut input = std::io::BufReader::new(std::fs::File::open(path)?);
@@ -352,6 +379,7 @@ fn main() -> std::io::Result<()> {
         foretold += replay.foretold;
         criticals += replay.criticals;
         places += replay.places;
+        effects += replay.effects;
         guests += replay.guests;
         refused += replay.refused;
     }
@@ -360,6 +388,7 @@ fn main() -> std::io::Result<()> {
     println!("{added} transactions added to queues, {drawn} draws accepted");
     println!("{previews} previews: the same as the reference; {foretold} commits did what the preview had said");
     println!("{criticals} lists of what a commit hangs on, with {places} places: the same as the reference");
+    println!("{effects} reads of what a bond does to the shares accepted: the same as the reference");
     println!("{guests} of the calls through a guest that may; {refused} through others: refused with 26 or 29, and nothing changed");
     Ok(())
 }

@@ -8,10 +8,10 @@ use crate::words::*;
 use crate::{Node, Test};
 
 /// The largest starting weight, and the largest bond.
-const MOST: u64 = 1_000_000;
+pub const MOST: u64 = 1_000_000;
 const BOND: u64 = 1_000;
 
-const EVERYONE: Set = 0xffff;
+pub const EVERYONE: Set = 0xffff;
 
 /// A committee of one or two; where they stand changes with their weights.
 pub fn two(w: u64, other: u64) -> Committee {
@@ -32,7 +32,7 @@ fn gcd(a: u64, b: u64) -> u64 {
 
 /// A weight and a total: an exact half (odd / 2,000 in lower terms, times t),
 /// one beside a half, or any.
-fn telling(rng: &mut Rng, least: u64, most: u64) -> (u64, u64) {
+pub fn telling(rng: &mut Rng, least: u64, most: u64) -> (u64, u64) {
     let odd = 2 * rng.below(1_000) + 1;
     let common = gcd(odd, 2_000);
     let (w, n) = (odd / common, 2_000 / common);
@@ -52,7 +52,7 @@ fn telling(rng: &mut Rng, least: u64, most: u64) -> (u64, u64) {
 }
 
 /// Spreads `rest` over some members, at most `most` each; some get nothing.
-fn spread(rng: &mut Rng, weights: &mut Committee, others: Set, mut rest: u64, most: u64) {
+pub fn spread(rng: &mut Rng, weights: &mut Committee, others: Set, mut rest: u64, most: u64) {
     let mut left: Vec<u32> = members_of(others).collect();
     while !left.is_empty() {
         let m = left.swap_remove(rng.below(left.len() as u64) as usize);
@@ -105,6 +105,18 @@ fn bonded(rng: &mut Rng, weights: &Committee, ceiling: u32) -> Option<Member> {
     let queues = Queues::default();
     let rights = any_rights(rng);
     Some(Member { own: 0, settings, round: 3, proposal: None, held, endorsed, chain, queues, served: None, rights })
+}
+
+/// The words of such a member.
+pub fn bonded_node(rng: &mut Rng, weights: &Committee, ceiling: u32) -> Option<Node> {
+    let member = bonded(rng, weights, ceiling)?;
+    let mut table = vec![0; table_words(ceiling)];
+    write_table(&member, &mut table);
+    let mut node = Node { state: state_words(&member).to_vec(), table, twin: None };
+    node.read_again();
+    let twin = node.twin.as_ref().expect("a table of bonds is well formed");
+    assert_eq!(twin.committee_of(4), Some(weights));
+    Some(node)
 }
 
 impl Test {
@@ -162,13 +174,7 @@ impl Test {
 
     /// The shares of all in round 4 of a bonded member; false where there is none.
     fn read_bonded(&mut self, weights: &Committee, ceiling: u32) -> bool {
-        let Some(member) = bonded(&mut self.rng, weights, ceiling) else { return false };
-        let mut table = vec![0; table_words(ceiling)];
-        write_table(&member, &mut table);
-        let mut node = Node { state: state_words(&member).to_vec(), table, twin: None };
-        node.read_again();
-        let twin = node.twin.as_ref().expect("a table of bonds is well formed");
-        assert_eq!(twin.committee_of(4), Some(weights));
+        let Some(mut node) = bonded_node(&mut self.rng, weights, ceiling) else { return false };
         let lengths = (node.state.len(), node.table.len());
         for member in 0..MEMBERS {
             self.call(&mut node, &Call::Share { member, round: 4 }, lengths);

@@ -55,6 +55,9 @@ fn make(call: &Call, node: &mut Node, answers: &mut [u32]) -> Result<u32, Refusa
         Call::Block { number } => lent::block(state, table, *number),
         Call::Preview { .. } => lent::preview(state, table, answers),
         Call::Critical { .. } => lent::critical(state, table, answers),
+        Call::Effect { member, round, amount, .. } => {
+            lent::bond_effect(state, table, *member, *round, *amount).map(|_| 0)
+        }
     }
 }
 
@@ -89,6 +92,9 @@ fn make_by_guest(guest: u32, call: &Call, node: &mut Node, answers: &mut [u32]) 
         Call::Block { number } => lent::guest_block(guest, state, table, *number),
         Call::Preview { .. } => lent::guest_preview(guest, state, table, answers),
         Call::Critical { .. } => lent::guest_critical(guest, state, table, answers),
+        Call::Effect { member, round, amount, .. } => {
+            lent::guest_bond_effect(guest, state, table, *member, *round, *amount).map(|_| 0)
+        }
     }
 }
 
@@ -234,6 +240,8 @@ struct Figures {
     /// Previews, and those that were accepted; lists of what a commit hangs on.
     previews: [u64; 2],
     criticals: [u64; 2],
+    /// Reads of what a bond does to the shares, and those that were accepted.
+    effects: [u64; 2],
     /// Calls of guests, those that were accepted, and those that were refused with 26 and 29.
     guests: [u64; 4],
 }
@@ -271,6 +279,10 @@ impl Figures {
             match call {
                 Call::Preview { list } => self.previews = listed(self.previews, 3, list, &answers, answer),
                 Call::Critical { list } => self.criticals = listed(self.criticals, 2, list, &answers, answer),
+                Call::Effect { .. } => {
+                    let [made, accepted] = self.effects;
+                    self.effects = [made + 1, accepted + u64::from(answer.is_ok())];
+                }
                 _ => {}
             }
             return answer;
@@ -350,6 +362,8 @@ impl Figures {
         let ([previews, previewed], [criticals, told]) = (self.previews, self.criticals);
         println!("{previews} previews, {previewed} accepted: the rest of the list kept");
         println!("{criticals} lists of what a commit hangs on, {told} accepted: the rest of the list kept");
+        let [effects, read] = self.effects;
+        println!("{effects} reads of what a bond does to the shares, {read} accepted");
         let [guests, accepted, above, without] = self.guests;
         println!("{guests} calls of guests, {accepted} accepted; {above} refused with 26, {without} with 29: no word changed");
         println!("{} calls: no other word changed, the rights by open alone", self.calls);

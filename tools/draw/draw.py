@@ -1,4 +1,5 @@
 """draw.py [--preview] STREAM ANSWERS > out.svg: a member's certificates and chain as a picture.
+draw.py --effect FILE > out.svg: how far a bond moves the shares, as bars.
 
 STREAM is what a runner was given, ANSWERS what it said; the stream ends in `chain`. Rounds go
 across, members down, the chain stands beneath. What is held, which blocks there are and what is
@@ -7,63 +8,32 @@ A run of up to 14 rounds is as wide as a page, so that its type is read at its o
 --preview: the stream is a copy that goes on with `commit` and `chain`. What that commit adds is
 drawn dashed and light, as blocks that are not made yet, and what it hangs on stands in a frame; or
 the number that refuses it is told.
+--effect: FILE is three lines, the 33 words of a bond's effect: `before` and sixteen shares, `after`
+and sixteen, `largest` and the largest difference.
 """
 import sys
-from html import escape
 
 sys.dont_write_bytecode = True      # leave no folder beside the sources
 
+from effect import EffectPicture, read_effect
 from outline import parts_of, path_of
 from run import read_run
+from shapes import (COLOURS, FAINT, INK, LEGEND_COLUMN, LEGEND_ROW, PAGE_STYLE, PAPER, QUIET, RIGHT, STYLE, WIDTH,
+                    box, circle, line, svg_of, text)
 from telling import count, of_preview, order_of, tell, transactions_of
 
-WIDTH = 830                         # at least; a page's
 CELL = (51, 86), 72                 # a round across, from and to; a member down
-LEFT, TOP, RIGHT = 100, 128, 16     # around the grid
+LEFT, TOP = 100, 128                # around the grid
 DOT, RING, FRAME, INSET, RADIUS = 8.5, 13.5, 18, 4, 13
 TAB = 17, 15                        # a block's number on its area
 CHAIN_GAP, CHAIN_LINE = 30, 18      # grid to chain, one line of text
 CHAIN_LINES = 6                     # lines of certificates or transactions of a block
 COLUMNS = 24, 82, 136, 220, 548     # block, round, commit, certificates, transactions
 CODE_WIDE = 7.6                     # a letter of code, in pixels
-LEGEND_ROW, LEGEND_COLUMN = 34, 268
-INK, QUIET, FAINT, PAPER = "#2b2a33", "#6d6a78", "#a29eae", "#fdfcfb"
 LINK = "#948fa3"
 LIGHT, DASHED = ' fill-opacity="0.4"', ' stroke-dasharray="5 3.5"'     # what is not made yet
-# Of each block: area, ink.
-COLOURS = [("#e9e0f7", "#6a46a8"), ("#d8f0ea", "#1b7566"), ("#fcebcf", "#a5670d"),
-           ("#dce9fb", "#2c5fa8"), ("#fbdfe5", "#ab3757"), ("#e6f2d5", "#527b1d")]
-STYLE = """
-text { font-family: "Helvetica Neue", Arial, "DejaVu Sans", sans-serif; fill: %s; }
-.title { font-size: 20px; font-weight: 600; }
-.quiet { font-size: 13px; fill: %s; }
-.label { font-size: 14px; }
-.strong { font-size: 14px; font-weight: 600; }
-.small { font-size: 11.5px; }
-.code { font-family: "DejaVu Sans Mono", Menlo, Consolas, monospace; font-size: 11.5px; }
-""" % (INK, QUIET)                  # the map's too
-RUN_STYLE = STYLE.replace("11.5px", "12.5px") + """.tab { font-size: 12.5px; font-weight: 700; fill: %s; }
+RUN_STYLE = PAGE_STYLE + """.tab { font-size: 12.5px; font-weight: 700; fill: %s; }
 """ % PAPER
-
-
-def text(x, y, words, kind="label", anchor="start", fill=None):
-    colour = f' style="fill:{fill}"' if fill else ""
-    return f'<text x="{x:g}" y="{y:g}" class="{kind}" text-anchor="{anchor}"{colour}>{escape(words)}</text>'
-
-
-def line(start, end, colour, width, more=""):
-    return (f'<line x1="{start[0]:g}" y1="{start[1]:g}" x2="{end[0]:g}" y2="{end[1]:g}" '
-            f'stroke="{colour}" stroke-width="{width}" stroke-linecap="round"{more}/>')
-
-
-def circle(at, radius, fill, stroke="none", width=0.0, more=""):
-    return (f'<circle cx="{at[0]:g}" cy="{at[1]:g}" r="{radius}" fill="{fill}" '
-            f'stroke="{stroke}" stroke-width="{width}"{more}/>')
-
-
-def box(x, y, width, height, fill, stroke, radius=10, more=""):
-    return (f'<rect x="{x:g}" y="{y:g}" width="{width:g}" height="{height:g}" rx="{radius}" '
-            f'fill="{fill}" stroke="{stroke}" stroke-width="1.4"{more}/>')
 
 
 # ---- the signs, as they stand in the grid and in the legend
@@ -277,15 +247,10 @@ class Picture:
 
     def svg(self):
         height = self.bottom + self.chain_height() + (self.legend_rows() + 1) * LEGEND_ROW + 14
-        parts = [f'<svg xmlns="http://www.w3.org/2000/svg" width="{self.width}" height="{height}" '
-                 f'viewBox="0 0 {self.width} {height}" role="img" aria-labelledby="title desc">',
-                 f'<title id="title">{escape(self.title())}</title>', f'<desc id="desc">{escape(tell(self.run))}</desc>',
-                 f"<style>{RUN_STYLE}</style>",
-                 f'<rect width="{self.width}" height="{height}" fill="{PAPER}"/>']
-        for layer in (self.heading, self.axes, self.areas, self.links, self.frames, self.tabs, self.dots,
-                      self.chain, self.legend):
-            parts += layer()
-        return "\n".join(parts + ["</svg>", ""])
+        layers = (self.heading, self.axes, self.areas, self.links, self.frames, self.tabs, self.dots,
+                  self.chain, self.legend)
+        return svg_of(self.width, height, self.title(), tell(self.run), RUN_STYLE,
+                      [part for layer in layers for part in layer()])
 
 
 def wrapped(words, between, room):
@@ -298,15 +263,16 @@ def wrapped(words, between, room):
 
 
 def main():
-    preview, paths = sys.argv[1:2] == ["--preview"], sys.argv[1:]
-    if len(paths) != 2 + preview:
+    preview, effect = sys.argv[1:2] == ["--preview"], sys.argv[1:2] == ["--effect"]
+    paths = sys.argv[1 + (preview or effect):]
+    if len(paths) != (1 if effect else 2):
         sys.exit(__doc__)
-    stream, answers = (open(path, "rb").read() for path in paths[preview:])
+    files = [open(path, "rb").read() for path in paths]
     try:
-        run = read_run(stream, answers, preview)
+        picture = EffectPicture(read_effect(*files)) if effect else Picture(read_run(*files, preview))
     except ValueError as error:
         sys.exit(f"draw.py: {error}")
-    sys.stdout.write(Picture(run).svg())
+    sys.stdout.write(picture.svg())
 
 
 if __name__ == "__main__":

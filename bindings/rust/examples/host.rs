@@ -116,6 +116,19 @@ fn print_endorsers(engine: &Engine, round: u32) -> Result<(), Refusal> {
     Ok(())
 }
 
+/// Before bonding: how far a bond would move everyone's share, of those that have one before or after it.
+fn print_effect(engine: &Engine, member: u32, amount: u32) -> Result<(), Refusal> {
+    let effect = engine.bond_effect(member, engine.round(), amount)?;
+    println!("how far a bond of member {member} by {amount} would move the shares in round {}", engine.round());
+    for (member, (before, after)) in effect.before.iter().zip(effect.after).enumerate() {
+        if before + after > 0 {
+            println!("  member {member}: from {before} to {after}");
+        }
+    }
+    println!("  largest difference: {}", effect.largest);
+    Ok(())
+}
+
 fn print_answers(how: &str, answers: &[Result<(), Refusal>]) {
     let list: String = answers.iter().map(|one| format!(" {}", one.map_or_else(Refusal::number, |()| 0))).collect();
     println!("  {how}:{list}");
@@ -265,6 +278,7 @@ fn main() -> Result<(), Refusal> {
     print_endorsers(&engines[0], LAST_ROUND)?;
     let shares = (0..3).map(|member| engines[0].share(member, LAST_ROUND)).collect::<Result<Vec<_>, _>>()?;
     println!("shares in round {LAST_ROUND}, in thousandths: {shares:?}");
+    print_effect(&engines[0], 3, 11)?;
     print_batch(&engines[0])?;
     print_queues()?;
     print_guests()

@@ -6,7 +6,7 @@ use crate::layout::{
 };
 use crate::lent::{self, CertificateRecord, Entry, Place};
 use crate::{body_words, table_words, CEILING, MEMBERS};
-use crate::{Block, Certificate, Critical, Guest, Held, Proposal, Refusal, Rights, Set, Sheet, Transaction};
+use crate::{Block, Certificate, Critical, Effect, Guest, Held, Proposal, Refusal, Rights, Set, Sheet, Transaction};
 use alloc::vec;
 use alloc::vec::Vec;
 
@@ -260,6 +260,36 @@ impl Engine {
     /// 1, 4, 5, 8, 9.
     pub fn share(&self, member: u32, round: u32) -> Result<u32, Refusal> {
         lent::share(&self.state, &self.table, member, round)
+    }
+
+    /// How far does a bond move the shares? Those of a round's committee, those that it would have after
+    /// a bond of the member by the amount, and the largest difference of a member's two. Shares are those
+    /// of [`Engine::share`], and 0 for a non-member. The bond adds the amount to the member's weight; a
+    /// non-member joins. With total n before the bond and amount k the largest difference is never more
+    /// than 1 plus the whole part of 1,000 × k / (n + k). Nothing is bonded, and nothing changes.
+    ///
+    /// A bond that a block holds counts in the committees of rounds above that block's plus the lookback,
+    /// together with what else the chain changes until then.
+    ///
+    /// Four members of weight 1. Member 5 would join with 2, or member 0 add 2 to its 1:
+    ///
+    /// ```
+    /// use forgelilac::{Engine, Refusal, Sheet};
+    ///
+    /// let engine = Engine::open(0, &Sheet { ceiling: Some(64), ..Sheet::default() })?;
+    /// let joining = engine.bond_effect(5, 1, 2)?;
+    /// assert_eq!(joining.before[..6], [250, 250, 250, 250, 0, 0]);
+    /// assert_eq!(joining.after[..6], [167, 167, 167, 167, 0, 333]);
+    /// assert_eq!(joining.largest, 333);
+    /// let adding = engine.bond_effect(0, 1, 2)?;
+    /// assert_eq!((&adding.after[..4], adding.largest), (&[500, 167, 167, 167][..], 250));
+    /// # Ok::<(), Refusal>(())
+    /// ```
+    ///
+    /// # Errors
+    /// 1, 4, 5, 6 for an amount other than 1 to 1,000, 8, 30.
+    pub fn bond_effect(&self, member: u32, round: u32, amount: u32) -> Result<Effect, Refusal> {
+        lent::bond_effect(&self.state, &self.table, member, round, amount)
     }
 
     /// The certificate held at a place: proposal, endorsers, block.

@@ -4,7 +4,7 @@ use crate::chain::Listing;
 use crate::engine::{blocks_of, by_batch, by_critical, by_preview};
 use crate::lent::{self, Entry};
 use crate::{body_words, MEMBERS};
-use crate::{Block, Certificate, Critical, Engine, Held, Proposal, Refusal, Right, Set, Transaction};
+use crate::{Block, Certificate, Critical, Effect, Engine, Held, Proposal, Refusal, Right, Set, Transaction};
 use alloc::vec::Vec;
 use core::ops::{Deref, DerefMut};
 
@@ -179,6 +179,14 @@ impl<E: Deref<Target = Engine>> Guest<E> {
     /// 26, 29, then those of [`Engine::share`].
     pub fn share(&self, member: u32, round: u32) -> Result<u32, Refusal> {
         lent::guest_share(self.caller, &self.engine.state, &self.engine.table, member, round)
+    }
+
+    /// As [`Engine::bond_effect`].
+    ///
+    /// # Errors
+    /// 26, 29, then those of [`Engine::bond_effect`].
+    pub fn bond_effect(&self, member: u32, round: u32, amount: u32) -> Result<Effect, Refusal> {
+        lent::guest_bond_effect(self.caller, &self.engine.state, &self.engine.table, member, round, amount)
     }
 
     /// As [`Engine::certificate`].

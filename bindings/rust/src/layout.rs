@@ -27,6 +27,8 @@ pub const ENTRY_WORDS: usize = 3;
 pub const PLACE_WORDS: usize = 2;
 /// The words of the list that [`crate::lent::critical`] asks for: 32 places.
 pub const CRITICAL_WORDS: usize = 64;
+/// Words of the effect of a bond: sixteen shares before it, sixteen after it, the largest difference.
+pub const EFFECT_WORDS: usize = 33;
 /// The most certificates of a batch.
 pub const BATCH_RECORDS: usize = 64;
 /// Transactions that a body has words for: the largest allowance.
@@ -97,6 +99,13 @@ pub const ENTRY_AUTHOR: usize = 2;
 pub const PLACE_ROUND: usize = 0;
 /// Of a place: its author.
 pub const PLACE_AUTHOR: usize = 1;
+
+/// Of an effect: the first of sixteen shares before the bond.
+pub const EFFECT_BEFORE: usize = 0;
+/// Of an effect: the first of sixteen shares after it.
+pub const EFFECT_AFTER: usize = 16;
+/// Of an effect: the largest difference.
+pub const EFFECT_LARGEST: usize = 32;
 
 /// Of row 0: the guest served last and 1 more, 0 for none.
 pub const SERVED: usize = 0;

@@ -22,11 +22,11 @@
 
 pub use crate::chain::{chain, guest_chain, Place};
 use crate::layout::{
-    BODY_WORDS, CERTIFICATE_WORDS, ENTRY_AUTHOR, ENTRY_BLOCK, ENTRY_ROUND, ENTRY_WORDS, GUESTS, HELD_WORDS,
-    PLACE_AUTHOR, PLACE_ROUND, PLACE_WORDS, PROPOSAL_WORDS, STATE_BODY, STATE_OWN, STATE_PROPOSED, STATE_RIGHTS,
-    STATE_ROUND, STATE_WORDS, WAITING,
+    BODY_WORDS, CERTIFICATE_WORDS, EFFECT_WORDS, ENTRY_AUTHOR, ENTRY_BLOCK, ENTRY_ROUND, ENTRY_WORDS, GUESTS,
+    HELD_WORDS, PLACE_AUTHOR, PLACE_ROUND, PLACE_WORDS, PROPOSAL_WORDS, STATE_BODY, STATE_OWN, STATE_PROPOSED,
+    STATE_RIGHTS, STATE_ROUND, STATE_WORDS, WAITING,
 };
-use crate::{Refusal, Rights, Set, MEMBERS};
+use crate::{Effect, Refusal, Rights, Set, MEMBERS};
 
 /// The exported functions. Each slice is a pointer and a length in words, of a row in records. Any
 /// length and any content is safe; pointers that come from slices are never null and do not overlap.
@@ -87,6 +87,10 @@ mod abi {
             state: *const u32, state_words: usize, table: *const u32, table_words: usize,
             member: u32, round: u32,
         ) -> u64;
+        pub fn forgelilac_bond_effect(
+            state: *const u32, state_words: usize, table: *const u32, table_words: usize,
+            member: u32, round: u32, amount: u32, out: *mut u32, out_words: usize,
+        ) -> u32;
         pub fn forgelilac_certificate(
             state: *const u32, state_words: usize, table: *const u32, table_words: usize,
             author: u32, round: u32, out: *mut u32, out_words: usize,
@@ -146,6 +150,10 @@ mod abi {
             caller: u32, state: *const u32, state_words: usize, table: *const u32, table_words: usize,
             member: u32, round: u32,
         ) -> u64;
+        pub fn forgelilac_guest_bond_effect(
+            caller: u32, state: *const u32, state_words: usize, table: *const u32, table_words: usize,
+            member: u32, round: u32, amount: u32, out: *mut u32, out_words: usize,
+        ) -> u32;
         pub fn forgelilac_guest_certificate(
             caller: u32, state: *const u32, state_words: usize, table: *const u32, table_words: usize,
             author: u32, round: u32, out: *mut u32, out_words: usize,
@@ -161,7 +169,7 @@ mod abi {
 pub(crate) fn accepted(number: u32) -> Result<(), Refusal> {
     match number {
         0 => Ok(()),
-        n => Err(Refusal::of(n).expect("the engine of this version answers 0 to 23 and 25 to 29")),
+        n => Err(Refusal::of(n).expect("the engine of this version answers 0 to 23 and 25 to 30")),
     }
 }
 
@@ -489,6 +497,35 @@ pub fn share(state: &[u32], table: &[u32], member: u32, round: u32) -> Result<u3
     value(call!(forgelilac_share, read(state), read(table), member, round))
 }
 
+/// How far does a bond move the shares? Those of a round's committee, those that it would have after a
+/// bond of the member by the amount, and the largest difference of a member's two. Shares are those of
+/// [`share`], and 0 for a non-member. The bond adds the amount to the member's weight; a non-member
+/// joins. With total n before the bond and amount k the largest difference is never more than 1 plus the
+/// whole part of 1,000 × k / (n + k). Nothing is bonded.
+///
+/// Four members of weight 1, and member 5 would join with 2:
+///
+/// ```
+/// use forgelilac::{lent, table_words, Refusal, Sheet, STATE_WORDS};
+///
+/// let (mut state, mut table) = ([0; STATE_WORDS], [0; table_words(64) as usize]);
+/// lent::open(&mut state, &mut table, 0, &Sheet { ceiling: Some(64), ..Sheet::default() }.to_words(), 0)?;
+/// let effect = lent::bond_effect(&state, &table, 5, 1, 2)?;
+/// assert_eq!(effect.before[..6], [250, 250, 250, 250, 0, 0]);
+/// assert_eq!(effect.after[..6], [167, 167, 167, 167, 0, 333]);
+/// assert_eq!(effect.largest, 333);
+/// assert_eq!(lent::bond_effect(&state, &table, 5, 1, 1_001), Err(Refusal::TransactionsRange));
+/// # Ok::<(), Refusal>(())
+/// ```
+///
+/// # Errors
+/// 1, 4, 5, 6 for an amount other than 1 to 1,000, 8, 30.
+pub fn bond_effect(state: &[u32], table: &[u32], member: u32, round: u32, amount: u32) -> Result<Effect, Refusal> {
+    let mut out = [0; EFFECT_WORDS];
+    accepted(call!(forgelilac_bond_effect, read(state), read(table), member, round, amount; write(&mut out)))?;
+    Ok(Effect::from_words(&out))
+}
+
 /// The words of a held certificate: proposal, endorsers, number of its block, 0 for none. The
 /// first 17 are a certificate as [`accept`] takes it.
 ///
@@ -675,6 +712,19 @@ pub fn guest_committee(caller: u32, state: &[u32], table: &[u32], round: u32) ->
 /// 26, 29, then those of [`share`].
 pub fn guest_share(caller: u32, state: &[u32], table: &[u32], member: u32, round: u32) -> Result<u32, Refusal> {
     value(call!(forgelilac_guest_share(caller), read(state), read(table), member, round))
+}
+
+/// A guest's [`bond_effect`]. It needs the right to read.
+///
+/// # Errors
+/// 26, 29, then those of [`bond_effect`].
+pub fn guest_bond_effect(
+    caller: u32, state: &[u32], table: &[u32], member: u32, round: u32, amount: u32,
+) -> Result<Effect, Refusal> {
+    let mut out = [0; EFFECT_WORDS];
+    let (state, table) = (read(state), read(table));
+    accepted(call!(forgelilac_guest_bond_effect(caller), state, table, member, round, amount; write(&mut out)))?;
+    Ok(Effect::from_words(&out))
 }
 
 /// A guest's [`certificate`]. It needs the right to read.

@@ -66,7 +66,7 @@ pub use owned::{Block, Certificate, Held, Proposal};
 pub use refusal::Refusal;
 pub use rights::{Right, Rights};
 pub use terms::{body_words, certificate_words, leader, proposal_words, transactions_of};
-pub use terms::{Critical, Sheet, Transaction};
+pub use terms::{Critical, Effect, Sheet, Transaction};
 
 /// Members are 0 to 15.
 pub const MEMBERS: usize = 16;

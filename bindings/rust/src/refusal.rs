@@ -55,6 +55,7 @@ refusals! {
     QueueFull = 27, "the queue holds eight transactions";
     ThinRound = 28, "the authors of the certificates held in the present round form no quorum of its committee";
     NoRight = 29, "the caller lacks the right that the call needs";
+    EmptyCommittee = 30, "committee of the round empty";
 }
 
 impl Refusal {

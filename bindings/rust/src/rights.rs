@@ -13,7 +13,7 @@ pub enum Right {
     Sign = 1,
     /// Advance, commit.
     Drive = 2,
-    /// Committee, share, certificate, block, preview, critical; the chain.
+    /// Committee, share, bond effect, certificate, block, preview, critical; the chain.
     Read = 3,
 }
 

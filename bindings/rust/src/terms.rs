@@ -1,7 +1,8 @@
-//! Transactions, sheets, leaders, places: what needs no allocation.
+//! Transactions, sheets, leaders, places, effects: what needs no allocation.
 
 use crate::layout::{
-    BODY_WORDS, CERTIFICATE_WORDS, PROPOSAL_WORDS, SHEET_WORDS, TRANSACTIONS, TRANSACTION_WORDS,
+    BODY_WORDS, CERTIFICATE_WORDS, EFFECT_AFTER, EFFECT_BEFORE, EFFECT_LARGEST, EFFECT_WORDS, PROPOSAL_WORDS,
+    SHEET_WORDS, TRANSACTIONS, TRANSACTION_WORDS,
 };
 use crate::{Refusal, Set, MEMBERS};
 
@@ -141,6 +142,26 @@ pub struct Critical {
     pub round: u32,
     /// Its author.
     pub author: u32,
+}
+
+/// How far a bond moves the shares of a committee, in thousandths: of its total before the bond, and of its total after it.
+#[derive(Clone, Copy, PartialEq, Eq, Hash, Debug)]
+pub struct Effect {
+    /// The share of each member before the bond, 0 for a non-member.
+    pub before: [u32; MEMBERS],
+    /// The share of each member after it, 0 for a non-member.
+    pub after: [u32; MEMBERS],
+    /// The largest difference of a member's two shares, without sign.
+    pub largest: u32,
+}
+
+impl Effect {
+    /// The effect of its words: sixteen shares before, sixteen after, the largest difference.
+    #[must_use]
+    pub fn from_words(words: &[u32; EFFECT_WORDS]) -> Effect {
+        let shares = |first| core::array::from_fn(|member| words[first + member]);
+        Effect { before: shares(EFFECT_BEFORE), after: shares(EFFECT_AFTER), largest: words[EFFECT_LARGEST] }
+    }
 }
 
 /// The leader of an even round, by the weights of its committee: of the m members by rising

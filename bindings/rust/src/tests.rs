@@ -3,9 +3,9 @@
 extern crate std;
 
 use crate::layout::{
-    brought_along, preview_words, queue, record, row, BATCH_RECORDS, CERTIFICATE_WORDS, CRITICAL_WORDS, ENTRY_WORDS,
-    GUESTS, PLACE_WORDS, QUEUE_PLACES, RECORD_BLOCK, RECORD_ENDORSERS, ROW_BLOCK, ROW_HELD, SERVED, STATE_BLOCKS,
-    STATE_CEILING, STATE_MARGIN, STATE_ROUND, TRANSACTIONS, TRANSACTION_WORDS, WAITING,
+    brought_along, preview_words, queue, record, row, BATCH_RECORDS, CERTIFICATE_WORDS, CRITICAL_WORDS, EFFECT_WORDS,
+    ENTRY_WORDS, GUESTS, PLACE_WORDS, QUEUE_PLACES, RECORD_BLOCK, RECORD_ENDORSERS, ROW_BLOCK, ROW_HELD, SERVED,
+    STATE_BLOCKS, STATE_CEILING, STATE_MARGIN, STATE_ROUND, TRANSACTIONS, TRANSACTION_WORDS, WAITING,
 };
 use crate::lent::{self, CertificateRecord};
 use crate::*;
@@ -159,10 +159,10 @@ fn order_decides_committees() {
 
 #[test]
 fn numbers_and_refusals_go_both_ways() {
-    for number in (1..=23).chain(25..=29) {
+    for number in (1..=23).chain(25..=30) {
         assert_eq!(Refusal::of(number).unwrap().number(), number);
     }
-    assert_eq!([0, 24, 30].map(Refusal::of), [None; 3]);
+    assert_eq!([0, 24, 31].map(Refusal::of), [None; 3]);
     assert_eq!(Refusal::NoWeight.to_string(), "refused with 3: no positive weight");
 }
 
@@ -619,14 +619,13 @@ fn an_outsider_beside_a_quorum() {
     engine.advance().unwrap();
 }
 
-/// Member 0 alone unbonds in the block of round 2, and with a lookback of 1 the committee of round 4
-/// is empty: nothing held is a quorum of it, and one certificate is not.
-#[test]
-fn an_empty_committee_lets_it_pass() {
+/// Member 0 alone in round 4, with a transaction in the block of round 2. With a lookback of 1 it counts in
+/// rounds 4 and 5, and round 6 is not known.
+fn alone_with(transaction: Transaction) -> Engine {
     let mut sheet = Sheet { lookback: Some(1), ceiling: Some(8), ..Sheet::default() };
     sheet.weights[..4].copy_from_slice(&[Some(1), Some(0), Some(0), Some(0)]);
     let mut engine = Engine::open(0, &sheet).unwrap();
-    engine.propose(0, &[Transaction::Unbond { member: 0 }]).unwrap();
+    engine.propose(0, &[transaction]).unwrap();
     engine.certify(0).unwrap();
     for _ in 2..=3 {
         engine.advance().unwrap();
@@ -635,6 +634,13 @@ fn an_empty_committee_lets_it_pass() {
     }
     assert_eq!(engine.commit(), Ok(1));
     engine.advance().unwrap();
+    engine
+}
+
+/// Nothing held is a quorum of an empty committee, and one certificate is not.
+#[test]
+fn an_empty_committee_lets_it_pass() {
+    let mut engine = alone_with(Transaction::Unbond { member: 0 });
     assert_eq!(engine.committee(4), Ok([0; MEMBERS]));
     let mut damaged = engine.clone();
     write_record(&mut damaged, 0, 4, 0, [2, 7, 0]);
@@ -1178,6 +1184,7 @@ fn what_a_margin_leaves_alone() {
         assert_eq!(engine.committee(3), Ok([1; MEMBERS]));
         assert_eq!(engine.committee(4), Err(Refusal::CommitteeUnknown));
         assert_eq!(engine.share(15, 3), Ok(62));
+        assert_eq!(engine.bond_effect(15, 3, 64).unwrap().largest, 750);
         assert_eq!(leader(2, &engine.committee(2).unwrap()), Some(1));
     }
 }
@@ -1320,6 +1327,136 @@ fn a_half_goes_to_the_even_thousandth() {
     assert_eq!(shares(&[7]), [1_000]);
 }
 
+// ---- how far a bond moves the shares
+
+/// These, and 0 for the members behind them.
+fn and_none(first: &[u32]) -> [u32; MEMBERS] {
+    core::array::from_fn(|member| first.get(member).copied().unwrap_or(0))
+}
+
+/// The effect of a bond on a committee of these weights, once it is what shares tell: those of this
+/// committee, and those of one that starts with the weights after the bond.
+fn effect(weights: [u32; MEMBERS], member: u32, amount: u32) -> Effect {
+    let shares = |weights| {
+        let engine = of_sixteen(3, weights);
+        let share = |member| engine.share(member, 1).or_else(|refusal| match refusal {
+            Refusal::Outside => Ok(0),
+            _ => Err(refusal),
+        });
+        core::array::from_fn(|member| share(member as u32).unwrap())
+    };
+    let mut bonded = weights;
+    bonded[member as usize] += amount;
+    let found = of_sixteen(3, weights).bond_effect(member, 1, amount).unwrap();
+    assert_eq!((found.before, found.after), (shares(weights), shares(bonded)));
+    let apart = found.before.iter().zip(found.after).map(|(before, after)| before.abs_diff(after));
+    assert_eq!(found.largest, apart.max().unwrap());
+    let (total, amount) = (u64::from(bonded.iter().sum::<u32>()), u64::from(amount));
+    assert!(u64::from(found.largest) <= 1 + 1_000 * amount / total);
+    found
+}
+
+#[test]
+fn a_bond_moves_the_shares() {
+    for (weights, member, amount, before, after, largest) in [
+        // A member joins, or adds to its weight.
+        (&[1, 1, 1, 1][..], 5, 2, &[250, 250, 250, 250][..], &[167, 167, 167, 167, 0, 333][..], 333),
+        (&[1, 1, 1, 1], 0, 2, &[250, 250, 250, 250], &[500, 167, 167, 167], 250),
+        // Exact halves, before and after.
+        (&[1, 3, 5, 7], 4, 64, &[62, 188, 312, 438], &[12, 38, 62, 88, 800], 800),
+        (&[1, 3, 5, 7], 0, 64, &[62, 188, 312, 438], &[812, 38, 62, 88], 750),
+        // As far as it can: 1 plus the whole part of 11,000 / 16, and of 1,000 / 2,001.
+        (&[3, 1, 1], 3, 11, &[600, 200, 200], &[188, 62, 62, 688], 688),
+        (&[1, 1_999], 0, 1, &[0, 1_000], &[1, 999], 1),
+        // Another's falls by more than the member's own rises.
+        (&[42, 1, 1], 1, 1, &[955, 23, 23], &[933, 44, 22], 22),
+        // The only member; a light one beside a heavy one, and the other way.
+        (&[7], 0, 1_000, &[1_000], &[1_000], 0),
+        (&[999_999], 1, 1, &[1_000], &[1_000, 0], 0),
+        (&[1], 15, 1_000, &[1_000], &[1, 0, 0, 0, 0, 0, 0, 0, 0, 0, 0, 0, 0, 0, 0, 999], 999),
+    ] {
+        let expected = Effect { before: and_none(before), after: and_none(after), largest };
+        assert_eq!(effect(and_none(weights), member, amount), expected, "{weights:?}, {member} by {amount}");
+    }
+}
+
+/// Every member and some amounts; the largest weights too, above which no sheet starts.
+#[test]
+fn a_bond_of_every_member() {
+    for weights in [ones(&[0, 1, 2, 3]), [1; MEMBERS], [999_000; MEMBERS], core::array::from_fn(|member| 1 << member),
+                    core::array::from_fn(|member| if member % 3 == 1 { 0 } else { 7 * member as u32 })] {
+        for member in 0..16 {
+            for amount in [1, 2, 3, 16, 255, 999, 1_000] {
+                effect(weights, member, amount);
+            }
+        }
+    }
+    let engine = of_sixteen(3, [1_000_000; MEMBERS]);
+    for amount in [1, 1_000] {
+        let mut after = [62; MEMBERS];
+        after[15] = 63;
+        assert_eq!(engine.bond_effect(15, 3, amount), Ok(Effect { before: [62; MEMBERS], after, largest: 1 }));
+    }
+}
+
+/// The committee of the round that is asked for. What a bond was told to do it does, once it counts.
+#[test]
+fn a_bond_effect_is_that_of_the_round() {
+    let told = alone().bond_effect(3, 1, 3).unwrap();
+    assert_eq!(told, Effect { before: and_none(&[1_000]), after: and_none(&[250, 0, 0, 750]), largest: 750 });
+    let engine = alone_with(Transaction::Bond { member: 3, amount: 3 });
+    for round in 1..=3 {
+        assert_eq!(engine.bond_effect(3, round, 3), Ok(told));
+    }
+    for round in 4..=5 {
+        let next = engine.bond_effect(0, round, 4).unwrap();
+        assert_eq!(next, Effect { before: told.after, after: and_none(&[625, 0, 0, 375]), largest: 375 });
+        assert_eq!((engine.share(0, round), engine.share(3, round)), (Ok(250), Ok(750)));
+    }
+}
+
+/// 1, 4, 5, 6, 8, 30, whatever else is wrong.
+#[test]
+fn a_bond_effect_is_refused_in_its_order() {
+    let engine = alone_with(Transaction::Unbond { member: 0 });
+    let mut damaged = engine.clone();
+    damaged.state[STATE_MARGIN] = 6;
+    for member in [0, 15, 16, u32::MAX] {
+        for round in [0, 1, 3, 4, 5, 6, 8, 9, u32::MAX] {
+            for amount in [0, 1, 1_000, 1_001, u32::MAX] {
+                let number = match (member, round, amount) {
+                    (16.., _, _) => 4,
+                    (_, 0 | 9.., _) => 5,
+                    (_, _, 0 | 1_001..) => 6,
+                    (_, 6.., _) => 8,
+                    (_, 4.., _) => 30,
+                    _ => 0,
+                };
+                let found = engine.bond_effect(member, round, amount).map_or_else(Refusal::number, |_| 0);
+                assert_eq!(found, number, "member {member}, round {round}, amount {amount}");
+                refuses(&mut damaged, 1, |e| e.bond_effect(member, round, amount));
+            }
+        }
+    }
+    assert_eq!(engine.bond_effect(0, 4, 1), Err(Refusal::EmptyCommittee));
+    assert_eq!(Refusal::EmptyCommittee.to_string(), "refused with 30: committee of the round empty");
+}
+
+#[test]
+fn words_of_a_bond_effect() {
+    let words: [u32; EFFECT_WORDS] = core::array::from_fn(|at| 100 + at as u32);
+    let found = Effect::from_words(&words);
+    assert_eq!((&found.before[..], &found.after[..]), (&words[..16], &words[16..32]));
+    assert_eq!(found.largest, 132);
+    // A longer table and a longer state are fine.
+    let engine = of_four(0);
+    let table = [&engine.table[..], &[77; 5]].concat();
+    let state = [&engine.state[..], &[77; 5]].concat();
+    assert_eq!(lent::bond_effect(&state, &table, 5, 1, 2), engine.bond_effect(5, 1, 2));
+    assert_eq!(lent::bond_effect(&state[1..], &table, 5, 1, 2), Err(Refusal::Malformed));
+    assert_eq!(lent::bond_effect(&state, &engine.table[1..], 5, 1, 2), Err(Refusal::Malformed));
+}
+
 #[test]
 fn a_stored_engine_goes_on() {
     let mut engine = of_four(0);
@@ -1353,6 +1490,7 @@ fn a_malformed_state_is_refused_everywhere() {
         refuses(&mut engine, 1, |e| e.chain());
         refuses(&mut engine, 1, |e| e.block(1));
         refuses(&mut engine, 1, |e| e.committee(1));
+        refuses(&mut engine, 1, |e| e.bond_effect(0, 1, 1));
         refuses(&mut engine, 1, Engine::commit);
         refuses(&mut engine, 1, |e| e.preview());
         refuses(&mut engine, 1, Engine::critical);

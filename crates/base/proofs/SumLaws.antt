@@ -74,21 +74,29 @@ sum-mono f g n h = go (decLt (sumTo g n) (sumTo f n))
     go (yes l) = let x = sum-less g f n l in absurd (omega (arith, h (x .0) (x .1), x .2))
     go (no l) = omega arith
 
--- one part alone
-pub sum-one : (a m n : ℕ) → (n ≤ m → sumTo (λ i. cond (eqb m i) a 0) n ≡ 0) × (sumTo (λ i. cond (eqb m i) a 0) n ≤ a)
-unfolding sumTo
-sum-one a m zero = (λ _. refl, omega arith)
-sum-one a m (suc n) = by (ℕ-discrete m n) (sum-one a m n)
-  where
-    by : Dec (m ≡ n) → (n ≤ m → sumTo (λ i. cond (eqb m i) a 0) n ≡ 0) × (sumTo (λ i. cond (eqb m i) a 0) n ≤ a)
-        → (suc n ≤ m → sumTo (λ i. cond (eqb m i) a 0) n + cond (eqb m n) a 0 ≡ 0) × (sumTo (λ i. cond (eqb m i) a 0) n + cond (eqb m n) a 0 ≤ a)
-    by (yes e) p = (λ l. absurd (omega arith), rw (eq-eqb m n e) (let z = p .0 (omega arith) in omega arith))
-    by (no e) p = rw (ne-eqb m n e) (λ l. let z = p .0 (omega arith) in omega arith, let z = p .1 in omega arith)
-
 pub sum-none : (n : ℕ) → sumTo (λ i. 0) n ≡ 0
 unfolding sumTo
 sum-none zero = refl
 sum-none (suc n) = let h = sum-none n in omega arith
+
+-- one part alone: none, or that part
+pub sum-only : (f : ℕ → ℕ) (m n : ℕ) → (n ≤ m → sumTo (λ i. cond (eqb m i) (f i) 0) n ≡ 0) × (m < n → sumTo (λ i. cond (eqb m i) (f i) 0) n ≡ f m)
+unfolding sumTo
+sum-only f m zero = (λ _. refl, λ l. absurd (omega arith))
+sum-only f m (suc n) = by (ℕ-discrete m n) (sum-only f m n)
+  where
+    by : Dec (m ≡ n) → (n ≤ m → sumTo (λ i. cond (eqb m i) (f i) 0) n ≡ 0) × (m < n → sumTo (λ i. cond (eqb m i) (f i) 0) n ≡ f m)
+        → (suc n ≤ m → sumTo (λ i. cond (eqb m i) (f i) 0) n + cond (eqb m n) (f n) 0 ≡ 0) × (m < suc n → sumTo (λ i. cond (eqb m i) (f i) 0) n + cond (eqb m n) (f n) 0 ≡ f m)
+    by (yes e) p = (λ l. absurd (omega arith), λ l. let z = p .0 (omega arith) in rw (eq-eqb m n e, z, e) (omega arith))
+    by (no e) p = rw (ne-eqb m n e) (λ l. let z = p .0 (omega arith) in omega arith, λ l. let z = p .1 (omega arith) in omega arith)
+
+-- so at most it
+pub sum-one : (a m n : ℕ) → sumTo (λ i. cond (eqb m i) a 0) n ≤ a
+sum-one a m n = go (decLt m n) (sum-only (λ i. a) m n)
+  where
+    go : Dec (m < n) → (n ≤ m → sumTo (λ i. cond (eqb m i) a 0) n ≡ 0) × (m < n → sumTo (λ i. cond (eqb m i) a 0) n ≡ a) → sumTo (λ i. cond (eqb m i) a 0) n ≤ a
+    go (yes l) p = let e = p .1 l in omega arith
+    go (no l) p = let e = p .0 (omega arith) in omega arith
 
 -- a longer sum is no smaller
 pub sum-up : (f : ℕ → ℕ) (i n : ℕ) → i ≤ n → sumTo f i ≤ sumTo f n

@@ -25,3 +25,7 @@ sheetLength = 40
 
 abbrev pub committeeLength : ℕ
 committeeLength = 16
+
+-- of a bond's effect: sixteen shares before, sixteen after, the largest difference
+abbrev pub effectLength : ℕ
+effectLength = 33

@@ -16,3 +16,5 @@ pub const HELD: usize = 18;
 pub const SHEET: usize = 40;
 // A committee.
 pub const COMMITTEE: usize = 16;
+// A bond's effect.
+pub const EFFECT: usize = 33;

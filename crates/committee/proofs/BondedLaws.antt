@@ -1,8 +1,11 @@
--- Laws of the bonded committee: block by block.
+-- Laws of the bonded committee: block by block, and as long as the starting one.
 use mathlib.Core.Path.{_≡_, refl, ap, _∙_}
-use mathlib.Core.List.{List, _∷_}
-use Prim.Native.Nat.{ℕ, zero, suc, _+_, _<_, _≤_}
+use mathlib.Core.Bool.{Bool, true, false, cond}
+use mathlib.Core.List.{List, [], _∷_}
+use Prim.Native.Nat.{ℕ, zero, suc, _+_, _-_, _<_, _≤_}
 use native.Mathlib.Numerals.{add-one}
+use lib.ListN.{length}
+use lib.Dec.{ltb, leb}
 use borrow.Author.Tests.{lt-ltb, le-ltb}
 use Rattle.base.specs.Folds.{foldTo}
 use Rattle.agreement.specs.Rules.{Block, Chain}
@@ -11,7 +14,8 @@ use Rattle.committee.specs.Chain.{blockAt, chainOf}
 use Rattle.committee.proofs.ChainLaws.{chain-none, chain-more}
 use Rattle.sheet.specs.declared.Settings.{Settings}
 use Rattle.committee.specs.Changes.{changesOf}
-use Rattle.committee.specs.Committees.{stepFrom, bondedFrom, committeeOf, startOf, ordered}
+use Rattle.committee.specs.Committees.{committeeBy, stepFrom, bondedFrom, committeeOf, startOf, ordered}
+use Rattle.committee.proofs.ChangeLaws.{length-changes-of}
 
 -- what the block b on the chain c does to the bonded committee of round s
 unfoldable pub step : Settings → ℕ → Block Content → Chain Content → List ℕ → List ℕ
@@ -30,6 +34,33 @@ module _ (S : Settings) (s : ℕ) (b : Block Content) (c : Chain Content) where
   pub bonded-step : bondedFrom S (b ∷ c) s ≡ step S s b c (bondedFrom S c s)
   unfolding bondedFrom committeeOf startOf step
   bonded-step = refl
+
+-- ---- as long as the starting one
+
+module _ (S : Settings) where
+  length-step : (s : ℕ) (b : Block Content) (c : Chain Content) (w : List ℕ) → length (step S s b c w) ≡ length w
+  unfolding step stepFrom ordered
+  length-step s b c w = go (ltb (b .round) s)
+    where
+      go : (d : Bool) → length (cond d (changesOf (ordered S b c) w) w) ≡ length w
+      go true = length-changes-of (ordered S b c) w
+      go false = refl
+
+  length-start : (s : ℕ) → length (bondedFrom S [] s) ≡ length (S .weights)
+  unfolding bondedFrom
+  length-start s = refl
+
+  length-bonded : (c : Chain Content) (s : ℕ) → length (bondedFrom S c s) ≡ length (S .weights)
+  length-bonded [] s = length-start s
+  length-bonded (b ∷ c) s = ap length (bonded-step S s b c) ∙ length-step s b c (bondedFrom S c s) ∙ length-bonded c s
+
+  pub length-committee : (c : Chain Content) (r : ℕ) → length (committeeOf S c r) ≡ length (S .weights)
+  unfolding committeeOf committeeBy
+  length-committee c r = go (leb r (S .lookback))
+    where
+      go : (d : Bool) → length (cond d (S .weights) (bondedFrom S c (r - S .lookback))) ≡ length (S .weights)
+      go true = refl
+      go false = length-bonded c (r - S .lookback)
 
 -- ---- of the chain that a table tells
 

@@ -36,7 +36,7 @@ set-at w m v i b h l = by (ℕ-discrete i m) (decLt m (length w))
 bond-raises : (m a : ℕ) → Raises (λ w. set w m (weightIn w m + a)) a
 unfolding Raises
 bond-raises m a w =
-    let o = sum-one a m 16 .1 in
+    let o = sum-one a m 16 in
     let s = sum-add (weightIn w) (λ i. cond (eqb m i) a 0) 16 in
     let l = sum-mono (weightIn (set w m (weightIn w m + a))) (λ i. weightIn w i + cond (eqb m i) a 0) 16
     (λ i h. set-at w m (weightIn w m + a) i (weightIn w i + cond (eqb m i) a 0) (λ e. rw (eq-eqb m i (sym e), e) (omega arith)) (omega arith)) in
@@ -100,4 +100,4 @@ marks-once mark c blocks n =
   where
     at-once : (b n : ℕ) → sumTo (λ k. cond (eqb b (k + 1)) c 0) n ≤ c
     at-once zero n = rw (sum-same (λ k. cond (eqb 0 (k + 1)) c 0) (λ k. 0) n (λ k h. rw (add-one k, eqb·zero-suc k) refl), sum-none n) (omega arith)
-    at-once (suc b) n = rw (sum-same (λ k. cond (eqb (suc b) (k + 1)) c 0) (λ k. cond (eqb b k) c 0) n (λ k h. rw (add-one k, eqb·suc-suc b k) refl)) (sum-one c b n .1)
+    at-once (suc b) n = rw (sum-same (λ k. cond (eqb (suc b) (k + 1)) c 0) (λ k. cond (eqb b k) c 0) n (λ k h. rw (add-one k, eqb·suc-suc b k) refl)) (sum-one c b n)

@@ -8,12 +8,13 @@ use Rattle.terms.specs.declared.Round.{Round}
 use Rattle.checks.specs.Answers.{ifAccepted}
 use Rattle.reads.specs.declared.CertificateRead.{CertificateRead}
 use Rattle.standing.specs.Reads.{committeeRefusal, committeeAnswer}
+use Rattle.bonding.specs.Reads.{effectRefusal, effectAnswer}
 use Rattle.reads.specs.Reads.{certificateRefusal, certificateAnswer}
 use Rattle.preview.specs.Preview.{previewRefusal}
 use Rattle.critical.specs.Critical.{criticalRefusal}
-use Rattle.engine.specs.Calls.{committee, certificate, preview, critical, Call, aside}
+use Rattle.engine.specs.Calls.{committee, effect, certificate, preview, critical, Call, aside}
 use Rattle.engine.specs.Engine.{Engine, refusalFor}
-use Rattle.engine.specs.Values.{Value, nothing, weights, held, acceptedValue, valueOf}
+use Rattle.engine.specs.Values.{Value, nothing, weights, shares, held, acceptedValue, valueOf}
 
 -- a held certificate, as the answer of its read has it
 abbrev pub heldIn : CertificateRead → Value
@@ -34,6 +35,10 @@ module _ (e : Engine) where
   pub committee-value : (r : Round) → refusalFor e (aside (committee r)) ≡ 0 → valueOf e (aside (committee r)) ≡ weights (committeeAnswer state table (r .0) .weights)
   unfolding valueOf committeeAnswer committeeRefusal ifAccepted
   committee-value r a = rw (eq-eqb (refusalFor e (aside (committee r))) 0 a) refl
+
+  pub effect-value : (m : Member) (r : Round) (a : ℕ) → refusalFor e (aside (effect m r a)) ≡ 0 → valueOf e (aside (effect m r a)) ≡ shares (effectAnswer state table (m .0) (r .0) a .effect)
+  unfolding valueOf effectAnswer effectRefusal ifAccepted
+  effect-value m r a z = rw (eq-eqb (refusalFor e (aside (effect m r a))) 0 z) refl
 
   pub certificate-value : (m : Member) (r : Round) → refusalFor e (aside (certificate m r)) ≡ 0 → valueOf e (aside (certificate m r)) ≡ heldIn (certificateAnswer state table (m .0) (r .0))
   unfolding valueOf certificateAnswer certificateRefusal ifAccepted

@@ -12,6 +12,8 @@ use Rattle.sheet.specs.declared.Sheet.{Sheet}
 pub data Aside : Type 0 where
   committee : Round → Aside
   share : Member → Round → Aside
+  -- what a bond of the member by an amount would do to the shares
+  effect : Member → Round → ℕ → Aside
   certificate : Member → Round → Aside
   -- by number from 1
   block : ℕ → Aside

@@ -3,7 +3,7 @@ use mathlib.Core.List.{List, []}
 use Prim.Native.Nat.{ℕ}
 use Rattle.base.specs.Checks.{Checks, refusal}
 use Rattle.sheet.specs.Sheets.{filled}
-use Rattle.rules.specs.Reads.{readingCommittee, readingShare, readingCertificate, readingBlock}
+use Rattle.rules.specs.Reads.{readingCommittee, readingShare, readingEffect, readingCertificate, readingBlock}
 use Rattle.state.specs.declared.State.{State}
 use Rattle.state.specs.View.{view}
 use Rattle.state.specs.Refusals.{guarded}
@@ -18,7 +18,7 @@ use Rattle.preview.specs.Preview.{previewing}
 use Rattle.critical.specs.Critical.{readingCritical}
 use Rattle.enqueue.specs.Enqueue.{enqueueRefusal, enqueueOutcome, enqueueTable}
 use Rattle.draw.specs.Draw.{drawRefusal, drawOutcome, drawTable}
-use Rattle.engine.specs.Calls.{Aside, committee, share, certificate, block, preview, critical, listing, Call, opens, propose, endorse, certify, accept, advance, commit, enqueue, draw, aside}
+use Rattle.engine.specs.Calls.{Aside, committee, share, effect, certificate, block, preview, critical, listing, Call, opens, propose, endorse, certify, accept, advance, commit, enqueue, draw, aside}
 
 -- what a member's host keeps between calls
 pub record Engine : Type 0 where
@@ -29,6 +29,7 @@ pub record Engine : Type 0 where
 abbrev pub asideChecks : Engine → Aside → Checks
 asideChecks e (committee r) = readingCommittee (e .state .settings) (view (e .state) (e .table)) (r .0)
 asideChecks e (share m r) = readingShare (e .state .settings) (view (e .state) (e .table)) (m .0) (r .0)
+asideChecks e (effect m r a) = readingEffect (e .state .settings) (view (e .state) (e .table)) (m .0) (r .0) a
 asideChecks e (certificate m r) = readingCertificate (e .state .settings) (view (e .state) (e .table)) (m .0) (r .0)
 asideChecks e (block n) = readingBlock (e .state .settings) (view (e .state) (e .table)) n
 asideChecks e (preview n) = previewing (e .state) (e .table) n

@@ -7,7 +7,8 @@ use Rattle.agreement.specs.Rules.{Chain}
 use Rattle.terms.specs.declared.Proposal.{Proposal}
 use Rattle.terms.specs.Proposals.{Content}
 use Rattle.store.specs.Table.{endorsersAt}
-use Rattle.rules.specs.Reads.{committeeRead, shareRead, blockNumber, blockRead}
+use Rattle.effects.specs.declared.Effect.{Effect}
+use Rattle.rules.specs.Reads.{committeeRead, shareRead, effectRead, blockNumber, blockRead}
 use Rattle.state.specs.View.{view}
 use Rattle.commit.specs.Answers.{addedValue}
 use Rattle.commit.specs.Commit.{commitOutcome}
@@ -15,7 +16,7 @@ use Rattle.preview.specs.Entries.{Entry}
 use Rattle.preview.specs.Preview.{previewEntries}
 use Rattle.critical.specs.Critical.{Place, criticalPlaces}
 use Rattle.reads.specs.Reads as reads
-use Rattle.engine.specs.Calls.{Aside, committee, share, certificate, block, preview, critical, listing, Call, opens, propose, endorse, certify, accept, advance, commit, enqueue, draw, aside}
+use Rattle.engine.specs.Calls.{Aside, committee, share, effect, certificate, block, preview, critical, listing, Call, opens, propose, endorse, certify, accept, advance, commit, enqueue, draw, aside}
 use Rattle.engine.specs.Engine.{Engine, refusalFor}
 
 pub data Value : Type 0 where
@@ -24,6 +25,8 @@ pub data Value : Type 0 where
   number : ℕ → Value
   -- a committee: sixteen weights, 0 for a non-member
   weights : List ℕ → Value
+  -- the shares before and after a bond, and the largest difference
+  shares : Effect → Value
   -- a held certificate: its proposal, the endorsers that it was stored with, and the number of its block, 0 for none
   held : Proposal → ℕ → ℕ → Value
   -- the certificates of the blocks that a commit would add
@@ -37,6 +40,7 @@ pub data Value : Type 0 where
 abbrev pub asideValue : Engine → Aside → Value
 asideValue e (committee r) = weights (committeeRead (e .state .settings) (view (e .state) (e .table)) (r .0))
 asideValue e (share m r) = number (shareRead (e .state .settings) (view (e .state) (e .table)) (m .0) (r .0))
+asideValue e (effect m r a) = shares (effectRead (e .state .settings) (view (e .state) (e .table)) (m .0) (r .0) a)
 asideValue e (certificate m r) = held (reads.proposalShown (view (e .state) (e .table) .dag (m .0) (r .0))) (endorsersAt (e .table) (m .0) (r .0)) (blockNumber (view (e .state) (e .table) .chain) (m .0) (r .0))
 asideValue e (block n) = number (blockRead (e .state .settings) (view (e .state) (e .table)) n)
 asideValue e (preview n) = entries (previewEntries (e .state) (e .table))

@@ -3,7 +3,7 @@ use rights::Right;
 ghost use mathlib.Core.Bool.{true};
 ghost use mathlib.Core.List.{[]};
 ghost use lib.ListN.{length};
-ghost use Rattle.engine.specs.Calls.{committee, share, certificate, block, preview, critical};
+ghost use Rattle.engine.specs.Calls.{committee, share, effect, certificate, block, preview, critical};
 ghost use Rattle.guests.specs.Guests.{aside};
 ghost use Rattle.hosting.specs.Calls.{plain, packed, Done};
 ghost use Rattle.guesting.specs.Guested.{guestResult};
@@ -42,6 +42,26 @@ pub extern "C" fn forgelilac_guest_share(
         return guesting::packed(n);
     }
     crate::views::forgelilac_share(state, table, member, round)
+}
+
+// Effect of a bond.
+#[no_mangle]
+pub extern "C" fn forgelilac_guest_bond_effect(
+    caller: u32,
+    state: &[u32],
+    table: &[u32],
+    member: u32,
+    round: u32,
+    amount: u32,
+    out: &mut [u32],
+) -> u32
+    ensures { λ r. ⌜ Done plain (guestResult (now (state .entry)) (now (table .entry)) (now (out .entry)) caller true (aside (effect (record { 0 = member }) (record { 0 = round }) amount))) r (now (state .entry)) (now (table .entry)) (now (out .exit)) ⌝ }
+{
+    let n = guesting::refusal(state, Right::Read, caller);
+    if n != 0 {
+        return n;
+    }
+    crate::views::forgelilac_bond_effect(state, table, member, round, amount, out)
 }
 
 // Certificate of a place.

@@ -1,5 +1,6 @@
-// The reads that a host makes: committee, share, certificate, block, and the length of a table.
+// The reads that a host makes: committee, share, bond effect, certificate, block, and the length of a table.
 use bodies::lengths::COMMITTEE;
+use bodies::lengths::EFFECT;
 use bodies::lengths::HELD;
 use checks::Answer;
 use store::lengths::ROW;
@@ -12,10 +13,11 @@ ghost use Prim.Native.Nat.{_≤_};
 ghost use lib.ListN.{length};
 ghost use Rattle.store.specs.Table.{usedLength};
 ghost use Rattle.checks.specs.Answers.{refusalIn};
-ghost use Rattle.engine.specs.Calls.{aside, committee, share, certificate, block};
-ghost use Rattle.bodies.specs.Lengths.{heldLength, committeeLength};
+ghost use Rattle.engine.specs.Calls.{aside, committee, share, effect, certificate, block};
+ghost use Rattle.bodies.specs.Lengths.{heldLength, committeeLength, effectLength};
 ghost use Rattle.bodies.specs.Words.{sixteen};
 ghost use Rattle.words.specs.Proposals.{heldWords};
+ghost use Rattle.words.specs.Effects.{effectWords};
 ghost use Rattle.hosting.specs.Answers.{over, WeightsFit};
 ghost use Rattle.hosting.specs.Calls.{plain, packed, Done, resultOf};
 
@@ -29,6 +31,22 @@ fn show_committee(out: &mut [u32], x: standing::CommitteeRead) -> u32
     match a {
         Answer::Accepted => {
             words::put_weights(out, 0, weights);
+            0
+        }
+        Answer::Refused(n) => n,
+    }
+}
+
+// Writes a bond's effect, where the read is accepted.
+fn show_effect(out: &mut [u32], x: bonding::EffectRead) -> u32
+    requires { ⌜ effectLength ≤ length (now out) ⌝ }
+    ensures { λ r. ⌜ (r ≡ refusalIn (x .answer)) × (now (out .exit) ≡ over (x .answer) (now (out .entry)) (effectWords (x .effect)) effectLength) ⌝ }
+{
+    let e = x.effect;
+    let a = x.answer;
+    match a {
+        Answer::Accepted => {
+            words::put_effect(out, e);
             0
         }
         Answer::Refused(n) => n,
@@ -83,6 +101,29 @@ pub extern "C" fn forgelilac_share(state: &[u32], table: &[u32], member: u32, ro
     let s = words::states::state_in(state);
     let x = standing::share(s, table, Member(member), Round(round));
     hosting::share_number(x)
+}
+
+// Effect of a bond of the member: sixteen shares before, sixteen after and the largest difference into out.
+#[no_mangle]
+pub extern "C" fn forgelilac_bond_effect(
+    state: &[u32],
+    table: &[u32],
+    member: u32,
+    round: u32,
+    amount: u32,
+    out: &mut [u32],
+) -> u32
+    ensures { λ r. ⌜ Done plain (resultOf (now (state .entry)) (now (table .entry)) (now (out .entry)) true (aside (effect (record { 0 = member }) (record { 0 = round }) amount))) r (now (state .entry)) (now (table .entry)) (now (out .exit)) ⌝ }
+{
+    if !words::states::state_reads(state) {
+        return 1;
+    }
+    if out.len() < EFFECT {
+        return 1;
+    }
+    let s = words::states::state_in(state);
+    let x = bonding::effect(s, table, Member(member), Round(round), amount);
+    show_effect(out, x)
 }
 
 // Certificate of a place: its proposal, its endorsers and the number of its block, 0 for none, into out.

@@ -30,24 +30,27 @@ use Rattle.commit.specs.Answers.{addedRefusal, addedValue}
 use Rattle.commit.specs.Commit.{addedWith, refusedWith, commitRefusal, blocksThen, commitOutcome}
 use Rattle.standing.specs.declared.CommitteeRead.{CommitteeRead}
 use Rattle.standing.specs.declared.ShareRead.{ShareRead}
+use Rattle.bonding.specs.declared.EffectRead.{EffectRead}
 use Rattle.reads.specs.declared.CertificateRead.{CertificateRead}
 use Rattle.reads.specs.declared.BlockRead.{BlockRead}
 use Rattle.standing.specs.Answers.{sharedAnswer, sharedValue, ValueAnswered}
 use Rattle.reads.specs.Answers.{blockedAnswer, blockedValue}
 use Rattle.standing.specs.Reads.{committeeRefusal, committeeAnswer, shareRefusal, shareAnswer, shareValue}
+use Rattle.bonding.specs.Reads.{effectRefusal, effectAnswer}
 use Rattle.reads.specs.Reads.{certificateRefusal, certificateAnswer, blockRefusal, blockAnswer, blockValue}
 use Rattle.preview.specs.Preview.{previewRefusal, previewList}
 use Rattle.preview.specs.Answers.{previewAnswer, Previews}
 use Rattle.critical.specs.Critical.{criticalRefusal, criticalList}
 use Rattle.critical.specs.Answers.{criticalAnswer, Lists}
-use Rattle.engine.specs.Calls.{Aside, committee, share, certificate, block, preview, critical, Call, opens, propose, advance, commit, draw, aside}
+use Rattle.engine.specs.Calls.{Aside, committee, share, effect, certificate, block, preview, critical, Call, opens, propose, advance, commit, draw, aside}
 use Rattle.engine.specs.Engine.{Engine, refusalFor, after}
 use Rattle.engine.specs.Values.{nothing, number, asideValue, acceptedValue, valueOf}
-use Rattle.engine.proofs.ValueLaws.{value-refused, committee-value, certificate-value}
-use Rattle.bodies.specs.Lengths.{stateLength, heldLength, committeeLength}
+use Rattle.engine.proofs.ValueLaws.{value-refused, committee-value, effect-value, certificate-value}
+use Rattle.bodies.specs.Lengths.{stateLength, heldLength, committeeLength, effectLength}
 use Rattle.words.specs.States.{stateReads, stateIn, stateWords}
 use Rattle.bodies.specs.Words.{sixteen}
 use Rattle.words.specs.Proposals.{heldWords}
+use Rattle.words.specs.Effects.{effectWords}
 use Rattle.hosting.specs.Answers.{addedAnswer, over}
 use Rattle.hosting.specs.Calls.{Result, plain, packed, Done, reads, roomFor, useOf, valueWord, engineIn, serves, engineFor, stateOver, outOver, answered, resultOf}
 use Rattle.hosting.proofs.CallLaws.{both-read, done-read}
@@ -100,6 +103,10 @@ module _ (s : State) (t : List ℕ) where
   pub committee-answer : (r : ℕ) {x : CommitteeRead} → x ≡ committeeAnswer s t r → x .answer ≡ answerOf (refusalFor on (aside (committee (record { 0 = r }))))
   unfolding committeeAnswer committeeRefusal
   committee-answer r q = rw q refl
+
+  effect-answer : (m r a : ℕ) {x : EffectRead} → x ≡ effectAnswer s t m r a → x .answer ≡ answerOf (refusalFor on (aside (effect (record { 0 = m }) (record { 0 = r }) a)))
+  unfolding effectAnswer effectRefusal
+  effect-answer m r a q = rw q refl
 
   certificate-answer : (m r : ℕ) {x : CertificateRead} → x ≡ certificateAnswer s t m r → x .answer ≡ answerOf (refusalFor on (aside (certificate (record { 0 = m }) (record { 0 = r }))))
   unfolding certificateAnswer certificateRefusal
@@ -213,6 +220,12 @@ module _ (w t o : List ℕ) where
       → (n ≡ refusalIn (x .answer)) × (z ≡ over (x .answer) o (sixteen (x .weights)) committeeLength) → Done plain (resultOf w t o true (aside (committee (record { 0 = r })))) n w t z
   committee-done r {x} q =
       done-shown (committee (record { 0 = r })) (sixteen (x .weights)) committeeLength (committee-answer (stateIn w) t r q) (λ a. rw (committee-value (engineIn w t) (record { 0 = r }) a, q) refl)
+
+  pub effect-done : (m r a : ℕ) {x : EffectRead} {n : ℕ} {z : List ℕ} → x ≡ effectAnswer (stateIn w) t m r a → serves w t o (reads effectLength) ≡ true
+      → (n ≡ refusalIn (x .answer)) × (z ≡ over (x .answer) o (effectWords (x .effect)) effectLength) → Done plain (resultOf w t o true (aside (effect (record { 0 = m }) (record { 0 = r }) a))) n w t z
+  effect-done m r a {x} q =
+      done-shown (effect (record { 0 = m }) (record { 0 = r }) a) (effectWords (x .effect)) effectLength (effect-answer (stateIn w) t m r a q)
+      (λ h. rw (effect-value (engineIn w t) (record { 0 = m }) (record { 0 = r }) a h, q) refl)
 
   pub certificate-done : (m r : ℕ) {x : CertificateRead} {n : ℕ} {z : List ℕ} → x ≡ certificateAnswer (stateIn w) t m r → serves w t o (reads heldLength) ≡ true
       → (n ≡ refusalIn (x .answer)) × (z ≡ over (x .answer) o (heldWords (x .proposal) (x .endorsers) (x .block)) heldLength) → Done plain (resultOf w t o true (aside (certificate (record { 0 = m }) (record { 0 = r })))) n w t z

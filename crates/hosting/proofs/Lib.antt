@@ -8,3 +8,4 @@ pub mod BeyondLaws
 pub mod FormedLaws
 pub mod HeldLaws
 pub mod OpenLaws
+pub mod BoundLaws

@@ -10,12 +10,13 @@ use Rattle.state.specs.declared.State.{State}
 use Rattle.open.specs.Open.{closedState}
 use Rattle.preview.specs.Entries.{wordsOf}
 use Rattle.critical.specs.Critical.{placeWords}
-use Rattle.engine.specs.Calls.{Aside, committee, share, certificate, block, preview, critical, listing, Call, opens, propose, endorse, certify, accept, advance, commit, enqueue, draw, aside}
+use Rattle.engine.specs.Calls.{Aside, committee, share, effect, certificate, block, preview, critical, listing, Call, opens, propose, endorse, certify, accept, advance, commit, enqueue, draw, aside}
 use Rattle.engine.specs.Engine.{Engine, refusalFor, after}
-use Rattle.engine.specs.Values.{Value, nothing, number, weights, held, entries, places, chain, valueOf}
-use Rattle.bodies.specs.Lengths.{stateLength, heldLength, committeeLength}
+use Rattle.engine.specs.Values.{Value, nothing, number, weights, shares, held, entries, places, chain, valueOf}
+use Rattle.bodies.specs.Lengths.{stateLength, heldLength, committeeLength, effectLength}
 use Rattle.bodies.specs.Words.{sixteen}
 use Rattle.words.specs.Proposals.{heldWords}
+use Rattle.words.specs.Effects.{effectWords}
 use Rattle.words.specs.States.{stateReads, stateIn, stateWords}
 
 -- what a call comes to: the number that refuses it, 0 for none, a value, and the words of the state, the table and the out stretch afterwards
@@ -52,6 +53,7 @@ pub data Use : Type 0 where
 abbrev pub roomFor : Aside → ℕ
 roomFor (committee r) = committeeLength
 roomFor (share m r) = 0
+roomFor (effect m r a) = effectLength
 roomFor (certificate m r) = heldLength
 roomFor (block n) = 0
 roomFor (preview n) = 0
@@ -75,6 +77,7 @@ abbrev pub valueWord : Value → ℕ
 valueWord nothing = 0
 valueWord (number n) = n
 valueWord (weights x) = 0
+valueWord (shares x) = 0
 valueWord (held p endorsers k) = 0
 valueWord (entries l) = length l
 valueWord (places l) = length l
@@ -113,6 +116,7 @@ module _ (w t o : List ℕ) where
   outOver nothing = o
   outOver (number n) = o
   outOver (weights x) = paste o 0 (sixteen x) committeeLength
+  outOver (shares x) = paste o 0 (effectWords x) effectLength
   outOver (held p endorsers k) = paste o 0 (heldWords p endorsers k) heldLength
   outOver (entries l) = sets o 0 (wordsOf l)
   outOver (places l) = sets o 0 (placeWords l)

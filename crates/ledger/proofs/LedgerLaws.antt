@@ -1,14 +1,11 @@
 -- Each member's weight adds up.
-use mathlib.Core.Path.{_≡_, refl, sym, _∙_}
+use mathlib.Core.Path.{_≡_, refl, ap, _∙_}
 use mathlib.Core.Bool.{Bool, true, false, cond, false≢true}
 use mathlib.Core.List.{List, [], _∷_}
 use Prim.Native.Nat.{ℕ, _+_, _<_}
 use native.Mathlib.Omega.{arith}
-use native.Mathlib.Decide.{ℕ-discrete, decLt}
-use lib.ListN.{set, length, length-set}
-use lib.Seq.{getD-set-same, getD-set-other}
-use lib.Dec.{eqb, ltb}
-use borrow.Author.Tests.{eq-eqb, ne-eqb, lt-ltb, le-ltb}
+use lib.ListN.{length}
+use lib.Dec.{eqb}
 use Rattle.agreement.specs.Rules.{Chain}
 use Rattle.terms.specs.declared.Transaction.{Transaction}
 use Rattle.terms.specs.declared.Transaction.the-variants.{Bond, Unbond, Entry}
@@ -17,6 +14,7 @@ use Rattle.sheet.specs.Ranges.{weightIn}
 use Rattle.sheet.specs.declared.Settings.{Settings}
 use Rattle.committee.specs.Changes.{change, changes, changesOf}
 use Rattle.committee.specs.Committees.{bondedFrom, ordered}
+use Rattle.committee.proofs.ChangeLaws.{length-change, bond-at, unbond-at}
 use Rattle.committee.proofs.BondedLaws.{step-counts, bonded-step}
 use Rattle.ledger.specs.Ledger.{entered, enteredOf, journal, bondOf, unbonds, releases, bondedTo, releasedFrom}
 
@@ -43,19 +41,6 @@ unfoldable pub weightsAfter : List ℕ → List Transaction → List ℕ
 weightsAfter w [] = w
 weightsAfter w (x ∷ e) = change x (weightsAfter w e)
 
-length-change : (x : Transaction) (w : List ℕ) → length (change x w) ≡ length w
-length-change (Bond i a) w = go (ltb (i .0) 16)
-  where
-    go : (b : Bool) → length (cond b (set w (i .0) (weightIn w (i .0) + a)) w) ≡ length w
-    go true = length-set w (i .0) (weightIn w (i .0) + a)
-    go false = refl
-length-change (Unbond i) w = go (ltb (i .0) 16)
-  where
-    go : (b : Bool) → length (cond b (set w (i .0) 0) w) ≡ length w
-    go true = length-set w (i .0) 0
-    go false = refl
-length-change (Entry n) w = refl
-
 length-after : (w : List ℕ) (e : List Transaction) → length (weightsAfter w e) ≡ length w
 unfolding weightsAfter
 length-after w [] = refl
@@ -63,18 +48,8 @@ length-after w (x ∷ e) = length-change x (weightsAfter w e) ∙ length-after w
 
 -- what a transaction does to the weight of member m
 pub change-at : (x : Transaction) (w : List ℕ) (m : ℕ) → length w ≡ 16 → m < 16 → weightIn (change x w) m ≡ cond (unbonds m x) 0 (bondOf m x + weightIn w m)
-change-at (Bond i a) w m l h = go (ℕ-discrete (i .0) m) (decLt (i .0) 16)
-  where
-    go : Dec (i .0 ≡ m) → Dec (i .0 < 16) → weightIn (cond (ltb (i .0) 16) (set w (i .0) (weightIn w (i .0) + a)) w) m ≡ cond (eqb (i .0) m) a 0 + weightIn w m
-    go (yes e) d = rw (eq-eqb (i .0) m e, e, lt-ltb m 16 h, getD-set-same w m (weightIn w m + a) 0 (omega arith)) (omega arith)
-    go (no n) (yes k) = rw (ne-eqb (i .0) m n, lt-ltb (i .0) 16 k, getD-set-other w (i .0) m (weightIn w (i .0) + a) 0 (λ q. n (sym q))) (omega arith)
-    go (no n) (no k) = rw (ne-eqb (i .0) m n, le-ltb (i .0) 16 (omega arith)) (omega arith)
-change-at (Unbond i) w m l h = go (ℕ-discrete (i .0) m) (decLt (i .0) 16)
-  where
-    go : Dec (i .0 ≡ m) → Dec (i .0 < 16) → weightIn (cond (ltb (i .0) 16) (set w (i .0) 0) w) m ≡ cond (eqb (i .0) m) 0 (0 + weightIn w m)
-    go (yes e) d = rw (eq-eqb (i .0) m e, e, lt-ltb m 16 h, getD-set-same w m 0 0 (omega arith)) refl
-    go (no n) (yes k) = rw (ne-eqb (i .0) m n, lt-ltb (i .0) 16 k, getD-set-other w (i .0) m 0 0 (λ q. n (sym q))) (omega arith)
-    go (no n) (no k) = rw (ne-eqb (i .0) m n, le-ltb (i .0) 16 (omega arith)) (omega arith)
+change-at (Bond i a) w m l h = bond-at (i .0) a w m l h
+change-at (Unbond i) w m l h = unbond-at (i .0) w m l h ∙ ap (cond (eqb (i .0) m) 0) (omega arith)
 change-at (Entry n) w m l h = omega arith
 
 -- a member's weight is what an unbond would release

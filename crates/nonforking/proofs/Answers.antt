@@ -16,10 +16,10 @@ use Rattle.sheet.specs.Ranges.{outOfRange}
 use Rattle.rules.specs.Tests.{MemberView}
 use Rattle.rules.specs.Calls as rules
 use Rattle.rules.specs.Calls.{ruledRefusal}
-use Rattle.rules.specs.Reads.{readingCommittee, readingShare, readingCertificate, readingBlock}
+use Rattle.rules.specs.Reads.{readingCommittee, readingShare, readingEffect, readingCertificate, readingBlock}
 use Rattle.rules.proofs.Runs.{viewAfter}
 use Rattle.enqueue.proofs.PassedLaws.{enqueue-refused}
-use Rattle.engine.specs.Calls.{Aside, committee, share, certificate, block, preview, critical, listing, Call, opens, propose, endorse, certify, accept, advance, commit, enqueue, draw, aside}
+use Rattle.engine.specs.Calls.{Aside, committee, share, effect, certificate, block, preview, critical, listing, Call, opens, propose, endorse, certify, accept, advance, commit, enqueue, draw, aside}
 use Rattle.engine.specs.Engine.{Engine, asideChecks, refusalFor}
 use Rattle.engine.specs.Steps.{viewAt, ruled}
 use Rattle.engine.specs.Reached.{Good}
@@ -64,6 +64,7 @@ module _ (S : Settings) where
   abbrev asideBy : ℕ → MemberView S → Aside → Checks
   asideBy k s (committee r) = readingCommittee S s (r .0)
   asideBy k s (share m r) = readingShare S s (m .0) (r .0)
+  asideBy k s (effect m r a) = readingEffect S s (m .0) (r .0) a
   asideBy k s (certificate m r) = readingCertificate S s (m .0) (r .0)
   asideBy k s (block n) = readingBlock S s n
   asideBy k s (preview n) = (ltb (n / 3) (16 * S .ceiling .0), 25) ∷ rules.checks S k s rules.commit
@@ -80,6 +81,7 @@ module _ (S : Settings) where
 aside-by : (e : Engine) (x : Aside) → asideChecks e x ≡ asideBy (e .state .settings) (e .state .own .0) (viewAt (e .state .settings) e) x
 aside-by e (committee r) = refl
 aside-by e (share m r) = refl
+aside-by e (effect m r a) = refl
 aside-by e (certificate m r) = refl
 aside-by e (block n) = refl
 aside-by e (preview n) = refl

@@ -10,7 +10,7 @@ use Rattle.sheet.specs.declared.Settings.{Settings}
 use Rattle.state.specs.declared.State.{State}
 use Rattle.engine.specs.Calls.{Call}
 use Rattle.engine.specs.Engine.{Engine, refusalFor, after}
-use Rattle.engine.specs.Values.{Value, nothing, number, weights, held, entries, places, chain, acceptedValue}
+use Rattle.engine.specs.Values.{Value, nothing, number, weights, shares, held, entries, places, chain, acceptedValue}
 use Rattle.lines.specs.Lines.{okLine, countLine, refusedLine}
 use Rattle.putting.specs.Puts.{Puts}
 use Rattle.listing.specs.Listing.{chainLines}
@@ -26,6 +26,7 @@ abbrev pub valueLines : Settings → Value → List ℕ
 valueLines S nothing = okLine
 valueLines S (number n) = countLine n
 valueLines S (weights x) = okLine
+valueLines S (shares x) = okLine
 valueLines S (held p e k) = okLine
 valueLines S (entries l) = okLine
 valueLines S (places l) = okLine

@@ -10,11 +10,14 @@ use Rattle.agreement.specs.Weights.{total}
 use Rattle.agreement.specs.Rules.{Block, Chain}
 use Rattle.agreement.specs.Dag.{isHeld}
 use Rattle.agreement.specs.Prefixes.{blockNumbered}
+use Rattle.terms.specs.Transactions.{amountInRange}
 use Rattle.terms.specs.Proposals.{Content}
 use Rattle.sheet.specs.declared.Settings.{Settings}
 use Rattle.committee.specs.Committees.{committeeOf}
 use Rattle.shares.specs.Shares.{shareOf}
 use Rattle.committee.specs.Leaders.{members}
+use Rattle.effects.specs.declared.Effect.{Effect}
+use Rattle.effects.specs.Effects.{bondEffect}
 use Rattle.rules.specs.Tests.{MemberView, badRound, committeeIn, unknown}
 
 -- the number of the block that holds the certificate of a place, 0 for none
@@ -43,6 +46,14 @@ module _ (S : Settings) where
   -- the thousandths
   abbrev pub shareRead : MemberView S → ℕ → ℕ → ℕ
   shareRead s m r = shareOf (committeeIn S s r m) (total 16 (committeeIn S s r))
+
+  -- bond effect: 4, 5, 6 the amount, 8, 30 an empty committee
+  abbrev pub readingEffect : MemberView S → ℕ → ℕ → ℕ → Checks
+  readingEffect s m r a = (ltb 15 m, 4) ∷ (badRound S r, 5) ∷ (not (amountInRange a), 6) ∷ (unknown S s r, 8) ∷ (eqb (total 16 (committeeIn S s r)) 0, 30) ∷ []
+
+  -- all sixteen shares of that committee before and after member m bonds a, and the largest difference
+  abbrev pub effectRead : MemberView S → ℕ → ℕ → ℕ → Effect
+  effectRead s m r a = bondEffect m a (committeeRead s r)
 
   -- certificate: 4, 5, 23 none there
   abbrev pub readingCertificate : MemberView S → ℕ → ℕ → Checks

@@ -1,1 +1,2 @@
 pub mod ShareLaws
+pub mod MoveLaws

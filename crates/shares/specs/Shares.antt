@@ -1,6 +1,6 @@
 -- Shares: weights in thousandths of a total, to the nearest, an exact half to the even neighbour.
 use mathlib.Core.Bool.{cond}
-use Prim.Native.Nat.{ℕ, _+_, _*_, _/_, _%_, _<_, _≤_}
+use Prim.Native.Nat.{ℕ, _+_, _-_, _*_, _/_, _%_, _<_, _≤_}
 use lib.Dec.{ltb}
 
 -- the even one of q and q + 1
@@ -19,6 +19,10 @@ nearest a n = rounded (a / n) (a % n) n
 unfoldable pub shareOf : ℕ → ℕ → ℕ
 shareOf w n = nearest (1000 * w) n
 
+-- how far two numbers are apart
+abbrev pub apart : ℕ → ℕ → ℕ
+apart a b = (a - b) + (b - a)
+
 -- twice the distance from s to a / n is at most 1, put without a fraction
 pub record Near (a n s : ℕ) : Type 0 where
   pub above : 2 * (n * s) ≤ 2 * a + n
@@ -28,10 +32,10 @@ pub record Near (a n s : ℕ) : Type 0 where
 pub record Division (q r n : ℕ) : Type 0 where
   pub whole : q ≤ 1000
   pub rest : r < n
-  pub bounded : n ≤ 562949953421312
+  pub bounded : n ≤ 1125899906842624
 
 -- x is a part of the total n, which is not 0
 pub record PartOf (x n : ℕ) : Type 0 where
   pub some : 0 < n
   pub part : x ≤ n
-  pub bounded : n ≤ 562949953421312
+  pub bounded : n ≤ 1125899906842624

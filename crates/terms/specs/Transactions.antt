@@ -33,9 +33,12 @@ noTransaction = Bond (record { 0 = 0 }) 0
 unfoldable pub sameTransaction : Transaction → Transaction → Bool
 sameTransaction x y = eqb (kindOf x) (kindOf y) && (eqb (numberOf x) (numberOf y) && eqb (amountOf x) (amountOf y))
 
--- a bond's member is 0 to 15, and its amount 1 to 1,000
+-- a bond's amount is 1 to 1,000, and its member 0 to 15
+abbrev pub amountInRange : ℕ → Bool
+amountInRange a = leb 1 a && leb a 1000
+
 unfoldable pub bondInRange : ℕ → ℕ → Bool
-bondInRange m a = ltb m 16 && (leb 1 a && leb a 1000)
+bondInRange m a = ltb m 16 && amountInRange a
 
 -- a transaction in range
 abbrev pub inRange : Transaction → Bool

@@ -2,7 +2,7 @@
 ghost use mathlib.Core.Path.{_≡_};
 ghost use Prim.Native.Nat.{_<_, _≤_};
 ghost use Rattle.base.specs.Folds.{allTo};
-ghost use Rattle.terms.specs.Transactions.{kindOf, numberOf, amountOf, readTransaction, sameTransaction, bondInRange, inRange};
+ghost use Rattle.terms.specs.Transactions.{kindOf, numberOf, amountOf, readTransaction, sameTransaction, amountInRange, bondInRange, inRange};
 ghost use Rattle.terms.specs.Bodies.{push};
 ghost use Rattle.terms.specs.Proposals.{bareBody, slotOf, transactionsOf, badTransactions, badPreviousSet};
 
@@ -132,6 +132,16 @@ pub fn same_transaction(x: Transaction, y: Transaction) -> bool
     amount(x) == amount(y)
 }
 
+// Is a bond's amount in range?
+pub fn amount_in_range(a: u32) -> bool
+    ensures { λ v. ⌜ v ≡ amountInRange a ⌝ }
+{
+    if a < 1 {
+        return false;
+    }
+    a <= 1000
+}
+
 // Are a bond's member and amount in range?
 pub fn bond_in_range(m: Member, a: u32) -> bool
     ensures { λ v. ⌜ v ≡ bondInRange (m .0) a ⌝ }
@@ -139,10 +149,7 @@ pub fn bond_in_range(m: Member, a: u32) -> bool
     if 16 <= m.0 {
         return false;
     }
-    if a < 1 {
-        return false;
-    }
-    a <= 1000
+    amount_in_range(a)
 }
 
 // Is the transaction in range?

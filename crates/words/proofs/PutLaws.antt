@@ -1,4 +1,4 @@
--- Laws of the words of a held certificate and of a state, put piece by piece.
+-- Laws of the words of a held certificate, of a bond's effect and of a state, put piece by piece.
 use mathlib.Core.Path.{_≡_, refl, ap, ap₂, _∙_}
 use mathlib.Core.Bool.{cond}
 use mathlib.Core.List.{List, [], _∷_, _++_}
@@ -7,13 +7,15 @@ use native.Mathlib.Omega.{arith}
 use lib.ListN.{length, length-append}
 use lib.Seq.{paste}
 use Rattle.terms.specs.declared.Proposal.{Proposal}
+use Rattle.effects.specs.declared.Effect.{Effect}
 use Rattle.state.specs.declared.State.{State}
-use Rattle.bodies.specs.Lengths.{stateLength, bodyLength, proposalLength, heldLength}
+use Rattle.bodies.specs.Lengths.{stateLength, bodyLength, proposalLength, heldLength, effectLength}
 use Rattle.bodies.specs.Words.{sixteen}
 use Rattle.bodies.proofs.PasteLaws.{paste-append, length-sixteen}
 use Rattle.bodies.specs.Bodies.{bodyWords}
 use Rattle.bodies.proofs.BodyLaws.{length-body}
 use Rattle.words.specs.Proposals.{heldWords}
+use Rattle.words.specs.Effects.{effectWords}
 use Rattle.words.specs.States.{ownBody, stateWords}
 
 pub held-put : (p : Proposal) (d k : ℕ) (t : List ℕ) → heldLength ≤ length t
@@ -24,6 +26,15 @@ held-put p d k t h =
     let l = length-body (p .body) in
     ap (λ (z : List ℕ). paste z proposalLength (d ∷ k ∷ []) 2) (paste-append t 0 head (bodyWords (p .body)) 2 bodyLength refl (omega arith))
     ∙ paste-append t 0 (head ++ bodyWords (p .body)) (d ∷ k ∷ []) proposalLength 2 (length-append head (bodyWords (p .body)) ∙ ap (λ (z : ℕ). 2 + z) l) (omega arith)
+
+pub effect-put : (x : Effect) (t : List ℕ) → effectLength ≤ length t
+    → paste (paste (paste t 0 (sixteen (x .before)) 16) 16 (sixteen (x .after)) 16) 32 (x .largest ∷ []) 1 ≡ paste t 0 (effectWords x) effectLength
+unfolding effectWords
+effect-put x t h =
+    let b = sixteen (x .before) in
+    let a = sixteen (x .after) in
+    ap (λ (z : List ℕ). paste z 32 (x .largest ∷ []) 1) (paste-append t 0 b a 16 16 (length-sixteen (x .before)) (omega arith))
+    ∙ paste-append t 0 (b ++ a) (x .largest ∷ []) 32 1 (length-append b a ∙ ap₂ (λ (y z : ℕ). y + z) (length-sixteen (x .before)) (length-sixteen (x .after))) (omega arith)
 
 -- the pieces of a state's words, one after the other
 pub state-put : (s : State) (t : List ℕ) → stateLength ≤ length t

@@ -3,3 +3,4 @@ pub mod Sheets
 pub mod States
 pub mod TidyStates
 pub mod Readings
+pub mod Effects

@@ -43,6 +43,7 @@ fn all_calls() -> Vec<Asked> {
         Drive: commit();
         Read: committee(3);
         Read: share(1, 3);
+        Read: bond_effect(5, 3, 2);
         Read: certificate(1, 1);
         Read: block(1);
         Read: preview();
@@ -270,6 +271,7 @@ fn stretches_without_the_word_of_rights() {
                 lent::guest_critical(caller, &state, &mut table, &mut list).map(|_| ()),
                 lent::guest_committee(caller, &state, &table, 1).map(|_| ()),
                 lent::guest_share(caller, &state, &table, 0, 1).map(|_| ()),
+                lent::guest_bond_effect(caller, &state, &table, 0, 1, 1).map(|_| ()),
                 lent::guest_certificate(caller, &state, &table, 0, 1).map(|_| ()),
                 lent::guest_block(caller, &state, &table, 1).map(|_| ()),
                 lent::guest_chain(caller, &state, &table, &mut places).map(|_| ()),
@@ -352,6 +354,9 @@ fn guests_read_together() {
     assert_eq!(one.chain(), engine.chain());
     assert_eq!((one.block(1), two.block(1), without.block(1)), (Ok(2), Ok(2), Err(Refusal::NoRight)));
     assert_eq!(two.certificate(1, 1), engine.certificate(1, 1));
+    assert_eq!((one.bond_effect(5, 3, 2), two.bond_effect(5, 3, 0)),
+               (engine.bond_effect(5, 3, 2), Err(Refusal::TransactionsRange)));
+    assert_eq!(without.bond_effect(16, 0, 0), Err(Refusal::NoRight));
     let mut list = [lent::Place::default(); 8];
     assert_eq!(lent::guest_chain(1, &engine.state, &engine.table, &mut list), Ok(5));
     assert_eq!(lent::guest_chain(1, &engine.state, &engine.table, &mut list[..4]), Err(Refusal::Malformed));
