@@ -1,4 +1,5 @@
 // Advance: the next round, and the proposal dropped; not past a round in which no quorum is held (scope document: Calls, in the order of their checks; Point 7).
+#![tactic(auto)]
 ghost use Rattle.std.specs.Prelude.{◌≡◌};
 ghost use Rattle.base.specs.Checks.{refusal};
 ghost use Rattle.rules.specs.Calls.{advancing};

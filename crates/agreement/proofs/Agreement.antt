@@ -106,12 +106,12 @@ module _ {R : Rules} (correct : ℕ → Bool) where
       }
 
   -- every world of a run is sound
-  pub sound : {w v : World R} {G H : Log R} → Sound correct w G → Run correct w G v H → Sound correct v H
+  pub sound : {w : World R} {G : Log R} {v : World R} {H : Log R} → Sound correct w G → Run correct w G v H → Sound correct v H
   sound S begin = S
   sound S (step r n b) = sound-next (sound S r) n b
 
   -- a chain only ever grows
-  pub chains-grow : {w v : World R} {G H : Log R} → Run correct w G v H → (i : ℕ) → (w i).chain ≼ (v i).chain
+  pub chains-grow : {w : World R} {G : Log R} {v : World R} {H : Log R} → Run correct w G v H → (i : ℕ) → (w i).chain ≼ (v i).chain
   chains-grow begin i = same
   chains-grow (step r n b) i = ≼_trans (chains-grow r i) (move-grows (each n i)).chain
 

@@ -10,7 +10,7 @@ use replies::Reply;
 use state::State;
 
 // After a step: the state, whether it is well formed, whether a record that was answered goes on, how many bytes are done with, and the next place of the buffer.
-#[derive(Drop)]
+#[derive(Clone, Copy)]
 pub struct Progress {
     pub state: State,
     pub formed: bool,

@@ -1,4 +1,5 @@
 // Sets of members as 16-bit numbers, and a call's checks as lists (scope document: Terms and sheet).
+#![tactic(auto)]
 ghost use Rattle.std.specs.Prelude.{◌≡◌, ◌<◌};
 ghost use Rattle.base.specs.Sets.{isIn, add, del, only, union, common, isSubset, is_empty};
 

@@ -1,4 +1,5 @@
 // A batch from its checks to its answers, around the turns over the row (change request: Point 4).
+#![tactic(auto)]
 ghost use Rattle.std.specs.Prelude.{◌≡◌, cond, ◌+◌, ◌≤◌, eqb, length};
 ghost use Rattle.std.proofs.Math.Seq.{paste};
 ghost use Rattle.cache.specs.Caches.{firstRound};
@@ -14,7 +15,7 @@ use rights::Right;
 use state::State;
 
 // The refusal's number, 0 for none, the state, how many turns are to be taken, and what they start from.
-#[derive(Drop)]
+#[derive(Clone, Copy)]
 pub struct Start {
     pub refusal: u32,
     pub state: State,

@@ -1,4 +1,5 @@
 // A body as fourteen words, and a transaction as three: read, and put.
+#![tactic(auto)]
 pub mod lengths;
 pub mod stretch;
 

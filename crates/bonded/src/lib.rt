@@ -1,5 +1,6 @@
 // The committees of rounds, from the chain in the table (scope document: Committees, quorums, leaders).
 // Its cost is that of one pass over the header of each row and each held certificate, of one leader for each block, and of at most two looks at each certificate in a block.
+#![tactic(auto)]
 ghost use Rattle.std.specs.Prelude.{◌≡◌, true, ℕ, ◌-◌, ◌<◌, ◌≤◌};
 ghost use Rattle.store.specs.Table.{Row};
 ghost use Rattle.committee.specs.Chain.{chainOf};
@@ -15,7 +16,7 @@ use sheet::Settings;
 use terms::Round;
 
 // The committees of a round and of the one before it.
-#[derive(Drop)]
+#[derive(Clone, Copy)]
 pub struct Pair {
     pub before: [u64; 16],
     pub at: [u64; 16],

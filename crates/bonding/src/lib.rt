@@ -1,4 +1,5 @@
 // The read of what a bond would do to all sixteen shares. It changes nothing (change request: Point 13).
+#![tactic(auto)]
 ghost use Rattle.std.specs.Prelude.{◌≡◌};
 ghost use Rattle.base.specs.Checks.{refusal};
 ghost use Rattle.standing.specs.Answers.{ReadAnswered};
@@ -10,7 +11,7 @@ use state::State;
 use terms::{Member, Round};
 
 // Sixteen shares before and after, and the largest difference; all 0 where the read is refused.
-#[derive(Drop)]
+#[derive(Clone, Copy)]
 pub struct EffectRead {
     pub answer: Answer,
     pub effect: Effect,

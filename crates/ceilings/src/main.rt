@@ -1,4 +1,5 @@
 // The largest ceiling and one above it: 1,024 opens, and 1,025 is out of range (scope document: Edges).
+#![tactic(auto)]
 use libc::STDOUT_FILENO;
 use sheet::{Rights, Setting, Sheet};
 use terms::Member;

@@ -1,4 +1,5 @@
 // The two ways to the world: bytes that are read behind those at hand, and bytes that are written out. Only here are standard input and output touched.
+#![tactic(auto)]
 ghost use Rattle.std.specs.Prelude.{◌≡◌, true, false, ◌-◌, ◌≤◌, length, take, drop, pos};
 ghost use Rattle.channel.specs.Channel.{ReadBehind};
 
@@ -6,7 +7,7 @@ use libc::{STDIN_FILENO, STDOUT_FILENO};
 use serving::rest;
 
 // Whether a read was made, what it answered, and how many bytes came by it. Only this crate makes one: whoever has it has called `more` or `no_read`.
-#[derive(Drop)]
+#[derive(Clone, Copy)]
 pub struct Came {
     read: bool,
     answer: isize,
@@ -59,7 +60,7 @@ pub fn more(buf: &mut [u8], n: usize) -> Came
 }
 
 // How many bytes were handed to the output, and whether all of them went out. Only this crate makes one: whoever has it has called `flush` or `no_write`.
-#[derive(Drop)]
+#[derive(Clone, Copy)]
 pub struct Flushed {
     count: usize,
     whole: bool,

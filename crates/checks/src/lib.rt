@@ -1,4 +1,5 @@
 // What a call answers and leaves, and the checks that several calls share (scope document: Calls, in the order of their checks).
+#![tactic(auto)]
 ghost use Rattle.std.specs.Prelude.{◌≡◌, ◌≤◌, not};
 ghost use Rattle.base.specs.Checks.{refusal};
 ghost use Rattle.terms.specs.Proposals.{contentOf};
@@ -17,21 +18,21 @@ use state::State;
 use terms::{Proposal, Round};
 
 // What a call answers: accepted, or the number of the first check that refuses it.
-#[derive(Drop)]
+#[derive(Clone, Copy)]
 pub enum Answer {
     Accepted,
     Refused(u32),
 }
 
 // What a call that lists in a lent stretch answers: how many it has listed, or the number of the first check that refuses it.
-#[derive(Drop)]
+#[derive(Clone, Copy)]
 pub enum Listed {
     Count(u32),
     Refused(u32),
 }
 
 // The answer, and the state that the call leaves.
-#[derive(Drop)]
+#[derive(Clone, Copy)]
 pub struct Outcome {
     pub state: State,
     pub answer: Answer,

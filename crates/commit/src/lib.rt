@@ -1,4 +1,5 @@
 // Commit: the anchor of the round before, and those that its history takes, make blocks, oldest first (scope document: Commit).
+#![tactic(auto)]
 ghost use Rattle.std.specs.Prelude.{◌≡◌};
 ghost use Rattle.state.specs.WellFormed.{wellFormed};
 ghost use Rattle.commit.specs.Commit.{refusedWith, Commits};
@@ -7,14 +8,14 @@ use state::State;
 use terms::Round;
 
 // Accepted with the number of blocks added, or refused with the number of the first check that refuses.
-#[derive(Drop)]
+#[derive(Clone, Copy)]
 pub enum Committed {
     Added(u32),
     Refused(u32),
 }
 
 // The answer, and the state that the call leaves.
-#[derive(Drop)]
+#[derive(Clone, Copy)]
 pub struct Outcome {
     pub state: State,
     pub answer: Committed,

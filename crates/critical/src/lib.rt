@@ -1,4 +1,5 @@
 // The certificates that a commit hangs on: held ones whose absence alone would turn it into a refusal (change request: Point 10).
+#![tactic(auto)]
 ghost use Rattle.std.specs.Prelude.{◌≡◌, ◌+◌, ◌≤◌, [], ◌∷◌, length};
 ghost use Rattle.putting.specs.Puts.{Puts};
 ghost use Rattle.critical.specs.Critical.{placeWords, refusalWithout, isCritical, criticalAt, criticalIn, criticalPlaces, earlyChecks};
@@ -12,7 +13,7 @@ use state::State;
 use terms::{Member, Round};
 
 // What a commit goes by after the checks of time: the number of the check that refuses then, 0 for none; the leader of the round before, 16 for none; and the committee of the present round.
-#[derive(Drop)]
+#[derive(Clone, Copy)]
 pub struct Polled {
     pub refusal: u32,
     pub leader: Member,
@@ -20,7 +21,7 @@ pub struct Polled {
 }
 
 // What an accepted commit is weighed by: the leader of the round before, and of the present round the committee, its fault bound and the votes.
-#[derive(Drop)]
+#[derive(Clone, Copy)]
 pub struct Weighed {
     pub leader: Member,
     pub weights: [u64; 16],

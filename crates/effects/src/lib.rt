@@ -1,4 +1,5 @@
 // What a bond does to the shares of a committee: all sixteen before and after, and how far they move (change request: Point 13).
+#![tactic(auto)]
 ghost use Rattle.std.specs.Prelude.{◌≡◌, max};
 ghost use Rattle.shares.specs.Shares.{apart};
 ghost use Rattle.effects.specs.Effects.{shares_of, largestTo, bondEffect, noEffect, TotalOf, Bonds};
@@ -7,7 +8,7 @@ use sheet::Weight;
 use terms::Member;
 
 // Sixteen shares before a bond and after it, and the largest difference.
-#[derive(Drop)]
+#[derive(Clone, Copy)]
 pub struct Effect {
     pub before: [u32; 16],
     pub after: [u32; 16],

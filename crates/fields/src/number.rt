@@ -5,7 +5,7 @@ ghost use Rattle.fields.specs.Numbers.{noLeadingZero, numberTo};
 ghost use Rattle.fields.specs.Cursor.{found, firstBy, Stepped};
 
 // What a field holds.
-#[derive(Drop)]
+#[derive(Clone, Copy)]
 pub enum Number {
     NoNumber,
     Of(u32),
@@ -51,7 +51,7 @@ pub fn decimal(f: &[u8], m: u32) -> Number
 }
 
 // A number that was read, and the place of the next field.
-#[derive(Drop)]
+#[derive(Clone, Copy)]
 pub struct Step {
     pub number: Number,
     pub next: usize,

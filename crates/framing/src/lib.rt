@@ -1,10 +1,11 @@
 // Where records end in a stream of bytes that comes piece by piece (scope document: The runner).
+#![tactic(auto)]
 ghost use Rattle.std.specs.Prelude.{◌≡◌, length};
 ghost use Rattle.framing.specs.Streams.{until_end};
 ghost use Rattle.framing.specs.Framing.{passed, endedEvent, openStep, step_of, last_of};
 
 // What a step tells.
-#[derive(Drop)]
+#[derive(Clone, Copy)]
 pub enum Event {
     // Nothing yet.
     Nothing,
@@ -15,7 +16,7 @@ pub enum Event {
 }
 
 // A step: the event, the length of its record without the CRLF, the next place, and whether a record that was answered goes on there.
-#[derive(Drop)]
+#[derive(Clone, Copy)]
 pub struct Step {
     pub event: Event,
     pub length: usize,

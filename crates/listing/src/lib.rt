@@ -1,5 +1,6 @@
 // The lines of a chain, put into a buffer from a place on. Each function returns the next place (scope document: The runner).
 // Its cost is that of one pass over the header of each row and each held certificate, of one walk over the blocks for their starts, and of one row looked at and one line for each certificate in a block.
+#![tactic(auto)]
 ghost use Rattle.std.specs.Prelude.{[], ◌+◌, ◌*◌, ◌≤◌, length};
 ghost use Rattle.store.specs.Table.{Within, contentAt};
 ghost use Rattle.committee.specs.Chain.{chainOf};

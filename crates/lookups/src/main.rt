@@ -1,4 +1,5 @@
 // Every set of sixteen members looked up at every position and one past them: a checksum of the members found, a line for each upper half (scope document: Committees, quorums, leaders).
+#![tactic(auto)]
 ghost use Rattle.std.specs.Prelude.{◌≡◌, ◌<◌};
 ghost use Rattle.positions.specs.Places.{placeTable};
 

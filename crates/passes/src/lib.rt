@@ -1,4 +1,5 @@
 // Pass after pass until the input ends: a whole run, in memory that is lent (scope document: The runner).
+#![tactic(auto)]
 ghost use Rattle.std.specs.Prelude.{◌≡◌, false, [], take};
 ghost use Rattle.framing.specs.Streams.{hasEnd};
 ghost use Rattle.session.specs.Hand.{handIn};
@@ -38,7 +39,7 @@ fn conclude(s: Session, cache: &mut [u64], t: &mut [u32], buf: &[u8], out: &mut 
 }
 
 // The session after the last pass, and what was written out at the end of input.
-#[derive(Drop)]
+#[derive(Clone, Copy)]
 pub struct RunEnd {
     pub session: Session,
     pub last: Flushed,

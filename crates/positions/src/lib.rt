@@ -1,4 +1,5 @@
 // Members of a set of eight by position, from a table (scope document: Committees, quorums, leaders).
+#![tactic(auto)]
 ghost use Rattle.std.specs.Prelude.{◌≡◌, ◌≤◌};
 ghost use Rattle.positions.specs.Places.{placeTable, HasEntry};
 ghost use Rattle.positions.specs.Positions.{place_in};

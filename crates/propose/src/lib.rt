@@ -1,4 +1,5 @@
 // Propose: a proposal for the present round is kept. Author and round are one's own (scope document: Calls, in the order of their checks).
+#![tactic(auto)]
 ghost use Rattle.std.specs.Prelude.{◌≡◌, ◌||◌, drop};
 ghost use Rattle.agreement.specs.Dag.{is_held};
 ghost use Rattle.base.specs.Checks.{refusal};

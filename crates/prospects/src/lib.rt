@@ -1,4 +1,5 @@
 // The blocks that a commit would make, listed without making them: nothing is written but the list (change request: Point 8).
+#![tactic(auto)]
 ghost use Rattle.std.specs.Prelude.{◌-◌, length};
 ghost use Rattle.putting.specs.Puts.{Puts};
 ghost use Rattle.prospects.specs.Prospects.{wordsAfter};
@@ -7,7 +8,7 @@ ghost use Rattle.prospects.specs.Ready.{BlockReady, BlockListed, StepReady, Step
 use terms::{Member, Round};
 
 // How many blocks there would be, and the next place of the list.
-#[derive(Drop)]
+#[derive(Clone, Copy)]
 pub struct Listed {
     pub blocks: u32,
     pub next: usize,

@@ -1,4 +1,5 @@
 // The reads of a certificate and of a block. They change nothing (scope document: Reads).
+#![tactic(auto)]
 ghost use Rattle.std.specs.Prelude.{◌≡◌};
 ghost use Rattle.standing.specs.Answers.{ReadAnswered, ValueAnswered};
 ghost use Rattle.reads.specs.Answers.{blockedAnswer, blockedValue};
@@ -9,7 +10,7 @@ use state::State;
 use terms::{Member, Proposal, Round};
 
 // A held certificate: its proposal, the endorsers that it was stored with, and the number of its block, 0 for none; nothing where the read is refused.
-#[derive(Drop)]
+#[derive(Clone, Copy)]
 pub struct CertificateRead {
     pub answer: Answer,
     pub proposal: Proposal,
@@ -18,7 +19,7 @@ pub struct CertificateRead {
 }
 
 // The round of a block.
-#[derive(Drop)]
+#[derive(Clone, Copy)]
 pub enum BlockRead {
     At(Round),
     Refused(u32),

@@ -1,4 +1,5 @@
 // The registers of guests' serial ports, eight bytes of the 16450 each, over the listing of the chain: reads, writes, resets (change request: Point 14).
+#![tactic(auto)]
 ghost use Rattle.std.specs.Prelude.{◌≡◌, true, cond, not, ◌&&◌, ◌≢◌, ℕ, ◌+◌, ◌/◌, ◌%◌, ◌<◌, eqb, leb, ltb, length, get_or, set, replicate};
 ghost use Rattle.std.proofs.Math.Seq.{paste};
 ghost use Rattle.store.specs.Table.{Row};
@@ -11,7 +12,7 @@ ghost use Rattle.registers.specs.Bytes.{NextByte, looksAtNext};
 use sheet::Settings;
 
 // The byte after the last one that was read, and where it stands: the place of its line, and which byte of it, counted from 1. The place is 0 where there is none.
-#[derive(Drop)]
+#[derive(Clone, Copy)]
 pub struct Next {
     pub place: u32,
     pub bytes: u32,

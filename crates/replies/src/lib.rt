@@ -1,4 +1,5 @@
 // The reply to a call: the state that it leaves, what is cached beside it, and the line that answers it (scope document: The runner).
+#![tactic(auto)]
 pub mod answer;
 pub mod cached;
 
@@ -19,7 +20,7 @@ use state::State;
 use terms::Member;
 
 // The state after a record, whether it is well formed, and the next place of the buffer.
-#[derive(Drop)]
+#[derive(Clone, Copy)]
 pub struct Reply {
     pub state: State,
     pub formed: bool,

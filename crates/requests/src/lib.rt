@@ -1,4 +1,5 @@
 // From the bytes of one record, without its CRLF, to what it asks for (scope document: The runner).
+#![tactic(auto)]
 pub mod call;
 pub mod setting;
 pub mod word;
@@ -13,7 +14,7 @@ use terms::{Body, Member, Round};
 pub const MOST_SET: u32 = 65535;
 
 // What a record asks for.
-#[derive(Drop)]
+#[derive(Clone, Copy)]
 pub enum Kind {
     Unreadable,
     Open,
@@ -27,7 +28,7 @@ pub enum Kind {
 }
 
 // What a record asks for, with the values that it names; those that its kind has not are blank.
-#[derive(Drop)]
+#[derive(Clone, Copy)]
 pub struct Reading {
     pub kind: Kind,
     pub own: Member,

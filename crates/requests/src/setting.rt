@@ -10,21 +10,21 @@ use fields::number::Number;
 use sheet::{Cell, Setting};
 
 // What a field of the sheet holds.
-#[derive(Drop)]
+#[derive(Clone, Copy)]
 pub enum SettingRead {
     NoSetting,
     Is(Setting),
 }
 
 // A setting that was read, and the place of the next field.
-#[derive(Drop)]
+#[derive(Clone, Copy)]
 pub struct SettingStep {
     pub setting: SettingRead,
     pub next: usize,
 }
 
 // Sixteen weights, if all of them are readable, and the place of the next field.
-#[derive(Drop)]
+#[derive(Clone, Copy)]
 pub struct Weights {
     pub ok: bool,
     pub cells: [Cell; 16],

@@ -1,11 +1,12 @@
 // What guests may do: four rights of callers 0 to 7, fixed at opening (change request: Point 11).
+#![tactic(auto)]
 ghost use Rattle.std.specs.Prelude.{◌≡◌, ◌<◌};
 ghost use Rattle.rights.specs.Rights.{rightNumber, may, callerRefusal};
 
 use sheet::Rights;
 
 // Propose, with drawing and adding to one's own queue; sign: endorse, certify, accept, batches; drive: advance, commit; read: reads, previews and lists.
-#[derive(Drop)]
+#[derive(Clone, Copy)]
 pub enum Right {
     Propose,
     Sign,

@@ -1,5 +1,6 @@
 // The runner: records come in on standard input, and the lines that answer them go out on standard output (scope document: The runner).
 // Its memory is fixed: a table for ceilings up to 64, the committees of its rounds, and a buffer each for input and output.
+#![tactic(auto)]
 use serving::lengths::{CACHE, INPUT, OUTPUT, TABLE};
 
 fn main() {

@@ -1,5 +1,6 @@
 // A running committee: the starting weights, changed by the first blocks of the chain, oldest first.
 // The rows of a block start with the leader of its round, whose committee is that of lookback rounds before: so the start of each block is told before the blocks from there on are applied.
+#![tactic(auto)]
 pub mod starts;
 
 ghost use Rattle.std.specs.Prelude.{◌≡◌, ◌+◌, ◌-◌, ◌<◌, ◌≤◌};
@@ -12,7 +13,7 @@ use sheet::Settings;
 use terms::{Member, Round};
 
 // How many blocks are applied, and of how many the starts are written.
-#[derive(Drop)]
+#[derive(Clone, Copy)]
 pub struct Applied {
     pub blocks: u32,
     pub starts: u32,

@@ -1,4 +1,5 @@
 // Accesses to guests' serial ports, and their resets, on a state and its table (change request: Point 14).
+#![tactic(auto)]
 ghost use Rattle.std.specs.Prelude.{◌≡◌, not, [], ◌∷◌, ◌++◌};
 ghost use Rattle.base.specs.Checks.{refusal};
 ghost use Rattle.state.specs.WellFormed.{wellFormed};
@@ -12,7 +13,7 @@ use checks::{Answer, Outcome};
 use state::State;
 
 // What a register shows.
-#[derive(Drop)]
+#[derive(Clone, Copy)]
 pub enum RegisterRead {
     Value(u32),
     Refused(u32),

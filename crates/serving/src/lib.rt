@@ -1,4 +1,5 @@
 // The bytes at hand served: step after step, as long as they hold a whole record and there is room for its answer (scope document: The runner).
+#![tactic(auto)]
 pub mod lengths;
 
 ghost use Rattle.std.specs.Prelude.{◌≡◌, false, ◌+◌, ◌*◌, ◌≤◌, length, drop};
@@ -15,7 +16,7 @@ use replies::Reply;
 use state::State;
 
 // The state, whether it is well formed, whether a record that was answered goes on, the place of the input buffer where the bytes at hand start, the next place of the output buffer, and whether more bytes are wanted.
-#[derive(Drop)]
+#[derive(Clone, Copy)]
 pub struct Work {
     pub state: State,
     pub formed: bool,

@@ -1,4 +1,5 @@
 // A session going on: the bytes at hand are served, the answers written out, and more bytes read (scope document: The runner).
+#![tactic(auto)]
 ghost use Rattle.std.specs.Prelude.{◌≡◌};
 ghost use Rattle.serving.specs.Work.{OutputEmptied};
 ghost use Rattle.session.specs.Session.{SessionReady, NothingRead, is_over, RefillReady, wantsRead, SessionRefilled, PassServed};
@@ -8,7 +9,7 @@ use serving::Work;
 
 // The work, where the bytes at hand end in the input buffer, and whether the input has ended. Of the last pass: what it wrote out, and what it read.
 // Only this crate makes one: whoever has it has called `start`, and then `serve_pass` some times.
-#[derive(Drop)]
+#[derive(Clone, Copy)]
 pub struct Session {
     work: Work,
     end: usize,

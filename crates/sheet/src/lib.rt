@@ -1,4 +1,5 @@
 // The sheet of settings: what an integrator fills in, its defaults and its ranges (scope document: Terms and sheet).
+#![tactic(auto)]
 ghost use Rattle.std.specs.Prelude.{◌≡◌, ◌<◌};
 ghost use Rattle.base.specs.Folds.{anyTo, tab};
 ghost use Rattle.sheet.specs.Sheets.{blankSheet, valueOr, blankWeight, weightAt, filled};
@@ -7,24 +8,24 @@ ghost use Rattle.sheet.specs.Ranges.{weightIn, notWithin, outOfRange, weightless
 use terms::{Member, Round};
 
 // Each setting is blank or written with a number.
-#[derive(Drop)]
+#[derive(Clone, Copy)]
 pub enum Setting {
     Blank,
     Written(u32),
 }
 
 // A setting as an element of an array.
-#[derive(Drop)]
+#[derive(Clone, Copy)]
 pub struct Cell {
     pub setting: Setting,
 }
 
 // What callers 0 to 7 may do, a bit each: bit 8 r + c is caller c's right r, where 0 is propose, 1 sign, 2 drive and 3 read (change request: Point 11).
-#[derive(Drop)]
+#[derive(Clone, Copy)]
 pub struct Rights(pub u32);
 
 // The settings, and the rights that the host fixes beside them.
-#[derive(Drop)]
+#[derive(Clone, Copy)]
 pub struct Sheet {
     pub lookback: Setting,
     pub ceiling: Setting,
@@ -35,11 +36,11 @@ pub struct Sheet {
 }
 
 // A member's weight.
-#[derive(Drop)]
+#[derive(Clone, Copy)]
 pub struct Weight(pub u64);
 
 // The filled settings: the ceiling is the last round, the weights are the starting ones, and the margin is what a total less 1 is divided by for its fault bound.
-#[derive(Drop)]
+#[derive(Clone, Copy)]
 pub struct Settings {
     pub lookback: u32,
     pub ceiling: Round,

@@ -1,4 +1,5 @@
 // The reads of a committee and of a share in it. They change nothing (scope document: Reads).
+#![tactic(auto)]
 ghost use Rattle.std.specs.Prelude.{◌≡◌, ◌<◌, true};
 ghost use Rattle.state.specs.WellFormed.{wellFormed};
 ghost use Rattle.standing.specs.Answers.{sharedAnswer, sharedValue, ReadAnswered, ValueAnswered};
@@ -9,14 +10,14 @@ use state::State;
 use terms::{Member, Round};
 
 // The committee of a round: sixteen weights, 0 for a non-member; all 0 where the read is refused.
-#[derive(Drop)]
+#[derive(Clone, Copy)]
 pub struct CommitteeRead {
     pub answer: Answer,
     pub weights: [u64; 16],
 }
 
 // A member's share in thousandths.
-#[derive(Drop)]
+#[derive(Clone, Copy)]
 pub enum ShareRead {
     Thousandths(u32),
     Refused(u32),

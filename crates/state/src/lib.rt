@@ -1,4 +1,5 @@
 // A member's state, the view that it shows, and whether it is well formed (scope document: A member's state).
+#![tactic(auto)]
 ghost use Rattle.std.specs.Prelude.{◌≡◌, ◌<◌, ◌≤◌};
 ghost use Rattle.state.specs.WellFormed.{numbersFit, headFits, bodyFits, proposalFits, wellFormed};
 
@@ -7,7 +8,7 @@ use store::lengths::ROW;
 use terms::{Body, Member, Round};
 
 // The table holds certificates, endorsed places and blocks; the rest is here.
-#[derive(Drop)]
+#[derive(Clone, Copy)]
 pub struct State {
     pub own: Member,
     pub settings: Settings,

@@ -1,6 +1,7 @@
 // The certificate store: places, certificates, endorsed marks, commit marks and block rounds in a lent table of words (scope document: A member's state).
 // A row: held set, endorsed set, round of block r, 13 words kept for later, sixteen records by author.
 // A record: previous set, count of transactions, commit mark, endorsers, four times kind, number, amount.
+#![tactic(auto)]
 pub mod lengths;
 pub mod record;
 

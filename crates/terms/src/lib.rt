@@ -1,4 +1,5 @@
 // Members, rounds, transactions, proposals and certificates, as they are handed in (scope document: Terms and sheet).
+#![tactic(auto)]
 ghost use Rattle.std.specs.Prelude.{◌≡◌, ◌<◌, ◌≤◌};
 ghost use Rattle.base.specs.Folds.{allTo};
 ghost use Rattle.terms.specs.Transactions.{kind_of, number_of, amountOf, readTransaction, sameTransaction, amountInRange, bondInRange, in_range};
@@ -6,15 +7,15 @@ ghost use Rattle.terms.specs.Bodies.{push};
 ghost use Rattle.terms.specs.Proposals.{bareBody, slot_of, transactionsOf, badTransactions, badPreviousSet};
 
 // A member's number: 0 to 15.
-#[derive(Drop)]
+#[derive(Clone, Copy)]
 pub struct Member(pub u32);
 
 // A round: 1 to 1,024.
-#[derive(Drop)]
+#[derive(Clone, Copy)]
 pub struct Round(pub u32);
 
 // Bond (member, amount), unbond (member), or an entry, which is any number.
-#[derive(Drop)]
+#[derive(Clone, Copy)]
 pub enum Transaction {
     Bond(Member, u32),
     Unbond(Member),
@@ -22,20 +23,20 @@ pub enum Transaction {
 }
 
 // A transaction as an element of an array.
-#[derive(Drop)]
+#[derive(Clone, Copy)]
 pub struct Slot {
     pub transaction: Transaction,
 }
 
 // What a proposal has beside author and round. The first count slots are its transactions; a count above four is over every allowance.
-#[derive(Drop)]
+#[derive(Clone, Copy)]
 pub struct Body {
     pub previous: u16,
     pub count: u32,
     pub slots: [Slot; 4],
 }
 
-#[derive(Drop)]
+#[derive(Clone, Copy)]
 pub struct Proposal {
     pub author: Member,
     pub round: Round,
@@ -43,7 +44,7 @@ pub struct Proposal {
 }
 
 // A proposal with its endorsers; author and endorsers are the signers.
-#[derive(Drop)]
+#[derive(Clone, Copy)]
 pub struct Certificate {
     pub proposal: Proposal,
     pub endorsers: u16,

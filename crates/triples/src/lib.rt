@@ -1,4 +1,5 @@
 // Triples: kind, number and amount of a transaction, repeated until the record ends.
+#![tactic(auto)]
 ghost use Rattle.std.specs.Prelude.{◌≡◌, ◌<◌};
 ghost use Rattle.fields.specs.Fields.{fieldsFrom};
 ghost use Rattle.fields.specs.Cursor.{found};
@@ -12,7 +13,7 @@ use terms::{Body, Transaction};
 pub const MOST: u32 = 4294967295;
 
 // What a run of triples comes to: a body, if all of them are readable.
-#[derive(Drop)]
+#[derive(Clone, Copy)]
 pub struct Triples {
     pub ok: bool,
     pub body: Body,

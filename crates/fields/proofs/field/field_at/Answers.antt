@@ -1,0 +1,13 @@
+use mathlib.Core.Path.{◌≡◌}
+use Prim.Native.Nat.{◌-◌}
+use native.Mathlib.Omega.{arith}
+use lib.ListN.{length, drop}
+use Rattle.fields.specs.Fields.{untilComma}
+use Rattle.fields.proofs.FieldLaws.{take-until}
+use borrow.Author.Rules.{rules}
+use Rattle.fields.proofs.field.field_at.Goals as goal
+
+pub returns : goal.returns
+returns c = let a = c.args in
+    let e : c.field_end-e.result - a.at ≡ length (untilComma (drop a.at a.rec.now)) = omega arith in
+    (rw e (take-until (drop a.at a.rec.now)), rw (e, take-until (drop a.at a.rec.now)) (omega arith))

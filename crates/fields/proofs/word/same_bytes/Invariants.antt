@@ -1,0 +1,21 @@
+use mathlib.Core.Path.{◌≡◌, refl, sym, ◌∙◌}
+use native.Mathlib.Omega.{arith}
+use mathlib.Core.List.{List}
+use Prim.Native.Nat.{ℕ, ◌-◌, ◌≤◌}
+use lib.ListN.{length, drop}
+use borrow.Author.Tests.{eq-eqb, ne_eqb}
+use Rattle.fields.specs.Words.{sameBytes}
+use Rattle.fields.proofs.WordLaws.{other_length, same_at, same_end}
+use Rattle.fields.proofs.word.same_bytes.Given as goal
+
+-- the bytes before i are the same, so those from i on decide
+pub record Comparing (f w : List ℕ) (i : ℕ) : Type 0 where
+  pub so_far : i ≤ length f
+  pub lengths : length f ≡ length w
+  pub left : sameBytes f w ≡ sameBytes (drop i f) (drop i w)
+
+abbrev pub invariant-loop-i : goal.invariant-loop-i
+invariant-loop-i l = Comparing l.f l.w l.i
+
+abbrev pub decreases-loop-i : goal.decreases-loop-i
+decreases-loop-i l = length l.f - l.i

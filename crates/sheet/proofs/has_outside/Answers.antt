@@ -1,0 +1,22 @@
+use mathlib.Core.Path.{◌≡◌, refl, sym, ◌∙◌}
+use native.Mathlib.Omega.{arith}
+use Prim.Native.Nat.{◌-◌, ◌≤◌}
+use mathlib.Core.Bool.{false}
+use Rattle.base.specs.Folds.{anyTo}
+use Rattle.base.proofs.TestLaws.{any-more, true-any}
+use Rattle.sheet.specs.Ranges.{weightIn, notWithin}
+use borrow.Author.Rules.{rules}
+use Rattle.sheet.proofs.has_outside.Goals as goal
+
+pub loop-i-init : goal.loop-i-init
+unfolding anyTo
+loop-i-init c = (omega arith, refl)
+
+pub returns-then-is_outside : goal.returns-then-is_outside
+returns-then-is_outside c = sym (true-any _ 16 _ (omega arith) (sym c.is_outside.ensures ∙ c.if-is_outside.true))
+
+pub loop-i-preserved : goal.loop-i-preserved
+loop-i-preserved c = (omega arith, simp (any-more, c.loop-i.invariant.1, ← c.is_outside.ensures) c.if-is_outside.false)
+
+pub returns : goal.returns
+returns c = let e : c.loop-i.i ≡ 16 = omega arith in sym (rw e at c.loop-i.invariant.1)

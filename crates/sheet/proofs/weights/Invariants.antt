@@ -1,0 +1,9 @@
+use Prim.Native.Nat.{◌-◌}
+use mathlib.Core.Path.{refl}
+use native.Mathlib.Omega.{arith}
+use Rattle.base.proofs.FillLaws.{Filling, filling-none, filling-more, filling-all}
+use Rattle.sheet.specs.Sheets.{weightAt}
+use Rattle.sheet.proofs.weights.Given as goal
+
+abbrev pub invariant-loop-i : goal.invariant-loop-i
+invariant-loop-i l = Filling (weightAt l.cells) 16 l.w l.i

@@ -1,0 +1,12 @@
+use borrow.Author.Tests.{lt-ltb, le-ltb}
+use Rattle.terms.specs.Transactions.{bondInRange}
+use borrow.Author.Rules.{rules}
+use Rattle.terms.proofs.bond_in_range.Goals as goal
+
+pub returns-then-m-ge16 : goal.returns-then-m-ge16
+unfolding bondInRange
+returns-then-m-ge16 c = simp (le-ltb _ _ c.if-m-ge16.true)
+
+pub returns : goal.returns
+unfolding bondInRange
+returns c = simp (lt-ltb _ _ c.if-m-ge16.false, c.amount_in_range.ensures)
