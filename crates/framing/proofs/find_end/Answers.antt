@@ -9,6 +9,8 @@ use borrow.Author.Tests.{eq-eqb, ne_eqb}
 use Rattle.framing.specs.Streams.{isEnd, until_end}
 use Rattle.framing.proofs.StreamLaws.{end-here, end_later, end_none, end_empty}
 use borrow.Author.Rules.{rules}
+
+use Rattle.framing.proofs.find_end.Goals.{then-s-i-eq13+else-s-i-eq10, else-s-i-eq13}
 use Rattle.framing.proofs.find_end.Goals as goal
 
 pub returns-then-n-eq0 : goal.returns-then-n-eq0
@@ -27,7 +29,7 @@ returns-then-s-i-eq10 c = let s = c.args.s.now in
 pub loop-i-preserved : goal.loop-i-preserved
 loop-i-preserved c = let s = c.args.s.now in
     let l = c.loop-i in
-    let e : isEnd (get_or s l.i 0) (get_or s (l.i + 1) 0) ≡ false = ⊎_elim (λ w. rw (ne_eqb _ _ w.2.left, and-false (eqb (get_or s l.i 0) 13)) refl) (λ w. rw (ne_eqb _ _ w.left) refl) c.if-s-i-eq13.branch in
+    let e : isEnd (get_or s l.i 0) (get_or s (l.i + 1) 0) ≡ false = elim c.if-s-i-eq13.branch [ then-s-i-eq13+else-s-i-eq10 w ↦ rw (ne_eqb _ _ w.if-s-i-eq10.false, and-false (eqb (get_or s l.i 0) 13)) refl | else-s-i-eq13 w ↦ rw (ne_eqb _ _ w.if-s-i-eq13.false) refl ] in
     let h = end_later s l.i (omega arith) e in
     (omega arith, omega (arith, l.invariant.1))
 

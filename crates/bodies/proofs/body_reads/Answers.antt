@@ -1,0 +1,27 @@
+use mathlib.Core.Path.{refl, sym, ◌∙◌}
+use Prim.Native.Nat.{◌-◌}
+use native.Mathlib.Omega.{arith}
+use borrow.Author.Tests.{lt-ltb, le-ltb, not-true, not-false}
+use Rattle.base.proofs.TestLaws.{AllSoFar, all_start, all-next, all_done, all-fails}
+use Rattle.bodies.specs.Bodies.{tripleReads, bodyReads}
+use borrow.Author.Rules.{rules}
+use Rattle.bodies.proofs.body_reads.Goals as goal
+
+pub returns-then-w-at-ge65536 : goal.returns-then-w-at-ge65536
+unfolding bodyReads
+returns-then-w-at-ge65536 c = rw (le-ltb _ 65536 c.if-w-at-ge65536.true) refl
+
+pub loop-k-init : goal.loop-k-init
+loop-k-init c = all_start _ 4
+
+pub returns-then-not-triple_reads : goal.returns-then-not-triple_reads
+unfolding bodyReads
+returns-then-not-triple_reads c = let a = c.args in
+    rw (lt-ltb _ 65536 c.if-w-at-ge65536.false, all-fails (tripleReads a.w.now a.at) 4 c.loop-k.k (omega arith) (sym c.triple_reads.ensures ∙ c.if-not-triple_reads.true)) refl
+
+pub loop-k-preserved : goal.loop-k-preserved
+loop-k-preserved c = all-next c.loop-k.invariant (omega arith) (sym c.triple_reads.ensures ∙ c.if-not-triple_reads.false)
+
+pub returns : goal.returns
+unfolding bodyReads
+returns c = rw (lt-ltb _ 65536 c.if-w-at-ge65536.false) (sym (all_done c.loop-k.invariant (omega arith)))

@@ -1,0 +1,17 @@
+use borrow.Author.Tests.{eq-eqb, ne_eqb, lt-leb, le-leb}
+use mathlib.Core.Path.{refl}
+use Rattle.bodies.specs.Bodies.{isTriple}
+use borrow.Author.Rules.{rules}
+use Rattle.bodies.proofs.is_triple.Goals as goal
+
+pub returns-then-kind-eq0 : goal.returns-then-kind-eq0
+unfolding isTriple
+returns-then-kind-eq0 c = rw (eq-eqb _ 0 c.if-kind-eq0.true) refl
+
+pub returns-then-kind-gt2 : goal.returns-then-kind-gt2
+unfolding isTriple
+returns-then-kind-gt2 c = rw (ne_eqb _ 0 c.if-kind-eq0.false, lt-leb _ 2 c.if-kind-gt2.true) refl
+
+pub returns : goal.returns
+unfolding isTriple
+returns c = rw (ne_eqb _ 0 c.if-kind-eq0.false, le-leb _ 2 c.if-kind-gt2.false) refl

@@ -1,0 +1,32 @@
+use mathlib.Core.Path.{◌≡◌, ap, ap₂, ◌∙◌}
+use mathlib.Core.List.{List}
+use native.Mathlib.Omega.{arith}
+use Prim.Native.Nat.{ℕ, ◌+◌, ◌*◌, ◌-◌}
+use lib.Seq.{paste}
+use Rattle.terms.specs.declared.Transaction.{Transaction}
+use Rattle.bodies.specs.Lengths.{transactionLength}
+use Rattle.bodies.specs.Bodies.{usedWords, tripleWords}
+use Rattle.bodies.proofs.BodyLaws.{used_step, body-put}
+use Rattle.base.proofs.FillLaws.{Pasting, pasting-none}
+use borrow.Author.Rules.{rules}
+use Rattle.bodies.proofs.put_body.Goals as goal
+
+pub loop-k-init : goal.loop-k-init
+loop-k-init c = pasting-none _ _ _ _
+
+pub loop-k-preserved : goal.loop-k-preserved
+loop-k-preserved c = let a = c.args in
+    let l = c.loop-k in
+    let u = c.put.new.0 in
+    record {
+      so_far = omega arith;
+      pasted = c.put_triple.ensures
+          ∙ ap₂ (λ (z : List ℕ) (x : Transaction). paste z (a.at + 2 + l.k * transactionLength) (tripleWords x) transactionLength) l.invariant.pasted c.used_at-x.ensures
+          ∙ used_step a.b u (a.at + 2) l.k (omega arith);
+      kept = c.put_triple.auto.0 ∙ l.invariant.kept;
+    }
+
+pub returns : goal.returns
+returns c = let e : c.loop-k.k ≡ 4 = omega arith in
+    let a = c.args in
+    rw e at c.loop-k.invariant.pasted ∙ ap (λ (z : List ℕ). paste z (a.at + 2) (usedWords a.b 4) 12) c.put.ensures ∙ body-put a.b a.w.now a.at (omega arith)

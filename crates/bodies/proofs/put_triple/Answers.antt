@@ -1,0 +1,6 @@
+use mathlib.Core.Path.{refl}
+use borrow.Author.Rules.{rules}
+use Rattle.bodies.proofs.put_triple.Goals as goal
+
+pub returns : goal.returns
+returns c = simp (c.put.ensures, c.amount.ensures, c.number.ensures, c.kind.ensures) refl

@@ -1,0 +1,8 @@
+use mathlib.Core.Path.{refl}
+use Prim.Native.Nat.{◌-◌}
+use native.Mathlib.Omega.{arith}
+use Rattle.base.proofs.FillLaws.{Pasting, pasting-none, pasting-more, pasting-all}
+use Rattle.bodies.proofs.stretch.put.Given as goal
+
+abbrev pub invariant-loop-k : goal.invariant-loop-k
+invariant-loop-k l = Pasting l.initial.w l.at l.x l.n l.w l.k

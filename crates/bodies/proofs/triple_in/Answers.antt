@@ -1,0 +1,7 @@
+use Rattle.bodies.specs.Bodies.{tripleIn}
+use borrow.Author.Rules.{rules}
+use Rattle.bodies.proofs.triple_in.Goals as goal
+
+pub returns : goal.returns
+unfolding tripleIn
+returns c = c.read_transaction.ensures

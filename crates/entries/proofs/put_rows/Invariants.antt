@@ -1,0 +1,11 @@
+use mathlib.Core.Path.{◌≡◌, refl, ◌∙◌}
+use Prim.Native.Nat.{◌-◌}
+use native.Mathlib.Omega.{arith}
+use lib.ListN.{length}
+use Rattle.putting.proofs.PutLaws.{Putting, puts_then, puts_none, puts-as}
+use Rattle.entries.specs.Entries.{rowsEntries, inSets}
+use Rattle.entries.proofs.EntryLaws.{rows_none, rows_more, rows-length, rows-room}
+use Rattle.entries.proofs.put_rows.Given as goal
+
+abbrev pub invariant-loop-i : goal.invariant-loop-i
+invariant-loop-i l = Putting l.initial.list l.list l.at l.to (rowsEntries (inSets l.sets) l.k l.a.0 l.last l.i) (length (rowsEntries (inSets l.sets) l.k l.a.0 l.last l.i)) l.rounds l.i
