@@ -11,4 +11,4 @@ returns-then-w-lt-BODY c = rw (lt-leb bodyLength _ c.if-w-lt-BODY.true) refl
 
 pub returns : goal.returns
 unfolding loneBodyReads
-returns c = rw (le-leb bodyLength _ c.if-w-lt-BODY.false) c.body-Reads.ensures
+returns c = rw (le-leb bodyLength _ c.if-w-lt-BODY.false) c.body_reads.ensures

@@ -17,13 +17,13 @@ loop-k-init c = pasting-none _ _ _ _
 pub loop-k-preserved : goal.loop-k-preserved
 loop-k-preserved c = let a = c.args in
     let l = c.loop-k in
-    let u = c.put.new.0 in
+    let u = c.put.new.w in
     record {
       so_far = omega arith;
       pasted = c.put_triple.ensures
           ∙ ap₂ (λ (z : List ℕ) (x : Transaction). paste z (a.at + 2 + l.k * transactionLength) (tripleWords x) transactionLength) l.invariant.pasted c.used_at-x.ensures
           ∙ used_step a.b u (a.at + 2) l.k (omega arith);
-      kept = c.put_triple.auto.0 ∙ l.invariant.kept;
+      kept = c.put_triple.auto.w ∙ l.invariant.kept;
     }
 
 pub returns : goal.returns

@@ -23,7 +23,7 @@ loop-i-preserved c = let x = c.loop-i in
     let a = c.args in
     record {
       so_far = omega arith;
-      kept = c.put_member-to.auto.0 ∙ x.invariant.kept;
+      kept = c.put_member-to.auto.list ∙ x.invariant.kept;
       puts = puts-as (row_more _ _ _ _ x.i) (omega (arith, row-length (isIn a.x) a.k a.r.0 a.a.0 x.i)) (puts_then x.invariant.puts c.put_member-to.ensures);
     }
 

@@ -23,7 +23,7 @@ loop-i-preserved c = let x = c.loop-i in
     let a = c.args in
     record {
       so_far = omega arith;
-      kept = c.put_row-to.auto.0 ∙ x.invariant.kept;
+      kept = c.put_row-to.auto.list ∙ x.invariant.kept;
       puts = puts-as (rows_more _ _ _ _ x.i) (omega (arith, rows-length (inSets a.sets.now) a.k a.a.0 a.low.0 x.i)) (puts_then x.invariant.puts c.put_row-to.ensures);
     }
 

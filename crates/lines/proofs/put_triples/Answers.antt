@@ -27,7 +27,7 @@ loop-k-preserved c = let a = c.args in
     let p = rw c.slot_at-x.ensures at c.put_triple-next.ensures in
     record {
       so_far = omega arith;
-      kept = c.put_triple-next.auto.0 ∙ l.invariant.kept;
+      kept = c.put_triple-next.auto.buf ∙ l.invariant.kept;
       puts = rw (triples-next (slot_of a.body) l.k) (puts-within ((l.k + 1) * 24) (omega arith) (puts_then l.invariant.puts p));
     }
 

@@ -1,0 +1,11 @@
+use Rattle.committee.proofs.EffectLaws.{at_most}
+use native.Mathlib.Omega.{arith}
+use mathlib.Core.Path.{refl}
+use borrow.Author.Rules.{rules}
+use Rattle.weighing.proofs.change.times.Goals as goal
+
+pub overflow_mul-result : goal.overflow_mul-result
+overflow_mul-result c = omega (arith, at_most c.args.x.0 c.args.k (omega arith))
+
+pub returns : goal.returns
+returns c = (refl, at_most c.args.x.0 c.args.k (omega arith))

@@ -1,0 +1,27 @@
+use mathlib.Core.Path.{◌≡◌, refl, sym, ◌∙◌}
+use native.Mathlib.Omega.{arith}
+use Prim.Native.Nat.{◌-◌, ◌≤◌}
+use mathlib.Core.Bool.{false, ◌&&◌, not}
+use lib.Dec.{ltb}
+use Rattle.base.specs.Folds.{anyTo}
+use Rattle.base.specs.Sets.{isIn}
+use Rattle.base.proofs.TestLaws.{any-more, true-any}
+use Rattle.sheet.specs.Ranges.{weightIn}
+use Rattle.committee.specs.Committees.{outsider}
+use borrow.Author.Rules.{rules}
+use Rattle.weighing.proofs.has_outsider.Goals as goal
+
+pub loop-i-init : goal.loop-i-init
+unfolding anyTo
+loop-i-init c = (omega arith, refl)
+
+pub returns-then-is_outsider : goal.returns-then-is_outsider
+unfolding outsider
+returns-then-is_outsider c = sym (true-any _ 16 _ (omega arith) (sym c.is_outsider.ensures ∙ c.if-is_outsider.true))
+
+pub loop-i-preserved : goal.loop-i-preserved
+loop-i-preserved c = (omega arith, simp (any-more, c.loop-i.invariant.1, ← c.is_outsider.ensures) c.if-is_outsider.false)
+
+pub returns : goal.returns
+unfolding outsider
+returns c = let e : c.loop-i.i ≡ 16 = omega arith in sym (rw e at c.loop-i.invariant.1)

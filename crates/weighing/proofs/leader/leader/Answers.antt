@@ -1,0 +1,18 @@
+use mathlib.Core.Path.{sym, ap, ◌∙◌}
+use native.Mathlib.Omega.{arith}
+use Rattle.committee.specs.Leaders.{leaderNumber}
+use Rattle.committee.proofs.LeaderLaws.{at_none, leader-odd, leader-early, leader-set}
+use borrow.Author.Rules.{rules}
+use Rattle.weighing.proofs.leader.leader.Goals as goal
+
+pub returns-then-r-ne0 : goal.returns-then-r-ne0
+returns-then-r-ne0 c = sym (ap leaderNumber (leader-odd _ _ c.if-r-ne0.true))
+
+pub returns-then-r-lt2 : goal.returns-then-r-lt2
+returns-then-r-lt2 c = sym (ap leaderNumber (leader-early _ _ c.if-r-lt2.true))
+
+pub returns-then-n-eq0 : goal.returns-then-n-eq0
+returns-then-n-eq0 c = let a = c.args in let s = c.member_set-set in let e = leader-set a.w.now a.r.0 c.if-r-ne0.false (omega arith) in sym (ap leaderNumber (e ∙ at_none _ _ (rw (← s.ensures) (omega (arith, c.size-n.ensures)))))
+
+pub returns : goal.returns
+returns c = let a = c.args in let s = c.member_set-set in let e = leader-set a.w.now a.r.0 c.if-r-ne0.false (omega arith) in rw (e, ← s.ensures, ← c.size-n.ensures) c.member_at.ensures

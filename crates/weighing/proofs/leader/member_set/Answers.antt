@@ -1,0 +1,19 @@
+use mathlib.Core.Path.{◌≡◌, refl}
+use native.Mathlib.Omega.{arith}
+use Prim.Native.Nat.{◌-◌, ◌≤◌}
+use Rattle.base.specs.Folds.{foldTo}
+use Rattle.base.proofs.FoldLaws.{fold_more}
+use Rattle.committee.specs.Leaders.{joined, memberSet}
+use borrow.Author.Rules.{rules}
+use Rattle.weighing.proofs.leader.member_set.Goals as goal
+
+pub loop-i-init : goal.loop-i-init
+unfolding foldTo
+loop-i-init c = (omega arith, refl)
+
+pub loop-i-preserved : goal.loop-i-preserved
+loop-i-preserved c = (omega arith, rw (c.join-set.ensures, fold_more, c.loop-i.invariant.1) refl)
+
+pub returns : goal.returns
+unfolding memberSet
+returns c = let e : c.loop-i.i ≡ 16 = omega arith in rw e at c.loop-i.invariant.1

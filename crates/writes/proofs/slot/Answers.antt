@@ -1,0 +1,11 @@
+use Rattle.store.proofs.RecordLaws.{nth-with}
+use mathlib.Core.Path.{refl, sym, ◌∙◌}
+use borrow.Author.Tests.{lt-ltb, le-ltb}
+use borrow.Author.Rules.{rules}
+use Rattle.writes.proofs.slot.Goals as goal
+
+pub returns-then-k-b : goal.returns-then-k-b
+returns-then-k-b c = sym (nth-with _ _ _ _ ∙ rw (lt-ltb _ _ c.if-k-b.true) (sym c.slot_at.ensures))
+
+pub returns : goal.returns
+returns c = sym (nth-with _ _ _ _ ∙ rw (le-ltb _ _ c.if-k-b.false) refl)
