@@ -63,7 +63,7 @@ fn added(body: Body, kind: u32, number: u32, amount: u32) -> Triples
 }
 
 // Triples from the field at `at` on, which is a kind.
-#[cycle(from_amount_from_kind_from_number)]
+#[cycle(triples)]
 pub fn from_kind(rec: &[u8], at: usize, body: Body) -> Triples
     requires { Going rec.now at body.count }
     ensures { result ≡ onto body (atKind (fieldsFrom rec.now at)) }
@@ -83,7 +83,7 @@ pub fn from_kind(rec: &[u8], at: usize, body: Body) -> Triples
 }
 
 // The same from the number of a triple of this kind on.
-#[cycle(from_amount_from_kind_from_number)]
+#[cycle(triples)]
 pub fn from_number(rec: &[u8], at: usize, body: Body, kind: u32) -> Triples
     requires { Going rec.now at body.count }
     ensures { result ≡ onto body (atNumber (fieldsFrom rec.now at) kind) }
@@ -97,7 +97,7 @@ pub fn from_number(rec: &[u8], at: usize, body: Body, kind: u32) -> Triples
 }
 
 // The same from the amount of a triple of this kind and number on.
-#[cycle(from_amount_from_kind_from_number)]
+#[cycle(triples)]
 pub fn from_amount(rec: &[u8], at: usize, body: Body, kind: u32, number: u32) -> Triples
     requires { Going rec.now at body.count }
     ensures { result ≡ onto body (atAmount (fieldsFrom rec.now at) kind number) }

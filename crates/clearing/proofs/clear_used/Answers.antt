@@ -1,0 +1,26 @@
+use Rattle.store.specs.Table.{rowLength}
+use Prim.Native.Nat.{ℕ, ◌+◌, ◌*◌, ◌-◌, ◌≤◌}
+use native.Mathlib.Omega.{arith}
+use mathlib.Core.Path.{◌≡◌, refl}
+use mathlib.Core.List.{List, ◌++◌}
+use lib.ListN.{length, drop, replicate, length-set}
+use Rattle.writes.specs.Writes.{clearUsed}
+use Rattle.base.proofs.PasteLaws.{cleared_more}
+use Rattle.clearing.proofs.clear_used.Invariants.{Clearing}
+use borrow.Author.Rules.{rules}
+use Rattle.clearing.proofs.clear_used.Goals as goal
+
+pub loop-i-init : goal.loop-i-init
+loop-i-init c = record { so_far = omega arith; cleared = refl; kept = refl }
+
+pub loop-i-preserved : goal.loop-i-preserved
+loop-i-preserved c = let x = c.loop-i in
+    record {
+      so_far = omega arith;
+      cleared = rw x.invariant.cleared (cleared_more c.args.t.now x.i (omega arith));
+      kept = simp length-set x.invariant.kept;
+    }
+
+pub returns : goal.returns
+unfolding clearUsed
+returns c = let e : c.loop-i.i ≡ c.args.n.0 * rowLength + rowLength = omega arith in rw e at c.loop-i.invariant.cleared

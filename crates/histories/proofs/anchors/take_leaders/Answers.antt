@@ -1,0 +1,30 @@
+use mathlib.Core.List.{List}
+use Prim.Native.Nat.{ℕ, ◌-◌, ◌≤◌}
+use mathlib.Core.Path.{◌≡◌, refl, sym, ◌∙◌}
+use native.Mathlib.Omega.{arith}
+use lib.ListN.{length}
+use Rattle.histories.specs.Anchors.{takeFrom, takenLeaders}
+use Rattle.histories.proofs.AnchorLaws.{take_step, take_done}
+use Rattle.histories.proofs.anchors.take_leaders.Invariants.{LeadersLeft}
+use borrow.Author.Rules.{rules}
+use Rattle.histories.proofs.anchors.take_leaders.Goals as goal
+
+pub loop-r-init : goal.loop-r-init
+loop-r-init c = record { to = omega arith; from = omega arith; size = refl; rest = refl }
+
+pub loop-r-preserved : goal.loop-r-preserved
+loop-r-preserved c = let b = c.take_leader-s in
+    let i = c.loop-r in
+    let a = c.args in
+    record {
+      to = omega arith;
+      from = omega arith;
+      size = b.auto.0 ∙ i.invariant.size;
+      rest = rw (b.ensures.0, b.ensures.1, c.step_down-u.ensures) (sym (take_step a.t.now a.m.0 i.r i.s i.l (omega arith)) ∙ i.invariant.rest);
+    }
+
+pub returns : goal.returns
+unfolding takenLeaders
+returns c = let a = c.args in
+    let i = c.loop-r in
+    rw (← c.just-s.ensures) (sym (take_done a.t.now a.m.0 i.r i.s i.l (omega arith)) ∙ i.invariant.rest)

@@ -1,0 +1,5 @@
+use Prim.Native.Nat.{◌-◌, ◌≤◌}
+use Rattle.lookups.proofs.join_set.Given as goal
+
+abbrev pub invariant-loop-k : goal.invariant-loop-k
+invariant-loop-k l = l.k ≤ 17

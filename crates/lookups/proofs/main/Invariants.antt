@@ -1,0 +1,5 @@
+use Prim.Native.Nat.{◌-◌, ◌≤◌}
+use Rattle.lookups.proofs.main.Given as goal
+
+abbrev pub invariant-loop-upper : goal.invariant-loop-upper
+invariant-loop-upper l = l.upper ≤ 256

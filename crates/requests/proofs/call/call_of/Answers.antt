@@ -1,0 +1,5 @@
+use borrow.Author.Rules.{rules}
+use Rattle.requests.proofs.call.call_of.Goals as goal
+
+pub returns : goal.returns
+returns c = simp c.blank.ensures

@@ -1,0 +1,15 @@
+use Rattle.requests.proofs.RequestLaws.{number-goes, number-stops, number_fits}
+use mathlib.Core.Path.{sym, ◌∙◌}
+use native.Mathlib.Omega.{arith}
+use borrow.Author.Rules.{rules}
+use Rattle.requests.proofs.call.read_propose.Goals as goal
+
+pub returns-in_default : goal.returns-in_default
+returns-in_default c = c.unreadable.ensures ∙ sym (number-stops _ _ _ _ c.read_number-p.ensures.0 c.in_default.is)
+
+pub overflow_cast-previous : goal.overflow_cast-previous
+overflow_cast-previous c = let l = number_fits 65535 _ _ c.read_number-p.ensures.0 c.in-Of.is in
+    omega arith
+
+pub returns : goal.returns
+returns c = c.with_triples.ensures ∙ sym (number-goes _ _ _ _ c.read_number-p.ensures.0 c.read_number-p.ensures.1 c.x.given.1)

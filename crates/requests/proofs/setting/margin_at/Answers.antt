@@ -1,0 +1,15 @@
+use mathlib.Core.Path.{sym, ap, ◌∙◌}
+use native.Mathlib.Omega.{arith}
+use Rattle.requests.specs.Readings.{settingFound}
+use Rattle.requests.proofs.SettingLaws.{last_none, last_one, last_more}
+use borrow.Author.Rules.{rules}
+use Rattle.requests.proofs.setting.margin_at.Goals as goal
+
+pub returns-then-rec-at : goal.returns-then-rec-at
+returns-then-rec-at c = sym (ap settingFound (last_none _ _ c.if-rec-at.true))
+
+pub returns-then-s-rec : goal.returns-then-s-rec
+returns-then-s-rec c = sym (ap settingFound (last_more _ _ c.if-rec-at.false c.setting_at-s.ensures.1 (omega (arith, c.if-s-rec.true))))
+
+pub returns : goal.returns
+returns c = c.setting_at-s.ensures.0 ∙ sym (ap settingFound (last_one _ _ c.if-rec-at.false c.setting_at-s.ensures.1 (omega (arith, c.if-s-rec.false))))

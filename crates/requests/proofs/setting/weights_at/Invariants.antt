@@ -1,0 +1,29 @@
+use mathlib.Core.Path.{◌≡◌, refl, sym, ap, ◌∙◌}
+use native.Mathlib.Omega.{arith}
+use native.Mathlib.Numerals.{add-one}
+use mathlib.Core.Bool.{true≢false, false≢true}
+use mathlib.Core.List.{List}
+use mathlib.Core.Option.{Option, some}
+use Prim.Native.Nat.{ℕ, suc, ◌+◌, ◌-◌, ◌<◌, ◌≤◌}
+use lib.ListN.{length, take, drop, length-set}
+use lib.Seq.{take-suc-set, take_all}
+use Rattle.sheet.specs.declared.Cell.{Cell}
+use Rattle.fields.specs.Fields.{fieldsFrom}
+use Rattle.requests.specs.Requests.{cells_in}
+use Rattle.fields.specs.Cursor.{rest}
+use Rattle.requests.proofs.SettingLaws.{following, following-all, cells-more, cells-stop, cells-end, rest-drop}
+use Rattle.requests.proofs.setting.weights_at.Given as goal
+
+-- the cells before i are read, and the others are left from a place of the record on
+pub record Reading (rec : List ℕ) (at : ℕ) (cells : List Cell) (place i : ℕ) : Type 0 where
+  pub so_far : i ≤ 16
+  pub sixteen : length cells ≡ 16
+  pub inside : place ≤ length rec + 1
+  pub left : cells_in 16 (fieldsFrom rec at) ≡ following (take i cells) (cells_in (16 - i) (fieldsFrom rec place))
+  pub passed : fieldsFrom rec place ≡ drop i (fieldsFrom rec at)
+
+abbrev pub invariant-loop-i : goal.invariant-loop-i
+invariant-loop-i l = Reading l.rec l.at l.cells l.place l.i
+
+abbrev pub decreases-loop-i : goal.decreases-loop-i
+decreases-loop-i l = 16 - l.i

@@ -1,0 +1,17 @@
+use mathlib.Core.Path.{refl}
+use borrow.Author.Tests.{lt-ltb, le-ltb, not-true, not-false}
+use Rattle.scan.specs.Limits.{limitOf}
+use borrow.Author.Rules.{rules}
+use Rattle.scan.proofs.limit.Goals as goal
+
+pub returns-then-not-there : goal.returns-then-not-there
+unfolding limitOf
+returns-then-not-there c = rw c.if-not-there.true refl
+
+pub returns-then-kind-gt2 : goal.returns-then-kind-gt2
+unfolding limitOf
+returns-then-kind-gt2 c = rw (c.if-not-there.false, lt-ltb _ _ c.if-kind-gt2.true) refl
+
+pub returns : goal.returns
+unfolding limitOf
+returns c = rw (c.if-not-there.false, le-ltb _ _ c.if-kind-gt2.false) refl

@@ -1,0 +1,23 @@
+use mathlib.Core.Path.{sym, ◌∙◌}
+use native.Mathlib.Omega.{arith}
+use Prim.Native.Nat.{◌-◌}
+use borrow.Author.Tests.{not-true, not-false}
+use Rattle.base.proofs.TestLaws.{AllSoFar, all_start, all-next, all_done, all-fails}
+use Rattle.scan.specs.Scan.{placeFits}
+use borrow.Author.Rules.{rules}
+use Rattle.scan.proofs.places_fit.Goals as goal
+
+pub loop-m-init : goal.loop-m-init
+loop-m-init c = all_start _ 16
+
+pub place_fits-requires : goal.place_fits-requires
+place_fits-requires c = (record { member = omega arith; row = omega arith }, c.requires.1)
+
+pub returns-then-not-place_fits : goal.returns-then-not-place_fits
+returns-then-not-place_fits c = let x = c.loop-m in sym (all-fails _ 16 x.m (omega arith) (sym c.place_fits.ensures ∙ c.if-not-place_fits.true))
+
+pub loop-m-preserved : goal.loop-m-preserved
+loop-m-preserved c = let x = c.loop-m in all-next x.invariant (omega arith) (sym c.place_fits.ensures ∙ c.if-not-place_fits.false)
+
+pub returns : goal.returns
+returns c = let x = c.loop-m in sym (all_done x.invariant (omega arith))

@@ -1,0 +1,19 @@
+use mathlib.Core.Path.{◌≡◌, refl, sym, ◌∙◌}
+use mathlib.Core.Bool.{Bool, true, cond}
+use mathlib.Core.List.{List}
+use native.Mathlib.Omega.{arith}
+use Prim.Native.Nat.{ℕ, ◌-◌}
+use lib.Dec.{ltb}
+use borrow.Author.Tests.{not-true, not-false}
+use Rattle.base.specs.Folds.{allTo}
+use Rattle.base.proofs.TestLaws.{AllSoFar, all_start, all-next, all_done, all-fails}
+use Rattle.scan.specs.Scan.{transactionFits}
+use Rattle.scan.proofs.LimitLaws.{all_there}
+use Rattle.scan.proofs.transactions_fit.Given as goal
+
+-- slot k of a record of n
+abbrev pub fits : List ℕ → ℕ → ℕ → ℕ → ℕ → Bool
+fits t m r n k = cond (ltb k n) (transactionFits t m r k) true
+
+abbrev pub invariant-loop-k : goal.invariant-loop-k
+invariant-loop-k l = AllSoFar (fits l.t l.m.0 l.r.0 l.n) 4 l.k
