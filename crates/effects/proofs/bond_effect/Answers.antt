@@ -14,5 +14,5 @@ overflow_add-n c = let p = c.requires in omega (arith, p.total, p.bounded)
 
 pub returns : goal.returns
 unfolding bondEffect
-returns c = let after-bond : let a = c.args in c.apply.new.w ≡ bonded a.m.0 a.a a.w = c.apply.ensures ∙ rw (read-bond _ _) refl in
+returns c = let after-bond : let a = c.args in c.apply.new.0 ≡ bonded a.m.0 a.a a.t1 = c.apply.ensures ∙ rw (read-bond _ _) refl in
     rw (c.largest-d.ensures, c.shares_of-after.ensures, c.shares_of-before.ensures, after-bond) refl

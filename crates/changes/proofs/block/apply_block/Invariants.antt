@@ -1,0 +1,22 @@
+use mathlib.Core.Path.{◌≡◌, sym}
+use mathlib.Core.List.{List}
+use Prim.Native.Nat.{ℕ, ◌+◌, ◌-◌, ◌*◌, ◌/◌, ◌≤◌}
+use native.Mathlib.Omega.{arith}
+use Rattle.changes.specs.BlockChanges.{placeChange}
+use Rattle.changes.proofs.BlockChangeLaws.{same_at}
+use Rattle.changes.specs.LinkRuns.{rowsOver}
+use Rattle.changes.proofs.RunLaws.{LinkedFrom, linked-head, linked_up, rows-first, rows_next, end-linked}
+use Rattle.changes.proofs.BoundLaws.{rows-total}
+use Rattle.changes.proofs.block.apply_block.Given as goal
+
+-- the rows below that of p are done, and p is the first place of its row
+pub record RowsDone (t next : List ℕ) (b a end : ℕ) (w₀ w : List ℕ) (p : ℕ) : Type 0 where
+  pub low : 16 ≤ p
+  pub linked : LinkedFrom t next b (p / 16 * 16) end p
+  pub weights : w ≡ rowsOver (placeChange t b) a (p / 16 - 1) w₀
+
+abbrev pub invariant-loop-p : goal.invariant-loop-p
+invariant-loop-p l = RowsDone l.t l.next l.b l.a.0 l.end l.initial.w l.w l.p
+
+abbrev pub decreases-loop-p : goal.decreases-loop-p
+decreases-loop-p l = l.end - l.p

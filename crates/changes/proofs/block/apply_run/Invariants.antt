@@ -1,0 +1,20 @@
+use mathlib.Core.Path.{◌≡◌, refl, sym, ◌∙◌}
+use mathlib.Core.List.{List}
+use Prim.Native.Nat.{ℕ, suc, ◌+◌, ◌-◌, ◌*◌, ◌≤◌}
+use native.Mathlib.Omega.{arith}
+use Rattle.committee.specs.Totals.{totalIn}
+use Rattle.changes.specs.BlockChanges.{recordChange}
+use Rattle.changes.specs.LinkRuns.{runOver, runEnd}
+use Rattle.changes.proofs.RunLaws.{run_step, run-stop, run_none, end_step, end-stop, end_none}
+use Rattle.changes.proofs.BoundLaws.{from-total}
+use Rattle.changes.proofs.block.apply_run.Given as goal
+
+-- what is left of the run, of at most 16 - i places, does what the whole run does, and ends where it ends
+pub record RunLeft (t next : List ℕ) (y z p : ℕ) (w₀ w : List ℕ) (q i : ℕ) : Type 0 where
+  pub count : i ≤ 16
+  pub rest : runOver (recordChange t) next y z (16 - i) q w ≡ runOver (recordChange t) next y z 16 p w₀
+  pub last : runEnd next z (16 - i) q ≡ runEnd next z 16 p
+  pub total : totalIn w ≤ totalIn w₀ + i * 17179869180
+
+abbrev pub invariant-loop-i : goal.invariant-loop-i
+invariant-loop-i l = RunLeft l.t l.next l.y l.z l.p l.initial.w l.w l.q l.i
