@@ -50,7 +50,7 @@ fn conclude<W: Write>(
     out: &mut [u8],
 ) -> Flushed
     requires ready { SessionReady s cache.old t.old buf.now out.old }
-    requires open { hasEnd (handIn buf.now s.work.from s.end) ≡ false }
+    requires no_record { hasEnd (handIn buf.now s.work.from s.end) ≡ false }
     ensures answered { take result.count out.new ≡ answersLeft s t.old buf.now [] }
     ensures given { result.whole ≡ true → Appends (W.contents output.old) (W.contents output.new) (take result.count out.new) }
 {

@@ -8,4 +8,4 @@ returns-clause-answered g c =
     let s = c.args.s in
     let f = c.finish-n.ensures in
     let p = rw (c.rest-hand.ensures, c.work_of-w.ensures, c.end_of-end.ensures) at f.1 in
-    rw (c.flush.ensures.count, append-nil (handIn c.args.buf.now s.work.from s.end)) (put_first f.0 (p c.requires.open))
+    rw (c.flush.ensures.count, append-nil (handIn c.args.buf.now s.work.from s.end)) (put_first f.0 (p c.requires.no_record))
