@@ -1,14 +1,16 @@
 // The largest ceiling and one above it: 1,024 opens, and 1,025 is out of range (scope document: Edges).
 #![tactic(auto)]
-use libc::STDOUT_FILENO;
+
 use sheet::{Rights, Setting, Sheet};
+use std::io;
+use std::io::Write;
 use terms::Member;
 
 // The words of a table of ceiling 1,024.
 const TABLE: usize = 278800;
 
 // Opens with a ceiling and writes the answer out.
-fn try_ceiling(t: &mut [u32], ceiling: u32) {
+fn try_ceiling<W: Write>(output: &mut W, t: &mut [u32], ceiling: u32) -> io::Result<()> {
     let blank = Sheet::blank();
     let weights = blank.weights;
     let written = Sheet {
@@ -23,11 +25,12 @@ fn try_ceiling(t: &mut [u32], ceiling: u32) {
     let a = o.answer;
     let mut out = [0u8; 20];
     let n = replies::answer::put_answer(a, &mut out, 0);
-    io::write_all(STDOUT_FILENO, &out[..n]);
+    output.write_all(&out[..n])
 }
 
-fn main() {
-    let mut table = [0u32; TABLE];
-    try_ceiling(&mut table, 1024);
-    try_ceiling(&mut table, 1025);
+fn main(rt: HostRuntime) -> io::Result<()> {
+    let mut table = vec![in rt.alloc(); 0u32; TABLE]?;
+    let mut output = rt.stdout();
+    try_ceiling(&mut output, &mut table, 1024)?;
+    try_ceiling(&mut output, &mut table, 1025)
 }

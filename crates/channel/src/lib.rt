@@ -1,25 +1,26 @@
-// The two ways to the world: bytes that are read behind those at hand, and bytes that are written out. Only here are standard input and output touched.
+// The two ways to the world: bytes that are read behind those at hand, and bytes that are written out. Only here is anything read or written.
 #![tactic(auto)]
-ghost use Rattle.std.specs.Prelude.{◌≡◌, true, false, ◌-◌, ◌≤◌, length, take, drop, pos};
+
+ghost use Rattle.std.specs.Prelude.{◌≡◌, true, false, ◌-◌, ◌≤◌, length, take, drop, Some};
+ghost use Rattle.std.specs.Io.KnownBytes.{Appends};
 ghost use Rattle.channel.specs.Channel.{ReadBehind};
 
-use libc::{STDIN_FILENO, STDOUT_FILENO};
-use serving::rest;
+use std::io::{Read, Write};
 
-// Whether a read was made, what it answered, and how many bytes came by it. Only this crate makes one: whoever has it has called `more` or `no_read`.
+// Whether a read was made, what it answered (none where it failed), and how many bytes came by it. Only this crate makes one: whoever has it has called `more` or `no_read`.
 #[derive(Clone, Copy)]
 pub struct Came {
     read: bool,
-    answer: isize,
+    answer: Option<usize>,
     count: usize,
 }
 
 pub fn no_read() -> Came
-    ensures { (result.read ≡ false) × (result.count ≡ 0) × (result.answer ≡ pos 0) }
+    ensures { (result.read ≡ false) × (result.count ≡ 0) × (result.answer ≡ Some 0) }
 {
     Came {
         read: false,
-        answer: 0,
+        answer: Some(0),
         count: 0,
     }
 }
@@ -44,18 +45,16 @@ pub fn move_to_front(buf: &mut [u8], from: usize, end: usize) -> usize
     n
 }
 
-// Reads more bytes behind the first n, which stay.
-pub fn more(buf: &mut [u8], n: usize) -> Came
+// Reads more bytes behind the first n, which stay. A read that fails brings none.
+pub fn more<R: Read>(input: &mut R, buf: &mut [u8], n: usize) -> Came
     requires { n ≤ length buf.old }
-    ensures { ReadBehind n buf.old buf.new result }
+    ensures { ReadBehind n buf.old buf.new (R.remaining input.old) (R.remaining input.new) result }
 {
-    let answer = libc::read(STDIN_FILENO, &mut buf[n..]);
-    let came = rest(buf, n);
-    let count = io::count(answer, came);
+    let answer = input.read(&mut buf[n..]).ok();
     Came {
         read: true,
         answer,
-        count,
+        count: answer.unwrap_or(0),
     }
 }
 
@@ -83,12 +82,13 @@ pub fn went_out(f: Flushed) -> bool
 }
 
 // Writes out the first n bytes of the buffer.
-pub fn flush(out: &[u8], n: usize) -> Flushed
+pub fn flush<W: Write>(output: &mut W, out: &[u8], n: usize) -> Flushed
     requires { n ≤ length out.now }
-    ensures { result.count ≡ n }
+    ensures count { result.count ≡ n }
+    ensures written { result.whole ≡ true → Appends (W.contents output.old) (W.contents output.new) (take n out.now) }
 {
     let bytes = &out[..n];
-    let whole = io::write_all(STDOUT_FILENO, bytes);
+    let whole = output.write_all(bytes).is_ok();
     Flushed {
         count: bytes.len(),
         whole,

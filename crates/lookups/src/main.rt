@@ -1,9 +1,12 @@
 // Every set of sixteen members looked up at every position and one past them: a checksum of the members found, a line for each upper half (scope document: Committees, quorums, leaders).
 #![tactic(auto)]
-ghost use Rattle.std.specs.Prelude.{◌≡◌, ◌<◌};
+
+ghost use Rattle.std.specs.Prelude.{◌≡◌, ◌<◌, [], ◌∷◌, ◌++◌, OnOk, decimal};
+ghost use Rattle.std.specs.Io.KnownBytes.{Appends};
 ghost use Rattle.positions.specs.Places.{placeTable};
 
-use libc::STDOUT_FILENO;
+use std::io;
+use std::io::Write;
 
 // The checksum with one number more. Its modulus is a prime: by a power of two the sets of a line would cancel out.
 fn join(sum: u32, n: u32) -> u32 {
@@ -34,14 +37,17 @@ fn half_sum(places: &[u8; 2048], upper: u32) -> u32
 }
 
 // A number on a line of its own.
-fn print_line(n: u32) {
-    io::print_decimal(STDOUT_FILENO, n as u64);
-    io::write_all(STDOUT_FILENO, b"\n");
+fn print_line<W: Write>(output: &mut W, n: u32) -> io::Result<()>
+    ensures { OnOk result (Appends (W.contents output.old) (W.contents output.new) (decimal n ++ 10 ∷ [])) }
+{
+    writeln!(output, "{n}")
 }
 
-fn main() {
+fn main(rt: HostRuntime) -> io::Result<()> {
     let places = positions::places();
+    let mut output = rt.stdout();
     for upper in 0..256u32 {
-        print_line(half_sum(&places, upper));
+        print_line(&mut output, half_sum(&places, upper))?;
     }
+    Ok(())
 }

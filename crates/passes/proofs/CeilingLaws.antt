@@ -1,12 +1,6 @@
 -- The runner's table serves ceilings up to 64, and no other.
-use mathlib.Core.Path.{◌≡◌, refl}
-use mathlib.Core.Bool.{Bool, true, false, false≢true}
-use mathlib.Core.List.{List, [], ◌∷◌}
-use Prim.Native.Nat.{ℕ}
-use native.Mathlib.Omega.{arith}
-use lib.ListN.{length}
-use lib.Dec.{ltb}
-use borrow.Author.Tests.{ltb-true, lt-ltb}
+use Rattle.std.proofs.Common.{◌≡◌, refl, Bool, true, false, List, [], ◌∷◌, ℕ, length, ltb, ltb-true, lt-ltb, arith}
+use Rattle.std.proofs.lemmas.Bool.{false≢true}
 use Rattle.base.specs.Checks.{refusal}
 use Rattle.terms.specs.declared.Member.{Member}
 use Rattle.sheet.specs.declared.Settings.{Settings}

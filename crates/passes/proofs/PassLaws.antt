@@ -1,9 +1,7 @@
 -- Laws of passes: nothing of the input is lost, whatever pieces it comes in, and nothing of the output.
-use mathlib.Core.Path.{◌≡◌, refl, sym, ap, ◌∙◌}
-use mathlib.Core.Bool.{true, false, false≢true}
-use mathlib.Core.List.{List, ◌++◌, append_assoc}
-use Prim.Native.Nat.{ℕ}
-use lib.ListN.{take}
+use Rattle.std.proofs.Common.{◌≡◌, refl, sym, ap, ◌∙◌, true, false, true≢false, List, [], ◌++◌, append_assoc, append-nil, ℕ, Option, IfSome, take}
+use Rattle.std.specs.Io.KnownBytes.{Appends}
+use Rattle.std.proofs.KnownBytes.{Appends-trans, Appends-nil, Consumes-trans, Consumes-nil, Consumes-whole}
 use Rattle.framing.specs.Streams.{hasEnd}
 use Rattle.framing.specs.Framing.{remaining}
 use Rattle.open.specs.Open.{closedState}
@@ -11,8 +9,11 @@ use Rattle.replies.specs.Records.{engineOf}
 use Rattle.answering.specs.Streams.{output}
 use Rattle.session.specs.declared.Session.{Session}
 use Rattle.session.specs.Hand.{handIn}
-use Rattle.session.specs.Session.{answersLeft}
-use Rattle.passes.specs.Passes.{Passes, no-pass, pass, OutputSoFar}
+use Rattle.session.specs.Session.{NothingRead, answersLeft}
+use Rattle.session.specs.Moved.{Moved}
+use Rattle.passes.specs.declared.RunEnd.{RunEnd}
+use Rattle.channel.specs.declared.Flushed.{Flushed}
+use Rattle.passes.specs.Passes.{Passes, no-pass, pass, Served, OutputSoFar, RunServed, WentWell}
 
 -- the output for what was read is what was written, and then what is to be answered to the bytes at hand
 pub output-so-far : OutputSoFar
@@ -26,5 +27,69 @@ output-so-far t₀ _ _ _ _ _ _ (pass {n} {read} {written} {s} {t} {x} g o r t' x
 
 -- where a session has ended no whole record is left
 pub ended-open : {t₀ : List ℕ} {n : ℕ} {read : List ℕ} {written : List ℕ} {s : Session} {t : List ℕ} {x : List ℕ} → Passes t₀ n read written s t x → s.ended ≡ true → hasEnd (handIn x s.work.from s.end) ≡ false
-ended-open (no-pass s x f) e = absurd (false≢true (sym f.ended ∙ e))
+ended-open (no-pass s x f) e = absurd (true≢false (sym e ∙ f.ended))
 ended-open (pass g o r t' x' out h) e = h.no_record e
+
+-- and all that was answered went out
+pub ended-whole : {t₀ : List ℕ} {n : ℕ} {read : List ℕ} {written : List ℕ} {s : Session} {t : List ℕ} {x : List ℕ} → Passes t₀ n read written s t x → s.ended ≡ true → s.wrote.whole ≡ true
+ended-whole (no-pass s x f) e = f.whole
+ended-whole (pass g o r t' x' out h) e = h.went_out e
+
+-- ---- the bytes that are taken and given
+
+pub moved-none : (s : Session) → NothingRead s → (i o : Option (List ℕ)) → Moved s [] [] i i o o
+moved-none s f i o = record { taken = Consumes-nil i; given = λ e. Appends-nil o; at_end = λ e k. absurd (true≢false (sym e ∙ f.ended)) }
+
+-- by a pass after others whose answers went out
+pub moved-then : {s : Session} {r : Session} {read : List ℕ} {written : List ℕ} {came : List ℕ} {given : List ℕ} {i : Option (List ℕ)} {j : Option (List ℕ)} {k : Option (List ℕ)} {o : Option (List ℕ)} {p : Option (List ℕ)} {q : Option (List ℕ)}
+    → s.wrote.whole ≡ true → Moved s read written i j o p → Moved r came given j k p q → Moved r (read ++ came) (written ++ given) i k o q
+moved-then {i = i} {j = j} {k = k} {o = o} {p = p} {q = q} w a b =
+    record { taken = Consumes-trans i j k _ _ a.taken b.taken; given = λ e. Appends-trans o p q _ _ (a.given w) (b.given e); at_end = b.at_end }
+
+-- ---- a run
+
+-- the passes up to a session, and the bytes that they took and gave
+abbrev pub ServedAndMoved : List ℕ → Session → List ℕ → List ℕ → Option (List ℕ) → Option (List ℕ) → Option (List ℕ) → Option (List ℕ) → Type 0
+ServedAndMoved t₀ s t x i j o q = (p : Served t₀ s t x) × Moved s p.read p.written i j o q
+
+-- one that the end of the input ends: what is left is answered
+pub run-ended : {t₀ : List ℕ} {s : Session} (t x : List ℕ) {last : Flushed} {out : List ℕ} {i : Option (List ℕ)} {j : Option (List ℕ)} {o : Option (List ℕ)} {p : Option (List ℕ)} {q : Option (List ℕ)}
+    → ServedAndMoved t₀ s t x i j o p → s.ended ≡ true → take last.count out ≡ answersLeft s t x [] → (last.whole ≡ true → Appends p q (take last.count out)) → RunServed t₀ (record { session = s; last = last }) out i j o q
+run-ended {t₀} {s} t x {last} {out} {i} {j} {o} {p} {q} (d, m) e a b =
+    record {
+      table = t;
+      input = x;
+      served = d;
+      whole = λ _.
+          ap (output (engineOf closedState t₀)) (sym (append-nil d.read))
+          ∙ output-so-far t₀ d.count d.read d.written s t x d.passes []
+          ∙ ap (λ (u : List ℕ). d.written ++ u) (sym a);
+      nothing = λ n. absurd (true≢false (sym e ∙ n));
+      taken = m.taken;
+      given = λ w l. Appends-trans o p q _ _ (m.given w) (b l);
+      went_out = λ _. ended-whole d.passes e;
+      at_end = m.at_end;
+    }
+
+-- one that a failed write ends, or the count of passes: nothing more is written
+pub run-stopped : {t₀ : List ℕ} {s : Session} (t x : List ℕ) {last : Flushed} (out : List ℕ) {i : Option (List ℕ)} {j : Option (List ℕ)} {o : Option (List ℕ)} {q : Option (List ℕ)}
+    → ServedAndMoved t₀ s t x i j o q → s.ended ≡ false → last.count ≡ 0 → RunServed t₀ (record { session = s; last = last }) out i j o q
+run-stopped t x out (d, m) n z =
+    record {
+      table = t;
+      input = x;
+      served = d;
+      whole = λ e. absurd (true≢false (sym e ∙ n));
+      nothing = λ _. z;
+      taken = m.taken;
+      given = λ w _. rw (z, append-nil d.written) (m.given w);
+      went_out = λ e. absurd (true≢false (sym e ∙ n));
+      at_end = m.at_end;
+    }
+
+-- a run in which all went well adds the output for the whole input
+pub run-whole : {t₀ : List ℕ} {r : RunEnd} {out : List ℕ} {i : Option (List ℕ)} {j : Option (List ℕ)} {o : Option (List ℕ)} {q : Option (List ℕ)}
+    → RunServed t₀ r out i j o q → WentWell r → IfSome i (λ bytes. Appends o q (output (engineOf closedState t₀) bytes))
+run-whole {t₀} {r} {out} {i} {j} {o} {q} h w =
+    Consumes-whole i j h.served.read (λ bytes. Appends o q (output (engineOf closedState t₀) bytes)) h.taken (h.at_end w.ended w.read)
+    (rw (h.whole w.ended) (h.given (h.went_out w.ended) w.written))

@@ -1,5 +1,6 @@
 -- Pass after pass: all that was read, and all that was written out, which is what was handed to the output.
-use Rattle.std.specs.Prelude.{◌≡◌, true, false, List, [], ◌++◌, ℕ, ◌+◌, take}
+use Rattle.std.specs.Prelude.{◌≡◌, true, false, List, [], ◌++◌, ℕ, ◌+◌, Option, Some, take}
+use Rattle.std.specs.Io.KnownBytes.{Appends, Consumes, IsAtEnd}
 use Rattle.open.specs.Open.{closedState}
 use Rattle.replies.specs.Records.{engineOf}
 use Rattle.answering.specs.Streams.{output}
@@ -34,10 +35,22 @@ OutputSoFar = (t₀ : List ℕ) (n : ℕ) (read written : List ℕ) (s : Session
     → (more : List ℕ) → output (engineOf closedState t₀) (read ++ more) ≡ written ++ answersLeft s t x more
 
 -- a run from a start with the table t₀; out is the output buffer afterwards, of which the first bytes were written last.
--- Where the input has ended, all that was written is the output for all that was read; else nothing is written after the last pass
-pub record RunServed (t₀ : List ℕ) (r : RunEnd) (out : List ℕ) : Type 0 where
+-- Where the input has ended, all that was written is the output for all that was read; else nothing is written after the last pass.
+-- i and j is what the input had left before and has after it, o and q what the output held and holds, where these bytes are known: those that were read were taken from the input, and where no write failed, those that were written were added to the output
+pub record RunServed (t₀ : List ℕ) (r : RunEnd) (out : List ℕ) (i j o q : Option (List ℕ)) : Type 0 where
   pub table : List ℕ
   pub input : List ℕ
   pub served : Served t₀ r.session table input
   pub whole : r.session.ended ≡ true → output (engineOf closedState t₀) served.read ≡ served.written ++ take r.last.count out
   pub nothing : r.session.ended ≡ false → r.last.count ≡ 0
+  pub taken : Consumes i j served.read
+  pub given : r.session.wrote.whole ≡ true → r.last.whole ≡ true → Appends o q (served.written ++ take r.last.count out)
+  -- a run ends after the last pass whose answers went out
+  pub went_out : r.session.ended ≡ true → r.session.wrote.whole ≡ true
+  pub at_end : r.session.ended ≡ true → r.session.came.answer ≡ Some 0 → IsAtEnd j
+
+-- the input has ended, and not by a read that failed; and no write failed
+pub record WentWell (r : RunEnd) : Type 0 where
+  pub ended : r.session.ended ≡ true
+  pub read : r.session.came.answer ≡ Some 0
+  pub written : r.last.whole ≡ true

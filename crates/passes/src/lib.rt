@@ -1,23 +1,39 @@
 // Pass after pass until the input ends: a whole run, in memory that is lent (scope document: The runner).
 #![tactic(auto)]
-ghost use Rattle.std.specs.Prelude.{◌≡◌, false, [], take};
+
+ghost use Rattle.std.specs.Prelude.{◌≡◌, true, false, [], IfSome, take};
+ghost use Rattle.std.specs.Io.KnownBytes.{Appends};
 ghost use Rattle.framing.specs.Streams.{hasEnd};
+ghost use Rattle.open.specs.Open.{closedState};
+ghost use Rattle.replies.specs.Records.{engineOf};
+ghost use Rattle.answering.specs.Streams.{output as outputFor};
 ghost use Rattle.session.specs.Hand.{handIn};
 ghost use Rattle.session.specs.Session.{Memory, SessionReady, answersLeft};
-ghost use Rattle.passes.specs.Passes.{Served, RunServed};
+ghost use Rattle.session.specs.Moved.{Moved};
+ghost use Rattle.passes.specs.Passes.{Served, RunServed, WentWell};
 
 use channel::Flushed;
 use session::Session;
+use std::io::{Read, Write};
 
 // Serves until the input ends or a write fails.
-fn serve_all(cache: &mut [u64], t: &mut [u32], buf: &mut [u8], out: &mut [u8]) -> Session
+fn serve_all<R: Read, W: Write>(
+    input: &mut R,
+    output: &mut W,
+    cache: &mut [u64],
+    t: &mut [u32],
+    buf: &mut [u8],
+    out: &mut [u8],
+) -> Session
     requires { Memory t.old buf.old out.old }
-    ensures { Served t.old result t.new buf.new × SessionReady result cache.new t.new buf.new out.new }
+    ensures served { (p : Served t.old result t.new buf.new)
+        × Moved result p.read p.written (R.remaining input.old) (R.remaining input.new) (W.contents output.old) (W.contents output.new) }
+    ensures ready { SessionReady result cache.new t.new buf.new out.new }
 {
     let mut s = session::start();
     let mut passes = u64::MAX;
     while passes > 0 && !session::is_over(s) {
-        let after = session::serve_pass(s, cache, t, buf, out);
+        let after = session::serve_pass(input, output, s, cache, t, buf, out);
         s = after;
         passes -= 1;
     }
@@ -25,9 +41,18 @@ fn serve_all(cache: &mut [u64], t: &mut [u32], buf: &mut [u8], out: &mut [u8]) -
 }
 
 // Answers what is left at the end of input.
-fn conclude(s: Session, cache: &mut [u64], t: &mut [u32], buf: &[u8], out: &mut [u8]) -> Flushed
-    requires { SessionReady s cache.old t.old buf.now out.old × (hasEnd (handIn buf.now s.work.from s.end) ≡ false) }
-    ensures { take result.count out.new ≡ answersLeft s t.old buf.now [] }
+fn conclude<W: Write>(
+    output: &mut W,
+    s: Session,
+    cache: &mut [u64],
+    t: &mut [u32],
+    buf: &[u8],
+    out: &mut [u8],
+) -> Flushed
+    requires ready { SessionReady s cache.old t.old buf.now out.old }
+    requires no_record { hasEnd (handIn buf.now s.work.from s.end) ≡ false }
+    ensures answered { take result.count out.new ≡ answersLeft s t.old buf.now [] }
+    ensures given { result.whole ≡ true → Appends (W.contents output.old) (W.contents output.new) (take result.count out.new) }
 {
     let end = session::end_of(s);
     let w = session::work_of(s);
@@ -35,7 +60,7 @@ fn conclude(s: Session, cache: &mut [u64], t: &mut [u32], buf: &[u8], out: &mut 
     let state = w.state;
     let hand = serving::rest(&buf[..end], from);
     let n = serving::finish(w.formed, cache, state, t, w.skipping, hand, out);
-    channel::flush(out, n)
+    channel::flush(output, out, n)
 }
 
 // The session after the last pass, and what was written out at the end of input.
@@ -45,18 +70,27 @@ pub struct RunEnd {
     pub last: Flushed,
 }
 
-// All of a run.
-pub fn run(cache: &mut [u64], t: &mut [u32], buf: &mut [u8], out: &mut [u8]) -> RunEnd
+// All of a run. Where all reads and writes went well, what is added to the output is the output for the whole input.
+pub fn run<R: Read, W: Write>(
+    input: &mut R,
+    output: &mut W,
+    cache: &mut [u64],
+    t: &mut [u32],
+    buf: &mut [u8],
+    out: &mut [u8],
+) -> RunEnd
     requires { Memory t.old buf.old out.old }
-    ensures { RunServed t.old result out.new }
+    ensures served { RunServed t.old result out.new (R.remaining input.old) (R.remaining input.new) (W.contents output.old) (W.contents output.new) }
+    ensures whole { WentWell result → IfSome (R.remaining input.old)
+        (λ bytes. Appends (W.contents output.old) (W.contents output.new) (outputFor (engineOf closedState t.old) bytes)) }
 {
-    let session = serve_all(cache, t, buf, out);
+    let session = serve_all(input, output, cache, t, buf, out);
     if !session::has_ended(session) {
         return RunEnd {
             session,
             last: channel::no_write(),
         };
     }
-    let last = conclude(session, cache, t, buf, out);
+    let last = conclude(output, session, cache, t, buf, out);
     RunEnd { session, last }
 }

@@ -1,2 +1,3 @@
 pub mod Hand
 pub mod Session
+pub mod Moved

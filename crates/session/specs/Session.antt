@@ -1,6 +1,7 @@
 -- A session going on: what a pass serves, writes out and reads.
-use Rattle.std.specs.Prelude.{◌≡◌, Bool, true, false, not, ◌&&◌, ◌||◌, List, [], ◌++◌, ℕ, ◌+◌, ◌-◌, ◌*◌, ◌≤◌, ◌<◌, length, take, drop, eqb}
-use Rattle.io.specs.Counts.{clamp_len}
+use Rattle.std.specs.Prelude.{◌≡◌, Bool, true, false, not, ◌&&◌, ◌||◌, List, [], ◌++◌, ℕ, ◌+◌, ◌-◌, ◌*◌, ◌≤◌, ◌<◌, Option, Some, length, take, drop, eqb}
+use Rattle.std.specs.Option.{unwrap_or}
+use Rattle.std.specs.Io.KnownBytes.{Consumes, IsAtEnd}
 use Rattle.state.specs.Cached.{Cached}
 use Rattle.framing.specs.Streams.{hasEnd}
 use Rattle.framing.specs.Framing.{remaining}
@@ -57,10 +58,11 @@ pub record RefillReady (w : Work) (wrote : Flushed) (end : ℕ) (buf : List ℕ)
 abbrev pub wantsRead : Work → Flushed → Bool
 wantsRead w wrote = w.waits && wrote.whole
 
--- x is the input buffer before, y after bytes came behind those at hand, as many as the read answered; the input has ended where none came
-pub record BufferRefilled (w : Work) (wrote : Flushed) (end : ℕ) (x y : List ℕ) (r : Session) : Type 0 where
+-- x is the input buffer before, y after bytes came behind those at hand, as many as the read answered; the input has ended where none came. i and j is what the input has left before and after, where that is known
+pub record BufferRefilled (w : Work) (wrote : Flushed) (end : ℕ) (x y : List ℕ) (i j : Option (List ℕ)) (r : Session) : Type 0 where
   pub hand : handIn y r.work.from r.end ≡ handIn x w.from end ++ take r.came.count (drop (end - w.from) y)
-  pub counted : r.came.count ≡ clamp_len r.came.answer (length y - (end - w.from))
+  pub counted : r.came.count ≡ unwrap_or r.came.answer 0
+  pub within : r.came.count ≤ length y - (end - w.from)
   pub state : r.work.state ≡ w.state
   pub formed : r.work.formed ≡ w.formed
   pub skipping : r.work.skipping ≡ w.skipping
@@ -68,12 +70,14 @@ pub record BufferRefilled (w : Work) (wrote : Flushed) (end : ℕ) (x y : List �
   pub read : r.came.read ≡ wantsRead w wrote
   pub unread : r.came.read ≡ false → r.came.count ≡ 0
   pub ended : r.ended ≡ (wantsRead w wrote && eqb r.came.count 0)
+  pub taken : Consumes i j (take r.came.count (drop (end - w.from) y))
+  pub at_end : r.ended ≡ true → r.came.answer ≡ Some 0 → IsAtEnd j
 
 -- r goes on after w: its bytes at hand lie within the input buffer, and its output buffer is empty
-pub record SessionRefilled (w : Work) (wrote : Flushed) (end : ℕ) (x y : List ℕ) (r : Session) : Type 0 where
+pub record SessionRefilled (w : Work) (wrote : Flushed) (end : ℕ) (x y : List ℕ) (i j : Option (List ℕ)) (r : Session) : Type 0 where
   pub hand : HandWithin r.work.from r.end y
   pub empty : r.work.next ≡ 0
-  pub bytes : BufferRefilled w wrote end x y r
+  pub bytes : BufferRefilled w wrote end x y i j r
 
 -- ---- passes
 
@@ -88,13 +92,15 @@ pub record PassServed (s : Session) (t x : List ℕ) (r : Session) (t' x' out : 
   pub came : List ℕ
   pub hand : handIn x' r.work.from r.end ≡ left ++ came
   pub counted : length came ≡ r.came.count
-  pub answer : r.came.count ≡ clamp_len r.came.answer (length x' - length left)
+  pub answer : r.came.count ≡ unwrap_or r.came.answer 0
+  pub within : r.came.count ≤ length x' - length left
   pub whole : (more : List ℕ) → answersLeft s t x (came ++ more) ≡ take r.wrote.count out ++ answersLeft r t' x' more
   -- where it goes on, something was handed out or read
   pub goes_on : is_over r ≡ false → 0 < r.wrote.count + r.came.count
   -- no byte comes without a read
   pub unread : r.came.read ≡ false → came ≡ []
-  -- the input has ended: a read was made with room for more than was left, none came, and no whole record is left
+  -- the input has ended: all answers went out, a read was made with room for more than was left, none came, and no whole record is left
+  pub went_out : r.ended ≡ true → r.wrote.whole ≡ true
   pub read : r.ended ≡ true → r.came.read ≡ true
   pub room : r.ended ≡ true → length left < length x'
   pub none : r.ended ≡ true → came ≡ []

@@ -1,11 +1,14 @@
 // A session going on: the bytes at hand are served, the answers written out, and more bytes read (scope document: The runner).
 #![tactic(auto)]
-ghost use Rattle.std.specs.Prelude.{◌≡◌};
+
+ghost use Rattle.std.specs.Prelude.{◌≡◌, take};
 ghost use Rattle.serving.specs.Work.{OutputEmptied};
 ghost use Rattle.session.specs.Session.{SessionReady, NothingRead, is_over, RefillReady, wantsRead, SessionRefilled, PassServed};
+ghost use Rattle.session.specs.Moved.{Moved};
 
 use channel::{Came, Flushed};
 use serving::Work;
+use std::io::{Read, Write};
 
 // The work, where the bytes at hand end in the input buffer, and whether the input has ended. Of the last pass: what it wrote out, and what it read.
 // Only this crate makes one: whoever has it has called `start`, and then `serve_pass` some times.
@@ -87,9 +90,9 @@ fn wants_read(w: Work, wrote: Flushed) -> bool
 }
 
 // Goes on with the bytes at hand; where more are wanted, reads them. Where a write failed nothing more is read.
-fn refill(w: Work, wrote: Flushed, buf: &mut [u8], end: usize) -> Session
+fn refill<R: Read>(input: &mut R, w: Work, wrote: Flushed, buf: &mut [u8], end: usize) -> Session
     requires { RefillReady w wrote end buf.old }
-    ensures { SessionRefilled w wrote end buf.old buf.new result }
+    ensures { SessionRefilled w wrote end buf.old buf.new (R.remaining input.old) (R.remaining input.new) result }
 {
     let from = w.from;
     if !wants_read(w, wrote) {
@@ -102,7 +105,7 @@ fn refill(w: Work, wrote: Flushed, buf: &mut [u8], end: usize) -> Session
         };
     }
     let n = channel::move_to_front(buf, from, end);
-    let came = channel::more(buf, n);
+    let came = channel::more(input, buf, n);
     let count = channel::count_of(came);
     Session {
         work: emptied(w, 0),
@@ -114,7 +117,9 @@ fn refill(w: Work, wrote: Flushed, buf: &mut [u8], end: usize) -> Session
 }
 
 // Serves what is at hand, writes the answers out and goes on.
-pub fn serve_pass(
+pub fn serve_pass<R: Read, W: Write>(
+    input: &mut R,
+    output: &mut W,
     s: Session,
     cache: &mut [u64],
     t: &mut [u32],
@@ -122,11 +127,13 @@ pub fn serve_pass(
     out: &mut [u8],
 ) -> Session
     requires { SessionReady s cache.old t.old buf.old out.old }
-    ensures { PassServed s t.old buf.old result t.new buf.new out.new × SessionReady result cache.new t.new buf.new out.new }
+    ensures served { (p : PassServed s t.old buf.old result t.new buf.new out.new)
+        × Moved result p.came (take result.wrote.count out.new) (R.remaining input.old) (R.remaining input.new) (W.contents output.old) (W.contents output.new) }
+    ensures ready { SessionReady result cache.new t.new buf.new out.new }
 {
     let end = s.end;
     let before = s.work;
     let w = serving::work_on(before, cache, t, &buf[..end], out);
-    let wrote = channel::flush(out, w.next);
-    refill(w, wrote, buf, end)
+    let wrote = channel::flush(output, out, w.next);
+    refill(input, w, wrote, buf, end)
 }
