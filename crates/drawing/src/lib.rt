@@ -1,5 +1,6 @@
 // Guests' queues as calls change them: a transaction added, and a draw (change request: Point 6).
 #![tactic(auto)]
+
 ghost use Rattle.std.specs.Prelude.{◌≡◌, true, ◌*◌, ◌<◌, ◌≤◌, drop};
 ghost use Rattle.std.proofs.Math.Seq.{paste};
 ghost use Rattle.base.specs.Options.{ifThere};

@@ -1,5 +1,6 @@
 // What a bond does to the shares of a committee: all sixteen before and after, and how far they move (change request: Point 13).
 #![tactic(auto)]
+
 ghost use Rattle.std.specs.Prelude.{◌≡◌, max};
 ghost use Rattle.shares.specs.Shares.{apart};
 ghost use Rattle.effects.specs.Effects.{shares_of, largestTo, bondEffect, noEffect, TotalOf, Bonds};

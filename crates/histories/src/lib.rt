@@ -1,5 +1,6 @@
 // Histories, and the anchors that a commit takes, on the lent table (scope document: Commit).
 #![tactic(auto)]
+
 pub mod anchors;
 
 ghost use Rattle.std.specs.Prelude.{◌≡◌, ◌<◌};

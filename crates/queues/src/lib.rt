@@ -1,6 +1,7 @@
 // Guests' queues in row 0 of the table: what waits in them, and whether they are well formed (change request: Point 6).
 // Row 0: the guest served last plus 1, 0 for none; how many wait of each of eight guests; 15 words kept for later; then for each guest eight places of three words, oldest first, and eight words kept for later behind all but the last.
 #![tactic(auto)]
+
 ghost use Rattle.std.specs.Prelude.{◌≡◌, ◌<◌};
 ghost use Rattle.base.specs.Folds.{allTo};
 ghost use Rattle.store.specs.Table.{Row};

@@ -1,5 +1,4 @@
 use Rattle.histories.specs.History.{named_by}
-use borrow.Author.Rules.{rules}
 use Rattle.histories.proofs.named_by.Goals as goal
 
 pub returns-then-has : goal.returns-then-has

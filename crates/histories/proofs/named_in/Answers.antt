@@ -1,10 +1,8 @@
-use Prim.Native.Nat.{◌-◌, ◌≤◌}
 use mathlib.Core.Path.{◌≡◌, refl}
 use native.Mathlib.Omega.{arith}
 use Rattle.base.specs.Folds.{foldTo}
 use Rattle.base.proofs.FoldLaws.{fold_more}
-use Rattle.histories.specs.History.{named_by, named}
-use borrow.Author.Rules.{rules}
+use Rattle.histories.specs.History.{named}
 use Rattle.histories.proofs.named_in.Goals as goal
 
 pub loop-a-init : goal.loop-a-init

@@ -1,9 +1,7 @@
-use Prim.Native.Nat.{◌-◌, ◌≤◌}
-use mathlib.Core.Path.{◌≡◌, refl}
-use native.Mathlib.Omega.{arith}
+use Prim.Native.Nat.{◌≤◌}
+use mathlib.Core.Path.{◌≡◌}
 use Rattle.base.specs.Folds.{foldTo}
-use Rattle.base.proofs.FoldLaws.{fold_more}
-use Rattle.histories.specs.History.{named_by, named}
+use Rattle.histories.specs.History.{named_by}
 use Rattle.histories.proofs.named_in.Given as goal
 
 abbrev pub invariant-loop-a : goal.invariant-loop-a

@@ -1,7 +1,6 @@
 use mathlib.Core.Path.{sym, refl}
 use Rattle.histories.proofs.HistoryLaws.{below_none}
 use Rattle.histories.specs.History.{below}
-use borrow.Author.Rules.{rules}
 use Rattle.histories.proofs.step_down.Goals as goal
 
 pub returns-then-s-eq0 : goal.returns-then-s-eq0

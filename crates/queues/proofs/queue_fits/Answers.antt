@@ -1,14 +1,13 @@
 use mathlib.Core.Path.{◌≡◌, refl, sym, ◌∙◌}
 use native.Mathlib.Omega.{arith}
-use Prim.Native.Nat.{ℕ, ◌-◌}
+use Prim.Native.Nat.{ℕ}
 use mathlib.Core.Bool.{◌&&◌}
 use mathlib.Core.List.{List}
 use lib.Dec.{leb}
 use Rattle.base.specs.Folds.{allTo}
-use borrow.Author.Tests.{not-true, not-false, lt-leb, le-leb}
-use Rattle.base.proofs.TestLaws.{AllSoFar, all_start, all-next, all_done, all-fails}
+use borrow.Author.Tests.{lt-leb, le-leb}
+use Rattle.base.proofs.TestLaws.{all_start, all-next, all_done, all-fails}
 use Rattle.queues.specs.Words.{waitingCount, waitingFits, queueFits}
-use borrow.Author.Rules.{rules}
 use Rattle.queues.proofs.queue_fits.Goals as goal
 
 -- by the number that waits

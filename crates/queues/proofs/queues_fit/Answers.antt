@@ -1,10 +1,8 @@
 use mathlib.Core.Path.{refl, sym, ◌∙◌}
 use native.Mathlib.Omega.{arith}
-use Prim.Native.Nat.{◌-◌}
-use borrow.Author.Tests.{not-true, not-false, lt-leb, le-leb}
-use Rattle.base.proofs.TestLaws.{AllSoFar, all_start, all-next, all_done, all-fails}
-use Rattle.queues.specs.Words.{servedWord, queueFits, queuesFit}
-use borrow.Author.Rules.{rules}
+use borrow.Author.Tests.{lt-leb, le-leb}
+use Rattle.base.proofs.TestLaws.{all_start, all-next, all_done, all-fails}
+use Rattle.queues.specs.Words.{servedWord, queuesFit}
 use Rattle.queues.proofs.queues_fit.Goals as goal
 
 pub returns-then-t-gt-GUESTS : goal.returns-then-t-gt-GUESTS

@@ -1,9 +1,5 @@
-use mathlib.Core.Path.{refl, sym, ◌∙◌}
-use native.Mathlib.Omega.{arith}
-use Prim.Native.Nat.{◌-◌}
-use borrow.Author.Tests.{not-true, not-false, lt-leb, le-leb}
-use Rattle.base.proofs.TestLaws.{AllSoFar, all_start, all-next, all_done, all-fails}
-use Rattle.queues.specs.Words.{servedWord, queueFits, queuesFit}
+use Rattle.base.proofs.TestLaws.{AllSoFar}
+use Rattle.queues.specs.Words.{queueFits}
 use Rattle.queues.proofs.queues_fit.Given as goal
 
 abbrev pub invariant-loop-g : goal.invariant-loop-g

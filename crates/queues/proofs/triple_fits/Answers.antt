@@ -1,7 +1,6 @@
 use mathlib.Core.Path.{refl}
 use borrow.Author.Tests.{eq-eqb, ne_eqb}
 use Rattle.scan.specs.Scan.{tripleFits}
-use borrow.Author.Rules.{rules}
 use Rattle.queues.proofs.triple_fits.Goals as goal
 
 pub returns-then-kind-eq0 : goal.returns-then-kind-eq0

@@ -1,12 +1,9 @@
-use mathlib.Core.Path.{◌≡◌, sym}
+use mathlib.Core.Path.{◌≡◌}
 use mathlib.Core.List.{List}
-use Prim.Native.Nat.{ℕ, ◌+◌, ◌-◌, ◌*◌, ◌/◌, ◌≤◌}
-use native.Mathlib.Omega.{arith}
+use Prim.Native.Nat.{ℕ, ◌-◌, ◌*◌, ◌/◌, ◌≤◌}
 use Rattle.changes.specs.BlockChanges.{placeChange}
-use Rattle.changes.proofs.BlockChangeLaws.{same_at}
 use Rattle.changes.specs.LinkRuns.{rowsOver}
-use Rattle.changes.proofs.RunLaws.{LinkedFrom, linked-head, linked_up, rows-first, rows_next, end-linked}
-use Rattle.changes.proofs.BoundLaws.{rows-total}
+use Rattle.changes.proofs.RunLaws.{LinkedFrom}
 use Rattle.changes.proofs.block.apply_block.Given as goal
 
 -- the rows below that of p are done, and p is the first place of its row

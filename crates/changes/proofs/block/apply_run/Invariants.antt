@@ -1,12 +1,9 @@
-use mathlib.Core.Path.{◌≡◌, refl, sym, ◌∙◌}
+use mathlib.Core.Path.{◌≡◌}
 use mathlib.Core.List.{List}
-use Prim.Native.Nat.{ℕ, suc, ◌+◌, ◌-◌, ◌*◌, ◌≤◌}
-use native.Mathlib.Omega.{arith}
+use Prim.Native.Nat.{ℕ, ◌+◌, ◌-◌, ◌*◌, ◌≤◌}
 use Rattle.committee.specs.Totals.{totalIn}
 use Rattle.changes.specs.BlockChanges.{recordChange}
 use Rattle.changes.specs.LinkRuns.{runOver, runEnd}
-use Rattle.changes.proofs.RunLaws.{run_step, run-stop, run_none, end_step, end-stop, end_none}
-use Rattle.changes.proofs.BoundLaws.{from-total}
 use Rattle.changes.proofs.block.apply_run.Given as goal
 
 -- what is left of the run, of at most 16 - i places, does what the whole run does, and ends where it ends

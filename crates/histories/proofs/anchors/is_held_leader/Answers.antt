@@ -1,6 +1,5 @@
 use mathlib.Core.Path.{sym}
 use Rattle.base.proofs.SetLaws.{not_in}
-use borrow.Author.Rules.{rules}
 use Rattle.histories.proofs.anchors.is_held_leader.Goals as goal
 
 pub returns-then-a-ge16 : goal.returns-then-a-ge16

@@ -1,7 +1,6 @@
 use Rattle.histories.specs.Anchors.{takeSet, take_row}
 use Rattle.base.proofs.SetLaws.{in-member}
 use mathlib.Core.Path.{sym, ◌∙◌}
-use borrow.Author.Rules.{rules}
 use Rattle.histories.proofs.anchors.take_leader.Goals as goal
 
 pub just-requires : goal.just-requires

@@ -1,12 +1,7 @@
-use mathlib.Core.List.{List}
-use Prim.Native.Nat.{ℕ, ◌-◌, ◌≤◌}
-use mathlib.Core.Path.{◌≡◌, refl, sym, ◌∙◌}
+use mathlib.Core.Path.{refl, sym, ◌∙◌}
 use native.Mathlib.Omega.{arith}
-use lib.ListN.{length}
-use Rattle.histories.specs.Anchors.{takeFrom, takenLeaders}
+use Rattle.histories.specs.Anchors.{takenLeaders}
 use Rattle.histories.proofs.AnchorLaws.{take_step, take_done}
-use Rattle.histories.proofs.anchors.take_leaders.Invariants.{LeadersLeft}
-use borrow.Author.Rules.{rules}
 use Rattle.histories.proofs.anchors.take_leaders.Goals as goal
 
 pub loop-r-init : goal.loop-r-init
@@ -19,7 +14,7 @@ loop-r-preserved c = let b = c.take_leader-s in
     record {
       to = omega arith;
       from = omega arith;
-      size = b.auto.0 ∙ i.invariant.size;
+      size = b.auto.l ∙ i.invariant.size;
       rest = rw (b.ensures.0, b.ensures.1, c.step_down-u.ensures) (sym (take_step a.t.now a.m.0 i.r i.s i.l (omega arith)) ∙ i.invariant.rest);
     }
 

@@ -1,10 +1,8 @@
 use mathlib.Core.List.{List}
 use Prim.Native.Nat.{ℕ, ◌-◌, ◌≤◌}
-use mathlib.Core.Path.{◌≡◌, refl, sym, ◌∙◌}
-use native.Mathlib.Omega.{arith}
+use mathlib.Core.Path.{◌≡◌}
 use lib.ListN.{length}
-use Rattle.histories.specs.Anchors.{takeFrom, takenLeaders}
-use Rattle.histories.proofs.AnchorLaws.{take_step, take_done}
+use Rattle.histories.specs.Anchors.{takeFrom}
 use Rattle.histories.proofs.anchors.take_leaders.Given as goal
 
 -- taking from round r down gives what taking from the first round on gives
@@ -15,7 +13,7 @@ pub record LeadersLeft (t l₀ : List ℕ) (last s₀ r₀ : ℕ) (l : List ℕ)
   pub rest : takeFrom t last (r - last) s l ≡ takeFrom t last (r₀ - last) s₀ l₀
 
 abbrev pub invariant-loop-r : goal.invariant-loop-r
-invariant-loop-r l = LeadersLeft l.t l.l.initial.l l.l.last l.l.initial.s l.l.initial.r l.l l.s l.l.r
+invariant-loop-r l = LeadersLeft l.t l.initial.l l.last l.initial.s l.initial.r l.l l.s l.r
 
 abbrev pub decreases-loop-r : goal.decreases-loop-r
-decreases-loop-r l = l.l.r
+decreases-loop-r l = l.r
