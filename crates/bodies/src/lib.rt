@@ -1,5 +1,6 @@
 // A body as fourteen words, and a transaction as three: read, and put.
 #![tactic(auto)]
+
 pub mod lengths;
 pub mod stretch;
 

@@ -1,5 +1,6 @@
 // What is cleared in the table: the endorsed mark of a place, and the part that a state uses (scope document: A member's state).
 #![tactic(auto)]
+
 ghost use Rattle.std.specs.Prelude.{◌≡◌};
 ghost use Rattle.store.specs.Table.{Within, Row};
 ghost use Rattle.writes.specs.Writes.{clearEndorsed, clearUsed};

@@ -1,5 +1,6 @@
 // Entries of a preview put into a lent list: block number, certificate round, author. Each function returns the next place (change request: Point 8).
 #![tactic(auto)]
+
 ghost use Rattle.std.specs.Prelude.{◌+◌, ◌-◌, ◌≤◌, ◌<◌, length};
 ghost use Rattle.base.specs.Sets.{isIn};
 ghost use Rattle.putting.specs.Puts.{Puts};

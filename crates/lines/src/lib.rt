@@ -1,5 +1,6 @@
 // Answers and listings as bytes, put into a buffer from a place on. Each function returns the next place (scope document: The runner).
 #![tactic(auto)]
+
 ghost use Rattle.std.specs.Prelude.{◌≡◌, [], ◌∷◌, ◌+◌, ◌≤◌, ◌<◌, length};
 ghost use Rattle.terms.specs.Proposals.{transactionsOf};
 ghost use Rattle.lines.specs.Lines.{decimal, numberField, okLine, countLine, refusedLine, letterOf, tripleFields, triplesFields, listingLine};

@@ -1,5 +1,6 @@
 // What a history has that is in no block yet, by round; nothing is written to the table (change request: Point 8).
 #![tactic(auto)]
+
 ghost use Rattle.std.specs.Prelude.{◌≡◌, cond, not, ◌&&◌, eqb};
 ghost use Rattle.base.specs.Sets.{isIn, add};
 ghost use Rattle.store.specs.Table.{Within, Row, markAt};

@@ -1,5 +1,6 @@
 // What guests may do: four rights of callers 0 to 7, fixed at opening (change request: Point 11).
 #![tactic(auto)]
+
 ghost use Rattle.std.specs.Prelude.{◌≡◌, ◌<◌};
 ghost use Rattle.rights.specs.Rights.{rightNumber, may, callerRefusal};
 

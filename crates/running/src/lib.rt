@@ -1,6 +1,7 @@
 // A running committee: the starting weights, changed by the first blocks of the chain, oldest first.
 // The rows of a block start with the leader of its round, whose committee is that of lookback rounds before: so the start of each block is told before the blocks from there on are applied.
 #![tactic(auto)]
+
 pub mod starts;
 
 ghost use Rattle.std.specs.Prelude.{◌≡◌, ◌+◌, ◌-◌, ◌<◌, ◌≤◌};

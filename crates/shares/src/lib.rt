@@ -1,5 +1,6 @@
 // A part of a total in thousandths: to the nearest, an exact half to the even neighbour (scope document: Committees, quorums, leaders).
 #![tactic(auto)]
+
 ghost use Rattle.std.specs.Prelude.{◌≡◌};
 ghost use Rattle.shares.specs.Shares.{rounded, share_of, Division, PartOf};
 

@@ -1,5 +1,6 @@
 // The sheet of settings: what an integrator fills in, its defaults and its ranges (scope document: Terms and sheet).
 #![tactic(auto)]
+
 ghost use Rattle.std.specs.Prelude.{◌≡◌, ◌<◌};
 ghost use Rattle.base.specs.Folds.{anyTo, tab};
 ghost use Rattle.sheet.specs.Sheets.{blankSheet, valueOr, blankWeight, weightAt, filled};

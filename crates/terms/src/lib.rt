@@ -1,5 +1,6 @@
 // Members, rounds, transactions, proposals and certificates, as they are handed in (scope document: Terms and sheet).
 #![tactic(auto)]
+
 ghost use Rattle.std.specs.Prelude.{◌≡◌, ◌<◌, ◌≤◌};
 ghost use Rattle.base.specs.Folds.{allTo};
 ghost use Rattle.terms.specs.Transactions.{kind_of, number_of, amountOf, readTransaction, sameTransaction, amountInRange, bondInRange, in_range};

@@ -1,5 +1,6 @@
 // What is written into the table: certificates put, endorsed marks set, marks and rounds of blocks (scope document: A member's state).
 #![tactic(auto)]
+
 ghost use Rattle.std.specs.Prelude.{◌≡◌, ◌+◌, ◌*◌, ◌<◌, ◌≤◌, length};
 ghost use Rattle.std.proofs.Math.Seq.{paste};
 ghost use Rattle.terms.specs.Proposals.{contentOf, contentWith};

@@ -1,6 +1,5 @@
 use mathlib.Core.Path.{refl}
 use Rattle.bodies.specs.Bodies.{bodyIn}
-use borrow.Author.Rules.{rules}
 use Rattle.bodies.proofs.body_in.Goals as goal
 
 pub returns : goal.returns

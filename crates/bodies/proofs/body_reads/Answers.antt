@@ -1,10 +1,8 @@
 use mathlib.Core.Path.{refl, sym, ◌∙◌}
-use Prim.Native.Nat.{◌-◌}
 use native.Mathlib.Omega.{arith}
-use borrow.Author.Tests.{lt-ltb, le-ltb, not-true, not-false}
-use Rattle.base.proofs.TestLaws.{AllSoFar, all_start, all-next, all_done, all-fails}
+use borrow.Author.Tests.{lt-ltb, le-ltb}
+use Rattle.base.proofs.TestLaws.{all_start, all-next, all_done, all-fails}
 use Rattle.bodies.specs.Bodies.{tripleReads, bodyReads}
-use borrow.Author.Rules.{rules}
 use Rattle.bodies.proofs.body_reads.Goals as goal
 
 pub returns-then-w-at-ge65536 : goal.returns-then-w-at-ge65536

@@ -1,7 +1,6 @@
 use borrow.Author.Tests.{eq-eqb, ne_eqb, lt-leb, le-leb}
 use mathlib.Core.Path.{refl}
 use Rattle.bodies.specs.Bodies.{isTriple}
-use borrow.Author.Rules.{rules}
 use Rattle.bodies.proofs.is_triple.Goals as goal
 
 pub returns-then-kind-eq0 : goal.returns-then-kind-eq0

@@ -2,7 +2,6 @@ use mathlib.Core.Path.{refl}
 use borrow.Author.Tests.{lt-leb, le-leb}
 use Rattle.bodies.specs.Lengths.{bodyLength}
 use Rattle.bodies.specs.Bodies.{loneBodyReads}
-use borrow.Author.Rules.{rules}
 use Rattle.bodies.proofs.lone_body_reads.Goals as goal
 
 pub returns-then-w-lt-BODY : goal.returns-then-w-lt-BODY

@@ -2,7 +2,6 @@ use mathlib.Core.Path.{refl}
 use borrow.Author.Tests.{lt-leb, le-leb}
 use Rattle.bodies.specs.Lengths.{transactionLength}
 use Rattle.bodies.specs.Bodies.{loneTripleReads}
-use borrow.Author.Rules.{rules}
 use Rattle.bodies.proofs.lone_triple_reads.Goals as goal
 
 pub returns-then-w-lt-TRANSACTION : goal.returns-then-w-lt-TRANSACTION

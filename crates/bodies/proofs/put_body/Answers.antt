@@ -1,14 +1,13 @@
 use mathlib.Core.Path.{◌≡◌, ap, ap₂, ◌∙◌}
 use mathlib.Core.List.{List}
 use native.Mathlib.Omega.{arith}
-use Prim.Native.Nat.{ℕ, ◌+◌, ◌*◌, ◌-◌}
+use Prim.Native.Nat.{ℕ, ◌+◌, ◌*◌}
 use lib.Seq.{paste}
 use Rattle.terms.specs.declared.Transaction.{Transaction}
 use Rattle.bodies.specs.Lengths.{transactionLength}
 use Rattle.bodies.specs.Bodies.{usedWords, tripleWords}
 use Rattle.bodies.proofs.BodyLaws.{used_step, body-put}
-use Rattle.base.proofs.FillLaws.{Pasting, pasting-none}
-use borrow.Author.Rules.{rules}
+use Rattle.base.proofs.FillLaws.{pasting-none}
 use Rattle.bodies.proofs.put_body.Goals as goal
 
 pub loop-k-init : goal.loop-k-init

@@ -1,7 +1,6 @@
 use borrow.Author.Tests.{lt-ltb, le-ltb}
 use mathlib.Core.Path.{refl}
 use Rattle.bodies.specs.Bodies.{slotIn}
-use borrow.Author.Rules.{rules}
 use Rattle.bodies.proofs.slot_in.Goals as goal
 
 pub returns-then-k-w : goal.returns-then-k-w

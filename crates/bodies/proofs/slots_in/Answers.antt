@@ -1,9 +1,6 @@
 use mathlib.Core.Path.{refl}
 use native.Mathlib.Omega.{arith}
-use Prim.Native.Nat.{◌-◌}
-use Rattle.base.proofs.FillLaws.{Filling, filling-none, filling-more, filling-all}
-use Rattle.bodies.specs.Bodies.{slotIn}
-use borrow.Author.Rules.{rules}
+use Rattle.base.proofs.FillLaws.{filling-none, filling-more, filling-all}
 use Rattle.bodies.proofs.slots_in.Goals as goal
 
 pub loop-k-init : goal.loop-k-init

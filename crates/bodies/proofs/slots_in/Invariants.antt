@@ -1,7 +1,4 @@
-use mathlib.Core.Path.{refl}
-use native.Mathlib.Omega.{arith}
-use Prim.Native.Nat.{◌-◌}
-use Rattle.base.proofs.FillLaws.{Filling, filling-none, filling-more, filling-all}
+use Rattle.base.proofs.FillLaws.{Filling}
 use Rattle.bodies.specs.Bodies.{slotIn}
 use Rattle.bodies.proofs.slots_in.Given as goal
 

@@ -1,5 +1,4 @@
 use Rattle.bodies.specs.Bodies.{tripleIn}
-use borrow.Author.Rules.{rules}
 use Rattle.bodies.proofs.triple_in.Goals as goal
 
 pub returns : goal.returns

@@ -1,7 +1,6 @@
 use mathlib.Core.Path.{refl}
 use borrow.Author.Tests.{lt-ltb, le-ltb}
 use Rattle.bodies.specs.Bodies.{tripleReads}
-use borrow.Author.Rules.{rules}
 use Rattle.bodies.proofs.triple_reads.Goals as goal
 
 pub returns-then-k-w : goal.returns-then-k-w

@@ -1,7 +1,6 @@
 use borrow.Author.Tests.{lt-ltb, le-ltb}
 use mathlib.Core.Path.{refl}
 use Rattle.bodies.specs.Bodies.{usedOf}
-use borrow.Author.Rules.{rules}
 use Rattle.bodies.proofs.used_at.Goals as goal
 
 pub returns-then-k-b : goal.returns-then-k-b

@@ -1,13 +1,10 @@
 use Rattle.store.specs.Table.{rowLength}
-use Prim.Native.Nat.{ℕ, ◌+◌, ◌*◌, ◌-◌, ◌≤◌}
+use Prim.Native.Nat.{◌+◌, ◌*◌}
 use native.Mathlib.Omega.{arith}
 use mathlib.Core.Path.{◌≡◌, refl}
-use mathlib.Core.List.{List, ◌++◌}
-use lib.ListN.{length, drop, replicate, length-set}
+use lib.ListN.{length-set}
 use Rattle.writes.specs.Writes.{clearUsed}
 use Rattle.base.proofs.PasteLaws.{cleared_more}
-use Rattle.clearing.proofs.clear_used.Invariants.{Clearing}
-use borrow.Author.Rules.{rules}
 use Rattle.clearing.proofs.clear_used.Goals as goal
 
 pub loop-i-init : goal.loop-i-init

@@ -1,11 +1,7 @@
-use Rattle.store.specs.Table.{rowLength}
-use Prim.Native.Nat.{ℕ, ◌+◌, ◌*◌, ◌-◌, ◌≤◌}
-use native.Mathlib.Omega.{arith}
-use mathlib.Core.Path.{◌≡◌, refl}
+use Prim.Native.Nat.{ℕ, ◌≤◌}
+use mathlib.Core.Path.{◌≡◌}
 use mathlib.Core.List.{List, ◌++◌}
-use lib.ListN.{length, drop, replicate, length-set}
-use Rattle.writes.specs.Writes.{clearUsed}
-use Rattle.base.proofs.PasteLaws.{cleared_more}
+use lib.ListN.{length, drop, replicate}
 use Rattle.clearing.proofs.clear_used.Given as goal
 
 -- the first i of so many words are cleared

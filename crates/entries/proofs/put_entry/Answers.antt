@@ -2,7 +2,6 @@ use Prim.Native.Nat.{◌+◌}
 use native.Mathlib.Omega.{arith}
 use lib.ListN.{length-set}
 use Rattle.entries.proofs.EntryLaws.{entry-put}
-use borrow.Author.Rules.{rules}
 use Rattle.entries.proofs.put_entry.Goals as goal
 
 pub bounds-list-at-2 : goal.bounds-list-at-2

@@ -1,7 +1,6 @@
 use mathlib.Core.Path.{sym, ◌∙◌}
 use Rattle.putting.proofs.PutLaws.{puts_none}
 use Rattle.entries.proofs.EntryLaws.{entry-there, entry-none}
-use borrow.Author.Rules.{rules}
 use Rattle.entries.proofs.put_member.Goals as goal
 
 pub put_entry-requires : goal.put_entry-requires

@@ -1,12 +1,8 @@
 use mathlib.Core.Path.{◌≡◌, refl, ◌∙◌}
-use Prim.Native.Nat.{◌-◌}
 use native.Mathlib.Omega.{arith}
-use lib.ListN.{length}
-use Rattle.putting.proofs.PutLaws.{Putting, puts_then, puts_none, puts-as}
+use Rattle.putting.proofs.PutLaws.{puts_then, puts_none, puts-as}
 use Rattle.base.specs.Sets.{isIn}
-use Rattle.entries.specs.Entries.{rowEntries}
 use Rattle.entries.proofs.EntryLaws.{row-none, row_more, row-length, row_room}
-use borrow.Author.Rules.{rules}
 use Rattle.entries.proofs.put_row.Goals as goal
 
 pub loop-i-init : goal.loop-i-init

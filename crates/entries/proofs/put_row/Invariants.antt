@@ -1,11 +1,7 @@
-use mathlib.Core.Path.{◌≡◌, refl, ◌∙◌}
-use Prim.Native.Nat.{◌-◌}
-use native.Mathlib.Omega.{arith}
 use lib.ListN.{length}
-use Rattle.putting.proofs.PutLaws.{Putting, puts_then, puts_none, puts-as}
+use Rattle.putting.proofs.PutLaws.{Putting}
 use Rattle.base.specs.Sets.{isIn}
 use Rattle.entries.specs.Entries.{rowEntries}
-use Rattle.entries.proofs.EntryLaws.{row-none, row_more, row-length, row_room}
 use Rattle.entries.proofs.put_row.Given as goal
 
 abbrev pub invariant-loop-i : goal.invariant-loop-i

@@ -1,11 +1,9 @@
 use mathlib.Core.Path.{◌≡◌, refl, ◌∙◌}
 use Prim.Native.Nat.{◌-◌}
 use native.Mathlib.Omega.{arith}
-use lib.ListN.{length}
-use Rattle.putting.proofs.PutLaws.{Putting, puts_then, puts_none, puts-as}
-use Rattle.entries.specs.Entries.{rowsEntries, inSets}
+use Rattle.putting.proofs.PutLaws.{puts_then, puts_none, puts-as}
+use Rattle.entries.specs.Entries.{inSets}
 use Rattle.entries.proofs.EntryLaws.{rows_none, rows_more, rows-length, rows-room}
-use borrow.Author.Rules.{rules}
 use Rattle.entries.proofs.put_rows.Goals as goal
 
 pub loop-i-init : goal.loop-i-init

@@ -1,10 +1,6 @@
-use mathlib.Core.Path.{◌≡◌, refl, ◌∙◌}
-use Prim.Native.Nat.{◌-◌}
-use native.Mathlib.Omega.{arith}
 use lib.ListN.{length}
-use Rattle.putting.proofs.PutLaws.{Putting, puts_then, puts_none, puts-as}
+use Rattle.putting.proofs.PutLaws.{Putting}
 use Rattle.entries.specs.Entries.{rowsEntries, inSets}
-use Rattle.entries.proofs.EntryLaws.{rows_none, rows_more, rows-length, rows-room}
 use Rattle.entries.proofs.put_rows.Given as goal
 
 abbrev pub invariant-loop-i : goal.invariant-loop-i

@@ -1,21 +1,18 @@
 use mathlib.Core.Path.{◌≡◌, refl, ◌∙◌}
 use native.Mathlib.Omega.{arith}
-use Prim.Native.Nat.{◌+◌, ◌*◌, ◌-◌, ◌≤◌}
-use Rattle.base.specs.Folds.{tab}
+use Prim.Native.Nat.{◌+◌, ◌*◌, ◌≤◌}
 use Rattle.terms.specs.Proposals.{slot_of}
 use Rattle.terms.proofs.ProposalLaws.{transactions-tab}
-use Rattle.lines.specs.Lines.{triplesFields}
-use Rattle.putting.proofs.PutLaws.{Putting, puts_then, puts-within}
+use Rattle.putting.proofs.PutLaws.{puts_then, puts-within}
 use Rattle.lines.proofs.LineLaws.{triples_none, triples-next}
-use borrow.Author.Rules.{rules}
 use Rattle.lines.proofs.put_triples.Goals as goal
 
 pub loop-k-init : goal.loop-k-init
 loop-k-init c = record {
-      so_far = omega arith;
-      kept = refl;
-      puts = rw (triples_none (slot_of c.args.body)) (record { bytes = refl; past = omega arith; room = omega arith });
-    }
+  so_far = omega arith;
+  kept = refl;
+  puts = rw (triples_none (slot_of c.args.body)) (record { bytes = refl; past = omega arith; room = omega arith });
+}
 
 pub put_triple-next-requires : goal.put_triple-next-requires
 put_triple-next-requires c = let l = c.loop-k in

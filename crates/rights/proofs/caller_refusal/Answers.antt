@@ -3,7 +3,6 @@ use native.Mathlib.Omega.{arith}
 use borrow.Author.Tests.{lt-ltb, le-ltb}
 use Rattle.base.proofs.CheckLaws.{refuses, passes, passes-all}
 use Rattle.rights.specs.Rights.{callerRefusal}
-use borrow.Author.Rules.{rules}
 use Rattle.rights.proofs.caller_refusal.Goals as goal
 
 pub returns-then-caller-gt7 : goal.returns-then-caller-gt7

@@ -3,7 +3,6 @@ use borrow.Author.Tests.{lt-ltb, le-ltb}
 use Prim.Native.Nat.{◌*◌}
 use native.Mathlib.Omega.{arith}
 use Rattle.shares.specs.Shares.{evenNeighbour, rounded}
-use borrow.Author.Rules.{rules}
 use Rattle.shares.proofs.round.Goals as goal
 
 pub returns-then-r-n : goal.returns-then-r-n

@@ -4,7 +4,6 @@ use native.Mathlib.Omega.{arith}
 use native.Mathlib.Nat.{mod-lt}
 use Rattle.shares.specs.Shares.{nearest, share_of}
 use Rattle.shares.proofs.ShareLaws.{rest, whole-fits, whole_le, share-le}
-use borrow.Author.Rules.{rules}
 use Rattle.shares.proofs.thousandths.Goals as goal
 
 is_share : (c : goal.After-round) → c.round.result ≡ share_of c.args.x.0 c.args.n.0

@@ -1,6 +1,5 @@
 use borrow.Author.Tests.{lt-ltb, le-ltb}
 use Rattle.sheet.specs.Sheets.{blankWeight}
-use borrow.Author.Rules.{rules}
 use Rattle.sheet.proofs.blank_weight.Goals as goal
 
 pub returns-then-m-lt-FIRST_MEMBERS : goal.returns-then-m-lt-FIRST_MEMBERS

@@ -1,5 +1,4 @@
 use Rattle.sheet.specs.Sheets.{filled}
-use borrow.Author.Rules.{rules}
 use Rattle.sheet.proofs.fill.Goals as goal
 
 pub returns : goal.returns

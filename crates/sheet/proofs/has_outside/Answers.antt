@@ -1,11 +1,7 @@
 use mathlib.Core.Path.{◌≡◌, refl, sym, ◌∙◌}
 use native.Mathlib.Omega.{arith}
-use Prim.Native.Nat.{◌-◌, ◌≤◌}
-use mathlib.Core.Bool.{false}
 use Rattle.base.specs.Folds.{anyTo}
 use Rattle.base.proofs.TestLaws.{any-more, true-any}
-use Rattle.sheet.specs.Ranges.{weightIn, notWithin}
-use borrow.Author.Rules.{rules}
 use Rattle.sheet.proofs.has_outside.Goals as goal
 
 pub loop-i-init : goal.loop-i-init

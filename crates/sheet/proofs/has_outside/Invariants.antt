@@ -1,9 +1,7 @@
-use mathlib.Core.Path.{◌≡◌, refl, sym, ◌∙◌}
-use native.Mathlib.Omega.{arith}
-use Prim.Native.Nat.{◌-◌, ◌≤◌}
+use mathlib.Core.Path.{◌≡◌}
+use Prim.Native.Nat.{◌≤◌}
 use mathlib.Core.Bool.{false}
 use Rattle.base.specs.Folds.{anyTo}
-use Rattle.base.proofs.TestLaws.{any-more, true-any}
 use Rattle.sheet.specs.Ranges.{weightIn, notWithin}
 use Rattle.sheet.proofs.has_outside.Given as goal
 

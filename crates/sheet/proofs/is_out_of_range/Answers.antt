@@ -3,7 +3,6 @@ use mathlib.Core.Bool.{false}
 use Rattle.base.specs.Folds.{anyTo}
 use Rattle.sheet.specs.declared.Settings.{Settings}
 use Rattle.sheet.specs.Ranges.{weightIn, notWithin, outOfRange}
-use borrow.Author.Rules.{rules}
 use Rattle.sheet.proofs.is_out_of_range.Goals as goal
 
 -- where the others are in range, the margin decides

@@ -1,6 +1,5 @@
 use borrow.Author.Tests.{lt-ltb, le-ltb}
 use Rattle.sheet.specs.Ranges.{notWithin}
-use borrow.Author.Rules.{rules}
 use Rattle.sheet.proofs.is_outside.Goals as goal
 
 pub returns-then-x-min : goal.returns-then-x-min

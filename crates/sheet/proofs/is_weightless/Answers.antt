@@ -1,13 +1,10 @@
 use mathlib.Core.Path.{◌≡◌, refl, sym, ap}
 use native.Mathlib.Omega.{arith}
-use Prim.Native.Nat.{◌-◌, ◌≤◌}
 use borrow.Author.Tests.{lt-ltb, le-ltb}
-use mathlib.Core.Bool.{false, not}
+use mathlib.Core.Bool.{not}
 use Rattle.base.specs.Folds.{anyTo}
 use Rattle.base.proofs.TestLaws.{any-more, true-any}
-use lib.Dec.{ltb}
-use Rattle.sheet.specs.Ranges.{weightIn, weightless}
-use borrow.Author.Rules.{rules}
+use Rattle.sheet.specs.Ranges.{weightless}
 use Rattle.sheet.proofs.is_weightless.Goals as goal
 
 pub loop-i-init : goal.loop-i-init

@@ -1,6 +1,5 @@
 use mathlib.Core.Path.{refl}
 use Rattle.sheet.specs.Sheets.{weightAt}
-use borrow.Author.Rules.{rules}
 use Rattle.sheet.proofs.weight_at.Goals as goal
 
 pub returns-in-Blank : goal.returns-in-Blank

@@ -1,9 +1,6 @@
-use Prim.Native.Nat.{◌-◌}
 use mathlib.Core.Path.{refl}
 use native.Mathlib.Omega.{arith}
-use Rattle.base.proofs.FillLaws.{Filling, filling-none, filling-more, filling-all}
-use Rattle.sheet.specs.Sheets.{weightAt}
-use borrow.Author.Rules.{rules}
+use Rattle.base.proofs.FillLaws.{filling-none, filling-more, filling-all}
 use Rattle.sheet.proofs.weights.Goals as goal
 
 pub loop-i-init : goal.loop-i-init

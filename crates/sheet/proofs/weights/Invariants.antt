@@ -1,7 +1,4 @@
-use Prim.Native.Nat.{◌-◌}
-use mathlib.Core.Path.{refl}
-use native.Mathlib.Omega.{arith}
-use Rattle.base.proofs.FillLaws.{Filling, filling-none, filling-more, filling-all}
+use Rattle.base.proofs.FillLaws.{Filling}
 use Rattle.sheet.specs.Sheets.{weightAt}
 use Rattle.sheet.proofs.weights.Given as goal
 

@@ -1,5 +1,4 @@
 use borrow.Author.Tests.{le-leb, lt-leb}
-use borrow.Author.Rules.{rules}
 use Rattle.terms.proofs.amount_in_range.Goals as goal
 
 pub returns-then-a-lt1 : goal.returns-then-a-lt1

@@ -1,6 +1,5 @@
 use borrow.Author.Tests.{lt-ltb, le-ltb}
 use Rattle.terms.specs.Transactions.{bondInRange}
-use borrow.Author.Rules.{rules}
 use Rattle.terms.proofs.bond_in_range.Goals as goal
 
 pub returns-then-m-ge16 : goal.returns-then-m-ge16

@@ -2,7 +2,6 @@ use mathlib.Core.Path.{refl, sym, ◌∙◌}
 use borrow.Author.Tests.{lt-ltb, le-ltb}
 use Rattle.terms.proofs.ProposalLaws.{bad-transactions-tab}
 use Rattle.terms.specs.Proposals.{transactionsOf}
-use borrow.Author.Rules.{rules}
 use Rattle.terms.proofs.has_bad_transactions.Goals as goal
 
 pub returns-then-allowance-n : goal.returns-then-allowance-n

@@ -1,5 +1,4 @@
 use mathlib.Core.Path.{refl}
-use borrow.Author.Rules.{rules}
 use Rattle.terms.proofs.in_range.Goals as goal
 
 pub returns-in-Bond : goal.returns-in-Bond

@@ -1,7 +1,6 @@
 use mathlib.Core.Path.{refl}
 use borrow.Author.Tests.{eq-eqb, ne_eqb}
 use Rattle.terms.specs.Proposals.{badPreviousSet}
-use borrow.Author.Rules.{rules}
 use Rattle.terms.proofs.is_bad_previous_set.Goals as goal
 
 pub returns-then-r-eq1 : goal.returns-then-r-eq1

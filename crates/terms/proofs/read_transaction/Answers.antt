@@ -1,6 +1,5 @@
 use borrow.Author.Tests.{eq-eqb, ne_eqb}
 use Rattle.terms.specs.Transactions.{readTransaction}
-use borrow.Author.Rules.{rules}
 use Rattle.terms.proofs.read_transaction.Goals as goal
 
 pub returns-then-kind-eq0 : goal.returns-then-kind-eq0

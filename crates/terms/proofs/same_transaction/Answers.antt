@@ -2,7 +2,6 @@ use Rattle.terms.proofs.ProposalLaws.{same-amounts}
 use borrow.Author.Tests.{eq-eqb, ne_eqb}
 use mathlib.Core.Path.{sym, ◌∙◌}
 use Rattle.terms.specs.Transactions.{sameTransaction}
-use borrow.Author.Rules.{rules}
 use Rattle.terms.proofs.same_transaction.Goals as goal
 
 pub returns-then-kind : goal.returns-then-kind

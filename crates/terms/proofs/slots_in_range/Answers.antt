@@ -1,13 +1,9 @@
 use mathlib.Core.Path.{◌≡◌, refl, sym, ◌∙◌}
 use native.Mathlib.Omega.{arith}
-use Prim.Native.Nat.{◌-◌, ◌≤◌}
-use borrow.Author.Tests.{not-true, not-false}
-use mathlib.Core.Bool.{true}
 use Rattle.base.specs.Folds.{allTo}
 use Rattle.base.proofs.TestLaws.{all_more, all-fails}
 use Rattle.terms.specs.Transactions.{in_range}
 use Rattle.terms.specs.Proposals.{slot_of}
-use borrow.Author.Rules.{rules}
 use Rattle.terms.proofs.slots_in_range.Goals as goal
 
 pub loop-k-init : goal.loop-k-init

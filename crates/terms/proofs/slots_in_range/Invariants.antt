@@ -1,10 +1,7 @@
-use mathlib.Core.Path.{◌≡◌, refl, sym, ◌∙◌}
-use native.Mathlib.Omega.{arith}
-use Prim.Native.Nat.{◌-◌, ◌≤◌}
-use borrow.Author.Tests.{not-true, not-false}
+use mathlib.Core.Path.{◌≡◌}
+use Prim.Native.Nat.{◌≤◌}
 use mathlib.Core.Bool.{true}
 use Rattle.base.specs.Folds.{allTo}
-use Rattle.base.proofs.TestLaws.{all_more, all-fails}
 use Rattle.terms.specs.Transactions.{in_range}
 use Rattle.terms.specs.Proposals.{slot_of}
 use Rattle.terms.proofs.slots_in_range.Given as goal

@@ -1,9 +1,8 @@
 use Rattle.store.specs.Table.{recordLength}
 use mathlib.Core.Path.{◌≡◌, refl}
-use Prim.Native.Nat.{◌-◌}
 use native.Mathlib.Omega.{arith}
 use lib.ListN.{length}
-use Rattle.base.proofs.FillLaws.{Pasting, pasting-none, pasting-more, pasting-all}
+use Rattle.base.proofs.FillLaws.{pasting-none, pasting-more, pasting-all}
 use borrow.Author.Rules.{rules}
 use Rattle.writes.proofs.put_words.Goals as goal
 

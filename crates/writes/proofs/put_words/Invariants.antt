@@ -1,9 +1,5 @@
 use Rattle.store.specs.Table.{recordLength}
-use mathlib.Core.Path.{◌≡◌, refl}
-use Prim.Native.Nat.{◌-◌}
-use native.Mathlib.Omega.{arith}
-use lib.ListN.{length}
-use Rattle.base.proofs.FillLaws.{Pasting, pasting-none, pasting-more, pasting-all}
+use Rattle.base.proofs.FillLaws.{Pasting}
 use Rattle.writes.proofs.put_words.Given as goal
 
 abbrev pub invariant-loop-k : goal.invariant-loop-k

@@ -1,8 +1,6 @@
 use mathlib.Core.Path.{refl}
-use Prim.Native.Nat.{◌-◌}
 use native.Mathlib.Omega.{arith}
-use Rattle.base.proofs.FillLaws.{Pasting, pasting-none, pasting-more, pasting-all}
-use borrow.Author.Rules.{rules}
+use Rattle.base.proofs.FillLaws.{pasting-none, pasting-more, pasting-all}
 use Rattle.bodies.proofs.stretch.put.Goals as goal
 
 pub loop-k-init : goal.loop-k-init

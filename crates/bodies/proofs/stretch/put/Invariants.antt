@@ -1,7 +1,4 @@
-use mathlib.Core.Path.{refl}
-use Prim.Native.Nat.{◌-◌}
-use native.Mathlib.Omega.{arith}
-use Rattle.base.proofs.FillLaws.{Pasting, pasting-none, pasting-more, pasting-all}
+use Rattle.base.proofs.FillLaws.{Pasting}
 use Rattle.bodies.proofs.stretch.put.Given as goal
 
 abbrev pub invariant-loop-k : goal.invariant-loop-k

@@ -4,7 +4,6 @@ use native.Mathlib.Omega.{arith}
 use lib.ListN.{length, drop}
 use Rattle.fields.specs.Fields.{untilComma}
 use Rattle.fields.proofs.FieldLaws.{take-until}
-use borrow.Author.Rules.{rules}
 use Rattle.fields.proofs.field.field_at.Goals as goal
 
 pub returns : goal.returns

@@ -1,10 +1,6 @@
-use mathlib.Core.Path.{◌≡◌, refl}
-use Prim.Native.Nat.{◌+◌, ◌-◌, ◌≤◌}
+use mathlib.Core.Path.{refl}
 use native.Mathlib.Omega.{arith}
-use lib.ListN.{length, drop}
-use Rattle.fields.specs.Fields.{untilComma}
 use Rattle.fields.proofs.FieldLaws.{until_end, until-comma, until-other}
-use borrow.Author.Rules.{rules}
 use Rattle.fields.proofs.field.field_end.Goals as goal
 
 pub loop-i-init : goal.loop-i-init

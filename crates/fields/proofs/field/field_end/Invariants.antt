@@ -1,9 +1,7 @@
-use mathlib.Core.Path.{◌≡◌, refl}
+use mathlib.Core.Path.{◌≡◌}
 use Prim.Native.Nat.{◌+◌, ◌-◌, ◌≤◌}
-use native.Mathlib.Omega.{arith}
 use lib.ListN.{length, drop}
 use Rattle.fields.specs.Fields.{untilComma}
-use Rattle.fields.proofs.FieldLaws.{until_end, until-comma, until-other}
 use Rattle.fields.proofs.field.field_end.Given as goal
 
 abbrev pub invariant-loop-i : goal.invariant-loop-i

@@ -1,15 +1,9 @@
-use borrow.Author.Tests.{not-true, not-false}
-use mathlib.Core.Path.{◌≡◌, refl, sym, ap, ◌∙◌}
-use mathlib.Core.Bool.{true}
+use mathlib.Core.Path.{refl, sym, ap, ◌∙◌}
 use native.Mathlib.Omega.{arith}
-use mathlib.Core.List.{List}
-use Prim.Native.Nat.{ℕ, ◌+◌, ◌-◌, ◌*◌, ◌<◌, ◌≤◌}
+use Prim.Native.Nat.{◌+◌, ◌-◌, ◌*◌, ◌<◌, ◌≤◌}
 use lib.ListN.{length, drop, get_or}
-use Rattle.fields.specs.Numbers.{noLeadingZero, allDigits, value}
 use Rattle.fields.proofs.NumberLaws.{value-le, digit_low, digit-high, digit, digits-at, value-at, digits-end, value-end, number-zeros, number-other, number-large, number_is}
 use Rattle.fields.specs.Cursor.{found}
-use Rattle.fields.proofs.number.decimal.Invariants.{Reading}
-use borrow.Author.Rules.{rules}
 use Rattle.fields.proofs.number.decimal.Goals as goal
 
 pub returns-then-not-is_plain : goal.returns-then-not-is_plain
@@ -17,12 +11,12 @@ returns-then-not-is_plain c = sym (ap found (number-zeros _ _ (sym c.is_plain.en
 
 pub loop-i-init : goal.loop-i-init
 loop-i-init c = record {
-      so_far = omega arith;
-      few = omega arith;
-      no-zeros = sym c.is_plain.ensures ∙ c.if-not-is_plain.false;
-      digits-left = refl;
-      value-left = refl;
-    }
+  so_far = omega arith;
+  few = omega arith;
+  no-zeros = sym c.is_plain.ensures ∙ c.if-not-is_plain.false;
+  digits-left = refl;
+  value-left = refl;
+}
 
 pub returns-then-b-lt48 : goal.returns-then-b-lt48
 returns-then-b-lt48 c = let f = c.args.f.now in

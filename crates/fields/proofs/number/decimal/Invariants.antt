@@ -1,13 +1,9 @@
-use borrow.Author.Tests.{not-true, not-false}
-use mathlib.Core.Path.{◌≡◌, refl, sym, ap, ◌∙◌}
+use mathlib.Core.Path.{◌≡◌}
 use mathlib.Core.Bool.{true}
-use native.Mathlib.Omega.{arith}
 use mathlib.Core.List.{List}
-use Prim.Native.Nat.{ℕ, ◌+◌, ◌-◌, ◌*◌, ◌<◌, ◌≤◌}
-use lib.ListN.{length, drop, get_or}
+use Prim.Native.Nat.{ℕ, ◌-◌, ◌≤◌}
+use lib.ListN.{length, drop}
 use Rattle.fields.specs.Numbers.{noLeadingZero, allDigits, value}
-use Rattle.fields.proofs.NumberLaws.{value-le, digit_low, digit-high, digit, digits-at, value-at, digits-end, value-end, number-zeros, number-other, number-large, number_is}
-use Rattle.fields.specs.Cursor.{found}
 use Rattle.fields.proofs.number.decimal.Given as goal
 
 -- the bytes before i are digits and come to v; those from i on decide

@@ -1,7 +1,6 @@
 use Rattle.fields.proofs.NumberLaws.{plain-none, plain-one, plain_more}
 use mathlib.Core.Path.{sym}
 use native.Mathlib.Omega.{arith}
-use borrow.Author.Rules.{rules}
 use Rattle.fields.proofs.number.is_plain.Goals as goal
 
 pub returns-then-f-eq0 : goal.returns-then-f-eq0

@@ -2,7 +2,6 @@ use mathlib.Core.Path.{sym, ap, ◌∙◌}
 use Rattle.fields.specs.Cursor.{found}
 use Rattle.fields.specs.Numbers.{numberTo}
 use Rattle.fields.proofs.CursorLaws.{stepped, stays, first-there, first_past}
-use borrow.Author.Rules.{rules}
 use Rattle.fields.proofs.number.read_number.Goals as goal
 
 pub returns-then-rec-at : goal.returns-then-rec-at

@@ -1,13 +1,7 @@
-use mathlib.Core.Path.{◌≡◌, refl, sym, ◌∙◌}
+use mathlib.Core.Path.{refl, sym, ◌∙◌}
 use native.Mathlib.Omega.{arith}
-use mathlib.Core.List.{List}
-use Prim.Native.Nat.{ℕ, ◌-◌, ◌≤◌}
-use lib.ListN.{length, drop}
 use borrow.Author.Tests.{eq-eqb, ne_eqb}
-use Rattle.fields.specs.Words.{sameBytes}
 use Rattle.fields.proofs.WordLaws.{other_length, same_at, same_end}
-use Rattle.fields.proofs.word.same_bytes.Invariants.{Comparing}
-use borrow.Author.Rules.{rules}
 use Rattle.fields.proofs.word.same_bytes.Goals as goal
 
 pub returns-then-f-w : goal.returns-then-f-w

@@ -1,11 +1,8 @@
-use mathlib.Core.Path.{◌≡◌, refl, sym, ◌∙◌}
-use native.Mathlib.Omega.{arith}
+use mathlib.Core.Path.{◌≡◌}
 use mathlib.Core.List.{List}
 use Prim.Native.Nat.{ℕ, ◌-◌, ◌≤◌}
 use lib.ListN.{length, drop}
-use borrow.Author.Tests.{eq-eqb, ne_eqb}
 use Rattle.fields.specs.Words.{sameBytes}
-use Rattle.fields.proofs.WordLaws.{other_length, same_at, same_end}
 use Rattle.fields.proofs.word.same_bytes.Given as goal
 
 -- the bytes before i are the same, so those from i on decide

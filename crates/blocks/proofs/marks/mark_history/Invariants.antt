@@ -1,0 +1,21 @@
+use Rattle.blocks.proofs.SeenLaws.{see}
+use mathlib.Core.List.{List}
+use Prim.Native.Nat.{ℕ, ◌≤◌}
+use mathlib.Core.Path.{◌≡◌}
+use lib.ListN.{length}
+use Rattle.blocks.specs.Blocks.{markHistory}
+use Rattle.blocks.specs.Seen.{Seen}
+use Rattle.blocks.proofs.marks.mark_history.Given as goal
+
+-- marking from the set `here` of round r down gives what marking the whole history gives
+pub record HistoryLeft (t₀ : List ℕ) (b s r₀ : ℕ) (t v : List ℕ) (r here : ℕ) : Type 0 where
+  pub to : r ≤ r₀
+  pub size : length t ≡ length t₀
+  pub rest : markHistory b r here t ≡ markHistory b r₀ s t₀
+  pub seen : Seen t v (see v r here)
+
+abbrev pub invariant-loop-r : goal.invariant-loop-r
+invariant-loop-r l = HistoryLeft l.initial.t l.b l.s l.initial.r l.t l.seen l.r l.here
+
+abbrev pub decreases-loop-r : goal.decreases-loop-r
+decreases-loop-r l = l.r
