@@ -1,5 +1,6 @@
 // Where records end in a stream of bytes that comes piece by piece (scope document: The runner).
 #![tactic(auto)]
+
 ghost use Rattle.std.specs.Prelude.{◌≡◌, length};
 ghost use Rattle.framing.specs.Streams.{until_end};
 ghost use Rattle.framing.specs.Framing.{passed, endedEvent, openStep, step_of, last_of};

@@ -1,5 +1,6 @@
 // The leaders of many rounds, going up with one running committee (scope document: Committees, quorums, leaders).
 #![tactic(auto)]
+
 ghost use Rattle.committee.specs.Chain.{chainOf};
 ghost use Rattle.leaders.specs.Fill.{RoundSpan, LeadersFilled};
 ghost use Rattle.changes.specs.ChainInTable.{ChainInTable};

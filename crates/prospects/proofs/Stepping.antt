@@ -1,6 +1,6 @@
 -- Round after round: what has been listed and reached, and one round more.
 use mathlib.Core.Path.{◌≡◌, refl, sym, ap, ◌∙◌}
-use mathlib.Core.Bool.{Bool, true, false, cond, false≢true}
+use mathlib.Core.Bool.{Bool, cond, false≢true}
 use mathlib.Core.List.{List, [], ◌++◌}
 use Prim.Native.Nat.{ℕ, zero, suc, ◌+◌, ◌-◌, ◌<◌, ◌≤◌}
 use native.Mathlib.Omega.{arith}
@@ -10,7 +10,6 @@ use lib.ListN.{length, get_or, replicate, length-append, length-replicate}
 use Rattle.base.proofs.UnionLaws.{in-none}
 use Rattle.putting.specs.Puts.{Puts}
 use Rattle.putting.proofs.PutLaws.{puts_then, puts_none, puts-as}
-use Rattle.histories.specs.History.{below}
 use Rattle.histories.proofs.HistoryLaws.{below_none}
 use Rattle.blocks.specs.Blocks.{countAfter}
 use Rattle.blocks.proofs.BlockLaws.{count-more, count-step}

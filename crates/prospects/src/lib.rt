@@ -1,5 +1,6 @@
 // The blocks that a commit would make, listed without making them: nothing is written but the list (change request: Point 8).
 #![tactic(auto)]
+
 ghost use Rattle.std.specs.Prelude.{◌-◌, length};
 ghost use Rattle.putting.specs.Puts.{Puts};
 ghost use Rattle.prospects.specs.Prospects.{wordsAfter};

@@ -1,5 +1,6 @@
 // Is a stretch of the table well formed in what the store owns? It looks at a row's header and at held certificates only (scope document: A member's state).
 #![tactic(auto)]
+
 ghost use Rattle.std.specs.Prelude.{◌≡◌, true, cond, ◌≤◌, ltb};
 ghost use Rattle.base.specs.Folds.{allTo};
 ghost use Rattle.store.specs.Table.{Within, Row};

@@ -1,5 +1,6 @@
 // Triples: kind, number and amount of a transaction, repeated until the record ends.
 #![tactic(auto)]
+
 ghost use Rattle.std.specs.Prelude.{◌≡◌, ◌<◌};
 ghost use Rattle.fields.specs.Fields.{fieldsFrom};
 ghost use Rattle.fields.specs.Cursor.{found};

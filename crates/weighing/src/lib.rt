@@ -1,5 +1,6 @@
 // Committees as sixteen weights: fault bound, quorums, leaders, and a member's share (scope document: Committees, quorums, leaders).
 #![tactic(auto)]
+
 pub mod change;
 pub mod leader;
 

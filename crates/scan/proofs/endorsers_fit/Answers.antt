@@ -4,7 +4,6 @@ use native.Mathlib.Omega.{arith}
 use borrow.Author.Tests.{le-ltb, lt-ltb}
 use Rattle.store.specs.Table.{endorsersAt}
 use Rattle.scan.specs.Scan.{endorsersFit}
-use borrow.Author.Rules.{rules}
 use Rattle.scan.proofs.endorsers_fit.Goals as goal
 
 pub returns-then-endorsers-ge65536 : goal.returns-then-endorsers-ge65536

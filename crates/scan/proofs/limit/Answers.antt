@@ -1,7 +1,6 @@
 use mathlib.Core.Path.{refl}
-use borrow.Author.Tests.{lt-ltb, le-ltb, not-true, not-false}
+use borrow.Author.Tests.{lt-ltb, le-ltb}
 use Rattle.scan.specs.Limits.{limitOf}
-use borrow.Author.Rules.{rules}
 use Rattle.scan.proofs.limit.Goals as goal
 
 pub returns-then-not-there : goal.returns-then-not-there

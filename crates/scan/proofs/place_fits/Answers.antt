@@ -1,7 +1,5 @@
 use mathlib.Core.Path.{refl, sym, ◌∙◌}
-use borrow.Author.Tests.{not-true, not-false}
 use Rattle.scan.specs.Scan.{placeFits}
-use borrow.Author.Rules.{rules}
 use Rattle.scan.proofs.place_fits.Goals as goal
 
 pub returns-then-not-held : goal.returns-then-not-held

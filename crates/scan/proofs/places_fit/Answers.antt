@@ -1,10 +1,6 @@
 use mathlib.Core.Path.{sym, ◌∙◌}
 use native.Mathlib.Omega.{arith}
-use Prim.Native.Nat.{◌-◌}
-use borrow.Author.Tests.{not-true, not-false}
-use Rattle.base.proofs.TestLaws.{AllSoFar, all_start, all-next, all_done, all-fails}
-use Rattle.scan.specs.Scan.{placeFits}
-use borrow.Author.Rules.{rules}
+use Rattle.base.proofs.TestLaws.{all_start, all-next, all_done, all-fails}
 use Rattle.scan.proofs.places_fit.Goals as goal
 
 pub loop-m-init : goal.loop-m-init

@@ -1,8 +1,4 @@
-use mathlib.Core.Path.{sym, ◌∙◌}
-use native.Mathlib.Omega.{arith}
-use Prim.Native.Nat.{◌-◌}
-use borrow.Author.Tests.{not-true, not-false}
-use Rattle.base.proofs.TestLaws.{AllSoFar, all_start, all-next, all_done, all-fails}
+use Rattle.base.proofs.TestLaws.{AllSoFar}
 use Rattle.scan.specs.Scan.{placeFits}
 use Rattle.scan.proofs.places_fit.Given as goal
 

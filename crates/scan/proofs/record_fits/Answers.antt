@@ -1,14 +1,13 @@
 use mathlib.Core.Path.{◌≡◌, refl, sym, ◌∙◌}
-use mathlib.Core.Bool.{Bool, not, ◌&&◌}
+use mathlib.Core.Bool.{not, ◌&&◌}
 use native.Mathlib.Omega.{arith}
 use lib.Dec.{leb, ltb}
-use borrow.Author.Tests.{lt-ltb, le-ltb, le-leb, lt-leb, not-true, not-false}
+use borrow.Author.Tests.{lt-ltb, le-ltb, le-leb, lt-leb}
 use Rattle.base.specs.Folds.{allTo}
 use Rattle.terms.specs.Proposals.{badPreviousSet}
 use Rattle.store.specs.Table.{recordWord, countAt, previousAt, markAt}
 use Rattle.scan.specs.Scan.{transactionFits, endorsersFit, recordFits}
 use Rattle.store.proofs.TableLaws.{count-le}
-use borrow.Author.Rules.{rules}
 use Rattle.scan.proofs.record_fits.Goals as goal
 
 pub returns-then-allowance-word_at : goal.returns-then-allowance-word_at

@@ -2,7 +2,6 @@ use mathlib.Core.Path.{refl, sym, ◌∙◌}
 use borrow.Author.Tests.{lt-ltb, le-ltb}
 use Rattle.scan.specs.Scan.{rowFits}
 use Rattle.scan.proofs.ScanLaws.{free-row}
-use borrow.Author.Rules.{rules}
 use Rattle.scan.proofs.row_fits.Goals as goal
 
 pub returns-then-held-ge65536 : goal.returns-then-held-ge65536

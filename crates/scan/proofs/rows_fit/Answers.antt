@@ -1,11 +1,7 @@
-use mathlib.Core.Path.{◌≡◌, sym, ◌∙◌}
+use mathlib.Core.Path.{sym, ◌∙◌}
 use native.Mathlib.Omega.{arith}
-use Prim.Native.Nat.{◌+◌, ◌-◌}
-use borrow.Author.Tests.{not-true, not-false}
-use Rattle.base.proofs.TestLaws.{AllSoFar, all_start, all-next, all_done, all-fails}
-use Rattle.scan.specs.Scan.{rowFits, rowsFit}
-use Rattle.scan.specs.Limits.{limitTable}
-use borrow.Author.Rules.{rules}
+use Rattle.base.proofs.TestLaws.{all_start, all-next, all_done, all-fails}
+use Rattle.scan.specs.Scan.{rowsFit}
 use Rattle.scan.proofs.rows_fit.Goals as goal
 
 pub loop-r-init : goal.loop-r-init

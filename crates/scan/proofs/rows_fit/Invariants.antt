@@ -1,9 +1,7 @@
-use mathlib.Core.Path.{◌≡◌, sym, ◌∙◌}
-use native.Mathlib.Omega.{arith}
-use Prim.Native.Nat.{◌+◌, ◌-◌}
-use borrow.Author.Tests.{not-true, not-false}
-use Rattle.base.proofs.TestLaws.{AllSoFar, all_start, all-next, all_done, all-fails}
-use Rattle.scan.specs.Scan.{rowFits, rowsFit}
+use mathlib.Core.Path.{◌≡◌}
+use Prim.Native.Nat.{◌+◌}
+use Rattle.base.proofs.TestLaws.{AllSoFar}
+use Rattle.scan.specs.Scan.{rowFits}
 use Rattle.scan.specs.Limits.{limitTable}
 use Rattle.scan.proofs.rows_fit.Given as goal
 

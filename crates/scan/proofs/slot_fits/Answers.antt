@@ -1,7 +1,6 @@
 use mathlib.Core.Path.{sym}
 use native.Mathlib.Omega.{arith}
 use Rattle.scan.proofs.LimitLaws.{limit-lt, over-number, under-amount, by_most}
-use borrow.Author.Rules.{rules}
 use Rattle.scan.proofs.slot_fits.Goals as goal
 
 pub bounds-l-i : goal.bounds-l-i

@@ -1,16 +1,10 @@
 use mathlib.Core.Path.{◌≡◌, refl, sym, ◌∙◌}
-use mathlib.Core.Bool.{Bool, true, cond}
-use mathlib.Core.List.{List}
 use native.Mathlib.Omega.{arith}
-use Prim.Native.Nat.{ℕ, ◌-◌}
-use lib.Dec.{ltb}
-use borrow.Author.Tests.{not-true, not-false}
 use Rattle.base.specs.Folds.{allTo}
-use Rattle.base.proofs.TestLaws.{AllSoFar, all_start, all-next, all_done, all-fails}
+use Rattle.base.proofs.TestLaws.{all_start, all-next, all_done, all-fails}
 use Rattle.scan.specs.Scan.{transactionFits}
 use Rattle.scan.proofs.LimitLaws.{all_there}
 use Rattle.scan.proofs.transactions_fit.Invariants.{fits}
-use borrow.Author.Rules.{rules}
 use Rattle.scan.proofs.transactions_fit.Goals as goal
 
 pub returns-then-n-eq0 : goal.returns-then-n-eq0

@@ -1,4 +1,3 @@
-use Rattle.std.proofs.Common.{refl}
 use borrow.Author.Tests.{eq-eqb, ne_eqb}
 use Rattle.triples.specs.Triples.{transaction}
 use Rattle.triples.proofs.added.Goals as goal
@@ -12,6 +11,6 @@ pub returns : goal.returns
 unfolding transaction
 returns c =
     elim c.if-kind-ne0.branch [
-    then-kind-ne0+else-amount-ne0 w ↦ simp (ne_eqb _ _ w.if-kind-ne0.true, eq-eqb _ _ w.if-amount-ne0.false, c.pushed.ensures, c.read_transaction-x.ensures)
-    | else-kind-ne0 w ↦ simp (eq-eqb _ _ w.if-kind-ne0.false, c.pushed.ensures, c.read_transaction-x.ensures)
+      | then-kind-ne0+else-amount-ne0 w ↦ simp (ne_eqb _ _ w.if-kind-ne0.true, eq-eqb _ _ w.if-amount-ne0.false, c.pushed.ensures, c.read_transaction-x.ensures)
+      | else-kind-ne0 w ↦ simp (eq-eqb _ _ w.if-kind-ne0.false, c.pushed.ensures, c.read_transaction-x.ensures)
     ]

@@ -1,14 +1,8 @@
 use mathlib.Core.Path.{◌≡◌, refl, sym, ◌∙◌}
 use native.Mathlib.Omega.{arith}
-use Prim.Native.Nat.{◌-◌, ◌≤◌}
-use mathlib.Core.Bool.{false, ◌&&◌, not}
-use lib.Dec.{ltb}
 use Rattle.base.specs.Folds.{anyTo}
-use Rattle.base.specs.Sets.{isIn}
 use Rattle.base.proofs.TestLaws.{any-more, true-any}
-use Rattle.sheet.specs.Ranges.{weightIn}
 use Rattle.committee.specs.Committees.{outsider}
-use borrow.Author.Rules.{rules}
 use Rattle.weighing.proofs.has_outsider.Goals as goal
 
 pub loop-i-init : goal.loop-i-init

@@ -1,7 +1,6 @@
 use mathlib.Core.Path.{sym, ap, ◌∙◌}
 use mathlib.Core.Bool.{not}
 use Rattle.committee.proofs.CommitteeLaws.{quorum-not, quorum-inside}
-use borrow.Author.Rules.{rules}
 use Rattle.weighing.proofs.is_quorum.Goals as goal
 
 pub returns-then-has_outsider : goal.returns-then-has_outsider

@@ -4,7 +4,6 @@ use native.Mathlib.Omega.{arith}
 use Rattle.base.proofs.SumLaws.{sum-at}
 use Rattle.sheet.specs.Ranges.{weightIn}
 use Rattle.committee.proofs.EffectLaws.{effect-le, effect-changes}
-use borrow.Author.Rules.{rules}
 use Rattle.weighing.proofs.change.apply.Goals as goal
 
 pub weight_after-x-requires : goal.weight_after-x-requires

@@ -1,6 +1,5 @@
 use mathlib.Core.Path.{refl, sym, ◌∙◌}
 use Rattle.committee.specs.Leaders.{joined}
-use borrow.Author.Rules.{rules}
 use Rattle.weighing.proofs.leader.join.Goals as goal
 
 pub returns-then-is_member : goal.returns-then-is_member

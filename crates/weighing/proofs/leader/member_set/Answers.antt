@@ -1,10 +1,8 @@
 use mathlib.Core.Path.{◌≡◌, refl}
 use native.Mathlib.Omega.{arith}
-use Prim.Native.Nat.{◌-◌, ◌≤◌}
 use Rattle.base.specs.Folds.{foldTo}
 use Rattle.base.proofs.FoldLaws.{fold_more}
-use Rattle.committee.specs.Leaders.{joined, memberSet}
-use borrow.Author.Rules.{rules}
+use Rattle.committee.specs.Leaders.{memberSet}
 use Rattle.weighing.proofs.leader.member_set.Goals as goal
 
 pub loop-i-init : goal.loop-i-init

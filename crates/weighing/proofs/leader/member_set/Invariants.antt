@@ -1,9 +1,7 @@
-use mathlib.Core.Path.{◌≡◌, refl}
-use native.Mathlib.Omega.{arith}
-use Prim.Native.Nat.{◌-◌, ◌≤◌}
+use mathlib.Core.Path.{◌≡◌}
+use Prim.Native.Nat.{◌≤◌}
 use Rattle.base.specs.Folds.{foldTo}
-use Rattle.base.proofs.FoldLaws.{fold_more}
-use Rattle.committee.specs.Leaders.{joined, memberSet}
+use Rattle.committee.specs.Leaders.{joined}
 use Rattle.weighing.proofs.leader.member_set.Given as goal
 
 abbrev pub invariant-loop-i : goal.invariant-loop-i

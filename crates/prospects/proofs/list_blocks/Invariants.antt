@@ -1,0 +1,5 @@
+use Rattle.prospects.proofs.Stepping.{Stepping}
+use Rattle.prospects.proofs.list_blocks.Given as goal
+
+abbrev pub invariant-loop-i : goal.invariant-loop-i
+invariant-loop-i l = Stepping l.t l.l l.last l.k l.rounds l.initial.list l.list l.seen l.fresh l.n l.at l.i
