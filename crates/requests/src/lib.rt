@@ -1,5 +1,6 @@
 // From the bytes of one record, without its CRLF, to what it asks for (scope document: The runner).
 #![tactic(auto)]
+
 pub mod call;
 pub mod setting;
 pub mod word;

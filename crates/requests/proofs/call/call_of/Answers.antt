@@ -1,4 +1,3 @@
-use borrow.Author.Rules.{rules}
 use Rattle.requests.proofs.call.call_of.Goals as goal
 
 pub returns : goal.returns

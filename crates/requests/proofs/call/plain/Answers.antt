@@ -1,6 +1,5 @@
 use mathlib.Core.Path.{◌∙◌}
 use Rattle.terms.proofs.BodyLaws.{bare_of}
-use borrow.Author.Rules.{rules}
 use Rattle.requests.proofs.call.plain.Goals as goal
 
 pub returns : goal.returns

@@ -1,6 +1,5 @@
 use mathlib.Core.Path.{sym, ◌∙◌}
 use Rattle.requests.proofs.RequestLaws.{end-past, end-here}
-use borrow.Author.Rules.{rules}
 use Rattle.requests.proofs.call.read_end.Goals as goal
 
 pub returns-then-at-rec : goal.returns-then-at-rec

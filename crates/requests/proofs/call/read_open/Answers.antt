@@ -1,4 +1,5 @@
 use mathlib.Core.Path.{◌≡◌, sym, ◌∙◌}
+use mathlib.Core.Bool.{true, false}
 use mathlib.Core.List.{List}
 use mathlib.Core.Option.{Option, none, some}
 use Prim.Native.Nat.{ℕ}
@@ -7,13 +8,18 @@ use Rattle.sheet.specs.declared.Setting.{Setting}
 use Rattle.sheet.specs.declared.Cell.{Cell}
 use Rattle.fields.specs.Fields.{fieldsFrom}
 use Rattle.base.specs.Options.{ifThere}
-use Rattle.fields.specs.Cursor.{found}
+use Rattle.fields.specs.Numbers.{numberRead}
+use Rattle.fields.specs.Cursor.{found, firstBy, Stepped}
+use Rattle.fields.specs.declared.number.Number.{Number}
+use Rattle.fields.specs.declared.number.Number.TheVariants.{Of}
+use Rattle.requests.specs.declared.setting.SettingRead.{SettingRead}
+use Rattle.requests.specs.declared.setting.SettingRead.TheVariants.{Is}
+use Rattle.requests.specs.declared.setting.Weights.{Weights}
 use Rattle.requests.specs.Settings.{setting}
-use Rattle.requests.specs.Requests.{nextBy, weightsThen, marginThen, openOf}
+use Rattle.requests.specs.Requests.{nextBy, weightsThen, lastSetting, marginThen, WeightsRead, openOf}
 use Rattle.requests.specs.declared.Reading.{Reading}
 use Rattle.requests.specs.Readings.{unreadable, openAs, settingFound}
 use Rattle.requests.proofs.RequestLaws.{number_by, setting-by, weights-go, weights-stop, margin-by}
-use borrow.Author.Rules.{rules}
 use Rattle.requests.proofs.call.read_open.Goals as goal
 
 -- what is left of an open after its margin, its allowance, its ceiling, its lookback and its own number
@@ -32,45 +38,76 @@ ceilingLeft o l fs = nextBy setting fs (allowanceLeft o l)
 abbrev lookbackLeft : ℕ → List (List ℕ) → Reading
 lookbackLeft o fs = nextBy setting fs (ceilingLeft o)
 
--- an open is unreadable where o is none, and else what k makes of what was read and of the fields from n on
-abbrev Told : {A : Type 0} → goal.Start → Option A → ℕ → (A → List (List ℕ) → Reading) → Type 0
-Told s o n k = let r = s.args.rec.now in openOf (fieldsFrom r s.args.at) ≡ ifThere o unreadable (λ x. k x (fieldsFrom r n))
+-- the setting at `at` of s was read as r, and n is the place of the next field
+abbrev Setting-at : List ℕ → ℕ → SettingRead → ℕ → Type 0
+Setting-at s at r n = (r ≡ settingFound (firstBy setting (fieldsFrom s at))) × Stepped s at n
 
--- For each field: where the one before it was read, the call that read that one, the start, what is left after the field, and what it decides.
+-- an open in s is unreadable where o is none, and else what k makes of what was read and of the fields from n on
+abbrev Told : {A : Type 0} → List ℕ → ℕ → Option A → ℕ → (A → List (List ℕ) → Reading) → Type 0
+Told s at o n k = openOf (fieldsFrom s at) ≡ ifThere o unreadable (λ x. k x (fieldsFrom s n))
 
+-- what each field decides, where those before it were read: the own number
+module _ (s : List ℕ) (at : ℕ) {r1 : Number} {n1 : ℕ} (e1 : (r1 ≡ found (firstBy numberRead (fieldsFrom s at))) × Stepped s at n1) where
+  told1 : (o : Option ℕ) → r1 ≡ found o → Told s at o n1 lookbackLeft
+  told1 o q = number_by _ _ _ _ e1.0 o e1.1 q
 
-told1 : (c : goal.After-read-number) (o : Option ℕ) → c.read_number-o.result.number ≡ found o → Told (start1 c) o c.read_number-o.result.next lookbackLeft
-told1 c o e = number_by _ _ _ _ c.read_number-o.ensures.0 o c.read_number-o.ensures.1 e
+  -- the lookback
+  module _ {own : ℕ} (q1 : r1 ≡ Of own) {r2 : SettingRead} {n2 : ℕ} (e2 : Setting-at s n1 r2 n2) where
+    told2 : (o : Option Setting) → r2 ≡ settingFound o → Told s at o n2 (ceilingLeft own)
+    told2 o q = told1 (some own) q1 ∙ setting-by _ _ _ e2.0 o e2.1 q
 
-told2 : (c : goal.After-setting_at-l) (o : Option Setting) → c.setting_at-l.result.setting ≡ settingFound o → Told (start2 c) o c.setting_at-l.result.next (left2 c)
-told2 c o e = told1 (up2 c) (some _) (own c).own.given.1 ∙ setting-by _ _ _ c.setting_at-l.ensures.0 o c.setting_at-l.ensures.1 e
+    -- the ceiling
+    module _ {l : Setting} (q2 : r2 ≡ Is l) {r3 : SettingRead} {n3 : ℕ} (e3 : Setting-at s n2 r3 n3) where
+      told3 : (o : Option Setting) → r3 ≡ settingFound o → Told s at o n3 (allowanceLeft own l)
+      told3 o q = told2 (some l) q2 ∙ setting-by _ _ _ e3.0 o e3.1 q
 
-told3 : (c : goal.After-setting_at-c) (o : Option Setting) → c.setting_at-c.result.setting ≡ settingFound o → Told (start3 c) o c.setting_at-c.result.next (left3 c)
-told3 c o e = told2 (up3 c) (some _) (lookback c).lookback.given.1 ∙ setting-by _ _ _ c.setting_at-c.ensures.0 o c.setting_at-c.ensures.1 e
+      -- the allowance
+      module _ {c : Setting} (q3 : r3 ≡ Is c) {r4 : SettingRead} {n4 : ℕ} (e4 : Setting-at s n3 r4 n4) where
+        told4 : (o : Option Setting) → r4 ≡ settingFound o → Told s at o n4 (weightsLeft own l c)
+        told4 o q = told3 (some c) q3 ∙ setting-by _ _ _ e4.0 o e4.1 q
 
-told4 : (c : goal.After-setting_at-a) (o : Option Setting) → c.setting_at-a.result.setting ≡ settingFound o → Told (start4 c) o c.setting_at-a.result.next (left4 c)
-told4 c o e = told3 (up4 c) (some _) (ceiling c).ceiling.given.1 ∙ setting-by _ _ _ c.setting_at-a.ensures.0 o c.setting_at-a.ensures.1 e
+        -- the weights
+        module _ {a : Setting} (q4 : r4 ≡ Is a) {w : Weights} (e5 : WeightsRead s n4 w) where
+          told5 : w.ok ≡ false → openOf (fieldsFrom s at) ≡ unreadable
+          told5 q = told4 (some a) q4 ∙ weights-stop _ e5 q
 
-told6 : (c : goal.After-margin_at-margin) (o : Option Setting) → c.margin_at-margin.result ≡ settingFound o
-    → openOf (fieldsFrom (start4 (up5 (up6 c))).args.rec.now (start4 (up5 (up6 c))).args.at) ≡ ifThere o unreadable (left6 c)
-told6 c o e = let w = up6 c in told5 w ∙ weights-go _ w.weights_at-w.ensures c.if-not-w.false ∙ margin-by _ _ c.margin_at-margin.ensures o e
+          -- the margin
+          told6 : w.ok ≡ true → {r6 : SettingRead} → r6 ≡ settingFound (lastSetting (fieldsFrom s w.next)) → (o : Option Setting) → r6 ≡ settingFound o
+              → openOf (fieldsFrom s at) ≡ ifThere o unreadable (marginLeft own l c a w.cells)
+          told6 q e6 o q6 = told4 (some a) q4 ∙ weights-go _ e5 q ∙ margin-by _ _ e6 o q6
 
 pub returns-in_default : goal.returns-in_default
-returns-in_default c = c.unreadable.ensures ∙ sym (told1 c.before.before none c.in_default.is)
+returns-in_default c = c.unreadable.ensures ∙ sym (told1 _ _ c.read_number-o.ensures none c.in_default.is)
 
 pub returns-in_default-lookback : goal.returns-in_default-lookback
-returns-in_default-lookback c = c.unreadable-in_default-lookback.ensures ∙ sym (told2 c.before.before none c.in_default-lookback.is)
+returns-in_default-lookback c =
+    c.unreadable-in_default-lookback.ensures
+    ∙ sym (told2 _ _ c.read_number-o.ensures c.in-Of.is c.setting_at-l.ensures none c.in_default-lookback.is)
 
 pub returns-in_default-ceiling : goal.returns-in_default-ceiling
-returns-in_default-ceiling c = c.unreadable-in_default-allowance.ensures ∙ sym (told4 c.before.before none c.in_default-ceiling.is)
+returns-in_default-ceiling c =
+    c.unreadable-in_default-ceiling.ensures
+    ∙ sym (told3 _ _ c.read_number-o.ensures c.in-Of.is c.setting_at-l.ensures c.in-Is.is c.setting_at-c.ensures none c.in_default-ceiling.is)
 
 pub returns-in_default-allowance : goal.returns-in_default-allowance
-returns-in_default-allowance c = let left4 = weightsLeft c.own.given.0.0 c.lookback.given.0.0 c.ceiling.given.0.0 in
-    let told5 : Told c (some c.allowance.given.0.0) c.setting_at-a.result.next (left4) = told4 c (some _) c.in_default-allowance.is in
-    c.unreadable-then-not-w.ensures ∙ sym (told5 ∙ weights-stop _ c.weights_at-w.ensures c.if-not-w.true)
+returns-in_default-allowance c =
+    c.unreadable-in_default-allowance.ensures
+    ∙ sym (told4 _ _ c.read_number-o.ensures c.in-Of.is c.setting_at-l.ensures c.in-Is.is c.setting_at-c.ensures c.in-Is-ceiling.is c.setting_at-a.ensures none c.in_default-allowance.is)
 
 pub returns-then-not-w : goal.returns-then-not-w
-returns-then-not-w c = c.unreadable-in_default-margin.ensures ∙ sym (told6 c.before.before none c.enum-told5.given.1)
+returns-then-not-w c =
+    c.unreadable-then-not-w.ensures
+    ∙ sym (told5 _ _ c.read_number-o.ensures c.in-Of.is c.setting_at-l.ensures c.in-Is.is c.setting_at-c.ensures c.in-Is-ceiling.is c.setting_at-a.ensures c.in-Is-allowance.is
+    c.weights_at-w.ensures (not-true _ c.if-not-w.true))
+
+pub returns-in_default-margin : goal.returns-in_default-margin
+returns-in_default-margin c =
+    c.unreadable-in_default-margin.ensures
+    ∙ sym (told6 _ _ c.read_number-o.ensures c.in-Of.is c.setting_at-l.ensures c.in-Is.is c.setting_at-c.ensures c.in-Is-ceiling.is c.setting_at-a.ensures c.in-Is-allowance.is
+    c.weights_at-w.ensures (not-false _ c.if-not-w.false) c.margin_at-margin.ensures none c.in_default-margin.is)
 
 pub returns : goal.returns
-returns c = c.open_of.ensures ∙ sym (told6 c.before.before (some _) c.in-Is-margin.is)
+returns c =
+    c.open_of.ensures
+    ∙ sym (told6 _ _ c.read_number-o.ensures c.in-Of.is c.setting_at-l.ensures c.in-Is.is c.setting_at-c.ensures c.in-Is-ceiling.is c.setting_at-a.ensures c.in-Is-allowance.is
+    c.weights_at-w.ensures (not-false _ c.if-not-w.false) c.margin_at-margin.ensures (some _) c.in-Is-margin.is)

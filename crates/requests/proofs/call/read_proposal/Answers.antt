@@ -1,19 +1,19 @@
 use mathlib.Core.Path.{◌≡◌, ap, sym, ◌∙◌}
-use mathlib.Core.Bool.{Bool, cond}
+use mathlib.Core.Bool.{Bool, true, cond}
 use mathlib.Core.List.{List}
 use mathlib.Core.Option.{Option, none, some}
-use Prim.Native.Nat.{ℕ, ◌≤◌}
+use Prim.Native.Nat.{ℕ}
 use native.Mathlib.Omega.{arith}
-use borrow.Author.Tests.{not-true, not-false}
 use Rattle.fields.specs.Fields.{fieldsFrom}
 use Rattle.base.specs.Options.{ifThere}
-use Rattle.fields.specs.Numbers.{numberRead, set}
-use Rattle.fields.specs.Cursor.{found}
+use Rattle.fields.specs.Numbers.{numberTo, numberRead, set}
+use Rattle.fields.specs.Cursor.{found, firstBy, Stepped}
+use Rattle.fields.specs.declared.number.Number.{Number}
+use Rattle.fields.specs.declared.number.Number.TheVariants.{Of}
 use Rattle.requests.specs.Requests.{nextBy, triplesThen, endorseOf, acceptOf}
 use Rattle.requests.specs.declared.Reading.{Reading}
 use Rattle.requests.specs.Readings.{unreadable, endorse, accept}
 use Rattle.requests.proofs.RequestLaws.{number_by, number_fits, part-late}
-use borrow.Author.Rules.{rules}
 use Rattle.requests.proofs.call.read_proposal.Goals as goal
 
 -- what is left of an accept, after its endorsers and after its previous set
@@ -37,53 +37,77 @@ previousLeft b a r fs = nextBy set fs (eitherLeft b a r)
 abbrev roundLeft : Bool → ℕ → List (List ℕ) → Reading
 roundLeft b a fs = nextBy numberRead fs (previousLeft b a)
 
--- For each field: where the one before it was read, the call that read that one, the start, what is left after the field, and what it decides.
+-- what the call comes to on the fields from `at` of s on
+abbrev whole : Bool → List ℕ → ℕ → Reading
+whole b s at = let fs = fieldsFrom s at in cond b (acceptOf fs) (endorseOf fs)
 
+-- it is unreadable where o is none, and else what k makes of the number that was read and of the fields from n on
+abbrev Told : Bool → List ℕ → ℕ → Option ℕ → ℕ → (ℕ → List (List ℕ) → Reading) → Type 0
+Told b s at o n k = whole b s at ≡ ifThere o unreadable (λ x. k x (fieldsFrom s n))
 
-told1 : (c : goal.After-read-number) (o : Option ℕ) → c.read_number-a.result.number ≡ found o → Told (start1 c) o c.read_number-a.result.next (roundLeft (start1 c).args.certified)
-told1 c o e = part-late (start1 c).args.certified _ ∙ number_by _ _ _ _ c.read_number-a.ensures.0 o c.read_number-a.ensures.1 e
+-- the number at `at` of s, at most m, was read as r, and n is the place of the next field
+abbrev Number-at : ℕ → List ℕ → ℕ → Number → ℕ → Type 0
+Number-at m s at r n = (r ≡ found (firstBy (numberTo m) (fieldsFrom s at))) × Stepped s at n
 
-told2 : (c : goal.After-read_number-r) (o : Option ℕ) → c.read_number-r.result.number ≡ found o → Told (start2 c) o c.read_number-r.result.next (left2 c)
-told2 c o e = told1 (up2 c) (some _) (author c).x.given.1 ∙ number_by _ _ _ _ c.read_number-r.ensures.0 o c.read_number-r.ensures.1 e
+-- what each field decides, where those before it were read: the author
+module _ (b : Bool) (s : List ℕ) (at : ℕ) {r1 : Number} {n1 : ℕ} (e1 : Number-at 4294967295 s at r1 n1) where
+  told1 : (o : Option ℕ) → r1 ≡ found o → Told b s at o n1 (roundLeft b)
+  told1 o q = part-late b _ ∙ number_by _ _ _ _ e1.0 o e1.1 q
 
-told3 : (c : goal.After-read_number-p) (o : Option ℕ) → c.read_number-p.result.number ≡ found o → Told (start3 c) o c.read_number-p.result.next (left3 c (start3 c).args.certified)
-told3 c o e = told2 (up3 c) (some _) (round c).y.given.1 ∙ number_by _ _ _ _ c.read_number-p.ensures.0 o c.read_number-p.ensures.1 e
+  -- the round
+  module _ {a : ℕ} (q1 : r1 ≡ Of a) {r2 : Number} {n2 : ℕ} (e2 : Number-at 4294967295 s n1 r2 n2) where
+    told2 : (o : Option ℕ) → r2 ≡ found o → Told b s at o n2 (previousLeft b a)
+    told2 o q = told1 (some a) q1 ∙ number_by _ _ _ _ e2.0 o e2.1 q
 
-either : (c : goal.After-z) {b : Bool} → (start3 (up4 c)).args.certified ≡ b → Told (start3 (up4 c)) (some (previous c)) (up4 c).read_number-p.result.next (left3 (up4 c) b)
-either c e =
-    let a = up4 c in
-    told3 a (some _) c.z.given.1 ∙ ap (λ (b : Bool). left3 a b (previous c) (fieldsFrom (start3 a).args.rec.now a.read_number-p.result.next)) e
+    -- the previous set
+    module _ {r : ℕ} (q2 : r2 ≡ Of r) {r3 : Number} {n3 : ℕ} (e3 : Number-at 65535 s n2 r3 n3) where
+      told3 : (o : Option ℕ) → r3 ≡ found o → Told b s at o n3 (eitherLeft b a r)
+      told3 o q = told2 (some r) q2 ∙ number_by _ _ _ _ e3.0 o e3.1 q
 
-told4 : (c : goal.After-read_number-e) (o : Option ℕ) → c.read_number-e.result.number ≡ found o → Told (start4 c) o c.read_number-e.result.next (left4 c)
-told4 c o e = either (accepted c) c.if-not-certified.false ∙ number_by _ _ _ _ c.read_number-e.ensures.0 o c.read_number-e.ensures.1 e
+      -- with the previous set, either is left
+      module _ {p : ℕ} (q3 : r3 ≡ Of p) where
+        either : {d : Bool} → b ≡ d → whole b s at ≡ eitherLeft d a r p (fieldsFrom s n3)
+        either e = told3 (some p) q3 ∙ ap (λ (d : Bool). eitherLeft d a r p (fieldsFrom s n3)) e
+
+        -- the endorsers
+        told4 : b ≡ true → {r4 : Number} {n4 : ℕ} → Number-at 65535 s n3 r4 n4 → (o : Option ℕ) → r4 ≡ found o → Told b s at o n4 (acceptLeft a r p)
+        told4 e e4 o q = either e ∙ number_by _ _ _ _ e4.0 o e4.1 q
 
 pub returns-in_default : goal.returns-in_default
-returns-in_default c = c.unreadable.ensures ∙ sym (told1 c.before.before none c.in_default.is)
+returns-in_default c = c.unreadable.ensures ∙ sym (told1 _ _ _ c.read_number-a.ensures none c.in_default.is)
 
 pub returns-in_default-y : goal.returns-in_default-y
-returns-in_default-y c = c.unreadable-in_default-y.ensures ∙ sym (told2 c.before.before none c.in_default-y.is)
+returns-in_default-y c = c.unreadable-in_default-y.ensures ∙ sym (told2 _ _ _ c.read_number-a.ensures c.in-Of.is c.read_number-r.ensures none c.in_default-y.is)
 
 pub returns-in_default-z : goal.returns-in_default-z
-returns-in_default-z c = c.unreadable-in_default-z.ensures ∙ sym (told3 c.before.before none c.in_default-z.is)
+returns-in_default-z c =
+    c.unreadable-in_default-z.ensures
+    ∙ sym (told3 _ _ _ c.read_number-a.ensures c.in-Of.is c.read_number-r.ensures c.in-Of-y.is c.read_number-p.ensures none c.in_default-z.is)
 
+-- the previous set is a set
 pub overflow_cast-previous : goal.overflow_cast-previous
-overflow_cast-previous c = let previous = c.z.given.0.0 in
-    let previous-fits : previous ≤ 65535 = number_fits 65535 _ _ c.read_number-p.ensures.0 c.in-Of-z.is in
-    let l = previous-fits in omega arith
+overflow_cast-previous c = let l = number_fits 65535 _ _ c.read_number-p.ensures.0 c.in-Of-z.is in omega arith
 
 pub returns-then-not-certified : goal.returns-then-not-certified
-returns-then-not-certified c = c.with_triples.ensures ∙ sym (either c c.if-not-certified.true)
+returns-then-not-certified c =
+    c.with_triples.ensures
+    ∙ sym (either _ _ _ c.read_number-a.ensures c.in-Of.is c.read_number-r.ensures c.in-Of-y.is c.read_number-p.ensures c.in-Of-z.is c.if-not-certified.true)
 
 pub returns-in_default-v : goal.returns-in_default-v
-returns-in_default-v c = c.unreadable-in_default-v.ensures ∙ sym (told4 c.before.before none c.in_default-v.is)
+returns-in_default-v c =
+    c.unreadable-in_default-v.ensures
+    ∙ sym (told4 _ _ _ c.read_number-a.ensures c.in-Of.is c.read_number-r.ensures c.in-Of-y.is c.read_number-p.ensures c.in-Of-z.is
+    c.if-not-certified.false c.read_number-e.ensures none c.in_default-v.is)
 
 pub overflow_cast-previous-2 : goal.overflow_cast-previous-2
-overflow_cast-previous-2 c = let previous = c.z.given.0.0 in
-    let previous-fits : previous ≤ 65535 = number_fits 65535 _ _ c.read_number-p.ensures.0 c.in-Of-v.is in
-    let l = previous-fits in omega arith
+overflow_cast-previous-2 c = let l = number_fits 65535 _ _ c.read_number-p.ensures.0 c.in-Of-z.is in omega arith
 
+-- the endorsers are a set
 pub overflow_cast-endorsers : goal.overflow_cast-endorsers
 overflow_cast-endorsers c = let l = number_fits 65535 _ _ c.read_number-e.ensures.0 c.in-Of-v.is in omega arith
 
 pub returns : goal.returns
-returns c = c.with_triples-2.ensures ∙ sym (told4 c (some _) c.v.given.1)
+returns c =
+    c.with_triples-2.ensures
+    ∙ sym (told4 _ _ _ c.read_number-a.ensures c.in-Of.is c.read_number-r.ensures c.in-Of-y.is c.read_number-p.ensures c.in-Of-z.is
+    c.if-not-certified.false c.read_number-e.ensures (some _) c.in-Of-v.is)

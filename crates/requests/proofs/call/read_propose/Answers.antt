@@ -1,7 +1,6 @@
 use Rattle.requests.proofs.RequestLaws.{number-goes, number-stops, number_fits}
 use mathlib.Core.Path.{sym, ◌∙◌}
 use native.Mathlib.Omega.{arith}
-use borrow.Author.Rules.{rules}
 use Rattle.requests.proofs.call.read_propose.Goals as goal
 
 pub returns-in_default : goal.returns-in_default
@@ -12,4 +11,4 @@ overflow_cast-previous c = let l = number_fits 65535 _ _ c.read_number-p.ensures
     omega arith
 
 pub returns : goal.returns
-returns c = c.with_triples.ensures ∙ sym (number-goes _ _ _ _ c.read_number-p.ensures.0 c.read_number-p.ensures.1 c.x.given.1)
+returns c = c.with_triples.ensures ∙ sym (number-goes _ _ _ _ c.read_number-p.ensures.0 c.read_number-p.ensures.1 c.in-Of.is)

@@ -5,7 +5,6 @@ use mathlib.Core.Path.{ap, ◌∙◌}
 use native.Mathlib.Omega.{arith}
 use Rattle.terms.proofs.BodyLaws.{bare_of, body-length}
 use Rattle.triples.proofs.BodyLaws.{onto-none}
-use borrow.Author.Rules.{rules}
 use Rattle.requests.proofs.call.read_triples.Goals as goal
 
 pub from_kind-requires : goal.from_kind-requires

@@ -4,13 +4,12 @@ use Rattle.terms.specs.declared.Body.{Body}
 use Rattle.requests.specs.declared.Reading.{Reading}
 use Rattle.requests.specs.Readings.{callReading}
 use Rattle.requests.proofs.RequestLaws.{triples-stop, triples-go}
-use borrow.Author.Rules.{rules}
 use Rattle.requests.proofs.call.with_triples.Goals as goal
 
 pub returns-then-not-t : goal.returns-then-not-t
 returns-then-not-t c = let with-body : Body → Reading = λ b. let a = c.args in callReading a.kind a.author.0 a.round.0 b a.endorsers in
-    c.unreadable.ensures ∙ sym (triples-stop _ _ (with-body) c.read_triples-t.ensures c.if-not-t.true)
+    c.unreadable.ensures ∙ sym (triples-stop _ _ with-body c.read_triples-t.ensures (not-true _ c.if-not-t.true))
 
 pub returns : goal.returns
 returns c = let with-body : Body → Reading = λ b. let a = c.args in callReading a.kind a.author.0 a.round.0 b a.endorsers in
-    c.call_of.ensures ∙ sym (triples-go _ _ (with-body) c.read_triples-t.ensures c.if-not-t.false)
+    c.call_of.ensures ∙ sym (triples-go _ _ with-body c.read_triples-t.ensures (not-false _ c.if-not-t.false))

@@ -2,7 +2,6 @@ use mathlib.Core.Path.{sym, ap, ◌∙◌}
 use native.Mathlib.Omega.{arith}
 use Rattle.requests.specs.Readings.{settingFound}
 use Rattle.requests.proofs.SettingLaws.{last_none, last_one, last_more}
-use borrow.Author.Rules.{rules}
 use Rattle.requests.proofs.setting.margin_at.Goals as goal
 
 pub returns-then-rec-at : goal.returns-then-rec-at

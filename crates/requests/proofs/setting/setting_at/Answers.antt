@@ -2,7 +2,6 @@ use mathlib.Core.Path.{sym, ap, ◌∙◌}
 use Rattle.requests.specs.Readings.{settingFound}
 use Rattle.requests.specs.Settings.{setting}
 use Rattle.fields.proofs.CursorLaws.{stepped, stays, first-there, first_past}
-use borrow.Author.Rules.{rules}
 use Rattle.requests.proofs.setting.setting_at.Goals as goal
 
 pub returns-then-rec-at : goal.returns-then-rec-at

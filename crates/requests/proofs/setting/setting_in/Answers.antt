@@ -2,7 +2,6 @@ use mathlib.Core.Path.{sym, ap, ◌∙◌}
 use Rattle.fields.proofs.CursorLaws.{found_of, found_none}
 use Rattle.requests.specs.Readings.{settingFound}
 use Rattle.requests.proofs.SettingLaws.{blank-field, written-field, no_field}
-use borrow.Author.Rules.{rules}
 use Rattle.requests.proofs.setting.setting_in.Goals as goal
 
 pub returns-then-f-eq0 : goal.returns-then-f-eq0

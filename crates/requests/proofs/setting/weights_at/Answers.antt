@@ -1,19 +1,16 @@
-use mathlib.Core.Path.{◌≡◌, refl, sym, ap, ◌∙◌}
+use mathlib.Core.Path.{◌≡◌, refl, ap, ◌∙◌}
 use native.Mathlib.Omega.{arith}
 use native.Mathlib.Numerals.{add-one}
 use mathlib.Core.Bool.{true≢false, false≢true}
 use mathlib.Core.List.{List}
 use mathlib.Core.Option.{Option, some}
-use Prim.Native.Nat.{ℕ, suc, ◌+◌, ◌-◌, ◌<◌, ◌≤◌}
+use Prim.Native.Nat.{ℕ, suc, ◌+◌, ◌-◌, ◌<◌}
 use lib.ListN.{length, take, drop, length-set}
 use lib.Seq.{take-suc-set, take_all}
 use Rattle.sheet.specs.declared.Cell.{Cell}
 use Rattle.fields.specs.Fields.{fieldsFrom}
-use Rattle.requests.specs.Requests.{cells_in}
 use Rattle.fields.specs.Cursor.{rest}
-use Rattle.requests.proofs.SettingLaws.{following, following-all, cells-more, cells-stop, cells-end, rest-drop}
-use Rattle.requests.proofs.setting.weights_at.Invariants.{Reading}
-use borrow.Author.Rules.{rules}
+use Rattle.requests.proofs.SettingLaws.{following-all, cells-more, cells-stop, cells-end, rest-drop}
 use Rattle.requests.proofs.setting.weights_at.Goals as goal
 
 pub loop-i-init : goal.loop-i-init

@@ -1,17 +1,11 @@
-use mathlib.Core.Path.{◌≡◌, refl, sym, ap, ◌∙◌}
-use native.Mathlib.Omega.{arith}
-use native.Mathlib.Numerals.{add-one}
-use mathlib.Core.Bool.{true≢false, false≢true}
+use mathlib.Core.Path.{◌≡◌}
 use mathlib.Core.List.{List}
-use mathlib.Core.Option.{Option, some}
-use Prim.Native.Nat.{ℕ, suc, ◌+◌, ◌-◌, ◌<◌, ◌≤◌}
-use lib.ListN.{length, take, drop, length-set}
-use lib.Seq.{take-suc-set, take_all}
+use Prim.Native.Nat.{ℕ, ◌+◌, ◌-◌, ◌≤◌}
+use lib.ListN.{length, take, drop}
 use Rattle.sheet.specs.declared.Cell.{Cell}
 use Rattle.fields.specs.Fields.{fieldsFrom}
 use Rattle.requests.specs.Requests.{cells_in}
-use Rattle.fields.specs.Cursor.{rest}
-use Rattle.requests.proofs.SettingLaws.{following, following-all, cells-more, cells-stop, cells-end, rest-drop}
+use Rattle.requests.proofs.SettingLaws.{following}
 use Rattle.requests.proofs.setting.weights_at.Given as goal
 
 -- the cells before i are read, and the others are left from a place of the record on
