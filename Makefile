@@ -1,6 +1,6 @@
 # The library for hosts: libforgelilac.a, its header and its pkg-config file.
 #
-#   make                     builds the archive by `rt staticlib host`
+#   make                     proves the library and builds the archive, by `rt lib` in crates/host
 #   make ARCHIVE=FILE        takes a ready one
 #   make install PREFIX=DIR  puts archive, header and forgelilac.pc under DIR, /usr/local if not given
 #   make clean               removes what make made, and nothing of rt's
@@ -16,7 +16,7 @@ BUILD ?= target/lib
 RT ?= rt
 INSTALL ?= install
 
-MADE = target/staticlib/libhost.a
+MADE = crates/host/out/libhost.a
 ARCHIVE ?= $(MADE)
 SOURCES = crates.txt $(shell find crates -path '*/src/*.rt')
 VERSION = $(shell sed -n 's/^.define FORGELILAC_VERSION "\(.*\)"$$/\1/p' include/forgelilac.h)
@@ -26,7 +26,7 @@ VERSION = $(shell sed -n 's/^.define FORGELILAC_VERSION "\(.*\)"$$/\1/p' include
 all: $(BUILD)/libforgelilac.a
 
 $(MADE): $(SOURCES)
-	$(RT) staticlib host
+	cd crates/host && $(RT) lib
 	@touch $@
 
 # Copied each time: another archive may be older than the last one.

@@ -1,6 +1,6 @@
 #!/bin/sh
 # run.sh [ARCHIVE [quick|full [OTHER]]]: builds the benchmark and prints its tables.
-# ARCHIVE is the engine's static library (target/staticlib/libhost.a if not
+# ARCHIVE is the engine's static library (crates/host/out/libhost.a if not
 # given), or `plain` to try the benchmark without it (plain.rs against itself).
 # OTHER is another archive, that of before a change: it stands in plain's place,
 # and the two take turns in one process. One of before queues, previews, lists of
@@ -8,7 +8,7 @@
 # these, which are then left out.
 set -e
 top=$(cd "$(dirname "$0")/.." && pwd)
-archive=${1:-$top/target/staticlib/libhost.a}
+archive=${1:-$top/crates/host/out/libhost.a}
 pace=$2
 other=$3
 built=$top/target/bench

@@ -1,6 +1,6 @@
 #!/bin/sh
 # hosts.sh [ARCHIVE [SEEDS [CALLS]]]: builds and runs everything that hosts link, against the
-# static library (target/staticlib/libhost.a where none is given; `rt staticlib host` makes it):
+# static library (crates/host/out/libhost.a where none is given; `rt lib` in crates/host makes it):
 # the header in C99, freestanding too, C11 and C++; `make install`, and the examples in C and C++
 # through pkg-config, an old guest's serial port among them, whose listing must be the reference's;
 # the stack that calls need, the host's own and guests'; the Rust package: its
@@ -14,8 +14,8 @@
 set -eu
 cd "$(dirname "$0")/.."
 top=$(pwd)
-archive=$(realpath -m "${1:-target/staticlib/libhost.a}")
-[ -f "$archive" ] || { echo "no archive $archive: run 'rt staticlib host'" >&2; exit 2; }
+archive=$(realpath -m "${1:-crates/host/out/libhost.a}")
+[ -f "$archive" ] || { echo "no archive $archive: run 'cd crates/host && rt lib'" >&2; exit 2; }
 out=$(mktemp -d)
 trap 'rm -rf "$out"' EXIT
 unset FORGELILAC_ARCHIVE
@@ -79,18 +79,18 @@ echo "user without the standard library: its preview, what its commit hangs on, 
 # The package in a tree of its own, first with an archive in it, then with an rt that makes one.
 unset PKG_CONFIG_PATH
 export PKG_CONFIG_LIBDIR="$out/none"
-mkdir -p "$out/tree/bindings" "$out/tree/target/staticlib" "$out/tree/crates/host" "$out/bin"
+mkdir -p "$out/tree/bindings" "$out/tree/crates/host/out" "$out/bin"
 cp -r $package "$out/tree/bindings/rust"
-cp "$archive" "$out/tree/target/staticlib/libhost.a"
+cp "$archive" "$out/tree/crates/host/out/libhost.a"
 cargo test -q --locked --manifest-path "$out/tree/$package/Cargo.toml"
 cargo doc -q --locked --manifest-path "$out/tree/$package/Cargo.toml"
 echo "tests and doctests of the package, archive of the tree: passed"
-mv "$out/tree/target/staticlib/libhost.a" "$out/ready.a"
-printf '#!/bin/sh\n[ "$*" = "staticlib host" ] && cp %s target/staticlib/libhost.a\n' "$out/ready.a" > "$out/bin/rt"
+mv "$out/tree/crates/host/out/libhost.a" "$out/ready.a"
+printf '#!/bin/sh\n[ "$*" = lib ] && cp %s out/libhost.a\n' "$out/ready.a" > "$out/bin/rt"
 chmod +x "$out/bin/rt"
 PATH="$out/bin:$PATH" cargo build -q --locked --no-default-features --manifest-path "$out/tree/$package/Cargo.toml"
-cmp -s "$out/ready.a" "$out/tree/target/staticlib/libhost.a"
-echo "package without alloc, archive by rt staticlib host: built"
+cmp -s "$out/ready.a" "$out/tree/crates/host/out/libhost.a"
+echo "package without alloc, archive by rt lib: built"
 
 # ---- against the reference
 

@@ -2,8 +2,8 @@
 //!
 //! 1. the file that the variable `FORGELILAC_ARCHIVE` names;
 //! 2. the one that `make install` put where pkg-config finds it, of this version;
-//! 3. `target/staticlib/libhost.a` of the tree that this package stands in;
-//! 4. that file, made by `rt staticlib host` where there is `rt`.
+//! 3. `crates/host/out/libhost.a` of the tree that this package stands in;
+//! 4. that file, made by `rt lib` in crates/host where there is `rt`.
 
 use std::path::{Path, PathBuf};
 use std::process::Command;
@@ -47,20 +47,20 @@ fn pkg_config(asked: &str) -> Option<String> {
 
 fn in_the_tree() -> PathBuf {
     let package = PathBuf::from(env::var_os("CARGO_MANIFEST_DIR").expect("cargo sets it"));
-    let top = package.join("../..");
-    let archive = top.join("target/staticlib/libhost.a");
-    if !archive.exists() && top.join("crates/host").exists() {
-        let made = Command::new("rt").args(["staticlib", "host"]).current_dir(&top).status();
+    let source = package.join("../../crates/host");
+    let archive = source.join("out/libhost.a");
+    if !archive.exists() && source.exists() {
+        let made = Command::new("rt").arg("lib").current_dir(&source).status();
         match made {
             Ok(status) if status.success() => {}
-            Ok(status) => panic!("rt staticlib host: {status}"),
+            Ok(status) => panic!("rt lib in crates/host: {status}"),
             Err(_) => {}
         }
     }
     assert!(
         archive.exists(),
         "no archive of the engine: name it in FORGELILAC_ARCHIVE, or install Forgelilac {} where \
-         pkg-config finds it, or make {} by 'rt staticlib host'",
+         pkg-config finds it, or make {} by 'rt lib' in crates/host",
         env!("CARGO_PKG_VERSION"),
         archive.display(),
     );

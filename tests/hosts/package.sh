@@ -1,12 +1,12 @@
 #!/bin/sh
 # package.sh [ARCHIVE [SEEDS [STATES [CALLS [OWNERS]]]]]: header and Rust package against the reference.
-# ARCHIVE is the engine's static library (target/staticlib/libhost.a if not given). Runs a replay
+# ARCHIVE is the engine's static library (crates/host/out/libhost.a if not given). Runs a replay
 # of shuffled runs (seeds 1 to SEEDS, 20 if not given), the chains of STATES states (2,000),
 # which words CALLS calls (100,000) change, and the register of plant owners (tools/register) against
 # the package's reads of committees, seeds 1 to OWNERS (100).
 set -eu
 top=$(cd "$(dirname "$0")/../.." && pwd)
-archive=$(realpath "${1:-$top/target/staticlib/libhost.a}")
+archive=$(realpath "${1:-$top/crates/host/out/libhost.a}")
 seeds=${2:-20}
 states=${3:-2000}
 calls=${4:-100000}

@@ -1,7 +1,7 @@
 #!/bin/sh
 # run.sh [SEED [CALLS [ARCHIVE [TOTAL [CERTIFICATES [QUEUED [PREVIEWED [CRITICALS [GUESTED [LEDGERS [EFFECTS [PORTED]]]]]]]]]]]]:
 # host functions against the reference.
-# ARCHIVE is the engine's static library (target/staticlib/libhost.a if not
+# ARCHIVE is the engine's static library (crates/host/out/libhost.a if not
 # given), or `plain` for bench/plain.rs. Shares are read of every weight of every
 # total up to TOTAL, 2,000 if not given. CERTIFICATES are handed over in batches,
 # 50,000 if not given, QUEUED calls are made on queues, 50,000 if not given,
@@ -14,7 +14,7 @@ set -e
 top=$(cd "$(dirname "$0")/../.." && pwd)
 seed=${1:-1}
 calls=${2:-1000000}
-archive=${3:-$top/target/staticlib/libhost.a}
+archive=${3:-$top/crates/host/out/libhost.a}
 most=${4:-2000}
 certificates=${5:-50000}
 queued=${6:-50000}

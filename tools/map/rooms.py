@@ -22,7 +22,8 @@ def head_of(top, name):
 
 def crate_of(top, line):
     name, _, needs = line.partition("#")[0].partition(":")
-    return Crate(name.strip(), needs.split(), head_of(top, name.strip()))
+    name = name.split()[0]      # what stands behind it says how it is built
+    return Crate(name, needs.split(), head_of(top, name))
 
 
 def room_of(top, lines):

@@ -19,7 +19,7 @@ import re
 from dataclasses import dataclass, field
 
 MARKS = {"pub", "abbrev", "unfoldable", "axiom"}
-KEYWORDS = {"data", "record", "deriving", "module", "where", "use", "mod", "pub", "package", "using", "open", "as", "unfoldable",
+KEYWORDS = {"data", "record", "deriving", "module", "where", "use", "mod", "pub", "package", "open", "as", "unfoldable",
             "abbrev", "axiom", "unfold", "unfolding", "ruleset", "mutual", "infix", "infixl", "infixr", "elim", "let", "in", "do",
             "λ", "∀", "Type", "=", ":", "→", "×", "|", "↦", "←", "_", "↔", "[", "]"}
 TOKEN = re.compile(r'--[^\n]*|\{-.*?-\}|"(?:[^"\\]|\\.)*"|«[^»]*»|[(){};,@.]|[^\s(){}.;,@"«»]+', re.S)
@@ -79,7 +79,6 @@ class Params:
 @dataclass
 class Open:
     line: int
-    record: tuple
     value: list
     names: list  # (field, local name)
 
@@ -161,8 +160,8 @@ def is_word(text):
 
 
 def operator_parts(name):
-    """Of _≼_: ≼. Of a plain name: nothing."""
-    return [part for part in name.split("_") if part] if "_" in name and not name.startswith("«") else []
+    """Of ◌≼◌: ≼. Of a plain name: nothing."""
+    return [part for part in name.split("◌") if part] if "◌" in name and not name.startswith("«") else []
 
 
 def closing(tokens, i):
@@ -306,7 +305,6 @@ def used_by(item, scope, is_constructor):
             walk(around.tokens, scope, used.type, is_constructor)
         else:
             why = {}
-            note(Token("name", "", 0, around.record), scope, why)
             walk(around.value, dict(scope), why, is_constructor)
             for _, local in around.names:
                 bind(scope, local, tuple(why))
@@ -427,8 +425,8 @@ def read_use(tokens, marks):
 
 
 def read_open(tokens, line):
-    using = find(tokens, {"using"})
-    names, inner, j = [], tokens[using + 2:-1], 0
+    use = find(tokens, {"use"})
+    names, inner, j = [], tokens[use + 2:-1], 0
     while j < len(inner):
         if inner[j].kind == "name":
             name = local = inner[j].text
@@ -437,7 +435,7 @@ def read_open(tokens, line):
                 j += 2
             names.append((name, local))
         j += 1
-    return Open(line, tokens[0].parts, tokens[1:using], names)
+    return Open(line, tokens[:use], names)
 
 
 def read_block(module, lines, context):

@@ -1,9 +1,9 @@
 """All crates read: what a name in a file means, and of what kind an item is.
 
-Nothing here knows a crate by name. A path is read so, R being `Rattle·X` or `Rattle·X·F`:
-    R.F.A.B.{n}                  crates/X/F/A/B.antt (F: specs, proofs)
-    R.F.declared.a.T.{T}         the struct or enum T of crates/X/src/a.rt; without a, of any file of crates/X/src
-    R.F.declared.T.the-variants  its variants
+Nothing here knows a crate by name. A path is read so, X being a crate of crates/:
+    Rattle.X.F.A.B.{n}                  crates/X/F/A/B.antt (F: specs, proofs)
+    Rattle.X.F.declared.a.T.{T}         the struct or enum T of crates/X/src/a.rt; without a, of any file of crates/X/src
+    Rattle.X.F.declared.T.the-variants  its variants
 Every other path is a library's.
 
 Kinds. A record or data declaration is `record` or `data`. Of any other item the final codomain of its type decides:
@@ -58,7 +58,7 @@ class Tree:
         """Bottom to top, as crates.txt has them."""
         there = sorted(path.name for path in (self.root / "crates").iterdir() if path.is_dir())
         listed = self.root / "crates.txt"
-        order = re.findall(r"^(\w+):", listed.read_text(), re.M) if listed.exists() else []
+        order = re.findall(r"^(\w+)\b[^:#\n]*:", listed.read_text(), re.M) if listed.exists() else []
         return [crate for crate in order if crate in there] + [crate for crate in there if crate not in order]
 
     def module(self, crate, folder, parts):
@@ -90,12 +90,15 @@ class Tree:
 
     # ---- names
 
+    def is_ours(self, path):
+        """Whether a path leads into a crate of this tree."""
+        return path[0] == "Rattle" and path[1:2] and path[1] in self.crates
+
     def module_at(self, path):
         """The module that a path names, and what is left of the path: (module, rest), (declared, rest) or nothing."""
-        head = re.fullmatch(r"Rattle·(\w+?)(?:·(\w+))?", path[0])
-        if not head or len(path) < 2:
+        if not self.is_ours(path) or len(path) < 3:
             return None
-        crate, folder, rest = head[1], path[1], path[2:]
+        crate, folder, rest = path[1], path[2], path[3:]
         if rest[:1] == ("declared",):
             return self.declared_at(crate, rest[1:])
         for k in range(len(rest), 0, -1):
@@ -117,7 +120,7 @@ class Tree:
         """What a whole path means: an item, a declared type or a library's name."""
         found = self.module_at(path)
         if found is None:
-            return None if path[0].startswith("Rattle·") else Library(path[:-1], path[-1])
+            return None if self.is_ours(path) else Library(path[:-1], path[-1])
         where, rest = found
         if isinstance(where, source.Declared):
             return where
@@ -133,16 +136,16 @@ class Tree:
             return own[head]
         for use in file.uses:
             for name, local in use.names:
-                if local == head or head in antt.operator_parts(local) or "_" in head and head.strip("_") in antt.operator_parts(local):
+                if local == head or head in antt.operator_parts(local) or "◌" in head and head.strip("◌") in antt.operator_parts(local):
                     return self.at(use.path + tuple(name.split(".")), depth + 1)
         for name in own:
-            if head in antt.operator_parts(name) or "_" in head and head.strip("_") in antt.operator_parts(name):
+            if head in antt.operator_parts(name) or "◌" in head and head.strip("◌") in antt.operator_parts(name):
                 return own[name]
         if len(parts) > 1:
             for use in file.uses:
                 if not use.names and (use.alias or use.path[-1]) == head:
                     return self.at(use.path + parts[1:], depth + 1)
-        if head.startswith("Rattle·"):
+        if head == "Rattle":
             return self.at(parts, depth + 1)
         for use in file.uses:
             if use.glob and hasattr(file, "key"):
@@ -239,7 +242,7 @@ class Tree:
         while i < len(tokens):
             if tokens[i].kind == "open":
                 i = antt.closing(tokens, i)
-            elif tokens[i].kind == "name" and tokens[i].text.strip("_") in PROPOSITIONS:
+            elif tokens[i].kind == "name" and tokens[i].text.strip("◌") in PROPOSITIONS:
                 return PROPOSITION
             elif tokens[i].kind == "name" and i and self.operator_sort(tokens[i], module, depth) == PROPOSITION:
                 return PROPOSITION
