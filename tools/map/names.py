@@ -23,8 +23,8 @@ BEFORE = re.compile(rf"({LISTED}) \(([\w.]+(?:(?:/[\w.]+)+(?=[),:;])|(?=\))))") 
 BEHIND = re.compile(rf"`([\w.]+(?:/[\w.]+)+)` \(({LISTED})\)")       # a file, and names in it
 PLACE = re.compile(r"(?<![\w/.-])(\w+)/([\w./-]*\w)(?![\w/*-])")   # a folder, a file or an edit
 WORD = re.compile(r"[\w./-]+(?:::[\w-]+)*")
-BUILT = "target"        # a folder that is there after a check only
-RATTLE = {"requires", "ensures", "pub"}
+BUILT = "out"       # a folder of a crate that is there after a check only
+RATTLE = {"requires", "ensures", "pub", "std", "io", "Read", "Write"}
 CODE = re.compile(r"\b(?:fn|struct|enum|mod|const) (\w+)")
 
 
@@ -65,7 +65,7 @@ class Names:
     def places(self, line):
         """Crates' files and edits in a line that are not there."""
         for crate, rest in PLACE.findall(line):
-            if crate != BUILT and not (self.paths(f"{crate}/{rest}") or self.paths(f"crates/{crate}/must-fail/{rest}.edit")):
+            if BUILT not in rest.split("/") and not (self.paths(f"{crate}/{rest}") or self.paths(f"crates/{crate}/must-fail/{rest}.edit")):
                 yield f"{crate}/{rest}"
 
     def missing(self, line):
