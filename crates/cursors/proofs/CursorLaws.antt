@@ -1,16 +1,16 @@
 -- Laws of where a port stands: its two words alone tell whether it has read past the end, and the byte after those read is the next one of its line or the first of the next line.
 use mathlib.Core.Path.{◌≡◌, refl, sym, ap, ◌∙◌}
-use mathlib.Core.Bool.{Bool, true, false, cond, ◌&&◌, false≢true, true≢false}
-use mathlib.Core.List.{List, [], ◌∷◌, ◌++◌, append_assoc}
-use mathlib.Core.Option.{Option, none, some, some-injective, none-ne-some}
-use Prim.Native.Nat.{ℕ, zero, suc, ◌+◌, ◌-◌, ◌<◌, ◌≤◌}
+use mathlib.Core.Bool.{Bool, true, false, cond, true≢false}
+use mathlib.Core.List.{List, [], ◌∷◌, ◌++◌}
+use mathlib.Core.Option.{none, some, some-injective, none-ne-some}
+use Prim.Native.Nat.{ℕ, suc, ◌+◌, ◌<◌, ◌≤◌}
 use native.Mathlib.Omega.{arith}
 use lib.Dec.{eqb, leb}
 use lib.ListN.{length, get_or, length-append, get_or-append}
 use lib.Seq.{get_or-append-add}
-use borrow.Author.Tests.{eqb-true, eq-eqb, ne_eqb, le-leb, lt-leb, leb-true}
+use borrow.Author.Tests.{le-leb, lt-leb, leb-true}
 use Rattle.base.proofs.Bools.{both}
-use Rattle.cursors.specs.Cursors.{Lines, text, line_of, linesAfter, Once, inLine, readTo}
+use Rattle.cursors.specs.Cursors.{Lines, text, line_of, linesAfter, inLine, readTo}
 
 text-more : (e : ℕ × List ℕ) (l : Lines) → length (text (e ∷ l)) ≡ length e.1 + length (text l)
 unfolding text

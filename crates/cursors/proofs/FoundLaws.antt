@@ -1,11 +1,10 @@
 -- What the loops of the search have gone over.
-use mathlib.Core.Path.{◌≡◌, refl, sym}
+use mathlib.Core.Path.{◌≡◌}
 use mathlib.Core.List.{List}
 use Prim.Native.Nat.{ℕ, ◌+◌, ◌*◌, ◌<◌, ◌≤◌}
 use native.Mathlib.Omega.{arith}
 use native.Mathlib.Decide.{ℕ_discrete}
 use lib.ListN.{get_or}
-use Rattle.changes.specs.Links.{Marked, First}
 use Rattle.cursors.specs.Next.{BlockFound, Heads}
 
 -- one more that is passed over

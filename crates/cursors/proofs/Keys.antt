@@ -1,15 +1,14 @@
 -- Lines by key: key q of a block has the line `at q`, if any, of the place `place q`.
 use mathlib.Core.Path.{◌≡◌, refl, sym, ap, ◌∙◌}
 use mathlib.Core.Bool.{Bool, true, false, cond}
-use mathlib.Core.List.{List, [], ◌∷◌, ◌++◌, append_assoc, append-nil}
-use mathlib.Core.Option.{Option, none, some, some-injective, none-ne-some}
+use mathlib.Core.List.{List, [], ◌∷◌, ◌++◌, append_assoc}
+use mathlib.Core.Option.{Option, none, some, none-ne-some}
 use mathlib.Core.Logic.{◌≢◌}
 use Prim.Native.Nat.{ℕ, zero, suc, ◌+◌, ◌-◌, ◌<◌, ◌≤◌}
 use native.Mathlib.Omega.{arith}
-use native.Mathlib.Decide.{dec_lt, ℕ_discrete}
 use lib.Dec.{eqb}
-use borrow.Author.Tests.{eqb-true, eq-eqb, ne_eqb}
-use Rattle.cursors.specs.Cursors.{Lines, line_of, linesAfter, Once}
+use borrow.Author.Tests.{eq-eqb, ne_eqb}
+use Rattle.cursors.specs.Cursors.{Lines, line_of, linesAfter}
 
 -- ---- lists of lines in two parts
 

@@ -1,16 +1,15 @@
 -- The line of each place of a table: that of a held certificate in a block, and none else.
 use mathlib.Core.Path.{◌≡◌, refl, sym, ap, ◌∙◌}
-use mathlib.Core.Bool.{Bool, true, false, cond, false≢true}
+use mathlib.Core.Bool.{Bool, true, false, cond}
 use mathlib.Core.List.{List, [], ◌∷◌, ◌++◌}
-use mathlib.Core.Option.{Option, none, some, some-injective, none-ne-some}
+use mathlib.Core.Option.{none, some, none-ne-some}
 use mathlib.Core.Logic.{◌≢◌}
-use Prim.Native.Nat.{ℕ, zero, suc, ◌+◌, ◌-◌, ◌*◌, ◌/◌, ◌%◌, ◌<◌, ◌≤◌}
+use Prim.Native.Nat.{ℕ, zero, suc, ◌+◌, ◌-◌, ◌*◌, ◌/◌, ◌<◌, ◌≤◌}
 use native.Mathlib.Omega.{arith}
-use native.Mathlib.Decide.{ℕ_discrete, dec_lt}
+use native.Mathlib.Decide.{ℕ_discrete}
 use lib.ListN.{length}
 use lib.Dec.{eqb}
-use borrow.Author.Tests.{eqb-true, eq-eqb}
-use Rattle.terms.specs.Proposals.{Content}
+use borrow.Author.Tests.{eqb-true}
 use Rattle.sheet.specs.declared.Settings.{Settings}
 use Rattle.store.specs.Table.{held_at, markAt, contentAt, certificateAt, blockRound}
 use Rattle.store.proofs.TableLaws.{content-author, content-round}
@@ -18,7 +17,6 @@ use Rattle.committee.specs.Chain.{holdsAt, block_at, chainOf}
 use Rattle.committee.specs.Committees.{ordered, start_of}
 use Rattle.committee.proofs.OrderLaws.{ordered-rows}
 use Rattle.committee.proofs.ChainLaws.{holds-present, block-round, chain-none, chain_more, chain_length}
-use Rattle.lines.specs.Lines.{listingLine}
 use Rattle.cursors.specs.Cursors.{Lines, line_of, linesAfter}
 use Rattle.cursors.specs.Places.{contentPlaces, lines_of, line_at}
 use Rattle.cursors.proofs.Keys.{keyLines, Apart, keys-nowhere, keys-at, line-left, line-right}

@@ -1,9 +1,8 @@
 -- No place of a listing has two lines; and the lines after a place's: those of the later keys of its block, and of the later blocks.
 use mathlib.Core.Path.{◌≡◌, refl, sym, ap, ◌∙◌}
 use mathlib.Core.Bool.{Bool, true, false, false≢true}
-use mathlib.Core.List.{List, [], ◌∷◌, ◌++◌, append_assoc, append-nil}
+use mathlib.Core.List.{List, [], ◌++◌, append_assoc, append-nil}
 use mathlib.Core.Option.{Option, none, some, none-ne-some}
-use mathlib.Core.Logic.{◌≢◌}
 use Prim.Native.Nat.{ℕ, zero, suc, ◌+◌, ◌-◌, ◌*◌, ◌/◌, ◌%◌, ◌<◌, ◌≤◌}
 use native.Mathlib.Omega.{arith}
 use native.Mathlib.Decide.{ℕ_discrete, dec_lt}
@@ -12,10 +11,10 @@ use Rattle.store.specs.Table.{held_at, markAt}
 use Rattle.committee.specs.Chain.{chainOf}
 use Rattle.cursors.specs.Cursors.{Lines, line_of, linesAfter, Once}
 use Rattle.cursors.specs.Places.{lines_of, line_at}
-use Rattle.cursors.proofs.Keys.{keyLines, keys-nowhere, line-left, line-right}
+use Rattle.cursors.proofs.Keys.{keyLines, keys-nowhere, line-right}
 use Rattle.cursors.specs.Next.{keyPlace, key_of}
 use Rattle.cursors.proofs.PlaceLaws.{keyLine}
-use Rattle.cursors.proofs.LineLaws.{key_apart, key-place, blockPlaces, block_listed, block-unlisted, places_of, startAfter, lines_none, lines_more, Listed, unlisted, listed}
+use Rattle.cursors.proofs.LineLaws.{key_apart, key-place, blockPlaces, block_listed, block-unlisted, places_of, startAfter, lines_more, unlisted}
 use Rattle.cursors.proofs.NextLaws.{Single, once, after-left}
 
 -- a certificate of block k at a place, in a table of ceiling n

@@ -1,9 +1,9 @@
 -- The lines of a chain with their places are those of its listing; and in a table, the line of each place.
 use mathlib.Core.Path.{◌≡◌, refl, sym, ap, ◌∙◌}
 use mathlib.Core.Bool.{Bool, true, false, cond}
-use mathlib.Core.List.{List, [], ◌∷◌, ◌++◌, append_assoc, append-nil}
+use mathlib.Core.List.{List, [], ◌∷◌, ◌++◌, append_assoc}
 use mathlib.Core.Option.{Option, none, some, some-injective, none-ne-some}
-use Prim.Native.Nat.{ℕ, zero, suc, ◌+◌, ◌*◌, ◌/◌, ◌%◌, ◌<◌, ◌≤◌}
+use Prim.Native.Nat.{ℕ, zero, suc, ◌+◌, ◌*◌, ◌/◌, ◌%◌, ◌≤◌}
 use native.Mathlib.Omega.{arith}
 use lib.ListN.{length}
 use lib.Dec.{eqb}
@@ -13,13 +13,13 @@ use Rattle.sheet.specs.declared.Settings.{Settings}
 use Rattle.store.specs.Table.{held_at, markAt, contentAt, certificateAt, blockRound}
 use Rattle.store.proofs.TableLaws.{content-author, content-round}
 use Rattle.committee.specs.Changes.{atMostOne, row, rows}
-use Rattle.committee.specs.Chain.{isRound, holdsAt, block_at, chainOf}
-use Rattle.committee.specs.Committees.{ordered, start_of}
-use Rattle.committee.proofs.OrderLaws.{row-none, row_more, rows_none, rows_more, ordered-rows}
+use Rattle.committee.specs.Chain.{holdsAt, block_at}
+use Rattle.committee.specs.Committees.{ordered}
+use Rattle.committee.proofs.OrderLaws.{row-none, row_more, rows_none, rows_more}
 use Rattle.committee.proofs.ChainLaws.{block_inside}
 use Rattle.lines.specs.Lines.{listingLine}
 use Rattle.listing.specs.Listing.{contentLines, chainLines}
-use Rattle.cursors.specs.Cursors.{Lines, text, line_of}
+use Rattle.cursors.specs.Cursors.{Lines, text}
 use Rattle.cursors.specs.Places.{contentPlaces, lines_of}
 use Rattle.cursors.specs.Next.{keyMember, keyPlace}
 use Rattle.cursors.proofs.Keys.{one, keyLines, keys-both}

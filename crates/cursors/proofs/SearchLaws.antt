@@ -1,16 +1,15 @@
 -- What the search for the next line has found is the next line.
 use mathlib.Core.Path.{◌≡◌, refl, sym, ap, ◌∙◌}
-use mathlib.Core.Bool.{Bool, true, false, cond}
+use mathlib.Core.Bool.{Bool, true, false}
 use mathlib.Core.List.{List, [], ◌∷◌, ◌++◌, append_assoc, append-nil}
-use mathlib.Core.Option.{Option, none, some}
+use mathlib.Core.Option.{none, some}
 use Prim.Native.Nat.{ℕ, zero, suc, ◌+◌, ◌-◌, ◌*◌, ◌/◌, ◌%◌, ◌<◌, ◌≤◌}
 use native.Mathlib.Omega.{arith}
 use native.Mathlib.Decide.{dec_lt}
 use native.Mathlib.Numerals.{add-one}
 use lib.ListN.{length, drop}
 use lib.Seq.{drop-append-add}
-use lib.Dec.{eqb}
-use borrow.Author.Tests.{eqb-false, ne_eqb}
+use borrow.Author.Tests.{ne_eqb}
 use Rattle.sheet.specs.declared.Settings.{Settings}
 use Rattle.store.specs.Table.{held_at, markAt, blockRound}
 use Rattle.committee.specs.Chain.{holdsAt, chainOf}
@@ -22,7 +21,7 @@ use Rattle.cursors.specs.Places.{lines_of, line_at}
 use Rattle.cursors.specs.Next.{firstPlace, lines_from, linesBeyond, keyMember, keyPlace, key_of, KeyFound, BlockFound, LinePlace, NextInBlock}
 use Rattle.cursors.proofs.Keys.{keyLines, keys-skip}
 use Rattle.cursors.proofs.PlaceLaws.{lineIn, keyLine}
-use Rattle.cursors.proofs.LineLaws.{key-place, line-present, blockPlaces, places_of, startAfter, lines_none}
+use Rattle.cursors.proofs.LineLaws.{key-place, line-present, places_of, startAfter, lines_none}
 use Rattle.cursors.proofs.OnceLaws.{by_place, InBlock, laterKeys, laterBlocks, chain-later, after-place}
 
 -- ---- keys
