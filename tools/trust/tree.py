@@ -3,7 +3,7 @@
 Nothing here knows a crate by name. A path is read so, X being a crate of crates/:
     Rattle.X.F.A.B.{n}                  crates/X/F/A/B.antt (F: specs, proofs)
     Rattle.X.F.declared.a.T.{T}         the struct or enum T of crates/X/src/a.rt; without a, of any file of crates/X/src
-    Rattle.X.F.declared.T.the-variants  its variants
+    Rattle.X.F.declared.T.TheVariants   its variants
 Every other path is a library's.
 
 Kinds. A record or data declaration is `record` or `data`. Of any other item the final codomain of its type decides:
