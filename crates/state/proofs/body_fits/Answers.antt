@@ -1,6 +1,5 @@
 use mathlib.Core.Path.{refl, sym, ◌∙◌}
 use Rattle.state.specs.WellFormed.{bodyFits}
-use borrow.Author.Rules.{rules}
 use Rattle.state.proofs.body_fits.Goals as goal
 
 pub returns-then-has_bad_transactions : goal.returns-then-has_bad_transactions

@@ -1,7 +1,5 @@
 use mathlib.Core.Path.{refl, sym, ◌∙◌}
-use borrow.Author.Tests.{not-true, not-false}
 use Rattle.state.specs.WellFormed.{headFits}
-use borrow.Author.Rules.{rules}
 use Rattle.state.proofs.head_fits.Goals as goal
 
 pub returns-then-is_out_of_range : goal.returns-then-is_out_of_range

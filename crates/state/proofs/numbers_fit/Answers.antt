@@ -1,7 +1,6 @@
 use mathlib.Core.Path.{refl}
 use borrow.Author.Tests.{lt-ltb, le-ltb, le-leb, lt-leb}
 use Rattle.state.specs.WellFormed.{numbersFit}
-use borrow.Author.Rules.{rules}
 use Rattle.state.proofs.numbers_fit.Goals as goal
 
 pub returns-then-own-ge16 : goal.returns-then-own-ge16

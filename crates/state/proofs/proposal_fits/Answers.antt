@@ -2,7 +2,6 @@ use mathlib.Core.Bool.{true, false}
 use mathlib.Core.Path.{◌≡◌, refl}
 use borrow.Author.Tests.{not-true, not-false}
 use Rattle.state.specs.WellFormed.{proposalFits}
-use borrow.Author.Rules.{rules}
 use Rattle.state.proofs.proposal_fits.Goals as goal
 
 pub returns-then-not-s : goal.returns-then-not-s
