@@ -1,5 +1,6 @@
 // The checks of an accept in a well-formed state, each part the number of the first that refuses, 0 for none, and the committees cached for them (scope document: Calls, in the order of their checks).
 #![tactic(auto)]
+
 ghost use Rattle.std.specs.Prelude.{◌≡◌, true, ◌≤◌, drop};
 ghost use Rattle.base.specs.Checks.{refusal};
 ghost use Rattle.terms.specs.Proposals.{contentOf};

@@ -1,6 +1,7 @@
 // Committees cached by round beside the table, so that a call need not walk over it (scope document: Committees, quorums, leaders).
 // The first word of a cache is the first round that it has; then come sixteen words for each round from there on, up to the ceiling, as far as there is room.
 #![tactic(auto)]
+
 ghost use Rattle.std.specs.Prelude.{◌≡◌, true, ◌+◌, ◌≤◌, length};
 ghost use Rattle.std.proofs.Math.Seq.{paste};
 ghost use Rattle.base.specs.Parts.{part};

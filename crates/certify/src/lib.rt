@@ -1,5 +1,6 @@
 // Certify: the proposal of the present round becomes a certificate, which is held with its endorsers. The proposal stays (scope document: Calls, in the order of their checks).
 #![tactic(auto)]
+
 ghost use Rattle.std.specs.Prelude.{◌≡◌};
 ghost use Rattle.base.specs.Checks.{refusal};
 ghost use Rattle.rules.specs.Calls.{certifying};

@@ -1,5 +1,6 @@
 // What a call answers and leaves, and the checks that several calls share (scope document: Calls, in the order of their checks).
 #![tactic(auto)]
+
 ghost use Rattle.std.specs.Prelude.{◌≡◌, ◌≤◌, not};
 ghost use Rattle.base.specs.Checks.{refusal};
 ghost use Rattle.terms.specs.Proposals.{contentOf};

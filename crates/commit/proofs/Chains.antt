@@ -20,7 +20,6 @@ use Rattle.agreement.proofs.MarkLaws.{marks-committed}
 use Rattle.store.specs.Table.{Row, markAt, blockRound}
 use Rattle.writes.proofs.MarkLaws.{OnlyMarks}
 use Rattle.store.proofs.TableLaws.{held-member}
-use Rattle.histories.specs.History.{inHistory}
 use Rattle.histories.proofs.HistoryLaws.{history-marked}
 use Rattle.histories.specs.Anchors.{takenLeaders}
 use Rattle.histories.proofs.TakenLaws.{taken-left}

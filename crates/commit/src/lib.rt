@@ -1,5 +1,6 @@
 // Commit: the anchor of the round before, and those that its history takes, make blocks, oldest first (scope document: Commit).
 #![tactic(auto)]
+
 ghost use Rattle.std.specs.Prelude.{◌≡◌};
 ghost use Rattle.state.specs.WellFormed.{wellFormed};
 ghost use Rattle.commit.specs.Commit.{refusedWith, Commits};

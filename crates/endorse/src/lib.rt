@@ -1,5 +1,6 @@
 // Endorse: the place of a proposal is marked endorsed. One's own membership is not tested (scope document: Calls, in the order of their checks).
 #![tactic(auto)]
+
 ghost use Rattle.std.specs.Prelude.{◌≡◌, not, ◌||◌, ◌-◌, ◌<◌, drop};
 ghost use Rattle.store.specs.Table.{Within, held_at, endorsedAt};
 ghost use Rattle.base.specs.Sets.{isIn};

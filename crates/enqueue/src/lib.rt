@@ -1,5 +1,6 @@
 // Enqueue: a transaction is added to a guest's queue (change request: Point 6).
 #![tactic(auto)]
+
 ghost use Rattle.std.specs.Prelude.{◌≡◌};
 ghost use Rattle.state.specs.WellFormed.{wellFormed};
 ghost use Rattle.checks.specs.Answers.{WritingCallAnswered};

@@ -1,5 +1,6 @@
 // Open: a fresh state, and the used part of the table cleared (scope document: Calls, in the order of their checks).
 #![tactic(auto)]
+
 ghost use Rattle.std.specs.Prelude.{◌≡◌};
 ghost use Rattle.sheet.specs.Sheets.{filled};
 ghost use Rattle.checks.specs.Answers.{WritingCallAnswered};

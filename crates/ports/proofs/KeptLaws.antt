@@ -1,18 +1,18 @@
 -- Ports stay well formed where their words stay, and the lines of certificates in blocks; and where all their words are 0.
-use mathlib.Core.Path.{◌≡◌, refl, sym, ap, ◌∙◌}
-use mathlib.Core.Bool.{Bool, true, false, cond, ◌&&◌}
+use mathlib.Core.Path.{◌≡◌, refl, sym, ◌∙◌}
+use mathlib.Core.Bool.{true, cond, ◌&&◌}
 use mathlib.Core.List.{List}
-use Prim.Native.Nat.{ℕ, ◌+◌, ◌*◌, ◌/◌, ◌%◌, ◌<◌, ◌≤◌}
+use Prim.Native.Nat.{ℕ, ◌+◌, ◌*◌, ◌/◌, ◌%◌, ◌<◌}
 use native.Mathlib.Omega.{arith}
 use native.Mathlib.Decide.{ℕ_discrete}
 use lib.ListN.{length, get_or}
-use lib.Dec.{eqb, leb, ltb}
+use lib.Dec.{eqb, leb}
 use borrow.Author.Tests.{eq-eqb, ne_eqb, le-leb, lt-ltb}
 use Rattle.base.specs.Folds.{allTo}
 use Rattle.base.proofs.Bools.{both}
 use Rattle.base.proofs.TestLaws.{all-at, all_hold, all_same}
 use Rattle.sheet.specs.declared.Settings.{Settings}
-use Rattle.store.specs.Table.{held_at, markAt}
+use Rattle.store.specs.Table.{markAt}
 use Rattle.cursors.specs.Cursors.{inLine}
 use Rattle.cursors.specs.Places.{line_at}
 use Rattle.cursors.specs.Next.{LinePlace}

@@ -1,5 +1,6 @@
 // Guests' serial ports in the table: when their words are well formed (change request: Point 14).
 #![tactic(auto)]
+
 ghost use Rattle.std.specs.Prelude.{◌≡◌, true, not, ◌+◌, ◌/◌, ◌%◌, ◌<◌, ◌≤◌, leb, get_or};
 ghost use Rattle.base.specs.Folds.{allTo};
 ghost use Rattle.store.specs.Table.{Row};

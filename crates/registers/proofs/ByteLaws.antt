@@ -2,12 +2,11 @@
 use mathlib.Core.Path.{◌≡◌, refl, sym, ap, ◌∙◌}
 use mathlib.Core.Bool.{Bool, true, false, cond, ◌&&◌}
 use mathlib.Core.List.{List, [], ◌∷◌, ◌++◌}
-use mathlib.Core.Option.{none, some}
 use mathlib.Core.Logic.{◌≢◌}
-use Prim.Native.Nat.{ℕ, zero, suc, ◌+◌, ◌*◌, ◌/◌, ◌%◌, ◌<◌, ◌≤◌}
+use Prim.Native.Nat.{ℕ, suc, ◌+◌, ◌/◌, ◌%◌, ◌<◌, ◌≤◌}
 use native.Mathlib.Omega.{arith}
 use lib.ListN.{length, length-append, get_or, get_or-append}
-use lib.Dec.{eqb, leb, ltb}
+use lib.Dec.{eqb, leb}
 use borrow.Author.Tests.{eq-eqb, ne_eqb, leb-true, le-leb}
 use Rattle.base.proofs.Bools.{both}
 use Rattle.sheet.specs.declared.Settings.{Settings}
@@ -20,8 +19,7 @@ use Rattle.cursors.specs.Next.{firstPlace, lines_from, LinePlace}
 use Rattle.cursors.proofs.CursorLaws.{here-fits, same_line, next-line}
 use Rattle.cursors.proofs.PlaceLaws.{text-lines}
 use Rattle.cursors.proofs.OnceLaws.{once-chain}
-use Rattle.cursors.proofs.NextLaws.{line-here, read_first, Follows, follows, line-follows, cursor-back}
-use Rattle.ports.specs.Uart.{Port, waits}
+use Rattle.cursors.proofs.NextLaws.{line-here, read_first, follows, line-follows, cursor-back}
 use Rattle.ports.specs.Ports.{listingOf, placedLines, isListed, cursorFits}
 use Rattle.ports.proofs.FitLaws.{listed-place, line-listed, listed-line}
 

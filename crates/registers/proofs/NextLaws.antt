@@ -1,5 +1,5 @@
 -- What the code finds is the next byte of a port.
-use mathlib.Core.Path.{◌≡◌, refl, sym, ap, ◌∙◌}
+use mathlib.Core.Path.{◌≡◌, sym, ap, ◌∙◌}
 use mathlib.Core.Bool.{true, false, not, ◌&&◌}
 use mathlib.Core.List.{List}
 use mathlib.Core.Logic.{◌≢◌}
@@ -7,19 +7,16 @@ use Prim.Native.Nat.{ℕ, suc, ◌+◌, ◌/◌, ◌%◌, ◌<◌, ◌≤◌}
 use native.Mathlib.Omega.{arith}
 use native.Mathlib.Decide.{ℕ_discrete}
 use lib.ListN.{length, get_or, get_or-eq_default}
-use lib.Dec.{eqb, leb, ltb}
+use lib.Dec.{eqb, ltb}
 use borrow.Author.Tests.{eq-eqb, ne_eqb, eqb-false, lt-ltb, le-ltb, ltb-true, ltb-false, not-true}
-use Rattle.base.specs.Folds.{allTo}
 use Rattle.base.proofs.Bools.{both}
 use Rattle.sheet.specs.declared.Settings.{Settings}
-use Rattle.store.specs.Table.{Row}
 use Rattle.changes.specs.ChainInTable.{ChainInTable}
 use Rattle.cursors.specs.Cursors.{bytesRead}
 use Rattle.cursors.specs.Places.{line_at, HasLine}
 use Rattle.cursors.specs.Next.{firstPlace, lines_from, LinePlace}
 use Rattle.registers.specs.declared.Next.{Next}
-use Rattle.ports.specs.Uart.{limits}
-use Rattle.ports.specs.Ports.{portWord, listingOf, placedLines, portIn, portFits, cursorFits, FormedPort}
+use Rattle.ports.specs.Ports.{portWord, listingOf, placedLines, portIn, cursorFits, FormedPort}
 use Rattle.registers.specs.Bytes.{NextByte}
 use Rattle.ports.proofs.FitLaws.{port-local}
 use Rattle.registers.proofs.ByteLaws.{ByteAt, NextLine, place, byte_inside, next-after, next-first}

@@ -1,14 +1,12 @@
 -- What a read leaves.
-use mathlib.Core.Path.{◌≡◌, refl, sym, ap, ◌∙◌}
+use mathlib.Core.Path.{◌≡◌, refl, sym, ◌∙◌}
 use mathlib.Core.Bool.{Bool, true, false, cond, not, ◌&&◌}
-use mathlib.Core.List.{List, [], ◌∷◌}
-use mathlib.Core.Logic.{◌≢◌}
-use Prim.Native.Nat.{ℕ, zero, suc, ◌+◌, ◌*◌, ◌/◌, ◌%◌, ◌<◌, ◌≤◌}
+use mathlib.Core.List.{List}
+use Prim.Native.Nat.{ℕ, suc, ◌+◌, ◌/◌, ◌%◌, ◌≤◌}
 use native.Mathlib.Omega.{arith}
 use native.Mathlib.Decide.{ℕ_discrete}
-use lib.ListN.{length, get_or, set, length-set}
+use lib.ListN.{length, set}
 use lib.Dec.{eqb, leb}
-use lib.Seq.{paste, get_or-set_same, get_or-set_other}
 use borrow.Author.Tests.{eq-eqb, ne_eqb, eqb-true, eqb-false, leb-true, not-true}
 use Rattle.base.proofs.Bools.{both}
 use Rattle.sheet.specs.declared.Settings.{Settings}
@@ -17,7 +15,7 @@ use Rattle.cursors.specs.Places.{line_at}
 use Rattle.cursors.proofs.NextLaws.{cursor-back}
 use Rattle.cursors.proofs.BackLaws.{cursor-zero}
 use Rattle.registers.specs.declared.Next.{Next}
-use Rattle.ports.specs.Uart.{Port, divisor, waits, takes, afterRead}
+use Rattle.ports.specs.Uart.{Port, takes, afterRead}
 use Rattle.ports.specs.Ports.{portStart, portWord, listingOf, placedLines, portIn, isListed, cursorFits, FormedPort, portWords, putPort}
 use Rattle.registers.specs.Bytes.{NextByte, looksAtNext}
 use Rattle.ports.proofs.FitLaws.{line-listed}

@@ -1,18 +1,17 @@
 -- What a write leaves.
 use mathlib.Core.Path.{◌≡◌, refl, sym, ap, ◌∙◌}
-use mathlib.Core.Bool.{Bool, true, false, cond, not, ◌&&◌}
+use mathlib.Core.Bool.{true, false, cond, not, ◌&&◌}
 use mathlib.Core.List.{List, [], ◌∷◌}
-use Prim.Native.Nat.{ℕ, zero, suc, ◌+◌, ◌%◌, ◌<◌, ◌≤◌}
+use Prim.Native.Nat.{ℕ, ◌+◌, ◌%◌, ◌<◌, ◌≤◌}
 use native.Mathlib.Omega.{arith}
 use native.Mathlib.Decide.{ℕ_discrete}
 use mathlib.Core.Logic.{◌≢◌}
 use borrow.Author.Tests.{lt-ltb, ltb-true}
 use Rattle.base.proofs.Bools.{both}
-use lib.ListN.{length, set, replicate}
+use lib.ListN.{set, replicate}
 use lib.Dec.{eqb, leb, ltb}
 use lib.Seq.{paste}
 use Rattle.sheet.specs.declared.Settings.{Settings}
-use Rattle.cursors.specs.Cursors.{cursorOf}
 use Rattle.ports.specs.Uart.{Port, divisor, afterWrite, resetPort}
 use Rattle.ports.specs.Ports.{portStart, portWord, placedLines, portIn, FormedPort, portWords, putPort}
 use Rattle.registers.proofs.ValueLaws.{six}

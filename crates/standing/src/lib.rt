@@ -1,5 +1,6 @@
 // The reads of a committee and of a share in it. They change nothing (scope document: Reads).
 #![tactic(auto)]
+
 ghost use Rattle.std.specs.Prelude.{◌≡◌, ◌<◌, true};
 ghost use Rattle.state.specs.WellFormed.{wellFormed};
 ghost use Rattle.standing.specs.Answers.{sharedAnswer, sharedValue, ReadAnswered, ValueAnswered};

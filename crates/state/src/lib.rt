@@ -1,5 +1,6 @@
 // A member's state, the view that it shows, and whether it is well formed (scope document: A member's state).
 #![tactic(auto)]
+
 ghost use Rattle.std.specs.Prelude.{◌≡◌, ◌<◌, ◌≤◌};
 ghost use Rattle.state.specs.WellFormed.{numbersFit, headFits, bodyFits, proposalFits, wellFormed};
 
