@@ -1,5 +1,6 @@
 // Accept: a certificate is held with its endorsers, and its endorsed mark cleared (scope document: Calls, in the order of their checks).
 #![tactic(auto)]
+
 ghost use Rattle.std.specs.Prelude.{◌≡◌};
 ghost use Rattle.state.specs.Cached.{Cached};
 ghost use Rattle.checks.specs.Answers.{WritingCallAnswered};

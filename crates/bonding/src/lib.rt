@@ -1,5 +1,6 @@
 // The read of what a bond would do to all sixteen shares. It changes nothing (change request: Point 13).
 #![tactic(auto)]
+
 ghost use Rattle.std.specs.Prelude.{◌≡◌};
 ghost use Rattle.base.specs.Checks.{refusal};
 ghost use Rattle.standing.specs.Answers.{ReadAnswered};

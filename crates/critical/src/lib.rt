@@ -1,5 +1,6 @@
 // The certificates that a commit hangs on: held ones whose absence alone would turn it into a refusal (change request: Point 10).
 #![tactic(auto)]
+
 ghost use Rattle.std.specs.Prelude.{◌≡◌, ◌+◌, ◌≤◌, [], ◌∷◌, length};
 ghost use Rattle.putting.specs.Puts.{Puts};
 ghost use Rattle.critical.specs.Critical.{placeWords, refusalWithout, isCritical, criticalAt, criticalIn, criticalPlaces, earlyChecks};

@@ -1,5 +1,6 @@
 // Draw: a proposal for the present round of what waits in guests' queues is kept (change request: Point 6).
 #![tactic(auto)]
+
 ghost use Rattle.state.specs.Cached.{Cached};
 ghost use Rattle.checks.specs.Answers.{WritingCallAnswered};
 ghost use Rattle.draw.specs.Draw.{drawRefusal, drawOutcome, drawTable};

@@ -1,5 +1,6 @@
 // A preview of commit: the certificates of the blocks that it would add, and nothing changed (change request: Point 8).
 #![tactic(auto)]
+
 ghost use Rattle.std.specs.Prelude.{◌≡◌};
 ghost use Rattle.state.specs.WellFormed.{wellFormed};
 ghost use Rattle.preview.specs.Answers.{ChecksWanted, Checked, Previews};

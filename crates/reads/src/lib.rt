@@ -1,5 +1,6 @@
 // The reads of a certificate and of a block. They change nothing (scope document: Reads).
 #![tactic(auto)]
+
 ghost use Rattle.std.specs.Prelude.{◌≡◌};
 ghost use Rattle.standing.specs.Answers.{ReadAnswered, ValueAnswered};
 ghost use Rattle.reads.specs.Answers.{blockedAnswer, blockedValue};

@@ -1,5 +1,6 @@
 // Accesses to guests' serial ports, and their resets, on a state and its table (change request: Point 14).
 #![tactic(auto)]
+
 ghost use Rattle.std.specs.Prelude.{◌≡◌, not, [], ◌∷◌, ◌++◌};
 ghost use Rattle.base.specs.Checks.{refusal};
 ghost use Rattle.state.specs.WellFormed.{wellFormed};

@@ -1,5 +1,6 @@
 // What a host's words mean: proposals, certificates, sheets and states as words, read and put.
 #![tactic(auto)]
+
 pub mod proposals;
 pub mod sheets;
 pub mod states;

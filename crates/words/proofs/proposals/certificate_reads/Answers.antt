@@ -1,0 +1,18 @@
+use mathlib.Core.Path.{refl}
+use borrow.Author.Tests.{lt-leb, le-leb, lt-ltb, le-ltb}
+use Rattle.bodies.specs.Lengths.{certificateLength}
+use Rattle.words.specs.Proposals.{certificateReads}
+use borrow.Author.Rules.{rules}
+use Rattle.words.proofs.proposals.certificate_reads.Goals as goal
+
+pub returns-then-w-lt-CERTIFICATE : goal.returns-then-w-lt-CERTIFICATE
+unfolding certificateReads
+returns-then-w-lt-CERTIFICATE c = rw (lt-leb certificateLength _ c.if-w-lt-CERTIFICATE.true) refl
+
+pub returns-then-w-ge65536 : goal.returns-then-w-ge65536
+unfolding certificateReads
+returns-then-w-ge65536 c = rw (le-leb certificateLength _ c.if-w-lt-CERTIFICATE.false, le-ltb _ 65536 c.if-w-ge65536.true) refl
+
+pub returns : goal.returns
+unfolding certificateReads
+returns c = rw (le-leb certificateLength _ c.if-w-lt-CERTIFICATE.false, lt-ltb _ 65536 c.if-w-ge65536.false) c.proposal_reads.ensures

@@ -1,0 +1,22 @@
+use Rattle.bodies.specs.Words.{sixteen}
+use Rattle.bodies.proofs.PasteLaws.{length-sixteen, in-sixteen}
+use mathlib.Core.Path.{sym}
+use Prim.Native.Nat.{◌-◌}
+use native.Mathlib.Omega.{arith}
+use Rattle.base.proofs.FillLaws.{Pasting, pasting-none, pasting-more, pasting-all}
+use borrow.Author.Rules.{rules}
+use Rattle.words.proofs.put_weights.Goals as goal
+
+pub loop-i-init : goal.loop-i-init
+loop-i-init c = pasting-none _ _ _ _
+
+pub overflow_cast-w : goal.overflow_cast-w
+overflow_cast-w c = record { fits = c.requires.1 c.loop-i.i (omega arith) }
+
+pub loop-i-preserved : goal.loop-i-preserved
+loop-i-preserved c = let a = c.args in
+    let l = length-sixteen a.x in
+    pasting-more c.loop-i.invariant (omega arith) (omega arith) (omega arith) (sym (in-sixteen a.x c.loop-i.i (omega arith)))
+
+pub returns : goal.returns
+returns c = pasting-all c.loop-i.invariant (omega arith)
