@@ -1,5 +1,6 @@
 // A host's call: words are read, the engine answers, words are written.
 #![tactic(auto)]
+
 ghost use Rattle.std.specs.Prelude.{◌≡◌, ◌+◌, ◌*◌, ◌≤◌, length};
 ghost use Rattle.checks.specs.Answers.{refusalIn, listedRefusal, listedValue};
 ghost use Rattle.commit.specs.Answers.{addedRefusal, addedValue};

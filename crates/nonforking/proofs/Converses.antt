@@ -20,6 +20,7 @@ use Rattle.rules.proofs.Runs as runs
 use Rattle.rules.proofs.Runs.{Group, stateAfter}
 use Rattle.rules.proofs.RuleRuns.{onViews, opened}
 use Rattle.draw.specs.Draw.{drawnBody}
+use Rattle.engine.specs.Calls as calls
 use Rattle.engine.specs.Calls.{Call, propose, endorse, draw}
 use Rattle.engine.specs.Engine.{Engine, refusalFor, after}
 use Rattle.engine.specs.Steps.{viewAt, ruled}
@@ -44,9 +45,28 @@ module _ {S : Settings} {k : ℕ} {e : Engine} (g : Good S k e) where
   propose-back (draw v) p (signatures.proposes x l) =
       let b = drawnBody e.state e.table v in
       subst (λ (i : ℕ). Proposes e (draw v) (contentWith i e.state.round.0 b)) g.own (draws v)
+  propose-back (calls.opens _ _) p x = elim x [ ]
+  propose-back (endorse _) p x = elim x [ ]
+  propose-back (calls.certify _) p x = elim x [ ]
+  propose-back (calls.accept _) p x = elim x [ ]
+  propose-back calls.advance p x = elim x [ ]
+  propose-back calls.commit p x = elim x [ ]
+  propose-back (calls.enqueue _ _) p x = elim x [ ]
+  propose-back (calls.port _) p x = elim x [ ]
+  propose-back (calls.aside _) p x = elim x [ ]
 
   endorse-back : (c : Call) (p : Content) → signatures.Endorses (ruled e c) p → Endorses c p
   endorse-back (endorse q) p (signatures.endorses x) = endorses q
+  endorse-back (calls.opens _ _) p x = elim x [ ]
+  endorse-back (propose _) p x = elim x [ ]
+  endorse-back (calls.certify _) p x = elim x [ ]
+  endorse-back (calls.accept _) p x = elim x [ ]
+  endorse-back calls.advance p x = elim x [ ]
+  endorse-back calls.commit p x = elim x [ ]
+  endorse-back (calls.enqueue _ _) p x = elim x [ ]
+  endorse-back (draw _) p x = elim x [ ]
+  endorse-back (calls.port _) p x = elim x [ ]
+  endorse-back (calls.aside _) p x = elim x [ ]
 
   takes-ruled : (c : Call) → refusalFor e c ≡ 0 → (p : Content) (d : ℕ) → Takes e c p d → signatures.Takes S (viewAt S e) (ruled e c) p d
   takes-ruled c a p d (certifies x) = signatures.certifies p x (proposal-there e x a)
@@ -101,8 +121,8 @@ module _ (X : Members engineBehaviour) (fit : outOfRange X.settings ≡ false) w
   signed_back : (l : List Entry) → AllHanded X l → (p : Content) (d : ℕ) → runs.Signed onTheirViews p d l → Signed X p d l
   signed_back l k p d x =
       record {
-        by-author = λ c. made-back (λ e c. Proposes e c p) _ p.author (λ s z. elim z [ ]) (λ e g c. propose-back g c p) c l k (x.by-author c);
-        by-endorsers = λ i c n. made-back (λ e c. Endorses c p) _ i (λ s z. elim z [ ]) (λ e g c. endorse-back g c p) c l k (x.by-endorsers i c n);
+        by-author = λ c. made-back (λ e c. Proposes e c p) (λ s c. signatures.Proposes settings p.author s c p) p.author (λ s z. elim z [ ]) (λ e g c. propose-back g c p) c l k (x.by-author c);
+        by-endorsers = λ i c n. made-back (λ e c. Endorses c p) (λ s c. signatures.Endorses c p) i (λ s z. elim z [ ]) (λ e g c. endorse-back g c p) c l k (x.by-endorsers i c n);
       }
 
   fair_back : (e : Entry) (l : List Entry) → AllHanded X (e ∷ l) → runs.Fair onTheirViews e l → Fair X e l

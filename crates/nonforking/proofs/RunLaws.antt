@@ -20,6 +20,7 @@ use Rattle.state.specs.View.{ownProposal}
 use Rattle.state.proofs.ViewLaws.{proposal-some}
 use Rattle.certify.proofs.PassedLaws.{certify-passed}
 use Rattle.draw.specs.Draw.{drawnBody}
+use Rattle.engine.specs.Calls as calls
 use Rattle.engine.specs.Calls.{Call, certify, accept}
 use Rattle.engine.specs.Engine.{Engine, refusalFor, after}
 use Rattle.engine.specs.Steps.{viewAt, ruled}
@@ -48,6 +49,15 @@ module _ (S : Settings) (e : Engine) where
   takes_back (certify d) a p x (signatures.certifies q y i) =
       subst (λ (z : Content). Takes e (certify d) z d) (some-injective _ q (sym (proposal-there e d a) ∙ i)) (certifies d)
   takes_back (accept c) a p x (signatures.accepts q y) = accepts c
+  takes_back (calls.opens _ _) a p x y = elim y [ ]
+  takes_back (calls.propose _) a p x y = elim y [ ]
+  takes_back (calls.endorse _) a p x y = elim y [ ]
+  takes_back calls.advance a p x y = elim y [ ]
+  takes_back calls.commit a p x y = elim y [ ]
+  takes_back (calls.enqueue _ _) a p x y = elim y [ ]
+  takes_back (calls.draw _) a p x y = elim y [ ]
+  takes_back (calls.port _) a p x y = elim y [ ]
+  takes_back (calls.aside _) a p x y = elim y [ ]
 
 -- the rules speak of the settings of all, the claim of each member's own
 pub prefix-own : {S : Settings} {i j : ℕ} (e d : Engine) → Good S i e → Good S j d → Lists (ordered S) (chain e) (chain d) → Prefix e d
@@ -72,8 +82,8 @@ module _ (X : Members engineBehaviour) where
   signed-ruled : (l : List Entry) (p : Content) (d : ℕ) → Signed X p d l → runs.Signed (group X) p d l
   signed-ruled l p d x =
       record {
-        by-author = λ c. made-ruled (λ e c. Proposes e c p) _ (λ e c. propose-ruled settings e c p) p.author l (x.by-author c);
-        by-endorsers = λ i c n. made-ruled (λ e c. Endorses c p) _ (λ e c. endorse-ruled settings e c p) i l (x.by-endorsers i c n);
+        by-author = λ c. made-ruled (λ e c. Proposes e c p) (λ s c. signatures.Proposes settings p.author s c p) (λ e c. propose-ruled settings e c p) p.author l (x.by-author c);
+        by-endorsers = λ i c n. made-ruled (λ e c. Endorses c p) (λ s c. signatures.Endorses c p) (λ e c. endorse-ruled settings e c p) i l (x.by-endorsers i c n);
       }
 
   fair-ruled : (e : Entry) (l : List Entry) → Fair X e l → runs.Fair (group X) e l

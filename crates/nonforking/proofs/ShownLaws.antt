@@ -1,6 +1,6 @@
 -- Over every list of calls the certificate read shows what an accepted certify or accept took: the proposal, and the endorsers that it was stored with.
 use mathlib.Core.Path.{refl, sym, ap, ◌∙◌, subst}
-use mathlib.Core.List.{List, ◌∷◌}
+use mathlib.Core.List.{List, [], ◌∷◌}
 use mathlib.Core.Logic.{inl, inr}
 use Prim.Native.Nat.{ℕ, ◌<◌, ◌≤◌}
 use Rattle.terms.specs.Proposals.{Content, contentOf}
@@ -50,6 +50,7 @@ stored-round x (c ∷ l) i p d (inl k) =
     let f = (taken-fits e g c i.0 k.0 p d k.1).0 in
     round-stays g c i.0 (taking-no-open e c p d k.1) p.round (f.from, f.to)
 stored-round x (c ∷ l) i p d (inr k) = round-stays (intact (reached x l i.1)).good c i.0 k.0 p.round (stored-round x l i.1 p d k.1)
+stored-round x [] i p d y = elim y [ ]
 
 -- ---- lists of calls
 

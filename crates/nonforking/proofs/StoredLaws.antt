@@ -159,6 +159,15 @@ module _ (e : Engine) where
         free = k.free;
         same = λ a r. same-endorsed (clear-endorsed (putCertificate table (contentOf p) c.endorsers) p.author.0 p.round.0);
       }
+  put-taken (opens _ _) n q d x = elim x [ ]
+  put-taken (propose _) n q d x = elim x [ ]
+  put-taken (endorse _) n q d x = elim x [ ]
+  put-taken advance n q d x = elim x [ ]
+  put-taken commit n q d x = elim x [ ]
+  put-taken (enqueue _ _) n q d x = elim x [ ]
+  put-taken (draw _) n q d x = elim x [ ]
+  put-taken (port _) n q d x = elim x [ ]
+  put-taken (aside _) n q d x = elim x [ ]
 
   -- what is held stays under any call but an accepted open
   module _ (a r : ℕ) (p : Content) (d : ℕ) (x : Holds table a r p d) where
@@ -179,6 +188,15 @@ module _ (e : Engine) where
     pub taken-fits : (c : Call) → InRange c → refusalFor e c ≡ 0 → (p : Content) (d : ℕ) → Takes e c p d → Storable state.settings.ceiling.0 p × (d < 65536)
     taken-fits (certify i) w n _ _ (certifies _) = let k = certify-passed state table i n in (own-placed state table k.formed k.proposing g.small, w)
     taken-fits (accept c) w n _ _ (accepts _) = let k = accept-passed state table c n in (placed state table c.proposal k.formed k.fits w.0, w.1)
+    taken-fits (opens _ _) w n p d x = elim x [ ]
+    taken-fits (propose _) w n p d x = elim x [ ]
+    taken-fits (endorse _) w n p d x = elim x [ ]
+    taken-fits advance w n p d x = elim x [ ]
+    taken-fits commit w n p d x = elim x [ ]
+    taken-fits (enqueue _ _) w n p d x = elim x [ ]
+    taken-fits (draw _) w n p d x = elim x [ ]
+    taken-fits (port _) w n p d x = elim x [ ]
+    taken-fits (aside _) w n p d x = elim x [ ]
 
     module _ (c : Call) (w : InRange c) (n : refusalFor e c ≡ 0) where
       -- it is held
@@ -211,6 +229,7 @@ pub stored-held : StoredHeld
 unfolding afterCalls
 stored-held x (c ∷ l) i p d (inl k) = taken (afterCalls (afterOpening x) l) (intact (reached x l i.1)).good c i.0 k.0 p d k.1
 stored-held x (c ∷ l) i p d (inr k) = holds_after (afterCalls (afterOpening x) l) p.author p.round p d (stored-held x l i.1 p d k.1) c k.0
+stored-held x [] i p d y = elim y [ ]
 
 -- after an accepted open nothing is
 nothing-held : (e : Engine) (own : Member) (sheet : Sheet) → refusalFor e (opens own sheet) ≡ 0 → (a r : ℕ) → r ≤ (after e (opens own sheet)).state.settings.ceiling.0 → held_at (after e (opens own sheet)).table a r ≡ true → ⊥

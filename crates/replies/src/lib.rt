@@ -1,5 +1,6 @@
 // The reply to a call: the state that it leaves, what is cached beside it, and the line that answers it (scope document: The runner).
 #![tactic(auto)]
+
 pub mod answer;
 pub mod cached;
 
