@@ -1,5 +1,6 @@
 // A guest's call over words: its caller's right, read from the state's words before anything else is looked at (change request: Point 11).
 #![tactic(auto)]
+
 ghost use Rattle.std.specs.Prelude.{◌≡◌, ◌*◌};
 ghost use Rattle.rights.specs.Rights.{callerRefusal};
 ghost use Rattle.guesting.specs.Guested.{rightsIn};
