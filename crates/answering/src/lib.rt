@@ -1,5 +1,6 @@
 // Records served: the call that a record asks for, and the lines that answer it (scope document: The runner).
 #![tactic(auto)]
+
 pub mod next;
 
 ghost use Rattle.std.specs.Prelude.{◌+◌, ◌*◌, ◌≤◌, length};

@@ -1,5 +1,6 @@
 // The bytes at hand served: step after step, as long as they hold a whole record and there is room for its answer (scope document: The runner).
 #![tactic(auto)]
+
 pub mod lengths;
 
 ghost use Rattle.std.specs.Prelude.{◌≡◌, false, ◌+◌, ◌*◌, ◌≤◌, length, drop};

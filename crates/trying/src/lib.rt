@@ -1,5 +1,6 @@
 // The turns of a batch over a lent row of certificate records (change request: Point 4).
 #![tactic(auto)]
+
 ghost use Rattle.std.specs.Prelude.{◌<◌, length, get_or};
 ghost use Rattle.rows.specs.Rows.{noRecord};
 ghost use Rattle.offering.specs.TakenTurns.{Ready, Taken};

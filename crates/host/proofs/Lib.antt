@@ -1,2 +1,0 @@
-pub mod BatchTurns
-pub mod Lent
