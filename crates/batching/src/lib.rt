@@ -1,5 +1,6 @@
 // A batch from its checks to its answers, around the turns over the row (change request: Point 4).
 #![tactic(auto)]
+
 ghost use Rattle.std.specs.Prelude.{◌≡◌, cond, ◌+◌, ◌≤◌, eqb, length};
 ghost use Rattle.std.proofs.Math.Seq.{paste};
 ghost use Rattle.cache.specs.Caches.{firstRound};
