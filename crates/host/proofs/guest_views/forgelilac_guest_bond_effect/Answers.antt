@@ -1,0 +1,10 @@
+use mathlib.Core.Path.{refl}
+use Rattle.guesting.proofs.GuestedLaws.{done-barred, done-allowed}
+use borrow.Author.Rules.{rules}
+use Rattle.host.proofs.guest_views.forgelilac_guest_bond_effect.Goals as goal
+
+pub returns-then-n-ne0 : goal.returns-then-n-ne0
+returns-then-n-ne0 c = done-barred _ _ _ _ _ _ c.refusal-n.ensures c.if-n-ne0.true refl
+
+pub returns : goal.returns
+returns c = done-allowed _ _ _ _ _ _ c.refusal-n.ensures c.if-n-ne0.false c.forgelilac_bond_effect.ensures

@@ -1,0 +1,9 @@
+use Rattle.guesting.proofs.GuestedLaws.{done-barred-packed, done-allowed}
+use borrow.Author.Rules.{rules}
+use Rattle.host.proofs.guest_views.forgelilac_guest_share.Goals as goal
+
+pub returns-then-n-ne0 : goal.returns-then-n-ne0
+returns-then-n-ne0 c = done-barred-packed _ _ _ _ _ _ c.refusal-n.ensures c.if-n-ne0.true c.packed.ensures
+
+pub returns : goal.returns
+returns c = done-allowed _ _ _ _ _ _ c.refusal-n.ensures c.if-n-ne0.false c.forgelilac_share.ensures
