@@ -1,5 +1,6 @@
 // The engine for a host: every call and read, its own and its guests', over words that it lends.
 #![tactic(auto)]
+
 mod batches;
 mod calls;
 mod criticals;
