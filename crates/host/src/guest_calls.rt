@@ -39,7 +39,7 @@ pub extern "C" fn forgelilac_guest_draw(
     if n != 0 {
         return n;
     }
-    crate::queues::forgelilac_draw(state, table, previous)
+    crate::queue_calls::forgelilac_draw(state, table, previous)
 }
 
 // Enqueue, to the caller's own queue: needs the right to propose.
@@ -56,7 +56,7 @@ pub extern "C" fn forgelilac_guest_enqueue(
     if n != 0 {
         return n;
     }
-    crate::queues::forgelilac_enqueue(state, table, caller, transaction)
+    crate::queue_calls::forgelilac_enqueue(state, table, caller, transaction)
 }
 
 // Endorse: needs the right to sign.

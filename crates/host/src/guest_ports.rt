@@ -21,7 +21,7 @@ pub extern "C" fn forgelilac_guest_port_read(
     if n != 0 {
         return guesting::packed(n);
     }
-    crate::ports::port_read(state, table, caller, offset)
+    crate::port_calls::port_read(state, table, caller, offset)
 }
 
 // A write to it.
@@ -39,5 +39,5 @@ pub extern "C" fn forgelilac_guest_port_write(
     if n != 0 {
         return n;
     }
-    crate::ports::port_write(state, table, caller, offset, value)
+    crate::port_calls::port_write(state, table, caller, offset, value)
 }

@@ -7,7 +7,6 @@ use Rattle.words.specs.States.{stateReads}
 use Rattle.words.proofs.ReadingLaws.{state-read, certificate-read}
 use mathlib.Core.Path.{ap}
 use mathlib.Core.Bool.{not}
-use borrow.Author.Rules.{rules}
 use Rattle.host.proofs.calls.forgelilac_accept.Goals as goal
 
 pub returns-then-not-state_reads : goal.returns-then-not-state_reads

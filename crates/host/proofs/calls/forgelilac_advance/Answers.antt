@@ -9,7 +9,6 @@ use Rattle.hosting.proofs.AnswerLaws.{writable}
 use Rattle.words.proofs.ReadingLaws.{state-read, set-read}
 use mathlib.Core.Path.{ap}
 use mathlib.Core.Bool.{not}
-use borrow.Author.Rules.{rules}
 use Rattle.host.proofs.calls.forgelilac_advance.Goals as goal
 
 pub returns-then-not-state_reads : goal.returns-then-not-state_reads

@@ -12,7 +12,6 @@ use Rattle.hosting.proofs.AnswerLaws.{writable}
 use Rattle.words.proofs.ReadingLaws.{sheet-read}
 use mathlib.Core.Path.{ap}
 use mathlib.Core.Bool.{not}
-use borrow.Author.Rules.{rules}
 use Rattle.host.proofs.calls.forgelilac_open.Goals as goal
 
 pub returns-then-state-lt-STATE : goal.returns-then-state-lt-STATE

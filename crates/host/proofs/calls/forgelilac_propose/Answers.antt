@@ -11,7 +11,6 @@ use Rattle.hosting.proofs.HandedLaws.{propose-handed}
 use Rattle.words.proofs.ReadingLaws.{state-read, lone-body-read, set-read}
 use mathlib.Core.Path.{ap}
 use mathlib.Core.Bool.{not}
-use borrow.Author.Rules.{rules}
 use Rattle.host.proofs.calls.forgelilac_propose.Goals as goal
 
 pub returns-then-not-state_reads : goal.returns-then-not-state_reads

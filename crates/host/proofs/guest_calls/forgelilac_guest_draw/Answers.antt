@@ -1,6 +1,5 @@
 use mathlib.Core.Path.{refl}
 use Rattle.guesting.proofs.GuestedLaws.{done-barred, done-allowed}
-use borrow.Author.Rules.{rules}
 use Rattle.host.proofs.guest_calls.forgelilac_guest_draw.Goals as goal
 
 pub returns-then-n-ne0 : goal.returns-then-n-ne0

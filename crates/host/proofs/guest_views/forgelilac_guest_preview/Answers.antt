@@ -1,5 +1,4 @@
 use Rattle.guesting.proofs.GuestedLaws.{done-barred-packed, done-allowed}
-use borrow.Author.Rules.{rules}
 use Rattle.host.proofs.guest_views.forgelilac_guest_preview.Goals as goal
 
 pub returns-then-n-ne0 : goal.returns-then-n-ne0

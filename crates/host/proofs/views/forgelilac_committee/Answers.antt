@@ -9,7 +9,6 @@ use Rattle.words.proofs.ReadingLaws.{state-read}
 use Rattle.hosting.proofs.AnswerLaws.{committee-shown}
 use mathlib.Core.Path.{ap}
 use mathlib.Core.Bool.{not}
-use borrow.Author.Rules.{rules}
 use Rattle.host.proofs.views.forgelilac_committee.Goals as goal
 
 pub returns-then-not-state_reads : goal.returns-then-not-state_reads

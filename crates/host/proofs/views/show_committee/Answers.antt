@@ -1,6 +1,5 @@
 use mathlib.Core.Path.{refl}
 use native.Mathlib.Omega.{arith}
-use borrow.Author.Rules.{rules}
 use Rattle.host.proofs.views.show_committee.Goals as goal
 
 pub put_weights-requires : goal.put_weights-requires

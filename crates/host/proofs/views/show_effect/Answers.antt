@@ -1,5 +1,4 @@
 use mathlib.Core.Path.{refl}
-use borrow.Author.Rules.{rules}
 use Rattle.host.proofs.views.show_effect.Goals as goal
 
 pub returns-in-Accepted : goal.returns-in-Accepted

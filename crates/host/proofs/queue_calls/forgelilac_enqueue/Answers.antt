@@ -7,8 +7,7 @@ use Rattle.words.specs.States.{stateReads}
 use Rattle.words.proofs.ReadingLaws.{state-read, lone-triple-read}
 use mathlib.Core.Path.{ap}
 use mathlib.Core.Bool.{not}
-use borrow.Author.Rules.{rules}
-use Rattle.host.proofs.queues.forgelilac_enqueue.Goals as goal
+use Rattle.host.proofs.queue_calls.forgelilac_enqueue.Goals as goal
 
 pub returns-then-not-state_reads : goal.returns-then-not-state_reads
 returns-then-not-state_reads c = done-unserved _ _ _ _ _ (left-unread _ (not-read c.state_reads.ensures (ap not c.if-not-state_reads.true))) refl
