@@ -2,14 +2,14 @@
 use Rattle.std.specs.Prelude.{List, ℕ}
 use Rattle.rules.specs.Calls as rules
 use Rattle.state.specs.declared.State.{State}
-use Rattle.state.specs.States.{advanced, noBody}
-use Rattle.state.specs.Refusals.{refusalOf}
-use Rattle.checks.specs.declared.Outcome.{Outcome}
-use Rattle.checks.specs.Answers.{outcomeOf}
+use Rattle.state.specs.States.{advanced, no_body}
+use Rattle.state.specs.Refusals.{refusal_of}
+use Rattle.state.specs.declared.checks.Outcome.{Outcome}
+use Rattle.state.specs.Answers.{outcome_of}
 
 module _ (s : State) (t : List ℕ) where
-  unfoldable pub advanceRefusal : ℕ
-  advanceRefusal = refusalOf s t rules.advance
+  unfoldable pub advance_refusal : ℕ
+  advance_refusal = refusal_of s t rules.advance
 
-  unfoldable pub advanceOutcome : Outcome
-  advanceOutcome = outcomeOf advanceRefusal (advanced s noBody) s
+  unfoldable pub advance_outcome : Outcome
+  advance_outcome = outcome_of advance_refusal (advanced s no_body) s

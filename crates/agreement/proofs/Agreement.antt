@@ -11,12 +11,12 @@ use Rattle.agreement.specs.Rules.{Block, Chain, Rules}
 use Rattle.agreement.specs.Laws.{Lawful}
 use Rattle.agreement.specs.View.{View, Knows, World, Log}
 use Rattle.agreement.specs.Links.{Linked, LastElected}
-use Rattle.agreement.specs.Prefixes.{◌≼◌, same, blockNumbered}
+use Rattle.agreement.specs.Prefixes.{◌≼◌, same, block_numbered}
 use Rattle.agreement.proofs.PrefixLaws.{≼_trans, block-stays}
 use Rattle.agreement.specs.Invariants.{Invariant, FaultTolerant, Agree, Sound}
 use Rattle.agreement.specs.Moves.{Move, other-call}
 use Rattle.agreement.specs.Runs.{Initial, Start, Next, Run, begin, step}
-use Rattle.agreement.proofs.NonEquivocation.{committee-agreement}
+use Rattle.agreement.proofs.NonEquivocation.{committee_agreement}
 use Rattle.agreement.proofs.NonForking.{comparable}
 use Rattle.agreement.proofs.Growth.{move-grows}
 use Rattle.agreement.proofs.Signatures.{signed-stays}
@@ -72,15 +72,15 @@ module _ {R : Rules} (correct : ℕ → Bool) where
               comparable S ci cj (v i).chain (v j).chain x.0 x.1 y.0 y.1;
         }
 
-  initial-invariant : {G : Log R} {k : ℕ} (s : View R) → Initial s → Invariant correct G k s []
-  initial-invariant s x =
+  initial_invariant : {G : Log R} {k : ℕ} (s : View R) → Initial s → Invariant correct G k s []
+  initial_invariant s x =
       record {
         signing = record {
           nonequivocation = λ p q h. absurd (Memᴰ.not-nil h);
           signable = λ p h. absurd (Memᴰ.not-nil h);
           own = λ p h. absurd (Memᴰ.not-nil h);
           other = λ p h. absurd (Memᴰ.not-nil h);
-          proposed = λ p h. absurd (none-ne-some p (sym x.no-proposal ∙ h));
+          proposed = λ p h. absurd (none-ne-some p (sym x.without_proposal ∙ h));
         };
         storing = record {
           place = λ {a} {r} {p} h. absurd (nothing-held a r p h);
@@ -94,14 +94,14 @@ module _ {R : Rules} (correct : ℕ → Bool) where
       }
     where
       nothing-held : (a r : ℕ) (p : P) → s.dag a r ≡ some p → ⊥
-      nothing-held a r p h = none-ne-some p (sym (x.no-certificate a r) ∙ h)
+      nothing-held a r p h = none-ne-some p (sym (x.no_certificate a r) ∙ h)
 
   pub sound-start : {w : World R} → Lawful R → Start correct w → Sound correct w (unsigned R)
   sound-start {w} Y x =
       record {
         laws = Y;
-        members = λ j c. initial-invariant (w j) (x j c);
-        tolerant = λ j p c h k. absurd (none-ne-some p (sym ((x j c).no-certificate (R.author p) (R.round p)) ∙ h));
+        members = λ j c. initial_invariant (w j) (x j c);
+        tolerant = λ j p c h k. absurd (none-ne-some p (sym ((x j c).no_certificate (R.author p) (R.round p)) ∙ h));
         agree = λ i j ci cj. inl (subst (λ (c : Chain P). (w i).chain ≼ c) ((x i ci).no_block ∙ sym (x j cj).no_block) same);
       }
 
@@ -111,20 +111,20 @@ module _ {R : Rules} (correct : ℕ → Bool) where
   sound S (step r n b) = sound-next (sound S r) n b
 
   -- a chain only ever grows
-  pub chains-grow : {w : World R} {G : Log R} {v : World R} {H : Log R} → Run correct w G v H → (i : ℕ) → (w i).chain ≼ (v i).chain
-  chains-grow begin i = same
-  chains-grow (step r n b) i = ≼_trans (chains-grow r i) (move-grows (each n i)).chain
+  pub chains_grow : {w : World R} {G : Log R} {v : World R} {H : Log R} → Run correct w G v H → (i : ℕ) → (w i).chain ≼ (v i).chain
+  chains_grow begin i = same
+  chains_grow (step r n b) i = ≼_trans (chains_grow r i) (move-grows (each n i)).chain
 
   -- so a block once made stays, with its number, its round and its certificates
-  pub blocks-stay : {w v : World R} {G H : Log R} → Run correct w G v H → (i n : ℕ) {b : Block P} → blockNumbered (w i).chain n ≡ some b → blockNumbered (v i).chain n ≡ some b
-  blocks-stay r i n = block-stays (chains-grow r i) n
+  pub blocks_stay : {w v : World R} {G H : Log R} → Run correct w G v H → (i n : ℕ) {b : Block P} → block_numbered (w i).chain n ≡ some b → block_numbered (v i).chain n ≡ some b
+  blocks_stay r i n = block-stays (chains_grow r i) n
 
   module _ {start w : World R} {G : Log R} (Y : Lawful R) (x : Start correct start) (r : Run correct start (unsigned R) w G) where
     -- the chains of correct members never fork
-    pub never-fork : Agree correct w
-    never-fork = (sound (sound-start Y x) r).agree
+    pub never_fork : Agree correct w
+    never_fork = (sound (sound-start Y x) r).agree
 
     -- correct members who know a round know the same committee
     pub committees-agree : (i j n : ℕ) → correct i ≡ true → correct j ≡ true → Knows (w i) n → Knows (w j) n
         → committee (w i).chain n ≡ committee (w j).chain n
-    committees-agree i j n ci cj k l = committee-agreement (sound (sound-start Y x) r) ci cj k l
+    committees-agree i j n ci cj k l = committee_agreement (sound (sound-start Y x) r) ci cj k l

@@ -13,7 +13,7 @@ use Rattle.agreement.specs.Invariants.{PreviousQuorum, Storing, Sound}
 use Rattle.agreement.proofs.WeightLaws.{everyone, Common}
 use Rattle.agreement.proofs.QuorumIntersection.{voters-meet}
 use Rattle.agreement.proofs.DagLaws.{vote-by, at_place}
-use Rattle.agreement.proofs.NonEquivocation.{committee-agreement, dag-nonequivocation, Signer, signer}
+use Rattle.agreement.proofs.NonEquivocation.{committee_agreement, dag-nonequivocation, Signer, signer}
 
 module _ {R : Rules} {correct : ℕ → Bool} {w : World R} {G : Log R} (S : Sound correct w G) where
   open R use {size, P, author, round, names, committee}
@@ -40,8 +40,8 @@ module _ {R : Rules} {correct : ℕ → Bool} {w : World R} {G : Log R} (S : Sou
     settle h y = y.1 ∙ ap some (sym (dag-nonequivocation S ci cj h y.1))
 
     -- two rounds above: the previous quorum meets the voters
-    path-two : {p : P} → Held (w j) p → round p ≡ suc (suc (round c)) → Reach (w j) p c
-    path-two {p} h e = back (suc (round c)) m.who e m.first hq (back (round c) (author c) (sj.place hq).1 x.2 hc' here)
+    path_two : {p : P} → Held (w j) p → round p ≡ suc (suc (round c)) → Reach (w j) p c
+    path_two {p} h e = back (suc (round c)) m.who e m.first hq (back (round c) (author c) (sj.place hq).1 x.2 hc' here)
       where
         sj : Storing correct G (w j)
         sj = (S.members j cj).storing
@@ -53,7 +53,7 @@ module _ {R : Rules} {correct : ℕ → Bool} {w : World R} {G : Log R} (S : Sou
         level = omega (arith, u.previous.follows)
 
         alike : committee (w u.who).chain u.previous.before ≡ committee (w i).chain (suc (round c))
-        alike = ap (committee (w u.who).chain) level ∙ committee-agreement S u.good ci (rw level at u.previous.aware) vc.aware
+        alike = ap (committee (w u.who).chain) level ∙ committee_agreement S u.good ci (rw level at u.previous.aware) vc.aware
 
         m : Common size (names p) (votes (w i) c) everyone
         m = voters-meet R (rw alike at u.previous.quorum) vc.more
@@ -67,16 +67,16 @@ module _ {R : Rules} {correct : ℕ → Bool} {w : World R} {G : Log R} (S : Sou
         hc' : (w j).dag (author c) (round c) ≡ some c
         hc' = settle hc (sj.closed hq (round c) (author c) (sj.place hq).1 x.2)
 
-    path-up : (n : ℕ) {p : P} → Held (w j) p → round p ≡ n + suc (suc (round c)) → Reach (w j) p c
-    path-up zero h e = path-two h (omega arith)
-    path-up (suc n) {p} h e =
+    path_up : (n : ℕ) {p : P} → Held (w j) p → round p ≡ n + suc (suc (round c)) → Reach (w j) p c
+    path_up zero h e = path_two h (omega arith)
+    path_up (suc n) {p} h e =
         let sj = (S.members j cj).storing in
         let v : DagPrevious p = dag-previous-quorum cj h (omega arith) in
         let u = v.previous in
         let y = sj.closed h u.before u.someone u.follows u.named in
         back u.before u.someone u.follows u.named y.1
-        (path-up n (at_place sj y.1) (omega (arith, u.follows, (sj.place y.1).1)))
+        (path_up n (at_place sj y.1) (omega (arith, u.follows, (sj.place y.1).1)))
 
     -- whatever j holds two or more rounds above c has c in its history
-    pub anchor-path : {p : P} → Held (w j) p → round c + 2 ≤ round p → Reach (w j) p c
-    anchor-path {p} h l = path-up (round p - (round c + 2)) h (omega arith)
+    pub anchor_path : {p : P} → Held (w j) p → round c + 2 ≤ round p → Reach (w j) p c
+    anchor_path {p} h l = path_up (round p - (round c + 2)) h (omega arith)

@@ -14,55 +14,55 @@ use Rattle.agreement.specs.Quorum.{Outweighs}
 use Rattle.agreement.specs.Anchors.{Anchor, votes}
 use Rattle.agreement.specs.Links.{Linked}
 use Rattle.agreement.specs.Invariants.{Invariant}
-use Rattle.agreement.specs.Moves.{afterCommit, Extension, first_block, next-block, Move, commit}
+use Rattle.agreement.specs.Moves.{after_commit, Extension, first_block, next-block, Move, commit}
 use Rattle.agreement.proofs.DagLaws.{on-place, all_placed}
-use Rattle.agreement.specs.Histories.{inHistory}
-use Rattle.agreement.proofs.HistoryLaws.{history-reach, reach-history}
-use Rattle.agreement.specs.Commits.{byLeader, anchorAt, block_of, blocksOf, choose, taken, committed}
+use Rattle.agreement.specs.Histories.{in_history}
+use Rattle.agreement.proofs.HistoryLaws.{history_reach, reach_history}
+use Rattle.agreement.specs.Commits.{by_leader, anchor_at, block_of, blocks_of, choose, taken, committed}
 use Rattle.agreement.proofs.BlockLaws.{FromDag, block-from-dag, linked-from-dag, link-made}
 
 module _ {R : Rules} (s : View R) where
   open R use {P, committee, leader}
 
   -- the computed anchor is the anchor
-  pub anchor-at : {r : ℕ} {q : P} → Knows s r → anchorAt s r ≡ some q → Anchor s r q
-  unfolding anchorAt
+  pub anchor-at : {r : ℕ} {q : P} → Knows s r → anchor_at s r ≡ some q → Anchor s r q
+  unfolding anchor_at
   anchor-at {r} {q} k h = go (leader (committee s.chain r) r) refl h
     where
-      go : (o : Option ℕ) → leader (committee s.chain r) r ≡ o → byLeader s r o ≡ some q → Anchor s r q
+      go : (o : Option ℕ) → leader (committee s.chain r) r ≡ o → by_leader s r o ≡ some q → Anchor s r q
       go none e l = absurd (none-ne-some q l)
       go (some a) e l = record { aware = k; lead = a; leads = e; held = l }
 
-  at-anchor : {r : ℕ} {q : P} → Anchor s r q → anchorAt s r ≡ some q
-  unfolding anchorAt
+  at-anchor : {r : ℕ} {q : P} → Anchor s r q → anchor_at s r ≡ some q
+  unfolding anchor_at
   at-anchor x = rw x.leads x.held
 
 module _ {R : Rules} {s : View R} (X : Placed s) where
   open R use {P, round, committee, leader}
 
   -- the computed anchor is a certificate of its leader and round
-  anchor-by : (r : ℕ) {q : P} → anchorAt s r ≡ some q → (a : ℕ) × (s.dag a r ≡ some q)
-  unfolding anchorAt
+  anchor-by : (r : ℕ) {q : P} → anchor_at s r ≡ some q → (a : ℕ) × (s.dag a r ≡ some q)
+  unfolding anchor_at
   anchor-by r {q} h = go (leader (committee s.chain r) r) h
     where
-      go : (o : Option ℕ) → byLeader s r o ≡ some q → (a : ℕ) × (s.dag a r ≡ some q)
+      go : (o : Option ℕ) → by_leader s r o ≡ some q → (a : ℕ) × (s.dag a r ≡ some q)
       go none e = absurd (none-ne-some q e)
       go (some a) e = (a, e)
 
-  pub anchor-held : (r : ℕ) {q : P} → anchorAt s r ≡ some q → Held s q
+  pub anchor-held : (r : ℕ) {q : P} → anchor_at s r ≡ some q → Held s q
   anchor-held r h = on-place X (anchor-by r h).1
 
-  pub anchor-round : (r : ℕ) {q : P} → anchorAt s r ≡ some q → round q ≡ r
+  pub anchor-round : (r : ℕ) {q : P} → anchor_at s r ≡ some q → round q ≡ r
   anchor-round r h = (X.place (anchor-by r h).1).1
 
 module _ {R : Rules} (Y : Lawful R) {s : View R} (X : Placed s) (L : Linked s s.chain) where
   open R use {P, author, round, committee}
   open Y use {known-down, apart, late}
 
-  blocks-from-dag : (l : List P) → FromDag s (blocksOf s l)
-  unfolding blocksOf
+  blocks-from-dag : (l : List P) → FromDag s (blocks_of s l)
+  unfolding blocks_of
   blocks-from-dag [] = linked-from-dag X s.chain L
-  blocks-from-dag (x ∷ l) = (block-from-dag s x (blocksOf s l), blocks-from-dag l)
+  blocks-from-dag (x ∷ l) = (block-from-dag s x (blocks_of s l), blocks-from-dag l)
 
   -- no anchor of a round between m and that of x is in the history of x
   abbrev Gap : ℕ → P → Type 0
@@ -83,67 +83,67 @@ module _ {R : Rules} (Y : Lawful R) {s : View R} (X : Placed s) (L : Linked s s.
   -- the walk from x, when n rounds above the last block are left
   abbrev Extends : ℕ → Type 0
   Extends n =
-      (x : P) → Anchor s (round x) x → last s.chain + n < round x → Gap (last s.chain + n) x → Extension s (blocksOf s (x ∷ taken s n x))
+      (x : P) → Anchor s (round x) x → last s.chain + n < round x → Gap (last s.chain + n) x → Extension s (blocks_of s (x ∷ taken s n x))
 
   module _ (n : ℕ) (f : Extends n) (x : P) (a : Anchor s (round x) x) (h : last s.chain + suc n < round x) (g : Gap (last s.chain + suc n) x) where
     -- the anchor of the next round is not taken
-    skip : ((q : P) → Anchor s (last s.chain + suc n) q → ¬ Reach s x q) → Extension s (blocksOf s (x ∷ taken s n x))
+    skip : ((q : P) → Anchor s (last s.chain + suc n) q → ¬ Reach s x q) → Extension s (blocks_of s (x ∷ taken s n x))
     skip k = f x a (omega arith) (gap_down (omega arith) k g)
 
     -- the anchor of the next round is taken
-    take : {q : P} → Anchor s (last s.chain + suc n) q → Reach s x q → Extension s (blocksOf s (x ∷ q ∷ taken s n q))
-    unfolding blocksOf block_of
+    take : {q : P} → Anchor s (last s.chain + suc n) q → Reach s x q → Extension s (blocks_of s (x ∷ q ∷ taken s n q))
+    unfolding blocks_of block_of
     take {q} b l =
         let e : round q ≡ last s.chain + suc n = (X.place b.held).1 in
         let two = apart (committee s.chain (last s.chain + suc n)) (committee s.chain (round x)) h b.leads a.leads in
-        let c = blocksOf s (q ∷ taken s n q) in
+        let c = blocks_of s (q ∷ taken s n q) in
         next-block (link-made X x c (blocks-from-dag (q ∷ taken s n q)) (on-place X a.held) a (omega arith) (λ r p i j. g r p (omega arith) j))
         (q, subst (λ (z : ℕ). Anchor s z q) (sym e) b, l)
         (f q (subst (λ (z : ℕ). Anchor s z q) (sym e) b) (omega arith) (λ r p i j. absurd (omega arith)))
 
-    extension-next : Extension s (blocksOf s (x ∷ taken s (suc n) x))
+    extension_next : Extension s (blocks_of s (x ∷ taken s (suc n) x))
     unfolding taken
-    extension-next = go (anchorAt s (last s.chain + suc n)) refl
+    extension_next = go (anchor_at s (last s.chain + suc n)) refl
       where
         aware : Knows s (last s.chain + suc n)
         aware = known-down s.chain (last s.chain + suc n) (round x) (omega arith) a.aware
 
-        test : (q : P) → Anchor s (last s.chain + suc n) q → (i : Bool) → inHistory s x (round q) (author q) ≡ i
-            → Extension s (blocksOf s (x ∷ cond i (q ∷ taken s n q) (taken s n x)))
+        test : (q : P) → Anchor s (last s.chain + suc n) q → (i : Bool) → in_history s x (round q) (author q) ≡ i
+            → Extension s (blocks_of s (x ∷ cond i (q ∷ taken s n q) (taken s n x)))
         test q b true e =
-            let p = history-reach X (on-place X a.held) (round q) (author q) e in
+            let p = history_reach X (on-place X a.held) (round q) (author q) e in
             take b (subst (λ (z : P). Reach s x z) (some-injective p.0 q (sym p.1 ∙ on-place X b.held)) p.2)
         test q b false e =
             skip λ p c l.
             let same-anchor : p ≡ q = some-injective p q (sym (at-anchor s c) ∙ at-anchor s b) in
-            let i : inHistory s x (round q) (author q) ≡ true = subst (λ (z : P). inHistory s x (round z) (author z) ≡ true) same-anchor (reach-history X (on-place X a.held) l) in
+            let i : in_history s x (round q) (author q) ≡ true = subst (λ (z : P). in_history s x (round z) (author z) ≡ true) same-anchor (reach_history X (on-place X a.held) l) in
             true≢false (sym i ∙ e)
 
-        go : (o : Option P) → anchorAt s (last s.chain + suc n) ≡ o → Extension s (blocksOf s (x ∷ choose s x (λ y. taken s n y) o))
+        go : (o : Option P) → anchor_at s (last s.chain + suc n) ≡ o → Extension s (blocks_of s (x ∷ choose s x (λ y. taken s n y) o))
         go none e = skip λ p c l. none-ne-some p (sym e ∙ at-anchor s c)
-        go (some q) e = test q (anchor-at s aware e) (inHistory s x (round q) (author q)) refl
+        go (some q) e = test q (anchor-at s aware e) (in_history s x (round q) (author q)) refl
 
-  extension-made : (n : ℕ) → Extends n
-  unfolding blocksOf taken
-  extension-made zero x a h g =
+  extension_made : (n : ℕ) → Extends n
+  unfolding blocks_of taken
+  extension_made zero x a h g =
       first_block (link-made X x s.chain (linked-from-dag X s.chain L) (on-place X a.held) a (above s.chain L a (omega arith)) (λ r q k m. g r q (omega arith) m))
-  extension-made (suc n) x a h g = extension-next n (extension-made n) x a h g
+  extension_made (suc n) x a h g = extension_next n (extension_made n) x a h g
 
   -- the computed chain is a chain that a commit may make
-  pub committed-extension : (x : P) → Anchor s (round x) x → last s.chain < round x → Extension s (committed s x)
+  pub committed_extension : (x : P) → Anchor s (round x) x → last s.chain < round x → Extension s (committed s x)
   unfolding committed
-  committed-extension x a h = extension-made (round x - suc (last s.chain)) x a (omega arith) (λ r q k m. absurd (omega arith))
+  committed_extension x a h = extension_made (round x - suc (last s.chain)) x a (omega arith) (λ r q k m. absurd (omega arith))
 
 module _ {R : Rules} (Y : Lawful R) {correct : ℕ → Bool} {G : Log R} {k : ℕ} {s : View R} {l : List R.P} (I : Invariant correct G k s l) where
   open R use {P, round, committee}
   open Y use {known-down}
 
   -- the commit of the anchor q of a round above the last block, if the votes for it weigh more than the bound
-  pub commit-move : (r : ℕ) (q : P) → anchorAt s r ≡ some q → last s.chain < r → Knows s (suc r) → Outweighs R (committee s.chain (suc (round q))) (votes s q)
-      → Move correct G k s l (afterCommit s (committed s q)) l
-  unfolding committed blocksOf block_of
+  pub commit-move : (r : ℕ) (q : P) → anchor_at s r ≡ some q → last s.chain < r → Knows s (suc r) → Outweighs R (committee s.chain (suc (round q))) (votes s q)
+      → Move correct G k s l (after_commit s (committed s q)) l
+  unfolding committed blocks_of block_of
   commit-move r q found later aware more =
-      commit (committed s q) (committed-extension Y X I.ordering.linked q own (omega (arith, level))) (q, own, record { aware = rw level aware; more = more })
+      commit (committed s q) (committed_extension Y X I.ordering.linked q own (omega (arith, level))) (q, own, record { aware = rw level aware; more = more })
     where
       X : Placed s
       X = all_placed I.storing

@@ -34,9 +34,9 @@ module _ {R : Rules} {s : View R} (X : Placed s) where
   pub on-place : {a r : ℕ} {p : P} → s.dag a r ≡ some p → Held s p
   on-place h = rw ((X.place h).0, (X.place h).1) h
 
-  pub reach-held : {x q : P} → Held s x → Reach s x q → Held s q
-  reach-held h here = h
-  reach-held h (back m a e n hq l) = reach-held (on-place hq) l
+  pub reach_held : {x q : P} → Held s x → Reach s x q → Held s q
+  reach_held h here = h
+  reach_held h (back m a e n hq l) = reach_held (on-place hq) l
 
 module _ {R : Rules} {correct : ℕ → Bool} {G : Log R} {t : View R} (T : Storing correct G t) where
   open R use {P, author}

@@ -16,7 +16,7 @@ use Rattle.agreement.specs.Links.{Link, ReachesLast, Linked, LastElected}
 use Rattle.agreement.specs.Prefixes.{◌≼◌, same, grown}
 use Rattle.agreement.specs.Invariants.{PreviousQuorum, Signable, Ordering, Certified, Storing}
 use Rattle.agreement.specs.Moves.{Extension, first_block, next-block, Move, other-call, propose, endorse, certify, accept, advance, commit}
-use Rattle.agreement.proofs.WeightLaws.{weigh-mono}
+use Rattle.agreement.proofs.WeightLaws.{weigh_mono}
 use Rattle.agreement.proofs.KnownCommittees.{known-stays, committee-stays}
 use Rattle.agreement.proofs.DagLaws.{vote-by, Compatible, at_place, carry}
 use Rattle.agreement.proofs.PlaceLaws.{put-old}
@@ -35,8 +35,8 @@ module _ {R : Rules} (Y : Lawful R) {s t : View R} (g : Grows s t) where
   alike-back : Compatible t s
   alike-back = record { alike = λ {a} {r} {p} {q} h k. some-injective p q (sym h ∙ g.dag k) }
 
-  knows-grows : {r : ℕ} → Knows s r → Knows t r
-  knows-grows k = known-stays Y g.chain k
+  knows_grows : {r : ℕ} → Knows s r → Knows t r
+  knows_grows k = known-stays Y g.chain k
 
   stays : {r : ℕ} → Knows s r → committee t.chain r ≡ committee s.chain r
   stays k = committee-stays Y g.chain k
@@ -49,7 +49,7 @@ module _ {R : Rules} (Y : Lawful R) {s t : View R} (g : Grows s t) where
       record {
         before = v.before;
         follows = v.follows;
-        aware = knows-grows v.aware;
+        aware = knows_grows v.aware;
         quorum = rw (stays v.aware) v.quorum;
         someone = v.someone;
         named = v.named;
@@ -65,7 +65,7 @@ module _ {R : Rules} (Y : Lawful R) {s t : View R} (g : Grows s t) where
   pub certified-grows : {correct : ℕ → Bool} {G : Log R} {p : P} → Certified correct G s p → Certified correct G t p
   certified-grows x =
       record {
-        aware = knows-grows x.aware;
+        aware = knows_grows x.aware;
         signers = x.signers;
         quorum = rw (stays x.aware) x.quorum;
         with-author = x.with-author;
@@ -73,10 +73,10 @@ module _ {R : Rules} (Y : Lawful R) {s t : View R} (g : Grows s t) where
       }
 
   anchor-grows : {r : ℕ} {q : P} → Anchor s r q → Anchor t r q
-  anchor-grows x = record { aware = knows-grows x.aware; lead = x.lead; leads = rw (stays x.aware) x.leads; held = g.dag x.held }
+  anchor-grows x = record { aware = knows_grows x.aware; lead = x.lead; leads = rw (stays x.aware) x.leads; held = g.dag x.held }
 
   elected-grows : {q : P} → Elected s q → Elected t q
-  elected-grows {q} v = record { aware = knows-grows v.aware; more = rw (stays v.aware) (omega (arith, v.more, wider)) }
+  elected-grows {q} v = record { aware = knows_grows v.aware; more = rw (stays v.aware) (omega (arith, v.more, wider)) }
     where
       still : (i : ℕ) → votes s q i ≡ true → votes t q i ≡ true
       still i h =
@@ -84,7 +84,7 @@ module _ {R : Rules} (Y : Lawful R) {s t : View R} (g : Grows s t) where
           rw (g.dag x.1) x.2
 
       wider : weigh size (committee s.chain (suc (round q))) (votes s q) ≤ weigh size (committee s.chain (suc (round q))) (votes t q)
-      wider = weigh-mono size (committee s.chain (suc (round q))) (votes s q) (votes t q) still
+      wider = weigh_mono size (committee s.chain (suc (round q))) (votes s q) (votes t q) still
 
   last-elected-grows : (c : Chain P) → LastElected s c → LastElected t c
   last-elected-grows [] x = tt
@@ -132,9 +132,9 @@ module _ {R : Rules} (Y : Lawful R) {correct : ℕ → Bool} {G : Log R} {s t : 
   ordering-grows l e = record { linked = linked-grows t.chain l; elected = last-elected-grows Y g t.chain e }
 
 -- a commit's chain grows from the chain before
-extension-grows : {R : Rules} {s : View R} {c : Chain R.P} → Extension s c → s.chain ≼ c
-extension-grows (first_block {b = b} l) = grown b l.spaced same
-extension-grows (next-block {b = b} l p x) = grown b l.spaced (extension-grows x)
+extension_grows : {R : Rules} {s : View R} {c : Chain R.P} → Extension s c → s.chain ≼ c
+extension_grows (first_block {b = b} l) = grown b l.spaced same
+extension_grows (next-block {b = b} l p x) = grown b l.spaced (extension_grows x)
 
 -- every move grows the view
 pub move-grows : {R : Rules} {correct : ℕ → Bool} {G : Log R} {k : ℕ} {s t : View R} {l m : List R.P} → Move correct G k s l t m → Grows s t
@@ -144,4 +144,4 @@ move-grows (endorse p n e f g) = record { dag = λ h. h; chain = same }
 move-grows {R} {s = s} (certify p e f b) = record { dag = λ h. put-old R p s.dag f h; chain = same }
 move-grows {R} {s = s} (accept p f c b) = record { dag = λ h. put-old R p s.dag f h; chain = same }
 move-grows advance = record { dag = λ h. h; chain = same }
-move-grows (commit c x e) = record { dag = λ h. h; chain = extension-grows x }
+move-grows (commit c x e) = record { dag = λ h. h; chain = extension_grows x }

@@ -10,15 +10,15 @@ use Rattle.agreement.specs.Prefixes.{◌≼◌, same, grown, Comparable}
 
 module _ {R : Rules} (Y : Lawful R) where
   open R use {P, known, committee}
-  open Y use {known-grow, committee-grow}
+  open Y use {known_grow, committee_grow}
 
   pub known-stays : {c d : Chain P} {r : ℕ} → c ≼ d → known c r ≡ true → known d r ≡ true
   known-stays same k = k
-  known-stays {r = r} (grown b {d = d} l h) k = known-grow b d r (omega arith) (known-stays h k)
+  known-stays {r = r} (grown b {d = d} l h) k = known_grow b d r (omega arith) (known-stays h k)
 
   pub committee-stays : {c d : Chain P} {r : ℕ} → c ≼ d → known c r ≡ true → committee d r ≡ committee c r
   committee-stays same k = refl
-  committee-stays {r = r} (grown b {d = d} l h) k = committee-grow b d r (omega arith) (known-stays h k) ∙ committee-stays h k
+  committee-stays {r = r} (grown b {d = d} l h) k = committee_grow b d r (omega arith) (known-stays h k) ∙ committee-stays h k
 
   -- comparable chains tell the same committee
   pub comparable-committee : {c d : Chain P} {r : ℕ} → Comparable c d → known c r ≡ true → known d r ≡ true → committee c r ≡ committee d r

@@ -16,8 +16,8 @@ use Rattle.agreement.specs.Moves.{Move}
 use Rattle.agreement.specs.Runs.{Start, Next, Run, begin, step}
 use Rattle.agreement.specs.Entries.{Entry, states}
 use Rattle.agreement.specs.Machines.{Machine, log, views, Legal, LegalNext, SignedIn}
-use Rattle.agreement.proofs.NonEquivocation.{committee-agreement}
-use Rattle.agreement.proofs.Agreement.{sound-next, sound-start, chains-grow}
+use Rattle.agreement.proofs.NonEquivocation.{committee_agreement}
+use Rattle.agreement.proofs.Agreement.{sound-next, sound-start, chains_grow}
 use Rattle.agreement.proofs.EntryLaws.{state-here, state-other, Each, kept}
 
 module _ {R : Rules} {correct : ℕ → Bool} (E : Machine R correct) (start : ℕ → E.State) where
@@ -34,11 +34,11 @@ module _ {R : Rules} {correct : ℕ → Bool} (E : Machine R correct) (start : �
   log-other e l i n = rw (ne_eqb i e.who n) refl
 
   -- what a member signed in a call is in the log
-  pub signed-in : (p : P) (i : ℕ) (l : List (Entry Call)) → SignedIn E start p i l → Among p (log E start l i)
+  pub signed_in : (p : P) (i : ℕ) (l : List (Entry Call)) → SignedIn E start p i l → Among p (log E start l i)
   unfolding log
-  signed-in p i [] h = absurd h
-  signed-in p i (e ∷ l) (inl h) = rw (eq-eqb i e.who h.0) (Memᴰ.append_left (log E start l i) h.1)
-  signed-in p i (e ∷ l) (inr h) = go (eqb i e.who) (signed-in p i l h)
+  signed_in p i [] h = absurd h
+  signed_in p i (e ∷ l) (inl h) = rw (eq-eqb i e.who h.0) (Memᴰ.append_left (log E start l i) h.1)
+  signed_in p i (e ∷ l) (inr h) = go (eqb i e.who) (signed_in p i l h)
     where
       go : (b : Bool) → Among p (log E start l i) → Among p (cond b (signs i (states after start l i) e.call ++ log E start l i) (log E start l i))
       go true k = Memᴰ.append_right (signs i (states after start l i) e.call) k
@@ -67,24 +67,24 @@ module _ {R : Rules} {correct : ℕ → Bool} (E : Machine R correct) (start : �
           silent = λ i n. log-other e l i n;
         }
 
-    pub machines-sound : (l : List (Entry Call)) → Legal E start l → Sound correct (views E start l) (log E start l)
+    pub machines_sound : (l : List (Entry Call)) → Legal E start l → Sound correct (views E start l) (log E start l)
     unfolding states log
-    machines-sound [] h = sound-start correct Y x
-    machines-sound (e ∷ l) h = let z = machines-sound l h.1 in sound-next correct z (next e l h.0 h.1 z) h.0.tolerant
+    machines_sound [] h = sound-start correct Y x
+    machines_sound (e ∷ l) h = let z = machines_sound l h.1 in sound-next correct z (next e l h.0 h.1 z) h.0.tolerant
 
     -- the chains of correct members never fork
-    pub machines-never-fork : (l : List (Entry Call)) → Legal E start l → Agree correct (views E start l)
-    machines-never-fork l h = (machines-sound l h).agree
+    pub machines_never_fork : (l : List (Entry Call)) → Legal E start l → Agree correct (views E start l)
+    machines_never_fork l h = (machines_sound l h).agree
 
     -- and whoever knows a round knows the same committee
-    pub machines-committees : (l : List (Entry Call)) → Legal E start l → (i j r : ℕ) → correct i ≡ true → correct j ≡ true → Knows (views E start l i) r → Knows (views E start l j) r
+    pub machines_committees : (l : List (Entry Call)) → Legal E start l → (i j r : ℕ) → correct i ≡ true → correct j ≡ true → Knows (views E start l i) r → Knows (views E start l j) r
         → committee (views E start l i).chain r ≡ committee (views E start l j).chain r
-    machines-committees l h i j r ci cj = committee-agreement (machines-sound l h) ci cj
+    machines_committees l h i j r ci cj = committee_agreement (machines_sound l h) ci cj
 
     run : (m l : List (Entry Call)) → Legal E start (m ++ l) → Run correct (views E start l) (log E start l) (views E start (m ++ l)) (log E start (m ++ l))
     run [] l h = begin
-    run (e ∷ m) l h = step (run m l h.1) (next e (m ++ l) h.0 h.1 (machines-sound (m ++ l) h.1)) h.0.tolerant
+    run (e ∷ m) l h = step (run m l h.1) (next e (m ++ l) h.0 h.1 (machines_sound (m ++ l) h.1)) h.0.tolerant
 
     -- and no later call undoes a block
-    pub machines-grow : (m l : List (Entry Call)) → Legal E start (m ++ l) → (i : ℕ) → (views E start l i).chain ≼ (views E start (m ++ l) i).chain
-    machines-grow m l h = chains-grow correct (run m l h)
+    pub machines_grow : (m l : List (Entry Call)) → Legal E start (m ++ l) → (i : ℕ) → (views E start l i).chain ≼ (views E start (m ++ l) i).chain
+    machines_grow m l h = chains_grow correct (run m l h)

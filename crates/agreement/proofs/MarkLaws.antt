@@ -13,37 +13,37 @@ use Rattle.base.proofs.Bools.{cond_same}
 use Rattle.agreement.specs.Rules.{Chain, last, Rules}
 use Rattle.agreement.specs.View.{View}
 use Rattle.agreement.specs.Dag.{is_held, Held, Placed}
-use Rattle.agreement.specs.Histories.{inHistory}
+use Rattle.agreement.specs.Histories.{in_history}
 use Rattle.agreement.proofs.HistoryLaws.{history-held}
-use Rattle.agreement.specs.Commits.{inChain, anchorAt, block_of, blocksOf, choose, taken, committed}
+use Rattle.agreement.specs.Commits.{in_chain, anchor_at, block_of, blocks_of, choose, taken, committed}
 use Rattle.agreement.proofs.CommitLaws.{anchor-held}
-use Rattle.agreement.specs.Marks.{marked, markedChain, roundsOf, markBlock, marksOf, MarksFit}
+use Rattle.agreement.specs.Marks.{marked, marked_chain, rounds_of, mark_block, marks_of, MarksFit}
 
 module _ {P : Type 0} (d : ℕ → ℕ → Option P) where
   -- chains with the same blocks
   same_blocks : (m n : ℕ → ℕ → ℕ) (l : List ℕ)
       → ((j a q : ℕ) → 0 < j → j ≤ length l → cond (eqb (m a q) j) (d a q) none ≡ cond (eqb (n a q) j) (d a q) none)
-      → markedChain d m l ≡ markedChain d n l
-  unfolding markedChain
+      → marked_chain d m l ≡ marked_chain d n l
+  unfolding marked_chain
   same_blocks m n [] f = refl
   same_blocks m n (r ∷ l) f =
       ap₂ ◌∷◌ (λ i. record { round = r; holds = λ a q. f (suc (length l)) a q (omega arith) (omega arith) i })
       (same_blocks m n l λ j a q p h. f j a q p (omega arith))
 
 -- more certificates leave the chain, where only held places are marked
-pub same-certificates : {P : Type 0} (d e : ℕ → ℕ → Option P) (m : ℕ → ℕ → ℕ) (l : List ℕ) → ((a q : ℕ) → 0 < m a q → d a q ≡ e a q)
-    → markedChain d m l ≡ markedChain e m l
-unfolding markedChain
-same-certificates d e m [] f = refl
-same-certificates {P} d e m (r ∷ l) f = ap₂ ◌∷◌ (λ i. record { round = r; holds = λ a q. alike a q (eqb (m a q) (suc (length l))) refl i }) (same-certificates d e m l f)
+pub same_certificates : {P : Type 0} (d e : ℕ → ℕ → Option P) (m : ℕ → ℕ → ℕ) (l : List ℕ) → ((a q : ℕ) → 0 < m a q → d a q ≡ e a q)
+    → marked_chain d m l ≡ marked_chain e m l
+unfolding marked_chain
+same_certificates d e m [] f = refl
+same_certificates {P} d e m (r ∷ l) f = ap₂ ◌∷◌ (λ i. record { round = r; holds = λ a q. alike a q (eqb (m a q) (suc (length l))) refl i }) (same_certificates d e m l f)
   where
     alike : (a q : ℕ) (b : Bool) → eqb (m a q) (suc (length l)) ≡ b → ◌≡◌ {A = Option P} (cond b (d a q) none) (cond b (e a q) none)
     alike a q true h = let k = eqb-true (m a q) (suc (length l)) h in f a q (omega arith)
     alike a q false h = refl
 
 -- one block for each anchor
-pub rounds-count : (R : Rules) (rs : List ℕ) (l : List R.P) → length (roundsOf R rs l) ≡ length l + length rs
-unfolding roundsOf
+pub rounds-count : (R : Rules) (rs : List ℕ) (l : List R.P) → length (rounds_of R rs l) ≡ length l + length rs
+unfolding rounds_of
 rounds-count R rs [] = omega arith
 rounds-count R rs (x ∷ l) = omega (arith, rounds-count R rs l)
 
@@ -56,14 +56,14 @@ module _ {R : Rules} (s : View R) where
   AllHeld (x ∷ l) = Held s x × AllHeld l
 
   -- a place is used by a chain if its mark is among the chain's numbers
-  used-mark : (m : ℕ → ℕ → ℕ) (l : List ℕ) (a q : ℕ) → is_held (s.dag a q) ≡ true → m a q ≤ length l
-      → inChain (markedChain s.dag m l) a q ≡ not (eqb (m a q) 0)
-  unfolding markedChain inChain
-  used-mark m [] a q h k = let e : m a q ≡ 0 = omega arith in rw e refl
-  used-mark m (r ∷ l) a q h k = go (ℕ_discrete (m a q) (suc (length l))) (used-mark m l a q h)
+  used_mark : (m : ℕ → ℕ → ℕ) (l : List ℕ) (a q : ℕ) → is_held (s.dag a q) ≡ true → m a q ≤ length l
+      → in_chain (marked_chain s.dag m l) a q ≡ not (eqb (m a q) 0)
+  unfolding marked_chain in_chain
+  used_mark m [] a q h k = let e : m a q ≡ 0 = omega arith in rw e refl
+  used_mark m (r ∷ l) a q h k = go (ℕ_discrete (m a q) (suc (length l))) (used_mark m l a q h)
     where
-      go : Dec (m a q ≡ suc (length l)) → (m a q ≤ length l → inChain (markedChain s.dag m l) a q ≡ not (eqb (m a q) 0))
-          → (is_held (cond (eqb (m a q) (suc (length l))) (s.dag a q) none) || inChain (markedChain s.dag m l) a q) ≡ not (eqb (m a q) 0)
+      go : Dec (m a q ≡ suc (length l)) → (m a q ≤ length l → in_chain (marked_chain s.dag m l) a q ≡ not (eqb (m a q) 0))
+          → (is_held (cond (eqb (m a q) (suc (length l))) (s.dag a q) none) || in_chain (marked_chain s.dag m l) a q) ≡ not (eqb (m a q) 0)
       go (yes e) f =
           let z : eqb (m a q) 0 ≡ false = ne_eqb (m a q) 0 (omega arith) in
           let y : eqb (m a q) (suc (length l)) ≡ true = eq-eqb (m a q) (suc (length l)) e in
@@ -71,9 +71,9 @@ module _ {R : Rules} (s : View R) where
       go (no n) f = rw (ne_eqb (m a q) (suc (length l)) n) (f (omega arith))
 
   module _ (x : P) (m : ℕ → ℕ → ℕ) (l : List ℕ) (fits : MarksFit s m (length l)) where
-    old-blocks : markedChain s.dag (markBlock s x (suc (length l)) m) l ≡ markedChain s.dag m l
-    unfolding markBlock
-    old-blocks = same_blocks s.dag (markBlock s x (suc (length l)) m) m l λ j a q p h. go j a q p h (eqb (m a q) 0) (inHistory s x q a) refl
+    old-blocks : marked_chain s.dag (mark_block s x (suc (length l)) m) l ≡ marked_chain s.dag m l
+    unfolding mark_block
+    old-blocks = same_blocks s.dag (mark_block s x (suc (length l)) m) m l λ j a q p h. go j a q p h (eqb (m a q) 0) (in_history s x q a) refl
       where
         go : (j a q : ℕ) → 0 < j → j ≤ length l → (z i : Bool) → eqb (m a q) 0 ≡ z
             → cond (eqb (cond (z && i) (suc (length l)) (m a q)) j) (s.dag a q) none ≡ cond (eqb (m a q) j) (s.dag a q) none
@@ -83,8 +83,8 @@ module _ {R : Rules} (s : View R) where
         go j a q p h true false e = refl
         go j a q p h false i e = refl
 
-    new-block : (a q : ℕ) → (marked s.dag (markBlock s x (suc (length l)) m) (suc (length l)) (round x)).holds a q ≡ (block_of s x (markedChain s.dag m l)).holds a q
-    unfolding markBlock block_of
+    new-block : (a q : ℕ) → (marked s.dag (mark_block s x (suc (length l)) m) (suc (length l)) (round x)).holds a q ≡ (block_of s x (marked_chain s.dag m l)).holds a q
+    unfolding mark_block block_of
     new-block a q = held (s.dag a q) refl
       where
         cases : (z i : Bool) → eqb (m a q) 0 ≡ z → cond (eqb (cond (z && i) (suc (length l)) (m a q)) (suc (length l))) (s.dag a q) none ≡ cond (i && not (not z)) (s.dag a q) none
@@ -94,16 +94,16 @@ module _ {R : Rules} (s : View R) where
         cases false false e = rw (ne_eqb (m a q) (suc (length l)) (omega (arith, fits.range a q))) refl
 
         held : (o : Option P) → s.dag a q ≡ o
-            → cond (eqb (cond (eqb (m a q) 0 && inHistory s x q a) (suc (length l)) (m a q)) (suc (length l))) (s.dag a q) none
-            ≡ cond (inHistory s x q a && not (inChain (markedChain s.dag m l) a q)) (s.dag a q) none
+            → cond (eqb (cond (eqb (m a q) 0 && in_history s x q a) (suc (length l)) (m a q)) (suc (length l))) (s.dag a q) none
+            ≡ cond (in_history s x q a && not (in_chain (marked_chain s.dag m l) a q)) (s.dag a q) none
         held none e =
-            rw e (cond_same (eqb (cond (eqb (m a q) 0 && inHistory s x q a) (suc (length l)) (m a q)) (suc (length l))) none
-            ∙ sym (cond_same (inHistory s x q a && not (inChain (markedChain s.dag m l) a q)) none))
-        held (some p) e = rw (used-mark m l a q (rw e refl) (fits.range a q)) (cases (eqb (m a q) 0) (inHistory s x q a) refl)
+            rw e (cond_same (eqb (cond (eqb (m a q) 0 && in_history s x q a) (suc (length l)) (m a q)) (suc (length l))) none
+            ∙ sym (cond_same (in_history s x q a && not (in_chain (marked_chain s.dag m l) a q)) none))
+        held (some p) e = rw (used_mark m l a q (rw e refl) (fits.range a q)) (cases (eqb (m a q) 0) (in_history s x q a) refl)
 
     -- marking one more block adds that block to the chain
-    pub mark-block : markedChain s.dag (markBlock s x (suc (length l)) m) (round x ∷ l) ≡ block_of s x (markedChain s.dag m l) ∷ markedChain s.dag m l
-    unfolding markedChain block_of
+    pub mark-block : marked_chain s.dag (mark_block s x (suc (length l)) m) (round x ∷ l) ≡ block_of s x (marked_chain s.dag m l) ∷ marked_chain s.dag m l
+    unfolding marked_chain block_of
     mark-block = ap₂ ◌∷◌ (λ i. record { round = round x; holds = λ a q. new-block a q i }) old-blocks
 
 module _ {R : Rules} {s : View R} (X : Placed s) where
@@ -113,46 +113,46 @@ module _ {R : Rules} {s : View R} (X : Placed s) where
   pub taken-held : (n : ℕ) (x : P) → AllHeld s (taken s n x)
   unfolding taken
   taken-held zero x = tt
-  taken-held (suc n) x = go (anchorAt s (last s.chain + suc n)) refl (taken-held n)
+  taken-held (suc n) x = go (anchor_at s (last s.chain + suc n)) refl (taken-held n)
     where
       test : (q : P) → Held s q → (b : Bool) → ((y : P) → AllHeld s (taken s n y)) → AllHeld s (cond b (q ∷ taken s n q) (taken s n x))
       test q h true f = (h, f q)
       test q h false f = f x
 
-      go : (o : Option P) → anchorAt s (last s.chain + suc n) ≡ o → ((y : P) → AllHeld s (taken s n y)) → AllHeld s (choose s x (λ y. taken s n y) o)
+      go : (o : Option P) → anchor_at s (last s.chain + suc n) ≡ o → ((y : P) → AllHeld s (taken s n y)) → AllHeld s (choose s x (λ y. taken s n y) o)
       go none e f = f x
-      go (some q) e f = test q (anchor-held X (last s.chain + suc n) e) (inHistory s x (round q) (author q)) f
+      go (some q) e f = test q (anchor-held X (last s.chain + suc n) e) (in_history s x (round q) (author q)) f
 
-  fits_more : (x : P) (m : ℕ → ℕ → ℕ) (n : ℕ) → Held s x → MarksFit s m n → MarksFit s (markBlock s x (suc n) m) (suc n)
-  unfolding markBlock
-  fits_more x m n hx f = record { range = λ a q. range a q (eqb (m a q) 0 && inHistory s x q a); only-held = λ a q. only a q (eqb (m a q) 0) (inHistory s x q a) refl }
+  fits_more : (x : P) (m : ℕ → ℕ → ℕ) (n : ℕ) → Held s x → MarksFit s m n → MarksFit s (mark_block s x (suc n) m) (suc n)
+  unfolding mark_block
+  fits_more x m n hx f = record { range = λ a q. range a q (eqb (m a q) 0 && in_history s x q a); only-held = λ a q. only a q (eqb (m a q) 0) (in_history s x q a) refl }
     where
       range : (a q : ℕ) (b : Bool) → cond b (suc n) (m a q) ≤ suc n
       range a q true = omega arith
       range a q false = omega (arith, f.range a q)
 
-      only : (a q : ℕ) (z i : Bool) → inHistory s x q a ≡ i → is_held (s.dag a q) ≡ false → cond (z && i) (suc n) (m a q) ≡ 0
+      only : (a q : ℕ) (z i : Bool) → in_history s x q a ≡ i → is_held (s.dag a q) ≡ false → cond (z && i) (suc n) (m a q) ≡ 0
       only a q true true e h = absurd (true≢false (sym e ∙ history-held X hx q a h))
       only a q true false e h = f.only-held a q h
       only a q false i e h = f.only-held a q h
 
   module _ (m : ℕ → ℕ → ℕ) (rs : List ℕ) (fits : MarksFit s m (length rs)) where
     -- marks fit after a commit where they fitted before
-    pub fits-commit : (l : List P) → AllHeld s l → MarksFit s (marksOf s m rs l) (length (roundsOf R rs l))
-    unfolding marksOf roundsOf
+    pub fits-commit : (l : List P) → AllHeld s l → MarksFit s (marks_of s m rs l) (length (rounds_of R rs l))
+    unfolding marks_of rounds_of
     fits-commit [] h = fits
-    fits-commit (x ∷ l) h = fits_more x (marksOf s m rs l) (length (roundsOf R rs l)) h.0 (fits-commit l h.1)
+    fits-commit (x ∷ l) h = fits_more x (marks_of s m rs l) (length (rounds_of R rs l)) h.0 (fits-commit l h.1)
 
     -- marking the blocks of a commit makes the chain that the commit makes
-    pub marks-commit : s.chain ≡ markedChain s.dag m rs → (l : List P) → AllHeld s l → markedChain s.dag (marksOf s m rs l) (roundsOf R rs l) ≡ blocksOf s l
-    unfolding marksOf roundsOf blocksOf
+    pub marks-commit : s.chain ≡ marked_chain s.dag m rs → (l : List P) → AllHeld s l → marked_chain s.dag (marks_of s m rs l) (rounds_of R rs l) ≡ blocks_of s l
+    unfolding marks_of rounds_of blocks_of
     marks-commit e [] h = sym e
     marks-commit e (x ∷ l) h =
         let c = marks-commit e l h.1 in
-        mark-block s x (marksOf s m rs l) (roundsOf R rs l) (fits-commit l h.1) ∙ ap (λ (z : Chain P). block_of s x z ∷ z) c
+        mark-block s x (marks_of s m rs l) (rounds_of R rs l) (fits-commit l h.1) ∙ ap (λ (z : Chain P). block_of s x z ∷ z) c
 
     -- the marks and rounds after a commit of the anchor x stand for the chain after it
-    pub marks-committed : s.chain ≡ markedChain s.dag m rs → (x : P) → Held s x
-        → let l = x ∷ taken s (round x - suc (last s.chain)) x in markedChain s.dag (marksOf s m rs l) (roundsOf R rs l) ≡ committed s x
+    pub marks-committed : s.chain ≡ marked_chain s.dag m rs → (x : P) → Held s x
+        → let l = x ∷ taken s (round x - suc (last s.chain)) x in marked_chain s.dag (marks_of s m rs l) (rounds_of R rs l) ≡ committed s x
     unfolding committed
     marks-committed e x h = let n = round x - suc (last s.chain) in marks-commit e (x ∷ taken s n x) (h, taken-held n x)

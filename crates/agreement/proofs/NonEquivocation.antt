@@ -9,7 +9,7 @@ use Rattle.agreement.specs.Dag.{Held}
 use Rattle.agreement.specs.Quorum.{Tolerant}
 use Rattle.agreement.specs.Invariants.{Certified, Sound}
 use Rattle.agreement.proofs.WeightLaws.{Common}
-use Rattle.agreement.proofs.QuorumIntersection.{quorum-pos, quorums-meet, quorum-correct}
+use Rattle.agreement.proofs.QuorumIntersection.{quorum_pos, quorums_meet, quorum-correct}
 use Rattle.agreement.proofs.KnownCommittees.{comparable-committee}
 use Rattle.agreement.proofs.DagLaws.{at_place}
 
@@ -17,16 +17,16 @@ module _ {R : Rules} {correct : ℕ → Bool} {w : World R} {G : Log R} (S : Sou
   open R use {size, P, author, round, committee}
 
   -- correct members who know a round know the same committee
-  pub committee-agreement : {i j r : ℕ} → correct i ≡ true → correct j ≡ true → Knows (w i) r → Knows (w j) r
+  pub committee_agreement : {i j r : ℕ} → correct i ≡ true → correct j ≡ true → Knows (w i) r → Knows (w j) r
       → committee (w i).chain r ≡ committee (w j).chain r
-  committee-agreement {i} {j} ci cj k l = comparable-committee S.laws (S.agree i j ci cj) k l
+  committee_agreement {i} {j} ci cj k l = comparable-committee S.laws (S.agree i j ci cj) k l
 
   -- the certificate that a correct member holds has a quorum of signers, in a committee with few faults
   certified : {i : ℕ} {p : P} → correct i ≡ true → Held (w i) p → Certified correct G (w i) p
   certified {i} ci h = (S.members i ci).storing.certified h
 
-  few-faults : {i : ℕ} {p : P} → correct i ≡ true → Held (w i) p → Tolerant R correct (committee (w i).chain (round p))
-  few-faults {i} {p} ci h = S.tolerant i p ci h (certified ci h).aware
+  few_faults : {i : ℕ} {p : P} → correct i ≡ true → Held (w i) p → Tolerant R correct (committee (w i).chain (round p))
+  few_faults {i} {p} ci h = S.tolerant i p ci h (certified ci h).aware
 
   -- two certificates of one author and round, held by correct members, are the same
   held-once : {i j : ℕ} {p q : P} → correct i ≡ true → correct j ≡ true → Held (w i) p → Held (w j) q → author p ≡ author q → round p ≡ round q → p ≡ q
@@ -41,10 +41,10 @@ module _ {R : Rules} {correct : ℕ → Bool} {w : World R} {G : Log R} (S : Sou
       y = certified cj hq
 
       alike : committee (w j).chain (round q) ≡ committee (w i).chain (round p)
-      alike = ap (committee (w j).chain) (sym er) ∙ committee-agreement cj ci (rw (← er) at y.aware) x.aware
+      alike = ap (committee (w j).chain) (sym er) ∙ committee_agreement cj ci (rw (← er) at y.aware) x.aware
 
       m : Common size x.signers y.signers correct
-      m = quorums-meet S.laws (few-faults ci hp) (quorum-pos R x.quorum x.with-author) x.quorum (rw alike at y.quorum)
+      m = quorums_meet S.laws (few_faults ci hp) (quorum_pos R x.quorum x.with-author) x.quorum (rw alike at y.quorum)
 
   -- two certificates held at one place are the same
   pub dag-nonequivocation : {i j a r : ℕ} {p q : P} → correct i ≡ true → correct j ≡ true → (w i).dag a r ≡ some p → (w j).dag a r ≡ some q → p ≡ q
@@ -63,5 +63,5 @@ module _ {R : Rules} {correct : ℕ → Bool} {w : World R} {G : Log R} (S : Sou
   pub signer : {i : ℕ} {p : P} → correct i ≡ true → Held (w i) p → Signer p
   signer {i} {p} ci h =
       let x = certified ci h in
-      let m = quorum-correct S.laws {C = correct} (few-faults ci h) (quorum-pos R x.quorum x.with-author) x.quorum in
+      let m = quorum-correct S.laws {C = correct} (few_faults ci h) (quorum_pos R x.quorum x.with-author) x.quorum in
       record { who = m.who; good = m.third; signed = x.signs m.who m.third m.first }

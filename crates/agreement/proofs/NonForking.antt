@@ -8,7 +8,7 @@ use Prim.Native.Nat.{ℕ, ◌≤◌, ◌<◌}
 use native.Mathlib.Nat.{le_antisymm}
 use native.Mathlib.Decide.{ℕ_discrete, dec_le}
 use native.Mathlib.Omega.{arith}
-use Rattle.base.proofs.Options.{option-ext}
+use Rattle.base.proofs.Options.{option_ext}
 use Rattle.agreement.specs.Rules.{Block, Chain, last, Rules}
 use Rattle.agreement.specs.View.{View, Knows, World, Log}
 use Rattle.agreement.specs.Dag.{Held, Reach}
@@ -17,12 +17,12 @@ use Rattle.agreement.specs.Links.{Link, ReachesLast, Linked, LastElected}
 use Rattle.agreement.specs.Prefixes.{◌≼◌, same, grown, Comparable}
 use Rattle.agreement.specs.Invariants.{Storing, Sound}
 use Rattle.agreement.proofs.DagLaws.{at_place, carry}
-use Rattle.agreement.proofs.NonEquivocation.{committee-agreement, dag-nonequivocation}
-use Rattle.agreement.proofs.AnchorPaths.{anchor-path}
+use Rattle.agreement.proofs.NonEquivocation.{committee_agreement, dag-nonequivocation}
+use Rattle.agreement.proofs.AnchorPaths.{anchor_path}
 
 -- blocks with the same round and certificates
-block-ext : {P : Type 0} {b d : Block P} → b.round ≡ d.round → ((a r : ℕ) → b.holds a r ≡ d.holds a r) → b ≡ d
-block-ext e f = λ i. record { round = e i; holds = λ a r. f a r i }
+block_ext : {P : Type 0} {b d : Block P} → b.round ≡ d.round → ((a r : ℕ) → b.holds a r ≡ d.holds a r) → b ≡ d
+block_ext e f = λ i. record { round = e i; holds = λ a r. f a r i }
 
 -- a linked chain grows from nothing
 from_nothing : {R : Rules} (s : View R) (c : Chain R.P) → Linked s c → [] ≼ c
@@ -48,7 +48,7 @@ module _ {R : Rules} {correct : ℕ → Bool} {w : World R} {G : Log R} (S : Sou
         leads : x.lead ≡ y.lead
         leads =
             some-injective x.lead y.lead
-            (sym x.leads ∙ ap (λ (v : ℕ → ℕ). leader v r) (committee-agreement S ci cj x.aware y.aware) ∙ y.leads)
+            (sym x.leads ∙ ap (λ (v : ℕ → ℕ). leader v r) (committee_agreement S ci cj x.aware y.aware) ∙ y.leads)
 
     -- the anchor that i sees is j's, once j holds it and knows the round
     anchor-moves : {r : ℕ} {q : P} → Anchor (w i) r q → Knows (w j) r → Held (w j) q → Anchor (w j) r q
@@ -57,7 +57,7 @@ module _ {R : Rules} {correct : ℕ → Bool} {w : World R} {G : Log R} (S : Sou
         record {
           aware = k;
           lead = x.lead;
-          leads = ap (λ (v : ℕ → ℕ). leader v r) (committee-agreement S cj ci k x.aware) ∙ x.leads;
+          leads = ap (λ (v : ℕ → ℕ). leader v r) (committee_agreement S cj ci k x.aware) ∙ x.leads;
           held = rw (e.0, e.1) at h;
         }
 
@@ -76,28 +76,28 @@ module _ {R : Rules} {correct : ℕ → Bool} {w : World R} {G : Log R} (S : Sou
     anchors-same : {b d : Block P} {c e : Chain P} {x y : P} → Link (w i) b c x → Link (w j) d e y → b.round ≡ d.round → x ≡ y
     anchors-same {y = y} l m er = anchor-once l.sees (subst (λ (r : ℕ). Anchor (w j) r y) (sym er) m.sees)
 
-    reach-moves : {b d : Block P} {c e : Chain P} {x y : P} → Link (w i) b c x → Link (w j) d e y → b.round ≡ d.round
+    reach_moves : {b d : Block P} {c e : Chain P} {x y : P} → Link (w i) b c x → Link (w j) d e y → b.round ≡ d.round
         → {q : P} → Reach (w i) x q → Reach (w j) y q
-    reach-moves l m er {q} h =
+    reach_moves l m er {q} h =
         let k = subst (λ (z : P). Reach (w i) z q) (anchors-same l m er) h in
         (carried (at_place stored m.sees.held) k).0
 
     -- under two blocks of one round: i's chain ends no later than j's
-    no-later : {b d : Block P} (c e : Chain P) {x y : P} → Link (w i) b c x → ReachesLast (w i) c x → Link (w j) d e y → b.round ≡ d.round → last c ≤ last e
-    no-later [] e l p m er = omega arith
-    no-later (f ∷ c) e l p m er = no_gap m p.1 (reach-moves l m er p.2) (omega (arith, l.spaced))
+    no_later : {b d : Block P} (c e : Chain P) {x y : P} → Link (w i) b c x → ReachesLast (w i) c x → Link (w j) d e y → b.round ≡ d.round → last c ≤ last e
+    no_later [] e l p m er = omega arith
+    no_later (f ∷ c) e l p m er = no_gap m p.1 (reach_moves l m er p.2) (omega (arith, l.spaced))
 
     content-moves : {b d : Block P} {c : Chain P} {x y : P} → Link (w i) b c x → Link (w j) d c y → b.round ≡ d.round
         → {a r : ℕ} {p : P} → b.holds a r ≡ some p → d.holds a r ≡ some p
     content-moves l m er {a} {r} {p} h =
         let f = (l.content a r p).0 h in
-        (m.content a r p).1 (record { by = f.by; at = f.at; reached = reach-moves l m er f.reached; unused = f.unused })
+        (m.content a r p).1 (record { by = f.by; at = f.at; reached = reach_moves l m er f.reached; unused = f.unused })
 
   module _ {i j : ℕ} (ci : correct i ≡ true) (cj : correct j ≡ true) where
     -- blocks of one round on one chain are the same
     block-once : {b d : Block P} {c : Chain P} {x y : P} → Link (w i) b c x → Link (w j) d c y → b.round ≡ d.round → b ≡ d
     block-once {b} {d} l m er =
-        block-ext er λ a r. option-ext (b.holds a r) (d.holds a r)
+        block_ext er λ a r. option_ext (b.holds a r) (d.holds a r)
         (λ p h. content-moves ci cj l m er h) (λ p h. content-moves cj ci m l (sym er) h)
 
     -- linked chains of one length in rounds are the same
@@ -106,7 +106,7 @@ module _ {R : Rules} {correct : ℕ → Bool} {w : World R} {G : Log R} (S : Sou
     same-chain [] (d ∷ e) x y er = absurd (omega (arith, y.1.spaced))
     same-chain (b ∷ c) [] x y er = absurd (omega (arith, x.1.spaced))
     same-chain (b ∷ c) (d ∷ e) x y er =
-        join (same-chain c e x.3 y.3 (le_antisymm (no-later ci cj c e x.1 x.2 y.1 er) (no-later cj ci e c y.1 y.2 x.1 (sym er))))
+        join (same-chain c e x.3 y.3 (le_antisymm (no_later ci cj c e x.1 x.2 y.1 er) (no_later cj ci e c y.1 y.2 x.1 (sym er))))
       where
         join : c ≡ e → b ∷ c ≡ d ∷ e
         join k = ap₂ ◌∷◌ (block-once x.1 (subst (λ (z : Chain P). Link (w j) d z y.0) (sym k) y.1) er) k
@@ -129,7 +129,7 @@ module _ {R : Rules} {correct : ℕ → Bool} {w : World R} {G : Log R} (S : Sou
               let si = (S.members i ci).storing in
               let sj = (S.members j cj).storing in
               let two = apart (committee (w i).chain r) (committee (w j).chain b.round) (omega arith) a.leads l.1.sees.leads in
-              anchor-path S ci (at_place si a.held) v cj (at_place sj l.1.sees.held)
+              anchor_path S ci (at_place si a.held) v cj (at_place sj l.1.sees.held)
               (omega (arith, two, (si.place a.held).1, (sj.place l.1.sees.held).1))
 
           go : Dec (b.round ≡ r) → Dec (r ≤ last d) → (r ≤ last d → Found d) → Found (b ∷ d)

@@ -8,19 +8,19 @@ use lib.Dec.{eqb}
 use borrow.Author.Tests.{eqb-true, eq-eqb}
 use Rattle.base.proofs.Bools.{both}
 use Rattle.agreement.specs.Rules.{Rules}
-use Rattle.agreement.specs.Places.{isPlace, put, mark}
+use Rattle.agreement.specs.Places.{is_place, put, mark}
 
 module _ (R : Rules) where
   open R use {P, author, round}
 
-  pub place-true : (p : P) (a r : ℕ) → isPlace R p a r ≡ true → (author p ≡ a) × (round p ≡ r)
-  unfolding isPlace
-  place-true p a r h =
+  pub place_true : (p : P) (a r : ℕ) → is_place R p a r ≡ true → (author p ≡ a) × (round p ≡ r)
+  unfolding is_place
+  place_true p a r h =
       let k = both (eqb a (author p)) (eqb r (round p)) h in
       (sym (eqb-true a (author p) k.0), sym (eqb-true r (round p) k.1))
 
-  own-place : (p : P) → isPlace R p (author p) (round p) ≡ true
-  unfolding isPlace
+  own-place : (p : P) → is_place R p (author p) (round p) ≡ true
+  unfolding is_place
   own-place p = rw (eq-eqb (author p) (author p) refl, eq-eqb (round p) (round p) refl) refl
 
   pub put-own : (p : P) (d : ℕ → ℕ → Option P) → put R p d (author p) (round p) ≡ some p
@@ -30,19 +30,19 @@ module _ (R : Rules) where
   -- what was held is held, where the place was free
   pub put-old : (p : P) (d : ℕ → ℕ → Option P) → d (author p) (round p) ≡ none → {a r : ℕ} {q : P} → d a r ≡ some q → put R p d a r ≡ some q
   unfolding put
-  put-old p d free {a} {r} {q} h = go (isPlace R p a r) refl
+  put-old p d free {a} {r} {q} h = go (is_place R p a r) refl
     where
-      go : (b : Bool) → isPlace R p a r ≡ b → cond b (some p) (d a r) ≡ some q
-      go true e = let x = place-true p a r e in absurd (none-ne-some q (sym free ∙ (rw (x.0, x.1) h)))
+      go : (b : Bool) → is_place R p a r ≡ b → cond b (some p) (d a r) ≡ some q
+      go true e = let x = place_true p a r e in absurd (none-ne-some q (sym free ∙ (rw (x.0, x.1) h)))
       go false e = h
 
   -- what is held then is p, or was held
   pub put_only : (p : P) (d : ℕ → ℕ → Option P) {a r : ℕ} {q : P} → put R p d a r ≡ some q → ((author p ≡ a) × (round p ≡ r) × (p ≡ q)) ⊎ (d a r ≡ some q)
   unfolding put
-  put_only p d {a} {r} {q} h = go (isPlace R p a r) refl h
+  put_only p d {a} {r} {q} h = go (is_place R p a r) refl h
     where
-      go : (b : Bool) → isPlace R p a r ≡ b → cond b (some p) (d a r) ≡ some q → ((author p ≡ a) × (round p ≡ r) × (p ≡ q)) ⊎ (d a r ≡ some q)
-      go true e k = let x = place-true p a r e in inl (x.0, x.1, some-injective p q k)
+      go : (b : Bool) → is_place R p a r ≡ b → cond b (some p) (d a r) ≡ some q → ((author p ≡ a) × (round p ≡ r) × (p ≡ q)) ⊎ (d a r ≡ some q)
+      go true e k = let x = place_true p a r e in inl (x.0, x.1, some-injective p q k)
       go false e k = inr k
 
   pub mark-own : (b : Bool) (p : P) (e : ℕ → ℕ → Bool) → mark R b p e (author p) (round p) ≡ b
@@ -52,8 +52,8 @@ module _ (R : Rules) where
   -- marks stay but at the place of p
   pub mark-other : (b : Bool) (p : P) (e : ℕ → ℕ → Bool) (a r : ℕ) → ((author p ≡ a) × (round p ≡ r)) ⊎ (mark R b p e a r ≡ e a r)
   unfolding mark
-  mark-other b p e a r = go (isPlace R p a r) refl
+  mark-other b p e a r = go (is_place R p a r) refl
     where
-      go : (t : Bool) → isPlace R p a r ≡ t → ((author p ≡ a) × (round p ≡ r)) ⊎ (cond t b (e a r) ≡ e a r)
-      go true i = inl (place-true p a r i)
+      go : (t : Bool) → is_place R p a r ≡ t → ((author p ≡ a) × (round p ≡ r)) ⊎ (cond t b (e a r) ≡ e a r)
+      go true i = inl (place_true p a r i)
       go false i = inr refl

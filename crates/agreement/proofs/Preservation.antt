@@ -14,7 +14,7 @@ use Rattle.agreement.specs.Links.{Link, ReachesLast, Linked, LastElected}
 use Rattle.agreement.specs.Invariants.{Certified, Storing, Invariant, Sound}
 use Rattle.agreement.specs.Moves.{Extension, first_block, next-block, Move, other-call, propose, endorse, certify, accept, advance, commit}
 use Rattle.agreement.proofs.DagLaws.{at_place}
-use Rattle.agreement.proofs.AnchorPaths.{anchor-path}
+use Rattle.agreement.proofs.AnchorPaths.{anchor_path}
 use Rattle.agreement.proofs.PlaceLaws.{put_only}
 use Rattle.agreement.proofs.Growth.{Grows, closed-grows, certified-grows, ordering-grows, move-grows}
 use Rattle.agreement.proofs.Signatures.{signing-kept}
@@ -69,11 +69,11 @@ module _ {R : Rules} {correct : ℕ → Bool} {w : World R} {G : Log R} (S : Sou
       let x = mine.storing in
       let low = e.1.held in
       let high = l.sees.held in
-      (e.0, e.1, anchor-path S ck (at_place x low) e.2 ck (at_place x high) (omega (arith, (x.place low).1, (x.place high).1, l.spaced)))
+      (e.0, e.1, anchor_path S ck (at_place x low) e.2 ck (at_place x high) (omega (arith, (x.place low).1, (x.place high).1, l.spaced)))
 
-  extension-linked : {c : Chain P} → Extension (w k) c → Linked (w k) c
-  extension-linked (first_block {x = x} l) = (x, l, reaches-elected (w k).chain mine.ordering.elected l, mine.ordering.linked)
-  extension-linked (next-block {x = x} l p e) = (x, l, p, extension-linked e)
+  extension_linked : {c : Chain P} → Extension (w k) c → Linked (w k) c
+  extension_linked (first_block {x = x} l) = (x, l, reaches-elected (w k).chain mine.ordering.elected l, mine.ordering.linked)
+  extension_linked (next-block {x = x} l p e) = (x, l, p, extension_linked e)
 
   -- the chain after a move is linked, with an elected top, already in the world before it
   pub new-chain : {t : View R} {m : List P} → Move correct G k (w k) (G k) t m → Linked (w k) t.chain × LastElected (w k) t.chain
@@ -83,7 +83,7 @@ module _ {R : Rules} {correct : ℕ → Bool} {w : World R} {G : Log R} (S : Sou
   new-chain (certify p e f b) = (mine.ordering.linked, mine.ordering.elected)
   new-chain (accept p f c b) = (mine.ordering.linked, mine.ordering.elected)
   new-chain advance = (mine.ordering.linked, mine.ordering.elected)
-  new-chain (commit c x e) = (extension-linked x, e)
+  new-chain (commit c x e) = (extension_linked x, e)
 
   pub invariant-kept : {t : View R} {m : List P} → Move correct G k (w k) (G k) t m → Invariant correct G k t m
   invariant-kept v =

@@ -7,26 +7,26 @@ use Rattle.agreement.specs.Weights.{total}
 use Rattle.agreement.specs.Rules.{Rules}
 use Rattle.agreement.specs.Laws.{Lawful}
 use Rattle.agreement.specs.Quorum.{Quorum, Outweighs, Tolerant}
-use Rattle.agreement.proofs.WeightLaws.{weigh-split, total-pos, everyone, Common, meet}
+use Rattle.agreement.proofs.WeightLaws.{weigh-split, total_pos, everyone, Common, meet}
 
 module _ (R : Rules) where
   open R use {size}
 
   -- a quorum with a member has a positive total
-  pub quorum-pos : {w : ℕ → ℕ} {S : ℕ → Bool} {i : ℕ} → Quorum R w S → S i ≡ true → 0 < total size w
-  quorum-pos {w} {S} {i} q h = total-pos size w (q.inside i h) (q.weighs i h)
+  pub quorum_pos : {w : ℕ → ℕ} {S : ℕ → Bool} {i : ℕ} → Quorum R w S → S i ≡ true → 0 < total size w
+  quorum_pos {w} {S} {i} q h = total_pos size w (q.inside i h) (q.weighs i h)
 
 module _ {R : Rules} (Y : Lawful R) where
   open R use {size}
-  open Y use {bound-law}
+  open Y use {bound_law}
 
   -- two quorums share a correct member
-  pub quorums-meet : {w : ℕ → ℕ} {S T C : ℕ → Bool} → Tolerant R C w → 0 < total size w → Quorum R w S → Quorum R w T → Common size S T C
-  quorums-meet {w} {S} {T} {C} t h p q = meet size w S T C (omega (arith, weigh-split size w C, bound-law w h))
+  pub quorums_meet : {w : ℕ → ℕ} {S T C : ℕ → Bool} → Tolerant R C w → 0 < total size w → Quorum R w S → Quorum R w T → Common size S T C
+  quorums_meet {w} {S} {T} {C} t h p q = meet size w S T C (omega (arith, weigh-split size w C, bound_law w h))
 
   -- a quorum has a correct member
   pub quorum-correct : {w : ℕ → ℕ} {S C : ℕ → Bool} → Tolerant R C w → 0 < total size w → Quorum R w S → Common size S S C
-  quorum-correct t h q = quorums-meet t h q q
+  quorum-correct t h q = quorums_meet t h q q
 
 module _ (R : Rules) where
   open R use {size}

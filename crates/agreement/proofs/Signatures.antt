@@ -43,8 +43,8 @@ module _ {R : Rules} (Y : Lawful R) {k : ℕ} (s : View R) (l : List R.P) (X : S
   signable-more g d x (Memᴰ.tail h) = signable-grows Y g (X.signable x h)
 
   -- without a proposal, what one signed of one's own is of an earlier round
-  own-older : s.proposal ≡ none → (q : P) → Among q l → author q ≡ k → round q < s.round
-  own-older none_yet q h ea = go (X.own q h ea)
+  own_older : s.proposal ≡ none → (q : P) → Among q l → author q ≡ k → round q < s.round
+  own_older none_yet q h ea = go (X.own q h ea)
     where
       go : (round q < s.round) ⊎ ((round q ≡ s.round) × (s.proposal ≡ some q)) → round q < s.round
       go (inl h') = h'
@@ -52,7 +52,7 @@ module _ {R : Rules} (Y : Lawful R) {k : ℕ} (s : View R) (l : List R.P) (X : S
 
   own_fresh : {p : P} → author p ≡ k → round p ≡ s.round → s.proposal ≡ none
       → (q : P) → Among q l → author q ≡ author p → round q ≡ round p → ⊥
-  own_fresh ek er none_yet q h ea eq = omega (arith, own-older none_yet q h (ea ∙ ek))
+  own_fresh ek er none_yet q h ea eq = omega (arith, own_older none_yet q h (ea ∙ ek))
 
   -- nothing of another's was signed at a place that is neither endorsed nor held
   other-fresh : {p : P} → author p ≢ k → s.endorsed (author p) (round p) ≡ false → s.dag (author p) (round p) ≡ none
@@ -93,7 +93,7 @@ module _ {R : Rules} (Y : Lawful R) {k : ℕ} (s : View R) (l : List R.P) (X : S
     where
       own-now : (x : P) → Among x (p ∷ l) → author x ≡ k → (round x < s.round) ⊎ ((round x ≡ s.round) × (some p ≡ some x))
       own-now x (Memᴰ.head e) ea = inr (ap round e ∙ er, ap some (sym e))
-      own-now x (Memᴰ.tail h) ea = inl (own-older none_yet x h ea)
+      own-now x (Memᴰ.tail h) ea = inl (own_older none_yet x h ea)
 
       other-now : (x : P) → Among x (p ∷ l) → author x ≢ k
           → (s.endorsed (author x) (round x) ≡ true) ⊎ ((q : P) × (s.dag (author x) (round x) ≡ some q))

@@ -3,13 +3,13 @@ use mathlib.Core.Path.{◌≡◌, refl, sym, ◌∙◌}
 use mathlib.Core.Bool.{Bool, true, false, not, cond, false≢true}
 use Prim.Native.Nat.{ℕ, ◌+◌, ◌*◌, ◌≤◌, ◌<◌}
 use native.Mathlib.Omega.{arith}
-use Rattle.base.proofs.SumLaws.{sum_same, sum-add, sum-at, sum_less, sum_mono}
+use Rattle.base.proofs.SumLaws.{sum_same, sum_add, sum_at, sum_less, sum_mono}
 use Rattle.agreement.specs.Weights.{weigh, total, outside}
 
 -- a set and its outside weigh the total together
 pub weigh-split : (n : ℕ) (w : ℕ → ℕ) (S : ℕ → Bool) → weigh n w S + weigh n w (outside S) ≡ total n w
 weigh-split n w S =
-    sym (sum-add (λ i. cond (S i) (w i) 0) (λ i. cond (not (S i)) (w i) 0) n)
+    sym (sum_add (λ i. cond (S i) (w i) 0) (λ i. cond (not (S i)) (w i) 0) n)
     ∙ sum_same (λ i. cond (S i) (w i) 0 + cond (not (S i)) (w i) 0) w n (λ i h. either (S i) (w i))
   where
     either : (b : Bool) (x : ℕ) → cond b x 0 + cond (not b) x 0 ≡ x
@@ -17,8 +17,8 @@ weigh-split n w S =
     either false x = omega arith
 
 -- a larger set weighs no less
-pub weigh-mono : (n : ℕ) (w : ℕ → ℕ) (S T : ℕ → Bool) → ((i : ℕ) → S i ≡ true → T i ≡ true) → weigh n w S ≤ weigh n w T
-weigh-mono n w S T f = sum_mono (λ i. cond (S i) (w i) 0) (λ i. cond (T i) (w i) 0) n (λ i h. larger (S i) (T i) (w i) (f i))
+pub weigh_mono : (n : ℕ) (w : ℕ → ℕ) (S T : ℕ → Bool) → ((i : ℕ) → S i ≡ true → T i ≡ true) → weigh n w S ≤ weigh n w T
+weigh_mono n w S T f = sum_mono (λ i. cond (S i) (w i) 0) (λ i. cond (T i) (w i) 0) n (λ i h. larger (S i) (T i) (w i) (f i))
   where
     larger : (s t : Bool) (x : ℕ) → (s ≡ true → t ≡ true) → cond s x 0 ≤ cond t x 0
     larger true true x g = omega arith
@@ -26,8 +26,8 @@ weigh-mono n w S T f = sum_mono (λ i. cond (S i) (w i) 0) (λ i. cond (T i) (w 
     larger false t x g = omega arith
 
 -- a member with a weight makes the total positive
-pub total-pos : (n : ℕ) (w : ℕ → ℕ) {i : ℕ} → i < n → 0 < w i → 0 < total n w
-total-pos n w {i} h p = omega (arith, sum-at w n i h)
+pub total_pos : (n : ℕ) (w : ℕ → ℕ) {i : ℕ} → i < n → 0 < w i → 0 < total n w
+total_pos n w {i} h p = omega (arith, sum_at w n i h)
 
 -- the set of all members
 abbrev pub everyone : ℕ → Bool
@@ -55,7 +55,7 @@ meet n w S T C h = go x.0 x.1 (S x.0) (T x.0) (C x.0) refl refl refl x.2
     c i = cond (C i) (w i) 0
 
     x : (i : ℕ) × (i < n) × (w i + w i < s i + t i + c i)
-    x = sum_less (λ i. w i + w i) (λ i. s i + t i + c i) n (omega (arith, sum-add w w n, sum-add (λ i. s i + t i) c n, sum-add s t n))
+    x = sum_less (λ i. w i + w i) (λ i. s i + t i + c i) n (omega (arith, sum_add w w n, sum_add (λ i. s i + t i) c n, sum_add s t n))
 
     at_most : (b : Bool) (y : ℕ) → cond b y 0 ≤ y
     at_most true y = omega arith

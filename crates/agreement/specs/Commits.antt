@@ -4,43 +4,43 @@ use Rattle.std.proofs.Math.Option.{Option, none, some}
 use Rattle.agreement.specs.Rules.{Block, Chain, last, Rules}
 use Rattle.agreement.specs.View.{View}
 use Rattle.agreement.specs.Dag.{is_held}
-use Rattle.agreement.specs.Histories.{inHistory}
+use Rattle.agreement.specs.Histories.{in_history}
 
 -- is the place in a block of the chain?
-unfoldable pub inChain : {P : Type 0} → Chain P → ℕ → ℕ → Bool
-inChain [] a r = false
-inChain (b ∷ c) a r = is_held (b.holds a r) || inChain c a r
+unfoldable pub in_chain : {P : Type 0} → Chain P → ℕ → ℕ → Bool
+in_chain [] a r = false
+in_chain (b ∷ c) a r = is_held (b.holds a r) || in_chain c a r
 
 module _ {R : Rules} (s : View R) where
   open R use {P, author, round, committee, leader}
 
-  abbrev pub byLeader : ℕ → Option ℕ → Option P
-  byLeader r none = none
-  byLeader r (some a) = s.dag a r
+  abbrev pub by_leader : ℕ → Option ℕ → Option P
+  by_leader r none = none
+  by_leader r (some a) = s.dag a r
 
   -- the anchor of round r
-  unfoldable pub anchorAt : ℕ → Option P
-  anchorAt r = byLeader r (leader (committee s.chain r) r)
+  unfoldable pub anchor_at : ℕ → Option P
+  anchor_at r = by_leader r (leader (committee s.chain r) r)
 
   -- the block of the anchor x on the chain c
   unfoldable pub block_of : P → Chain P → Block P
-  block_of x c = record { round = round x; holds = λ a r. cond (inHistory s x r a && not (inChain c a r)) (s.dag a r) none }
+  block_of x c = record { round = round x; holds = λ a r. cond (in_history s x r a && not (in_chain c a r)) (s.dag a r) none }
 
   -- the blocks of the anchors, the first of them newest, on the chain
-  unfoldable pub blocksOf : List P → Chain P
-  blocksOf [] = s.chain
-  blocksOf (x ∷ l) = block_of x (blocksOf l) ∷ blocksOf l
+  unfoldable pub blocks_of : List P → Chain P
+  blocks_of [] = s.chain
+  blocks_of (x ∷ l) = block_of x (blocks_of l) ∷ blocks_of l
 
   -- the anchor q, if it is in the history of x, and what is taken below it; or what is taken below x
   abbrev pub choose : P → (P → List P) → Option P → List P
   choose x f none = f x
-  choose x f (some q) = cond (inHistory s x (round q) (author q)) (q ∷ f q) (f x)
+  choose x f (some q) = cond (in_history s x (round q) (author q)) (q ∷ f q) (f x)
 
   -- the anchors that are taken below x, from the n rounds above the last block
   unfoldable pub taken : ℕ → P → List P
   taken zero x = []
-  taken (suc n) x = choose x (λ y. taken n y) (anchorAt (last s.chain + suc n))
+  taken (suc n) x = choose x (λ y. taken n y) (anchor_at (last s.chain + suc n))
 
   -- the chain after a commit of the anchor x
   unfoldable pub committed : P → Chain P
-  committed x = blocksOf (x ∷ taken (round x - suc (last s.chain)) x)
+  committed x = blocks_of (x ∷ taken (round x - suc (last s.chain)) x)

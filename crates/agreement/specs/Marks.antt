@@ -4,7 +4,7 @@ use Rattle.std.proofs.Math.Option.{Option, none}
 use Rattle.agreement.specs.Rules.{Block, Chain, Rules}
 use Rattle.agreement.specs.View.{View}
 use Rattle.agreement.specs.Dag.{is_held}
-use Rattle.agreement.specs.Histories.{inHistory}
+use Rattle.agreement.specs.Histories.{in_history}
 
 module _ {P : Type 0} (d : ℕ → ℕ → Option P) where
   -- the block of number n
@@ -12,26 +12,26 @@ module _ {P : Type 0} (d : ℕ → ℕ → Option P) where
   marked m n r = record { round = r; holds = λ a q. cond (eqb (m a q) n) (d a q) none }
 
   -- the chain that rounds and marks stand for
-  unfoldable pub markedChain : (ℕ → ℕ → ℕ) → List ℕ → Chain P
-  markedChain m [] = []
-  markedChain m (r ∷ l) = marked m (suc (length l)) r ∷ markedChain m l
+  unfoldable pub marked_chain : (ℕ → ℕ → ℕ) → List ℕ → Chain P
+  marked_chain m [] = []
+  marked_chain m (r ∷ l) = marked m (suc (length l)) r ∷ marked_chain m l
 
 -- the rounds of the blocks after a commit of the anchors, the first of them newest
-unfoldable pub roundsOf : (R : Rules) → List ℕ → List R.P → List ℕ
-roundsOf R rs [] = rs
-roundsOf R rs (x ∷ l) = R.round x ∷ roundsOf R rs l
+unfoldable pub rounds_of : (R : Rules) → List ℕ → List R.P → List ℕ
+rounds_of R rs [] = rs
+rounds_of R rs (x ∷ l) = R.round x ∷ rounds_of R rs l
 
 module _ {R : Rules} (s : View R) where
   open R use {P}
 
   -- the marks of one more block: those of the history of x that have none
-  unfoldable pub markBlock : P → ℕ → (ℕ → ℕ → ℕ) → ℕ → ℕ → ℕ
-  markBlock x n m a q = cond (eqb (m a q) 0 && inHistory s x q a) n (m a q)
+  unfoldable pub mark_block : P → ℕ → (ℕ → ℕ → ℕ) → ℕ → ℕ → ℕ
+  mark_block x n m a q = cond (eqb (m a q) 0 && in_history s x q a) n (m a q)
 
   -- the marks after a commit of the anchors, the first of them newest
-  unfoldable pub marksOf : (ℕ → ℕ → ℕ) → List ℕ → List P → ℕ → ℕ → ℕ
-  marksOf m rs [] = m
-  marksOf m rs (x ∷ l) = markBlock x (suc (length (roundsOf R rs l))) (marksOf m rs l)
+  unfoldable pub marks_of : (ℕ → ℕ → ℕ) → List ℕ → List P → ℕ → ℕ → ℕ
+  marks_of m rs [] = m
+  marks_of m rs (x ∷ l) = mark_block x (suc (length (rounds_of R rs l))) (marks_of m rs l)
 
   -- marks that fit a chain of n blocks: every mark names a block, and only held certificates have one
   pub record MarksFit (m : ℕ → ℕ → ℕ) (n : ℕ) : Type 0 where

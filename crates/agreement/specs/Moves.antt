@@ -12,23 +12,23 @@ use Rattle.agreement.specs.Invariants.{Signable, Certified}
 module _ {R : Rules} (s : View R) where
   open R use {P}
 
-  abbrev pub afterPropose : P → View R
-  afterPropose p = record { round = s.round; proposal = some p; dag = s.dag; endorsed = s.endorsed; chain = s.chain }
+  abbrev pub after_propose : P → View R
+  after_propose p = record { round = s.round; proposal = some p; dag = s.dag; endorsed = s.endorsed; chain = s.chain }
 
-  abbrev pub afterEndorse : P → View R
-  afterEndorse p = record { round = s.round; proposal = s.proposal; dag = s.dag; endorsed = mark R true p s.endorsed; chain = s.chain }
+  abbrev pub after_endorse : P → View R
+  after_endorse p = record { round = s.round; proposal = s.proposal; dag = s.dag; endorsed = mark R true p s.endorsed; chain = s.chain }
 
-  abbrev pub afterCertify : P → View R
-  afterCertify p = record { round = s.round; proposal = s.proposal; dag = put R p s.dag; endorsed = s.endorsed; chain = s.chain }
+  abbrev pub after_certify : P → View R
+  after_certify p = record { round = s.round; proposal = s.proposal; dag = put R p s.dag; endorsed = s.endorsed; chain = s.chain }
 
-  abbrev pub afterAccept : P → View R
-  afterAccept p = record { round = s.round; proposal = s.proposal; dag = put R p s.dag; endorsed = mark R false p s.endorsed; chain = s.chain }
+  abbrev pub after_accept : P → View R
+  after_accept p = record { round = s.round; proposal = s.proposal; dag = put R p s.dag; endorsed = mark R false p s.endorsed; chain = s.chain }
 
-  abbrev pub afterAdvance : View R
-  afterAdvance = record { round = suc s.round; proposal = none; dag = s.dag; endorsed = s.endorsed; chain = s.chain }
+  abbrev pub after_advance : View R
+  after_advance = record { round = suc s.round; proposal = none; dag = s.dag; endorsed = s.endorsed; chain = s.chain }
 
-  abbrev pub afterCommit : Chain P → View R
-  afterCommit c = record { round = s.round; proposal = s.proposal; dag = s.dag; endorsed = s.endorsed; chain = c }
+  abbrev pub after_commit : Chain P → View R
+  after_commit c = record { round = s.round; proposal = s.proposal; dag = s.dag; endorsed = s.endorsed; chain = c }
 
   -- the chains that a commit may make; that the first new block's anchor reaches the last old one is not asked, it follows from the votes
   pub data Extension : Chain P → Type 0 where
@@ -45,9 +45,9 @@ module _ {R : Rules} (correct : ℕ → Bool) (G : Log R) (k : ℕ) (s : View R)
   -- from the view s of member k, who signed l, where everybody signed G: the view after, and what the member has signed then
   pub data Move : View R → List P → Type 0 where
     other-call : Move s l
-    propose : (p : P) → author p ≡ k → round p ≡ s.round → s.proposal ≡ none → Signable s p → Move (afterPropose s p) (p ∷ l)
-    endorse : (p : P) → author p ≢ k → s.endorsed (author p) (round p) ≡ false → Free p → Signable s p → Move (afterEndorse s p) (p ∷ l)
-    certify : (p : P) → s.proposal ≡ some p → Free p → Certified correct G s p → Move (afterCertify s p) l
-    accept : (p : P) → Free p → Closed s p → Certified correct G s p → Move (afterAccept s p) l
-    advance : Move (afterAdvance s) l
-    commit : (c : Chain P) → Extension s c → LastElected s c → Move (afterCommit s c) l
+    propose : (p : P) → author p ≡ k → round p ≡ s.round → s.proposal ≡ none → Signable s p → Move (after_propose s p) (p ∷ l)
+    endorse : (p : P) → author p ≢ k → s.endorsed (author p) (round p) ≡ false → Free p → Signable s p → Move (after_endorse s p) (p ∷ l)
+    certify : (p : P) → s.proposal ≡ some p → Free p → Certified correct G s p → Move (after_certify s p) l
+    accept : (p : P) → Free p → Closed s p → Certified correct G s p → Move (after_accept s p) l
+    advance : Move (after_advance s) l
+    commit : (c : Chain P) → Extension s c → LastElected s c → Move (after_commit s c) l

@@ -7,13 +7,13 @@ module _ (R : Rules) where
   open R use {P, author, round}
 
   -- is (a, r) the place of p?
-  unfoldable pub isPlace : P → ℕ → ℕ → Bool
-  isPlace p a r = eqb a (author p) && eqb r (round p)
+  unfoldable pub is_place : P → ℕ → ℕ → Bool
+  is_place p a r = eqb a (author p) && eqb r (round p)
 
   -- the certificates d, and p at its place
   unfoldable pub put : P → (ℕ → ℕ → Option P) → ℕ → ℕ → Option P
-  put p d a r = cond (isPlace p a r) (some p) (d a r)
+  put p d a r = cond (is_place p a r) (some p) (d a r)
 
   -- the marks e, and b at the place of p
   unfoldable pub mark : Bool → P → (ℕ → ℕ → Bool) → ℕ → ℕ → Bool
-  mark b p e a r = cond (isPlace p a r) b (e a r)
+  mark b p e a r = cond (is_place p a r) b (e a r)

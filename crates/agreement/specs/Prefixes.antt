@@ -14,6 +14,6 @@ abbrev pub Comparable : {P : Type 0} → Chain P → Chain P → Type 0
 Comparable c d = (c ≼ d) ⊎ (d ≼ c)
 
 -- the block of number n, the oldest being number 1
-unfoldable pub blockNumbered : {P : Type 0} → Chain P → ℕ → Option (Block P)
-blockNumbered [] n = none
-blockNumbered (b ∷ c) n = cond (eqb n (suc (length c))) (some b) (blockNumbered c n)
+unfoldable pub block_numbered : {P : Type 0} → Chain P → ℕ → Option (Block P)
+block_numbered [] n = none
+block_numbered (b ∷ c) n = cond (eqb n (suc (length c))) (some b) (block_numbered c n)

@@ -8,8 +8,8 @@ use Rattle.agreement.specs.Moves.{Move}
 
 -- a member that has done nothing
 pub record Initial {R : Rules} (s : View R) : Type 0 where
-  pub no-proposal : s.proposal ≡ none
-  pub no-certificate : (a r : ℕ) → s.dag a r ≡ none
+  pub without_proposal : s.proposal ≡ none
+  pub no_certificate : (a r : ℕ) → s.dag a r ≡ none
   pub no_block : s.chain ≡ []
 
 module _ {R : Rules} (correct : ℕ → Bool) where

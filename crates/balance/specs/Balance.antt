@@ -4,37 +4,37 @@ use Rattle.agreement.specs.Weights.{total}
 use Rattle.agreement.specs.Rules.{Chain, last}
 use Rattle.terms.specs.declared.Transaction.{Transaction}
 use Rattle.terms.specs.Proposals.{Content}
-use Rattle.sheet.specs.Ranges.{weightIn}
-use Rattle.committee.specs.Chain.{chainOf}
+use Rattle.terms.specs.Ranges.{weight_in}
+use Rattle.committee.specs.Chain.{chain_of}
 use Rattle.engine.specs.Engine.{Engine}
 use Rattle.engine.specs.Reached.{Reached}
 use Rattle.nonforking.specs.Statement.{listed, Knows, weights}
-use Rattle.ledger.specs.Ledger.{entered, journal, listedTransactions, bondedTo, releasedFrom, bondedAll, releasedAll}
+use Rattle.balance.specs.Ledger.{entered, journal, listed_transactions, bonded_to, released_from, bonded_all, released_all}
 
 -- the starting weights
 abbrev pub start : Engine → ℕ → ℕ
-start e = weightIn e.state.settings.weights
+start e = weight_in e.state.settings.weights
 
 -- the first k blocks of an engine's chain, and the whole chain where k is the number of its blocks
-abbrev pub chainTo : Engine → ℕ → Chain Content
-chainTo e k = chainOf e.state.settings.ceiling.0 e.table k
+abbrev pub chain_to : Engine → ℕ → Chain Content
+chain_to e k = chain_of e.state.settings.ceiling.0 e.table k
 
 -- their transactions, newest first
-abbrev pub transactionsTo : Engine → ℕ → List Transaction
-transactionsTo e k = journal e.state.settings (chainTo e k)
+abbrev pub transactions_to : Engine → ℕ → List Transaction
+transactions_to e k = journal e.state.settings (chain_to e k)
 
 -- the first round whose committee they all change; the first above the lookback where there are none
-abbrev pub roundAfter : Engine → ℕ → ℕ
-roundAfter e k = e.state.settings.lookback + (last (chainTo e k) + 1)
+abbrev pub round_after : Engine → ℕ → ℕ
+round_after e k = e.state.settings.lookback + (last (chain_to e k) + 1)
 
 -- after the first k blocks: what there is and what was released is what there was and what was bonded; so no more is released than that, and "less" is exact
 pub record AddsUpTo (e : Engine) (k : ℕ) : Type 0 where
   -- that round is known
-  pub known : Knows e (roundAfter e k)
+  pub known : Knows e (round_after e k)
   -- each member alone
-  pub each : (m : ℕ) → m < 16 → weights e (roundAfter e k) m + releasedFrom (start e) m (transactionsTo e k) ≡ start e m + bondedTo m (transactionsTo e k)
+  pub each : (m : ℕ) → m < 16 → weights e (round_after e k) m + released_from (start e) m (transactions_to e k) ≡ start e m + bonded_to m (transactions_to e k)
   -- all together
-  pub whole : total 16 (weights e (roundAfter e k)) + releasedAll (start e) (transactionsTo e k) ≡ total 16 (start e) + bondedAll (transactionsTo e k)
+  pub whole : total 16 (weights e (round_after e k)) + released_all (start e) (transactions_to e k) ≡ total 16 (start e) + bonded_all (transactions_to e k)
 
 pub record AddsUp (e : Engine) : Type 0 where
   pub after-all : AddsUpTo e e.state.blocks
@@ -43,7 +43,7 @@ pub record AddsUp (e : Engine) : Type 0 where
   -- in the committee of every round
   pub bounded : (r : ℕ) → total 16 (weights e r) ≤ 81536000
   -- the transactions are those that the chain's listing shows
-  pub shown : transactionsTo e e.state.blocks ≡ entered (listedTransactions (listed e)) []
+  pub shown : transactions_to e e.state.blocks ≡ entered (listed_transactions (listed e)) []
 
 -- the claim, of every engine that calls from an accepted open lead to
 abbrev pub WeightsAddUp : Type 0

@@ -15,18 +15,18 @@ pub record Filling {A : Type 0} (f : ℕ → A) (n : ℕ) (l : List A) (i : ℕ)
   pub all : length l ≡ n
 
 module _ {A : Type 0} {f : ℕ → A} {n : ℕ} {l : List A} where
-  pub filling-none : length l ≡ n → Filling f n l 0
+  pub filling_none : length l ≡ n → Filling f n l 0
   unfolding tab
-  filling-none e = record { so_far = omega arith; front = refl; all = e }
+  filling_none e = record { so_far = omega arith; front = refl; all = e }
 
-  pub filling-more : {i : ℕ} {x : A} → Filling f n l i → i < n → x ≡ f i → Filling f n (set l i x) (i + 1)
+  pub filling_more : {i : ℕ} {x : A} → Filling f n l i → i < n → x ≡ f i → Filling f n (set l i x) (i + 1)
   unfolding tab
-  filling-more {i} {x} p h e =
+  filling_more {i} {x} p h e =
       let k = p.all in
       record { so_far = omega arith; front = rw (add-one i, take-suc-set l i x (omega arith), p.front, e) refl; all = length-set l i x ∙ k }
 
-  pub filling-all : {i : ℕ} → Filling f n l i → n ≤ i → l ≡ tab f n
-  filling-all {i} p h =
+  pub filling_all : {i : ℕ} → Filling f n l i → n ≤ i → l ≡ tab f n
+  filling_all {i} p h =
       let q = p.so_far in
       let k = p.all in
       let e : i ≡ n = omega arith in
@@ -38,16 +38,16 @@ pub record Pasting (t : List ℕ) (b : ℕ) (w : List ℕ) (n : ℕ) (u : List �
   pub pasted : u ≡ paste t b w k
   pub kept : length u ≡ length t
 
-pub pasting-none : (t : List ℕ) (b : ℕ) (w : List ℕ) (n : ℕ) → Pasting t b w n t 0
-pasting-none t b w n = record { so_far = omega arith; pasted = paste-zero t b w; kept = refl }
+pub pasting_none : (t : List ℕ) (b : ℕ) (w : List ℕ) (n : ℕ) → Pasting t b w n t 0
+pasting_none t b w n = record { so_far = omega arith; pasted = paste-zero t b w; kept = refl }
 
 module _ {t : List ℕ} {b : ℕ} {w : List ℕ} {n : ℕ} {u : List ℕ} where
-  pub pasting-more : {k x : ℕ} → Pasting t b w n u k → k < n → b + k < length t → k < length w → x ≡ get_or w k 0 → Pasting t b w n (set u (b + k) x) (k + 1)
-  pasting-more {k} {x} p h room l e =
+  pub pasting_more : {k x : ℕ} → Pasting t b w n u k → k < n → b + k < length t → k < length w → x ≡ get_or w k 0 → Pasting t b w n (set u (b + k) x) (k + 1)
+  pasting_more {k} {x} p h room l e =
       record { so_far = omega arith; pasted = rw (add-one k, p.pasted, e) (paste-suc t b w k 0 room l); kept = length-set u (b + k) x ∙ p.kept }
 
-  pub pasting-all : {k : ℕ} → Pasting t b w n u k → n ≤ k → u ≡ paste t b w n
-  pasting-all {k} p h =
+  pub pasting_all : {k : ℕ} → Pasting t b w n u k → n ≤ k → u ≡ paste t b w n
+  pasting_all {k} p h =
       let q = p.so_far in
       let e : k ≡ n = omega arith in
       rw e at p.pasted

@@ -9,3 +9,4 @@ pub mod SetLaws
 pub mod UnionLaws
 pub mod PasteLaws
 pub mod FillLaws
+pub mod PutLaws

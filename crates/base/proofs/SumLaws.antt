@@ -21,10 +21,10 @@ sum_same f g zero e = refl
 sum_same f g (suc n) e = rw (sum_same f g n (λ i h. e i (omega arith)), e n (omega arith)) refl
 
 -- a sum without one part
-pub sum-without : (f g : ℕ → ℕ) (n a : ℕ) → a < n → g a ≡ 0 → ((i : ℕ) → i ≢ a → g i ≡ f i) → sum_to g n + f a ≡ sum_to f n
+pub sum_without : (f g : ℕ → ℕ) (n a : ℕ) → a < n → g a ≡ 0 → ((i : ℕ) → i ≢ a → g i ≡ f i) → sum_to g n + f a ≡ sum_to f n
 unfolding sum_to
-sum-without f g zero a h z e = absurd (omega arith)
-sum-without f g (suc n) a h z e = go (ℕ_discrete a n) (λ l. sum-without f g n a l z e)
+sum_without f g zero a h z e = absurd (omega arith)
+sum_without f g (suc n) a h z e = go (ℕ_discrete a n) (λ l. sum_without f g n a l z e)
   where
     go : Dec (a ≡ n) → (a < n → sum_to g n + f a ≡ sum_to f n) → sum_to g n + g n + f a ≡ sum_to f n + f n
     go (yes x) k =
@@ -35,22 +35,22 @@ sum-without f g (suc n) a h z e = go (ℕ_discrete a n) (λ l. sum-without f g n
     go (no x) k = let s = k (omega arith) in let y = e n (λ q. x (sym q)) in omega arith
 
 -- each at most b
-pub sum-le : (f : ℕ → ℕ) (b n : ℕ) → ((i : ℕ) → i < n → f i ≤ b) → sum_to f n ≤ n * b
+pub sum_le : (f : ℕ → ℕ) (b n : ℕ) → ((i : ℕ) → i < n → f i ≤ b) → sum_to f n ≤ n * b
 unfolding sum_to
-sum-le f b zero h = omega arith
-sum-le f b (suc n) h = let i = sum-le f b n (λ i l. h i (omega arith)) in let p = h n (omega arith) in simp suc-mul (omega arith)
+sum_le f b zero h = omega arith
+sum_le f b (suc n) h = let i = sum_le f b n (λ i l. h i (omega arith)) in let p = h n (omega arith) in simp suc-mul (omega arith)
 
 -- the sum of sums
-pub sum-add : (f g : ℕ → ℕ) (n : ℕ) → sum_to (λ i. f i + g i) n ≡ sum_to f n + sum_to g n
+pub sum_add : (f g : ℕ → ℕ) (n : ℕ) → sum_to (λ i. f i + g i) n ≡ sum_to f n + sum_to g n
 unfolding sum_to
-sum-add f g zero = refl
-sum-add f g (suc n) = let h = sum-add f g n in omega arith
+sum_add f g zero = refl
+sum_add f g (suc n) = let h = sum_add f g n in omega arith
 
 -- each part is at most the sum
-pub sum-at : (f : ℕ → ℕ) (n i : ℕ) → i < n → f i ≤ sum_to f n
+pub sum_at : (f : ℕ → ℕ) (n i : ℕ) → i < n → f i ≤ sum_to f n
 unfolding sum_to
-sum-at f zero i h = absurd (omega arith)
-sum-at f (suc n) i h = go (ℕ_discrete i n) (λ l. sum-at f n i l)
+sum_at f zero i h = absurd (omega arith)
+sum_at f (suc n) i h = go (ℕ_discrete i n) (λ l. sum_at f n i l)
   where
     go : Dec (i ≡ n) → (i < n → f i ≤ sum_to f n) → f i ≤ sum_to f n + f n
     go (yes e) k = rw e (omega arith)
@@ -74,16 +74,16 @@ sum_mono f g n h = go (dec_lt (sum_to g n) (sum_to f n))
     go (yes l) = let x = sum_less g f n l in absurd (omega (arith, h x.0 x.1, x.2))
     go (no l) = omega arith
 
-pub sum-none : (n : ℕ) → sum_to (λ i. 0) n ≡ 0
+pub sum_to_none : (n : ℕ) → sum_to (λ i. 0) n ≡ 0
 unfolding sum_to
-sum-none zero = refl
-sum-none (suc n) = let h = sum-none n in omega arith
+sum_to_none zero = refl
+sum_to_none (suc n) = let h = sum_to_none n in omega arith
 
 -- one part alone: none, or that part
-pub sum-only : (f : ℕ → ℕ) (m n : ℕ) → (n ≤ m → sum_to (λ i. cond (eqb m i) (f i) 0) n ≡ 0) × (m < n → sum_to (λ i. cond (eqb m i) (f i) 0) n ≡ f m)
+pub sum_only : (f : ℕ → ℕ) (m n : ℕ) → (n ≤ m → sum_to (λ i. cond (eqb m i) (f i) 0) n ≡ 0) × (m < n → sum_to (λ i. cond (eqb m i) (f i) 0) n ≡ f m)
 unfolding sum_to
-sum-only f m zero = (λ _. refl, λ l. absurd (omega arith))
-sum-only f m (suc n) = by (ℕ_discrete m n) (sum-only f m n)
+sum_only f m zero = (λ _. refl, λ l. absurd (omega arith))
+sum_only f m (suc n) = by (ℕ_discrete m n) (sum_only f m n)
   where
     by : Dec (m ≡ n) → (n ≤ m → sum_to (λ i. cond (eqb m i) (f i) 0) n ≡ 0) × (m < n → sum_to (λ i. cond (eqb m i) (f i) 0) n ≡ f m)
         → (suc n ≤ m → sum_to (λ i. cond (eqb m i) (f i) 0) n + cond (eqb m n) (f n) 0 ≡ 0) × (m < suc n → sum_to (λ i. cond (eqb m i) (f i) 0) n + cond (eqb m n) (f n) 0 ≡ f m)
@@ -92,42 +92,42 @@ sum-only f m (suc n) = by (ℕ_discrete m n) (sum-only f m n)
 
 -- so at most it
 pub sum_one : (a m n : ℕ) → sum_to (λ i. cond (eqb m i) a 0) n ≤ a
-sum_one a m n = go (dec_lt m n) (sum-only (λ i. a) m n)
+sum_one a m n = go (dec_lt m n) (sum_only (λ i. a) m n)
   where
     go : Dec (m < n) → (n ≤ m → sum_to (λ i. cond (eqb m i) a 0) n ≡ 0) × (m < n → sum_to (λ i. cond (eqb m i) a 0) n ≡ a) → sum_to (λ i. cond (eqb m i) a 0) n ≤ a
     go (yes l) p = let e = p.1 l in omega arith
     go (no l) p = let e = p.0 (omega arith) in omega arith
 
 -- a longer sum is no smaller
-pub sum-up : (f : ℕ → ℕ) (i n : ℕ) → i ≤ n → sum_to f i ≤ sum_to f n
+pub sum_up : (f : ℕ → ℕ) (i n : ℕ) → i ≤ n → sum_to f i ≤ sum_to f n
 unfolding sum_to
-sum-up f i zero h = let e : i ≡ 0 = omega arith in rw e (omega arith)
-sum-up f i (suc n) h = go (ℕ_discrete i (suc n)) (λ l. sum-up f i n l)
+sum_up f i zero h = let e : i ≡ 0 = omega arith in rw e (omega arith)
+sum_up f i (suc n) h = go (ℕ_discrete i (suc n)) (λ l. sum_up f i n l)
   where
     go : Dec (i ≡ suc n) → (i ≤ n → sum_to f i ≤ sum_to f n) → sum_to f i ≤ sum_to f n + f n
     go (yes e) k = rw e (omega arith)
     go (no e) k = let q = k (omega arith) in omega arith
 
 -- rows before columns, or columns before rows
-pub sum-swap : (f : ℕ → ℕ → ℕ) (m n : ℕ) → sum_to (λ k. sum_to (f k) n) m ≡ sum_to (λ r. sum_to (λ k. f k r) m) n
+pub sum_swap : (f : ℕ → ℕ → ℕ) (m n : ℕ) → sum_to (λ k. sum_to (f k) n) m ≡ sum_to (λ r. sum_to (λ k. f k r) m) n
 unfolding sum_to
-sum-swap f zero n = sym (sum-none n)
-sum-swap f (suc m) n = rw (sum-swap f m n) (sym (sum-add (λ r. sum_to (λ k. f k r) m) (f m) n))
+sum_swap f zero n = sym (sum_to_none n)
+sum_swap f (suc m) n = rw (sum_swap f m n) (sym (sum_add (λ r. sum_to (λ k. f k r) m) (f m) n))
 
 -- the sum from one further on: the first part less, one more at the end
-sum-shift : (f : ℕ → ℕ) (n : ℕ) → f 0 + sum_to (λ i. f (suc i)) n ≡ sum_to f (suc n)
+sum_shift : (f : ℕ → ℕ) (n : ℕ) → f 0 + sum_to (λ i. f (suc i)) n ≡ sum_to f (suc n)
 unfolding sum_to
-sum-shift f zero = omega arith
-sum-shift f (suc n) = let h : f 0 + sum_to (λ i. f (suc i)) n ≡ sum_to f n + f n = sum-shift f n in omega arith
+sum_shift f zero = omega arith
+sum_shift f (suc n) = let h : f 0 + sum_to (λ i. f (suc i)) n ≡ sum_to f n + f n = sum_shift f n in omega arith
 
 -- sixteen parts, from any one of them round
-pub sum-turned : (f : ℕ → ℕ) (a : ℕ) → sum_to (λ i. f ((a + i) % 16)) 16 ≡ sum_to f 16
-sum-turned f zero = sum_same (λ i. f ((0 + i) % 16)) f 16 (λ i h. ap f (omega arith))
-sum-turned f (suc a) =
+pub sum_turned : (f : ℕ → ℕ) (a : ℕ) → sum_to (λ i. f ((a + i) % 16)) 16 ≡ sum_to f 16
+sum_turned f zero = sum_same (λ i. f ((0 + i) % 16)) f 16 (λ i h. ap f (omega arith))
+sum_turned f (suc a) =
     let g : ℕ → ℕ = λ i. f ((a + i) % 16) in
     let p : sum_to (λ i. f ((suc a + i) % 16)) 16 ≡ sum_to (λ i. g (suc i)) 16 = sum_same (λ i. f ((suc a + i) % 16)) (λ i. g (suc i)) 16 (λ i h. ap f (omega arith)) in
-    let q = sum-shift g 16 in
+    let q = sum_shift g 16 in
     let r = sum_more g 16 in
     let e : g 16 ≡ g 0 = ap f (omega arith) in
-    let k = sum-turned f a in
+    let k = sum_turned f a in
     omega arith

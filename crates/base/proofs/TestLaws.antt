@@ -8,119 +8,119 @@ use Prim.Native.Nat.{ℕ, zero, suc, ◌+◌, ◌<◌, ◌≤◌}
 use native.Mathlib.Omega.{arith}
 use native.Mathlib.Numerals.{add-one}
 use Rattle.base.proofs.Bools.{both}
-use Rattle.base.specs.Folds.{allTo, anyTo}
+use Rattle.base.specs.Folds.{all_to, any_to}
 
-pub all_more : (f : ℕ → Bool) (n : ℕ) → allTo f (n + 1) ≡ (allTo f n && f n)
-unfolding allTo
+pub all_more : (f : ℕ → Bool) (n : ℕ) → all_to f (n + 1) ≡ (all_to f n && f n)
+unfolding all_to
 all_more f n = simp add-one
 
 -- one that fails is enough
-pub all-fails : (f : ℕ → Bool) (n i : ℕ) → i < n → f i ≡ false → allTo f n ≡ false
-unfolding allTo
-all-fails f zero i h e = absurd (omega arith)
-all-fails f (suc n) i h e = ⊎_elim (λ (q : i ≡ n). rw (← q, e) (and-false (allTo f i))) (λ l. rw (all-fails f n i l e)) (eq-or-lt_of_le (le h))
+pub all_fails : (f : ℕ → Bool) (n i : ℕ) → i < n → f i ≡ false → all_to f n ≡ false
+unfolding all_to
+all_fails f zero i h e = absurd (omega arith)
+all_fails f (suc n) i h e = ⊎_elim (λ (q : i ≡ n). rw (← q, e) (and-false (all_to f i))) (λ l. rw (all_fails f n i l e)) (eq-or-lt_of_le (le h))
   where
     le : i < suc n → i ≤ n
     le l = omega arith
 
 -- where all hold, each does
-pub all-at : (f : ℕ → Bool) (n i : ℕ) → i < n → allTo f n ≡ true → f i ≡ true
-unfolding allTo
+pub all-at : (f : ℕ → Bool) (n i : ℕ) → i < n → all_to f n ≡ true → f i ≡ true
+unfolding all_to
 all-at f zero i h e = absurd (omega arith)
-all-at f (suc n) i h e = go (ℕ_discrete i n) (both (allTo f n) (f n) e) (λ l. all-at f n i l)
+all-at f (suc n) i h e = go (ℕ_discrete i n) (both (all_to f n) (f n) e) (λ l. all-at f n i l)
   where
-    go : Dec (i ≡ n) → (allTo f n ≡ true) × (f n ≡ true) → (i < n → allTo f n ≡ true → f i ≡ true) → f i ≡ true
+    go : Dec (i ≡ n) → (all_to f n ≡ true) × (f n ≡ true) → (i < n → all_to f n ≡ true → f i ≡ true) → f i ≡ true
     go (yes q) p k = rw q p.1
     go (no q) p k = k (omega arith) p.0
 
 -- where each holds, all do
-pub all_hold : (f : ℕ → Bool) (n : ℕ) → ((i : ℕ) → i < n → f i ≡ true) → allTo f n ≡ true
-unfolding allTo
+pub all_hold : (f : ℕ → Bool) (n : ℕ) → ((i : ℕ) → i < n → f i ≡ true) → all_to f n ≡ true
+unfolding all_to
 all_hold f zero h = refl
 all_hold f (suc n) h = rw (all_hold f n (λ i l. h i (omega arith)), h n (omega arith)) refl
 
 -- tests that agree below n
-pub all_same : (f g : ℕ → Bool) (n : ℕ) → ((i : ℕ) → i < n → f i ≡ g i) → allTo f n ≡ allTo g n
-unfolding allTo
+pub all_same : (f g : ℕ → Bool) (n : ℕ) → ((i : ℕ) → i < n → f i ≡ g i) → all_to f n ≡ all_to g n
+unfolding all_to
 all_same f g zero e = refl
 all_same f g (suc n) e = rw (all_same f g n (λ i h. e i (omega arith)), e n (omega arith)) refl
 
 -- those from z on hold
-pub all-high : (f : ℕ → Bool) (n z : ℕ) → z ≤ n → ((i : ℕ) → z ≤ i → f i ≡ true) → allTo f n ≡ allTo f z
-unfolding allTo
+pub all-high : (f : ℕ → Bool) (n z : ℕ) → z ≤ n → ((i : ℕ) → z ≤ i → f i ≡ true) → all_to f n ≡ all_to f z
+unfolding all_to
 all-high f zero z h high = let e : z ≡ 0 = omega arith in rw e refl
 all-high f (suc n) z h high = go (ℕ_discrete z (suc n)) (λ l. all-high f n z l high)
   where
-    go : Dec (z ≡ suc n) → (z ≤ n → allTo f n ≡ allTo f z) → (allTo f n && f n) ≡ allTo f z
+    go : Dec (z ≡ suc n) → (z ≤ n → all_to f n ≡ all_to f z) → (all_to f n && f n) ≡ all_to f z
     go (yes p) k = rw p refl
-    go (no p) k = rw (high n (omega arith), and_comm (allTo f n) true) (k (omega arith))
+    go (no p) k = rw (high n (omega arith), and_comm (all_to f n) true) (k (omega arith))
 
 -- n tests, of which the first i hold
 pub record AllSoFar (f : ℕ → Bool) (n i : ℕ) : Type 0 where
   pub so_far : i ≤ n
-  pub hold : allTo f i ≡ true
+  pub hold : all_to f i ≡ true
 
 pub all_start : (f : ℕ → Bool) (n : ℕ) → AllSoFar f n 0
-unfolding allTo
+unfolding all_to
 all_start f n = record { so_far = omega arith; hold = refl }
 
 module _ {f : ℕ → Bool} {n i : ℕ} where
   pub all-next : AllSoFar f n i → i < n → f i ≡ true → AllSoFar f n (i + 1)
   all-next p h e = record { so_far = omega arith; hold = all_more f i ∙ rw (p.hold, e) refl }
 
-  pub all_done : AllSoFar f n i → n ≤ i → allTo f n ≡ true
+  pub all_done : AllSoFar f n i → n ≤ i → all_to f n ≡ true
   all_done p h =
       let q = p.so_far in
       let e : i ≡ n = omega arith in
       rw e at p.hold
 
-pub any-more : (f : ℕ → Bool) (n : ℕ) → anyTo f (n + 1) ≡ (anyTo f n || f n)
-unfolding anyTo
-any-more f n = simp add-one
+pub any_more : (f : ℕ → Bool) (n : ℕ) → any_to f (n + 1) ≡ (any_to f n || f n)
+unfolding any_to
+any_more f n = simp add-one
 
 -- some holds exactly where not all fail
-pub any-all : (f : ℕ → Bool) (n : ℕ) → anyTo f n ≡ not (allTo (λ i. not (f i)) n)
-unfolding anyTo allTo
-any-all f zero = refl
-any-all f (suc n) = rw (any-all f n) (go (allTo (λ i. not (f i)) n) (f n))
+pub any_all : (f : ℕ → Bool) (n : ℕ) → any_to f n ≡ not (all_to (λ i. not (f i)) n)
+unfolding any_to all_to
+any_all f zero = refl
+any_all f (suc n) = rw (any_all f n) (go (all_to (λ i. not (f i)) n) (f n))
   where
     go : (a b : Bool) → (not a || b) ≡ not (a && not b)
     go true true = refl
     go true false = refl
     go false b = refl
 
-pub any_same : (f g : ℕ → Bool) (n : ℕ) → ((i : ℕ) → i < n → f i ≡ g i) → anyTo f n ≡ anyTo g n
-unfolding anyTo
+pub any_same : (f g : ℕ → Bool) (n : ℕ) → ((i : ℕ) → i < n → f i ≡ g i) → any_to f n ≡ any_to g n
+unfolding any_to
 any_same f g zero e = refl
 any_same f g (suc n) e = rw (any_same f g n (λ i h. e i (omega arith)), e n (omega arith)) refl
 
 -- the one for which a test holds
-pub any-true : (f : ℕ → Bool) (n : ℕ) → anyTo f n ≡ true → (i : ℕ) × (i < n) × (f i ≡ true)
-unfolding anyTo
-any-true f zero h = absurd (false≢true h)
-any-true f (suc n) h = go (f n) refl (λ e. any-true f n e) h
+pub any_true : (f : ℕ → Bool) (n : ℕ) → any_to f n ≡ true → (i : ℕ) × (i < n) × (f i ≡ true)
+unfolding any_to
+any_true f zero h = absurd (false≢true h)
+any_true f (suc n) h = go (f n) refl (λ e. any_true f n e) h
   where
-    go : (b : Bool) → f n ≡ b → (anyTo f n ≡ true → (i : ℕ) × (i < n) × (f i ≡ true)) → (anyTo f n || b) ≡ true → (i : ℕ) × (i < suc n) × (f i ≡ true)
+    go : (b : Bool) → f n ≡ b → (any_to f n ≡ true → (i : ℕ) × (i < n) × (f i ≡ true)) → (any_to f n || b) ≡ true → (i : ℕ) × (i < suc n) × (f i ≡ true)
     go true e g k = (n, le_refl (suc n), e)
-    go false e g k = let x = g (left (anyTo f n) k) in (x.0, omega (arith, x.1), x.2)
+    go false e g k = let x = g (left (any_to f n) k) in (x.0, omega (arith, x.1), x.2)
       where
         left : (a : Bool) → (a || false) ≡ true → a ≡ true
         left true h = refl
         left false h = h
 
-pub true-any : (f : ℕ → Bool) (n i : ℕ) → i < n → f i ≡ true → anyTo f n ≡ true
-unfolding anyTo
-true-any f zero i h e = absurd (omega arith)
-true-any f (suc n) i h e = go (ℕ_discrete i n) (λ l. true-any f n i l e)
+pub true_any : (f : ℕ → Bool) (n i : ℕ) → i < n → f i ≡ true → any_to f n ≡ true
+unfolding any_to
+true_any f zero i h e = absurd (omega arith)
+true_any f (suc n) i h e = go (ℕ_discrete i n) (λ l. true_any f n i l e)
   where
-    go : Dec (i ≡ n) → (i < n → anyTo f n ≡ true) → (anyTo f n || f n) ≡ true
-    go (yes k) g = rw (← k, e) (or-true (anyTo f i))
+    go : Dec (i ≡ n) → (i < n → any_to f n ≡ true) → (any_to f n || f n) ≡ true
+    go (yes k) g = rw (← k, e) (or-true (any_to f i))
     go (no k) g = rw (g (omega arith)) refl
 
 -- where none holds, each fails
-pub any_false : (f : ℕ → Bool) (n i : ℕ) → i < n → anyTo f n ≡ false → f i ≡ false
+pub any_false : (f : ℕ → Bool) (n i : ℕ) → i < n → any_to f n ≡ false → f i ≡ false
 any_false f n i h e = go (f i) refl
   where
     go : (b : Bool) → f i ≡ b → f i ≡ false
-    go true q = absurd (true≢false (sym (true-any f n i h q) ∙ e))
+    go true q = absurd (true≢false (sym (true_any f n i h q) ∙ e))
     go false q = q

@@ -2,19 +2,19 @@
 use Rattle.std.specs.Prelude.{Bool, true, false, ◌&&◌, ◌||◌, List, [], ◌∷◌, ◌++◌, ℕ, zero, suc, ◌+◌}
 
 -- f applied for each number below n, rising
-unfoldable pub foldTo : {A : Type 0} → (ℕ → A → A) → ℕ → A → A
-foldTo f zero a = a
-foldTo f (suc n) a = f n (foldTo f n a)
+unfoldable pub fold_to : {A : Type 0} → (ℕ → A → A) → ℕ → A → A
+fold_to f zero a = a
+fold_to f (suc n) a = f n (fold_to f n a)
 
 -- f holds at each number below n
-unfoldable pub allTo : (ℕ → Bool) → ℕ → Bool
-allTo f zero = true
-allTo f (suc n) = allTo f n && f n
+unfoldable pub all_to : (ℕ → Bool) → ℕ → Bool
+all_to f zero = true
+all_to f (suc n) = all_to f n && f n
 
 -- f holds at some number below n
-unfoldable pub anyTo : (ℕ → Bool) → ℕ → Bool
-anyTo f zero = false
-anyTo f (suc n) = anyTo f n || f n
+unfoldable pub any_to : (ℕ → Bool) → ℕ → Bool
+any_to f zero = false
+any_to f (suc n) = any_to f n || f n
 
 -- the sum of f at each number below n
 unfoldable pub sum_to : (ℕ → ℕ) → ℕ → ℕ

@@ -1,3 +1,5 @@
+pub mod OrderLaws
+pub mod AnswerLaws
 pub mod BatchLaws
 pub mod FrozenLaws
 pub mod AgainLaws

@@ -2,12 +2,12 @@
 use Rattle.std.specs.Prelude.{◌≡◌, true, false, cond, List, ℕ, ◌<◌}
 use Rattle.std.proofs.Math.Option.{some}
 use Rattle.terms.specs.declared.Certificate.{Certificate}
-use Rattle.terms.specs.Proposals.{contentOf, sameProposal}
-use Rattle.store.specs.Table.{held_at, contentAt}
+use Rattle.terms.specs.Proposals.{content_of, same_proposal}
+use Rattle.store.specs.Table.{held_at, content_at}
 use Rattle.state.specs.declared.State.{State}
-use Rattle.accept.specs.Accept.{acceptRefusal}
-use Rattle.turns.specs.Order.{earlier}
-use Rattle.batch.specs.Batch.{Row, key_of, triedTable, answerAt, batchRefusal}
+use Rattle.accept.specs.Accept.{accept_refusal}
+use Rattle.batch.specs.Order.{earlier}
+use Rattle.batch.specs.Batch.{Row, key_of, tried_table, answer_at, batch_refusal}
 
 -- a certificate that can be read is tried by its own round and author, and its sets are 16-bit numbers
 pub record RowReads (row : Row) : Type 0 where
@@ -21,18 +21,18 @@ module _ (s : State) (row : Row) (t : List ℕ) where
     pub place : i < row.count
     pub offered : (row.at i).certificate ≡ some d
     pub later : earlier (λ p. (row.at p).key) q i ≡ true
-    pub accepted : answerAt s row t i ≡ 0
+    pub accepted : answer_at s row t i ≡ 0
     pub same-author : d.proposal.author.0 ≡ c.proposal.author.0
     pub same-round : d.proposal.round.0 ≡ c.proposal.round.0
-    pub held : contentAt (triedTable s row t) c.proposal.author.0 c.proposal.round.0 ≡ contentOf d.proposal
-    pub another : sameProposal (contentOf c.proposal) (contentOf d.proposal) ≡ false
+    pub held : content_at (tried_table s row t) c.proposal.author.0 c.proposal.round.0 ≡ content_of d.proposal
+    pub another : same_proposal (content_of c.proposal) (content_of d.proposal) ≡ false
 
   -- c, offered again on the table that the batch left, gets 17 exactly where its place is held then, by another of the row, and 11 else
   pub record AgainAs (q : ℕ) (c : Certificate) : Type 0 where
-    pub number : acceptRefusal s (triedTable s row t) c ≡ cond (held_at (triedTable s row t) c.proposal.author.0 c.proposal.round.0) 17 11
-    pub filled : held_at (triedTable s row t) c.proposal.author.0 c.proposal.round.0 ≡ true → (i : ℕ) × (d : Certificate) × FilledBy q c i d
+    pub number : accept_refusal s (tried_table s row t) c ≡ cond (held_at (tried_table s row t) c.proposal.author.0 c.proposal.round.0) 17 11
+    pub filled : held_at (tried_table s row t) c.proposal.author.0 c.proposal.round.0 ≡ true → (i : ℕ) × (d : Certificate) × FilledBy q c i d
 
 -- the claim, of an accepted batch
 abbrev pub ElevenAgainOrSeventeen : Type 0
-ElevenAgainOrSeventeen = (s : State) (t : List ℕ) (row : Row) (room : ℕ) → RowReads row → s.body.previous < 65536 → batchRefusal s t row.count room ≡ 0
-    → (q : ℕ) (c : Certificate) → q < row.count → (row.at q).certificate ≡ some c → answerAt s row t q ≡ 11 → AgainAs s row t q c
+ElevenAgainOrSeventeen = (s : State) (t : List ℕ) (row : Row) (room : ℕ) → RowReads row → s.body.previous < 65536 → batch_refusal s t row.count room ≡ 0
+    → (q : ℕ) (c : Certificate) → q < row.count → (row.at q).certificate ≡ some c → answer_at s row t q ≡ 11 → AgainAs s row t q c

@@ -1,2 +1,4 @@
+pub mod Turns
+pub mod Order
 pub mod Batch
 pub mod Again

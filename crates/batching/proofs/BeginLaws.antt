@@ -6,14 +6,14 @@ use Prim.Native.Nat.{ℕ, ◌+◌, ◌<◌}
 use native.Mathlib.Omega.{arith}
 use lib.Dec.{eqb}
 use borrow.Author.Tests.{eqb-true}
-use Rattle.cache.specs.Caches.{firstRound}
+use Rattle.running.specs.Caches.{first_round}
 use Rattle.state.specs.declared.State.{State}
 use Rattle.state.proofs.FormedLaws.{formed}
-use Rattle.batch.specs.Batch.{batchRefusal}
+use Rattle.batch.specs.Batch.{batch_refusal}
 use Rattle.batch.proofs.BatchLaws.{batch-passed}
-use Rattle.offering.specs.declared.Progress.{Progress}
-use Rattle.offering.specs.TakenTurns.{Ready}
-use Rattle.batching.specs.Begun.{freshStage}
+use Rattle.batching.specs.declared.offering.Progress.{Progress}
+use Rattle.batching.specs.TakenTurns.{Ready}
+use Rattle.batching.specs.Begun.{fresh_stage}
 
 -- where turns are taken the batch is not refused, and it has a record
 pub some-turns : {r n k : ℕ} → k ≡ cond (eqb r 0) (n + n) 0 → 0 < k → (r ≡ 0) × (0 < n)
@@ -23,9 +23,9 @@ some-turns {r} {n} {k} e h = go (eqb r 0) refl e
     go true x y = (eqb-true r 0 x, omega arith)
     go false x y = absurd (omega arith)
 
-module _ (s : State) (t : List ℕ) (n room : ℕ) (w : Progress) (fresh : w.stage ≡ freshStage n) (empty : firstRound w.cache ≡ 4294967296) where
+module _ (s : State) (t : List ℕ) (n room : ℕ) (w : Progress) (fresh : w.stage ≡ fresh_stage n) (empty : first_round w.cache ≡ 4294967296) where
   -- an accepted batch of some records
-  pub ready-begun : batchRefusal s t n room ≡ 0 → 0 < n → s.body.previous < 65536 → Ready n s t w
+  pub ready-begun : batch_refusal s t n room ≡ 0 → 0 < n → s.body.previous < 65536 → Ready n s t w
   ready-begun a h low =
       let p = batch-passed s t n room a in
       let f = (formed s t p.0).settings.ceiling-to in
@@ -33,6 +33,6 @@ module _ (s : State) (t : List ℕ) (n room : ℕ) (w : Progress) (fresh : w.sta
         count = rw fresh refl;
         fits = rw fresh (record { few = p.1; place = h; seen = omega arith });
         formed = p.0;
-        set-in-range = low;
+        set_in_range = low;
         caches = record { committee = λ r u l. absurd (omega (arith, l.from)) };
       }

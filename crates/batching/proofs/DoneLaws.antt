@@ -11,25 +11,25 @@ use lib.Seq.{paste}
 use lib.Dec.{eqb}
 use borrow.Author.Tests.{eq-eqb, ne_eqb, eqb-true}
 use Rattle.base.specs.Folds.{tab}
-use Rattle.base.proofs.FoldLaws.{length-tab, getD-tab}
+use Rattle.base.proofs.FoldLaws.{length-tab, get_d_tab}
 use Rattle.base.proofs.PasteLaws.{same-part}
-use Rattle.checks.specs.Answers.{ifAccepted}
-use Rattle.checks.proofs.AnswerLaws.{if-accepted-old, if-accepted-new}
-use Rattle.guests.specs.Guests.{batchNeeds}
-use Rattle.words.specs.States.{stateReads, stateIn}
-use Rattle.batch.specs.Batch.{batchRefusal, triedTable, answerAt}
+use Rattle.state.specs.Answers.{if_accepted}
+use Rattle.state.proofs.AnswerLaws.{if_accepted-old, if_accepted-new}
+use Rattle.engine.specs.Guests.{batch_needs}
+use Rattle.words.specs.States.{state_reads, state_in}
+use Rattle.batch.specs.Batch.{batch_refusal, tried_table, answer_at}
 use Rattle.batch.proofs.BatchLaws.{batch-refused, batch-table, batch-answers}
 use Rattle.hosting.specs.Calls.{plain, Done, refused}
-use Rattle.guesting.specs.Guested.{callerNumber, asGuest}
-use Rattle.rows.specs.declared.CertificateRecord.{CertificateRecord}
-use Rattle.rows.specs.Rows.{row_of}
-use Rattle.offering.specs.declared.Stage.{Stage}
-use Rattle.offering.specs.declared.Progress.{Progress}
-use Rattle.trying.specs.Ran.{Ran}
-use Rattle.trying.proofs.RanLaws.{ran-none, SameRoom, ran-room}
+use Rattle.hosting.specs.Guested.{caller_number, as_guest}
+use Rattle.batching.specs.declared.rows.CertificateRecord.{CertificateRecord}
+use Rattle.batching.specs.Rows.{row_of}
+use Rattle.batching.specs.declared.offering.Stage.{Stage}
+use Rattle.batching.specs.declared.offering.Progress.{Progress}
+use Rattle.batching.specs.Ran.{Ran}
+use Rattle.batching.proofs.RanLaws.{ran_none, SameRoom, ran_room}
 use Rattle.batching.specs.declared.Start.{Start}
-use Rattle.batching.specs.Begun.{freshStage, Begun}
-use Rattle.batching.specs.Batched.{answered, batchResult}
+use Rattle.batching.specs.Begun.{fresh_stage, Begun}
+use Rattle.batching.specs.Batched.{answered, batch_result}
 use Rattle.batching.proofs.TurnLaws.{all-turns}
 
 -- stretches whose first n words agree put the same
@@ -37,8 +37,8 @@ put_same : (d x y : List ℕ) (n : ℕ) → n ≤ length x → n ≤ length y �
 put_same d x y n h k e = ap (λ (z : List ℕ). take 0 d ++ z ++ drop (0 + n) d) (same-part x y 0 0 n (omega arith) (omega arith) (λ i l. let z : 0 + i ≡ i = omega arith in rw z (e i l)))
 
 module _ (k : ℕ) (w t : List ℕ) (row : List CertificateRecord) (answers : List ℕ) (x : Start) (r : Progress) (u : List ℕ) (b : Begun k w t (length row) (length answers) x) (ran : Ran row x.state x.turns t x.progress r u) where
-  room : SameRoom row x.state (freshStage (length row)) r.stage
-  room = rw (ran.stage, b.stage) (ran-room row x.state x.turns (freshStage (length row)) t)
+  room : SameRoom row x.state (fresh_stage (length row)) r.stage
+  room = rw (ran.stage, b.stage) (ran_room row x.state x.turns (fresh_stage (length row)) t)
 
   counted : r.stage.count ≡ length row
   counted = room.count
@@ -53,68 +53,68 @@ module _ (k : ℕ) (w t : List ℕ) (row : List CertificateRecord) (answers : Li
     caller : k ≡ 0
     caller = go (eqb k 0) refl (sym b.refusal ∙ z)
       where
-        go : (c : Bool) → eqb k 0 ≡ c → cond c (cond (stateReads w) (batchRefusal (stateIn w) t (length row) (length answers)) 1) k ≡ 0 → k ≡ 0
+        go : (c : Bool) → eqb k 0 ≡ c → cond c (cond (state_reads w) (batch_refusal (state_in w) t (length row) (length answers)) 1) k ≡ 0 → k ≡ 0
         go true e f = eqb-true k 0 e
         go false e f = f
 
-    number : x.refusal ≡ cond (stateReads w) (batchRefusal (stateIn w) t (length row) (length answers)) 1
+    number : x.refusal ≡ cond (state_reads w) (batch_refusal (state_in w) t (length row) (length answers)) 1
     number = rw (eq-eqb k 0 caller) at b.refusal
 
-    can-read : stateReads w ≡ true
-    can-read = go (stateReads w) refl (sym number ∙ z)
+    can_read : state_reads w ≡ true
+    can_read = go (state_reads w) refl (sym number ∙ z)
       where
-        go : (c : Bool) → stateReads w ≡ c → cond c (batchRefusal (stateIn w) t (length row) (length answers)) 1 ≡ 0 → c ≡ true
+        go : (c : Bool) → state_reads w ≡ c → cond c (batch_refusal (state_in w) t (length row) (length answers)) 1 ≡ 0 → c ≡ true
         go true e f = refl
         go false e f = absurd (omega arith)
 
-    accepted : batchRefusal (stateIn w) t (length row) (length answers) ≡ 0
-    accepted = sym (rw can-read at number) ∙ z
+    accepted : batch_refusal (state_in w) t (length row) (length answers) ≡ 0
+    accepted = sym (rw can_read at number) ∙ z
 
     -- the turns, from a fresh stage
-    all : (u ≡ triedTable (stateIn w) (row_of row) t) × ((q : ℕ) → q < length row → get_or r.stage.answers q 0 ≡ answerAt (stateIn w) (row_of row) t q)
+    all : (u ≡ tried_table (state_in w) (row_of row) t) × ((q : ℕ) → q < length row → get_or r.stage.answers q 0 ≡ answer_at (state_in w) (row_of row) t q)
     all =
         let n = rw (eq-eqb x.refusal 0 z) at b.turns in
-        let y = all-turns row (stateIn w) (b.few z).0 t in
+        let y = all-turns row (state_in w) (b.few z).0 t in
         let e = rw (b.state z, n, b.stage) at ran.stage in
         let f = rw (b.state z, n, b.stage) at ran.table in
         (f ∙ y.0, λ q h. ap (λ (g : Stage). get_or g.answers q 0) e ∙ y.1 q h)
 
-    taken : {m : ℕ} {out : List ℕ} → m ≡ x.refusal → out ≡ ifAccepted x.refusal (paste answers 0 r.stage.answers r.stage.count) answers → Done plain (answered w t row answers) m w u out
+    taken : {m : ℕ} {out : List ℕ} → m ≡ x.refusal → out ≡ if_accepted x.refusal (paste answers 0 r.stage.answers r.stage.count) answers → Done plain (answered w t row answers) m w u out
     taken e o =
         record {
           its-answer = e ∙ z ∙ sym accepted;
           its-state = refl;
-          its-table = all.0 ∙ sym (batch-table (stateIn w) t (row_of row) answers accepted);
-          its_out = o ∙ if-accepted-new x.refusal _ answers z ∙ rw counted (put_same answers r.stage.answers (tab (answerAt (stateIn w) (row_of row) t) (length row)) (length row) (omega (arith, room.room, (b.few z).0, length-replicate {A = ℕ} 64 0)) (omega (arith, length-tab (answerAt (stateIn w) (row_of row) t) (length row))) (λ i h. all.1 i h ∙ sym (getD-tab (answerAt (stateIn w) (row_of row) t) (length row) i 0 h)))
-              ∙ sym (batch-answers (stateIn w) t (row_of row) answers accepted);
+          its-table = all.0 ∙ sym (batch-table (state_in w) t (row_of row) answers accepted);
+          its_out = o ∙ if_accepted-new x.refusal _ answers z ∙ rw counted (put_same answers r.stage.answers (tab (answer_at (state_in w) (row_of row) t) (length row)) (length row) (omega (arith, room.room, (b.few z).0, length-replicate {A = ℕ} 64 0)) (omega (arith, length-tab (answer_at (state_in w) (row_of row) t) (length row))) (λ i h. all.1 i h ∙ sym (get_d_tab (answer_at (state_in w) (row_of row) t) (length row) i 0 h)))
+              ∙ sym (batch-answers (state_in w) t (row_of row) answers accepted);
         }
 
   -- ---- the whole
 
-  pub batch-done : (m : ℕ) (out : List ℕ) → m ≡ x.refusal → out ≡ ifAccepted x.refusal (paste answers 0 r.stage.answers r.stage.count) answers → Done plain (cond (eqb k 0) (batchResult w t row answers) (refused w t answers k)) m w u out
-  unfolding batchResult
+  pub batch-done : (m : ℕ) (out : List ℕ) → m ≡ x.refusal → out ≡ if_accepted x.refusal (paste answers 0 r.stage.answers r.stage.count) answers → Done plain (cond (eqb k 0) (batch_result w t row answers) (refused w t answers k)) m w u out
+  unfolding batch_result
   batch-done m out e o = go (ℕ_discrete x.refusal 0)
     where
       -- refused: no turn is taken
       still : x.refusal ≢ 0 → u ≡ t
-      still z = rw (rw (ne_eqb x.refusal 0 z) at b.turns) at ran.table ∙ (ran-none row x.state x.progress.stage t).1
+      still z = rw (rw (ne_eqb x.refusal 0 z) at b.turns) at ran.table ∙ (ran_none row x.state x.progress.stage t).1
 
-      not_taken : x.refusal ≢ 0 → (c : Bool) → x.refusal ≡ cond c (batchRefusal (stateIn w) t (length row) (length answers)) 1 → Done plain (cond c (answered w t row answers) (refused w t answers 1)) m w u out
+      not_taken : x.refusal ≢ 0 → (c : Bool) → x.refusal ≡ cond c (batch_refusal (state_in w) t (length row) (length answers)) 1 → Done plain (cond c (answered w t row answers) (refused w t answers 1)) m w u out
       not_taken z true y =
-          let k = batch-refused (stateIn w) t (row_of row) answers (λ q. z (y ∙ q)) in
-          record { its-answer = e ∙ y; its-state = refl; its-table = still z ∙ sym k.0; its_out = o ∙ if-accepted-old x.refusal _ answers z ∙ sym k.1 }
-      not_taken z false y = record { its-answer = e ∙ y; its-state = refl; its-table = still z; its_out = o ∙ if-accepted-old x.refusal _ answers z }
+          let k = batch-refused (state_in w) t (row_of row) answers (λ q. z (y ∙ q)) in
+          record { its-answer = e ∙ y; its-state = refl; its-table = still z ∙ sym k.0; its_out = o ∙ if_accepted-old x.refusal _ answers z ∙ sym k.1 }
+      not_taken z false y = record { its-answer = e ∙ y; its-state = refl; its-table = still z; its_out = o ∙ if_accepted-old x.refusal _ answers z }
 
-      by-caller : x.refusal ≢ 0 → (c : Bool) → x.refusal ≡ cond c (cond (stateReads w) (batchRefusal (stateIn w) t (length row) (length answers)) 1) k → Done plain (cond c (batchResult w t row answers) (refused w t answers k)) m w u out
-      by-caller z true y = not_taken z (stateReads w) y
-      by-caller z false y = record { its-answer = e ∙ y; its-state = refl; its-table = still z; its_out = o ∙ if-accepted-old x.refusal _ answers z }
+      by-caller : x.refusal ≢ 0 → (c : Bool) → x.refusal ≡ cond c (cond (state_reads w) (batch_refusal (state_in w) t (length row) (length answers)) 1) k → Done plain (cond c (batch_result w t row answers) (refused w t answers k)) m w u out
+      by-caller z true y = not_taken z (state_reads w) y
+      by-caller z false y = record { its-answer = e ∙ y; its-state = refl; its-table = still z; its_out = o ∙ if_accepted-old x.refusal _ answers z }
 
-      go : Dec (x.refusal ≡ 0) → Done plain (cond (eqb k 0) (batchResult w t row answers) (refused w t answers k)) m w u out
-      go (yes z) = rw (eq-eqb k 0 (caller z), can-read z) (taken z e o)
+      go : Dec (x.refusal ≡ 0) → Done plain (cond (eqb k 0) (batch_result w t row answers) (refused w t answers k)) m w u out
+      go (yes z) = rw (eq-eqb k 0 (caller z), can_read z) (taken z e o)
       go (no z) = by-caller z (eqb k 0) b.refusal
 
 -- a guest's, where c is the caller's number
-pub guest-batch-done : (c : ℕ) (w t : List ℕ) (row : List CertificateRecord) (answers : List ℕ) (x : Start) (r : Progress) (u : List ℕ) → Begun (callerNumber w c batchNeeds) w t (length row) (length answers) x → Ran row x.state x.turns t x.progress r u
-    → (m : ℕ) (out : List ℕ) → m ≡ x.refusal → out ≡ ifAccepted x.refusal (paste answers 0 r.stage.answers r.stage.count) answers → Done plain (asGuest w t answers c batchNeeds (batchResult w t row answers)) m w u out
-unfolding asGuest
-guest-batch-done c w t row answers x r u b ran m out e o = batch-done (callerNumber w c batchNeeds) w t row answers x r u b ran m out e o
+pub guest-batch-done : (c : ℕ) (w t : List ℕ) (row : List CertificateRecord) (answers : List ℕ) (x : Start) (r : Progress) (u : List ℕ) → Begun (caller_number w c batch_needs) w t (length row) (length answers) x → Ran row x.state x.turns t x.progress r u
+    → (m : ℕ) (out : List ℕ) → m ≡ x.refusal → out ≡ if_accepted x.refusal (paste answers 0 r.stage.answers r.stage.count) answers → Done plain (as_guest w t answers c batch_needs (batch_result w t row answers)) m w u out
+unfolding as_guest
+guest-batch-done c w t row answers x r u b ran m out e o = batch-done (caller_number w c batch_needs) w t row answers x r u b ran m out e o

@@ -1,22 +1,22 @@
 -- A host's batch: the complete answer, and what the stretches that it lends hold afterwards, refusals included.
 use Rattle.std.specs.Prelude.{cond, List, ℕ, length}
-use Rattle.batch.specs.Batch.{batchRefusal, batchTable, batchAnswers}
-use Rattle.words.specs.States.{stateReads, stateIn}
+use Rattle.batch.specs.Batch.{batch_refusal, batch_table, batch_answers}
+use Rattle.words.specs.States.{state_reads, state_in}
 use Rattle.hosting.specs.Calls.{Result, refused}
-use Rattle.rows.specs.declared.CertificateRecord.{CertificateRecord}
-use Rattle.rows.specs.Rows.{row_of}
+use Rattle.batching.specs.declared.rows.CertificateRecord.{CertificateRecord}
+use Rattle.batching.specs.Rows.{row_of}
 
 module _ (w t : List ℕ) (row : List CertificateRecord) (answers : List ℕ) where
   -- on a state whose words can be read
   abbrev pub answered : Result
   answered =
       record {
-        refusal = batchRefusal (stateIn w) t (length row) (length answers);
+        refusal = batch_refusal (state_in w) t (length row) (length answers);
         value = 0;
         state = w;
-        table = batchTable (stateIn w) t (row_of row) answers;
-        out = batchAnswers (stateIn w) t (row_of row) answers;
+        table = batch_table (state_in w) t (row_of row) answers;
+        out = batch_answers (state_in w) t (row_of row) answers;
       }
 
-  unfoldable pub batchResult : Result
-  batchResult = cond (stateReads w) answered (refused w t answers 1)
+  unfoldable pub batch_result : Result
+  batch_result = cond (state_reads w) answered (refused w t answers 1)

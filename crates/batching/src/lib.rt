@@ -1,19 +1,25 @@
 // A batch from its checks to its answers, around the turns over the row (change request: Point 4).
 #![tactic(auto)]
 
+pub mod offering;
+pub mod rows;
+pub mod trying;
+
 ghost use Rattle.std.specs.Prelude.{◌≡◌, cond, ◌+◌, ◌≤◌, eqb, length};
 ghost use Rattle.std.proofs.Math.Seq.{paste};
-ghost use Rattle.cache.specs.Caches.{firstRound};
-ghost use Rattle.checks.specs.Answers.{ifAccepted};
-ghost use Rattle.batch.specs.Batch.{batchRefusal};
-ghost use Rattle.rights.specs.Rights.{callerRefusal};
-ghost use Rattle.guests.specs.Guests.{batchNeeds};
-ghost use Rattle.guesting.specs.Guested.{rightsIn};
-ghost use Rattle.batching.specs.Begun.{freshStage, Begun};
+ghost use Rattle.running.specs.Caches.{first_round};
+ghost use Rattle.state.specs.Answers.{if_accepted};
+ghost use Rattle.batch.specs.Batch.{batch_refusal};
+ghost use Rattle.terms.specs.Rights.{caller_refusal};
+ghost use Rattle.engine.specs.Guests.{batch_needs};
+ghost use Rattle.hosting.specs.Guested.{rights_in};
+ghost use Rattle.batching.specs.Begun.{fresh_stage, Begun};
 
-use offering::{Progress, Stage};
-use rights::Right;
+use crate::offering::{Progress, Stage};
+use hosting::guesting;
+use running::cache;
 use state::State;
+use terms::rights::Right;
 
 // The refusal's number, 0 for none, the state, how many turns are to be taken, and what they start from.
 #[derive(Clone, Copy)]
@@ -26,7 +32,7 @@ pub struct Start {
 
 // Nothing looked at yet, and no committee cached.
 fn fresh(n: usize) -> Progress
-    ensures { (result.stage ≡ freshStage n) × (firstRound result.cache ≡ 4294967296) }
+    ensures { (result.stage ≡ fresh_stage n) × (first_round result.cache ≡ 4294967296) }
 {
     let words = [0u32; 64];
     let left = [false; 64];
@@ -45,7 +51,7 @@ fn fresh(n: usize) -> Progress
 
 // The number of the first check that refuses, 0 for none.
 fn batch_refusal(s: State, t: &[u32], n: usize, room: usize) -> u32
-    ensures { result ≡ batchRefusal s t.now n room }
+    ensures { result ≡ batch_refusal s t.now n room }
 {
     if !state::well_formed(s, t) {
         return 1;
@@ -97,7 +103,7 @@ pub fn begin(state: &[u32], t: &[u32], n: usize, room: usize) -> Start
 
 // The same for a guest: where its caller is refused no turn is to be taken.
 pub fn begin_guest(caller: u32, state: &[u32], t: &[u32], n: usize, room: usize) -> Start
-    ensures { Begun (callerRefusal (rightsIn state.now) batchNeeds caller) state.now t.now n room result }
+    ensures { Begun (caller_refusal (rights_in state.now) batch_needs caller) state.now t.now n room result }
 {
     let barred = guesting::refusal(state, Right::Sign, caller);
     if barred != 0 {
@@ -116,7 +122,7 @@ pub fn begin_guest(caller: u32, state: &[u32], t: &[u32], n: usize, room: usize)
 // Puts the answers, each at its place, where the batch is not refused; gives the refusal's number.
 pub fn put_answers(refusal: u32, w: Progress, answers: &mut [u32]) -> u32
     requires { refusal ≡ 0 → (w.stage.count ≤ 64) × (w.stage.count ≤ length answers.old) }
-    ensures { (result ≡ refusal) × (answers.new ≡ ifAccepted refusal (paste answers.old 0 w.stage.answers w.stage.count) answers.old) }
+    ensures { (result ≡ refusal) × (answers.new ≡ if_accepted refusal (paste answers.old 0 w.stage.answers w.stage.count) answers.old) }
 {
     if refusal != 0 {
         return refusal;

@@ -1,3 +1,6 @@
+pub mod HistoryLaws
+pub mod AnchorLaws
+pub mod TakenLaws
 pub mod BlockLaws
 pub mod MarkLaws
 pub mod SeenLaws

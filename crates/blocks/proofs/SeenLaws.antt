@@ -11,28 +11,28 @@ use lib.ListN.{length, get_or, set, replicate, length-set, length-replicate}
 use lib.Seq.{get_or-set_same, get_or-set_other}
 use borrow.Author.Tests.{eq-eqb, ne_eqb, eqb-true}
 use Rattle.base.proofs.Bools.{both}
-use Rattle.base.specs.Folds.{foldTo, anyTo}
-use Rattle.base.proofs.TestLaws.{any-true, true-any}
-use Rattle.base.specs.Sets.{isIn, union, common}
-use Rattle.base.proofs.SetLaws.{in-member}
-use Rattle.base.proofs.UnionLaws.{in-none, in-union, in-common}
-use Rattle.store.specs.Table.{Row, markAt, held_at, previousAt}
-use Rattle.writes.specs.Writes.{setMark, setBlock}
-use Rattle.writes.proofs.MarkLaws.{only-block, mark-block}
-use Rattle.histories.specs.History.{below}
-use Rattle.histories.proofs.HistoryLaws.{below_none, below-marked, in-below}
-use Rattle.blocks.specs.Blocks.{markPlace, markRow, markHistory}
-use Rattle.blocks.proofs.MarkLaws.{newMark, only_row, row-mark}
+use Rattle.base.specs.Folds.{fold_to, any_to}
+use Rattle.base.proofs.TestLaws.{any_true, true_any}
+use Rattle.base.specs.Sets.{is_in, union, common}
+use Rattle.base.proofs.SetLaws.{in_member}
+use Rattle.base.proofs.UnionLaws.{in_none, in_union, in_common}
+use Rattle.store.specs.Table.{Row, mark_at, held_at, previous_at}
+use Rattle.store.specs.Writes.{set_mark, set_block}
+use Rattle.store.proofs.MarkLaws.{only-block, mark-block}
+use Rattle.blocks.specs.History.{below}
+use Rattle.blocks.proofs.HistoryLaws.{below_none, below-marked, in_below}
+use Rattle.blocks.specs.Blocks.{mark_place, mark_row, mark_history}
+use Rattle.blocks.proofs.MarkLaws.{new_mark, only_row, row-mark}
 use Rattle.blocks.specs.Seen.{Inside, Seen}
 
 -- who is reached is reached by one, and so by any set with that one
-below_by : (t : List ℕ) (s r a : ℕ) → isIn (below t s (suc r)) a ≡ true
-    → (i : ℕ) × (isIn s i ≡ true) × ((u : ℕ) → isIn u i ≡ true → isIn (below t u (suc r)) a ≡ true)
+below_by : (t : List ℕ) (s r a : ℕ) → is_in (below t s (suc r)) a ≡ true
+    → (i : ℕ) × (is_in s i ≡ true) × ((u : ℕ) → is_in u i ≡ true → is_in (below t u (suc r)) a ≡ true)
 below_by t s r a h =
-    let z = both (held_at t a r) (anyTo (λ i. isIn s i && isIn (previousAt t i (suc r)) a) 16) (sym (in-below t s r a) ∙ h) in
-    let x = any-true (λ i. isIn s i && isIn (previousAt t i (suc r)) a) 16 z.1 in
-    let y = both (isIn s x.0) (isIn (previousAt t x.0 (suc r)) a) x.2 in
-    (x.0, y.0, λ u k. in-below t u r a ∙ rw z.0 (true-any (λ i. isIn u i && isIn (previousAt t i (suc r)) a) 16 x.0 x.1 (rw (k, y.1) refl)))
+    let z = both (held_at t a r) (any_to (λ i. is_in s i && is_in (previous_at t i (suc r)) a) 16) (sym (in_below t s r a) ∙ h) in
+    let x = any_true (λ i. is_in s i && is_in (previous_at t i (suc r)) a) 16 z.1 in
+    let y = both (is_in s x.0) (is_in (previous_at t x.0 (suc r)) a) x.2 in
+    (x.0, y.0, λ u k. in_below t u r a ∙ rw z.0 (true_any (λ i. is_in u i && is_in (previous_at t i (suc r)) a) 16 x.0 x.1 (rw (k, y.1) refl)))
 
 -- ---- one set more
 
@@ -49,43 +49,43 @@ unfolding see
 length-see v r s = length-set v r (union (get_or v r 0) s)
 
 module _ (v : List ℕ) (r s : ℕ) (h : r < length v) (q a : ℕ) where
-  in-see : isIn (get_or (see v r s) q 0) a ≡ (isIn (get_or v q 0) a || (eqb q r && isIn s a))
+  in_see : is_in (get_or (see v r s) q 0) a ≡ (is_in (get_or v q 0) a || (eqb q r && is_in s a))
   unfolding see
-  in-see = by (ℕ_discrete q r)
+  in_see = by (ℕ_discrete q r)
     where
-      by : Dec (q ≡ r) → isIn (get_or (set v r (union (get_or v r 0) s)) q 0) a ≡ (isIn (get_or v q 0) a || (eqb q r && isIn s a))
-      by (yes e) = rw (e, get_or-set_same v r (union (get_or v r 0) s) 0 h, eq-eqb r r refl) (in-union (get_or v r 0) s a)
-      by (no n) = rw (get_or-set_other v r q (union (get_or v r 0) s) 0 n, ne_eqb q r n) (sym (or-false (isIn (get_or v q 0) a)))
+      by : Dec (q ≡ r) → is_in (get_or (set v r (union (get_or v r 0) s)) q 0) a ≡ (is_in (get_or v q 0) a || (eqb q r && is_in s a))
+      by (yes e) = rw (e, get_or-set_same v r (union (get_or v r 0) s) 0 h, eq-eqb r r refl) (in_union (get_or v r 0) s a)
+      by (no n) = rw (get_or-set_other v r q (union (get_or v r 0) s) 0 n, ne_eqb q r n) (sym (or-false (is_in (get_or v q 0) a)))
 
-  see-old : isIn (get_or v q 0) a ≡ true → isIn (get_or (see v r s) q 0) a ≡ true
-  see-old e = in-see ∙ rw e refl
+  see-old : is_in (get_or v q 0) a ≡ true → is_in (get_or (see v r s) q 0) a ≡ true
+  see-old e = in_see ∙ rw e refl
 
-  see-new : q ≡ r → isIn s a ≡ true → isIn (get_or (see v r s) q 0) a ≡ true
-  see-new e i = in-see ∙ rw (eq-eqb q r e, i) (or-true (isIn (get_or v q 0) a))
+  see-new : q ≡ r → is_in s a ≡ true → is_in (get_or (see v r s) q 0) a ≡ true
+  see-new e i = in_see ∙ rw (eq-eqb q r e, i) (or-true (is_in (get_or v q 0) a))
 
-  see-either : isIn (get_or (see v r s) q 0) a ≡ true → (isIn (get_or v q 0) a ≡ true) ⊎ ((q ≡ r) × (isIn s a ≡ true))
-  see-either e = go (isIn (get_or v q 0) a) refl (sym in-see ∙ e)
+  see-either : is_in (get_or (see v r s) q 0) a ≡ true → (is_in (get_or v q 0) a ≡ true) ⊎ ((q ≡ r) × (is_in s a ≡ true))
+  see-either e = go (is_in (get_or v q 0) a) refl (sym in_see ∙ e)
     where
-      go : (x : Bool) → isIn (get_or v q 0) a ≡ x → (x || (eqb q r && isIn s a)) ≡ true → (isIn (get_or v q 0) a ≡ true) ⊎ ((q ≡ r) × (isIn s a ≡ true))
+      go : (x : Bool) → is_in (get_or v q 0) a ≡ x → (x || (eqb q r && is_in s a)) ≡ true → (is_in (get_or v q 0) a ≡ true) ⊎ ((q ≡ r) × (is_in s a ≡ true))
       go true y _ = inl y
-      go false _ f = let z = both (eqb q r) (isIn s a) f in inr (eqb-true q r z.0, z.1)
+      go false _ f = let z = both (eqb q r) (is_in s a) f in inr (eqb-true q r z.0, z.1)
 
 -- ---- where a walk ends
 
 module _ (b : ℕ) {t v : List ℕ} (k : Seen t v v) where
   -- a row keeps its marks, if all of s is seen
-  row_stays : (r s : ℕ) → Inside s (get_or v r 0) → (n : ℕ) → foldTo (markPlace b s r) n t ≡ t
-  unfolding foldTo markPlace
+  row_stays : (r s : ℕ) → Inside s (get_or v r 0) → (n : ℕ) → fold_to (mark_place b s r) n t ≡ t
+  unfolding fold_to mark_place
   row_stays r s f zero = refl
-  row_stays r s f (suc n) = rw (row_stays r s f n) (go (isIn s n) refl)
+  row_stays r s f (suc n) = rw (row_stays r s f n) (go (is_in s n) refl)
     where
-      go : (i : Bool) → isIn s n ≡ i → cond i (cond (eqb (markAt t n r) 0) (setMark t n r b) t) t ≡ t
-      go true e = rw (ne_eqb (markAt t n r) 0 (k.marked r n (f n e))) refl
+      go : (i : Bool) → is_in s n ≡ i → cond i (cond (eqb (mark_at t n r) 0) (set_mark t n r b) t) t ≡ t
+      go true e = rw (ne_eqb (mark_at t n r) 0 (k.marked r n (f n e))) refl
       go false e = refl
 
   -- and so do the rows below
-  history-stays : (r s : ℕ) → (0 < r → Inside s (get_or v r 0)) → markHistory b r s t ≡ t
-  unfolding markHistory markRow
+  history-stays : (r s : ℕ) → (0 < r → Inside s (get_or v r 0)) → mark_history b r s t ≡ t
+  unfolding mark_history mark_row
   history-stays zero s f = refl
   history-stays (suc r) s f = rw (row_stays (suc r) s (f (omega arith)) 16) (history-stays r (below t s (suc r)) rest)
     where
@@ -93,13 +93,13 @@ module _ (b : ℕ) {t v : List ℕ} (k : Seen t v v) where
       rest h a e = let x = below_by t s r a e in k.closed r h a (x.2 (get_or v (suc r) 0) (f (omega arith) x.0 x.1))
 
 -- at round 0, or where all of s is seen, nothing is left to do
-pub seen_end : (b r s : ℕ) (t v : List ℕ) → r ≤ 1024 → Seen t v (see v r s) → (0 < r → common s (get_or v r 0) ≡ s) → (markHistory b r s t ≡ t) × Seen t v v
+pub seen_end : (b r s : ℕ) (t v : List ℕ) → r ≤ 1024 → Seen t v (see v r s) → (0 < r → common s (get_or v r 0) ≡ s) → (mark_history b r s t ≡ t) × Seen t v v
 seen_end b r s t v l k f = (history-stays b all r s inside, all)
   where
     inside : 0 < r → Inside s (get_or v r 0)
-    inside h a e = (both (isIn s a) (isIn (get_or v r 0) a) (sym (in-common s (get_or v r 0) a) ∙ rw (f h) e)).1
+    inside h a e = (both (is_in s a) (is_in (get_or v r 0) a) (sym (in_common s (get_or v r 0) a) ∙ rw (f h) e)).1
 
-    old : (q a : ℕ) → 0 < q → (isIn (get_or v q 0) a ≡ true) ⊎ ((q ≡ r) × (isIn s a ≡ true)) → isIn (get_or v q 0) a ≡ true
+    old : (q a : ℕ) → 0 < q → (is_in (get_or v q 0) a ≡ true) ⊎ ((q ≡ r) × (is_in s a ≡ true)) → is_in (get_or v q 0) a ≡ true
     old q a h (inl y) = y
     old q a h (inr y) = let e = y.0 in rw e (inside (omega arith) a y.1)
 
@@ -122,8 +122,8 @@ pub seen_none : (n : ℕ) (t : List ℕ) → 1024 < n → Seen t (replicate n 0)
 seen_none n t h =
     record {
       long = omega (arith, length-replicate {A = ℕ} n 0);
-      marked = λ q a e. absurd (false≢true (sym (in-none a) ∙ (rw (zeros n q) at e)));
-      closed = λ q _ a e. absurd (false≢true (sym (in-none a) ∙ (rw (zeros n (suc q), below_none t (suc q)) at e)));
+      marked = λ q a e. absurd (false≢true (sym (in_none a) ∙ (rw (zeros n q) at e)));
+      closed = λ q _ a e. absurd (false≢true (sym (in_none a) ∙ (rw (zeros n (suc q), below_none t (suc q)) at e)));
     }
 
 pub seen-begin : (r s : ℕ) (t v : List ℕ) → r ≤ 1024 → Seen t v v → Seen t v (see v r s)
@@ -131,20 +131,20 @@ seen-begin r s t v l k =
     record { long = k.long; marked = k.marked; closed = λ q h a e. see-old v r s (omega (arith, k.long)) q a (k.closed q h a e) }
 
 -- a block's round does not matter
-pub seen-block : (b r : ℕ) (t v : List ℕ) → Seen t v v → Seen (setBlock t b r) v v
+pub seen-block : (b r : ℕ) (t v : List ℕ) → Seen t v v → Seen (set_block t b r) v v
 seen-block b r t v k =
     let o = only-block b t b r (omega arith) in
     record {
       long = k.long;
-      marked = λ q a e. rw (mark-block t b r a q (in-member (get_or v q 0) a e)) (k.marked q a e);
+      marked = λ q a e. rw (mark-block t b r a q (in_member (get_or v q 0) a e)) (k.marked q a e);
       closed = λ q h a e. k.closed q h a (rw (below-marked o (get_or v (suc q) 0) (suc q)) at e);
     }
 
 -- a certificate is marked, if it was or is put into block b
-new-mark : (b m : ℕ) (h : Bool) → 0 < b → (m ≡ 0 → h ≡ true) → newMark b h m ≢ 0
+new-mark : (b m : ℕ) (h : Bool) → 0 < b → (m ≡ 0 → h ≡ true) → new_mark b h m ≢ 0
 new-mark b m h p f = by (ℕ_discrete m 0)
   where
-    by : Dec (m ≡ 0) → newMark b h m ≢ 0
+    by : Dec (m ≡ 0) → new_mark b h m ≢ 0
     by (yes e) = rw (eq-eqb m 0 e, f e) (λ z. omega arith)
     by (no n) = rw (ne_eqb m 0 n) n
 
@@ -155,10 +155,10 @@ module _ (b r s : ℕ) (t v : List ℕ) (p : 0 < b) (l : r < 1024) (row : Row t 
   far : suc r < length v
   far = omega (arith, k.long)
 
-  put : (q a : ℕ) → isIn (get_or w q 0) a ≡ true → markAt t a q ≡ 0 → (eqb q (suc r) && isIn s a) ≡ true
+  put : (q a : ℕ) → is_in (get_or w q 0) a ≡ true → mark_at t a q ≡ 0 → (eqb q (suc r) && is_in s a) ≡ true
   put q a e z = go (see-either v (suc r) s far q a e)
     where
-      go : (isIn (get_or v q 0) a ≡ true) ⊎ ((q ≡ suc r) × (isIn s a ≡ true)) → (eqb q (suc r) && isIn s a) ≡ true
+      go : (is_in (get_or v q 0) a ≡ true) ⊎ ((q ≡ suc r) × (is_in s a ≡ true)) → (eqb q (suc r) && is_in s a) ≡ true
       go (inl y) = absurd (k.marked q a y z)
       go (inr y) = rw (eq-eqb q (suc r) y.0, y.1) refl
 
@@ -168,22 +168,22 @@ module _ (b r s : ℕ) (t v : List ℕ) (p : 0 < b) (l : r < 1024) (row : Row t 
       long : r < length w
       long = omega (arith, far, length-see v (suc r) s)
 
-      go : (i : ℕ) → ((u : ℕ) → isIn u i ≡ true → isIn (below t u (suc q)) a ≡ true) → (isIn (get_or v (suc q) 0) i ≡ true) ⊎ ((suc q ≡ suc r) × (isIn s i ≡ true))
-          → isIn (get_or (see w r (below t s (suc r))) q 0) a ≡ true
+      go : (i : ℕ) → ((u : ℕ) → is_in u i ≡ true → is_in (below t u (suc q)) a ≡ true) → (is_in (get_or v (suc q) 0) i ≡ true) ⊎ ((suc q ≡ suc r) × (is_in s i ≡ true))
+          → is_in (get_or (see w r (below t s (suc r))) q 0) a ≡ true
       go i f (inl y) = see-old w r (below t s (suc r)) long q a (k.closed q h a (f (get_or v (suc q) 0) y))
       go i f (inr y) = let e = y.0 in see-new w r (below t s (suc r)) long q a (omega arith) (rw (← e) (f s y.1))
 
-  seen-down : Seen (markRow b s (suc r) t) w (see w r (below t s (suc r)))
+  seen-down : Seen (mark_row b s (suc r) t) w (see w r (below t s (suc r)))
   seen-down =
       let o = only_row (suc r) b s (suc r) t (omega arith) in
       record {
         long = omega (arith, k.long, length-see v (suc r) s);
-        marked = λ q a e. rw (row-mark b s (suc r) t row a q (in-member (get_or w q 0) a e)) (new-mark b (markAt t a q) (eqb q (suc r) && isIn s a) p (put q a e));
+        marked = λ q a e. rw (row-mark b s (suc r) t row a q (in_member (get_or w q 0) a e)) (new-mark b (mark_at t a q) (eqb q (suc r) && is_in s a) p (put q a e));
         closed = λ q h a e. reaches q h a (rw (below-marked o (get_or w (suc q) 0) (suc q)) at e);
       }
 
 -- one round down
 pub seen_step : (b r s : ℕ) (t v : List ℕ) → 0 < b → 0 < r → r ≤ 1024 → Row t r → Seen t v (see v r s)
-    → Seen (markRow b s r t) (see v r s) (see (see v r s) (r - 1) (below t s r))
+    → Seen (mark_row b s r t) (see v r s) (see (see v r s) (r - 1) (below t s r))
 seen_step b zero s t v p z l row k = absurd (omega arith)
 seen_step b (suc r) s t v p z l row k = let e : suc r - 1 ≡ r = omega arith in rw e (seen-down b r s t v p (omega arith) row k)

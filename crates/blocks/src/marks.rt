@@ -1,16 +1,18 @@
 // The marks of a history, and the block of one anchor.
 ghost use Rattle.std.specs.Prelude.{◌≡◌, ◌<◌};
 ghost use Rattle.store.specs.Table.{Within, Row};
-ghost use Rattle.blocks.specs.Blocks.{markPlace, markRow, markHistory, addBlock};
+ghost use Rattle.blocks.specs.Blocks.{mark_place, mark_row, mark_history, add_block};
 ghost use Rattle.blocks.specs.Seen.{Seen};
-ghost use Rattle.blocks.specs.Ready.{HistoryReady, NewBlockReady};
+ghost use Rattle.blocks.specs.WalkReady.{HistoryReady, NewBlockReady};
 
+use crate::histories;
+use store::writes;
 use terms::{Member, Round};
 
 // Puts the certificate of a and round r into block b, if a is in s and it is in no block yet.
 fn mark_place(t: &mut [u32], b: u32, s: u32, r: Round, a: Member)
     requires { Within t.old a.0 r.0 }
-    ensures { t.new ≡ markPlace b s r.0 a.0 t.old }
+    ensures { t.new ≡ mark_place b s r.0 a.0 t.old }
 {
     if base::has(s, a.0) {
         if store::record::mark(t, a, r) == 0 {
@@ -21,7 +23,7 @@ fn mark_place(t: &mut [u32], b: u32, s: u32, r: Round, a: Member)
 
 fn mark_row(t: &mut [u32], b: u32, s: u32, r: Round)
     requires { Row t.old r.0 }
-    ensures { t.new ≡ markRow b s r.0 t.old }
+    ensures { t.new ≡ mark_row b s r.0 t.old }
 {
     for a in 0..16u32 {
         mark_place(t, b, s, r, Member(a));
@@ -32,7 +34,7 @@ fn mark_row(t: &mut [u32], b: u32, s: u32, r: Round)
 // seen has what earlier walks reached, by round: where a walk reaches nothing else it ends.
 fn mark_history(t: &mut [u32], seen: &mut [u32; 1025], b: u32, s: u32, top: Round)
     requires { HistoryReady t.old seen.old top.0 × (0 < b) }
-    ensures { (t.new ≡ markHistory b top.0 s t.old) × Seen t.new seen.new seen.new }
+    ensures { (t.new ≡ mark_history b top.0 s t.old) × Seen t.new seen.new seen.new }
 {
     let mut r = top.0;
     let mut here = s;
@@ -53,7 +55,7 @@ fn mark_history(t: &mut [u32], seen: &mut [u32; 1025], b: u32, s: u32, top: Roun
 // Makes block k, of the anchor of author a and round r.
 pub fn add_block(t: &mut [u32], seen: &mut [u32; 1025], k: u32, a: Member, r: Round)
     requires { NewBlockReady t.old seen.old k a.0 r.0 }
-    ensures { (t.new ≡ addBlock k a.0 r.0 t.old) × Seen t.new seen.new seen.new }
+    ensures { (t.new ≡ add_block k a.0 r.0 t.old) × Seen t.new seen.new seen.new }
 {
     let s = base::just(a.0);
     mark_history(t, seen, k, s, r);

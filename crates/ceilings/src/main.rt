@@ -1,10 +1,10 @@
 // The largest ceiling and one above it: 1,024 opens, and 1,025 is out of range (scope document: Edges).
 #![tactic(auto)]
 
-use sheet::{Rights, Setting, Sheet};
 use std::io;
 use std::io::Write;
 use terms::Member;
+use terms::sheet::{Rights, Setting, Sheet};
 
 // The words of a table of ceiling 1,024.
 const TABLE: usize = 278800;

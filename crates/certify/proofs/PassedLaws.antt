@@ -6,7 +6,7 @@ use mathlib.Core.Option.{Option, none, some}
 use Prim.Native.Nat.{ℕ}
 use Rattle.base.specs.Checks.{refusal}
 use Rattle.base.proofs.CheckLaws.{numbered}
-use Rattle.base.specs.Sets.{isIn}
+use Rattle.base.specs.Sets.{is_in}
 use Rattle.agreement.specs.Dag.{is_held}
 use Rattle.terms.specs.Proposals.{Content}
 use Rattle.store.specs.Table.{held_at}
@@ -18,17 +18,17 @@ use Rattle.state.proofs.ViewLaws.{held-dag, held-proposal}
 use Rattle.state.specs.Formed.{Formed}
 use Rattle.state.proofs.FormedLaws.{formed}
 use Rattle.state.proofs.RefusalLaws.{refusal-passed}
-use Rattle.certify.specs.Certify.{certifyRefusal}
+use Rattle.certify.specs.Certify.{certify_refusal}
 
 module _ (s : State) (t : List ℕ) where
   pub record CertifyPassed (i : ℕ) : Type 0 where
     pub formed : Formed s t
     pub proposing : s.proposing ≡ true
     pub free : held_at t s.own.0 s.round.0 ≡ false
-    pub not-among : isIn i s.own.0 ≡ false
+    pub not_among : is_in i s.own.0 ≡ false
 
-  pub certify-passed : (i : ℕ) → certifyRefusal s t i ≡ 0 → CertifyPassed i
-  unfolding certifyRefusal numbered
+  pub certify-passed : (i : ℕ) → certify_refusal s t i ≡ 0 → CertifyPassed i
+  unfolding certify_refusal numbered
   certify-passed i e = let n = refusal-passed s t (rules.certify i) e in go (formed s t n.0) (view s t).proposal (held-proposal s) n.1
     where
       go : Formed s t → (o : Option Content) → is_held o ≡ s.proposing → refusal (rules.certifying s.settings s.own.0 (view s t) i o) ≡ 0 → CertifyPassed i
@@ -39,5 +39,5 @@ module _ (s : State) (t : List ℕ) where
             formed = f;
             proposing = sym q;
             free = sym (held-dag s.settings.ceiling.0 t s.own.0 s.round.0 f.numbers.round-from f.numbers.round-to) ∙ h10;
-            not-among = h14;
+            not_among = h14;
           }

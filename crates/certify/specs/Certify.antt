@@ -1,19 +1,19 @@
 -- Certify on a state and its table: the number that refuses, the answer and the state, and the table. The certificate is held, with its endorsers.
 use Rattle.std.specs.Prelude.{List, ℕ}
-use Rattle.terms.specs.Proposals.{contentWith}
-use Rattle.writes.specs.Writes.{putCertificate}
+use Rattle.terms.specs.Proposals.{content_with}
+use Rattle.store.specs.Writes.{put_certificate}
 use Rattle.rules.specs.Calls as rules
 use Rattle.state.specs.declared.State.{State}
-use Rattle.state.specs.Refusals.{refusalOf}
-use Rattle.checks.specs.declared.Outcome.{Outcome}
-use Rattle.checks.specs.Answers.{ifAccepted, outcomeOf}
+use Rattle.state.specs.Refusals.{refusal_of}
+use Rattle.state.specs.declared.checks.Outcome.{Outcome}
+use Rattle.state.specs.Answers.{if_accepted, outcome_of}
 
 module _ (s : State) (t : List ℕ) where
-  unfoldable pub certifyRefusal : ℕ → ℕ
-  certifyRefusal e = refusalOf s t (rules.certify e)
+  unfoldable pub certify_refusal : ℕ → ℕ
+  certify_refusal e = refusal_of s t (rules.certify e)
 
-  unfoldable pub certifyOutcome : ℕ → Outcome
-  certifyOutcome e = outcomeOf (certifyRefusal e) s s
+  unfoldable pub certify_outcome : ℕ → Outcome
+  certify_outcome e = outcome_of (certify_refusal e) s s
 
-  unfoldable pub certifyTable : ℕ → List ℕ
-  certifyTable e = ifAccepted (certifyRefusal e) (putCertificate t (contentWith s.own.0 s.round.0 s.body) e) t
+  unfoldable pub certify_table : ℕ → List ℕ
+  certify_table e = if_accepted (certify_refusal e) (put_certificate t (content_with s.own.0 s.round.0 s.body) e) t

@@ -7,11 +7,12 @@ ghost use Rattle.rules.specs.Calls.{certifying};
 ghost use Rattle.state.specs.Formed.{Formed};
 ghost use Rattle.state.specs.View.{view};
 ghost use Rattle.state.specs.Cached.{CachesFor, Cached};
-ghost use Rattle.checks.specs.Answers.{WritingCallAnswered};
-ghost use Rattle.certify.specs.Certify.{certifyRefusal, certifyOutcome, certifyTable};
+ghost use Rattle.state.specs.Answers.{WritingCallAnswered};
+ghost use Rattle.certify.specs.Certify.{certify_refusal, certify_outcome, certify_table};
 
-use checks::{Answer, Outcome};
-use state::State;
+use state::checks::{Answer, Outcome};
+use state::{State, checks};
+use store::writes;
 use terms::Proposal;
 
 // The checks of a well-formed state: 15, 10, 14, and those of the signers.
@@ -35,7 +36,7 @@ fn formed_refusal(cache: &[u64], s: State, t: &[u32], e: u16) -> u32
 // The number of the first check that refuses, 0 for none.
 fn certify_refusal(formed: bool, cache: &[u64], s: State, t: &[u32], e: u16) -> u32
     requires { Cached s t.now formed cache.now }
-    ensures { result ≡ certifyRefusal s t.now e }
+    ensures { result ≡ certify_refusal s t.now e }
 {
     if !formed {
         return 1;
@@ -46,7 +47,7 @@ fn certify_refusal(formed: bool, cache: &[u64], s: State, t: &[u32], e: u16) -> 
 // The call, where it is told whether the state is well formed, and committees may be cached.
 pub fn certify_cached(formed: bool, cache: &[u64], s: State, t: &mut [u32], e: u16) -> Outcome
     requires { Cached s t.old formed cache.now }
-    ensures { WritingCallAnswered (certifyOutcome s t.old e) (certifyTable s t.old e) (certifyRefusal s t.old e) result t.new }
+    ensures { WritingCallAnswered (certify_outcome s t.old e) (certify_table s t.old e) (certify_refusal s t.old e) result t.new }
 {
     let n = certify_refusal(formed, cache, s, t, e);
     if n != 0 {
@@ -71,7 +72,7 @@ pub fn certify_cached(formed: bool, cache: &[u64], s: State, t: &mut [u32], e: u
 }
 
 pub fn certify(s: State, t: &mut [u32], e: u16) -> Outcome
-    ensures { WritingCallAnswered (certifyOutcome s t.old e) (certifyTable s t.old e) (certifyRefusal s t.old e) result t.new }
+    ensures { WritingCallAnswered (certify_outcome s t.old e) (certify_table s t.old e) (certify_refusal s t.old e) result t.new }
 {
     let formed = state::well_formed(s, t);
     let none = [0u64; 1];

@@ -13,13 +13,13 @@ use Rattle.agreement.specs.Rules.{last, Rules}
 use Rattle.agreement.specs.View.{View}
 use Rattle.agreement.specs.Dag.{is_held, Held}
 use Rattle.agreement.proofs.DagLaws.{on-place}
-use Rattle.agreement.specs.Commits.{anchorAt, choose, taken}
+use Rattle.agreement.specs.Commits.{anchor_at, choose, taken}
 use Rattle.agreement.proofs.HistoryLaws.{history-held}
 use Rattle.store.specs.Table.{Row}
 use Rattle.store.proofs.TableLaws.{held-member}
-use Rattle.histories.specs.History.{inHistory}
-use Rattle.histories.specs.Anchors.{takenLeaders}
-use Rattle.histories.proofs.TakenLaws.{taken-other, taken_at}
+use Rattle.blocks.specs.History.{in_history}
+use Rattle.blocks.specs.Anchors.{taken_leaders}
+use Rattle.blocks.proofs.TakenLaws.{taken-other, taken_at}
 use Rattle.commit.proofs.Histories.{Shows, history-same}
 use Rattle.agreement.specs.Histories as theory
 
@@ -27,22 +27,22 @@ module _ {R : Rules} (s : View R) where
   open R use {P, leader, committee}
 
   -- the certificate of the leader that a list has for a round, 16 for none
-  unfoldable pub anchorIn : List ℕ → ℕ → Option P
-  anchorIn l r = cond (ltb (get_or l r 0) 16) (s.dag (get_or l r 0) r) none
+  unfoldable pub anchor_in : List ℕ → ℕ → Option P
+  anchor_in l r = cond (ltb (get_or l r 0) 16) (s.dag (get_or l r 0) r) none
 
   -- where the list has a
-  pub anchor-in : (l : List ℕ) (r a : ℕ) → get_or l r 0 ≡ a → anchorIn l r ≡ cond (ltb a 16) (s.dag a r) none
-  unfolding anchorIn
-  anchor-in l r a e = rw e refl
+  pub anchor_in_lem : (l : List ℕ) (r a : ℕ) → get_or l r 0 ≡ a → anchor_in l r ≡ cond (ltb a 16) (s.dag a r) none
+  unfolding anchor_in
+  anchor_in_lem l r a e = rw e refl
 
   abbrev pub onto : Option P → List P → List P
   onto none l = l
   onto (some q) l = q ∷ l
 
   -- those of the n rounds above m, the newest first
-  unfoldable pub anchorsIn : List ℕ → ℕ → ℕ → List P
-  anchorsIn l m zero = []
-  anchorsIn l m (suc n) = onto (anchorIn l (m + suc n)) (anchorsIn l m n)
+  unfoldable pub anchors_in : List ℕ → ℕ → ℕ → List P
+  anchors_in l m zero = []
+  anchors_in l m (suc n) = onto (anchor_in l (m + suc n)) (anchors_in l m n)
 
 module _ {R : Rules} (s : View R) where
   open R use {P, author, round}
@@ -55,7 +55,7 @@ module _ {R : Rules} (s : View R) where
     pub above : last s.chain < round x
     pub inside : round x ≤ c
     pub leads : get_or l (round x) 0 ≡ author x
-    pub led : (r : ℕ) → last s.chain < r → r < round x → anchorAt s r ≡ anchorIn s l r
+    pub led : (r : ℕ) → last s.chain < r → r < round x → anchor_at s r ≡ anchor_in s l r
     pub leaders : round x < length l
     pub table : Row t c
 
@@ -66,7 +66,7 @@ module _ {R : Rules} {s : View R} {c k : ℕ} {l t : List ℕ} {x : R.P} (W : Re
   m = last s.chain
 
   abbrev left : List ℕ
-  left = takenLeaders t m (round x) l
+  left = taken_leaders t m (round x) l
 
   pub author-low : {y : P} → Held s y → author y < 16
   author-low {y} h = subst (λ (z : ℕ). author y < z) W.shows.sixteen (W.shows.placed.member h)
@@ -82,25 +82,25 @@ module _ {R : Rules} {s : View R} {c k : ℕ} {l t : List ℕ} {x : R.P} (W : Re
     its : get_or left (round y) 0 ≡ author y
     gone : (i : ℕ) → m + n < i → i < round y → 16 ≤ get_or left i 0
 
-  module _ (n : ℕ) (f : (y : P) → Latest n y → anchorsIn s left m n ≡ taken s n y) (y : P) (L : Latest (suc n) y) where
+  module _ (n : ℕ) (f : (y : P) → Latest n y → anchors_in s left m n ≡ taken s n y) (y : P) (L : Latest (suc n) y) where
     abbrev r : ℕ
     r = m + suc n
 
     abbrev a : ℕ
     a = get_or l r 0
 
-    at : get_or left r 0 ≡ cond (theory.inHistory s y r a) a 16
+    at : get_or left r 0 ≡ cond (theory.in_history s y r a) a 16
     at =
         let i = L.above in
         let j = L.below in
         taken_at t m (round x) l W.above W.leaders (subst (λ (z : ℕ). z < 16) (sym W.leads) (author-low W.held)) r (round y) (omega arith) L.above L.below
         (subst (λ (z : ℕ). z < 16) (sym L.its) (author-low L.held)) (λ i x y. L.gone i x y)
-        ∙ ap (λ (z : ℕ). cond (inHistory t (round y) (only z) a r) a 16) L.its
+        ∙ ap (λ (z : ℕ). cond (in_history t (round y) (only z) a r) a 16) L.its
         ∙ ap (λ (z : Bool). cond z a 16) (history-same W.shows L.held (omega (arith, W.inside)) (author-low L.held) a r (omega arith))
 
     -- the leader of r is not taken
-    struck : theory.inHistory s y r a ≡ false → anchorsIn s left m (suc n) ≡ taken s n y
-    unfolding anchorsIn anchorIn
+    struck : theory.in_history s y r a ≡ false → anchors_in s left m (suc n) ≡ taken s n y
+    unfolding anchors_in anchor_in
     struck h =
         let e : get_or left r 0 ≡ 16 = at ∙ rw h refl in
         rw e (f y (record { held = L.held; above = omega (arith, L.above); below = L.below; its = L.its; gone = gone e }))
@@ -113,8 +113,8 @@ module _ {R : Rules} {s : View R} {c k : ℕ} {l t : List ℕ} {x : R.P} (W : Re
             by false z = let w : i ≡ r = omega (arith, ltb-false r i z) in rw (w, e) (omega arith)
 
     -- it is taken
-    kept : (q : P) → theory.inHistory s y r a ≡ true → s.dag a r ≡ some q → a < 16 → anchorsIn s left m (suc n) ≡ q ∷ taken s n q
-    unfolding anchorsIn anchorIn
+    kept : (q : P) → theory.in_history s y r a ≡ true → s.dag a r ≡ some q → a < 16 → anchors_in s left m (suc n) ≡ q ∷ taken s n q
+    unfolding anchors_in anchor_in
     kept q h g b =
         let p = W.shows.placed.place g in
         let e : get_or left r 0 ≡ a = at ∙ rw h refl in
@@ -127,17 +127,17 @@ module _ {R : Rules} {s : View R} {c k : ℕ} {l t : List ℕ} {x : R.P} (W : Re
           gone = λ i u v. absurd (omega (arith, p.1));
         })))
 
-    next : anchorsIn s left m (suc n) ≡ taken s (suc n) y
-    unfolding taken anchorIn
+    next : anchors_in s left m (suc n) ≡ taken s (suc n) y
+    unfolding taken anchor_in
     next = rw (W.led r (omega arith) (omega (arith, L.above, L.below))) (go (ltb a 16) refl)
       where
-        test : (q : P) → s.dag a r ≡ some q → a < 16 → (b : Bool) → theory.inHistory s y r a ≡ b → anchorsIn s left m (suc n) ≡ cond b (q ∷ taken s n q) (taken s n y)
+        test : (q : P) → s.dag a r ≡ some q → a < 16 → (b : Bool) → theory.in_history s y r a ≡ b → anchors_in s left m (suc n) ≡ cond b (q ∷ taken s n q) (taken s n y)
         test q g z true h = kept q h g z
         test q g z false h = struck h
 
-        held : a < 16 → (o : Option P) → s.dag a r ≡ o → anchorsIn s left m (suc n) ≡ choose s y (λ y. taken s n y) o
+        held : a < 16 → (o : Option P) → s.dag a r ≡ o → anchors_in s left m (suc n) ≡ choose s y (λ y. taken s n y) o
         held z none g = struck (history-held W.shows.placed L.held r a (rw g refl))
-        held z (some q) g = let p = W.shows.placed.place g in rw (p.0, p.1) (test q g z (theory.inHistory s y r a) refl)
+        held z (some q) g = let p = W.shows.placed.place g in rw (p.0, p.1) (test q g z (theory.in_history s y r a) refl)
 
         nobody : 16 ≤ a → is_held (s.dag a r) ≡ false
         nobody h = by (is_held (s.dag a r)) refl
@@ -146,18 +146,18 @@ module _ {R : Rules} {s : View R} {c k : ℕ} {l t : List ℕ} {x : R.P} (W : Re
             by true e = absurd (omega (arith, held-member t a r (W.shows.held a r (omega arith) (omega (arith, L.above, L.below, W.inside)) ∙ e)))
             by false e = refl
 
-        go : (b : Bool) → ltb a 16 ≡ b → anchorsIn s left m (suc n) ≡ choose s y (λ y. taken s n y) (cond b (s.dag a r) none)
+        go : (b : Bool) → ltb a 16 ≡ b → anchors_in s left m (suc n) ≡ choose s y (λ y. taken s n y) (cond b (s.dag a r) none)
         go true z = held (ltb-true a 16 z) (s.dag a r) refl
         go false z = struck (history-held W.shows.placed L.held r a (nobody (ltb-false a 16 z)))
 
-  anchors-taken : (n : ℕ) (y : P) → Latest n y → anchorsIn s left m n ≡ taken s n y
-  unfolding anchorsIn taken
+  anchors-taken : (n : ℕ) (y : P) → Latest n y → anchors_in s left m n ≡ taken s n y
+  unfolding anchors_in taken
   anchors-taken zero y L = refl
   anchors-taken (suc n) y L = next n (anchors-taken n) y L
 
   -- the anchors left are those that the theory takes
-  pub anchors-left : anchorsIn s left m (round x - m) ≡ x ∷ taken s (round x - suc m) x
-  unfolding anchorsIn anchorIn
+  pub anchors-left : anchors_in s left m (round x - m) ≡ x ∷ taken s (round x - suc m) x
+  unfolding anchors_in anchor_in
   anchors-left =
       let e : round x - m ≡ suc (round x - suc m) = omega (arith, W.above) in
       let i : m + suc (round x - suc m) ≡ round x = omega (arith, W.above) in

@@ -2,9 +2,11 @@
 #![tactic(auto)]
 
 ghost use Rattle.std.specs.Prelude.{◌≡◌};
-ghost use Rattle.state.specs.WellFormed.{wellFormed};
-ghost use Rattle.commit.specs.Commit.{refusedWith, Commits};
+ghost use Rattle.state.specs.WellFormed.{well_formed};
+ghost use Rattle.commit.specs.Commit.{refused_with, Commits};
 
+use blocks::making;
+use running::bonded;
 use state::State;
 use terms::Round;
 
@@ -24,7 +26,7 @@ pub struct Outcome {
 
 // A refused commit.
 fn refused(s: State, n: u32) -> Outcome
-    ensures { result ≡ refusedWith s n }
+    ensures { result ≡ refused_with s n }
 {
     Outcome {
         state: s,
@@ -34,7 +36,7 @@ fn refused(s: State, n: u32) -> Outcome
 
 // The call, where it is known whether the state is well formed.
 pub fn commit_cached(formed: bool, s: State, t: &mut [u32]) -> Outcome
-    requires { formed ≡ wellFormed s t.old }
+    requires { formed ≡ well_formed s t.old }
     ensures { Commits s t.old result t.new }
 {
     if !formed {

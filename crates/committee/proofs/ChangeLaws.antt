@@ -9,13 +9,13 @@ use lib.ListN.{set, length, length-set}
 use lib.Seq.{get_or-set_same, get_or-set_other}
 use lib.Dec.{eqb, ltb}
 use borrow.Author.Tests.{eq-eqb, ne_eqb, lt-ltb, le-ltb}
-use Rattle.base.specs.Folds.{foldTo, tab}
+use Rattle.base.specs.Folds.{fold_to, tab}
 use Rattle.agreement.specs.Rules.{Block}
 use Rattle.terms.specs.declared.Transaction.{Transaction}
 use Rattle.terms.specs.declared.Transaction.TheVariants.{Bond, Unbond, Entry}
 use Rattle.terms.specs.Proposals.{Content}
-use Rattle.sheet.specs.Ranges.{weightIn}
-use Rattle.committee.specs.Changes.{change, changes, changesOf, atMostOne, row, rows}
+use Rattle.terms.specs.Ranges.{weight_in}
+use Rattle.committee.specs.Changes.{change, changes, changes_of, at_most_one, row, rows}
 
 -- ---- one transaction
 
@@ -25,7 +25,7 @@ length-one true w m v = length-set w m v
 length-one false w m v = refl
 
 pub length-change : (x : Transaction) (w : List ℕ) → length (change x w) ≡ length w
-length-change (Bond i a) w = length-one (ltb i.0 16) w i.0 (weightIn w i.0 + a)
+length-change (Bond i a) w = length-one (ltb i.0 16) w i.0 (weight_in w i.0 + a)
 length-change (Unbond i) w = length-one (ltb i.0 16) w i.0 0
 length-change (Entry n) w = refl
 
@@ -34,30 +34,30 @@ unfolding changes
 length-changes [] w = refl
 length-changes (x ∷ l) w = length-changes l (change x w) ∙ length-change x w
 
-pub length-changes-of : (l : List Content) (w : List ℕ) → length (changesOf l w) ≡ length w
-unfolding changesOf
+pub length-changes-of : (l : List Content) (w : List ℕ) → length (changes_of l w) ≡ length w
+unfolding changes_of
 length-changes-of [] w = refl
 length-changes-of (p ∷ l) w = length-changes-of l (changes p.transactions w) ∙ length-changes p.transactions w
 
 module _ (i v : ℕ) (w : List ℕ) (m : ℕ) (l : length w ≡ 16) (h : m < 16) where
   -- the weight of member m
-  at_one : weightIn (cond (ltb i 16) (set w i v) w) m ≡ cond (eqb i m) v (weightIn w m)
+  at_one : weight_in (cond (ltb i 16) (set w i v) w) m ≡ cond (eqb i m) v (weight_in w m)
   at_one = go (ℕ_discrete i m) (dec_lt i 16)
     where
-      go : Dec (i ≡ m) → Dec (i < 16) → weightIn (cond (ltb i 16) (set w i v) w) m ≡ cond (eqb i m) v (weightIn w m)
+      go : Dec (i ≡ m) → Dec (i < 16) → weight_in (cond (ltb i 16) (set w i v) w) m ≡ cond (eqb i m) v (weight_in w m)
       go (yes e) d = rw (eq-eqb i m e, e, lt-ltb m 16 h) (get_or-set_same w m v 0 (omega arith))
       go (no n) (yes k) = rw (ne_eqb i m n, lt-ltb i 16 k) (get_or-set_other w i m v 0 (λ q. n (sym q)))
       go (no n) (no k) = rw (ne_eqb i m n, le-ltb i 16 (omega arith)) refl
 
 module _ (i : ℕ) where
-  pub bond-at : (a : ℕ) (w : List ℕ) (m : ℕ) → length w ≡ 16 → m < 16 → weightIn (change (Bond (record { 0 = i }) a) w) m ≡ cond (eqb i m) a 0 + weightIn w m
-  bond-at a w m l h = at_one i (weightIn w i + a) w m l h ∙ go (ℕ_discrete i m)
+  pub bond-at : (a : ℕ) (w : List ℕ) (m : ℕ) → length w ≡ 16 → m < 16 → weight_in (change (Bond (record { 0 = i }) a) w) m ≡ cond (eqb i m) a 0 + weight_in w m
+  bond-at a w m l h = at_one i (weight_in w i + a) w m l h ∙ go (ℕ_discrete i m)
     where
-      go : Dec (i ≡ m) → cond (eqb i m) (weightIn w i + a) (weightIn w m) ≡ cond (eqb i m) a 0 + weightIn w m
+      go : Dec (i ≡ m) → cond (eqb i m) (weight_in w i + a) (weight_in w m) ≡ cond (eqb i m) a 0 + weight_in w m
       go (yes e) = rw (eq-eqb i m e, e) (omega arith)
       go (no n) = rw (ne_eqb i m n) (omega arith)
 
-  pub unbond-at : (w : List ℕ) (m : ℕ) → length w ≡ 16 → m < 16 → weightIn (change (Unbond (record { 0 = i })) w) m ≡ cond (eqb i m) 0 (weightIn w m)
+  pub unbond-at : (w : List ℕ) (m : ℕ) → length w ≡ 16 → m < 16 → weight_in (change (Unbond (record { 0 = i })) w) m ≡ cond (eqb i m) 0 (weight_in w m)
   unbond-at w m l h = at_one i 0 w m l h
 
 -- ---- folds
@@ -67,37 +67,37 @@ unfolding changes
 changes-append [] m w = refl
 changes-append (x ∷ l) m w = changes-append l m (change x w)
 
-pub changes-tab : (f : ℕ → Transaction) (n : ℕ) (w : List ℕ) → changes (tab f n) w ≡ foldTo (λ k. change (f k)) n w
-unfolding tab foldTo changes
+pub changes-tab : (f : ℕ → Transaction) (n : ℕ) (w : List ℕ) → changes (tab f n) w ≡ fold_to (λ k. change (f k)) n w
+unfolding tab fold_to changes
 changes-tab f zero w = refl
 changes-tab f (suc n) w = changes-append (tab f n) (f n ∷ []) w ∙ ap (change (f n)) (changes-tab f n w)
 
-changes-of-append : (l m : List Content) (w : List ℕ) → changesOf (l ++ m) w ≡ changesOf m (changesOf l w)
-unfolding changesOf
+changes-of-append : (l m : List Content) (w : List ℕ) → changes_of (l ++ m) w ≡ changes_of m (changes_of l w)
+unfolding changes_of
 changes-of-append [] m w = refl
 changes-of-append (p ∷ l) m w = changes-of-append l m (changes p.transactions w)
 
 -- no certificate changes nothing
-pub changes-none : (w : List ℕ) → changesOf [] w ≡ w
-unfolding changesOf
+pub changes-none : (w : List ℕ) → changes_of [] w ≡ w
+unfolding changes_of
 changes-none w = refl
 
 -- one certificate alone
-pub changes-one : (p : Content) (w : List ℕ) → changesOf (p ∷ []) w ≡ changes p.transactions w
-unfolding changesOf
+pub changes-one : (p : Content) (w : List ℕ) → changes_of (p ∷ []) w ≡ changes p.transactions w
+unfolding changes_of
 changes-one p w = refl
 
-row-changes : (b : Block Content) (a r n : ℕ) (w : List ℕ) → changesOf (row b a r n) w ≡ foldTo (λ m. changesOf (atMostOne (b.holds ((a + m) % 16) r))) n w
-unfolding row foldTo changesOf
+row-changes : (b : Block Content) (a r n : ℕ) (w : List ℕ) → changes_of (row b a r n) w ≡ fold_to (λ m. changes_of (at_most_one (b.holds ((a + m) % 16) r))) n w
+unfolding row fold_to changes_of
 row-changes b a r zero w = refl
 row-changes b a r (suc n) w =
-    changes-of-append (row b a r n) (atMostOne (b.holds ((a + n) % 16) r)) w ∙ ap (changesOf (atMostOne (b.holds ((a + n) % 16) r))) (row-changes b a r n w)
+    changes-of-append (row b a r n) (at_most_one (b.holds ((a + n) % 16) r)) w ∙ ap (changes_of (at_most_one (b.holds ((a + n) % 16) r))) (row-changes b a r n w)
 
 -- by round, then numbers from a on
-pub rows-changes : (b : Block Content) (a n : ℕ) (w : List ℕ) → changesOf (rows b a n) w ≡ foldTo (λ r. foldTo (λ m. changesOf (atMostOne (b.holds ((a + m) % 16) (suc r)))) 16) n w
-unfolding rows foldTo changesOf
+pub rows-changes : (b : Block Content) (a n : ℕ) (w : List ℕ) → changes_of (rows b a n) w ≡ fold_to (λ r. fold_to (λ m. changes_of (at_most_one (b.holds ((a + m) % 16) (suc r)))) 16) n w
+unfolding rows fold_to changes_of
 rows-changes b a zero w = refl
 rows-changes b a (suc n) w =
     changes-of-append (rows b a n) (row b a (suc n) 16) w
-    ∙ row-changes b a (suc n) 16 (changesOf (rows b a n) w)
-    ∙ ap (foldTo (λ m. changesOf (atMostOne (b.holds ((a + m) % 16) (suc n)))) 16) (rows-changes b a n w)
+    ∙ row-changes b a (suc n) 16 (changes_of (rows b a n) w)
+    ∙ ap (fold_to (λ m. changes_of (at_most_one (b.holds ((a + m) % 16) (suc n)))) 16) (rows-changes b a n w)

@@ -5,11 +5,11 @@ use Rattle.agreement.specs.Rules.{Block}
 use Rattle.terms.specs.declared.Transaction.{Transaction}
 use Rattle.terms.specs.declared.Transaction.TheVariants.{Bond, Unbond, Entry}
 use Rattle.terms.specs.Proposals.{Content}
-use Rattle.sheet.specs.Ranges.{weightIn}
+use Rattle.terms.specs.Ranges.{weight_in}
 
 -- bond adds, joining if there was no weight; unbond removes; an entry does nothing, and neither does a number that is no member's
 abbrev pub change : Transaction → List ℕ → List ℕ
-change (Bond m a) w = cond (ltb m.0 16) (set w m.0 (weightIn w m.0 + a)) w
+change (Bond m a) w = cond (ltb m.0 16) (set w m.0 (weight_in w m.0 + a)) w
 change (Unbond m) w = cond (ltb m.0 16) (set w m.0 0) w
 change (Entry n) w = w
 
@@ -19,18 +19,18 @@ changes [] w = w
 changes (x ∷ l) w = changes l (change x w)
 
 -- certificates in order
-unfoldable pub changesOf : List Content → List ℕ → List ℕ
-changesOf [] w = w
-changesOf (p ∷ l) w = changesOf l (changes p.transactions w)
+unfoldable pub changes_of : List Content → List ℕ → List ℕ
+changes_of [] w = w
+changes_of (p ∷ l) w = changes_of l (changes p.transactions w)
 
-abbrev pub atMostOne : Option Content → List Content
-atMostOne none = []
-atMostOne (some p) = p ∷ []
+abbrev pub at_most_one : Option Content → List Content
+at_most_one none = []
+at_most_one (some p) = p ∷ []
 
 -- the certificates of round r by n members: numbers rise from that of a, with 0 after 15
 unfoldable pub row : Block Content → ℕ → ℕ → ℕ → List Content
 row b a r zero = []
-row b a r (suc n) = row b a r n ++ atMostOne (b.holds ((a + n) % 16) r)
+row b a r (suc n) = row b a r n ++ at_most_one (b.holds ((a + n) % 16) r)
 
 -- those of the rounds 1 to n, by round
 unfoldable pub rows : Block Content → ℕ → ℕ → List Content

@@ -6,23 +6,23 @@ use Rattle.agreement.specs.Rules.{Block, Chain}
 use Rattle.terms.specs.declared.Transaction.{Transaction}
 use Rattle.terms.specs.declared.Transaction.TheVariants.{Bond, Unbond}
 use Rattle.terms.specs.Proposals.{Content}
-use Rattle.sheet.specs.declared.Setting.TheVariants.{Written}
-use Rattle.sheet.specs.declared.Settings.{Settings}
-use Rattle.sheet.specs.declared.Sheet.{Sheet}
-use Rattle.sheet.specs.Sheets.{blankSheet, filled}
-use Rattle.sheet.specs.Ranges.{weightIn}
+use Rattle.terms.specs.declared.sheet.Setting.TheVariants.{Written}
+use Rattle.terms.specs.declared.sheet.Settings.{Settings}
+use Rattle.terms.specs.declared.sheet.Sheet.{Sheet}
+use Rattle.terms.specs.Sheets.{blank_sheet, filled}
+use Rattle.terms.specs.Ranges.{weight_in}
 use Rattle.committee.specs.Changes.{changes}
-use Rattle.committee.specs.Committees.{committeeOf, ordered, known_by, boundOf, quorumWeight}
-use Rattle.shares.specs.Shares.{share_of}
-use Rattle.committee.specs.Leaders.{leaderOf, leaderNumber}
+use Rattle.committee.specs.Committees.{committee_of, ordered, known_by, bound_of, quorum_weight}
+use Rattle.committee.specs.Shares.{share_of}
+use Rattle.committee.specs.Leaders.{leader_of, leader_number}
 
 -- the blank sheet has lookback 20 and weights 1, 1, 1, 1
 unfoldable pub blank : Settings
-blank = filled blankSheet
+blank = filled blank_sheet
 
 -- the blank sheet with member 3's weight written as 0
 unfoldable pub written : Sheet
-written = record { lookback = blankSheet.lookback; ceiling = blankSheet.ceiling; allowance = blankSheet.allowance; weights = set blankSheet.weights 3 (record { setting = Written 0 }); margin = blankSheet.margin; rights = blankSheet.rights }
+written = record { lookback = blank_sheet.lookback; ceiling = blank_sheet.ceiling; allowance = blank_sheet.allowance; weights = set blank_sheet.weights 3 (record { setting = Written 0 }); margin = blank_sheet.margin; rights = blank_sheet.rights }
 
 unfoldable pub bond : ℕ → ℕ → Transaction
 bond m a = Bond (record { 0 = m }) a
@@ -47,10 +47,10 @@ unfoldable pub nobody : Settings
 nobody = record { lookback = blank.lookback; ceiling = record { 0 = 6 }; allowance = blank.allowance; weights = tab (λ i. 0) 16; margin = blank.margin }
 
 -- the author of the certificate at place k of a list, 16 for none
-unfoldable pub authorAt : List Content → ℕ → ℕ
-authorAt [] k = 16
-authorAt (p ∷ l) zero = p.author
-authorAt (p ∷ l) (suc k) = authorAt l k
+unfoldable pub author_at : List Content → ℕ → ℕ
+author_at [] k = 16
+author_at (p ∷ l) zero = p.author
+author_at (p ∷ l) (suc k) = author_at l k
 
 unfoldable pub truth : Bool → ℕ
 truth true = 1
@@ -58,19 +58,19 @@ truth false = 0
 
 unfoldable pub cases : List (ℕ × ℕ)
 cases =
-    (boundOf 3 0, 0) ∷ (boundOf 3 1, 0) ∷ (boundOf 3 3, 0) ∷ (boundOf 3 4, 1) ∷ (boundOf 3 6, 1) ∷ (boundOf 3 7, 2)
-    ∷ (quorumWeight 3 0, 0) ∷ (quorumWeight 3 1, 1) ∷ (quorumWeight 3 3, 3) ∷ (quorumWeight 3 4, 3) ∷ (quorumWeight 3 6, 5) ∷ (quorumWeight 3 7, 5)
-    ∷ (boundOf 3 16, 5) ∷ (quorumWeight 3 16, 11) ∷ (boundOf 5 16, 3) ∷ (quorumWeight 5 16, 13) ∷ (boundOf 5 0, 0) ∷ (quorumWeight 5 0, 0) ∷ (blank.margin, 3)
+    (bound_of 3 0, 0) ∷ (bound_of 3 1, 0) ∷ (bound_of 3 3, 0) ∷ (bound_of 3 4, 1) ∷ (bound_of 3 6, 1) ∷ (bound_of 3 7, 2)
+    ∷ (quorum_weight 3 0, 0) ∷ (quorum_weight 3 1, 1) ∷ (quorum_weight 3 3, 3) ∷ (quorum_weight 3 4, 3) ∷ (quorum_weight 3 6, 5) ∷ (quorum_weight 3 7, 5)
+    ∷ (bound_of 3 16, 5) ∷ (quorum_weight 3 16, 11) ∷ (bound_of 5 16, 3) ∷ (quorum_weight 5 16, 13) ∷ (bound_of 5 0, 0) ∷ (quorum_weight 5 0, 0) ∷ (blank.margin, 3)
     ∷ (truth (known_by blank [] 22), 1) ∷ (truth (known_by blank [] 23), 0)
-    ∷ (weightIn (committeeOf blank bonding 22) 5, 0) ∷ (weightIn (committeeOf blank bonding 23) 5, 7)
-    ∷ (leaderNumber (leaderOf (weightIn blank.weights) 2), 1) ∷ (leaderNumber (leaderOf (weightIn blank.weights) 4), 2)
-    ∷ (leaderNumber (leaderOf (weightIn blank.weights) 6), 3) ∷ (leaderNumber (leaderOf (weightIn blank.weights) 8), 0)
+    ∷ (weight_in (committee_of blank bonding 22) 5, 0) ∷ (weight_in (committee_of blank bonding 23) 5, 7)
+    ∷ (leader_number (leader_of (weight_in blank.weights) 2), 1) ∷ (leader_number (leader_of (weight_in blank.weights) 4), 2)
+    ∷ (leader_number (leader_of (weight_in blank.weights) 6), 3) ∷ (leader_number (leader_of (weight_in blank.weights) 8), 0)
     ∷ (share_of 1 16, 62) ∷ (share_of 3 16, 188) ∷ (share_of 1 2000, 0)
-    ∷ (weightIn (changes (unbond 2 ∷ bond 2 5 ∷ []) blank.weights) 2, 5) ∷ (weightIn (changes (bond 2 5 ∷ unbond 2 ∷ []) blank.weights) 2, 0)
-    ∷ (weightIn blank.weights 3, 1) ∷ (weightIn (filled written).weights 3, 0)
-    ∷ (authorAt (ordered four full []) 0, 2) ∷ (authorAt (ordered four full []) 1, 3) ∷ (authorAt (ordered four full []) 2, 0) ∷ (authorAt (ordered four full []) 3, 1)
-    ∷ (authorAt (ordered four full []) 4, 2) ∷ (authorAt (ordered four full []) 5, 16)
-    ∷ (authorAt (ordered nobody full []) 0, 0) ∷ (authorAt (ordered nobody full []) 1, 1) ∷ (authorAt (ordered nobody full []) 2, 2) ∷ (authorAt (ordered nobody full []) 3, 3)
+    ∷ (weight_in (changes (unbond 2 ∷ bond 2 5 ∷ []) blank.weights) 2, 5) ∷ (weight_in (changes (bond 2 5 ∷ unbond 2 ∷ []) blank.weights) 2, 0)
+    ∷ (weight_in blank.weights 3, 1) ∷ (weight_in (filled written).weights 3, 0)
+    ∷ (author_at (ordered four full []) 0, 2) ∷ (author_at (ordered four full []) 1, 3) ∷ (author_at (ordered four full []) 2, 0) ∷ (author_at (ordered four full []) 3, 1)
+    ∷ (author_at (ordered four full []) 4, 2) ∷ (author_at (ordered four full []) 5, 16)
+    ∷ (author_at (ordered nobody full []) 0, 0) ∷ (author_at (ordered nobody full []) 1, 1) ∷ (author_at (ordered nobody full []) 2, 2) ∷ (author_at (ordered nobody full []) 3, 3)
     ∷ []
 
 -- both numbers of each row are equal

@@ -1,31 +1,31 @@
 -- Leaders: of the members of a committee by rising number, the one at position (r / 2) mod their count, for even r.
 use Rattle.std.specs.Prelude.{Bool, ◌&&◌, cond, List, ℕ, ◌/◌, ◌%◌, eqb, leb, ltb}
 use Rattle.std.proofs.Math.Option.{Option, none, some}
-use Rattle.base.specs.Folds.{foldTo}
+use Rattle.base.specs.Folds.{fold_to}
 use Rattle.base.specs.Sets.{add}
-use Rattle.positions.specs.Positions.{countBelow, memberBelow}
-use Rattle.sheet.specs.Ranges.{weightIn}
+use Rattle.committee.specs.Positions.{count_below, member_below}
+use Rattle.terms.specs.Ranges.{weight_in}
 
 -- the member at position k of a set
-unfoldable pub memberAt : (ℕ → Bool) → ℕ → Option ℕ
-memberAt set k = memberBelow set 16 k
+unfoldable pub member_at : (ℕ → Bool) → ℕ → Option ℕ
+member_at set k = member_below set 16 k
 
 -- those with a weight
 abbrev pub members : (ℕ → ℕ) → ℕ → Bool
 members w i = ltb 0 (w i)
 
 -- the leader of an even round; none for an empty committee
-unfoldable pub leaderOf : (ℕ → ℕ) → ℕ → Option ℕ
-leaderOf w r = cond (eqb (r % 2) 0 && leb 2 r) (memberAt (members w) (r / 2 % countBelow (members w) 16)) none
+unfoldable pub leader_of : (ℕ → ℕ) → ℕ → Option ℕ
+leader_of w r = cond (eqb (r % 2) 0 && leb 2 r) (member_at (members w) (r / 2 % count_below (members w) 16)) none
 
 -- a leader's number, 16 for none
-abbrev pub leaderNumber : Option ℕ → ℕ
-leaderNumber none = 16
-leaderNumber (some a) = a
+abbrev pub leader_number : Option ℕ → ℕ
+leader_number none = 16
+leader_number (some a) = a
 
 -- the members as a set: s, with member i if it has a weight
 unfoldable pub joined : List ℕ → ℕ → ℕ → ℕ
-joined w i s = cond (members (weightIn w) i) (add s i) s
+joined w i s = cond (members (weight_in w) i) (add s i) s
 
-unfoldable pub memberSet : List ℕ → ℕ
-memberSet w = foldTo (joined w) 16 0
+unfoldable pub member_set : List ℕ → ℕ
+member_set w = fold_to (joined w) 16 0

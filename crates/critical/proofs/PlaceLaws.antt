@@ -6,38 +6,38 @@ use Prim.Native.Nat.{ℕ, suc, ◌+◌, ◌-◌, ◌*◌}
 use lib.ListN.{length}
 use native.Mathlib.Omega.{arith}
 use Rattle.state.specs.declared.State.{State}
-use Rattle.critical.specs.Critical.{Place, placeWords, isCritical, criticalAt, criticalIn, criticalPlaces}
+use Rattle.critical.specs.Critical.{Place, place_words, is_critical, critical_at, critical_in, critical_places}
 
-words_append : (l m : List Place) → placeWords (l ++ m) ≡ placeWords l ++ placeWords m
-unfolding placeWords
+words_append : (l m : List Place) → place_words (l ++ m) ≡ place_words l ++ place_words m
+unfolding place_words
 words_append [] m = refl
 words_append (x ∷ l) m = ap (λ (w : List ℕ). x.round ∷ x.author ∷ w) (words_append l m)
 
 module _ (s : State) (t : List ℕ) (q : ℕ) where
-  pub place-there : (a : ℕ) → isCritical s t a q ≡ true → placeWords (criticalAt s t a q) ≡ q ∷ a ∷ []
-  unfolding criticalAt placeWords
+  pub place-there : (a : ℕ) → is_critical s t a q ≡ true → place_words (critical_at s t a q) ≡ q ∷ a ∷ []
+  unfolding critical_at place_words
   place-there a e = rw e refl
 
-  pub place_none : (a : ℕ) → isCritical s t a q ≡ false → placeWords (criticalAt s t a q) ≡ []
-  unfolding criticalAt placeWords
+  pub place_none : (a : ℕ) → is_critical s t a q ≡ false → place_words (critical_at s t a q) ≡ []
+  unfolding critical_at place_words
   place_none a e = rw e refl
 
-  pub row-none : placeWords (criticalIn s t q 0) ≡ []
-  unfolding criticalIn placeWords
+  pub row-none : place_words (critical_in s t q 0) ≡ []
+  unfolding critical_in place_words
   row-none = refl
 
-  row-suc : (k : ℕ) → placeWords (criticalIn s t q (suc k)) ≡ placeWords (criticalIn s t q k) ++ placeWords (criticalAt s t k q)
-  unfolding criticalIn
-  row-suc k = words_append (criticalIn s t q k) (criticalAt s t k q)
+  row-suc : (k : ℕ) → place_words (critical_in s t q (suc k)) ≡ place_words (critical_in s t q k) ++ place_words (critical_at s t k q)
+  unfolding critical_in
+  row-suc k = words_append (critical_in s t q k) (critical_at s t k q)
 
-  pub row_more : (n : ℕ) → placeWords (criticalIn s t q (n + 1)) ≡ placeWords (criticalIn s t q n) ++ placeWords (criticalAt s t n q)
+  pub row_more : (n : ℕ) → place_words (critical_in s t q (n + 1)) ≡ place_words (critical_in s t q n) ++ place_words (critical_at s t n q)
   row_more n = let e : n + 1 ≡ suc n = omega arith in rw e (row-suc n)
 
-pub words-length : (l : List Place) → length (placeWords l) ≡ 2 * length l
-unfolding placeWords
+pub words-length : (l : List Place) → length (place_words l) ≡ 2 * length l
+unfolding place_words
 words-length [] = refl
 words-length (x ∷ l) = omega (arith, words-length l)
 
-pub places-words : (s : State) (t : List ℕ) → placeWords (criticalPlaces s t) ≡ placeWords (criticalIn s t (s.round.0 - 1) 16) ++ placeWords (criticalIn s t s.round.0 16)
-unfolding criticalPlaces
-places-words s t = words_append (criticalIn s t (s.round.0 - 1) 16) (criticalIn s t s.round.0 16)
+pub places-words : (s : State) (t : List ℕ) → place_words (critical_places s t) ≡ place_words (critical_in s t (s.round.0 - 1) 16) ++ place_words (critical_in s t s.round.0 16)
+unfolding critical_places
+places-words s t = words_append (critical_in s t (s.round.0 - 1) 16) (critical_in s t s.round.0 16)

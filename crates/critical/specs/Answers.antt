@@ -2,37 +2,37 @@
 use Rattle.std.specs.Prelude.{◌≡◌, true, ◌⊎◌, List, ℕ, ◌-◌, ◌<◌, ◌≤◌, length}
 use Rattle.base.specs.Checks.{refusal}
 use Rattle.agreement.specs.Weights.{total}
-use Rattle.store.specs.Table.{held_at, markAt}
-use Rattle.sheet.specs.Ranges.{weightIn}
-use Rattle.committee.specs.Chain.{chainOf}
-use Rattle.committee.specs.Committees.{boundOf}
+use Rattle.store.specs.Table.{held_at, mark_at}
+use Rattle.terms.specs.Ranges.{weight_in}
+use Rattle.committee.specs.Chain.{chain_of}
+use Rattle.committee.specs.Committees.{bound_of}
 use Rattle.committee.specs.Totals.{TotalBounded}
-use Rattle.leaders.specs.Fill.{leaderAt}
+use Rattle.running.specs.Fill.{leader_at}
 use Rattle.state.specs.declared.State.{State}
 use Rattle.state.specs.Formed.{Formed}
-use Rattle.checks.specs.declared.Listed.{Listed}
-use Rattle.checks.specs.Answers.{listed_of}
-use Rattle.votes.specs.Votes.{votesFor}
-use Rattle.votes.specs.Checks.{timeChecks, voteChecks, committeeOn}
+use Rattle.state.specs.declared.checks.Listed.{Listed}
+use Rattle.state.specs.Answers.{listed_of}
+use Rattle.votes.specs.Votes.{votes_for}
+use Rattle.votes.specs.Checks.{time_checks, vote_checks, committee_on}
 use Rattle.critical.specs.declared.Polled.{Polled}
 use Rattle.critical.specs.declared.Weighed.{Weighed}
-use Rattle.critical.specs.Critical.{criticalPlaces, criticalRefusal, criticalList}
+use Rattle.critical.specs.Critical.{critical_places, critical_refusal, critical_list}
 
 module _ (s : State) (t : List ℕ) where
   -- as many as there are places
-  unfoldable pub criticalAnswer : ℕ → Listed
-  criticalAnswer words = listed_of (criticalRefusal s t words) (length (criticalPlaces s t))
+  unfoldable pub critical_answer : ℕ → Listed
+  critical_answer words = listed_of (critical_refusal s t words) (length (critical_places s t))
 
   -- what the call gives: the answer a, the table as it was, and the list as it is then
   pub record Lists (list : List ℕ) (a : Listed) (t' list' : List ℕ) : Type 0 where
-    pub answer : a ≡ criticalAnswer (length list)
+    pub answer : a ≡ critical_answer (length list)
     pub table : t' ≡ t
-    pub places : list' ≡ criticalList s t list
+    pub places : list' ≡ critical_list s t list
 
   -- the checks of time let the state pass
   pub record InTime : Type 0 where
     pub formed : Formed s t
-    pub in-time : refusal (timeChecks s t) ≡ 0
+    pub in_time : refusal (time_checks s t) ≡ 0
 
   -- so it is, and the certificate of author a and round q has a place
   pub record MayLack (a q : ℕ) : Type 0 where
@@ -43,19 +43,19 @@ module _ (s : State) (t : List ℕ) where
 
   -- p has what the votes answer, the leader of the round before and the committee of the present round
   pub record Polls (p : Polled) : Type 0 where
-    pub its-refusal : p.refusal ≡ refusal (voteChecks s t)
-    pub its-leader : p.leader.0 ≡ leaderAt s.settings (chainOf s.settings.ceiling.0 t s.blocks) (s.round.0 - 1)
-    pub its-weights : p.weights ≡ committeeOn s t s.round.0
+    pub its-refusal : p.refusal ≡ refusal (vote_checks s t)
+    pub its-leader : p.leader.0 ≡ leader_at s.settings (chain_of s.settings.ceiling.0 t s.blocks) (s.round.0 - 1)
+    pub its-weights : p.weights ≡ committee_on s t s.round.0
     pub bounded : TotalBounded p.weights
 
   -- the state would commit; x has the leader of the round before, and of the present round the committee, its bound and the votes
   pub record Weighs (x : Weighed) : Type 0 where
     pub timely : InTime
-    pub voted : refusal (voteChecks s t) ≡ 0
-    pub its-leader : x.leader.0 ≡ leaderAt s.settings (chainOf s.settings.ceiling.0 t s.blocks) (s.round.0 - 1)
-    pub its-weights : x.weights ≡ committeeOn s t s.round.0
-    pub its-bound : x.bound.0 ≡ boundOf s.settings.margin (total 16 (weightIn x.weights))
-    pub its-votes : x.votes.0 ≡ votesFor t x.weights s.round.0 x.leader.0
+    pub voted : refusal (vote_checks s t) ≡ 0
+    pub its-leader : x.leader.0 ≡ leader_at s.settings (chain_of s.settings.ceiling.0 t s.blocks) (s.round.0 - 1)
+    pub its-weights : x.weights ≡ committee_on s t s.round.0
+    pub its-bound : x.bound.0 ≡ bound_of s.settings.margin (total 16 (weight_in x.weights))
+    pub its-votes : x.votes.0 ≡ votes_for t x.weights s.round.0 x.leader.0
 
 -- q is the present round or the one before
 abbrev pub Near : State → ℕ → Type 0
@@ -69,4 +69,4 @@ pub record InView (s : State) (a q : ℕ) : Type 0 where
 -- the certificate of author a and round q is held, and in no block
 pub record Free (t : List ℕ) (a q : ℕ) : Type 0 where
   pub held : held_at t a q ≡ true
-  pub unmarked : markAt t a q ≡ 0
+  pub unmarked : mark_at t a q ≡ 0

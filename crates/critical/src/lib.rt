@@ -2,15 +2,18 @@
 #![tactic(auto)]
 
 ghost use Rattle.std.specs.Prelude.{◌≡◌, ◌+◌, ◌≤◌, [], ◌∷◌, length};
-ghost use Rattle.putting.specs.Puts.{Puts};
-ghost use Rattle.critical.specs.Critical.{placeWords, refusalWithout, isCritical, criticalAt, criticalIn, criticalPlaces, earlyChecks};
+ghost use Rattle.base.specs.Puts.{Puts};
+ghost use Rattle.critical.specs.Critical.{place_words, refusal_without, is_critical, critical_at, critical_in, critical_places, early_checks};
 ghost use Rattle.critical.specs.Answers.{Lists, InTime, Polls, MayLack, Weighs, Near, InView, Free};
 ghost use Rattle.base.specs.Checks.{refusal};
-ghost use Rattle.state.specs.WellFormed.{wellFormed};
+ghost use Rattle.state.specs.WellFormed.{well_formed};
 
-use checks::Listed;
-use sheet::Weight;
+use committee::weighing;
+use running::{bonded, leaders};
 use state::State;
+use state::checks::Listed;
+use store::writes;
+use terms::sheet::Weight;
 use terms::{Member, Round};
 
 // What a commit goes by after the checks of time: the number of the check that refuses then, 0 for none; the leader of the round before, 16 for none; and the committee of the present round.
@@ -50,7 +53,7 @@ fn poll(s: State, t: &[u32]) -> Polled
 // The number that commit would be refused with, were the certificate of a place absent; the table is afterwards as it was.
 fn absent_refusal(s: State, t: &mut [u32], a: Member, q: Round) -> u32
     requires { MayLack s t.old a.0 q.0 }
-    ensures { (result ≡ refusalWithout s t.old a.0 q.0) × (t.new ≡ t.old) }
+    ensures { (result ≡ refusal_without s t.old a.0 q.0) × (t.new ≡ t.old) }
 {
     let held = store::held_set(t, q);
     let left = base::without(held, a.0);
@@ -63,7 +66,7 @@ fn absent_refusal(s: State, t: &mut [u32], a: Member, q: Round) -> u32
 // Of a certificate that is held and in no block: is it the anchor, or a vote without which the others weigh not more than the bound? One that is no vote adds nothing to them.
 fn is_pivotal(s: State, t: &[u32], x: Weighed, a: Member, q: Round) -> bool
     requires { Weighs s t.now x × (InView s a.0 q.0 × Free t.now a.0 q.0) }
-    ensures { result ≡ isCritical s t.now a.0 q.0 }
+    ensures { result ≡ is_critical s t.now a.0 q.0 }
 {
     if q.0 != s.round.0 {
         return a.0 == x.leader.0;
@@ -76,7 +79,7 @@ fn is_pivotal(s: State, t: &[u32], x: Weighed, a: Member, q: Round) -> bool
 // Does the commit hang on the certificate of a place?
 fn is_critical(s: State, t: &mut [u32], x: Weighed, a: Member, q: Round) -> bool
     requires { Weighs s t.old x × InView s a.0 q.0 }
-    ensures { (result ≡ isCritical s t.old a.0 q.0) × (t.new ≡ t.old) }
+    ensures { (result ≡ is_critical s t.old a.0 q.0) × (t.new ≡ t.old) }
 {
     if !store::held(t, a, q) {
         return false;
@@ -108,7 +111,7 @@ fn list_place(
     at: usize,
 ) -> usize
     requires { Weighs s t.old x × (InView s a.0 q.0 × (at + 2 ≤ length list.old)) }
-    ensures { (t.new ≡ t.old) × Puts list.old list.new at result (placeWords (criticalAt s t.old a.0 q.0)) 2 }
+    ensures { (t.new ≡ t.old) × Puts list.old list.new at result (place_words (critical_at s t.old a.0 q.0)) 2 }
 {
     if is_critical(s, t, x, a, q) {
         return put_place(list, at, a, q);
@@ -119,7 +122,7 @@ fn list_place(
 // Those of round q.
 fn list_row(s: State, t: &mut [u32], x: Weighed, q: Round, list: &mut [u32], at: usize) -> usize
     requires { Weighs s t.old x × (Near s q.0 × (at + 32 ≤ length list.old)) }
-    ensures { (t.new ≡ t.old) × Puts list.old list.new at result (placeWords (criticalIn s t.old q.0 16)) 32 }
+    ensures { (t.new ≡ t.old) × Puts list.old list.new at result (place_words (critical_in s t.old q.0 16)) 32 }
 {
     let mut to = at;
     for i in 0..16u32 {
@@ -131,7 +134,7 @@ fn list_row(s: State, t: &mut [u32], x: Weighed, q: Round, list: &mut [u32], at:
 // Those of both rounds, the round before first; the words that they take.
 fn list_places(s: State, t: &mut [u32], x: Weighed, list: &mut [u32]) -> usize
     requires { Weighs s t.old x × (64 ≤ length list.old) }
-    ensures { (t.new ≡ t.old) × Puts list.old list.new 0 result (placeWords (criticalPlaces s t.old)) 64 }
+    ensures { (t.new ≡ t.old) × Puts list.old list.new 0 result (place_words (critical_places s t.old)) 64 }
 {
     let before = Round(s.round.0 - 1);
     let row = list_row(s, t, x, before, list, 0);
@@ -157,8 +160,8 @@ fn weigh_up(s: State, t: &[u32], p: Polled) -> Weighed
 
 // The checks before the votes: 1, 25, 19, 20, 8; the list has so many words.
 fn early_refusal(formed: bool, s: State, t: &[u32], words: usize) -> u32
-    requires { formed ≡ wellFormed s t.now }
-    ensures { result ≡ refusal (earlyChecks s t.now words) }
+    requires { formed ≡ well_formed s t.now }
+    ensures { result ≡ refusal (early_checks s t.now words) }
 {
     if !formed {
         return 1;
@@ -171,7 +174,7 @@ fn early_refusal(formed: bool, s: State, t: &[u32], words: usize) -> u32
 
 // The call on a state that passes those.
 fn list_voted(s: State, t: &mut [u32], list: &mut [u32]) -> Listed
-    requires { refusal (earlyChecks s t.old (length list.old)) ≡ 0 }
+    requires { refusal (early_checks s t.old (length list.old)) ≡ 0 }
     ensures { Lists s t.old list.old result t.new list.new }
 {
     let p = poll(s, t);

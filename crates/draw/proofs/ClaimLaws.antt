@@ -6,44 +6,44 @@ use Prim.Native.Nat.{ℕ}
 use native.Mathlib.Omega.{arith}
 use borrow.Author.Tests.{le-ltb}
 use Rattle.base.proofs.CheckLaws.{passes, lacks, never}
-use Rattle.terms.specs.Proposals.{transactionsOf, badTransactions}
+use Rattle.terms.specs.Proposals.{transactions_of, bad_transactions}
 use Rattle.terms.proofs.BodyLaws.{body-transactions}
-use Rattle.queues.specs.Queues.{transactionsIn}
-use Rattle.queues.specs.Words.{queuesOf}
+use Rattle.queues.specs.Queues.{transactions_in}
+use Rattle.queues.specs.Words.{queues_of}
 use Rattle.queues.proofs.DrawLaws.{transactions-few, drawn-fit}
 use Rattle.rules.specs.Calls as rules
 use Rattle.state.specs.declared.State.{State}
-use Rattle.state.specs.WellFormed.{wellFormed}
+use Rattle.state.specs.WellFormed.{well_formed}
 use Rattle.state.proofs.FormedLaws.{formed}
 use Rattle.state.proofs.RefusalLaws.{refusal-formed}
-use Rattle.propose.specs.Propose.{proposeRefusal}
-use Rattle.draw.specs.Draw.{draws, drawnBody, drawRefusal}
+use Rattle.propose.specs.Propose.{propose_refusal}
+use Rattle.draw.specs.Draw.{draws, drawn_body, draw_refusal}
 use Rattle.draw.specs.Claims.{DrawnSeen, NeverSix}
 use Rattle.draw.proofs.PassedLaws.{first-row}
 
 pub drawn-seen : DrawnSeen
-unfolding drawnBody
+unfolding drawn_body
 drawn-seen s t v w =
     let f = formed s t w in
-    let a = f.settings.allowance-to in
-    let k = transactions-few s.settings.allowance (queuesOf t) in
-    body-transactions v (transactionsIn (draws s t)) (omega arith)
+    let a = f.settings.allowance_to in
+    let k = transactions-few s.settings.allowance (queues_of t) in
+    body-transactions v (transactions_in (draws s t)) (omega arith)
 
 -- check 6
-drawn-passes : (s : State) (t : List ℕ) (v : ℕ) → wellFormed s t ≡ true → badTransactions s.settings.allowance (transactionsOf (drawnBody s t v)) ≡ false
-unfolding badTransactions
+drawn-passes : (s : State) (t : List ℕ) (v : ℕ) → well_formed s t ≡ true → bad_transactions s.settings.allowance (transactions_of (drawn_body s t v)) ≡ false
+unfolding bad_transactions
 drawn-passes s t v w =
     let f = formed s t w in
     rw (
       drawn-seen s t v w,
-      le-ltb _ _ (transactions-few s.settings.allowance (queuesOf t)),
+      le-ltb _ _ (transactions-few s.settings.allowance (queues_of t)),
       drawn-fit s.settings.allowance t (first-row s t f) f.queues,
     )
     refl
 
 pub never-six : NeverSix
-unfolding drawRefusal proposeRefusal lacks
+unfolding draw_refusal propose_refusal lacks
 never-six s t v w e =
-    let b = drawnBody s t v in
-    let c = rules.propose b.previous (transactionsOf b) in
+    let b = drawn_body s t v in
+    let c = rules.propose b.previous (transactions_of b) in
     never 6 _ (omega arith) refl (sym (refusal-formed s t c w ∙ passes 6 _ (drawn-passes s t v w)) ∙ e)

@@ -2,27 +2,27 @@
 use Rattle.std.specs.Prelude.{List, ℕ}
 use Rattle.terms.specs.declared.Body.{Body}
 use Rattle.terms.specs.Bodies.{body_of}
-use Rattle.queues.specs.Queues.{Draw, drawn, transactionsIn}
-use Rattle.queues.specs.Words.{queuesOf, drawnTable}
+use Rattle.queues.specs.Queues.{Draw, drawn, transactions_in}
+use Rattle.queues.specs.Words.{queues_of, drawn_table}
 use Rattle.state.specs.declared.State.{State}
-use Rattle.checks.specs.declared.Outcome.{Outcome}
-use Rattle.checks.specs.Answers.{ifAccepted}
-use Rattle.propose.specs.Propose.{proposeRefusal, proposeOutcome}
+use Rattle.state.specs.declared.checks.Outcome.{Outcome}
+use Rattle.state.specs.Answers.{if_accepted}
+use Rattle.propose.specs.Propose.{propose_refusal, propose_outcome}
 
 module _ (s : State) (t : List ℕ) where
   -- as many as the allowance lets, and as wait
   abbrev pub draws : List Draw
-  draws = drawn s.settings.allowance (queuesOf t)
+  draws = drawn s.settings.allowance (queues_of t)
 
   -- what is proposed: a previous set, and what is drawn
-  unfoldable pub drawnBody : ℕ → Body
-  drawnBody previous = body_of previous (transactionsIn draws)
+  unfoldable pub drawn_body : ℕ → Body
+  drawn_body previous = body_of previous (transactions_in draws)
 
-  unfoldable pub drawRefusal : ℕ → ℕ
-  drawRefusal previous = proposeRefusal s t (drawnBody previous)
+  unfoldable pub draw_refusal : ℕ → ℕ
+  draw_refusal previous = propose_refusal s t (drawn_body previous)
 
-  unfoldable pub drawOutcome : ℕ → Outcome
-  drawOutcome previous = proposeOutcome s t (drawnBody previous)
+  unfoldable pub draw_outcome : ℕ → Outcome
+  draw_outcome previous = propose_outcome s t (drawn_body previous)
 
-  unfoldable pub drawTable : ℕ → List ℕ
-  drawTable previous = ifAccepted (drawRefusal previous) (drawnTable draws t) t
+  unfoldable pub draw_table : ℕ → List ℕ
+  draw_table previous = if_accepted (draw_refusal previous) (drawn_table draws t) t

@@ -2,16 +2,17 @@
 #![tactic(auto)]
 
 ghost use Rattle.state.specs.Cached.{Cached};
-ghost use Rattle.checks.specs.Answers.{WritingCallAnswered};
-ghost use Rattle.draw.specs.Draw.{drawRefusal, drawOutcome, drawTable};
+ghost use Rattle.state.specs.Answers.{WritingCallAnswered};
+ghost use Rattle.draw.specs.Draw.{draw_refusal, draw_outcome, draw_table};
 
-use checks::{Answer, Outcome};
+use queues::drawing;
 use state::State;
+use state::checks::{Answer, Outcome};
 
 // The call, where it is told whether the state is well formed, and committees may be cached. Nothing leaves its queue before the proposal is accepted.
 pub fn draw_cached(formed: bool, cache: &[u64], s: State, t: &mut [u32], previous: u16) -> Outcome
     requires { Cached s t.old formed cache.now }
-    ensures { WritingCallAnswered (drawOutcome s t.old previous) (drawTable s t.old previous) (drawRefusal s t.old previous) result t.new }
+    ensures { WritingCallAnswered (draw_outcome s t.old previous) (draw_table s t.old previous) (draw_refusal s t.old previous) result t.new }
 {
     if !formed {
         return Outcome {
@@ -33,7 +34,7 @@ pub fn draw_cached(formed: bool, cache: &[u64], s: State, t: &mut [u32], previou
 }
 
 pub fn draw(s: State, t: &mut [u32], previous: u16) -> Outcome
-    ensures { WritingCallAnswered (drawOutcome s t.old previous) (drawTable s t.old previous) (drawRefusal s t.old previous) result t.new }
+    ensures { WritingCallAnswered (draw_outcome s t.old previous) (draw_table s t.old previous) (draw_refusal s t.old previous) result t.new }
 {
     let formed = state::well_formed(s, t);
     let none = [0u64; 1];

@@ -9,90 +9,90 @@ use borrow.Author.Tests.{eqb-true, eqb-false}
 use Rattle.agreement.specs.Weights.{weigh, total, outside}
 use Rattle.agreement.specs.Entries.{states}
 use Rattle.terms.specs.Proposals.{Content}
-use Rattle.committee.specs.Committees.{boundOf}
+use Rattle.committee.specs.Committees.{bound_of}
 use Rattle.engine.specs.Calls.{Call, opens}
 use Rattle.engine.specs.Engine.{Engine}
-use Rattle.nonforking.specs.Statement.{Behaviour, Members, Entry, engineAfter, Knows, weights, Takes, Proposes, Endorses, Made, Signed, Fair, WithinBound, Run}
-use Rattle.earlier.specs.Refusing.{AllAccepted, acceptedOnly, RefusesMore, answeringAs, WasAllowed, SameEngines, RunsWereAllowed, CarriesOver}
+use Rattle.nonforking.specs.Statement.{Behaviour, Members, Entry, engine_after, Knows, weights, Takes, Proposes, Endorses, Made, Signed, Fair, WithinBound, Run}
+use Rattle.earlier.specs.Refusing.{AllAccepted, accepted_only, RefusesMore, answering_as, WasAllowed, SameEngines, RunsWereAllowed, CarriesOver}
 
 module _ {E D : Behaviour} (R : RefusesMore E D) (X : Members E) where
   open X use {correct, before, sheet, settings}
 
   -- the same members, answering as D
   abbrev Y : Members D
-  Y = answeringAs R X
+  Y = answering_as R X
 
   -- the number that E gives to the entry e after the entries l
   abbrev number_at : Entry → List Entry → ℕ
-  number_at e l = E.refusal (engineAfter X l e.who) e.call
+  number_at e l = E.refusal (engine_after X l e.who) e.call
 
-  same-engine : (l : List Entry) (i : ℕ) → engineAfter Y (acceptedOnly X l) i ≡ engineAfter X l i
-  unfolding states acceptedOnly
+  same-engine : (l : List Entry) (i : ℕ) → engine_after Y (accepted_only X l) i ≡ engine_after X l i
+  unfolding states accepted_only
   same-engine [] i = R.opens-alike (before i) (record { 0 = i }) (sheet i)
   same-engine (e ∷ l) i = go (eqb (number_at e l) 0) refl (eqb i e.who) refl (same-engine l i)
     where
-      go : (b : Bool) → eqb (number_at e l) 0 ≡ b → (h : Bool) → eqb i e.who ≡ h → engineAfter Y (acceptedOnly X l) i ≡ engineAfter X l i
-          → engineAfter Y (cond b (e ∷ acceptedOnly X l) (acceptedOnly X l)) i ≡ cond h (E.after (engineAfter X l i) e.call) (engineAfter X l i)
+      go : (b : Bool) → eqb (number_at e l) 0 ≡ b → (h : Bool) → eqb i e.who ≡ h → engine_after Y (accepted_only X l) i ≡ engine_after X l i
+          → engine_after Y (cond b (e ∷ accepted_only X l) (accepted_only X l)) i ≡ cond h (E.after (engine_after X l i) e.call) (engine_after X l i)
       go true q true t k =
-          let a = subst (λ (j : ℕ). E.refusal (engineAfter X l j) e.call ≡ 0) (sym (eqb-true i e.who t)) (eqb-true (number_at e l) 0 q) in
-          rw t (ap (λ (x : Engine). D.after x e.call) k ∙ (R.allowed (engineAfter X l i) e.call a).1)
+          let a = subst (λ (j : ℕ). E.refusal (engine_after X l j) e.call ≡ 0) (sym (eqb-true i e.who t)) (eqb-true (number_at e l) 0 q) in
+          rw t (ap (λ (x : Engine). D.after x e.call) k ∙ (R.allowed (engine_after X l i) e.call a).1)
       go true q false t k = rw t k
       go false q true t k =
-          let a = subst (λ (j : ℕ). E.refusal (engineAfter X l j) e.call ≢ 0) (sym (eqb-true i e.who t)) (eqb-false (number_at e l) 0 q) in
-          k ∙ sym (R.unchanged (engineAfter X l i) e.call a)
+          let a = subst (λ (j : ℕ). E.refusal (engine_after X l j) e.call ≢ 0) (sym (eqb-true i e.who t)) (eqb-false (number_at e l) 0 q) in
+          k ∙ sym (R.unchanged (engine_after X l i) e.call a)
       go false q false t k = k
 
   -- what E accepts after the entries l D accepts after those that are left
-  accepted-there : (l : List Entry) (i : ℕ) (c : Call) → E.refusal (engineAfter X l i) c ≡ 0 → D.refusal (engineAfter Y (acceptedOnly X l) i) c ≡ 0
-  accepted-there l i c a = subst (λ (x : Engine). D.refusal x c ≡ 0) (sym (same-engine l i)) (R.allowed (engineAfter X l i) c a).0
+  accepted-there : (l : List Entry) (i : ℕ) (c : Call) → E.refusal (engine_after X l i) c ≡ 0 → D.refusal (engine_after Y (accepted_only X l) i) c ≡ 0
+  accepted-there l i c a = subst (λ (x : Engine). D.refusal x c ≡ 0) (sym (same-engine l i)) (R.allowed (engine_after X l i) c a).0
 
   -- a call that E accepts stays in the list
-  made-left : (f : Engine → Call → Type 0) (i : ℕ) (l : List Entry) → Made X f i l → Made Y f i (acceptedOnly X l)
-  unfolding acceptedOnly
+  made-left : (f : Engine → Call → Type 0) (i : ℕ) (l : List Entry) → Made X f i l → Made Y f i (accepted_only X l)
+  unfolding accepted_only
   made-left f i [] m = absurd m
   made-left f i (e ∷ l) m = go (eqb (number_at e l) 0) refl (made-left f i l) m
     where
-      go : (b : Bool) → eqb (number_at e l) 0 ≡ b → (Made X f i l → Made Y f i (acceptedOnly X l)) → Made X f i (e ∷ l) → Made Y f i (cond b (e ∷ acceptedOnly X l) (acceptedOnly X l))
+      go : (b : Bool) → eqb (number_at e l) 0 ≡ b → (Made X f i l → Made Y f i (accepted_only X l)) → Made X f i (e ∷ l) → Made Y f i (cond b (e ∷ accepted_only X l) (accepted_only X l))
       go true q k (inl x) = inl (x.0, accepted-there l i e.call x.1, subst (λ (y : Engine). f y e.call) (sym (same-engine l i)) x.2)
       go true q k (inr x) = inr (k x)
-      go false q k (inl x) = absurd (eqb-false (number_at e l) 0 q (subst (λ (j : ℕ). E.refusal (engineAfter X l j) e.call ≡ 0) x.0 x.1))
+      go false q k (inl x) = absurd (eqb-false (number_at e l) 0 q (subst (λ (j : ℕ). E.refusal (engine_after X l j) e.call ≡ 0) x.0 x.1))
       go false q k (inr x) = k x
 
-  signed-left : (p : Content) (d : ℕ) (l : List Entry) → Signed X p d l → Signed Y p d (acceptedOnly X l)
+  signed-left : (p : Content) (d : ℕ) (l : List Entry) → Signed X p d l → Signed Y p d (accepted_only X l)
   signed-left p d l x =
       record {
         by-author = λ c. made-left (λ e c. Proposes e c p) p.author l (x.by-author c);
         by-endorsers = λ i c n. made-left (λ e c. Endorses c p) i l (x.by-endorsers i c n);
       }
 
-  bound-left : (l : List Entry) → WithinBound X l → WithinBound Y (acceptedOnly X l)
+  bound-left : (l : List Entry) → WithinBound X l → WithinBound Y (accepted_only X l)
   bound-left l b j r c from to =
-      subst (λ (e : Engine). Knows e r → weigh 16 (weights e r) (outside correct) ≤ boundOf settings.margin (total 16 (weights e r))) (sym (same-engine l j)) (b j r c from to)
+      subst (λ (e : Engine). Knows e r → weigh 16 (weights e r) (outside correct) ≤ bound_of settings.margin (total 16 (weights e r))) (sym (same-engine l j)) (b j r c from to)
 
-  fair-left : (e : Entry) (l : List Entry) → number_at e l ≡ 0 → Fair X e l → Fair Y e (acceptedOnly X l)
-  fair-left e l a x =
+  fair_left : (e : Entry) (l : List Entry) → number_at e l ≡ 0 → Fair X e l → Fair Y e (accepted_only X l)
+  fair_left e l a x =
       record {
         by = x.by;
-        in-range = x.in-range;
+        is_in_range = x.is_in_range;
         still_open = λ own other q. absurd (x.still_open own other q a);
         signed = λ _ p d t. signed-left p d l (x.signed a p d (subst (λ (y : Engine). Takes y e.call p d) (same-engine l e.who) t));
       }
 
-  parts : (l : List Entry) → Run X l → Run Y (acceptedOnly X l) × AllAccepted Y (acceptedOnly X l)
-  unfolding acceptedOnly
+  parts : (l : List Entry) → Run X l → Run Y (accepted_only X l) × AllAccepted Y (accepted_only X l)
+  unfolding accepted_only
   parts [] r = (bound-left [] r, tt)
   parts (e ∷ l) r = go (eqb (number_at e l) 0) refl (parts l r.2) (bound-left (e ∷ l) r.1)
     where
-      go : (b : Bool) → eqb (number_at e l) 0 ≡ b → Run Y (acceptedOnly X l) × AllAccepted Y (acceptedOnly X l) → WithinBound Y (cond b (e ∷ acceptedOnly X l) (acceptedOnly X l))
-          → Run Y (cond b (e ∷ acceptedOnly X l) (acceptedOnly X l)) × AllAccepted Y (cond b (e ∷ acceptedOnly X l) (acceptedOnly X l))
-      go true q k w = let a = eqb-true (number_at e l) 0 q in ((fair-left e l a r.0, w, k.0), (accepted-there l e.who e.call a, k.1))
+      go : (b : Bool) → eqb (number_at e l) 0 ≡ b → Run Y (accepted_only X l) × AllAccepted Y (accepted_only X l) → WithinBound Y (cond b (e ∷ accepted_only X l) (accepted_only X l))
+          → Run Y (cond b (e ∷ accepted_only X l) (accepted_only X l)) × AllAccepted Y (cond b (e ∷ accepted_only X l) (accepted_only X l))
+      go true q k w = let a = eqb-true (number_at e l) 0 q in ((fair_left e l a r.0, w, k.0), (accepted-there l e.who e.call a, k.1))
       go false q k w = k
 
 pub same-engines : SameEngines
 same-engines E D R X l i = same-engine R X l i
 
-pub runs-were-allowed : RunsWereAllowed
-runs-were-allowed E D R X l r = let p = parts R X l r in record { run = p.0; all-accepted = p.1 }
+pub runs_were_allowed : RunsWereAllowed
+runs_were_allowed E D R X l r = let p = parts R X l r in record { run = p.0; all-accepted = p.1 }
 
 pub carries_over : CarriesOver
-carries_over E D R X Q f l r = subst Q (fun_ext (same-engine R X l)) (f (acceptedOnly X l) (parts R X l r).0)
+carries_over E D R X Q f l r = subst Q (fun_ext (same-engine R X l)) (f (accepted_only X l) (parts R X l r).0)

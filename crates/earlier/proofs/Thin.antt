@@ -7,35 +7,35 @@ use native.Mathlib.Omega.{arith}
 use lib.Dec.{leb, ltb}
 use borrow.Author.Tests.{not-false, lt-leb, le-leb, lt-ltb, ltb-true}
 use Rattle.base.specs.Checks.{refusal}
-use Rattle.base.specs.Folds.{anyTo, sum_to}
+use Rattle.base.specs.Folds.{any_to, sum_to}
 use Rattle.base.proofs.Bools.{cond_same}
 use Rattle.base.proofs.CheckLaws.{refuses, passes, passes-all}
-use Rattle.base.proofs.TestLaws.{any-true}
+use Rattle.base.proofs.TestLaws.{any_true}
 use Rattle.agreement.specs.Weights.{weigh, total}
-use Rattle.agreement.proofs.WeightLaws.{total-pos}
-use Rattle.sheet.specs.declared.Settings.{Settings}
-use Rattle.sheet.specs.Sheets.{filled}
-use Rattle.sheet.specs.Ranges.{weightless, weightIn, SettingsFit}
-use Rattle.committee.specs.Committees.{committeeBy, bondedFrom, committeeOf, known_by, MarginFits, quorumWeight, outsider, short, quorum}
-use Rattle.committee.proofs.CommitteeLaws.{margin-fits, bound-low}
+use Rattle.agreement.proofs.WeightLaws.{total_pos}
+use Rattle.terms.specs.declared.sheet.Settings.{Settings}
+use Rattle.terms.specs.Sheets.{filled}
+use Rattle.terms.specs.Ranges.{weightless, weight_in, SettingsFit}
+use Rattle.committee.specs.Committees.{committee_by, bonded_from, committee_of, known_by, MarginFits, quorum_weight, outsider, short, quorum}
+use Rattle.committee.proofs.CommitteeLaws.{margin_fits, bound-low}
 use Rattle.rules.specs.Tests.{MemberView, unknown}
-use Rattle.rules.specs.Calls.{advancing, freshView}
+use Rattle.rules.specs.Calls.{advancing, fresh_view}
 use Rattle.rules.specs.Calls as rules
 use Rattle.state.specs.Formed.{Formed}
 use Rattle.state.specs.View.{view}
 use Rattle.state.proofs.FormedLaws.{formed}
 use Rattle.state.proofs.RefusalLaws.{refusal-formed}
-use Rattle.advance.specs.Advance.{advanceRefusal}
+use Rattle.advance.specs.Advance.{advance_refusal}
 use Rattle.engine.specs.Engine.{Engine}
-use Rattle.engine.specs.Steps.{viewAt, FreshlyOpened}
-use Rattle.engine.specs.Sequences.{Opening, afterOpening}
+use Rattle.engine.specs.Steps.{view_at, FreshlyOpened}
+use Rattle.engine.specs.Sequences.{Opening, after_opening}
 use Rattle.engine.proofs.ReachedLaws.{opened-fresh}
-use Rattle.earlier.specs.Earlier.{earlierAdvancing, ThinAdvance}
+use Rattle.earlier.specs.Earlier.{earlier_advancing, ThinAdvance}
 
 -- nobody is no quorum of a committee that weighs something
 
-asks : {d : ℕ} → MarginFits d → (n : ℕ) → 0 < n → 0 < quorumWeight d n
-unfolding quorumWeight
+asks : {d : ℕ} → MarginFits d → (n : ℕ) → 0 < n → 0 < quorum_weight d n
+unfolding quorum_weight
 asks f n h = omega (arith, bound-low f n)
 
 none-weighs : (w : ℕ → ℕ) → weigh 16 w (λ i. false) ≡ 0
@@ -44,52 +44,52 @@ none-weighs w = refl
 
 nobody : {d : ℕ} → MarginFits d → (w : ℕ → ℕ) → 0 < total 16 w → quorum d w (λ i. false) ≡ false
 unfolding quorum short
-nobody {d} f w h = rw (none-weighs w, lt-ltb 0 (quorumWeight d (total 16 w)) (asks f (total 16 w) h), or-true (outsider w (λ i. false))) refl
+nobody {d} f w h = rw (none-weighs w, lt-ltb 0 (quorum_weight d (total 16 w)) (asks f (total 16 w) h), or-true (outsider w (λ i. false))) refl
 
 module _ (S : Settings) (fits : SettingsFit S) (some : weightless S ≡ false) where
-  weighs : 0 < total 16 (weightIn S.weights)
+  weighs : 0 < total 16 (weight_in S.weights)
   unfolding weightless
   weighs =
-      let x = any-true (λ i. ltb 0 (weightIn S.weights i)) 16 (not-false (anyTo (λ i. ltb 0 (weightIn S.weights i)) 16) some) in
-      total-pos 16 (weightIn S.weights) x.1 (ltb-true 0 _ x.2)
+      let x = any_true (λ i. ltb 0 (weight_in S.weights i)) 16 (not-false (any_to (λ i. ltb 0 (weight_in S.weights i)) 16) some) in
+      total_pos 16 (weight_in S.weights) x.1 (ltb-true 0 _ x.2)
 
   -- its committee is the starting one, which is known
-  is_known : unknown S (freshView S) 1 ≡ false
+  is_known : unknown S (fresh_view S) 1 ≡ false
   unfolding unknown known_by
   is_known = rw (le-leb 1 (S.lookback + (0 + 2)) (omega arith)) refl
 
-  starting : committeeOf S [] 1 ≡ S.weights
-  unfolding committeeOf committeeBy bondedFrom
+  starting : committee_of S [] 1 ≡ S.weights
+  unfolding committee_of committee_by bonded_from
   starting = cond_same (leb 1 S.lookback) S.weights
 
-  now-refused : refusal (advancing S (freshView S)) ≡ 28
-  now-refused = passes 18 _ (lt-leb S.ceiling.0 1 (omega (arith, fits.ceiling-from))) ∙ passes 8 _ is_known ∙ refuses 28 _ (rw (starting, nobody (margin-fits fits) (weightIn S.weights) weighs) refl)
+  now-refused : refusal (advancing S (fresh_view S)) ≡ 28
+  now-refused = passes 18 _ (lt-leb S.ceiling.0 1 (omega (arith, fits.ceiling-from))) ∙ passes 8 _ is_known ∙ refuses 28 _ (rw (starting, nobody (margin_fits fits) (weight_in S.weights) weighs) refl)
 
-  then-passed : refusal (earlierAdvancing S (freshView S)) ≡ 0
+  then-passed : refusal (earlier_advancing S (fresh_view S)) ≡ 0
   then-passed = passes 18 _ (lt-leb S.ceiling.0 1 (omega (arith, fits.ceiling-from))) ∙ passes-all
 
 module _ (x : Opening) where
   abbrev engine : Engine
-  engine = afterOpening x
+  engine = after_opening x
 
   fresh : FreshlyOpened x.own x.sheet x.before engine
   fresh = opened-fresh x.before x.own x.sheet x.accepted
 
   -- what is so of the fresh view is so of the engine
-  of-view : (P : (S : Settings) → MemberView S → Type 0) → P (filled x.sheet) (freshView (filled x.sheet)) → P engine.state.settings (view engine.state engine.table)
+  of-view : (P : (S : Settings) → MemberView S → Type 0) → P (filled x.sheet) (fresh_view (filled x.sheet)) → P engine.state.settings (view engine.state engine.table)
   of-view P h =
       let b = subst (P (filled x.sheet)) (sym fresh.shows) h in
-      subst (λ (S : Settings). P S (viewAt S engine)) (sym fresh.its-settings) b
+      subst (λ (S : Settings). P S (view_at S engine)) (sym fresh.its-settings) b
 
   whole : Formed engine.state engine.table
   whole = formed engine.state engine.table fresh.formed
 
-  pub thin-advance : ThinAdvance x
-  unfolding advanceRefusal
-  thin-advance =
+  pub thin_advance : ThinAdvance x
+  unfolding advance_refusal
+  thin_advance =
       let fits = subst SettingsFit fresh.its-settings whole.settings in
       let some = subst (λ (S : Settings). weightless S ≡ false) fresh.its-settings whole.weighty in
       record {
         refused = refusal-formed _ _ rules.advance fresh.formed ∙ of-view (λ S s. refusal (advancing S s) ≡ 28) (now-refused (filled x.sheet) fits some);
-        allowed-earlier = passes 1 _ (rw fresh.formed refl) ∙ of-view (λ S s. refusal (earlierAdvancing S s) ≡ 0) (then-passed (filled x.sheet) fits some);
+        allowed-earlier = passes 1 _ (rw fresh.formed refl) ∙ of-view (λ S s. refusal (earlier_advancing S s) ≡ 0) (then-passed (filled x.sheet) fits some);
       }

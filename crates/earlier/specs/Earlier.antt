@@ -1,76 +1,76 @@
 -- The rules before Point 7: an advance is refused at the ceiling and nowhere else. Every other call is as it is now.
 use Rattle.std.specs.Prelude.{◌≡◌, cond, ◌||◌, List, [], ◌∷◌, ◌≢◌, ℕ, eqb, leb}
 use Rattle.base.specs.Checks.{Checks, refusal}
-use Rattle.sheet.specs.declared.Settings.{Settings}
+use Rattle.terms.specs.declared.sheet.Settings.{Settings}
 use Rattle.rules.specs.Tests.{MemberView}
-use Rattle.state.specs.States.{advanced, noBody}
+use Rattle.state.specs.States.{advanced, no_body}
 use Rattle.state.specs.View.{view}
 use Rattle.state.specs.Refusals.{guarded}
-use Rattle.checks.specs.Answers.{ifAccepted}
+use Rattle.state.specs.Answers.{if_accepted}
 use Rattle.engine.specs.Calls.{Call, opens, propose, endorse, certify, accept, advance, commit, enqueue, draw, port, aside}
-use Rattle.engine.specs.Engine.{Engine, refusalFor, after}
-use Rattle.engine.specs.Sequences.{Opening, afterOpening}
-use Rattle.nonforking.specs.Statement.{Behaviour, Members, Entry, Run, Agreed, engineBehaviour, DemandThree}
+use Rattle.engine.specs.Engine.{Engine, refusal_for, after}
+use Rattle.engine.specs.Sequences.{Opening, after_opening}
+use Rattle.nonforking.specs.Statement.{Behaviour, Members, Entry, Run, Agreed, engine_behaviour, DemandThree}
 use Rattle.earlier.specs.Refusing.{RefusesMore, WasAllowed}
 
 -- 18 at the ceiling
-abbrev pub earlierAdvancing : (S : Settings) → MemberView S → Checks
-earlierAdvancing S s = (leb S.ceiling.0 s.round, 18) ∷ []
+abbrev pub earlier_advancing : (S : Settings) → MemberView S → Checks
+earlier_advancing S s = (leb S.ceiling.0 s.round, 18) ∷ []
 
 -- x for an advance, y for any other call
-abbrev pub ofAdvance : {A : Type 0} → A → A → Call → A
-ofAdvance x y (opens own sheet) = y
-ofAdvance x y (propose b) = y
-ofAdvance x y (endorse p) = y
-ofAdvance x y (certify d) = y
-ofAdvance x y (accept c) = y
-ofAdvance x y advance = x
-ofAdvance x y commit = y
-ofAdvance x y (enqueue g z) = y
-ofAdvance x y (draw v) = y
-ofAdvance x y (port z) = y
-ofAdvance x y (aside z) = y
+abbrev pub of_advance : {A : Type 0} → A → A → Call → A
+of_advance x y (opens own sheet) = y
+of_advance x y (propose b) = y
+of_advance x y (endorse p) = y
+of_advance x y (certify d) = y
+of_advance x y (accept c) = y
+of_advance x y advance = x
+of_advance x y commit = y
+of_advance x y (enqueue g z) = y
+of_advance x y (draw v) = y
+of_advance x y (port z) = y
+of_advance x y (aside z) = y
 
 -- of an advance
-abbrev pub earlierAdvanceRefusal : Engine → ℕ
-earlierAdvanceRefusal e = refusal (guarded e.state e.table (earlierAdvancing e.state.settings (view e.state e.table)))
+abbrev pub earlier_advance_refusal : Engine → ℕ
+earlier_advance_refusal e = refusal (guarded e.state e.table (earlier_advancing e.state.settings (view e.state e.table)))
 
-abbrev pub earlierRefusal : Engine → Call → ℕ
-earlierRefusal e c = ofAdvance (earlierAdvanceRefusal e) (refusalFor e c) c
+abbrev pub earlier_refusal : Engine → Call → ℕ
+earlier_refusal e c = of_advance (earlier_advance_refusal e) (refusal_for e c) c
 
-abbrev pub earlierAfter : Engine → Call → Engine
-earlierAfter e c = ofAdvance (record { state = ifAccepted (earlierAdvanceRefusal e) (advanced e.state noBody) e.state; table = e.table }) (after e c) c
+abbrev pub earlier_after : Engine → Call → Engine
+earlier_after e c = of_advance (record { state = if_accepted (earlier_advance_refusal e) (advanced e.state no_body) e.state; table = e.table }) (after e c) c
 
-abbrev pub earlierBehaviour : Behaviour
-earlierBehaviour = record { refusal = earlierRefusal; after = earlierAfter }
+abbrev pub earlier_behaviour : Behaviour
+earlier_behaviour = record { refusal = earlier_refusal; after = earlier_after }
 
 -- ---- what is claimed
 
 -- what an advance answered earlier, by what it answers now: 8 and 28 were no refusals
-unfoldable pub answeredEarlier : ℕ → ℕ
-answeredEarlier n = cond (eqb n 8 || eqb n 28) 0 n
+unfoldable pub answered_earlier : ℕ → ℕ
+answered_earlier n = cond (eqb n 8 || eqb n 28) 0 n
 
 -- members refuse more than before
 abbrev pub MembersRefuseMore : Type 0
-MembersRefuseMore = RefusesMore engineBehaviour earlierBehaviour
+MembersRefuseMore = RefusesMore engine_behaviour earlier_behaviour
 
 -- by 8 and 28 of an advance, and by nothing else
 abbrev pub OnlyThinRefused : Type 0
-OnlyThinRefused = (e : Engine) → earlierRefusal e advance ≡ answeredEarlier (refusalFor e advance)
+OnlyThinRefused = (e : Engine) → earlier_refusal e advance ≡ answered_earlier (refusal_for e advance)
 
 -- what was refused earlier changed nothing
 abbrev pub EarlierRefusedSame : Type 0
-EarlierRefusedSame = (e : Engine) → earlierRefusal e advance ≢ 0 → earlierAfter e advance ≡ e
+EarlierRefusedSame = (e : Engine) → earlier_refusal e advance ≢ 0 → earlier_after e advance ≡ e
 
 -- and they do refuse more: whoever has just opened, and holds nothing, went on to the next round
 pub record ThinAdvance (x : Opening) : Type 0 where
-  pub refused : refusalFor (afterOpening x) advance ≡ 28
-  pub allowed-earlier : earlierRefusal (afterOpening x) advance ≡ 0
+  pub refused : refusal_for (after_opening x) advance ≡ 28
+  pub allowed-earlier : earlier_refusal (after_opening x) advance ≡ 0
 
 -- every run of now, its refused calls left out, was allowed earlier
 abbrev pub WasAllowedEarlier : Type 0
-WasAllowedEarlier = (R : MembersRefuseMore) (X : Members engineBehaviour) (l : List Entry) → Run X l → WasAllowed R X l
+WasAllowedEarlier = (R : MembersRefuseMore) (X : Members engine_behaviour) (l : List Entry) → Run X l → WasAllowed R X l
 
 -- if members never parted by the earlier rules, they never part now
 abbrev pub AgreementCarriesOver : Type 0
-AgreementCarriesOver = ((X : Members earlierBehaviour) (l : List Entry) → Run X l → Agreed X l) → DemandThree
+AgreementCarriesOver = ((X : Members earlier_behaviour) (l : List Entry) → Run X l → Agreed X l) → DemandThree

@@ -1,10 +1,10 @@
 -- Two ways in which engines answer, one of which refuses more: its runs, their refused calls left out, are runs of the other.
 use Rattle.std.specs.Prelude.{◌≡◌, cond, List, [], ◌∷◌, ◌≢◌, ℕ, eqb}
 use Rattle.terms.specs.declared.Member.{Member}
-use Rattle.sheet.specs.declared.Sheet.{Sheet}
+use Rattle.terms.specs.declared.sheet.Sheet.{Sheet}
 use Rattle.engine.specs.Calls.{Call, opens}
 use Rattle.engine.specs.Engine.{Engine}
-use Rattle.nonforking.specs.Statement.{Behaviour, Members, Entry, engineAfter, Run}
+use Rattle.nonforking.specs.Statement.{Behaviour, Members, Entry, engine_after, Run}
 
 module _ {B : Behaviour} (X : Members B) where
   open B use {refusal}
@@ -12,12 +12,12 @@ module _ {B : Behaviour} (X : Members B) where
   -- every call of the list is accepted
   abbrev pub AllAccepted : List Entry → Type 0
   AllAccepted [] = Unit {0}
-  AllAccepted (e ∷ l) = (refusal (engineAfter X l e.who) e.call ≡ 0) × AllAccepted l
+  AllAccepted (e ∷ l) = (refusal (engine_after X l e.who) e.call ≡ 0) × AllAccepted l
 
   -- the list, its refused calls left out
-  unfoldable pub acceptedOnly : List Entry → List Entry
-  acceptedOnly [] = []
-  acceptedOnly (e ∷ l) = cond (eqb (refusal (engineAfter X l e.who) e.call) 0) (e ∷ acceptedOnly l) (acceptedOnly l)
+  unfoldable pub accepted_only : List Entry → List Entry
+  accepted_only [] = []
+  accepted_only (e ∷ l) = cond (eqb (refusal (engine_after X l e.who) e.call) 0) (e ∷ accepted_only l) (accepted_only l)
 
 -- E refuses whatever D refuses, and perhaps more
 pub record RefusesMore (E D : Behaviour) : Type 0 where
@@ -32,8 +32,8 @@ module _ {E D : Behaviour} (R : RefusesMore E D) (X : Members E) where
   open X use {correct, before, sheet, accepted, settings, equal}
 
   -- the same members, answering as D
-  abbrev pub answeringAs : Members D
-  answeringAs =
+  abbrev pub answering_as : Members D
+  answering_as =
       record {
         correct = correct;
         before = before;
@@ -46,15 +46,15 @@ module _ {E D : Behaviour} (R : RefusesMore E D) (X : Members E) where
   -- the run l of E, its refused calls left out, was allowed by D
   pub record WasAllowed (l : List Entry) : Type 0 where
     -- it is a run of D: every entry is fair, and the bound holds at the start and after each entry
-    pub run : Run answeringAs (acceptedOnly X l)
+    pub run : Run answering_as (accepted_only X l)
     -- D accepts every call of it
-    pub all-accepted : AllAccepted answeringAs (acceptedOnly X l)
+    pub all-accepted : AllAccepted answering_as (accepted_only X l)
 
 -- ---- what is claimed
 
 -- after every list each member's engine is the same: the list with its refused calls left out leads D where the whole leads E
 abbrev pub SameEngines : Type 0
-SameEngines = (E D : Behaviour) (R : RefusesMore E D) (X : Members E) (l : List Entry) (i : ℕ) → engineAfter (answeringAs R X) (acceptedOnly X l) i ≡ engineAfter X l i
+SameEngines = (E D : Behaviour) (R : RefusesMore E D) (X : Members E) (l : List Entry) (i : ℕ) → engine_after (answering_as R X) (accepted_only X l) i ≡ engine_after X l i
 
 -- every run of E, its refused calls left out, was allowed by D
 abbrev pub RunsWereAllowed : Type 0
@@ -63,4 +63,4 @@ RunsWereAllowed = (E D : Behaviour) (R : RefusesMore E D) (X : Members E) (l : L
 -- what holds of the engines after every run of D holds of them after every run of E
 abbrev pub CarriesOver : Type 1
 CarriesOver = (E D : Behaviour) (R : RefusesMore E D) (X : Members E) (Q : (ℕ → Engine) → Type 0)
-    → ((l : List Entry) → Run (answeringAs R X) l → Q (engineAfter (answeringAs R X) l)) → (l : List Entry) → Run X l → Q (engineAfter X l)
+    → ((l : List Entry) → Run (answering_as R X) l → Q (engine_after (answering_as R X) l)) → (l : List Entry) → Run X l → Q (engine_after X l)

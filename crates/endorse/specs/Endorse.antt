@@ -1,20 +1,20 @@
 -- Endorse on a state and its table: the number that refuses, the answer and the state, and the table. The place is marked endorsed.
 use Rattle.std.specs.Prelude.{List, ℕ}
 use Rattle.terms.specs.declared.Proposal.{Proposal}
-use Rattle.terms.specs.Proposals.{contentOf}
-use Rattle.writes.specs.Writes.{setEndorsed}
+use Rattle.terms.specs.Proposals.{content_of}
+use Rattle.store.specs.Writes.{set_endorsed}
 use Rattle.rules.specs.Calls as rules
 use Rattle.state.specs.declared.State.{State}
-use Rattle.state.specs.Refusals.{refusalOf}
-use Rattle.checks.specs.declared.Outcome.{Outcome}
-use Rattle.checks.specs.Answers.{ifAccepted, outcomeOf}
+use Rattle.state.specs.Refusals.{refusal_of}
+use Rattle.state.specs.declared.checks.Outcome.{Outcome}
+use Rattle.state.specs.Answers.{if_accepted, outcome_of}
 
 module _ (s : State) (t : List ℕ) where
-  unfoldable pub endorseRefusal : Proposal → ℕ
-  endorseRefusal p = refusalOf s t (rules.endorse (contentOf p))
+  unfoldable pub endorse_refusal : Proposal → ℕ
+  endorse_refusal p = refusal_of s t (rules.endorse (content_of p))
 
-  unfoldable pub endorseOutcome : Proposal → Outcome
-  endorseOutcome p = outcomeOf (endorseRefusal p) s s
+  unfoldable pub endorse_outcome : Proposal → Outcome
+  endorse_outcome p = outcome_of (endorse_refusal p) s s
 
-  unfoldable pub endorseTable : Proposal → List ℕ
-  endorseTable p = ifAccepted (endorseRefusal p) (setEndorsed t p.author.0 p.round.0) t
+  unfoldable pub endorse_table : Proposal → List ℕ
+  endorse_table p = if_accepted (endorse_refusal p) (set_endorsed t p.author.0 p.round.0) t

@@ -2,28 +2,30 @@
 #![tactic(auto)]
 
 ghost use Rattle.std.specs.Prelude.{◌≡◌, not, ◌||◌, ◌-◌, ◌<◌, drop};
-ghost use Rattle.store.specs.Table.{Within, held_at, endorsedAt};
-ghost use Rattle.base.specs.Sets.{isIn};
+ghost use Rattle.store.specs.Table.{Within, held_at, endorsed_at};
+ghost use Rattle.base.specs.Sets.{is_in};
 ghost use Rattle.committee.specs.Committees.{quorum};
-ghost use Rattle.rules.specs.Tests.{above, committeeIn, unknown};
+ghost use Rattle.rules.specs.Tests.{above, committee_in, unknown};
 ghost use Rattle.base.specs.Checks.{refusal};
-ghost use Rattle.terms.specs.Proposals.{contentOf};
+ghost use Rattle.terms.specs.Proposals.{content_of};
 ghost use Rattle.rules.specs.Calls.{endorsing};
 ghost use Rattle.state.specs.Formed.{Formed};
 ghost use Rattle.state.specs.View.{view};
 ghost use Rattle.state.specs.Cached.{CachesFor, Cached};
-ghost use Rattle.checks.specs.SharedChecks.{RoundFits, ProposalFits, previousChecks};
-ghost use Rattle.checks.specs.Answers.{WritingCallAnswered};
-ghost use Rattle.endorse.specs.Endorse.{endorseRefusal, endorseOutcome, endorseTable};
+ghost use Rattle.state.specs.SharedChecks.{RoundFits, ProposalFits, previous_checks};
+ghost use Rattle.state.specs.Answers.{WritingCallAnswered};
+ghost use Rattle.endorse.specs.Endorse.{endorse_refusal, endorse_outcome, endorse_table};
 
-use checks::{Answer, Outcome};
-use state::State;
+use running::{bonded, cache};
+use state::checks::{Answer, Outcome};
+use state::{State, checks};
+use store::writes;
 use terms::{Proposal, Round};
 
 // Check 10: is the place held or already endorsed?
 fn is_taken(t: &[u32], p: Proposal) -> bool
     requires { Within t.now p.author.0 p.round.0 }
-    ensures { result ≡ (held_at t.now p.author.0 p.round.0 || endorsedAt t.now p.author.0 p.round.0) }
+    ensures { result ≡ (held_at t.now p.author.0 p.round.0 || endorsed_at t.now p.author.0 p.round.0) }
 {
     if store::held(t, p.author, p.round) {
         return true;
@@ -45,7 +47,7 @@ fn is_unknown(s: State, t: &[u32], r: Round) -> bool
 // Check 12 above round 1: is the previous set no quorum of the round before?
 fn lacks_quorum(cache: &[u64], s: State, t: &[u32], p: Proposal) -> bool
     requires { RoundFits s t.now p.round.0 × CachesFor s t.now cache.now }
-    ensures { result ≡ above p.round.0 (not (quorum s.settings.margin (committeeIn s.settings (view s t.now) (p.round.0 - 1)) (isIn p.body.previous))) }
+    ensures { result ≡ above p.round.0 (not (quorum s.settings.margin (committee_in s.settings (view s t.now) (p.round.0 - 1)) (is_in p.body.previous))) }
 {
     let before = Round(p.round.0 - 1);
     let w = cache::committee(cache, t, s.settings, s.blocks, before);
@@ -55,7 +57,7 @@ fn lacks_quorum(cache: &[u64], s: State, t: &[u32], p: Proposal) -> bool
 // Checks 11 and 12.
 fn previous_refusal(cache: &[u64], s: State, t: &[u32], p: Proposal) -> u32
     requires { RoundFits s t.now p.round.0 × CachesFor s t.now cache.now }
-    ensures { result ≡ refusal (previousChecks s.settings (view s t.now) (contentOf p)) }
+    ensures { result ≡ refusal (previous_checks s.settings (view s t.now) (content_of p)) }
 {
     if checks::lacks_previous(s, t, p) {
         return 11;
@@ -69,7 +71,7 @@ fn previous_refusal(cache: &[u64], s: State, t: &[u32], p: Proposal) -> u32
 // Checks 14, 10, 8, 11, 12.
 fn place_refusal(cache: &[u64], s: State, t: &[u32], p: Proposal) -> u32
     requires { ProposalFits s t.now cache.now p }
-    ensures { result ≡ refusal (drop 4 (endorsing s.settings s.own.0 (view s t.now) (contentOf p))) }
+    ensures { result ≡ refusal (drop 4 (endorsing s.settings s.own.0 (view s t.now) (content_of p))) }
 {
     if p.author.0 == s.own.0 {
         return 14;
@@ -86,7 +88,7 @@ fn place_refusal(cache: &[u64], s: State, t: &[u32], p: Proposal) -> u32
 // The number of the first check that refuses, 0 for none.
 fn endorse_refusal(formed: bool, cache: &[u64], s: State, t: &[u32], p: Proposal) -> u32
     requires { Cached s t.now formed cache.now }
-    ensures { result ≡ endorseRefusal s t.now p }
+    ensures { result ≡ endorse_refusal s t.now p }
 {
     if !formed {
         return 1;
@@ -101,7 +103,7 @@ fn endorse_refusal(formed: bool, cache: &[u64], s: State, t: &[u32], p: Proposal
 // The call, where it is told whether the state is well formed, and committees may be cached.
 pub fn endorse_cached(formed: bool, cache: &[u64], s: State, t: &mut [u32], p: Proposal) -> Outcome
     requires { Cached s t.old formed cache.now }
-    ensures { WritingCallAnswered (endorseOutcome s t.old p) (endorseTable s t.old p) (endorseRefusal s t.old p) result t.new }
+    ensures { WritingCallAnswered (endorse_outcome s t.old p) (endorse_table s t.old p) (endorse_refusal s t.old p) result t.new }
 {
     let n = endorse_refusal(formed, cache, s, t, p);
     if n != 0 {
@@ -118,7 +120,7 @@ pub fn endorse_cached(formed: bool, cache: &[u64], s: State, t: &mut [u32], p: P
 }
 
 pub fn endorse(s: State, t: &mut [u32], p: Proposal) -> Outcome
-    ensures { WritingCallAnswered (endorseOutcome s t.old p) (endorseTable s t.old p) (endorseRefusal s t.old p) result t.new }
+    ensures { WritingCallAnswered (endorse_outcome s t.old p) (endorse_table s t.old p) (endorse_refusal s t.old p) result t.new }
 {
     let formed = state::well_formed(s, t);
     let none = [0u64; 1];

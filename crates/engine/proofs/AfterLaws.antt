@@ -7,44 +7,44 @@ use Prim.Native.Nat.{ℕ}
 use lib.Dec.{eqb}
 use borrow.Author.Tests.{eq-eqb, ne_eqb}
 use Rattle.base.proofs.Bools.{cond_same}
-use Rattle.terms.specs.Proposals.{contentWith, contentOf}
-use Rattle.writes.specs.Writes.{putCertificate, setEndorsed, clearEndorsed, clearUsed}
-use Rattle.sheet.specs.Sheets.{filled}
+use Rattle.terms.specs.Proposals.{content_with, content_of}
+use Rattle.store.specs.Writes.{put_certificate, set_endorsed, clear_endorsed, clear_used}
+use Rattle.terms.specs.Sheets.{filled}
 use Rattle.state.specs.declared.State.{State}
-use Rattle.state.specs.States.{proposed, advanced, noBody}
-use Rattle.checks.specs.Answers.{ifAccepted, outcomeOf}
-use Rattle.open.specs.Open.{freshState, openOutcome, openTable}
-use Rattle.propose.specs.Propose.{proposeOutcome}
-use Rattle.endorse.specs.Endorse.{endorseOutcome, endorseTable}
-use Rattle.certify.specs.Certify.{certifyOutcome, certifyTable}
-use Rattle.accept.specs.Accept.{acceptOutcome, acceptTable}
-use Rattle.advance.specs.Advance.{advanceOutcome}
-use Rattle.queues.specs.Words.{addedTable, drawnTable}
-use Rattle.enqueue.specs.Enqueue.{enqueueOutcome, enqueueTable}
-use Rattle.draw.specs.Draw.{draws, drawnBody, drawRefusal, drawOutcome, drawTable}
+use Rattle.state.specs.States.{proposed, advanced, no_body}
+use Rattle.state.specs.Answers.{if_accepted, outcome_of}
+use Rattle.open.specs.Open.{fresh_state, open_outcome, open_table}
+use Rattle.propose.specs.Propose.{propose_outcome}
+use Rattle.endorse.specs.Endorse.{endorse_outcome, endorse_table}
+use Rattle.certify.specs.Certify.{certify_outcome, certify_table}
+use Rattle.accept.specs.Accept.{accept_outcome, accept_table}
+use Rattle.advance.specs.Advance.{advance_outcome}
+use Rattle.queues.specs.Words.{added_table, drawn_table}
+use Rattle.enqueue.specs.Enqueue.{enqueue_outcome, enqueue_table}
+use Rattle.draw.specs.Draw.{draws, drawn_body, draw_refusal, draw_outcome, draw_table}
 use Rattle.commit.specs.declared.Outcome as committed
-use Rattle.commit.specs.Commit.{commitOutcome, commitTableAfter, committedTable, blocksThen, addedWith, refusedWith}
-use Rattle.commit.proofs.CommitLaws.{committedState}
-use Rattle.serial.specs.Serial.{portedTable, portOutcome, portTable}
+use Rattle.commit.specs.Commit.{commit_outcome, commit_table_after, committed_table, blocks_then, added_with, refused_with}
+use Rattle.commit.proofs.CommitLaws.{committed_state}
+use Rattle.serial.specs.Serial.{ported_table, port_outcome, port_table}
 use Rattle.engine.specs.Calls.{Call, opens, propose, endorse, certify, accept, advance, commit, enqueue, draw, port, aside}
-use Rattle.engine.specs.Engine.{Engine, refusalFor, after}
+use Rattle.engine.specs.Engine.{Engine, refusal_for, after}
 
 -- what an accepted call leaves
 abbrev pub renewed : Engine → Call → Engine
-renewed e (opens own sheet) = record { state = freshState own (filled sheet) sheet.rights; table = clearUsed e.table (filled sheet).ceiling.0 }
+renewed e (opens own sheet) = record { state = fresh_state own (filled sheet) sheet.rights; table = clear_used e.table (filled sheet).ceiling.0 }
 renewed e (propose b) = record { state = proposed e.state b; table = e.table }
-renewed e (endorse p) = record { state = e.state; table = setEndorsed e.table p.author.0 p.round.0 }
-renewed e (certify d) = record { state = e.state; table = putCertificate e.table (contentWith e.state.own.0 e.state.round.0 e.state.body) d }
+renewed e (endorse p) = record { state = e.state; table = set_endorsed e.table p.author.0 p.round.0 }
+renewed e (certify d) = record { state = e.state; table = put_certificate e.table (content_with e.state.own.0 e.state.round.0 e.state.body) d }
 renewed e (accept c) =
     record {
       state = e.state;
-      table = clearEndorsed (putCertificate e.table (contentOf c.proposal) c.endorsers) c.proposal.author.0 c.proposal.round.0;
+      table = clear_endorsed (put_certificate e.table (content_of c.proposal) c.endorsers) c.proposal.author.0 c.proposal.round.0;
     }
-renewed e advance = record { state = advanced e.state noBody; table = e.table }
-renewed e commit = record { state = committedState e.state e.table; table = committedTable e.state e.table }
-renewed e (enqueue g x) = record { state = e.state; table = addedTable e.table g x }
-renewed e (draw v) = record { state = proposed e.state (drawnBody e.state e.table v); table = drawnTable (draws e.state e.table) e.table }
-renewed e (port x) = record { state = e.state; table = portedTable e.state e.table x }
+renewed e advance = record { state = advanced e.state no_body; table = e.table }
+renewed e commit = record { state = committed_state e.state e.table; table = committed_table e.state e.table }
+renewed e (enqueue g x) = record { state = e.state; table = added_table e.table g x }
+renewed e (draw v) = record { state = proposed e.state (drawn_body e.state e.table v); table = drawn_table (draws e.state e.table) e.table }
+renewed e (port x) = record { state = e.state; table = ported_table e.state e.table x }
 renewed e (aside x) = e
 
 module _ (e : Engine) where
@@ -65,24 +65,24 @@ module _ (e : Engine) where
   commit-by x y u h true = refl
   commit-by x y u h false = rw h refl
 
-  after-by : (c : Call) → after e c ≡ cond (eqb (refusalFor e c) 0) (renewed e c) e
-  unfolding openOutcome openTable proposeOutcome endorseOutcome endorseTable certifyOutcome certifyTable acceptOutcome acceptTable advanceOutcome commitOutcome commitTableAfter enqueueOutcome enqueueTable drawRefusal drawOutcome drawTable portOutcome portTable outcomeOf ifAccepted
-  after-by (opens own sheet) = both_by (renewed e (opens own sheet)) (eqb (refusalFor e (opens own sheet)) 0)
-  after-by (propose b) = state-by (proposed state b) (eqb (refusalFor e (propose b)) 0)
-  after-by (endorse p) = both_by (renewed e (endorse p)) (eqb (refusalFor e (endorse p)) 0)
-  after-by (certify d) = both_by (renewed e (certify d)) (eqb (refusalFor e (certify d)) 0)
-  after-by (accept c) = both_by (renewed e (accept c)) (eqb (refusalFor e (accept c)) 0)
-  after-by advance = state-by (advanced state noBody) (eqb (refusalFor e advance) 0)
+  after-by : (c : Call) → after e c ≡ cond (eqb (refusal_for e c) 0) (renewed e c) e
+  unfolding open_outcome open_table propose_outcome endorse_outcome endorse_table certify_outcome certify_table accept_outcome accept_table advance_outcome commit_outcome commit_table_after enqueue_outcome enqueue_table draw_refusal draw_outcome draw_table port_outcome port_table outcome_of if_accepted
+  after-by (opens own sheet) = both_by (renewed e (opens own sheet)) (eqb (refusal_for e (opens own sheet)) 0)
+  after-by (propose b) = state-by (proposed state b) (eqb (refusal_for e (propose b)) 0)
+  after-by (endorse p) = both_by (renewed e (endorse p)) (eqb (refusal_for e (endorse p)) 0)
+  after-by (certify d) = both_by (renewed e (certify d)) (eqb (refusal_for e (certify d)) 0)
+  after-by (accept c) = both_by (renewed e (accept c)) (eqb (refusal_for e (accept c)) 0)
+  after-by advance = state-by (advanced state no_body) (eqb (refusal_for e advance) 0)
   after-by commit =
-      commit-by (addedWith state (blocksThen state table)) (refusedWith state (refusalFor e commit)) (committedTable state table) refl (eqb (refusalFor e commit) 0)
-  after-by (enqueue g x) = both_by (renewed e (enqueue g x)) (eqb (refusalFor e (enqueue g x)) 0)
-  after-by (draw v) = both_by (renewed e (draw v)) (eqb (refusalFor e (draw v)) 0)
-  after-by (port x) = both_by (renewed e (port x)) (eqb (refusalFor e (port x)) 0)
-  after-by (aside x) = sym (cond_same (eqb (refusalFor e (aside x)) 0) e)
+      commit-by (added_with state (blocks_then state table)) (refused_with state (refusal_for e commit)) (committed_table state table) refl (eqb (refusal_for e commit) 0)
+  after-by (enqueue g x) = both_by (renewed e (enqueue g x)) (eqb (refusal_for e (enqueue g x)) 0)
+  after-by (draw v) = both_by (renewed e (draw v)) (eqb (refusal_for e (draw v)) 0)
+  after-by (port x) = both_by (renewed e (port x)) (eqb (refusal_for e (port x)) 0)
+  after-by (aside x) = sym (cond_same (eqb (refusal_for e (aside x)) 0) e)
 
   -- a refused call changes nothing
-  pub refused-same : (c : Call) → refusalFor e c ≢ 0 → after e c ≡ e
-  refused-same c n = after-by c ∙ rw (ne_eqb (refusalFor e c) 0 n) refl
+  pub refused-same : (c : Call) → refusal_for e c ≢ 0 → after e c ≡ e
+  refused-same c n = after-by c ∙ rw (ne_eqb (refusal_for e c) 0 n) refl
 
-  pub accepted-new : (c : Call) → refusalFor e c ≡ 0 → after e c ≡ renewed e c
-  accepted-new c a = after-by c ∙ rw (eq-eqb (refusalFor e c) 0 a) refl
+  pub accepted-new : (c : Call) → refusal_for e c ≡ 0 → after e c ≡ renewed e c
+  accepted-new c a = after-by c ∙ rw (eq-eqb (refusal_for e c) 0 a) refl

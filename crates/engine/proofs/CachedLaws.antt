@@ -8,32 +8,32 @@ use Prim.Native.Nat.{ℕ}
 use native.Mathlib.Omega.{arith}
 use Rattle.agreement.specs.Rules.{Chain}
 use Rattle.terms.specs.Proposals.{Content}
-use Rattle.sheet.specs.declared.Settings.{Settings}
-use Rattle.cache.specs.Caches.{Caches}
+use Rattle.terms.specs.declared.sheet.Settings.{Settings}
+use Rattle.running.specs.Caches.{Caches}
 use Rattle.rules.specs.Tests.{MemberView}
 use Rattle.rules.specs.Calls as rules
-use Rattle.state.specs.WellFormed.{wellFormed}
+use Rattle.state.specs.WellFormed.{well_formed}
 use Rattle.state.specs.Cached.{Cached}
-use Rattle.checks.specs.Answers.{answer_of, formedBy}
-use Rattle.checks.proofs.AnswerLaws.{answer-accepted, answer-refused}
+use Rattle.state.specs.Answers.{answer_of, formed_by}
+use Rattle.state.proofs.AnswerLaws.{answer-accepted, answer-refused}
 use Rattle.engine.specs.Calls.{Call, commit, InRange}
-use Rattle.engine.specs.Engine.{Engine, refusalFor, after}
-use Rattle.engine.specs.Steps.{viewAt, ruled, Step, refused, opened, moved, SetInRange}
+use Rattle.engine.specs.Engine.{Engine, refusal_for, after}
+use Rattle.engine.specs.Steps.{view_at, ruled, Step, refused, opened, moved, SetInRange}
 use Rattle.engine.proofs.AfterLaws.{refused-same}
 use Rattle.engine.proofs.StepLaws.{every-step}
 
 -- a call of the rules that leaves the chain: any but commit, and but read, which an open stands for
-abbrev pub leavesChain : rules.Call → Bool
-leavesChain (rules.propose p l) = true
-leavesChain (rules.endorse p) = true
-leavesChain (rules.certify d) = true
-leavesChain (rules.accept p d) = true
-leavesChain rules.advance = true
-leavesChain rules.commit = false
-leavesChain rules.read = false
+abbrev pub leaves_chain : rules.Call → Bool
+leaves_chain (rules.propose p l) = true
+leaves_chain (rules.endorse p) = true
+leaves_chain (rules.certify d) = true
+leaves_chain (rules.accept p d) = true
+leaves_chain rules.advance = true
+leaves_chain rules.commit = false
+leaves_chain rules.read = false
 
 module _ (S : Settings) (k : ℕ) (s : MemberView S) where
-  chain_left : (c : rules.Call) → leavesChain c ≡ true → (rules.after S k s c).chain ≡ s.chain
+  chain_left : (c : rules.Call) → leaves_chain c ≡ true → (rules.after S k s c).chain ≡ s.chain
   unfolding rules.after
   chain_left (rules.propose p l) h = refl
   chain_left (rules.endorse p) h = refl
@@ -50,39 +50,39 @@ module _ (S : Settings) (k : ℕ) (s : MemberView S) where
 module _ (e : Engine) (low : SetInRange e) where
   module _ (c : Call) (i : InRange c) where
     -- the answer tells whether the state is well formed then
-    pub formed-after : {b : Bool} → b ≡ wellFormed e.state e.table → formedBy b (answer_of (refusalFor e c)) ≡ wellFormed (after e c).state (after e c).table
+    pub formed-after : {b : Bool} → b ≡ well_formed e.state e.table → formed_by b (answer_of (refusal_for e c)) ≡ well_formed (after e c).state (after e c).table
     formed-after {b} w = go (every-step e low c i)
       where
-        go : Step e c → formedBy b (answer_of (refusalFor e c)) ≡ wellFormed (after e c).state (after e c).table
-        go (refused n h) = rw (answer-refused (refusalFor e c) n, h) w
-        go (opened own sheet q a f) = rw (answer-accepted (refusalFor e c) a) (sym f.formed)
-        go (moved a p n) = rw (answer-accepted (refusalFor e c) a) (sym n.formed)
+        go : Step e c → formed_by b (answer_of (refusal_for e c)) ≡ well_formed (after e c).state (after e c).table
+        go (refused n h) = rw (answer-refused (refusal_for e c) n, h) w
+        go (opened own sheet q a f) = rw (answer-accepted (refusal_for e c) a) (sym f.formed)
+        go (moved a p n) = rw (answer-accepted (refusal_for e c) a) (sym n.formed)
 
     -- where the chain is left, the committees are those that were cached
-    pub cached-after : leavesChain (ruled e c) ≡ true → {b : Bool} {cache : List ℕ} → Cached e.state e.table b cache
-        → Cached (after e c).state (after e c).table (formedBy b (answer_of (refusalFor e c))) cache
+    pub cached-after : leaves_chain (ruled e c) ≡ true → {b : Bool} {cache : List ℕ} → Cached e.state e.table b cache
+        → Cached (after e c).state (after e c).table (formed_by b (answer_of (refusal_for e c))) cache
     cached-after l {b} {cache} k = go (every-step e low c i)
       where
-        go : Step e c → Cached (after e c).state (after e c).table (formedBy b (answer_of (refusalFor e c))) cache
-        go (refused n h) = rw (answer-refused (refusalFor e c) n, h) k
-        go (opened own sheet q a f) = absurd (false≢true (sym (ap (λ (z : Call). leavesChain (ruled e z)) q) ∙ l))
+        go : Step e c → Cached (after e c).state (after e c).table (formed_by b (answer_of (refusal_for e c))) cache
+        go (refused n h) = rw (answer-refused (refusal_for e c) n, h) k
+        go (opened own sheet q a f) = absurd (false≢true (sym (ap (λ (z : Call). leaves_chain (ruled e z)) q) ∙ l))
         go (moved a w n) =
             let S = e.state.settings in
-            let same = ap (λ (v : MemberView S). v.chain) n.shows ∙ chain_left S e.state.own.0 (viewAt S e) (ruled e c) l in
+            let same = ap (λ (v : MemberView S). v.chain) n.shows ∙ chain_left S e.state.own.0 (view_at S e) (ruled e c) l in
             record {
               form = formed-after k.form;
               committees = λ _. subst₂ (λ (T : Settings) (x : Chain Content). Caches T x cache) (sym n.same-settings) (sym same) (k.committees w);
             }
 
   -- a commit leaves a well-formed state so, and one that is not is not changed
-  pub formed-commit : wellFormed (after e commit).state (after e commit).table ≡ wellFormed e.state e.table
+  pub formed-commit : well_formed (after e commit).state (after e commit).table ≡ well_formed e.state e.table
   formed-commit = go (every-step e low commit tt)
     where
-      go : Step e commit → wellFormed (after e commit).state (after e commit).table ≡ wellFormed e.state e.table
-      go (refused n h) = ap (λ (x : Engine). wellFormed x.state x.table) h
+      go : Step e commit → well_formed (after e commit).state (after e commit).table ≡ well_formed e.state e.table
+      go (refused n h) = ap (λ (x : Engine). well_formed x.state x.table) h
       go (opened own sheet q a f) = let z : ◌≡◌ {A = ℕ} 0 1 = cc in absurd (omega arith)
       go (moved a w n) = n.formed ∙ sym w
 
 -- a refused call changes nothing
-pub cached-refused : (e : Engine) (c : Call) → refusalFor e c ≢ 0 → {b : Bool} {cache : List ℕ} → Cached e.state e.table b cache → Cached (after e c).state (after e c).table b cache
+pub cached-refused : (e : Engine) (c : Call) → refusal_for e c ≢ 0 → {b : Bool} {cache : List ℕ} → Cached e.state e.table b cache → Cached (after e c).state (after e c).table b cache
 cached-refused e c n k = rw (refused-same e c n) k

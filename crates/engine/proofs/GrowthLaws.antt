@@ -5,15 +5,15 @@ use mathlib.Core.Option.{Option, none, some}
 use Prim.Native.Nat.{ℕ, ◌-◌}
 use Rattle.agreement.specs.Rules.{Chain, Rules}
 use Rattle.agreement.specs.View.{View}
-use Rattle.agreement.specs.Commits.{anchorAt, block_of, blocksOf, committed}
+use Rattle.agreement.specs.Commits.{anchor_at, block_of, blocks_of, committed}
 use Rattle.terms.specs.Proposals.{Content}
-use Rattle.sheet.specs.declared.Settings.{Settings}
-use Rattle.committee.specs.Chain.{chainOf}
+use Rattle.terms.specs.declared.sheet.Settings.{Settings}
+use Rattle.committee.specs.Chain.{chain_of}
 use Rattle.rules.specs.Tests.{MemberView}
 use Rattle.rules.specs.Calls as rules
 use Rattle.engine.specs.Calls.{Call, InRange}
 use Rattle.engine.specs.Engine.{Engine, after}
-use Rattle.engine.specs.Steps.{viewAt, ruled, Step, refused, opened, moved, SetInRange}
+use Rattle.engine.specs.Steps.{view_at, ruled, Step, refused, opened, moved, SetInRange}
 use Rattle.engine.specs.Sequences.{NoOpen}
 use Rattle.engine.proofs.StepLaws.{every-step}
 
@@ -21,10 +21,10 @@ use Rattle.engine.proofs.StepLaws.{every-step}
 abbrev pub Newer : {P : Type 0} → Chain P → Chain P → Type 0
 Newer {P} c d = (newer : Chain P) × (d ≡ newer ++ c)
 
-blocks-newer : {R : Rules} (s : View R) (l : List R.P) → Newer s.chain (blocksOf s l)
-unfolding blocksOf
+blocks-newer : {R : Rules} (s : View R) (l : List R.P) → Newer s.chain (blocks_of s l)
+unfolding blocks_of
 blocks-newer s [] = ([], refl)
-blocks-newer {R} s (x ∷ l) = let m = blocks-newer s l in (block_of s x (blocksOf s l) ∷ m.0, ap (λ (d : Chain R.P). block_of s x (blocksOf s l) ∷ d) m.1)
+blocks-newer {R} s (x ∷ l) = let m = blocks-newer s l in (block_of s x (blocks_of s l) ∷ m.0, ap (λ (d : Chain R.P). block_of s x (blocks_of s l) ∷ d) m.1)
 
 module _ (S : Settings) (k : ℕ) (s : MemberView S) where
   committed-newer : (x : Content) → Newer s.chain (committed s x)
@@ -42,7 +42,7 @@ module _ (S : Settings) (k : ℕ) (s : MemberView S) where
       go (some p) = ([], refl)
   ruled-newer (rules.accept p d) = ([], refl)
   ruled-newer rules.advance = ([], refl)
-  ruled-newer rules.commit = go (anchorAt s (s.round - 1))
+  ruled-newer rules.commit = go (anchor_at s (s.round - 1))
     where
       go : (o : Option Content) → Newer s.chain (rules.added S s o)
       go none = ([], refl)
@@ -50,16 +50,16 @@ module _ (S : Settings) (k : ℕ) (s : MemberView S) where
   ruled-newer rules.read = ([], refl)
 
 -- the chain of an engine
-abbrev pub chainIn : Engine → Chain Content
-chainIn e = chainOf e.state.settings.ceiling.0 e.table e.state.blocks
+abbrev pub chain_in : Engine → Chain Content
+chain_in e = chain_of e.state.settings.ceiling.0 e.table e.state.blocks
 
-pub chain-newer : (e : Engine) → SetInRange e → (c : Call) → InRange c → NoOpen e c → Newer (chainIn e) (chainIn (after e c))
+pub chain-newer : (e : Engine) → SetInRange e → (c : Call) → InRange c → NoOpen e c → Newer (chain_in e) (chain_in (after e c))
 chain-newer e low c i o = go (every-step e low c i)
   where
-    go : Step e c → Newer (chainIn e) (chainIn (after e c))
-    go (refused n h) = ([], ap chainIn h)
+    go : Step e c → Newer (chain_in e) (chain_in (after e c))
+    go (refused n h) = ([], ap chain_in h)
     go (opened own sheet q a f) = absurd (o own sheet q a)
     go (moved a w n) =
         let S = e.state.settings in
-        let m = ruled-newer S e.state.own.0 (viewAt S e) (ruled e c) in
+        let m = ruled-newer S e.state.own.0 (view_at S e) (ruled e c) in
         (m.0, ap (λ (v : MemberView S). v.chain) n.shows ∙ m.1)

@@ -10,3 +10,4 @@ pub mod OutcomeLaws
 pub mod CachedLaws
 pub mod AcceptedLaws
 pub mod ValueLaws
+pub mod GuestLaws

@@ -10,67 +10,67 @@ use Rattle.terms.specs.declared.Member.{Member}
 use Rattle.terms.specs.declared.Body.{Body}
 use Rattle.terms.specs.declared.Proposal.{Proposal}
 use Rattle.terms.specs.declared.Certificate.{Certificate}
-use Rattle.sheet.specs.declared.Sheet.{Sheet}
-use Rattle.checks.specs.declared.Outcome.{Outcome}
-use Rattle.checks.specs.Answers.{answer_of, outcomeOf}
-use Rattle.open.specs.Open.{openOutcome}
-use Rattle.propose.specs.Propose.{proposeOutcome}
-use Rattle.endorse.specs.Endorse.{endorseOutcome}
-use Rattle.certify.specs.Certify.{certifyOutcome}
-use Rattle.accept.specs.Accept.{acceptOutcome}
-use Rattle.advance.specs.Advance.{advanceOutcome}
+use Rattle.terms.specs.declared.sheet.Sheet.{Sheet}
+use Rattle.state.specs.declared.checks.Outcome.{Outcome}
+use Rattle.state.specs.Answers.{answer_of, outcome_of}
+use Rattle.open.specs.Open.{open_outcome}
+use Rattle.propose.specs.Propose.{propose_outcome}
+use Rattle.endorse.specs.Endorse.{endorse_outcome}
+use Rattle.certify.specs.Certify.{certify_outcome}
+use Rattle.accept.specs.Accept.{accept_outcome}
+use Rattle.advance.specs.Advance.{advance_outcome}
 use Rattle.commit.specs.declared.Outcome as committed
 use Rattle.commit.specs.declared.Committed.TheVariants.{Added, Refused}
-use Rattle.commit.specs.Answers.{addedValue}
-use Rattle.commit.specs.Commit.{commitOutcome, blocksThen, addedWith, refusedWith}
+use Rattle.commit.specs.Answers.{added_value}
+use Rattle.commit.specs.Commit.{commit_outcome, blocks_then, added_with, refused_with}
 use Rattle.engine.specs.Calls.{Call, opens, propose, endorse, certify, accept, advance, commit}
-use Rattle.engine.specs.Engine.{Engine, refusalFor, after}
+use Rattle.engine.specs.Engine.{Engine, refusal_for, after}
 
 module _ (e : Engine) where
   open e use {state, table}
 
   -- the answer and the state, by the number that refuses
-  abbrev pub outcomeFor : Call → Outcome
-  outcomeFor c = record { state = (after e c).state; answer = answer_of (refusalFor e c) }
+  abbrev pub outcome_for : Call → Outcome
+  outcome_for c = record { state = (after e c).state; answer = answer_of (refusal_for e c) }
 
-  pub open-outcome : (own : Member) (sheet : Sheet) → openOutcome state table own sheet ≡ outcomeFor (opens own sheet)
-  unfolding openOutcome outcomeOf
-  open-outcome own sheet = refl
+  pub open_outcome_lem : (own : Member) (sheet : Sheet) → open_outcome state table own sheet ≡ outcome_for (opens own sheet)
+  unfolding open_outcome outcome_of
+  open_outcome_lem own sheet = refl
 
-  pub propose-outcome : (b : Body) → proposeOutcome state table b ≡ outcomeFor (propose b)
-  unfolding proposeOutcome outcomeOf
+  pub propose-outcome : (b : Body) → propose_outcome state table b ≡ outcome_for (propose b)
+  unfolding propose_outcome outcome_of
   propose-outcome b = refl
 
-  pub endorse-outcome : (p : Proposal) → endorseOutcome state table p ≡ outcomeFor (endorse p)
-  unfolding endorseOutcome outcomeOf
+  pub endorse-outcome : (p : Proposal) → endorse_outcome state table p ≡ outcome_for (endorse p)
+  unfolding endorse_outcome outcome_of
   endorse-outcome p = refl
 
-  pub certify-outcome : (d : ℕ) → certifyOutcome state table d ≡ outcomeFor (certify d)
-  unfolding certifyOutcome outcomeOf
+  pub certify-outcome : (d : ℕ) → certify_outcome state table d ≡ outcome_for (certify d)
+  unfolding certify_outcome outcome_of
   certify-outcome d = refl
 
-  pub accept-outcome : (c : Certificate) → acceptOutcome state table c ≡ outcomeFor (accept c)
-  unfolding acceptOutcome outcomeOf
+  pub accept-outcome : (c : Certificate) → accept_outcome state table c ≡ outcome_for (accept c)
+  unfolding accept_outcome outcome_of
   accept-outcome c = refl
 
-  pub advance-outcome : advanceOutcome state table ≡ outcomeFor advance
-  unfolding advanceOutcome outcomeOf
+  pub advance-outcome : advance_outcome state table ≡ outcome_for advance
+  unfolding advance_outcome outcome_of
   advance-outcome = refl
 
   -- a commit's answer: the blocks that it added, or the number that refuses it
-  pub commit-answer : (commitOutcome state table).answer ≡ cond (eqb (refusalFor e commit) 0) (Added (addedValue (commitOutcome state table).answer)) (Refused (refusalFor e commit))
-  unfolding commitOutcome
-  commit-answer = go (eqb (refusalFor e commit) 0)
+  pub commit-answer : (commit_outcome state table).answer ≡ cond (eqb (refusal_for e commit) 0) (Added (added_value (commit_outcome state table).answer)) (Refused (refusal_for e commit))
+  unfolding commit_outcome
+  commit-answer = go (eqb (refusal_for e commit) 0)
     where
       outcome : Bool → committed.Outcome
-      outcome b = cond b (addedWith state (blocksThen state table)) (refusedWith state (refusalFor e commit))
+      outcome b = cond b (added_with state (blocks_then state table)) (refused_with state (refusal_for e commit))
 
-      go : (b : Bool) → (outcome b).answer ≡ cond b (Added (addedValue (outcome b).answer)) (Refused (refusalFor e commit))
+      go : (b : Bool) → (outcome b).answer ≡ cond b (Added (added_value (outcome b).answer)) (Refused (refusal_for e commit))
       go true = refl
       go false = refl
 
-  pub commit-refused : {n : ℕ} → (commitOutcome state table).answer ≡ Refused n → refusalFor e commit ≢ 0
+  pub commit-refused : {n : ℕ} → (commit_outcome state table).answer ≡ Refused n → refusal_for e commit ≢ 0
   commit-refused {n} h z =
-      let a : Added (addedValue (commitOutcome state table).answer) ≡ Refused n = rw (eq-eqb (refusalFor e commit) 0 z) at (sym commit-answer ∙ h) in
+      let a : Added (added_value (commit_outcome state table).answer) ≡ Refused n = rw (eq-eqb (refusal_for e commit) 0 z) at (sym commit-answer ∙ h) in
       let k : ◌≡◌ {A = ℕ} 0 1 = cc in
       omega arith

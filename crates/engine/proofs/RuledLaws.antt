@@ -6,48 +6,48 @@ use Prim.Native.Nat.{ℕ}
 use Rattle.base.specs.Checks.{refusal}
 use Rattle.base.proofs.CheckLaws.{passes-all}
 use Rattle.terms.specs.declared.Member.{Member}
-use Rattle.sheet.specs.declared.Settings.{Settings}
+use Rattle.terms.specs.declared.sheet.Settings.{Settings}
 use Rattle.rules.specs.Tests.{MemberView}
 use Rattle.rules.specs.Calls as rules
-use Rattle.rules.specs.Calls.{ruledRefusal, result}
+use Rattle.rules.specs.Calls.{ruled_refusal, result}
 use Rattle.rules.proofs.CallLaws.{ruled-refusal, after_read, result-refused, result-accepted}
 use Rattle.state.specs.View.{view}
-use Rattle.state.specs.WellFormed.{wellFormed}
+use Rattle.state.specs.WellFormed.{well_formed}
 use Rattle.state.proofs.RefusalLaws.{refusal-formed}
-use Rattle.propose.specs.Propose.{proposeRefusal}
-use Rattle.endorse.specs.Endorse.{endorseRefusal}
-use Rattle.certify.specs.Certify.{certifyRefusal}
-use Rattle.accept.specs.Accept.{acceptRefusal}
-use Rattle.advance.specs.Advance.{advanceRefusal}
-use Rattle.commit.specs.Commit.{commitRefusal}
-use Rattle.draw.specs.Draw.{drawRefusal}
+use Rattle.propose.specs.Propose.{propose_refusal}
+use Rattle.endorse.specs.Endorse.{endorse_refusal}
+use Rattle.certify.specs.Certify.{certify_refusal}
+use Rattle.accept.specs.Accept.{accept_refusal}
+use Rattle.advance.specs.Advance.{advance_refusal}
+use Rattle.commit.specs.Commit.{commit_refusal}
+use Rattle.draw.specs.Draw.{draw_refusal}
 use Rattle.engine.specs.Calls.{Call, opens, propose, endorse, certify, accept, advance, commit, enqueue, draw, port, aside, InRange}
-use Rattle.engine.specs.Engine.{Engine, refusalFor, after}
-use Rattle.engine.specs.Steps.{viewAt, ruled, Step, refused, opened, moved}
+use Rattle.engine.specs.Engine.{Engine, refusal_for, after}
+use Rattle.engine.specs.Steps.{view_at, ruled, Step, refused, opened, moved}
 use Rattle.engine.specs.Sequences.{NoOpen}
 use Rattle.engine.specs.Reached.{Good}
 use Rattle.engine.proofs.StepLaws.{every-step}
 
 -- the rules refuse no read, and a read leaves the view
 module _ (S : Settings) (k : ℕ) (s : MemberView S) where
-  read-passes : ruledRefusal S k s rules.read ≡ 0
+  read-passes : ruled_refusal S k s rules.read ≡ 0
   read-passes = ruled-refusal S k s rules.read ∙ passes-all
 
   read-leaves : result S k s rules.read ≡ s
   read-leaves = result-accepted S k s rules.read read-passes ∙ after_read S k s
 
-module _ (e : Engine) (w : wellFormed e.state e.table ≡ true) where
+module _ (e : Engine) (w : well_formed e.state e.table ≡ true) where
   open e use {state, table}
 
   -- the rules refuse the call with the same number, or have it for a read
   abbrev Ruling : Call → Type 0
-  Ruling c = (refusalFor e c ≡ ruledRefusal state.settings state.own.0 (view state table) (ruled e c)) ⊎ (ruled e c ≡ rules.read)
+  Ruling c = (refusal_for e c ≡ ruled_refusal state.settings state.own.0 (view state table) (ruled e c)) ⊎ (ruled e c ≡ rules.read)
 
-  by-rules : (c : rules.Call) → refusal (rules.checks state.settings state.own.0 (view state table) c) ≡ ruledRefusal state.settings state.own.0 (view state table) c
+  by-rules : (c : rules.Call) → refusal (rules.checks state.settings state.own.0 (view state table) c) ≡ ruled_refusal state.settings state.own.0 (view state table) c
   by-rules c = sym (ruled-refusal state.settings state.own.0 (view state table) c)
 
   ruling : (c : Call) → Ruling c
-  unfolding proposeRefusal endorseRefusal certifyRefusal acceptRefusal advanceRefusal commitRefusal drawRefusal
+  unfolding propose_refusal endorse_refusal certify_refusal accept_refusal advance_refusal commit_refusal draw_refusal
   ruling (opens own sheet) = inr refl
   ruling (propose b) = inl (refusal-formed state table (ruled e (propose b)) w ∙ by-rules (ruled e (propose b)))
   ruling (endorse p) = inl (refusal-formed state table (ruled e (endorse p)) w ∙ by-rules (ruled e (endorse p)))
@@ -61,15 +61,15 @@ module _ (e : Engine) (w : wellFormed e.state e.table ≡ true) where
   ruling (aside x) = inr refl
 
   -- the rules let an accepted call pass
-  accepted-passes : (c : Call) → refusalFor e c ≡ 0 → ruledRefusal state.settings state.own.0 (view state table) (ruled e c) ≡ 0
+  accepted-passes : (c : Call) → refusal_for e c ≡ 0 → ruled_refusal state.settings state.own.0 (view state table) (ruled e c) ≡ 0
   accepted-passes c a = go (ruling c)
     where
-      go : Ruling c → ruledRefusal state.settings state.own.0 (view state table) (ruled e c) ≡ 0
+      go : Ruling c → ruled_refusal state.settings state.own.0 (view state table) (ruled e c) ≡ 0
       go (inl h) = sym h ∙ a
       go (inr h) = rw h (read-passes state.settings state.own.0 (view state table))
 
   -- by the rules too a refused call leaves the view
-  refused-leaves : (c : Call) → refusalFor e c ≢ 0 → result state.settings state.own.0 (view state table) (ruled e c) ≡ view state table
+  refused-leaves : (c : Call) → refusal_for e c ≢ 0 → result state.settings state.own.0 (view state table) (ruled e c) ≡ view state table
   refused-leaves c n = go (ruling c)
     where
       go : Ruling c → result state.settings state.own.0 (view state table) (ruled e c) ≡ view state table
@@ -80,23 +80,23 @@ module _ (e : Engine) (w : wellFormed e.state e.table ≡ true) where
 
 module _ {S : Settings} {k : ℕ} {e : Engine} (g : Good S k e) where
   -- what holds of the state's own settings and number holds of S and k
-  as-given : (P : Settings → ℕ → Type 0) → P e.state.settings e.state.own.0 → P S k
-  as-given P = subst₂ P g.settings g.own
+  as_given : (P : Settings → ℕ → Type 0) → P e.state.settings e.state.own.0 → P S k
+  as_given P = subst₂ P g.settings g.own
 
   -- the number that refuses a call is the rules'; a call that the rules have for a read is refused with a number of its own
-  pub refusal-ruled : (c : Call) → (refusalFor e c ≡ ruledRefusal S k (viewAt S e) (ruled e c)) ⊎ (ruled e c ≡ rules.read)
-  refusal-ruled c = as-given (λ T i. (refusalFor e c ≡ ruledRefusal T i (viewAt T e) (ruled e c)) ⊎ (ruled e c ≡ rules.read)) (ruling e g.formed c)
+  pub refusal-ruled : (c : Call) → (refusal_for e c ≡ ruled_refusal S k (view_at S e) (ruled e c)) ⊎ (ruled e c ≡ rules.read)
+  refusal-ruled c = as_given (λ T i. (refusal_for e c ≡ ruled_refusal T i (view_at T e) (ruled e c)) ⊎ (ruled e c ≡ rules.read)) (ruling e g.formed c)
 
   -- the rules let an accepted call pass
-  pub accepted-ruled : (c : Call) → refusalFor e c ≡ 0 → ruledRefusal S k (viewAt S e) (ruled e c) ≡ 0
-  accepted-ruled c a = as-given (λ T i. ruledRefusal T i (viewAt T e) (ruled e c) ≡ 0) (accepted-passes e g.formed c a)
+  pub accepted-ruled : (c : Call) → refusal_for e c ≡ 0 → ruled_refusal S k (view_at S e) (ruled e c) ≡ 0
+  accepted-ruled c a = as_given (λ T i. ruled_refusal T i (view_at T e) (ruled e c) ≡ 0) (accepted-passes e g.formed c a)
 
   module _ (c : Call) (r : InRange c) (o : NoOpen e c) where
     -- an accepted call leaves what the rules say
-    pub accepted-view : refusalFor e c ≡ 0 → viewAt S (after e c) ≡ rules.after S k (viewAt S e) (ruled e c)
-    accepted-view a = as-given (λ T i. viewAt T (after e c) ≡ rules.after T i (viewAt T e) (ruled e c)) (go (every-step e g.small c r))
+    pub accepted-view : refusal_for e c ≡ 0 → view_at S (after e c) ≡ rules.after S k (view_at S e) (ruled e c)
+    accepted-view a = as_given (λ T i. view_at T (after e c) ≡ rules.after T i (view_at T e) (ruled e c)) (go (every-step e g.small c r))
       where
-        go : Step e c → viewAt e.state.settings (after e c) ≡ rules.after e.state.settings e.state.own.0 (viewAt e.state.settings e) (ruled e c)
+        go : Step e c → view_at e.state.settings (after e c) ≡ rules.after e.state.settings e.state.own.0 (view_at e.state.settings e) (ruled e c)
         go (refused n h) = absurd (n a)
         go (opened own sheet q b f) = absurd (o own sheet q b)
         go (moved b w n) = n.shows
@@ -108,15 +108,15 @@ module _ {S : Settings} {k : ℕ} {e : Engine} (g : Good S k e) where
         go : Step e c → Good S k (after e c)
         go (refused n h) = subst (Good S k) (sym h) g
         go (opened own sheet q b f) = absurd (o own sheet q b)
-        go (moved b w n) = record { own = ap (λ (m : Member). m.0) n.same-own ∙ g.own; settings = n.same-settings ∙ g.settings; formed = n.formed; small = n.set-in-range }
+        go (moved b w n) = record { own = ap (λ (m : Member). m.0) n.same-own ∙ g.own; settings = n.same-settings ∙ g.settings; formed = n.formed; small = n.set_in_range }
 
     -- any call is the rules' call on the view
-    pub view-after : viewAt S (after e c) ≡ result S k (viewAt S e) (ruled e c)
+    pub view-after : view_at S (after e c) ≡ result S k (view_at S e) (ruled e c)
     view-after = go (every-step e g.small c r)
       where
-        go : Step e c → viewAt S (after e c) ≡ result S k (viewAt S e) (ruled e c)
+        go : Step e c → view_at S (after e c) ≡ result S k (view_at S e) (ruled e c)
         go (refused n h) =
-            ap (viewAt S) h
-            ∙ as-given (λ T i. viewAt T e ≡ result T i (viewAt T e) (ruled e c)) (sym (refused-leaves e g.formed c n))
+            ap (view_at S) h
+            ∙ as_given (λ T i. view_at T e ≡ result T i (view_at T e) (ruled e c)) (sym (refused-leaves e g.formed c n))
         go (opened own sheet q b f) = absurd (o own sheet q b)
-        go (moved b w n) = accepted-view b ∙ sym (result-accepted S k (viewAt S e) (ruled e c) (accepted-ruled c b))
+        go (moved b w n) = accepted-view b ∙ sym (result-accepted S k (view_at S e) (ruled e c) (accepted-ruled c b))

@@ -6,7 +6,7 @@ use Rattle.terms.specs.declared.Transaction.{Transaction}
 use Rattle.terms.specs.declared.Body.{Body}
 use Rattle.terms.specs.declared.Proposal.{Proposal}
 use Rattle.terms.specs.declared.Certificate.{Certificate}
-use Rattle.sheet.specs.declared.Sheet.{Sheet}
+use Rattle.terms.specs.declared.sheet.Sheet.{Sheet}
 use Rattle.serial.specs.Calls.{PortCall, PortInRange}
 
 -- the calls that leave state and table as they are: the reads, the preview of a commit, the certificates that it hangs on, and the listing of the chain

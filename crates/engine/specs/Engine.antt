@@ -1,23 +1,23 @@
 -- The engine: a state and the lent table, the number that a call is refused with, and what it leaves, as the contracts of its calls tell it.
 use Rattle.std.specs.Prelude.{List, [], ℕ}
 use Rattle.base.specs.Checks.{Checks, refusal}
-use Rattle.sheet.specs.Sheets.{filled}
-use Rattle.rules.specs.Reads.{readingCommittee, readingShare, readingEffect, readingCertificate, readingBlock}
+use Rattle.terms.specs.Sheets.{filled}
+use Rattle.rules.specs.Reads.{reading_committee, reading_share, reading_effect, reading_certificate, reading_block}
 use Rattle.state.specs.declared.State.{State}
 use Rattle.state.specs.View.{view}
 use Rattle.state.specs.Refusals.{guarded}
-use Rattle.open.specs.Open.{openRefusal, openOutcome, openTable}
-use Rattle.propose.specs.Propose.{proposeRefusal, proposeOutcome}
-use Rattle.endorse.specs.Endorse.{endorseRefusal, endorseOutcome, endorseTable}
-use Rattle.certify.specs.Certify.{certifyRefusal, certifyOutcome, certifyTable}
-use Rattle.accept.specs.Accept.{acceptRefusal, acceptOutcome, acceptTable}
-use Rattle.advance.specs.Advance.{advanceRefusal, advanceOutcome}
-use Rattle.commit.specs.Commit.{commitRefusal, commitOutcome, commitTableAfter}
+use Rattle.open.specs.Open.{open_refusal, open_outcome, open_table}
+use Rattle.propose.specs.Propose.{propose_refusal, propose_outcome}
+use Rattle.endorse.specs.Endorse.{endorse_refusal, endorse_outcome, endorse_table}
+use Rattle.certify.specs.Certify.{certify_refusal, certify_outcome, certify_table}
+use Rattle.accept.specs.Accept.{accept_refusal, accept_outcome, accept_table}
+use Rattle.advance.specs.Advance.{advance_refusal, advance_outcome}
+use Rattle.commit.specs.Commit.{commit_refusal, commit_outcome, commit_table_after}
 use Rattle.preview.specs.Preview.{previewing}
-use Rattle.critical.specs.Critical.{readingCritical}
-use Rattle.enqueue.specs.Enqueue.{enqueueRefusal, enqueueOutcome, enqueueTable}
-use Rattle.draw.specs.Draw.{drawRefusal, drawOutcome, drawTable}
-use Rattle.serial.specs.Serial.{portRefusal, portOutcome, portTable}
+use Rattle.critical.specs.Critical.{reading_critical}
+use Rattle.enqueue.specs.Enqueue.{enqueue_refusal, enqueue_outcome, enqueue_table}
+use Rattle.draw.specs.Draw.{draw_refusal, draw_outcome, draw_table}
+use Rattle.serial.specs.Serial.{port_refusal, port_outcome, port_table}
 use Rattle.engine.specs.Calls.{Aside, committee, share, effect, certificate, block, preview, critical, listing, Call, opens, propose, endorse, certify, accept, advance, commit, enqueue, draw, port, aside}
 
 -- what a member's host keeps between calls
@@ -26,40 +26,40 @@ pub record Engine : Type 0 where
   pub table : List ℕ
 
 -- the checks of a call that leaves state and table, after check 1
-abbrev pub asideChecks : Engine → Aside → Checks
-asideChecks e (committee r) = readingCommittee e.state.settings (view e.state e.table) r.0
-asideChecks e (share m r) = readingShare e.state.settings (view e.state e.table) m.0 r.0
-asideChecks e (effect m r a) = readingEffect e.state.settings (view e.state e.table) m.0 r.0 a
-asideChecks e (certificate m r) = readingCertificate e.state.settings (view e.state e.table) m.0 r.0
-asideChecks e (block n) = readingBlock e.state.settings (view e.state e.table) n
-asideChecks e (preview n) = previewing e.state e.table n
-asideChecks e (critical n) = readingCritical e.state e.table n
-asideChecks e listing = []
+abbrev pub aside_checks : Engine → Aside → Checks
+aside_checks e (committee r) = reading_committee e.state.settings (view e.state e.table) r.0
+aside_checks e (share m r) = reading_share e.state.settings (view e.state e.table) m.0 r.0
+aside_checks e (effect m r a) = reading_effect e.state.settings (view e.state e.table) m.0 r.0 a
+aside_checks e (certificate m r) = reading_certificate e.state.settings (view e.state e.table) m.0 r.0
+aside_checks e (block n) = reading_block e.state.settings (view e.state e.table) n
+aside_checks e (preview n) = previewing e.state e.table n
+aside_checks e (critical n) = reading_critical e.state e.table n
+aside_checks e listing = []
 
 -- the number of the first check that refuses the call, 0 for none: then it is accepted
-abbrev pub refusalFor : Engine → Call → ℕ
-refusalFor e (opens own sheet) = openRefusal e.table own (filled sheet)
-refusalFor e (propose b) = proposeRefusal e.state e.table b
-refusalFor e (endorse p) = endorseRefusal e.state e.table p
-refusalFor e (certify d) = certifyRefusal e.state e.table d
-refusalFor e (accept c) = acceptRefusal e.state e.table c
-refusalFor e advance = advanceRefusal e.state e.table
-refusalFor e commit = commitRefusal e.state e.table
-refusalFor e (enqueue g x) = enqueueRefusal e.state e.table g x
-refusalFor e (draw v) = drawRefusal e.state e.table v
-refusalFor e (port x) = portRefusal e.state e.table x
-refusalFor e (aside x) = refusal (guarded e.state e.table (asideChecks e x))
+abbrev pub refusal_for : Engine → Call → ℕ
+refusal_for e (opens own sheet) = open_refusal e.table own (filled sheet)
+refusal_for e (propose b) = propose_refusal e.state e.table b
+refusal_for e (endorse p) = endorse_refusal e.state e.table p
+refusal_for e (certify d) = certify_refusal e.state e.table d
+refusal_for e (accept c) = accept_refusal e.state e.table c
+refusal_for e advance = advance_refusal e.state e.table
+refusal_for e commit = commit_refusal e.state e.table
+refusal_for e (enqueue g x) = enqueue_refusal e.state e.table g x
+refusal_for e (draw v) = draw_refusal e.state e.table v
+refusal_for e (port x) = port_refusal e.state e.table x
+refusal_for e (aside x) = refusal (guarded e.state e.table (aside_checks e x))
 
 -- the state that the call returns, and what the lent table holds then; propose and advance leave the table, and what stands aside leaves both
 abbrev pub after : Engine → Call → Engine
-after e (opens own sheet) = record { state = (openOutcome e.state e.table own sheet).state; table = openTable e.table own sheet }
-after e (propose b) = record { state = (proposeOutcome e.state e.table b).state; table = e.table }
-after e (endorse p) = record { state = (endorseOutcome e.state e.table p).state; table = endorseTable e.state e.table p }
-after e (certify d) = record { state = (certifyOutcome e.state e.table d).state; table = certifyTable e.state e.table d }
-after e (accept c) = record { state = (acceptOutcome e.state e.table c).state; table = acceptTable e.state e.table c }
-after e advance = record { state = (advanceOutcome e.state e.table).state; table = e.table }
-after e commit = record { state = (commitOutcome e.state e.table).state; table = commitTableAfter e.state e.table }
-after e (enqueue g x) = record { state = (enqueueOutcome e.state e.table g x).state; table = enqueueTable e.state e.table g x }
-after e (draw v) = record { state = (drawOutcome e.state e.table v).state; table = drawTable e.state e.table v }
-after e (port x) = record { state = (portOutcome e.state e.table x).state; table = portTable e.state e.table x }
+after e (opens own sheet) = record { state = (open_outcome e.state e.table own sheet).state; table = open_table e.table own sheet }
+after e (propose b) = record { state = (propose_outcome e.state e.table b).state; table = e.table }
+after e (endorse p) = record { state = (endorse_outcome e.state e.table p).state; table = endorse_table e.state e.table p }
+after e (certify d) = record { state = (certify_outcome e.state e.table d).state; table = certify_table e.state e.table d }
+after e (accept c) = record { state = (accept_outcome e.state e.table c).state; table = accept_table e.state e.table c }
+after e advance = record { state = (advance_outcome e.state e.table).state; table = e.table }
+after e commit = record { state = (commit_outcome e.state e.table).state; table = commit_table_after e.state e.table }
+after e (enqueue g x) = record { state = (enqueue_outcome e.state e.table g x).state; table = enqueue_table e.state e.table g x }
+after e (draw v) = record { state = (draw_outcome e.state e.table v).state; table = draw_table e.state e.table v }
+after e (port x) = record { state = (port_outcome e.state e.table x).state; table = port_table e.state e.table x }
 after e (aside x) = e

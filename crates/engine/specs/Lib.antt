@@ -7,3 +7,4 @@ pub mod Steps
 -- Sequences of calls on one engine
 pub mod Sequences
 pub mod Reached
+pub mod Guests

@@ -1,14 +1,14 @@
 -- Sequences of calls on one engine: each call gets what the last one left.
 use Rattle.std.specs.Prelude.{◌≡◌, List, [], ◌∷◌, ◌≢◌}
 use Rattle.terms.specs.declared.Member.{Member}
-use Rattle.sheet.specs.declared.Sheet.{Sheet}
+use Rattle.terms.specs.declared.sheet.Sheet.{Sheet}
 use Rattle.engine.specs.Calls.{Call, opens, InRange}
-use Rattle.engine.specs.Engine.{Engine, refusalFor, after}
+use Rattle.engine.specs.Engine.{Engine, refusal_for, after}
 
 -- the engine after a list of calls, newest first
-unfoldable pub afterCalls : Engine → List Call → Engine
-afterCalls e [] = e
-afterCalls e (c ∷ l) = after (afterCalls e l) c
+unfoldable pub after_calls : Engine → List Call → Engine
+after_calls e [] = e
+after_calls e (c ∷ l) = after (after_calls e l) c
 
 -- with any values of their types
 abbrev pub AllInRange : List Call → Type 0
@@ -17,20 +17,20 @@ AllInRange (c ∷ l) = InRange c × AllInRange l
 
 -- the call is no accepted open
 abbrev pub NoOpen : Engine → Call → Type 0
-NoOpen e c = (own : Member) (sheet : Sheet) → c ≡ opens own sheet → refusalFor e c ≢ 0
+NoOpen e c = (own : Member) (sheet : Sheet) → c ≡ opens own sheet → refusal_for e c ≢ 0
 
 -- no open among them is accepted
 abbrev pub NoOpens : Engine → List Call → Type 0
 NoOpens e [] = Unit {0}
-NoOpens e (c ∷ l) = NoOpen (afterCalls e l) c × NoOpens e l
+NoOpens e (c ∷ l) = NoOpen (after_calls e l) c × NoOpens e l
 
 -- an accepted open, on whatever state and table were there
 pub record Opening : Type 0 where
   pub before : Engine
   pub own : Member
   pub sheet : Sheet
-  pub accepted : refusalFor before (opens own sheet) ≡ 0
+  pub accepted : refusal_for before (opens own sheet) ≡ 0
 
 -- the engine after it
-abbrev pub afterOpening : Opening → Engine
-afterOpening x = after x.before (opens x.own x.sheet)
+abbrev pub after_opening : Opening → Engine
+after_opening x = after x.before (opens x.own x.sheet)

@@ -3,20 +3,20 @@ use Rattle.std.specs.Prelude.{cond, List, ℕ, eqb}
 use Rattle.agreement.specs.Rules.{Chain}
 use Rattle.terms.specs.declared.Proposal.{Proposal}
 use Rattle.terms.specs.Proposals.{Content}
-use Rattle.store.specs.Table.{endorsersAt}
-use Rattle.effects.specs.declared.Effect.{Effect}
-use Rattle.rules.specs.Reads.{committeeRead, shareRead, effectRead, blockNumber, block_read}
+use Rattle.store.specs.Table.{endorsers_at}
+use Rattle.committee.specs.declared.effects.Effect.{Effect}
+use Rattle.rules.specs.Reads.{committee_read, share_read, effect_read, block_number, block_read}
 use Rattle.state.specs.View.{view}
-use Rattle.commit.specs.Answers.{addedValue}
-use Rattle.commit.specs.Commit.{commitOutcome}
+use Rattle.commit.specs.Answers.{added_value}
+use Rattle.commit.specs.Commit.{commit_outcome}
 use Rattle.preview.specs.Entries.{Entry}
-use Rattle.preview.specs.Preview.{previewEntries}
-use Rattle.critical.specs.Critical.{Place, criticalPlaces}
-use Rattle.reads.specs.Reads as reads
+use Rattle.preview.specs.Preview.{preview_entries}
+use Rattle.critical.specs.Critical.{Place, critical_places}
+use Rattle.reads.specs.CertificateReads as reads
 use Rattle.serial.specs.Calls.{read, write, PortCall, access, reset}
 use Rattle.serial.specs.Serial.{register}
 use Rattle.engine.specs.Calls.{Aside, committee, share, effect, certificate, block, preview, critical, listing, Call, opens, propose, endorse, certify, accept, advance, commit, enqueue, draw, port, aside}
-use Rattle.engine.specs.Engine.{Engine, refusalFor}
+use Rattle.engine.specs.Engine.{Engine, refusal_for}
 
 pub data Value : Type 0 where
   nothing : Value
@@ -36,36 +36,36 @@ pub data Value : Type 0 where
   chain : Chain Content → Value
 
 -- of a call that leaves state and table
-abbrev pub asideValue : Engine → Aside → Value
-asideValue e (committee r) = weights (committeeRead e.state.settings (view e.state e.table) r.0)
-asideValue e (share m r) = number (shareRead e.state.settings (view e.state e.table) m.0 r.0)
-asideValue e (effect m r a) = shares (effectRead e.state.settings (view e.state e.table) m.0 r.0 a)
-asideValue e (certificate m r) = held (reads.proposalShown ((view e.state e.table).dag m.0 r.0)) (endorsersAt e.table m.0 r.0) (blockNumber (view e.state e.table).chain m.0 r.0)
-asideValue e (block n) = number (block_read e.state.settings (view e.state e.table) n)
-asideValue e (preview n) = entries (previewEntries e.state e.table)
-asideValue e (critical n) = places (criticalPlaces e.state e.table)
-asideValue e listing = chain (view e.state e.table).chain
+abbrev pub aside_value : Engine → Aside → Value
+aside_value e (committee r) = weights (committee_read e.state.settings (view e.state e.table) r.0)
+aside_value e (share m r) = number (share_read e.state.settings (view e.state e.table) m.0 r.0)
+aside_value e (effect m r a) = shares (effect_read e.state.settings (view e.state e.table) m.0 r.0 a)
+aside_value e (certificate m r) = held (reads.proposal_shown ((view e.state e.table).dag m.0 r.0)) (endorsers_at e.table m.0 r.0) (block_number (view e.state e.table).chain m.0 r.0)
+aside_value e (block n) = number (block_read e.state.settings (view e.state e.table) n)
+aside_value e (preview n) = entries (preview_entries e.state e.table)
+aside_value e (critical n) = places (critical_places e.state e.table)
+aside_value e listing = chain (view e.state e.table).chain
 
 -- of what is asked of a port: a read gives what the offset shows
-abbrev pub portValue : Engine → PortCall → Value
-portValue e (access g (read o)) = number (register e.state e.table g o)
-portValue e (access g (write o b)) = nothing
-portValue e (reset g) = nothing
+abbrev pub port_value : Engine → PortCall → Value
+port_value e (access g (read o)) = number (register e.state e.table g o)
+port_value e (access g (write o b)) = nothing
+port_value e (reset g) = nothing
 
 -- of a call that is accepted
-abbrev pub acceptedValue : Engine → Call → Value
-acceptedValue e (opens own sheet) = nothing
-acceptedValue e (propose b) = nothing
-acceptedValue e (endorse p) = nothing
-acceptedValue e (certify d) = nothing
-acceptedValue e (accept c) = nothing
-acceptedValue e advance = nothing
-acceptedValue e commit = number (addedValue (commitOutcome e.state e.table).answer)
-acceptedValue e (enqueue g x) = nothing
-acceptedValue e (draw v) = nothing
-acceptedValue e (port x) = portValue e x
-acceptedValue e (aside x) = asideValue e x
+abbrev pub accepted_value : Engine → Call → Value
+accepted_value e (opens own sheet) = nothing
+accepted_value e (propose b) = nothing
+accepted_value e (endorse p) = nothing
+accepted_value e (certify d) = nothing
+accepted_value e (accept c) = nothing
+accepted_value e advance = nothing
+accepted_value e commit = number (added_value (commit_outcome e.state e.table).answer)
+accepted_value e (enqueue g x) = nothing
+accepted_value e (draw v) = nothing
+accepted_value e (port x) = port_value e x
+accepted_value e (aside x) = aside_value e x
 
 -- a refused call gives none
 unfoldable pub value_of : Engine → Call → Value
-value_of e c = cond (eqb (refusalFor e c) 0) (acceptedValue e c) nothing
+value_of e c = cond (eqb (refusal_for e c) 0) (accepted_value e c) nothing

@@ -3,23 +3,23 @@ use Rattle.std.specs.Prelude.{not, List, [], ◌∷◌, ℕ, length, leb, ltb}
 use Rattle.base.specs.Checks.{Checks, refusal}
 use Rattle.terms.specs.declared.Transaction.{Transaction}
 use Rattle.terms.specs.Transactions.{in_range}
-use Rattle.queues.specs.Words.{queueOf, addedTable}
+use Rattle.queues.specs.Words.{queue_of, added_table}
 use Rattle.state.specs.declared.State.{State}
 use Rattle.state.specs.Refusals.{guarded}
-use Rattle.checks.specs.declared.Outcome.{Outcome}
-use Rattle.checks.specs.Answers.{ifAccepted, outcomeOf}
+use Rattle.state.specs.declared.checks.Outcome.{Outcome}
+use Rattle.state.specs.Answers.{if_accepted, outcome_of}
 
 -- 26 guest above 7; 6 transaction out of range; 27 the queue holds eight
 abbrev pub enqueueing : List ℕ → ℕ → Transaction → Checks
-enqueueing t g x = (ltb 7 g, 26) ∷ (not (in_range x), 6) ∷ (leb 8 (length (queueOf t g)), 27) ∷ []
+enqueueing t g x = (ltb 7 g, 26) ∷ (not (in_range x), 6) ∷ (leb 8 (length (queue_of t g)), 27) ∷ []
 
 module _ (s : State) (t : List ℕ) where
-  unfoldable pub enqueueRefusal : ℕ → Transaction → ℕ
-  enqueueRefusal g x = refusal (guarded s t (enqueueing t g x))
+  unfoldable pub enqueue_refusal : ℕ → Transaction → ℕ
+  enqueue_refusal g x = refusal (guarded s t (enqueueing t g x))
 
   -- the state stays
-  unfoldable pub enqueueOutcome : ℕ → Transaction → Outcome
-  enqueueOutcome g x = outcomeOf (enqueueRefusal g x) s s
+  unfoldable pub enqueue_outcome : ℕ → Transaction → Outcome
+  enqueue_outcome g x = outcome_of (enqueue_refusal g x) s s
 
-  unfoldable pub enqueueTable : ℕ → Transaction → List ℕ
-  enqueueTable g x = ifAccepted (enqueueRefusal g x) (addedTable t g x) t
+  unfoldable pub enqueue_table : ℕ → Transaction → List ℕ
+  enqueue_table g x = if_accepted (enqueue_refusal g x) (added_table t g x) t

@@ -2,18 +2,19 @@
 #![tactic(auto)]
 
 ghost use Rattle.std.specs.Prelude.{◌≡◌};
-ghost use Rattle.state.specs.WellFormed.{wellFormed};
-ghost use Rattle.checks.specs.Answers.{WritingCallAnswered};
-ghost use Rattle.enqueue.specs.Enqueue.{enqueueRefusal, enqueueOutcome, enqueueTable};
+ghost use Rattle.state.specs.WellFormed.{well_formed};
+ghost use Rattle.state.specs.Answers.{WritingCallAnswered};
+ghost use Rattle.enqueue.specs.Enqueue.{enqueue_refusal, enqueue_outcome, enqueue_table};
 
-use checks::{Answer, Outcome};
+use queues::drawing;
 use state::State;
+use state::checks::{Answer, Outcome};
 use terms::Transaction;
 
 // The number of the first check that refuses, 0 for none.
 fn enqueue_refusal(formed: bool, s: State, t: &[u32], guest: u32, x: Transaction) -> u32
-    requires { formed ≡ wellFormed s t.now }
-    ensures { result ≡ enqueueRefusal s t.now guest x }
+    requires { formed ≡ well_formed s t.now }
+    ensures { result ≡ enqueue_refusal s t.now guest x }
 {
     if !formed {
         return 1;
@@ -32,8 +33,8 @@ fn enqueue_refusal(formed: bool, s: State, t: &[u32], guest: u32, x: Transaction
 
 // The call, where it is told whether the state is well formed.
 pub fn enqueue_cached(formed: bool, s: State, t: &mut [u32], guest: u32, x: Transaction) -> Outcome
-    requires { formed ≡ wellFormed s t.old }
-    ensures { WritingCallAnswered (enqueueOutcome s t.old guest x) (enqueueTable s t.old guest x) (enqueueRefusal s t.old guest x) result t.new }
+    requires { formed ≡ well_formed s t.old }
+    ensures { WritingCallAnswered (enqueue_outcome s t.old guest x) (enqueue_table s t.old guest x) (enqueue_refusal s t.old guest x) result t.new }
 {
     let n = enqueue_refusal(formed, s, t, guest, x);
     if n != 0 {
@@ -50,7 +51,7 @@ pub fn enqueue_cached(formed: bool, s: State, t: &mut [u32], guest: u32, x: Tran
 }
 
 pub fn enqueue(s: State, t: &mut [u32], guest: u32, x: Transaction) -> Outcome
-    ensures { WritingCallAnswered (enqueueOutcome s t.old guest x) (enqueueTable s t.old guest x) (enqueueRefusal s t.old guest x) result t.new }
+    ensures { WritingCallAnswered (enqueue_outcome s t.old guest x) (enqueue_table s t.old guest x) (enqueue_refusal s t.old guest x) result t.new }
 {
     let formed = state::well_formed(s, t);
     enqueue_cached(formed, s, t, guest, x)

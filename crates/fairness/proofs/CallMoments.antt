@@ -4,15 +4,15 @@ use mathlib.Core.List.{List, [], ◌∷◌, ◌++◌}
 use mathlib.Core.Option.{none}
 use Prim.Native.Nat.{ℕ}
 use native.Mathlib.Decide.{ℕ_discrete}
-use Rattle.checks.proofs.AnswerLaws.{if-accepted-new, if-accepted-old}
-use Rattle.checks.specs.Answers.{ifAccepted}
-use Rattle.queues.specs.Queues.{Queues, added, emptyQueues, afterDraws}
+use Rattle.state.proofs.AnswerLaws.{if_accepted-new, if_accepted-old}
+use Rattle.state.specs.Answers.{if_accepted}
+use Rattle.queues.specs.Queues.{Queues, added, empty_queues, after_draws}
 use Rattle.draw.specs.Draw.{draws}
 use Rattle.engine.specs.Calls.{Call, opens, propose, endorse, certify, accept, advance, commit, enqueue, draw, port, aside}
-use Rattle.engine.specs.Engine.{Engine, refusalFor, after}
-use Rattle.fairness.specs.Kept.{queues, acceptedDraws, drawsOf, acceptedQueues, queuesAfter}
-use Rattle.fairness.specs.Fairness.{Moment, drawMoments, momentsOf}
-use Rattle.fairness.proofs.Timelines.{Follows, by_call, by-open, Timeline, last, timeline-join, last-draws, timeline-draws}
+use Rattle.engine.specs.Engine.{Engine, refusal_for, after}
+use Rattle.fairness.specs.Kept.{queues, accepted_draws, draws_of, accepted_queues, queues_after}
+use Rattle.fairness.specs.Fairness.{Moment, draw_moments, moments_of}
+use Rattle.fairness.proofs.Timelines.{Follows, by_call, by_open, Timeline, last, timeline-join, last-draws, timeline-draws}
 use Rattle.fairness.proofs.KeptLaws.{queues-kept}
 
 -- what is waiting, with nothing just drawn
@@ -25,7 +25,7 @@ last_more q (x ∷ l) m = last_more x.then l m
 
 module _ (e : Engine) where
   -- what an accepted call draws, and what is waiting after it
-  accepted-draws : (c : Call) → Timeline (queues e) (drawMoments (queues e) (acceptedDraws e c))
+  accepted-draws : (c : Call) → Timeline (queues e) (draw_moments (queues e) (accepted_draws e c))
   accepted-draws (opens own sheet) = tt
   accepted-draws (propose b) = tt
   accepted-draws (endorse p) = tt
@@ -38,8 +38,8 @@ module _ (e : Engine) where
   accepted-draws (port x) = tt
   accepted-draws (aside x) = tt
 
-  accepted-follows : (c : Call) → Follows (last (queues e) (drawMoments (queues e) (acceptedDraws e c))) (quiet (acceptedQueues e c))
-  accepted-follows (opens own sheet) = by-open emptyQueues (λ g. refl)
+  accepted-follows : (c : Call) → Follows (last (queues e) (draw_moments (queues e) (accepted_draws e c))) (quiet (accepted_queues e c))
+  accepted-follows (opens own sheet) = by_open empty_queues (λ g. refl)
   accepted-follows (propose b) = by_call (queues e) refl
   accepted-follows (endorse p) = by_call (queues e) refl
   accepted-follows (certify d) = by_call (queues e) refl
@@ -49,24 +49,24 @@ module _ (e : Engine) where
   accepted-follows (enqueue g x) = by_call (added (queues e) g x) refl
   accepted-follows (draw v) =
       let l = draws e.state e.table in
-      by_call (afterDraws l (queues e)) (ap (λ (q : Queues). q.from) (sym (last-draws (queues e) l)))
+      by_call (after_draws l (queues e)) (ap (λ (q : Queues). q.from) (sym (last-draws (queues e) l)))
   accepted-follows (port x) = by_call (queues e) refl
   accepted-follows (aside x) = by_call (queues e) refl
 
   -- by the number that refuses
-  drawn-by : (c : Call) (n : ℕ) → Timeline (queues e) (drawMoments (queues e) (ifAccepted n (acceptedDraws e c) []) ++ (quiet (ifAccepted n (acceptedQueues e c) (queues e)) ∷ []))
+  drawn-by : (c : Call) (n : ℕ) → Timeline (queues e) (draw_moments (queues e) (if_accepted n (accepted_draws e c) []) ++ (quiet (if_accepted n (accepted_queues e c) (queues e)) ∷ []))
   drawn-by c n = go (ℕ_discrete n 0)
     where
-      go : Dec (n ≡ 0) → Timeline (queues e) (drawMoments (queues e) (ifAccepted n (acceptedDraws e c) []) ++ (quiet (ifAccepted n (acceptedQueues e c) (queues e)) ∷ []))
+      go : Dec (n ≡ 0) → Timeline (queues e) (draw_moments (queues e) (if_accepted n (accepted_draws e c) []) ++ (quiet (if_accepted n (accepted_queues e c) (queues e)) ∷ []))
       go (yes z) =
-          rw (if-accepted-new n (acceptedDraws e c) [] z, if-accepted-new n (acceptedQueues e c) (queues e) z)
-          (timeline-join (queues e) (drawMoments (queues e) (acceptedDraws e c)) (quiet (acceptedQueues e c) ∷ []) (accepted-draws c) (accepted-follows c, tt))
-      go (no z) = rw (if-accepted-old n (acceptedDraws e c) [] z, if-accepted-old n (acceptedQueues e c) (queues e) z) (by_call (queues e) refl, tt)
+          rw (if_accepted-new n (accepted_draws e c) [] z, if_accepted-new n (accepted_queues e c) (queues e) z)
+          (timeline-join (queues e) (draw_moments (queues e) (accepted_draws e c)) (quiet (accepted_queues e c) ∷ []) (accepted-draws c) (accepted-follows c, tt))
+      go (no z) = rw (if_accepted-old n (accepted_draws e c) [] z, if_accepted-old n (accepted_queues e c) (queues e) z) (by_call (queues e) refl, tt)
 
   module _ (c : Call) where
-    pub timeline-call : Timeline (queues e) (momentsOf e c)
-    unfolding drawsOf queuesAfter
-    timeline-call = rw (queues-kept e c) (drawn-by c (refusalFor e c))
+    pub timeline-call : Timeline (queues e) (moments_of e c)
+    unfolding draws_of queues_after
+    timeline-call = rw (queues-kept e c) (drawn-by c (refusal_for e c))
 
-    pub last-call : last (queues e) (momentsOf e c) ≡ queues (after e c)
-    last-call = last_more (queues e) (drawMoments (queues e) (drawsOf e c)) (quiet (queues (after e c)))
+    pub last-call : last (queues e) (moments_of e c) ≡ queues (after e c)
+    last-call = last_more (queues e) (draw_moments (queues e) (draws_of e c)) (quiet (queues (after e c)))

@@ -6,7 +6,7 @@ use mathlib.Core.Logic.{◌≢◌}
 use Prim.Native.Nat.{ℕ, zero, suc, ◌+◌, ◌-◌, ◌%◌, ◌<◌, ◌≤◌}
 use native.Mathlib.Omega.{arith}
 use native.Mathlib.Decide.{dec_lt, ℕ_discrete}
-use Rattle.queues.specs.Queues.{Queues, isWaiting, guestAt, firstFrom, nextGuest}
+use Rattle.queues.specs.Queues.{Queues, is_waiting, guest_at, first_from, next_guest}
 
 -- going round from p, h comes before g
 pub record Ahead (p h g : ℕ) : Type 0 where
@@ -22,21 +22,21 @@ record Next (q : Queues) (i n g : ℕ) : Type 0 where
   d : ℕ
   from : i ≤ d
   near : d < i + n
-  is : guestAt q d ≡ g
-  idle : (e : ℕ) → i ≤ e → e < d → isWaiting q (guestAt q e) ≡ false
+  is : guest_at q d ≡ g
+  idle : (e : ℕ) → i ≤ e → e < d → is_waiting q (guest_at q e) ≡ false
 
-first_next : (q : Queues) (i n g : ℕ) → firstFrom q i n ≡ some g → Next q i n g
-unfolding firstFrom
+first_next : (q : Queues) (i n g : ℕ) → first_from q i n ≡ some g → Next q i n g
+unfolding first_from
 first_next q i zero g h = absurd (none-ne-some g h)
-first_next q i (suc n) g h = go (isWaiting q (guestAt q i)) refl h (λ k. first_next q (suc i) n g k)
+first_next q i (suc n) g h = go (is_waiting q (guest_at q i)) refl h (λ k. first_next q (suc i) n g k)
   where
-    go : (b : Bool) → isWaiting q (guestAt q i) ≡ b → cond b (some (guestAt q i)) (firstFrom q (suc i) n) ≡ some g → (firstFrom q (suc i) n ≡ some g → Next q (suc i) n g) → Next q i (suc n) g
+    go : (b : Bool) → is_waiting q (guest_at q i) ≡ b → cond b (some (guest_at q i)) (first_from q (suc i) n) ≡ some g → (first_from q (suc i) n ≡ some g → Next q (suc i) n g) → Next q i (suc n) g
     go true e k f = record { d = i; from = omega arith; near = omega arith; is = some-injective _ g k; idle = λ e x y. absurd (omega arith) }
     go false e k f =
         let z = f k in
         record { d = z.d; from = omega (arith, z.from); near = omega (arith, z.near); is = z.is; idle = λ x l u. by x l z u (ℕ_discrete x i) }
       where
-        by : (x : ℕ) → i ≤ x → (z : Next q (suc i) n g) → x < z.d → Dec (x ≡ i) → isWaiting q (guestAt q x) ≡ false
+        by : (x : ℕ) → i ≤ x → (z : Next q (suc i) n g) → x < z.d → Dec (x ≡ i) → is_waiting q (guest_at q x) ≡ false
         by x l z u (yes r) = rw r e
         by x l z u (no r) = z.idle x (omega arith) u
 
@@ -60,7 +60,7 @@ shift p d e k y h a b = let c : (suc k + (e - suc d)) % 8 ≡ (p + e) % 8 = omeg
 one_place : (p d e : ℕ) → d < 8 → e < 8 → (p + d) % 8 ≡ (p + e) % 8 → d ≡ e
 one_place p d e a b h = omega arith
 
-module _ (q : Queues) (h g : ℕ) (x : Ahead q.from h g) (w : isWaiting q h ≡ true) where
+module _ (q : Queues) (h g : ℕ) (x : Ahead q.from h g) (w : is_waiting q h ≡ true) where
   -- where h waits, nobody behind it is next
   next-to : (k : ℕ) → (z : Next q 0 8 k) → z.d ≤ x.i
   next-to k z = by (dec_lt x.i z.d)
@@ -70,7 +70,7 @@ module _ (q : Queues) (h g : ℕ) (x : Ahead q.from h g) (w : isWaiting q h ≡ 
       by (no l) = omega arith
 
   -- so g is not
-  pub not_behind : nextGuest q ≡ some g → ⊥
+  pub not_behind : next_guest q ≡ some g → ⊥
   not_behind e =
       let z = first_next q 0 8 g e in
       let l = next-to g z in
@@ -78,7 +78,7 @@ module _ (q : Queues) (h g : ℕ) (x : Ahead q.from h g) (w : isWaiting q h ≡ 
       omega (arith, x.before)
 
   -- and whoever is, h itself aside, leaves h before g
-  pub still-ahead : (k : ℕ) → nextGuest q ≡ some k → k ≢ h → Ahead (suc k) h g
+  pub still-ahead : (k : ℕ) → next_guest q ≡ some k → k ≢ h → Ahead (suc k) h g
   still-ahead k e n =
       let z = first_next q 0 8 k e in
       let s = by z (next-to k z) (ℕ_discrete z.d x.i) in

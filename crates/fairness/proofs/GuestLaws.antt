@@ -8,25 +8,25 @@ use Prim.Native.Nat.{ℕ}
 use native.Mathlib.Decide.{ℕ_discrete}
 use lib.Dec.{eqb}
 use borrow.Author.Tests.{ne_eqb, eqb-true}
-use Rattle.base.specs.Options.{ifThere}
+use Rattle.base.specs.Options.{if_there}
 use Rattle.terms.specs.declared.Transaction.{Transaction}
-use Rattle.checks.specs.Answers.{ifAccepted}
-use Rattle.checks.proofs.AnswerLaws.{if-accepted-new, if-accepted-old}
-use Rattle.queues.specs.Queues.{Queues, Draw, younger, served, afterDraws}
-use Rattle.engine.specs.Engine.{Engine, refusalFor, after}
-use Rattle.guests.specs.Guests as guest
-use Rattle.guests.specs.Guests.{GuestCall, asHost}
-use Rattle.submissions.specs.Submissions.{Submission, afterSubmission}
+use Rattle.state.specs.Answers.{if_accepted}
+use Rattle.state.proofs.AnswerLaws.{if_accepted-new, if_accepted-old}
+use Rattle.queues.specs.Queues.{Queues, Draw, younger, served, after_draws}
+use Rattle.engine.specs.Engine.{Engine, refusal_for, after}
+use Rattle.engine.specs.Guests as guest
+use Rattle.engine.specs.Guests.{GuestCall, as_host}
+use Rattle.submissions.specs.Submissions.{Submission, after_submission}
 use Rattle.submissions.specs.Requests as request
-use Rattle.submissions.specs.Requests.{Asked, asks, asksBatch, submittedBy, Request, callerNumber, result_of, submissionOf}
+use Rattle.submissions.specs.Requests.{Asked, asks, asks_batch, submitted_by, Request, caller_number, result_of, submission_of}
 use Rattle.submissions.proofs.RequestLaws.{left_by}
-use Rattle.fairness.specs.Kept.{queues, acceptedQueues, queuesAfter}
-use Rattle.fairness.specs.Batches.{submissionMoments}
-use Rattle.fairness.specs.Guests.{LeftOf, AddsToNoOther, requestMoments, momentsAsked, FairnessWithGuests}
+use Rattle.fairness.specs.Kept.{queues, accepted_queues, queues_after}
+use Rattle.fairness.specs.Batches.{submission_moments}
+use Rattle.fairness.specs.Guests.{LeftOf, AddsToNoOther, request_moments, moments_asked, FairnessWithGuests}
 use Rattle.fairness.proofs.KeptLaws.{queues-kept}
 use Rattle.fairness.proofs.Timelines.{by_call, Timeline, last, timeline-join}
-use Rattle.fairness.proofs.FairLaws.{fair-moments}
-use Rattle.fairness.proofs.BatchLaws.{batch-keeps-queues, submission-timeline, submission-last}
+use Rattle.fairness.proofs.FairLaws.{fair_moments}
+use Rattle.fairness.proofs.BatchLaws.{batch-keeps-queues, submission_timeline, submission_last}
 
 -- ---- what is left of a queue
 
@@ -47,15 +47,15 @@ served-left q g h = go (eqb h g) refl
     go true e = subst (λ (k : ℕ). LeftOf (q.waiting h) (younger (q.waiting k))) (eqb-true h g e) (younger-left (q.waiting h))
     go false e = all_left (q.waiting h)
 
-draws-left : (l : List Draw) (q : Queues) (h : ℕ) → LeftOf (q.waiting h) ((afterDraws l q).waiting h)
-unfolding afterDraws
+draws-left : (l : List Draw) (q : Queues) (h : ℕ) → LeftOf (q.waiting h) ((after_draws l q).waiting h)
+unfolding after_draws
 draws-left [] q h = all_left (q.waiting h)
 draws-left (d ∷ l) q h = left-then (served-left q d.guest h) (draws-left l (served q d.guest) h)
 
 -- ---- a request
 
 module _ (e : Engine) (c h : ℕ) (other : h ≢ c) where
-  accepted-left : (k : GuestCall) → LeftOf ((queues e).waiting h) ((acceptedQueues e (asHost c k)).waiting h)
+  accepted-left : (k : GuestCall) → LeftOf ((queues e).waiting h) ((accepted_queues e (as_host c k)).waiting h)
   accepted-left (guest.propose b) = all_left ((queues e).waiting h)
   accepted-left (guest.draw v) = draws-left _ (queues e) h
   accepted-left (guest.enqueue x) = rw (ne_eqb h c other) (all_left ((queues e).waiting h))
@@ -67,43 +67,43 @@ module _ (e : Engine) (c h : ℕ) (other : h ≢ c) where
   accepted-left (guest.access a) = all_left ((queues e).waiting h)
   accepted-left (guest.aside x) = all_left ((queues e).waiting h)
 
-  call-left : (k : GuestCall) → LeftOf ((queues e).waiting h) ((queues (after e (asHost c k))).waiting h)
-  unfolding queuesAfter
-  call-left k = rw (queues-kept e (asHost c k)) (go (ℕ_discrete (refusalFor e (asHost c k)) 0))
+  call-left : (k : GuestCall) → LeftOf ((queues e).waiting h) ((queues (after e (as_host c k))).waiting h)
+  unfolding queues_after
+  call-left k = rw (queues-kept e (as_host c k)) (go (ℕ_discrete (refusal_for e (as_host c k)) 0))
     where
-      go : Dec (refusalFor e (asHost c k) ≡ 0) → LeftOf ((queues e).waiting h) ((ifAccepted (refusalFor e (asHost c k)) (acceptedQueues e (asHost c k)) (queues e)).waiting h)
-      go (yes z) = rw (if-accepted-new (refusalFor e (asHost c k)) (acceptedQueues e (asHost c k)) (queues e) z) (accepted-left k)
-      go (no z) = rw (if-accepted-old (refusalFor e (asHost c k)) (acceptedQueues e (asHost c k)) (queues e) z) (all_left ((queues e).waiting h))
+      go : Dec (refusal_for e (as_host c k) ≡ 0) → LeftOf ((queues e).waiting h) ((if_accepted (refusal_for e (as_host c k)) (accepted_queues e (as_host c k)) (queues e)).waiting h)
+      go (yes z) = rw (if_accepted-new (refusal_for e (as_host c k)) (accepted_queues e (as_host c k)) (queues e) z) (accepted-left k)
+      go (no z) = rw (if_accepted-old (refusal_for e (as_host c k)) (accepted_queues e (as_host c k)) (queues e) z) (all_left ((queues e).waiting h))
 
-  submitted-left : (a : Asked) → LeftOf ((queues e).waiting h) ((queues (afterSubmission e (submittedBy c a))).waiting h)
+  submitted-left : (a : Asked) → LeftOf ((queues e).waiting h) ((queues (after_submission e (submitted_by c a))).waiting h)
   submitted-left (asks k) = call-left k
-  submitted-left (asksBatch row answers) = rw (batch-keeps-queues e row answers) (all_left ((queues e).waiting h))
+  submitted-left (asks_batch row answers) = rw (batch-keeps-queues e row answers) (all_left ((queues e).waiting h))
 
 -- the claim
-pub adds-to-no-other : AddsToNoOther
-adds-to-no-other e c a h other = rw (left_by e (request.guest c a)) (go (eqb (callerNumber e c a) 0))
+pub adds_to_no_other : AddsToNoOther
+adds_to_no_other e c a h other = rw (left_by e (request.guest c a)) (go (eqb (caller_number e c a) 0))
   where
-    go : (b : Bool) → LeftOf ((queues e).waiting h) ((queues (ifThere (cond b (some (submittedBy c a)) none) e (afterSubmission e))).waiting h)
+    go : (b : Bool) → LeftOf ((queues e).waiting h) ((queues (if_there (cond b (some (submitted_by c a)) none) e (after_submission e))).waiting h)
     go true = submitted-left e c h other a
     go false = all_left ((queues e).waiting h)
 
 -- ---- lists
 
 module _ (e : Engine) where
-  moments-timeline : (o : Option Submission) → Timeline (queues e) (ifThere o (record { drew = none; then = queues e } ∷ []) (submissionMoments e))
+  moments-timeline : (o : Option Submission) → Timeline (queues e) (if_there o (record { drew = none; then = queues e } ∷ []) (submission_moments e))
   moments-timeline none = (by_call (queues e) refl, tt)
-  moments-timeline (some x) = submission-timeline e x
+  moments-timeline (some x) = submission_timeline e x
 
-  moments-last : (o : Option Submission) → last (queues e) (ifThere o (record { drew = none; then = queues e } ∷ []) (submissionMoments e)) ≡ queues (ifThere o e (afterSubmission e))
+  moments-last : (o : Option Submission) → last (queues e) (if_there o (record { drew = none; then = queues e } ∷ []) (submission_moments e)) ≡ queues (if_there o e (after_submission e))
   moments-last none = refl
-  moments-last (some x) = submission-last e x
+  moments-last (some x) = submission_last e x
 
-timeline-asked : (e : Engine) (l : List Request) → Timeline (queues e) (momentsAsked e l)
-unfolding momentsAsked
+timeline-asked : (e : Engine) (l : List Request) → Timeline (queues e) (moments_asked e l)
+unfolding moments_asked
 timeline-asked e [] = tt
 timeline-asked e (x ∷ l) =
-    timeline-join (queues e) (requestMoments e x) (momentsAsked (result_of e x).engine l) (moments-timeline e (submissionOf e x))
-    (subst (λ (q : Queues). Timeline q (momentsAsked (result_of e x).engine l)) (sym (moments-last e (submissionOf e x) ∙ sym (ap queues (left_by e x)))) (timeline-asked (result_of e x).engine l))
+    timeline-join (queues e) (request_moments e x) (moments_asked (result_of e x).engine l) (moments-timeline e (submission_of e x))
+    (subst (λ (q : Queues). Timeline q (moments_asked (result_of e x).engine l)) (sym (moments-last e (submission_of e x) ∙ sym (ap queues (left_by e x)))) (timeline-asked (result_of e x).engine l))
 
-pub fairness-with-guests : FairnessWithGuests
-fairness-with-guests e l = fair-moments (queues e) (momentsAsked e l) (timeline-asked e l)
+pub fairness-with_guests : FairnessWithGuests
+fairness-with_guests e l = fair_moments (queues e) (moments_asked e l) (timeline-asked e l)

@@ -4,15 +4,15 @@ use mathlib.Core.Bool.{false}
 use mathlib.Core.List.{List, [], ◌∷◌, ◌++◌}
 use mathlib.Core.Option.{Option, none, some}
 use Prim.Native.Nat.{ℕ, zero, suc}
-use Rattle.queues.specs.Queues.{Queues, Draw, isWaiting, oldest, nextGuest, served, drawn, afterDraws}
+use Rattle.queues.specs.Queues.{Queues, Draw, is_waiting, oldest, next_guest, served, drawn, after_draws}
 use Rattle.queues.proofs.DrawLaws.{drawn-none, drawn-more}
-use Rattle.fairness.specs.Fairness.{Moment, drawMoments}
+use Rattle.fairness.specs.Fairness.{Moment, draw_moments}
 
 -- what a moment may be after the queues q: a transaction is drawn; or the guest served last is the same; or nothing is waiting
 pub data Follows (q : Queues) : Moment → Type 0 where
-  by-draw : (g : ℕ) → nextGuest q ≡ some g → Follows q (record { drew = some g; then = served q g })
+  by-draw : (g : ℕ) → next_guest q ≡ some g → Follows q (record { drew = some g; then = served q g })
   by_call : (p : Queues) → p.from ≡ q.from → Follows q (record { drew = none; then = p })
-  by-open : (p : Queues) → ((g : ℕ) → isWaiting p g ≡ false) → Follows q (record { drew = none; then = p })
+  by_open : (p : Queues) → ((g : ℕ) → is_waiting p g ≡ false) → Follows q (record { drew = none; then = p })
 
 -- moments, oldest first, after the queues q
 abbrev pub Timeline : Queues → List Moment → Type 0
@@ -38,16 +38,16 @@ timeline-rest q (x ∷ l) m a = timeline-rest x.then l m a.1
 
 -- ---- a draw
 
-pub last-draws : (q : Queues) (l : List Draw) → last q (drawMoments q l) ≡ afterDraws l q
-unfolding afterDraws
+pub last-draws : (q : Queues) (l : List Draw) → last q (draw_moments q l) ≡ after_draws l q
+unfolding after_draws
 last-draws q [] = refl
 last-draws q (d ∷ l) = last-draws (served q d.guest) l
 
-pub timeline-draws : (a : ℕ) (q : Queues) → Timeline q (drawMoments q (drawn a q))
+pub timeline-draws : (a : ℕ) (q : Queues) → Timeline q (draw_moments q (drawn a q))
 unfolding drawn
 timeline-draws zero q = tt
-timeline-draws (suc a) q = go (nextGuest q) refl (λ g. timeline-draws a (served q g))
+timeline-draws (suc a) q = go (next_guest q) refl (λ g. timeline-draws a (served q g))
   where
-    go : (o : Option ℕ) → nextGuest q ≡ o → ((g : ℕ) → Timeline (served q g) (drawMoments (served q g) (drawn a (served q g)))) → Timeline q (drawMoments q (drawn (suc a) q))
+    go : (o : Option ℕ) → next_guest q ≡ o → ((g : ℕ) → Timeline (served q g) (draw_moments (served q g) (drawn a (served q g)))) → Timeline q (draw_moments q (drawn (suc a) q))
     go none e f = rw (drawn-none (suc a) q e) tt
     go (some g) e f = rw (drawn-more a q g e) (by-draw g e, f g)

@@ -2,24 +2,24 @@
 use Rattle.std.specs.Prelude.{◌≡◌, List, [], ◌∷◌, ◌++◌, ℕ}
 use Rattle.std.proofs.Math.Option.{none}
 use Rattle.batch.specs.Batch.{Row}
-use Rattle.submissions.specs.Submissions.{Submission, one, batch, afterSubmission}
+use Rattle.submissions.specs.Submissions.{Submission, one, batch, after_submission}
 use Rattle.engine.specs.Engine.{Engine}
 use Rattle.fairness.specs.Kept.{queues}
-use Rattle.fairness.specs.Fairness.{Moment, momentsOf, FairIn}
+use Rattle.fairness.specs.Fairness.{Moment, moments_of, FairIn}
 
 -- a batch leaves the queues
 abbrev pub BatchKeepsQueues : Type 0
-BatchKeepsQueues = (e : Engine) (row : Row) (answers : List ℕ) → queues (afterSubmission e (batch row answers)) ≡ queues e
+BatchKeepsQueues = (e : Engine) (row : Row) (answers : List ℕ) → queues (after_submission e (batch row answers)) ≡ queues e
 
 -- the moments of a submission: those of a call; of a batch, which draws nothing, one after it
-abbrev pub submissionMoments : Engine → Submission → List Moment
-submissionMoments e (one c) = momentsOf e c
-submissionMoments e (batch row answers) = record { drew = none; then = queues (afterSubmission e (batch row answers)) } ∷ []
+abbrev pub submission_moments : Engine → Submission → List Moment
+submission_moments e (one c) = moments_of e c
+submission_moments e (batch row answers) = record { drew = none; then = queues (after_submission e (batch row answers)) } ∷ []
 
 -- of a list of submissions, oldest first
-unfoldable pub momentsThen : Engine → List Submission → List Moment
-momentsThen e [] = []
-momentsThen e (x ∷ l) = submissionMoments e x ++ momentsThen (afterSubmission e x) l
+unfoldable pub moments_then : Engine → List Submission → List Moment
+moments_then e [] = []
+moments_then e (x ∷ l) = submission_moments e x ++ moments_then (after_submission e x) l
 
 abbrev pub FairnessWithBatches : Type 0
-FairnessWithBatches = (e : Engine) (l : List Submission) → FairIn (momentsThen e l)
+FairnessWithBatches = (e : Engine) (l : List Submission) → FairIn (moments_then e l)

@@ -4,7 +4,7 @@ use Rattle.std.proofs.Math.Option.{Option, none, some}
 use Rattle.framing.specs.declared.Event.{Event}
 use Rattle.framing.specs.declared.Event.TheVariants.{Nothing, Record, Unreadable}
 use Rattle.framing.specs.declared.Step.{Step}
-use Rattle.framing.specs.Streams.{readables, until_end, hasEnd, after_end}
+use Rattle.framing.specs.Streams.{readables, until_end, has_end, after_end}
 
 -- what is left to read of a stream; where the start of a record that is too long was answered already, its rest is skipped
 unfoldable pub remaining : Bool → List ℕ → List (Option (List ℕ))
@@ -24,21 +24,21 @@ passed (x ∷ []) = cond (eqb x 13) 0 1
 passed (x ∷ y ∷ s) = passed (y ∷ s) + 1
 
 -- a record whose CRLF is n bytes from here
-abbrev pub endedEvent : Bool → ℕ → Event
-endedEvent true n = Nothing
-endedEvent false n = cond (leb n 1022) Record Unreadable
+abbrev pub ended_event : Bool → ℕ → Event
+ended_event true n = Nothing
+ended_event false n = cond (leb n 1022) Record Unreadable
 
-abbrev pub endedStep : Bool → ℕ → Step
-endedStep skipping n = record { event = endedEvent skipping n; length = n; next = n + 2; skipping = false }
+abbrev pub ended_step : Bool → ℕ → Step
+ended_step skipping n = record { event = ended_event skipping n; length = n; next = n + 2; skipping = false }
 
 -- no CRLF at hand: a record that is too long is answered at once, for another more bytes are wanted
-abbrev pub openStep : Bool → List ℕ → Step
-openStep true s = record { event = Nothing; length = 0; next = passed s; skipping = true }
-openStep false s = cond (ltb (length s) 1024) (record { event = Nothing; length = 0; next = 0; skipping = false }) (record { event = Unreadable; length = 0; next = passed s; skipping = true })
+abbrev pub open_step : Bool → List ℕ → Step
+open_step true s = record { event = Nothing; length = 0; next = passed s; skipping = true }
+open_step false s = cond (ltb (length s) 1024) (record { event = Nothing; length = 0; next = 0; skipping = false }) (record { event = Unreadable; length = 0; next = passed s; skipping = true })
 
 -- the step from the bytes at hand
 unfoldable pub step_of : Bool → List ℕ → Step
-step_of skipping s = cond (hasEnd s) (endedStep skipping (length (until_end s))) (openStep skipping s)
+step_of skipping s = cond (has_end s) (ended_step skipping (length (until_end s))) (open_step skipping s)
 
 -- what is to tell at the end of input of the bytes that are left
 unfoldable pub last_of : Bool → List ℕ → Event
@@ -49,4 +49,4 @@ last_of false (x ∷ s) = Unreadable
 -- a step that stays where it is waits for more bytes: those at hand are few, and have no CRLF
 pub record Waits (l : List ℕ) : Type 0 where
   pub few : length l < 1024
-  pub open-ended : hasEnd l ≡ false
+  pub open_ended : has_end l ≡ false

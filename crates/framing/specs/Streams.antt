@@ -8,8 +8,8 @@ pub record StreamRecord : Type 0 where
   pub ended : Bool
 
 -- the bytes of a CRLF
-abbrev pub isEnd : ℕ → ℕ → Bool
-isEnd x y = eqb x 13 && eqb y 10
+abbrev pub is_end : ℕ → ℕ → Bool
+is_end x y = eqb x 13 && eqb y 10
 
 -- one byte more at the head of the first record
 abbrev pub longer : ℕ → List StreamRecord → List StreamRecord
@@ -17,10 +17,10 @@ longer x [] = []
 longer x (r ∷ rs) = record { bytes = x ∷ r.bytes; ended = r.ended } ∷ rs
 
 -- the records of a stream; no bytes left is no record
-unfoldable pub recordsOf : List ℕ → List StreamRecord
-recordsOf [] = []
-recordsOf (x ∷ []) = record { bytes = x ∷ []; ended = false } ∷ []
-recordsOf (x ∷ y ∷ s) = cond (isEnd x y) (record { bytes = []; ended = true } ∷ recordsOf s) (longer x (recordsOf (y ∷ s)))
+unfoldable pub records_of : List ℕ → List StreamRecord
+records_of [] = []
+records_of (x ∷ []) = record { bytes = x ∷ []; ended = false } ∷ []
+records_of (x ∷ y ∷ s) = cond (is_end x y) (record { bytes = []; ended = true } ∷ records_of s) (longer x (records_of (y ∷ s)))
 
 -- the bytes of a record that has its CRLF and is at most 1,024 bytes with it; none is an unreadable record
 unfoldable pub fitting : StreamRecord → Option (List ℕ)
@@ -28,22 +28,22 @@ fitting r = cond (r.ended && leb (length r.bytes) 1022) (some r.bytes) none
 
 -- what a stream asks to be read, record by record
 unfoldable pub readables : List ℕ → List (Option (List ℕ))
-readables s = map fitting (recordsOf s)
+readables s = map fitting (records_of s)
 
 -- the bytes before the first CRLF, or all where there is none
 unfoldable pub until_end : List ℕ → List ℕ
 until_end [] = []
 until_end (x ∷ []) = x ∷ []
-until_end (x ∷ y ∷ s) = cond (isEnd x y) [] (x ∷ until_end (y ∷ s))
+until_end (x ∷ y ∷ s) = cond (is_end x y) [] (x ∷ until_end (y ∷ s))
 
 -- there is a CRLF
-unfoldable pub hasEnd : List ℕ → Bool
-hasEnd [] = false
-hasEnd (x ∷ []) = false
-hasEnd (x ∷ y ∷ s) = cond (isEnd x y) true (hasEnd (y ∷ s))
+unfoldable pub has_end : List ℕ → Bool
+has_end [] = false
+has_end (x ∷ []) = false
+has_end (x ∷ y ∷ s) = cond (is_end x y) true (has_end (y ∷ s))
 
 -- the bytes after the first CRLF, none where there is none
 unfoldable pub after_end : List ℕ → List ℕ
 after_end [] = []
 after_end (x ∷ []) = []
-after_end (x ∷ y ∷ s) = cond (isEnd x y) s (after_end (y ∷ s))
+after_end (x ∷ y ∷ s) = cond (is_end x y) s (after_end (y ∷ s))

@@ -3,7 +3,7 @@
 
 ghost use Rattle.std.specs.Prelude.{◌≡◌, length};
 ghost use Rattle.framing.specs.Streams.{until_end};
-ghost use Rattle.framing.specs.Framing.{passed, endedEvent, openStep, step_of, last_of};
+ghost use Rattle.framing.specs.Framing.{passed, ended_event, open_step, step_of, last_of};
 
 // What a step tells.
 #[derive(Clone, Copy)]
@@ -61,7 +61,7 @@ fn find_passed(s: &[u8]) -> usize
 
 // What is to tell of a record whose CRLF is n bytes from here.
 fn ended_event(skipping: bool, n: usize) -> Event
-    ensures { result ≡ endedEvent skipping n }
+    ensures { result ≡ ended_event skipping n }
 {
     if skipping {
         return Event::Nothing;
@@ -74,7 +74,7 @@ fn ended_event(skipping: bool, n: usize) -> Event
 
 // The step where no CRLF is at hand.
 fn step_open(skipping: bool, s: &[u8]) -> Step
-    ensures { result ≡ openStep skipping s.now }
+    ensures { result ≡ open_step skipping s.now }
 {
     if skipping {
         return Step {

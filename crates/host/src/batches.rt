@@ -1,10 +1,11 @@
 // The batch that a host or a guest hands over: a row of certificates, each with the answer of accept at its turn (change request: Point 4).
-ghost use Rattle.guests.specs.Guests.{batchNeeds};
+ghost use Rattle.engine.specs.Guests.{batch_needs};
 ghost use Rattle.hosting.specs.Calls.{plain, Done};
-ghost use Rattle.guesting.specs.Guested.{asGuest};
-ghost use Rattle.batching.specs.Batched.{batchResult};
+ghost use Rattle.hosting.specs.Guested.{as_guest};
+ghost use Rattle.batching.specs.Batched.{batch_result};
 
-use rows::CertificateRecord;
+use batching::rows::CertificateRecord;
+use batching::trying;
 
 // Batch: the certificates of the row are tried by rising round, then author, then place; the answer of each is put at its place in the answers.
 #[unsafe(no_mangle)]
@@ -14,7 +15,7 @@ pub extern "C" fn forgelilac_batch(
     row: &[CertificateRecord],
     answers: &mut [u32],
 ) -> u32
-    ensures { Done plain (batchResult state.now table.old row.now answers.old) result state.now table.new answers.new }
+    ensures { Done plain (batch_result state.now table.old row.now answers.old) result state.now table.new answers.new }
 {
     let start = batching::begin(state, table, row.len(), answers.len());
     let done = trying::run(table, row, start.state, start.progress, start.turns);
@@ -30,7 +31,7 @@ pub extern "C" fn forgelilac_guest_batch(
     row: &[CertificateRecord],
     answers: &mut [u32],
 ) -> u32
-    ensures { Done plain (asGuest state.now table.old answers.old caller batchNeeds (batchResult state.now table.old row.now answers.old)) result state.now table.new answers.new }
+    ensures { Done plain (as_guest state.now table.old answers.old caller batch_needs (batch_result state.now table.old row.now answers.old)) result state.now table.new answers.new }
 {
     let start = batching::begin_guest(caller, state, table, row.len(), answers.len());
     let done = trying::run(table, row, start.state, start.progress, start.turns);

@@ -1,14 +1,15 @@
 // The calls that a host makes: open, propose, endorse, certify, accept, advance, commit.
 ghost use Rattle.std.specs.Prelude.{true, [], ltb};
 ghost use Rattle.engine.specs.Calls.{opens, propose, endorse, certify, accept, advance, commit};
-ghost use Rattle.bodies.specs.Bodies.{loneBodyReads, bodyIn};
-ghost use Rattle.words.specs.Proposals.{proposalReads, proposalIn, certificateReads, certificateIn};
-ghost use Rattle.words.specs.Sheets.{sheetReads, sheetIn};
+ghost use Rattle.words.specs.Bodies.{lone_body_reads, body_in};
+ghost use Rattle.words.specs.Proposals.{proposal_reads, proposal_in, certificate_reads, certificate_in};
+ghost use Rattle.words.specs.Sheets.{sheet_reads, sheet_in};
 ghost use Rattle.hosting.specs.Calls.{plain, packed, Done, result_of};
 
-use bodies::lengths::STATE;
-use sheet::Rights;
 use terms::Member;
+use terms::sheet::Rights;
+use words::bodies;
+use words::bodies::lengths::STATE;
 
 // Open: the state is written fresh, with the rights of callers, and the used part of the table cleared.
 #[unsafe(no_mangle)]
@@ -19,7 +20,7 @@ pub extern "C" fn forgelilac_open(
     sheet: &[u32],
     rights: u32,
 ) -> u32
-    ensures { Done plain (result_of state.old table.old [] (sheetReads sheet.now) (opens (record { 0 = own }) (sheetIn sheet.now (record { 0 = rights })))) result state.new table.new [] }
+    ensures { Done plain (result_of state.old table.old [] (sheet_reads sheet.now) (opens (record { 0 = own }) (sheet_in sheet.now (record { 0 = rights })))) result state.new table.new [] }
 {
     if state.len() < STATE {
         return 1;
@@ -36,7 +37,7 @@ pub extern "C" fn forgelilac_open(
 // Propose: the proposal is kept in the state.
 #[unsafe(no_mangle)]
 pub extern "C" fn forgelilac_propose(state: &mut [u32], table: &[u32], body: &[u32]) -> u32
-    ensures { Done plain (result_of state.old table.now [] (loneBodyReads body.now) (propose (bodyIn body.now 0))) result state.new table.now [] }
+    ensures { Done plain (result_of state.old table.now [] (lone_body_reads body.now) (propose (body_in body.now 0))) result state.new table.now [] }
 {
     if !words::states::state_reads(state) {
         return 1;
@@ -53,7 +54,7 @@ pub extern "C" fn forgelilac_propose(state: &mut [u32], table: &[u32], body: &[u
 // Endorse: the proposal's place is marked endorsed in the table.
 #[unsafe(no_mangle)]
 pub extern "C" fn forgelilac_endorse(state: &[u32], table: &mut [u32], proposal: &[u32]) -> u32
-    ensures { Done plain (result_of state.now table.old [] (proposalReads proposal.now) (endorse (proposalIn proposal.now))) result state.now table.new [] }
+    ensures { Done plain (result_of state.now table.old [] (proposal_reads proposal.now) (endorse (proposal_in proposal.now))) result state.now table.new [] }
 {
     if !words::states::state_reads(state) {
         return 1;
@@ -88,7 +89,7 @@ pub extern "C" fn forgelilac_certify(state: &[u32], table: &mut [u32], endorsers
 // Accept: the certificate is held in the table with its endorsers, and its endorsed mark cleared.
 #[unsafe(no_mangle)]
 pub extern "C" fn forgelilac_accept(state: &[u32], table: &mut [u32], certificate: &[u32]) -> u32
-    ensures { Done plain (result_of state.now table.old [] (certificateReads certificate.now) (accept (certificateIn certificate.now))) result state.now table.new [] }
+    ensures { Done plain (result_of state.now table.old [] (certificate_reads certificate.now) (accept (certificate_in certificate.now))) result state.now table.new [] }
 {
     if !words::states::state_reads(state) {
         return 1;

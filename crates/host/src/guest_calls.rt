@@ -1,12 +1,13 @@
 // The calls of guests: the caller's right, and then the host's own call (change request: Point 11).
 ghost use Rattle.std.specs.Prelude.{true, [], ltb};
-ghost use Rattle.guests.specs.Guests.{propose, draw, enqueue, endorse, certify, accept, advance, commit};
-ghost use Rattle.bodies.specs.Bodies.{loneBodyReads, bodyIn, loneTripleReads, tripleIn};
-ghost use Rattle.words.specs.Proposals.{proposalReads, proposalIn, certificateReads, certificateIn};
+ghost use Rattle.engine.specs.Guests.{propose, draw, enqueue, endorse, certify, accept, advance, commit};
+ghost use Rattle.words.specs.Bodies.{lone_body_reads, body_in, lone_triple_reads, triple_in};
+ghost use Rattle.words.specs.Proposals.{proposal_reads, proposal_in, certificate_reads, certificate_in};
 ghost use Rattle.hosting.specs.Calls.{plain, packed, Done};
-ghost use Rattle.guesting.specs.Guested.{guestResult};
+ghost use Rattle.hosting.specs.Guested.{guest_result};
 
-use rights::Right;
+use hosting::guesting;
+use terms::rights::Right;
 
 // Propose: needs the right to propose.
 #[unsafe(no_mangle)]
@@ -16,7 +17,7 @@ pub extern "C" fn forgelilac_guest_propose(
     table: &[u32],
     body: &[u32],
 ) -> u32
-    ensures { Done plain (guestResult state.old table.now [] caller (loneBodyReads body.now) (propose (bodyIn body.now 0))) result state.new table.now [] }
+    ensures { Done plain (guest_result state.old table.now [] caller (lone_body_reads body.now) (propose (body_in body.now 0))) result state.new table.now [] }
 {
     let n = guesting::refusal(state, Right::Propose, caller);
     if n != 0 {
@@ -33,7 +34,7 @@ pub extern "C" fn forgelilac_guest_draw(
     table: &mut [u32],
     previous: u32,
 ) -> u32
-    ensures { Done plain (guestResult state.old table.old [] caller (ltb previous 65536) (draw previous)) result state.new table.new [] }
+    ensures { Done plain (guest_result state.old table.old [] caller (ltb previous 65536) (draw previous)) result state.new table.new [] }
 {
     let n = guesting::refusal(state, Right::Propose, caller);
     if n != 0 {
@@ -50,7 +51,7 @@ pub extern "C" fn forgelilac_guest_enqueue(
     table: &mut [u32],
     transaction: &[u32],
 ) -> u32
-    ensures { Done plain (guestResult state.now table.old [] caller (loneTripleReads transaction.now) (enqueue (tripleIn transaction.now))) result state.now table.new [] }
+    ensures { Done plain (guest_result state.now table.old [] caller (lone_triple_reads transaction.now) (enqueue (triple_in transaction.now))) result state.now table.new [] }
 {
     let n = guesting::refusal(state, Right::Propose, caller);
     if n != 0 {
@@ -67,7 +68,7 @@ pub extern "C" fn forgelilac_guest_endorse(
     table: &mut [u32],
     proposal: &[u32],
 ) -> u32
-    ensures { Done plain (guestResult state.now table.old [] caller (proposalReads proposal.now) (endorse (proposalIn proposal.now))) result state.now table.new [] }
+    ensures { Done plain (guest_result state.now table.old [] caller (proposal_reads proposal.now) (endorse (proposal_in proposal.now))) result state.now table.new [] }
 {
     let n = guesting::refusal(state, Right::Sign, caller);
     if n != 0 {
@@ -84,7 +85,7 @@ pub extern "C" fn forgelilac_guest_certify(
     table: &mut [u32],
     endorsers: u32,
 ) -> u32
-    ensures { Done plain (guestResult state.now table.old [] caller (ltb endorsers 65536) (certify endorsers)) result state.now table.new [] }
+    ensures { Done plain (guest_result state.now table.old [] caller (ltb endorsers 65536) (certify endorsers)) result state.now table.new [] }
 {
     let n = guesting::refusal(state, Right::Sign, caller);
     if n != 0 {
@@ -101,7 +102,7 @@ pub extern "C" fn forgelilac_guest_accept(
     table: &mut [u32],
     certificate: &[u32],
 ) -> u32
-    ensures { Done plain (guestResult state.now table.old [] caller (certificateReads certificate.now) (accept (certificateIn certificate.now))) result state.now table.new [] }
+    ensures { Done plain (guest_result state.now table.old [] caller (certificate_reads certificate.now) (accept (certificate_in certificate.now))) result state.now table.new [] }
 {
     let n = guesting::refusal(state, Right::Sign, caller);
     if n != 0 {
@@ -113,7 +114,7 @@ pub extern "C" fn forgelilac_guest_accept(
 // Advance: needs the right to drive.
 #[unsafe(no_mangle)]
 pub extern "C" fn forgelilac_guest_advance(caller: u32, state: &mut [u32], table: &[u32]) -> u32
-    ensures { Done plain (guestResult state.old table.now [] caller true advance) result state.new table.now [] }
+    ensures { Done plain (guest_result state.old table.now [] caller true advance) result state.new table.now [] }
 {
     let n = guesting::refusal(state, Right::Drive, caller);
     if n != 0 {
@@ -125,7 +126,7 @@ pub extern "C" fn forgelilac_guest_advance(caller: u32, state: &mut [u32], table
 // Commit: needs the right to drive.
 #[unsafe(no_mangle)]
 pub extern "C" fn forgelilac_guest_commit(caller: u32, state: &mut [u32], table: &mut [u32]) -> u64
-    ensures { Done packed (guestResult state.old table.old [] caller true commit) result state.new table.new [] }
+    ensures { Done packed (guest_result state.old table.old [] caller true commit) result state.new table.new [] }
 {
     let n = guesting::refusal(state, Right::Drive, caller);
     if n != 0 {

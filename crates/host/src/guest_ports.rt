@@ -1,11 +1,12 @@
 // Guests' accesses to their serial ports: the caller's right to read, and then the access (change request: Point 14).
 ghost use Rattle.std.specs.Prelude.{true, []};
 ghost use Rattle.serial.specs.Calls.{read, write};
-ghost use Rattle.guests.specs.Guests.{access};
+ghost use Rattle.engine.specs.Guests.{access};
 ghost use Rattle.hosting.specs.Calls.{plain, packed, Done};
-ghost use Rattle.guesting.specs.Guested.{guestResult};
+ghost use Rattle.hosting.specs.Guested.{guest_result};
 
-use rights::Right;
+use hosting::guesting;
+use terms::rights::Right;
 
 // A read of the caller's port.
 #[unsafe(no_mangle)]
@@ -15,7 +16,7 @@ pub extern "C" fn forgelilac_guest_port_read(
     table: &mut [u32],
     offset: u32,
 ) -> u64
-    ensures { Done packed (guestResult state.now table.old [] caller true (access (read offset))) result state.now table.new [] }
+    ensures { Done packed (guest_result state.now table.old [] caller true (access (read offset))) result state.now table.new [] }
 {
     let n = guesting::refusal(state, Right::Read, caller);
     if n != 0 {
@@ -33,7 +34,7 @@ pub extern "C" fn forgelilac_guest_port_write(
     offset: u32,
     value: u8,
 ) -> u32
-    ensures { Done plain (guestResult state.now table.old [] caller true (access (write offset value))) result state.now table.new [] }
+    ensures { Done plain (guest_result state.now table.old [] caller true (access (write offset value))) result state.now table.new [] }
 {
     let n = guesting::refusal(state, Right::Read, caller);
     if n != 0 {

@@ -1,11 +1,12 @@
 // What guests read, each with the right to read: the caller's right, and then the host's own read (change request: Point 11).
 ghost use Rattle.std.specs.Prelude.{true, [], length};
 ghost use Rattle.engine.specs.Calls.{committee, share, effect, certificate, block, preview, critical};
-ghost use Rattle.guests.specs.Guests.{aside};
+ghost use Rattle.engine.specs.Guests.{aside};
 ghost use Rattle.hosting.specs.Calls.{plain, packed, Done};
-ghost use Rattle.guesting.specs.Guested.{guestResult};
+ghost use Rattle.hosting.specs.Guested.{guest_result};
 
-use rights::Right;
+use hosting::guesting;
+use terms::rights::Right;
 
 // Committee of a round.
 #[unsafe(no_mangle)]
@@ -16,7 +17,7 @@ pub extern "C" fn forgelilac_guest_committee(
     round: u32,
     out: &mut [u32],
 ) -> u32
-    ensures { Done plain (guestResult state.now table.now out.old caller true (aside (committee (record { 0 = round })))) result state.now table.now out.new }
+    ensures { Done plain (guest_result state.now table.now out.old caller true (aside (committee (record { 0 = round })))) result state.now table.now out.new }
 {
     let n = guesting::refusal(state, Right::Read, caller);
     if n != 0 {
@@ -34,7 +35,7 @@ pub extern "C" fn forgelilac_guest_share(
     member: u32,
     round: u32,
 ) -> u64
-    ensures { Done packed (guestResult state.now table.now [] caller true (aside (share (record { 0 = member }) (record { 0 = round })))) result state.now table.now [] }
+    ensures { Done packed (guest_result state.now table.now [] caller true (aside (share (record { 0 = member }) (record { 0 = round })))) result state.now table.now [] }
 {
     let n = guesting::refusal(state, Right::Read, caller);
     if n != 0 {
@@ -54,7 +55,7 @@ pub extern "C" fn forgelilac_guest_bond_effect(
     amount: u32,
     out: &mut [u32],
 ) -> u32
-    ensures { Done plain (guestResult state.now table.now out.old caller true (aside (effect (record { 0 = member }) (record { 0 = round }) amount))) result state.now table.now out.new }
+    ensures { Done plain (guest_result state.now table.now out.old caller true (aside (effect (record { 0 = member }) (record { 0 = round }) amount))) result state.now table.now out.new }
 {
     let n = guesting::refusal(state, Right::Read, caller);
     if n != 0 {
@@ -73,7 +74,7 @@ pub extern "C" fn forgelilac_guest_certificate(
     round: u32,
     out: &mut [u32],
 ) -> u32
-    ensures { Done plain (guestResult state.now table.now out.old caller true (aside (certificate (record { 0 = author }) (record { 0 = round })))) result state.now table.now out.new }
+    ensures { Done plain (guest_result state.now table.now out.old caller true (aside (certificate (record { 0 = author }) (record { 0 = round })))) result state.now table.now out.new }
 {
     let n = guesting::refusal(state, Right::Read, caller);
     if n != 0 {
@@ -90,7 +91,7 @@ pub extern "C" fn forgelilac_guest_block(
     table: &[u32],
     number: u32,
 ) -> u64
-    ensures { Done packed (guestResult state.now table.now [] caller true (aside (block number))) result state.now table.now [] }
+    ensures { Done packed (guest_result state.now table.now [] caller true (aside (block number))) result state.now table.now [] }
 {
     let n = guesting::refusal(state, Right::Read, caller);
     if n != 0 {
@@ -107,7 +108,7 @@ pub extern "C" fn forgelilac_guest_preview(
     table: &[u32],
     list: &mut [u32],
 ) -> u64
-    ensures { Done packed (guestResult state.now table.now list.old caller true (aside (preview (length list.old)))) result state.now table.now list.new }
+    ensures { Done packed (guest_result state.now table.now list.old caller true (aside (preview (length list.old)))) result state.now table.now list.new }
 {
     let n = guesting::refusal(state, Right::Read, caller);
     if n != 0 {
@@ -124,7 +125,7 @@ pub extern "C" fn forgelilac_guest_critical(
     table: &mut [u32],
     list: &mut [u32],
 ) -> u64
-    ensures { Done packed (guestResult state.now table.old list.old caller true (aside (critical (length list.old)))) result state.now table.new list.new }
+    ensures { Done packed (guest_result state.now table.old list.old caller true (aside (critical (length list.old)))) result state.now table.new list.new }
 {
     let n = guesting::refusal(state, Right::Read, caller);
     if n != 0 {

@@ -4,6 +4,8 @@ ghost use Rattle.serial.specs.Calls.{access, read, write, reset};
 ghost use Rattle.engine.specs.Calls.{port};
 ghost use Rattle.hosting.specs.Calls.{plain, packed, Done, result_of};
 
+use hosting::guesting;
+
 // A read of a guest's port: the value is the byte.
 pub fn port_read(state: &[u32], table: &mut [u32], guest: u32, offset: u32) -> u64
     ensures { Done packed (result_of state.now table.old [] true (port (access guest (read offset)))) result state.now table.new [] }

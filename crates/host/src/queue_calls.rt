@@ -1,8 +1,10 @@
 // The calls on guests' queues that a host makes: enqueue, draw (change request: Point 6).
 ghost use Rattle.std.specs.Prelude.{[], ltb};
 ghost use Rattle.engine.specs.Calls.{enqueue, draw};
-ghost use Rattle.bodies.specs.Bodies.{loneTripleReads, tripleIn};
+ghost use Rattle.words.specs.Bodies.{lone_triple_reads, triple_in};
 ghost use Rattle.hosting.specs.Calls.{plain, Done, result_of};
+
+use words::bodies;
 
 // Enqueue: the transaction is added to the guest's queue in the table.
 #[unsafe(no_mangle)]
@@ -12,7 +14,7 @@ pub extern "C" fn forgelilac_enqueue(
     guest: u32,
     transaction: &[u32],
 ) -> u32
-    ensures { Done plain (result_of state.now table.old [] (loneTripleReads transaction.now) (enqueue guest (tripleIn transaction.now))) result state.now table.new [] }
+    ensures { Done plain (result_of state.now table.old [] (lone_triple_reads transaction.now) (enqueue guest (triple_in transaction.now))) result state.now table.new [] }
 {
     if !words::states::state_reads(state) {
         return 1;

@@ -1,24 +1,25 @@
 // The reads that a host makes: committee, share, bond effect, certificate, block, and the length of a table.
 ghost use Rattle.std.specs.Prelude.{◌≡◌, true, [], ◌≤◌, length};
-ghost use Rattle.store.specs.Table.{usedLength};
-ghost use Rattle.checks.specs.Answers.{refusalIn};
+ghost use Rattle.store.specs.Table.{used_length};
+ghost use Rattle.state.specs.Answers.{refusal_in};
 ghost use Rattle.engine.specs.Calls.{aside, committee, share, effect, certificate, block};
-ghost use Rattle.bodies.specs.Lengths.{heldLength, committeeLength, effectLength};
-ghost use Rattle.bodies.specs.Words.{sixteen};
-ghost use Rattle.words.specs.Proposals.{heldWords};
-ghost use Rattle.words.specs.Effects.{effectWords};
+ghost use Rattle.words.specs.Lengths.{held_length, committee_length, effect_length};
+ghost use Rattle.words.specs.Words.{sixteen};
+ghost use Rattle.words.specs.Proposals.{held_words};
+ghost use Rattle.words.specs.Effects.{effect_words};
 ghost use Rattle.hosting.specs.Answers.{over, WeightsFit};
 ghost use Rattle.hosting.specs.Calls.{plain, packed, Done, result_of};
 
-use bodies::lengths::{COMMITTEE, EFFECT, HELD};
-use checks::Answer;
+use reads::{bonding, standing};
+use state::checks::Answer;
 use store::lengths::ROW;
 use terms::{Member, Round};
+use words::bodies::lengths::{COMMITTEE, EFFECT, HELD};
 
 // Writes the weights of a committee, where the read is accepted.
 fn show_committee(out: &mut [u32], x: standing::CommitteeRead) -> u32
-    requires { (committeeLength ≤ length out.old) × WeightsFit x.answer x.weights }
-    ensures { (result ≡ refusalIn x.answer) × (out.new ≡ over x.answer out.old (sixteen x.weights) committeeLength) }
+    requires { (committee_length ≤ length out.old) × WeightsFit x.answer x.weights }
+    ensures { (result ≡ refusal_in x.answer) × (out.new ≡ over x.answer out.old (sixteen x.weights) committee_length) }
 {
     let weights = x.weights;
     let a = x.answer;
@@ -33,8 +34,8 @@ fn show_committee(out: &mut [u32], x: standing::CommitteeRead) -> u32
 
 // Writes a bond's effect, where the read is accepted.
 fn show_effect(out: &mut [u32], x: bonding::EffectRead) -> u32
-    requires { effectLength ≤ length out.old }
-    ensures { (result ≡ refusalIn x.answer) × (out.new ≡ over x.answer out.old (effectWords x.effect) effectLength) }
+    requires { effect_length ≤ length out.old }
+    ensures { (result ≡ refusal_in x.answer) × (out.new ≡ over x.answer out.old (effect_words x.effect) effect_length) }
 {
     let e = x.effect;
     let a = x.answer;
@@ -49,8 +50,8 @@ fn show_effect(out: &mut [u32], x: bonding::EffectRead) -> u32
 
 // Writes a held certificate, where the read is accepted.
 fn show_certificate(out: &mut [u32], x: reads::CertificateRead) -> u32
-    requires { heldLength ≤ length out.old }
-    ensures { (result ≡ refusalIn x.answer) × (out.new ≡ over x.answer out.old (heldWords x.proposal x.endorsers x.block) heldLength) }
+    requires { held_length ≤ length out.old }
+    ensures { (result ≡ refusal_in x.answer) × (out.new ≡ over x.answer out.old (held_words x.proposal x.endorsers x.block) held_length) }
 {
     let p = x.proposal;
     let a = x.answer;
@@ -158,7 +159,7 @@ pub extern "C" fn forgelilac_block(state: &[u32], table: &[u32], number: u32) ->
 // How many words a table needs for a ceiling.
 #[unsafe(no_mangle)]
 pub extern "C" fn forgelilac_table_words(ceiling: u32) -> u64
-    ensures { result ≡ usedLength ceiling }
+    ensures { result ≡ used_length ceiling }
 {
     ceiling as u64 * ROW as u64 + ROW as u64
 }

@@ -13,23 +13,23 @@ use Rattle.base.proofs.FoldLaws.{length-tab}
 use Rattle.base.proofs.PasteLaws.{paste-inside}
 use Rattle.terms.specs.declared.Member.{Member}
 use Rattle.terms.specs.declared.Round.{Round}
-use Rattle.shares.specs.Shares.{apart}
-use Rattle.effects.specs.declared.Effect.{Effect}
-use Rattle.rules.specs.Reads.{shareRead}
+use Rattle.committee.specs.Shares.{apart}
+use Rattle.committee.specs.declared.effects.Effect.{Effect}
+use Rattle.rules.specs.Reads.{share_read}
 use Rattle.state.specs.View.{view}
-use Rattle.standing.specs.Reads.{shareRefusal}
-use Rattle.bonding.specs.Bounds.{movedAt}
-use Rattle.bonding.specs.Reads.{effectRefusal, effectAnswer}
-use Rattle.bonding.proofs.BoundLaws.{effect-bounded, largest-of-all, member-shared, effect-of-shares}
+use Rattle.reads.specs.CommitteeReads.{share_refusal}
+use Rattle.reads.specs.Bounds.{moved_at}
+use Rattle.reads.specs.BondReads.{effect_refusal, effect_answer}
+use Rattle.reads.proofs.BoundLaws.{effect-bounded, largest-of-all, member_shared, effect-of-shares}
 use Rattle.engine.specs.Calls.{share, effect, aside}
 use Rattle.engine.proofs.ValueLaws.{value-accepted, effect-value}
-use Rattle.bodies.specs.Lengths.{effectLength}
-use Rattle.bodies.specs.Words.{word, sixteen}
-use Rattle.bodies.proofs.PasteLaws.{length-sixteen, in-sixteen}
-use Rattle.words.specs.Effects.{effectWords}
-use Rattle.words.specs.States.{settingsIn, stateReads, stateIn}
-use Rattle.hosting.specs.Calls.{engineIn, result_of}
-use Rattle.hosting.specs.Bounds.{effectResult, movedIn, BoundedOverWords, LargestOverWords, SharesOverWords}
+use Rattle.words.specs.Lengths.{effect_length}
+use Rattle.words.specs.Words.{word, sixteen}
+use Rattle.words.proofs.PasteLaws.{length-sixteen, in_sixteen}
+use Rattle.words.specs.Effects.{effect_words}
+use Rattle.words.specs.States.{settings_in, state_reads, state_in}
+use Rattle.hosting.specs.Calls.{engine_in, result_of}
+use Rattle.hosting.specs.Bounds.{effect_result, moved_in, BoundedOverWords, LargestOverWords, SharesOverWords}
 use Rattle.hosting.proofs.CallLaws.{accepted-call}
 
 -- the words of an effect: the largest difference is the last
@@ -37,28 +37,28 @@ module _ (x : Effect) where
   length_both : length (sixteen x.before ++ sixteen x.after) ≡ 32
   length_both = length-append (sixteen x.before) (sixteen x.after) ∙ ap₂ (λ (y z : ℕ). y + z) (length-sixteen x.before) (length-sixteen x.after)
 
-  length-effect : length (effectWords x) ≡ 33
-  unfolding effectWords
+  length-effect : length (effect_words x) ≡ 33
+  unfolding effect_words
   length-effect = length-append (sixteen x.before ++ sixteen x.after) (x.largest ∷ []) ∙ ap (λ (n : ℕ). n + 1) length_both
 
   -- each word of it
-  word-before : (i : ℕ) → i < 16 → word (effectWords x) i ≡ get_or x.before i 0
-  unfolding effectWords
+  word-before : (i : ℕ) → i < 16 → word (effect_words x) i ≡ get_or x.before i 0
+  unfolding effect_words
   word-before i h =
       get_or-append (sixteen x.before ++ sixteen x.after) (x.largest ∷ []) 0 i (omega (arith, length_both))
       ∙ get_or-append (sixteen x.before) (sixteen x.after) 0 i (omega (arith, length-sixteen x.before))
-      ∙ in-sixteen x.before i h
+      ∙ in_sixteen x.before i h
 
-  word_after : (i : ℕ) → i < 16 → word (effectWords x) (16 + i) ≡ get_or x.after i 0
-  unfolding effectWords
+  word_after : (i : ℕ) → i < 16 → word (effect_words x) (16 + i) ≡ get_or x.after i 0
+  unfolding effect_words
   word_after i h =
       get_or-append (sixteen x.before ++ sixteen x.after) (x.largest ∷ []) 0 (16 + i) (omega (arith, length_both))
       ∙ ap (λ (k : ℕ). get_or (sixteen x.before ++ sixteen x.after) (k + i) 0) (sym (length-sixteen x.before))
       ∙ get_or-append-add (sixteen x.before) (sixteen x.after) i 0
-      ∙ in-sixteen x.after i h
+      ∙ in_sixteen x.after i h
 
-  word-largest : word (effectWords x) 32 ≡ x.largest
-  unfolding effectWords
+  word-largest : word (effect_words x) 32 ≡ x.largest
+  unfolding effect_words
   word-largest =
       ap (λ (k : ℕ). get_or (sixteen x.before ++ sixteen x.after ++ (x.largest ∷ [])) k 0) (sym length_both)
       ∙ get_or-append_seam (sixteen x.before ++ sixteen x.after) x.largest [] 0
@@ -69,58 +69,58 @@ pub record Told (o : List ℕ) (x : Effect) : Type 0 where
   pub after : (i : ℕ) → i < 16 → word o (16 + i) ≡ get_or x.after i 0
   pub largest : word o 32 ≡ x.largest
 
-put-told : (x : Effect) (o : List ℕ) → effectLength ≤ length o → Told (paste o 0 (effectWords x) effectLength) x
+put-told : (x : Effect) (o : List ℕ) → effect_length ≤ length o → Told (paste o 0 (effect_words x) effect_length) x
 put-told x o h =
-    let put : (k : ℕ) → k < 33 → word (paste o 0 (effectWords x) effectLength) (0 + k) ≡ word (effectWords x) k = paste-inside o 0 (effectWords x) effectLength (omega arith) (length-effect x) in
-    let at : (k : ℕ) → k < 33 → word (paste o 0 (effectWords x) effectLength) k ≡ word (effectWords x) k = λ k l. let z : 0 + k ≡ k = omega arith in rw z at (put k l) in
+    let put : (k : ℕ) → k < 33 → word (paste o 0 (effect_words x) effect_length) (0 + k) ≡ word (effect_words x) k = paste-inside o 0 (effect_words x) effect_length (omega arith) (length-effect x) in
+    let at : (k : ℕ) → k < 33 → word (paste o 0 (effect_words x) effect_length) k ≡ word (effect_words x) k = λ k l. let z : 0 + k ≡ k = omega arith in rw z at (put k l) in
     record {
       before = λ i l. at i (omega arith) ∙ word-before x i l;
       after = λ i l. at (16 + i) (omega arith) ∙ word_after x i l;
       largest = at 32 (omega arith) ∙ word-largest x;
     }
 
-weights-long : (w : List ℕ) → length (stateIn w).settings.weights ≡ 16
-unfolding stateIn settingsIn
+weights-long : (w : List ℕ) → length (state_in w).settings.weights ≡ 16
+unfolding state_in settings_in
 weights-long w = length-tab _ 16
 
-module _ (w t o : List ℕ) (m : Member) (r : Round) (a : ℕ) (z : (effectResult w t o m r a).refusal ≡ 0) where
+module _ (w t o : List ℕ) (m : Member) (r : Round) (a : ℕ) (z : (effect_result w t o m r a).refusal ≡ 0) where
   abbrev told : Effect
-  told = (effectAnswer (stateIn w) t m.0 r.0 a).effect
+  told = (effect_answer (state_in w) t m.0 r.0 a).effect
 
-  accepted : effectRefusal (stateIn w) t m.0 r.0 a ≡ 0
-  unfolding effectRefusal
+  accepted : effect_refusal (state_in w) t m.0 r.0 a ≡ 0
+  unfolding effect_refusal
   accepted = (accepted-call w t o true (aside (effect m r a)) z).accepted
 
   -- the out stretch tells the effect
-  out-told : Told (effectResult w t o m r a).out told
+  out-told : Told (effect_result w t o m r a).out told
   out-told =
       let c = accepted-call w t o true (aside (effect m r a)) z in
-      let room = leb-true effectLength (length o) (both (stateReads w) (leb effectLength (length o)) c.serving).1 in
-      rw (c.its_out, effect-value (engineIn w t) m r a c.accepted) (put-told told o room)
+      let room = leb-true effect_length (length o) (both (state_reads w) (leb effect_length (length o)) c.serving).1 in
+      rw (c.its_out, effect-value (engine_in w t) m r a c.accepted) (put-told told o room)
 
 pub bounded-over-words : BoundedOverWords
 bounded-over-words w t o m r a z =
-    let b = effect-bounded (stateIn w) t (weights-long w) m.0 r.0 a (accepted w t o m r a z) in
+    let b = effect-bounded (state_in w) t (weights-long w) m.0 r.0 a (accepted w t o m r a z) in
     omega (arith, b, (out-told w t o m r a z).largest)
 
 pub largest-over-words : LargestOverWords
 largest-over-words w t o m r a z =
     let x = out-told w t o m r a z in
-    let l = largest-of-all (stateIn w) t m.0 r.0 a (accepted w t o m r a z) in
-    let same : (i : ℕ) → i < 16 → movedIn (effectResult w t o m r a).out i ≡ movedAt (told w t o m r a z) i = λ i h. ap₂ (λ (y z : ℕ). apart y z) (x.before i h) (x.after i h) in
+    let l = largest-of-all (state_in w) t m.0 r.0 a (accepted w t o m r a z) in
+    let same : (i : ℕ) → i < 16 → moved_in (effect_result w t o m r a).out i ≡ moved_at (told w t o m r a z) i = λ i h. ap₂ (λ (y z : ℕ). apart y z) (x.before i h) (x.after i h) in
     (λ i h. rw (same i h, x.largest) (l.0 i h), (l.1.0, l.1.1, rw (same l.1.0 l.1.1, x.largest) l.1.2))
 
 -- the value of a share's read
 share-told : (w t : List ℕ) (i : Member) (r : Round) → (result_of w t [] true (aside (share i r))).refusal ≡ 0
-    → (shareRefusal (stateIn w) t i.0 r.0 ≡ 0) × ((result_of w t [] true (aside (share i r))).value ≡ shareRead (stateIn w).settings (view (stateIn w) t) i.0 r.0)
-unfolding result_of shareRefusal
+    → (share_refusal (state_in w) t i.0 r.0 ≡ 0) × ((result_of w t [] true (aside (share i r))).value ≡ share_read (state_in w).settings (view (state_in w) t) i.0 r.0)
+unfolding result_of share_refusal
 share-told w t i r z =
     let c = accepted-call w t [] true (aside (share i r)) z in
-    (c.accepted, rw (c.serving, value-accepted (engineIn w t) (aside (share i r)) c.accepted) refl)
+    (c.accepted, rw (c.serving, value-accepted (engine_in w t) (aside (share i r)) c.accepted) refl)
 
 pub shares-over-words : SharesOverWords
 shares-over-words w t o m i r a z y =
     let s = share-told w t i r y in
-    (out-told w t o m r a z).before i.0 (member-shared (stateIn w) t i.0 r.0 s.0)
-    ∙ effect-of-shares (stateIn w) t m.0 r.0 a i.0 (accepted w t o m r a z) s.0
+    (out-told w t o m r a z).before i.0 (member_shared (state_in w) t i.0 r.0 s.0)
+    ∙ effect-of-shares (state_in w) t m.0 r.0 a i.0 (accepted w t o m r a z) s.0
     ∙ sym s.1

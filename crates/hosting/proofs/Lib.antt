@@ -10,3 +10,4 @@ pub mod HeldLaws
 pub mod OpenLaws
 pub mod BoundLaws
 pub mod PortLaws
+pub mod GuestedLaws

@@ -9,23 +9,23 @@ use Rattle.base.specs.Checks.{refusal}
 use borrow.Author.Tests.{lt-ltb, le-ltb}
 use Rattle.base.proofs.CheckLaws.{numbered, first-refuses, first_passes, passes, refuses}
 use Rattle.serial.specs.Calls.{PortCall, offset_of, access, reset}
-use Rattle.serial.specs.Serial.{earlyChecks, portRefusal}
+use Rattle.serial.specs.Serial.{early_checks, port_refusal}
 use Rattle.serial.proofs.PassedLaws.{early-refused}
 use Rattle.engine.specs.Calls.{port}
-use Rattle.words.specs.States.{stateReads}
-use Rattle.hosting.specs.Calls.{Result, packed, Done, engineIn, answered, refused, unread, accesses, result_of}
+use Rattle.words.specs.States.{state_reads}
+use Rattle.hosting.specs.Calls.{Result, packed, Done, engine_in, answered, refused, unread, accesses, result_of}
 use Rattle.hosting.specs.Ports.{RefusedFirst}
 use Rattle.hosting.proofs.CallLaws.{done-unserved}
 use Rattle.hosting.proofs.RefusalLaws.{refused-same}
 
-module _ (w t o : List ℕ) (b : Bool) (x : PortCall) {n : ℕ} (q : n ≡ refusal (earlyChecks x)) where
+module _ (w t o : List ℕ) (b : Bool) (x : PortCall) {n : ℕ} (q : n ≡ refusal (early_checks x)) where
   early-number : n ≢ 0 → (result_of w t o b (port x)).refusal ≡ n
-  unfolding result_of portRefusal
-  early-number h = go (stateReads w && b)
+  unfolding result_of port_refusal
+  early-number h = go (state_reads w && b)
     where
-      go : (a : Bool) → (cond a (answered w t o (engineIn w t) (port x)) (refused w t o (unread (accesses x)))).refusal ≡ n
-      go true = sym (early-refused (engineIn w t).state t (earlyChecks x) q h)
-      go false = first-refuses (earlyChecks x) ((true, 1) ∷ []) (omega arith) ∙ sym q
+      go : (a : Bool) → (cond a (answered w t o (engine_in w t) (port x)) (refused w t o (unread (accesses x)))).refusal ≡ n
+      go true = sym (early-refused (engine_in w t).state t (early_checks x) q h)
+      go false = first-refuses (early_checks x) ((true, 1) ∷ []) (omega arith) ∙ sym q
 
   pub done-early : {answer : Result → ℕ} {r : ℕ} → n ≢ 0 → r ≡ answer (refused w t o n) → Done answer (result_of w t o b (port x)) r w t o
   done-early h e =
@@ -37,10 +37,10 @@ module _ (w t o : List ℕ) (b : Bool) (x : PortCall) {n : ℕ} (q : n ≡ refus
   done-early-packed h e = done-early h (omega arith)
 
   -- then 1, where they cannot
-  passed-unread : numbered (earlyChecks x) ≡ true → n ≡ 0 → unread (accesses x) ≡ 1
-  passed-unread p z = first_passes (earlyChecks x) ((true, 1) ∷ []) p (sym q ∙ z) ∙ refuses 1 [] refl
+  passed-unread : numbered (early_checks x) ≡ true → n ≡ 0 → unread (accesses x) ≡ 1
+  passed-unread p z = first_passes (early_checks x) ((true, 1) ∷ []) p (sym q ∙ z) ∙ refuses 1 [] refl
 
-  pub done-unread-port : {answer : Result → ℕ} {r : ℕ} → numbered (earlyChecks x) ≡ true → n ≡ 0 → stateReads w ≡ false → r ≡ answer (refused w t o 1) → Done answer (result_of w t o b (port x)) r w t o
+  pub done-unread-port : {answer : Result → ℕ} {r : ℕ} → numbered (early_checks x) ≡ true → n ≡ 0 → state_reads w ≡ false → r ≡ answer (refused w t o 1) → Done answer (result_of w t o b (port x)) r w t o
   done-unread-port p z k e = done-unserved w t o b (port x) k (rw (passed-unread p z) e)
 
 -- the claim

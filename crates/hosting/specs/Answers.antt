@@ -2,15 +2,15 @@
 use Rattle.std.specs.Prelude.{◌≡◌, List, ℕ}
 use Rattle.std.proofs.Math.Seq.{paste}
 use Rattle.state.specs.declared.State.{State}
-use Rattle.checks.specs.declared.Answer.{Answer}
-use Rattle.checks.specs.declared.Answer.TheVariants.{Accepted, Refused}
+use Rattle.state.specs.declared.checks.Answer.{Answer}
+use Rattle.state.specs.declared.checks.Answer.TheVariants.{Accepted, Refused}
 use Rattle.commit.specs.declared.Committed as Made
-use Rattle.bodies.specs.Words.{Narrow}
+use Rattle.words.specs.Words.{Narrow}
 
 -- the answer of a commit as one like the others
-abbrev pub addedAnswer : Made.Committed → Answer
-addedAnswer (Made.TheVariants.Added n) = Accepted
-addedAnswer (Made.TheVariants.Refused n) = Refused n
+abbrev pub added_answer : Made.Committed → Answer
+added_answer (Made.TheVariants.Added n) = Accepted
+added_answer (Made.TheVariants.Refused n) = Refused n
 
 -- n words put over a stretch where a call is accepted
 abbrev pub over : Answer → List ℕ → List ℕ → ℕ → List ℕ

@@ -4,19 +4,19 @@ use Rattle.std.proofs.Math.Seq.{paste}
 use Rattle.std.proofs.lemmas.List.Edits.{sets}
 use Rattle.base.specs.Checks as checks
 use Rattle.state.specs.declared.State.{State}
-use Rattle.open.specs.Open.{closedState}
+use Rattle.open.specs.Open.{closed_state}
 use Rattle.preview.specs.Entries.{words_of}
-use Rattle.critical.specs.Critical.{placeWords}
+use Rattle.critical.specs.Critical.{place_words}
 use Rattle.serial.specs.Calls.{PortCall}
-use Rattle.serial.specs.Serial.{earlyChecks}
+use Rattle.serial.specs.Serial.{early_checks}
 use Rattle.engine.specs.Calls.{Aside, committee, share, effect, certificate, block, preview, critical, listing, Call, opens, propose, endorse, certify, accept, advance, commit, enqueue, draw, port, aside}
-use Rattle.engine.specs.Engine.{Engine, refusalFor, after}
+use Rattle.engine.specs.Engine.{Engine, refusal_for, after}
 use Rattle.engine.specs.Values.{Value, nothing, number, weights, shares, held, entries, places, chain, value_of}
-use Rattle.bodies.specs.Lengths.{stateLength, heldLength, committeeLength, effectLength}
-use Rattle.bodies.specs.Words.{sixteen}
-use Rattle.words.specs.Proposals.{heldWords}
-use Rattle.words.specs.Effects.{effectWords}
-use Rattle.words.specs.States.{stateReads, stateIn, stateWords}
+use Rattle.words.specs.Lengths.{state_length, held_length, committee_length, effect_length}
+use Rattle.words.specs.Words.{sixteen}
+use Rattle.words.specs.Proposals.{held_words}
+use Rattle.words.specs.Effects.{effect_words}
+use Rattle.words.specs.States.{state_reads, state_in, state_words}
 
 -- what a call comes to: the number that refuses it, 0 for none, a value, and the words of the state, the table and the out stretch afterwards
 pub record Result : Type 0 where
@@ -51,49 +51,49 @@ pub data Use : Type 0 where
 
 -- how many words of the out stretch a read needs; a preview and the list of critical certificates test by themselves whether there are enough, and hosts are offered no listing of the chain
 abbrev pub room_for : Aside → ℕ
-room_for (committee r) = committeeLength
+room_for (committee r) = committee_length
 room_for (share m r) = 0
-room_for (effect m r a) = effectLength
-room_for (certificate m r) = heldLength
+room_for (effect m r a) = effect_length
+room_for (certificate m r) = held_length
 room_for (block n) = 0
 room_for (preview n) = 0
 room_for (critical n) = 0
 room_for listing = 0
 
-abbrev pub useOf : Call → Use
-useOf (opens own sheet) = writes
-useOf (propose b) = rewrites
-useOf (endorse p) = reads 0
-useOf (certify d) = reads 0
-useOf (accept c) = reads 0
-useOf advance = rewrites
-useOf commit = rewrites
-useOf (enqueue g x) = reads 0
-useOf (draw v) = rewrites
-useOf (port x) = accesses x
-useOf (aside x) = reads (room_for x)
+abbrev pub use_of : Call → Use
+use_of (opens own sheet) = writes
+use_of (propose b) = rewrites
+use_of (endorse p) = reads 0
+use_of (certify d) = reads 0
+use_of (accept c) = reads 0
+use_of advance = rewrites
+use_of commit = rewrites
+use_of (enqueue g x) = reads 0
+use_of (draw v) = rewrites
+use_of (port x) = accesses x
+use_of (aside x) = reads (room_for x)
 
 -- the number that refuses where words cannot be read: 1, and of a port the checks that come before it
 abbrev pub unread : Use → ℕ
 unread writes = 1
 unread rewrites = 1
-unread (accesses x) = checks.refusal (earlyChecks x ++ ((true, 1) ∷ []))
+unread (accesses x) = checks.refusal (early_checks x ++ ((true, 1) ∷ []))
 unread (reads n) = 1
 
 -- the value of a packed answer; of what is listed its number
-abbrev pub valueWord : Value → ℕ
-valueWord nothing = 0
-valueWord (number n) = n
-valueWord (weights x) = 0
-valueWord (shares x) = 0
-valueWord (held p endorsers k) = 0
-valueWord (entries l) = length l
-valueWord (places l) = length l
-valueWord (chain c) = 0
+abbrev pub value_word : Value → ℕ
+value_word nothing = 0
+value_word (number n) = n
+value_word (weights x) = 0
+value_word (shares x) = 0
+value_word (held p endorsers k) = 0
+value_word (entries l) = length l
+value_word (places l) = length l
+value_word (chain c) = 0
 
 -- the engine that the state's words and the table give
-abbrev pub engineIn : List ℕ → List ℕ → Engine
-engineIn w t = record { state = stateIn w; table = t }
+abbrev pub engine_in : List ℕ → List ℕ → Engine
+engine_in w t = record { state = state_in w; table = t }
 
 -- the state's words w, the table t and the out stretch o that are lent; where there is no out stretch it is empty
 module _ (w t o : List ℕ) where
@@ -101,37 +101,37 @@ module _ (w t o : List ℕ) where
 
   -- the state's words serve the call, and there is room in the out stretch
   abbrev pub serves : Use → Bool
-  serves writes = leb stateLength (length w)
-  serves rewrites = stateReads w
-  serves (accesses x) = stateReads w
-  serves (reads n) = stateReads w && leb n (length o)
+  serves writes = leb state_length (length w)
+  serves rewrites = state_reads w
+  serves (accesses x) = state_reads w
+  serves (reads n) = state_reads w && leb n (length o)
 
   -- the engine that the call is made on
-  abbrev pub engineFor : Use → Engine
-  engineFor writes = record { state = closedState; table = t }
-  engineFor rewrites = engineIn w t
-  engineFor (accesses x) = engineIn w t
-  engineFor (reads n) = engineIn w t
+  abbrev pub engine_for : Use → Engine
+  engine_for writes = record { state = closed_state; table = t }
+  engine_for rewrites = engine_in w t
+  engine_for (accesses x) = engine_in w t
+  engine_for (reads n) = engine_in w t
 
   -- ---- words are written
 
   -- the state's words, where the call is accepted and leaves s
-  abbrev pub stateOver : Use → State → List ℕ
-  stateOver writes s = paste w 0 (stateWords s) stateLength
-  stateOver rewrites s = paste w 0 (stateWords s) stateLength
-  stateOver (accesses x) s = w
-  stateOver (reads n) s = w
+  abbrev pub state_over : Use → State → List ℕ
+  state_over writes s = paste w 0 (state_words s) state_length
+  state_over rewrites s = paste w 0 (state_words s) state_length
+  state_over (accesses x) s = w
+  state_over (reads n) s = w
 
   -- the out stretch; entries have three words each, places two, and its rest stays
-  abbrev pub outOver : Value → List ℕ
-  outOver nothing = o
-  outOver (number n) = o
-  outOver (weights x) = paste o 0 (sixteen x) committeeLength
-  outOver (shares x) = paste o 0 (effectWords x) effectLength
-  outOver (held p endorsers k) = paste o 0 (heldWords p endorsers k) heldLength
-  outOver (entries l) = sets o 0 (words_of l)
-  outOver (places l) = sets o 0 (placeWords l)
-  outOver (chain c) = o
+  abbrev pub out_over : Value → List ℕ
+  out_over nothing = o
+  out_over (number n) = o
+  out_over (weights x) = paste o 0 (sixteen x) committee_length
+  out_over (shares x) = paste o 0 (effect_words x) effect_length
+  out_over (held p endorsers k) = paste o 0 (held_words p endorsers k) held_length
+  out_over (entries l) = sets o 0 (words_of l)
+  out_over (places l) = sets o 0 (place_words l)
+  out_over (chain c) = o
 
   -- ---- a call
 
@@ -143,13 +143,13 @@ module _ (w t o : List ℕ) where
   abbrev pub answered : Engine → Call → Result
   answered e c =
       record {
-        refusal = refusalFor e c;
-        value = valueWord (value_of e c);
-        state = cond (eqb (refusalFor e c) 0) (stateOver (useOf c) (after e c).state) w;
+        refusal = refusal_for e c;
+        value = value_word (value_of e c);
+        state = cond (eqb (refusal_for e c) 0) (state_over (use_of c) (after e c).state) w;
         table = (after e c).table;
-        out = outOver (value_of e c);
+        out = out_over (value_of e c);
       }
 
   -- every call and read; b tells whether the words that are handed in can be read: where they or those of the state cannot, it is refused
   unfoldable pub result_of : Bool → Call → Result
-  result_of b c = cond (serves (useOf c) && b) (answered (engineFor (useOf c)) c) (refused (unread (useOf c)))
+  result_of b c = cond (serves (use_of c) && b) (answered (engine_for (use_of c)) c) (refused (unread (use_of c)))

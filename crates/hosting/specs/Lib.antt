@@ -4,3 +4,4 @@ pub mod Handed
 pub mod Held
 pub mod Bounds
 pub mod Ports
+pub mod Guested

@@ -1,25 +1,28 @@
 // A host's call: words are read, the engine answers, words are written.
 #![tactic(auto)]
 
-ghost use Rattle.std.specs.Prelude.{◌≡◌, ◌+◌, ◌*◌, ◌≤◌, length};
-ghost use Rattle.checks.specs.Answers.{refusalIn, listedRefusal, listedValue};
-ghost use Rattle.commit.specs.Answers.{addedRefusal, addedValue};
-ghost use Rattle.standing.specs.Answers.{sharedAnswer, sharedValue};
-ghost use Rattle.reads.specs.Answers.{blockedAnswer, blockedValue};
-ghost use Rattle.serial.specs.Answers.{shownAnswer, shownValue};
-ghost use Rattle.bodies.specs.Lengths.{stateLength};
-ghost use Rattle.words.specs.States.{stateWords};
-ghost use Rattle.hosting.specs.Answers.{addedAnswer, over, Writable};
+pub mod guesting;
 
-use checks::{Answer, Listed};
+ghost use Rattle.std.specs.Prelude.{◌≡◌, ◌+◌, ◌*◌, ◌≤◌, length};
+ghost use Rattle.state.specs.Answers.{refusal_in, listed_refusal, listed_value};
+ghost use Rattle.commit.specs.Answers.{added_refusal, added_value};
+ghost use Rattle.reads.specs.CommitteeAnswers.{shared_answer, shared_value};
+ghost use Rattle.reads.specs.CertificateAnswers.{blocked_answer, blocked_value};
+ghost use Rattle.serial.specs.Answers.{shown_answer, shown_value};
+ghost use Rattle.words.specs.Lengths.{state_length};
+ghost use Rattle.words.specs.States.{state_words};
+ghost use Rattle.hosting.specs.Answers.{added_answer, over, Writable};
+
 use commit::Committed;
 use reads::BlockRead;
+use reads::standing::ShareRead;
 use serial::RegisterRead;
-use standing::ShareRead;
+use state::checks;
+use state::checks::{Answer, Listed};
 
 // The number that refuses in an answer, 0 where the call is accepted.
 pub fn refusal_in(a: Answer) -> u32
-    ensures { result ≡ refusalIn a }
+    ensures { result ≡ refusal_in a }
 {
     match a {
         Answer::Accepted => 0,
@@ -43,7 +46,7 @@ pub fn unread() -> u64
 
 // The answer of a share.
 pub fn share_number(x: ShareRead) -> u64
-    ensures { result ≡ sharedValue x + refusalIn (sharedAnswer x) * 4294967296 }
+    ensures { result ≡ shared_value x + refusal_in (shared_answer x) * 4294967296 }
 {
     match x {
         ShareRead::Thousandths(n) => pack(n, 0),
@@ -53,7 +56,7 @@ pub fn share_number(x: ShareRead) -> u64
 
 // The answer of a block.
 pub fn block_number(x: BlockRead) -> u64
-    ensures { result ≡ blockedValue x + refusalIn (blockedAnswer x) * 4294967296 }
+    ensures { result ≡ blocked_value x + refusal_in (blocked_answer x) * 4294967296 }
 {
     match x {
         BlockRead::At(r) => pack(r.0, 0),
@@ -63,7 +66,7 @@ pub fn block_number(x: BlockRead) -> u64
 
 // The answer of a read of a register.
 pub fn register_number(x: RegisterRead) -> u64
-    ensures { result ≡ shownValue x + refusalIn (shownAnswer x) * 4294967296 }
+    ensures { result ≡ shown_value x + refusal_in (shown_answer x) * 4294967296 }
 {
     match x {
         RegisterRead::Value(n) => pack(n, 0),
@@ -73,7 +76,7 @@ pub fn register_number(x: RegisterRead) -> u64
 
 // The answer of a call that lists.
 pub fn listed_number(x: Listed) -> u64
-    ensures { result ≡ listedValue x + listedRefusal x * 4294967296 }
+    ensures { result ≡ listed_value x + listed_refusal x * 4294967296 }
 {
     match x {
         Listed::Count(n) => pack(n, 0),
@@ -83,8 +86,8 @@ pub fn listed_number(x: Listed) -> u64
 
 // Writes the state that a member's call leaves, where it is accepted.
 pub fn settle(w: &mut [u32], x: checks::Outcome) -> u32
-    requires { (stateLength ≤ length w.old) × Writable x.answer x.state }
-    ensures { (result ≡ refusalIn x.answer) × (w.new ≡ over x.answer w.old (stateWords x.state) stateLength) }
+    requires { (state_length ≤ length w.old) × Writable x.answer x.state }
+    ensures { (result ≡ refusal_in x.answer) × (w.new ≡ over x.answer w.old (state_words x.state) state_length) }
 {
     let s = x.state;
     let a = x.answer;
@@ -99,8 +102,8 @@ pub fn settle(w: &mut [u32], x: checks::Outcome) -> u32
 
 // Writes the state that commit leaves, where it is accepted.
 pub fn settle_commit(w: &mut [u32], x: commit::Outcome) -> u64
-    requires { (stateLength ≤ length w.old) × Writable (addedAnswer x.answer) x.state }
-    ensures { (result ≡ addedValue x.answer + addedRefusal x.answer * 4294967296) × (w.new ≡ over (addedAnswer x.answer) w.old (stateWords x.state) stateLength) }
+    requires { (state_length ≤ length w.old) × Writable (added_answer x.answer) x.state }
+    ensures { (result ≡ added_value x.answer + added_refusal x.answer * 4294967296) × (w.new ≡ over (added_answer x.answer) w.old (state_words x.state) state_length) }
 {
     let s = x.state;
     let a = x.answer;

@@ -3,8 +3,9 @@
 
 ghost use Rattle.std.specs.Prelude.{◌≡◌, ◌<◌, [], ◌∷◌, ◌++◌, OnOk, decimal};
 ghost use Rattle.std.specs.Io.KnownBytes.{Appends};
-ghost use Rattle.positions.specs.Places.{placeTable};
+ghost use Rattle.committee.specs.Places.{place_table};
 
+use committee::{positions, weighing};
 use std::io;
 use std::io::Write;
 
@@ -15,7 +16,7 @@ fn join(sum: u32, n: u32) -> u32 {
 
 // With the members of a set, positions rising.
 fn join_set(places: &[u8; 2048], set: u32, sum: u32) -> u32
-    requires { places.now ≡ placeTable }
+    requires { places.now ≡ place_table }
 {
     let mut all = sum;
     for k in 0..17u32 {
@@ -27,7 +28,7 @@ fn join_set(places: &[u8; 2048], set: u32, sum: u32) -> u32
 
 // Of all sets with this upper half, lower halves rising.
 fn half_sum(places: &[u8; 2048], upper: u32) -> u32
-    requires { (places.now ≡ placeTable) × (upper < 256) }
+    requires { (places.now ≡ place_table) × (upper < 256) }
 {
     let mut all = 0;
     for lower in 0..256u32 {

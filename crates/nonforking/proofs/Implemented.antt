@@ -4,19 +4,19 @@ use mathlib.Core.Option.{some}
 use Prim.Native.Nat.{ℕ, ◌<◌}
 use native.Mathlib.Omega.{arith}
 use Rattle.terms.specs.Proposals.{Content}
-use Rattle.sheet.specs.declared.Settings.{Settings}
+use Rattle.terms.specs.declared.sheet.Settings.{Settings}
 use Rattle.rules.specs.Tests.{MemberView}
 use Rattle.rules.specs.Signatures.{Endorses, endorses, Proposes, proposes}
 use Rattle.rules.proofs.AcceptedMoves.{SetsFit}
 use Rattle.rules.proofs.RoundLaws.{IsRound}
 use Rattle.rules.proofs.Implementations.{Follows, Implementation}
 use Rattle.state.proofs.FormedLaws.{formed}
-use Rattle.state.proofs.ViewLaws.{in-dag}
+use Rattle.state.proofs.ViewLaws.{in_dag}
 use Rattle.draw.proofs.PassedLaws.{drawn-small}
 use Rattle.engine.specs.Calls as calls
 use Rattle.engine.specs.Calls.{Call, propose, endorse, draw, InRange}
-use Rattle.engine.specs.Engine.{Engine, refusalFor, after}
-use Rattle.engine.specs.Steps.{viewAt, ruled}
+use Rattle.engine.specs.Engine.{Engine, refusal_for, after}
+use Rattle.engine.specs.Steps.{view_at, ruled}
 use Rattle.engine.specs.Sequences.{NoOpen}
 use Rattle.engine.specs.Reached.{Good}
 use Rattle.engine.proofs.AfterLaws.{refused-same}
@@ -59,16 +59,16 @@ module _ (S : Settings) (k : ℕ) (e : Engine) (s : MemberView S) where
 
 module _ (S : Settings) (k : ℕ) (e : Engine) (g : Good S k e) where
   -- what the table shows of a round up to the ceiling
-  pub held-rounds : (a r : ℕ) (p : Content) → (viewAt S e).dag a r ≡ some p → IsRound S p.round
+  pub held-rounds : (a r : ℕ) (p : Content) → (view_at S e).dag a r ≡ some p → IsRound S p.round
   held-rounds a r p h =
-      let i = in-dag e.state.settings.ceiling.0 e.table a r p h in
+      let i = in_dag e.state.settings.ceiling.0 e.table a r p h in
       subst (λ (T : Settings). IsRound T p.round) g.settings (omega (arith, i.from, i.round), omega (arith, i.to, i.round))
 
-  pub follows : (c : Call) → Handed k e c → refusalFor e c ≡ 0 → Follows S k (viewAt S e) (ruled e c) (viewAt S (after e c))
+  pub follows : (c : Call) → Handed k e c → refusal_for e c ≡ 0 → Follows S k (view_at S e) (ruled e c) (view_at S (after e c))
   follows c h a =
       record {
         started = (formed e.state e.table g.formed).numbers.round-from;
-        fits = sets-fit S k e (viewAt S e) c h.0;
+        fits = sets-fit S k e (view_at S e) c h.0;
         accepted = accepted-ruled g c a;
         becomes = accepted-view g c h.0 h.1 a;
       }
@@ -78,14 +78,14 @@ implementation S =
     record {
       State = Engine;
       Call = Call;
-      view = viewAt S;
+      view = view_at S;
       ruled = ruled;
-      answer = λ k e c. refusalFor e c;
+      answer = λ k e c. refusal_for e c;
       after = λ k e c. after e c;
       Handed = Handed;
       Good = Good S;
       good-after = λ k e c h g. good-after g c h.0 h.1;
       held-rounds = held-rounds S;
-      refused = λ k e c g n. ap (viewAt S) (refused-same e c n);
+      refused = λ k e c g n. ap (view_at S) (refused-same e c n);
       follows = λ k e c g. follows S k e g c;
     }

@@ -8,12 +8,12 @@ use borrow.Author.Tests.{ltb-true}
 use Rattle.base.proofs.Bools.{both}
 use Rattle.base.proofs.CheckLaws.{refuses}
 use Rattle.terms.specs.declared.Member.{Member}
-use Rattle.sheet.specs.declared.Sheet.{Sheet}
-use Rattle.open.specs.Open.{openRefusal}
+use Rattle.terms.specs.declared.sheet.Sheet.{Sheet}
+use Rattle.open.specs.Open.{open_refusal}
 use Rattle.engine.specs.Calls.{Call, opens, propose, endorse, certify, accept, advance, commit, enqueue, draw, port, aside, InRange}
-use Rattle.engine.specs.Engine.{Engine, refusalFor}
+use Rattle.engine.specs.Engine.{Engine, refusal_for}
 use Rattle.engine.specs.Sequences.{NoOpen}
-use Rattle.nonforking.specs.Statement.{Members, Entry, engineAfter, engineBehaviour}
+use Rattle.nonforking.specs.Statement.{Members, Entry, engine_after, engine_behaviour}
 use Rattle.nonforking.proofs.RunLaws.{AllHanded}
 
 abbrev pub is_plain : Call → Bool
@@ -29,38 +29,38 @@ is_plain (draw v) = ltb v 65536
 is_plain (port x) = false
 is_plain (aside x) = true
 
-abbrev pub arePlain : List Entry → Bool
-arePlain [] = true
-arePlain (e ∷ l) = is_plain e.call && arePlain l
+abbrev pub are_plain : List Entry → Bool
+are_plain [] = true
+are_plain (e ∷ l) = is_plain e.call && are_plain l
 
-pub in-range : (c : Call) → is_plain c ≡ true → InRange c
-in-range (opens own sheet) h = tt
-in-range (propose b) h = ltb-true b.previous 65536 h
-in-range (endorse p) h = ltb-true p.body.previous 65536 h
-in-range (certify d) h = ltb-true d 65536 h
-in-range (accept c) h =
+pub is_in_range : (c : Call) → is_plain c ≡ true → InRange c
+is_in_range (opens own sheet) h = tt
+is_in_range (propose b) h = ltb-true b.previous 65536 h
+is_in_range (endorse p) h = ltb-true p.body.previous 65536 h
+is_in_range (certify d) h = ltb-true d 65536 h
+is_in_range (accept c) h =
     let x = both (ltb c.proposal.body.previous 65536) _ h in
     (ltb-true c.proposal.body.previous 65536 x.0, ltb-true c.endorsers 65536 x.1)
-in-range advance h = tt
-in-range commit h = tt
-in-range (enqueue g x) h = tt
-in-range (draw v) h = ltb-true v 65536 h
-in-range (port x) h = absurd (false≢true h)
-in-range (aside x) h = tt
+is_in_range advance h = tt
+is_in_range commit h = tt
+is_in_range (enqueue g x) h = tt
+is_in_range (draw v) h = ltb-true v 65536 h
+is_in_range (port x) h = absurd (false≢true h)
+is_in_range (aside x) h = tt
 
 -- whatever the table
-pub open-refused : (e : Engine) (own : Member) (sheet : Sheet) → ltb 15 own.0 ≡ true → refusalFor e (opens own sheet) ≡ 4
-unfolding openRefusal
-open-refused e own sheet h = refuses 4 _ h
+pub open_refused : (e : Engine) (own : Member) (sheet : Sheet) → ltb 15 own.0 ≡ true → refusal_for e (opens own sheet) ≡ 4
+unfolding open_refusal
+open_refused e own sheet h = refuses 4 _ h
 
-no-open : (e : Engine) (c : Call) → is_plain c ≡ true → NoOpen e c
-no-open e c h own sheet q n =
-    let k = open-refused e own sheet (subst (λ (x : Call). is_plain x ≡ true) q h) in
-    let z : refusalFor e (opens own sheet) ≡ 0 = subst (λ (x : Call). refusalFor e x ≡ 0) q n in
+no_open : (e : Engine) (c : Call) → is_plain c ≡ true → NoOpen e c
+no_open e c h own sheet q n =
+    let k = open_refused e own sheet (subst (λ (x : Call). is_plain x ≡ true) q h) in
+    let z : refusal_for e (opens own sheet) ≡ 0 = subst (λ (x : Call). refusal_for e x ≡ 0) q n in
     absurd (omega (arith, k, z))
 
-pub plain-found : (X : Members engineBehaviour) (l : List Entry) → arePlain l ≡ true → AllHanded X l
+pub plain-found : (X : Members engine_behaviour) (l : List Entry) → are_plain l ≡ true → AllHanded X l
 plain-found X [] h = tt
 plain-found X (e ∷ l) h =
-    let x = both (is_plain e.call) (arePlain l) h in
-    ((in-range e.call x.0, no-open (engineAfter X l e.who) e.call x.0), plain-found X l x.1)
+    let x = both (is_plain e.call) (are_plain l) h in
+    ((is_in_range e.call x.0, no_open (engine_after X l e.who) e.call x.0), plain-found X l x.1)

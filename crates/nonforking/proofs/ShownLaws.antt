@@ -3,21 +3,21 @@ use mathlib.Core.Path.{refl, sym, ap, ◌∙◌, subst}
 use mathlib.Core.List.{List, [], ◌∷◌}
 use mathlib.Core.Logic.{inl, inr}
 use Prim.Native.Nat.{ℕ, ◌<◌, ◌≤◌}
-use Rattle.terms.specs.Proposals.{Content, contentOf}
+use Rattle.terms.specs.Proposals.{Content, content_of}
 use Rattle.store.proofs.TableLaws.{held-member}
 use Rattle.store.proofs.RecordLaws.{proposal-content}
-use Rattle.sheet.specs.declared.Settings.{Settings}
+use Rattle.terms.specs.declared.sheet.Settings.{Settings}
 use Rattle.state.proofs.FormedLaws.{formed, formed-ports}
 use Rattle.reads.specs.declared.CertificateRead.{CertificateRead}
-use Rattle.reads.proofs.ReadLaws.{HeldThere, certificate-accepted, certificate-given}
+use Rattle.reads.proofs.CertificateReadLaws.{HeldThere, certificate-accepted, certificate-given}
 use Rattle.engine.specs.Calls.{Call, InRange}
 use Rattle.engine.specs.Engine.{Engine, after}
-use Rattle.engine.specs.Sequences.{afterCalls, AllInRange, NoOpen, Opening, afterOpening}
+use Rattle.engine.specs.Sequences.{after_calls, AllInRange, NoOpen, Opening, after_opening}
 use Rattle.engine.specs.Reached.{Good}
 use Rattle.engine.proofs.RuledLaws.{good-after}
 use Rattle.engine.proofs.ReachedLaws.{intact, reached}
 use Rattle.nonforking.specs.Stored.{Holds, Stored, Shows, StoredShown}
-use Rattle.nonforking.proofs.StoredLaws.{taking-no-open, taken-fits, stored-held}
+use Rattle.nonforking.proofs.StoredLaws.{taking_no_open, taken-fits, stored-held}
 
 -- ---- one state
 
@@ -28,7 +28,7 @@ held-shown e a r p d h k =
     let q = sym (certificate-given e.state t a r refl (certificate-accepted e.state t k) refl refl refl) in
     record {
       accepted = ap (λ (z : CertificateRead). z.answer) q;
-      proposal = ap (λ (z : CertificateRead). contentOf z.proposal) q ∙ proposal-content t a r refl ∙ h.proposal;
+      proposal = ap (λ (z : CertificateRead). content_of z.proposal) q ∙ proposal-content t a r refl ∙ h.proposal;
       endorsers = ap (λ (z : CertificateRead). z.endorsers) q ∙ h.endorsers;
     }
 
@@ -42,13 +42,13 @@ IsRound e r = (0 < r) × (r ≤ e.state.settings.ceiling.0)
 round-stays : {S : Settings} {own : ℕ} {e : Engine} → Good S own e → (c : Call) → InRange c → NoOpen e c → (r : ℕ) → IsRound e r → IsRound (after e c) r
 round-stays g c w o r = subst (λ (z : Settings). (0 < r) × (r ≤ z.ceiling.0)) (g.settings ∙ sym (good-after g c w o).settings)
 
-stored-round : (x : Opening) (l : List Call) → AllInRange l → (p : Content) (d : ℕ) → Stored (afterOpening x) l p d → IsRound (afterCalls (afterOpening x) l) p.round
-unfolding afterCalls
+stored-round : (x : Opening) (l : List Call) → AllInRange l → (p : Content) (d : ℕ) → Stored (after_opening x) l p d → IsRound (after_calls (after_opening x) l) p.round
+unfolding after_calls
 stored-round x (c ∷ l) i p d (inl k) =
-    let e = afterCalls (afterOpening x) l in
+    let e = after_calls (after_opening x) l in
     let g = (intact (reached x l i.1)).good in
     let f = (taken-fits e g c i.0 k.0 p d k.1).0 in
-    round-stays g c i.0 (taking-no-open e c p d k.1) p.round (f.from, f.to)
+    round-stays g c i.0 (taking_no_open e c p d k.1) p.round (f.from, f.to)
 stored-round x (c ∷ l) i p d (inr k) = round-stays (intact (reached x l i.1)).good c i.0 k.0 p.round (stored-round x l i.1 p d k.1)
 stored-round x [] i p d y = elim y [ ]
 
@@ -56,7 +56,7 @@ stored-round x [] i p d y = elim y [ ]
 
 pub stored-shown : StoredShown
 stored-shown x l i p d k =
-    let e = afterCalls (afterOpening x) l in
+    let e = after_calls (after_opening x) l in
     let h = stored-held x l i p d k in
     let r = stored-round x l i p d k in
     held-shown e p.author p.round p d h

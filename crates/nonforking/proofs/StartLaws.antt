@@ -4,22 +4,22 @@ use mathlib.Core.Bool.{true}
 use Prim.Native.Nat.{ℕ, ◌<◌}
 use native.Mathlib.Omega.{arith}
 use Rattle.agreement.specs.Runs.{Initial}
-use Rattle.sheet.specs.declared.Settings.{Settings}
-use Rattle.sheet.specs.Ranges.{SettingsFit}
-use Rattle.committee.proofs.CommitteeLaws.{margin-fits}
+use Rattle.terms.specs.declared.sheet.Settings.{Settings}
+use Rattle.terms.specs.Ranges.{SettingsFit}
+use Rattle.committee.proofs.CommitteeLaws.{margin_fits}
 use Rattle.rules.specs.Tests.{MemberView}
-use Rattle.rules.specs.Calls.{freshView}
+use Rattle.rules.specs.Calls.{fresh_view}
 use Rattle.rules.proofs.Runs.{Group}
 use Rattle.state.proofs.FormedLaws.{formed}
 use Rattle.engine.specs.Calls.{opens}
 use Rattle.engine.specs.Engine.{Engine, after}
-use Rattle.engine.specs.Steps.{viewAt, FreshlyOpened}
+use Rattle.engine.specs.Steps.{view_at, FreshlyOpened}
 use Rattle.engine.specs.Reached.{Good}
 use Rattle.engine.proofs.ReachedLaws.{opened-fresh, fresh-good}
-use Rattle.nonforking.specs.Statement.{Members, engineBehaviour}
+use Rattle.nonforking.specs.Statement.{Members, engine_behaviour}
 use Rattle.nonforking.proofs.Implemented.{implementation}
 
-module _ (X : Members engineBehaviour) where
+module _ (X : Members engine_behaviour) where
   open X use {correct, before, sheet, settings}
 
   -- what the accepted opens leave
@@ -33,14 +33,14 @@ module _ (X : Members engineBehaviour) where
     pub start-good : Good settings k (starts k)
     start-good = subst (λ (S : Settings). Good S k (starts k)) (X.equal k c) (fresh-good begun)
 
-    pub start-view : viewAt settings (starts k) ≡ freshView settings
-    start-view = subst (λ (S : Settings). viewAt S (starts k) ≡ freshView S) (X.equal k c) begun.shows
+    pub start-view : view_at settings (starts k) ≡ fresh_view settings
+    start-view = subst (λ (S : Settings). view_at S (starts k) ≡ fresh_view S) (X.equal k c) begun.shows
 
-    pub start-initial : Initial (viewAt settings (starts k))
-    start-initial =
+    pub start_initial : Initial (view_at settings (starts k))
+    start_initial =
         record {
-          no-proposal = ap (λ (s : MemberView settings). s.proposal) start-view;
-          no-certificate = λ a r. ap (λ (s : MemberView settings). s.dag a r) start-view;
+          without_proposal = ap (λ (s : MemberView settings). s.proposal) start-view;
+          no_certificate = λ a r. ap (λ (s : MemberView settings). s.dag a r) start-view;
           no_block = ap (λ (s : MemberView settings). s.chain) start-view;
         }
 
@@ -51,4 +51,4 @@ module _ (X : Members engineBehaviour) where
     start_fits = let g = start-good in subst SettingsFit g.settings (formed (starts k).state (starts k).table g.formed).settings
 
   abbrev pub group : Group settings (implementation settings)
-  group = record { correct = correct; below = correct-below; fits = λ k c. margin-fits (start_fits k c); start = starts; good = start-good; fresh = start-initial }
+  group = record { correct = correct; below = correct-below; fits = λ k c. margin_fits (start_fits k c); start = starts; good = start-good; fresh = start_initial }

@@ -11,40 +11,40 @@ use lib.Dec.{ltb}
 use borrow.Author.Tests.{ltb-true, le-ltb}
 use Rattle.base.specs.Checks.{refusal}
 use Rattle.base.proofs.CheckLaws.{passes, passes-all}
-use Rattle.base.specs.Folds.{tab, anyTo, allTo, sum_to}
-use Rattle.base.specs.Sets.{mem, isIn, add, is_empty}
-use Rattle.agreement.specs.Places.{isPlace, put, mark}
-use Rattle.agreement.specs.Histories.{level, inHistory}
-use Rattle.agreement.specs.Commits.{inChain, anchorAt, block_of, blocksOf, taken, committed}
+use Rattle.base.specs.Folds.{tab, any_to, all_to, sum_to}
+use Rattle.base.specs.Sets.{mem, is_in, add, is_empty}
+use Rattle.agreement.specs.Places.{is_place, put, mark}
+use Rattle.agreement.specs.Histories.{level, in_history}
+use Rattle.agreement.specs.Commits.{in_chain, anchor_at, block_of, blocks_of, taken, committed}
 use Rattle.agreement.specs.Entries.{states}
 use Rattle.agreement.specs.Listing.{listing}
 use Rattle.terms.specs.declared.Transaction.{Transaction}
 use Rattle.terms.specs.declared.Transaction.TheVariants.{Bond}
 use Rattle.terms.specs.declared.Body.{Body}
 use Rattle.terms.specs.declared.Proposal.{Proposal}
-use Rattle.terms.specs.Proposals.{Content, slot_of, transactionsOf, badTransactions, allInRange, badPreviousSet, sameProposal, sameTransactions}
-use Rattle.terms.specs.Transactions.{noTransaction, bondInRange, sameTransaction}
-use Rattle.sheet.specs.declared.Setting.TheVariants.{Blank, Written}
-use Rattle.sheet.specs.declared.Sheet.{Sheet}
-use Rattle.sheet.specs.declared.Settings.{Settings}
-use Rattle.sheet.specs.Sheets.{blankWeight, weightAt, filled}
-use Rattle.sheet.specs.Ranges.{notWithin, outOfRange, weightless, weightIn}
-use Rattle.committee.specs.Changes.{changes, changesOf, row, rows}
-use Rattle.committee.specs.Committees.{committeeBy, leaderBy, stepFrom, bondedFrom, committeeOf, start_of, ordered, known_by, boundOf, quorumWeight, outsider, short, quorum}
-use Rattle.positions.specs.Positions.{countBelow, memberBelow}
-use Rattle.committee.specs.Leaders.{memberAt, leaderOf}
-use Rattle.rules.specs.Tests.{committeeIn, badRound, signersOf, above, unknown, missing, unvoted}
-use Rattle.rules.specs.Calls.{ruledRefusal, after, result}
-use Rattle.rules.proofs.Runs.{Group, stateAfter, viewAfter, chainAfter}
+use Rattle.terms.specs.Proposals.{Content, slot_of, transactions_of, bad_transactions, all_in_range, bad_previous_set, same_proposal, same_transactions}
+use Rattle.terms.specs.Transactions.{no_transaction, bond_in_range, same_transaction}
+use Rattle.terms.specs.declared.sheet.Setting.TheVariants.{Blank, Written}
+use Rattle.terms.specs.declared.sheet.Sheet.{Sheet}
+use Rattle.terms.specs.declared.sheet.Settings.{Settings}
+use Rattle.terms.specs.Sheets.{blank_weight, weight_at, filled}
+use Rattle.terms.specs.Ranges.{not_within, out_of_range, weightless, weight_in}
+use Rattle.committee.specs.Changes.{changes, changes_of, row, rows}
+use Rattle.committee.specs.Committees.{committee_by, leader_by, step_from, bonded_from, committee_of, start_of, ordered, known_by, bound_of, quorum_weight, outsider, short, quorum}
+use Rattle.committee.specs.Positions.{count_below, member_below}
+use Rattle.committee.specs.Leaders.{member_at, leader_of}
+use Rattle.rules.specs.Tests.{committee_in, bad_round, signers_of, above, unknown, missing, unvoted}
+use Rattle.rules.specs.Calls.{ruled_refusal, after, result}
+use Rattle.rules.proofs.Runs.{Group, state_after, view_after, chain_after}
 use Rattle.rules.proofs.RunTestLaws.{run-found}
-use Rattle.rules.proofs.RunTests.{isMade, is_signed, isBounded, isFair, isRun}
-use Rattle.open.specs.Open.{closedState, openRefusal}
+use Rattle.rules.proofs.RunTests.{is_made, is_signed, is_bounded, is_fair, is_run}
+use Rattle.open.specs.Open.{closed_state, open_refusal}
 use Rattle.engine.specs.Calls.{Call, opens, propose, endorse, certify, accept, advance, commit, aside, committee, share, certificate, block}
-use Rattle.nonforking.specs.Statement.{listed, weights, Members, Entry, engineAfter, Run, engineBehaviour}
+use Rattle.nonforking.specs.Statement.{listed, weights, Members, Entry, engine_after, Run, engine_behaviour}
 use Rattle.nonforking.proofs.Implemented.{sets-fit}
-use Rattle.nonforking.proofs.Converses.{Shown, besideEngines, onTheirViews, shown, by-view, run-back}
-use Rattle.nonforking.proofs.PlainTests.{is_plain, arePlain, in-range, plain-found}
-use Rattle.nonforking.proofs.Answers.{Answered, entries, AreAnswered, areAnswered, answered-found}
+use Rattle.nonforking.proofs.Converses.{Shown, beside_engines, on_their_views, shown, by-view, run-back}
+use Rattle.nonforking.proofs.PlainTests.{is_plain, are_plain, is_in_range, plain-found}
+use Rattle.nonforking.proofs.Answers.{Answered, entries, AreAnswered, are_answered, answered-found}
 
 -- lookback 1, ceiling 4, weight 3 for members 0 and 1, and nothing else written: members 2 and 3 have weight 1
 abbrev sheet : Sheet
@@ -54,21 +54,21 @@ abbrev settings : Settings
 settings = record { lookback = 1; ceiling = record { 0 = 4 }; allowance = 4; weights = 3 ∷ 3 ∷ 1 ∷ 1 ∷ 0 ∷ 0 ∷ 0 ∷ 0 ∷ 0 ∷ 0 ∷ 0 ∷ 0 ∷ 0 ∷ 0 ∷ 0 ∷ 0 ∷ []; margin = 3 }
 
 pub sheet-filled : filled sheet ≡ settings
-unfolding filled tab weightAt blankWeight
+unfolding filled tab weight_at blank_weight
 sheet-filled = refl
 
-pub sheet-accepted : (k : ℕ) → ltb k 3 ≡ true → openRefusal (replicate 1360 0) (record { 0 = k }) (filled sheet) ≡ 0
-unfolding openRefusal outOfRange notWithin weightless anyTo
+pub sheet-accepted : (k : ℕ) → ltb k 3 ≡ true → open_refusal (replicate 1360 0) (record { 0 = k }) (filled sheet) ≡ 0
+unfolding open_refusal out_of_range not_within weightless any_to
 sheet-accepted k h =
     let i = ltb-true k 3 h in
     rw sheet-filled (passes 4 _ (le-ltb 15 k (omega arith)) ∙ passes 2 _ refl ∙ passes 3 _ refl ∙ passes 1 _ refl ∙ passes-all)
 
 -- each on a table of zeros that is just long enough
-abbrev members : Members engineBehaviour
+abbrev members : Members engine_behaviour
 members =
     record {
       correct = λ i. ltb i 3;
-      before = λ i. record { state = closedState; table = replicate 1360 0 };
+      before = λ i. record { state = closed_state; table = replicate 1360 0 };
       sheet = λ i. sheet;
       accepted = sheet-accepted;
       settings = settings;
@@ -84,7 +84,7 @@ abbrev refused : ℕ → ℕ → Call → Answered
 refused n i c = record { entry = record { who = i; call = c }; answer = n }
 
 abbrev with : ℕ → Body
-with previous = record { previous = previous; count = 0; slots = replicate 4 (record { transaction = noTransaction }) }
+with previous = record { previous = previous; count = 0; slots = replicate 4 (record { transaction = no_transaction }) }
 
 -- one bond, to member 0
 abbrev bond : Body
@@ -160,48 +160,48 @@ pub record Witness : Type 0 where
   pub premises : Run members calls
   -- each entry is answered with the number that stands at it
   pub answers : AreAnswered members round4
-  pub listed-by-0 : listed (engineAfter members calls 0) ≡ made
-  pub listed-by-1 : listed (engineAfter members calls 1) ≡ made
-  pub listed-by-2 : listed (engineAfter members calls 2) ≡ []
+  pub listed-by_0 : listed (engine_after members calls 0) ≡ made
+  pub listed-by_1 : listed (engine_after members calls 1) ≡ made
+  pub listed-by_2 : listed (engine_after members calls 2) ≡ []
   -- the bond is out in round 3 and in from round 4
-  pub weight-before : weights (engineAfter members calls 1) 3 0 ≡ 3
-  pub weight-after : weights (engineAfter members calls 1) 4 0 ≡ 8
+  pub weight-before : weights (engine_after members calls 1) 3 0 ≡ 3
+  pub weight-after : weights (engine_after members calls 1) 4 0 ≡ 8
   -- the signers of the certificate of round 4 are no quorum of the starting committee, and are one of the changed committee
-  pub short-before : quorum settings.margin (weights (engineAfter members calls 1) 1) (isIn 9) ≡ false
-  pub enough-after : quorum settings.margin (weights (engineAfter members calls 1) 4) (isIn 9) ≡ true
+  pub short-before : quorum settings.margin (weights (engine_after members calls 1) 1) (is_in 9) ≡ false
+  pub enough-after : quorum settings.margin (weights (engine_after members calls 1) 4) (is_in 9) ≡ true
 
 -- ---- the proof: all is computed on the views of the rules
 
-pub settings-fit : outOfRange settings ≡ false
-unfolding outOfRange notWithin anyTo
+pub settings-fit : out_of_range settings ≡ false
+unfolding out_of_range not_within any_to
 settings-fit = refl
 
 -- the members' views, after the same calls
-abbrev views : Group settings (besideEngines settings)
-views = onTheirViews members settings-fit
+abbrev views : Group settings (beside_engines settings)
+views = on_their_views members settings-fit
 
 record Computed : Type 0 where
-  plain : arePlain calls ≡ true
-  run : isRun views (λ k s c. is_plain c) calls ≡ true
-  answers : areAnswered members settings-fit round4 ≡ true
-  listed-by-0 : listing (ordered settings) (chainAfter views calls 0) ≡ made
-  listed-by-1 : listing (ordered settings) (chainAfter views calls 1) ≡ made
-  listed-by-2 : listing (ordered settings) (chainAfter views calls 2) ≡ []
-  weight-before : committeeIn settings (viewAfter views calls 1) 3 0 ≡ 3
-  weight-after : committeeIn settings (viewAfter views calls 1) 4 0 ≡ 8
-  short-before : quorum settings.margin (committeeIn settings (viewAfter views calls 1) 1) (isIn 9) ≡ false
-  enough-after : quorum settings.margin (committeeIn settings (viewAfter views calls 1) 4) (isIn 9) ≡ true
+  plain : are_plain calls ≡ true
+  run : is_run views (λ k s c. is_plain c) calls ≡ true
+  answers : are_answered members settings-fit round4 ≡ true
+  listed-by_0 : listing (ordered settings) (chain_after views calls 0) ≡ made
+  listed-by_1 : listing (ordered settings) (chain_after views calls 1) ≡ made
+  listed-by_2 : listing (ordered settings) (chain_after views calls 2) ≡ []
+  weight-before : committee_in settings (view_after views calls 1) 3 0 ≡ 3
+  weight-after : committee_in settings (view_after views calls 1) 4 0 ≡ 8
+  short-before : quorum settings.margin (committee_in settings (view_after views calls 1) 1) (is_in 9) ≡ false
+  enough-after : quorum settings.margin (committee_in settings (view_after views calls 1) 4) (is_in 9) ≡ true
 
 computed : Computed
-unfolding transactionsOf slot_of tab states result ruledRefusal after put mark isPlace refusal badTransactions allInRange bondInRange badPreviousSet is_empty unknown known_by committeeOf committeeBy leaderBy stepFrom bondedFrom start_of ordered rows row changesOf changes above missing quorum outsider short quorumWeight boundOf anyTo sum_to isIn mem add signersOf badRound sameProposal sameTransactions sameTransaction unvoted anchorAt leaderOf memberAt memberBelow countBelow inChain block_of blocksOf taken committed level inHistory listing isMade is_signed isBounded isFair isRun allTo
+unfolding transactions_of slot_of tab states result ruled_refusal after put mark is_place refusal bad_transactions all_in_range bond_in_range bad_previous_set is_empty unknown known_by committee_of committee_by leader_by step_from bonded_from start_of ordered rows row changes_of changes above missing quorum outsider short quorum_weight bound_of any_to sum_to is_in mem add signers_of bad_round same_proposal same_transactions same_transaction unvoted anchor_at leader_of member_at member_below count_below in_chain block_of blocks_of taken committed level in_history listing is_made is_signed is_bounded is_fair is_run all_to
 computed =
     record {
       plain = refl;
       run = refl;
       answers = refl;
-      listed-by-0 = refl;
-      listed-by-1 = refl;
-      listed-by-2 = refl;
+      listed-by_0 = refl;
+      listed-by_1 = refl;
+      listed-by_2 = refl;
       weight-before = refl;
       weight-after = refl;
       short-before = refl;
@@ -211,15 +211,15 @@ computed =
 pub witness : Witness
 witness =
     let plain = plain-found members calls computed.plain in
-    let at : (i : ℕ) → ltb i 3 ≡ true → Shown settings i (engineAfter members calls i) (stateAfter views calls i) = shown members settings-fit calls plain in
+    let at : (i : ℕ) → ltb i 3 ≡ true → Shown settings i (engine_after members calls i) (state_after views calls i) = shown members settings-fit calls plain in
     record {
-      premises = run-back members settings-fit calls plain (run-found views (λ k s c. is_plain c) (λ k s c h. sets-fit settings k s.0 s.1 c (in-range c h)) calls computed.run);
+      premises = run-back members settings-fit calls plain (run-found views (λ k s c. is_plain c) (λ k s c h. sets-fit settings k s.0 s.1 c (is_in_range c h)) calls computed.run);
       answers = answered-found members settings-fit round4 computed.plain computed.answers;
-      listed-by-0 = by-view members settings-fit (λ S x. listing (ordered S) x ≡ made) (at 0 refl) computed.listed-by-0;
-      listed-by-1 = by-view members settings-fit (λ S x. listing (ordered S) x ≡ made) (at 1 refl) computed.listed-by-1;
-      listed-by-2 = by-view members settings-fit (λ S x. listing (ordered S) x ≡ []) (at 2 refl) computed.listed-by-2;
-      weight-before = by-view members settings-fit (λ S x. weightIn (committeeOf S x 3) 0 ≡ 3) (at 1 refl) computed.weight-before;
-      weight-after = by-view members settings-fit (λ S x. weightIn (committeeOf S x 4) 0 ≡ 8) (at 1 refl) computed.weight-after;
-      short-before = by-view members settings-fit (λ S x. quorum settings.margin (weightIn (committeeOf S x 1)) (isIn 9) ≡ false) (at 1 refl) computed.short-before;
-      enough-after = by-view members settings-fit (λ S x. quorum settings.margin (weightIn (committeeOf S x 4)) (isIn 9) ≡ true) (at 1 refl) computed.enough-after;
+      listed-by_0 = by-view members settings-fit (λ S x. listing (ordered S) x ≡ made) (at 0 refl) computed.listed-by_0;
+      listed-by_1 = by-view members settings-fit (λ S x. listing (ordered S) x ≡ made) (at 1 refl) computed.listed-by_1;
+      listed-by_2 = by-view members settings-fit (λ S x. listing (ordered S) x ≡ []) (at 2 refl) computed.listed-by_2;
+      weight-before = by-view members settings-fit (λ S x. weight_in (committee_of S x 3) 0 ≡ 3) (at 1 refl) computed.weight-before;
+      weight-after = by-view members settings-fit (λ S x. weight_in (committee_of S x 4) 0 ≡ 8) (at 1 refl) computed.weight-after;
+      short-before = by-view members settings-fit (λ S x. quorum settings.margin (weight_in (committee_of S x 1)) (is_in 9) ≡ false) (at 1 refl) computed.short-before;
+      enough-after = by-view members settings-fit (λ S x. quorum settings.margin (weight_in (committee_of S x 4)) (is_in 9) ≡ true) (at 1 refl) computed.enough-after;
     }

@@ -1,47 +1,47 @@
 -- What a held certificate keeps, and what the certificate read shows of it: the proposal and the endorsers that it was stored with.
 use Rattle.std.specs.Prelude.{◌≡◌, true, List, [], ◌∷◌, ◌⊎◌, ℕ, ◌<◌, ◌≤◌}
-use Rattle.terms.specs.Proposals.{Content, contentOf}
-use Rattle.store.specs.Table.{held_at, endorsersAt, contentAt}
-use Rattle.checks.specs.declared.Answer.TheVariants.{Accepted}
-use Rattle.reads.specs.Reads.{certificateAnswer}
+use Rattle.terms.specs.Proposals.{Content, content_of}
+use Rattle.store.specs.Table.{held_at, endorsers_at, content_at}
+use Rattle.state.specs.declared.checks.Answer.TheVariants.{Accepted}
+use Rattle.reads.specs.CertificateReads.{certificate_answer}
 use Rattle.engine.specs.Calls.{Call}
-use Rattle.engine.specs.Engine.{Engine, refusalFor}
-use Rattle.engine.specs.Sequences.{afterCalls, AllInRange, NoOpen, NoOpens, Opening, afterOpening}
+use Rattle.engine.specs.Engine.{Engine, refusal_for}
+use Rattle.engine.specs.Sequences.{after_calls, AllInRange, NoOpen, NoOpens, Opening, after_opening}
 use Rattle.nonforking.specs.Statement.{Takes}
 
 -- the table t holds the certificate of author a and round r, with its proposal p and its endorsers d; rounds are from 1, and row 0 holds no certificates
 pub record Holds (t : List ℕ) (a r : ℕ) (p : Content) (d : ℕ) : Type 0 where
   pub from : 0 < r
   pub held : held_at t a r ≡ true
-  pub proposal : contentAt t a r ≡ p
-  pub endorsers : endorsersAt t a r ≡ d
+  pub proposal : content_at t a r ≡ p
+  pub endorsers : endorsers_at t a r ≡ d
 
 -- an accepted certify or accept of the list, newest first, took the certificate of p with the endorsers d, and no open was accepted since
 abbrev pub Stored : Engine → List Call → Content → ℕ → Type 0
 Stored e [] p d = ⊥
-Stored e (c ∷ l) p d = ((refusalFor (afterCalls e l) c ≡ 0) × Takes (afterCalls e l) c p d) ⊎ (NoOpen (afterCalls e l) c × Stored e l p d)
+Stored e (c ∷ l) p d = ((refusal_for (after_calls e l) c ≡ 0) × Takes (after_calls e l) c p d) ⊎ (NoOpen (after_calls e l) c × Stored e l p d)
 
 -- the certificate read of author a and round r is accepted, and gives the proposal p and the endorsers d
 pub record Shows (e : Engine) (a r : ℕ) (p : Content) (d : ℕ) : Type 0 where
-  pub accepted : (certificateAnswer e.state e.table a r).answer ≡ Accepted
-  pub proposal : contentOf (certificateAnswer e.state e.table a r).proposal ≡ p
-  pub endorsers : (certificateAnswer e.state e.table a r).endorsers ≡ d
+  pub accepted : (certificate_answer e.state e.table a r).answer ≡ Accepted
+  pub proposal : content_of (certificate_answer e.state e.table a r).proposal ≡ p
+  pub endorsers : (certificate_answer e.state e.table a r).endorsers ≡ d
 
 -- ---- what is claimed, of every list of calls
 
 -- a held certificate stays held, with its proposal and its endorsers, whatever calls follow, as long as no open is accepted
 abbrev pub CertificateStays : Type 0
-CertificateStays = (e : Engine) (l : List Call) → NoOpens e l → (a r : ℕ) (p : Content) (d : ℕ) → Holds e.table a r p d → Holds (afterCalls e l).table a r p d
+CertificateStays = (e : Engine) (l : List Call) → NoOpens e l → (a r : ℕ) (p : Content) (d : ℕ) → Holds e.table a r p d → Holds (after_calls e l).table a r p d
 
 -- from an opening: what an accepted certify or accept took since the last accepted open is held, with the endorsers that it took it with
 abbrev pub StoredHeld : Type 0
-StoredHeld = (x : Opening) (l : List Call) → AllInRange l → (p : Content) (d : ℕ) → Stored (afterOpening x) l p d → Holds (afterCalls (afterOpening x) l).table p.author p.round p d
+StoredHeld = (x : Opening) (l : List Call) → AllInRange l → (p : Content) (d : ℕ) → Stored (after_opening x) l p d → Holds (after_calls (after_opening x) l).table p.author p.round p d
 
 -- and what is held an accepted certify or accept took, with those endorsers
 abbrev pub HeldStored : Type 0
-HeldStored = (x : Opening) (l : List Call) → AllInRange l → (a r : ℕ) (p : Content) (d : ℕ) → r ≤ (afterCalls (afterOpening x) l).state.settings.ceiling.0
-    → Holds (afterCalls (afterOpening x) l).table a r p d → Stored (afterOpening x) l p d
+HeldStored = (x : Opening) (l : List Call) → AllInRange l → (a r : ℕ) (p : Content) (d : ℕ) → r ≤ (after_calls (after_opening x) l).state.settings.ceiling.0
+    → Holds (after_calls (after_opening x) l).table a r p d → Stored (after_opening x) l p d
 
 -- what is held so, the read shows
 abbrev pub StoredShown : Type 0
-StoredShown = (x : Opening) (l : List Call) → AllInRange l → (p : Content) (d : ℕ) → Stored (afterOpening x) l p d → Shows (afterCalls (afterOpening x) l) p.author p.round p d
+StoredShown = (x : Opening) (l : List Call) → AllInRange l → (p : Content) (d : ℕ) → Stored (after_opening x) l p d → Shows (after_calls (after_opening x) l) p.author p.round p d

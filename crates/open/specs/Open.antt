@@ -2,45 +2,45 @@
 use Rattle.std.specs.Prelude.{false, List, [], ◌∷◌, ℕ, length, replicate, ltb}
 use Rattle.base.specs.Checks.{Checks, refusal}
 use Rattle.terms.specs.declared.Member.{Member}
-use Rattle.store.specs.Table.{usedLength}
-use Rattle.writes.specs.Writes.{clearUsed}
-use Rattle.sheet.specs.declared.Rights.{Rights}
-use Rattle.sheet.specs.declared.Settings.{Settings}
-use Rattle.sheet.specs.declared.Sheet.{Sheet}
-use Rattle.sheet.specs.Sheets.{filled}
-use Rattle.sheet.specs.Ranges.{outOfRange, weightless}
+use Rattle.store.specs.Table.{used_length}
+use Rattle.store.specs.Writes.{clear_used}
+use Rattle.terms.specs.declared.sheet.Rights.{Rights}
+use Rattle.terms.specs.declared.sheet.Settings.{Settings}
+use Rattle.terms.specs.declared.sheet.Sheet.{Sheet}
+use Rattle.terms.specs.Sheets.{filled}
+use Rattle.terms.specs.Ranges.{out_of_range, weightless}
 use Rattle.state.specs.declared.State.{State}
-use Rattle.state.specs.States.{fresh, noBody}
-use Rattle.checks.specs.declared.Outcome.{Outcome}
-use Rattle.checks.specs.Answers.{ifAccepted, outcomeOf}
+use Rattle.state.specs.States.{fresh, no_body}
+use Rattle.state.specs.declared.checks.Outcome.{Outcome}
+use Rattle.state.specs.Answers.{if_accepted, outcome_of}
 
 -- the state before an open: it is not well formed
-abbrev pub closedState : State
-closedState =
+abbrev pub closed_state : State
+closed_state =
     record {
       own = record { 0 = 0 };
       settings = record { lookback = 0; ceiling = record { 0 = 0 }; allowance = 0; weights = replicate 16 0; margin = 0 };
       round = record { 0 = 0 };
       proposing = false;
-      body = noBody;
+      body = no_body;
       blocks = 0;
       rights = record { 0 = 0 };
     }
 
 -- a fresh state has round 1 and nothing else, beside the rights
-abbrev pub freshState : Member → Settings → Rights → State
-freshState own S R = fresh own S R noBody
+abbrev pub fresh_state : Member → Settings → Rights → State
+fresh_state own S R = fresh own S R no_body
 
 -- 4 member above 15; 2 setting out of range; 3 no positive weight; 1 lent table too short
 abbrev pub opening : List ℕ → Member → Settings → Checks
-opening t own S = (ltb 15 own.0, 4) ∷ (outOfRange S, 2) ∷ (weightless S, 3) ∷ (ltb (length t) (usedLength S.ceiling.0), 1) ∷ []
+opening t own S = (ltb 15 own.0, 4) ∷ (out_of_range S, 2) ∷ (weightless S, 3) ∷ (ltb (length t) (used_length S.ceiling.0), 1) ∷ []
 
-unfoldable pub openRefusal : List ℕ → Member → Settings → ℕ
-openRefusal t own S = refusal (opening t own S)
+unfoldable pub open_refusal : List ℕ → Member → Settings → ℕ
+open_refusal t own S = refusal (opening t own S)
 
 -- of a sheet only its filled settings and the rights are seen
-unfoldable pub openOutcome : State → List ℕ → Member → Sheet → Outcome
-openOutcome s t own sheet = outcomeOf (openRefusal t own (filled sheet)) (freshState own (filled sheet) sheet.rights) s
+unfoldable pub open_outcome : State → List ℕ → Member → Sheet → Outcome
+open_outcome s t own sheet = outcome_of (open_refusal t own (filled sheet)) (fresh_state own (filled sheet) sheet.rights) s
 
-unfoldable pub openTable : List ℕ → Member → Sheet → List ℕ
-openTable t own sheet = ifAccepted (openRefusal t own (filled sheet)) (clearUsed t (filled sheet).ceiling.0) t
+unfoldable pub open_table : List ℕ → Member → Sheet → List ℕ
+open_table t own sheet = if_accepted (open_refusal t own (filled sheet)) (clear_used t (filled sheet).ceiling.0) t

@@ -2,19 +2,20 @@
 #![tactic(auto)]
 
 ghost use Rattle.std.specs.Prelude.{◌≡◌};
-ghost use Rattle.sheet.specs.Sheets.{filled};
-ghost use Rattle.checks.specs.Answers.{WritingCallAnswered};
-ghost use Rattle.open.specs.Open.{closedState, freshState, openRefusal, openOutcome, openTable};
+ghost use Rattle.terms.specs.Sheets.{filled};
+ghost use Rattle.state.specs.Answers.{WritingCallAnswered};
+ghost use Rattle.open.specs.Open.{closed_state, fresh_state, open_refusal, open_outcome, open_table};
 
-use checks::{Answer, Outcome};
-use sheet::{Rights, Settings, Sheet};
 use state::State;
+use state::checks::{Answer, Outcome};
+use store::clearing;
 use store::lengths::ROW;
-use terms::{Member, Round};
+use terms::sheet::{Rights, Settings, Sheet};
+use terms::{Member, Round, sheet};
 
 // The state before an open: it is not well formed, so every call but open answers 1.
 pub fn closed() -> State
-    ensures { result ≡ closedState }
+    ensures { result ≡ closed_state }
 {
     State {
         own: Member(0),
@@ -35,7 +36,7 @@ pub fn closed() -> State
 
 // Round 1 and nothing else, beside the rights.
 fn fresh(own: Member, settings: Settings, rights: Rights) -> State
-    ensures { result ≡ freshState own settings rights }
+    ensures { result ≡ fresh_state own settings rights }
 {
     State {
         own,
@@ -50,7 +51,7 @@ fn fresh(own: Member, settings: Settings, rights: Rights) -> State
 
 // The number of the first check that refuses, 0 for none: 4 member above 15; 2 setting out of range; 3 no positive weight; 1 lent table too short.
 pub fn open_refusal(t: &[u32], own: Member, settings: Settings) -> u32
-    ensures { result ≡ openRefusal t.now own settings }
+    ensures { result ≡ open_refusal t.now own settings }
 {
     if 15 < own.0 {
         return 4;
@@ -69,7 +70,7 @@ pub fn open_refusal(t: &[u32], own: Member, settings: Settings) -> u32
 
 // Opens the engine of a member; a refused open leaves the state s and the table as they were.
 pub fn open(s: State, t: &mut [u32], own: Member, written: Sheet) -> Outcome
-    ensures { WritingCallAnswered (openOutcome s t.old own written) (openTable t.old own written) (openRefusal t.old own (filled written)) result t.new }
+    ensures { WritingCallAnswered (open_outcome s t.old own written) (open_table t.old own written) (open_refusal t.old own (filled written)) result t.new }
 {
     let settings = sheet::fill(written);
     let n = open_refusal(t, own, settings);

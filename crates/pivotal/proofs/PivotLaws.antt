@@ -8,44 +8,44 @@ use native.Mathlib.Decide.{dec_lt, ℕ_discrete}
 use native.Mathlib.Omega.{arith}
 use lib.Dec.{eqb, leb, ltb}
 use borrow.Author.Tests.{eq-eqb, ne_eqb, lt-leb, le-leb, lt-ltb, le-ltb}
-use Rattle.base.proofs.SumLaws.{sum_same, sum-without}
+use Rattle.base.proofs.SumLaws.{sum_same, sum_without}
 use Rattle.agreement.specs.Weights.{weigh, total}
 use Rattle.agreement.specs.Anchors.{votes}
 use Rattle.terms.specs.Proposals.{Content}
-use Rattle.store.specs.Table.{held_at, contentAt}
+use Rattle.store.specs.Table.{held_at, content_at}
 use Rattle.store.proofs.TableLaws.{held_in, content-author, content-round}
-use Rattle.sheet.specs.Ranges.{weightIn}
-use Rattle.committee.specs.Chain.{chainOf}
-use Rattle.committee.specs.Committees.{boundOf}
-use Rattle.rules.specs.Tests.{committeeIn}
+use Rattle.terms.specs.Ranges.{weight_in}
+use Rattle.committee.specs.Chain.{chain_of}
+use Rattle.committee.specs.Committees.{bound_of}
+use Rattle.rules.specs.Tests.{committee_in}
 use Rattle.state.specs.declared.State.{State}
 use Rattle.state.specs.View.{view}
 use Rattle.state.proofs.ViewLaws.{vote-dag}
-use Rattle.votes.specs.Votes.{votesAt, votesFor}
-use Rattle.votes.specs.Checks.{committeeOn}
-use Rattle.votes.proofs.AnchorLaws.{leaderOn}
+use Rattle.votes.specs.Votes.{votes_at, votes_for}
+use Rattle.votes.specs.Checks.{committee_on}
+use Rattle.votes.proofs.AnchorLaws.{leader_on}
 use Rattle.votes.proofs.CheckLaws.{anchor-led}
-use Rattle.critical.specs.Critical.{Place, isCritical, criticalAt, criticalIn, criticalPlaces}
+use Rattle.critical.specs.Critical.{Place, is_critical, critical_at, critical_in, critical_places}
 use Rattle.critical.specs.Answers.{Weighs, Free}
 use Rattle.critical.specs.declared.Weighed.{Weighed}
 use Rattle.critical.proofs.LackLaws.{enough, leader-low, before-critical, now-critical, absent-critical}
 use Rattle.commit.proofs.CheckLaws.{Accepted, accepted}
-use Rattle.pivotal.specs.Pivotal.{unvotedWithout, pivotalVotes, pivots, CommitsHangOnPivots}
+use Rattle.pivotal.specs.Pivotal.{unvoted_without, pivotal_votes, pivots, CommitsHangOnPivots}
 use Rattle.pivotal.proofs.BelowLaws.{Below, reached-below}
 use Rattle.pivotal.proofs.FreeLaws.{free-above}
 
 -- not more than: by the other test
-leb-not : (m n : ℕ) → leb m n ≡ not (ltb n m)
-leb-not m n = go (dec_lt n m)
+leb_not : (m n : ℕ) → leb m n ≡ not (ltb n m)
+leb_not m n = go (dec_lt n m)
   where
     go : Dec (n < m) → leb m n ≡ not (ltb n m)
     go (yes h) = rw (lt-leb m n h, lt-ltb n m h) refl
     go (no h) = rw (le-leb m n (omega arith), le-ltb n m (omega arith)) refl
 
 -- a set without a, which is in it, weighs so much less
-weigh-without : (w : ℕ → ℕ) (f : ℕ → Bool) (a : ℕ) → a < 16 → f a ≡ true → weigh 16 w (λ i. f i && not (eqb i a)) ≡ weigh 16 w f - w a
-weigh-without w f a h e =
-    let p = sum-without (λ i. cond (f i) (w i) 0) (λ i. cond (f i && not (eqb i a)) (w i) 0) 16 a h (rw (e, eq-eqb a a refl) refl) (λ i n. rw (ne_eqb i a n) (kept (f i) (w i))) in
+weigh_without : (w : ℕ → ℕ) (f : ℕ → Bool) (a : ℕ) → a < 16 → f a ≡ true → weigh 16 w (λ i. f i && not (eqb i a)) ≡ weigh 16 w f - w a
+weigh_without w f a h e =
+    let p = sum_without (λ i. cond (f i) (w i) 0) (λ i. cond (f i && not (eqb i a)) (w i) 0) 16 a h (rw (e, eq-eqb a a refl) refl) (λ i n. rw (ne_eqb i a n) (kept (f i) (w i))) in
     let q : cond (f a) (w a) 0 ≡ w a = rw e refl in
     omega (arith, p, q)
   where
@@ -53,24 +53,24 @@ weigh-without w f a h e =
     kept true k = refl
     kept false k = refl
 
-module _ (s : State) (t : List ℕ) (y : Accepted s t) (b : Below (chainOf s.settings.ceiling.0 t s.blocks)) where
+module _ (s : State) (t : List ℕ) (y : Accepted s t) (b : Below (chain_of s.settings.ceiling.0 t s.blocks)) where
   abbrev r : ℕ
   r = s.round.0
 
   abbrev lead : ℕ
-  lead = leaderOn s t (r - 1)
+  lead = leader_on s t (r - 1)
 
   abbrev w : List ℕ
-  w = committeeOn s t r
+  w = committee_on s t r
 
   abbrev x : Content
-  x = contentAt t lead (r - 1)
+  x = content_at t lead (r - 1)
 
   abbrev weighed : Weighed
-  weighed = record { leader = record { 0 = lead }; weights = w; bound = record { 0 = boundOf s.settings.margin (total 16 (weightIn w)) }; votes = record { 0 = votesFor t w r lead } }
+  weighed = record { leader = record { 0 = lead }; weights = w; bound = record { 0 = bound_of s.settings.margin (total 16 (weight_in w)) }; votes = record { 0 = votes_for t w r lead } }
 
   weighs : Weighs s t weighed
-  weighs = record { timely = record { formed = y.formed; in-time = y.in-time }; voted = y.voted; its-leader = refl; its-weights = refl; its-bound = refl; its-votes = refl }
+  weighs = record { timely = record { formed = y.formed; in_time = y.in_time }; voted = y.voted; its-leader = refl; its-weights = refl; its-bound = refl; its-votes = refl }
 
   above : suc (r - 1) ≡ r
   above = omega (arith, y.timely.from)
@@ -83,20 +83,20 @@ module _ (s : State) (t : List ℕ) (y : Accepted s t) (b : Below (chainOf s.set
 
   -- ---- the round before: the anchor
 
-  pub before : (a : ℕ) → a < 16 → isCritical s t a (r - 1) ≡ eqb a lead
+  pub before : (a : ℕ) → a < 16 → is_critical s t a (r - 1) ≡ eqb a lead
   before a m = go (held_at t a (r - 1)) refl
     where
-      go : (h : Bool) → held_at t a (r - 1) ≡ h → isCritical s t a (r - 1) ≡ eqb a lead
+      go : (h : Bool) → held_at t a (r - 1) ≡ h → is_critical s t a (r - 1) ≡ eqb a lead
       go true h = before-critical weighs (record { member = m; near = inr refl }) (free a (r - 1) h (omega arith) (omega arith)) (λ e. omega (arith, y.timely.from))
       go false h = absent-critical s t a (r - 1) h ∙ sym (ne_eqb a lead (λ e. true≢false (sym y.led ∙ sym (held_in t lead (r - 1)) ∙ rw e at h)))
 
   abbrev anchor : Place
   anchor = record { round = r - 1; author = lead }
 
-  row_before : (n : ℕ) → n ≤ 16 → criticalIn s t (r - 1) n ≡ cond (ltb lead n) (anchor ∷ []) []
-  unfolding criticalIn criticalAt
+  row_before : (n : ℕ) → n ≤ 16 → critical_in s t (r - 1) n ≡ cond (ltb lead n) (anchor ∷ []) []
+  unfolding critical_in critical_at
   row_before zero l = rw (le-ltb lead 0 (omega arith)) refl
-  row_before (suc n) l = ap (λ (k : List Place). k ++ criticalAt s t n (r - 1)) (row_before n (omega arith)) ∙ rw (before n (omega arith)) (go (dec_lt lead n) (ℕ_discrete n lead))
+  row_before (suc n) l = ap (λ (k : List Place). k ++ critical_at s t n (r - 1)) (row_before n (omega arith)) ∙ rw (before n (omega arith)) (go (dec_lt lead n) (ℕ_discrete n lead))
     where
       go : Dec (lead < n) → Dec (n ≡ lead)
           → (cond (ltb lead n) (anchor ∷ []) [] ++ cond (eqb n lead) (record { round = r - 1; author = n } ∷ []) []) ≡ cond (ltb lead (suc n)) (anchor ∷ []) []
@@ -107,54 +107,54 @@ module _ (s : State) (t : List ℕ) (y : Accepted s t) (b : Below (chainOf s.set
 
   -- ---- the present round: votes
 
-  votes-at : (a : ℕ) → votes (view s t) x a ≡ votesAt t r lead a
-  unfolding votesAt
+  votes-at : (a : ℕ) → votes (view s t) x a ≡ votes_at t r lead a
+  unfolding votes_at
   votes-at a = rw (content-author t lead (r - 1), content-round t lead (r - 1), above) (vote-dag s.settings.ceiling.0 t a r (omega (arith, y.timely.from)) y.formed.numbers.round-to s.settings lead)
 
-  votes-absent : (a : ℕ) → held_at t a r ≡ false → votesAt t r lead a ≡ false
-  unfolding votesAt
+  votes-absent : (a : ℕ) → held_at t a r ≡ false → votes_at t r lead a ≡ false
+  unfolding votes_at
   votes-absent a h = rw h refl
 
   -- the weight of the votes but a's, where a votes
-  others : (a : ℕ) → a < 16 → votesAt t r lead a ≡ true → weigh 16 (weightIn w) (λ i. votes (view s t) x i && not (eqb i a)) ≡ votesFor t w r lead - weightIn w a
-  unfolding votesFor
+  others : (a : ℕ) → a < 16 → votes_at t r lead a ≡ true → weigh 16 (weight_in w) (λ i. votes (view s t) x i && not (eqb i a)) ≡ votes_for t w r lead - weight_in w a
+  unfolding votes_for
   others a m e =
-      sum_same _ _ 16 (λ i h. ap (λ (b : Bool). cond (b && not (eqb i a)) (weightIn w i) 0) (votes-at i))
-      ∙ weigh-without (weightIn w) (votesAt t r lead) a m e
+      sum_same _ _ 16 (λ i h. ap (λ (b : Bool). cond (b && not (eqb i a)) (weight_in w i) 0) (votes-at i))
+      ∙ weigh_without (weight_in w) (votes_at t r lead) a m e
 
-  unvoted-without : (a : ℕ) → a < 16 → votesAt t r lead a ≡ true
-      → unvotedWithout s.settings (view s t) x a ≡ leb (votesFor t w r lead - weightIn w a) (boundOf s.settings.margin (total 16 (weightIn w)))
-  unfolding unvotedWithout
-  unvoted-without a m e =
-      let voters : ℕ → ℕ → ℕ = λ q. committeeIn s.settings (view s t) q in
-      ap₂ (λ (k l : ℕ). not (ltb k l)) (ap (λ (q : ℕ). boundOf s.settings.margin (total 16 (voters q))) up)
+  unvoted_so : (a : ℕ) → a < 16 → votes_at t r lead a ≡ true
+      → unvoted_without s.settings (view s t) x a ≡ leb (votes_for t w r lead - weight_in w a) (bound_of s.settings.margin (total 16 (weight_in w)))
+  unfolding unvoted_without
+  unvoted_so a m e =
+      let voters : ℕ → ℕ → ℕ = λ q. committee_in s.settings (view s t) q in
+      ap₂ (λ (k l : ℕ). not (ltb k l)) (ap (λ (q : ℕ). bound_of s.settings.margin (total 16 (voters q))) up)
       (ap (λ (q : ℕ). weigh 16 (voters q) (λ i. votes (view s t) x i && not (eqb i a))) up ∙ others a m e)
-      ∙ sym (leb-not (votesFor t w r lead - weightIn w a) (boundOf s.settings.margin (total 16 (weightIn w))))
+      ∙ sym (leb_not (votes_for t w r lead - weight_in w a) (bound_of s.settings.margin (total 16 (weight_in w))))
 
-  pub now : (a : ℕ) → a < 16 → isCritical s t a r ≡ (votes (view s t) x a && unvotedWithout s.settings (view s t) x a)
-  now a m = rw (votes-at a) (go (held_at t a r) refl (votesAt t r lead a) refl)
+  pub now : (a : ℕ) → a < 16 → is_critical s t a r ≡ (votes (view s t) x a && unvoted_without s.settings (view s t) x a)
+  now a m = rw (votes-at a) (go (held_at t a r) refl (votes_at t r lead a) refl)
     where
-      go : (h : Bool) → held_at t a r ≡ h → (v : Bool) → votesAt t r lead a ≡ v → isCritical s t a r ≡ (v && unvotedWithout s.settings (view s t) x a)
+      go : (h : Bool) → held_at t a r ≡ h → (v : Bool) → votes_at t r lead a ≡ v → is_critical s t a r ≡ (v && unvoted_without s.settings (view s t) x a)
       go true h true e =
-          now-critical weighs (record { member = m; near = inl refl }) (free a r h (omega arith) (omega arith)) refl (weightIn w a) (rw e refl) ∙ sym (unvoted-without a m e)
+          now-critical weighs (record { member = m; near = inl refl }) (free a r h (omega arith) (omega arith)) refl (weight_in w a) (rw e refl) ∙ sym (unvoted_so a m e)
       go true h false e =
           now-critical weighs (record { member = m; near = inl refl }) (free a r h (omega arith) (omega arith)) refl 0 (rw e refl)
-          ∙ lt-leb (votesFor t w r lead - 0) (boundOf s.settings.margin (total 16 (weightIn w))) (omega (arith, enough weighs))
+          ∙ lt-leb (votes_for t w r lead - 0) (bound_of s.settings.margin (total 16 (weight_in w))) (omega (arith, enough weighs))
       go false h true e = absurd (true≢false (sym e ∙ votes-absent a h))
       go false h false e = absent-critical s t a r h
 
-  row_now : (n : ℕ) → n ≤ 16 → criticalIn s t r n ≡ pivotalVotes s.settings (view s t) x n
-  unfolding criticalIn criticalAt pivotalVotes
+  row_now : (n : ℕ) → n ≤ 16 → critical_in s t r n ≡ pivotal_votes s.settings (view s t) x n
+  unfolding critical_in critical_at pivotal_votes
   row_now zero l = refl
   row_now (suc n) l = ap₂ (λ (k m : List Place). k ++ m) (row_now n (omega arith)) (rw (now n (omega arith), content-round t lead (r - 1), above) refl)
 
   -- ---- both
 
-  pub hangs : criticalPlaces s t ≡ pivots s.settings (view s t) x
-  unfolding criticalPlaces
+  pub hangs : critical_places s t ≡ pivots s.settings (view s t) x
+  unfolding critical_places
   hangs = rw (row_before 16 (omega arith), row_now 16 (omega arith), lt-ltb lead 16 (leader-low weighs), content-round t lead (r - 1), content-author t lead (r - 1)) refl
 
-pub commits-hang-on-pivots : CommitsHangOnPivots
-commits-hang-on-pivots e h a =
+pub commits_hang_on-pivots : CommitsHangOnPivots
+commits_hang_on-pivots e h a =
     let y = accepted e.state e.table a in
     record { anchor = _; is-anchor = anchor-led _ _ y.formed y.timely.from y.led; exactly = hangs e.state e.table y (reached-below h) }

@@ -8,43 +8,43 @@ use lib.ListN.{length, length-append}
 use borrow.Author.Tests.{le-ltb}
 use Rattle.base.proofs.CheckLaws.{refuses, passes}
 use Rattle.state.specs.declared.State.{State}
-use Rattle.writes.specs.Writes.{clearHeld}
-use Rattle.ports.specs.Ports.{portsFit}
-use Rattle.state.specs.WellFormed.{wellFormed}
+use Rattle.store.specs.Writes.{clear_held}
+use Rattle.ports.specs.Ports.{ports_fit}
+use Rattle.state.specs.WellFormed.{well_formed}
 use Rattle.state.proofs.FormedLaws.{formed, formed-ports, whole}
 use Rattle.state.proofs.PreservedLaws.{absent-kept}
-use Rattle.critical.specs.Critical.{Place, refusalWithout, readingCritical, isCritical, criticalAt, criticalIn, criticalPlaces}
+use Rattle.critical.specs.Critical.{Place, refusal_without, reading_critical, is_critical, critical_at, critical_in, critical_places}
 use Rattle.commit.proofs.CheckLaws.{refusal-by, number-unread}
 use Rattle.engine.specs.Calls.{commit, critical, aside}
-use Rattle.engine.specs.Engine.{refusalFor}
+use Rattle.engine.specs.Engine.{refusal_for}
 use Rattle.pivotal.specs.Pivotal.{AbsentAsCommit, CriticalRefusedAsCommit, RoomForCritical}
 
-pub critical-refused-as-commit : CriticalRefusedAsCommit
-critical-refused-as-commit e words h = go (wellFormed e.state e.table) refl
+pub critical-refused_as_commit : CriticalRefusedAsCommit
+critical-refused_as_commit e words h = go (well_formed e.state e.table) refl
   where
-    go : (b : Bool) → wellFormed e.state e.table ≡ b → refusalFor e (aside (critical words)) ≡ refusalFor e commit
-    go true f = passes 1 (readingCritical e.state e.table words) (rw f refl) ∙ passes 25 _ (le-ltb (words / 2) 32 h) ∙ sym (refusal-by e.state e.table f)
-    go false f = refuses 1 (readingCritical e.state e.table words) (rw f refl) ∙ sym (number-unread e.state e.table f)
+    go : (b : Bool) → well_formed e.state e.table ≡ b → refusal_for e (aside (critical words)) ≡ refusal_for e commit
+    go true f = passes 1 (reading_critical e.state e.table words) (rw f refl) ∙ passes 25 _ (le-ltb (words / 2) 32 h) ∙ sym (refusal-by e.state e.table f)
+    go false f = refuses 1 (reading_critical e.state e.table words) (rw f refl) ∙ sym (number-unread e.state e.table f)
 
 -- a port past the end makes it 1
-unformed : (s : State) (t : List ℕ) → portsFit s.settings t s.blocks ≡ false → wellFormed s t ≡ false
-unformed s t p = go (wellFormed s t) refl
+unformed : (s : State) (t : List ℕ) → ports_fit s.settings t s.blocks ≡ false → well_formed s t ≡ false
+unformed s t p = go (well_formed s t) refl
   where
-    go : (b : Bool) → wellFormed s t ≡ b → b ≡ false
+    go : (b : Bool) → well_formed s t ≡ b → b ≡ false
     go true e = absurd (false≢true (sym p ∙ formed-ports s t e))
     go false e = refl
 
-pub absent-as-commit : AbsentAsCommit
-unfolding refusalWithout
-absent-as-commit e h a q m from to = go (portsFit s.settings u s.blocks) refl
+pub absent_as_commit : AbsentAsCommit
+unfolding refusal_without
+absent_as_commit e h a q m from to = go (ports_fit s.settings u s.blocks) refl
   where
     s : State
     s = e.state
 
     u : List ℕ
-    u = clearHeld e.table a q
+    u = clear_held e.table a q
 
-    go : (b : Bool) → portsFit s.settings u s.blocks ≡ b → refusalFor (record { state = s; table = u }) commit ≡ cond b (refusalWithout s e.table a q) 1
+    go : (b : Bool) → ports_fit s.settings u s.blocks ≡ b → refusal_for (record { state = s; table = u }) commit ≡ cond b (refusal_without s e.table a q) 1
     go true p = refusal-by s u (whole s u (absent-kept s e.table (formed s e.table h) a q m from to) p)
     go false p = number-unread s u (unformed s u p)
 
@@ -53,14 +53,14 @@ module _ (s : State) (t : List ℕ) (q : ℕ) where
   one true x = omega arith
   one false x = omega arith
 
-  row-few : (n : ℕ) → length (criticalIn s t q n) ≤ n
-  unfolding criticalIn criticalAt
+  row-few : (n : ℕ) → length (critical_in s t q n) ≤ n
+  unfolding critical_in critical_at
   row-few zero = omega arith
-  row-few (suc n) = omega (arith, row-few n, one (isCritical s t n q) (record { round = q; author = n }), length-append (criticalIn s t q n) (criticalAt s t n q))
+  row-few (suc n) = omega (arith, row-few n, one (is_critical s t n q) (record { round = q; author = n }), length-append (critical_in s t q n) (critical_at s t n q))
 
-pub room-for-critical : RoomForCritical
-unfolding criticalPlaces
-room-for-critical e =
+pub room_for_critical : RoomForCritical
+unfolding critical_places
+room_for_critical e =
     let s = e.state in
     let t = e.table in
-    omega (arith, row-few s t (s.round.0 - 1) 16, row-few s t s.round.0 16, length-append (criticalIn s t (s.round.0 - 1) 16) (criticalIn s t s.round.0 16))
+    omega (arith, row-few s t (s.round.0 - 1) 16, row-few s t s.round.0 16, length-append (critical_in s t (s.round.0 - 1) 16) (critical_in s t s.round.0 16))

@@ -2,9 +2,9 @@
 use mathlib.Core.Path.{◌≡◌, refl}
 use mathlib.Core.Bool.{true}
 use Rattle.committee.specs.Edges.{agree}
-use Rattle.ports.specs.Uart.{valuesAt, afterRead, afterWrite, resetPort}
+use Rattle.ports.specs.Uart.{values_at, after_read, after_write, reset_port}
 use Rattle.ports.specs.Edges.{two, clear, latched, shows, reads, writes, cases}
 
 pub edges : agree cases ≡ true
-unfolding agree cases two clear latched shows reads writes valuesAt afterRead afterWrite resetPort
+unfolding agree cases two clear latched shows reads writes values_at after_read after_write reset_port
 edges = refl

@@ -1,11 +1,11 @@
 -- The registers hold what was written, and nothing else changes them.
 use mathlib.Core.Path.{refl}
-use Rattle.ports.specs.Uart.{valuesAt, afterRead, afterWrite}
+use Rattle.ports.specs.Uart.{values_at, after_read, after_write}
 use Rattle.ports.specs.Registers.{RegistersHold}
 
 -- the claim
 pub registers-hold : RegistersHold
-unfolding valuesAt afterRead afterWrite
+unfolding values_at after_read after_write
 registers-hold =
     record {
       shown = λ l p. record { line = refl; modem = refl; scratch = refl; enable = λ d. rw d refl; low = λ d. rw d refl; high = λ d. rw d refl };

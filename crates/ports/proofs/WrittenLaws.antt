@@ -9,23 +9,23 @@ use lib.Dec.{eqb}
 use borrow.Author.Tests.{eq-eqb, ne_eqb}
 use lib.ListN.{get_or}
 use Rattle.terms.specs.Proposals.{Content}
-use Rattle.store.specs.Table.{Within, held_at, markAt, contentAt, blockRound}
-use Rattle.writes.specs.Writes.{putCertificate, clearUsed}
-use Rattle.writes.proofs.WriteLaws.{samePlace}
-use Rattle.writes.proofs.EndorseLaws.{OnlyEndorsed, held-endorse, mark-endorse, content-endorse, block-round-endorse}
-use Rattle.writes.proofs.FirstRow.{OnlyFirst, SameFirst, cleared-first, held-only, mark-only, content-only, block-round-only}
-use Rattle.writes.proofs.PutLaws.{held-put, mark-kept, content-kept, block-round-put}
-use Rattle.cursors.specs.Places.{line_at}
-use Rattle.cursors.specs.Next.{LinePlace}
-use Rattle.ports.specs.Ports.{portWord}
+use Rattle.store.specs.Table.{Within, held_at, mark_at, content_at, block_round}
+use Rattle.store.specs.Writes.{put_certificate, clear_used}
+use Rattle.store.proofs.WriteLaws.{same_place}
+use Rattle.store.proofs.EndorseLaws.{OnlyEndorsed, held-endorse, mark-endorse, content-endorse, block-round-endorse}
+use Rattle.store.proofs.FirstRow.{OnlyFirst, SameFirst, cleared-first, held-only, mark-only, content-only, block-round-only}
+use Rattle.store.proofs.PutLaws.{held-put, mark-kept, content-kept, block-round-put}
+use Rattle.ports.specs.Places.{line_at}
+use Rattle.ports.specs.Next.{LinePlace}
+use Rattle.ports.specs.Ports.{port_word}
 use Rattle.ports.proofs.KeptLaws.{PortsKept}
 
 -- a certificate in a block, its mark and its block's round stay
 pub record Stays (t u : List ℕ) (p : ℕ) : Type 0 where
   pub held : held_at u (p % 16) (p / 16) ≡ held_at t (p % 16) (p / 16)
-  pub mark : markAt u (p % 16) (p / 16) ≡ markAt t (p % 16) (p / 16)
-  pub content : contentAt u (p % 16) (p / 16) ≡ contentAt t (p % 16) (p / 16)
-  pub round : blockRound u (markAt t (p % 16) (p / 16)) ≡ blockRound t (markAt t (p % 16) (p / 16))
+  pub mark : mark_at u (p % 16) (p / 16) ≡ mark_at t (p % 16) (p / 16)
+  pub content : content_at u (p % 16) (p / 16) ≡ content_at t (p % 16) (p / 16)
+  pub round : block_round u (mark_at t (p % 16) (p / 16)) ≡ block_round t (mark_at t (p % 16) (p / 16))
 
 module _ (t u : List ℕ) (n k c : ℕ) (grows : k ≤ c) (f : (p : ℕ) → LinePlace t n k p → Stays t u p) where
   place-stays : (p : ℕ) → LinePlace t n k p → LinePlace u n c p
@@ -35,32 +35,32 @@ module _ (t u : List ℕ) (n k c : ℕ) (grows : k ≤ c) (f : (p : ℕ) → Lin
   unfolding line_at
   line_stays p x = let y = f p x in rw (y.mark, y.round, y.content) refl
 
-  pub kept_by : ((g i : ℕ) → g < 8 → i < 8 → portWord u g i ≡ portWord t g i) → PortsKept t u n k c
+  pub kept_by : ((g i : ℕ) → g < 8 → i < 8 → port_word u g i ≡ port_word t g i) → PortsKept t u n k c
   kept_by w = record { words = w; places = place-stays; lines = line_stays }
 
 -- row 0 stays
-pub first-words : (t u : List ℕ) → SameFirst t u → (g i : ℕ) → g < 8 → i < 8 → portWord u g i ≡ portWord t g i
-unfolding portWord
+pub first-words : (t u : List ℕ) → SameFirst t u → (g i : ℕ) → g < 8 → i < 8 → port_word u g i ≡ port_word t g i
+unfolding port_word
 first-words t u s g i a b = s (16 + g * 32 + i) (omega arith)
 
 -- a mark of endorsement
 pub endorse-ports : {q : ℕ} {t : List ℕ} {u : List ℕ} (n k : ℕ) → OnlyEndorsed q t u → SameFirst t u → PortsKept t u n k k
 endorse-ports {q} {t} {u} n k o s =
     kept_by t u n k k (omega arith)
-    (λ p x. record { held = held-endorse o (p % 16) (p / 16); mark = mark-endorse o (p % 16) (p / 16) (omega arith); content = content-endorse o (p % 16) (p / 16) (omega arith); round = block-round-endorse o (markAt t (p % 16) (p / 16)) })
+    (λ p x. record { held = held-endorse o (p % 16) (p / 16); mark = mark-endorse o (p % 16) (p / 16) (omega arith); content = content-endorse o (p % 16) (p / 16) (omega arith); round = block-round-endorse o (mark_at t (p % 16) (p / 16)) })
     (first-words t u s)
 
 -- another row 0, with the words of ports as they were
-pub first-ports : {t : List ℕ} {u : List ℕ} (n k : ℕ) → OnlyFirst t u → ((g i : ℕ) → g < 8 → i < 8 → portWord u g i ≡ portWord t g i) → PortsKept t u n k k
+pub first-ports : {t : List ℕ} {u : List ℕ} (n k : ℕ) → OnlyFirst t u → ((g i : ℕ) → g < 8 → i < 8 → port_word u g i ≡ port_word t g i) → PortsKept t u n k k
 first-ports {t} {u} n k o w =
     kept_by t u n k k (omega arith)
-    (λ p x. let r : 0 < p / 16 = omega (arith, x.from) in record { held = held-only o (p % 16) (p / 16) r; mark = mark-only o (p % 16) (p / 16) r; content = content-only o (p % 16) (p / 16) r; round = block-round-only o (markAt t (p % 16) (p / 16)) x.mark-from })
+    (λ p x. let r : 0 < p / 16 = omega (arith, x.from) in record { held = held-only o (p % 16) (p / 16) r; mark = mark-only o (p % 16) (p / 16) r; content = content-only o (p % 16) (p / 16) r; round = block-round-only o (mark_at t (p % 16) (p / 16)) x.mark-from })
     w
 
 -- a certificate put at a place that is free
 module _ (t : List ℕ) (p : Content) (d : ℕ) (w : Within t p.author p.round) (free : held_at t p.author p.round ≡ false) where
   -- a place that is held is another one
-  elsewhere : (m r : ℕ) → held_at t m r ≡ true → samePlace m r p.author p.round ≡ false
+  elsewhere : (m r : ℕ) → held_at t m r ≡ true → same_place m r p.author p.round ≡ false
   elsewhere m r h = go (ℕ_discrete m p.author) (ℕ_discrete r p.round)
     where
       go : Dec (m ≡ p.author) → Dec (r ≡ p.round) → (eqb m p.author && eqb r p.round) ≡ false
@@ -68,25 +68,25 @@ module _ (t : List ℕ) (p : Content) (d : ℕ) (w : Within t p.author p.round) 
       go (yes a) (no b) = rw (eq-eqb m p.author a, ne_eqb r p.round b) refl
       go (no a) b = rw (ne_eqb m p.author a) refl
 
-  pub put-ports : (n k : ℕ) → SameFirst t (putCertificate t p d) → PortsKept t (putCertificate t p d) n k k
+  pub put-ports : (n k : ℕ) → SameFirst t (put_certificate t p d) → PortsKept t (put_certificate t p d) n k k
   put-ports n k s =
-      kept_by t (putCertificate t p d) n k k (omega arith)
+      kept_by t (put_certificate t p d) n k k (omega arith)
       (λ q x.
       let e = elsewhere (q % 16) (q / 16) x.held in
       record {
         held = held-put t p d w (q % 16) (q / 16) ∙ rw e refl;
         mark = mark-kept t p d w (q % 16) (q / 16) (omega arith) e;
         content = content-kept t p d w (q % 16) (q / 16) (omega arith) e;
-        round = block-round-put t p d w (markAt t (q % 16) (q / 16));
+        round = block-round-put t p d w (mark_at t (q % 16) (q / 16));
       })
-      (first-words t (putCertificate t p d) s)
+      (first-words t (put_certificate t p d) s)
 
 -- the words of ports are those before the queues
-pub before-words : (t u : List ℕ) → ((h i : ℕ) → h < 8 → i < 8 → get_or u (16 + h * 32 + i) 0 ≡ get_or t (16 + h * 32 + i) 0) → (h i : ℕ) → h < 8 → i < 8 → portWord u h i ≡ portWord t h i
-unfolding portWord
+pub before-words : (t u : List ℕ) → ((h i : ℕ) → h < 8 → i < 8 → get_or u (16 + h * 32 + i) 0 ≡ get_or t (16 + h * 32 + i) 0) → (h i : ℕ) → h < 8 → i < 8 → port_word u h i ≡ port_word t h i
+unfolding port_word
 before-words t u f = f
 
 -- all 0 in a cleared table
-pub cleared-words : (t : List ℕ) (n h i : ℕ) → h < 8 → i < 8 → portWord (clearUsed t n) h i ≡ 0
-unfolding portWord
+pub cleared-words : (t : List ℕ) (n h i : ℕ) → h < 8 → i < 8 → port_word (clear_used t n) h i ≡ 0
+unfolding port_word
 cleared-words t n h i a b = cleared-first t n (16 + h * 32 + i) (omega arith)

@@ -1,6 +1,6 @@
 -- The registers by numbers, as one table: what a port shows, what a read takes, what a write leaves, and a reset.
 use Rattle.std.specs.Prelude.{List, [], ◌∷◌, ℕ, get_or}
-use Rattle.ports.specs.Uart.{Port, valuesAt, afterRead, afterWrite, resetPort, registersOf}
+use Rattle.ports.specs.Uart.{Port, values_at, after_read, after_write, reset_port, registers_of}
 
 -- a listing of two bytes
 unfoldable pub two : List ℕ
@@ -15,20 +15,20 @@ latched n = record { read = n; enable = 1; line = 131; modem = 21; scratch = 90;
 
 -- what offset o shows; how many bytes are read after a read there
 unfoldable pub shows : Port → ℕ → ℕ
-shows p o = get_or (valuesAt two p) o 0
+shows p o = get_or (values_at two p) o 0
 
 unfoldable pub reads : Port → ℕ → ℕ
-reads p o = (afterRead two p o).read
+reads p o = (after_read two p o).read
 
 -- the registers after a write of 254 to offset o: enable, line, modem, scratch, low, high
 unfoldable pub writes : Port → ℕ → ℕ → ℕ
-writes p o i = get_or (registersOf (afterWrite p o 254)) i 0
+writes p o i = get_or (registers_of (after_write p o 254)) i 0
 
 unfoldable pub cases : List (ℕ × ℕ)
 cases =
     -- after a reset
-    (shows resetPort 0, 49) ∷ (shows resetPort 1, 0) ∷ (shows resetPort 2, 1) ∷ (shows resetPort 3, 0) ∷ (shows resetPort 4, 0) ∷ (shows resetPort 5, 97) ∷ (shows resetPort 6, 0) ∷ (shows resetPort 7, 0)
-    ∷ (resetPort.read, 0) ∷ (resetPort.low, 0) ∷ (resetPort.high, 0)
+    (shows reset_port 0, 49) ∷ (shows reset_port 1, 0) ∷ (shows reset_port 2, 1) ∷ (shows reset_port 3, 0) ∷ (shows reset_port 4, 0) ∷ (shows reset_port 5, 97) ∷ (shows reset_port 6, 0) ∷ (shows reset_port 7, 0)
+    ∷ (reset_port.read, 0) ∷ (reset_port.low, 0) ∷ (reset_port.high, 0)
     -- with a byte waiting
     ∷ (shows (clear 1) 0, 44) ∷ (shows (clear 1) 1, 1) ∷ (shows (clear 1) 2, 4) ∷ (shows (clear 1) 3, 3) ∷ (shows (clear 1) 4, 21) ∷ (shows (clear 1) 5, 97) ∷ (shows (clear 1) 6, 0) ∷ (shows (clear 1) 7, 90)
     -- with none

@@ -1,6 +1,6 @@
 -- The registers of a 16450 as a guest sees them, over a listing of bytes (change request: Point 14).
 use Rattle.std.specs.Prelude.{Bool, cond, not, ◌&&◌, List, [], ◌∷◌, ℕ, suc, ◌%◌, eqb, leb, ltb, length, get_or}
-use Rattle.base.specs.Folds.{allTo}
+use Rattle.base.specs.Folds.{all_to}
 
 -- how many bytes of the listing it has read since reset, and the registers that it holds
 pub record Port : Type 0 where
@@ -26,8 +26,8 @@ abbrev pub waits : List ℕ → Port → Bool
 waits l p = ltb p.read (length l)
 
 -- what each offset reads
-unfoldable pub valuesAt : List ℕ → Port → List ℕ
-valuesAt l p =
+unfoldable pub values_at : List ℕ → Port → List ℕ
+values_at l p =
     cond (divisor p) p.low (get_or l p.read 0)
     ∷ cond (divisor p) p.high p.enable
     ∷ cond (eqb p.enable 1 && waits l p) 4 1
@@ -41,12 +41,12 @@ valuesAt l p =
 abbrev pub takes : List ℕ → Port → ℕ → Bool
 takes l p o = eqb o 0 && (not (divisor p) && waits l p)
 
-unfoldable pub afterRead : List ℕ → Port → ℕ → Port
-afterRead l p o = record { read = cond (takes l p o) (suc p.read) p.read; enable = p.enable; line = p.line; modem = p.modem; scratch = p.scratch; low = p.low; high = p.high }
+unfoldable pub after_read : List ℕ → Port → ℕ → Port
+after_read l p o = record { read = cond (takes l p o) (suc p.read) p.read; enable = p.enable; line = p.line; modem = p.modem; scratch = p.scratch; low = p.low; high = p.high }
 
 -- a write of the byte b: each register that is held, at its offset
-unfoldable pub afterWrite : Port → ℕ → ℕ → Port
-afterWrite p o b =
+unfoldable pub after_write : Port → ℕ → ℕ → Port
+after_write p o b =
     record {
       read = p.read;
       enable = cond (eqb o 1 && not (divisor p)) (b % 2) p.enable;
@@ -58,15 +58,15 @@ afterWrite p o b =
     }
 
 -- all 0
-unfoldable pub resetPort : Port
-resetPort = record { read = 0; enable = 0; line = 0; modem = 0; scratch = 0; low = 0; high = 0 }
+unfoldable pub reset_port : Port
+reset_port = record { read = 0; enable = 0; line = 0; modem = 0; scratch = 0; low = 0; high = 0 }
 
 -- the registers that it holds, and the most that each can hold
-abbrev pub registersOf : Port → List ℕ
-registersOf p = p.enable ∷ p.line ∷ p.modem ∷ p.scratch ∷ p.low ∷ p.high ∷ []
+abbrev pub registers_of : Port → List ℕ
+registers_of p = p.enable ∷ p.line ∷ p.modem ∷ p.scratch ∷ p.low ∷ p.high ∷ []
 
 abbrev pub limits : List ℕ
 limits = 1 ∷ 255 ∷ 31 ∷ 255 ∷ 255 ∷ 255 ∷ []
 
-unfoldable pub registersFit : Port → Bool
-registersFit p = allTo (λ i. leb (get_or (registersOf p) i 0) (get_or limits i 0)) 6
+unfoldable pub registers_fit : Port → Bool
+registers_fit p = all_to (λ i. leb (get_or (registers_of p) i 0) (get_or limits i 0)) 6

@@ -1,21 +1,24 @@
 // Guests' serial ports in the table: when their words are well formed (change request: Point 14).
 #![tactic(auto)]
 
-ghost use Rattle.std.specs.Prelude.{◌≡◌, true, not, ◌+◌, ◌/◌, ◌%◌, ◌<◌, ◌≤◌, leb, get_or};
-ghost use Rattle.base.specs.Folds.{allTo};
-ghost use Rattle.store.specs.Table.{Row};
-ghost use Rattle.changes.specs.Rows.{RowsTo};
-ghost use Rattle.sheet.specs.declared.Settings.{Settings};
-ghost use Rattle.ports.specs.Uart.{limits};
-ghost use Rattle.ports.specs.Ports.{portWord, isListed, cursorFits, portFits, portsFit};
+pub mod cursors;
+pub mod registers;
 
-use sheet::Settings;
+ghost use Rattle.std.specs.Prelude.{◌≡◌, true, not, ◌+◌, ◌/◌, ◌%◌, ◌<◌, ◌≤◌, leb, get_or};
+ghost use Rattle.base.specs.Folds.{all_to};
+ghost use Rattle.store.specs.Table.{Row};
+ghost use Rattle.running.specs.Rows.{RowsTo};
+ghost use Rattle.terms.specs.declared.sheet.Settings.{Settings};
+ghost use Rattle.ports.specs.Uart.{limits};
+ghost use Rattle.ports.specs.Ports.{port_word, is_listed, cursor_fits, port_fits, ports_fit};
+
+use terms::sheet::Settings;
 use terms::{Member, Round};
 
 // Word i of port g.
 pub fn word(t: &[u32], g: u32, i: u32) -> u32
     requires { Row t.now 0 × (g < 8) × (i < 8) }
-    ensures { result ≡ portWord t.now g i }
+    ensures { result ≡ port_word t.now g i }
 {
     t[(16 + g * 32 + i) as usize]
 }
@@ -23,7 +26,7 @@ pub fn word(t: &[u32], g: u32, i: u32) -> u32
 // Is place p of a certificate in one of the first blocks?
 fn is_listed(t: &[u32], n: Round, blocks: u32, p: u32) -> bool
     requires { RowsTo t.now n.0 }
-    ensures { result ≡ isListed t.now n.0 blocks p }
+    ensures { result ≡ is_listed t.now n.0 blocks p }
 {
     if p < 16 {
         return false;
@@ -46,7 +49,7 @@ fn is_listed(t: &[u32], n: Round, blocks: u32, p: u32) -> bool
 // Is byte j of the line of place p one of the listing, or are both 0?
 fn cursor_fits(t: &[u32], n: Round, blocks: u32, p: u32, j: u32) -> bool
     requires { RowsTo t.now n.0 × (blocks ≤ n.0) }
-    ensures { result ≡ cursorFits t.now n.0 blocks p j }
+    ensures { result ≡ cursor_fits t.now n.0 blocks p j }
 {
     if p == 0 {
         return j == 0;
@@ -63,7 +66,7 @@ fn cursor_fits(t: &[u32], n: Round, blocks: u32, p: u32, j: u32) -> bool
 // Do the registers of port g hold what they can?
 fn registers_fit(t: &[u32], g: u32) -> bool
     requires { Row t.now 0 × (g < 8) }
-    ensures { result ≡ allTo (λ i. leb (portWord t.now g (2 + i)) (get_or limits i 0)) 6 }
+    ensures { result ≡ all_to (λ i. leb (port_word t.now g (2 + i)) (get_or limits i 0)) 6 }
 {
     let most = [1u32, 255, 31, 255, 255, 255];
     for i in 0..6u32 {
@@ -77,7 +80,7 @@ fn registers_fit(t: &[u32], g: u32) -> bool
 // Has port g not read past the end of the listing, and do its registers hold what they can?
 fn port_fits(t: &[u32], s: Settings, blocks: u32, g: u32) -> bool
     requires { RowsTo t.now s.ceiling.0 × (blocks ≤ s.ceiling.0) × (g < 8) }
-    ensures { result ≡ portFits s t.now blocks g }
+    ensures { result ≡ port_fits s t.now blocks g }
 {
     if !cursor_fits(t, s.ceiling, blocks, word(t, g, 0), word(t, g, 1)) {
         return false;
@@ -88,7 +91,7 @@ fn port_fits(t: &[u32], s: Settings, blocks: u32, g: u32) -> bool
 // So for every port.
 pub fn ports_fit(t: &[u32], s: Settings, blocks: u32) -> bool
     requires { RowsTo t.now s.ceiling.0 × (blocks ≤ s.ceiling.0) }
-    ensures { result ≡ portsFit s t.now blocks }
+    ensures { result ≡ ports_fit s t.now blocks }
 {
     for g in 0..8u32 {
         if !port_fits(t, s, blocks, g) {

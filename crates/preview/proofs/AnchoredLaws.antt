@@ -12,25 +12,25 @@ use Rattle.agreement.specs.Rules.{last}
 use Rattle.store.specs.Table.{held_at}
 use Rattle.store.proofs.TableLaws.{held_in}
 use Rattle.scan.proofs.ScanLaws.{rows-held}
-use Rattle.committee.specs.Chain.{chainOf}
-use Rattle.committee.specs.Committees.{committeeOf, leaderBy, known_by}
-use Rattle.changes.specs.BlockChanges.{lastRound}
-use Rattle.changes.proofs.ChainLaws.{last-chain}
-use Rattle.leaders.specs.Fill.{leaderAt}
-use Rattle.histories.specs.Anchors.{takenLeaders}
-use Rattle.histories.proofs.TakenLaws.{taken-left}
+use Rattle.committee.specs.Chain.{chain_of}
+use Rattle.committee.specs.Committees.{committee_of, leader_by, known_by}
+use Rattle.running.specs.BlockChanges.{last_round}
+use Rattle.running.proofs.ChainLaws.{last-chain}
+use Rattle.running.specs.Fill.{leader_at}
+use Rattle.blocks.specs.Anchors.{taken_leaders}
+use Rattle.blocks.proofs.TakenLaws.{taken-left}
 use Rattle.rules.proofs.TestLaws.{is_known}
 use Rattle.state.specs.declared.State.{State}
 use Rattle.state.specs.View.{view}
 use Rattle.state.proofs.RefusalLaws.{refusal-passed}
-use Rattle.votes.specs.Checks.{leadersFor}
-use Rattle.votes.proofs.AnchorLaws.{leaderOn, leaders-on, leaders-length}
-use Rattle.commit.specs.Commit.{commitRefusal}
+use Rattle.votes.specs.Checks.{leaders_for}
+use Rattle.votes.proofs.AnchorLaws.{leader_on, leaders-on, leaders-length}
+use Rattle.commit.specs.Commit.{commit_refusal}
 use Rattle.commit.proofs.CheckLaws.{Accepted, accepted}
 use Rattle.preview.proofs.StageLaws.{Anchored}
 use Rattle.rules.specs.Calls as rules
 
-module _ (s : State) (t : List ℕ) (ok : commitRefusal s t ≡ 0) where
+module _ (s : State) (t : List ℕ) (ok : commit_refusal s t ≡ 0) where
   abbrev n : ℕ
   n = s.settings.ceiling.0
 
@@ -38,41 +38,41 @@ module _ (s : State) (t : List ℕ) (ok : commitRefusal s t ≡ 0) where
   k = s.blocks
 
   abbrev m : ℕ
-  m = lastRound t k
+  m = last_round t k
 
   abbrev top : ℕ
   top = s.round.0 - 1
 
   abbrev l : List ℕ
-  l = leadersFor s t
+  l = leaders_for s t
 
   abbrev left : List ℕ
-  left = takenLeaders t m top l
+  left = taken_leaders t m top l
 
   y : Accepted s t
   y = accepted s t ok
 
   -- the committee of the round is known
   known : top ≤ s.settings.lookback + suc m
-  unfolding commitRefusal known_by
+  unfolding commit_refusal known_by
   known =
       let p = cleared _ 19 _ (omega arith) (refusal-passed s t rules.commit ok).1 in
       let q = cleared _ 20 _ (omega arith) p.1 in
       let w = cleared _ 8 _ (omega arith) q.1 in
-      let h = leb-true s.round.0 (s.settings.lookback + (last (chainOf n t k) + 2)) (is_known s.settings (view s t) s.round.0 w.0) in
+      let h = leb-true s.round.0 (s.settings.lookback + (last (chain_of n t k) + 2)) (is_known s.settings (view s t) s.round.0 w.0) in
       omega (arith, last-chain n t k)
 
   module _ (r : ℕ) (from : m < r) (to : r ≤ top) (low : get_or left r 0 < 16) where
     -- whoever is left leads its round
-    leads : get_or left r 0 ≡ leaderOn s t r
+    leads : get_or left r 0 ≡ leader_on s t r
     leads =
         let f = y.formed in
         let size = leaders-length s t l refl in
         (taken-left t m top l y.timely.above (omega (arith, f.numbers.round-to, f.settings.ceiling-to)) r low).0
         ∙ leaders-on s t r from (omega (arith, y.timely.from)) (omega (arith, f.numbers.round-to, f.settings.ceiling-to))
 
-    led : leaderBy (committeeOf s.settings (chainOf n t k) r) r ≡ get_or left r 0
-    unfolding leaderAt
+    led : leader_by (committee_of s.settings (chain_of n t k) r) r ≡ get_or left r 0
+    unfolding leader_at
     led = sym leads
 
     -- and its certificate is held
@@ -80,7 +80,7 @@ module _ (s : State) (t : List ℕ) (ok : commitRefusal s t ≡ 0) where
     held = go (ℕ_discrete r top)
       where
         go : Dec (r ≡ top) → held_at t (get_or left r 0) r ≡ true
-        go (yes e) = rw (leads, e, held_in t (leaderOn s t top) top) y.led
+        go (yes e) = rw (leads, e, held_in t (leader_on s t top) top) y.led
         go (no e) =
             let f = y.formed in
             let size = leaders-length s t l refl in

@@ -8,13 +8,13 @@ use lib.ListN.{length}
 use Rattle.agreement.specs.Rules.{Block}
 use Rattle.agreement.specs.Dag.{is_held}
 use Rattle.terms.specs.Proposals.{Content}
-use Rattle.committee.specs.Changes.{atMostOne, row, rows}
-use Rattle.entries.specs.Entries.{entryIf, rowEntries, rowsEntries}
-use Rattle.preview.specs.Entries.{Entry, entriesOf, words_of}
+use Rattle.committee.specs.Changes.{at_most_one, row, rows}
+use Rattle.prospects.specs.Entries.{entry_if, row_entries, rows_entries}
+use Rattle.preview.specs.Entries.{Entry, entries_of, words_of}
 
 -- entry by entry
-entries-append : (k : ℕ) (l m : List Content) → entriesOf k (l ++ m) ≡ entriesOf k l ++ entriesOf k m
-unfolding entriesOf
+entries-append : (k : ℕ) (l m : List Content) → entries_of k (l ++ m) ≡ entries_of k l ++ entries_of k m
+unfolding entries_of
 entries-append k [] m = refl
 entries-append k (p ∷ l) m = rw (entries-append k l m) refl
 
@@ -35,27 +35,27 @@ words-length (x ∷ l) = let h = words-length l in omega arith
 
 module _ (k : ℕ) where
   abbrev words : List Content → List ℕ
-  words l = words_of (entriesOf k l)
+  words l = words_of (entries_of k l)
 
   more : (l m : List Content) → words (l ++ m) ≡ words l ++ words m
-  more l m = ap words_of (entries-append k l m) ∙ words_append (entriesOf k l) (entriesOf k m)
+  more l m = ap words_of (entries-append k l m) ∙ words_append (entries_of k l) (entries_of k m)
 
   -- where certificates are at their own places
   module _ (b : Block Content) (placed : (i q : ℕ) (p : Content) → b.holds i q ≡ some p → (p.author ≡ i) × (p.round ≡ q)) (a : ℕ) where
-    place-words : (i q : ℕ) → words (atMostOne (b.holds i q)) ≡ entryIf (is_held (b.holds i q)) k q i
-    unfolding entriesOf words_of entryIf
+    place-words : (i q : ℕ) → words (at_most_one (b.holds i q)) ≡ entry_if (is_held (b.holds i q)) k q i
+    unfolding entries_of words_of entry_if
     place-words i q = go (b.holds i q) refl
       where
-        go : (o : Option Content) → b.holds i q ≡ o → words (atMostOne o) ≡ entryIf (is_held o) k q i
+        go : (o : Option Content) → b.holds i q ≡ o → words (at_most_one o) ≡ entry_if (is_held o) k q i
         go none e = refl
         go (some p) e = let z = placed i q p e in rw (z.0, z.1) refl
 
-    row_words : (q n : ℕ) → words (row b a q n) ≡ rowEntries (λ i. is_held (b.holds i q)) k q a n
-    unfolding row rowEntries entriesOf words_of
+    row_words : (q n : ℕ) → words (row b a q n) ≡ row_entries (λ i. is_held (b.holds i q)) k q a n
+    unfolding row row_entries entries_of words_of
     row_words q zero = refl
-    row_words q (suc n) = more (row b a q n) (atMostOne (b.holds ((a + n) % 16) q)) ∙ ap₂ ◌++◌ (row_words q n) (place-words ((a + n) % 16) q)
+    row_words q (suc n) = more (row b a q n) (at_most_one (b.holds ((a + n) % 16) q)) ∙ ap₂ ◌++◌ (row_words q n) (place-words ((a + n) % 16) q)
 
-    pub rows_words : (n : ℕ) → words_of (entriesOf k (rows b a n)) ≡ rowsEntries (λ i q. is_held (b.holds i q)) k a 0 n
-    unfolding rows rowsEntries entriesOf words_of
+    pub rows_words : (n : ℕ) → words_of (entries_of k (rows b a n)) ≡ rows_entries (λ i q. is_held (b.holds i q)) k a 0 n
+    unfolding rows rows_entries entries_of words_of
     rows_words zero = refl
     rows_words (suc n) = let e : 0 + suc n ≡ suc n = omega arith in more (rows b a n) (row b a (suc n) 16) ∙ rw e (ap₂ ◌++◌ (rows_words n) (row_words (suc n) 16))

@@ -4,54 +4,54 @@ use mathlib.Core.List.{List}
 use Prim.Native.Nat.{ℕ, ◌-◌, ◌*◌, ◌≤◌}
 use native.Mathlib.Omega.{arith}
 use lib.ListN.{length}
-use Rattle.committee.specs.Chain.{chainOf}
-use Rattle.changes.specs.BlockChanges.{lastRound}
-use Rattle.histories.specs.Anchors.{takenLeaders}
+use Rattle.committee.specs.Chain.{chain_of}
+use Rattle.running.specs.BlockChanges.{last_round}
+use Rattle.blocks.specs.Anchors.{taken_leaders}
 use Rattle.state.specs.declared.State.{State}
-use Rattle.votes.specs.Checks.{leadersFor}
-use Rattle.commit.specs.Commit.{commitRefusal, blocksThen, committedTable, commitOutcome, commitTableAfter}
+use Rattle.votes.specs.Checks.{leaders_for}
+use Rattle.commit.specs.Commit.{commit_refusal, blocks_then, committed_table, commit_outcome, commit_table_after}
 use Rattle.commit.specs.declared.Outcome.{Outcome}
 use Rattle.commit.proofs.AnswerLaws.{answers-accepted}
 use Rattle.commit.proofs.PreservedLaws.{blocks-added}
-use Rattle.prospects.specs.Prospects.{wordsAfter}
-use Rattle.preview.specs.Entries.{entriesAfter, words_of}
-use Rattle.preview.specs.Preview.{previewEntries}
-use Rattle.entries.proofs.CountLaws.{places-most}
+use Rattle.prospects.specs.Prospects.{words_after}
+use Rattle.preview.specs.Entries.{entries_after, words_of}
+use Rattle.preview.specs.Preview.{preview_entries}
+use Rattle.prospects.proofs.CountLaws.{places-most}
 use Rattle.prospects.proofs.ProspectLaws.{taken, words_count}
 use Rattle.preview.proofs.StageLaws.{Told, commit-told}
 use Rattle.preview.proofs.AnchoredLaws.{anchored}
 
-module _ (s : State) (t : List ℕ) (ok : commitRefusal s t ≡ 0) where
+module _ (s : State) (t : List ℕ) (ok : commit_refusal s t ≡ 0) where
   abbrev k : ℕ
   k = s.blocks
 
   abbrev m : ℕ
-  m = lastRound t k
+  m = last_round t k
 
   abbrev top : ℕ
   top = s.round.0 - 1
 
   abbrev left : List ℕ
-  left = takenLeaders t m top (leadersFor s t)
+  left = taken_leaders t m top (leaders_for s t)
 
   -- the blocks that the commit would make
-  entries-then : previewEntries s t ≡ entriesAfter s.settings (committedTable s t) k (blocksThen s t - k)
-  unfolding previewEntries
+  entries-then : preview_entries s t ≡ entries_after s.settings (committed_table s t) k (blocks_then s t - k)
+  unfolding preview_entries
   entries-then =
       let a = answers-accepted s t ok in
-      sym (ap₂ (λ (o : Outcome) (u : List ℕ). entriesAfter s.settings u k (o.state.blocks - k)) a.0 a.1)
+      sym (ap₂ (λ (o : Outcome) (u : List ℕ). entries_after s.settings u k (o.state.blocks - k)) a.0 a.1)
 
   -- what the table tells after the commit
-  told : Told s.settings t (leadersFor s t) m top k top (blocksThen s t) (committedTable s t)
-  unfolding blocksThen committedTable
-  told = commit-told s.settings t (leadersFor s t) m top k (anchored s t ok)
+  told : Told s.settings t (leaders_for s t) m top k top (blocks_then s t) (committed_table s t)
+  unfolding blocks_then committed_table
+  told = commit-told s.settings t (leaders_for s t) m top k (anchored s t ok)
 
   -- the words of the entries are those that are listed without committing
-  pub words-listed : words_of (previewEntries s t) ≡ wordsAfter t left m (top - m) k
+  pub words-listed : words_of (preview_entries s t) ≡ words_after t left m (top - m) k
   words-listed = ap words_of entries-then ∙ told.words
 
   -- a list of three words for each place has room for them
-  pub words-room : length (words_of (previewEntries s t)) ≤ 3 * (16 * s.settings.ceiling.0)
+  pub words-room : length (words_of (preview_entries s t)) ≤ 3 * (16 * s.settings.ceiling.0)
   words-room =
       let n = s.settings.ceiling.0 in
       let w = anchored s t ok in
@@ -60,11 +60,11 @@ module _ (s : State) (t : List ℕ) (ok : commitRefusal s t ≡ 0) where
       rw words-listed (omega arith)
 
   -- blocks are only added, and those that were there stay
-  pub blocks-grow : k ≤ (commitOutcome s t).state.blocks
-  blocks-grow =
+  pub blocks_grow : k ≤ (commit_outcome s t).state.blocks
+  blocks_grow =
       let a = answers-accepted s t ok in
       let b = blocks-added s t ok in
       rw (← a.0) (omega arith)
 
-  pub chain-before : chainOf s.settings.ceiling.0 (commitTableAfter s t) k ≡ chainOf s.settings.ceiling.0 t k
+  pub chain-before : chain_of s.settings.ceiling.0 (commit_table_after s t) k ≡ chain_of s.settings.ceiling.0 t k
   chain-before = let a = answers-accepted s t ok in rw (← a.1) told.before

@@ -10,71 +10,71 @@ use lib.ListN.{length}
 use lib.Seq.{sets}
 use borrow.Author.Tests.{lt-ltb, le-ltb, ltb-false, eq-eqb, ne_eqb}
 use Rattle.base.proofs.CheckLaws.{refuses, passes, cleared}
-use Rattle.changes.specs.BlockChanges.{lastRound}
-use Rattle.histories.specs.Anchors.{takenLeaders}
+use Rattle.running.specs.BlockChanges.{last_round}
+use Rattle.blocks.specs.Anchors.{taken_leaders}
 use Rattle.rules.specs.Calls as rules
 use Rattle.state.specs.declared.State.{State}
 use Rattle.state.specs.View.{view}
-use Rattle.state.specs.WellFormed.{wellFormed}
-use Rattle.state.specs.Refusals.{refusalOf}
-use Rattle.votes.specs.Checks.{leadersFor}
-use Rattle.checks.specs.Answers.{ifAccepted}
-use Rattle.commit.specs.Commit.{commitRefusal}
+use Rattle.state.specs.WellFormed.{well_formed}
+use Rattle.state.specs.Refusals.{refusal_of}
+use Rattle.votes.specs.Checks.{leaders_for}
+use Rattle.state.specs.Answers.{if_accepted}
+use Rattle.commit.specs.Commit.{commit_refusal}
 use Rattle.commit.proofs.CheckLaws.{refusal-by}
-use Rattle.prospects.specs.Prospects.{wordsAfter}
-use Rattle.preview.specs.Preview.{previewing, previewRefusal, previewList}
+use Rattle.prospects.specs.Prospects.{words_after}
+use Rattle.preview.specs.Preview.{previewing, preview_refusal, preview_list}
 use Rattle.preview.proofs.PreviewLaws.{words-listed, words-room}
 
 module _ (s : State) (t : List ℕ) where
   -- ---- check by check
 
   module _ (words : ℕ) where
-    pub preview-unread : wellFormed s t ≡ false → previewRefusal s t words ≡ 1
-    unfolding previewRefusal
+    pub preview-unread : well_formed s t ≡ false → preview_refusal s t words ≡ 1
+    unfolding preview_refusal
     preview-unread e = refuses 1 (previewing s t words) (rw e refl)
 
-    pub preview-short : wellFormed s t ≡ true → words / 3 < 16 * s.settings.ceiling.0 → previewRefusal s t words ≡ 25
-    unfolding previewRefusal
+    pub preview-short : well_formed s t ≡ true → words / 3 < 16 * s.settings.ceiling.0 → preview_refusal s t words ≡ 25
+    unfolding preview_refusal
     preview-short e h = passes 1 (previewing s t words) (rw e refl) ∙ refuses 25 _ (lt-ltb (words / 3) (16 * s.settings.ceiling.0) h)
 
     -- with room enough the checks are those of the commit
-    pub preview-rest : wellFormed s t ≡ true → 16 * s.settings.ceiling.0 ≤ words / 3 → previewRefusal s t words ≡ commitRefusal s t
-    unfolding previewRefusal
+    pub preview-rest : well_formed s t ≡ true → 16 * s.settings.ceiling.0 ≤ words / 3 → preview_refusal s t words ≡ commit_refusal s t
+    unfolding preview_refusal
     preview-rest e h = passes 1 (previewing s t words) (rw e refl) ∙ passes 25 _ (le-ltb (words / 3) (16 * s.settings.ceiling.0) h) ∙ sym (refusal-by s t e)
 
   -- ---- what is so where none refuses
 
   -- the list has room for every place, and the commit would be accepted
-  pub preview-passed : (words : ℕ) → previewRefusal s t words ≡ 0 → (16 * s.settings.ceiling.0 ≤ words / 3) × (commitRefusal s t ≡ 0)
-  unfolding previewRefusal commitRefusal refusalOf
+  pub preview-passed : (words : ℕ) → preview_refusal s t words ≡ 0 → (16 * s.settings.ceiling.0 ≤ words / 3) × (commit_refusal s t ≡ 0)
+  unfolding preview_refusal commit_refusal refusal_of
   preview-passed words e =
       let n = 16 * s.settings.ceiling.0 in
       let l = rules.checks s.settings s.own.0 (view s t) rules.commit in
-      let p = cleared (not (wellFormed s t)) 1 (previewing s t words) (omega arith) e in
+      let p = cleared (not (well_formed s t)) 1 (previewing s t words) (omega arith) e in
       let q = cleared (ltb (words / 3) n) 25 l (omega arith) p.1 in
       (ltb-false (words / 3) n q.0, passes 1 l p.0 ∙ q.1)
 
   module _ (list : List ℕ) where
     -- a refused preview leaves the list
-    pub list-refused : previewRefusal s t (length list) ≢ 0 → previewList s t list ≡ list
-    unfolding previewList ifAccepted
-    list-refused h = rw (ne_eqb (previewRefusal s t (length list)) 0 h) refl
+    pub list_refused : preview_refusal s t (length list) ≢ 0 → preview_list s t list ≡ list
+    unfolding preview_list if_accepted
+    list_refused h = rw (ne_eqb (preview_refusal s t (length list)) 0 h) refl
 
-    module _ (ok : previewRefusal s t (length list) ≡ 0) where
+    module _ (ok : preview_refusal s t (length list) ≡ 0) where
       abbrev words : List ℕ
       words =
-          let m = lastRound t s.blocks in
+          let m = last_round t s.blocks in
           let top = s.round.0 - 1 in
-          wordsAfter t (takenLeaders t m top (leadersFor s t)) m (top - m) s.blocks
+          words_after t (taken_leaders t m top (leaders_for s t)) m (top - m) s.blocks
 
       -- an accepted one writes the words that are listed without committing
-      pub list-accepted : previewList s t list ≡ sets list 0 words
-      unfolding previewList ifAccepted
-      list-accepted = rw (eq-eqb (previewRefusal s t (length list)) 0 ok, words-listed s t (preview-passed (length list) ok).1) refl
+      pub list_accepted : preview_list s t list ≡ sets list 0 words
+      unfolding preview_list if_accepted
+      list_accepted = rw (eq-eqb (preview_refusal s t (length list)) 0 ok, words-listed s t (preview-passed (length list) ok).1) refl
 
       -- for which there is room
-      pub list-room : length words ≤ length list
-      list-room =
+      pub list_room : length words ≤ length list
+      list_room =
           let p = preview-passed (length list) ok in
           let h : length words ≤ 3 * (16 * s.settings.ceiling.0) = rw (words-listed s t p.1) at (words-room s t p.1) in
           omega (arith, p.0)

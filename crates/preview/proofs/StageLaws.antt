@@ -11,29 +11,29 @@ use Rattle.base.specs.Sets.{only}
 use Rattle.agreement.specs.Rules.{Block, Chain}
 use Rattle.agreement.specs.Dag.{is_held}
 use Rattle.terms.specs.Proposals.{Content}
-use Rattle.store.specs.Table.{Row, markAt, held_at}
+use Rattle.store.specs.Table.{Row, mark_at, held_at}
 use Rattle.store.proofs.TableLaws.{held-member}
-use Rattle.writes.proofs.MarkLaws.{held-marked}
-use Rattle.sheet.specs.declared.Settings.{Settings}
-use Rattle.committee.specs.Chain.{block_at, chainOf}
+use Rattle.store.proofs.MarkLaws.{held-marked}
+use Rattle.terms.specs.declared.sheet.Settings.{Settings}
+use Rattle.committee.specs.Chain.{block_at, chain_of}
 use Rattle.committee.specs.Changes.{rows}
-use Rattle.committee.specs.Committees.{leaderBy, committeeOf, start_of, ordered}
+use Rattle.committee.specs.Committees.{leader_by, committee_of, start_of, ordered}
 use Rattle.committee.proofs.ChainLaws.{block-round, chain_more}
-use Rattle.histories.specs.History.{inHistory}
-use Rattle.histories.specs.Anchors.{takenLeaders}
-use Rattle.histories.proofs.HistoryLaws.{history-above, history-marked}
-use Rattle.blocks.specs.Blocks.{addBlock, countAfter, commitTable, commitCount}
-use Rattle.blocks.proofs.MarkLaws.{newMark, block-mark, block-round-new}
+use Rattle.blocks.specs.History.{in_history}
+use Rattle.blocks.specs.Anchors.{taken_leaders}
+use Rattle.blocks.proofs.HistoryLaws.{history-above, history-marked}
+use Rattle.blocks.specs.Blocks.{add_block, count_after, commit_table, commit_count}
+use Rattle.blocks.proofs.MarkLaws.{new_mark, block-mark, block-round-new}
 use Rattle.blocks.proofs.CommitLaws.{Stage, commit-each}
-use Rattle.prospects.specs.Prospects.{isNew, blockWords, reachAfter, wordsAfter}
-use Rattle.preview.specs.Entries.{entriesOf, blockEntries, entriesAfter, words_of}
-use Rattle.entries.proofs.RowLaws.{rows_same, rows-to}
+use Rattle.prospects.specs.Prospects.{is_new, block_words, reach_after, words_after}
+use Rattle.preview.specs.Entries.{entries_of, block_entries, entries_after, words_of}
+use Rattle.prospects.proofs.RowLaws.{rows_same, rows-to}
 use Rattle.preview.proofs.EntryLaws.{words_append, words-empty, rows_words}
 use Rattle.preview.proofs.BlockLaws.{committee-more, block-placed, chain-old, block_new, entries-old}
-use Rattle.prospects.proofs.ProspectLaws.{reach-none, count_none, words-none, reach-led, count-led, words-led, reach-passed, count-passed, words-passed}
+use Rattle.prospects.proofs.ProspectLaws.{reach_none, count_none, words-none, reach_led, count-led, words-led, reach_passed, count-passed, words-passed}
 
 -- what is free after a block: what was free and is not in its history
-free-then : (c : ℕ) (h : Bool) (x : ℕ) → eqb (newMark (suc c) h x) 0 ≡ (eqb x 0 && not h)
+free-then : (c : ℕ) (h : Bool) (x : ℕ) → eqb (new_mark (suc c) h x) 0 ≡ (eqb x 0 && not h)
 free-then c h x = go (eqb x 0) refl h
   where
     go : (b : Bool) → eqb x 0 ≡ b → (h : Bool) → eqb (cond (b && h) (suc c) x) 0 ≡ (b && not h)
@@ -42,7 +42,7 @@ free-then c h x = go (eqb x 0) refl h
     go false e h = e
 
 -- and no mark is above its number
-mark-low : (c : ℕ) (h : Bool) (x : ℕ) → x ≤ c → newMark (suc c) h x ≤ suc c
+mark-low : (c : ℕ) (h : Bool) (x : ℕ) → x ≤ c → new_mark (suc c) h x ≤ suc c
 mark-low c h x l = go (eqb x 0 && h)
   where
     go : (b : Bool) → cond b (suc c) x ≤ suc c
@@ -50,20 +50,20 @@ mark-low c h x l = go (eqb x 0 && h)
     go false = omega arith
 
 -- a block's certificates in order, where the leader of its round is a
-ordered-by : (S : Settings) (b : Block Content) (e : Chain Content) (r a : ℕ) → b.round ≡ r → leaderBy (committeeOf S e r) r ≡ a → ordered S b e ≡ rows b a S.ceiling.0
+ordered-by : (S : Settings) (b : Block Content) (e : Chain Content) (r a : ℕ) → b.round ≡ r → leader_by (committee_of S e r) r ≡ a → ordered S b e ≡ rows b a S.ceiling.0
 unfolding ordered start_of
 ordered-by S b e r a i j = rw (i, j) refl
 
 -- one block's entries more
-entries-more : (S : Settings) (u : List ℕ) (k c : ℕ) → k ≤ c → entriesAfter S u k (suc c - k) ≡ entriesAfter S u k (c - k) ++ blockEntries S u c
-unfolding entriesAfter
+entries-more : (S : Settings) (u : List ℕ) (k c : ℕ) → k ≤ c → entries_after S u k (suc c - k) ≡ entries_after S u k (c - k) ++ block_entries S u c
+unfolding entries_after
 entries-more S u k c h =
     let e : suc c - k ≡ suc (c - k) = omega arith in
     let i : k + (c - k) ≡ c = omega arith in
     rw (e, i) refl
 
-entries_none : (S : Settings) (u : List ℕ) (k : ℕ) → entriesAfter S u k (k - k) ≡ []
-unfolding entriesAfter
+entries_none : (S : Settings) (u : List ℕ) (k : ℕ) → entries_after S u k (k - k) ≡ []
+unfolding entries_after
 entries_none S u k = let e : k - k ≡ 0 = omega arith in rw e refl
 
 module _ (S : Settings) (t l : List ℕ) (m top k : ℕ) where
@@ -71,7 +71,7 @@ module _ (S : Settings) (t l : List ℕ) (m top k : ℕ) where
   n = S.ceiling.0
 
   abbrev left : List ℕ
-  left = takenLeaders t m top l
+  left = taken_leaders t m top l
 
   -- what a commit of the anchor of round top finds, where k blocks were made and the last of them was of round m
   pub record Anchored : Type 0 where
@@ -80,25 +80,25 @@ module _ (S : Settings) (t l : List ℕ) (m top k : ℕ) where
     pub inside : top ≤ n
     pub known : top ≤ S.lookback + suc m
     pub table : Row t n
-    pub marked : (i q : ℕ) → 0 < q → q ≤ n → held_at t i q ≡ true → markAt t i q ≤ k
+    pub marked : (i q : ℕ) → 0 < q → q ≤ n → held_at t i q ≡ true → mark_at t i q ≤ k
     pub held : (r : ℕ) → m < r → r ≤ top → get_or left r 0 < 16 → held_at t (get_or left r 0) r ≡ true
-    pub led : (r : ℕ) → m < r → r ≤ top → get_or left r 0 < 16 → leaderBy (committeeOf S (chainOf n t k) r) r ≡ get_or left r 0
+    pub led : (r : ℕ) → m < r → r ≤ top → get_or left r 0 < 16 → leader_by (committee_of S (chain_of n t k) r) r ≡ get_or left r 0
 
   -- after the rounds up to r there are c blocks on u, as the preview tells
   pub record Told (r c : ℕ) (u : List ℕ) : Type 0 where
-    pub count : countAfter left m (r - m) k ≡ c
-    pub free : (i q : ℕ) → i < 16 → 0 < q → eqb (markAt u i q) 0 ≡ (eqb (markAt t i q) 0 && not (reachAfter t left m (r - m) i q))
-    pub low : (i q : ℕ) → 0 < q → q ≤ n → held_at t i q ≡ true → markAt u i q ≤ c
-    pub before : chainOf n u k ≡ chainOf n t k
-    pub committees : (q : ℕ) → q ≤ top → committeeOf S (chainOf n u c) q ≡ committeeOf S (chainOf n t k) q
-    pub words : words_of (entriesAfter S u k (c - k)) ≡ wordsAfter t left m (r - m) k
+    pub count : count_after left m (r - m) k ≡ c
+    pub free : (i q : ℕ) → i < 16 → 0 < q → eqb (mark_at u i q) 0 ≡ (eqb (mark_at t i q) 0 && not (reach_after t left m (r - m) i q))
+    pub low : (i q : ℕ) → 0 < q → q ≤ n → held_at t i q ≡ true → mark_at u i q ≤ c
+    pub before : chain_of n u k ≡ chain_of n t k
+    pub committees : (q : ℕ) → q ≤ top → committee_of S (chain_of n u c) q ≡ committee_of S (chain_of n t k) q
+    pub words : words_of (entries_after S u k (c - k)) ≡ words_after t left m (r - m) k
 
   module _ (W : Anchored) where
     start : Told m k t
     start =
         record {
           count = count_none t left m k;
-          free = λ i q _ _. rw (reach-none t left m i q) (sym (and-true (eqb (markAt t i q) 0)));
+          free = λ i q _ _. rw (reach_none t left m i q) (sym (and-true (eqb (mark_at t i q) 0)));
           low = W.marked;
           before = refl;
           committees = λ q _. refl;
@@ -111,7 +111,7 @@ module _ (S : Settings) (t l : List ℕ) (m top k : ℕ) where
         let f = s.from in
         record {
           count = count-passed t left m r f a k ∙ d.count;
-          free = λ i q x y. rw (reach-passed t left m r f a i q) (d.free i q x y);
+          free = λ i q x y. rw (reach_passed t left m r f a i q) (d.free i q x y);
           low = d.low;
           before = d.before;
           committees = d.committees;
@@ -124,13 +124,13 @@ module _ (S : Settings) (t l : List ℕ) (m top k : ℕ) where
       a = get_or left (suc r) 0
 
       abbrev v : List ℕ
-      v = addBlock (suc c) a (suc r) u
+      v = add_block (suc c) a (suc r) u
 
       abbrev b : Block Content
       b = block_at n v (suc c)
 
       abbrev f : ℕ → ℕ → Bool
-      f = reachAfter t left m (r - m)
+      f = reach_after t left m (r - m)
 
       row : Row u (suc r)
       row = omega (arith, s.only.size, W.inside, W.table)
@@ -138,59 +138,59 @@ module _ (S : Settings) (t l : List ℕ) (m top k : ℕ) where
       room : Row u (suc c)
       room = omega (arith, s.only.size, s.few, s.from, W.few, W.inside, W.table)
 
-      same : (i q : ℕ) → inHistory u (suc r) (only a) i q ≡ inHistory t (suc r) (only a) i q
+      same : (i q : ℕ) → in_history u (suc r) (only a) i q ≡ in_history t (suc r) (only a) i q
       same i q = history-marked s.only (suc r) (only a) i q
 
       its-round : b.round ≡ suc r
       its-round = block-round n v (suc c) ∙ block-round-new (suc c) a (suc r) u room
 
-      free-v : (i q : ℕ) → i < 16 → 0 < q → eqb (markAt v i q) 0 ≡ (eqb (markAt t i q) 0 && not (reachAfter t left m (suc r - m) i q))
+      free-v : (i q : ℕ) → i < 16 → 0 < q → eqb (mark_at v i q) 0 ≡ (eqb (mark_at t i q) 0 && not (reach_after t left m (suc r - m) i q))
       free-v i q x y =
-          rw (block-mark (suc c) a (suc r) u row i q x y, free-then c (inHistory u (suc r) (only a) i q) (markAt u i q), same i q, d.free i q x y, reach-led t left m r s.from low i q)
-          (go (eqb (markAt t i q) 0) (f i q) (inHistory t (suc r) (only a) i q))
+          rw (block-mark (suc c) a (suc r) u row i q x y, free-then c (in_history u (suc r) (only a) i q) (mark_at u i q), same i q, d.free i q x y, reach_led t left m r s.from low i q)
+          (go (eqb (mark_at t i q) 0) (f i q) (in_history t (suc r) (only a) i q))
         where
           go : (x y z : Bool) → ((x && not y) && not z) ≡ (x && not (y || z))
           go true true z = refl
           go true false z = refl
           go false y z = refl
 
-      low-v : (i q : ℕ) → 0 < q → q ≤ n → held_at t i q ≡ true → markAt v i q ≤ suc c
+      low-v : (i q : ℕ) → 0 < q → q ≤ n → held_at t i q ≡ true → mark_at v i q ≤ suc c
       low-v i q x y e =
-          rw (block-mark (suc c) a (suc r) u row i q (held-member t i q e) x) (mark-low c (inHistory u (suc r) (only a) i q) (markAt u i q) (d.low i q x y e))
+          rw (block-mark (suc c) a (suc r) u row i q (held-member t i q e) x) (mark-low c (in_history u (suc r) (only a) i q) (mark_at u i q) (d.low i q x y e))
 
-      committees-v : (q : ℕ) → q ≤ top → committeeOf S (chainOf n v (suc c)) q ≡ committeeOf S (chainOf n t k) q
+      committees-v : (q : ℕ) → q ≤ top → committee_of S (chain_of n v (suc c)) q ≡ committee_of S (chain_of n t k) q
       committees-v q x =
           rw (chain_more n v c, chain-old n c a (suc r) u row c (omega arith))
-          (committee-more S b (chainOf n u c) q (omega (arith, its-round, W.known, s.from)) ∙ d.committees q x)
+          (committee-more S b (chain_of n u c) q (omega (arith, its-round, W.known, s.from)) ∙ d.committees q x)
 
-      holds-v : (i q : ℕ) → i < 16 → 0 < q → q ≤ n → is_held (b.holds i q) ≡ isNew t f a (suc r) i q
+      holds-v : (i q : ℕ) → i < 16 → 0 < q → q ≤ n → is_held (b.holds i q) ≡ is_new t f a (suc r) i q
       holds-v i q x y z =
           block_new n c a (suc r) u row (λ i q p e g. d.low i q p e (sym (held-marked s.only i q) ∙ g)) low
           (held-marked s.only a (suc r) ∙ W.held (suc r) (omega (arith, s.from)) h low) i q x y z
           ∙ ap₂ ◌&&◌ (d.free i q x y) (same i q)
-          ∙ and_comm (eqb (markAt t i q) 0 && not (f i q)) (inHistory t (suc r) (only a) i q)
-          ∙ ap (λ (z : Bool). inHistory t (suc r) (only a) i q && z) (and_comm (eqb (markAt t i q) 0) (not (f i q)))
+          ∙ and_comm (eqb (mark_at t i q) 0 && not (f i q)) (in_history t (suc r) (only a) i q)
+          ∙ ap (λ (z : Bool). in_history t (suc r) (only a) i q && z) (and_comm (eqb (mark_at t i q) 0) (not (f i q)))
 
-      order : ordered S b (chainOf n v c) ≡ rows b a n
+      order : ordered S b (chain_of n v c) ≡ rows b a n
       order =
-          ordered-by S b (chainOf n v c) (suc r) a its-round
-          (ap (λ (w : List ℕ). leaderBy w (suc r)) (ap (λ (e : Chain Content). committeeOf S e (suc r)) (chain-old n c a (suc r) u row c (omega arith)) ∙ d.committees (suc r) h)
+          ordered-by S b (chain_of n v c) (suc r) a its-round
+          (ap (λ (w : List ℕ). leader_by w (suc r)) (ap (λ (e : Chain Content). committee_of S e (suc r)) (chain-old n c a (suc r) u row c (omega arith)) ∙ d.committees (suc r) h)
           ∙ W.led (suc r) (omega (arith, s.from)) h low)
 
-      block_words : words_of (blockEntries S v c) ≡ blockWords t f (c + 1) a (suc r)
-      block_words =
-          ap (λ (p : List Content). words_of (entriesOf (suc c) p)) order
+      block_words_lem : words_of (block_entries S v c) ≡ block_words t f (c + 1) a (suc r)
+      block_words_lem =
+          ap (λ (p : List Content). words_of (entries_of (suc c) p)) order
           ∙ rows_words (suc c) b (block-placed n v (suc c)) a n
-          ∙ rows_same (λ i q. is_held (b.holds i q)) (isNew t f a (suc r)) (suc c) a 0 n (λ i q x y z. holds-v i q x y (omega arith))
-          ∙ rows-to (isNew t f a (suc r)) (suc c) a n (suc r) (omega (arith, W.inside)) (λ i q _ x _. rw (history-above t (suc r) (only a) i q x) refl)
-          ∙ ap (λ (z : ℕ). blockWords t f z a (suc r)) (sym (add-one c))
+          ∙ rows_same (λ i q. is_held (b.holds i q)) (is_new t f a (suc r)) (suc c) a 0 n (λ i q x y z. holds-v i q x y (omega arith))
+          ∙ rows-to (is_new t f a (suc r)) (suc c) a n (suc r) (omega (arith, W.inside)) (λ i q _ x _. rw (history-above t (suc r) (only a) i q x) refl)
+          ∙ ap (λ (z : ℕ). block_words t f z a (suc r)) (sym (add-one c))
 
-      words-v : words_of (entriesAfter S v k (suc c - k)) ≡ wordsAfter t left m (suc r - m) k
+      words-v : words_of (entries_after S v k (suc c - k)) ≡ words_after t left m (suc r - m) k
       words-v =
           ap words_of (entries-more S v k c s.more)
-          ∙ words_append (entriesAfter S v k (c - k)) (blockEntries S v c)
+          ∙ words_append (entries_after S v k (c - k)) (block_entries S v c)
           ∙ ap₂ ◌++◌ (ap words_of (entries-old S c a (suc r) u row k (c - k) (omega (arith, s.more))) ∙ d.words)
-          (block_words ∙ ap (λ (z : ℕ). blockWords t f (z + 1) a (suc r)) (sym d.count))
+          (block_words_lem ∙ ap (λ (z : ℕ). block_words t f (z + 1) a (suc r)) (sym d.count))
           ∙ sym (words-led t left m r s.from low k)
 
       made : Told (suc r) (suc c) v
@@ -205,5 +205,5 @@ module _ (S : Settings) (t l : List ℕ) (m top k : ℕ) where
           }
 
     -- and so after all of them
-    pub commit-told : Told top (commitCount m top k l t) (commitTable m top k l t)
+    pub commit-told : Told top (commit_count m top k l t) (commit_table m top k l t)
     commit-told = commit-each m top k l t W.few W.above Told start (λ r c u s h low d. made r c u s h low d) passed

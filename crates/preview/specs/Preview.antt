@@ -6,22 +6,22 @@ use Rattle.rules.specs.Calls as rules
 use Rattle.state.specs.declared.State.{State}
 use Rattle.state.specs.View.{view}
 use Rattle.state.specs.Refusals.{guarded}
-use Rattle.checks.specs.Answers.{ifAccepted}
-use Rattle.commit.specs.Commit.{commitOutcome, commitTableAfter}
-use Rattle.preview.specs.Entries.{Entry, entriesAfter, words_of}
+use Rattle.state.specs.Answers.{if_accepted}
+use Rattle.commit.specs.Commit.{commit_outcome, commit_table_after}
+use Rattle.preview.specs.Entries.{Entry, entries_after, words_of}
 
 module _ (s : State) (t : List ℕ) where
   -- 25 a list of so many words has fewer than 16 places per round of the ceiling, of three words each; then the checks of commit
   abbrev pub previewing : ℕ → Checks
   previewing words = (ltb (words / 3) (16 * s.settings.ceiling.0), 25) ∷ rules.checks s.settings s.own.0 (view s t) rules.commit
 
-  unfoldable pub previewRefusal : ℕ → ℕ
-  previewRefusal words = refusal (guarded s t (previewing words))
+  unfoldable pub preview_refusal : ℕ → ℕ
+  preview_refusal words = refusal (guarded s t (previewing words))
 
   -- committing on a copy of state and table, and reading the new blocks
-  unfoldable pub previewEntries : List Entry
-  previewEntries = entriesAfter s.settings (commitTableAfter s t) s.blocks ((commitOutcome s t).state.blocks - s.blocks)
+  unfoldable pub preview_entries : List Entry
+  preview_entries = entries_after s.settings (commit_table_after s t) s.blocks ((commit_outcome s t).state.blocks - s.blocks)
 
   -- what the lent list holds then: the entries, and its rest as it was
-  unfoldable pub previewList : List ℕ → List ℕ
-  previewList list = ifAccepted (previewRefusal (length list)) (sets list 0 (words_of previewEntries)) list
+  unfoldable pub preview_list : List ℕ → List ℕ
+  preview_list list = if_accepted (preview_refusal (length list)) (sets list 0 (words_of preview_entries)) list

@@ -2,11 +2,13 @@
 #![tactic(auto)]
 
 ghost use Rattle.std.specs.Prelude.{◌≡◌};
-ghost use Rattle.state.specs.WellFormed.{wellFormed};
+ghost use Rattle.state.specs.WellFormed.{well_formed};
 ghost use Rattle.preview.specs.Answers.{ChecksWanted, Checked, Previews};
 
-use checks::Listed;
+use blocks::histories;
+use running::bonded;
 use state::State;
+use state::checks::Listed;
 use terms::Round;
 
 // The number of the first check that refuses, 0 for none; l, of 16s, then has the leaders by round. The list has so many words.
@@ -30,7 +32,7 @@ fn preview_refusal(formed: bool, s: State, t: &[u32], words: usize, l: &mut [u32
 
 // The call, where it is told whether the state is well formed.
 fn preview_cached(formed: bool, s: State, t: &[u32], list: &mut [u32]) -> Listed
-    requires { formed ≡ wellFormed s t.now }
+    requires { formed ≡ well_formed s t.now }
     ensures { Previews s t.now list.old result list.new }
 {
     let mut leaders = [16u32; 1025];

@@ -6,26 +6,26 @@ use Prim.Native.Nat.{ℕ, ◌+◌, ◌-◌, ◌<◌, ◌≤◌}
 use native.Mathlib.Omega.{arith}
 use lib.Dec.{eqb}
 use Rattle.base.specs.Sets.{only}
-use Rattle.store.specs.Table.{markAt}
-use Rattle.histories.specs.History.{inHistory}
-use Rattle.reaching.specs.Reaching.{WentDown}
-use Rattle.entries.specs.Entries.{rowsEntries, inSets}
-use Rattle.entries.proofs.RowLaws.{rows_same, rows-from}
-use Rattle.prospects.specs.Prospects.{isNew, blockWords}
+use Rattle.store.specs.Table.{mark_at}
+use Rattle.blocks.specs.History.{in_history}
+use Rattle.prospects.specs.Reaching.{WentDown}
+use Rattle.prospects.specs.Entries.{rows_entries, in_sets}
+use Rattle.prospects.proofs.RowLaws.{rows_same, rows-from}
+use Rattle.prospects.specs.Prospects.{is_new, block_words}
 
 module _ (t v : List ℕ) (k a r low : ℕ) (v' fresh : List ℕ) (w : WentDown t v (only a) r low v' fresh) where
   -- where the walk has ended nothing is new
-  none-new : (i q : ℕ) → 0 < q → q ≤ low → isNew t (inSets v) a r i q ≡ false
-  none-new i q from to = go (inHistory t r (only a) i q) refl
+  none-new : (i q : ℕ) → 0 < q → q ≤ low → is_new t (in_sets v) a r i q ≡ false
+  none-new i q from to = go (in_history t r (only a) i q) refl
     where
-      go : (b : Bool) → inHistory t r (only a) i q ≡ b → (b && (not (inSets v i q) && eqb (markAt t i q) 0)) ≡ false
+      go : (b : Bool) → in_history t r (only a) i q ≡ b → (b && (not (in_sets v i q) && eqb (mark_at t i q) 0)) ≡ false
       go true h = rw (w.old q i from to h) refl
       go false h = refl
 
   -- the rows above it are the block's
-  pub fresh-words : rowsEntries (inSets fresh) k a low (r - low) ≡ blockWords t (inSets v) k a r
+  pub fresh-words : rows_entries (in_sets fresh) k a low (r - low) ≡ block_words t (in_sets v) k a r
   fresh-words =
       let d = w.down in
       let e : low + (r - low) ≡ r = omega arith in
-      rows_same (inSets fresh) (isNew t (inSets v) a r) k a low (r - low) (λ i q h l u. w.new q i l (omega arith))
-      ∙ sym (rw e at (rows-from (isNew t (inSets v) a r) k a low (r - low) (λ i q h l u. none-new i q l u)))
+      rows_same (in_sets fresh) (is_new t (in_sets v) a r) k a low (r - low) (λ i q h l u. w.new q i l (omega arith))
+      ∙ sym (rw e at (rows-from (is_new t (in_sets v) a r) k a low (r - low) (λ i q h l u. none-new i q l u)))

@@ -1,3 +1,8 @@
+pub mod ChoiceLaws
+pub mod WalkLaws
+pub mod EntryLaws
+pub mod RowLaws
+pub mod CountLaws
 pub mod BlockLaws
 pub mod StepLaws
 pub mod Stepping

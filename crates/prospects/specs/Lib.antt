@@ -1,2 +1,4 @@
+pub mod Reaching
+pub mod Entries
 pub mod Prospects
 pub mod Ready

@@ -1,9 +1,12 @@
 // The blocks that a commit would make, listed without making them: nothing is written but the list (change request: Point 8).
 #![tactic(auto)]
 
+pub mod entries;
+pub mod reaching;
+
 ghost use Rattle.std.specs.Prelude.{◌-◌, length};
-ghost use Rattle.putting.specs.Puts.{Puts};
-ghost use Rattle.prospects.specs.Prospects.{wordsAfter};
+ghost use Rattle.base.specs.Puts.{Puts};
+ghost use Rattle.prospects.specs.Prospects.{words_after};
 ghost use Rattle.prospects.specs.Ready.{BlockReady, BlockListed, StepReady, StepListed, StepsReady};
 
 use terms::{Member, Round};
@@ -65,7 +68,7 @@ fn list_step(
 // The blocks of the anchors above m up to top, oldest first, where there are k. The words that were put.
 pub fn list_blocks(t: &[u32], l: &[u32], m: Round, top: Round, k: u32, list: &mut [u32]) -> usize
     requires { StepsReady t.now l.now m.0 top.0 k list.old }
-    ensures { Puts list.old list.new 0 result (wordsAfter t.now l.now m.0 (top.0 - m.0) k) (length (wordsAfter t.now l.now m.0 (top.0 - m.0) k)) }
+    ensures { Puts list.old list.new 0 result (words_after t.now l.now m.0 (top.0 - m.0) k) (length (words_after t.now l.now m.0 (top.0 - m.0) k)) }
 {
     let last = m.0;
     let rounds = top.0 - last;

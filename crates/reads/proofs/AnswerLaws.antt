@@ -1,4 +1,4 @@
--- The answers of the reads of a certificate and of a block tell the refusal, and the value where there is none.
+-- The answers of the reads of a committee and of a share tell the refusal, and the value where there is none.
 use mathlib.Core.Path.{◌≡◌, refl, sym}
 use mathlib.Core.Bool.{Bool, true, false, cond}
 use mathlib.Core.List.{List}
@@ -8,38 +8,37 @@ use borrow.Author.Tests.{eqb-true}
 use Rattle.rules.specs.Reads as rules
 use Rattle.state.specs.declared.State.{State}
 use Rattle.state.specs.View.{view}
-use Rattle.checks.specs.Answers.{refusalIn, ifAccepted}
-use Rattle.checks.proofs.AnswerLaws.{refusal-in}
-use Rattle.reads.specs.declared.CertificateRead.{CertificateRead}
-use Rattle.reads.specs.declared.BlockRead.{BlockRead}
-use Rattle.reads.specs.declared.BlockRead.TheVariants as block
-use Rattle.standing.specs.Answers.{ReadAnswered, ValueAnswered}
-use Rattle.reads.specs.Answers.{blockedAnswer, blockedValue}
-use Rattle.reads.specs.Reads.{certificateRefusal, certificateAnswer, blockRefusal, blockAnswer, blockValue}
+use Rattle.state.specs.Answers.{refusal_in, if_accepted}
+use Rattle.state.proofs.AnswerLaws.{refusal_in-answer_of}
+use Rattle.reads.specs.declared.standing.CommitteeRead.{CommitteeRead}
+use Rattle.reads.specs.declared.standing.ShareRead.{ShareRead}
+use Rattle.reads.specs.declared.standing.ShareRead.TheVariants as share
+use Rattle.reads.specs.CommitteeAnswers.{shared_answer, shared_value, ReadAnswered, ValueAnswered}
+use Rattle.reads.specs.CommitteeReads.{committee_refusal, committee_answer, share_refusal, share_answer, share_value}
 
 module _ (s : State) (t : List ℕ) where
-  pub refusal-in-certificate : (m r : ℕ) → refusalIn (certificateAnswer s t m r).answer ≡ certificateRefusal s t m r
-  unfolding certificateAnswer
-  refusal-in-certificate m r = refusal-in (certificateRefusal s t m r)
+  pub refusal_in_committee : (r : ℕ) → refusal_in (committee_answer s t r).answer ≡ committee_refusal s t r
+  unfolding committee_answer
+  refusal_in_committee r = refusal_in-answer_of (committee_refusal s t r)
 
-  pub refusal-in-block : (k : ℕ) → (refusalIn (blockedAnswer (blockAnswer s t k)) ≡ blockRefusal s t k) × (blockedValue (blockAnswer s t k) ≡ blockValue s t k)
-  unfolding blockAnswer blockValue ifAccepted
-  refusal-in-block k = go (eqb n 0) refl
+  pub refusal_in_share : (m r : ℕ) → (refusal_in (shared_answer (share_answer s t m r)) ≡ share_refusal s t m r) × (shared_value (share_answer s t m r) ≡ share_value s t m r)
+  unfolding share_answer share_value if_accepted
+  refusal_in_share m r = go (eqb n 0) refl
     where
       n : ℕ
-      n = blockRefusal s t k
+      n = share_refusal s t m r
 
       x : ℕ
-      x = rules.block_read s.settings (view s t) k
+      x = rules.share_read s.settings (view s t) m r
 
-      go : (b : Bool) → eqb n 0 ≡ b → (refusalIn (blockedAnswer (cond b (block.At (record { 0 = x })) (block.Refused n))) ≡ n) × (blockedValue (cond b (block.At (record { 0 = x })) (block.Refused n)) ≡ cond b x 0)
+      go : (b : Bool) → eqb n 0 ≡ b → (refusal_in (shared_answer (cond b (share.Thousandths x) (share.Refused n))) ≡ n) × (shared_value (cond b (share.Thousandths x) (share.Refused n)) ≡ cond b x 0)
       go true e = (sym (eqb-true n 0 e), refl)
       go false e = (refl, refl)
 
   -- ---- the contracts, for what the code answers
 
-  pub certificate-told : (m r : ℕ) {v : CertificateRead} → v ≡ certificateAnswer s t m r → ReadAnswered (certificateAnswer s t m r) (certificateRefusal s t m r) v v.answer
-  certificate-told m r e = record { its-whole = e; its-refusal = rw e (refusal-in-certificate m r) }
+  pub committee-told : (r : ℕ) {v : CommitteeRead} → v ≡ committee_answer s t r → ReadAnswered (committee_answer s t r) (committee_refusal s t r) v v.answer
+  committee-told r e = record { its-whole = e; its-refusal = rw e (refusal_in_committee r) }
 
-  pub block-told : (k : ℕ) {v : BlockRead} → v ≡ blockAnswer s t k → ValueAnswered (blockAnswer s t k) (blockRefusal s t k) (blockValue s t k) v (blockedAnswer v) (blockedValue v)
-  block-told k e = let h = refusal-in-block k in record { its-whole = e; its-refusal = rw e h.0; its-value = rw e h.1 }
+  pub share-told : (m r : ℕ) {v : ShareRead} → v ≡ share_answer s t m r → ValueAnswered (share_answer s t m r) (share_refusal s t m r) (share_value s t m r) v (shared_answer v) (shared_value v)
+  share-told m r e = let k = refusal_in_share m r in record { its-whole = e; its-refusal = rw e k.0; its-value = rw e k.1 }

@@ -11,43 +11,43 @@ use Rattle.agreement.specs.Rules.{Block}
 use Rattle.agreement.specs.Dag.{is_held}
 use Rattle.agreement.specs.Prefixes as chains
 use Rattle.terms.specs.Proposals.{Content}
-use Rattle.store.specs.Table.{blockRound, markAt, held_at, contentAt}
+use Rattle.store.specs.Table.{block_round, mark_at, held_at, content_at}
 use Rattle.store.proofs.TableLaws.{certificate-present}
-use Rattle.committee.specs.Chain.{block_at, chainOf}
-use Rattle.committee.proofs.ChainLaws.{holds_at, block-round, block_inside, chain-none, chain_more, chain_length}
-use Rattle.rules.specs.Reads.{blockNumber, roundOf}
+use Rattle.committee.specs.Chain.{block_at, chain_of}
+use Rattle.committee.proofs.ChainLaws.{holds_at_lem, block-round, block_inside, chain-none, chain_more, chain_length}
+use Rattle.rules.specs.Reads.{block_number, round_of}
 
 module _ (n : ℕ) (t : List ℕ) where
   -- block j of the first k is the one that the table tells
-  chain-block : (k j : ℕ) → 0 < j → j ≤ k → chains.blockNumbered (chainOf n t k) j ≡ some (block_at n t j)
-  unfolding chains.blockNumbered
+  chain-block : (k j : ℕ) → 0 < j → j ≤ k → chains.block_numbered (chain_of n t k) j ≡ some (block_at n t j)
+  unfolding chains.block_numbered
   chain-block zero j h l = absurd (omega arith)
   chain-block (suc k) j h l = rw (chain_more n t k, chain_length n t k) (go (eqb j (suc k)) refl (λ i. chain-block k j h i))
     where
-      go : (b : Bool) → eqb j (suc k) ≡ b → (j ≤ k → chains.blockNumbered (chainOf n t k) j ≡ some (block_at n t j))
-          → ◌≡◌ {A = Option (Block Content)} (cond b (some (block_at n t (suc k))) (chains.blockNumbered (chainOf n t k) j)) (some (block_at n t j))
+      go : (b : Bool) → eqb j (suc k) ≡ b → (j ≤ k → chains.block_numbered (chain_of n t k) j ≡ some (block_at n t j))
+          → ◌≡◌ {A = Option (Block Content)} (cond b (some (block_at n t (suc k))) (chains.block_numbered (chain_of n t k) j)) (some (block_at n t j))
       go true e f = ap (λ (i : ℕ). some (block_at n t i)) (sym (eqb-true j (suc k) e))
       go false e f = let d = eqb-false j (suc k) e in f (omega arith)
 
   -- and so its round
-  pub chain-round : (k j : ℕ) → 0 < j → j ≤ k → roundOf (chains.blockNumbered (chainOf n t k) j) ≡ blockRound t j
+  pub chain-round : (k j : ℕ) → 0 < j → j ≤ k → round_of (chains.block_numbered (chain_of n t k) j) ≡ block_round t j
   chain-round k j h l = rw (chain-block k j h l) (block-round n t j)
 
   module _ (a r : ℕ) (from : 0 < r) (to : r ≤ n) (held : held_at t a r ≡ true) where
     -- a block holds the certificate of a place if it is marked with its number
-    pub block_held : (k : ℕ) → is_held ((block_at n t k).holds a r) ≡ eqb (markAt t a r) k
-    block_held k = rw (block_inside n t k a r from to, holds_at t k a r, certificate-present t a r held) (go (eqb (markAt t a r) k))
+    pub block_held : (k : ℕ) → is_held ((block_at n t k).holds a r) ≡ eqb (mark_at t a r) k
+    block_held k = rw (block_inside n t k a r from to, holds_at_lem t k a r, certificate-present t a r held) (go (eqb (mark_at t a r) k))
       where
-        go : (b : Bool) → is_held (cond b (some (contentAt t a r)) none) ≡ b
+        go : (b : Bool) → is_held (cond b (some (content_at t a r)) none) ≡ b
         go true = refl
         go false = refl
 
     -- so the mark of a held certificate is the number of its block, 0 for none
-    pub mark-number : (k : ℕ) → markAt t a r ≤ k → blockNumber (chainOf n t k) a r ≡ markAt t a r
-    unfolding blockNumber
+    pub mark-number : (k : ℕ) → mark_at t a r ≤ k → block_number (chain_of n t k) a r ≡ mark_at t a r
+    unfolding block_number
     mark-number zero l = rw (chain-none n t) (omega arith)
-    mark-number (suc k) l = rw (chain_more n t k, block_held (suc k), chain_length n t k) (go (eqb (markAt t a r) (suc k)) refl (λ i. mark-number k i))
+    mark-number (suc k) l = rw (chain_more n t k, block_held (suc k), chain_length n t k) (go (eqb (mark_at t a r) (suc k)) refl (λ i. mark-number k i))
       where
-        go : (b : Bool) → eqb (markAt t a r) (suc k) ≡ b → (markAt t a r ≤ k → blockNumber (chainOf n t k) a r ≡ markAt t a r) → cond b (suc k) (blockNumber (chainOf n t k) a r) ≡ markAt t a r
-        go true e f = sym (eqb-true (markAt t a r) (suc k) e)
-        go false e f = let d = eqb-false (markAt t a r) (suc k) e in f (omega arith)
+        go : (b : Bool) → eqb (mark_at t a r) (suc k) ≡ b → (mark_at t a r ≤ k → block_number (chain_of n t k) a r ≡ mark_at t a r) → cond b (suc k) (block_number (chain_of n t k) a r) ≡ mark_at t a r
+        go true e f = sym (eqb-true (mark_at t a r) (suc k) e)
+        go false e f = let d = eqb-false (mark_at t a r) (suc k) e in f (omega arith)

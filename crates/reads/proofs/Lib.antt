@@ -1,3 +1,7 @@
-pub mod BlockLaws
 pub mod ReadLaws
 pub mod AnswerLaws
+pub mod BondReadLaws
+pub mod BoundLaws
+pub mod BlockLaws
+pub mod CertificateReadLaws
+pub mod CertificateAnswerLaws

@@ -1,152 +1,73 @@
--- What the reads of a certificate and of a block answer, by the number that refuses and by what the table tells.
-use mathlib.Core.Path.{◌≡◌, refl, sym, ap, ◌∙◌}
-use mathlib.Core.Bool.{true, false, not, ◌||◌}
-use mathlib.Core.List.{List}
+-- What the reads of a committee and of a share answer, by the number that refuses and by what the table tells.
+use mathlib.Core.Path.{◌≡◌, refl, ap, ◌∙◌}
+use mathlib.Core.Bool.{true, false, not}
+use mathlib.Core.List.{List, [], ◌∷◌}
 use mathlib.Core.Logic.{◌≢◌}
-use Prim.Native.Nat.{ℕ, ◌<◌, ◌≤◌}
+use Prim.Native.Nat.{ℕ, ◌<◌}
 use native.Mathlib.Omega.{arith}
-use lib.Dec.{eqb, ltb}
-use borrow.Author.Tests.{eq-eqb, ne_eqb, ltb-false, lt-ltb, le-ltb, not-false}
-use Rattle.base.proofs.CheckLaws.{numbered, passes, refuses, passes-all}
-use Rattle.terms.specs.declared.Proposal.{Proposal}
-use Rattle.store.specs.Table.{Row, Within, held_at, markAt, endorsersAt, contentAt, blockRound, proposalOf}
-use Rattle.store.proofs.TableLaws.{certificate-present}
-use Rattle.scan.proofs.ScanLaws.{rows-held}
-use Rattle.agreement.specs.Dag.{is_held}
-use Rattle.committee.proofs.ChainLaws.{chain_length}
-use Rattle.rules.specs.Tests.{badRound}
+use lib.ListN.{replicate}
+use borrow.Author.Tests.{ne_eqb, lt-ltb, le-ltb, not-false}
+use Rattle.base.specs.Checks.{refusal}
+use Rattle.base.proofs.CheckLaws.{numbered, passes, refuses}
+use Rattle.terms.specs.Ranges.{weight_in}
+use Rattle.agreement.specs.Weights.{total}
+use Rattle.committee.specs.Shares.{share_of}
+use Rattle.committee.specs.Leaders.{members}
+use Rattle.rules.specs.Tests.{bad_round, unknown, committee_in}
 use Rattle.rules.specs.Reads as rules
 use Rattle.base.proofs.Passed.{passed}
-use Rattle.rules.proofs.TestLaws.{bad-over, round-fits}
 use Rattle.state.specs.declared.State.{State}
 use Rattle.state.specs.View.{view}
-use Rattle.state.proofs.ViewLaws.{dag-at, held-dag}
-use Rattle.ports.specs.Ports.{portsFit}
-use Rattle.state.specs.WellFormed.{wellFormed}
+use Rattle.state.specs.WellFormed.{well_formed}
 use Rattle.state.specs.Formed.{Formed}
-use Rattle.state.proofs.FormedLaws.{formed, formed-ports, whole}
-use Rattle.checks.specs.declared.Answer.TheVariants.{Accepted, Refused}
-use Rattle.checks.proofs.AnswerLaws.{answer-accepted, answer-refused, if-accepted-new, if-accepted-old}
-use Rattle.reads.specs.declared.CertificateRead.{CertificateRead}
-use Rattle.reads.specs.declared.BlockRead.{BlockRead}
-use Rattle.reads.specs.declared.BlockRead.TheVariants as block
-use Rattle.reads.specs.Reads.{noProposal, proposalShown, certificateRefusal, certificateAnswer, blockRefusal, blockAnswer}
-use Rattle.reads.proofs.BlockLaws.{chain-round, mark-number}
-
--- a held certificate of a well-formed state, at the place of member m and round r
-pub record HeldThere (s : State) (t : List ℕ) (m r : ℕ) : Type 0 where
-  pub well : Formed s t
-  pub ports : portsFit s.settings t s.blocks ≡ true
-  pub member : m < 16
-  pub from : 0 < r
-  pub to : r ≤ s.settings.ceiling.0
-  pub held : held_at t m r ≡ true
+use Rattle.state.proofs.FormedLaws.{formed}
+use Rattle.state.specs.declared.checks.Answer.TheVariants.{Accepted, Refused}
+use Rattle.state.proofs.AnswerLaws.{answer-accepted, answer-refused, if_accepted-new, if_accepted-old}
+use Rattle.reads.specs.declared.standing.CommitteeRead.{CommitteeRead}
+use Rattle.reads.specs.declared.standing.ShareRead.{ShareRead}
+use Rattle.reads.specs.declared.standing.ShareRead.TheVariants as share
+use Rattle.reads.specs.CommitteeReads.{committee_refusal, committee_answer, share_refusal, share_answer}
 
 module _ (s : State) (t : List ℕ) where
-  -- ---- certificate
+  -- ---- committee
 
-  module _ (m r : ℕ) (in-range : badRound s.settings r ≡ false) where
-    -- the place of a member and a round lies in the table
-    pub place_in : Formed s t → m ≤ 15 → Within t m r
-    place_in f h = let k = round-fits s.settings r in-range in record { member = omega arith; row = omega (arith, f.long, k.1) }
+  module _ (r : ℕ) {n : ℕ} (q : n ≡ committee_refusal s t r) where
+    pub committee-refused : n ≢ 0 → ◌≡◌ {A = CommitteeRead} (record { answer = Refused n; weights = replicate 16 0 }) (committee_answer s t r)
+    unfolding committee_answer
+    committee-refused h = rw (← q, answer-refused n h, if_accepted-old n (rules.committee_read s.settings (view s t) r) (replicate 16 0) h) refl
 
-    -- none there
-    pub none-there : not (is_held ((view s t).dag m r)) ≡ not (held_at t m r)
-    none-there = let k = round-fits s.settings r in-range in ap not (held-dag s.settings.ceiling.0 t m r k.0 k.1)
+    pub committee-given : {w : List ℕ} → n ≡ 0 → w ≡ rules.committee_read s.settings (view s t) r → ◌≡◌ {A = CommitteeRead} (record { answer = Accepted; weights = w }) (committee_answer s t r)
+    unfolding committee_answer
+    committee-given e i = rw (← q, answer-accepted n e, if_accepted-new n (rules.committee_read s.settings (view s t) r) (replicate 16 0) e, i) refl
 
-  pub certificate-passed : (m r : ℕ) → certificateRefusal s t m r ≡ 0 → HeldThere s t m r
-  unfolding certificateRefusal numbered
-  certificate-passed m r e =
-      passed _ refl e λ h1 h4 h5 h23.
-      let a = ltb-false 15 m h4 in
-      let k = round-fits s.settings r h5 in
-      record {
-        well = formed s t (not-false (wellFormed s t) h1);
-        ports = formed-ports s t (not-false (wellFormed s t) h1);
-        member = omega arith;
-        from = k.0;
-        to = k.1;
-        held = sym (held-dag s.settings.ceiling.0 t m r k.0 k.1) ∙ not-false _ h23;
-      }
+  pub committee-passed : (r : ℕ) → committee_refusal s t r ≡ 0 → Formed s t
+  unfolding committee_refusal numbered
+  committee-passed r e = passed _ refl e λ h1 h5 h8. formed s t (not-false (well_formed s t) h1)
 
-  -- and where one is held the read is accepted
-  pub certificate-accepted : {m r : ℕ} → HeldThere s t m r → certificateRefusal s t m r ≡ 0
-  unfolding certificateRefusal
-  certificate-accepted {m} {r} k =
-      let c = s.settings.ceiling.0 in
-      passes 1 _ (ap not (whole s t k.well k.ports))
-      ∙ passes 4 _ (le-ltb 15 m (omega (arith, k.member)))
-      ∙ passes 5 _ (bad-over s.settings r (λ z. omega (arith, k.from)) ∙ le-ltb c r k.to)
-      ∙ passes 23 _ (ap not (held-dag c t m r k.from k.to ∙ k.held))
-      ∙ passes-all
+  -- ---- share
 
-  pub place-within : {m r : ℕ} → HeldThere s t m r → Within t m r
-  place-within k = record { member = k.member; row = omega (arith, k.well.long, k.to) }
+  module _ (m r : ℕ) where
+    pub share-refused : (n : ℕ) → 0 < n → share_refusal s t m r ≡ n → ◌≡◌ {A = ShareRead} (share.Refused n) (share_answer s t m r)
+    unfolding share_answer
+    share-refused n h q = rw (q, ne_eqb n 0 (omega arith)) refl
 
-  module _ (m r : ℕ) {n : ℕ} (q : n ≡ certificateRefusal s t m r) where
-    pub certificate-refused : n ≢ 0 → ◌≡◌ {A = CertificateRead} (record { answer = Refused n; proposal = noProposal; endorsers = 0; block = 0 }) (certificateAnswer s t m r)
-    unfolding certificateAnswer
-    certificate-refused h =
-        rw (
-          ← q,
-          answer-refused n h,
-          if-accepted-old n (proposalShown ((view s t).dag m r)) noProposal h,
-          if-accepted-old n (endorsersAt t m r) 0 h,
-          if-accepted-old n (rules.blockNumber (view s t).chain m r) 0 h,
-        )
-        refl
+    -- by the committee that the code has computed
+    pub share-given : {x : ℕ} {w : List ℕ} → share_refusal s t m r ≡ 0 → w ≡ rules.committee_read s.settings (view s t) r → x ≡ share_of (weight_in w m) (total 16 (weight_in w))
+        → ◌≡◌ {A = ShareRead} (share.Thousandths x) (share_answer s t m r)
+    unfolding share_answer
+    share-given q e i = rw (q, i, e) refl
 
-    pub certificate-given : {p : Proposal} {d : ℕ} {b : ℕ} → n ≡ 0 → p ≡ proposalOf (contentAt t m r) → d ≡ endorsersAt t m r → b ≡ markAt t m r
-        → ◌≡◌ {A = CertificateRead} (record { answer = Accepted; proposal = p; endorsers = d; block = b }) (certificateAnswer s t m r)
-    unfolding certificateAnswer
-    certificate-given e i g j =
-        let k = certificate-passed m r (sym q ∙ e) in
-        let c = s.settings.ceiling.0 in
-        let d = dag-at c t m r k.from k.to ∙ certificate-present t m r k.held in
-        let w = (rows-held t s.settings.allowance s.blocks c k.well.rows r k.from k.to).records m k.held in
-        rw (
-          ← q,
-          answer-accepted n e,
-          if-accepted-new n (proposalShown ((view s t).dag m r)) noProposal e,
-          if-accepted-new n (endorsersAt t m r) 0 e,
-          if-accepted-new n (rules.blockNumber (view s t).chain m r) 0 e,
-          d,
-          mark-number c t m r k.from k.to k.held s.blocks w.mark,
-          i,
-          g,
-          j,
-        )
-        refl
+    pub share-unformed : well_formed s t ≡ false → share_refusal s t m r ≡ 1
+    unfolding share_refusal
+    share-unformed e = refuses 1 _ (ap not e)
 
-  -- ---- block
+    pub share-nobody : well_formed s t ≡ true → 15 < m → share_refusal s t m r ≡ 4
+    unfolding share_refusal
+    share-nobody e h = passes 1 _ (ap not e) ∙ refuses 4 _ (lt-ltb 15 m h)
 
-  module _ (k : ℕ) where
-    pub block_refused : (n : ℕ) → 0 < n → blockRefusal s t k ≡ n → ◌≡◌ {A = BlockRead} (block.Refused n) (blockAnswer s t k)
-    unfolding blockAnswer
-    block_refused n h q = rw (q, ne_eqb n 0 (omega arith)) refl
-
-    pub block-unformed : wellFormed s t ≡ false → blockRefusal s t k ≡ 1
-    unfolding blockRefusal
-    block-unformed e = refuses 1 _ (ap not e)
-
-    -- there is no such block
-    block_none : wellFormed s t ≡ true → (eqb k 0 || ltb s.blocks k) ≡ true → blockRefusal s t k ≡ 23
-    unfolding blockRefusal
-    block_none e h = passes 1 _ (ap not e) ∙ refuses 23 _ (rw (chain_length s.settings.ceiling.0 t s.blocks) h)
-
-    -- its row lies in the table
-    pub block_row : Formed s t → k ≤ s.blocks → Row t k
-    block_row f h = let n = f.numbers in omega (arith, f.long)
-
-    pub block-zero : wellFormed s t ≡ true → k ≡ 0 → blockRefusal s t k ≡ 23
-    block-zero e h = block_none e (rw (eq-eqb k 0 h) refl)
-
-    pub block-over : wellFormed s t ≡ true → s.blocks < k → blockRefusal s t k ≡ 23
-    block-over e h = block_none e (rw (ne_eqb k 0 (omega arith), lt-ltb s.blocks k h) refl)
-
-    pub block-given : {x : ℕ} → wellFormed s t ≡ true → 0 < k → k ≤ s.blocks → x ≡ blockRound t k → ◌≡◌ {A = BlockRead} (block.At (record { 0 = x })) (blockAnswer s t k)
-    unfolding blockAnswer blockRefusal
-    block-given e from to i =
-        let n = s.settings.ceiling.0 in
-        let q : blockRefusal s t k ≡ 0 = passes 1 _ (ap not e) ∙ passes 23 _ (rw (chain_length n t s.blocks, ne_eqb k 0 (omega arith), le-ltb s.blocks k to) refl) ∙ passes-all in
-        rw (q, chain-round n t s.blocks k from to, i) refl
+    -- past checks 1 and 4
+    pub share-checks : well_formed s t ≡ true → m < 16
+        → share_refusal s t m r
+        ≡ refusal ((bad_round s.settings r, 5) ∷ (unknown s.settings (view s t) r, 8) ∷ (not (members (committee_in s.settings (view s t) r) m), 9) ∷ [])
+    unfolding share_refusal
+    share-checks f h = passes 1 _ (ap not f) ∙ passes 4 _ (le-ltb 15 m (omega arith))

@@ -1,13 +1,16 @@
 // The reads of a certificate and of a block. They change nothing (scope document: Reads).
 #![tactic(auto)]
 
-ghost use Rattle.std.specs.Prelude.{◌≡◌};
-ghost use Rattle.standing.specs.Answers.{ReadAnswered, ValueAnswered};
-ghost use Rattle.reads.specs.Answers.{blockedAnswer, blockedValue};
-ghost use Rattle.reads.specs.Reads.{certificateRefusal, certificateAnswer, blockRefusal, blockAnswer, blockValue};
+pub mod bonding;
+pub mod standing;
 
-use checks::Answer;
-use state::State;
+ghost use Rattle.std.specs.Prelude.{◌≡◌};
+ghost use Rattle.reads.specs.CommitteeAnswers.{ReadAnswered, ValueAnswered};
+ghost use Rattle.reads.specs.CertificateAnswers.{blocked_answer, blocked_value};
+ghost use Rattle.reads.specs.CertificateReads.{certificate_refusal, certificate_answer, block_refusal, block_answer, block_value};
+
+use state::checks::Answer;
+use state::{State, checks};
 use terms::{Member, Proposal, Round};
 
 // A held certificate: its proposal, the endorsers that it was stored with, and the number of its block, 0 for none; nothing where the read is refused.
@@ -28,7 +31,7 @@ pub enum BlockRead {
 
 // The number of the first check that refuses a read of a certificate, 0 for none.
 fn certificate_refusal(s: State, t: &[u32], m: Member, r: Round) -> u32
-    ensures { result ≡ certificateRefusal s t.now m.0 r.0 }
+    ensures { result ≡ certificate_refusal s t.now m.0 r.0 }
 {
     if !state::well_formed(s, t) {
         return 1;
@@ -46,7 +49,7 @@ fn certificate_refusal(s: State, t: &[u32], m: Member, r: Round) -> u32
 }
 
 pub fn certificate(s: State, t: &[u32], m: Member, r: Round) -> CertificateRead
-    ensures { ReadAnswered (certificateAnswer s t.now m.0 r.0) (certificateRefusal s t.now m.0 r.0) result result.answer }
+    ensures { ReadAnswered (certificate_answer s t.now m.0 r.0) (certificate_refusal s t.now m.0 r.0) result result.answer }
 {
     let n = certificate_refusal(s, t, m, r);
     if n != 0 {
@@ -70,7 +73,7 @@ pub fn certificate(s: State, t: &[u32], m: Member, r: Round) -> CertificateRead
 }
 
 pub fn block(s: State, t: &[u32], k: u32) -> BlockRead
-    ensures { ValueAnswered (blockAnswer s t.now k) (blockRefusal s t.now k) (blockValue s t.now k) result (blockedAnswer result) (blockedValue result) }
+    ensures { ValueAnswered (block_answer s t.now k) (block_refusal s t.now k) (block_value s t.now k) result (blocked_answer result) (blocked_value result) }
 {
     if !state::well_formed(s, t) {
         return BlockRead::Refused(1);

@@ -1,49 +1,49 @@
 -- What a record does: the engine after it, and the lines that answer it.
 use Rattle.std.specs.Prelude.{◌≡◌, cond, List, ◌++◌, ℕ, ◌+◌, ◌*◌, length, eqb}
 use Rattle.std.proofs.Math.Option.{Option, none, some}
-use Rattle.sheet.specs.declared.Settings.{Settings}
+use Rattle.terms.specs.declared.sheet.Settings.{Settings}
 use Rattle.state.specs.declared.State.{State}
 use Rattle.engine.specs.Calls.{Call}
-use Rattle.engine.specs.Engine.{Engine, refusalFor, after}
-use Rattle.engine.specs.Values.{Value, nothing, number, weights, shares, held, entries, places, chain, acceptedValue}
-use Rattle.lines.specs.Lines.{okLine, countLine, refusedLine}
-use Rattle.putting.specs.Puts.{Puts}
-use Rattle.listing.specs.Listing.{chainLines}
+use Rattle.engine.specs.Engine.{Engine, refusal_for, after}
+use Rattle.engine.specs.Values.{Value, nothing, number, weights, shares, held, entries, places, chain, accepted_value}
+use Rattle.listing.specs.Lines.{ok_line, count_line, refused_line}
+use Rattle.base.specs.Puts.{Puts}
+use Rattle.listing.specs.Listing.{chain_lines}
 
 -- the engine of a state and the table lent beside it
-abbrev pub engineOf : State → List ℕ → Engine
-engineOf s t = record { state = s; table = t }
+abbrev pub engine_of : State → List ℕ → Engine
+engine_of s t = record { state = s; table = t }
 
 -- ---- the lines
 
 -- of a value that a call gives: a commit's count, the lines of a chain; no record asks for the other reads, nor for a preview or critical certificates
-abbrev pub valueLines : Settings → Value → List ℕ
-valueLines S nothing = okLine
-valueLines S (number n) = countLine n
-valueLines S (weights x) = okLine
-valueLines S (shares x) = okLine
-valueLines S (held p e k) = okLine
-valueLines S (entries l) = okLine
-valueLines S (places l) = okLine
-valueLines S (chain c) = chainLines S c ++ okLine
+abbrev pub value_lines : Settings → Value → List ℕ
+value_lines S nothing = ok_line
+value_lines S (number n) = count_line n
+value_lines S (weights x) = ok_line
+value_lines S (shares x) = ok_line
+value_lines S (held p e k) = ok_line
+value_lines S (entries l) = ok_line
+value_lines S (places l) = ok_line
+value_lines S (chain c) = chain_lines S c ++ ok_line
 
 -- of a call: its value, or the number that refuses it
-unfoldable pub linesFor : Engine → Call → List ℕ
-linesFor e c = cond (eqb (refusalFor e c) 0) (valueLines e.state.settings (acceptedValue e c)) (refusedLine (refusalFor e c))
+unfoldable pub lines_for : Engine → Call → List ℕ
+lines_for e c = cond (eqb (refusal_for e c) 0) (value_lines e.state.settings (accepted_value e c)) (refused_line (refusal_for e c))
 
 -- ---- a record
 
 -- the engine after it; an unreadable one changes nothing
-unfoldable pub servedEngine : Engine → Option Call → Engine
-servedEngine e none = e
-servedEngine e (some c) = after e c
+unfoldable pub served_engine : Engine → Option Call → Engine
+served_engine e none = e
+served_engine e (some c) = after e c
 
 -- the lines that answer it
-unfoldable pub servedLines : Engine → Option Call → List ℕ
-servedLines e none = refusedLine 24
-servedLines e (some c) = linesFor e c
+unfoldable pub served_lines : Engine → Option Call → List ℕ
+served_lines e none = refused_line 24
+served_lines e (some c) = lines_for e c
 
 -- the engine left, and the lines put into a buffer from `at` on
 pub record RecordAnswered (e : Engine) (o : Option Call) (left : Engine) (x y : List ℕ) (at next : ℕ) : Type 0 where
-  pub its-engine : left ≡ servedEngine e o
-  pub its-lines : Puts x y at next (servedLines e o) (length e.table * 9 + 20)
+  pub its-engine : left ≡ served_engine e o
+  pub its-lines : Puts x y at next (served_lines e o) (length e.table * 9 + 20)

@@ -4,9 +4,9 @@ use Rattle.state.specs.declared.State.{State}
 use Rattle.state.specs.Cached.{Cached}
 use Rattle.engine.specs.Calls.{Call}
 use Rattle.engine.specs.Engine.{Engine, after}
-use Rattle.putting.specs.Puts.{Puts}
+use Rattle.base.specs.Puts.{Puts}
 use Rattle.replies.specs.declared.Reply.{Reply}
-use Rattle.replies.specs.Records.{engineOf, linesFor}
+use Rattle.replies.specs.Records.{engine_of, lines_for}
 
 -- r replies with a state, whether it is well formed, and a line; x is the buffer before and y after the line was put from `at` on
 pub record OutcomeReplied (state : State) (formed : Bool) (line : List ℕ) (r : Reply) (x y : List ℕ) (at : ℕ) : Type 0 where
@@ -16,6 +16,6 @@ pub record OutcomeReplied (state : State) (formed : Bool) (line : List ℕ) (r :
 
 -- r replies to the call c on the engine e; t is the table after it, and the committees cached then are those of the state
 pub record CallServed (e : Engine) (c : Call) (r : Reply) (t cache x y : List ℕ) (at : ℕ) : Type 0 where
-  pub its-engine : engineOf r.state t ≡ after e c
-  pub its-line : Puts x y at r.next (linesFor e c) 20
+  pub its-engine : engine_of r.state t ≡ after e c
+  pub its-line : Puts x y at r.next (lines_for e c) 20
   pub cached : Cached r.state t r.formed cache

@@ -6,19 +6,20 @@ pub mod cached;
 
 ghost use Rattle.std.specs.Prelude.{◌≡◌, ◌+◌, ◌*◌, ◌≤◌, length};
 ghost use Rattle.state.specs.Cached.{Cached};
-ghost use Rattle.state.specs.WellFormed.{wellFormed};
-ghost use Rattle.checks.specs.Answers.{formedBy};
+ghost use Rattle.state.specs.WellFormed.{well_formed};
+ghost use Rattle.state.specs.Answers.{formed_by};
 ghost use Rattle.engine.specs.Calls.{opens, commit, aside, listing};
-ghost use Rattle.putting.specs.Puts.{Puts};
-ghost use Rattle.replies.specs.Answers.{answerLine, committedLine};
-ghost use Rattle.replies.specs.Records.{engineOf, linesFor};
+ghost use Rattle.base.specs.Puts.{Puts};
+ghost use Rattle.replies.specs.Answers.{answer_line, committed_line};
+ghost use Rattle.replies.specs.Records.{engine_of, lines_for};
 ghost use Rattle.replies.specs.Replies.{OutcomeReplied, CallServed};
 
 use commit::{Committed, commit_cached};
+use listing::lines;
 use open::open;
-use sheet::Sheet;
-use state::State;
+use state::{State, checks};
 use terms::Member;
+use terms::sheet::Sheet;
 
 // The state after a record, whether it is well formed, and the next place of the buffer.
 #[derive(Clone, Copy)]
@@ -31,7 +32,7 @@ pub struct Reply {
 // What a call of a member leaves and answers.
 pub fn replied(formed: bool, o: checks::Outcome, out: &mut [u8], at: usize) -> Reply
     requires { at + 20 ≤ length out.old }
-    ensures { OutcomeReplied o.state (formedBy formed o.answer) (answerLine o.answer) result out.old out.new at }
+    ensures { OutcomeReplied o.state (formed_by formed o.answer) (answer_line o.answer) result out.old out.new at }
 {
     let state = o.state;
     let a = o.answer;
@@ -47,7 +48,7 @@ pub fn replied(formed: bool, o: checks::Outcome, out: &mut [u8], at: usize) -> R
 // What commit leaves and answers.
 fn counted(formed: bool, o: commit::Outcome, out: &mut [u8], at: usize) -> Reply
     requires { at + 20 ≤ length out.old }
-    ensures { OutcomeReplied o.state formed (committedLine o.answer) result out.old out.new at }
+    ensures { OutcomeReplied o.state formed (committed_line o.answer) result out.old out.new at }
 {
     let state = o.state;
     let a = o.answer;
@@ -70,8 +71,8 @@ pub fn opened(
     out: &mut [u8],
     at: usize,
 ) -> Reply
-    requires { (at + 20 ≤ length out.old) × (formed ≡ wellFormed s t.old) }
-    ensures { CallServed (engineOf s t.old) (opens own written) result t.new cache.new out.old out.new at }
+    requires { (at + 20 ≤ length out.old) × (formed ≡ well_formed s t.old) }
+    ensures { CallServed (engine_of s t.old) (opens own written) result t.new cache.new out.old out.new at }
 {
     let r = replied(formed, open(s, t, own, written), out, at);
     let state = r.state;
@@ -89,7 +90,7 @@ pub fn committed(
     at: usize,
 ) -> Reply
     requires { (at + 20 ≤ length out.old) × Cached s t.old formed cache.old }
-    ensures { CallServed (engineOf s t.old) commit result t.new cache.new out.old out.new at }
+    ensures { CallServed (engine_of s t.old) commit result t.new cache.new out.old out.new at }
 {
     let o = commit_cached(formed, s, t);
     let state = o.state;
@@ -104,8 +105,8 @@ pub fn committed(
 
 // The lines of a chain, and the answer after them.
 pub fn listed(formed: bool, s: State, t: &[u32], out: &mut [u8], at: usize) -> usize
-    requires { (at + length t.now * 9 + 20 ≤ length out.old) × (formed ≡ wellFormed s t.now) }
-    ensures { Puts out.old out.new at result (linesFor (engineOf s t.now) (aside listing)) (length t.now * 9 + 20) }
+    requires { (at + length t.now * 9 + 20 ≤ length out.old) × (formed ≡ well_formed s t.now) }
+    ensures { Puts out.old out.new at result (lines_for (engine_of s t.now) (aside listing)) (length t.now * 9 + 20) }
 {
     if !formed {
         return lines::put_refused(out, at, 1);

@@ -14,33 +14,33 @@ use Rattle.agreement.specs.Links.{InChain, Link, Linked}
 use Rattle.agreement.specs.Prefixes.{◌≼◌, same, grown}
 use Rattle.agreement.specs.Invariants.{Invariant}
 use Rattle.terms.specs.Proposals.{Content}
-use Rattle.sheet.specs.declared.Settings.{Settings}
-use Rattle.sheet.specs.Ranges.{weightIn}
-use Rattle.committee.specs.Committees.{leaderBy, committeeOf, start_of}
-use Rattle.committee.specs.Leaders.{leaderOf, leaderNumber}
+use Rattle.terms.specs.declared.sheet.Settings.{Settings}
+use Rattle.terms.specs.Ranges.{weight_in}
+use Rattle.committee.specs.Committees.{leader_by, committee_of, start_of}
+use Rattle.committee.specs.Leaders.{leader_of, leader_number}
 use Rattle.committee.proofs.Lawful.{committee-below}
 use Rattle.committee.specs.Instance.{rules}
 use Rattle.rules.specs.Tests.{MemberView}
 use Rattle.rules.proofs.Implementations.{Implementation}
-use Rattle.rules.proofs.Runs.{Group, Entries, chainAfter, Run}
-use Rattle.rules.proofs.RunAgreement.{run-invariant}
+use Rattle.rules.proofs.Runs.{Group, Entries, chain_after, Run}
+use Rattle.rules.proofs.RunAgreement.{run_invariant}
 use Rattle.rules.specs.AnchorStarts.{StartsWithAnchor}
 
 module _ (S : Settings) {correct : ℕ → Bool} {G : Log (rules S)} {k : ℕ} {s : MemberView S} {l : List Content} (I : Invariant correct G k s l) where
   -- a history goes down in rounds, from its certificate on
-  reach-low : {x q : Content} → Reach s x q → q.round ≤ x.round
-  reach-low here = omega arith
-  reach-low (back m a e n h y) = omega (arith, (I.storing.place h).1, reach-low y)
+  reach_low : {x q : Content} → Reach s x q → q.round ≤ x.round
+  reach_low here = omega arith
+  reach_low (back m a e n h y) = omega (arith, (I.storing.place h).1, reach_low y)
 
-  reach-same : {x q : Content} → Reach s x q → q.round ≡ x.round → q ≡ x
-  reach-same here e = refl
-  reach-same (back m a i n h y) e = absurd (omega (arith, (I.storing.place h).1, reach-low y))
+  reach_same : {x q : Content} → Reach s x q → q.round ≡ x.round → q ≡ x
+  reach_same here e = refl
+  reach_same (back m a i n h y) e = absurd (omega (arith, (I.storing.place h).1, reach_low y))
 
   -- so no block holds a certificate of a round above its own, and neither does a chain of one above its last
-  in-low : (c : Chain Content) → Linked s c → (p : Content) → InChain (rules S) c p → p.round ≤ last c
-  in-low [] y p h = absurd h
-  in-low (b ∷ c) y p (inl h) = omega (arith, (I.storing.place y.1.sees.held).1, reach-low ((y.1.content p.author p.round p).0 h).reached)
-  in-low (b ∷ c) y p (inr h) = omega (arith, y.1.spaced, in-low c y.3 p h)
+  in_low : (c : Chain Content) → Linked s c → (p : Content) → InChain (rules S) c p → p.round ≤ last c
+  in_low [] y p h = absurd h
+  in_low (b ∷ c) y p (inl h) = omega (arith, (I.storing.place y.1.sees.held).1, reach_low ((y.1.content p.author p.round p).0 h).reached)
+  in_low (b ∷ c) y p (inr h) = omega (arith, y.1.spaced, in_low c y.3 p h)
 
   -- the chain below some blocks is linked too
   linked-below : (newer c : Chain Content) → Linked s (newer ++ c) → Linked s c × (c ≼ (newer ++ c))
@@ -48,7 +48,7 @@ module _ (S : Settings) {correct : ℕ → Bool} {G : Log (rules S)} {k : ℕ} {
   linked-below (b ∷ newer) c y = let x = linked-below newer c y.3 in (x.0, grown b y.1.spaced x.1)
 
   pub starts : (newer : Chain Content) (b : Block Content) (c : Chain Content) → s.chain ≡ newer ++ (b ∷ c) → StartsWithAnchor S s.chain b c
-  unfolding start_of leaderBy
+  unfolding start_of leader_by
   starts newer b c e =
       record {
         leads = seen.leads ∙ ap some (sym start);
@@ -76,23 +76,23 @@ module _ (S : Settings) {correct : ℕ → Bool} {G : Log (rules S)} {k : ℕ} {
       placed = I.storing.place seen.held
 
       start : start_of S b c ≡ seen.lead
-      start = ap (λ (w : List ℕ). leaderNumber (leaderOf (weightIn w) b.round)) (sym (committee-below S below.1) ∙ ap (λ (d : Chain Content). committeeOf S d b.round) (sym e)) ∙ ap leaderNumber seen.leads
+      start = ap (λ (w : List ℕ). leader_number (leader_of (weight_in w) b.round)) (sym (committee-below S below.1) ∙ ap (λ (d : Chain Content). committee_of S d b.round) (sym e)) ∙ ap leader_number seen.leads
 
       inside : b.holds seen.lead b.round ≡ some x
-      inside = (link.content seen.lead b.round x).1 (record { by = placed.0; at = placed.1; reached = here; unused = λ h. absurd (omega (arith, in-low c below.0.3 x h, placed.1, link.spaced)) })
+      inside = (link.content seen.lead b.round x).1 (record { by = placed.0; at = placed.1; reached = here; unused = λ h. absurd (omega (arith, in_low c below.0.3 x h, placed.1, link.spaced)) })
 
       only : (m : ℕ) → m ≢ start_of S b c → (o : Option Content) → b.holds m b.round ≡ o → o ≡ none
       only m n none h = refl
       only m n (some p) h =
           let f = (link.content m b.round p).0 h in
-          absurd (n (sym f.by ∙ ap (λ (z : Content). z.author) (reach-same f.reached (f.at ∙ sym placed.1)) ∙ placed.0 ∙ sym start))
+          absurd (n (sym f.by ∙ ap (λ (z : Content). z.author) (reach_same f.reached (f.at ∙ sym placed.1)) ∙ placed.0 ∙ sym start))
 
       above : (m r : ℕ) → b.round < r → (o : Option Content) → b.holds m r ≡ o → o ≡ none
       above m r l none h = refl
-      above m r l (some p) h = let f = (link.content m r p).0 h in absurd (omega (arith, l, f.at, reach-low f.reached, placed.1))
+      above m r l (some p) h = let f = (link.content m r p).0 h in absurd (omega (arith, l, f.at, reach_low f.reached, placed.1))
 
 module _ {S : Settings} {F : Implementation S} (X : Group S F) where
   -- so it is of every block of every correct member in a run
   pub run-starts : (l : Entries X) → Run X l → (i : ℕ) → X.correct i ≡ true
-      → (newer : Chain Content) (b : Block Content) (c : Chain Content) → chainAfter X l i ≡ newer ++ (b ∷ c) → StartsWithAnchor S (chainAfter X l i) b c
-  run-starts l r i c newer b below = starts S (run-invariant X l r i c) newer b below
+      → (newer : Chain Content) (b : Block Content) (c : Chain Content) → chain_after X l i ≡ newer ++ (b ∷ c) → StartsWithAnchor S (chain_after X l i) b c
+  run-starts l r i c newer b below = starts S (run_invariant X l r i c) newer b below

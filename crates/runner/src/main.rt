@@ -3,6 +3,7 @@
 #![tactic(auto)]
 
 use serving::lengths::{CACHE, INPUT, OUTPUT, TABLE};
+use session::passes;
 
 fn main(rt: HostRuntime) {
     let mut cache = [0u64; CACHE];

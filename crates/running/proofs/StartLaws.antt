@@ -6,48 +6,48 @@ use native.Mathlib.Omega.{arith}
 use native.Mathlib.Decide.{ℕ_discrete}
 use lib.ListN.{get_or, set, replicate, length-set, length-replicate}
 use lib.Seq.{get_or-set_same, get_or-set_other}
-use Rattle.store.specs.Table.{blockRound}
-use Rattle.sheet.specs.declared.Settings.{Settings}
-use Rattle.committee.specs.Committees.{leaderBy, start_of}
+use Rattle.store.specs.Table.{block_round}
+use Rattle.terms.specs.declared.sheet.Settings.{Settings}
+use Rattle.committee.specs.Committees.{leader_by, start_of}
 use Rattle.committee.proofs.LeaderLaws.{leader-le}
 use Rattle.running.specs.declared.Applied.{Applied}
-use Rattle.changes.specs.BlockChanges.{placeChange, start_at}
-use Rattle.changes.proofs.BlockChangeLaws.{block-rows}
-use Rattle.changes.specs.LinkRuns.{rowsOver}
-use Rattle.changes.proofs.ChainLaws.{last_some, fits-at, start-now}
-use Rattle.changes.specs.ChainInTable.{ChainInTable, AfterBlocks}
-use Rattle.changes.proofs.ChainInTableLaws.{after-start, after-up, after-at, after_next}
+use Rattle.running.specs.BlockChanges.{place_change, start_at}
+use Rattle.running.proofs.BlockChangeLaws.{block-rows}
+use Rattle.running.specs.LinkRuns.{rows_over}
+use Rattle.running.proofs.ChainLaws.{last_some, fits-at, start-now}
+use Rattle.running.specs.ChainInTable.{ChainInTable, AfterBlocks}
+use Rattle.running.proofs.ChainInTableLaws.{after-start, after-up, after-at, after_next}
 use Rattle.running.specs.Starts.{Started, Running, StartsAhead}
 
 -- a start is the number of a member, or 16 for none
 pub start-le : (S : Settings) (t : List ℕ) (k : ℕ) → start_at S t k ≤ 16
-unfolding start_at start_of leaderBy
+unfolding start_at start_of leader_by
 start-le S t k = leader-le _ _
 
 -- a block that lies more than some rounds after another is a later one
-pub later-block : (t : List ℕ) (k i n : ℕ) → k ≤ i → n < blockRound t (i + 1) - blockRound t (k + 1) → k < i
+pub later-block : (t : List ℕ) (k i n : ℕ) → k ≤ i → n < block_round t (i + 1) - block_round t (k + 1) → k < i
 later-block t k i n h l = go (ℕ_discrete k i)
   where
     go : Dec (k ≡ i) → k < i
-    go (yes e) = let z : n < blockRound t (i + 1) - blockRound t (i + 1) = rw e at l in absurd (omega arith)
+    go (yes e) = let z : n < block_round t (i + 1) - block_round t (i + 1) = rw e at l in absurd (omega arith)
     go (no e) = omega arith
 
 module _ {S : Settings} {t : List ℕ} {blocks : ℕ} where
   -- the rounds of blocks rise
-  round-next : ChainInTable S t blocks → (i : ℕ) → i + 1 < blocks → blockRound t (i + 1) < blockRound t (i + 1 + 1)
+  round-next : ChainInTable S t blocks → (i : ℕ) → i + 1 < blocks → block_round t (i + 1) < block_round t (i + 1 + 1)
   round-next a i h = let p = (fits-at S.ceiling.0 t blocks a.rounds (i + 1) h).rises in let q = last_some t (i + 1) (λ z. omega arith) in omega arith
 
-  pub round-after : ChainInTable S t blocks → (k i : ℕ) → i < blocks → k ≤ i → blockRound t (k + 1) ≤ blockRound t (i + 1)
+  pub round-after : ChainInTable S t blocks → (k i : ℕ) → i < blocks → k ≤ i → block_round t (k + 1) ≤ block_round t (i + 1)
   round-after a k zero h l = let e : k ≡ 0 = omega arith in rw e (omega arith)
   round-after a k (suc i) h l = go (ℕ_discrete k (suc i)) (λ q. round-after a k i (omega arith) q)
     where
-      go : Dec (k ≡ suc i) → (k ≤ i → blockRound t (k + 1) ≤ blockRound t (i + 1)) → blockRound t (k + 1) ≤ blockRound t (suc i + 1)
+      go : Dec (k ≡ suc i) → (k ≤ i → block_round t (k + 1) ≤ block_round t (i + 1)) → block_round t (k + 1) ≤ block_round t (suc i + 1)
       go (yes e) f = rw e (omega arith)
       go (no e) f =
           let p = f (omega arith) in
           let q = round-next a i (omega arith) in
           let j : i + 1 + 1 ≡ suc i + 1 = omega arith in
-          let r : blockRound t (i + 1) < blockRound t (suc i + 1) = rw j at q in
+          let r : block_round t (i + 1) < block_round t (suc i + 1) = rw j at q in
           omega arith
 
   -- none is written yet
@@ -55,7 +55,7 @@ module _ {S : Settings} {t : List ℕ} {blocks : ℕ} where
   started_none n = record { size = length-replicate 512 n; from = omega arith; to = omega arith; written = λ i h. absurd (omega arith); ahead = λ h. absurd (omega arith) }
 
   -- one start more: that of a block within lookback rounds of the one to be applied next
-  pub started-next : {k i : ℕ} {q : ℕ} {w : List ℕ} {starts : List ℕ} {v : ℕ} → ChainInTable S t blocks → i < blocks → blockRound t (i + 1) ≤ blockRound t (k + 1) + S.lookback → v ≡ leaderBy w (blockRound t (i + 1))
+  pub started-next : {k i : ℕ} {q : ℕ} {w : List ℕ} {starts : List ℕ} {v : ℕ} → ChainInTable S t blocks → i < blocks → block_round t (i + 1) ≤ block_round t (k + 1) + S.lookback → v ≡ leader_by w (block_round t (i + 1))
       → AfterBlocks S t blocks q k w → Started S t blocks k i starts → Started S t blocks k (i + 1) (set starts i v)
   started-next {k} {i} {q} {w} {starts} {v} a h near e x s =
       record {
@@ -77,8 +77,8 @@ module _ {S : Settings} {t : List ℕ} {blocks : ℕ} where
       go j l (no d) = get_or-set_other starts i j v 0 d ∙ s.written j (omega arith)
 
   -- one block more is applied
-  started-applied : {k f : ℕ} {starts : List ℕ} → StartsAhead S t blocks k f starts → Started S t blocks (k + 1) f starts
-  started-applied {k} a =
+  started_applied : {k f : ℕ} {starts : List ℕ} → StartsAhead S t blocks k f starts → Started S t blocks (k + 1) f starts
+  started_applied {k} a =
       let s = a.started in
       let o = a.own in
       record {
@@ -91,18 +91,18 @@ module _ {S : Settings} {t : List ℕ} {blocks : ℕ} where
 
   -- one block more, in its own order
   pub running-next : {k f : ℕ} {w v starts : List ℕ} → ChainInTable S t blocks → k < blocks → AfterBlocks S t blocks 1024 k w → StartsAhead S t blocks k f starts
-      → v ≡ rowsOver (placeChange t (k + 1)) (get_or starts k 0) S.ceiling.0 w
+      → v ≡ rows_over (place_change t (k + 1)) (get_or starts k 0) S.ceiling.0 w
       → Running S t blocks 1024 (record { blocks = k + 1; starts = f }) v starts
   running-next {k} {f} {w} {v} {starts} a h x s e =
       let b = (fits-at S.ceiling.0 t blocks a.rounds k h).below in
       let c = a.ceiling in
       record {
         after = after_next v h (omega arith) (e ∙ rw (s.started.written k s.own) (sym (block-rows S t k w))) x;
-        started = started-applied s;
+        started = started_applied s;
       }
 
   -- where the last block's round is below q
-  pub running-below : (k q : ℕ) {y : Applied} {w starts : List ℕ} → y.blocks ≡ k + 1 → blockRound t (k + 1) < q → Running S t blocks 1024 y w starts → Running S t blocks (q - 1) y w starts
+  pub running-below : (k q : ℕ) {y : Applied} {w starts : List ℕ} → y.blocks ≡ k + 1 → block_round t (k + 1) < q → Running S t blocks 1024 y w starts → Running S t blocks (q - 1) y w starts
   running-below k q e h r = record { after = after-at (q - 1) (rw (e, last_some t (k + 1) (λ z. omega arith)) (omega arith)) r.after; started = r.started }
 
   -- at the start

@@ -1,9 +1,9 @@
 -- A walk over the blocks of the chain in the table: what it needs, its start, and how far it is.
 use Rattle.std.specs.Prelude.{◌≡◌, List, ℕ, ◌+◌, ◌*◌, ◌≤◌, length}
-use Rattle.sheet.specs.declared.Settings.{Settings}
-use Rattle.positions.specs.Places.{placeTable}
-use Rattle.changes.specs.ChainInTable.{ChainInTable}
-use Rattle.changes.specs.Links.{Links}
+use Rattle.terms.specs.declared.sheet.Settings.{Settings}
+use Rattle.committee.specs.Places.{place_table}
+use Rattle.running.specs.ChainInTable.{ChainInTable}
+use Rattle.running.specs.Links.{Links}
 use Rattle.running.specs.Starts.{Started, Running}
 use Rattle.running.specs.declared.Applied.{Applied}
 
@@ -16,7 +16,7 @@ pub record WalkRoom (S : Settings) (t : List ℕ) (blocks : ℕ) (next : List �
 pub record ChainLinked (S : Settings) (t : List ℕ) (blocks : ℕ) (head next places : List ℕ) : Type 0 where
   pub chain : ChainInTable S t blocks
   pub links : Links t 16 (S.ceiling.0 * 16 + 16) head next
-  pub positions : places ≡ placeTable
+  pub positions : places ≡ place_table
 
 -- no block is applied yet: w has the starting weights, and no start is written
 pub record WalkStart (S : Settings) (t : List ℕ) (blocks : ℕ) (head next places w starts : List ℕ) : Type 0 where

@@ -2,15 +2,20 @@
 // The rows of a block start with the leader of its round, whose committee is that of lookback rounds before: so the start of each block is told before the blocks from there on are applied.
 #![tactic(auto)]
 
+pub mod bonded;
+pub mod cache;
+pub mod changes;
+pub mod leaders;
 pub mod starts;
 
 ghost use Rattle.std.specs.Prelude.{◌≡◌, ◌+◌, ◌-◌, ◌<◌, ◌≤◌};
-ghost use Rattle.committee.specs.Chain.{chainOf};
-ghost use Rattle.committee.specs.Committees.{bondedFrom, committeeOf};
+ghost use Rattle.committee.specs.Chain.{chain_of};
+ghost use Rattle.committee.specs.Committees.{bonded_from, committee_of};
 ghost use Rattle.running.specs.Starts.{Running, BeforeBlock, StartsAhead};
 ghost use Rattle.running.specs.Walks.{Walking};
 
-use sheet::Settings;
+use committee::weighing;
+use terms::sheet::Settings;
 use terms::{Member, Round};
 
 // How many blocks are applied, and of how many the starts are written.
@@ -97,7 +102,7 @@ fn apply_below(
     starts: &mut [u32; 512],
 ) -> Applied
     requires { Walking s t.now blocks (q.0 - 1) x head.now next.now places.now w.old starts.old × (1 ≤ q.0) }
-    ensures { Running s t.now blocks (q.0 - 1) result w.new starts.new × (w.new ≡ bondedFrom s (chainOf s.ceiling.0 t.now blocks) q.0) }
+    ensures { Running s t.now blocks (q.0 - 1) result w.new starts.new × (w.new ≡ bonded_from s (chain_of s.ceiling.0 t.now blocks) q.0) }
 {
     let mut y = x;
     while y.blocks < blocks {
@@ -124,7 +129,7 @@ pub fn reach_round(
     starts: &mut [u32; 512],
 ) -> Applied
     requires { Walking s t.now blocks (r.0 - s.lookback - 1) x head.now next.now places.now w.old starts.old }
-    ensures { Running s t.now blocks (r.0 - s.lookback - 1) result w.new starts.new × (w.new ≡ committeeOf s (chainOf s.ceiling.0 t.now blocks) r.0) }
+    ensures { Running s t.now blocks (r.0 - s.lookback - 1) result w.new starts.new × (w.new ≡ committee_of s (chain_of s.ceiling.0 t.now blocks) r.0) }
 {
     if r.0 <= s.lookback {
         return x;

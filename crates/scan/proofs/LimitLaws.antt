@@ -7,16 +7,16 @@ use native.Mathlib.Decide.{ℕ_discrete}
 use lib.ListN.{get_or}
 use lib.Dec.{eqb, leb, ltb}
 use borrow.Author.Tests.{le-ltb, lt-ltb, le-leb, lt-leb, ltb-false, ne_eqb, eq-eqb}
-use Rattle.base.specs.Folds.{allTo}
+use Rattle.base.specs.Folds.{all_to}
 use Rattle.base.proofs.TestLaws.{all-high, all_same}
-use Rattle.terms.specs.Transactions.{bondInRange}
-use Rattle.scan.specs.Scan.{tripleFits}
-use Rattle.scan.specs.Limits.{limitTable, limitOf, slotFits}
+use Rattle.terms.specs.Transactions.{bond_in_range}
+use Rattle.scan.specs.Scan.{triple_fits}
+use Rattle.scan.specs.Limits.{limit_table, limit_of, slot_fits}
 
-pub limit-lt : (there : Bool) (kind : ℕ) → limitOf there kind < 5
-unfolding limitOf
-limit-lt false kind = omega arith
-limit-lt true kind = go (ltb 2 kind) refl
+pub limit_lt : (there : Bool) (kind : ℕ) → limit_of there kind < 5
+unfolding limit_of
+limit_lt false kind = omega arith
+limit_lt true kind = go (ltb 2 kind) refl
   where
     go : (b : Bool) → ltb 2 kind ≡ b → cond b 3 kind < 5
     go true e = omega arith
@@ -32,26 +32,26 @@ none-le amount = go (ℕ_discrete amount 0)
 
 module _ (number amount : ℕ) (small : number < 4294967296) (little : amount < 4294967296) where
   -- over a limit
-  pub over-number : (there : Bool) (kind : ℕ) → get_or limitTable (limitOf there kind) 0 < number → slotFits there kind number amount ≡ false
-  unfolding limitOf tripleFits bondInRange
+  pub over-number : (there : Bool) (kind : ℕ) → get_or limit_table (limit_of there kind) 0 < number → slot_fits there kind number amount ≡ false
+  unfolding limit_of triple_fits bond_in_range
   over-number false kind h = absurd (omega arith)
   over-number true zero h = rw (le-ltb number 16 (omega arith)) refl
   over-number true (suc zero) h = rw (le-ltb number 16 (omega arith)) (and-false (eqb amount 0))
   over-number true (suc (suc zero)) h = absurd (omega arith)
   over-number true (suc (suc (suc k))) h = absurd (omega (arith, rw (lt-ltb 2 (suc (suc (suc k))) (omega arith)) at h))
 
-  pub under-amount : (there : Bool) (kind : ℕ) → amount < get_or limitTable (limitOf there kind + 5) 0 → slotFits there kind number amount ≡ false
-  unfolding limitOf tripleFits bondInRange
-  under-amount false kind h = absurd (omega arith)
-  under-amount true zero h = rw (lt-leb 1 amount (omega arith)) (and-false (ltb number 16))
-  under-amount true (suc zero) h = absurd (omega arith)
-  under-amount true (suc (suc zero)) h = absurd (omega arith)
-  under-amount true (suc (suc (suc k))) h = rw (ne_eqb (suc (suc (suc k))) 0 (λ e. omega arith), ne_eqb (suc (suc (suc k))) 1 (λ e. omega arith), ne_eqb (suc (suc (suc k))) 2 (λ e. omega arith)) (and-false (eqb amount 0))
+  pub under_amount : (there : Bool) (kind : ℕ) → amount < get_or limit_table (limit_of there kind + 5) 0 → slot_fits there kind number amount ≡ false
+  unfolding limit_of triple_fits bond_in_range
+  under_amount false kind h = absurd (omega arith)
+  under_amount true zero h = rw (lt-leb 1 amount (omega arith)) (and-false (ltb number 16))
+  under_amount true (suc zero) h = absurd (omega arith)
+  under_amount true (suc (suc zero)) h = absurd (omega arith)
+  under_amount true (suc (suc (suc k))) h = rw (ne_eqb (suc (suc (suc k))) 0 (λ e. omega arith), ne_eqb (suc (suc (suc k))) 1 (λ e. omega arith), ne_eqb (suc (suc (suc k))) 2 (λ e. omega arith)) (and-false (eqb amount 0))
 
   -- within the first two, the third decides
-  pub by_most : (there : Bool) (kind : ℕ) → number ≤ get_or limitTable (limitOf there kind) 0 → get_or limitTable (limitOf there kind + 5) 0 ≤ amount
-      → leb amount (get_or limitTable (limitOf there kind + 10) 0) ≡ slotFits there kind number amount
-  unfolding limitOf tripleFits bondInRange
+  pub by_most : (there : Bool) (kind : ℕ) → number ≤ get_or limit_table (limit_of there kind) 0 → get_or limit_table (limit_of there kind + 5) 0 ≤ amount
+      → leb amount (get_or limit_table (limit_of there kind + 10) 0) ≡ slot_fits there kind number amount
+  unfolding limit_of triple_fits bond_in_range
   by_most false kind h l = le-leb amount 4294967295 (omega arith)
   by_most true zero h l = rw (lt-ltb number 16 (omega arith), le-leb 1 amount (omega arith)) refl
   by_most true (suc zero) h l = rw (lt-ltb number 16 (omega arith), and_comm (eqb amount 0) true) (sym (none-le amount))
@@ -61,7 +61,7 @@ module _ (number amount : ℕ) (small : number < 4294967296) (little : amount < 
       rw (lt-ltb 2 (suc (suc (suc k))) (omega arith), ne_eqb (suc (suc (suc k))) 0 (λ e. omega arith), ne_eqb amount 0 (λ e. omega (arith, m)), lt-leb amount 0 (omega (arith, m))) refl
 
 -- the first n of four slots
-pub all_there : (f : ℕ → Bool) (n : ℕ) → n ≤ 4 → allTo (λ k. cond (ltb k n) (f k) true) 4 ≡ allTo f n
+pub all_there : (f : ℕ → Bool) (n : ℕ) → n ≤ 4 → all_to (λ k. cond (ltb k n) (f k) true) 4 ≡ all_to f n
 all_there f n h =
     all-high (λ k. cond (ltb k n) (f k) true) 4 n h (λ k l. rw (le-ltb k n l) refl)
     ∙ all_same (λ k. cond (ltb k n) (f k) true) f n (λ k l. rw (lt-ltb k n l) refl)

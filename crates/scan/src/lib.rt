@@ -2,16 +2,16 @@
 #![tactic(auto)]
 
 ghost use Rattle.std.specs.Prelude.{◌≡◌, true, cond, ◌≤◌, ltb};
-ghost use Rattle.base.specs.Folds.{allTo};
+ghost use Rattle.base.specs.Folds.{all_to};
 ghost use Rattle.store.specs.Table.{Within, Row};
-ghost use Rattle.scan.specs.Scan.{transactionFits, endorsersFit, recordFits, placeFits, rowFits, rowsFit};
-ghost use Rattle.scan.specs.Limits.{limitTable, limitOf, slotFits, Scannable};
+ghost use Rattle.scan.specs.Scan.{transaction_fits, endorsers_fit, record_fits, place_fits, row_fits, rows_fit};
+ghost use Rattle.scan.specs.Limits.{limit_table, limit_of, slot_fits, Scannable};
 
 use terms::{Member, Round};
 
 // The limits of a transaction's words: the greatest number, the least and the greatest amount, each for bonds, unbonds, entries, any other kind, and what is no transaction.
 fn limits() -> [u32; 15]
-    ensures { result ≡ limitTable }
+    ensures { result ≡ limit_table }
 {
     let any = 4294967295;
     [15, 15, any, any, any, 1, 0, 0, 1, 0, 1000, 0, 0, 0, any]
@@ -19,7 +19,7 @@ fn limits() -> [u32; 15]
 
 // Which of the five limits hold for a slot of this kind. A table and no branches: kinds come in any order.
 fn limit(there: bool, kind: u32) -> u32
-    ensures { result ≡ limitOf there kind }
+    ensures { result ≡ limit_of there kind }
 {
     if !there {
         return 4;
@@ -32,8 +32,8 @@ fn limit(there: bool, kind: u32) -> u32
 
 // Are the three words a transaction in range, if one is there?
 fn slot_fits(l: &[u32; 15], there: bool, kind: u32, number: u32, amount: u32) -> bool
-    requires { l.now ≡ limitTable }
-    ensures { result ≡ slotFits there kind number amount }
+    requires { l.now ≡ limit_table }
+    ensures { result ≡ slot_fits there kind number amount }
 {
     let i = limit(there, kind) as usize;
     if l[i] < number {
@@ -48,7 +48,7 @@ fn slot_fits(l: &[u32; 15], there: bool, kind: u32, number: u32, amount: u32) ->
 // Is transaction k of a record of n in range, if it is there?
 fn transaction_fits(t: &[u32], l: &[u32; 15], m: Member, r: Round, n: u32, k: u32) -> bool
     requires { Scannable t.now l.now m.0 r.0 k 3 }
-    ensures { result ≡ cond (ltb k n) (transactionFits t.now m.0 r.0 k) true }
+    ensures { result ≡ cond (ltb k n) (transaction_fits t.now m.0 r.0 k) true }
 {
     let kind = store::record::kind_at(t, m, r, k);
     let number = store::record::number_at(t, m, r, k);
@@ -59,7 +59,7 @@ fn transaction_fits(t: &[u32], l: &[u32; 15], m: Member, r: Round, n: u32, k: u3
 // Are the first n transactions of a record in range? All four slots are looked at, however many there are.
 fn transactions_fit(t: &[u32], l: &[u32; 15], m: Member, r: Round, n: u32) -> bool
     requires { Scannable t.now l.now m.0 r.0 n 4 }
-    ensures { result ≡ allTo (transactionFits t.now m.0 r.0) n }
+    ensures { result ≡ all_to (transaction_fits t.now m.0 r.0) n }
 {
     if n == 0 {
         return true;
@@ -75,7 +75,7 @@ fn transactions_fit(t: &[u32], l: &[u32; 15], m: Member, r: Round, n: u32) -> bo
 // Are the endorsers of a record a set of members, the author not among them?
 fn endorsers_fit(t: &[u32], m: Member, r: Round) -> bool
     requires { Within t.now m.0 r.0 }
-    ensures { result ≡ endorsersFit t.now m.0 r.0 }
+    ensures { result ≡ endorsers_fit t.now m.0 r.0 }
 {
     let endorsers = store::record::word_at(t, m, r, 3);
     if 65536 <= endorsers {
@@ -85,8 +85,8 @@ fn endorsers_fit(t: &[u32], m: Member, r: Round) -> bool
 }
 
 fn record_fits(t: &[u32], l: &[u32; 15], allowance: u32, blocks: u32, m: Member, r: Round) -> bool
-    requires { Within t.now m.0 r.0 × (l.now ≡ limitTable) }
-    ensures { result ≡ recordFits t.now allowance blocks m.0 r.0 }
+    requires { Within t.now m.0 r.0 × (l.now ≡ limit_table) }
+    ensures { result ≡ record_fits t.now allowance blocks m.0 r.0 }
 {
     if allowance < store::record::word_at(t, m, r, 1) {
         return false;
@@ -108,8 +108,8 @@ fn record_fits(t: &[u32], l: &[u32; 15], allowance: u32, blocks: u32, m: Member,
 }
 
 fn place_fits(t: &[u32], l: &[u32; 15], allowance: u32, blocks: u32, m: Member, r: Round) -> bool
-    requires { Within t.now m.0 r.0 × (l.now ≡ limitTable) }
-    ensures { result ≡ placeFits t.now allowance blocks r.0 m.0 }
+    requires { Within t.now m.0 r.0 × (l.now ≡ limit_table) }
+    ensures { result ≡ place_fits t.now allowance blocks r.0 m.0 }
 {
     if !store::held(t, m, r) {
         return true;
@@ -118,8 +118,8 @@ fn place_fits(t: &[u32], l: &[u32; 15], allowance: u32, blocks: u32, m: Member, 
 }
 
 fn places_fit(t: &[u32], l: &[u32; 15], allowance: u32, blocks: u32, r: Round) -> bool
-    requires { Row t.now r.0 × (l.now ≡ limitTable) }
-    ensures { result ≡ allTo (placeFits t.now allowance blocks r.0) 16 }
+    requires { Row t.now r.0 × (l.now ≡ limit_table) }
+    ensures { result ≡ all_to (place_fits t.now allowance blocks r.0) 16 }
 {
     for m in 0..16u32 {
         if !place_fits(t, l, allowance, blocks, Member(m), r) {
@@ -130,8 +130,8 @@ fn places_fit(t: &[u32], l: &[u32; 15], allowance: u32, blocks: u32, r: Round) -
 }
 
 fn row_fits(t: &[u32], l: &[u32; 15], allowance: u32, blocks: u32, r: Round) -> bool
-    requires { Row t.now r.0 × (l.now ≡ limitTable) }
-    ensures { result ≡ rowFits t.now allowance blocks r.0 }
+    requires { Row t.now r.0 × (l.now ≡ limit_table) }
+    ensures { result ≡ row_fits t.now allowance blocks r.0 }
 {
     let held = store::held_set(t, r);
     if 65536 <= held {
@@ -149,7 +149,7 @@ fn row_fits(t: &[u32], l: &[u32; 15], allowance: u32, blocks: u32, r: Round) -> 
 // Are the rows of the rounds 1 to n well formed?
 pub fn rows_fit(t: &[u32], allowance: u32, blocks: u32, n: Round) -> bool
     requires { Row t.now n.0 × (n.0 ≤ 1024) }
-    ensures { result ≡ rowsFit t.now allowance blocks n.0 }
+    ensures { result ≡ rows_fit t.now allowance blocks n.0 }
 {
     let end = n.0;
     let l = limits();

@@ -11,24 +11,24 @@ use Rattle.base.proofs.CheckLaws.{numbered, refuses, passes, passes-all, first-r
 use Rattle.base.proofs.Passed.{passed}
 use Rattle.base.proofs.TestLaws.{all-at}
 use Rattle.store.specs.Table.{Row}
-use Rattle.ports.specs.Ports.{FormedPort, portFits, portsFit}
+use Rattle.ports.specs.Ports.{FormedPort, port_fits, ports_fit}
 use Rattle.state.specs.declared.State.{State}
-use Rattle.state.specs.WellFormed.{wellFormed}
+use Rattle.state.specs.WellFormed.{well_formed}
 use Rattle.state.specs.Formed.{Formed}
 use Rattle.state.proofs.FormedLaws.{formed, formed-ports}
 use Rattle.state.proofs.Walkable.{readable}
 use Rattle.serial.specs.Calls.{PortCall, access, reset}
-use Rattle.serial.specs.Serial.{accessChecks, resetChecks, earlyChecks}
+use Rattle.serial.specs.Serial.{access_checks, reset_checks, early_checks}
 
 -- 26, 31 or 1, where the words of a state cannot be read
-pub early-some : (x : PortCall) → refusal (earlyChecks x ++ ((true, 1) ∷ [])) ≢ 0
+pub early-some : (x : PortCall) → refusal (early_checks x ++ ((true, 1) ∷ [])) ≢ 0
 unfolding numbered
 early-some (access g a) z = passed _ refl z λ h26 h31 h1. absurd (true≢false h1)
 early-some (reset g) z = passed _ refl z λ h26 h1. absurd (true≢false h1)
 
 module _ (s : State) (t : List ℕ) where
   abbrev late : Checks
-  late = (not (wellFormed s t), 1) ∷ []
+  late = (not (well_formed s t), 1) ∷ []
 
   -- ---- the number, where the checks before 1 have come to n
 
@@ -37,45 +37,45 @@ module _ (s : State) (t : List ℕ) where
     early-refused h = q ∙ sym (first-refuses l late (omega arith))
 
     module _ (p : numbered l ≡ true) (z : n ≡ 0) where
-      pub late-refused : wellFormed s t ≡ false → 1 ≡ refusal (l ++ late)
+      pub late-refused : well_formed s t ≡ false → 1 ≡ refusal (l ++ late)
       late-refused w = sym (first_passes l late p (sym q ∙ z) ∙ refuses 1 [] (rw w refl))
 
-      pub none-refused : wellFormed s t ≡ true → 0 ≡ refusal (l ++ late)
+      pub none-refused : well_formed s t ≡ true → 0 ≡ refusal (l ++ late)
       none-refused w = sym (first_passes l late p (sym q ∙ z) ∙ passes 1 [] (rw w refl) ∙ passes-all)
 
   -- ---- what follows where none refuses
 
   -- a port of a well-formed state
-  pub port-opened : wellFormed s t ≡ true → (g : ℕ) → g < 8 → FormedPort s.settings t s.blocks g
-  unfolding portsFit
-  port-opened w g h = record { chain = readable s t (formed s t w); guest = h; fits = all-at (portFits s.settings t s.blocks) 8 g h (formed-ports s t w) }
+  pub port-opened : well_formed s t ≡ true → (g : ℕ) → g < 8 → FormedPort s.settings t s.blocks g
+  unfolding ports_fit
+  port-opened w g h = record { chain = readable s t (formed s t w); guest = h; fits = all-at (port_fits s.settings t s.blocks) 8 g h (formed-ports s t w) }
 
   pub record AccessPassed (g o : ℕ) : Type 0 where
-    pub whole : wellFormed s t ≡ true
+    pub whole : well_formed s t ≡ true
     pub opened : FormedPort s.settings t s.blocks g
     pub row : Row t 0
     pub offset : o < 8
 
-  pub access-passed : (g o : ℕ) → refusal (accessChecks g o ++ late) ≡ 0 → AccessPassed g o
+  pub access-passed : (g o : ℕ) → refusal (access_checks g o ++ late) ≡ 0 → AccessPassed g o
   unfolding numbered
   access-passed g o e =
       passed _ refl e λ h26 h31 h1.
-      let w = not-false (wellFormed s t) h1 in
+      let w = not-false (well_formed s t) h1 in
       let i = ltb-false 7 g h26 in
       let j = ltb-false 7 o h31 in
       let l = (formed s t w).long in
       record { whole = w; opened = port-opened w g (omega arith); row = omega arith; offset = omega arith }
 
   pub record ResetPassed (g : ℕ) : Type 0 where
-    pub whole : wellFormed s t ≡ true
+    pub whole : well_formed s t ≡ true
     pub opened : FormedPort s.settings t s.blocks g
     pub row : Row t 0
 
-  pub reset-passed : (g : ℕ) → refusal (resetChecks g ++ late) ≡ 0 → ResetPassed g
+  pub reset-passed : (g : ℕ) → refusal (reset_checks g ++ late) ≡ 0 → ResetPassed g
   unfolding numbered
   reset-passed g e =
       passed _ refl e λ h26 h1.
-      let w = not-false (wellFormed s t) h1 in
+      let w = not-false (well_formed s t) h1 in
       let i = ltb-false 7 g h26 in
       let l = (formed s t w).long in
       record { whole = w; opened = port-opened w g (omega arith); row = omega arith }

@@ -1,29 +1,29 @@
 -- The answer of a read of a register: the answer with the paper's number, and the value, of each case.
 use Rattle.std.specs.Prelude.{cond, List, ℕ, eqb}
 use Rattle.state.specs.declared.State.{State}
-use Rattle.checks.specs.declared.Answer.{Answer}
-use Rattle.checks.specs.declared.Answer.TheVariants.{Accepted, Refused}
-use Rattle.checks.specs.Answers.{ifAccepted}
+use Rattle.state.specs.declared.checks.Answer.{Answer}
+use Rattle.state.specs.declared.checks.Answer.TheVariants.{Accepted, Refused}
+use Rattle.state.specs.Answers.{if_accepted}
 use Rattle.serial.specs.declared.RegisterRead.{RegisterRead}
 use Rattle.serial.specs.declared.RegisterRead.TheVariants as register
 use Rattle.serial.specs.Calls.{read, access}
 use Rattle.serial.specs.Serial as serial
 
-abbrev pub shownAnswer : RegisterRead → Answer
-shownAnswer (register.Value n) = Accepted
-shownAnswer (register.Refused n) = Refused n
+abbrev pub shown_answer : RegisterRead → Answer
+shown_answer (register.Value n) = Accepted
+shown_answer (register.Refused n) = Refused n
 
 -- the byte; none, 0, where the read is refused
-abbrev pub shownValue : RegisterRead → ℕ
-shownValue (register.Value n) = n
-shownValue (register.Refused n) = 0
+abbrev pub shown_value : RegisterRead → ℕ
+shown_value (register.Value n) = n
+shown_value (register.Refused n) = 0
 
 module _ (s : State) (t : List ℕ) where
-  abbrev pub readRefusal : ℕ → ℕ → ℕ
-  readRefusal g o = serial.portRefusal s t (access g (read o))
+  abbrev pub read_refusal : ℕ → ℕ → ℕ
+  read_refusal g o = serial.port_refusal s t (access g (read o))
 
-  unfoldable pub registerAnswer : ℕ → ℕ → RegisterRead
-  registerAnswer g o = cond (eqb (readRefusal g o) 0) (register.Value (serial.register s t g o)) (register.Refused (readRefusal g o))
+  unfoldable pub register_answer : ℕ → ℕ → RegisterRead
+  register_answer g o = cond (eqb (read_refusal g o) 0) (register.Value (serial.register s t g o)) (register.Refused (read_refusal g o))
 
-  unfoldable pub registerValue : ℕ → ℕ → ℕ
-  registerValue g o = ifAccepted (readRefusal g o) (serial.register s t g o) 0
+  unfoldable pub register_value : ℕ → ℕ → ℕ
+  register_value g o = if_accepted (read_refusal g o) (serial.register s t g o) 0

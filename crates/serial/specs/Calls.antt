@@ -15,9 +15,9 @@ pub data PortCall : Type 0 where
   access : ℕ → Access → PortCall
   reset : ℕ → PortCall
 
-abbrev pub portOf : PortCall → ℕ
-portOf (access g a) = g
-portOf (reset g) = g
+abbrev pub port_of : PortCall → ℕ
+port_of (access g a) = g
+port_of (reset g) = g
 
 -- what is written is a byte
 abbrev pub AccessInRange : Access → Type 0

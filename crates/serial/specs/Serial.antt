@@ -1,59 +1,59 @@
 -- Accesses to guests' serial ports and their resets, on a state and its table: the number that refuses, what is read, and the table (change request: Point 14).
 use Rattle.std.specs.Prelude.{not, List, [], ◌∷◌, ◌++◌, ℕ, ltb, get_or}
 use Rattle.base.specs.Checks.{Checks, refusal}
-use Rattle.ports.specs.Uart.{Port, valuesAt, afterRead, afterWrite, resetPort}
-use Rattle.ports.specs.Ports.{listingOf, portIn, putPort}
+use Rattle.ports.specs.Uart.{Port, values_at, after_read, after_write, reset_port}
+use Rattle.ports.specs.Ports.{listing_of, port_in, put_port}
 use Rattle.state.specs.declared.State.{State}
-use Rattle.state.specs.WellFormed.{wellFormed}
-use Rattle.checks.specs.declared.Outcome.{Outcome}
-use Rattle.checks.specs.Answers.{ifAccepted, outcomeOf}
-use Rattle.serial.specs.Calls.{Access, read, write, offset_of, PortCall, access, reset, portOf}
+use Rattle.state.specs.WellFormed.{well_formed}
+use Rattle.state.specs.declared.checks.Outcome.{Outcome}
+use Rattle.state.specs.Answers.{if_accepted, outcome_of}
+use Rattle.serial.specs.Calls.{Access, read, write, offset_of, PortCall, access, reset, port_of}
 
 -- 26 port above 7; 31 offset above 7: both before 1
-abbrev pub accessChecks : ℕ → ℕ → Checks
-accessChecks g o = (ltb 7 g, 26) ∷ (ltb 7 o, 31) ∷ []
+abbrev pub access_checks : ℕ → ℕ → Checks
+access_checks g o = (ltb 7 g, 26) ∷ (ltb 7 o, 31) ∷ []
 
-abbrev pub resetChecks : ℕ → Checks
-resetChecks g = (ltb 7 g, 26) ∷ []
+abbrev pub reset_checks : ℕ → Checks
+reset_checks g = (ltb 7 g, 26) ∷ []
 
-abbrev pub earlyChecks : PortCall → Checks
-earlyChecks (access g a) = accessChecks g (offset_of a)
-earlyChecks (reset g) = resetChecks g
+abbrev pub early_checks : PortCall → Checks
+early_checks (access g a) = access_checks g (offset_of a)
+early_checks (reset g) = reset_checks g
 
 module _ (s : State) (t : List ℕ) where
   -- then 1
-  abbrev pub portChecks : PortCall → Checks
-  portChecks x = earlyChecks x ++ ((not (wellFormed s t), 1) ∷ [])
+  abbrev pub port_checks : PortCall → Checks
+  port_checks x = early_checks x ++ ((not (well_formed s t), 1) ∷ [])
 
-  unfoldable pub portRefusal : PortCall → ℕ
-  portRefusal x = refusal (portChecks x)
+  unfoldable pub port_refusal : PortCall → ℕ
+  port_refusal x = refusal (port_checks x)
 
   -- the listing of the chain, and the port with a number
   abbrev pub listing : List ℕ
-  listing = listingOf s.settings t s.blocks
+  listing = listing_of s.settings t s.blocks
 
-  abbrev pub portAt : ℕ → Port
-  portAt g = portIn s.settings t s.blocks g
+  abbrev pub port_at : ℕ → Port
+  port_at g = port_in s.settings t s.blocks g
 
   -- what port g shows at offset o
   unfoldable pub register : ℕ → ℕ → ℕ
-  register g o = get_or (valuesAt listing (portAt g)) o 0
+  register g o = get_or (values_at listing (port_at g)) o 0
 
   -- the port after it
   abbrev pub accessed : Port → Access → Port
-  accessed p (read o) = afterRead listing p o
-  accessed p (write o b) = afterWrite p o b
+  accessed p (read o) = after_read listing p o
+  accessed p (write o b) = after_write p o b
 
-  abbrev pub portThen : PortCall → Port
-  portThen (access g a) = accessed (portAt g) a
-  portThen (reset g) = resetPort
+  abbrev pub port_then : PortCall → Port
+  port_then (access g a) = accessed (port_at g) a
+  port_then (reset g) = reset_port
 
-  unfoldable pub portedTable : PortCall → List ℕ
-  portedTable x = putPort s.settings t s.blocks (portOf x) (portThen x)
+  unfoldable pub ported_table : PortCall → List ℕ
+  ported_table x = put_port s.settings t s.blocks (port_of x) (port_then x)
 
   -- the state stays
-  unfoldable pub portOutcome : PortCall → Outcome
-  portOutcome x = outcomeOf (portRefusal x) s s
+  unfoldable pub port_outcome : PortCall → Outcome
+  port_outcome x = outcome_of (port_refusal x) s s
 
-  unfoldable pub portTable : PortCall → List ℕ
-  portTable x = ifAccepted (portRefusal x) (portedTable x) t
+  unfoldable pub port_table : PortCall → List ℕ
+  port_table x = if_accepted (port_refusal x) (ported_table x) t

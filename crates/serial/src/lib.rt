@@ -3,15 +3,16 @@
 
 ghost use Rattle.std.specs.Prelude.{◌≡◌, not, [], ◌∷◌, ◌++◌};
 ghost use Rattle.base.specs.Checks.{refusal};
-ghost use Rattle.state.specs.WellFormed.{wellFormed};
-ghost use Rattle.checks.specs.Answers.{WritingCallAnswered};
-ghost use Rattle.standing.specs.Answers.{ValueAnswered};
+ghost use Rattle.state.specs.WellFormed.{well_formed};
+ghost use Rattle.state.specs.Answers.{WritingCallAnswered};
+ghost use Rattle.reads.specs.CommitteeAnswers.{ValueAnswered};
 ghost use Rattle.serial.specs.Calls.{access, reset, read, write};
-ghost use Rattle.serial.specs.Serial.{accessChecks, resetChecks, portRefusal, portOutcome, portTable};
-ghost use Rattle.serial.specs.Answers.{shownAnswer, shownValue, readRefusal, registerAnswer, registerValue};
+ghost use Rattle.serial.specs.Serial.{access_checks, reset_checks, port_refusal, port_outcome, port_table};
+ghost use Rattle.serial.specs.Answers.{shown_answer, shown_value, read_refusal, register_answer, register_value};
 
-use checks::{Answer, Outcome};
+use ports::registers;
 use state::State;
+use state::checks::{Answer, Outcome};
 
 // What a register shows.
 #[derive(Clone, Copy)]
@@ -22,7 +23,7 @@ pub enum RegisterRead {
 
 // Checks 26 and 31 of an access, 0 where both pass.
 pub fn access_refusal(port: u32, offset: u32) -> u32
-    ensures { result ≡ refusal (accessChecks port offset) }
+    ensures { result ≡ refusal (access_checks port offset) }
 {
     if 7 < port {
         return 26;
@@ -35,7 +36,7 @@ pub fn access_refusal(port: u32, offset: u32) -> u32
 
 // Check 26 of a reset, 0 where it passes.
 pub fn reset_refusal(port: u32) -> u32
-    ensures { result ≡ refusal (resetChecks port) }
+    ensures { result ≡ refusal (reset_checks port) }
 {
     if 7 < port {
         return 26;
@@ -45,7 +46,7 @@ pub fn reset_refusal(port: u32) -> u32
 
 // The number of the first check that refuses an access, 0 for none.
 fn access_number(s: State, t: &[u32], port: u32, offset: u32) -> u32
-    ensures { result ≡ refusal (accessChecks port offset ++ ((not (wellFormed s t.now), 1) ∷ [])) }
+    ensures { result ≡ refusal (access_checks port offset ++ ((not (well_formed s t.now), 1) ∷ [])) }
 {
     let n = access_refusal(port, offset);
     if n != 0 {
@@ -59,7 +60,7 @@ fn access_number(s: State, t: &[u32], port: u32, offset: u32) -> u32
 
 // So for a reset.
 fn reset_number(s: State, t: &[u32], port: u32) -> u32
-    ensures { result ≡ refusal (resetChecks port ++ ((not (wellFormed s t.now), 1) ∷ [])) }
+    ensures { result ≡ refusal (reset_checks port ++ ((not (well_formed s t.now), 1) ∷ [])) }
 {
     let n = reset_refusal(port);
     if n != 0 {
@@ -73,7 +74,7 @@ fn reset_number(s: State, t: &[u32], port: u32) -> u32
 
 // A read of a port at an offset.
 pub fn read(s: State, t: &mut [u32], port: u32, offset: u32) -> RegisterRead
-    ensures { ValueAnswered (registerAnswer s t.old port offset) (readRefusal s t.old port offset) (registerValue s t.old port offset) result (shownAnswer result) (shownValue result) × (t.new ≡ portTable s t.old (access port (read offset))) }
+    ensures { ValueAnswered (register_answer s t.old port offset) (read_refusal s t.old port offset) (register_value s t.old port offset) result (shown_answer result) (shown_value result) × (t.new ≡ port_table s t.old (access port (read offset))) }
 {
     let n = access_number(s, t, port, offset);
     if n != 0 {
@@ -84,7 +85,7 @@ pub fn read(s: State, t: &mut [u32], port: u32, offset: u32) -> RegisterRead
 
 // A write of a byte there.
 pub fn write(s: State, t: &mut [u32], port: u32, offset: u32, byte: u8) -> Outcome
-    ensures { WritingCallAnswered (portOutcome s t.old (access port (write offset byte))) (portTable s t.old (access port (write offset byte))) (portRefusal s t.old (access port (write offset byte))) result t.new }
+    ensures { WritingCallAnswered (port_outcome s t.old (access port (write offset byte))) (port_table s t.old (access port (write offset byte))) (port_refusal s t.old (access port (write offset byte))) result t.new }
 {
     let n = access_number(s, t, port, offset);
     if n != 0 {
@@ -102,7 +103,7 @@ pub fn write(s: State, t: &mut [u32], port: u32, offset: u32, byte: u8) -> Outco
 
 // A reset: every held register is 0, and reading resumes at the listing's start.
 pub fn reset(s: State, t: &mut [u32], port: u32) -> Outcome
-    ensures { WritingCallAnswered (portOutcome s t.old (reset port)) (portTable s t.old (reset port)) (portRefusal s t.old (reset port)) result t.new }
+    ensures { WritingCallAnswered (port_outcome s t.old (reset port)) (port_table s t.old (reset port)) (port_refusal s t.old (reset port)) result t.new }
 {
     let n = reset_number(s, t, port);
     if n != 0 {

@@ -1,18 +1,19 @@
 // The bytes at hand served: step after step, as long as they hold a whole record and there is room for its answer (scope document: The runner).
 #![tactic(auto)]
 
+pub mod answering;
 pub mod lengths;
 
 ghost use Rattle.std.specs.Prelude.{◌≡◌, false, ◌+◌, ◌*◌, ◌≤◌, length, drop};
 ghost use Rattle.state.specs.Cached.{Cached};
-ghost use Rattle.framing.specs.Streams.{hasEnd};
-ghost use Rattle.putting.specs.Puts.{Puts};
+ghost use Rattle.framing.specs.Streams.{has_end};
+ghost use Rattle.base.specs.Puts.{Puts};
 ghost use Rattle.framing.specs.Framing.{remaining};
-ghost use Rattle.replies.specs.Records.{engineOf};
-ghost use Rattle.answering.specs.Streams.{answersTo};
+ghost use Rattle.replies.specs.Records.{engine_of};
+ghost use Rattle.serving.specs.Streams.{answers_to};
 ghost use Rattle.serving.specs.Work.{WorkReady, WorkDone};
 
-use answering::next::Progress;
+use crate::answering::next::Progress;
 use replies::Reply;
 use state::State;
 
@@ -79,7 +80,7 @@ pub fn finish(
     out: &mut [u8],
 ) -> usize
     requires { (length t.old * 9 + 20 ≤ length out.old) × Cached s t.old formed cache.old }
-    ensures { (result ≤ length out.old) × (hasEnd hand.now ≡ false → Puts out.old out.new 0 result (answersTo (engineOf s t.old) (remaining skipping hand.now)) (length t.old * 9 + 20)) }
+    ensures { (result ≤ length out.old) × (has_end hand.now ≡ false → Puts out.old out.new 0 result (answers_to (engine_of s t.old) (remaining skipping hand.now)) (length t.old * 9 + 20)) }
 {
     let event = framing::last(skipping, hand);
     let reply = answering::next::answered(formed, cache, s, t, event, &hand[..0], out, 0);

@@ -1,1 +1,5 @@
+pub mod MoveLaws
 pub mod SessionLaws
+pub mod PassLaws
+pub mod CeilingLaws
+pub mod Between

@@ -5,33 +5,33 @@ use Rattle.std.proofs.lemmas.List.{take-append-le, drop-take}
 use Rattle.std.proofs.lemmas.List.Edits.{sets-eq}
 use Rattle.std.specs.Io.KnownBytes.{Appends}
 use Rattle.framing.specs.Framing.{remaining}
-use Rattle.putting.specs.Puts.{Puts}
+use Rattle.base.specs.Puts.{Puts}
 use Rattle.state.specs.Cached.{Cached}
 use Rattle.replies.proofs.CachedLaws.{cached-closed}
-use Rattle.replies.specs.Records.{engineOf}
-use Rattle.answering.specs.Streams.{answersTo}
+use Rattle.replies.specs.Records.{engine_of}
+use Rattle.serving.specs.Streams.{answers_to}
 use Rattle.serving.specs.declared.Work.{Work}
 use Rattle.serving.specs.Work.{WorkDone}
-use Rattle.channel.specs.declared.Flushed.{Flushed}
+use Rattle.session.specs.declared.channel.Flushed.{Flushed}
 use Rattle.session.specs.declared.Session.{Session}
-use Rattle.session.specs.Hand.{handIn}
+use Rattle.session.specs.Hand.{hand_in}
 use Rattle.session.specs.Moved.{Moved}
-use Rattle.session.specs.Session.{NothingRead, RefillReady, wantsRead, BufferRefilled, PassServed}
+use Rattle.session.specs.Session.{NothingRead, RefillReady, wants_read, BufferRefilled, PassServed}
 
 -- bytes that come leave what is cached
-pub refilled-cached : {w : Work} {wrote : Flushed} {end : ℕ} {x : List ℕ} {y : List ℕ} {i : Option (List ℕ)} {j : Option (List ℕ)} {r : Session} {t : List ℕ} {cache : List ℕ} → BufferRefilled w wrote end x y i j r → Cached w.state t w.formed cache
+pub refilled_cached : {w : Work} {wrote : Flushed} {end : ℕ} {x : List ℕ} {y : List ℕ} {i : Option (List ℕ)} {j : Option (List ℕ)} {r : Session} {t : List ℕ} {cache : List ℕ} → BufferRefilled w wrote end x y i j r → Cached w.state t w.formed cache
     → Cached r.work.state t r.work.formed cache
-refilled-cached h k = rw (h.state, h.formed) k
+refilled_cached h k = rw (h.state, h.formed) k
 
 -- bytes kept at the front, and others behind them
-pub refilled-hand : (x y : List ℕ) (from end n got : ℕ) {f : ℕ} → from ≤ end → f ≡ 0 → n ≡ end - from → take n y ≡ take (end - from) (drop from x) → handIn y f (n + got) ≡ handIn x from end ++ take got (drop (end - from) y)
-refilled-hand x y from end n got {f} l z e h =
+pub refilled_hand : (x y : List ℕ) (from end n got : ℕ) {f : ℕ} → from ≤ end → f ≡ 0 → n ≡ end - from → take n y ≡ take (end - from) (drop from x) → hand_in y f (n + got) ≡ hand_in x from end ++ take got (drop (end - from) y)
+refilled_hand x y from end n got {f} l z e h =
     let a : end ≡ from + (end - from) = omega arith in
-    let hand : handIn x from end ≡ take (end - from) (drop from x) = ap (λ (k : ℕ). drop from (take k x)) a ∙ drop-take from (end - from) x in
+    let hand : hand_in x from end ≡ take (end - from) (drop from x) = ap (λ (k : ℕ). drop from (take k x)) a ∙ drop-take from (end - from) x in
     rw (z, sym e) (take-add n got y ∙ rw (hand, h, e) refl)
 
 -- how many bytes are left
-pub hand-size : (x : List ℕ) (from end : ℕ) → end ≤ length x → length (handIn x from end) ≡ end - from
+pub hand-size : (x : List ℕ) (from end : ℕ) → end ≤ length x → length (hand_in x from end) ≡ end - from
 hand-size x from end h = length-drop from (take end x) ∙ rw (length-take-le end x h) refl
 
 -- lines put from the start of a buffer are its first bytes
@@ -49,13 +49,13 @@ advanced s {t} x {w} {wrote} {t'} {cache} {i} {j} {o} {q} {r} {x'} {y} {out} z g
     let c = r.came.count in
     let came = take c (drop k x') in
     let counted : length came ≡ c = length-take-le c (drop k x') (rw (length-drop k x') h.within) in
-    let written : take r.wrote.count out ≡ g.put = rw (h.its-wrote, a.all-written) (put_first f.next-to (rw z at g.puts)) in
-    let ended : r.ended ≡ true → (wantsRead w wrote ≡ true) × (eqb c 0 ≡ true) = λ e. and_parts (wantsRead w wrote) (eqb c 0) (sym h.ended ∙ e) in
+    let written : take r.wrote.count out ≡ g.put = rw (h.its_wrote, a.all-written) (put_first f.next-to (rw z at g.puts)) in
+    let ended : r.ended ≡ true → (wants_read w wrote ≡ true) × (eqb c 0 ≡ true) = λ e. and_parts (wants_read w wrote) (eqb c 0) (sym h.ended ∙ e) in
     let none : r.ended ≡ true → came ≡ [] = λ e. rw (eqb-true c 0 (ended e).1) refl in
     let wanted : r.ended ≡ true → (w.waits ≡ true) × (wrote.whole ≡ true) = λ e. and_parts w.waits wrote.whole (ended e).0 in
-    let moved : Moved r came (take r.wrote.count out) i j o q = record { taken = h.taken; given = λ e. rw (h.its-wrote, a.all-written) (given (rw h.its-wrote at e)); at_end = h.at_end } in (
+    let moved : Moved r came (take r.wrote.count out) i j o q = record { taken = h.taken; given = λ e. rw (h.its_wrote, a.all-written) (given (rw h.its_wrote at e)); at_end = h.at_end } in (
       record {
-        left = handIn x w.from s.end;
+        left = hand_in x w.from s.end;
         came = came;
         hand = h.hand;
         counted = counted;
@@ -63,25 +63,25 @@ advanced s {t} x {w} {wrote} {t'} {cache} {i} {j} {o} {q} {r} {x'} {y} {out} z g
         within = rw n h.within;
         whole = λ more.
             g.whole (came ++ more)
-            ∙ ap (λ (u : List ℕ). g.put ++ answersTo (engineOf w.state t') (remaining w.skipping u)) (sym (append_assoc (handIn x w.from s.end) came more))
+            ∙ ap (λ (u : List ℕ). g.put ++ answers_to (engine_of w.state t') (remaining w.skipping u)) (sym (append_assoc (hand_in x w.from s.end) came more))
             ∙ rw (written, h.state, h.skipping, h.hand) refl;
         goes_on = λ u. progress w.waits refl (or_parts r.ended (not r.wrote.whole) u);
         unread = λ e. rw (h.unread e) refl;
-        went_out = λ e. rw h.its-wrote (wanted e).1;
+        went_out = λ e. rw h.its_wrote (wanted e).1;
         read = λ e. h.read ∙ (ended e).0;
         room = λ e. rw (n, l) (a.room (wanted e).0);
         none = none;
-        no_record = λ e. rw (h.hand, none e, append-nil (handIn x w.from s.end)) (f.waiting (wanted e).0).open-ended;
+        no_record = λ e. rw (h.hand, none e, append-nil (hand_in x w.from s.end)) (f.waiting (wanted e).0).open_ended;
       },
       moved,
     )
   where
     -- where no more bytes were wanted there were answers to write; else some came
     progress : (b : Bool) → w.waits ≡ b → (r.ended ≡ false) × (not r.wrote.whole ≡ false) → 0 < r.wrote.count + r.came.count
-    progress false e u = let m = f.full e in let k : r.wrote.count ≡ w.next = rw h.its-wrote a.all-written in omega (arith, m, fits, k)
+    progress false e u = let m = f.full e in let k : r.wrote.count ≡ w.next = rw h.its_wrote a.all-written in omega (arith, m, fits, k)
     progress true e u =
         let y : r.wrote.whole ≡ true = not-false r.wrote.whole u.1 in
-        let k : wrote.whole ≡ true = rw h.its-wrote at y in
+        let k : wrote.whole ≡ true = rw h.its_wrote at y in
         let v : eqb r.came.count 0 ≡ false = rw (e, k) at (sym h.ended ∙ u.0) in
         let d : r.came.count ≡ 0 → ⊥ = λ n. true≢false (sym (eq-eqb r.came.count 0 n) ∙ v) in
         omega (arith, d)

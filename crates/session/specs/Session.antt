@@ -3,24 +3,24 @@ use Rattle.std.specs.Prelude.{◌≡◌, Bool, true, false, not, ◌&&◌, ◌||
 use Rattle.std.specs.Option.{unwrap_or}
 use Rattle.std.specs.Io.KnownBytes.{Consumes, IsAtEnd}
 use Rattle.state.specs.Cached.{Cached}
-use Rattle.framing.specs.Streams.{hasEnd}
+use Rattle.framing.specs.Streams.{has_end}
 use Rattle.framing.specs.Framing.{remaining}
-use Rattle.open.specs.Open.{closedState}
-use Rattle.replies.specs.Records.{engineOf}
-use Rattle.answering.specs.Streams.{answersTo}
+use Rattle.open.specs.Open.{closed_state}
+use Rattle.replies.specs.Records.{engine_of}
+use Rattle.serving.specs.Streams.{answers_to}
 use Rattle.serving.specs.declared.Work.{Work}
-use Rattle.serving.specs.Lengths.{tableLength, inputLength}
-use Rattle.channel.specs.declared.Flushed.{Flushed}
+use Rattle.serving.specs.Lengths.{table_length, input_length}
+use Rattle.session.specs.declared.channel.Flushed.{Flushed}
 use Rattle.session.specs.declared.Session.{Session}
-use Rattle.session.specs.Hand.{handIn, HandWithin}
+use Rattle.session.specs.Hand.{hand_in, HandWithin}
 
 -- ---- between two passes
 
 -- the table is one of ceiling 64, the longest record and its CRLF fit the input buffer, and any one answer the output buffer
 pub record Memory (t buf out : List ℕ) : Type 0 where
-  pub table : length t ≡ tableLength
+  pub table : length t ≡ table_length
   pub input-from : 1024 ≤ length buf
-  pub input-to : length buf ≤ inputLength
+  pub input-to : length buf ≤ input_length
   pub answer-to : length t * 9 + 20 ≤ length out
 
 -- the bytes at hand lie within the input buffer, the output buffer is empty, and what is cached beside the state is right
@@ -32,7 +32,7 @@ pub record SessionReady (s : Session) (cache t buf out : List ℕ) : Type 0 wher
 
 -- nothing read yet, and nothing written
 pub record NothingRead (s : Session) : Type 0 where
-  pub state : s.work.state ≡ closedState
+  pub state : s.work.state ≡ closed_state
   pub formed : s.work.formed ≡ false
   pub skipping : s.work.skipping ≡ false
   pub from : s.work.from ≡ 0
@@ -42,34 +42,34 @@ pub record NothingRead (s : Session) : Type 0 where
   pub whole : s.wrote.whole ≡ true
 
 -- what is answered to the bytes at hand in x, and to more that may come
-abbrev pub answersLeft : Session → List ℕ → List ℕ → List ℕ → List ℕ
-answersLeft s t x more = answersTo (engineOf s.work.state t) (remaining s.work.skipping (handIn x s.work.from s.end ++ more))
+abbrev pub answers_left : Session → List ℕ → List ℕ → List ℕ → List ℕ
+answers_left s t x more = answers_to (engine_of s.work.state t) (remaining s.work.skipping (hand_in x s.work.from s.end ++ more))
 
 -- ---- more bytes
 
 -- all that the work answered was handed to the output first, and a read has room
 pub record RefillReady (w : Work) (wrote : Flushed) (end : ℕ) (buf : List ℕ) : Type 0 where
   pub hand : HandWithin w.from end buf
-  pub size : length buf ≤ inputLength
+  pub size : length buf ≤ input_length
   pub all-written : wrote.count ≡ w.next
   pub room : w.waits ≡ true → end - w.from < length buf
 
 -- a read is made where more bytes are wanted, and what was answered went out
-abbrev pub wantsRead : Work → Flushed → Bool
-wantsRead w wrote = w.waits && wrote.whole
+abbrev pub wants_read : Work → Flushed → Bool
+wants_read w wrote = w.waits && wrote.whole
 
 -- x is the input buffer before, y after bytes came behind those at hand, as many as the read answered; the input has ended where none came. i and j is what the input has left before and after, where that is known
 pub record BufferRefilled (w : Work) (wrote : Flushed) (end : ℕ) (x y : List ℕ) (i j : Option (List ℕ)) (r : Session) : Type 0 where
-  pub hand : handIn y r.work.from r.end ≡ handIn x w.from end ++ take r.came.count (drop (end - w.from) y)
+  pub hand : hand_in y r.work.from r.end ≡ hand_in x w.from end ++ take r.came.count (drop (end - w.from) y)
   pub counted : r.came.count ≡ unwrap_or r.came.answer 0
   pub within : r.came.count ≤ length y - (end - w.from)
   pub state : r.work.state ≡ w.state
   pub formed : r.work.formed ≡ w.formed
   pub skipping : r.work.skipping ≡ w.skipping
-  pub its-wrote : r.wrote ≡ wrote
-  pub read : r.came.read ≡ wantsRead w wrote
+  pub its_wrote : r.wrote ≡ wrote
+  pub read : r.came.read ≡ wants_read w wrote
   pub unread : r.came.read ≡ false → r.came.count ≡ 0
-  pub ended : r.ended ≡ (wantsRead w wrote && eqb r.came.count 0)
+  pub ended : r.ended ≡ (wants_read w wrote && eqb r.came.count 0)
   pub taken : Consumes i j (take r.came.count (drop (end - w.from) y))
   pub at_end : r.ended ≡ true → r.came.answer ≡ Some 0 → IsAtEnd j
 
@@ -90,11 +90,11 @@ is_over s = s.ended || not s.wrote.whole
 pub record PassServed (s : Session) (t x : List ℕ) (r : Session) (t' x' out : List ℕ) : Type 0 where
   pub left : List ℕ
   pub came : List ℕ
-  pub hand : handIn x' r.work.from r.end ≡ left ++ came
+  pub hand : hand_in x' r.work.from r.end ≡ left ++ came
   pub counted : length came ≡ r.came.count
   pub answer : r.came.count ≡ unwrap_or r.came.answer 0
   pub within : r.came.count ≤ length x' - length left
-  pub whole : (more : List ℕ) → answersLeft s t x (came ++ more) ≡ take r.wrote.count out ++ answersLeft r t' x' more
+  pub whole : (more : List ℕ) → answers_left s t x (came ++ more) ≡ take r.wrote.count out ++ answers_left r t' x' more
   -- where it goes on, something was handed out or read
   pub goes_on : is_over r ≡ false → 0 < r.wrote.count + r.came.count
   -- no byte comes without a read
@@ -104,4 +104,4 @@ pub record PassServed (s : Session) (t x : List ℕ) (r : Session) (t' x' out : 
   pub read : r.ended ≡ true → r.came.read ≡ true
   pub room : r.ended ≡ true → length left < length x'
   pub none : r.ended ≡ true → came ≡ []
-  pub no_record : r.ended ≡ true → hasEnd (handIn x' r.work.from r.end) ≡ false
+  pub no_record : r.ended ≡ true → has_end (hand_in x' r.work.from r.end) ≡ false

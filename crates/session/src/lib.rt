@@ -1,12 +1,15 @@
 // A session going on: the bytes at hand are served, the answers written out, and more bytes read (scope document: The runner).
 #![tactic(auto)]
 
+pub mod channel;
+pub mod passes;
+
 ghost use Rattle.std.specs.Prelude.{◌≡◌, take};
 ghost use Rattle.serving.specs.Work.{OutputEmptied};
-ghost use Rattle.session.specs.Session.{SessionReady, NothingRead, is_over, RefillReady, wantsRead, SessionRefilled, PassServed};
+ghost use Rattle.session.specs.Session.{SessionReady, NothingRead, is_over, RefillReady, wants_read, SessionRefilled, PassServed};
 ghost use Rattle.session.specs.Moved.{Moved};
 
-use channel::{Came, Flushed};
+use crate::channel::{Came, Flushed};
 use serving::Work;
 use std::io::{Read, Write};
 
@@ -84,7 +87,7 @@ fn emptied(w: Work, from: usize) -> Work
 
 // Are more bytes wanted, and did what was answered go out?
 fn wants_read(w: Work, wrote: Flushed) -> bool
-    ensures { result ≡ wantsRead w wrote }
+    ensures { result ≡ wants_read w wrote }
 {
     w.waits && channel::went_out(wrote)
 }

@@ -8,109 +8,109 @@ use lib.ListN.{length}
 use lib.Dec.{leb, ltb}
 use borrow.Author.Tests.{leb-true, le-leb, ltb-true, lt-ltb, ltb-false, not-true}
 use Rattle.base.proofs.Bools.{both, neither}
-use Rattle.base.specs.Folds.{allTo}
+use Rattle.base.specs.Folds.{all_to}
 use Rattle.terms.specs.declared.Body.{Body}
 use Rattle.terms.specs.Transactions.{in_range}
-use Rattle.terms.specs.Proposals.{slot_of, transactionsOf, badTransactions, badPreviousSet}
-use Rattle.terms.proofs.ProposalLaws.{transactions-tab, bad-transactions-tab}
-use Rattle.store.specs.Table.{usedLength, Row}
-use Rattle.scan.specs.Scan.{rowsFit}
-use Rattle.queues.specs.Words.{queuesFit}
-use Rattle.ports.specs.Ports.{portsFit}
-use Rattle.sheet.specs.Ranges.{outOfRange, weightless}
-use Rattle.sheet.proofs.SheetLaws.{settings-fit}
+use Rattle.terms.specs.Proposals.{slot_of, transactions_of, bad_transactions, bad_previous_set}
+use Rattle.terms.proofs.ProposalLaws.{transactions-tab, bad_transactions-tab}
+use Rattle.store.specs.Table.{used_length, Row}
+use Rattle.scan.specs.Scan.{rows_fit}
+use Rattle.queues.specs.Words.{queues_fit}
+use Rattle.ports.specs.Ports.{ports_fit}
+use Rattle.terms.specs.Ranges.{out_of_range, weightless}
+use Rattle.terms.proofs.SheetLaws.{settings-fit}
 use Rattle.state.specs.declared.State.{State}
-use Rattle.changes.specs.BlockChanges.{blocksFit}
+use Rattle.running.specs.BlockChanges.{blocks_fit}
 use Rattle.state.proofs.RoundLaws.{few-blocks, last-below}
-use Rattle.state.specs.WellFormed.{numbersFit, headFits, bodyFits, proposalFits, wellFormed}
+use Rattle.state.specs.WellFormed.{numbers_fit, head_fits, body_fits, proposal_fits, well_formed}
 use Rattle.state.specs.Formed.{NumbersFit, BodyFits, Formed}
 
-numbers-parts : (o r b n : ℕ) → numbersFit o r b n ≡ true → NumbersFit o r b n
-unfolding numbersFit
+numbers-parts : (o r b n : ℕ) → numbers_fit o r b n ≡ true → NumbersFit o r b n
+unfolding numbers_fit
 numbers-parts o r b n e =
     let p = both (ltb o 16) _ e in
     let q = both (leb 1 r) _ p.1 in
     let u = both (leb r n) (leb b n) q.1 in
     record { own = ltb-true o 16 p.0; round-from = leb-true 1 r q.0; round-to = leb-true r n u.0; blocks_to = leb-true b n u.1 }
 
-numbers-whole : (o r b n : ℕ) → NumbersFit o r b n → numbersFit o r b n ≡ true
-unfolding numbersFit
+numbers-whole : (o r b n : ℕ) → NumbersFit o r b n → numbers_fit o r b n ≡ true
+unfolding numbers_fit
 numbers-whole o r b n w = rw (lt-ltb o 16 w.own, le-leb 1 r w.round-from, le-leb r n w.round-to, le-leb b n w.blocks_to) refl
 
-pub head-parts : (s : State) → headFits s ≡ true
-    → (outOfRange s.settings ≡ false) × NumbersFit s.own.0 s.round.0 s.blocks s.settings.ceiling.0 × (weightless s.settings ≡ false)
-unfolding headFits
+pub head-parts : (s : State) → head_fits s ≡ true
+    → (out_of_range s.settings ≡ false) × NumbersFit s.own.0 s.round.0 s.blocks s.settings.ceiling.0 × (weightless s.settings ≡ false)
+unfolding head_fits
 head-parts s e =
-    let n = numbersFit s.own.0 s.round.0 s.blocks s.settings.ceiling.0 in
-    let p = both (not (outOfRange s.settings)) (n && not (weightless s.settings)) e in
+    let n = numbers_fit s.own.0 s.round.0 s.blocks s.settings.ceiling.0 in
+    let p = both (not (out_of_range s.settings)) (n && not (weightless s.settings)) e in
     let q = both n (not (weightless s.settings)) p.1 in
-    (not-true (outOfRange s.settings) p.0, numbers-parts s.own.0 s.round.0 s.blocks s.settings.ceiling.0 q.0, not-true (weightless s.settings) q.1)
+    (not-true (out_of_range s.settings) p.0, numbers-parts s.own.0 s.round.0 s.blocks s.settings.ceiling.0 q.0, not-true (weightless s.settings) q.1)
 
 -- what checks 6 and 7 let pass
-pub body-fits : (allowance r : ℕ) (b : Body) → badTransactions allowance (transactionsOf b) ≡ false → badPreviousSet r b.previous ≡ false → BodyFits allowance r b
+pub body-fits : (allowance r : ℕ) (b : Body) → bad_transactions allowance (transactions_of b) ≡ false → bad_previous_set r b.previous ≡ false → BodyFits allowance r b
 body-fits a r b e h =
-    let p = neither (ltb a b.count) (not (allTo (λ k. in_range (slot_of b k)) b.count)) (rw (transactions-tab b, bad-transactions-tab a (slot_of b) b.count) at e) in
+    let p = neither (ltb a b.count) (not (all_to (λ k. in_range (slot_of b k)) b.count)) (rw (transactions-tab b, bad_transactions-tab a (slot_of b) b.count) at e) in
     record { few = ltb-false a b.count p.0; fit = e; right = h }
 
-proposal-parts : (s : State) → proposalFits s ≡ true → s.proposing ≡ true → BodyFits s.settings.allowance s.round.0 s.body
-unfolding proposalFits bodyFits
+proposal-parts : (s : State) → proposal_fits s ≡ true → s.proposing ≡ true → BodyFits s.settings.allowance s.round.0 s.body
+unfolding proposal_fits body_fits
 proposal-parts s e h =
     let a = s.settings.allowance in
     let b = s.body in
-    let p = both (not (badTransactions a (transactionsOf b))) (not (badPreviousSet s.round.0 b.previous)) (rw h at e) in
-    body-fits a s.round.0 b (not-true (badTransactions a (transactionsOf b)) p.0) (not-true (badPreviousSet s.round.0 b.previous) p.1)
+    let p = both (not (bad_transactions a (transactions_of b))) (not (bad_previous_set s.round.0 b.previous)) (rw h at e) in
+    body-fits a s.round.0 b (not-true (bad_transactions a (transactions_of b)) p.0) (not-true (bad_previous_set s.round.0 b.previous) p.1)
 
-proposal-whole : (s : State) → (s.proposing ≡ true → BodyFits s.settings.allowance s.round.0 s.body) → proposalFits s ≡ true
-unfolding proposalFits bodyFits
+proposal-whole : (s : State) → (s.proposing ≡ true → BodyFits s.settings.allowance s.round.0 s.body) → proposal_fits s ≡ true
+unfolding proposal_fits body_fits
 proposal-whole s f = go s.proposing f
   where
-    go : (b : Bool) → (b ≡ true → BodyFits s.settings.allowance s.round.0 s.body) → cond b (bodyFits s.settings.allowance s.round.0 s.body) true ≡ true
+    go : (b : Bool) → (b ≡ true → BodyFits s.settings.allowance s.round.0 s.body) → cond b (body_fits s.settings.allowance s.round.0 s.body) true ≡ true
     go false k = refl
     go true k = let w = k refl in rw (w.fit, w.right) refl
 
 module _ (s : State) (t : List ℕ) where
   -- the conditions alone
-  pub formed-by : outOfRange s.settings ≡ false → weightless s.settings ≡ false → NumbersFit s.own.0 s.round.0 s.blocks s.settings.ceiling.0
+  pub formed-by : out_of_range s.settings ≡ false → weightless s.settings ≡ false → NumbersFit s.own.0 s.round.0 s.blocks s.settings.ceiling.0
       → (s.proposing ≡ true → BodyFits s.settings.allowance s.round.0 s.body) → Row t s.settings.ceiling.0
-      → rowsFit t s.settings.allowance s.blocks s.settings.ceiling.0 ≡ true → blocksFit s.settings.ceiling.0 t s.blocks ≡ true → queuesFit t ≡ true → Formed s t
+      → rows_fit t s.settings.allowance s.blocks s.settings.ceiling.0 ≡ true → blocks_fit s.settings.ceiling.0 t s.blocks ≡ true → queues_fit t ≡ true → Formed s t
   formed-by e w n p l r b q =
       let f = settings-fit s.settings e in
       let i = few-blocks s.settings.ceiling.0 t s.blocks b s.blocks (omega arith) in
       let j = last-below s.settings.ceiling.0 t s.blocks b (omega arith) s.blocks (omega arith) in
-      record { in-range = e; settings = f; weighty = w; numbers = n; proposal = p; long = l; rows = r; rounds = b; queues = q; room = omega arith; last-to = j }
+      record { is_in_range = e; settings = f; weighty = w; numbers = n; proposal = p; long = l; rows = r; rounds = b; queues = q; room = omega arith; last-to = j }
 
-  pub formed : wellFormed s t ≡ true → Formed s t
-  unfolding wellFormed
+  pub formed : well_formed s t ≡ true → Formed s t
+  unfolding well_formed
   formed e =
       let n = s.settings.ceiling.0 in
-      let p = both (leb (usedLength n) (length t)) _ e in
-      let q = both (headFits s) _ p.1 in
-      let u = both (proposalFits s) _ q.1 in
-      let v = both (rowsFit t s.settings.allowance s.blocks n) _ u.1 in
-      let x = both (blocksFit n t s.blocks) _ v.1 in
-      let y = both (queuesFit t) (portsFit s.settings t s.blocks) x.1 in
+      let p = both (leb (used_length n) (length t)) _ e in
+      let q = both (head_fits s) _ p.1 in
+      let u = both (proposal_fits s) _ q.1 in
+      let v = both (rows_fit t s.settings.allowance s.blocks n) _ u.1 in
+      let x = both (blocks_fit n t s.blocks) _ v.1 in
+      let y = both (queues_fit t) (ports_fit s.settings t s.blocks) x.1 in
       let h = head-parts s q.0 in
-      formed-by h.0 h.2 h.1 (proposal-parts s u.0) (leb-true (usedLength n) (length t) p.0) v.0 x.0 y.0
+      formed-by h.0 h.2 h.1 (proposal-parts s u.0) (leb-true (used_length n) (length t) p.0) v.0 x.0 y.0
 
   -- and its ports fit
-  pub formed-ports : wellFormed s t ≡ true → portsFit s.settings t s.blocks ≡ true
-  unfolding wellFormed
+  pub formed-ports : well_formed s t ≡ true → ports_fit s.settings t s.blocks ≡ true
+  unfolding well_formed
   formed-ports e =
       let n = s.settings.ceiling.0 in
-      let p = both (leb (usedLength n) (length t)) _ e in
-      let q = both (headFits s) _ p.1 in
-      let u = both (proposalFits s) _ q.1 in
-      let v = both (rowsFit t s.settings.allowance s.blocks n) _ u.1 in
-      let x = both (blocksFit n t s.blocks) _ v.1 in
-      (both (queuesFit t) (portsFit s.settings t s.blocks) x.1).1
+      let p = both (leb (used_length n) (length t)) _ e in
+      let q = both (head_fits s) _ p.1 in
+      let u = both (proposal_fits s) _ q.1 in
+      let v = both (rows_fit t s.settings.allowance s.blocks n) _ u.1 in
+      let x = both (blocks_fit n t s.blocks) _ v.1 in
+      (both (queues_fit t) (ports_fit s.settings t s.blocks) x.1).1
 
-  pub whole : Formed s t → portsFit s.settings t s.blocks ≡ true → wellFormed s t ≡ true
-  unfolding wellFormed headFits
+  pub whole : Formed s t → ports_fit s.settings t s.blocks ≡ true → well_formed s t ≡ true
+  unfolding well_formed head_fits
   whole f ports =
       let n = s.settings.ceiling.0 in
       rw (
-        le-leb (usedLength n) (length t) f.long,
-        f.in-range,
+        le-leb (used_length n) (length t) f.long,
+        f.is_in_range,
         numbers-whole s.own.0 s.round.0 s.blocks n f.numbers,
         f.weighty,
         proposal-whole s f.proposal,

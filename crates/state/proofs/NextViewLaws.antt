@@ -6,67 +6,67 @@ use mathlib.Core.Option.{none}
 use Prim.Native.Nat.{ℕ}
 use native.Mathlib.Numerals.{add-one}
 use Rattle.agreement.specs.Places.{mark}
-use Rattle.agreement.specs.Moves.{afterPropose, afterEndorse, afterCertify, afterAccept, afterAdvance}
+use Rattle.agreement.specs.Moves.{after_propose, after_endorse, after_certify, after_accept, after_advance}
 use Rattle.terms.specs.declared.Body.{Body}
 use Rattle.terms.specs.declared.Member.{Member}
-use Rattle.terms.specs.Proposals.{Content, contentWith}
+use Rattle.terms.specs.Proposals.{Content, content_with}
 use Rattle.store.specs.Table.{Row, held_at}
-use Rattle.writes.specs.Writes.{putCertificate, setEndorsed, clearEndorsed, clearUsed}
-use Rattle.writes.proofs.PutLaws.{length-put}
-use Rattle.writes.proofs.EndorseLaws.{set-endorsed, clear-endorsed}
-use Rattle.sheet.specs.declared.Rights.{Rights}
-use Rattle.sheet.specs.declared.Settings.{Settings}
+use Rattle.store.specs.Writes.{put_certificate, set_endorsed, clear_endorsed, clear_used}
+use Rattle.store.proofs.PutLaws.{length-put}
+use Rattle.store.proofs.EndorseLaws.{set-endorsed, clear-endorsed}
+use Rattle.terms.specs.declared.sheet.Rights.{Rights}
+use Rattle.terms.specs.declared.sheet.Settings.{Settings}
 use Rattle.committee.specs.Instance.{rules}
 use Rattle.committee.proofs.ChainLaws.{chain-none}
 use Rattle.rules.specs.Tests as tests
 use Rattle.state.specs.declared.State.{State}
 use Rattle.state.specs.States.{proposed, advanced, fresh}
-use Rattle.state.specs.View.{ownProposal, view}
+use Rattle.state.specs.View.{own_proposal, view}
 use Rattle.state.proofs.ViewLaws.{proposal-none, proposal-some}
 use Rattle.state.proofs.WriteLaws.{Storable, within, dag-put, endorsed-of-put, chain-put, dag-endorse, chain-endorse, endorsed-of-set, endorsed-of-clear, dag-cleared, endorsed-of-cleared}
 
 module _ (s : State) (t : List ℕ) where
   -- the proposal is kept
-  pub view-propose : (b : Body) → view (proposed s b) t ≡ afterPropose (view s t) (contentWith s.own.0 s.round.0 b)
+  pub view-propose : (b : Body) → view (proposed s b) t ≡ after_propose (view s t) (content_with s.own.0 s.round.0 b)
   view-propose b = λ i. record { round = s.round.0; proposal = proposal-some (proposed s b) refl i; dag = (view s t).dag; endorsed = (view s t).endorsed; chain = (view s t).chain }
 
   -- next round, proposal dropped
-  pub view-advance : (b : Body) → view (advanced s b) t ≡ afterAdvance (view s t)
+  pub view-advance : (b : Body) → view (advanced s b) t ≡ after_advance (view s t)
   view-advance b =
       λ i. record { round = add-one s.round.0 i; proposal = proposal-none (advanced s b) refl i; dag = (view s t).dag; endorsed = (view s t).endorsed; chain = (view s t).chain }
 
   module _ (p : Content) (long : Row t s.settings.ceiling.0) (k : Storable s.settings.ceiling.0 p) where
     -- the place is marked endorsed
-    pub view-endorse : view s (setEndorsed t p.author p.round) ≡ afterEndorse (view s t) p
+    pub view-endorse : view s (set_endorsed t p.author p.round) ≡ after_endorse (view s t) p
     view-endorse =
         let n = s.settings.ceiling.0 in
         let o = set-endorsed t p.author p.round in
-        λ i. record { round = s.round.0; proposal = ownProposal s; dag = dag-endorse n o i; endorsed = endorsed-of-set s.settings n t p long k i; chain = chain-endorse n o s.blocks i }
+        λ i. record { round = s.round.0; proposal = own_proposal s; dag = dag-endorse n o i; endorsed = endorsed-of-set s.settings n t p long k i; chain = chain-endorse n o s.blocks i }
 
     module _ (d : ℕ) (free : held_at t p.author p.round ≡ false) where
       -- the certificate is held
-      pub view-certify : view s (putCertificate t p d) ≡ afterCertify (view s t) p
+      pub view-certify : view s (put_certificate t p d) ≡ after_certify (view s t) p
       view-certify =
           let S = s.settings in
           let n = S.ceiling.0 in
-          λ i. record { round = s.round.0; proposal = ownProposal s; dag = dag-put n t p d long k free S i; endorsed = endorsed-of-put n t p d long k i; chain = chain-put n t p d long k free s.blocks i }
+          λ i. record { round = s.round.0; proposal = own_proposal s; dag = dag-put n t p d long k free S i; endorsed = endorsed-of-put n t p d long k i; chain = chain-put n t p d long k free s.blocks i }
 
       -- and its endorsed mark cleared
-      pub view-accept : view s (clearEndorsed (putCertificate t p d) p.author p.round) ≡ afterAccept (view s t) p
+      pub view-accept : view s (clear_endorsed (put_certificate t p d) p.author p.round) ≡ after_accept (view s t) p
       view-accept =
           let S = s.settings in
           let n = S.ceiling.0 in
-          let u = putCertificate t p d in
+          let u = put_certificate t p d in
           let o = clear-endorsed u p.author p.round in
           let long' : Row u n = rw (length-put t p d (within t long k)) long in
           let g = dag-endorse n o ∙ dag-put n t p d long k free S in
           let e = endorsed-of-clear S n u p long' k ∙ ap (mark (rules S) false p) (endorsed-of-put n t p d long k) in
           let c = chain-endorse n o s.blocks ∙ chain-put n t p d long k free s.blocks in
-          λ i. record { round = s.round.0; proposal = ownProposal s; dag = g i; endorsed = e i; chain = c i }
+          λ i. record { round = s.round.0; proposal = own_proposal s; dag = g i; endorsed = e i; chain = c i }
 
 -- a fresh state has round 1 and nothing else
-pub view-open : (own : Member) (S : Settings) (R : Rights) (b : Body) (t : List ℕ)
-    → ◌≡◌ {A = tests.MemberView S} (view (fresh own S R b) (clearUsed t S.ceiling.0)) (record { round = 1; proposal = none; dag = λ a r. none; endorsed = λ a r. false; chain = [] })
-view-open own S R b t =
+pub view_open : (own : Member) (S : Settings) (R : Rights) (b : Body) (t : List ℕ)
+    → ◌≡◌ {A = tests.MemberView S} (view (fresh own S R b) (clear_used t S.ceiling.0)) (record { round = 1; proposal = none; dag = λ a r. none; endorsed = λ a r. false; chain = [] })
+view_open own S R b t =
     let n = S.ceiling.0 in
-    λ i. record { round = 1; proposal = proposal-none (fresh own S R b) refl i; dag = dag-cleared n t i; endorsed = endorsed-of-cleared n t i; chain = chain-none n (clearUsed t n) i }
+    λ i. record { round = 1; proposal = proposal-none (fresh own S R b) refl i; dag = dag-cleared n t i; endorsed = endorsed-of-cleared n t i; chain = chain-none n (clear_used t n) i }

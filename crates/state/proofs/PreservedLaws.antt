@@ -5,30 +5,30 @@ use mathlib.Core.List.{List}
 use Prim.Native.Nat.{ℕ, ◌+◌, ◌<◌, ◌≤◌}
 use native.Mathlib.Omega.{arith}
 use lib.ListN.{length}
-use Rattle.base.specs.Sets.{isIn}
+use Rattle.base.specs.Sets.{is_in}
 use Rattle.terms.specs.declared.Body.{Body}
 use Rattle.terms.specs.declared.Member.{Member}
 use Rattle.terms.specs.declared.Round.{Round}
-use Rattle.terms.specs.Proposals.{Content, contentWith, badTransactions, badPreviousSet}
+use Rattle.terms.specs.Proposals.{Content, content_with, bad_transactions, bad_previous_set}
 use Rattle.terms.proofs.ProposalLaws.{length-transactions}
-use Rattle.store.specs.Table.{Row, Within, blockRound}
-use Rattle.writes.specs.Writes.{putCertificate, setEndorsed, clearEndorsed, clearHeld, clearUsed}
-use Rattle.writes.proofs.PutLaws.{length-put, block-round-put}
-use Rattle.writes.proofs.EndorseLaws.{OnlyEndorsed, block-round-endorse, set-endorsed, clear-endorsed}
-use Rattle.writes.proofs.HeldLaws.{clear-held, block-round-held}
-use Rattle.writes.proofs.ClearLaws.{length-cleared}
-use Rattle.writes.proofs.FirstRow.{OnlyFirst, SameFirst, put_first, clear-held-first, set-endorsed-first, clear-endorsed-first, cleared-first}
+use Rattle.store.specs.Table.{Row, Within, block_round}
+use Rattle.store.specs.Writes.{put_certificate, set_endorsed, clear_endorsed, clear_held, clear_used}
+use Rattle.store.proofs.PutLaws.{length-put, block-round-put}
+use Rattle.store.proofs.EndorseLaws.{OnlyEndorsed, block-round-endorse, set-endorsed, clear-endorsed}
+use Rattle.store.proofs.HeldLaws.{clear-held, block-round-held}
+use Rattle.store.proofs.ClearLaws.{length-cleared}
+use Rattle.store.proofs.FirstRow.{OnlyFirst, SameFirst, put_first, clear-held-first, set-endorsed-first, clear-endorsed-first, cleared-first}
 use Rattle.queues.proofs.WordLaws.{fits-same, fits-clear}
-use Rattle.queues.specs.Words.{queuesFit}
+use Rattle.queues.specs.Words.{queues_fit}
 use Rattle.scan.proofs.FirstRow.{rows-only}
 use Rattle.scan.proofs.FitLaws.{rows-cleared, rows-put, rows-set-endorsed, rows-clear-endorsed, rows-clear-held}
-use Rattle.scan.specs.Scan.{rowsFit}
-use Rattle.sheet.specs.declared.Rights.{Rights}
-use Rattle.sheet.specs.declared.Settings.{Settings}
-use Rattle.sheet.specs.Ranges.{outOfRange, weightless}
-use Rattle.sheet.proofs.SheetLaws.{settings-fit}
+use Rattle.scan.specs.Scan.{rows_fit}
+use Rattle.terms.specs.declared.sheet.Rights.{Rights}
+use Rattle.terms.specs.declared.sheet.Settings.{Settings}
+use Rattle.terms.specs.Ranges.{out_of_range, weightless}
+use Rattle.terms.proofs.SheetLaws.{settings-fit}
 use Rattle.state.specs.declared.State.{State}
-use Rattle.state.specs.States.{withRound, proposed, advanced, fresh}
+use Rattle.state.specs.States.{with_round, proposed, advanced, fresh}
 use Rattle.state.proofs.RoundLaws.{blocks-whole, blocks-same}
 use Rattle.state.specs.Formed.{BodyFits, Formed}
 use Rattle.state.proofs.FormedLaws.{formed-by}
@@ -36,7 +36,7 @@ use Rattle.state.proofs.FirstRow.{blocks-only}
 use Rattle.state.proofs.WriteLaws.{Storable, within}
 
 -- a body that fits has a place, with any author and round
-pub storable : (n allowance a r : ℕ) (b : Body) → a < 16 → 0 < r → r ≤ n → allowance ≤ 4 → BodyFits allowance r b → b.previous < 65536 → Storable n (contentWith a r b)
+pub storable : (n allowance a r : ℕ) (b : Body) → a < 16 → 0 < r → r ≤ n → allowance ≤ 4 → BodyFits allowance r b → b.previous < 65536 → Storable n (content_with a r b)
 storable n allowance a r b h from to l f small =
     let e = length-transactions b in
     record { author = h; from = from; to = to; few = omega arith; small = small }
@@ -45,9 +45,9 @@ module _ (s : State) (t : List ℕ) (f : Formed s t) where
   -- ---- propose and advance: another round or another proposal
 
   moved-kept : (r : Round) (proposing : Bool) (b : Body) → 1 ≤ r.0 → r.0 ≤ s.settings.ceiling.0 → (proposing ≡ true → BodyFits s.settings.allowance r.0 b)
-      → Formed (withRound s r proposing b) t
+      → Formed (with_round s r proposing b) t
   moved-kept r proposing b from to p =
-      formed-by (withRound s r proposing b) t f.in-range f.weighty
+      formed-by (with_round s r proposing b) t f.is_in_range f.weighty
       (record { own = f.numbers.own; round-from = from; round-to = to; blocks_to = f.numbers.blocks_to }) p f.long f.rows f.rounds f.queues
 
   -- a proposal that fits is kept
@@ -60,12 +60,12 @@ module _ (s : State) (t : List ℕ) (f : Formed s t) where
 
   -- ---- endorse, certify, accept: another table
 
-  written : (u : List ℕ) → length u ≡ length t → rowsFit u s.settings.allowance s.blocks s.settings.ceiling.0 ≡ true → ((k : ℕ) → blockRound u k ≡ blockRound t k) → SameFirst t u → Formed s u
+  written : (u : List ℕ) → length u ≡ length t → rows_fit u s.settings.allowance s.blocks s.settings.ceiling.0 ≡ true → ((k : ℕ) → block_round u k ≡ block_round t k) → SameFirst t u → Formed s u
   written u l r b q =
-      formed-by s u f.in-range f.weighty f.numbers f.proposal (omega arith) r
+      formed-by s u f.is_in_range f.weighty f.numbers f.proposal (omega arith) r
       (blocks-same s.settings.ceiling.0 t u s.blocks (λ k _. b k) f.rounds) (fits-same t u q ∙ f.queues)
 
-  marked : {q : ℕ} {u : List ℕ} → OnlyEndorsed q t u → rowsFit u s.settings.allowance s.blocks s.settings.ceiling.0 ≡ true → SameFirst t u → Formed s u
+  marked : {q : ℕ} {u : List ℕ} → OnlyEndorsed q t u → rows_fit u s.settings.allowance s.blocks s.settings.ceiling.0 ≡ true → SameFirst t u → Formed s u
   marked {u = u} o r = written u o.size r (block-round-endorse o)
 
   module _ (a q : ℕ) (h : a < 16) (z : 0 < q) (l : q ≤ s.settings.ceiling.0) where
@@ -73,43 +73,43 @@ module _ (s : State) (t : List ℕ) (f : Formed s t) where
     at = record { member = h; row = omega arith }
 
     -- a place marked endorsed
-    pub endorse-kept : Formed s (setEndorsed t a q)
+    pub endorse-kept : Formed s (set_endorsed t a q)
     endorse-kept = marked (set-endorsed t a q) (rows-set-endorsed t a q at s.settings.allowance s.blocks s.settings.ceiling.0 f.rows) (set-endorsed-first t a q z)
 
     -- its certificate held no more
-    pub absent-kept : Formed s (clearHeld t a q)
+    pub absent-kept : Formed s (clear_held t a q)
     absent-kept =
         let o = clear-held t a q at.row in
-        written (clearHeld t a q) o.size (rows-clear-held t a q at.row s.settings.allowance s.blocks s.settings.ceiling.0 f.rows) (block-round-held o) (clear-held-first t a q z)
+        written (clear_held t a q) o.size (rows-clear-held t a q at.row s.settings.allowance s.blocks s.settings.ceiling.0 f.rows) (block-round-held o) (clear-held-first t a q z)
 
     -- its mark cleared
-    pub clear_kept : Formed s (clearEndorsed t a q)
+    pub clear_kept : Formed s (clear_endorsed t a q)
     clear_kept = marked (clear-endorsed t a q) (rows-clear-endorsed t a q at s.settings.allowance s.blocks s.settings.ceiling.0 f.rows) (clear-endorsed-first t a q z)
 
   -- a certificate held that passes checks 6 and 7, its author not among its endorsers
-  pub put-kept : (p : Content) (d : ℕ) → d < 65536 → isIn d p.author ≡ false → Storable s.settings.ceiling.0 p → badTransactions s.settings.allowance p.transactions ≡ false → badPreviousSet p.round p.previous ≡ false
-      → Formed s (putCertificate t p d)
+  pub put-kept : (p : Content) (d : ℕ) → d < 65536 → is_in d p.author ≡ false → Storable s.settings.ceiling.0 p → bad_transactions s.settings.allowance p.transactions ≡ false → bad_previous_set p.round p.previous ≡ false
+      → Formed s (put_certificate t p d)
   put-kept p d low apart k fit right =
       let i = within t f.long k in
-      written (putCertificate t p d) (length-put t p d i)
-      (rows-put t p d i s.settings.allowance s.blocks f.settings.allowance-to fit right k.small low apart s.settings.ceiling.0 f.rows)
+      written (put_certificate t p d) (length-put t p d i)
+      (rows-put t p d i s.settings.allowance s.blocks f.settings.allowance_to fit right k.small low apart s.settings.ceiling.0 f.rows)
       (block-round-put t p d i) (put_first t p d i k.from)
 
   -- ---- enqueue and draw: another row 0, with queues that fit
 
-  pub first-kept : {u : List ℕ} → OnlyFirst t u → queuesFit u ≡ true → Formed s u
+  pub first-kept : {u : List ℕ} → OnlyFirst t u → queues_fit u ≡ true → Formed s u
   first-kept {u} o q =
       let n = s.settings.ceiling.0 in
       let l = o.size in
-      formed-by s u f.in-range f.weighty f.numbers f.proposal (omega arith) (rows-only o s.settings.allowance s.blocks n ∙ f.rows) (blocks-only o n s.blocks ∙ f.rounds) q
+      formed-by s u f.is_in_range f.weighty f.numbers f.proposal (omega arith) (rows-only o s.settings.allowance s.blocks n ∙ f.rows) (blocks-only o n s.blocks ∙ f.rounds) q
 
 -- ---- open: a fresh state and a cleared table
 
-pub open-formed : (own : Member) (S : Settings) (R : Rights) (b : Body) (t : List ℕ) → own.0 < 16 → outOfRange S ≡ false → weightless S ≡ false → Row t S.ceiling.0
-    → Formed (fresh own S R b) (clearUsed t S.ceiling.0)
-open-formed own S R b t h e w l =
+pub open_formed : (own : Member) (S : Settings) (R : Rights) (b : Body) (t : List ℕ) → own.0 < 16 → out_of_range S ≡ false → weightless S ≡ false → Row t S.ceiling.0
+    → Formed (fresh own S R b) (clear_used t S.ceiling.0)
+open_formed own S R b t h e w l =
     let n = S.ceiling.0 in
     let f = settings-fit S e in
     let i = length-cleared t n l in
-    formed-by (fresh own S R b) (clearUsed t n) e w (record { own = h; round-from = omega arith; round-to = omega arith; blocks_to = omega arith }) (λ x. absurd (false≢true x))
-    (omega arith) (rows-cleared t n S.allowance 0) (blocks-whole n (clearUsed t n) 0 (λ k x. absurd (omega arith))) (fits-clear (clearUsed t n) (cleared-first t n))
+    formed-by (fresh own S R b) (clear_used t n) e w (record { own = h; round-from = omega arith; round-to = omega arith; blocks_to = omega arith }) (λ x. absurd (false≢true x))
+    (omega arith) (rows-cleared t n S.allowance 0) (blocks-whole n (clear_used t n) 0 (λ k x. absurd (omega arith))) (fits-clear (clear_used t n) (cleared-first t n))

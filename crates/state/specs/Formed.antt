@@ -2,14 +2,14 @@
 use Rattle.std.specs.Prelude.{◌≡◌, true, false, List, ℕ, ◌*◌, ◌<◌, ◌≤◌}
 use Rattle.agreement.specs.Rules.{last}
 use Rattle.terms.specs.declared.Body.{Body}
-use Rattle.terms.specs.Proposals.{transactionsOf, badTransactions, badPreviousSet}
+use Rattle.terms.specs.Proposals.{transactions_of, bad_transactions, bad_previous_set}
 use Rattle.store.specs.Table.{Row}
-use Rattle.scan.specs.Scan.{rowsFit}
-use Rattle.queues.specs.Words.{queuesFit}
-use Rattle.sheet.specs.Ranges.{outOfRange, weightless, SettingsFit}
-use Rattle.committee.specs.Chain.{chainOf}
+use Rattle.scan.specs.Scan.{rows_fit}
+use Rattle.queues.specs.Words.{queues_fit}
+use Rattle.terms.specs.Ranges.{out_of_range, weightless, SettingsFit}
+use Rattle.committee.specs.Chain.{chain_of}
 use Rattle.state.specs.declared.State.{State}
-use Rattle.changes.specs.BlockChanges.{blocksFit}
+use Rattle.running.specs.BlockChanges.{blocks_fit}
 
 -- own number, present round and number of blocks are in range
 pub record NumbersFit (o r b n : ℕ) : Type 0 where
@@ -21,19 +21,19 @@ pub record NumbersFit (o r b n : ℕ) : Type 0 where
 -- a proposal's body: few enough transactions and all in range, a previous set that is empty exactly in round 1
 pub record BodyFits (allowance r : ℕ) (b : Body) : Type 0 where
   pub few : b.count ≤ allowance
-  pub fit : badTransactions allowance (transactionsOf b) ≡ false
-  pub right : badPreviousSet r b.previous ≡ false
+  pub fit : bad_transactions allowance (transactions_of b) ≡ false
+  pub right : bad_previous_set r b.previous ≡ false
 
 pub record Formed (s : State) (t : List ℕ) : Type 0 where
-  pub in-range : outOfRange s.settings ≡ false
+  pub is_in_range : out_of_range s.settings ≡ false
   pub settings : SettingsFit s.settings
   pub weighty : weightless s.settings ≡ false
   pub numbers : NumbersFit s.own.0 s.round.0 s.blocks s.settings.ceiling.0
   pub proposal : s.proposing ≡ true → BodyFits s.settings.allowance s.round.0 s.body
   pub long : Row t s.settings.ceiling.0
-  pub rows : rowsFit t s.settings.allowance s.blocks s.settings.ceiling.0 ≡ true
-  pub rounds : blocksFit s.settings.ceiling.0 t s.blocks ≡ true
-  pub queues : queuesFit t ≡ true
+  pub rows : rows_fit t s.settings.allowance s.blocks s.settings.ceiling.0 ≡ true
+  pub rounds : blocks_fit s.settings.ceiling.0 t s.blocks ≡ true
+  pub queues : queues_fit t ≡ true
   -- there is room for one more block below the ceiling
   pub room : 2 * s.blocks < s.settings.ceiling.0
-  pub last-to : last (chainOf s.settings.ceiling.0 t s.blocks) < s.settings.ceiling.0
+  pub last-to : last (chain_of s.settings.ceiling.0 t s.blocks) < s.settings.ceiling.0

@@ -1,30 +1,30 @@
 -- The view that a state and its table show: what the rules speak of.
 use Rattle.std.specs.Prelude.{Bool, cond, ◌&&◌, List, ℕ}
 use Rattle.std.proofs.Math.Option.{Option, none, some}
-use Rattle.terms.specs.Proposals.{Content, contentWith}
-use Rattle.store.specs.Table.{endorsedAt, certificateAt}
-use Rattle.committee.specs.Chain.{isRound, chainOf}
+use Rattle.terms.specs.Proposals.{Content, content_with}
+use Rattle.store.specs.Table.{endorsed_at, certificate_at}
+use Rattle.committee.specs.Chain.{is_round, chain_of}
 use Rattle.rules.specs.Tests.{MemberView}
 use Rattle.state.specs.declared.State.{State}
 
 -- the certificates of a table with n rounds, by author and round; what lies beyond is no part of the state
-unfoldable pub dagOf : ℕ → List ℕ → ℕ → ℕ → Option Content
-dagOf n t a r = cond (isRound n r) (certificateAt t a r) none
+unfoldable pub dag_of : ℕ → List ℕ → ℕ → ℕ → Option Content
+dag_of n t a r = cond (is_round n r) (certificate_at t a r) none
 
 -- the endorsed places
-unfoldable pub endorsedOf : ℕ → List ℕ → ℕ → ℕ → Bool
-endorsedOf n t a r = isRound n r && endorsedAt t a r
+unfoldable pub endorsed_of : ℕ → List ℕ → ℕ → ℕ → Bool
+endorsed_of n t a r = is_round n r && endorsed_at t a r
 
 -- the proposal for the present round, if any: author and round are one's own
-unfoldable pub ownProposal : State → Option Content
-ownProposal s = cond s.proposing (some (contentWith s.own.0 s.round.0 s.body)) none
+unfoldable pub own_proposal : State → Option Content
+own_proposal s = cond s.proposing (some (content_with s.own.0 s.round.0 s.body)) none
 
 abbrev pub view : (s : State) → List ℕ → MemberView s.settings
 view s t =
     record {
       round = s.round.0;
-      proposal = ownProposal s;
-      dag = dagOf s.settings.ceiling.0 t;
-      endorsed = endorsedOf s.settings.ceiling.0 t;
-      chain = chainOf s.settings.ceiling.0 t s.blocks;
+      proposal = own_proposal s;
+      dag = dag_of s.settings.ceiling.0 t;
+      endorsed = endorsed_of s.settings.ceiling.0 t;
+      chain = chain_of s.settings.ceiling.0 t s.blocks;
     }

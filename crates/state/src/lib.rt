@@ -1,12 +1,15 @@
 // A member's state, the view that it shows, and whether it is well formed (scope document: A member's state).
 #![tactic(auto)]
 
-ghost use Rattle.std.specs.Prelude.{◌≡◌, ◌<◌, ◌≤◌};
-ghost use Rattle.state.specs.WellFormed.{numbersFit, headFits, bodyFits, proposalFits, wellFormed};
+pub mod checks;
 
-use sheet::{Rights, Settings};
+ghost use Rattle.std.specs.Prelude.{◌≡◌, ◌<◌, ◌≤◌};
+ghost use Rattle.state.specs.WellFormed.{numbers_fit, head_fits, body_fits, proposal_fits, well_formed};
+
+use running::bonded;
 use store::lengths::ROW;
-use terms::{Body, Member, Round};
+use terms::sheet::{Rights, Settings};
+use terms::{Body, Member, Round, sheet};
 
 // The table holds certificates, endorsed places and blocks; the rest is here.
 #[derive(Clone, Copy)]
@@ -24,7 +27,7 @@ pub struct State {
 }
 
 fn numbers_fit(own: Member, round: Round, blocks: u32, ceiling: Round) -> bool
-    ensures { result ≡ numbersFit own.0 round.0 blocks ceiling.0 }
+    ensures { result ≡ numbers_fit own.0 round.0 blocks ceiling.0 }
 {
     if 16 <= own.0 {
         return false;
@@ -40,7 +43,7 @@ fn numbers_fit(own: Member, round: Round, blocks: u32, ceiling: Round) -> bool
 
 fn body_fits(allowance: u32, r: Round, b: Body) -> bool
     requires { allowance ≤ 4 }
-    ensures { result ≡ bodyFits allowance r.0 b }
+    ensures { result ≡ body_fits allowance r.0 b }
 {
     if terms::has_bad_transactions(allowance, b) {
         return false;
@@ -50,7 +53,7 @@ fn body_fits(allowance: u32, r: Round, b: Body) -> bool
 
 fn proposal_fits(s: State) -> bool
     requires { s.settings.allowance ≤ 4 }
-    ensures { result ≡ proposalFits s }
+    ensures { result ≡ proposal_fits s }
 {
     if !s.proposing {
         return true;
@@ -60,7 +63,7 @@ fn proposal_fits(s: State) -> bool
 
 // Are the settings in range, with some positive weight, and the numbers?
 fn head_fits(s: State) -> bool
-    ensures { result ≡ headFits s }
+    ensures { result ≡ head_fits s }
 {
     let settings = s.settings;
     if sheet::is_out_of_range(settings) {
@@ -74,7 +77,7 @@ fn head_fits(s: State) -> bool
 
 // Are the state and the table what the scope document asks of them?
 pub fn well_formed(s: State, t: &[u32]) -> bool
-    ensures { result ≡ wellFormed s t.now }
+    ensures { result ≡ well_formed s t.now }
 {
     let settings = s.settings;
     let n = settings.ceiling;

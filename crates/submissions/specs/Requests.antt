@@ -1,36 +1,36 @@
 -- Requests of hosts and of guests: a guest's is refused by the rights that its caller lacks, or it does and answers what the host's own would (change request: Point 11).
 use Rattle.std.specs.Prelude.{◌≡◌, true, false, cond, List, [], ◌∷◌, ℕ, length, eqb}
 use Rattle.std.proofs.Math.Option.{Option, none, some}
-use Rattle.base.specs.Options.{ifThere}
+use Rattle.base.specs.Options.{if_there}
 use Rattle.agreement.specs.Entries as entries
 use Rattle.agreement.specs.Entries.{states}
-use Rattle.rights.specs.declared.Right.{Right}
-use Rattle.rights.specs.Rights.{may, callerRefusal}
+use Rattle.terms.specs.declared.rights.Right.{Right}
+use Rattle.terms.specs.Rights.{may, caller_refusal}
 use Rattle.engine.specs.Calls.{opens}
-use Rattle.engine.specs.Engine.{Engine, refusalFor, after}
+use Rattle.engine.specs.Engine.{Engine, refusal_for, after}
 use Rattle.engine.specs.Values.{Value, nothing, value_of}
 use Rattle.engine.specs.Sequences.{AllInRange, NoOpen}
 use Rattle.engine.specs.Reached.{Reached}
-use Rattle.guests.specs.Guests.{GuestCall, needs, batchNeeds, asHost}
-use Rattle.batch.specs.Batch.{Row, batchRefusal, batchAnswers}
-use Rattle.nonforking.specs.Statement.{Members, engineAfter, engineBehaviour, Run, Agreed}
-use Rattle.submissions.specs.Submissions.{Submission, one, batch, afterSubmission, calls_of, unrolled}
+use Rattle.engine.specs.Guests.{GuestCall, needs, batch_needs, as_host}
+use Rattle.batch.specs.Batch.{Row, batch_refusal, batch_answers}
+use Rattle.nonforking.specs.Statement.{Members, engine_after, engine_behaviour, Run, Agreed}
+use Rattle.submissions.specs.Submissions.{Submission, one, batch, after_submission, calls_of, unrolled}
 
 -- ---- what is asked
 
 -- of a guest: one of the calls, or a batch with the answers lent for it
 pub data Asked : Type 0 where
   asks : GuestCall → Asked
-  asksBatch : Row → List ℕ → Asked
+  asks_batch : Row → List ℕ → Asked
 
-abbrev pub neededFor : Asked → Right
-neededFor (asks k) = needs k
-neededFor (asksBatch row answers) = batchNeeds
+abbrev pub needed_for : Asked → Right
+needed_for (asks k) = needs k
+needed_for (asks_batch row answers) = batch_needs
 
 -- what the host itself would submit for caller c
-abbrev pub submittedBy : ℕ → Asked → Submission
-submittedBy c (asks k) = one (asHost c k)
-submittedBy c (asksBatch row answers) = batch row answers
+abbrev pub submitted_by : ℕ → Asked → Submission
+submitted_by c (asks k) = one (as_host c k)
+submitted_by c (asks_batch row answers) = batch row answers
 
 -- of the host, or of the caller with a number
 pub data Request : Type 0 where
@@ -47,52 +47,52 @@ pub record Result : Type 0 where
   pub engine : Engine
 
 -- the answers lent for it; for a call none
-abbrev pub lentAnswers : Submission → List ℕ
-lentAnswers (one c) = []
-lentAnswers (batch row answers) = answers
+abbrev pub lent_answers : Submission → List ℕ
+lent_answers (one c) = []
+lent_answers (batch row answers) = answers
 
 -- refused with the number n: no value, and nothing changes
-abbrev pub refusedWith : Engine → Submission → ℕ → Result
-refusedWith e x n = record { refusal = n; value = nothing; answers = lentAnswers x; engine = e }
+abbrev pub refused_with : Engine → Submission → ℕ → Result
+refused_with e x n = record { refusal = n; value = nothing; answers = lent_answers x; engine = e }
 
 -- of the host's own
-abbrev pub hostResult : Engine → Submission → Result
-hostResult e (one c) = record { refusal = refusalFor e c; value = value_of e c; answers = []; engine = after e c }
-hostResult e (batch row answers) =
+abbrev pub host_result : Engine → Submission → Result
+host_result e (one c) = record { refusal = refusal_for e c; value = value_of e c; answers = []; engine = after e c }
+host_result e (batch row answers) =
     record {
-      refusal = batchRefusal e.state e.table row.count (length answers);
+      refusal = batch_refusal e.state e.table row.count (length answers);
       value = nothing;
-      answers = batchAnswers e.state e.table row answers;
-      engine = afterSubmission e (batch row answers);
+      answers = batch_answers e.state e.table row answers;
+      engine = after_submission e (batch row answers);
     }
 
 -- the number that refuses the caller, 0 for none
-abbrev pub callerNumber : Engine → ℕ → Asked → ℕ
-callerNumber e c a = callerRefusal e.state.rights (neededFor a) c
+abbrev pub caller_number : Engine → ℕ → Asked → ℕ
+caller_number e c a = caller_refusal e.state.rights (needed_for a) c
 
 -- a guest's: 26 and 29, then what the host's own comes to
 unfoldable pub result_of : Engine → Request → Result
-result_of e (host x) = hostResult e x
-result_of e (guest c a) = cond (eqb (callerNumber e c a) 0) (hostResult e (submittedBy c a)) (refusedWith e (submittedBy c a) (callerNumber e c a))
+result_of e (host x) = host_result e x
+result_of e (guest c a) = cond (eqb (caller_number e c a) 0) (host_result e (submitted_by c a)) (refused_with e (submitted_by c a) (caller_number e c a))
 
 -- ---- claims of one request
 
 -- caller c has the right that it needs
 abbrev pub Allowed : Engine → ℕ → Asked → Type 0
-Allowed e c a = may e.state.rights (neededFor a) c ≡ true
+Allowed e c a = may e.state.rights (needed_for a) c ≡ true
 
 -- caller c lacks it
 abbrev pub Lacks : Engine → ℕ → Asked → Type 0
-Lacks e c a = may e.state.rights (neededFor a) c ≡ false
+Lacks e c a = may e.state.rights (needed_for a) c ≡ false
 
 -- with the right it does and answers what the host's own would
 abbrev pub AllowedAsHost : Type 0
-AllowedAsHost = (e : Engine) (c : ℕ) (a : Asked) → Allowed e c a → result_of e (guest c a) ≡ result_of e (host (submittedBy c a))
+AllowedAsHost = (e : Engine) (c : ℕ) (a : Asked) → Allowed e c a → result_of e (guest c a) ≡ result_of e (host (submitted_by c a))
 
 -- the answers lent for a request
 abbrev pub lent_by : Request → List ℕ
-lent_by (host x) = lentAnswers x
-lent_by (guest c a) = lentAnswers (submittedBy c a)
+lent_by (host x) = lent_answers x
+lent_by (guest c a) = lent_answers (submitted_by c a)
 
 -- the same answers on e and d, the lent ones as they came, and neither changes
 pub record AlikeAndUnchanged (e d : Engine) (x : Request) : Type 0 where
@@ -110,9 +110,9 @@ Noninterference = (e d : Engine) → e.state.rights ≡ d.state.rights → (c : 
 -- ---- claims of lists of requests
 
 -- what is submitted, where the caller is not refused
-abbrev pub submissionOf : Engine → Request → Option Submission
-submissionOf e (host x) = some x
-submissionOf e (guest c a) = cond (eqb (callerNumber e c a) 0) (some (submittedBy c a)) none
+abbrev pub submission_of : Engine → Request → Option Submission
+submission_of e (host x) = some x
+submission_of e (guest c a) = cond (eqb (caller_number e c a) 0) (some (submitted_by c a)) none
 
 -- the request is no accepted open
 abbrev pub NoOpenAsked : Engine → Request → Type 0
@@ -121,18 +121,18 @@ NoOpenAsked e (host (batch row answers)) = Unit {0}
 NoOpenAsked e (guest c a) = Unit {0}
 
 -- the engine after a list of requests, newest first
-unfoldable pub afterRequests : Engine → List Request → Engine
-afterRequests e [] = e
-afterRequests e (x ∷ l) = (result_of (afterRequests e l) x).engine
+unfoldable pub after_requests : Engine → List Request → Engine
+after_requests e [] = e
+after_requests e (x ∷ l) = (result_of (after_requests e l) x).engine
 
 -- none of them is an accepted open
 abbrev pub NoOpensAsked : Engine → List Request → Type 0
 NoOpensAsked e [] = Unit {0}
-NoOpensAsked e (x ∷ l) = NoOpenAsked (afterRequests e l) x × NoOpensAsked e l
+NoOpensAsked e (x ∷ l) = NoOpenAsked (after_requests e l) x × NoOpensAsked e l
 
 -- rights stay as the open fixed them, whatever hosts and guests ask
 abbrev pub RightsStayThen : Type 0
-RightsStayThen = (e : Engine) (l : List Request) → NoOpensAsked e l → (afterRequests e l).state.rights ≡ e.state.rights
+RightsStayThen = (e : Engine) (l : List Request) → NoOpensAsked e l → (after_requests e l).state.rights ≡ e.state.rights
 
 -- what is submitted, if anything, has values of their types
 abbrev pub InRangeThen : Engine → Option Submission → Type 0
@@ -141,25 +141,25 @@ InRangeThen e (some s) = AllInRange (calls_of e s)
 
 -- what is so of every engine that calls lead to is so of those that requests lead to
 abbrev pub RequestsLeadTo : Type 0
-RequestsLeadTo = (e : Engine) → Reached e → (x : Request) → InRangeThen e (submissionOf e x) → Reached (result_of e x).engine
+RequestsLeadTo = (e : Engine) → Reached e → (x : Request) → InRangeThen e (submission_of e x) → Reached (result_of e x).engine
 
-module _ (X : Members engineBehaviour) where
+module _ (X : Members engine_behaviour) where
   open X use {before, sheet}
 
   -- member i's engine after a list of requests, newest first
-  abbrev pub engineAsked : List (entries.Entry Request) → ℕ → Engine
-  engineAsked l i = states (λ k e x. (result_of e x).engine) (λ k. after (before k) (opens (record { 0 = k }) (sheet k))) l i
+  abbrev pub engine_asked : List (entries.Entry Request) → ℕ → Engine
+  engine_asked l i = states (λ k e x. (result_of e x).engine) (λ k. after (before k) (opens (record { 0 = k }) (sheet k))) l i
 
   -- what is submitted by them
   unfoldable pub submitted : List (entries.Entry Request) → List (entries.Entry Submission)
   submitted [] = []
-  submitted (x ∷ l) = ifThere (submissionOf (engineAsked l x.who) x.call) (submitted l) (λ s. record { who = x.who; call = s } ∷ submitted l)
+  submitted (x ∷ l) = if_there (submission_of (engine_asked l x.who) x.call) (submitted l) (λ s. record { who = x.who; call = s } ∷ submitted l)
 
 -- demand 3 with guests' requests as entries: premises and claim are those of the calls that they count as, and each member's engine is the one after those
-pub record AgreedAsked (X : Members engineBehaviour) (l : List (entries.Entry Request)) : Type 0 where
+pub record AgreedAsked (X : Members engine_behaviour) (l : List (entries.Entry Request)) : Type 0 where
   pub agreed : Agreed X (unrolled X (submitted X l))
-  pub engines : (i : ℕ) → engineAsked X l i ≡ engineAfter X (unrolled X (submitted X l)) i
+  pub engines : (i : ℕ) → engine_asked X l i ≡ engine_after X (unrolled X (submitted X l)) i
 
 -- the members' rights are any: they need not be equal
 abbrev pub DemandThreeWithGuests : Type 0
-DemandThreeWithGuests = (X : Members engineBehaviour) (l : List (entries.Entry Request)) → Run X (unrolled X (submitted X l)) → AgreedAsked X l
+DemandThreeWithGuests = (X : Members engine_behaviour) (l : List (entries.Entry Request)) → Run X (unrolled X (submitted X l)) → AgreedAsked X l

@@ -1,11 +1,14 @@
 // Members, rounds, transactions, proposals and certificates, as they are handed in (scope document: Terms and sheet).
 #![tactic(auto)]
 
+pub mod rights;
+pub mod sheet;
+
 ghost use Rattle.std.specs.Prelude.{◌≡◌, ◌<◌, ◌≤◌};
-ghost use Rattle.base.specs.Folds.{allTo};
-ghost use Rattle.terms.specs.Transactions.{kind_of, number_of, amountOf, readTransaction, sameTransaction, amountInRange, bondInRange, in_range};
+ghost use Rattle.base.specs.Folds.{all_to};
+ghost use Rattle.terms.specs.Transactions.{kind_of, number_of, amount_of, read_transaction, same_transaction, amount_in_range, bond_in_range, in_range};
 ghost use Rattle.terms.specs.Bodies.{push};
-ghost use Rattle.terms.specs.Proposals.{bareBody, slot_of, transactionsOf, badTransactions, badPreviousSet};
+ghost use Rattle.terms.specs.Proposals.{bare_body, slot_of, transactions_of, bad_transactions, bad_previous_set};
 
 // A member's number: 0 to 15.
 #[derive(Clone, Copy)]
@@ -53,7 +56,7 @@ pub struct Certificate {
 
 // A body with a previous set and no transactions.
 pub fn bare_body(previous: u16) -> Body
-    ensures { result ≡ bareBody previous }
+    ensures { result ≡ bare_body previous }
 {
     let slot = Slot {
         transaction: Transaction::Bond(Member(0), 0),
@@ -105,7 +108,7 @@ pub fn number(x: Transaction) -> u32
 
 // The amount of a bond, 0 of another.
 pub fn amount(x: Transaction) -> u32
-    ensures { result ≡ amountOf x }
+    ensures { result ≡ amount_of x }
 {
     match x {
         Transaction::Bond(m, a) => a,
@@ -116,7 +119,7 @@ pub fn amount(x: Transaction) -> u32
 
 // The transaction that three numbers tell; an unknown kind is read as an entry.
 pub fn read_transaction(kind: u32, number: u32, amount: u32) -> Transaction
-    ensures { result ≡ readTransaction kind number amount }
+    ensures { result ≡ read_transaction kind number amount }
 {
     if kind == 0 {
         return Transaction::Bond(Member(number), amount);
@@ -129,7 +132,7 @@ pub fn read_transaction(kind: u32, number: u32, amount: u32) -> Transaction
 
 // Are the two equal?
 pub fn same_transaction(x: Transaction, y: Transaction) -> bool
-    ensures { result ≡ sameTransaction x y }
+    ensures { result ≡ same_transaction x y }
 {
     if kind(x) != kind(y) {
         return false;
@@ -142,7 +145,7 @@ pub fn same_transaction(x: Transaction, y: Transaction) -> bool
 
 // Is a bond's amount in range?
 pub fn amount_in_range(a: u32) -> bool
-    ensures { result ≡ amountInRange a }
+    ensures { result ≡ amount_in_range a }
 {
     if a < 1 {
         return false;
@@ -152,7 +155,7 @@ pub fn amount_in_range(a: u32) -> bool
 
 // Are a bond's member and amount in range?
 pub fn bond_in_range(m: Member, a: u32) -> bool
-    ensures { result ≡ bondInRange m.0 a }
+    ensures { result ≡ bond_in_range m.0 a }
 {
     if 16 <= m.0 {
         return false;
@@ -184,7 +187,7 @@ pub fn slot_at(b: Body, k: u32) -> Transaction
 // Are the first n transactions of a body in range?
 fn slots_in_range(b: Body, n: u32) -> bool
     requires { n ≤ 4 }
-    ensures { result ≡ allTo (λ k. in_range (slot_of b k)) n }
+    ensures { result ≡ all_to (λ k. in_range (slot_of b k)) n }
 {
     for k in 0..n {
         let x = slot_at(b, k);
@@ -198,7 +201,7 @@ fn slots_in_range(b: Body, n: u32) -> bool
 // Check 6: is a transaction out of range, or are there more than the allowance?
 pub fn has_bad_transactions(allowance: u32, b: Body) -> bool
     requires { allowance ≤ 4 }
-    ensures { result ≡ badTransactions allowance (transactionsOf b) }
+    ensures { result ≡ bad_transactions allowance (transactions_of b) }
 {
     let n = b.count;
     if allowance < n {
@@ -209,7 +212,7 @@ pub fn has_bad_transactions(allowance: u32, b: Body) -> bool
 
 // Check 7: is the previous set of a proposal of round r empty above round 1, or not empty in it?
 pub fn is_bad_previous_set(r: Round, set: u32) -> bool
-    ensures { result ≡ badPreviousSet r.0 set }
+    ensures { result ≡ bad_previous_set r.0 set }
 {
     if r.0 == 1 {
         return !base::is_empty(set);

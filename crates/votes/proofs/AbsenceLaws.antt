@@ -8,55 +8,55 @@ use native.Mathlib.Omega.{arith}
 use lib.Dec.{eqb}
 use borrow.Author.Tests.{eq-eqb, ne_eqb}
 use Rattle.base.specs.Checks.{refusal}
-use Rattle.base.specs.Sets.{isIn}
-use Rattle.base.proofs.SumLaws.{sum_same, sum-without}
+use Rattle.base.specs.Sets.{is_in}
+use Rattle.base.proofs.SumLaws.{sum_same, sum_without}
 use Rattle.agreement.specs.Rules.{Chain, last}
 use Rattle.agreement.specs.Weights.{total}
 use Rattle.terms.specs.Proposals.{Content}
-use Rattle.store.specs.Table.{Row, heldSet, held_at, previousAt, markAt}
+use Rattle.store.specs.Table.{Row, held_set, held_at, previous_at, mark_at}
 use Rattle.store.proofs.TableLaws.{held_in}
-use Rattle.writes.specs.Writes.{clearHeld}
-use Rattle.writes.proofs.WriteLaws.{samePlace, place-self}
-use Rattle.writes.proofs.HeldLaws.{clear-held, block-round-held, held-clear, previous-held}
-use Rattle.sheet.specs.Ranges.{weightIn}
-use Rattle.committee.specs.Chain.{chainOf}
-use Rattle.committee.specs.Committees.{committeeOf, known_by, boundOf}
-use Rattle.changes.specs.BlockChanges.{lastRound}
-use Rattle.changes.proofs.ChainLaws.{last-chain}
-use Rattle.leaders.specs.Fill.{leaderAt}
+use Rattle.store.specs.Writes.{clear_held}
+use Rattle.store.proofs.WriteLaws.{same_place, place_self}
+use Rattle.store.proofs.HeldLaws.{clear-held, block-round-held, held-clear, previous-held}
+use Rattle.terms.specs.Ranges.{weight_in}
+use Rattle.committee.specs.Chain.{chain_of}
+use Rattle.committee.specs.Committees.{committee_of, known_by, bound_of}
+use Rattle.running.specs.BlockChanges.{last_round}
+use Rattle.running.proofs.ChainLaws.{last-chain}
+use Rattle.running.specs.Fill.{leader_at}
 use Rattle.rules.specs.Tests.{unknown}
 use Rattle.state.specs.declared.State.{State}
 use Rattle.state.specs.Formed.{Formed}
 use Rattle.state.proofs.WriteLaws.{chain-absent}
 use Rattle.state.proofs.PreservedLaws.{absent-kept}
-use Rattle.votes.specs.Votes.{votesAt, votesFor}
-use Rattle.votes.specs.Checks.{timeChecks, voteChecks, committeeOn}
-use Rattle.votes.proofs.AnchorLaws.{leaderOn}
+use Rattle.votes.specs.Votes.{votes_at, votes_for}
+use Rattle.votes.specs.Checks.{time_checks, vote_checks, committee_on}
+use Rattle.votes.proofs.AnchorLaws.{leader_on}
 use Rattle.votes.proofs.CheckLaws.{anchor-none, votes-few, votes-enough}
 
 module _ (t : List ℕ) (a r : ℕ) (row : Row t r) where
   -- the votes of the round without a's
-  votes-without : (x i : ℕ) → i < 16 → votesAt (clearHeld t a r) r x i ≡ cond (eqb i a) false (votesAt t r x i)
-  unfolding votesAt
-  votes-without x i h = rw (held-clear t a r row i r, previous-held (clear-held t a r row) i r h, eq-eqb r r refl) (go (eqb i a) (held_at t i r) (isIn (previousAt t i r) x))
+  votes_without : (x i : ℕ) → i < 16 → votes_at (clear_held t a r) r x i ≡ cond (eqb i a) false (votes_at t r x i)
+  unfolding votes_at
+  votes_without x i h = rw (held-clear t a r row i r, previous-held (clear-held t a r row) i r h, eq-eqb r r refl) (go (eqb i a) (held_at t i r) (is_in (previous_at t i r) x))
     where
       go : (b c d : Bool) → (cond (b && true) false c && d) ≡ cond b false (c && d)
       go true c d = refl
       go false c d = refl
 
-  pub weight-without : (w : List ℕ) (x : ℕ) → a < 16 → votesFor (clearHeld t a r) w r x + cond (votesAt t r x a) (weightIn w a) 0 ≡ votesFor t w r x
-  unfolding votesFor
-  weight-without w x h =
-      let f : ℕ → ℕ = λ i. cond (votesAt t r x i) (weightIn w i) 0 in
-      let g : ℕ → ℕ = λ i. cond (cond (eqb i a) false (votesAt t r x i)) (weightIn w i) 0 in
-      ap (λ (k : ℕ). k + f a) (sum_same (λ i. cond (votesAt (clearHeld t a r) r x i) (weightIn w i) 0) g 16 (λ i l. ap (λ (b : Bool). cond b (weightIn w i) 0) (votes-without x i l)))
-      ∙ sum-without f g 16 a h (rw (eq-eqb a a refl) refl) (λ i n. rw (ne_eqb i a n) refl)
+  pub weight_without : (w : List ℕ) (x : ℕ) → a < 16 → votes_for (clear_held t a r) w r x + cond (votes_at t r x a) (weight_in w a) 0 ≡ votes_for t w r x
+  unfolding votes_for
+  weight_without w x h =
+      let f : ℕ → ℕ = λ i. cond (votes_at t r x i) (weight_in w i) 0 in
+      let g : ℕ → ℕ = λ i. cond (cond (eqb i a) false (votes_at t r x i)) (weight_in w i) 0 in
+      ap (λ (k : ℕ). k + f a) (sum_same (λ i. cond (votes_at (clear_held t a r) r x i) (weight_in w i) 0) g 16 (λ i l. ap (λ (b : Bool). cond b (weight_in w i) 0) (votes_without x i l)))
+      ∙ sum_without f g 16 a h (rw (eq-eqb a a refl) refl) (λ i n. rw (ne_eqb i a n) refl)
 
 -- in another round the votes are as they were
-votes-elsewhere : (t : List ℕ) (a q r : ℕ) → Row t q → r ≢ q → (w : List ℕ) (x : ℕ) → votesFor (clearHeld t a q) w r x ≡ votesFor t w r x
-unfolding votesFor votesAt
+votes-elsewhere : (t : List ℕ) (a q r : ℕ) → Row t q → r ≢ q → (w : List ℕ) (x : ℕ) → votes_for (clear_held t a q) w r x ≡ votes_for t w r x
+unfolding votes_for votes_at
 votes-elsewhere t a q r row n w x =
-    sum_same _ _ 16 (λ i h. rw (held-clear t a q row i r, previous-held (clear-held t a q row) i r h, ne_eqb r q n) (go (eqb i a) (held_at t i r) (isIn (previousAt t i r) x) (weightIn w i)))
+    sum_same _ _ 16 (λ i h. rw (held-clear t a q row i r, previous-held (clear-held t a q row) i r h, ne_eqb r q n) (go (eqb i a) (held_at t i r) (is_in (previous_at t i r) x) (weight_in w i)))
   where
     go : (b c d : Bool) (k : ℕ) → cond (cond (b && false) false c && d) k 0 ≡ cond (c && d) k 0
     go true c d k = refl
@@ -64,34 +64,34 @@ votes-elsewhere t a q r row n w x =
 
 -- the checks of time look at block rounds alone, so they are as they were whether or not it is in a block
 module _ (s : State) (t : List ℕ) (a q : ℕ) (row : Row t q) where
-  round_same : (k : ℕ) → lastRound (clearHeld t a q) k ≡ lastRound t k
-  unfolding lastRound
+  round_same : (k : ℕ) → last_round (clear_held t a q) k ≡ last_round t k
+  unfolding last_round
   round_same zero = refl
   round_same (suc k) = rw (block-round-held (clear-held t a q row) (suc k)) refl
 
-  last-same : last (chainOf s.settings.ceiling.0 (clearHeld t a q) s.blocks) ≡ last (chainOf s.settings.ceiling.0 t s.blocks)
-  last-same = let n = s.settings.ceiling.0 in last-chain n (clearHeld t a q) s.blocks ∙ round_same s.blocks ∙ sym (last-chain n t s.blocks)
+  last-same : last (chain_of s.settings.ceiling.0 (clear_held t a q) s.blocks) ≡ last (chain_of s.settings.ceiling.0 t s.blocks)
+  last-same = let n = s.settings.ceiling.0 in last-chain n (clear_held t a q) s.blocks ∙ round_same s.blocks ∙ sym (last-chain n t s.blocks)
 
-  pub time-same : refusal (timeChecks s t) ≡ 0 → refusal (timeChecks s (clearHeld t a q)) ≡ 0
+  pub time-same : refusal (time_checks s t) ≡ 0 → refusal (time_checks s (clear_held t a q)) ≡ 0
   unfolding unknown known_by
   time-same e = rw last-same e
 
-module _ (s : State) (t : List ℕ) (f : Formed s t) (from : 1 < s.round.0) (led : isIn (heldSet t (s.round.0 - 1)) (leaderOn s t (s.round.0 - 1)) ≡ true) (a : ℕ) (m : a < 16) where
+module _ (s : State) (t : List ℕ) (f : Formed s t) (from : 1 < s.round.0) (led : is_in (held_set t (s.round.0 - 1)) (leader_on s t (s.round.0 - 1)) ≡ true) (a : ℕ) (m : a < 16) where
   abbrev r : ℕ
   r = s.round.0
 
   abbrev x : ℕ
-  x = leaderOn s t (r - 1)
+  x = leader_on s t (r - 1)
 
   abbrev w : List ℕ
-  w = committeeOn s t r
+  w = committee_on s t r
 
   abbrev bound : ℕ
-  bound = boundOf s.settings.margin (total 16 (weightIn w))
+  bound = bound_of s.settings.margin (total 16 (weight_in w))
 
-  module _ (q : ℕ) (z : 0 < q) (l : q ≤ s.settings.ceiling.0) (free : markAt t a q ≡ 0) where
+  module _ (q : ℕ) (z : 0 < q) (l : q ≤ s.settings.ceiling.0) (free : mark_at t a q ≡ 0) where
     abbrev u : List ℕ
-    u = clearHeld t a q
+    u = clear_held t a q
 
     row : Row t q
     row = omega (arith, f.long)
@@ -99,39 +99,39 @@ module _ (s : State) (t : List ℕ) (f : Formed s t) (from : 1 < s.round.0) (led
     kept : Formed s u
     kept = absent-kept s t f a q m z l
 
-    chain_same : chainOf s.settings.ceiling.0 u s.blocks ≡ chainOf s.settings.ceiling.0 t s.blocks
+    chain_same : chain_of s.settings.ceiling.0 u s.blocks ≡ chain_of s.settings.ceiling.0 t s.blocks
     chain_same = chain-absent s.settings.ceiling.0 t a q row free s.blocks
 
     -- the leader and the committee are as they were
-    leader-same : leaderOn s u (r - 1) ≡ x
-    leader-same = ap (λ (c : Chain Content). leaderAt s.settings c (r - 1)) chain_same
+    leader-same : leader_on s u (r - 1) ≡ x
+    leader-same = ap (λ (c : Chain Content). leader_at s.settings c (r - 1)) chain_same
 
-    committee-same : committeeOn s u r ≡ w
-    committee-same = ap (λ (c : Chain Content). committeeOf s.settings c r) chain_same
+    committee-same : committee_on s u r ≡ w
+    committee-same = ap (λ (c : Chain Content). committee_of s.settings c r) chain_same
 
-    held_then : isIn (heldSet u (r - 1)) (leaderOn s u (r - 1)) ≡ cond (samePlace x (r - 1) a q) false true
+    held_then : is_in (held_set u (r - 1)) (leader_on s u (r - 1)) ≡ cond (same_place x (r - 1) a q) false true
     held_then = rw (leader-same, sym (held_in u x (r - 1)), held-clear t a q row x (r - 1), held_in t x (r - 1), led) refl
 
     -- where it is the anchor
-    pub anchor-absent : a ≡ x → q ≡ r - 1 → refusal (voteChecks s u) ≡ 21
-    anchor-absent e k = sym (anchor-none s u kept from (held_then ∙ rw (e, k, place-self x (r - 1)) refl))
+    pub anchor-absent : a ≡ x → q ≡ r - 1 → refusal (vote_checks s u) ≡ 21
+    anchor-absent e k = sym (anchor-none s u kept from (held_then ∙ rw (e, k, place_self x (r - 1)) refl))
 
-    module _ (other : samePlace x (r - 1) a q ≡ false) where
-      still : isIn (heldSet u (r - 1)) (leaderOn s u (r - 1)) ≡ true
+    module _ (other : same_place x (r - 1) a q ≡ false) where
+      still : is_in (held_set u (r - 1)) (leader_on s u (r - 1)) ≡ true
       still = held_then ∙ rw other refl
 
-      weighed : votesFor u (committeeOn s u r) r (leaderOn s u (r - 1)) ≡ votesFor u w r x
-      weighed = ap₂ (λ (v : List ℕ) (y : ℕ). votesFor u v r y) committee-same leader-same
+      weighed : votes_for u (committee_on s u r) r (leader_on s u (r - 1)) ≡ votes_for u w r x
+      weighed = ap₂ (λ (v : List ℕ) (y : ℕ). votes_for u v r y) committee-same leader-same
 
-      bound-same : boundOf s.settings.margin (total 16 (weightIn (committeeOn s u r))) ≡ bound
-      bound-same = ap (λ (v : List ℕ). boundOf s.settings.margin (total 16 (weightIn v))) committee-same
+      bound-same : bound_of s.settings.margin (total 16 (weight_in (committee_on s u r))) ≡ bound
+      bound-same = ap (λ (v : List ℕ). bound_of s.settings.margin (total 16 (weight_in v))) committee-same
 
       -- where it is not, the votes decide
-      pub few-left : votesFor u w r x ≤ bound → refusal (voteChecks s u) ≡ 22
+      pub few-left : votes_for u w r x ≤ bound → refusal (vote_checks s u) ≡ 22
       few-left h = sym (votes-few s u kept from still (rw (weighed, bound-same) h))
 
-      pub enough-left : bound < votesFor u w r x → refusal (voteChecks s u) ≡ 0
+      pub enough-left : bound < votes_for u w r x → refusal (vote_checks s u) ≡ 0
       enough-left h = sym (votes-enough s u kept from still (rw (weighed, bound-same) h))
 
-      pub votes-left : q ≢ r → votesFor u w r x ≡ votesFor t w r x
+      pub votes-left : q ≢ r → votes_for u w r x ≡ votes_for t w r x
       votes-left n = votes-elsewhere t a q r row (λ e. n (sym e)) w x

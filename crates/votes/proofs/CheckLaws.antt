@@ -12,61 +12,61 @@ use borrow.Author.Tests.{eq-eqb, ne_eqb, eqb-false, le-leb, lt-leb, leb-false, l
 use Rattle.base.proofs.Bools.{neither}
 use Rattle.base.specs.Checks.{refusal}
 use Rattle.base.proofs.CheckLaws.{refuses, passes, passes-all, cleared}
-use Rattle.base.specs.Sets.{isIn}
+use Rattle.base.specs.Sets.{is_in}
 use Rattle.agreement.specs.Rules.{Chain}
 use Rattle.agreement.specs.Weights.{total}
-use Rattle.agreement.specs.Commits.{anchorAt}
+use Rattle.agreement.specs.Commits.{anchor_at}
 use Rattle.terms.specs.Proposals.{Content}
-use Rattle.store.specs.Table.{heldSet, contentAt}
-use Rattle.sheet.specs.Ranges.{weightIn}
-use Rattle.committee.specs.Chain.{chainOf}
-use Rattle.committee.specs.Committees.{known_by, boundOf}
-use Rattle.changes.specs.BlockChanges.{lastRound}
-use Rattle.changes.proofs.ChainLaws.{last-chain, last-from}
+use Rattle.store.specs.Table.{held_set, content_at}
+use Rattle.terms.specs.Ranges.{weight_in}
+use Rattle.committee.specs.Chain.{chain_of}
+use Rattle.committee.specs.Committees.{known_by, bound_of}
+use Rattle.running.specs.BlockChanges.{last_round}
+use Rattle.running.proofs.ChainLaws.{last-chain, last-from}
 use Rattle.rules.specs.Tests.{unknown}
-use Rattle.rules.proofs.TestLaws.{unknown-not}
+use Rattle.rules.proofs.TestLaws.{unknown_not}
 use Rattle.state.specs.declared.State.{State}
 use Rattle.state.specs.View.{view}
 use Rattle.state.specs.Formed.{Formed}
-use Rattle.votes.specs.Votes.{votesFor}
-use Rattle.votes.specs.Checks.{timeChecks, voteChecks, committeeOn, leadersFor}
-use Rattle.votes.proofs.AnchorLaws.{leaderOn, anchor-on, unvoted-on, leaders-on}
+use Rattle.votes.specs.Votes.{votes_for}
+use Rattle.votes.specs.Checks.{time_checks, vote_checks, committee_on, leaders_for}
+use Rattle.votes.proofs.AnchorLaws.{leader_on, anchor-on, unvoted-on, leaders-on}
 
 module _ (s : State) (t : List ℕ) where
   abbrev r : ℕ
   r = s.round.0
 
   abbrev m : ℕ
-  m = lastRound t s.blocks
+  m = last_round t s.blocks
 
   abbrev chain : Chain Content
-  chain = chainOf s.settings.ceiling.0 t s.blocks
+  chain = chain_of s.settings.ceiling.0 t s.blocks
 
   -- ---- 19, 20, 8
 
-  pub round-even : r % 2 ≡ 0 → 19 ≡ refusal (timeChecks s t)
+  pub round-even : r % 2 ≡ 0 → 19 ≡ refusal (time_checks s t)
   round-even e = sym (refuses 19 _ (rw (eq-eqb (r % 2) 0 e) refl))
 
   module _ (odd : r % 2 ≢ 0) where
-    pub round-one : r ≡ 1 → 19 ≡ refusal (timeChecks s t)
+    pub round-one : r ≡ 1 → 19 ≡ refusal (time_checks s t)
     round-one e = sym (refuses 19 _ (rw (ne_eqb (r % 2) 0 odd, eq-eqb r 1 e) refl))
 
     module _ (later : r ≢ 1) where
-      in-round : (eqb (r % 2) 0 || eqb r 1) ≡ false
-      in-round = rw (ne_eqb (r % 2) 0 odd, ne_eqb r 1 later) refl
+      in_round : (eqb (r % 2) 0 || eqb r 1) ≡ false
+      in_round = rw (ne_eqb (r % 2) 0 odd, ne_eqb r 1 later) refl
 
-      pub round-old : r - 1 ≤ m → 20 ≡ refusal (timeChecks s t)
-      round-old h = sym (passes 19 _ in-round ∙ refuses 20 _ (rw (last-chain s.settings.ceiling.0 t s.blocks) (le-leb (r - 1) m h)))
+      pub round-old : r - 1 ≤ m → 20 ≡ refusal (time_checks s t)
+      round-old h = sym (passes 19 _ in_round ∙ refuses 20 _ (rw (last-chain s.settings.ceiling.0 t s.blocks) (le-leb (r - 1) m h)))
 
       module _ (above : m < r - 1) where
-        new-round : refusal (timeChecks s t) ≡ refusal ((unknown s.settings (view s t) r, 8) ∷ [])
-        new-round = passes 19 _ in-round ∙ passes 20 _ (rw (last-chain s.settings.ceiling.0 t s.blocks) (lt-leb (r - 1) m above))
+        new-round : refusal (time_checks s t) ≡ refusal ((unknown s.settings (view s t) r, 8) ∷ [])
+        new-round = passes 19 _ in_round ∙ passes 20 _ (rw (last-chain s.settings.ceiling.0 t s.blocks) (lt-leb (r - 1) m above))
 
-        pub round-unknown : known_by s.settings chain r ≡ false → 8 ≡ refusal (timeChecks s t)
-        round-unknown e = sym (new-round ∙ refuses 8 _ (unknown-not s.settings (view s t) r ∙ ap not e))
+        pub round-unknown : known_by s.settings chain r ≡ false → 8 ≡ refusal (time_checks s t)
+        round-unknown e = sym (new-round ∙ refuses 8 _ (unknown_not s.settings (view s t) r ∙ ap not e))
 
-        pub round-timely : known_by s.settings chain r ≡ true → 0 ≡ refusal (timeChecks s t)
-        round-timely e = sym (new-round ∙ passes 8 _ (unknown-not s.settings (view s t) r ∙ ap not e) ∙ passes-all)
+        pub round-timely : known_by s.settings chain r ≡ true → 0 ≡ refusal (time_checks s t)
+        round-timely e = sym (new-round ∙ passes 8 _ (unknown_not s.settings (view s t) r ∙ ap not e) ∙ passes-all)
 
   -- what they let pass
   pub record Timely : Type 0 where
@@ -75,7 +75,7 @@ module _ (s : State) (t : List ℕ) where
     pub above : m < r - 1
     pub few : s.blocks ≤ m
 
-  pub timely : Formed s t → refusal (timeChecks s t) ≡ 0 → Timely
+  pub timely : Formed s t → refusal (time_checks s t) ≡ 0 → Timely
   timely f e =
       let n = s.settings.ceiling.0 in
       let p = cleared _ 19 _ (omega arith) e in
@@ -89,43 +89,43 @@ module _ (s : State) (t : List ℕ) where
 
   module _ (f : Formed s t) (from : 1 < r) where
     abbrev a : ℕ
-    a = leaderOn s t (r - 1)
+    a = leader_on s t (r - 1)
 
     abbrev w : List ℕ
-    w = committeeOn s t r
+    w = committee_on s t r
 
-    anchor : anchorAt (view s t) (r - 1) ≡ cond (isIn (heldSet t (r - 1)) a) (some (contentAt t a (r - 1))) none
+    anchor : anchor_at (view s t) (r - 1) ≡ cond (is_in (held_set t (r - 1)) a) (some (content_at t a (r - 1))) none
     anchor = anchor-on s t (r - 1) (omega arith) (omega (arith, f.numbers.round-to))
 
     -- the leader in the list of leaders
-    pub led_on : (l : List ℕ) → l ≡ leadersFor s t → m < r - 1 → get_or l (r - 1) 0 ≡ a
+    pub led_on : (l : List ℕ) → l ≡ leaders_for s t → m < r - 1 → get_or l (r - 1) 0 ≡ a
     led_on l e h = ap (λ (z : List ℕ). get_or z (r - 1) 0) e ∙ leaders-on s t (r - 1) h (omega arith) (omega (arith, f.numbers.round-to, f.settings.ceiling-to))
 
-    pub anchor-none : isIn (heldSet t (r - 1)) a ≡ false → 21 ≡ refusal (voteChecks s t)
+    pub anchor-none : is_in (held_set t (r - 1)) a ≡ false → 21 ≡ refusal (vote_checks s t)
     anchor-none e = rw (anchor, e) (sym (refuses 21 _ refl))
 
-    module _ (led : isIn (heldSet t (r - 1)) a ≡ true) where
-      pub anchor-led : anchorAt (view s t) (r - 1) ≡ some (contentAt t a (r - 1))
+    module _ (led : is_in (held_set t (r - 1)) a ≡ true) where
+      pub anchor-led : anchor_at (view s t) (r - 1) ≡ some (content_at t a (r - 1))
       anchor-led = anchor ∙ rw led refl
 
       abbrev bound : ℕ
-      bound = boundOf s.settings.margin (total 16 (weightIn w))
+      bound = bound_of s.settings.margin (total 16 (weight_in w))
 
-      weighing : refusal (voteChecks s t) ≡ refusal ((not (ltb bound (votesFor t w r a)), 22) ∷ [])
+      weighing : refusal (vote_checks s t) ≡ refusal ((not (ltb bound (votes_for t w r a)), 22) ∷ [])
       weighing =
           let e : suc (r - 1) ≡ r = omega arith in
           rw (anchor-led, rw e at (unvoted-on s t a (r - 1) (omega (arith, f.numbers.round-to)))) refl
 
-      pub votes-few : votesFor t w r a ≤ bound → 22 ≡ refusal (voteChecks s t)
-      votes-few h = sym (weighing ∙ refuses 22 _ (rw (le-ltb bound (votesFor t w r a) h) refl))
+      pub votes-few : votes_for t w r a ≤ bound → 22 ≡ refusal (vote_checks s t)
+      votes-few h = sym (weighing ∙ refuses 22 _ (rw (le-ltb bound (votes_for t w r a) h) refl))
 
-      pub votes-enough : bound < votesFor t w r a → 0 ≡ refusal (voteChecks s t)
-      votes-enough h = sym (weighing ∙ passes 22 _ (rw (lt-ltb bound (votesFor t w r a) h) refl) ∙ passes-all)
+      pub votes-enough : bound < votes_for t w r a → 0 ≡ refusal (vote_checks s t)
+      votes-enough h = sym (weighing ∙ passes 22 _ (rw (lt-ltb bound (votes_for t w r a) h) refl) ∙ passes-all)
 
     -- what they let pass: the leader's certificate is held
-    pub voted : refusal (voteChecks s t) ≡ 0 → isIn (heldSet t (r - 1)) a ≡ true
-    voted e = go (isIn (heldSet t (r - 1)) a) refl
+    pub voted : refusal (vote_checks s t) ≡ 0 → is_in (held_set t (r - 1)) a ≡ true
+    voted e = go (is_in (held_set t (r - 1)) a) refl
       where
-        go : (b : Bool) → isIn (heldSet t (r - 1)) a ≡ b → b ≡ true
+        go : (b : Bool) → is_in (held_set t (r - 1)) a ≡ b → b ≡ true
         go true h = refl
         go false h = absurd (omega (arith, anchor-none h))

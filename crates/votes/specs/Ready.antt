@@ -3,10 +3,10 @@ use Rattle.std.specs.Prelude.{◌≡◌, List, ℕ, ◌-◌, ◌<◌, replicate}
 use Rattle.base.specs.Checks.{refusal}
 use Rattle.store.specs.Table.{Row}
 use Rattle.committee.specs.Totals.{TotalBounded}
-use Rattle.changes.specs.BlockChanges.{lastRound}
+use Rattle.running.specs.BlockChanges.{last_round}
 use Rattle.state.specs.declared.State.{State}
 use Rattle.state.specs.Formed.{Formed}
-use Rattle.votes.specs.Checks.{timeChecks, committeeOn, leadersFor}
+use Rattle.votes.specs.Checks.{time_checks, committee_on, leaders_for}
 
 -- round r is there, a is a member, and the weights of w can be added
 pub record VotesReady (t w : List ℕ) (r a : ℕ) : Type 0 where
@@ -18,13 +18,13 @@ pub record VotesReady (t w : List ℕ) (r a : ℕ) : Type 0 where
 pub record AnchorReady (s : State) (t l w : List ℕ) : Type 0 where
   pub formed : Formed s t
   pub from : 1 < s.round.0
-  pub above : lastRound t s.blocks < s.round.0 - 1
-  pub leaders : l ≡ leadersFor s t
-  pub committee : w ≡ committeeOn s t s.round.0
+  pub above : last_round t s.blocks < s.round.0 - 1
+  pub leaders : l ≡ leaders_for s t
+  pub committee : w ≡ committee_on s t s.round.0
   pub bounded : TotalBounded w
 
 -- the state passes the checks of time, and l has no leaders yet
 pub record LeadersWanted (s : State) (t l : List ℕ) : Type 0 where
   pub formed : Formed s t
-  pub in-time : refusal (timeChecks s t) ≡ 0
+  pub in_time : refusal (time_checks s t) ≡ 0
   pub none : l ≡ replicate 1025 16

@@ -1,17 +1,17 @@
 // The votes for an anchor: held certificates of the round above that name its author as previous.
 ghost use Rattle.std.specs.Prelude.{◌≡◌, cond, ◌<◌};
 ghost use Rattle.store.specs.Table.{Within};
-ghost use Rattle.sheet.specs.Ranges.{weightIn};
-ghost use Rattle.votes.specs.Votes.{votesAt, votesFor};
+ghost use Rattle.terms.specs.Ranges.{weight_in};
+ghost use Rattle.votes.specs.Votes.{votes_at, votes_for};
 ghost use Rattle.votes.specs.Ready.{VotesReady};
 
-use sheet::Weight;
+use terms::sheet::Weight;
 use terms::{Member, Round};
 
 // The weight of i, if its certificate of round r is held and names a.
 pub fn vote_of(t: &[u32], w: &[u64; 16], r: Round, a: Member, i: Member) -> Weight
     requires { Within t.now i.0 r.0 × (a.0 < 16) }
-    ensures { result.0 ≡ cond (votesAt t.now r.0 a.0 i.0) (weightIn w.now i.0) 0 }
+    ensures { result.0 ≡ cond (votes_at t.now r.0 a.0 i.0) (weight_in w.now i.0) 0 }
 {
     if !store::held(t, i, r) {
         return Weight(0);
@@ -25,7 +25,7 @@ pub fn vote_of(t: &[u32], w: &[u64; 16], r: Round, a: Member, i: Member) -> Weig
 // The weight of all votes of round r for a.
 pub fn votes_for(t: &[u32], w: &[u64; 16], r: Round, a: Member) -> Weight
     requires { VotesReady t.now w.now r.0 a.0 }
-    ensures { result.0 ≡ votesFor t.now w.now r.0 a.0 }
+    ensures { result.0 ≡ votes_for t.now w.now r.0 a.0 }
 {
     let mut sum: u64 = 0;
     for i in 0..16u32 {

@@ -2,16 +2,19 @@
 ghost use Rattle.std.specs.Prelude.{◌≡◌};
 ghost use Rattle.base.specs.Checks.{refusal};
 ghost use Rattle.state.specs.Formed.{Formed};
-ghost use Rattle.votes.specs.Checks.{timeChecks, voteChecks, leadersFor};
+ghost use Rattle.votes.specs.Checks.{time_checks, vote_checks, leaders_for};
 ghost use Rattle.votes.specs.Ready.{AnchorReady, LeadersWanted};
 
+use blocks::histories;
+use committee::weighing;
+use running::{bonded, leaders};
 use state::State;
 use terms::{Member, Round};
 
 // Checks 19, 20, 8.
 pub fn time_refusal(s: State, t: &[u32]) -> u32
     requires { Formed s t.now }
-    ensures { result ≡ refusal (timeChecks s t.now) }
+    ensures { result ≡ refusal (time_checks s t.now) }
 {
     let r = s.round.0;
     if r % 2 == 0 {
@@ -33,7 +36,7 @@ pub fn time_refusal(s: State, t: &[u32]) -> u32
 // Checks 21, 22, where l has the leaders by round and w is the committee of the present round.
 pub fn vote_refusal(s: State, t: &[u32], l: &[u32; 1025], w: &[u64; 16]) -> u32
     requires { AnchorReady s t.now l.now w.now }
-    ensures { result ≡ refusal (voteChecks s t.now) }
+    ensures { result ≡ refusal (vote_checks s t.now) }
 {
     let r = s.round;
     let top = Round(r.0 - 1);
@@ -52,7 +55,7 @@ pub fn vote_refusal(s: State, t: &[u32], l: &[u32; 1025], w: &[u64; 16]) -> u32
 // The same of a state that passes the checks of time: l, of 16s, gets the leaders by round.
 pub fn anchor_refusal(s: State, t: &[u32], l: &mut [u32; 1025]) -> u32
     requires { LeadersWanted s t.now l.old }
-    ensures { (result ≡ refusal (voteChecks s t.now)) × (l.new ≡ leadersFor s t.now) }
+    ensures { (result ≡ refusal (vote_checks s t.now)) × (l.new ≡ leaders_for s t.now) }
 {
     let last = bonded::last_round(t, s.blocks);
     let top = Round(s.round.0 - 1);

@@ -1,3 +1,5 @@
+pub mod PasteLaws
+pub mod BodyLaws
 pub mod ReadingLaws
 pub mod PutLaws
 pub mod SameLaws

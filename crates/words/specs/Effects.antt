@@ -1,7 +1,7 @@
 -- A bond's effect as thirty-three words: sixteen shares before, sixteen after, the largest difference.
 use Rattle.std.specs.Prelude.{List, [], ◌∷◌, ◌++◌, ℕ}
-use Rattle.effects.specs.declared.Effect.{Effect}
-use Rattle.bodies.specs.Words.{sixteen}
+use Rattle.committee.specs.declared.effects.Effect.{Effect}
+use Rattle.words.specs.Words.{sixteen}
 
-unfoldable pub effectWords : Effect → List ℕ
-effectWords x = sixteen x.before ++ sixteen x.after ++ (x.largest ∷ [])
+unfoldable pub effect_words : Effect → List ℕ
+effect_words x = sixteen x.before ++ sixteen x.after ++ (x.largest ∷ [])

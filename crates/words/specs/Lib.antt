@@ -1,3 +1,6 @@
+pub mod Lengths
+pub mod Words
+pub mod Bodies
 pub mod Proposals
 pub mod Sheets
 pub mod States

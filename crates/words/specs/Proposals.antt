@@ -2,22 +2,22 @@
 use Rattle.std.specs.Prelude.{Bool, ◌&&◌, List, [], ◌∷◌, ◌++◌, ℕ, length, leb, ltb}
 use Rattle.terms.specs.declared.Proposal.{Proposal}
 use Rattle.terms.specs.declared.Certificate.{Certificate}
-use Rattle.bodies.specs.Lengths.{proposalLength, certificateLength}
-use Rattle.bodies.specs.Words.{word}
-use Rattle.bodies.specs.Bodies.{bodyReads, bodyIn, bodyWords}
+use Rattle.words.specs.Lengths.{proposal_length, certificate_length}
+use Rattle.words.specs.Words.{word}
+use Rattle.words.specs.Bodies.{body_reads, body_in, body_words}
 
-unfoldable pub proposalReads : List ℕ → Bool
-proposalReads w = leb proposalLength (length w) && bodyReads w 2
+unfoldable pub proposal_reads : List ℕ → Bool
+proposal_reads w = leb proposal_length (length w) && body_reads w 2
 
-unfoldable pub proposalIn : List ℕ → Proposal
-proposalIn w = record { author = record { 0 = word w 0 }; round = record { 0 = word w 1 }; body = bodyIn w 2 }
+unfoldable pub proposal_in : List ℕ → Proposal
+proposal_in w = record { author = record { 0 = word w 0 }; round = record { 0 = word w 1 }; body = body_in w 2 }
 
-unfoldable pub certificateReads : List ℕ → Bool
-certificateReads w = leb certificateLength (length w) && (ltb (word w proposalLength) 65536 && proposalReads w)
+unfoldable pub certificate_reads : List ℕ → Bool
+certificate_reads w = leb certificate_length (length w) && (ltb (word w proposal_length) 65536 && proposal_reads w)
 
-unfoldable pub certificateIn : List ℕ → Certificate
-certificateIn w = record { proposal = proposalIn w; endorsers = word w proposalLength }
+unfoldable pub certificate_in : List ℕ → Certificate
+certificate_in w = record { proposal = proposal_in w; endorsers = word w proposal_length }
 
 -- a held certificate as it is read: the seventeen words of the certificate, then the number of its block
-unfoldable pub heldWords : Proposal → ℕ → ℕ → List ℕ
-heldWords p endorsers block = (p.author.0 ∷ p.round.0 ∷ []) ++ bodyWords p.body ++ (endorsers ∷ block ∷ [])
+unfoldable pub held_words : Proposal → ℕ → ℕ → List ℕ
+held_words p endorsers block = (p.author.0 ∷ p.round.0 ∷ []) ++ body_words p.body ++ (endorsers ∷ block ∷ [])

@@ -1,17 +1,18 @@
 // What a host's words mean: proposals, certificates, sheets and states as words, read and put.
 #![tactic(auto)]
 
+pub mod bodies;
 pub mod proposals;
 pub mod sheets;
 pub mod states;
 
 ghost use Rattle.std.specs.Prelude.{◌≡◌, ◌+◌, ◌≤◌, length};
 ghost use Rattle.std.proofs.Math.Seq.{paste};
-ghost use Rattle.bodies.specs.Lengths.{effectLength};
-ghost use Rattle.bodies.specs.Words.{sixteen, Narrow};
-ghost use Rattle.words.specs.Effects.{effectWords};
+ghost use Rattle.words.specs.Lengths.{effect_length};
+ghost use Rattle.words.specs.Words.{sixteen, Narrow};
+ghost use Rattle.words.specs.Effects.{effect_words};
 
-use effects::Effect;
+use committee::effects::Effect;
 
 // Puts sixteen weights from `at` on, a word each.
 pub fn put_weights(w: &mut [u32], at: usize, x: [u64; 16])
@@ -35,8 +36,8 @@ fn put_shares(w: &mut [u32], at: usize, x: [u32; 16])
 
 // Puts a bond's effect.
 pub fn put_effect(w: &mut [u32], x: Effect)
-    requires { effectLength ≤ length w.old }
-    ensures { w.new ≡ paste w.old 0 (effectWords x) effectLength }
+    requires { effect_length ≤ length w.old }
+    ensures { w.new ≡ paste w.old 0 (effect_words x) effect_length }
 {
     let before = x.before;
     let after = x.after;

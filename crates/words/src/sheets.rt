@@ -1,15 +1,15 @@
 // A sheet as words: read.
 ghost use Rattle.std.specs.Prelude.{◌≡◌, ◌<◌, ◌≤◌, length};
 ghost use Rattle.base.specs.Folds.{tab};
-ghost use Rattle.bodies.specs.Lengths.{sheetLength};
-ghost use Rattle.words.specs.Sheets.{sheetReads, settingIn, cellIn, sheetIn};
+ghost use Rattle.words.specs.Lengths.{sheet_length};
+ghost use Rattle.words.specs.Sheets.{sheet_reads, setting_in, cell_in, sheet_in};
 
-use bodies::lengths::SHEET;
-use sheet::{Cell, Rights, Setting, Sheet};
+use crate::bodies::lengths::SHEET;
+use terms::sheet::{Cell, Rights, Setting, Sheet};
 
 // Can the words be read as a sheet?
 pub fn sheet_reads(w: &[u32]) -> bool
-    ensures { result ≡ sheetReads w.now }
+    ensures { result ≡ sheet_reads w.now }
 {
     if w.len() < SHEET {
         return false;
@@ -24,8 +24,8 @@ pub fn sheet_reads(w: &[u32]) -> bool
 
 // Setting k of the words: blank, or written with the value.
 fn setting_in(w: &[u32], k: usize) -> Setting
-    requires { (sheetLength ≤ length w.now) × (k < 20) }
-    ensures { result ≡ settingIn w.now k }
+    requires { (sheet_length ≤ length w.now) × (k < 20) }
+    ensures { result ≡ setting_in w.now k }
 {
     if w[k * 2] == 0 {
         return Setting::Blank;
@@ -35,8 +35,8 @@ fn setting_in(w: &[u32], k: usize) -> Setting
 
 // The sixteen weights of the words.
 fn cells_in(w: &[u32]) -> [Cell; 16]
-    requires { sheetLength ≤ length w.now }
-    ensures { result ≡ tab (cellIn w.now) 16 }
+    requires { sheet_length ≤ length w.now }
+    ensures { result ≡ tab (cell_in w.now) 16 }
 {
     let blank = Cell {
         setting: Setting::Blank,
@@ -53,8 +53,8 @@ fn cells_in(w: &[u32]) -> [Cell; 16]
 
 // The sheet that the words give, and the rights beside them.
 pub fn sheet_in(w: &[u32], rights: Rights) -> Sheet
-    requires { sheetLength ≤ length w.now }
-    ensures { result ≡ sheetIn w.now rights }
+    requires { sheet_length ≤ length w.now }
+    ensures { result ≡ sheet_in w.now rights }
 {
     Sheet {
         lookback: setting_in(w, 0),

@@ -1,19 +1,20 @@
 // A member's state as words: read, and put.
 ghost use Rattle.std.specs.Prelude.{◌≡◌, cond, ◌≤◌, length};
 ghost use Rattle.std.proofs.Math.Seq.{paste};
-ghost use Rattle.bodies.specs.Lengths.{stateLength};
-ghost use Rattle.bodies.specs.Words.{Narrow};
-ghost use Rattle.words.specs.States.{stateReads, weightsIn, settingsIn, ownBodyIn, stateIn, ownBody, stateWords};
+ghost use Rattle.words.specs.Lengths.{state_length};
+ghost use Rattle.words.specs.Words.{Narrow};
+ghost use Rattle.words.specs.States.{state_reads, weights_in, settings_in, own_body_in, state_in, own_body, state_words};
 ghost use Rattle.words.specs.Readings.{StateRead};
 
-use bodies::lengths::STATE;
-use sheet::{Rights, Settings};
+use crate::bodies;
+use crate::bodies::lengths::STATE;
 use state::State;
+use terms::sheet::{Rights, Settings};
 use terms::{Body, Member, Round};
 
 // Can the words be read as a state?
 pub fn state_reads(w: &[u32]) -> bool
-    ensures { result ≡ stateReads w.now }
+    ensures { result ≡ state_reads w.now }
 {
     if w.len() < STATE {
         return false;
@@ -36,8 +37,8 @@ fn wide(x: u32) -> u64
 
 // The sixteen starting weights that the words give.
 fn weights_in(w: &[u32]) -> [u64; 16]
-    requires { stateLength ≤ length w.now }
-    ensures { result ≡ weightsIn w.now }
+    requires { state_length ≤ length w.now }
+    ensures { result ≡ weights_in w.now }
 {
     let mut x = [0u64; 16];
     for i in 0..16usize {
@@ -48,8 +49,8 @@ fn weights_in(w: &[u32]) -> [u64; 16]
 
 // The settings that the words give.
 fn settings_in(w: &[u32]) -> Settings
-    requires { stateLength ≤ length w.now }
-    ensures { result ≡ settingsIn w.now }
+    requires { state_length ≤ length w.now }
+    ensures { result ≡ settings_in w.now }
 {
     Settings {
         lookback: w[1],
@@ -63,7 +64,7 @@ fn settings_in(w: &[u32]) -> Settings
 // The body of the proposal that the words give, none where there is no proposal.
 fn own_body_in(w: &[u32]) -> Body
     requires { StateRead w.now }
-    ensures { result ≡ ownBodyIn w.now }
+    ensures { result ≡ own_body_in w.now }
 {
     if w[21] == 0 {
         return terms::bare_body(0);
@@ -74,7 +75,7 @@ fn own_body_in(w: &[u32]) -> Body
 // The state that the words give.
 pub fn state_in(w: &[u32]) -> State
     requires { StateRead w.now }
-    ensures { result ≡ stateIn w.now }
+    ensures { result ≡ state_in w.now }
 {
     let settings = settings_in(w);
     let body = own_body_in(w);
@@ -98,7 +99,7 @@ fn flag(p: bool) -> u32
 
 // The body of the proposal in a state, none where there is no proposal.
 fn own_body(s: State) -> Body
-    ensures { result ≡ ownBody s }
+    ensures { result ≡ own_body s }
 {
     if s.proposing {
         return s.body;
@@ -108,8 +109,8 @@ fn own_body(s: State) -> Body
 
 // Puts a state.
 pub fn put_state(w: &mut [u32], s: State)
-    requires { (stateLength ≤ length w.old) × Narrow s.settings.weights }
-    ensures { w.new ≡ paste w.old 0 (stateWords s) stateLength }
+    requires { (state_length ≤ length w.old) × Narrow s.settings.weights }
+    ensures { w.new ≡ paste w.old 0 (state_words s) state_length }
 {
     let settings = s.settings;
     let weights = settings.weights;

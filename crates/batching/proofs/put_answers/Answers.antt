@@ -6,13 +6,13 @@ use lib.ListN.{length, length-set}
 use lib.Seq.{paste, paste-zero}
 use borrow.Author.Tests.{eq-eqb, ne_eqb}
 use Rattle.base.proofs.PasteLaws.{paste-front}
-use Rattle.checks.specs.Answers.{ifAccepted}
+use Rattle.state.specs.Answers.{if_accepted}
 use Rattle.batching.proofs.put_answers.Invariants.{AnswersPut}
 use borrow.Author.Rules.{rules}
 use Rattle.batching.proofs.put_answers.Goals as goal
 
 pub returns-then-refusal-ne0 : goal.returns-then-refusal-ne0
-unfolding ifAccepted
+unfolding if_accepted
 returns-then-refusal-ne0 c = (refl, rw (ne_eqb _ _ c.if-refusal-ne0.true) refl)
 
 pub loop-i-init : goal.loop-i-init
@@ -41,7 +41,7 @@ loop-i-preserved c = let f = c.requires c.if-refusal-ne0.false in
     }
 
 pub returns : goal.returns
-unfolding ifAccepted
+unfolding if_accepted
 returns c = let z = c.if-refusal-ne0.false in
     let e : c.loop-i.i ≡ c.args.w.stage.count = omega (arith, c.loop-i.invariant.count) in
     (sym z, rw (eq-eqb _ _ z, ← e) c.loop-i.invariant.words)

@@ -6,7 +6,7 @@ use lib.ListN.{length, length-set}
 use lib.Seq.{paste, paste-zero}
 use borrow.Author.Tests.{eq-eqb, ne_eqb}
 use Rattle.base.proofs.PasteLaws.{paste-front}
-use Rattle.checks.specs.Answers.{ifAccepted}
+use Rattle.state.specs.Answers.{if_accepted}
 use Rattle.batching.proofs.put_answers.Given as goal
 
 -- the first i answers are put

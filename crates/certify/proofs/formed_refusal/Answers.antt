@@ -1,7 +1,7 @@
 use mathlib.Core.Path.{refl, sym, ◌∙◌}
 use borrow.Author.Tests.{not-true, not-false}
 use Rattle.base.proofs.CheckLaws.{refuses, passes}
-use Rattle.checks.proofs.PlaceLaws.{own-within, certify-none, certify-some}
+use Rattle.state.proofs.PlaceLaws.{own-within, certify-none, certify-some}
 use borrow.Author.Rules.{rules}
 use Rattle.certify.proofs.formed_refusal.Goals as goal
 

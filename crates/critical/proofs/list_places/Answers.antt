@@ -3,7 +3,7 @@ use mathlib.Core.List.{List}
 use mathlib.Core.Logic.{inl, inr}
 use Prim.Native.Nat.{ℕ}
 use native.Mathlib.Omega.{arith}
-use Rattle.putting.proofs.PutLaws.{puts_then, puts-as}
+use Rattle.base.proofs.PutLaws.{puts_then, puts_as}
 use Rattle.critical.specs.Answers.{Weighs}
 use Rattle.critical.proofs.PlaceLaws.{places-words}
 use borrow.Author.Rules.{rules}
@@ -24,4 +24,4 @@ list_row-requires c = let p = c.list_row-row.ensures.1 in (
 pub returns : goal.returns
 returns c = let s = c.args in
     let i = c.list_row-row.ensures.0 in
-    (c.list_row.ensures.0 ∙ i, puts-as (places-words s.s s.t.now) (omega arith) (puts_then c.list_row-row.ensures.1 (rw i at c.list_row.ensures.1)))
+    (c.list_row.ensures.0 ∙ i, puts_as (places-words s.s s.t.now) (omega arith) (puts_then c.list_row-row.ensures.1 (rw i at c.list_row.ensures.1)))

@@ -4,8 +4,8 @@ use Prim.Native.Nat.{ℕ, ◌-◌, ◌*◌}
 use native.Mathlib.Omega.{arith}
 use lib.ListN.{length}
 use Rattle.state.specs.declared.State.{State}
-use Rattle.putting.proofs.PutLaws.{Putting, puts_then, puts_none, puts-as}
-use Rattle.critical.specs.Critical.{placeWords, criticalIn}
+use Rattle.base.proofs.PutLaws.{Putting, puts_then, puts_none, puts_as}
+use Rattle.critical.specs.Critical.{place_words, critical_in}
 use Rattle.critical.specs.Answers.{Weighs}
 use Rattle.critical.proofs.PlaceLaws.{row-none, row_more}
 use Rattle.critical.proofs.list_row.Invariants.{Listing}
@@ -31,7 +31,7 @@ loop-i-preserved c = let l = c.loop-i in
           record {
             so_far = omega arith;
             kept = c.list_place-to.auto.list ∙ p.kept;
-            puts = puts-as (row_more _ _ _ l.i) (omega arith) (puts_then p.puts (rw l.invariant.same at c.list_place-to.ensures.1));
+            puts = puts_as (row_more _ _ _ l.i) (omega arith) (puts_then p.puts (rw l.invariant.same at c.list_place-to.ensures.1));
           };
     }
 

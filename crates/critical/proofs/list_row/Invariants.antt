@@ -4,8 +4,8 @@ use Prim.Native.Nat.{ℕ, ◌-◌, ◌*◌}
 use native.Mathlib.Omega.{arith}
 use lib.ListN.{length}
 use Rattle.state.specs.declared.State.{State}
-use Rattle.putting.proofs.PutLaws.{Putting, puts_then, puts_none, puts-as}
-use Rattle.critical.specs.Critical.{placeWords, criticalIn}
+use Rattle.base.proofs.PutLaws.{Putting, puts_then, puts_none, puts_as}
+use Rattle.critical.specs.Critical.{place_words, critical_in}
 use Rattle.critical.specs.Answers.{Weighs}
 use Rattle.critical.proofs.PlaceLaws.{row-none, row_more}
 use Rattle.critical.proofs.list_row.Given as goal
@@ -13,7 +13,7 @@ use Rattle.critical.proofs.list_row.Given as goal
 -- the members before i are listed, and the table is as it was
 pub record Listing (s : State) (t₀ : List ℕ) (q : ℕ) (list₀ : List ℕ) (at : ℕ) (t list : List ℕ) (to i : ℕ) : Type 0 where
   pub same : t ≡ t₀
-  pub listed : Putting list₀ list at to (placeWords (criticalIn s t₀ q i)) (2 * i) 16 i
+  pub listed : Putting list₀ list at to (place_words (critical_in s t₀ q i)) (2 * i) 16 i
 
 abbrev pub invariant-loop-i : goal.invariant-loop-i
 invariant-loop-i l = Listing l.s l.initial.t l.q.0 l.initial.list l.at l.t l.list l.to l.i

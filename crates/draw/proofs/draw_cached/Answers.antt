@@ -2,7 +2,7 @@ use mathlib.Core.Path.{◌≡◌, sym, ◌∙◌}
 use borrow.Author.Tests.{not-true, not-false}
 use Rattle.state.specs.Formed.{Formed}
 use Rattle.state.proofs.FormedLaws.{formed}
-use Rattle.draw.specs.Draw.{drawnBody}
+use Rattle.draw.specs.Draw.{drawn_body}
 use Rattle.draw.proofs.PassedLaws.{first-row}
 use Rattle.draw.proofs.AnsweredLaws.{draw-unformed, draw-accepted, draw-refused}
 use borrow.Author.Rules.{rules}
@@ -20,11 +20,11 @@ draw-requires c = let well : let a = c.args in Formed a.s a.t.now = formed _ _ (
     let f = well in (first-row _ _ f, f.queues)
 
 pub returns-in-Accepted : goal.returns-in-Accepted
-unfolding drawnBody
-returns-in-Accepted c = let drawn-as-told : let a = c.args in c.drawn_body-body.result ≡ drawnBody a.s a.t.now a.previous = c.drawn_body-body.ensures in
+unfolding drawn_body
+returns-in-Accepted c = let drawn-as-told : let a = c.args in c.drawn_body-body.result ≡ drawn_body a.s a.t.now a.previous = c.drawn_body-body.ensures in
     draw-accepted _ _ _ (drawn-as-told) c.propose_cached-x.ensures c.in-Accepted.is c.draw.ensures.1
 
 pub returns-in-Refused : goal.returns-in-Refused
-unfolding drawnBody
-returns-in-Refused c = let drawn-as-told : let a = c.args in c.drawn_body-body.result ≡ drawnBody a.s a.t.now a.previous = c.drawn_body-body.ensures in
+unfolding drawn_body
+returns-in-Refused c = let drawn-as-told : let a = c.args in c.drawn_body-body.result ≡ drawn_body a.s a.t.now a.previous = c.drawn_body-body.ensures in
     draw-refused _ _ _ (drawn-as-told) c.propose_cached-x.ensures c.in-Refused.is

@@ -1,15 +1,15 @@
 use mathlib.Core.Path.{sym, ◌∙◌}
-use Rattle.checks.proofs.AnswerLaws.{written-accepted, written-refused}
-use Rattle.checks.proofs.PlaceLaws.{fits-within}
+use Rattle.state.proofs.AnswerLaws.{written-accepted, written-refused}
+use Rattle.state.proofs.PlaceLaws.{fits-within}
 use Rattle.endorse.proofs.PassedLaws.{EndorsePassed, endorse-passed}
-use Rattle.endorse.specs.Endorse.{endorseOutcome, endorseTable}
+use Rattle.endorse.specs.Endorse.{endorse_outcome, endorse_table}
 use Rattle.endorse.proofs.endorse_cached.Goals as goal
 
 pub endorse_refusal-n-requires : goal.endorse_refusal-n-requires
 endorse_refusal-n-requires c = c.requires
 
 pub returns-then-n-ne0 : goal.returns-then-n-ne0
-unfolding endorseOutcome endorseTable
+unfolding endorse_outcome endorse_table
 returns-then-n-ne0 c = written-refused c.endorse_refusal-n.ensures _ _ _ _ c.if-n-ne0.true
 
 pub set_endorsed-requires : goal.set_endorsed-requires
@@ -17,5 +17,5 @@ set_endorsed-requires c = let passed : let a = c.args in EndorsePassed a.s a.t.n
     let k = passed in fits-within _ _ _ k.formed k.fits
 
 pub returns : goal.returns
-unfolding endorseOutcome endorseTable
+unfolding endorse_outcome endorse_table
 returns c = written-accepted c.endorse_refusal-n.ensures _ _ _ _ c.set_endorsed.ensures c.if-n-ne0.false

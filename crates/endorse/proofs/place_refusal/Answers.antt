@@ -5,10 +5,10 @@ use borrow.Author.Tests.{eq-eqb, ne_eqb}
 use Rattle.base.specs.Checks.{refusal}
 use Rattle.base.proofs.CheckLaws.{refuses, passes}
 use Rattle.agreement.specs.Dag.{is_held}
-use Rattle.terms.specs.Proposals.{contentOf}
+use Rattle.terms.specs.Proposals.{content_of}
 use Rattle.rules.specs.Calls.{endorsing}
 use Rattle.state.specs.View.{view}
-use Rattle.checks.proofs.PlaceLaws.{fits-within, place-taken}
+use Rattle.state.proofs.PlaceLaws.{fits-within, place-taken}
 use Rattle.endorse.proofs.place_refusal.Goals as goal
 
 -- ---- 14
@@ -24,7 +24,7 @@ pub is_taken-requires : goal.is_taken-requires
 is_taken-requires c = fits-within _ _ _ c.requires.formed c.requires.fits
 
 pub returns-then-is_taken : goal.returns-then-is_taken
-returns-then-is_taken c = let whole = let a = c.args in drop 4 (endorsing a.s.settings a.s.own.0 (view a.s a.t.now) (contentOf a.p)) in
+returns-then-is_taken c = let whole = let a = c.args in drop 4 (endorsing a.s.settings a.s.own.0 (view a.s a.t.now) (content_of a.p)) in
     let past₁ : refusal (whole) ≡ refusal (drop 1 (whole)) = passes _ _ (ne_eqb _ _ c.if-p-s.false) in
     let by-taken : let a = c.args in let v = view a.s a.t.now in let p = a.p in
     (is_held (v.dag p.author.0 p.round.0) || v.endorsed p.author.0 p.round.0) ≡ c.is_taken.result = place-taken c.args.s c.args.t.now c.args.p c.requires.fits ∙ sym c.is_taken.ensures in
@@ -34,7 +34,7 @@ pub is_unknown-requires : goal.is_unknown-requires
 is_unknown-requires c = let k = c.requires in (k.formed, k.fits.from)
 
 pub returns-then-is_unknown : goal.returns-then-is_unknown
-returns-then-is_unknown c = let whole = let a = c.args in drop 4 (endorsing a.s.settings a.s.own.0 (view a.s a.t.now) (contentOf a.p)) in
+returns-then-is_unknown c = let whole = let a = c.args in drop 4 (endorsing a.s.settings a.s.own.0 (view a.s a.t.now) (content_of a.p)) in
     let past₁ : refusal (whole) ≡ refusal (drop 1 (whole)) = passes _ _ (ne_eqb _ _ c.if-p-s.false) in
     let by-taken : let a = c.args in let v = view a.s a.t.now in let p = a.p in
     (is_held (v.dag p.author.0 p.round.0) || v.endorsed p.author.0 p.round.0) ≡ c.is_taken.result = place-taken c.args.s c.args.t.now c.args.p c.requires.fits ∙ sym c.is_taken.ensures in
@@ -45,7 +45,7 @@ pub previous_refusal-requires : goal.previous_refusal-requires
 previous_refusal-requires c = let k = c.requires in (record { formed = k.formed; from = k.fits.from; to = k.fits.to }, k.caches)
 
 pub returns : goal.returns
-returns c = let whole = let a = c.args in drop 4 (endorsing a.s.settings a.s.own.0 (view a.s a.t.now) (contentOf a.p)) in
+returns c = let whole = let a = c.args in drop 4 (endorsing a.s.settings a.s.own.0 (view a.s a.t.now) (content_of a.p)) in
     let past₁ : refusal (whole) ≡ refusal (drop 1 (whole)) = passes _ _ (ne_eqb _ _ c.if-p-s.false) in
     let by-taken : let a = c.args in let v = view a.s a.t.now in let p = a.p in
     (is_held (v.dag p.author.0 p.round.0) || v.endorsed p.author.0 p.round.0) ≡ c.is_taken.result = place-taken c.args.s c.args.t.now c.args.p c.requires.fits ∙ sym c.is_taken.ensures in

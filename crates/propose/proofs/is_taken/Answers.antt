@@ -1,5 +1,5 @@
 use mathlib.Core.Path.{refl, sym, ◌∙◌}
-use Rattle.checks.proofs.PlaceLaws.{own-within, own-taken}
+use Rattle.state.proofs.PlaceLaws.{own-within, own-taken}
 use Rattle.propose.proofs.is_taken.Goals as goal
 
 pub returns-then-s : goal.returns-then-s

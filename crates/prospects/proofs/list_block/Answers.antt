@@ -4,7 +4,7 @@ use Prim.Native.Nat.{ℕ}
 use native.Mathlib.Omega.{arith}
 use lib.ListN.{length}
 use Rattle.base.specs.Sets.{only}
-use Rattle.reaching.specs.Reaching.{WentDown}
+use Rattle.prospects.specs.Reaching.{WentDown}
 use Rattle.prospects.proofs.BlockLaws.{fresh-words}
 use Rattle.prospects.proofs.list_block.Goals as goal
 

@@ -2,8 +2,8 @@ use mathlib.Core.Path.{sym, ◌∙◌}
 use native.Mathlib.Omega.{arith}
 use borrow.Author.Tests.{not-true, not-false}
 use Rattle.state.proofs.FormedLaws.{formed}
-use Rattle.reads.proofs.ReadLaws.{block_refused, block-unformed, block_row, block-zero, block-over, block-given}
-use Rattle.reads.proofs.AnswerLaws.{block-told}
+use Rattle.reads.proofs.CertificateReadLaws.{block_refused, block-unformed, block_row, block-zero, block-over, block-given}
+use Rattle.reads.proofs.CertificateAnswerLaws.{block-told}
 use borrow.Author.Rules.{rules}
 use Rattle.reads.proofs.block.Goals as goal
 

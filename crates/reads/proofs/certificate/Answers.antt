@@ -1,6 +1,6 @@
 use mathlib.Core.Path.{sym, ◌∙◌}
-use Rattle.reads.proofs.ReadLaws.{certificate-refused, certificate-given, certificate-passed, place-within}
-use Rattle.reads.proofs.AnswerLaws.{certificate-told}
+use Rattle.reads.proofs.CertificateReadLaws.{certificate-refused, certificate-given, certificate-passed, place-within}
+use Rattle.reads.proofs.CertificateAnswerLaws.{certificate-told}
 use borrow.Author.Rules.{rules}
 use Rattle.reads.proofs.certificate.Goals as goal
 

@@ -5,13 +5,13 @@ use Prim.Native.Nat.{◌+◌, ◌*◌, ◌-◌, ◌≤◌}
 use lib.ListN.{length}
 use lib.Seq.{drop-drop}
 use Rattle.framing.proofs.FramingLaws.{step_waits}
-use Rattle.serving.proofs.WorkLaws.{all-answered-none, all-answered-next, puts-in, taken-within}
+use Rattle.serving.proofs.WorkLaws.{all-answered-none, all-answered-next, puts_in, taken-within}
 use Rattle.serving.proofs.work_on.Goals as goal
 
 pub loop-next-init : goal.loop-next-init
 loop-next-init c =
     let p = c.requires in
-    record { answers = all-answered-none; from-to = p.from-to; next-to = p.next-to; cached = p.cached; cache-size = refl; table-size = refl; output-size = refl }
+    record { answers = all-answered-none; from-to = p.from-to; next-to = p.next-to; cached = p.cached; cache_size = refl; table-size = refl; output-size = refl }
 
 pub rest-left-requires : goal.rest-left-requires
 rest-left-requires c = c.loop-next.invariant.from-to
@@ -29,7 +29,7 @@ returns-then-p-eq0 c =
     let u = c.next_record-p in
     let x = c.loop-next in
     let room : x.next + (length x.t * 9 + 20) ≤ length c.args.out.now = omega (arith, c.loop-next-test.true, c.requires.memory.answer-to, x.invariant.table-size) in
-    let puts : u.result.next ≤ length c.args.out.now = puts-in room u.ensures.answered.its-lines in
+    let puts : u.result.next ≤ length c.args.out.now = puts_in room u.ensures.answered.its-lines in
     let q = c.rest-left.ensures in
     let z = sym u.ensures.its-taken ∙ c.if-p-eq0.true in
     record {
@@ -62,13 +62,13 @@ loop-next-preserved c =
     let x = c.loop-next in
     let room : x.next + (length x.t * 9 + 20) ≤ length c.args.out.now = omega (arith, c.loop-next-test.true, c.requires.memory.answer-to, x.invariant.table-size) in
     let takes : u.result.taken ≤ length c.args.hand.now - x.from = taken-within _ c.args.hand.now x.from c.rest-left.ensures u.ensures.its-taken in
-    let puts : u.result.next ≤ length c.args.out.now = puts-in room u.ensures.answered.its-lines in
+    let puts : u.result.next ≤ length c.args.out.now = puts_in room u.ensures.answered.its-lines in
     record {
       answers = rw (drop-drop u.result.taken x.from c.args.hand.now) at (all-answered-next u.result.taken refl c.rest-left.ensures x.invariant.answers u.ensures);
       from-to = omega (arith, takes, x.invariant.from-to);
       next-to = puts;
       cached = u.ensures.cached;
-      cache-size = u.auto.cache ∙ x.invariant.cache-size;
+      cache_size = u.auto.cache ∙ x.invariant.cache_size;
       table-size = u.auto.t ∙ x.invariant.table-size;
       output-size = u.auto.out ∙ x.invariant.output-size;
     }

@@ -3,7 +3,7 @@ use mathlib.Core.List.{List, [], ◌∷◌}
 use Prim.Native.Nat.{ℕ}
 use native.Mathlib.Omega.{arith}
 use lib.Seq.{paste}
-use Rattle.bodies.specs.Words.{sixteen}
+use Rattle.words.specs.Words.{sixteen}
 use Rattle.words.proofs.PutLaws.{effect-put}
 use borrow.Author.Rules.{rules}
 use Rattle.words.proofs.put_effect.Goals as goal

@@ -1,19 +1,19 @@
-use Rattle.bodies.specs.Words.{sixteen}
-use Rattle.bodies.proofs.PasteLaws.{length-sixteen, in-sixteen}
+use Rattle.words.specs.Words.{sixteen}
+use Rattle.words.proofs.PasteLaws.{length-sixteen, in_sixteen}
 use mathlib.Core.Path.{sym}
 use Prim.Native.Nat.{◌-◌}
 use native.Mathlib.Omega.{arith}
-use Rattle.base.proofs.FillLaws.{Pasting, pasting-none, pasting-more, pasting-all}
+use Rattle.base.proofs.FillLaws.{Pasting, pasting_none, pasting_more, pasting_all}
 use borrow.Author.Rules.{rules}
 use Rattle.words.proofs.put_shares.Goals as goal
 
 pub loop-i-init : goal.loop-i-init
-loop-i-init c = pasting-none _ _ _ _
+loop-i-init c = pasting_none _ _ _ _
 
 pub loop-i-preserved : goal.loop-i-preserved
 loop-i-preserved c = let a = c.args in
     let l = length-sixteen a.x in
-    pasting-more c.loop-i.invariant (omega arith) (omega arith) (omega arith) (sym (in-sixteen a.x c.loop-i.i (omega arith)))
+    pasting_more c.loop-i.invariant (omega arith) (omega arith) (omega arith) (sym (in_sixteen a.x c.loop-i.i (omega arith)))
 
 pub returns : goal.returns
-returns c = pasting-all c.loop-i.invariant (omega arith)
+returns c = pasting_all c.loop-i.invariant (omega arith)

@@ -3,7 +3,7 @@ use mathlib.Core.List.{List}
 use Prim.Native.Nat.{ℕ, ◌≤◌}
 use mathlib.Core.Path.{◌≡◌}
 use lib.ListN.{length}
-use Rattle.blocks.specs.Blocks.{markHistory}
+use Rattle.blocks.specs.Blocks.{mark_history}
 use Rattle.blocks.specs.Seen.{Seen}
 use Rattle.blocks.proofs.marks.mark_history.Given as goal
 
@@ -11,7 +11,7 @@ use Rattle.blocks.proofs.marks.mark_history.Given as goal
 pub record HistoryLeft (t₀ : List ℕ) (b s r₀ : ℕ) (t v : List ℕ) (r here : ℕ) : Type 0 where
   pub to : r ≤ r₀
   pub size : length t ≡ length t₀
-  pub rest : markHistory b r here t ≡ markHistory b r₀ s t₀
+  pub rest : mark_history b r here t ≡ mark_history b r₀ s t₀
   pub seen : Seen t v (see v r here)
 
 abbrev pub invariant-loop-r : goal.invariant-loop-r

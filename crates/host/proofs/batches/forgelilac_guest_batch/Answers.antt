@@ -1,5 +1,5 @@
-use Rattle.guests.specs.Guests.{batchNeeds}
-use Rattle.guesting.specs.Guested.{callerNumber}
+use Rattle.engine.specs.Guests.{batch_needs}
+use Rattle.hosting.specs.Guested.{caller_number}
 use Rattle.batching.proofs.DoneLaws.{put-asks, guest-batch-done}
 use Rattle.host.proofs.batches.forgelilac_guest_batch.Goals as goal
 
@@ -9,7 +9,7 @@ run-done-requires c = c.begin_guest-start.ensures.ready
 pub put_answers-requires : goal.put_answers-requires
 put_answers-requires c =
     let a = c.args in
-    put-asks (callerNumber a.state.now a.caller batchNeeds) a.state.now a.table.now a.row.now a.answers.now c.begin_guest-start.result c.run-done.result c.run-done.new.t c.begin_guest-start.ensures c.run-done.ensures
+    put-asks (caller_number a.state.now a.caller batch_needs) a.state.now a.table.now a.row.now a.answers.now c.begin_guest-start.result c.run-done.result c.run-done.new.t c.begin_guest-start.ensures c.run-done.ensures
 
 pub returns : goal.returns
 returns c =

@@ -1,4 +1,4 @@
-use Rattle.guesting.proofs.GuestedLaws.{done-barred-packed, done-allowed}
+use Rattle.hosting.proofs.GuestedLaws.{done-barred-packed, done-allowed}
 use Rattle.host.proofs.guest_calls.forgelilac_guest_commit.Goals as goal
 
 pub returns-then-n-ne0 : goal.returns-then-n-ne0

@@ -1,5 +1,5 @@
 use mathlib.Core.Path.{refl}
-use Rattle.guesting.proofs.GuestedLaws.{done-barred, done-allowed}
+use Rattle.hosting.proofs.GuestedLaws.{done-barred, done-allowed}
 use Rattle.host.proofs.guest_ports.forgelilac_guest_port_write.Goals as goal
 
 pub returns-then-n-ne0 : goal.returns-then-n-ne0

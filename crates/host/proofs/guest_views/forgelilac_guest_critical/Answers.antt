@@ -1,4 +1,4 @@
-use Rattle.guesting.proofs.GuestedLaws.{done-barred-packed, done-allowed}
+use Rattle.hosting.proofs.GuestedLaws.{done-barred-packed, done-allowed}
 use Rattle.host.proofs.guest_views.forgelilac_guest_critical.Goals as goal
 
 pub returns-then-n-ne0 : goal.returns-then-n-ne0

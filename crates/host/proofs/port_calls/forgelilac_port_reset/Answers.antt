@@ -1,10 +1,10 @@
 use mathlib.Core.Path.{◌≡◌, refl, ◌∙◌}
 use mathlib.Core.Bool.{true}
 use Rattle.base.proofs.CheckLaws.{numbered}
-use Rattle.hosting.proofs.CallLaws.{not-read, is_read}
+use Rattle.hosting.proofs.CallLaws.{not_read, is_read}
 use Rattle.hosting.proofs.PortLaws.{done-early, done-unread-port}
 use Rattle.hosting.proofs.AnsweredLaws.{done-kept}
-use Rattle.words.specs.States.{stateReads}
+use Rattle.words.specs.States.{state_reads}
 use Rattle.words.proofs.ReadingLaws.{state-read}
 use mathlib.Core.Path.{ap}
 use mathlib.Core.Bool.{not}
@@ -15,13 +15,13 @@ returns-then-n-ne0 c = done-early _ _ _ _ _ c.reset_refusal-n.ensures c.if-n-ne0
 
 pub returns-then-not-state_reads : goal.returns-then-not-state_reads
 unfolding numbered
-returns-then-not-state_reads c = done-unread-port _ _ _ _ _ c.reset_refusal-n.ensures refl c.if-n-ne0.false (not-read c.state_reads.ensures (ap not c.if-not-state_reads.true)) refl
+returns-then-not-state_reads c = done-unread-port _ _ _ _ _ c.reset_refusal-n.ensures refl c.if-n-ne0.false (not_read c.state_reads.ensures (ap not c.if-not-state_reads.true)) refl
 
 pub state_in-s-requires : goal.state_in-s-requires
-state_in-s-requires c = let state-serves : stateReads c.args.state.now ≡ true = is_read c.state_reads.ensures (ap not c.if-not-state_reads.false) in
+state_in-s-requires c = let state-serves : state_reads c.args.state.now ≡ true = is_read c.state_reads.ensures (ap not c.if-not-state_reads.false) in
     state-read _ (state-serves)
 
 pub returns : goal.returns
-returns c = let state-serves : stateReads c.args.state.now ≡ true = is_read c.state_reads.ensures (ap not c.if-not-state_reads.false) in
+returns c = let state-serves : state_reads c.args.state.now ≡ true = is_read c.state_reads.ensures (ap not c.if-not-state_reads.false) in
     let x = rw c.state_in-s.ensures at c.reset-x.ensures in
     done-kept _ _ _ _ (state-serves) refl refl (c.refusal_in.ensures ∙ x.its-refusal) x.its-table (λ s. refl)

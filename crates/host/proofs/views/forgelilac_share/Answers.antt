@@ -1,21 +1,21 @@
 use mathlib.Core.Path.{◌≡◌, refl, ◌∙◌}
 use mathlib.Core.Bool.{true}
-use Rattle.hosting.proofs.CallLaws.{not-read, is_read, left-unread, no-out, done-unserved}
+use Rattle.hosting.proofs.CallLaws.{not_read, is_read, left-unread, no_out, done-unserved}
 use Rattle.hosting.proofs.AnsweredLaws.{share-packed, done-kept}
-use Rattle.words.specs.States.{stateReads}
+use Rattle.words.specs.States.{state_reads}
 use Rattle.words.proofs.ReadingLaws.{state-read}
 use mathlib.Core.Path.{ap}
 use mathlib.Core.Bool.{not}
 use Rattle.host.proofs.views.forgelilac_share.Goals as goal
 
 pub returns-then-not-state_reads : goal.returns-then-not-state_reads
-returns-then-not-state_reads c = done-unserved _ _ _ _ _ (left-unread _ (not-read c.state_reads.ensures (ap not c.if-not-state_reads.true))) c.unread.ensures
+returns-then-not-state_reads c = done-unserved _ _ _ _ _ (left-unread _ (not_read c.state_reads.ensures (ap not c.if-not-state_reads.true))) c.unread.ensures
 
 pub state_in-s-requires : goal.state_in-s-requires
-state_in-s-requires c = let state-serves : stateReads c.args.state.now ≡ true = is_read c.state_reads.ensures (ap not c.if-not-state_reads.false) in
+state_in-s-requires c = let state-serves : state_reads c.args.state.now ≡ true = is_read c.state_reads.ensures (ap not c.if-not-state_reads.false) in
     state-read _ (state-serves)
 
 pub returns : goal.returns
-returns c = let state-serves : stateReads c.args.state.now ≡ true = is_read c.state_reads.ensures (ap not c.if-not-state_reads.false) in
+returns c = let state-serves : state_reads c.args.state.now ≡ true = is_read c.state_reads.ensures (ap not c.if-not-state_reads.false) in
     let x = rw c.state_in-s.ensures at c.share-x.ensures in
-    done-kept _ _ _ _ (no-out (state-serves)) refl refl (c.share_number.ensures ∙ share-packed _ _ _ _ x) refl (λ s. refl)
+    done-kept _ _ _ _ (no_out (state-serves)) refl refl (c.share_number.ensures ∙ share-packed _ _ _ _ x) refl (λ s. refl)

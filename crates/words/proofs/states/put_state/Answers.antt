@@ -1,11 +1,11 @@
-use Rattle.bodies.specs.Lengths.{bodyLength}
-use Rattle.bodies.specs.Words.{sixteen}
+use Rattle.words.specs.Lengths.{body_length}
+use Rattle.words.specs.Words.{sixteen}
 use mathlib.Core.Path.{ap, ap₂, ◌∙◌}
 use mathlib.Core.List.{List, [], ◌∷◌}
 use Prim.Native.Nat.{ℕ}
 use lib.Seq.{paste}
 use Rattle.terms.specs.declared.Body.{Body}
-use Rattle.bodies.specs.Bodies.{bodyWords}
+use Rattle.words.specs.Bodies.{body_words}
 use Rattle.words.proofs.PutLaws.{state-put}
 use borrow.Author.Rules.{rules}
 use Rattle.words.proofs.states.put_state.Goals as goal
@@ -16,7 +16,7 @@ returns c = let a = c.args in
     c.put-3.ensures
     ∙ ap (λ (z : List ℕ). paste z 37 (s.settings.margin ∷ s.rights.0 ∷ []) 2)
     (c.put_body.ensures
-    ∙ ap₂ (λ (z : List ℕ) (x : Body). paste z 23 (bodyWords x) bodyLength)
+    ∙ ap₂ (λ (z : List ℕ) (x : Body). paste z 23 (body_words x) body_length)
     (c.put-2.ensures
     ∙ ap₂ (λ (z : List ℕ) (k : ℕ). paste z 20 (s.round.0 ∷ k ∷ s.blocks ∷ []) 3)
     (c.put_weights.ensures ∙ ap (λ (z : List ℕ). paste z 4 (sixteen s.settings.weights) 16) c.put.ensures)

@@ -1,8 +1,8 @@
 use mathlib.Core.Path.{refl}
 use native.Mathlib.Omega.{arith}
 use Prim.Native.Nat.{◌+◌, ◌-◌}
-use Rattle.base.proofs.FillLaws.{Filling, filling-none, filling-more, filling-all}
-use Rattle.bodies.specs.Words.{word}
+use Rattle.base.proofs.FillLaws.{Filling, filling_none, filling_more, filling_all}
+use Rattle.words.specs.Words.{word}
 use Rattle.words.proofs.states.weights_in.Given as goal
 
 abbrev pub invariant-loop-i : goal.invariant-loop-i

@@ -1,0 +1,40 @@
+-- The journal of a chain is the transactions that its listing shows, newest first.
+use mathlib.Core.Path.{◌≡◌, refl, sym, ap, ◌∙◌}
+use mathlib.Core.List.{List, [], ◌∷◌, ◌++◌, append_assoc, append-nil}
+use Prim.Native.Nat.{ℕ}
+use Rattle.agreement.specs.Listing.{listing}
+use Rattle.terms.specs.declared.Transaction.{Transaction}
+use Rattle.terms.specs.Proposals.{Content}
+use Rattle.committee.specs.Committees.{ordered}
+use Rattle.balance.specs.Ledger.{entered, entered_of, journal, transactions_of_all, listed_transactions, JournalListed}
+
+entered-then : (l m e : List Transaction) → entered (l ++ m) e ≡ entered m (entered l e)
+unfolding entered
+entered-then [] m e = refl
+entered-then (x ∷ l) m e = entered-then l m (x ∷ e)
+
+entered_all : (l : List Content) (e : List Transaction) → entered_of l e ≡ entered (transactions_of_all l) e
+unfolding entered entered_of
+entered_all [] e = refl
+entered_all (p ∷ l) e = entered_all l (entered p.transactions e) ∙ sym (entered-then p.transactions (transactions_of_all l) e)
+
+listed_then : (l m : List (ℕ × List Content)) → listed_transactions (l ++ m) ≡ listed_transactions l ++ listed_transactions m
+unfolding listed_transactions
+listed_then [] m = refl
+listed_then (x ∷ l) m = ap (λ (z : List Transaction). transactions_of_all x.1 ++ z) (listed_then l m) ∙ sym (append_assoc (transactions_of_all x.1) (listed_transactions l) (listed_transactions m))
+
+listed-one : (r : ℕ) (l : List Content) → listed_transactions ((r, l) ∷ []) ≡ transactions_of_all l
+unfolding listed_transactions
+listed-one r l = append-nil (transactions_of_all l)
+
+pub journal-listed : JournalListed
+unfolding journal listing entered listed_transactions
+journal-listed S [] = refl
+journal-listed S (b ∷ c) =
+    let l = listing (ordered S) c in
+    let o = ordered S b c in
+    entered_all o (journal S c)
+    ∙ ap (entered (transactions_of_all o)) (journal-listed S c)
+    ∙ sym (entered-then (listed_transactions l) (transactions_of_all o) [])
+    ∙ ap (λ (z : List Transaction). entered (listed_transactions l ++ z) []) (sym (listed-one b.round o))
+    ∙ ap (λ (z : List Transaction). entered z []) (sym (listed_then l ((b.round, o) ∷ [])))

@@ -1,0 +1,62 @@
+-- Laws of what is put into a list from a place on: the rest of the list stays as it was.
+use mathlib.Core.Path.{◌≡◌, refl, ◌∙◌}
+use mathlib.Core.List.{List, [], ◌∷◌, ◌++◌}
+use Prim.Native.Nat.{ℕ, suc, ◌+◌, ◌≤◌, ◌<◌}
+use native.Mathlib.Omega.{arith}
+use native.Mathlib.Nat.{add-zero, add-suc, suc-add}
+use lib.ListN.{length, get_or, take, set, length-append}
+use native.Mathlib.Numerals.{add-one}
+use lib.Seq.{sets, take-suc, take_all, length-take-le}
+use Rattle.base.specs.Puts.{Puts}
+
+-- i of n rounds of a loop have put bytes, and the buffer kept its length
+pub record Putting (t u : List ℕ) (at next : ℕ) (l : List ℕ) (m n i : ℕ) : Type 0 where
+  pub so_far : i ≤ n
+  pub kept : length u ≡ length t
+  pub puts : Puts t u at next l m
+
+-- more bytes after those
+sets-append : (a t : List ℕ) (at : ℕ) (b : List ℕ) → sets (sets t at a) (at + length a) b ≡ sets t at (a ++ b)
+sets-append [] t at b = rw (add-zero at) refl
+sets-append (x ∷ a) t at b = rw (add-suc at (length a), ← suc-add at (length a)) (sets-append a (set t at x) (suc at) b)
+
+module _ {t : List ℕ} {u : List ℕ} {v : List ℕ} {at : ℕ} {mid : ℕ} {next : ℕ} {a : List ℕ} {b : List ℕ} {m : ℕ} {n : ℕ} where
+  pub puts_then : Puts t u at mid a m → Puts u v mid next b n → Puts t v at next (a ++ b) (m + n)
+  puts_then p q =
+      let la = p.room in
+      let lb = q.room in
+      record {
+        bytes = q.bytes ∙ rw (p.bytes, p.past) (sets-append a t at b);
+        past = rw (length-append a b) (omega (arith, p.past, q.past));
+        room = rw (length-append a b) (omega arith);
+      }
+
+-- one byte more
+pub puts-more : {t : List ℕ} {u : List ℕ} {at : ℕ} {next : ℕ} {l : List ℕ} {m : ℕ} (x : ℕ) → Puts t u at next l m → (k : ℕ) → length (l ++ (x ∷ [])) ≤ k → Puts t (set u next x) at (next + 1) (l ++ (x ∷ [])) k
+puts-more {t} {u} {at} {next} {l} {m} x p k h =
+    let q : Puts u (set u next x) next (next + 1) (x ∷ []) 1 = record { bytes = refl; past = refl; room = omega arith } in
+    let r = puts_then p q in
+    record { bytes = r.bytes; past = r.past; room = h }
+
+-- the bytes of w copied one by one
+pub puts_copy : {t : List ℕ} {u : List ℕ} {at : ℕ} (w : List ℕ) (i : ℕ) → i < length w → Puts t u at (at + i) (take i w) i → Puts t (set u (at + i) (get_or w i 0)) at (at + (i + 1)) (take (i + 1) w) (i + 1)
+puts_copy {t} {u} {at} w i h p =
+    let e : at + (i + 1) ≡ at + i + 1 = omega arith in
+    let l = length-take-le i w (omega arith) in
+    rw (e, add-one i, take-suc w i 0 h) (puts-more (get_or w i 0) p (suc i) (rw (length-append (take i w) (get_or w i 0 ∷ [])) (omega arith)))
+
+pub puts-all : {t : List ℕ} {u : List ℕ} {at : ℕ} (w : List ℕ) (i : ℕ) → i ≡ length w → Puts t u at (at + i) (take i w) i → Puts t u at (at + i) w (length w)
+puts-all {t} {u} {at} w i e p =
+    let q = take_all i w (omega arith) in
+    let r = rw q at p in
+    record { bytes = r.bytes; past = r.past; room = omega arith }
+
+-- a larger bound
+pub puts-within : {t : List ℕ} {u : List ℕ} {at : ℕ} {next : ℕ} {l : List ℕ} {m : ℕ} (n : ℕ) → m ≤ n → Puts t u at next l m → Puts t u at next l n
+puts-within n h p = let r = p.room in record { bytes = p.bytes; past = p.past; room = omega arith }
+
+pub puts_as : {x : List ℕ} {y : List ℕ} {at : ℕ} {next : ℕ} {l : List ℕ} {m : ℕ} {k : List ℕ} {n : ℕ} → k ≡ l → m ≤ n → Puts x y at next l m → Puts x y at next k n
+puts_as {n = n} e h p = rw e (puts-within n h p)
+
+pub puts_none : {x : List ℕ} {at : ℕ} {l : List ℕ} {n : ℕ} → l ≡ [] → Puts x x at at l n
+puts_none e = rw e (record { bytes = refl; past = omega arith; room = omega arith })

@@ -1,0 +1,44 @@
+// Histories, and the anchors that a commit takes, on the lent table (scope document: Commit).
+
+pub mod anchors;
+
+ghost use Rattle.std.specs.Prelude.{◌≡◌, ◌<◌};
+ghost use Rattle.store.specs.Table.{Within, Row};
+ghost use Rattle.blocks.specs.History.{named_by, named, below};
+
+use terms::{Member, Round};
+
+// The set u, and whom the certificate of a and round r names, where a is in s.
+fn named_by(t: &[u32], s: u32, r: Round, a: Member, u: u32) -> u32
+    requires { Within t.now a.0 r.0 }
+    ensures { result ≡ named_by t.now s r.0 a.0 u }
+{
+    if base::has(s, a.0) {
+        return base::joined(u, store::record::previous(t, a, r));
+    }
+    u
+}
+
+// Whom the certificates of s in round r name.
+fn named_in(t: &[u32], s: u32, r: Round) -> u32
+    requires { Row t.now r.0 }
+    ensures { result ≡ named t.now s r.0 }
+{
+    let mut u: u32 = 0;
+    for a in 0..16u32 {
+        u = named_by(t, s, r, Member(a), u);
+    }
+    u
+}
+
+// What the set s of round r reaches one round below: named, and held.
+pub fn step_down(t: &[u32], s: u32, r: Round) -> u32
+    requires { (0 < r.0) × Row t.now r.0 }
+    ensures { result ≡ below t.now s r.0 }
+{
+    if s == 0 {
+        return 0;
+    }
+    let u = named_in(t, s, r);
+    base::shared(u, store::held_set(t, Round(r.0 - 1)))
+}

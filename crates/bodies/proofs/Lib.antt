@@ -1,2 +1,0 @@
-pub mod PasteLaws
-pub mod BodyLaws

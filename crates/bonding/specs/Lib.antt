@@ -1,2 +1,0 @@
-pub mod Reads
-pub mod Bounds

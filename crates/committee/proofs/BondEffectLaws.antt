@@ -1,0 +1,97 @@
+-- No share moves by more than 1 plus the whole part of 1,000 times the amount divided by the total after the bond.
+use mathlib.Core.Path.{◌≡◌, refl, ◌∙◌}
+use mathlib.Core.Bool.{Bool, true, false, cond}
+use mathlib.Core.List.{List}
+use Prim.Native.Nat.{ℕ, zero, suc, ◌+◌, ◌*◌, ◌<◌, ◌≤◌, max}
+use native.Mathlib.Omega.{arith}
+use native.Mathlib.Decide.{ℕ_discrete, dec_lt}
+use lib.ListN.{length, get_or}
+use lib.Dec.{eqb}
+use Rattle.base.specs.Folds.{fold_to}
+use Rattle.base.proofs.FoldLaws.{get_d_tab, fold_more}
+use Rattle.base.proofs.SumLaws.{sum_same, sum_add, sum_at, sum_only}
+use Rattle.terms.specs.Ranges.{weight_in}
+use Rattle.committee.specs.Shares.{share_of, apart}
+use Rattle.committee.proofs.ShareLaws.{nearest-le}
+use Rattle.committee.proofs.MoveLaws.{moves}
+use Rattle.committee.specs.Totals.{total_in}
+use Rattle.committee.proofs.ChangeLaws.{bond-at}
+use Rattle.committee.specs.BondEffects.{share_in, shares_of, bonded, largest_to, bond_effect, most_moved}
+
+pub share-at : (w : List ℕ) (i : ℕ) → i < 16 → get_or (shares_of w) i 0 ≡ share_in w i
+unfolding shares_of
+share-at w i h = get_d_tab (share_in w) 16 i 0 h
+
+-- a non-member's share is 0
+pub share-none : (n : ℕ) → 0 < n → share_of 0 n ≡ 0
+unfolding share_of
+share-none n h = let l = nearest-le (1000 * 0) n 0 h (omega arith) in omega arith
+
+-- ---- the largest difference
+
+pub largest-none : (x y : List ℕ) → 0 ≡ largest_to 0 x y
+unfolding largest_to fold_to
+largest-none x y = refl
+
+pub largest-more : (x y : List ℕ) (n : ℕ) → largest_to (n + 1) x y ≡ max (largest_to n x y) (apart (get_or x n 0) (get_or y n 0))
+unfolding largest_to
+largest-more x y n = fold_more _ n 0
+
+-- where none is above b, neither is the largest
+pub largest-le : (x y : List ℕ) (b n : ℕ) → ((i : ℕ) → i < n → apart (get_or x i 0) (get_or y i 0) ≤ b) → largest_to n x y ≤ b
+unfolding largest_to fold_to
+largest-le x y b zero h = omega arith
+largest-le x y b (suc n) h = let p = largest-le x y b n (λ i l. h i (omega arith)) in let q = h n (omega arith) in omega arith
+
+-- none is above it
+pub at-most-largest : (x y : List ℕ) (n i : ℕ) → i < n → apart (get_or x i 0) (get_or y i 0) ≤ largest_to n x y
+unfolding largest_to fold_to
+at-most-largest x y zero i h = absurd (omega arith)
+at-most-largest x y (suc n) i h = go (ℕ_discrete i n) (λ l. at-most-largest x y n i l)
+  where
+    go : Dec (i ≡ n) → (i < n → apart (get_or x i 0) (get_or y i 0) ≤ largest_to n x y) → apart (get_or x i 0) (get_or y i 0) ≤ max (largest_to n x y) (apart (get_or x n 0) (get_or y n 0))
+    go (yes e) k = rw e (omega arith)
+    go (no e) k = let q = k (omega arith) in omega arith
+
+larger-last : (m d : ℕ) → m < d → d ≡ max m d
+larger-last m d l = omega arith
+
+larger-before : (m d : ℕ) → (m < d → ⊥) → m ≡ max m d
+larger-before m d l = omega arith
+
+-- and one is it
+pub is-largest : (x y : List ℕ) (n : ℕ) → (i : ℕ) × (i < suc n) × (apart (get_or x i 0) (get_or y i 0) ≡ largest_to (suc n) x y)
+unfolding largest_to fold_to
+is-largest x y zero = (0, omega arith, omega arith)
+is-largest x y (suc n) = go (dec_lt (largest_to (suc n) x y) (apart (get_or x (suc n) 0) (get_or y (suc n) 0))) (is-largest x y n)
+  where
+    go : Dec (largest_to (suc n) x y < apart (get_or x (suc n) 0) (get_or y (suc n) 0)) → (i : ℕ) × (i < suc n) × (apart (get_or x i 0) (get_or y i 0) ≡ largest_to (suc n) x y)
+        → (i : ℕ) × (i < suc (suc n)) × (apart (get_or x i 0) (get_or y i 0) ≡ max (largest_to (suc n) x y) (apart (get_or x (suc n) 0) (get_or y (suc n) 0)))
+    go (yes l) k = (suc n, omega arith, larger-last (largest_to (suc n) x y) (apart (get_or x (suc n) 0) (get_or y (suc n) 0)) l)
+    go (no l) k = (k.0, omega (arith, k.1), k.2 ∙ larger-before (largest_to (suc n) x y) (apart (get_or x (suc n) 0) (get_or y (suc n) 0)) l)
+
+-- ---- a bond
+
+module _ (w : List ℕ) (m a : ℕ) (l : length w ≡ 16) (h : m < 16) where
+  -- the total after it
+  pub total-bonded : total_in (bonded m a w) ≡ total_in w + a
+  total-bonded =
+      let s = sum_same (weight_in (bonded m a w)) (λ i. cond (eqb m i) a 0 + weight_in w i) 16 (λ i k. bond-at m a w i l k) in
+      let t = sum_add (λ i. cond (eqb m i) a 0) (weight_in w) 16 in
+      let u = (sum_only (λ i. a) m 16).1 h in
+      omega arith
+
+  pub effect-le : 0 < total_in w → (bond_effect m a w).largest ≤ most_moved (total_in w) a
+  unfolding bond_effect
+  effect-le z = largest-le (shares_of w) (shares_of (bonded m a w)) (most_moved (total_in w) a) 16 each
+    where
+      some : (b : Bool) → cond b a 0 ≤ a
+      some true = omega arith
+      some false = omega arith
+
+      each : (i : ℕ) → i < 16 → apart (get_or (shares_of w) i 0) (get_or (shares_of (bonded m a w)) i 0) ≤ most_moved (total_in w) a
+      each i k =
+          let e = bond-at m a w i l k in
+          let c = some (eqb m i) in
+          rw (share-at w i k, share-at (bonded m a w) i k, total-bonded)
+          (moves (total_in w) a (weight_in w i) (weight_in (bonded m a w) i) z (sum_at (weight_in w) 16 i k) (omega arith) (omega arith))

@@ -1,0 +1,117 @@
+-- Laws of members by position.
+use mathlib.Core.Path.{◌≡◌, refl}
+use mathlib.Core.Bool.{Bool, true, false, cond, ◌&&◌, and-false}
+use mathlib.Core.Option.{Option, none, some}
+use Prim.Native.Nat.{ℕ, zero, suc, ◌+◌, ◌-◌, ◌<◌, ◌≤◌}
+use native.Mathlib.Omega.{arith}
+use native.Mathlib.Nat.{add-zero, add-suc}
+use native.Mathlib.Decide.{ℕ_discrete}
+use lib.Dec.{eqb}
+use borrow.Author.Tests.{eq-eqb, ne_eqb}
+use Rattle.base.specs.Folds.{sum_to}
+use Rattle.base.proofs.SumLaws.{sum_same}
+use Rattle.base.specs.Sets.{mem}
+use Rattle.committee.specs.Positions.{count_below, member_below, or_else, place_in}
+
+-- ---- counting
+
+-- of the numbers below n at most n are in a set
+pub count-le : (set : ℕ → Bool) (n : ℕ) → count_below set n ≤ n
+unfolding count_below sum_to
+count-le set zero = omega arith
+count-le set (suc n) = go (set n) (count-le set n)
+  where
+    go : (b : Bool) → sum_to (λ i. cond (set i) 1 0) n ≤ n → sum_to (λ i. cond (set i) 1 0) n + cond b 1 0 ≤ suc n
+    go true h = omega arith
+    go false h = omega arith
+
+-- those below c, and those from c on by their number above c
+pub count-split : (set : ℕ → Bool) (c n : ℕ) → count_below set (c + n) ≡ count_below set c + count_below (λ i. set (c + i)) n
+unfolding count_below sum_to
+count-split set c zero = rw (add-zero c) (omega arith)
+count-split set c (suc n) = let h = count-split set c n in rw (add-suc c n) (omega arith)
+
+-- ---- positions
+
+-- nobody stands at a position that the count does not reach
+pub below_none : (set : ℕ → Bool) (n k : ℕ) → count_below set n ≤ k → member_below set n k ≡ none
+unfolding member_below count_below sum_to
+below_none set zero k h = refl
+below_none set (suc n) k h = go (set n) h (λ l. below_none set n k l)
+  where
+    go : (b : Bool) → sum_to (λ i. cond (set i) 1 0) n + cond b 1 0 ≤ k → (sum_to (λ i. cond (set i) 1 0) n ≤ k → member_below set n k ≡ none)
+        → cond (b && eqb (sum_to (λ i. cond (set i) 1 0) n) k) (some n) (member_below set n k) ≡ none
+    go true h f = rw (ne_eqb (sum_to (λ i. cond (set i) 1 0) n) k (λ e. omega arith)) (f (omega arith))
+    go false h f = f (omega arith)
+
+-- somebody stands at a position below the count: what is told for none does not matter
+pub below-some : (m m' : ℕ) (set : ℕ → Bool) (n k : ℕ) → k < count_below set n → or_else m (member_below set n k) ≡ or_else m' (member_below set n k)
+unfolding member_below count_below sum_to
+below-some m m' set zero k h = absurd (omega arith)
+below-some m m' set (suc n) k h = go (set n) h (ℕ_discrete (sum_to (λ i. cond (set i) 1 0) n) k) (λ l. below-some m m' set n k l)
+  where
+    go : (b : Bool) → k < sum_to (λ i. cond (set i) 1 0) n + cond b 1 0 → Dec (sum_to (λ i. cond (set i) 1 0) n ≡ k)
+        → (k < sum_to (λ i. cond (set i) 1 0) n → or_else m (member_below set n k) ≡ or_else m' (member_below set n k))
+        → or_else m (cond (b && eqb (sum_to (λ i. cond (set i) 1 0) n) k) (some n) (member_below set n k)) ≡ or_else m' (cond (b && eqb (sum_to (λ i. cond (set i) 1 0) n) k) (some n) (member_below set n k))
+    go true h (yes e) f = rw (eq-eqb (sum_to (λ i. cond (set i) 1 0) n) k e) refl
+    go true h (no e) f = rw (ne_eqb (sum_to (λ i. cond (set i) 1 0) n) k e) (f (omega arith))
+    go false h d f = f (omega arith)
+
+-- a number is below n, or told for none
+pub below-le : (set : ℕ → Bool) (m n k : ℕ) → n ≤ m → or_else m (member_below set n k) ≤ m
+unfolding member_below
+below-le set m zero k h = omega arith
+below-le set m (suc n) k h = go (set n && eqb (count_below set n) k) (below-le set m n k (omega arith))
+  where
+    go : (b : Bool) → or_else m (member_below set n k) ≤ m → or_else m (cond b (some n) (member_below set n k)) ≤ m
+    go true l = omega arith
+    go false l = l
+
+pub place-le : (s p : ℕ) → place_in s p ≤ 8
+unfolding place_in
+place-le s p = below-le (mem s) 8 8 _ (omega arith)
+
+-- ---- a set in two parts
+
+-- a position below the count of the lower part is there
+pub below-low : (set : ℕ → Bool) (c n k : ℕ) → k < count_below set c → member_below set (c + n) k ≡ member_below set c k
+unfolding member_below
+below-low set c zero k h = rw (add-zero c) refl
+below-low set c (suc n) k h =
+    let l = count-split set c n in
+    rw (add-suc c n, ne_eqb (count_below set (c + n)) k (λ e. omega arith), and-false (set (c + n))) (below-low set c n k h)
+
+-- who has number a in the upper part
+abbrev pub above : ℕ → Option ℕ → Option ℕ
+above c none = none
+above c (some a) = some (c + a)
+
+-- any other is in the upper part, counted from its own start
+pub below-high : (set : ℕ → Bool) (c n k : ℕ) → count_below set c ≤ k → member_below set (c + n) k ≡ above c (member_below (λ i. set (c + i)) n (k - count_below set c))
+unfolding member_below
+below-high set c zero k h = rw (add-zero c) (below_none set c k h)
+below-high set c (suc n) k h = rw (add-suc c n, same_test, below-high set c n k h) (go (set (c + n) && eqb (count_below (λ i. set (c + i)) n) (k - count_below set c)))
+  where
+    same_test : eqb (count_below set (c + n)) k ≡ eqb (count_below (λ i. set (c + i)) n) (k - count_below set c)
+    same_test = by (ℕ_discrete (count_below set (c + n)) k) (count-split set c n)
+      where
+        by : Dec (count_below set (c + n) ≡ k) → count_below set (c + n) ≡ count_below set c + count_below (λ i. set (c + i)) n
+            → eqb (count_below set (c + n)) k ≡ eqb (count_below (λ i. set (c + i)) n) (k - count_below set c)
+        by (yes e) l = rw (eq-eqb (count_below set (c + n)) k e, eq-eqb (count_below (λ i. set (c + i)) n) (k - count_below set c) (omega arith)) refl
+        by (no e) l = rw (ne_eqb (count_below set (c + n)) k e, ne_eqb (count_below (λ i. set (c + i)) n) (k - count_below set c) (λ q. e (omega arith))) refl
+
+    go : (b : Bool) → cond b (some (c + n)) (above c (member_below (λ i. set (c + i)) n (k - count_below set c))) ≡ above c (cond b (some n) (member_below (λ i. set (c + i)) n (k - count_below set c)))
+    go true = refl
+    go false = refl
+
+-- ---- sets that agree on the members
+
+pub count_same : (s u : ℕ → Bool) (n : ℕ) → ((i : ℕ) → i < n → s i ≡ u i) → count_below s n ≡ count_below u n
+unfolding count_below
+count_same s u n e = sum_same (λ i. cond (s i) 1 0) (λ i. cond (u i) 1 0) n (λ i h. rw (e i h) refl)
+
+pub below-same : (s u : ℕ → Bool) (n k : ℕ) → ((i : ℕ) → i < n → s i ≡ u i) → member_below s n k ≡ member_below u n k
+unfolding member_below
+below-same s u zero k e = refl
+below-same s u (suc n) k e =
+    rw (e n (omega arith), count_same s u n (λ i h. e i (omega arith)), below-same s u n k (λ i h. e i (omega arith))) refl

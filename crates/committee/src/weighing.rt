@@ -1,0 +1,126 @@
+// Committees as sixteen weights: fault bound, quorums, leaders, and a member's share (scope document: Committees, quorums, leaders).
+
+pub mod change;
+pub mod leader;
+
+ghost use Rattle.std.specs.Prelude.{◌≡◌, cond, not, ◌&&◌, ◌<◌, ltb};
+ghost use Rattle.base.specs.Sets.{is_in};
+ghost use Rattle.agreement.specs.Weights.{weigh, total};
+ghost use Rattle.terms.specs.Ranges.{weight_in};
+ghost use Rattle.committee.specs.Committees.{MarginFits, bound_of, outsider, short, quorum};
+ghost use Rattle.committee.specs.Leaders.{members};
+ghost use Rattle.committee.specs.Shares.{share_of};
+ghost use Rattle.committee.specs.Totals.{TotalBounded, HasShare};
+
+use crate::shares;
+use terms::Member;
+use terms::sheet::Weight;
+
+// Is m a member of the committee?
+pub fn is_member(w: &[u64; 16], m: Member) -> bool
+    requires { m.0 < 16 }
+    ensures { result ≡ members (weight_in w.now) m.0 }
+{
+    0 < w[m.0 as usize]
+}
+
+// The total weight.
+pub fn total_weight(w: &[u64; 16]) -> Weight
+    requires { TotalBounded w.now }
+    ensures { result.0 ≡ total 16 (weight_in w.now) }
+{
+    let mut sum: u64 = 0;
+    for i in 0..16usize {
+        sum += w[i];
+    }
+    Weight(sum)
+}
+
+// What a member adds to the weight of a set.
+fn part(w: &[u64; 16], set: u32, m: Member) -> Weight
+    requires { m.0 < 16 }
+    ensures { result.0 ≡ cond (is_in set m.0) (weight_in w.now m.0) 0 }
+{
+    if base::has(set, m.0) {
+        return Weight(w[m.0 as usize]);
+    }
+    Weight(0)
+}
+
+// The weight of a set of members.
+pub fn set_weight(w: &[u64; 16], set: u32) -> Weight
+    requires { TotalBounded w.now }
+    ensures { result.0 ≡ weigh 16 (weight_in w.now) (is_in set) }
+{
+    let mut sum: u64 = 0;
+    for i in 0..16u32 {
+        let x = part(w, set, Member(i));
+        sum += x.0;
+    }
+    Weight(sum)
+}
+
+// The fault bound of a total weight, by the margin d.
+pub fn fault_bound(d: u32, n: Weight) -> Weight
+    requires { MarginFits d }
+    ensures { result.0 ≡ bound_of d n.0 }
+{
+    if n.0 == 0 {
+        return Weight(0);
+    }
+    Weight((n.0 - 1) / (d as u64))
+}
+
+// Is the member in the set, and outside the committee?
+fn is_outsider(w: &[u64; 16], set: u32, m: Member) -> bool
+    requires { m.0 < 16 }
+    ensures { result ≡ (is_in set m.0 && not (ltb 0 (weight_in w.now m.0))) }
+{
+    if !base::has(set, m.0) {
+        return false;
+    }
+    !is_member(w, m)
+}
+
+// Is somebody of the set outside the committee?
+pub fn has_outsider(w: &[u64; 16], set: u32) -> bool
+    ensures { result ≡ outsider (weight_in w.now) (is_in set) }
+{
+    for i in 0..16u32 {
+        if is_outsider(w, set, Member(i)) {
+            return true;
+        }
+    }
+    false
+}
+
+// Does the set weigh less than a quorum?
+pub fn is_short(d: u32, w: &[u64; 16], set: u32) -> bool
+    requires { MarginFits d × TotalBounded w.now }
+    ensures { result ≡ short d (weight_in w.now) (is_in set) }
+{
+    let n = total_weight(w);
+    let f = fault_bound(d, n);
+    let a = set_weight(w, set);
+    a.0 < n.0 - f.0
+}
+
+// Is the set a quorum?
+pub fn is_quorum(d: u32, w: &[u64; 16], set: u32) -> bool
+    requires { MarginFits d × TotalBounded w.now }
+    ensures { result ≡ quorum d (weight_in w.now) (is_in set) }
+{
+    if has_outsider(w, set) {
+        return false;
+    }
+    !is_short(d, w, set)
+}
+
+// A member's share: its weight in thousandths of the total, to the nearest, an exact half to the even neighbour.
+pub fn share(w: &[u64; 16], m: Member) -> u32
+    requires { HasShare w.now m.0 }
+    ensures { result ≡ share_of (weight_in w.now m.0) (total 16 (weight_in w.now)) }
+{
+    let n = total_weight(w);
+    shares::thousandths(Weight(w[m.0 as usize]), n)
+}

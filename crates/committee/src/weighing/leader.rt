@@ -1,0 +1,74 @@
+// The leader of a round.
+ghost use Rattle.std.specs.Prelude.{◌≡◌, ◌<◌};
+ghost use Rattle.base.specs.Sets.{is_in};
+ghost use Rattle.terms.specs.Ranges.{weight_in};
+ghost use Rattle.committee.specs.Positions.{count_below};
+ghost use Rattle.committee.specs.Places.{place_table};
+ghost use Rattle.committee.specs.Leaders.{member_at, joined, member_set, leader_of, leader_number};
+
+use crate::positions;
+use terms::{Member, Round};
+
+// The set, with the member if it has a weight.
+fn join(w: &[u64; 16], set: u32, m: Member) -> u32
+    requires { m.0 < 16 }
+    ensures { result ≡ joined w.now m.0 set }
+{
+    if crate::weighing::is_member(w, m) {
+        return base::with(set, m.0);
+    }
+    set
+}
+
+// The members of a committee, as a set.
+fn member_set(w: &[u64; 16]) -> u32
+    ensures { result ≡ member_set w.now }
+{
+    let mut set: u32 = 0;
+    for i in 0..16u32 {
+        set = join(w, set, Member(i));
+    }
+    set
+}
+
+// How many are in the set.
+fn size(set: u32) -> u32
+    ensures { result ≡ count_below (is_in set) 16 }
+{
+    u32::count_ones(set % 65536)
+}
+
+// The member at position k of the set, counted from 0 by rising number; 16 for none. The upper half uses the same table as the lower one.
+pub fn member_at(places: &[u8; 2048], set: u32, k: u32) -> Member
+    requires { places.now ≡ place_table }
+    ensures { result.0 ≡ leader_number (member_at (is_in set) k) }
+{
+    let low = set % 256;
+    let n = u32::count_ones(low);
+    if k < n {
+        return Member(positions::member_in(places, low, k));
+    }
+    if n + 8 <= k {
+        return Member(16);
+    }
+    Member(8 + positions::member_in(places, set / 256 % 256, k - n))
+}
+
+// The leader of round r, 16 for none.
+pub fn leader(places: &[u8; 2048], w: &[u64; 16], r: Round) -> Member
+    requires { places.now ≡ place_table }
+    ensures { result.0 ≡ leader_number (leader_of (weight_in w.now) r.0) }
+{
+    if r.0 % 2 != 0 {
+        return Member(16);
+    }
+    if r.0 < 2 {
+        return Member(16);
+    }
+    let set = member_set(w);
+    let n = size(set);
+    if n == 0 {
+        return Member(16);
+    }
+    member_at(places, set, r.0 / 2 % n)
+}

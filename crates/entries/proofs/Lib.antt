@@ -1,3 +1,0 @@
-pub mod EntryLaws
-pub mod RowLaws
-pub mod CountLaws

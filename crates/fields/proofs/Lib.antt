@@ -1,4 +1,0 @@
-pub mod FieldLaws
-pub mod NumberLaws
-pub mod CursorLaws
-pub mod WordLaws

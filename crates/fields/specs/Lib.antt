@@ -1,4 +1,0 @@
-pub mod Fields
-pub mod Numbers
-pub mod Cursor
-pub mod Words

@@ -1,6 +1,0 @@
-// Fields of a record: the stretches between its commas, and what they hold (scope document: The runner).
-#![tactic(auto)]
-
-pub mod field;
-pub mod number;
-pub mod word;

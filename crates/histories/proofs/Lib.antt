@@ -1,3 +1,0 @@
-pub mod HistoryLaws
-pub mod AnchorLaws
-pub mod TakenLaws

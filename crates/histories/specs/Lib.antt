@@ -1,3 +1,0 @@
-pub mod History
-pub mod Anchors
-pub mod Ready

@@ -1,4 +1,0 @@
-pub mod LedgerLaws
-pub mod TotalLaws
-pub mod JournalLaws
-pub mod ListedLaws

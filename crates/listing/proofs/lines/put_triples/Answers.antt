@@ -1,0 +1,36 @@
+use mathlib.Core.Path.{◌≡◌, refl, ◌∙◌}
+use native.Mathlib.Omega.{arith}
+use Prim.Native.Nat.{◌+◌, ◌*◌, ◌≤◌}
+use Rattle.terms.specs.Proposals.{slot_of}
+use Rattle.terms.proofs.ProposalLaws.{transactions-tab}
+use Rattle.base.proofs.PutLaws.{puts_then, puts-within}
+use Rattle.listing.proofs.LineLaws.{triples_none, triples-next}
+use Rattle.listing.proofs.lines.put_triples.Goals as goal
+
+pub loop-k-init : goal.loop-k-init
+loop-k-init c = record {
+  so_far = omega arith;
+  kept = refl;
+  puts = rw (triples_none (slot_of c.args.body)) (record { bytes = refl; past = omega arith; room = omega arith });
+}
+
+pub put_triple-next-requires : goal.put_triple-next-requires
+put_triple-next-requires c = let l = c.loop-k in
+    omega (arith, l.invariant.kept, l.invariant.puts.past, l.invariant.puts.room)
+
+pub loop-k-preserved : goal.loop-k-preserved
+loop-k-preserved c = let a = c.args in
+    let l = c.loop-k in
+    let p = rw c.slot_at-x.ensures at c.put_triple-next.ensures in
+    record {
+      so_far = omega arith;
+      kept = c.put_triple-next.auto.buf ∙ l.invariant.kept;
+      puts = rw (triples-next (slot_of a.body) l.k) (puts-within ((l.k + 1) * 24) (omega arith) (puts_then l.invariant.puts p));
+    }
+
+pub returns : goal.returns
+returns c = let a = c.args in
+    let l = c.loop-k in
+    let e : l.k ≡ a.body.count = omega arith in
+    let h : a.body.count * 24 ≤ 96 = omega arith in
+    rw (transactions-tab a.body) (puts-within 96 h (rw e at l.invariant.puts))

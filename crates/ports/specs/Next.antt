@@ -1,0 +1,79 @@
+-- The line after a place's, in the table: what the search for it has found.
+use Rattle.std.specs.Prelude.{◌≡◌, true, cond, List, [], ◌∷◌, ◌≢◌, ℕ, ◌+◌, ◌-◌, ◌*◌, ◌/◌, ◌%◌, ◌<◌, ◌≤◌, length, get_or, drop, eqb}
+use Rattle.terms.specs.declared.sheet.Settings.{Settings}
+use Rattle.store.specs.Table.{held_at, mark_at}
+use Rattle.committee.specs.Chain.{chain_of}
+use Rattle.running.specs.BlockChanges.{start_at}
+use Rattle.running.specs.ChainInTable.{ChainInTable}
+use Rattle.running.specs.Links.{Marked, First}
+use Rattle.ports.specs.Cursors.{Lines, lines_after}
+use Rattle.ports.specs.Places.{lines_of}
+
+-- the place of the first line, 0 for none
+abbrev pub first_place : Lines → ℕ
+first_place [] = 0
+first_place (e ∷ l) = e.0
+
+-- the lines after a place's; all of them after 0, which is no certificate's
+unfoldable pub lines_from : Settings → List ℕ → ℕ → ℕ → Lines
+lines_from S t blocks p = cond (eqb p 0) (lines_of S (chain_of S.ceiling.0 t blocks)) (lines_after (lines_of S (chain_of S.ceiling.0 t blocks)) p)
+
+-- the lines of the blocks after the first k
+unfoldable pub lines_beyond : Settings → List ℕ → ℕ → ℕ → Lines
+lines_beyond S t blocks k = drop (length (lines_of S (chain_of S.ceiling.0 t k))) (lines_of S (chain_of S.ceiling.0 t blocks))
+
+-- ---- keys: key q of a block whose rows start with member a is of round q / 16, and of the member that is q % 16 after a
+
+abbrev pub key_member : ℕ → ℕ → ℕ
+key_member a q = (a + q % 16) % 16
+
+abbrev pub key_place : ℕ → ℕ → ℕ
+key_place a q = q / 16 * 16 + key_member a q
+
+-- the key of member m of round r
+abbrev pub key_of : ℕ → ℕ → ℕ → ℕ
+key_of a m r = r * 16 + (m + (16 - a % 16)) % 16
+
+-- from key q on, v is the first one with a certificate of block k, in a table of ceiling n; it is the end if there is none
+pub record KeyFound (t : List ℕ) (n k a q v : ℕ) : Type 0 where
+  pub from : q ≤ v
+  pub to : v ≤ n * 16 + 16
+  pub here : v < n * 16 + 16 → Marked t k (key_place a v)
+  pub skipped : (i : ℕ) → q ≤ i → i < v → Marked t k (key_place a i) → ⊥
+
+-- after block k, v is the first one with a certificate; it is above the last if there is none
+pub record BlockFound (t : List ℕ) (n blocks k v : ℕ) : Type 0 where
+  pub from : k < v
+  pub to : v ≤ blocks + 1
+  pub here : v ≤ blocks → (p : ℕ) × (16 ≤ p) × (p < n * 16 + 16) × Marked t v p
+  pub skipped : (j p : ℕ) → k < j → j < v → 16 ≤ p → p < n * 16 + 16 → Marked t j p → ⊥
+
+-- ---- what the search relies on
+
+-- the first place of each block is found by head
+pub record Heads (t head : List ℕ) (n : ℕ) : Type 0 where
+  pub size : length head ≡ 512
+  pub each : (k : ℕ) → k < 512 → First t k 16 (n * 16 + 16) (get_or head k 0)
+
+-- a place of a line: a certificate in one of the first blocks
+pub record LinePlace (t : List ℕ) (n blocks p : ℕ) : Type 0 where
+  pub from : 16 ≤ p
+  pub to : p < n * 16 + 16
+  pub held : held_at t (p % 16) (p / 16) ≡ true
+  pub mark-from : 1 ≤ mark_at t (p % 16) (p / 16)
+  pub mark-to : mark_at t (p % 16) (p / 16) ≤ blocks
+
+-- the start of each block
+abbrev pub Starts : Settings → List ℕ → ℕ → List ℕ → Type 0
+Starts S t blocks starts = (i : ℕ) → i < blocks → get_or starts i 0 ≡ start_at S t i
+
+-- what the place v tells of the lines after p's: it is the first of them, in the same block, or 0, and then they are those of the later blocks
+pub record NextInBlock (S : Settings) (t : List ℕ) (blocks p v : ℕ) : Type 0 where
+  pub here : v ≢ 0 → v ≡ first_place (lines_from S t blocks p)
+  pub later : v ≡ 0 → lines_from S t blocks p ≡ lines_beyond S t blocks (mark_at t (p % 16) (p / 16))
+
+-- a chain in a table, with the head and the start of each block
+pub record Walked (S : Settings) (t : List ℕ) (blocks : ℕ) (head starts : List ℕ) : Type 0 where
+  pub chain : ChainInTable S t blocks
+  pub heads : Heads t head S.ceiling.0
+  pub each_start : Starts S t blocks starts

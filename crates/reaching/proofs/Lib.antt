@@ -1,2 +1,0 @@
-pub mod ChoiceLaws
-pub mod WalkLaws

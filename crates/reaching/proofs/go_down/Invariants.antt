@@ -1,8 +1,0 @@
-use Rattle.reaching.proofs.WalkLaws.{Walking}
-use Rattle.reaching.proofs.go_down.Given as goal
-
-abbrev pub invariant-loop-r : goal.invariant-loop-r
-invariant-loop-r l = Walking l.t l.initial.seen l.s l.initial.r l.seen l.fresh l.r l.here
-
-abbrev pub decreases-loop-r : goal.decreases-loop-r
-decreases-loop-r l = l.r

@@ -1,0 +1,10 @@
+pub mod FieldLaws
+pub mod NumberLaws
+pub mod CursorLaws
+pub mod WordLaws
+pub mod BodyLaws
+pub mod TripleLaws
+pub mod SettingLaws
+pub mod RequestLaws
+pub mod DamageLaws
+pub mod DamagedRequests

@@ -1,0 +1,10 @@
+pub mod Fields
+pub mod Numbers
+pub mod Cursor
+pub mod Words
+pub mod Triples
+pub mod Bodies
+pub mod Kinds
+pub mod Settings
+pub mod Readings
+pub mod Requests

@@ -1,4 +1,0 @@
-pub mod SettingLaws
-pub mod RequestLaws
-pub mod DamageLaws
-pub mod DamagedRequests

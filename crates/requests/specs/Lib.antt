@@ -1,4 +1,0 @@
-pub mod Kinds
-pub mod Settings
-pub mod Readings
-pub mod Requests

@@ -1,0 +1,56 @@
+-- Laws of cached committees: one round more, and all of them.
+use mathlib.Core.Path.{◌≡◌, ◌∙◌}
+use mathlib.Core.List.{List}
+use Prim.Native.Nat.{ℕ, ◌+◌, ◌<◌, ◌≤◌}
+use native.Mathlib.Omega.{arith}
+use native.Mathlib.Decide.{ℕ_discrete}
+use lib.ListN.{length}
+use lib.Seq.{paste, take_all, length-paste}
+use Rattle.base.specs.Parts.{part}
+use Rattle.base.proofs.PasteLaws.{same-part, paste-below, paste-inside}
+use Rattle.agreement.specs.Rules.{Chain}
+use Rattle.terms.specs.Proposals.{Content}
+use Rattle.terms.specs.declared.sheet.Settings.{Settings}
+use Rattle.committee.specs.Committees.{committee_of}
+use Rattle.running.specs.Caches.{first_round, words_at, Caches}
+
+-- a cache without room for a round
+pub caches-short : (S : Settings) (c : Chain Content) (cache : List ℕ) → length cache < 17 → Caches S c cache
+caches-short S c cache h = record { committee = λ r u l. absurd (omega (arith, l.room)) }
+
+-- a window that begins above the ceiling
+pub caches-far : (S : Settings) (c : Chain Content) (cache : List ℕ) → S.ceiling.0 < first_round cache → Caches S c cache
+caches-far S c cache h = record { committee = λ r u l. absurd (omega (arith, l.from)) }
+
+module _ (S : Settings) (c : Chain Content) (first : ℕ) where
+  -- the rounds from the first on and below q are cached
+  pub record CachesTo (q : ℕ) (cache : List ℕ) : Type 0 where
+    pub begins : first_round cache ≡ first
+    pub committee : (r : ℕ) → first ≤ r → r < q → words_at first r + 16 ≤ length cache → part cache (words_at first r) 16 ≡ committee_of S c r
+
+  pub caches-none : (cache : List ℕ) → first_round cache ≡ first → CachesTo first cache
+  caches-none cache e = record { begins = e; committee = λ r l h k. absurd (omega arith) }
+
+  -- round q, where there is room for it
+  pub caches-more : {q : ℕ} {cache : List ℕ} (w : List ℕ) → first ≤ q → words_at first q + 16 ≤ length cache → length w ≡ 16 → w ≡ committee_of S c q → CachesTo q cache → CachesTo (q + 1) (paste cache (words_at first q) w 16)
+  caches-more {q} {cache} w from room h e k =
+      record { begins = paste-below cache (words_at first q) w 16 room h 0 (omega arith) ∙ k.begins; committee = λ r f u l. go r f u l (ℕ_discrete r q) }
+    where
+      size : length (paste cache (words_at first q) w 16) ≡ length cache
+      size = length-paste cache (words_at first q) w 16 room (omega arith)
+
+      go : (r : ℕ) → first ≤ r → r < q + 1 → words_at first r + 16 ≤ length (paste cache (words_at first q) w 16) → Dec (r ≡ q) → part (paste cache (words_at first q) w 16) (words_at first r) 16 ≡ committee_of S c r
+      go r f u l (yes d) =
+          rw d (same-part (paste cache (words_at first q) w 16) w (words_at first q) 0 16 (omega (arith, size)) (omega arith) (λ i lt. let z : 0 + i ≡ i = omega arith in rw z (paste-inside cache (words_at first q) w 16 room h i lt))
+          ∙ take_all 16 w (omega arith)
+          ∙ e)
+      go r f u l (no d) =
+          same-part (paste cache (words_at first q) w 16) cache (words_at first r) (words_at first r) 16 l (omega (arith, size)) (λ i lt. paste-below cache (words_at first q) w 16 room h (words_at first r + i) (omega arith))
+          ∙ k.committee r f (omega arith) (omega (arith, size))
+
+  -- all of them, or no room for more
+  pub caches-all : {q : ℕ} {cache : List ℕ} → CachesTo q cache → ((r : ℕ) → r ≤ S.ceiling.0 → first ≤ r → words_at first r + 16 ≤ length cache → r < q) → Caches S c cache
+  caches-all {q} {cache} k h = record { committee = λ r u l. go r u (rw k.begins at l.from) (rw k.begins at l.room) }
+    where
+      go : (r : ℕ) → r ≤ S.ceiling.0 → first ≤ r → words_at first r + 16 ≤ length cache → part cache (words_at (first_round cache) r) 16 ≡ committee_of S c r
+      go r u f l = rw k.begins (k.committee r f (h r u f l) l)

@@ -1,0 +1,182 @@
+// Committees cached by round beside the table, so that a call need not walk over it (scope document: Committees, quorums, leaders).
+// The first word of a cache is the first round that it has; then come sixteen words for each round from there on, up to the ceiling, as far as there is room.
+
+ghost use Rattle.std.specs.Prelude.{◌≡◌, true, ◌+◌, ◌≤◌, length};
+ghost use Rattle.std.proofs.Math.Seq.{paste};
+ghost use Rattle.base.specs.Parts.{part};
+ghost use Rattle.committee.specs.Chain.{chain_of};
+ghost use Rattle.committee.specs.Committees.{committee_of};
+ghost use Rattle.committee.specs.Totals.{TotalBounded};
+ghost use Rattle.running.specs.Caches.{first_round, words_at, InWindow, Caches};
+ghost use Rattle.running.specs.Pairs.{PairOf};
+ghost use Rattle.running.specs.ChainInTable.{ChainInTable};
+ghost use Rattle.running.specs.Walks.{WalkRoom, WalkStart};
+
+use crate::bonded::Pair;
+use crate::{bonded, changes};
+use committee::positions;
+use terms::Round;
+use terms::sheet::Settings;
+
+// The first round of a window that has none: no ceiling is as high.
+pub const NO_ROUND: u64 = 4294967296;
+
+// Sixteen words from `at` on.
+fn words_at(cache: &[u64], at: usize) -> [u64; 16]
+    requires { at + 16 ≤ length cache.now }
+    ensures { result ≡ part cache.now at 16 }
+{
+    let mut w = [0u64; 16];
+    for i in 0..16usize {
+        w[i] = cache[at + i];
+    }
+    w
+}
+
+// Puts sixteen words from `at` on.
+fn put_words(w: [u64; 16], at: usize, cache: &mut [u64])
+    requires { at + 16 ≤ length cache.old }
+    ensures { (length w ≡ 16) × (cache.new ≡ paste cache.old at w 16) }
+{
+    for i in 0..16usize {
+        cache[at + i] = w[i];
+    }
+}
+
+// Is round r, up to the ceiling n, in the window?
+pub fn is_cached(cache: &[u64], n: Round, r: Round) -> bool
+    ensures { result ≡ true → (r.0 ≤ n.0) × InWindow cache.now r.0 }
+{
+    if n.0 < r.0 {
+        return false;
+    }
+    if cache.len() < 17 {
+        return false;
+    }
+    let q = r.0 as u64;
+    if q < cache[0] {
+        return false;
+    }
+    if cache.len() < (q - cache[0]) as usize * 16 + 17 {
+        return false;
+    }
+    true
+}
+
+// The words of round r.
+fn cached_at(cache: &[u64], r: Round) -> [u64; 16]
+    requires { InWindow cache.now r.0 }
+    ensures { result ≡ part cache.now (words_at (first_round cache.now) r.0) 16 }
+{
+    let at = (r.0 as u64 - cache[0]) as usize * 16 + 1;
+    words_at(cache, at)
+}
+
+// The committees of round r and of the one before it: those cached, or else by a walk.
+pub fn committees(cache: &[u64], t: &[u32], s: Settings, blocks: u32, r: Round) -> Pair
+    requires { ChainInTable s t.now blocks × Caches s (chain_of s.ceiling.0 t.now blocks) cache.now }
+    ensures { PairOf s (chain_of s.ceiling.0 t.now blocks) r.0 result }
+{
+    if !is_cached(cache, s.ceiling, r) {
+        return bonded::committees_of(t, s, blocks, r);
+    }
+    let q = bonded::round_before(r);
+    if !is_cached(cache, s.ceiling, q) {
+        return bonded::committees_of(t, s, blocks, r);
+    }
+    Pair {
+        before: cached_at(cache, q),
+        at: cached_at(cache, r),
+    }
+}
+
+// The committee of round r: the one cached, the starting one, or else by a walk.
+pub fn committee(cache: &[u64], t: &[u32], s: Settings, blocks: u32, r: Round) -> [u64; 16]
+    requires { ChainInTable s t.now blocks × Caches s (chain_of s.ceiling.0 t.now blocks) cache.now }
+    ensures { (result ≡ committee_of s (chain_of s.ceiling.0 t.now blocks) r.0) × TotalBounded result }
+{
+    if is_cached(cache, s.ceiling, r) {
+        return cached_at(cache, r);
+    }
+    if bonded::is_starting(t, s, blocks, r) {
+        return s.weights;
+    }
+    bonded::committee_of(t, s, blocks, r)
+}
+
+// The rounds from the first up to the ceiling, going up with one running committee; w is the starting one.
+fn cache_rounds(
+    t: &[u32],
+    head: &[u32; 512],
+    next: &[u32],
+    s: Settings,
+    blocks: u32,
+    first: Round,
+    places: &[u8; 2048],
+    w: &mut [u64; 16],
+    starts: &mut [u32; 512],
+    cache: &mut [u64],
+)
+    requires { WalkStart s t.now blocks head.now next.now places.now w.old starts.old × (first.0 ≤ s.ceiling.0) × (17 ≤ length cache.old) }
+    ensures { Caches s (chain_of s.ceiling.0 t.now blocks) cache.new }
+{
+    cache[0] = first.0 as u64;
+    let mut x = crate::none();
+    for q in first.0..s.ceiling.0 + 1 {
+        let at = (q - first.0) as usize * 16 + 1;
+        if cache.len() < at + 16 {
+            return;
+        }
+        x = crate::reach_round(t, head, next, s, blocks, x, Round(q), places, w, starts);
+        put_words(*w, at, cache);
+    }
+}
+
+// Caches the committees from the first round on, where next has a word for each place.
+fn fill_cache_with(
+    t: &[u32],
+    s: Settings,
+    blocks: u32,
+    first: Round,
+    next: &mut [u32],
+    cache: &mut [u64],
+)
+    requires { WalkRoom s t.now blocks next.old × (first.0 ≤ s.ceiling.0) × (17 ≤ length cache.old) }
+    ensures { Caches s (chain_of s.ceiling.0 t.now blocks) cache.new }
+{
+    let mut w = s.weights;
+    let end = s.ceiling.0 * 16 + 16;
+    let mut head = [end; 512];
+    changes::links::link_rows(t, &mut head, next, s.ceiling);
+    let mut starts = [16u32; 512];
+    let places = positions::places();
+    cache_rounds(
+        t,
+        &head,
+        next,
+        s,
+        blocks,
+        first,
+        &places,
+        &mut w,
+        &mut starts,
+        cache,
+    );
+}
+
+// Caches the committees of the rounds from the first on, for as many as there is room.
+pub fn fill_cache(t: &[u32], s: Settings, blocks: u32, first: Round, cache: &mut [u64])
+    requires { ChainInTable s t.now blocks × (first.0 ≤ s.ceiling.0) }
+    ensures { Caches s (chain_of s.ceiling.0 t.now blocks) cache.new }
+{
+    if cache.len() < 17 {
+        return;
+    }
+    if s.ceiling.0 <= changes::links::FEW_ROUNDS {
+        let mut few = [0u32; changes::links::FEW];
+        fill_cache_with(t, s, blocks, first, &mut few, cache);
+        return;
+    }
+    let mut many = [0u32; changes::links::MANY];
+    fill_cache_with(t, s, blocks, first, &mut many, cache);
+}

@@ -1,0 +1,104 @@
+// The leaders of many rounds, going up with one running committee (scope document: Committees, quorums, leaders).
+
+ghost use Rattle.committee.specs.Chain.{chain_of};
+ghost use Rattle.running.specs.Fill.{RoundSpan, LeadersFilled};
+ghost use Rattle.running.specs.ChainInTable.{ChainInTable};
+ghost use Rattle.running.specs.Walks.{WalkRoom, WalkStart};
+
+use crate::changes;
+use committee::{positions, weighing};
+use terms::Round;
+use terms::sheet::Settings;
+
+// The leaders of the rounds above m up to top, where the places of each block are linked; w is the starting committee, and then that of the round above top.
+fn fill_rounds(
+    t: &[u32],
+    head: &[u32; 512],
+    next: &[u32],
+    s: Settings,
+    blocks: u32,
+    m: Round,
+    top: Round,
+    places: &[u8; 2048],
+    w: &mut [u64; 16],
+    starts: &mut [u32; 512],
+    l: &mut [u32; 1025],
+)
+    requires { WalkStart s t.now blocks head.now next.now places.now w.old starts.old × RoundSpan m.0 top.0 }
+    ensures { LeadersFilled s (chain_of s.ceiling.0 t.now blocks) m.0 top.0 l.old l.new w.new }
+{
+    let mut x = crate::none();
+    for q in m.0..top.0 {
+        let r = Round(q + 1);
+        x = crate::reach_round(t, head, next, s, blocks, x, r, places, w, starts);
+        let a = weighing::leader::leader(places, w, r);
+        l[q as usize + 1] = a.0;
+    }
+    crate::reach_round(
+        t,
+        head,
+        next,
+        s,
+        blocks,
+        x,
+        Round(top.0 + 1),
+        places,
+        w,
+        starts,
+    );
+}
+
+// The same, where next has a word for each place; gives that committee.
+fn filled_by(
+    t: &[u32],
+    s: Settings,
+    blocks: u32,
+    m: Round,
+    top: Round,
+    next: &mut [u32],
+    l: &mut [u32; 1025],
+) -> [u64; 16]
+    requires { WalkRoom s t.now blocks next.old × RoundSpan m.0 top.0 }
+    ensures { LeadersFilled s (chain_of s.ceiling.0 t.now blocks) m.0 top.0 l.old l.new result }
+{
+    let mut w = s.weights;
+    let end = s.ceiling.0 * 16 + 16;
+    let mut head = [end; 512];
+    changes::links::link_rows(t, &mut head, next, s.ceiling);
+    let mut starts = [16u32; 512];
+    let places = positions::places();
+    fill_rounds(
+        t,
+        &head,
+        next,
+        s,
+        blocks,
+        m,
+        top,
+        &places,
+        &mut w,
+        &mut starts,
+        l,
+    );
+    w
+}
+
+// Writes the number of the leader of each round above m up to top, 16 for none; gives the committee of the round above top.
+pub fn fill_leaders(
+    t: &[u32],
+    s: Settings,
+    blocks: u32,
+    m: Round,
+    top: Round,
+    l: &mut [u32; 1025],
+) -> [u64; 16]
+    requires { ChainInTable s t.now blocks × RoundSpan m.0 top.0 }
+    ensures { LeadersFilled s (chain_of s.ceiling.0 t.now blocks) m.0 top.0 l.old l.new result }
+{
+    if s.ceiling.0 <= changes::links::FEW_ROUNDS {
+        let mut few = [0u32; changes::links::FEW];
+        return filled_by(t, s, blocks, m, top, &mut few, l);
+    }
+    let mut many = [0u32; changes::links::MANY];
+    filled_by(t, s, blocks, m, top, &mut many, l)
+}

@@ -1,2 +1,0 @@
-pub mod ShareLaws
-pub mod MoveLaws

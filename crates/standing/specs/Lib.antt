@@ -1,2 +1,0 @@
-pub mod Answers
-pub mod Reads

@@ -1,0 +1,29 @@
+// What is cleared in the table: the endorsed mark of a place, and the part that a state uses (scope document: A member's state).
+
+ghost use Rattle.std.specs.Prelude.{◌≡◌};
+ghost use Rattle.store.specs.Table.{Within, Row};
+ghost use Rattle.store.specs.Writes.{clear_endorsed, clear_used};
+
+use crate::lengths::ROW;
+use terms::{Member, Round};
+
+// Clears the endorsed mark of a place.
+pub fn clear_endorsed(t: &mut [u32], m: Member, r: Round)
+    requires { Within t.old m.0 r.0 }
+    ensures { t.new ≡ clear_endorsed t.old m.0 r.0 }
+{
+    let word = r.0 as usize * ROW + 1;
+    let rest = base::without(t[word], m.0);
+    t[word] = rest;
+}
+
+// Clears what a state of ceiling n uses.
+pub fn clear_used(t: &mut [u32], n: Round)
+    requires { Row t.old n.0 }
+    ensures { t.new ≡ clear_used t.old n.0 }
+{
+    let end = n.0 as usize * ROW + ROW;
+    for i in 0..end {
+        t[i] = 0;
+    }
+}

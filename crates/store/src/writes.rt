@@ -1,0 +1,110 @@
+// What is written into the table: certificates put, endorsed marks set, marks and rounds of blocks (scope document: A member's state).
+
+ghost use Rattle.std.specs.Prelude.{◌≡◌, ◌+◌, ◌*◌, ◌<◌, ◌≤◌, length};
+ghost use Rattle.std.proofs.Math.Seq.{paste};
+ghost use Rattle.terms.specs.Proposals.{content_of, content_with};
+ghost use Rattle.store.specs.Table.{record_length, Within, Row, nth_of};
+ghost use Rattle.store.specs.Writes.{put_transaction, record_of, put_certificate, set_endorsed, set_held, set_mark, set_block};
+
+use crate::lengths::{FIRST, HEAD, RECORD, ROW, TRANSACTION};
+use terms::{Body, Member, Proposal, Round, Transaction};
+
+// Slot k of a proposal, nothing beyond its transactions.
+fn slot(b: Body, k: u32, a: Member, r: Round) -> Transaction
+    requires { (k < 4) × (b.count ≤ 4) }
+    ensures { result ≡ nth_of (content_with a.0 r.0 b) k }
+{
+    if k < b.count {
+        return terms::slot_at(b, k);
+    }
+    Transaction::Bond(Member(0), 0)
+}
+
+// A transaction as the three words of slot k.
+fn put_transaction(w: [u32; RECORD], k: u32, x: Transaction) -> [u32; RECORD]
+    requires { k < 4 }
+    ensures { result ≡ put_transaction w k x }
+{
+    let at = (FIRST + k * TRANSACTION) as usize;
+    let mut v = w;
+    v[at] = terms::kind(x);
+    v[at + 1] = terms::number(x);
+    v[at + 2] = terms::amount(x);
+    v
+}
+
+// The record of a certificate, in no block.
+fn record_of(p: Proposal, endorsers: u16) -> [u32; RECORD]
+    requires { p.body.count ≤ 4 }
+    ensures { result ≡ record_of (content_of p) endorsers }
+{
+    let b = p.body;
+    let a = p.author;
+    let r = p.round;
+    let mut w = [0u32; RECORD];
+    w[0] = b.previous as u32;
+    w[1] = b.count;
+    w[3] = endorsers as u32;
+    let w0 = put_transaction(w, 0, slot(b, 0, a, r));
+    let w1 = put_transaction(w0, 1, slot(b, 1, a, r));
+    let w2 = put_transaction(w1, 2, slot(b, 2, a, r));
+    put_transaction(w2, 3, slot(b, 3, a, r))
+}
+
+// Stores a record from b on.
+fn put_words(t: &mut [u32], b: usize, w: [u32; RECORD])
+    requires { b + record_length ≤ length t.old }
+    ensures { t.new ≡ paste t.old b w record_length }
+{
+    for k in 0..RECORD {
+        t[b + k] = w[k];
+    }
+}
+
+// Puts a certificate at its place with its endorsers, in no block.
+pub fn put_certificate(t: &mut [u32], p: Proposal, endorsers: u16)
+    requires { Within t.old p.author.0 p.round.0 × (p.body.count ≤ 4) }
+    ensures { t.new ≡ put_certificate t.old (content_of p) endorsers }
+{
+    let m = p.author.0;
+    let at = p.round.0 as usize * ROW;
+    let place = at + m as usize * RECORD + HEAD;
+    let w = record_of(p, endorsers);
+    let held = base::with(t[at], m);
+    put_words(t, place, w);
+    t[at] = held;
+}
+
+// Marks a place endorsed.
+pub fn set_endorsed(t: &mut [u32], m: Member, r: Round)
+    requires { Within t.old m.0 r.0 }
+    ensures { t.new ≡ set_endorsed t.old m.0 r.0 }
+{
+    let at = r.0 as usize * ROW + 1;
+    let s = base::with(t[at], m.0);
+    t[at] = s;
+}
+
+// Writes the authors whose certificates of round r are held.
+pub fn set_held(t: &mut [u32], r: Round, authors: u32)
+    requires { Row t.old r.0 }
+    ensures { t.new ≡ set_held t.old r.0 authors }
+{
+    t[r.0 as usize * ROW] = authors;
+}
+
+// Puts the certificate of a place into block b.
+pub fn set_mark(t: &mut [u32], m: Member, r: Round, b: u32)
+    requires { Within t.old m.0 r.0 }
+    ensures { t.new ≡ set_mark t.old m.0 r.0 b }
+{
+    t[r.0 as usize * ROW + m.0 as usize * RECORD + HEAD + 2] = b;
+}
+
+// Block k has the round r.
+pub fn set_block(t: &mut [u32], k: u32, r: Round)
+    requires { Row t.old k }
+    ensures { t.new ≡ set_block t.old k r.0 }
+{
+    t[k as usize * ROW + 2] = r.0;
+}

@@ -1,2 +1,0 @@
-pub mod Triples
-pub mod Bodies

@@ -1,2 +1,0 @@
-pub mod OrderLaws
-pub mod AnswerLaws
