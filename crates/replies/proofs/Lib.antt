@@ -1,3 +1,4 @@
 pub mod CachedLaws
 pub mod RecordLaws
 pub mod ReplyLaws
+pub mod ReadBack
