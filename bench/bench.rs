@@ -1241,6 +1241,9 @@ fn main() {
     };
     println!("# Cost of calls\n");
     println!("Nanoseconds per call, median of {} batches.\n", pace.batches);
+    if let Ok(toolchain) = std::env::var("TOOLCHAIN") {
+        println!("Measured with the toolchain {toolchain}.\n");
+    }
     println!("Advance needs a quorum of its present round: an empty state refuses it with 28, half and full ones have one but for \"thin round\".");
     for ceiling in [64, 256, 1_024] {
         print_ceiling(ceiling, &pace);

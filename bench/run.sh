@@ -94,4 +94,4 @@ fi
 before='before_queues, before_previews, before_critical, before_guests, before_effects, before_ports'
 rustc --edition 2021 -C opt-level=3 -C codegen-units=1 --check-cfg "cfg(plain, other, $before)" "$@" \
     "$top/bench/bench.rs" -o "$built/bench"
-exec "$built/bench" $pace
+TOOLCHAIN=${TOOLCHAIN:-$(rt version 2> /dev/null || echo unknown)} exec "$built/bench" $pace

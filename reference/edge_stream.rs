@@ -1,8 +1,8 @@
 //! `edge_stream DIRECTORY` writes edge.stream, edge.expected and
 //! edge.comments there, and some tail-N.stream with tail-N.expected.
 //!
-//! The expected answers stand here as written by hand from document 01 and the
-//! points that change it; the reference runner is not asked.
+//! The expected answers stand here as written by hand from docs/RULES.md; the
+//! reference runner is not asked.
 
 use std::fmt::Write as _;
 use std::fs;
@@ -287,7 +287,7 @@ fn main() {
     e.ok(&open("15", "1000", "3", "0", &["1000000", "0", "0", "0", "", "", "", "", "", "", "", "", "", "", "", "1000000"]), "ends of the ranges: own 15, lookback 1,000, ceiling 3, allowance 0, weight 1,000,000");
     e.ok(&open("0", "1", "64", "4", &ALONE), "ends of the ranges: lookback 1, ceiling 64, allowance 4; another open");
 
-    e.part("the example of the paper");
+    e.part("the example of the rules");
     e.ok("open,0,,64,,1,0,0,0,,,,,,,,,,,,", "another open starts afresh");
     e.ok("propose,0,E,7,0", "");
     e.ok("certify,0", "no endorsers: the author is a quorum alone");

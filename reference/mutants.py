@@ -138,7 +138,7 @@ M=[
         Ok(())''','''        self.held[place(self.own, self.round)] = Some(Held { certificate, block: 0 });
         self.proposal = None;
         Ok(())'''),
-# order inside a block: that of document 01; of it alone the committees, the listing
+# order inside a block: that by round, then author; of it alone the committees, the listing
 ('reference.rs','let first = leader.unwrap_or(0);','let first = leader.map_or(0, |_| 0);'),
 ('reference.rs','for &(r, a) in &certificates {','let mut before = certificates.clone();\n        before.sort();\n        for &(r, a) in &before {'),
 ('reference.rs','        Block { round, certificates, after }\n','        certificates.sort();\n        Block { round, certificates, after }\n'),

@@ -1,6 +1,5 @@
 #!/usr/bin/env python3
-"""A second writing of the rules and the runner of document 01 with the points
-that change it, as a check on the first: no caches, everything worked out from
+"""A second writing of the rules and of the runner (docs/RULES.md), as a check on the first: no caches, everything worked out from
 the state each time it is asked, dictionaries and sets throughout. Slow on
 purpose. The order inside a block starts with the author of its anchor here,
 with the leader of its round in the first writing; a draw goes from transaction

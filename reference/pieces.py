@@ -6,7 +6,7 @@ a shuffled stream, damaged stretches of it and stretches that end within a recor
 each of them whole, record by record, in random pieces, with each CR in one piece and its LF in the
 next, and, but for most of the stretches, byte by byte. The next piece is given when the runner has
 taken in the one before, and only after the lines of all records that have ended by then have come:
-a runner that keeps lines back is found out. The papers do not say when lines come: with `late` they
+a runner that keeps lines back is found out. The rules do not say when lines come: with `late` they
 may come at any time. What is expected is written by hand (example, edges) or comes from the reference.
 Stops at the first difference and leaves that stream in pieces.stream; says how much was compared."""
 import fcntl

@@ -1,9 +1,8 @@
-//! Ordering engine: reference rules, written from document 01 and the points
-//! that change it alone.
+//! Ordering engine: reference rules, written from docs/RULES.md alone.
 //!
-//! Plain on purpose. A refusal is the paper's number, so `Err(12)` below is
-//! the paper's "12". Each call comes as a pair: `may_...` makes the checks in
-//! the paper's order and changes nothing; the call itself makes them and then
+//! Plain on purpose. A refusal is the rules' number, so `Err(12)` below is
+//! their "12". Each call comes as a pair: `may_...` makes the checks in
+//! the rules' order and changes nothing; the call itself makes them and then
 //! does the change. A refused call therefore leaves the state as it was.
 
 #![allow(dead_code, unused_imports)]
@@ -18,7 +17,7 @@ pub use ports::*;
 use std::cmp::Ordering;
 use std::collections::VecDeque;
 
-/// Refusal numbers are those of the paper.
+/// Refusal numbers are those of the rules.
 pub type Answer<T> = Result<T, u32>;
 
 // ---------------------------------------------------------------- terms ---
@@ -122,7 +121,7 @@ pub struct Sheet {
     pub ceiling: Setting,
     pub allowance: Setting,
     pub weights: [Setting; 16],
-    /// Point 9.
+    /// Of the fault bound.
     pub margin: Setting,
 }
 

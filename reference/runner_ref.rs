@@ -1,4 +1,4 @@
-//! The runner of document 01 over the reference rules: records on standard
+//! The runner (docs/RULES.md, "Records") over the reference rules: records on standard
 //! input, answers on standard output.
 
 #![allow(dead_code)]

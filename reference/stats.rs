@@ -2,7 +2,7 @@
 //! sort of record, how often each answer came; commits also by their count.
 //! Of the chains at the end of each stretch it counts what the order inside a
 //! block has changed: blocks whose certificates do not go by round, then
-//! author, as in document 01, and committees, leaders and quorum weights that
+//! author, as the rules first had it, and committees, leaders and quorum weights that
 //! the same blocks would not give in that order; and how many stretches end at
 //! the ceiling, in a round that is not known, or in a thin one. For each margin
 //! it counts stretches, blocks, advances, the refusals that weigh something, and
@@ -31,7 +31,7 @@ fn name(record: Option<&Record>) -> &'static str {
     }
 }
 
-/// Chains against those of the order of document 01.
+/// Chains against those of the order by round, then author.
 #[derive(Default)]
 struct Order {
     blocks: u64,

@@ -2,7 +2,7 @@
 # stored.sh [DIRECTORY]: writes the stdin and stdout of the program `runner` there (crates/runner
 # if not given): streams one after another, and what the reference answers. In their order:
 #   the edges    first, since they begin with calls before any open
-#   the example  of the paper
+#   the example  of the rules
 #   shuffled runs, of margin 3:
 #   network 53   18 blocks up to a ceiling of 38; contested members: 22 committees and quorum weights
 #                and 4 leaders are other than by round, then author

@@ -1,5 +1,5 @@
-//! `rustc --test tests_ref.rs`: the cases marked P in document 01, the slips
-//! it wants ruled out, the example, small runs worked out by hand, the order
+//! `rustc --test tests_ref.rs`: the cases by numbers of docs/RULES.md, the slips
+//! that it wants ruled out, the example, small runs worked out by hand, the order
 //! inside a block, batches, queues, thin rounds, previews, margins, what a commit
 //! hangs on, guests' calls, ledgers of weights, what a bond does to the shares, serial
 //! ports, and the shortcuts of the reference compared with the plain definitions.
@@ -1772,7 +1772,7 @@ fn order_without_it() {
     assert_eq!(critical(&m, 64), Ok(vec![(6, 2), (6, 3)]));
 }
 
-/// What the paper says of states that a run reaches: the anchor, and each vote
+/// What the rules say of states that a run reaches: the anchor, and each vote
 /// where the remaining ones do not exceed the bound.
 fn by_votes(m: &Member) -> Answer<Vec<(u32, u32)>> {
     let (r, anchor) = (m.round(), m.may_commit()?);
@@ -2605,7 +2605,7 @@ fn effects_by_chance() {
 
 // ------------------------------------------------ serial ports (point 14) ---
 
-/// The example of the paper, and all guests may read.
+/// The example of the rules, and all guests may read.
 fn example() -> Member {
     let mut runner = Runner::default();
     for record in EXAMPLE.lines().take(10) {

@@ -17,7 +17,7 @@
 //! does to the shares (`effects.rs`), then PORTED accesses to ports (`ports.rs`), then
 //! calls by chance. Their stretches start from states grown by runs, from such states
 //! with words changed here and there, and with chains made up on what they hold. Whether
-//! a changed state is well formed is judged by `words.rs`, from the papers.
+//! a changed state is well formed is judged by `words.rs`, from docs/RULES.md.
 //!
 //! With `--cfg plain` the engine under test is bench/plain.rs.
 
@@ -268,7 +268,7 @@ struct Figures {
     leaderless: u64,
     unanchored: u64,
     /// Committees read, and those that the same blocks would not give in the
-    /// order of document 01, by round, then author.
+    /// first order, by round, then author.
     committees: u64,
     other: u64,
     /// Shares read; of them exact halves that go down and that go up, reads

@@ -1,6 +1,6 @@
 //! Margins: opens with every sort of margin, and for each margin quorums, previous
 //! sets and votes that are one short and just enough. Bounds and quorums are
-//! listed by hand, those of the papers among them.
+//! listed by hand, those of docs/RULES.md among them.
 
 use crate::calls::*;
 use crate::edges::*;

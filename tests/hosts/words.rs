@@ -1,7 +1,7 @@
 //! State, table and argument words as values of the reference, and back.
 //!
-//! Written from document 01, points 1, 6, 9 and 14 (well formed states), 2 (order inside
-//! a block) and 11 (rights), docs/TABLES.md and the host's layouts. `None` stands for
+//! Written from docs/RULES.md ("A member's state", "Order inside a block", "Rights"),
+//! docs/TABLES.md and the host's layouts. `None` stands for
 //! "refused with 1": words that cannot be read, or a state that is not well formed.
 
 use crate::reference::*;

@@ -1,7 +1,7 @@
 """What a stream of records and a runner's answers tell of one member.
 
 What is held and what is in a block is taken from the answers; leaders are worked out from the
-open record and the listed chain, by the rules of the scope document.
+open record and the listed chain, by docs/RULES.md.
 """
 from collections import namedtuple
 

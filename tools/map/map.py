@@ -1,4 +1,4 @@
-"""map.py [--check]: draws docs/map.svg from crates.txt and the first comment of each crate.
+"""map.py [--check]: draws docs/map.svg from crates.txt and the first line of each crate's page.
 
 Rooms stand bottom up, each on those that its broad arrows point to; so do the crates of a room, by
 thin arrows. Arrows that follow from others are left out. A crate that depends on one of a later room

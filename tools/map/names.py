@@ -1,11 +1,11 @@
 """Whether a page names only what is there.
 
-In backticks: a crate, a file or a folder; a function or type of the code; a definition, a law, or a field or case of one;
+In backticks: a crate, a file or a folder; a function, a type or a clause of the code; a definition, a law, or a field or case of one;
 an edit. A word of Rattle and what is no name (`[u64; 16]`) may stand there too. A file of a crate is crate/specs/File, of
-src or proofs likewise, an edit crate/edit, with backticks or without.
+src or proofs likewise, src/file one that some crate has, an edit crate/edit, with backticks or without.
 Names that stand before or behind a file or crate like this must be declared there; File alone is such a file of any crate:
-    `name`, `name` (crate/specs/File ..)    `name` (crate)    `name` (File)    `crate/specs/File` (`name`, `name`)
-    | `crate` | `name`, `name` |
+    `name`, `name` (crate/specs/File ..)    `name` (crate)    `name` (crate::module)    `name` (File)    `crate/specs/File` (`name`, `name`)
+    | `crate` | `name`, `name` |            | `crate::module` | `name`, `name` |
 """
 import os
 import re
@@ -18,14 +18,15 @@ import antt
 
 NAME = re.compile(r"`([^`]+)`")
 LISTED = r"`[^`]+`(?:(?:, (?:and )?| and )`[^`]+`)*"
-ROW = re.compile(rf"\| `(\w+)` \| ({LISTED}) \|")
-BEFORE = re.compile(rf"({LISTED}) \(([\w.]+(?:(?:/[\w.]+)+(?=[),:;])|(?=\))))")     # names, and where they are
+ROW = re.compile(rf"\| `(\w+(?:::\w+)*)` \| ({LISTED}) \|")
+BEFORE = re.compile(rf"({LISTED}) \((?!\d+\))([\w.]+(?:(?:(?:/[\w.]+)+|(?:::\w+)+)(?=[),:;])|(?=\))))")     # names, and where they are
 BEHIND = re.compile(rf"`([\w.]+(?:/[\w.]+)+)` \(({LISTED})\)")       # a file, and names in it
 PLACE = re.compile(r"(?<![\w/.-])(\w+)/([\w./-]*\w)(?![\w/*-])")   # a folder, a file or an edit
 WORD = re.compile(r"[\w./-]+(?:::[\w-]+)*")
 BUILT = "out"       # a folder of a crate that is there after a check only
-RATTLE = {"requires", "ensures", "pub", "std", "io", "Read", "Write"}
-CODE = re.compile(r"\b(?:fn|struct|enum|mod|const) (\w+)")
+RATTLE = {"requires", "ensures", "pub", "std", "io", "Read", "Write", "match", "Option", "Result", "PartialEq", "tactic", "auto", "using", "unfolding", "impl"}
+CODE = re.compile(r"\b(?:fn|struct|enum|trait|mod|const) (\w+)|\bensures (\w+) {")       # what is declared, and the names of clauses
+FOLDERS = {"src", "specs", "proofs"}      # of a crate
 
 
 def text_of(path):
@@ -40,7 +41,10 @@ class Names:
         self.everywhere = set().union(RATTLE, crates, (os.path.basename(edit)[:-5] for edit in edits), *(self.declared(crate) for crate in crates))
 
     def paths(self, name):
-        """Files and folders of a name, from the top or from crates/ on."""
+        """Files and folders of a name, from the top or from crates/ on; of crate::module, those of the module."""
+        crate, _, module = name.partition("::")
+        if module:
+            name = "/".join([crate, "src", *module.split("::")])
         places = ["", "crates"] + ([] if "/" in name else ["crates/*/specs", "crates/*/proofs"])
         return [path for place in places for end in ("", ".antt", ".rt") for path in glob(os.path.join(self.top, place, name + end))]
 
@@ -51,7 +55,7 @@ class Names:
                 items = antt.parse_file(path).items
                 self.found[path] = {name for item in items for name in [*item.names, *item.members]}
             elif path.endswith(".rt"):
-                self.found[path] = set(CODE.findall(text_of(path)))
+                self.found[path] = {name for names in CODE.findall(text_of(path)) for name in names if name}
             else:
                 self.found[path] = set(re.findall(r"\w+", text_of(path)))
         return self.found[path]
@@ -65,6 +69,8 @@ class Names:
     def places(self, line):
         """Crates' files and edits in a line that are not there."""
         for crate, rest in PLACE.findall(line):
+            if crate in FOLDERS and glob(os.path.join(self.top, "crates", "*", crate, rest)):
+                continue
             if BUILT not in rest.split("/") and not (self.paths(f"{crate}/{rest}") or self.paths(f"crates/{crate}/must-fail/{rest}.edit")):
                 yield f"{crate}/{rest}"
 

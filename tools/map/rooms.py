@@ -5,18 +5,17 @@ from collections import namedtuple
 
 Crate = namedtuple("Crate", "name needs head")      # head: its first comment
 Room = namedtuple("Room", "name remark crates")     # remark: what stands behind a colon in its name
-PARAGRAPH = re.compile(r" *\(scope document:[^)]*\)")
 
 
 def head_of(top, name):
-    """What the first comment of a crate says, without its paragraph of the scope document."""
+    """What the first line of a crate's page says."""
     for file in ("lib.rt", "main.rt"):
         path = os.path.join(top, "crates", name, "src", file)
         if os.path.exists(path):
             with open(path, encoding="utf-8") as source:
                 first = source.readline().strip()
             if first.startswith("//"):
-                return PARAGRAPH.sub("", first.lstrip("/ "))
+                return first.lstrip("/! ")
     raise ValueError(f"crates/{name}/src has no lib.rt or main.rt that starts with a comment")
 
 

@@ -3,7 +3,7 @@
     file = parse_code(path)
     file.uses       the `ghost use` lines, as antt.Use
     file.paths      local name to path, of the other `use` lines
-    file.functions  Function(name, attributes, line, types, names, contract)
+    file.functions  Function(name, attributes, line, types, names, contract, is_theorem)
     file.types      Declared(name, form, first, start, last, comment, variants, types)
 `types` are the paths of the types that stand in a signature or a declaration: ("state", "State").
 """
@@ -26,6 +26,7 @@ class Function:
     types: list
     names: list  # of the parameters
     contract: list  # tokens of each clause
+    is_theorem: bool  # it takes nothing and does nothing, so that its clauses are all that it is
 
 
 @dataclass
@@ -132,7 +133,10 @@ def parse_code(path):
             stop = balanced(text, clause.end() - 1)
             contract.append(antt.tokens_of([(row(clause.start()) + 1, text[clause.end():stop].replace("\n", " "))]))
             at = stop + 1
-        code.functions.append(Function(match[1], above(code.lines, start)[0], start + 1, types, names, contract))
+        body = text.find("{", at)
+        does_nothing = body >= 0 and not text[body + 1:balanced(text, body)].strip()
+        is_theorem = bool(contract) and not parameters.strip() and not result and does_nothing
+        code.functions.append(Function(match[1], above(code.lines, start)[0], start + 1, types, names, contract, is_theorem))
     return code
 
 

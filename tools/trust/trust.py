@@ -3,7 +3,8 @@
 They are what these unfold to, types as well as bodies:
   - the contracts of the functions that hosts link (marked #[unsafe(no_mangle)]),
   - the contracts of the runner that say which bytes are read, and which are written for them (RUNNER),
-  - the types of the theorem of demand 3, of those of batches, of guests' queues, of runs by the earlier rules, of previews, of what commits hang on, of guests' rights, of weights that add up, of how far bonds move shares and of serial ports (THEOREM, BATCHES, QUEUES, EARLIER, PREVIEWS, PIVOTS, GUESTS, LEDGER, EFFECTS, PORTS), and the file of the first's statement (STATEMENT).
+  - the contracts of the theorems: the functions that take nothing and do nothing, and those of RUNS,
+  - the types of the laws that no clause can say (LAWS).
 A law is never followed: whatever it says is proved. How laws are told from definitions stands in tree.py.
 
 The list is in reading order, bottom up: files in the order in which they use one another, each file from top to bottom,
@@ -21,6 +22,7 @@ so that whatever a definition uses stands above it.
   trust.py --why NAME    a chain of uses from a root to a definition of the list
 """
 import os
+import re
 import sys
 from pathlib import Path
 
@@ -31,26 +33,9 @@ import rt as source
 import tree
 
 HOST = "unsafe(no_mangle)"
-RUNNER = ["passes::run", "passes::conclude", "channel::more", "channel::flush"]
-THEOREM = "nonforking.Theorem.demand-3"
-BATCHES = ["turns.OrderLaws.each-has-one-turn", "batch.AgainLaws.eleven-again-or-seventeen", "batching.ClaimLaws.answered-as-accept", "batching.ClaimLaws.offered-again",
-           "submissions.SubmissionLaws.leaves-as-its-calls", "submissions.SubmissionLaws.batches-lead-to", "submissions.SubmissionLaws.demand-3-with-batches"]
-QUEUES = ["draw.ClaimLaws.drawn-seen", "draw.ClaimLaws.never-six", "fairness.KeptLaws.queues-kept", "fairness.FairLaws.fairness",
-          "fairness.BatchLaws.batch-keeps-queues", "fairness.BatchLaws.fairness-with-batches"]
-EARLIER = ["earlier.RefusingLaws.same-engines", "earlier.RefusingLaws.runs-were-allowed", "earlier.RefusingLaws.carries_over", "earlier.EarlierLaws.members-refuse-more",
-           "earlier.EarlierLaws.only-thin-refused", "earlier.EarlierLaws.earlier-refused-same", "earlier.EarlierLaws.was-allowed-earlier",
-           "earlier.EarlierLaws.agreement-carries-over", "earlier.Thin.thin-advance"]
-PREVIEWS = ["preview.ClaimLaws.refused-as-commit", "preview.ClaimLaws.entries-beyond", "preview.ClaimLaws.room-for-all"]
-PIVOTS = ["pivotal.PivotLaws.commits-hang-on-pivots", "pivotal.RefusalLaws.absent-as-commit", "pivotal.PortLaws.ports-not-counted", "pivotal.RefusalLaws.critical-refused-as-commit",
-          "pivotal.RefusalLaws.room-for-critical"]
-GUESTS = ["guests.GuestLaws.rights-stay", "submissions.RequestLaws.allowed-as-host", "submissions.RequestLaws.noninterference", "submissions.RequestLaws.rights-stay-then",
-          "submissions.RequestLaws.requests-lead-to", "submissions.RequestLaws.demand-3-with-guests", "guesting.GuestedLaws.allowed-over-words", "guesting.GuestedLaws.noninterference-over-words",
-          "guesting.GuestedLaws.rights-word-stays", "fairness.GuestLaws.adds-to-no-other", "fairness.GuestLaws.fairness-with-guests"]
-LEDGER = ["ledger.ListedLaws.journal-listed", "balance.BalanceLaws.weights-add-up"]
-EFFECTS = ["bonding.BoundLaws.effect-bounded", "bonding.BoundLaws.largest-of-all", "bonding.BoundLaws.effect-of-shares", "bonding.BoundLaws.none-without-weight",
-           "hosting.BoundLaws.bounded-over-words", "hosting.BoundLaws.largest-over-words", "hosting.BoundLaws.shares-over-words"]
-PORTS = ["ports.RegisterLaws.registers-hold", "receiving.ResetLaws.answers-shown", "receiving.ResetLaws.resets", "receiving.ResetLaws.opening-resets", "receiving.OtherPorts.leaves-ports", "receiving.OtherPorts.leaves-other-ports", "receiving.ReceivedLaws.reads-a-prefix", "hosting.PortLaws.refused-first"]
-STATEMENT = "nonforking.Statement"
+RUNNER = ["serving::run", "stream::run::run", "stream::ended::told", "serving::keeper::new"]
+RUNS = ["runs::make", "runs::run"]  # theorems on code: their contracts are read with those of the theorems
+LAWS = ["earlier.RefusingLaws.carries_over", "kept.RunLaws.carries_to_requests"]  # over every property of engines: a clause is of the lowest universe, and these are not
 PAGE = "docs/TRUST.md"
 README = "README.md"
 KIT = "rattle-kit-13f, whose logic has the sum dac8208d650f15bf"
@@ -59,21 +44,21 @@ HEAD = """# What to believe
 
 Made by `tools/trust/trust.py --page`; `scripts/pages.sh` checks that it is current.
 
-A proof says that code does what a definition says. Whether the definition says what is wanted, only a reader can tell. This page lists every definition that must be read for that, and no other: what the contracts of the library and of the runner unfold to, and what demand 3, the claims of batches, of guests' queues, of runs by the earlier rules, of previews, of what commits hang on, of guests' rights, of weights that add up, of how far bonds move shares and of serial ports unfold to.
+A proof says that code does what a definition says. Whether the definition says what is wanted, only a reader can tell. This page lists every definition that must be read for that, and no other: what the contracts of the library, of the runner and of the theorems unfold to. A theorem is a function that takes nothing and does nothing: its clauses are all that it is. They stand in src/theorems.rt of the crates that they speak of, and in `kept`, `library` and `wordclaims`.
 
 {specs}
 
 | | |
 |---|---|
-| proved | each function that a host links: on any words and lengths, its answer and every word that it leaves are those of its contract (`Done`). The runner, pass by pass (`PassServed`): what is handed to be written is what is answered to what was read, more is read only after that, a pass that goes on has written or read something, and the input has ended only where a read with room for more gave nothing. A run (`RunServed`): passes one after another from the start, over only at the end of the input, at a write that failed, or after 2^64 − 1 of them; at the end of the input all that was handed to be written is the output for all that was read (`output`). For a reader and a writer whose bytes are known, a run takes what it read from the one, and adds what it handed to be written to the other where no write failed (`taken` and `given` of `RunServed`); and where the input ended by a read that answered 0 and no write failed (`WentWell`), what it adds is the output for the whole input (`run`, its clause `whole`). Demand 3: `DemandThree`, over every list of calls; with batches among them `DemandThreeWithBatches`. Of batches: `EachHasOneTurn`, `AnsweredAsAccept`, `ElevenAgainOrSeventeen`, `OfferedAgain`, `LeavesAsItsCalls`, `BatchesLeadTo`. Of guests' queues: `DrawnSeen`, `NeverSix`, `QueuesKept`, `BatchKeepsQueues`, over every list of calls `Fairness`, and with batches among them `FairnessWithBatches`. Of Point 7: `MembersRefuseMore`, `OnlyThinRefused`, `EarlierRefusedSame`, `ThinAdvance`, and over every run `WasAllowedEarlier`, `RunsWereAllowed`, `SameEngines`, `CarriesOver`, `AgreementCarriesOver`. Of previews: `RefusedAsCommit`, `EntriesBeyond`, `RoomForAll`. Of what a commit hangs on: `AbsentAsCommit`, `PortsNotCounted`, `CriticalRefusedAsCommit`, `RoomForCritical`, and of every engine that calls from an opening lead to `CommitsHangOnPivots`. Of guests' rights: `AllowedAsHost` and `Noninterference`, over words `AllowedOverWords` and `NoninterferenceOverWords`, `RightsStay`, `RightsStayThen` and `RightsWordStays`, `AddsToNoOther`, and over every list of hosts' and guests' requests `RequestsLeadTo`, `FairnessWithGuests` and `DemandThreeWithGuests`. Of weights: `JournalListed`, and of every engine that calls from an opening lead to `WeightsAddUp`. Of bonds: `EffectBounded`, `LargestOfAll`, `EffectOfShares`, `NoneWithoutWeight`, and over words `BoundedOverWords`, `LargestOverWords` and `SharesOverWords`. Of serial ports: `RegistersHold`, `AnswersShown`, `Resets`, `OpeningResets`, `LeavesPorts`, `LeavesOtherPorts`, over words `RefusedFirst`, and over every list of hosts' and guests' requests `ReadsAPrefix` |
+| proved | each function that a host links: on any words and lengths, its answer and every word that it leaves are those of its contract (`Done`). The runner, of every peer: each step of a run is one that may come there (`Follows`): more is read only where all that can be answered is written and flushed (`MayRead`), nothing but answers ever goes out (`Partly`), and nothing comes after a write that failed; and how it ended fits its last step, and the engine that it left (`Ends`): at the end of the input it is the engine after every record that was read (`Done`), else after the first ones of them (`Reached`). For a reader and a writer whose bytes are known, however a run ended, what it added to the one is a first part of the answers to what it took from the other (`AddsPart`), and where the input came to its end it is the output for the whole input (`output`; `run` of serving, its clause `whole`). The theorems, each in its own words at its function: over every list of calls, of calls and batches, of requests of hosts and guests, and of the library's calls over words, chains never fork (`chains_never_fork`, `chains_never_fork_with_batches`, `chains_never_fork_with_guests`, `chains_never_fork_over_words`), and so on for the others; the list of them is under "Roots". `run` of crate `runs` makes a list of calls on several members' engines, and its contract says that their chains never fork. Two claims are of every property of engines, which no clause can say, and are laws alone: `carries_over`, and `carries_to_requests` |
 | assumed by the proofs | the prover (of {kit}); the compilers' back ends; Rattle's standard library where it calls the C library, which it does in `Stdin` and `Stdout` of `std::io` (a read answers an error or at most as many bytes as it was lent, and so does a write), and that the operating system delivers what they pass on. The library for hosts calls neither |
-| on trust in the runner | what no contract of this language can say, since it says nothing of the world outside: that std's `Stdin` gives the bytes of standard input, and its `Stdout` writes bytes to standard output, in their order and once each; and that `main` hands these two to `run`. What they have left and what they hold is not known to a contract, so the clauses on known bytes say nothing of them. But `run` is one function for every reader and writer, and can do with them only what `Read` and `Write` of `std::io` offer: what is proved of it for known bytes is so of the code that runs. Only `more` and `flush` (channel) read and write, and they are called at three places: `refill` and `serve_pass` of session, `conclude` of passes. What `run` gives back is tied to these calls: no crate but `channel` can make what a read or a write gave, and none but `session` a session, since their fields are private; so the passes of `RunServed` lead to a session that `serve_pass` gave, and the last write is one that `flush` gave |
-| assumed by demand 3 | signatures are genuine (`Signed` in `Fair`); in every committee that a correct member knows, faulty members weigh at most the fault bound (`WithinBound`) |
+| on trust in the runner | what no contract of this language can say, since it says nothing of the world outside: that std's `Stdin` gives the bytes of standard input, and its `Stdout` writes bytes to standard output, in their order and once each; that `main` hands these two, as a `Tied`, and a `Keeper` of no open member (`Keeper::new`), to `run` of serving, and ends with what `told` makes of how that ended (`stream::ended`, where its contract says that all is well only at the end of the input). What they have left and what they hold is not known to a contract, so the clauses on known bytes say nothing of them. But `run` is one function for every peer, and can do with it only what a `Peer` offers (stream): what is proved of it is so of the code that runs. A step of a talk, `came`, `went`, `flushed` or one that failed, is had only by the call that made it, since what a talk is is not known to `run`: neither bytes, nor a flush, nor a failure can be made up there. **What cannot be refused** are three short functions, `read`, `write` and `flush` of `Tied`, which ask std's reader and writer: each may tell a failure that did not happen, and a `flush` may tell of one that was not made, for std promises of a flush only that no byte is lost by it. These three are to be read |
+| assumed where chains never fork | signatures are genuine (`Signed` in `Fair`); in every committee that a correct member knows, faulty members weigh at most the fault bound (`WithinBound`) |
 | not listed | laws: whatever they say is proved. Definitions that only proofs use. Rattle's libraries, of which the last section lists the names used |
 
 ## How to read it
 
-The list is bottom up: whatever a definition uses stands above it, in its own file or in one above. To read top down, start at the roots and look each name up. Behind a name stands the number of its lines without comments; `(h)`, `(r)`, `(3)`, `(b)`, `(q)`, `(e)`, `(p)`, `(c)`, `(g)`, `(l)`, `(m)`, `(s)` say that the host's contracts, the runner's, demand 3, the claims of batches, of guests' queues, of runs by the earlier rules, of previews, of what commits hang on, of guests' rights, of weights that add up, of how far bonds move shares, or of serial ports unfold to it. A file under `src/` has types that the code declares; contracts see them as records and cases.
+The list is bottom up: whatever a definition uses stands above it, in its own file or in one above. To read top down, start at the roots and look each name up. Behind a name stands the number of its lines without comments; `(h)`, `(r)` and `(t)` say that the host's contracts, the runner's, or the theorems unfold to it. A file under `src/` has types that the code declares; contracts see them as records and cases.
 """
 
 
@@ -81,7 +66,8 @@ class List:
     def __init__(self, forest):
         self.tree = forest
         self.items, self.marks, self.why, self.laws, self.library = {}, {}, {}, {}, {}
-        self.roots = {"h": self.host_roots(), "r": self.runner_roots(), "3": self.demand_roots(), "b": self.theorem_roots(BATCHES), "q": self.theorem_roots(QUEUES), "e": self.theorem_roots(EARLIER), "p": self.theorem_roots(PREVIEWS), "c": self.theorem_roots(PIVOTS), "g": self.theorem_roots(GUESTS), "l": self.theorem_roots(LEDGER), "m": self.theorem_roots(EFFECTS), "s": self.theorem_roots(PORTS)}
+        self.theorems = {crate: self.theorem_roots(crate) for crate in self.tree.crates}
+        self.roots = {"h": self.host_roots(), "r": self.runner_roots(), "t": [root for roots in self.theorems.values() for root in roots]}
         for mark, roots in self.roots.items():
             for name, found in roots:
                 self.follow(found, mark, name)
@@ -89,13 +75,7 @@ class List:
     def cited(self):
         """What the contracts of all functions unfold to."""
         every = self.contracts([(file, function) for file in self.tree.codes.values() for function in file.functions], "no function")
-        seen, todo = {}, [found for _, found in every]
-        while todo:
-            item = todo.pop()
-            if isinstance(item, (antt.Item, source.Declared)) and id(item) not in seen and self.tree.kind(item) != "law":
-                seen[id(item)] = item
-                todo += self.below(item)
-        return seen
+        return {id(item): item for item in self.walked(every)}
 
     # ---- roots
 
@@ -104,12 +84,14 @@ class List:
                                if HOST in function.attributes], "no function is marked " + HOST)
 
     def runner_roots(self):
+        return self.roots_named(RUNNER)
+
+    def roots_named(self, names):
         roots = []
-        for root in RUNNER:
-            *path, name = root.split("::")
-            parts = tuple(path[1:])
-            roots += self.contracts([(file, function) for (crate, where), file in self.tree.codes.items() for function in file.functions
-                                     if crate == path[0] and function.name == name and (where == parts or not parts)], root + " is not there")
+        for root in names:
+            crate, *parts, name = root.split("::")
+            roots += self.contracts([(file, function) for (owner, where), file in self.tree.codes.items() for function in file.functions
+                                     if owner == crate and function.name == name and (where == tuple(parts) or not parts)], root + " is not there")
         return roots
 
     def contracts(self, functions, otherwise):
@@ -132,23 +114,36 @@ class List:
                 return module
         return None
 
-    def theorem_roots(self, names):
-        roots = []
-        for name in names:
-            module = self.module_named(name.rpartition(".")[0])
-            theorem = module and module.table.get(name.rpartition(".")[2])
-            if not theorem:
-                sys.exit(f"trust.py: {name} is not there: mend the roots at the top")
-            roots += [(name, self.tree.lookup(module, parts)) for parts in self.tree.used(theorem).type]
+    def theorem_roots(self, crate):
+        """Of the theorems of a crate, those on code among them, and of the laws of it that no clause can say."""
+        functions = [(file, function) for (owner, _), file in self.tree.codes.items() if owner == crate for function in file.functions if function.is_theorem]
+        roots = self.contracts(functions, "") if functions else []
+        roots += self.roots_named([root for root in RUNS if root.split("::")[0] == crate])
+        for name in LAWS:
+            path, _, law = name.rpartition(".")
+            if path.split(".")[0] == crate:
+                module = self.module_named(path)
+                found = module and module.table.get(law)
+                if not found:
+                    sys.exit(f"trust.py: {name} is not there: mend the roots at the top")
+                roots += [(name, self.tree.lookup(module, parts)) for parts in self.tree.used(found).type]
         return roots
 
-    def demand_roots(self):
-        statement = self.module_named(STATEMENT)
-        if not statement:
-            sys.exit(f"trust.py: {STATEMENT} is not there: mend the roots at the top")
-        return self.theorem_roots([THEOREM]) + [(STATEMENT, item) for item in statement.items if self.tree.kind(item) != "law"]
+    def walked(self, roots):
+        """All that roots unfold to."""
+        seen, todo = {}, [found for _, found in roots]
+        while todo:
+            item = todo.pop()
+            if isinstance(item, (antt.Item, source.Declared)) and id(item) not in seen and self.tree.kind(item) != "law":
+                seen[id(item)] = item
+                todo += self.below(item)
+        return list(seen.values())
 
     # ---- what roots unfold to
+
+    def unfolded(self, roots):
+        """To how many definitions of specs/."""
+        return sum(len(item.names) for item in self.walked(roots) if isinstance(item, antt.Item))
 
     def follow(self, found, mark, why):
         todo = [(found, why)]
@@ -226,7 +221,23 @@ class List:
         return [item for item in rest if id(item) in cited], [item for item in rest if id(item) not in cited]
 
     def laws_in_specs(self):
-        return [item for module in self.specs() for item in module.items if self.tree.kind(item) == "law"]
+        """Without those by which an impl of the code proves the laws of its trait: code names only what stands in specs/."""
+        of_impls = self.laws_of_impls()
+        return [item for module in self.specs() for item in module.items if self.tree.kind(item) == "law" and id(item) not in of_impls]
+
+    def laws_of_impls(self):
+        """What the ghost members of the code's impls name, and what that stands on."""
+        todo = []
+        for path in Path("crates").glob("*/src/**/*.rt"):
+            named = set(re.findall(r"\w+", " ".join(re.findall(r"\bghost \w+ = \{(.*)\};", path.read_text(encoding="utf-8")))))
+            todo += [item for module in self.specs() if module.path.split("/")[1] == path.parts[1] for item in module.items if named & set(item.names)]
+        seen = {}
+        while todo:
+            item = todo.pop()
+            if isinstance(item, antt.Item) and id(item) not in seen:
+                seen[id(item)] = item
+                todo += [self.tree.lookup(self.tree.home[id(item)], parts) for parts in self.tree.used(item).all()]
+        return seen
 
 
 def text_lines(item):
@@ -251,18 +262,19 @@ def specs_held(listing):
     """What the lines of specs/ are."""
     totals, (cited, rest) = listing.totals(), listing.others()
     laws = len(listing.laws_in_specs())
+    of_impls = sum(listing.tree.kind(item) == "law" for item in listing.laws_of_impls().values())
     kinds = [f"{totals['with comments']:,} are the {totals['definitions']} definitions of this list",
              f"{sum(map(text_lines, cited)):,} the {sum(len(item.names) for item in cited)} that contracts of inner functions cite besides",
-             f"{sum(map(text_lines, rest)):,} the {sum(len(item.names) for item in rest)} of the theory, of what is claimed beside demand 3, of the table of P cases, and helpers that only laws use"]
+             f"{sum(map(text_lines, rest)):,} the {sum(len(item.names) for item in rest)} of the theory, of what is claimed beside those, of the table of cases by numbers, and helpers that only laws use"]
     return (f"The folders specs/ have {totals['every']:,} lines. With their comments " + ", ".join(kinds[:2]) + " and " + kinds[2] +
-            "; the others are imports, heads of files and blank lines. " + (f"{laws} laws stand there." if laws else "No law stands there."))
+            "; the others are imports, heads of files and blank lines. " + (f"{laws} laws stand there." if laws else f"No law stands there but {of_impls} by which impls of the code prove what their traits ask." if of_impls else "No law stands there."))
 
 
 def summary(totals):
     return [f"{totals['definitions']} definitions, {totals['lines']} lines ({totals['with comments']} with their comments): "
             f"{totals['share']:.0f} % of the lines of specs/ ({roughly(totals['every'])}).",
             f"{totals['declared']} types that the code declares, {totals['declared lines']} lines.",
-            f"Of the definitions the host's contracts unfold to {totals['h']}, the runner's to {totals['r']}, demand 3 to {totals['3']}, the claims of batches to {totals['b']}, those of guests' queues to {totals['q']}, those of runs by the earlier rules to {totals['e']}, those of previews to {totals['p']}, those of what commits hang on to {totals['c']}, those of guests' rights to {totals['g']}, those of weights that add up to {totals['l']}, those of how far bonds move shares to {totals['m']}, those of serial ports to {totals['s']}."]
+            f"Of the definitions the host's contracts unfold to {totals['h']}, the runner's to {totals['r']}, the theorems to {totals['t']}."]
 
 
 def printed(listing):
@@ -275,11 +287,18 @@ def printed(listing):
     print("\n".join(summary(listing.totals())))
 
 
+def listed(roots):
+    return ", ".join(f"`{name}`" for name in dict.fromkeys(name for name, _ in roots))
+
+
 def page(listing):
     text = [HEAD.replace("{specs}", specs_held(listing)).replace("{kit}", KIT), "## Roots\n"]
-    for mark, what in (("h", "the host's contracts"), ("r", "the runner's contracts"), ("3", "demand 3"), ("b", "the claims of batches"), ("q", "the claims of guests' queues"), ("e", "the claims of runs by the earlier rules"), ("p", "the claims of previews"), ("c", "the claims of what commits hang on"), ("g", "the claims of guests' rights"), ("l", "the claims of weights that add up"), ("m", "the claims of how far bonds move shares"), ("s", "the claims of serial ports")):
-        names = dict.fromkeys(name for name, _ in listing.roots[mark])
-        text.append(f"- ({mark}) {what}: {', '.join(f'`{name}`' for name in names)}")
+    for mark, what in (("h", "the host's contracts"), ("r", "the runner's contracts")):
+        text.append(f"- ({mark}) {what}: {listed(listing.roots[mark])}")
+    text.append("- (t) the theorems, and how many definitions those of a crate unfold to:")
+    for crate, roots in listing.theorems.items():
+        if roots:
+            text.append(f"  - {crate}, {listing.unfolded(roots)}: {listed(roots)}")
     text.append("")
     crate = None
     for path, file, items in listing.files():

@@ -4,7 +4,7 @@ use core::fmt;
 
 macro_rules! refusals {
     ($($name:ident = $number:literal, $meaning:literal;)*) => {
-        /// Why a call was refused; the numbers are those of the scope document and of its change requests. Later versions may
+        /// Why a call was refused; the numbers are those of docs/RULES.md. Later versions may
         /// have more.
         #[derive(Clone, Copy, PartialEq, Eq, Hash, Debug)]
         #[non_exhaustive]
@@ -60,7 +60,7 @@ refusals! {
 }
 
 impl Refusal {
-    /// Its number in the scope document or a change request.
+    /// Its number in docs/RULES.md.
     #[must_use]
     pub const fn number(self) -> u32 {
         self as u32

@@ -21,7 +21,7 @@ fn entry(number: u32) -> Transaction {
     Transaction::Entry { number }
 }
 
-/// Member 0 alone: the sheet of the scope document's example.
+/// Member 0 alone: the sheet of the runner's example.
 fn alone() -> Engine {
     let mut sheet = Sheet { ceiling: Some(64), ..Sheet::default() };
     sheet.weights[..4].copy_from_slice(&[Some(1), Some(0), Some(0), Some(0)]);

@@ -24,10 +24,8 @@ use Rattle.state.proofs.ViewLaws.{same-dag}
 use Rattle.state.specs.WellFormed.{well_formed}
 use Rattle.state.proofs.FormedLaws.{formed}
 use Rattle.state.proofs.RefusalLaws.{refusal-formed}
-use Rattle.state.specs.declared.checks.Answer.TheVariants.{Refused}
-use Rattle.state.specs.Answers.{WritingCallAnswered}
-use Rattle.accept.specs.Accept.{accept_refusal, accept_outcome, accept_table}
-use Rattle.state.proofs.AnswerLaws.{if_accepted-old, outcome-refused, refusal_in_outcome}
+use Rattle.accept.specs.Accept.{accept_refusal, accept_table}
+use Rattle.state.proofs.AnswerLaws.{if_accepted-old}
 
 module _ (s : State) (t : List ℕ) (well : well_formed s t ≡ true) (c : Certificate) (a r : ℕ) (from : 0 < r) (to : r ≤ s.settings.ceiling.0)
     (held : held_at t a r ≡ true) (e : content_of c.proposal ≡ content_at t a r) (other : is_in c.endorsers a ≡ false) where
@@ -50,12 +48,9 @@ module _ (s : State) (t : List ℕ) (well : well_formed s t ≡ true) (c : Certi
       ∙ ap (λ (p : Content). refusal (rules.accepting s.settings (view s t) p c.endorsers)) e
       ∙ by-rules
 
-  pub copy_still : WritingCallAnswered (record { state = s; answer = Refused 16 }) t 16 (accept_outcome s t c) (accept_table s t c)
-  unfolding accept_outcome accept_table
+  -- the answer is 16, and the table stays; the state is only read
+  pub copy_still : (accept_refusal s t c ≡ 16) × (accept_table s t c ≡ t)
+  unfolding accept_table
   copy_still =
       let h : accept_refusal s t c ≢ 0 = λ z. absurd (omega (arith, copy_refusal)) in
-      record {
-        its-outcome = sym (outcome-refused refl s s h) ∙ ap (λ (n : ℕ). record { state = s; answer = Refused n }) copy_refusal;
-        its-table = if_accepted-old (accept_refusal s t c) _ t h;
-        its-refusal = refusal_in_outcome (accept_refusal s t c) s s ∙ copy_refusal;
-      }
+      (copy_refusal, if_accepted-old (accept_refusal s t c) _ t h)

@@ -1,61 +1,48 @@
-// Accept: a certificate is held with its endorsers, and its endorsed mark cleared (scope document: Calls, in the order of their checks).
+//! Accept: a certificate is held with its endorsers.
+//!
+//! Its endorsed mark is cleared. The checks are `admission`'s; what is left of state and table is the certificate's place and its two marks (specs/Accept). docs/RULES.md, "Accept".
 #![tactic(auto)]
 
 pub mod admission;
 
 ghost use Rattle.std.specs.Prelude.{◌≡◌};
+ghost use Rattle.refusals.specs.Refusals.{refusal_in};
 ghost use Rattle.state.specs.Cached.{Cached};
-ghost use Rattle.state.specs.Answers.{WritingCallAnswered};
-ghost use Rattle.accept.specs.Accept.{accept_refusal, accept_outcome, accept_table};
+ghost use Rattle.accept.specs.Accept.{accept_refusal, accept_table};
 
+use member_view::View;
+use refusals::Refusal;
 use running::cache;
 use state::State;
-use state::checks::{Answer, Outcome};
 use store::{clearing, writes};
 use terms::Certificate;
 
-// The number of the first check that refuses, 0 for none.
-fn accept_refusal(formed: bool, cache: &[u64], s: State, t: &[u32], c: Certificate) -> u32
-    requires { Cached s t.now formed cache.now }
-    ensures { result ≡ accept_refusal s t.now c }
-{
-    if !formed {
-        return 1;
-    }
-    admission::formed_refusal(cache, s, t, c)
-}
-
-// The call, where it is told whether the state is well formed, and committees may be cached.
+/// The call, where it is told whether the state is well formed, and committees may be cached.
+#[tactic(auto, unfolding(base::specs::Checks::refusal, state::specs::Refusals::refusal_of, state::specs::Answers::if_accepted, crate::specs::Accept::accept_refusal, crate::specs::Accept::accept_table))]
 pub fn accept_cached(
     formed: bool,
     cache: &[u64],
-    s: State,
+    s: &State,
     t: &mut [u32],
     c: Certificate,
-) -> Outcome
-    requires { Cached s t.old formed cache.now }
-    ensures { WritingCallAnswered (accept_outcome s t.old c) (accept_table s t.old c) (accept_refusal s t.old c) result t.new }
+) -> Result<(), Refusal>
+    requires { Cached s.now t.old formed cache.now }
+    ensures refusal { refusal_in result ≡ accept_refusal s.now t.old c }
+    ensures table { t.new ≡ accept_table s.now t.old c }
 {
-    let n = accept_refusal(formed, cache, s, t, c);
-    if n != 0 {
-        return Outcome {
-            state: s,
-            answer: Answer::Refused(n),
-        };
-    }
+    admission::check(&View::known(formed, cache, s, t)?, c)?;
     let p = c.proposal;
     writes::put_certificate(t, p, c.endorsers);
     clearing::clear_endorsed(t, p.author, p.round);
-    Outcome {
-        state: s,
-        answer: Answer::Accepted,
-    }
+    Ok(())
 }
 
-pub fn accept(s: State, t: &mut [u32], c: Certificate) -> Outcome
-    ensures { WritingCallAnswered (accept_outcome s t.old c) (accept_table s t.old c) (accept_refusal s t.old c) result t.new }
+/// Holds a certificate with its endorsers, and clears its endorsed mark.
+pub fn accept(s: &State, t: &mut [u32], c: Certificate) -> Result<(), Refusal>
+    ensures refusal { refusal_in result ≡ accept_refusal s.now t.old c }
+    ensures table { t.new ≡ accept_table s.now t.old c }
 {
-    let formed = state::well_formed(s, t);
+    let formed = state::well_formed(*s, t);
     let mut cache = [cache::NO_ROUND; 17];
     admission::cache_committees(formed, s, t, c, &mut cache);
     accept_cached(formed, &cache, s, t, c)

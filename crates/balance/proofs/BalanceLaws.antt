@@ -9,6 +9,7 @@ use Rattle.base.proofs.FoldLaws.{length-tab}
 use Rattle.agreement.specs.Rules.{last}
 use Rattle.store.specs.Table.{block_round}
 use Rattle.terms.specs.declared.sheet.Settings.{Settings}
+use Rattle.terms.specs.Ranges.{weight}
 use Rattle.terms.specs.Sheets.{weight_at}
 use Rattle.terms.proofs.SheetLaws.{filled-weights}
 use Rattle.committee.specs.Committees.{committee_of, known_by}
@@ -24,7 +25,7 @@ use Rattle.nonforking.specs.Statement.{Knows}
 use Rattle.balance.proofs.LedgerLaws.{weights_after, bonded-journal, member_adds}
 use Rattle.balance.proofs.TotalLaws.{total_adds}
 use Rattle.balance.proofs.JournalLaws.{all-below, journal-fit}
-use Rattle.balance.proofs.ListedLaws.{journal-listed}
+use Rattle.balance.proofs.ListedLaws.{journal_listed}
 use Rattle.balance.specs.Balance.{chain_to, transactions_to, round_after, AddsUpTo, AddsUp, WeightsAddUp}
 
 module _ (e : Engine) (r : Intact e) where
@@ -64,7 +65,7 @@ module _ (e : Engine) (r : Intact e) where
 
   adds_up-to : (k : ℕ) → k ≤ blocks → AddsUpTo e k
   adds_up-to k h =
-      let long : length S.weights ≡ 16 = rw (r.good.settings, filled-weights r.sheet) (length-tab (weight_at r.sheet.weights) 16) in
+      let long : length S.weights ≡ 16 = rw (r.good.settings, filled-weights r.sheet) (length-tab (λ i. weight (weight_at r.sheet.weights i)) 16) in
       let q = journal-fit t S.allowance blocks n whole-state.rows S k in
       record {
         known = known-after k h;
@@ -78,8 +79,8 @@ module _ (e : Engine) (r : Intact e) where
         after-all = adds_up-to blocks (omega arith);
         after-each = adds_up-to;
         bounded = λ z. committee-total S t blocks z whole-state.settings whole-state.rows;
-        shown = journal-listed S (chain_to e blocks);
+        shown = journal_listed S (chain_to e blocks);
       }
 
-pub weights-add-up : WeightsAddUp
-weights-add-up e r = adds_up e (intact r)
+pub weights_add_up : WeightsAddUp
+weights_add_up e r = adds_up e (intact r)

@@ -12,6 +12,7 @@ use Rattle.terms.specs.declared.Transaction.TheVariants.{Bond, Unbond, Entry}
 use Rattle.terms.specs.Proposals.{Content}
 use Rattle.terms.specs.Ranges.{weight_in}
 use Rattle.terms.specs.declared.sheet.Settings.{Settings}
+use Rattle.terms.specs.declared.sheet.Weight.{Weight}
 use Rattle.committee.specs.Changes.{change, changes, changes_of}
 use Rattle.committee.specs.Committees.{bonded_from, ordered}
 use Rattle.committee.proofs.ChangeLaws.{length-change, bond-at, unbond-at}
@@ -37,39 +38,39 @@ account w m (x ∷ e) = go (unbonds m x) refl (account w m e)
 
 -- ---- the weights after the transactions
 
-unfoldable pub weights_after : List ℕ → List Transaction → List ℕ
+unfoldable pub weights_after : List Weight → List Transaction → List Weight
 weights_after w [] = w
 weights_after w (x ∷ e) = change x (weights_after w e)
 
-length-after : (w : List ℕ) (e : List Transaction) → length (weights_after w e) ≡ length w
+length-after : (w : List Weight) (e : List Transaction) → length (weights_after w e) ≡ length w
 unfolding weights_after
 length-after w [] = refl
 length-after w (x ∷ e) = length-change x (weights_after w e) ∙ length-after w e
 
 -- what a transaction does to the weight of member m
-pub change-at : (x : Transaction) (w : List ℕ) (m : ℕ) → length w ≡ 16 → m < 16 → weight_in (change x w) m ≡ cond (unbonds m x) 0 (bond_of m x + weight_in w m)
+pub change-at : (x : Transaction) (w : List Weight) (m : ℕ) → length w ≡ 16 → m < 16 → weight_in (change x w) m ≡ cond (unbonds m x) 0 (bond_of m x + weight_in w m)
 change-at (Bond i a) w m l h = bond-at i.0 a w m l h
 change-at (Unbond i) w m l h = unbond-at i.0 w m l h ∙ ap (cond (eqb i.0 m) 0) (omega arith)
 change-at (Entry n) w m l h = omega arith
 
 -- a member's weight is what an unbond would release
-pub weight-after : (w : List ℕ) (e : List Transaction) (m : ℕ) → length w ≡ 16 → m < 16 → weight_in (weights_after w e) m ≡ releases (weight_in w) m e
+pub weight-after : (w : List Weight) (e : List Transaction) (m : ℕ) → length w ≡ 16 → m < 16 → weight_in (weights_after w e) m ≡ releases (weight_in w) m e
 unfolding weights_after releases
 weight-after w [] m l h = refl
 weight-after w (x ∷ e) m l h = change-at x (weights_after w e) m (length-after w e ∙ l) h ∙ rw (weight-after w e m l h) refl
 
-pub member_adds : (w : List ℕ) (e : List Transaction) (m : ℕ) → length w ≡ 16 → m < 16
+pub member_adds : (w : List Weight) (e : List Transaction) (m : ℕ) → length w ≡ 16 → m < 16
     → weight_in (weights_after w e) m + released_from (weight_in w) m e ≡ weight_in w m + bonded_to m e
 member_adds w e m l h = rw (weight-after w e m l h) (account (weight_in w) m e)
 
 -- ---- the bonded committee is the weights after the journal
 
-changes-entered : (l e : List Transaction) (w : List ℕ) → changes l (weights_after w e) ≡ weights_after w (entered l e)
+changes-entered : (l e : List Transaction) (w : List Weight) → changes l (weights_after w e) ≡ weights_after w (entered l e)
 unfolding changes entered weights_after
 changes-entered [] e w = refl
 changes-entered (x ∷ l) e w = changes-entered l (x ∷ e) w
 
-changes-of-entered : (l : List Content) (e : List Transaction) (w : List ℕ) → changes_of l (weights_after w e) ≡ weights_after w (entered_of l e)
+changes-of-entered : (l : List Content) (e : List Transaction) (w : List Weight) → changes_of l (weights_after w e) ≡ weights_after w (entered_of l e)
 unfolding changes_of entered_of
 changes-of-entered [] e w = refl
 changes-of-entered (p ∷ l) e w = rw (changes-entered p.transactions e w) (changes-of-entered l (entered p.transactions e) w)

@@ -27,14 +27,14 @@ listed-one : (r : ℕ) (l : List Content) → listed_transactions ((r, l) ∷ []
 unfolding listed_transactions
 listed-one r l = append-nil (transactions_of_all l)
 
-pub journal-listed : JournalListed
+pub journal_listed : JournalListed
 unfolding journal listing entered listed_transactions
-journal-listed S [] = refl
-journal-listed S (b ∷ c) =
+journal_listed S [] = refl
+journal_listed S (b ∷ c) =
     let l = listing (ordered S) c in
     let o = ordered S b c in
     entered_all o (journal S c)
-    ∙ ap (entered (transactions_of_all o)) (journal-listed S c)
+    ∙ ap (entered (transactions_of_all o)) (journal_listed S c)
     ∙ sym (entered-then (listed_transactions l) (transactions_of_all o) [])
     ∙ ap (λ (z : List Transaction). entered (listed_transactions l ++ z) []) (sym (listed-one b.round o))
     ∙ ap (λ (z : List Transaction). entered z []) (sym (listed_then l ((b.round, o) ∷ [])))

@@ -11,6 +11,7 @@ use Rattle.base.specs.Folds.{sum_to}
 use Rattle.base.proofs.SumLaws.{sum_same, sum_add, sum_to_none, sum_only}
 use Rattle.terms.specs.declared.Transaction.{Transaction}
 use Rattle.terms.specs.declared.Transaction.TheVariants.{Bond, Unbond, Entry}
+use Rattle.terms.specs.declared.sheet.Weight.{Weight}
 use Rattle.terms.specs.Transactions.{amount_of, in_range, amount_in_range, bond_in_range}
 use Rattle.terms.specs.Proposals.{all_in_range}
 use Rattle.terms.specs.Ranges.{weight_in}
@@ -43,7 +44,7 @@ released_sum w (x ∷ e) h =
     let p = both (in_range x) (all_in_range e) h in
     sum_add (λ m. cond (unbonds m x) (releases w m e) 0) (λ m. released_from w m e) 16 ∙ rw (released_by-all w e x p.0, released_sum w e p.1) refl
 
-pub total_adds : (w : List ℕ) (e : List Transaction) → length w ≡ 16 → all_in_range e ≡ true
+pub total_adds : (w : List Weight) (e : List Transaction) → length w ≡ 16 → all_in_range e ≡ true
     → total_in (weights_after w e) + released_all (weight_in w) e ≡ total_in w + bonded_all e
 total_adds w e l h =
     rw (← released_sum (weight_in w) e h, ← bonded_sum e h)

@@ -1,4 +1,4 @@
--- Weights add up, over every sequence of calls from opening (change request: Point 12).
+-- Weights add up, over every sequence of calls from opening (docs/RULES.md, "Weights that add up").
 use Rattle.std.specs.Prelude.{◌≡◌, List, [], ℕ, ◌+◌, ◌<◌, ◌≤◌}
 use Rattle.agreement.specs.Weights.{total}
 use Rattle.agreement.specs.Rules.{Chain, last}

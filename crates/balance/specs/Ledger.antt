@@ -1,4 +1,4 @@
--- The ledger of a chain: what its transactions, in the chain's order, bond and release (change request: Point 12).
+-- The ledger of a chain: what its transactions, in the chain's order, bond and release (docs/RULES.md, "Weights that add up").
 use Rattle.std.specs.Prelude.{◌≡◌, Bool, false, cond, List, [], ◌∷◌, ◌++◌, ℕ, ◌+◌, eqb}
 use Rattle.agreement.specs.Rules.{Chain}
 use Rattle.agreement.specs.Listing.{listing}

@@ -7,6 +7,7 @@ use native.Mathlib.Numerals.{add-one}
 use lib.ListN.{length, take, get_or, set, length-set}
 use lib.Seq.{take-suc-set, take_all, paste, paste-zero, paste-suc}
 use Rattle.base.specs.Folds.{tab}
+use Rattle.base.proofs.Ranges.{tab_none, tab_next}
 
 -- the first i of n places hold f
 pub record Filling {A : Type 0} (f : ℕ → A) (n : ℕ) (l : List A) (i : ℕ) : Type 0 where
@@ -16,14 +17,12 @@ pub record Filling {A : Type 0} (f : ℕ → A) (n : ℕ) (l : List A) (i : ℕ)
 
 module _ {A : Type 0} {f : ℕ → A} {n : ℕ} {l : List A} where
   pub filling_none : length l ≡ n → Filling f n l 0
-  unfolding tab
-  filling_none e = record { so_far = omega arith; front = refl; all = e }
+  filling_none e = record { so_far = omega arith; front = sym (tab_none f); all = e }
 
   pub filling_more : {i : ℕ} {x : A} → Filling f n l i → i < n → x ≡ f i → Filling f n (set l i x) (i + 1)
-  unfolding tab
   filling_more {i} {x} p h e =
       let k = p.all in
-      record { so_far = omega arith; front = rw (add-one i, take-suc-set l i x (omega arith), p.front, e) refl; all = length-set l i x ∙ k }
+      record { so_far = omega arith; front = rw (add-one i, take-suc-set l i x (omega arith), p.front, e) (sym (tab_next f i)); all = length-set l i x ∙ k }
 
   pub filling_all : {i : ℕ} → Filling f n l i → n ≤ i → l ≡ tab f n
   filling_all {i} p h =

@@ -9,4 +9,6 @@ pub mod SetLaws
 pub mod UnionLaws
 pub mod PasteLaws
 pub mod FillLaws
+pub mod Ranges
+pub mod FromFn
 pub mod PutLaws

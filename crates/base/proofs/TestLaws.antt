@@ -9,25 +9,23 @@ use native.Mathlib.Omega.{arith}
 use native.Mathlib.Numerals.{add-one}
 use Rattle.base.proofs.Bools.{both}
 use Rattle.base.specs.Folds.{all_to, any_to}
+use Rattle.base.proofs.Ranges.{all_none, all_next, any_none, any_next}
 
 pub all_more : (f : ℕ → Bool) (n : ℕ) → all_to f (n + 1) ≡ (all_to f n && f n)
-unfolding all_to
-all_more f n = simp add-one
+all_more f n = rw (add-one n) (all_next f n)
 
 -- one that fails is enough
 pub all_fails : (f : ℕ → Bool) (n i : ℕ) → i < n → f i ≡ false → all_to f n ≡ false
-unfolding all_to
 all_fails f zero i h e = absurd (omega arith)
-all_fails f (suc n) i h e = ⊎_elim (λ (q : i ≡ n). rw (← q, e) (and-false (all_to f i))) (λ l. rw (all_fails f n i l e)) (eq-or-lt_of_le (le h))
+all_fails f (suc n) i h e = all_next f n ∙ ⊎_elim (λ (q : i ≡ n). rw (← q, e) (and-false (all_to f i))) (λ l. rw (all_fails f n i l e)) (eq-or-lt_of_le (le h))
   where
     le : i < suc n → i ≤ n
     le l = omega arith
 
 -- where all hold, each does
 pub all-at : (f : ℕ → Bool) (n i : ℕ) → i < n → all_to f n ≡ true → f i ≡ true
-unfolding all_to
 all-at f zero i h e = absurd (omega arith)
-all-at f (suc n) i h e = go (ℕ_discrete i n) (both (all_to f n) (f n) e) (λ l. all-at f n i l)
+all-at f (suc n) i h e = go (ℕ_discrete i n) (both (all_to f n) (f n) (sym (all_next f n) ∙ e)) (λ l. all-at f n i l)
   where
     go : Dec (i ≡ n) → (all_to f n ≡ true) × (f n ≡ true) → (i < n → all_to f n ≡ true → f i ≡ true) → f i ≡ true
     go (yes q) p k = rw q p.1
@@ -35,24 +33,21 @@ all-at f (suc n) i h e = go (ℕ_discrete i n) (both (all_to f n) (f n) e) (λ l
 
 -- where each holds, all do
 pub all_hold : (f : ℕ → Bool) (n : ℕ) → ((i : ℕ) → i < n → f i ≡ true) → all_to f n ≡ true
-unfolding all_to
-all_hold f zero h = refl
-all_hold f (suc n) h = rw (all_hold f n (λ i l. h i (omega arith)), h n (omega arith)) refl
+all_hold f zero h = all_none f
+all_hold f (suc n) h = rw (all_next f n, all_hold f n (λ i l. h i (omega arith)), h n (omega arith)) refl
 
 -- tests that agree below n
 pub all_same : (f g : ℕ → Bool) (n : ℕ) → ((i : ℕ) → i < n → f i ≡ g i) → all_to f n ≡ all_to g n
-unfolding all_to
-all_same f g zero e = refl
-all_same f g (suc n) e = rw (all_same f g n (λ i h. e i (omega arith)), e n (omega arith)) refl
+all_same f g zero e = all_none f ∙ sym (all_none g)
+all_same f g (suc n) e = rw (all_next f n, all_next g n, all_same f g n (λ i h. e i (omega arith)), e n (omega arith)) refl
 
 -- those from z on hold
 pub all-high : (f : ℕ → Bool) (n z : ℕ) → z ≤ n → ((i : ℕ) → z ≤ i → f i ≡ true) → all_to f n ≡ all_to f z
-unfolding all_to
 all-high f zero z h high = let e : z ≡ 0 = omega arith in rw e refl
-all-high f (suc n) z h high = go (ℕ_discrete z (suc n)) (λ l. all-high f n z l high)
+all-high f (suc n) z h high = all_next f n ∙ go (ℕ_discrete z (suc n)) (λ l. all-high f n z l high)
   where
     go : Dec (z ≡ suc n) → (z ≤ n → all_to f n ≡ all_to f z) → (all_to f n && f n) ≡ all_to f z
-    go (yes p) k = rw p refl
+    go (yes p) k = rw p (sym (all_next f n))
     go (no p) k = rw (high n (omega arith), and_comm (all_to f n) true) (k (omega arith))
 
 -- n tests, of which the first i hold
@@ -61,8 +56,7 @@ pub record AllSoFar (f : ℕ → Bool) (n i : ℕ) : Type 0 where
   pub hold : all_to f i ≡ true
 
 pub all_start : (f : ℕ → Bool) (n : ℕ) → AllSoFar f n 0
-unfolding all_to
-all_start f n = record { so_far = omega arith; hold = refl }
+all_start f n = record { so_far = omega arith; hold = all_none f }
 
 module _ {f : ℕ → Bool} {n i : ℕ} where
   pub all-next : AllSoFar f n i → i < n → f i ≡ true → AllSoFar f n (i + 1)
@@ -75,14 +69,12 @@ module _ {f : ℕ → Bool} {n i : ℕ} where
       rw e at p.hold
 
 pub any_more : (f : ℕ → Bool) (n : ℕ) → any_to f (n + 1) ≡ (any_to f n || f n)
-unfolding any_to
-any_more f n = simp add-one
+any_more f n = rw (add-one n) (any_next f n)
 
 -- some holds exactly where not all fail
 pub any_all : (f : ℕ → Bool) (n : ℕ) → any_to f n ≡ not (all_to (λ i. not (f i)) n)
-unfolding any_to all_to
-any_all f zero = refl
-any_all f (suc n) = rw (any_all f n) (go (all_to (λ i. not (f i)) n) (f n))
+any_all f zero = rw (any_none f, all_none (λ i. not (f i))) refl
+any_all f (suc n) = rw (any_next f n, all_next (λ i. not (f i)) n, any_all f n) (go (all_to (λ i. not (f i)) n) (f n))
   where
     go : (a b : Bool) → (not a || b) ≡ not (a && not b)
     go true true = refl
@@ -90,15 +82,13 @@ any_all f (suc n) = rw (any_all f n) (go (all_to (λ i. not (f i)) n) (f n))
     go false b = refl
 
 pub any_same : (f g : ℕ → Bool) (n : ℕ) → ((i : ℕ) → i < n → f i ≡ g i) → any_to f n ≡ any_to g n
-unfolding any_to
-any_same f g zero e = refl
-any_same f g (suc n) e = rw (any_same f g n (λ i h. e i (omega arith)), e n (omega arith)) refl
+any_same f g zero e = any_none f ∙ sym (any_none g)
+any_same f g (suc n) e = rw (any_next f n, any_next g n, any_same f g n (λ i h. e i (omega arith)), e n (omega arith)) refl
 
 -- the one for which a test holds
 pub any_true : (f : ℕ → Bool) (n : ℕ) → any_to f n ≡ true → (i : ℕ) × (i < n) × (f i ≡ true)
-unfolding any_to
-any_true f zero h = absurd (false≢true h)
-any_true f (suc n) h = go (f n) refl (λ e. any_true f n e) h
+any_true f zero h = absurd (false≢true (sym (any_none f) ∙ h))
+any_true f (suc n) h = go (f n) refl (λ e. any_true f n e) (sym (any_next f n) ∙ h)
   where
     go : (b : Bool) → f n ≡ b → (any_to f n ≡ true → (i : ℕ) × (i < n) × (f i ≡ true)) → (any_to f n || b) ≡ true → (i : ℕ) × (i < suc n) × (f i ≡ true)
     go true e g k = (n, le_refl (suc n), e)
@@ -109,9 +99,8 @@ any_true f (suc n) h = go (f n) refl (λ e. any_true f n e) h
         left false h = h
 
 pub true_any : (f : ℕ → Bool) (n i : ℕ) → i < n → f i ≡ true → any_to f n ≡ true
-unfolding any_to
 true_any f zero i h e = absurd (omega arith)
-true_any f (suc n) i h e = go (ℕ_discrete i n) (λ l. true_any f n i l e)
+true_any f (suc n) i h e = any_next f n ∙ go (ℕ_discrete i n) (λ l. true_any f n i l e)
   where
     go : Dec (i ≡ n) → (i < n → any_to f n ≡ true) → (any_to f n || f n) ≡ true
     go (yes k) g = rw (← k, e) (or-true (any_to f i))

@@ -19,12 +19,13 @@ use Rattle.state.proofs.ViewLaws.{in_dag, held-dag}
 use Rattle.accept.specs.Accept.{accept_refusal, accept_table}
 use Rattle.batch.specs.Turns.{Key, leaves}
 use Rattle.batch.specs.Order.{earlier, OneTurnEach}
-use Rattle.batch.proofs.OrderLaws.{each-has-one-turn, round-of-earlier}
+use Rattle.batch.proofs.OrderLaws.{each_has_one_turn, round-of-earlier}
 use Rattle.batch.proofs.AnswerLaws.{Parts, leaves-join, leaves-one, turns_keep, turn-parts, turn_low, turn-later, answer-once}
 use Rattle.batch.specs.Batch.{Row, turns_of, number_on, table_after, tried_table, answer_at}
 use Rattle.batch.specs.Again.{RowReads, FilledBy, AgainAs, ElevenAgainOrSeventeen}
 use Rattle.batch.proofs.BatchLaws.{accept_of, accept-ruled, accept-shows, accept-left, row-range, leaves-formed, refused-still, batch-passed}
 use Rattle.batch.proofs.FrozenLaws.{Eleven, got_eleven, not_same, Filled, Frozen, frozen_same, accept-frozen, again-frozen}
+use Rattle.state.specs.States.{own_body}
 
 -- the proposal x stands in the row at a place whose turn is later than that of q, and was accepted there
 record Later (s : State) (row : Row) (t : List ℕ) (q : ℕ) (x : Content) : Type 0 where
@@ -36,13 +37,13 @@ record Later (s : State) (row : Row) (t : List ℕ) (q : ℕ) (x : Content) : Ty
   later : earlier (λ p. (row.at p).key) q place ≡ true
   accepted : answer_at s row t place ≡ 0
 
-module _ (s : State) (low : s.body.previous < 65536) (row : Row) (reads : RowReads row) (t : List ℕ) (formed : well_formed s t ≡ true) (q : ℕ) (c : Certificate) (there : q < row.count)
+module _ (s : State) (low : (own_body s).previous < 65536) (row : Row) (reads : RowReads row) (t : List ℕ) (formed : well_formed s t ≡ true) (q : ℕ) (c : Certificate) (there : q < row.count)
     (offered : (row.at q).certificate ≡ some c) (answer : answer_at s row t q ≡ 11) where
   abbrev keys : ℕ → Key
   keys p = (row.at p).key
 
   abbrev one_each : OneTurnEach keys row.count (turns_of row)
-  one_each = each-has-one-turn keys row.count
+  one_each = each_has_one_turn keys row.count
 
   abbrev turn : Parts q (turns_of row)
   turn = turn-parts one_each q there

@@ -26,9 +26,8 @@ use Rattle.state.specs.declared.State.{State}
 use Rattle.state.specs.WellFormed.{well_formed}
 use Rattle.state.specs.View.{view}
 use Rattle.state.proofs.RefusalLaws.{refusal-formed}
-use Rattle.state.specs.Answers.{outcome_of}
-use Rattle.state.proofs.AnswerLaws.{if_accepted-new, if_accepted-old, if_accepted-same}
-use Rattle.accept.specs.Accept.{accept_refusal, accept_outcome, accept_table}
+use Rattle.state.proofs.AnswerLaws.{if_accepted-new, if_accepted-old}
+use Rattle.accept.specs.Accept.{accept_refusal, accept_table}
 use Rattle.engine.specs.Calls.{accept, InRange}
 use Rattle.engine.specs.Engine.{Engine, after}
 use Rattle.engine.specs.Steps.{view_at}
@@ -40,13 +39,13 @@ use Rattle.batch.proofs.OrderLaws.{turns-none, turns-one}
 use Rattle.batch.proofs.AnswerLaws.{turns_keep}
 use Rattle.batch.specs.Batch.{Row, turns_of, number_on, table_after, tried_table, answer_at, batch_checks, batch_refusal, batch_table, batch_answers}
 use Rattle.batch.specs.Again.{RowReads}
+use Rattle.state.specs.States.{own_body}
 
 -- ---- one accept
 
 -- an accept leaves the state
 pub after-accepts : (e : Engine) (c : Certificate) → after e (accept c) ≡ record { state = e.state; table = accept_table e.state e.table c }
-unfolding accept_outcome outcome_of
-after-accepts e c = ap (λ (s : State). record { state = s; table = accept_table e.state e.table c }) (if_accepted-same (accept_refusal e.state e.table c) e.state)
+after-accepts e c = refl
 
 -- the rules' call that an accept stands for
 abbrev pub accept_of : Certificate → rules.Call
@@ -77,7 +76,7 @@ module _ (s : State) (t : List ℕ) where
     unfolding accept_refusal
     accept-ruled = refusal-formed s t (accept_of c) w ∙ sym (ruled-refusal s.settings s.own.0 (view s t) (accept_of c))
 
-    module _ (low : s.body.previous < 65536) (r : InRange (accept c)) where
+    module _ (low : (own_body s).previous < 65536) (r : InRange (accept c)) where
       abbrev engine : Engine
       engine = record { state = s; table = t }
 
@@ -103,7 +102,7 @@ module _ (s : State) (t : List ℕ) where
 pub row-range : {row : Row} → RowReads row → (p : ℕ) (c : Certificate) → (row.at p).certificate ≡ some c → InRange (accept c)
 row-range reads p c e = (reads.previous p c e, reads.endorsers p c e)
 
-module _ (s : State) (low : s.body.previous < 65536) (row : Row) (reads : RowReads row) where
+module _ (s : State) (low : (own_body s).previous < 65536) (row : Row) (reads : RowReads row) where
   -- one turn
   pub accept-still : (t : List ℕ) → well_formed s t ≡ true → (p : ℕ) → Still s t (table_after s row t p)
   accept-still t w p = go (row.at p).certificate refl

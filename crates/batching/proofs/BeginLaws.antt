@@ -14,6 +14,7 @@ use Rattle.batch.proofs.BatchLaws.{batch-passed}
 use Rattle.batching.specs.declared.offering.Progress.{Progress}
 use Rattle.batching.specs.TakenTurns.{Ready}
 use Rattle.batching.specs.Begun.{fresh_stage}
+use Rattle.state.specs.States.{own_body}
 
 -- where turns are taken the batch is not refused, and it has a record
 pub some-turns : {r n k : ℕ} → k ≡ cond (eqb r 0) (n + n) 0 → 0 < k → (r ≡ 0) × (0 < n)
@@ -25,7 +26,7 @@ some-turns {r} {n} {k} e h = go (eqb r 0) refl e
 
 module _ (s : State) (t : List ℕ) (n room : ℕ) (w : Progress) (fresh : w.stage ≡ fresh_stage n) (empty : first_round w.cache ≡ 4294967296) where
   -- an accepted batch of some records
-  pub ready-begun : batch_refusal s t n room ≡ 0 → 0 < n → s.body.previous < 65536 → Ready n s t w
+  pub ready-begun : batch_refusal s t n room ≡ 0 → 0 < n → (own_body s).previous < 65536 → Ready n s t w
   ready-begun a h low =
       let p = batch-passed s t n room a in
       let f = (formed s t p.0).settings.ceiling-to in

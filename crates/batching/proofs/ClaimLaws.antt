@@ -21,7 +21,7 @@ use Rattle.engine.specs.Calls.{accept}
 use Rattle.hosting.specs.Calls.{Result, engine_in, refused, answered, result_of}
 use Rattle.hosting.proofs.CallLaws.{no_out}
 use Rattle.batch.specs.Turns.{Key}
-use Rattle.batch.proofs.OrderLaws.{each-has-one-turn}
+use Rattle.batch.proofs.OrderLaws.{each_has_one_turn}
 use Rattle.batch.proofs.AnswerLaws.{turn-parts, answer-once}
 use Rattle.batch.specs.Batch.{batch_refusal, number_on, table_after, tried_table, answer_at}
 use Rattle.batch.proofs.BatchLaws.{batch-passed, batch-table, batch-answers}
@@ -82,7 +82,7 @@ module _ (w t : List ℕ) (row : List CertificateRecord) (answers : List ℕ) (a
 
   at-its-turn : (q : ℕ) → q < n → AtItsTurn w t row answers q
   at-its-turn q h =
-      let one = each-has-one-turn (λ p. ((row_of row).at p).key) n in
+      let one = each_has_one_turn (λ p. ((row_of row).at p).key) n in
       let p = turn-parts one q h in
       record {
         former = p.former;
@@ -94,8 +94,8 @@ module _ (w t : List ℕ) (row : List CertificateRecord) (answers : List ℕ) (a
 pub answered_as_accept : AnsweredAsAccept
 answered_as_accept w t row answers a q h = at-its-turn w t row answers a q h
 
-pub offered-again : OfferedAgain
-offered-again w t row answers a q h e = rw (table-left w t row answers a) (go (certificate_of d) refl)
+pub offered_again : OfferedAgain
+offered_again w t row answers a q h e = rw (table-left w t row answers a) (go (certificate_of d) refl)
   where
     d : CertificateRecord
     d = get_or row q no_record

@@ -1,5 +1,5 @@
 -- Laws of turns: so many turns are one and the rest, and the count and the room for answers stay.
-use mathlib.Core.Path.{◌≡◌, refl, sym, ◌∙◌, subst}
+use mathlib.Core.Path.{◌≡◌, refl, ◌∙◌}
 use mathlib.Core.Bool.{Bool, true, false, cond}
 use mathlib.Core.List.{List}
 use Prim.Native.Nat.{ℕ, zero, suc, ◌+◌, ◌-◌, ◌<◌}
@@ -10,15 +10,10 @@ use lib.ListN.{length, length-set}
 use Rattle.state.specs.declared.State.{State}
 use Rattle.batching.specs.declared.rows.CertificateRecord.{CertificateRecord}
 use Rattle.batching.specs.declared.offering.Stage.{Stage}
-use Rattle.batching.specs.declared.offering.Progress.{Progress}
 use Rattle.batching.specs.Rows.{certificate_of}
 use Rattle.batching.specs.Stages.{looked, noted}
-use Rattle.batching.specs.TakenTurns.{Ready, number_of, stage_next, table_next}
+use Rattle.batching.specs.TakenTurns.{number_of, stage_next, table_next}
 use Rattle.batching.specs.Ran.{record_at, ran_stage, ran_table}
-
--- a turn can be taken in a row of as many records as the stage counts
-pub ready-own : (n : ℕ) (s : State) (t : List ℕ) (w : Progress) → Ready n s t w → Ready w.stage.count s t w
-ready-own n s t w h = subst (λ (m : ℕ). Ready m s t w) (sym h.count) h
 
 module _ (row : List CertificateRecord) (s : State) where
   pub ran_none : (g : Stage) (t : List ℕ) → (ran_stage row s 0 g t ≡ g) × (ran_table row s 0 g t ≡ t)

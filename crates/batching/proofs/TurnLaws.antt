@@ -15,7 +15,7 @@ use Rattle.base.specs.Options.{if_there}
 use Rattle.state.specs.declared.State.{State}
 use Rattle.batch.specs.Turns.{Key, but, first_of, in_turn, turns, leaves, answer_to}
 use Rattle.batch.specs.Order.{times}
-use Rattle.batch.proofs.OrderLaws.{first-of, first-same, in_turn-same, turns-length, each-has-one-turn}
+use Rattle.batch.proofs.OrderLaws.{first-of, first-same, in_turn-same, turns-length, each_has_one_turn}
 use Rattle.batch.specs.Batch.{number_on, table_after, tried_table, answer_at}
 use Rattle.batching.specs.declared.rows.CertificateRecord.{CertificateRecord}
 use Rattle.batching.specs.Rows.{row_of}
@@ -165,8 +165,8 @@ module _ (row : List CertificateRecord) (s : State) (few : length row ≤ 64) wh
       }
     where
       go : (q : ℕ) → Dec (q < n) → times q (turns key_at n) ≤ 1
-      go q (yes h) = omega (arith, (each-has-one-turn key_at n).once q h)
-      go q (no h) = omega (arith, (each-has-one-turn key_at n).no_other q (omega arith))
+      go q (yes h) = omega (arith, (each_has_one_turn key_at n).once q h)
+      go q (no h) = omega (arith, (each_has_one_turn key_at n).no_other q (omega arith))
 
   module _ (p : ℕ) (l : List ℕ) (g : Stage) (k : Trying (p ∷ l) g) where
     -- p is the first that is left, and the others come after it
@@ -264,4 +264,4 @@ module _ (row : List CertificateRecord) (s : State) (few : length row ≤ 64) wh
       let l = looks n 0 (fresh_stage n) t (omega arith) looked-none in
       let g = ran_stage row s n (fresh_stage n) t in
       let r = rw (turns-length key_at n) at (tried (turns key_at n) g t (all-looked g l.0)) in
-      rw (b.0, b.1, l.1) (r.0, λ q h. r.1 q ∙ rw ((each-has-one-turn key_at n).once q h) refl)
+      rw (b.0, b.1, l.1) (r.0, λ q h. r.1 q ∙ rw ((each_has_one_turn key_at n).once q h) refl)

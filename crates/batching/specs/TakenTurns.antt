@@ -12,6 +12,7 @@ use Rattle.batching.specs.Rows.{certificate_of}
 use Rattle.batching.specs.declared.offering.Stage.{Stage}
 use Rattle.batching.specs.declared.offering.Progress.{Progress}
 use Rattle.batching.specs.Stages.{looked, noted}
+use Rattle.state.specs.States.{own_body}
 
 -- the place is one of the row's, of at most 64 records
 pub record StageFits (g : Stage) : Type 0 where
@@ -24,7 +25,7 @@ pub record Ready (n : ℕ) (s : State) (t : List ℕ) (w : Progress) : Type 0 wh
   pub count : w.stage.count ≡ n
   pub fits : StageFits w.stage
   pub formed : well_formed s t ≡ true
-  pub set_in_range : s.body.previous < 65536
+  pub set_in_range : (own_body s).previous < 65536
   pub caches : CachesFor s t w.cache
 
 module _ (s : State) (t : List ℕ) where

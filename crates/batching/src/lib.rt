@@ -1,8 +1,11 @@
-// A batch from its checks to its answers, around the turns over the row (change request: Point 4).
+//! A batch from its checks to its answers.
+//!
+//! Turns over the row, in which a record is looked at once and offered once; answers, state and table are those of `batch` (specs/Batched, specs/Claims). docs/RULES.md, "Batches".
 #![tactic(auto)]
 
 pub mod offering;
 pub mod rows;
+pub mod theorems;
 pub mod trying;
 
 ghost use Rattle.std.specs.Prelude.{◌≡◌, cond, ◌+◌, ◌≤◌, eqb, length};
@@ -81,16 +84,14 @@ pub fn begin(state: &[u32], t: &[u32], n: usize, room: usize) -> Start
     ensures { Begun 0 state.now t.now n room result }
 {
     let progress = fresh(n);
-    if !words::states::state_reads(state) {
-        let closed = open::closed();
+    let Some(s) = words::states::state(state) else {
         return Start {
             refusal: 1,
-            state: closed,
+            state: open::closed(),
             turns: 0,
             progress,
         };
-    }
-    let s = words::states::state_in(state);
+    };
     let refusal = batch_refusal(s, t, n, room);
     let turns = turns_for(refusal, n);
     Start {
@@ -105,7 +106,7 @@ pub fn begin(state: &[u32], t: &[u32], n: usize, room: usize) -> Start
 pub fn begin_guest(caller: u32, state: &[u32], t: &[u32], n: usize, room: usize) -> Start
     ensures { Begun (caller_refusal (rights_in state.now) batch_needs caller) state.now t.now n room result }
 {
-    let barred = guesting::refusal(state, Right::Sign, caller);
+    let barred = hosting::plain(guesting::check(state, Right::Sign, caller));
     if barred != 0 {
         let progress = fresh(n);
         let closed = open::closed();

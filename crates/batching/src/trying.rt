@@ -1,4 +1,4 @@
-// The turns of a batch over a lent row of certificate records (change request: Point 4).
+// The turns of a batch over a lent row of certificate records (docs/RULES.md, "Batches").
 
 ghost use Rattle.std.specs.Prelude.{◌<◌, length, get_or};
 ghost use Rattle.batching.specs.Rows.{no_record};

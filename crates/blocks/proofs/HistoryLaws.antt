@@ -9,6 +9,7 @@ use lib.Dec.{eqb, leb}
 use borrow.Author.Tests.{le-leb, lt-leb, eq-eqb, ne_eqb}
 use Rattle.base.specs.Folds.{fold_to, any_to}
 use Rattle.base.proofs.FoldLaws.{fold_same}
+use Rattle.base.proofs.Ranges.{fold_none, fold_next, any_none, any_next}
 use Rattle.base.proofs.TestLaws.{any_same}
 use Rattle.base.specs.Sets.{is_in, union, common}
 use Rattle.base.proofs.UnionLaws.{in_none, in_union, in_common, common-le}
@@ -19,9 +20,9 @@ use Rattle.blocks.specs.History.{named_by, named, below, reached, in_history}
 
 -- nobody's certificates name anybody
 named_none : (t : List ℕ) (r n : ℕ) → fold_to (named_by t 0 r) n 0 ≡ 0
-unfolding fold_to named_by
-named_none t r zero = refl
-named_none t r (suc n) = rw (in_none n) (named_none t r n)
+unfolding named_by
+named_none t r zero = fold_none (named_by t 0 r) 0
+named_none t r (suc n) = rw (fold_next (named_by t 0 r) n 0, in_none n) (named_none t r n)
 
 -- the empty set reaches nothing
 pub below_none : (t : List ℕ) (r : ℕ) → below t 0 r ≡ 0
@@ -29,9 +30,10 @@ unfolding below named
 below_none t r = let l = common-le 0 (held_set t (r - 1)) in rw (named_none t r 16) (omega arith)
 
 in_named : (t : List ℕ) (s r a n : ℕ) → is_in (fold_to (named_by t s r) n 0) a ≡ any_to (λ i. is_in s i && is_in (previous_at t i r) a) n
-unfolding fold_to named_by any_to
-in_named t s r a zero = in_none a
-in_named t s r a (suc n) = go (is_in s n) (in_named t s r a n)
+unfolding named_by
+in_named t s r a zero = rw (fold_none (named_by t s r) 0, any_none (λ i. is_in s i && is_in (previous_at t i r) a)) (in_none a)
+in_named t s r a (suc n) =
+    rw (fold_next (named_by t s r) n 0, any_next (λ i. is_in s i && is_in (previous_at t i r) a) n) (go (is_in s n) (in_named t s r a n))
   where
     go : (b : Bool) → is_in (fold_to (named_by t s r) n 0) a ≡ any_to (λ i. is_in s i && is_in (previous_at t i r) a) n
         → is_in (cond b (union (fold_to (named_by t s r) n 0) (previous_at t n r)) (fold_to (named_by t s r) n 0)) a

@@ -11,6 +11,7 @@ use borrow.Author.Tests.{eq-eqb, ne_eqb, lt-ltb, le-ltb}
 use Rattle.base.proofs.Bools.{cond_same}
 use Rattle.base.specs.Folds.{fold_to}
 use Rattle.base.proofs.FoldLaws.{fold_kept}
+use Rattle.base.proofs.Ranges.{fold_none, fold_next}
 use Rattle.base.specs.Sets.{is_in, only}
 use Rattle.base.proofs.SetLaws.{in_member}
 use Rattle.store.specs.Table.{used_length, Row, mark_at, block_round}
@@ -33,9 +34,10 @@ only-place c b s r a t h = go (is_in s a) refl
     go false e = only-all (used_length c) t
 
 only-places : (c b s r k : ℕ) (t : List ℕ) → r ≤ c → OnlyMarks (used_length c) t (fold_to (mark_place b s r) k t)
-unfolding fold_to
-only-places c b s r zero t h = only-all (used_length c) t
-only-places c b s r (suc k) t h = only-both (only-places c b s r k t h) (only-place c b s r k (fold_to (mark_place b s r) k t) h)
+only-places c b s r zero t h = rw (fold_none (mark_place b s r) t) (only-all (used_length c) t)
+only-places c b s r (suc k) t h =
+    rw (fold_next (mark_place b s r) k t)
+    (only-both (only-places c b s r k t h) (only-place c b s r k (fold_to (mark_place b s r) k t) h))
 
 pub only_row : (c b s r : ℕ) (t : List ℕ) → r ≤ c → OnlyMarks (used_length c) t (mark_row b s r t)
 unfolding mark_row
@@ -88,11 +90,11 @@ module _ (b s r : ℕ) where
   -- the first k places of the row
   places-mark : (k : ℕ) (t : List ℕ) → Row t r → (i q : ℕ) → i < 16
       → mark_at (fold_to (mark_place b s r) k t) i q ≡ new_mark b ((eqb q r && ltb i k) && is_in s i) (mark_at t i q)
-  unfolding fold_to
-  places-mark zero t w i q h = rw (le-ltb i 0 (omega arith), and-false (eqb q r), and-false (eqb (mark_at t i q) 0)) refl
+  places-mark zero t w i q h = rw (fold_none (mark_place b s r) t, le-ltb i 0 (omega arith), and-false (eqb q r), and-false (eqb (mark_at t i q) 0)) refl
   places-mark (suc k) t w i q h =
       let o = only-places r b s r k t (omega arith) in
-      place-mark k (fold_to (mark_place b s r) k t) (omega (arith, o.size)) i q h
+      ap (λ (u : List ℕ). mark_at u i q) (fold_next (mark_place b s r) k t)
+      ∙ place-mark k (fold_to (mark_place b s r) k t) (omega (arith, o.size)) i q h
       ∙ ap (new_mark b (same_place i q k r && is_in s i)) (places-mark k t w i q h)
       ∙ mark-twice b (mark_at t i q) (same_place i q k r && is_in s i) ((eqb q r && ltb i k) && is_in s i)
       ∙ ap (λ (z : Bool). new_mark b z (mark_at t i q)) (joined (eqb q r) (ltb i k) (eqb i k) (is_in s i))

@@ -12,6 +12,7 @@ use lib.Seq.{get_or-set_same, get_or-set_other}
 use borrow.Author.Tests.{eq-eqb, ne_eqb, eqb-true}
 use Rattle.base.proofs.Bools.{both}
 use Rattle.base.specs.Folds.{fold_to, any_to}
+use Rattle.base.proofs.Ranges.{fold_none, fold_next}
 use Rattle.base.proofs.TestLaws.{any_true, true_any}
 use Rattle.base.specs.Sets.{is_in, union, common}
 use Rattle.base.proofs.SetLaws.{in_member}
@@ -75,9 +76,9 @@ module _ (v : List ℕ) (r s : ℕ) (h : r < length v) (q a : ℕ) where
 module _ (b : ℕ) {t v : List ℕ} (k : Seen t v v) where
   -- a row keeps its marks, if all of s is seen
   row_stays : (r s : ℕ) → Inside s (get_or v r 0) → (n : ℕ) → fold_to (mark_place b s r) n t ≡ t
-  unfolding fold_to mark_place
-  row_stays r s f zero = refl
-  row_stays r s f (suc n) = rw (row_stays r s f n) (go (is_in s n) refl)
+  unfolding mark_place
+  row_stays r s f zero = fold_none (mark_place b s r) t
+  row_stays r s f (suc n) = rw (fold_next (mark_place b s r) n t, row_stays r s f n) (go (is_in s n) refl)
     where
       go : (i : Bool) → is_in s n ≡ i → cond i (cond (eqb (mark_at t n r) 0) (set_mark t n r b) t) t ≡ t
       go true e = rw (ne_eqb (mark_at t n r) 0 (k.marked r n (f n e))) refl

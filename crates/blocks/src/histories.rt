@@ -1,4 +1,4 @@
-// Histories, and the anchors that a commit takes, on the lent table (scope document: Commit).
+// Histories, and the anchors that a commit takes, on the lent table (docs/RULES.md, "Commit").
 
 pub mod anchors;
 

@@ -1,4 +1,6 @@
-// The largest ceiling and one above it: 1,024 opens, and 1,025 is out of range (scope document: Edges).
+//! The largest ceiling opens, and one above is refused.
+//!
+//! 1,024 opens, and 1,025 is out of range (2). docs/RULES.md, "The sheet".
 #![tactic(auto)]
 
 use std::io;
@@ -21,10 +23,9 @@ fn try_ceiling<W: Write>(output: &mut W, t: &mut [u32], ceiling: u32) -> io::Res
         margin: Setting::Blank,
         rights: Rights(0),
     };
-    let o = open::open(open::closed(), t, Member(0), written);
-    let a = o.answer;
+    let answer = open::open(&mut open::closed(), t, Member(0), written);
     let mut out = [0u8; 20];
-    let n = replies::answer::put_answer(a, &mut out, 0);
+    let n = replies::answer::put_answer(answer, &mut out, 0);
     output.write_all(&out[..n])
 }
 

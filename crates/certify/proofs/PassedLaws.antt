@@ -19,11 +19,12 @@ use Rattle.state.specs.Formed.{Formed}
 use Rattle.state.proofs.FormedLaws.{formed}
 use Rattle.state.proofs.RefusalLaws.{refusal-passed}
 use Rattle.certify.specs.Certify.{certify_refusal}
+use Rattle.state.specs.States.{is_proposing}
 
 module _ (s : State) (t : List ℕ) where
   pub record CertifyPassed (i : ℕ) : Type 0 where
     pub formed : Formed s t
-    pub proposing : s.proposing ≡ true
+    pub proposing : is_proposing s ≡ true
     pub free : held_at t s.own.0 s.round.0 ≡ false
     pub not_among : is_in i s.own.0 ≡ false
 
@@ -31,7 +32,7 @@ module _ (s : State) (t : List ℕ) where
   unfolding certify_refusal numbered
   certify-passed i e = let n = refusal-passed s t (rules.certify i) e in go (formed s t n.0) (view s t).proposal (held-proposal s) n.1
     where
-      go : Formed s t → (o : Option Content) → is_held o ≡ s.proposing → refusal (rules.certifying s.settings s.own.0 (view s t) i o) ≡ 0 → CertifyPassed i
+      go : Formed s t → (o : Option Content) → is_held o ≡ (is_proposing s) → refusal (rules.certifying s.settings s.own.0 (view s t) i o) ≡ 0 → CertifyPassed i
       go f none q h = passed _ refl h λ h15. absurd (true≢false h15)
       go f (some p) q h =
           passed _ refl h λ h10 h14 h8 h9 h13.

@@ -1,19 +1,16 @@
--- Certify on a state and its table: the number that refuses, the answer and the state, and the table. The certificate is held, with its endorsers.
+-- Certify on a state and its table: the number that refuses, and the table. The certificate is held, with its endorsers.
 use Rattle.std.specs.Prelude.{List, ℕ}
 use Rattle.terms.specs.Proposals.{content_with}
 use Rattle.store.specs.Writes.{put_certificate}
 use Rattle.rules.specs.Calls as rules
 use Rattle.state.specs.declared.State.{State}
 use Rattle.state.specs.Refusals.{refusal_of}
-use Rattle.state.specs.declared.checks.Outcome.{Outcome}
-use Rattle.state.specs.Answers.{if_accepted, outcome_of}
+use Rattle.state.specs.Answers.{if_accepted}
+use Rattle.state.specs.States.{own_body}
 
 module _ (s : State) (t : List ℕ) where
   unfoldable pub certify_refusal : ℕ → ℕ
   certify_refusal e = refusal_of s t (rules.certify e)
 
-  unfoldable pub certify_outcome : ℕ → Outcome
-  certify_outcome e = outcome_of (certify_refusal e) s s
-
   unfoldable pub certify_table : ℕ → List ℕ
-  certify_table e = if_accepted (certify_refusal e) (put_certificate t (content_with s.own.0 s.round.0 s.body) e) t
+  certify_table e = if_accepted (certify_refusal e) (put_certificate t (content_with s.own.0 s.round.0 (own_body s)) e) t

@@ -1,80 +1,83 @@
-// Certify: the proposal of the present round becomes a certificate, which is held with its endorsers. The proposal stays (scope document: Calls, in the order of their checks).
+//! Certify: one's proposal becomes a certificate.
+//!
+//! It is held with its endorsers, and the proposal stays (specs/Certify). docs/RULES.md, "Certify".
 #![tactic(auto)]
 
-ghost use Rattle.std.specs.Prelude.{◌≡◌};
+ghost use Rattle.std.specs.Prelude.{◌≡◌, IfOk};
 ghost use Rattle.base.specs.Checks.{refusal};
+ghost use Rattle.terms.specs.Proposals.{content_of, content_with};
 ghost use Rattle.rules.specs.Calls.{certifying};
-ghost use Rattle.state.specs.Formed.{Formed};
-ghost use Rattle.state.specs.View.{view};
-ghost use Rattle.state.specs.Cached.{CachesFor, Cached};
-ghost use Rattle.state.specs.Answers.{WritingCallAnswered};
-ghost use Rattle.certify.specs.Certify.{certify_refusal, certify_outcome, certify_table};
+ghost use Rattle.refusals.specs.Refusals.{refusal_in};
+ghost use Rattle.state.specs.Cached.{Cached};
+ghost use Rattle.state.specs.SharedChecks.{FormFits};
+ghost use Rattle.state.specs.States.{own_body};
+ghost use Rattle.member_view.specs.Views.{settings_of, shown};
+ghost use Rattle.certify.specs.Certify.{certify_refusal, certify_table};
 
-use state::checks::{Answer, Outcome};
-use state::{State, checks};
+use member_view::View;
+use refusals::Refusal;
+use state::State;
 use store::writes;
 use terms::Proposal;
 
-// The checks of a well-formed state: 15, 10, 14, and those of the signers.
-fn formed_refusal(cache: &[u64], s: State, t: &[u32], e: u16) -> u32
-    requires { Formed s t.now × CachesFor s t.now cache.now }
-    ensures { result ≡ refusal (certifying s.settings s.own.0 (view s t.now) e (view s t.now).proposal) }
+// The checks of a well-formed state: 15, 10, 14, 8, 9, 13; and one's own proposal.
+#[tactic(auto, unfolding(base::specs::Checks::refusal, rules::specs::Tests::signers_of, state::specs::View::own_proposal))]
+fn check(v: &View, endorsers: u32) -> Result<Proposal, Refusal>
+    ensures refusal { refusal_in result ≡ refusal (certifying (settings_of v.now) v.now.state.now.own.0 (shown v.now) endorsers (shown v.now).proposal) }
+    ensures value { IfOk result (λ p. content_of p ≡ (let s = v.now.state.now in content_with s.own.0 s.round.0 (own_body s))) }
+    ensures fits { IfOk result (FormFits v.now.state.now) }
 {
-    if !s.proposing {
-        return 15;
+    let author = v.state.own;
+    let round = v.state.round;
+    let Some(body) = v.state.proposal else {
+        return Err(Refusal::NoProposal);
+    };
+    if v.is_held(author, round) {
+        return Err(Refusal::PlaceTaken);
     }
-    if store::held(t, s.own, s.round) {
-        return 10;
+    if base::has(endorsers, author.0) {
+        return Err(Refusal::OwnEndorsement);
     }
-    if base::has(e as u32, s.own.0) {
-        return 14;
+    if v.is_unknown(round) {
+        return Err(Refusal::CommitteeUnknown);
     }
-    let signers = base::with(e as u32, s.own.0);
-    checks::signer_refusal(cache, s, t, s.round, signers)
-}
-
-// The number of the first check that refuses, 0 for none.
-fn certify_refusal(formed: bool, cache: &[u64], s: State, t: &[u32], e: u16) -> u32
-    requires { Cached s t.now formed cache.now }
-    ensures { result ≡ certify_refusal s t.now e }
-{
-    if !formed {
-        return 1;
+    let signers = base::with(endorsers, author.0);
+    let committee = v.committee(round);
+    if committee.has_outsider(signers) {
+        return Err(Refusal::Outsider);
     }
-    formed_refusal(cache, s, t, e)
-}
-
-// The call, where it is told whether the state is well formed, and committees may be cached.
-pub fn certify_cached(formed: bool, cache: &[u64], s: State, t: &mut [u32], e: u16) -> Outcome
-    requires { Cached s t.old formed cache.now }
-    ensures { WritingCallAnswered (certify_outcome s t.old e) (certify_table s t.old e) (certify_refusal s t.old e) result t.new }
-{
-    let n = certify_refusal(formed, cache, s, t, e);
-    if n != 0 {
-        return Outcome {
-            state: s,
-            answer: Answer::Refused(n),
-        };
+    if committee.is_short(signers) {
+        return Err(Refusal::SignersThin);
     }
-    let author = s.own;
-    let round = s.round;
-    let body = s.body;
-    let p = Proposal {
+    Ok(Proposal {
         author,
         round,
         body,
-    };
-    writes::put_certificate(t, p, e);
-    Outcome {
-        state: s,
-        answer: Answer::Accepted,
-    }
+    })
 }
 
-pub fn certify(s: State, t: &mut [u32], e: u16) -> Outcome
-    ensures { WritingCallAnswered (certify_outcome s t.old e) (certify_table s t.old e) (certify_refusal s t.old e) result t.new }
+/// The call, where it is told whether the state is well formed, and committees may be cached.
+#[tactic(auto, unfolding(base::specs::Checks::refusal, state::specs::Refusals::refusal_of, state::specs::Answers::if_accepted, crate::specs::Certify::certify_refusal, crate::specs::Certify::certify_table))]
+pub fn certify_cached(
+    formed: bool,
+    cache: &[u64],
+    s: &State,
+    t: &mut [u32],
+    endorsers: u16,
+) -> Result<(), Refusal>
+    requires { Cached s.now t.old formed cache.now }
+    ensures refusal { refusal_in result ≡ certify_refusal s.now t.old endorsers }
+    ensures table { t.new ≡ certify_table s.now t.old endorsers }
 {
-    let formed = state::well_formed(s, t);
-    let none = [0u64; 1];
-    certify_cached(formed, &none[..0], s, t, e)
+    let proposal = check(&View::known(formed, cache, s, t)?, endorsers as u32)?;
+    writes::put_certificate(t, proposal, endorsers);
+    Ok(())
+}
+
+/// Holds one's own proposal as a certificate, with its endorsers.
+pub fn certify(s: &State, t: &mut [u32], endorsers: u16) -> Result<(), Refusal>
+    ensures refusal { refusal_in result ≡ certify_refusal s.now t.old endorsers }
+    ensures table { t.new ≡ certify_table s.now t.old endorsers }
+{
+    certify_cached(state::well_formed(*s, t), &[], s, t, endorsers)
 }

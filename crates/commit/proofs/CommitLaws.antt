@@ -130,5 +130,5 @@ module _ (s : State) (t : List ℕ) (ok : commit_refusal s t ≡ 0) where
   -- the view that the state and the table show then is the rules' next view
   pub view-commit : view (committed_state s t) (committed_table s t) ≡ after s.settings s.own.0 v rules.commit
   view-commit =
-      let e = proposal-same s (committed_state s t) refl refl refl refl in
+      let e = proposal-same s (committed_state s t) refl refl refl in
       (λ i. record { round = r; proposal = e i; dag = dag-kept i; endorsed = endorsed-kept i; chain = chain-then i }) ∙ sym (after-commit s.settings s.own.0 v x anchor-held)

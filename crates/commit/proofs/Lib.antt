@@ -2,9 +2,8 @@ pub mod Histories
 pub mod Anchors
 pub mod Chains
 pub mod CheckLaws
-pub mod AnswerLaws
 pub mod ShownLaws
 pub mod CommitLaws
 pub mod PreservedLaws
-pub mod RuledLaws
+pub mod MadeLaws
 pub mod FirstRow

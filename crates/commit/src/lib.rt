@@ -1,71 +1,46 @@
-// Commit: the anchor of the round before, and those that its history takes, make blocks, oldest first (scope document: Commit).
+//! Commit: anchors make blocks, oldest first.
+//!
+//! The anchor of the round before, and those that its history takes. The answer is the number of blocks, and the table is the one with exactly these blocks more (specs/Commit, by the rules' `committed`). docs/RULES.md, "Commit".
 #![tactic(auto)]
 
-ghost use Rattle.std.specs.Prelude.{◌≡◌};
+ghost use Rattle.std.specs.Prelude.{◌≡◌, ◌-◌, IfOk};
+ghost use Rattle.refusals.specs.Refusals.{refusal_in};
 ghost use Rattle.state.specs.WellFormed.{well_formed};
-ghost use Rattle.commit.specs.Commit.{refused_with, Commits};
+ghost use Rattle.commit.specs.Commit.{commit_refusal, blocks_then, commit_state, commit_table_after, RulesGive};
 
 use blocks::making;
+use member_view::View;
+use refusals::Refusal;
 use running::bonded;
 use state::State;
 use terms::Round;
+use votes::checks;
 
-// Accepted with the number of blocks added, or refused with the number of the first check that refuses.
-#[derive(Clone, Copy)]
-pub enum Committed {
-    Added(u32),
-    Refused(u32),
-}
-
-// The answer, and the state that the call leaves.
-#[derive(Clone, Copy)]
-pub struct Outcome {
-    pub state: State,
-    pub answer: Committed,
-}
-
-// A refused commit.
-fn refused(s: State, n: u32) -> Outcome
-    ensures { result ≡ refused_with s n }
+/// The call, where it is known whether the state is well formed. The value is the number of blocks added.
+#[tactic(auto, unfolding(base::specs::Checks::refusal, state::specs::Refusals::refusal_of, state::specs::Answers::if_accepted, crate::specs::Commit::commit_refusal, crate::specs::Commit::commit_state, crate::specs::Commit::commit_table_after))]
+pub fn commit_cached(formed: bool, s: &mut State, t: &mut [u32]) -> Result<u32, Refusal>
+    requires { formed ≡ well_formed s.old t.old }
+    ensures refusal { refusal_in result ≡ commit_refusal s.old t.old }
+    ensures value { IfOk result (λ n. n ≡ blocks_then s.old t.old - s.old.blocks) }
+    ensures state { s.new ≡ commit_state s.old t.old }
+    ensures table { t.new ≡ commit_table_after s.old t.old }
+    ensures ruled { IfOk result (λ n. RulesGive s.old t.old n s.new t.new) }
 {
-    Outcome {
-        state: s,
-        answer: Committed::Refused(n),
-    }
-}
-
-// The call, where it is known whether the state is well formed.
-pub fn commit_cached(formed: bool, s: State, t: &mut [u32]) -> Outcome
-    requires { formed ≡ well_formed s t.old }
-    ensures { Commits s t.old result t.new }
-{
-    if !formed {
-        return refused(s, 1);
-    }
-    let late = votes::refusals::time_refusal(s, t);
-    if late != 0 {
-        return refused(s, late);
-    }
-    let mut leaders = [16u32; 1025];
-    let fault = votes::refusals::anchor_refusal(s, t, &mut leaders);
-    if fault != 0 {
-        return refused(s, fault);
-    }
+    let mut leaders = checks::check(&View::known(formed, &[], s, t)?)?;
     let blocks = s.blocks;
     let last = bonded::last_round(t, blocks);
     let top = Round(s.round.0 - 1);
-    let k = making::commit_blocks(t, &mut leaders, last, top, blocks);
-    let mut next = s;
-    next.blocks = k;
-    Outcome {
-        state: next,
-        answer: Committed::Added(k - blocks),
-    }
+    s.blocks = making::commit_blocks(t, &mut leaders, last, top, blocks);
+    Ok(s.blocks - blocks)
 }
 
-pub fn commit(s: State, t: &mut [u32]) -> Outcome
-    ensures { Commits s t.old result t.new }
+/// Adds the blocks of a commit; the value is their number.
+pub fn commit(s: &mut State, t: &mut [u32]) -> Result<u32, Refusal>
+    ensures refusal { refusal_in result ≡ commit_refusal s.old t.old }
+    ensures value { IfOk result (λ n. n ≡ blocks_then s.old t.old - s.old.blocks) }
+    ensures state { s.new ≡ commit_state s.old t.old }
+    ensures table { t.new ≡ commit_table_after s.old t.old }
+    ensures ruled { IfOk result (λ n. RulesGive s.old t.old n s.new t.new) }
 {
-    let formed = state::well_formed(s, t);
-    commit_cached(formed, s, t)
+    commit_cached(state::well_formed(*s, t), s, t)
 }

@@ -1,5 +1,5 @@
 -- No share moves by more than 1 plus the whole part of 1,000 times the amount divided by the total after the bond.
-use mathlib.Core.Path.{◌≡◌, refl, ◌∙◌}
+use mathlib.Core.Path.{◌≡◌, refl, sym, ◌∙◌}
 use mathlib.Core.Bool.{Bool, true, false, cond}
 use mathlib.Core.List.{List}
 use Prim.Native.Nat.{ℕ, zero, suc, ◌+◌, ◌*◌, ◌<◌, ◌≤◌, max}
@@ -8,8 +8,10 @@ use native.Mathlib.Decide.{ℕ_discrete, dec_lt}
 use lib.ListN.{length, get_or}
 use lib.Dec.{eqb}
 use Rattle.base.specs.Folds.{fold_to}
+use Rattle.base.proofs.Ranges.{fold_none, fold_next}
 use Rattle.base.proofs.FoldLaws.{get_d_tab, fold_more}
 use Rattle.base.proofs.SumLaws.{sum_same, sum_add, sum_at, sum_only}
+use Rattle.terms.specs.declared.sheet.Weight.{Weight}
 use Rattle.terms.specs.Ranges.{weight_in}
 use Rattle.committee.specs.Shares.{share_of, apart}
 use Rattle.committee.proofs.ShareLaws.{nearest-le}
@@ -18,7 +20,7 @@ use Rattle.committee.specs.Totals.{total_in}
 use Rattle.committee.proofs.ChangeLaws.{bond-at}
 use Rattle.committee.specs.BondEffects.{share_in, shares_of, bonded, largest_to, bond_effect, most_moved}
 
-pub share-at : (w : List ℕ) (i : ℕ) → i < 16 → get_or (shares_of w) i 0 ≡ share_in w i
+pub share-at : (w : List Weight) (i : ℕ) → i < 16 → get_or (shares_of w) i 0 ≡ share_in w i
 unfolding shares_of
 share-at w i h = get_d_tab (share_in w) 16 i 0 h
 
@@ -30,24 +32,26 @@ share-none n h = let l = nearest-le (1000 * 0) n 0 h (omega arith) in omega arit
 -- ---- the largest difference
 
 pub largest-none : (x y : List ℕ) → 0 ≡ largest_to 0 x y
-unfolding largest_to fold_to
-largest-none x y = refl
+unfolding largest_to
+largest-none x y = sym (fold_none (λ i d. max d (apart (get_or x i 0) (get_or y i 0))) 0)
 
 pub largest-more : (x y : List ℕ) (n : ℕ) → largest_to (n + 1) x y ≡ max (largest_to n x y) (apart (get_or x n 0) (get_or y n 0))
 unfolding largest_to
 largest-more x y n = fold_more _ n 0
 
+largest_next : (x y : List ℕ) (n : ℕ) → largest_to (suc n) x y ≡ max (largest_to n x y) (apart (get_or x n 0) (get_or y n 0))
+unfolding largest_to
+largest_next x y n = fold_next (λ i d. max d (apart (get_or x i 0) (get_or y i 0))) n 0
+
 -- where none is above b, neither is the largest
 pub largest-le : (x y : List ℕ) (b n : ℕ) → ((i : ℕ) → i < n → apart (get_or x i 0) (get_or y i 0) ≤ b) → largest_to n x y ≤ b
-unfolding largest_to fold_to
-largest-le x y b zero h = omega arith
-largest-le x y b (suc n) h = let p = largest-le x y b n (λ i l. h i (omega arith)) in let q = h n (omega arith) in omega arith
+largest-le x y b zero h = omega (arith, largest-none x y)
+largest-le x y b (suc n) h = let p = largest-le x y b n (λ i l. h i (omega arith)) in let q = h n (omega arith) in rw (largest_next x y n) (omega arith)
 
 -- none is above it
 pub at-most-largest : (x y : List ℕ) (n i : ℕ) → i < n → apart (get_or x i 0) (get_or y i 0) ≤ largest_to n x y
-unfolding largest_to fold_to
 at-most-largest x y zero i h = absurd (omega arith)
-at-most-largest x y (suc n) i h = go (ℕ_discrete i n) (λ l. at-most-largest x y n i l)
+at-most-largest x y (suc n) i h = rw (largest_next x y n) (go (ℕ_discrete i n) (λ l. at-most-largest x y n i l))
   where
     go : Dec (i ≡ n) → (i < n → apart (get_or x i 0) (get_or y i 0) ≤ largest_to n x y) → apart (get_or x i 0) (get_or y i 0) ≤ max (largest_to n x y) (apart (get_or x n 0) (get_or y n 0))
     go (yes e) k = rw e (omega arith)
@@ -61,9 +65,8 @@ larger-before m d l = omega arith
 
 -- and one is it
 pub is-largest : (x y : List ℕ) (n : ℕ) → (i : ℕ) × (i < suc n) × (apart (get_or x i 0) (get_or y i 0) ≡ largest_to (suc n) x y)
-unfolding largest_to fold_to
-is-largest x y zero = (0, omega arith, omega arith)
-is-largest x y (suc n) = go (dec_lt (largest_to (suc n) x y) (apart (get_or x (suc n) 0) (get_or y (suc n) 0))) (is-largest x y n)
+is-largest x y zero = (0, omega arith, rw (largest_next x y 0, ← largest-none x y) (omega arith))
+is-largest x y (suc n) = rw (largest_next x y (suc n)) (go (dec_lt (largest_to (suc n) x y) (apart (get_or x (suc n) 0) (get_or y (suc n) 0))) (is-largest x y n))
   where
     go : Dec (largest_to (suc n) x y < apart (get_or x (suc n) 0) (get_or y (suc n) 0)) → (i : ℕ) × (i < suc n) × (apart (get_or x i 0) (get_or y i 0) ≡ largest_to (suc n) x y)
         → (i : ℕ) × (i < suc (suc n)) × (apart (get_or x i 0) (get_or y i 0) ≡ max (largest_to (suc n) x y) (apart (get_or x (suc n) 0) (get_or y (suc n) 0)))
@@ -72,7 +75,7 @@ is-largest x y (suc n) = go (dec_lt (largest_to (suc n) x y) (apart (get_or x (s
 
 -- ---- a bond
 
-module _ (w : List ℕ) (m a : ℕ) (l : length w ≡ 16) (h : m < 16) where
+module _ (w : List Weight) (m a : ℕ) (l : length w ≡ 16) (h : m < 16) where
   -- the total after it
   pub total-bonded : total_in (bonded m a w) ≡ total_in w + a
   total-bonded =

@@ -1,5 +1,5 @@
 -- Laws of the bonded committee: block by block, and as long as the starting one.
-use mathlib.Core.Path.{◌≡◌, refl, ap, ◌∙◌}
+use mathlib.Core.Path.{◌≡◌, refl, sym, ap, ◌∙◌}
 use mathlib.Core.Bool.{Bool, true, false, cond}
 use mathlib.Core.List.{List, [], ◌∷◌}
 use Prim.Native.Nat.{ℕ, zero, suc, ◌+◌, ◌-◌, ◌<◌, ◌≤◌}
@@ -8,26 +8,28 @@ use lib.ListN.{length}
 use lib.Dec.{ltb, leb}
 use borrow.Author.Tests.{lt-ltb, le-ltb}
 use Rattle.base.specs.Folds.{fold_to}
+use Rattle.base.proofs.Ranges.{fold_none, fold_next}
 use Rattle.agreement.specs.Rules.{Block, Chain}
 use Rattle.terms.specs.Proposals.{Content}
 use Rattle.committee.specs.Chain.{block_at, chain_of}
 use Rattle.committee.proofs.ChainLaws.{chain-none, chain_more}
+use Rattle.terms.specs.declared.sheet.Weight.{Weight}
 use Rattle.terms.specs.declared.sheet.Settings.{Settings}
 use Rattle.committee.specs.Changes.{changes_of}
 use Rattle.committee.specs.Committees.{committee_by, step_from, bonded_from, committee_of, start_of, ordered}
 use Rattle.committee.proofs.ChangeLaws.{length-changes-of}
 
 -- what the block b on the chain c does to the bonded committee of round s
-unfoldable pub step : Settings → ℕ → Block Content → Chain Content → List ℕ → List ℕ
+unfoldable pub step : Settings → ℕ → Block Content → Chain Content → List Weight → List Weight
 step S s b c w = step_from S s b (start_of S b c) w
 
 module _ (S : Settings) (s : ℕ) (b : Block Content) (c : Chain Content) where
   -- a block of a round below s counts, another does not
-  pub step_counts : (w : List ℕ) → b.round < s → step S s b c w ≡ changes_of (ordered S b c) w
+  pub step_counts : (w : List Weight) → b.round < s → step S s b c w ≡ changes_of (ordered S b c) w
   unfolding step step_from ordered
   step_counts w h = rw (lt-ltb b.round s h) refl
 
-  pub step_waits : (w : List ℕ) → s ≤ b.round → step S s b c w ≡ w
+  pub step_waits : (w : List Weight) → s ≤ b.round → step S s b c w ≡ w
   unfolding step step_from ordered
   step_waits w h = rw (le-ltb b.round s h) refl
 
@@ -38,7 +40,7 @@ module _ (S : Settings) (s : ℕ) (b : Block Content) (c : Chain Content) where
 -- ---- as long as the starting one
 
 module _ (S : Settings) where
-  length-step : (s : ℕ) (b : Block Content) (c : Chain Content) (w : List ℕ) → length (step S s b c w) ≡ length w
+  length-step : (s : ℕ) (b : Block Content) (c : Chain Content) (w : List Weight) → length (step S s b c w) ≡ length w
   unfolding step step_from ordered
   length-step s b c w = go (ltb b.round s)
     where
@@ -74,6 +76,5 @@ module _ (S : Settings) (n : ℕ) (t : List ℕ) where
 
   -- oldest first
   pub bonded_fold : (k s : ℕ) → bonded_from S (chain_of n t k) s ≡ fold_to (λ j. step S s (block_at n t (j + 1)) (chain_of n t j)) k S.weights
-  unfolding fold_to
-  bonded_fold zero s = bonded-none s
-  bonded_fold (suc k) s = rw (← add-one k) (bonded-more k s ∙ ap (step S s (block_at n t (k + 1)) (chain_of n t k)) (bonded_fold k s))
+  bonded_fold zero s = bonded-none s ∙ sym (fold_none (λ j. step S s (block_at n t (j + 1)) (chain_of n t j)) S.weights)
+  bonded_fold (suc k) s = rw (fold_next (λ j. step S s (block_at n t (j + 1)) (chain_of n t j)) k S.weights, ← add-one k) (bonded-more k s ∙ ap (step S s (block_at n t (k + 1)) (chain_of n t k)) (bonded_fold k s))

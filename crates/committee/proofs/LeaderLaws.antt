@@ -1,5 +1,5 @@
 -- Laws of leaders.
-use mathlib.Core.Path.{◌≡◌, refl, sym, ◌∙◌}
+use mathlib.Core.Path.{◌≡◌, refl, sym, ap, ◌∙◌}
 use mathlib.Core.Bool.{Bool, true, false, cond, ◌&&◌, and-false}
 use mathlib.Core.List.{List}
 use mathlib.Core.Option.{Option, none, some}
@@ -9,9 +9,11 @@ use native.Mathlib.Decide.{ℕ_discrete, dec_lt}
 use lib.Dec.{eqb, leb, ltb}
 use borrow.Author.Tests.{eq-eqb, ne_eqb, le-leb, lt-leb, lt-ltb, le-ltb}
 use Rattle.base.specs.Folds.{fold_to}
+use Rattle.base.proofs.Ranges.{fold_none, fold_next}
 use Rattle.base.specs.Sets.{is_in, add}
 use Rattle.base.proofs.SetLaws.{in_add}
 use Rattle.base.proofs.UnionLaws.{in_none}
+use Rattle.terms.specs.declared.sheet.Weight.{Weight}
 use Rattle.terms.specs.Ranges.{weight_in}
 use Rattle.committee.specs.Positions.{count_below, member_below, or_else}
 use Rattle.committee.proofs.PositionLaws.{count_same, below_none, below-same, below-le}
@@ -24,10 +26,10 @@ at_none set k h = below_none set 16 k h
 
 -- ---- the members as a set
 
-set_in : (w : List ℕ) (n i : ℕ) → n ≤ 16 → is_in (fold_to (joined w) n 0) i ≡ (ltb i n && members (weight_in w) i)
-unfolding fold_to joined
-set_in w zero i h = rw (in_none i, le-ltb i 0 (omega arith)) refl
-set_in w (suc n) i h = go (members (weight_in w) n) refl (ℕ_discrete n i) (set_in w n i (omega arith))
+set_in : (w : List Weight) (n i : ℕ) → n ≤ 16 → is_in (fold_to (joined w) n 0) i ≡ (ltb i n && members (weight_in w) i)
+unfolding joined
+set_in w zero i h = rw (fold_none (joined w) 0, in_none i, le-ltb i 0 (omega arith)) refl
+set_in w (suc n) i h = ap (λ (s : ℕ). is_in s i) (fold_next (joined w) n 0) ∙ go (members (weight_in w) n) refl (ℕ_discrete n i) (set_in w n i (omega arith))
   where
     low : (n ≡ i → ⊥) → ltb i (suc n) ≡ ltb i n
     low d = by (dec_lt i n)
@@ -44,14 +46,14 @@ set_in w (suc n) i h = go (members (weight_in w) n) refl (ℕ_discrete n i) (set
     go false e (no q) f = rw (low q) f
 
 -- who is a member is in the set
-in_members : (w : List ℕ) (i : ℕ) → i < 16 → is_in (member_set w) i ≡ members (weight_in w) i
+in_members : (w : List Weight) (i : ℕ) → i < 16 → is_in (member_set w) i ≡ members (weight_in w) i
 unfolding member_set
 in_members w i h = set_in w 16 i (omega arith) ∙ rw (lt-ltb i 16 h) refl
 
-set-count : (w : List ℕ) → count_below (is_in (member_set w)) 16 ≡ count_below (members (weight_in w)) 16
+set-count : (w : List Weight) → count_below (is_in (member_set w)) 16 ≡ count_below (members (weight_in w)) 16
 set-count w = count_same (is_in (member_set w)) (members (weight_in w)) 16 (in_members w)
 
-set_at : (w : List ℕ) (k : ℕ) → member_at (is_in (member_set w)) k ≡ member_at (members (weight_in w)) k
+set_at : (w : List Weight) (k : ℕ) → member_at (is_in (member_set w)) k ≡ member_at (members (weight_in w)) k
 unfolding member_at
 set_at w k = below-same (is_in (member_set w)) (members (weight_in w)) 16 k (in_members w)
 
@@ -66,7 +68,7 @@ unfolding leader_of
 leader-early w r h = rw (lt-leb 2 r h, and-false (eqb (r % 2) 0)) refl
 
 -- the leader of an even round from 2 on, by the members as a set
-pub leader-set : (w : List ℕ) (r : ℕ) → r % 2 ≡ 0 → 2 ≤ r → leader_of (weight_in w) r ≡ member_at (is_in (member_set w)) (r / 2 % count_below (is_in (member_set w)) 16)
+pub leader-set : (w : List Weight) (r : ℕ) → r % 2 ≡ 0 → 2 ≤ r → leader_of (weight_in w) r ≡ member_at (is_in (member_set w)) (r / 2 % count_below (is_in (member_set w)) 16)
 unfolding leader_of
 leader-set w r e h = rw (set_at w (r / 2 % count_below (is_in (member_set w)) 16), set-count w, eq-eqb (r % 2) 0 e, le-leb 2 r h) refl
 

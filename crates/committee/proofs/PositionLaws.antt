@@ -8,53 +8,59 @@ use native.Mathlib.Nat.{add-zero, add-suc}
 use native.Mathlib.Decide.{ℕ_discrete}
 use lib.Dec.{eqb}
 use borrow.Author.Tests.{eq-eqb, ne_eqb}
-use Rattle.base.specs.Folds.{sum_to}
 use Rattle.base.proofs.SumLaws.{sum_same}
+use Rattle.base.proofs.Ranges.{sum_none, sum_next}
 use Rattle.base.specs.Sets.{mem}
 use Rattle.committee.specs.Positions.{count_below, member_below, or_else, place_in}
 
 -- ---- counting
 
+pub count_none : (set : ℕ → Bool) → count_below set 0 ≡ 0
+unfolding count_below
+count_none set = sum_none (λ i. cond (set i) 1 0)
+
+pub count_more : (set : ℕ → Bool) (n : ℕ) → count_below set (suc n) ≡ count_below set n + cond (set n) 1 0
+unfolding count_below
+count_more set n = sum_next (λ i. cond (set i) 1 0) n
+
 -- of the numbers below n at most n are in a set
 pub count-le : (set : ℕ → Bool) (n : ℕ) → count_below set n ≤ n
-unfolding count_below sum_to
-count-le set zero = omega arith
-count-le set (suc n) = go (set n) (count-le set n)
+count-le set zero = omega (arith, count_none set)
+count-le set (suc n) = rw (count_more set n) (go (set n) (count-le set n))
   where
-    go : (b : Bool) → sum_to (λ i. cond (set i) 1 0) n ≤ n → sum_to (λ i. cond (set i) 1 0) n + cond b 1 0 ≤ suc n
+    go : (b : Bool) → count_below set n ≤ n → count_below set n + cond b 1 0 ≤ suc n
     go true h = omega arith
     go false h = omega arith
 
 -- those below c, and those from c on by their number above c
 pub count-split : (set : ℕ → Bool) (c n : ℕ) → count_below set (c + n) ≡ count_below set c + count_below (λ i. set (c + i)) n
-unfolding count_below sum_to
-count-split set c zero = rw (add-zero c) (omega arith)
-count-split set c (suc n) = let h = count-split set c n in rw (add-suc c n) (omega arith)
+count-split set c zero = rw (add-zero c, count_none (λ i. set (c + i))) (omega arith)
+count-split set c (suc n) = let h = count-split set c n in rw (add-suc c n, count_more set (c + n), count_more (λ i. set (c + i)) n) (omega arith)
 
 -- ---- positions
 
 -- nobody stands at a position that the count does not reach
 pub below_none : (set : ℕ → Bool) (n k : ℕ) → count_below set n ≤ k → member_below set n k ≡ none
-unfolding member_below count_below sum_to
+unfolding member_below
 below_none set zero k h = refl
-below_none set (suc n) k h = go (set n) h (λ l. below_none set n k l)
+below_none set (suc n) k h = go (set n) (rw (count_more set n) at h) (λ l. below_none set n k l)
   where
-    go : (b : Bool) → sum_to (λ i. cond (set i) 1 0) n + cond b 1 0 ≤ k → (sum_to (λ i. cond (set i) 1 0) n ≤ k → member_below set n k ≡ none)
-        → cond (b && eqb (sum_to (λ i. cond (set i) 1 0) n) k) (some n) (member_below set n k) ≡ none
-    go true h f = rw (ne_eqb (sum_to (λ i. cond (set i) 1 0) n) k (λ e. omega arith)) (f (omega arith))
+    go : (b : Bool) → count_below set n + cond b 1 0 ≤ k → (count_below set n ≤ k → member_below set n k ≡ none)
+        → cond (b && eqb (count_below set n) k) (some n) (member_below set n k) ≡ none
+    go true h f = rw (ne_eqb (count_below set n) k (λ e. omega arith)) (f (omega arith))
     go false h f = f (omega arith)
 
 -- somebody stands at a position below the count: what is told for none does not matter
 pub below-some : (m m' : ℕ) (set : ℕ → Bool) (n k : ℕ) → k < count_below set n → or_else m (member_below set n k) ≡ or_else m' (member_below set n k)
-unfolding member_below count_below sum_to
-below-some m m' set zero k h = absurd (omega arith)
-below-some m m' set (suc n) k h = go (set n) h (ℕ_discrete (sum_to (λ i. cond (set i) 1 0) n) k) (λ l. below-some m m' set n k l)
+unfolding member_below
+below-some m m' set zero k h = absurd (omega (arith, count_none set))
+below-some m m' set (suc n) k h = go (set n) (rw (count_more set n) at h) (ℕ_discrete (count_below set n) k) (λ l. below-some m m' set n k l)
   where
-    go : (b : Bool) → k < sum_to (λ i. cond (set i) 1 0) n + cond b 1 0 → Dec (sum_to (λ i. cond (set i) 1 0) n ≡ k)
-        → (k < sum_to (λ i. cond (set i) 1 0) n → or_else m (member_below set n k) ≡ or_else m' (member_below set n k))
-        → or_else m (cond (b && eqb (sum_to (λ i. cond (set i) 1 0) n) k) (some n) (member_below set n k)) ≡ or_else m' (cond (b && eqb (sum_to (λ i. cond (set i) 1 0) n) k) (some n) (member_below set n k))
-    go true h (yes e) f = rw (eq-eqb (sum_to (λ i. cond (set i) 1 0) n) k e) refl
-    go true h (no e) f = rw (ne_eqb (sum_to (λ i. cond (set i) 1 0) n) k e) (f (omega arith))
+    go : (b : Bool) → k < count_below set n + cond b 1 0 → Dec (count_below set n ≡ k)
+        → (k < count_below set n → or_else m (member_below set n k) ≡ or_else m' (member_below set n k))
+        → or_else m (cond (b && eqb (count_below set n) k) (some n) (member_below set n k)) ≡ or_else m' (cond (b && eqb (count_below set n) k) (some n) (member_below set n k))
+    go true h (yes e) f = rw (eq-eqb (count_below set n) k e) refl
+    go true h (no e) f = rw (ne_eqb (count_below set n) k e) (f (omega arith))
     go false h d f = f (omega arith)
 
 -- a number is below n, or told for none

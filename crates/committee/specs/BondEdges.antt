@@ -1,25 +1,27 @@
 -- Bonds by numbers, as one table: one that moves a share as far as it can, a sole member, exact halves on both sides, one whose largest difference is a fall.
 use Rattle.std.specs.Prelude.{cond, List, [], ◌∷◌, ℕ, get_or, eqb, ltb}
 use Rattle.base.specs.Folds.{tab}
+use Rattle.terms.specs.declared.sheet.Weight.{Weight}
+use Rattle.terms.specs.Ranges.{weight}
 use Rattle.committee.specs.Totals.{total_in}
 use Rattle.committee.specs.BondEffects.{bond_effect, most_moved}
 
 -- member 0 alone, with weight 1
-unfoldable pub sole : List ℕ
-sole = tab (λ i. cond (eqb i 0) 1 0) 16
+unfoldable pub sole : List Weight
+sole = tab (λ i. weight (cond (eqb i 0) 1 0)) 16
 
 -- sixteen members of weight 1
-unfoldable pub alike : List ℕ
-alike = tab (λ i. 1) 16
+unfoldable pub alike : List Weight
+alike = tab (λ i. weight 1) 16
 
 -- members 0 and 1 of weight 1, and member 15 of weight 42
-unfoldable pub heavy : List ℕ
-heavy = tab (λ i. cond (eqb i 15) 42 (cond (ltb i 2) 1 0)) 16
+unfoldable pub heavy : List Weight
+heavy = tab (λ i. weight (cond (eqb i 15) 42 (cond (ltb i 2) 1 0))) 16
 
-unfoldable pub before : ℕ → ℕ → List ℕ → ℕ → ℕ
+unfoldable pub before : ℕ → ℕ → List Weight → ℕ → ℕ
 before m a w i = get_or (bond_effect m a w).before i 0
 
-unfoldable pub after : ℕ → ℕ → List ℕ → ℕ → ℕ
+unfoldable pub after : ℕ → ℕ → List Weight → ℕ → ℕ
 after m a w i = get_or (bond_effect m a w).after i 0
 
 unfoldable pub cases : List (ℕ × ℕ)

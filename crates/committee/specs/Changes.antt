@@ -5,21 +5,22 @@ use Rattle.agreement.specs.Rules.{Block}
 use Rattle.terms.specs.declared.Transaction.{Transaction}
 use Rattle.terms.specs.declared.Transaction.TheVariants.{Bond, Unbond, Entry}
 use Rattle.terms.specs.Proposals.{Content}
-use Rattle.terms.specs.Ranges.{weight_in}
+use Rattle.terms.specs.declared.sheet.Weight.{Weight}
+use Rattle.terms.specs.Ranges.{weight, weight_in}
 
 -- bond adds, joining if there was no weight; unbond removes; an entry does nothing, and neither does a number that is no member's
-abbrev pub change : Transaction → List ℕ → List ℕ
-change (Bond m a) w = cond (ltb m.0 16) (set w m.0 (weight_in w m.0 + a)) w
-change (Unbond m) w = cond (ltb m.0 16) (set w m.0 0) w
+abbrev pub change : Transaction → List Weight → List Weight
+change (Bond m a) w = cond (ltb m.0 16) (set w m.0 (weight (weight_in w m.0 + a))) w
+change (Unbond m) w = cond (ltb m.0 16) (set w m.0 (weight 0)) w
 change (Entry n) w = w
 
 -- transactions in order
-unfoldable pub changes : List Transaction → List ℕ → List ℕ
+unfoldable pub changes : List Transaction → List Weight → List Weight
 changes [] w = w
 changes (x ∷ l) w = changes l (change x w)
 
 -- certificates in order
-unfoldable pub changes_of : List Content → List ℕ → List ℕ
+unfoldable pub changes_of : List Content → List Weight → List Weight
 changes_of [] w = w
 changes_of (p ∷ l) w = changes_of l (changes p.transactions w)
 

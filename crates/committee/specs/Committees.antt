@@ -4,30 +4,31 @@ use Rattle.base.specs.Folds.{any_to}
 use Rattle.agreement.specs.Weights.{weigh, total}
 use Rattle.agreement.specs.Rules.{Block, Chain, last}
 use Rattle.terms.specs.Proposals.{Content}
+use Rattle.terms.specs.declared.sheet.Weight.{Weight}
 use Rattle.terms.specs.declared.sheet.Settings.{Settings}
 use Rattle.terms.specs.Ranges.{weight_in}
 use Rattle.committee.specs.Changes.{changes_of, rows}
 use Rattle.committee.specs.Leaders.{leader_of, leader_number}
 
 -- the committee of round r, where v is the bonded one of r minus lookback
-unfoldable pub committee_by : Settings → ℕ → List ℕ → List ℕ
+unfoldable pub committee_by : Settings → ℕ → List Weight → List Weight
 committee_by S r v = cond (leb r S.lookback) S.weights v
 
 -- the number of the leader of round r by its committee w, 16 for none
-unfoldable pub leader_by : List ℕ → ℕ → ℕ
+unfoldable pub leader_by : List Weight → ℕ → ℕ
 leader_by w r = leader_number (leader_of (weight_in w) r)
 
 -- what the block b, whose rows start with member a, does to the bonded committee of round s
-unfoldable pub step_from : Settings → ℕ → Block Content → ℕ → List ℕ → List ℕ
+unfoldable pub step_from : Settings → ℕ → Block Content → ℕ → List Weight → List Weight
 step_from S s b a w = cond (ltb b.round s) (changes_of (rows b a S.ceiling.0) w) w
 
 -- the bonded committee of round s: the starting one changed by all blocks of rounds below s, in order; the rows of each start with the leader of its round
-unfoldable pub bonded_from : Settings → Chain Content → ℕ → List ℕ
+unfoldable pub bonded_from : Settings → Chain Content → ℕ → List Weight
 bonded_from S [] s = S.weights
 bonded_from S (b ∷ c) s = step_from S s b (leader_by (committee_by S b.round (bonded_from S c (b.round - S.lookback))) b.round) (bonded_from S c s)
 
 -- the committee of round r
-unfoldable pub committee_of : Settings → Chain Content → ℕ → List ℕ
+unfoldable pub committee_of : Settings → Chain Content → ℕ → List Weight
 committee_of S c r = committee_by S r (bonded_from S c (r - S.lookback))
 
 -- the leader of the round of the block b, where c is the chain below it; 16 for none: then numbers just rise, since 0 comes after 15

@@ -1,4 +1,4 @@
--- The cases that the scope document marks P, and those of the change requests, as one table.
+-- The cases by numbers of docs/RULES.md, "Edges", as one table.
 use Rattle.std.specs.Prelude.{Bool, true, false, cond, ◌&&◌, ◌||◌, List, [], ◌∷◌, ℕ, zero, suc, set, eqb, ltb}
 use Rattle.std.proofs.Math.Option.{none, some}
 use Rattle.base.specs.Folds.{tab}
@@ -10,7 +10,7 @@ use Rattle.terms.specs.declared.sheet.Setting.TheVariants.{Written}
 use Rattle.terms.specs.declared.sheet.Settings.{Settings}
 use Rattle.terms.specs.declared.sheet.Sheet.{Sheet}
 use Rattle.terms.specs.Sheets.{blank_sheet, filled}
-use Rattle.terms.specs.Ranges.{weight_in}
+use Rattle.terms.specs.Ranges.{weight, weight_in}
 use Rattle.committee.specs.Changes.{changes}
 use Rattle.committee.specs.Committees.{committee_of, ordered, known_by, bound_of, quorum_weight}
 use Rattle.committee.specs.Shares.{share_of}
@@ -22,7 +22,7 @@ blank = filled blank_sheet
 
 -- the blank sheet with member 3's weight written as 0
 unfoldable pub written : Sheet
-written = record { lookback = blank_sheet.lookback; ceiling = blank_sheet.ceiling; allowance = blank_sheet.allowance; weights = set blank_sheet.weights 3 (record { setting = Written 0 }); margin = blank_sheet.margin; rights = blank_sheet.rights }
+written = record { lookback = blank_sheet.lookback; ceiling = blank_sheet.ceiling; allowance = blank_sheet.allowance; weights = set blank_sheet.weights 3 (Written 0); margin = blank_sheet.margin; rights = blank_sheet.rights }
 
 unfoldable pub bond : ℕ → ℕ → Transaction
 bond m a = Bond (record { 0 = m }) a
@@ -44,7 +44,7 @@ full = record { round = 4; holds = λ a r. cond ((ltb a 4 && eqb r 3) || (eqb a 
 
 -- nobody has a weight: the committee is empty
 unfoldable pub nobody : Settings
-nobody = record { lookback = blank.lookback; ceiling = record { 0 = 6 }; allowance = blank.allowance; weights = tab (λ i. 0) 16; margin = blank.margin }
+nobody = record { lookback = blank.lookback; ceiling = record { 0 = 6 }; allowance = blank.allowance; weights = tab (λ i. weight 0) 16; margin = blank.margin }
 
 -- the author of the certificate at place k of a list, 16 for none
 unfoldable pub author_at : List Content → ℕ → ℕ

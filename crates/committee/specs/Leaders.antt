@@ -4,6 +4,7 @@ use Rattle.std.proofs.Math.Option.{Option, none, some}
 use Rattle.base.specs.Folds.{fold_to}
 use Rattle.base.specs.Sets.{add}
 use Rattle.committee.specs.Positions.{count_below, member_below}
+use Rattle.terms.specs.declared.sheet.Weight.{Weight}
 use Rattle.terms.specs.Ranges.{weight_in}
 
 -- the member at position k of a set
@@ -24,8 +25,8 @@ leader_number none = 16
 leader_number (some a) = a
 
 -- the members as a set: s, with member i if it has a weight
-unfoldable pub joined : List ℕ → ℕ → ℕ → ℕ
+unfoldable pub joined : List Weight → ℕ → ℕ → ℕ
 joined w i s = cond (members (weight_in w) i) (add s i) s
 
-unfoldable pub member_set : List ℕ → ℕ
+unfoldable pub member_set : List Weight → ℕ
 member_set w = fold_to (joined w) 16 0

@@ -1,4 +1,4 @@
-// What a bond does to the shares of a committee: all sixteen before and after, and how far they move (change request: Point 13).
+// What a bond does to the shares of a committee: all sixteen before and after, and how far they move (docs/RULES.md, "How far a bond moves the shares").
 
 ghost use Rattle.std.specs.Prelude.{◌≡◌, max};
 ghost use Rattle.committee.specs.Shares.{apart};
@@ -17,13 +17,13 @@ pub struct Effect {
 }
 
 // All sixteen shares, where n is the total.
-fn shares_of(w: &[u64; 16], n: Weight) -> [u32; 16]
+fn shares_of(w: &[Weight; 16], n: Weight) -> [u32; 16]
     requires { TotalOf w.now n.0 }
     ensures { result ≡ shares_of w.now }
 {
     let mut s = [0u32; 16];
     for i in 0..16usize {
-        s[i] = shares::thousandths(Weight(w[i]), n);
+        s[i] = shares::thousandths(w[i], n);
     }
     s
 }
@@ -60,7 +60,7 @@ fn largest(x: &[u32; 16], y: &[u32; 16]) -> u32
 }
 
 // What a bond of member m by a does to the shares of the committee w, where n is the total.
-pub fn bond_effect(w: [u64; 16], n: Weight, m: Member, a: u32) -> Effect
+pub fn bond_effect(w: [Weight; 16], n: Weight, m: Member, a: u32) -> Effect
     requires { Bonds w n.0 m.0 }
     ensures { result ≡ bond_effect m.0 a w }
 {

@@ -1,4 +1,4 @@
-// Members of a set of eight by position, from a table (scope document: Committees, quorums, leaders).
+// Members of a set of eight by position, from a table (docs/RULES.md, "Weights" to "Leader and anchor").
 
 ghost use Rattle.std.specs.Prelude.{◌≡◌, ◌≤◌};
 ghost use Rattle.committee.specs.Places.{place_table, HasEntry};

@@ -1,4 +1,4 @@
-// A part of a total in thousandths: to the nearest, an exact half to the even neighbour (scope document: Committees, quorums, leaders).
+// A part of a total in thousandths: to the nearest, an exact half to the even neighbour (docs/RULES.md, "Weights" to "Leader and anchor").
 
 ghost use Rattle.std.specs.Prelude.{◌≡◌};
 ghost use Rattle.committee.specs.Shares.{rounded, share_of, Division, PartOf};

@@ -1,4 +1,4 @@
-// Committees as sixteen weights: fault bound, quorums, leaders, and a member's share (scope document: Committees, quorums, leaders).
+// Committees as sixteen weights: fault bound, quorums, leaders, and a member's share (docs/RULES.md, "Weights" to "Leader and anchor").
 
 pub mod change;
 pub mod leader;
@@ -17,38 +17,38 @@ use terms::Member;
 use terms::sheet::Weight;
 
 // Is m a member of the committee?
-pub fn is_member(w: &[u64; 16], m: Member) -> bool
+pub fn is_member(w: &[Weight; 16], m: Member) -> bool
     requires { m.0 < 16 }
     ensures { result ≡ members (weight_in w.now) m.0 }
 {
-    0 < w[m.0 as usize]
+    0 < w[m.0 as usize].0
 }
 
 // The total weight.
-pub fn total_weight(w: &[u64; 16]) -> Weight
+pub fn total_weight(w: &[Weight; 16]) -> Weight
     requires { TotalBounded w.now }
     ensures { result.0 ≡ total 16 (weight_in w.now) }
 {
     let mut sum: u64 = 0;
     for i in 0..16usize {
-        sum += w[i];
+        sum += w[i].0;
     }
     Weight(sum)
 }
 
 // What a member adds to the weight of a set.
-fn part(w: &[u64; 16], set: u32, m: Member) -> Weight
+fn part(w: &[Weight; 16], set: u32, m: Member) -> Weight
     requires { m.0 < 16 }
     ensures { result.0 ≡ cond (is_in set m.0) (weight_in w.now m.0) 0 }
 {
     if base::has(set, m.0) {
-        return Weight(w[m.0 as usize]);
+        return w[m.0 as usize];
     }
     Weight(0)
 }
 
 // The weight of a set of members.
-pub fn set_weight(w: &[u64; 16], set: u32) -> Weight
+pub fn set_weight(w: &[Weight; 16], set: u32) -> Weight
     requires { TotalBounded w.now }
     ensures { result.0 ≡ weigh 16 (weight_in w.now) (is_in set) }
 {
@@ -72,30 +72,23 @@ pub fn fault_bound(d: u32, n: Weight) -> Weight
 }
 
 // Is the member in the set, and outside the committee?
-fn is_outsider(w: &[u64; 16], set: u32, m: Member) -> bool
+fn is_outsider(w: &[Weight; 16], set: u32, m: Member) -> bool
     requires { m.0 < 16 }
     ensures { result ≡ (is_in set m.0 && not (ltb 0 (weight_in w.now m.0))) }
 {
-    if !base::has(set, m.0) {
-        return false;
-    }
-    !is_member(w, m)
+    base::has(set, m.0) && !is_member(w, m)
 }
 
 // Is somebody of the set outside the committee?
-pub fn has_outsider(w: &[u64; 16], set: u32) -> bool
+#[tactic(auto, unfolding(crate::specs::Committees::outsider, base::specs::Folds::any_to))]
+pub fn has_outsider(w: &[Weight; 16], set: u32) -> bool
     ensures { result ≡ outsider (weight_in w.now) (is_in set) }
 {
-    for i in 0..16u32 {
-        if is_outsider(w, set, Member(i)) {
-            return true;
-        }
-    }
-    false
+    (0..16).any(|m| is_outsider(w, set, Member(m)))
 }
 
 // Does the set weigh less than a quorum?
-pub fn is_short(d: u32, w: &[u64; 16], set: u32) -> bool
+pub fn is_short(d: u32, w: &[Weight; 16], set: u32) -> bool
     requires { MarginFits d × TotalBounded w.now }
     ensures { result ≡ short d (weight_in w.now) (is_in set) }
 {
@@ -106,21 +99,19 @@ pub fn is_short(d: u32, w: &[u64; 16], set: u32) -> bool
 }
 
 // Is the set a quorum?
-pub fn is_quorum(d: u32, w: &[u64; 16], set: u32) -> bool
+#[tactic(auto, unfolding(crate::specs::Committees::quorum))]
+pub fn is_quorum(d: u32, w: &[Weight; 16], set: u32) -> bool
     requires { MarginFits d × TotalBounded w.now }
     ensures { result ≡ quorum d (weight_in w.now) (is_in set) }
 {
-    if has_outsider(w, set) {
-        return false;
-    }
-    !is_short(d, w, set)
+    !has_outsider(w, set) && !is_short(d, w, set)
 }
 
 // A member's share: its weight in thousandths of the total, to the nearest, an exact half to the even neighbour.
-pub fn share(w: &[u64; 16], m: Member) -> u32
+pub fn share(w: &[Weight; 16], m: Member) -> u32
     requires { HasShare w.now m.0 }
     ensures { result ≡ share_of (weight_in w.now m.0) (total 16 (weight_in w.now)) }
 {
     let n = total_weight(w);
-    shares::thousandths(Weight(w[m.0 as usize]), n)
+    shares::thousandths(w[m.0 as usize], n)
 }

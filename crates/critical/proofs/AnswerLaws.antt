@@ -1,5 +1,11 @@
--- The number that refuses a list of critical places, by its checks, and what is answered and listed.
-use mathlib.Core.Path.{◌≡◌, refl, sym, ◌∙◌}
+-- The number that refuses a list of critical places, by its checks.
+use mathlib.Core.Path.{◌≡◌, refl, sym, ap, ◌∙◌}
+use Rattle.std.specs.Prelude.{Result, Ok, Err}
+use Rattle.std.specs.Result.{is_err}
+use lib.Dec.{eqb}
+use Rattle.refusals.specs.declared.Refusal.{Refusal}
+use Rattle.refusals.specs.Refusals.{number_of, refusal_in}
+use Rattle.refusals.proofs.RefusalLaws.{some-number}
 use mathlib.Core.Bool.{true, false, not}
 use mathlib.Core.List.{List}
 use mathlib.Core.Logic.{◌≢◌}
@@ -7,16 +13,13 @@ use Prim.Native.Nat.{ℕ, ◌/◌, ◌≤◌}
 use native.Mathlib.Omega.{arith}
 use lib.ListN.{length}
 use lib.Seq.{sets}
-use borrow.Author.Tests.{ltb-false, not-false}
+use borrow.Author.Tests.{ltb-false, not-false, ne_eqb}
 use Rattle.base.specs.Checks.{refusal}
 use Rattle.base.proofs.CheckLaws.{first-refuses, first_passes, numbered, cleared}
 use Rattle.state.specs.declared.State.{State}
 use Rattle.state.specs.WellFormed.{well_formed}
 use Rattle.votes.specs.Checks.{time_checks, vote_checks}
-use Rattle.state.specs.declared.checks.Listed.TheVariants.{Count, Refused}
-use Rattle.state.proofs.AnswerLaws.{if_accepted-new, if_accepted-old, listed-count, listed-refused}
-use Rattle.critical.specs.Critical.{place_words, critical_places, early_checks, critical_refusal, critical_list}
-use Rattle.critical.specs.Answers.{critical_answer, Lists}
+use Rattle.critical.specs.Critical.{early_checks, critical_refusal}
 
 -- what the early checks let pass
 pub record Early (s : State) (t : List ℕ) (words : ℕ) : Type 0 where
@@ -43,13 +46,7 @@ module _ (s : State) (t : List ℕ) where
         wf : not (well_formed s t) ≡ false → well_formed s t ≡ true
         wf h = not-false (well_formed s t) h
 
-  module _ (list : List ℕ) where
-    pub lists-refused : (n : ℕ) → critical_refusal s t (length list) ≡ n → n ≢ 0 → Lists s t list (Refused n) t list
-    unfolding critical_answer critical_list
-    lists-refused n e h =
-        let z : critical_refusal s t (length list) ≢ 0 = λ q. h (sym e ∙ q) in
-        record { answer = rw (← e) (sym (listed-refused _ _ z)); table = refl; places = sym (if_accepted-old _ _ _ z) }
-
-    pub lists-places : critical_refusal s t (length list) ≡ 0 → (k : ℕ) (u list' : List ℕ) → k ≡ length (critical_places s t) → u ≡ t → list' ≡ sets list 0 (place_words (critical_places s t)) → Lists s t list (Count k) u list'
-    unfolding critical_answer critical_list
-    lists-places e k u list' h m p = record { answer = rw h (sym (listed-count _ _ e)); table = m; places = p ∙ sym (if_accepted-new _ _ _ e) }
+-- an answer refuses where it has a number
+pub err-number : {A : Type 0} (r : Result A Refusal) → is_err r ≡ not (eqb (refusal_in r) 0)
+err-number (Ok x) = refl
+err-number (Err e) = ap not (sym (ne_eqb (number_of e) 0 (some-number e)))

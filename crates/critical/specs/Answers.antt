@@ -1,5 +1,5 @@
--- The answer of a list of critical certificates, what the call promises, and what its parts go by.
-use Rattle.std.specs.Prelude.{◌≡◌, true, ◌⊎◌, List, ℕ, ◌-◌, ◌<◌, ◌≤◌, length}
+-- What the parts of a list of critical certificates go by.
+use Rattle.std.specs.Prelude.{◌≡◌, true, ◌⊎◌, List, ℕ, ◌-◌, ◌<◌, ◌≤◌}
 use Rattle.base.specs.Checks.{refusal}
 use Rattle.agreement.specs.Weights.{total}
 use Rattle.store.specs.Table.{held_at, mark_at}
@@ -10,25 +10,13 @@ use Rattle.committee.specs.Totals.{TotalBounded}
 use Rattle.running.specs.Fill.{leader_at}
 use Rattle.state.specs.declared.State.{State}
 use Rattle.state.specs.Formed.{Formed}
-use Rattle.state.specs.declared.checks.Listed.{Listed}
-use Rattle.state.specs.Answers.{listed_of}
+use Rattle.refusals.specs.Refusals.{refusal_in}
 use Rattle.votes.specs.Votes.{votes_for}
 use Rattle.votes.specs.Checks.{time_checks, vote_checks, committee_on}
 use Rattle.critical.specs.declared.Polled.{Polled}
 use Rattle.critical.specs.declared.Weighed.{Weighed}
-use Rattle.critical.specs.Critical.{critical_places, critical_refusal, critical_list}
 
 module _ (s : State) (t : List ℕ) where
-  -- as many as there are places
-  unfoldable pub critical_answer : ℕ → Listed
-  critical_answer words = listed_of (critical_refusal s t words) (length (critical_places s t))
-
-  -- what the call gives: the answer a, the table as it was, and the list as it is then
-  pub record Lists (list : List ℕ) (a : Listed) (t' list' : List ℕ) : Type 0 where
-    pub answer : a ≡ critical_answer (length list)
-    pub table : t' ≡ t
-    pub places : list' ≡ critical_list s t list
-
   -- the checks of time let the state pass
   pub record InTime : Type 0 where
     pub formed : Formed s t
@@ -43,7 +31,7 @@ module _ (s : State) (t : List ℕ) where
 
   -- p has what the votes answer, the leader of the round before and the committee of the present round
   pub record Polls (p : Polled) : Type 0 where
-    pub its-refusal : p.refusal ≡ refusal (vote_checks s t)
+    pub its-refusal : refusal_in p.answer ≡ refusal (vote_checks s t)
     pub its-leader : p.leader.0 ≡ leader_at s.settings (chain_of s.settings.ceiling.0 t s.blocks) (s.round.0 - 1)
     pub its-weights : p.weights ≡ committee_on s t s.round.0
     pub bounded : TotalBounded p.weights

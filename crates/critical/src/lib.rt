@@ -1,34 +1,41 @@
-// The certificates that a commit hangs on: held ones whose absence alone would turn it into a refusal (change request: Point 10).
+//! The certificates that a commit hangs on.
+//!
+//! Held ones whose absence alone would turn the commit into a refusal, by round, then author (specs/Critical). The table is lent for writing and is afterwards as it was. docs/RULES.md, "What a commit hangs on".
 #![tactic(auto)]
 
-ghost use Rattle.std.specs.Prelude.{◌≡◌, ◌+◌, ◌≤◌, [], ◌∷◌, length};
+ghost use Rattle.std.specs.Prelude.{◌≡◌, ◌+◌, ◌≤◌, [], ◌∷◌, length, IfOk, not, eqb};
 ghost use Rattle.base.specs.Puts.{Puts};
-ghost use Rattle.critical.specs.Critical.{place_words, refusal_without, is_critical, critical_at, critical_in, critical_places, early_checks};
-ghost use Rattle.critical.specs.Answers.{Lists, InTime, Polls, MayLack, Weighs, Near, InView, Free};
 ghost use Rattle.base.specs.Checks.{refusal};
-ghost use Rattle.state.specs.WellFormed.{well_formed};
+ghost use Rattle.refusals.specs.Refusals.{refusal_in};
+ghost use Rattle.store.specs.Table.{Within, mark_at};
+ghost use Rattle.state.specs.View.{view};
+ghost use Rattle.member_view.specs.Views.{settings_of, shown};
+ghost use Rattle.critical.specs.Critical.{place_words, refusal_without, is_critical, critical_at, critical_in, critical_places, critical_refusal, critical_list, late_checks};
+ghost use Rattle.critical.specs.Answers.{InTime, Polls, MayLack, Weighs, Near, InView, Free};
 
 use committee::weighing;
+use member_view::View;
+use refusals::Refusal;
 use running::{bonded, leaders};
 use state::State;
-use state::checks::Listed;
 use store::writes;
 use terms::sheet::Weight;
 use terms::{Member, Round};
+use votes::checks;
 
-// What a commit goes by after the checks of time: the number of the check that refuses then, 0 for none; the leader of the round before, 16 for none; and the committee of the present round.
+// What a commit goes by after the checks of time: what those of the votes answer; the leader of the round before, 16 for none; and the committee of the present round.
 #[derive(Clone, Copy)]
 pub struct Polled {
-    pub refusal: u32,
+    pub answer: Result<(), Refusal>,
     pub leader: Member,
-    pub weights: [u64; 16],
+    pub weights: [Weight; 16],
 }
 
 // What an accepted commit is weighed by: the leader of the round before, and of the present round the committee, its fault bound and the votes.
 #[derive(Clone, Copy)]
 pub struct Weighed {
     pub leader: Member,
-    pub weights: [u64; 16],
+    pub weights: [Weight; 16],
     pub bound: Weight,
     pub votes: Weight,
 }
@@ -42,25 +49,25 @@ fn poll(s: State, t: &[u32]) -> Polled
     let last = bonded::last_round(t, s.blocks);
     let top = Round(s.round.0 - 1);
     let weights = leaders::fill_leaders(t, s.settings, s.blocks, last, top, &mut leaders);
-    let refusal = votes::refusals::vote_refusal(s, t, &leaders, &weights);
+    let answer = checks::check_votes(&s, t, &leaders, &weights);
     Polled {
-        refusal,
+        answer,
         leader: Member(leaders[top.0 as usize]),
         weights,
     }
 }
 
-// The number that commit would be refused with, were the certificate of a place absent; the table is afterwards as it was.
-fn absent_refusal(s: State, t: &mut [u32], a: Member, q: Round) -> u32
+// What the checks of the votes would answer, were the certificate of a place absent; the table is afterwards as it was.
+fn answer_without(s: State, t: &mut [u32], a: Member, q: Round) -> Result<(), Refusal>
     requires { MayLack s t.old a.0 q.0 }
-    ensures { (result ≡ refusal_without s t.old a.0 q.0) × (t.new ≡ t.old) }
+    ensures { (refusal_in result ≡ refusal_without s t.old a.0 q.0) × (t.new ≡ t.old) }
 {
     let held = store::held_set(t, q);
     let left = base::without(held, a.0);
     writes::set_held(t, q, left);
     let p = poll(s, t);
     writes::set_held(t, q, held);
-    p.refusal
+    p.answer
 }
 
 // Of a certificate that is held and in no block: is it the anchor, or a vote without which the others weigh not more than the bound? One that is no vote adds nothing to them.
@@ -76,6 +83,14 @@ fn is_pivotal(s: State, t: &[u32], x: Weighed, a: Member, q: Round) -> bool
     x.votes.0 - vote.0 <= x.bound.0
 }
 
+// Is the certificate of a place in a block?
+fn is_in_block(t: &[u32], a: Member, q: Round) -> bool
+    requires { Within t.now a.0 q.0 }
+    ensures { result ≡ not (eqb (mark_at t.now a.0 q.0) 0) }
+{
+    store::record::mark(t, a, q) != 0
+}
+
 // Does the commit hang on the certificate of a place?
 fn is_critical(s: State, t: &mut [u32], x: Weighed, a: Member, q: Round) -> bool
     requires { Weighs s t.old x × InView s a.0 q.0 }
@@ -84,8 +99,8 @@ fn is_critical(s: State, t: &mut [u32], x: Weighed, a: Member, q: Round) -> bool
     if !store::held(t, a, q) {
         return false;
     }
-    if store::record::mark(t, a, q) != 0 {
-        return absent_refusal(s, t, a, q) != 0;
+    if is_in_block(t, a, q) {
+        return answer_without(s, t, a, q).is_err();
     }
     is_pivotal(s, t, x, a, q)
 }
@@ -143,7 +158,7 @@ fn list_places(s: State, t: &mut [u32], x: Weighed, list: &mut [u32]) -> usize
 
 // What the commit of a state that passes its checks is weighed by.
 fn weigh_up(s: State, t: &[u32], p: Polled) -> Weighed
-    requires { InTime s t.now × (Polls s t.now p × (p.refusal ≡ 0)) }
+    requires { InTime s t.now × (Polls s t.now p × (refusal_in p.answer ≡ 0)) }
     ensures { Weighs s t.now result }
 {
     let leader = p.leader;
@@ -158,42 +173,30 @@ fn weigh_up(s: State, t: &[u32], p: Polled) -> Weighed
     }
 }
 
-// The checks before the votes: 1, 25, 19, 20, 8; the list has so many words.
-fn early_refusal(formed: bool, s: State, t: &[u32], words: usize) -> u32
-    requires { formed ≡ well_formed s t.now }
-    ensures { result ≡ refusal (early_checks s t.now words) }
+// The checks of a well-formed state before the votes: 25, 19, 20, 8; the list has so many words.
+#[tactic(auto, unfolding(base::specs::Checks::refusal))]
+fn check(v: &View, words: usize) -> Result<(), Refusal>
+    ensures { refusal_in result ≡ refusal (late_checks v.now.state.now v.now.table.now words) }
 {
-    if !formed {
-        return 1;
-    }
     if words / 2 < 32 {
-        return 25;
+        return Err(Refusal::ListTooShort);
     }
-    votes::refusals::time_refusal(s, t)
+    checks::check_time(v)
 }
 
-// The call on a state that passes those.
-fn list_voted(s: State, t: &mut [u32], list: &mut [u32]) -> Listed
-    requires { refusal (early_checks s t.old (length list.old)) ≡ 0 }
-    ensures { Lists s t.old list.old result t.new list.new }
+/// Lists the certificates that a commit hangs on; the value is their number. The table is lent for writing, and is afterwards as it was: a certificate in a block is tried with its bit cleared, and the bit set again.
+#[tactic(auto, unfolding(base::specs::Checks::refusal, state::specs::Answers::if_accepted, crate::specs::Critical::critical_refusal, crate::specs::Critical::critical_list))]
+pub fn critical(s: &State, t: &mut [u32], list: &mut [u32]) -> Result<u32, Refusal>
+    ensures refusal { refusal_in result ≡ critical_refusal s.now t.old (length list.old) }
+    ensures value { IfOk result (λ n. n ≡ length (critical_places s.now t.old)) }
+    ensures table { t.new ≡ t.old }
+    ensures list { list.new ≡ critical_list s.now t.old list.old }
 {
-    let p = poll(s, t);
-    if p.refusal != 0 {
-        return Listed::Refused(p.refusal);
-    }
-    let x = weigh_up(s, t, p);
-    let words = list_places(s, t, x, list);
-    Listed::Count((words / 2) as u32)
-}
-
-// The table is lent for writing, and is afterwards as it was: a certificate in a block is tried with its bit cleared, and the bit set again.
-pub fn critical(s: State, t: &mut [u32], list: &mut [u32]) -> Listed
-    ensures { Lists s t.old list.old result t.new list.new }
-{
-    let formed = state::well_formed(s, t);
-    let early = early_refusal(formed, s, t, list.len());
-    if early != 0 {
-        return Listed::Refused(early);
-    }
-    list_voted(s, t, list)
+    let words = list.len();
+    check(&View::known(state::well_formed(*s, t), &[], s, t)?, words)?;
+    let polled = poll(*s, t);
+    polled.answer?;
+    let weighed = weigh_up(*s, t, polled);
+    let put = list_places(*s, t, weighed, list);
+    Ok((put / 2) as u32)
 }

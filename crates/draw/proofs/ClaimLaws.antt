@@ -21,9 +21,9 @@ use Rattle.draw.specs.Draw.{draws, drawn_body, draw_refusal}
 use Rattle.draw.specs.Claims.{DrawnSeen, NeverSix}
 use Rattle.draw.proofs.PassedLaws.{first-row}
 
-pub drawn-seen : DrawnSeen
+pub drawn_seen : DrawnSeen
 unfolding drawn_body
-drawn-seen s t v w =
+drawn_seen s t v w =
     let f = formed s t w in
     let a = f.settings.allowance_to in
     let k = transactions-few s.settings.allowance (queues_of t) in
@@ -35,15 +35,15 @@ unfolding bad_transactions
 drawn-passes s t v w =
     let f = formed s t w in
     rw (
-      drawn-seen s t v w,
+      drawn_seen s t v w,
       le-ltb _ _ (transactions-few s.settings.allowance (queues_of t)),
       drawn-fit s.settings.allowance t (first-row s t f) f.queues,
     )
     refl
 
-pub never-six : NeverSix
+pub never_six : NeverSix
 unfolding draw_refusal propose_refusal lacks
-never-six s t v w e =
+never_six s t v w e =
     let b = drawn_body s t v in
     let c = rules.propose b.previous (transactions_of b) in
     never 6 _ (omega arith) refl (sym (refusal-formed s t c w ∙ passes 6 _ (drawn-passes s t v w)) ∙ e)

@@ -1,3 +1,2 @@
 pub mod PassedLaws
 pub mod ClaimLaws
-pub mod AnsweredLaws

@@ -5,9 +5,8 @@ use Rattle.terms.specs.Bodies.{body_of}
 use Rattle.queues.specs.Queues.{Draw, drawn, transactions_in}
 use Rattle.queues.specs.Words.{queues_of, drawn_table}
 use Rattle.state.specs.declared.State.{State}
-use Rattle.state.specs.declared.checks.Outcome.{Outcome}
 use Rattle.state.specs.Answers.{if_accepted}
-use Rattle.propose.specs.Propose.{propose_refusal, propose_outcome}
+use Rattle.propose.specs.Propose.{propose_refusal, propose_state}
 
 module _ (s : State) (t : List ℕ) where
   -- as many as the allowance lets, and as wait
@@ -21,8 +20,8 @@ module _ (s : State) (t : List ℕ) where
   unfoldable pub draw_refusal : ℕ → ℕ
   draw_refusal previous = propose_refusal s t (drawn_body previous)
 
-  unfoldable pub draw_outcome : ℕ → Outcome
-  draw_outcome previous = propose_outcome s t (drawn_body previous)
+  unfoldable pub draw_state : ℕ → State
+  draw_state previous = propose_state s t (drawn_body previous)
 
   unfoldable pub draw_table : ℕ → List ℕ
   draw_table previous = if_accepted (draw_refusal previous) (drawn_table draws t) t

@@ -1,42 +1,48 @@
-// Draw: a proposal for the present round of what waits in guests' queues is kept (change request: Point 6).
+//! Draw: what waits in guests' queues is proposed.
+//!
+//! It is the propose of what is drawn (specs/Draw); the drawn transactions leave their queues where that is accepted, and only then. docs/RULES.md, "Guests' queues".
 #![tactic(auto)]
 
+pub mod theorems;
+
+ghost use Rattle.std.specs.Prelude.{◌≡◌};
+ghost use Rattle.refusals.specs.Refusals.{refusal_in};
 ghost use Rattle.state.specs.Cached.{Cached};
-ghost use Rattle.state.specs.Answers.{WritingCallAnswered};
-ghost use Rattle.draw.specs.Draw.{draw_refusal, draw_outcome, draw_table};
+ghost use Rattle.draw.specs.Draw.{draw_refusal, draw_state, draw_table};
 
 use queues::drawing;
+use refusals::Refusal;
 use state::State;
-use state::checks::{Answer, Outcome};
 
-// The call, where it is told whether the state is well formed, and committees may be cached. Nothing leaves its queue before the proposal is accepted.
-pub fn draw_cached(formed: bool, cache: &[u64], s: State, t: &mut [u32], previous: u16) -> Outcome
-    requires { Cached s t.old formed cache.now }
-    ensures { WritingCallAnswered (draw_outcome s t.old previous) (draw_table s t.old previous) (draw_refusal s t.old previous) result t.new }
+/// The call, where it is told whether the state is well formed, and committees may be cached. Nothing leaves its queue before the proposal is accepted.
+#[tactic(auto, unfolding(base::specs::Checks::refusal, state::specs::Refusals::refusal_of, state::specs::Answers::if_accepted, propose::specs::Propose::propose_refusal, propose::specs::Propose::propose_state, crate::specs::Draw::drawn_body, crate::specs::Draw::draw_refusal, crate::specs::Draw::draw_state, crate::specs::Draw::draw_table))]
+pub fn draw_cached(
+    formed: bool,
+    cache: &[u64],
+    s: &mut State,
+    t: &mut [u32],
+    previous: u16,
+) -> Result<(), Refusal>
+    requires { Cached s.old t.old formed cache.now }
+    ensures refusal { refusal_in result ≡ draw_refusal s.old t.old previous }
+    ensures state { s.new ≡ draw_state s.old t.old previous }
+    ensures table { t.new ≡ draw_table s.old t.old previous }
 {
     if !formed {
-        return Outcome {
-            state: s,
-            answer: Answer::Refused(1),
-        };
+        return Err(Refusal::Malformed);
     }
     let allowance = s.settings.allowance;
     let body = drawing::drawn_body(t, allowance, previous);
-    let x = propose::propose_cached(formed, cache, s, t, body);
-    let a = x.answer;
-    match a {
-        Answer::Accepted => {
-            drawing::draw(t, allowance, previous);
-            x
-        }
-        Answer::Refused(n) => x,
-    }
+    propose::propose_cached(formed, cache, s, t, body)?;
+    drawing::draw(t, allowance, previous);
+    Ok(())
 }
 
-pub fn draw(s: State, t: &mut [u32], previous: u16) -> Outcome
-    ensures { WritingCallAnswered (draw_outcome s t.old previous) (draw_table s t.old previous) (draw_refusal s t.old previous) result t.new }
+/// Keeps a proposal of what waits in guests' queues.
+pub fn draw(s: &mut State, t: &mut [u32], previous: u16) -> Result<(), Refusal>
+    ensures refusal { refusal_in result ≡ draw_refusal s.old t.old previous }
+    ensures state { s.new ≡ draw_state s.old t.old previous }
+    ensures table { t.new ≡ draw_table s.old t.old previous }
 {
-    let formed = state::well_formed(s, t);
-    let none = [0u64; 1];
-    draw_cached(formed, &none[..0], s, t, previous)
+    draw_cached(state::well_formed(*s, t), &[], s, t, previous)
 }

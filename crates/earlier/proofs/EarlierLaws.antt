@@ -1,4 +1,4 @@
--- Members refuse more than before Point 7, and runs of now were allowed then.
+-- Members refuse more than before an advance asked for a quorum, and runs of now were allowed then.
 use mathlib.Core.Path.{◌≡◌, refl, ◌∙◌, subst, fun_ext}
 use mathlib.Core.Bool.{Bool, true, false}
 use mathlib.Core.List.{[], ◌∷◌}
@@ -8,7 +8,7 @@ use Rattle.base.specs.Checks.{refusal}
 use Rattle.base.proofs.CheckLaws.{numbered, passes, passes-all}
 use Rattle.base.proofs.Passed.{passed}
 use Rattle.rules.specs.Calls.{advancing}
-use Rattle.state.specs.States.{advanced, no_body}
+use Rattle.state.specs.States.{advanced}
 use Rattle.state.specs.View.{view}
 use Rattle.state.specs.Refusals.{guarded, refusal_of}
 use Rattle.state.proofs.AnswerLaws.{if_accepted-new, if_accepted-old}
@@ -19,7 +19,7 @@ use Rattle.engine.proofs.AfterLaws.{refused-same, accepted-new}
 use Rattle.nonforking.specs.Statement.{Prefix, Knows, weights, engine_behaviour}
 use Rattle.earlier.specs.Refusing.{accepted_only, answering_as}
 use Rattle.earlier.specs.Earlier.{earlier_refusal, earlier_after, earlier_behaviour, answered_earlier, MembersRefuseMore, OnlyThinRefused, EarlierRefusedSame, WasAllowedEarlier, AgreementCarriesOver}
-use Rattle.earlier.proofs.RefusingLaws.{same-engines, runs_were_allowed}
+use Rattle.earlier.proofs.RefusingLaws.{same_engines, runs_were_allowed}
 
 -- an advance that passes now passed earlier
 advance-passed-earlier : (e : Engine) → refusal_for e advance ≡ 0 → earlier_refusal e advance ≡ 0
@@ -36,7 +36,7 @@ allowed e (certify d) a = (a, refl)
 allowed e (accept c) a = (a, refl)
 allowed e advance a =
     let b = advance-passed-earlier e a in
-    (b, rw (if_accepted-new (earlier_refusal e advance) (advanced e.state no_body) e.state b, accepted-new e advance a) refl)
+    (b, rw (if_accepted-new (earlier_refusal e advance) (advanced e.state) e.state b, accepted-new e advance a) refl)
 allowed e commit a = (a, refl)
 allowed e (enqueue g x) a = (a, refl)
 allowed e (draw v) a = (a, refl)
@@ -59,18 +59,18 @@ pub only_thin_refused : OnlyThinRefused
 unfolding advance_refusal refusal_of
 only_thin_refused e = first-of _ _ _ _
 
-pub earlier-refused-same : EarlierRefusedSame
-earlier-refused-same e n = rw (if_accepted-old (earlier_refusal e advance) (advanced e.state no_body) e.state n) refl
+pub earlier_refused_same : EarlierRefusedSame
+earlier_refused_same e n = rw (if_accepted-old (earlier_refusal e advance) (advanced e.state) e.state n) refl
 
 -- ---- runs
 
-pub was-allowed-earlier : WasAllowedEarlier
-was-allowed-earlier = runs_were_allowed engine_behaviour earlier_behaviour
+pub was_allowed_earlier : WasAllowedEarlier
+was_allowed_earlier = runs_were_allowed engine_behaviour earlier_behaviour
 
 pub agreement_carries_over : AgreementCarriesOver
 agreement_carries_over h X l r =
-    let g = h (answering_as members_refuse_more X) (accepted_only X l) (was-allowed-earlier members_refuse_more X l r).run in
-    let s = fun_ext (same-engines engine_behaviour earlier_behaviour members_refuse_more X l) in
+    let g = h (answering_as members_refuse_more X) (accepted_only X l) (was_allowed_earlier members_refuse_more X l r).run in
+    let s = fun_ext (same_engines engine_behaviour earlier_behaviour members_refuse_more X l) in
     record {
       chains = λ i j c d. subst (λ (es : ℕ → Engine). Prefix (es i) (es j) ⊎ Prefix (es j) (es i)) s (g.chains i j c d);
       committees = λ i j q c d. subst (λ (es : ℕ → Engine). Knows (es i) q → Knows (es j) q → (m : ℕ) → weights (es i) q m ≡ weights (es j) q m) s (g.committees i j q c d);

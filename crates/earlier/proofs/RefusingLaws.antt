@@ -2,7 +2,7 @@
 use mathlib.Core.Path.{◌≡◌, refl, sym, ap, ◌∙◌, subst, fun_ext}
 use mathlib.Core.Bool.{Bool, true, false, cond}
 use mathlib.Core.List.{List, [], ◌∷◌}
-use mathlib.Core.Logic.{◌⊎◌, inl, inr, ◌≢◌}
+use mathlib.Core.Logic.{inl, inr, ◌≢◌}
 use Prim.Native.Nat.{ℕ, ◌≤◌}
 use lib.Dec.{eqb}
 use borrow.Author.Tests.{eqb-true, eqb-false}
@@ -10,10 +10,10 @@ use Rattle.agreement.specs.Weights.{weigh, total, outside}
 use Rattle.agreement.specs.Entries.{states}
 use Rattle.terms.specs.Proposals.{Content}
 use Rattle.committee.specs.Committees.{bound_of}
-use Rattle.engine.specs.Calls.{Call, opens}
+use Rattle.engine.specs.Calls.{Call}
 use Rattle.engine.specs.Engine.{Engine}
 use Rattle.nonforking.specs.Statement.{Behaviour, Members, Entry, engine_after, Knows, weights, Takes, Proposes, Endorses, Made, Signed, Fair, WithinBound, Run}
-use Rattle.earlier.specs.Refusing.{AllAccepted, accepted_only, RefusesMore, answering_as, WasAllowed, SameEngines, RunsWereAllowed, CarriesOver}
+use Rattle.earlier.specs.Refusing.{AllAccepted, accepted_only, RefusesMore, answering_as, SameEngines, RunsWereAllowed, CarriesOver}
 
 module _ {E D : Behaviour} (R : RefusesMore E D) (X : Members E) where
   open X use {correct, before, sheet, settings}
@@ -32,15 +32,15 @@ module _ {E D : Behaviour} (R : RefusesMore E D) (X : Members E) where
   same-engine (e ∷ l) i = go (eqb (number_at e l) 0) refl (eqb i e.who) refl (same-engine l i)
     where
       go : (b : Bool) → eqb (number_at e l) 0 ≡ b → (h : Bool) → eqb i e.who ≡ h → engine_after Y (accepted_only X l) i ≡ engine_after X l i
-          → engine_after Y (cond b (e ∷ accepted_only X l) (accepted_only X l)) i ≡ cond h (E.after (engine_after X l i) e.call) (engine_after X l i)
+          → engine_after Y (accepted_only X (e ∷ l)) i ≡ engine_after X (e ∷ l) i
       go true q true t k =
           let a = subst (λ (j : ℕ). E.refusal (engine_after X l j) e.call ≡ 0) (sym (eqb-true i e.who t)) (eqb-true (number_at e l) 0 q) in
-          rw t (ap (λ (x : Engine). D.after x e.call) k ∙ (R.allowed (engine_after X l i) e.call a).1)
-      go true q false t k = rw t k
+          rw (q, t) (ap (λ (x : Engine). D.after x e.call) k ∙ (R.allowed (engine_after X l i) e.call a).1)
       go false q true t k =
           let a = subst (λ (j : ℕ). E.refusal (engine_after X l j) e.call ≢ 0) (sym (eqb-true i e.who t)) (eqb-false (number_at e l) 0 q) in
-          k ∙ sym (R.unchanged (engine_after X l i) e.call a)
-      go false q false t k = k
+          rw (q, t) (k ∙ sym (R.unchanged (engine_after X l i) e.call a))
+      go true q false t k = rw (q, t) k
+      go false q false t k = rw (q, t) k
 
   -- what E accepts after the entries l D accepts after those that are left
   accepted-there : (l : List Entry) (i : ℕ) (c : Call) → E.refusal (engine_after X l i) c ≡ 0 → D.refusal (engine_after Y (accepted_only X l) i) c ≡ 0
@@ -88,8 +88,8 @@ module _ {E D : Behaviour} (R : RefusesMore E D) (X : Members E) where
       go true q k w = let a = eqb-true (number_at e l) 0 q in ((fair_left e l a r.0, w, k.0), (accepted-there l e.who e.call a, k.1))
       go false q k w = k
 
-pub same-engines : SameEngines
-same-engines E D R X l i = same-engine R X l i
+pub same_engines : SameEngines
+same_engines E D R X l i = same-engine R X l i
 
 pub runs_were_allowed : RunsWereAllowed
 runs_were_allowed E D R X l r = let p = parts R X l r in record { run = p.0; all-accepted = p.1 }

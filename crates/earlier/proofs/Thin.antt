@@ -1,6 +1,6 @@
 -- An engine that has just opened holds nothing: its advance passed earlier, and is refused with 28 now.
 use mathlib.Core.Path.{◌≡◌, refl, sym, ◌∙◌, subst}
-use mathlib.Core.Bool.{true, false, or-true}
+use mathlib.Core.Bool.{false, or-true}
 use mathlib.Core.List.{[]}
 use Prim.Native.Nat.{ℕ, ◌+◌, ◌<◌}
 use native.Mathlib.Omega.{arith}

@@ -1,16 +1,16 @@
--- The rules before Point 7: an advance is refused at the ceiling and nowhere else. Every other call is as it is now.
+-- The rules before an advance asked for a quorum: an advance is refused at the ceiling and nowhere else. Every other call is as it is now.
 use Rattle.std.specs.Prelude.{◌≡◌, cond, ◌||◌, List, [], ◌∷◌, ◌≢◌, ℕ, eqb, leb}
 use Rattle.base.specs.Checks.{Checks, refusal}
 use Rattle.terms.specs.declared.sheet.Settings.{Settings}
 use Rattle.rules.specs.Tests.{MemberView}
-use Rattle.state.specs.States.{advanced, no_body}
+use Rattle.state.specs.States.{advanced}
 use Rattle.state.specs.View.{view}
 use Rattle.state.specs.Refusals.{guarded}
 use Rattle.state.specs.Answers.{if_accepted}
 use Rattle.engine.specs.Calls.{Call, opens, propose, endorse, certify, accept, advance, commit, enqueue, draw, port, aside}
 use Rattle.engine.specs.Engine.{Engine, refusal_for, after}
 use Rattle.engine.specs.Sequences.{Opening, after_opening}
-use Rattle.nonforking.specs.Statement.{Behaviour, Members, Entry, Run, Agreed, engine_behaviour, DemandThree}
+use Rattle.nonforking.specs.Statement.{Behaviour, Members, Entry, Run, Agreed, engine_behaviour, ChainsNeverFork}
 use Rattle.earlier.specs.Refusing.{RefusesMore, WasAllowed}
 
 -- 18 at the ceiling
@@ -39,7 +39,7 @@ abbrev pub earlier_refusal : Engine → Call → ℕ
 earlier_refusal e c = of_advance (earlier_advance_refusal e) (refusal_for e c) c
 
 abbrev pub earlier_after : Engine → Call → Engine
-earlier_after e c = of_advance (record { state = if_accepted (earlier_advance_refusal e) (advanced e.state no_body) e.state; table = e.table }) (after e c) c
+earlier_after e c = of_advance (record { state = if_accepted (earlier_advance_refusal e) (advanced e.state) e.state; table = e.table }) (after e c) c
 
 abbrev pub earlier_behaviour : Behaviour
 earlier_behaviour = record { refusal = earlier_refusal; after = earlier_after }
@@ -73,4 +73,4 @@ WasAllowedEarlier = (R : MembersRefuseMore) (X : Members engine_behaviour) (l : 
 
 -- if members never parted by the earlier rules, they never part now
 abbrev pub AgreementCarriesOver : Type 0
-AgreementCarriesOver = ((X : Members earlier_behaviour) (l : List Entry) → Run X l → Agreed X l) → DemandThree
+AgreementCarriesOver = ((X : Members earlier_behaviour) (l : List Entry) → Run X l → Agreed X l) → ChainsNeverFork

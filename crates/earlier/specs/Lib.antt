@@ -1,6 +1,6 @@
--- What Point 7 claims of runs. The proofs stand in proofs/.
+-- What is claimed of runs of now and of before. The proofs stand in proofs/.
 
 -- Two ways in which engines answer, one of which refuses more
 pub mod Refusing
--- The rules before Point 7
+-- The rules before an advance asked for a quorum
 pub mod Earlier

@@ -1,4 +1,4 @@
--- Endorse on a state and its table: the number that refuses, the answer and the state, and the table. The place is marked endorsed.
+-- Endorse on a state and its table: the number that refuses, and the table. The place is marked endorsed.
 use Rattle.std.specs.Prelude.{List, ℕ}
 use Rattle.terms.specs.declared.Proposal.{Proposal}
 use Rattle.terms.specs.Proposals.{content_of}
@@ -6,15 +6,11 @@ use Rattle.store.specs.Writes.{set_endorsed}
 use Rattle.rules.specs.Calls as rules
 use Rattle.state.specs.declared.State.{State}
 use Rattle.state.specs.Refusals.{refusal_of}
-use Rattle.state.specs.declared.checks.Outcome.{Outcome}
-use Rattle.state.specs.Answers.{if_accepted, outcome_of}
+use Rattle.state.specs.Answers.{if_accepted}
 
 module _ (s : State) (t : List ℕ) where
   unfoldable pub endorse_refusal : Proposal → ℕ
   endorse_refusal p = refusal_of s t (rules.endorse (content_of p))
-
-  unfoldable pub endorse_outcome : Proposal → Outcome
-  endorse_outcome p = outcome_of (endorse_refusal p) s s
 
   unfoldable pub endorse_table : Proposal → List ℕ
   endorse_table p = if_accepted (endorse_refusal p) (set_endorsed t p.author.0 p.round.0) t

@@ -1,128 +1,71 @@
-// Endorse: the place of a proposal is marked endorsed. One's own membership is not tested (scope document: Calls, in the order of their checks).
+//! Endorse: the place of a proposal is marked endorsed.
+//!
+//! One's own membership is not tested. One bit of the table changes, or nothing (specs/Endorse). docs/RULES.md, "Endorse".
 #![tactic(auto)]
 
-ghost use Rattle.std.specs.Prelude.{◌≡◌, not, ◌||◌, ◌-◌, ◌<◌, drop};
-ghost use Rattle.store.specs.Table.{Within, held_at, endorsed_at};
-ghost use Rattle.base.specs.Sets.{is_in};
-ghost use Rattle.committee.specs.Committees.{quorum};
-ghost use Rattle.rules.specs.Tests.{above, committee_in, unknown};
+ghost use Rattle.std.specs.Prelude.{◌≡◌, OnOk};
 ghost use Rattle.base.specs.Checks.{refusal};
 ghost use Rattle.terms.specs.Proposals.{content_of};
 ghost use Rattle.rules.specs.Calls.{endorsing};
-ghost use Rattle.state.specs.Formed.{Formed};
-ghost use Rattle.state.specs.View.{view};
-ghost use Rattle.state.specs.Cached.{CachesFor, Cached};
-ghost use Rattle.state.specs.SharedChecks.{RoundFits, ProposalFits, previous_checks};
-ghost use Rattle.state.specs.Answers.{WritingCallAnswered};
-ghost use Rattle.endorse.specs.Endorse.{endorse_refusal, endorse_outcome, endorse_table};
+ghost use Rattle.refusals.specs.Refusals.{refusal_in};
+ghost use Rattle.state.specs.Cached.{Cached};
+ghost use Rattle.state.specs.SharedChecks.{FormFits};
+ghost use Rattle.member_view.specs.Views.{settings_of, shown};
+ghost use Rattle.endorse.specs.Endorse.{endorse_refusal, endorse_table};
 
-use running::{bonded, cache};
-use state::checks::{Answer, Outcome};
-use state::{State, checks};
+use member_view::View;
+use refusals::Refusal;
+use state::State;
 use store::writes;
-use terms::{Proposal, Round};
+use terms::Proposal;
 
-// Check 10: is the place held or already endorsed?
-fn is_taken(t: &[u32], p: Proposal) -> bool
-    requires { Within t.now p.author.0 p.round.0 }
-    ensures { result ≡ (held_at t.now p.author.0 p.round.0 || endorsed_at t.now p.author.0 p.round.0) }
+// The checks of a well-formed state: 4, 5, 6, 7, 14, 10, 8, 11, 12.
+#[tactic(auto, unfolding(base::specs::Checks::refusal))]
+fn check(v: &View, p: Proposal) -> Result<(), Refusal>
+    ensures refusal { refusal_in result ≡ refusal (endorsing (settings_of v.now) v.now.state.now.own.0 (shown v.now) (content_of p)) }
+    ensures fits { OnOk result (FormFits v.now.state.now p) }
 {
-    if store::held(t, p.author, p.round) {
-        return true;
+    v.check_form(p)?;
+    if p.author.0 == v.state.own.0 {
+        return Err(Refusal::OwnEndorsement);
     }
-    store::endorsed(t, p.author, p.round)
+    if v.is_taken(p.author, p.round) {
+        return Err(Refusal::PlaceTaken);
+    }
+    if v.is_unknown_before(p.round) {
+        return Err(Refusal::CommitteeUnknown);
+    }
+    if v.lacks_previous(p) {
+        return Err(Refusal::PreviousMissing);
+    }
+    if v.lacks_quorum(p) {
+        return Err(Refusal::PreviousThin);
+    }
+    Ok(())
 }
 
-// Check 8 above round 1: is the committee of the round before unknown?
-fn is_unknown(s: State, t: &[u32], r: Round) -> bool
-    requires { Formed s t.now × (0 < r.0) }
-    ensures { result ≡ above r.0 (unknown s.settings (view s t.now) (r.0 - 1)) }
+/// The call, where it is told whether the state is well formed, and committees may be cached.
+#[tactic(auto, unfolding(base::specs::Checks::refusal, state::specs::Refusals::refusal_of, state::specs::Answers::if_accepted, crate::specs::Endorse::endorse_refusal, crate::specs::Endorse::endorse_table))]
+pub fn endorse_cached(
+    formed: bool,
+    cache: &[u64],
+    s: &State,
+    t: &mut [u32],
+    p: Proposal,
+) -> Result<(), Refusal>
+    requires { Cached s.now t.old formed cache.now }
+    ensures refusal { refusal_in result ≡ endorse_refusal s.now t.old p }
+    ensures table { t.new ≡ endorse_table s.now t.old p }
 {
-    if r.0 == 1 {
-        return false;
-    }
-    !bonded::known(t, s.settings, s.blocks, Round(r.0 - 1))
-}
-
-// Check 12 above round 1: is the previous set no quorum of the round before?
-fn lacks_quorum(cache: &[u64], s: State, t: &[u32], p: Proposal) -> bool
-    requires { RoundFits s t.now p.round.0 × CachesFor s t.now cache.now }
-    ensures { result ≡ above p.round.0 (not (quorum s.settings.margin (committee_in s.settings (view s t.now) (p.round.0 - 1)) (is_in p.body.previous))) }
-{
-    let before = Round(p.round.0 - 1);
-    let w = cache::committee(cache, t, s.settings, s.blocks, before);
-    checks::lacks_previous_quorum(s.settings.margin, &w, p)
-}
-
-// Checks 11 and 12.
-fn previous_refusal(cache: &[u64], s: State, t: &[u32], p: Proposal) -> u32
-    requires { RoundFits s t.now p.round.0 × CachesFor s t.now cache.now }
-    ensures { result ≡ refusal (previous_checks s.settings (view s t.now) (content_of p)) }
-{
-    if checks::lacks_previous(s, t, p) {
-        return 11;
-    }
-    if lacks_quorum(cache, s, t, p) {
-        return 12;
-    }
-    0
-}
-
-// Checks 14, 10, 8, 11, 12.
-fn place_refusal(cache: &[u64], s: State, t: &[u32], p: Proposal) -> u32
-    requires { ProposalFits s t.now cache.now p }
-    ensures { result ≡ refusal (drop 4 (endorsing s.settings s.own.0 (view s t.now) (content_of p))) }
-{
-    if p.author.0 == s.own.0 {
-        return 14;
-    }
-    if is_taken(t, p) {
-        return 10;
-    }
-    if is_unknown(s, t, p.round) {
-        return 8;
-    }
-    previous_refusal(cache, s, t, p)
-}
-
-// The number of the first check that refuses, 0 for none.
-fn endorse_refusal(formed: bool, cache: &[u64], s: State, t: &[u32], p: Proposal) -> u32
-    requires { Cached s t.now formed cache.now }
-    ensures { result ≡ endorse_refusal s t.now p }
-{
-    if !formed {
-        return 1;
-    }
-    let n = checks::form_refusal(s.settings, p);
-    if n != 0 {
-        return n;
-    }
-    place_refusal(cache, s, t, p)
-}
-
-// The call, where it is told whether the state is well formed, and committees may be cached.
-pub fn endorse_cached(formed: bool, cache: &[u64], s: State, t: &mut [u32], p: Proposal) -> Outcome
-    requires { Cached s t.old formed cache.now }
-    ensures { WritingCallAnswered (endorse_outcome s t.old p) (endorse_table s t.old p) (endorse_refusal s t.old p) result t.new }
-{
-    let n = endorse_refusal(formed, cache, s, t, p);
-    if n != 0 {
-        return Outcome {
-            state: s,
-            answer: Answer::Refused(n),
-        };
-    }
+    check(&View::known(formed, cache, s, t)?, p)?;
     writes::set_endorsed(t, p.author, p.round);
-    Outcome {
-        state: s,
-        answer: Answer::Accepted,
-    }
+    Ok(())
 }
 
-pub fn endorse(s: State, t: &mut [u32], p: Proposal) -> Outcome
-    ensures { WritingCallAnswered (endorse_outcome s t.old p) (endorse_table s t.old p) (endorse_refusal s t.old p) result t.new }
+/// Marks the place of a proposal endorsed.
+pub fn endorse(s: &State, t: &mut [u32], p: Proposal) -> Result<(), Refusal>
+    ensures refusal { refusal_in result ≡ endorse_refusal s.now t.old p }
+    ensures table { t.new ≡ endorse_table s.now t.old p }
 {
-    let formed = state::well_formed(s, t);
-    let none = [0u64; 1];
-    endorse_cached(formed, &none[..0], s, t, p)
+    endorse_cached(state::well_formed(*s, t), &[], s, t, p)
 }

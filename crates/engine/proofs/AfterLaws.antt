@@ -11,21 +11,20 @@ use Rattle.terms.specs.Proposals.{content_with, content_of}
 use Rattle.store.specs.Writes.{put_certificate, set_endorsed, clear_endorsed, clear_used}
 use Rattle.terms.specs.Sheets.{filled}
 use Rattle.state.specs.declared.State.{State}
-use Rattle.state.specs.States.{proposed, advanced, no_body}
-use Rattle.state.specs.Answers.{if_accepted, outcome_of}
-use Rattle.open.specs.Open.{fresh_state, open_outcome, open_table}
-use Rattle.propose.specs.Propose.{propose_outcome}
-use Rattle.endorse.specs.Endorse.{endorse_outcome, endorse_table}
-use Rattle.certify.specs.Certify.{certify_outcome, certify_table}
-use Rattle.accept.specs.Accept.{accept_outcome, accept_table}
-use Rattle.advance.specs.Advance.{advance_outcome}
+use Rattle.state.specs.States.{proposed, advanced, own_body}
+use Rattle.state.specs.Answers.{if_accepted}
+use Rattle.open.specs.Open.{fresh_state, open_state, open_table}
+use Rattle.propose.specs.Propose.{propose_state}
+use Rattle.endorse.specs.Endorse.{endorse_table}
+use Rattle.certify.specs.Certify.{certify_table}
+use Rattle.accept.specs.Accept.{accept_table}
+use Rattle.advance.specs.Advance.{advance_state}
 use Rattle.queues.specs.Words.{added_table, drawn_table}
-use Rattle.enqueue.specs.Enqueue.{enqueue_outcome, enqueue_table}
-use Rattle.draw.specs.Draw.{draws, drawn_body, draw_refusal, draw_outcome, draw_table}
-use Rattle.commit.specs.declared.Outcome as committed
-use Rattle.commit.specs.Commit.{commit_outcome, commit_table_after, committed_table, blocks_then, added_with, refused_with}
+use Rattle.enqueue.specs.Enqueue.{enqueue_table}
+use Rattle.draw.specs.Draw.{draws, drawn_body, draw_refusal, draw_state, draw_table}
+use Rattle.commit.specs.Commit.{commit_state, commit_table_after, committed_table}
 use Rattle.commit.proofs.CommitLaws.{committed_state}
-use Rattle.serial.specs.Serial.{ported_table, port_outcome, port_table}
+use Rattle.serial.specs.Serial.{ported_table, port_table}
 use Rattle.engine.specs.Calls.{Call, opens, propose, endorse, certify, accept, advance, commit, enqueue, draw, port, aside}
 use Rattle.engine.specs.Engine.{Engine, refusal_for, after}
 
@@ -34,13 +33,13 @@ abbrev pub renewed : Engine → Call → Engine
 renewed e (opens own sheet) = record { state = fresh_state own (filled sheet) sheet.rights; table = clear_used e.table (filled sheet).ceiling.0 }
 renewed e (propose b) = record { state = proposed e.state b; table = e.table }
 renewed e (endorse p) = record { state = e.state; table = set_endorsed e.table p.author.0 p.round.0 }
-renewed e (certify d) = record { state = e.state; table = put_certificate e.table (content_with e.state.own.0 e.state.round.0 e.state.body) d }
+renewed e (certify d) = record { state = e.state; table = put_certificate e.table (content_with e.state.own.0 e.state.round.0 (own_body e.state)) d }
 renewed e (accept c) =
     record {
       state = e.state;
       table = clear_endorsed (put_certificate e.table (content_of c.proposal) c.endorsers) c.proposal.author.0 c.proposal.round.0;
     }
-renewed e advance = record { state = advanced e.state no_body; table = e.table }
+renewed e advance = record { state = advanced e.state; table = e.table }
 renewed e commit = record { state = committed_state e.state e.table; table = committed_table e.state e.table }
 renewed e (enqueue g x) = record { state = e.state; table = added_table e.table g x }
 renewed e (draw v) = record { state = proposed e.state (drawn_body e.state e.table v); table = drawn_table (draws e.state e.table) e.table }
@@ -60,24 +59,23 @@ module _ (e : Engine) where
   state-by s true = refl
   state-by s false = refl
 
-  -- commit's answer stands beside its state
-  commit-by : (x y : committed.Outcome) (u : List ℕ) → y.state ≡ state → (b : Bool) → ◌≡◌ {A = Engine} (record { state = (cond b x y).state; table = cond b u table }) (cond b (record { state = x.state; table = u }) e)
-  commit-by x y u h true = refl
-  commit-by x y u h false = rw h refl
+  -- the table alone
+  table-by : (t : List ℕ) (b : Bool) → ◌≡◌ {A = Engine} (record { state = state; table = cond b t table }) (cond b (record { state = state; table = t }) e)
+  table-by t true = refl
+  table-by t false = refl
 
   after-by : (c : Call) → after e c ≡ cond (eqb (refusal_for e c) 0) (renewed e c) e
-  unfolding open_outcome open_table propose_outcome endorse_outcome endorse_table certify_outcome certify_table accept_outcome accept_table advance_outcome commit_outcome commit_table_after enqueue_outcome enqueue_table draw_refusal draw_outcome draw_table port_outcome port_table outcome_of if_accepted
+  unfolding open_state open_table propose_state endorse_table certify_table accept_table advance_state commit_state commit_table_after enqueue_table draw_refusal draw_state draw_table port_table if_accepted
   after-by (opens own sheet) = both_by (renewed e (opens own sheet)) (eqb (refusal_for e (opens own sheet)) 0)
   after-by (propose b) = state-by (proposed state b) (eqb (refusal_for e (propose b)) 0)
-  after-by (endorse p) = both_by (renewed e (endorse p)) (eqb (refusal_for e (endorse p)) 0)
-  after-by (certify d) = both_by (renewed e (certify d)) (eqb (refusal_for e (certify d)) 0)
-  after-by (accept c) = both_by (renewed e (accept c)) (eqb (refusal_for e (accept c)) 0)
-  after-by advance = state-by (advanced state no_body) (eqb (refusal_for e advance) 0)
-  after-by commit =
-      commit-by (added_with state (blocks_then state table)) (refused_with state (refusal_for e commit)) (committed_table state table) refl (eqb (refusal_for e commit) 0)
-  after-by (enqueue g x) = both_by (renewed e (enqueue g x)) (eqb (refusal_for e (enqueue g x)) 0)
+  after-by (endorse p) = table-by (renewed e (endorse p)).table (eqb (refusal_for e (endorse p)) 0)
+  after-by (certify d) = table-by (renewed e (certify d)).table (eqb (refusal_for e (certify d)) 0)
+  after-by (accept c) = table-by (renewed e (accept c)).table (eqb (refusal_for e (accept c)) 0)
+  after-by advance = state-by (advanced state) (eqb (refusal_for e advance) 0)
+  after-by commit = both_by (renewed e commit) (eqb (refusal_for e commit) 0)
+  after-by (enqueue g x) = table-by (renewed e (enqueue g x)).table (eqb (refusal_for e (enqueue g x)) 0)
   after-by (draw v) = both_by (renewed e (draw v)) (eqb (refusal_for e (draw v)) 0)
-  after-by (port x) = both_by (renewed e (port x)) (eqb (refusal_for e (port x)) 0)
+  after-by (port x) = table-by (renewed e (port x)).table (eqb (refusal_for e (port x)) 0)
   after-by (aside x) = sym (cond_same (eqb (refusal_for e (aside x)) 0) e)
 
   -- a refused call changes nothing

@@ -14,13 +14,13 @@ use Rattle.rules.specs.Tests.{MemberView}
 use Rattle.rules.specs.Calls as rules
 use Rattle.state.specs.WellFormed.{well_formed}
 use Rattle.state.specs.Cached.{Cached}
-use Rattle.state.specs.Answers.{answer_of, formed_by}
-use Rattle.state.proofs.AnswerLaws.{answer-accepted, answer-refused}
+use Rattle.state.specs.Answers.{if_accepted}
+use Rattle.state.proofs.AnswerLaws.{if_accepted-new, if_accepted-old}
 use Rattle.engine.specs.Calls.{Call, commit, InRange}
 use Rattle.engine.specs.Engine.{Engine, refusal_for, after}
 use Rattle.engine.specs.Steps.{view_at, ruled, Step, refused, opened, moved, SetInRange}
 use Rattle.engine.proofs.AfterLaws.{refused-same}
-use Rattle.engine.proofs.StepLaws.{every-step}
+use Rattle.engine.proofs.StepLaws.{every_step}
 
 -- a call of the rules that leaves the chain: any but commit, and but read, which an open stands for
 abbrev pub leaves_chain : rules.Call → Bool
@@ -49,22 +49,22 @@ module _ (S : Settings) (k : ℕ) (s : MemberView S) where
 
 module _ (e : Engine) (low : SetInRange e) where
   module _ (c : Call) (i : InRange c) where
-    -- the answer tells whether the state is well formed then
-    pub formed-after : {b : Bool} → b ≡ well_formed e.state e.table → formed_by b (answer_of (refusal_for e c)) ≡ well_formed (after e c).state (after e c).table
-    formed-after {b} w = go (every-step e low c i)
+    -- an accepted call leaves a well-formed state, a refused one the state as it was
+    pub formed-after : {b : Bool} → b ≡ well_formed e.state e.table → if_accepted (refusal_for e c) true b ≡ well_formed (after e c).state (after e c).table
+    formed-after {b} w = go (every_step e low c i)
       where
-        go : Step e c → formed_by b (answer_of (refusal_for e c)) ≡ well_formed (after e c).state (after e c).table
-        go (refused n h) = rw (answer-refused (refusal_for e c) n, h) w
-        go (opened own sheet q a f) = rw (answer-accepted (refusal_for e c) a) (sym f.formed)
-        go (moved a p n) = rw (answer-accepted (refusal_for e c) a) (sym n.formed)
+        go : Step e c → if_accepted (refusal_for e c) true b ≡ well_formed (after e c).state (after e c).table
+        go (refused n h) = rw (if_accepted-old (refusal_for e c) true b n, h) w
+        go (opened own sheet q a f) = rw (if_accepted-new (refusal_for e c) true b a) (sym f.formed)
+        go (moved a p n) = rw (if_accepted-new (refusal_for e c) true b a) (sym n.formed)
 
     -- where the chain is left, the committees are those that were cached
     pub cached-after : leaves_chain (ruled e c) ≡ true → {b : Bool} {cache : List ℕ} → Cached e.state e.table b cache
-        → Cached (after e c).state (after e c).table (formed_by b (answer_of (refusal_for e c))) cache
-    cached-after l {b} {cache} k = go (every-step e low c i)
+        → Cached (after e c).state (after e c).table (if_accepted (refusal_for e c) true b) cache
+    cached-after l {b} {cache} k = go (every_step e low c i)
       where
-        go : Step e c → Cached (after e c).state (after e c).table (formed_by b (answer_of (refusal_for e c))) cache
-        go (refused n h) = rw (answer-refused (refusal_for e c) n, h) k
+        go : Step e c → Cached (after e c).state (after e c).table (if_accepted (refusal_for e c) true b) cache
+        go (refused n h) = rw (if_accepted-old (refusal_for e c) true b n, h) k
         go (opened own sheet q a f) = absurd (false≢true (sym (ap (λ (z : Call). leaves_chain (ruled e z)) q) ∙ l))
         go (moved a w n) =
             let S = e.state.settings in
@@ -76,7 +76,7 @@ module _ (e : Engine) (low : SetInRange e) where
 
   -- a commit leaves a well-formed state so, and one that is not is not changed
   pub formed-commit : well_formed (after e commit).state (after e commit).table ≡ well_formed e.state e.table
-  formed-commit = go (every-step e low commit tt)
+  formed-commit = go (every_step e low commit tt)
     where
       go : Step e commit → well_formed (after e commit).state (after e commit).table ≡ well_formed e.state e.table
       go (refused n h) = ap (λ (x : Engine). well_formed x.state x.table) h

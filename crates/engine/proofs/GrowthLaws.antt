@@ -15,7 +15,7 @@ use Rattle.engine.specs.Calls.{Call, InRange}
 use Rattle.engine.specs.Engine.{Engine, after}
 use Rattle.engine.specs.Steps.{view_at, ruled, Step, refused, opened, moved, SetInRange}
 use Rattle.engine.specs.Sequences.{NoOpen}
-use Rattle.engine.proofs.StepLaws.{every-step}
+use Rattle.engine.proofs.StepLaws.{every_step}
 
 -- d is c with newer blocks, or none
 abbrev pub Newer : {P : Type 0} → Chain P → Chain P → Type 0
@@ -54,7 +54,7 @@ abbrev pub chain_in : Engine → Chain Content
 chain_in e = chain_of e.state.settings.ceiling.0 e.table e.state.blocks
 
 pub chain-newer : (e : Engine) → SetInRange e → (c : Call) → InRange c → NoOpen e c → Newer (chain_in e) (chain_in (after e c))
-chain-newer e low c i o = go (every-step e low c i)
+chain-newer e low c i o = go (every_step e low c i)
   where
     go : Step e c → Newer (chain_in e) (chain_in (after e c))
     go (refused n h) = ([], ap chain_in h)

@@ -6,7 +6,6 @@ pub mod StepLaws
 pub mod RuledLaws
 pub mod GrowthLaws
 pub mod ReachedLaws
-pub mod OutcomeLaws
 pub mod CachedLaws
 pub mod AcceptedLaws
 pub mod ValueLaws

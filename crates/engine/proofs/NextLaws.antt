@@ -28,7 +28,7 @@ use Rattle.state.proofs.FormedLaws.{formed, whole}
 use Rattle.state.proofs.PreservedLaws.{propose-kept, advance-kept, endorse-kept, clear_kept, put-kept, first-kept, open_formed}
 use Rattle.state.proofs.FirstRow.{view-only}
 use Rattle.state.proofs.NextViewLaws.{view-propose, view-advance, view-endorse, view-certify, view-accept, view_open}
-use Rattle.state.specs.States.{proposed, no_body}
+use Rattle.state.specs.States.{proposed, own_body}
 use Rattle.open.proofs.OpenLaws.{opened}
 use Rattle.state.proofs.PlaceLaws.{own-within, fits-within, placed, own-placed}
 use Rattle.propose.proofs.PassedLaws.{propose-passed}
@@ -62,8 +62,8 @@ module _ (e : Engine) where
         its_own = refl;
         its-settings = refl;
         its-rights = refl;
-        formed = whole _ _ (open_formed own (filled sheet) sheet.rights no_body table k.member k.is_in_range k.weighty k.long) (ports-clear (filled sheet) (clear_used table (filled sheet).ceiling.0) 0 (cleared-words table (filled sheet).ceiling.0));
-        shows = view_open own (filled sheet) sheet.rights no_body table;
+        formed = whole _ _ (open_formed own (filled sheet) sheet.rights table k.member k.is_in_range k.weighty k.long) (ports-clear (filled sheet) (clear_used table (filled sheet).ceiling.0) 0 (cleared-words table (filled sheet).ceiling.0));
+        shows = view_open own (filled sheet) sheet.rights table;
         set_in_range = omega arith;
         beyond = cleared-beyond table (filled sheet).ceiling.0;
       }
@@ -114,7 +114,7 @@ module _ (e : Engine) where
     pub certify-next : (d : ℕ) → d < 65536 → refusal_for e (certify d) ≡ 0 → AsRuled e (certify d) (renewed e (certify d))
     certify-next d r a =
         let k = certify-passed state table d a in
-        let p = content_with state.own.0 state.round.0 state.body in
+        let p = content_with state.own.0 state.round.0 (own_body state) in
         let b = k.formed.proposal k.proposing in
         let place = own-placed state table k.formed k.proposing low in
         record {
@@ -153,8 +153,8 @@ module _ (e : Engine) where
           same-own = refl;
           same-settings = refl;
           same-rights = refl;
-          formed = whole _ _ (advance-kept state table k.formed no_body k.below) (ports-fit e advance refl a (advance-whole e a));
-          shows = view-advance state table no_body ∙ sym (after-advance state.settings state.own.0 (view state table));
+          formed = whole _ _ (advance-kept state table k.formed k.below) (ports-fit e advance refl a (advance-whole e a));
+          shows = view-advance state table ∙ sym (after-advance state.settings state.own.0 (view state table));
           set_in_range = omega arith;
           beyond = refl;
         }

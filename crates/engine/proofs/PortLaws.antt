@@ -24,6 +24,7 @@ use Rattle.commit.proofs.PreservedLaws.{ports-commit}
 use Rattle.engine.specs.Calls.{Call, opens, propose, endorse, certify, accept, advance, commit, enqueue, draw, port, aside}
 use Rattle.engine.specs.Engine.{Engine, refusal_for}
 use Rattle.engine.proofs.AfterLaws.{renewed}
+use Rattle.state.specs.States.{own_body}
 
 abbrev pub leaves_ports : Call → Bool
 leaves_ports (opens own sheet) = false
@@ -52,7 +53,7 @@ module _ (e : Engine) where
       endorse-ports n state.blocks (set-endorsed table p.author.0 p.round.0) (set-endorsed-first table p.author.0 p.round.0 k.fits.from)
   ports-left (certify d) h a =
       let k = certify-passed state table d a in
-      let p = content_with state.own.0 state.round.0 state.body in
+      let p = content_with state.own.0 state.round.0 (own_body state) in
       let w = own-within state table k.formed in
       put-ports table p d w k.free n state.blocks (put_first table p d w k.formed.numbers.round-from)
   ports-left (accept c) h a =

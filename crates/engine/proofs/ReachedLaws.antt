@@ -11,7 +11,7 @@ use Rattle.engine.specs.Sequences.{after_calls, AllInRange, Opening, after_openi
 use Rattle.engine.specs.Reached.{Reached, by_open, by_call, Good, Intact}
 use Rattle.engine.proofs.AfterLaws.{accepted-new}
 use Rattle.engine.proofs.NextLaws.{open_fresh}
-use Rattle.engine.proofs.StepLaws.{every-step}
+use Rattle.engine.proofs.StepLaws.{every_step}
 
 -- an accepted open
 pub opened-fresh : (e : Engine) (own : Member) (sheet : Sheet) → refusal_for e (opens own sheet) ≡ 0 → FreshlyOpened own sheet e (after e (opens own sheet))
@@ -22,7 +22,7 @@ fresh-good f = record { own = ap (λ (m : Member). m.0) f.its_own; settings = f.
 
 -- any call
 pub intact-after : (e : Engine) → Intact e → (c : Call) → InRange c → Intact (after e c)
-intact-after e r c i = go (every-step e r.good.small c i)
+intact-after e r c i = go (every_step e r.good.small c i)
   where
     go : Step e c → Intact (after e c)
     go (refused n h) = subst Intact (sym h) r

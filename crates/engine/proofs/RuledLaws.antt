@@ -26,7 +26,7 @@ use Rattle.engine.specs.Engine.{Engine, refusal_for, after}
 use Rattle.engine.specs.Steps.{view_at, ruled, Step, refused, opened, moved}
 use Rattle.engine.specs.Sequences.{NoOpen}
 use Rattle.engine.specs.Reached.{Good}
-use Rattle.engine.proofs.StepLaws.{every-step}
+use Rattle.engine.proofs.StepLaws.{every_step}
 
 -- the rules refuse no read, and a read leaves the view
 module _ (S : Settings) (k : ℕ) (s : MemberView S) where
@@ -94,7 +94,7 @@ module _ {S : Settings} {k : ℕ} {e : Engine} (g : Good S k e) where
   module _ (c : Call) (r : InRange c) (o : NoOpen e c) where
     -- an accepted call leaves what the rules say
     pub accepted-view : refusal_for e c ≡ 0 → view_at S (after e c) ≡ rules.after S k (view_at S e) (ruled e c)
-    accepted-view a = as_given (λ T i. view_at T (after e c) ≡ rules.after T i (view_at T e) (ruled e c)) (go (every-step e g.small c r))
+    accepted-view a = as_given (λ T i. view_at T (after e c) ≡ rules.after T i (view_at T e) (ruled e c)) (go (every_step e g.small c r))
       where
         go : Step e c → view_at e.state.settings (after e c) ≡ rules.after e.state.settings e.state.own.0 (view_at e.state.settings e) (ruled e c)
         go (refused n h) = absurd (n a)
@@ -103,7 +103,7 @@ module _ {S : Settings} {k : ℕ} {e : Engine} (g : Good S k e) where
 
     -- and what every state of a run is stays so
     pub good-after : Good S k (after e c)
-    good-after = go (every-step e g.small c r)
+    good-after = go (every_step e g.small c r)
       where
         go : Step e c → Good S k (after e c)
         go (refused n h) = subst (Good S k) (sym h) g
@@ -112,7 +112,7 @@ module _ {S : Settings} {k : ℕ} {e : Engine} (g : Good S k e) where
 
     -- any call is the rules' call on the view
     pub view-after : view_at S (after e c) ≡ result S k (view_at S e) (ruled e c)
-    view-after = go (every-step e g.small c r)
+    view-after = go (every_step e g.small c r)
       where
         go : Step e c → view_at S (after e c) ≡ result S k (view_at S e) (ruled e c)
         go (refused n h) =

@@ -1,10 +1,9 @@
 -- Every call is refused and changes no word, or is an accepted open, or does what the rules say.
 use mathlib.Core.Path.{◌≡◌, refl, sym, subst}
-use mathlib.Core.Bool.{true, not}
-use native.Mathlib.Omega.{arith}
+use mathlib.Core.Bool.{true}
 use native.Mathlib.Decide.{ℕ_discrete}
 use Rattle.state.specs.WellFormed.{well_formed}
-use Rattle.engine.specs.Calls.{Aside, Call, opens, propose, endorse, certify, accept, advance, commit, enqueue, draw, port, aside, InRange}
+use Rattle.engine.specs.Calls.{Call, opens, propose, endorse, certify, accept, advance, commit, enqueue, draw, port, aside, InRange}
 use Rattle.engine.specs.Engine.{Engine, refusal_for, aside_checks}
 use Rattle.engine.specs.Steps.{AsRuled, Step, refused, opened, moved, SetInRange, EveryStep}
 use Rattle.engine.proofs.AfterLaws.{renewed, refused-same, accepted-new}
@@ -30,8 +29,8 @@ module _ (e : Engine) (low : SetInRange e) where
   accepted-step (port x) r a = by_next (port x) a (port-whole e x a) (port-next e low x r a)
   accepted-step (aside x) r a = let w = whole_by e (aside_checks e x) a in by_next (aside x) a w (aside-next e low x w)
 
-pub every-step : EveryStep
-every-step e low c r = go (ℕ_discrete (refusal_for e c) 0)
+pub every_step : EveryStep
+every_step e low c r = go (ℕ_discrete (refusal_for e c) 0)
   where
     go : Dec (refusal_for e c ≡ 0) → Step e c
     go (yes a) = accepted-step e low c r a

@@ -6,18 +6,18 @@ use Rattle.rules.specs.Reads.{reading_committee, reading_share, reading_effect, 
 use Rattle.state.specs.declared.State.{State}
 use Rattle.state.specs.View.{view}
 use Rattle.state.specs.Refusals.{guarded}
-use Rattle.open.specs.Open.{open_refusal, open_outcome, open_table}
-use Rattle.propose.specs.Propose.{propose_refusal, propose_outcome}
-use Rattle.endorse.specs.Endorse.{endorse_refusal, endorse_outcome, endorse_table}
-use Rattle.certify.specs.Certify.{certify_refusal, certify_outcome, certify_table}
-use Rattle.accept.specs.Accept.{accept_refusal, accept_outcome, accept_table}
-use Rattle.advance.specs.Advance.{advance_refusal, advance_outcome}
-use Rattle.commit.specs.Commit.{commit_refusal, commit_outcome, commit_table_after}
+use Rattle.open.specs.Open.{open_refusal, open_state, open_table}
+use Rattle.propose.specs.Propose.{propose_refusal, propose_state}
+use Rattle.endorse.specs.Endorse.{endorse_refusal, endorse_table}
+use Rattle.certify.specs.Certify.{certify_refusal, certify_table}
+use Rattle.accept.specs.Accept.{accept_refusal, accept_table}
+use Rattle.advance.specs.Advance.{advance_refusal, advance_state}
+use Rattle.commit.specs.Commit.{commit_refusal, commit_state, commit_table_after}
 use Rattle.preview.specs.Preview.{previewing}
 use Rattle.critical.specs.Critical.{reading_critical}
-use Rattle.enqueue.specs.Enqueue.{enqueue_refusal, enqueue_outcome, enqueue_table}
-use Rattle.draw.specs.Draw.{draw_refusal, draw_outcome, draw_table}
-use Rattle.serial.specs.Serial.{port_refusal, port_outcome, port_table}
+use Rattle.enqueue.specs.Enqueue.{enqueue_refusal, enqueue_table}
+use Rattle.draw.specs.Draw.{draw_refusal, draw_state, draw_table}
+use Rattle.serial.specs.Serial.{port_refusal, port_table}
 use Rattle.engine.specs.Calls.{Aside, committee, share, effect, certificate, block, preview, critical, listing, Call, opens, propose, endorse, certify, accept, advance, commit, enqueue, draw, port, aside}
 
 -- what a member's host keeps between calls
@@ -50,16 +50,16 @@ refusal_for e (draw v) = draw_refusal e.state e.table v
 refusal_for e (port x) = port_refusal e.state e.table x
 refusal_for e (aside x) = refusal (guarded e.state e.table (aside_checks e x))
 
--- the state that the call returns, and what the lent table holds then; propose and advance leave the table, and what stands aside leaves both
+-- the state that the call leaves, and what the lent table holds then; propose and advance leave the table, endorse, certify, accept, enqueue and what is asked of a port the state, and what stands aside leaves both
 abbrev pub after : Engine → Call → Engine
-after e (opens own sheet) = record { state = (open_outcome e.state e.table own sheet).state; table = open_table e.table own sheet }
-after e (propose b) = record { state = (propose_outcome e.state e.table b).state; table = e.table }
-after e (endorse p) = record { state = (endorse_outcome e.state e.table p).state; table = endorse_table e.state e.table p }
-after e (certify d) = record { state = (certify_outcome e.state e.table d).state; table = certify_table e.state e.table d }
-after e (accept c) = record { state = (accept_outcome e.state e.table c).state; table = accept_table e.state e.table c }
-after e advance = record { state = (advance_outcome e.state e.table).state; table = e.table }
-after e commit = record { state = (commit_outcome e.state e.table).state; table = commit_table_after e.state e.table }
-after e (enqueue g x) = record { state = (enqueue_outcome e.state e.table g x).state; table = enqueue_table e.state e.table g x }
-after e (draw v) = record { state = (draw_outcome e.state e.table v).state; table = draw_table e.state e.table v }
-after e (port x) = record { state = (port_outcome e.state e.table x).state; table = port_table e.state e.table x }
+after e (opens own sheet) = record { state = open_state e.state e.table own sheet; table = open_table e.table own sheet }
+after e (propose b) = record { state = propose_state e.state e.table b; table = e.table }
+after e (endorse p) = record { state = e.state; table = endorse_table e.state e.table p }
+after e (certify d) = record { state = e.state; table = certify_table e.state e.table d }
+after e (accept c) = record { state = e.state; table = accept_table e.state e.table c }
+after e advance = record { state = advance_state e.state e.table; table = e.table }
+after e commit = record { state = commit_state e.state e.table; table = commit_table_after e.state e.table }
+after e (enqueue g x) = record { state = e.state; table = enqueue_table e.state e.table g x }
+after e (draw v) = record { state = draw_state e.state e.table v; table = draw_table e.state e.table v }
+after e (port x) = record { state = e.state; table = port_table e.state e.table x }
 after e (aside x) = e

@@ -1,4 +1,4 @@
--- What a guest may ask of an engine, and the right that it needs (change request: Point 11).
+-- What a guest may ask of an engine, and the right that it needs (docs/RULES.md, "Rights").
 use Rattle.std.specs.Prelude.{◌≡◌, List, ℕ}
 use Rattle.terms.specs.declared.Transaction.{Transaction}
 use Rattle.terms.specs.declared.Body.{Body}

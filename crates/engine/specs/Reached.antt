@@ -7,6 +7,7 @@ use Rattle.state.specs.WellFormed.{well_formed}
 use Rattle.engine.specs.Calls.{Call, InRange}
 use Rattle.engine.specs.Engine.{Engine, after}
 use Rattle.engine.specs.Sequences.{Opening, after_opening}
+use Rattle.state.specs.States.{own_body}
 
 -- an accepted open, then any calls with values of their types
 pub data Reached : Engine → Type 0 where
@@ -18,7 +19,7 @@ pub record Good (S : Settings) (k : ℕ) (e : Engine) : Type 0 where
   pub own : e.state.own.0 ≡ k
   pub settings : e.state.settings ≡ S
   pub formed : well_formed e.state e.table ≡ true
-  pub small : e.state.body.previous < 65536
+  pub small : (own_body e.state).previous < 65536
 
 -- its settings are those of a sheet, and its state is well formed
 pub record Intact (e : Engine) : Type 0 where

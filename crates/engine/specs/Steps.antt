@@ -15,6 +15,7 @@ use Rattle.state.specs.View.{dag_of, endorsed_of, own_proposal}
 use Rattle.draw.specs.Draw.{drawn_body}
 use Rattle.engine.specs.Calls.{Call, opens, propose, endorse, certify, accept, advance, commit, enqueue, draw, port, aside, InRange}
 use Rattle.engine.specs.Engine.{Engine, refusal_for, after}
+use Rattle.state.specs.States.{own_body}
 
 -- the view that an engine shows, for settings that equal its own
 abbrev pub view_at : (S : Settings) → Engine → MemberView S
@@ -47,7 +48,7 @@ ruled e (aside x) = rules.read
 
 -- the previous set in a state is a 16-bit number
 abbrev pub SetInRange : Engine → Type 0
-SetInRange e = e.state.body.previous < 65536
+SetInRange e = (own_body e.state).previous < 65536
 
 -- nothing beyond the part of the table that a state with settings S uses has changed
 abbrev pub BeyondSame : Settings → Engine → Engine → Type 0

@@ -1,18 +1,18 @@
 -- The value that a call answers with, where it is accepted.
-use Rattle.std.specs.Prelude.{cond, List, ℕ, eqb}
+use Rattle.std.specs.Prelude.{cond, List, ℕ, ◌-◌, eqb}
 use Rattle.agreement.specs.Rules.{Chain}
 use Rattle.terms.specs.declared.Proposal.{Proposal}
+use Rattle.terms.specs.declared.sheet.Weight.{Weight}
 use Rattle.terms.specs.Proposals.{Content}
 use Rattle.store.specs.Table.{endorsers_at}
 use Rattle.committee.specs.declared.effects.Effect.{Effect}
 use Rattle.rules.specs.Reads.{committee_read, share_read, effect_read, block_number, block_read}
 use Rattle.state.specs.View.{view}
-use Rattle.commit.specs.Answers.{added_value}
-use Rattle.commit.specs.Commit.{commit_outcome}
+use Rattle.commit.specs.Commit.{blocks_then}
 use Rattle.preview.specs.Entries.{Entry}
 use Rattle.preview.specs.Preview.{preview_entries}
 use Rattle.critical.specs.Critical.{Place, critical_places}
-use Rattle.reads.specs.CertificateReads as reads
+use Rattle.reads.specs.Held as reads
 use Rattle.serial.specs.Calls.{read, write, PortCall, access, reset}
 use Rattle.serial.specs.Serial.{register}
 use Rattle.engine.specs.Calls.{Aside, committee, share, effect, certificate, block, preview, critical, listing, Call, opens, propose, endorse, certify, accept, advance, commit, enqueue, draw, port, aside}
@@ -23,7 +23,7 @@ pub data Value : Type 0 where
   -- the blocks that a commit added, a share's thousandths, a block's round, a byte read from a port
   number : ℕ → Value
   -- a committee: sixteen weights, 0 for a non-member
-  weights : List ℕ → Value
+  weights : List Weight → Value
   -- the shares before and after a bond, and the largest difference
   shares : Effect → Value
   -- a held certificate: its proposal, the endorsers that it was stored with, and the number of its block, 0 for none
@@ -60,7 +60,7 @@ accepted_value e (endorse p) = nothing
 accepted_value e (certify d) = nothing
 accepted_value e (accept c) = nothing
 accepted_value e advance = nothing
-accepted_value e commit = number (added_value (commit_outcome e.state e.table).answer)
+accepted_value e commit = number (blocks_then e.state e.table - e.state.blocks)
 accepted_value e (enqueue g x) = nothing
 accepted_value e (draw v) = nothing
 accepted_value e (port x) = port_value e x

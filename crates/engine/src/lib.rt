@@ -1,4 +1,7 @@
-// Engine: to be said.
-// All calls as one engine: each is refused and changes no word, or does what the rules say. Definitions and theorems, no code (scope document: Calls, in the order of their checks).
-// What guests may ask of an engine, the right that each call needs, and that rights stay. Definitions and theorems, no code (change request: Point 11).
+//! All calls as one engine: refused, or as ruled.
+//!
+//! Definitions and theorems, no code. A call and what is handed in (specs/Calls), the number that refuses it and what it leaves (specs/Engine), the value that it answers (specs/Values). Every call is refused and changes no word, or leaves what the rules say (`EveryStep`, specs/Steps); so does every list of them (specs/Sequences, specs/Reached).
+//! What a guest may ask, the right that each call needs, and that rights stay: specs/Guests.
 #![tactic(auto)]
+
+pub mod theorems;

@@ -2,7 +2,7 @@
 use mathlib.Core.Path.{◌≡◌, refl, ◌∙◌}
 use mathlib.Core.Bool.{true, not}
 use mathlib.Core.List.{List}
-use Prim.Native.Nat.{ℕ}
+use Prim.Native.Nat.{ℕ, ◌<◌}
 use native.Mathlib.Omega.{arith}
 use lib.ListN.{length}
 use lib.Dec.{ltb}
@@ -18,6 +18,10 @@ use Rattle.state.specs.WellFormed.{well_formed}
 use Rattle.state.specs.Formed.{Formed}
 use Rattle.state.proofs.FormedLaws.{formed}
 use Rattle.enqueue.specs.Enqueue.{enqueueing, enqueue_refusal}
+
+-- as many wait as the count says
+pub as_counted : (t : List ℕ) (g : ℕ) → g < 8 → length (queue_of t g) ≡ waiting_count t g
+as_counted = length-queue_of
 
 module _ (s : State) (t : List ℕ) where
   pub record EnqueuePassed (g : ℕ) (x : Transaction) : Type 0 where

@@ -1,58 +1,61 @@
-// Enqueue: a transaction is added to a guest's queue (change request: Point 6).
+//! Enqueue: a transaction is added to a guest's queue.
+//!
+//! The last of that queue, and nothing else of the table changes (specs/Enqueue). docs/RULES.md, "Guests' queues".
 #![tactic(auto)]
 
-ghost use Rattle.std.specs.Prelude.{◌≡◌};
+ghost use Rattle.std.specs.Prelude.{◌≡◌, OnOk};
+ghost use Rattle.base.specs.Checks.{refusal};
+ghost use Rattle.queues.specs.Words.{Place, waiting_count};
+ghost use Rattle.refusals.specs.Refusals.{refusal_in};
 ghost use Rattle.state.specs.WellFormed.{well_formed};
-ghost use Rattle.state.specs.Answers.{WritingCallAnswered};
-ghost use Rattle.enqueue.specs.Enqueue.{enqueue_refusal, enqueue_outcome, enqueue_table};
+ghost use Rattle.enqueue.specs.Enqueue.{enqueueing, enqueue_refusal, enqueue_table};
 
+use member_view::View;
 use queues::drawing;
+use refusals::Refusal;
 use state::State;
-use state::checks::{Answer, Outcome};
 use terms::Transaction;
 
-// The number of the first check that refuses, 0 for none.
-fn enqueue_refusal(formed: bool, s: State, t: &[u32], guest: u32, x: Transaction) -> u32
-    requires { formed ≡ well_formed s t.now }
-    ensures { result ≡ enqueue_refusal s t.now guest x }
+// The checks of a well-formed state: 26, 6, 27.
+#[tactic(auto, using(crate::proofs::PassedLaws::as_counted), unfolding(base::specs::Checks::refusal))]
+fn check(v: &View, guest: u32, x: Transaction) -> Result<(), Refusal>
+    ensures refusal { refusal_in result ≡ refusal (enqueueing v.now.table.now guest x) }
+    ensures place { let t = v.now.table.now in OnOk result (Place t guest (waiting_count t guest)) }
 {
-    if !formed {
-        return 1;
-    }
     if 7 < guest {
-        return 26;
+        return Err(Refusal::NoSuchCaller);
     }
     if !terms::in_range(x) {
-        return 6;
+        return Err(Refusal::BadTransactions);
     }
-    if queues::PLACES <= queues::waiting_count(t, guest) {
-        return 27;
+    if queues::PLACES <= queues::waiting_count(v.table, guest) {
+        return Err(Refusal::QueueFull);
     }
-    0
+    Ok(())
 }
 
-// The call, where it is told whether the state is well formed.
-pub fn enqueue_cached(formed: bool, s: State, t: &mut [u32], guest: u32, x: Transaction) -> Outcome
-    requires { formed ≡ well_formed s t.old }
-    ensures { WritingCallAnswered (enqueue_outcome s t.old guest x) (enqueue_table s t.old guest x) (enqueue_refusal s t.old guest x) result t.new }
+/// The call, where it is told whether the state is well formed.
+#[tactic(auto, unfolding(base::specs::Checks::refusal, state::specs::Answers::if_accepted, crate::specs::Enqueue::enqueue_refusal, crate::specs::Enqueue::enqueue_table))]
+pub fn enqueue_cached(
+    formed: bool,
+    s: &State,
+    t: &mut [u32],
+    guest: u32,
+    x: Transaction,
+) -> Result<(), Refusal>
+    requires { formed ≡ well_formed s.now t.old }
+    ensures refusal { refusal_in result ≡ enqueue_refusal s.now t.old guest x }
+    ensures table { t.new ≡ enqueue_table s.now t.old guest x }
 {
-    let n = enqueue_refusal(formed, s, t, guest, x);
-    if n != 0 {
-        return Outcome {
-            state: s,
-            answer: Answer::Refused(n),
-        };
-    }
+    check(&View::known(formed, &[], s, t)?, guest, x)?;
     drawing::add(t, guest, x);
-    Outcome {
-        state: s,
-        answer: Answer::Accepted,
-    }
+    Ok(())
 }
 
-pub fn enqueue(s: State, t: &mut [u32], guest: u32, x: Transaction) -> Outcome
-    ensures { WritingCallAnswered (enqueue_outcome s t.old guest x) (enqueue_table s t.old guest x) (enqueue_refusal s t.old guest x) result t.new }
+/// Adds a transaction to a guest's queue.
+pub fn enqueue(s: &State, t: &mut [u32], guest: u32, x: Transaction) -> Result<(), Refusal>
+    ensures refusal { refusal_in result ≡ enqueue_refusal s.now t.old guest x }
+    ensures table { t.new ≡ enqueue_table s.now t.old guest x }
 {
-    let formed = state::well_formed(s, t);
-    enqueue_cached(formed, s, t, guest, x)
+    enqueue_cached(state::well_formed(*s, t), s, t, guest, x)
 }

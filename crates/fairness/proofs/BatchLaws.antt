@@ -15,10 +15,10 @@ use Rattle.engine.specs.Engine.{Engine, refusal_for, after}
 use Rattle.engine.specs.Sequences.{after_calls}
 use Rattle.batch.specs.Batch.{Row, turns_of, batch_refusal}
 use Rattle.submissions.specs.Submissions.{Submission, one, batch, accepts_of, after_submission}
-use Rattle.submissions.proofs.SubmissionLaws.{leaves_as_its-calls}
+use Rattle.submissions.proofs.SubmissionLaws.{leaves_as_its_calls}
 use Rattle.fairness.specs.Kept.{queues, queues_after}
 use Rattle.fairness.specs.Batches.{BatchKeepsQueues, submission_moments, moments_then, FairnessWithBatches}
-use Rattle.fairness.proofs.KeptLaws.{queues-kept}
+use Rattle.fairness.proofs.KeptLaws.{queues_kept}
 use Rattle.fairness.proofs.Timelines.{by_call, Timeline, last, timeline-join}
 use Rattle.fairness.proofs.CallMoments.{timeline-call, last-call}
 use Rattle.fairness.proofs.FairLaws.{fair_moments}
@@ -26,7 +26,7 @@ use Rattle.fairness.proofs.FairLaws.{fair_moments}
 -- an accept leaves them, accepted or refused
 accept-keeps : (e : Engine) (c : Certificate) → queues (after e (accept c)) ≡ queues e
 unfolding queues_after
-accept-keeps e c = queues-kept e (accept c) ∙ if_accepted-same (refusal_for e (accept c)) (queues e)
+accept-keeps e c = queues_kept e (accept c) ∙ if_accepted-same (refusal_for e (accept c)) (queues e)
 
 after_both : (e : Engine) (a b : List Call) → after_calls e (a ++ b) ≡ after_calls (after_calls e b) a
 unfolding after_calls
@@ -44,9 +44,9 @@ accepts_keep row (p ∷ l) e =
     go none = refl
     go (some c) = accept-keeps e c
 
-pub batch-keeps-queues : BatchKeepsQueues
+pub batch_keeps_queues : BatchKeepsQueues
 unfolding after_calls
-batch-keeps-queues e row answers = ap queues (leaves_as_its-calls e (batch row answers)) ∙ go (eqb (batch_refusal e.state e.table row.count (length answers)) 0)
+batch_keeps_queues e row answers = ap queues (leaves_as_its_calls e (batch row answers)) ∙ go (eqb (batch_refusal e.state e.table row.count (length answers)) 0)
   where
     go : (b : Bool) → queues (after_calls e (cond b (accepts_of row (turns_of row)) [])) ≡ queues e
     go true = accepts_keep row (turns_of row) e
@@ -56,7 +56,7 @@ batch-keeps-queues e row answers = ap queues (leaves_as_its-calls e (batch row a
 
 pub submission_timeline : (e : Engine) (x : Submission) → Timeline (queues e) (submission_moments e x)
 submission_timeline e (one c) = timeline-call e c
-submission_timeline e (batch row answers) = (by_call _ (ap (λ (q : Queues). q.from) (batch-keeps-queues e row answers)), tt)
+submission_timeline e (batch row answers) = (by_call _ (ap (λ (q : Queues). q.from) (batch_keeps_queues e row answers)), tt)
 
 pub submission_last : (e : Engine) (x : Submission) → last (queues e) (submission_moments e x) ≡ queues (after_submission e x)
 submission_last e (one c) = last-call e c
@@ -69,5 +69,5 @@ timeline-then e (x ∷ l) =
     timeline-join (queues e) (submission_moments e x) (moments_then (after_submission e x) l) (submission_timeline e x)
     (subst (λ (q : Queues). Timeline q (moments_then (after_submission e x) l)) (sym (submission_last e x)) (timeline-then (after_submission e x) l))
 
-pub fairness-with_batches : FairnessWithBatches
-fairness-with_batches e l = fair_moments (queues e) (moments_then e l) (timeline-then e l)
+pub fairness_with_batches : FairnessWithBatches
+fairness_with_batches e l = fair_moments (queues e) (moments_then e l) (timeline-then e l)

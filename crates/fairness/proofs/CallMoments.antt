@@ -13,7 +13,7 @@ use Rattle.engine.specs.Engine.{Engine, refusal_for, after}
 use Rattle.fairness.specs.Kept.{queues, accepted_draws, draws_of, accepted_queues, queues_after}
 use Rattle.fairness.specs.Fairness.{Moment, draw_moments, moments_of}
 use Rattle.fairness.proofs.Timelines.{Follows, by_call, by_open, Timeline, last, timeline-join, last-draws, timeline-draws}
-use Rattle.fairness.proofs.KeptLaws.{queues-kept}
+use Rattle.fairness.proofs.KeptLaws.{queues_kept}
 
 -- what is waiting, with nothing just drawn
 abbrev quiet : Queues → Moment
@@ -66,7 +66,7 @@ module _ (e : Engine) where
   module _ (c : Call) where
     pub timeline-call : Timeline (queues e) (moments_of e c)
     unfolding draws_of queues_after
-    timeline-call = rw (queues-kept e c) (drawn-by c (refusal_for e c))
+    timeline-call = rw (queues_kept e c) (drawn-by c (refusal_for e c))
 
     pub last-call : last (queues e) (moments_of e c) ≡ queues (after e c)
     last-call = last_more (queues e) (draw_moments (queues e) (draws_of e c)) (quiet (queues (after e c)))

@@ -23,10 +23,10 @@ use Rattle.submissions.proofs.RequestLaws.{left_by}
 use Rattle.fairness.specs.Kept.{queues, accepted_queues, queues_after}
 use Rattle.fairness.specs.Batches.{submission_moments}
 use Rattle.fairness.specs.Guests.{LeftOf, AddsToNoOther, request_moments, moments_asked, FairnessWithGuests}
-use Rattle.fairness.proofs.KeptLaws.{queues-kept}
+use Rattle.fairness.proofs.KeptLaws.{queues_kept}
 use Rattle.fairness.proofs.Timelines.{by_call, Timeline, last, timeline-join}
 use Rattle.fairness.proofs.FairLaws.{fair_moments}
-use Rattle.fairness.proofs.BatchLaws.{batch-keeps-queues, submission_timeline, submission_last}
+use Rattle.fairness.proofs.BatchLaws.{batch_keeps_queues, submission_timeline, submission_last}
 
 -- ---- what is left of a queue
 
@@ -69,7 +69,7 @@ module _ (e : Engine) (c h : ℕ) (other : h ≢ c) where
 
   call-left : (k : GuestCall) → LeftOf ((queues e).waiting h) ((queues (after e (as_host c k))).waiting h)
   unfolding queues_after
-  call-left k = rw (queues-kept e (as_host c k)) (go (ℕ_discrete (refusal_for e (as_host c k)) 0))
+  call-left k = rw (queues_kept e (as_host c k)) (go (ℕ_discrete (refusal_for e (as_host c k)) 0))
     where
       go : Dec (refusal_for e (as_host c k) ≡ 0) → LeftOf ((queues e).waiting h) ((if_accepted (refusal_for e (as_host c k)) (accepted_queues e (as_host c k)) (queues e)).waiting h)
       go (yes z) = rw (if_accepted-new (refusal_for e (as_host c k)) (accepted_queues e (as_host c k)) (queues e) z) (accepted-left k)
@@ -77,7 +77,7 @@ module _ (e : Engine) (c h : ℕ) (other : h ≢ c) where
 
   submitted-left : (a : Asked) → LeftOf ((queues e).waiting h) ((queues (after_submission e (submitted_by c a))).waiting h)
   submitted-left (asks k) = call-left k
-  submitted-left (asks_batch row answers) = rw (batch-keeps-queues e row answers) (all_left ((queues e).waiting h))
+  submitted-left (asks_batch row answers) = rw (batch_keeps_queues e row answers) (all_left ((queues e).waiting h))
 
 -- the claim
 pub adds_to_no_other : AddsToNoOther
@@ -105,5 +105,5 @@ timeline-asked e (x ∷ l) =
     timeline-join (queues e) (request_moments e x) (moments_asked (result_of e x).engine l) (moments-timeline e (submission_of e x))
     (subst (λ (q : Queues). Timeline q (moments_asked (result_of e x).engine l)) (sym (moments-last e (submission_of e x) ∙ sym (ap queues (left_by e x)))) (timeline-asked (result_of e x).engine l))
 
-pub fairness-with_guests : FairnessWithGuests
-fairness-with_guests e l = fair_moments (queues e) (moments_asked e l) (timeline-asked e l)
+pub fairness_with_guests : FairnessWithGuests
+fairness_with_guests e l = fair_moments (queues e) (moments_asked e l) (timeline-asked e l)

@@ -25,6 +25,7 @@ use Rattle.engine.specs.Calls.{Call, opens, propose, endorse, certify, accept, a
 use Rattle.engine.specs.Engine.{Engine, refusal_for, after}
 use Rattle.engine.proofs.AfterLaws.{renewed, refused-same, accepted-new}
 use Rattle.fairness.specs.Kept.{queues, accepted_queues, queues_after, QueuesKept}
+use Rattle.state.specs.States.{own_body}
 
 module _ (e : Engine) where
   open e use {state, table}
@@ -35,7 +36,7 @@ module _ (e : Engine) where
   renewed-queues (endorse p) a = let k = endorse-passed state table p a in queues-same table _ (set-endorsed-first table p.author.0 p.round.0 k.fits.from) k.formed.queues
   renewed-queues (certify d) a =
       let k = certify-passed state table d a in
-      queues-same table _ (put_first table (content_with state.own.0 state.round.0 state.body) d (own-within state table k.formed) k.formed.numbers.round-from) k.formed.queues
+      queues-same table _ (put_first table (content_with state.own.0 state.round.0 (own_body state)) d (own-within state table k.formed) k.formed.numbers.round-from) k.formed.queues
   renewed-queues (accept c) a =
       let k = accept-passed state table c a in
       let p = c.proposal in
@@ -45,12 +46,12 @@ module _ (e : Engine) where
   renewed-queues commit a = queues-same table _ (first-commit state table a) (commits.accepted state table a).formed.queues
   renewed-queues (enqueue g x) a = let k = enqueue-passed state table g x a in queues-added table g x k.place k.formed.queues
   renewed-queues (draw v) a = let k = draw-passed state table v a in queues-drawn state.settings.allowance table k.row k.formed.queues
-  renewed-queues (port x) a = let k = port-passed state table x a in words.queues-kept table _ (queues_ported state table x k) (formed state table k.whole).queues
+  renewed-queues (port x) a = let k = port-passed state table x a in words.queues_kept table _ (queues_ported state table x k) (formed state table k.whole).queues
   renewed-queues (aside x) a = refl
 
-pub queues-kept : QueuesKept
+pub queues_kept : QueuesKept
 unfolding queues_after if_accepted
-queues-kept e c = go (ℕ_discrete (refusal_for e c) 0)
+queues_kept e c = go (ℕ_discrete (refusal_for e c) 0)
   where
     go : Dec (refusal_for e c ≡ 0) → queues (after e c) ≡ queues_after e c
     go (yes a) = ap queues (accepted-new e c a) ∙ renewed-queues e c a ∙ rw (eq-eqb (refusal_for e c) 0 a) refl

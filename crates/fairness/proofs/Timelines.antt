@@ -4,7 +4,7 @@ use mathlib.Core.Bool.{false}
 use mathlib.Core.List.{List, [], ◌∷◌, ◌++◌}
 use mathlib.Core.Option.{Option, none, some}
 use Prim.Native.Nat.{ℕ, zero, suc}
-use Rattle.queues.specs.Queues.{Queues, Draw, is_waiting, oldest, next_guest, served, drawn, after_draws}
+use Rattle.queues.specs.Queues.{Queues, Draw, is_waiting, next_guest, served, drawn, after_draws}
 use Rattle.queues.proofs.DrawLaws.{drawn-none, drawn-more}
 use Rattle.fairness.specs.Fairness.{Moment, draw_moments}
 

@@ -1,4 +1,4 @@
--- Guests' own requests and the queues: a guest adds to none but its own, and draws are fair with guests' requests among the calls (change request: Point 11).
+-- Guests' own requests and the queues: a guest adds to none but its own, and draws are fair with guests' requests among the calls (docs/RULES.md, "Rights").
 use Rattle.std.specs.Prelude.{◌≡◌, List, [], ◌∷◌, ◌++◌, ◌≢◌, ℕ}
 use Rattle.std.proofs.Math.Option.{none}
 use Rattle.base.specs.Options.{if_there}

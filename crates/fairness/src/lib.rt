@@ -1,2 +1,6 @@
-// What holds of guests' queues over every list of calls: what each call leaves in them, and that draws are fair. No code (change request: Point 6).
+//! What calls leave in guests' queues; draws are fair.
+//!
+//! Theorems, no code. What each call draws and leaves (specs/Kept, specs/Batches, specs/Guests). Between two transactions drawn from one guest every other guest that was waiting all that time has one drawn, over every list of calls (specs/Fairness). docs/RULES.md, "Guests' queues".
 #![tactic(auto)]
+
+pub mod theorems;

@@ -1,19 +1,19 @@
 -- What a step tells of the whole stream, whatever comes later: steps read a stream as its definition does, wherever the pieces part.
-use mathlib.Core.Path.{◌≡◌, refl, ◌∙◌}
-use mathlib.Core.Bool.{Bool, true, false, cond, and-false, true≢false}
-use mathlib.Core.List.{List, [], ◌∷◌, ◌++◌}
-use mathlib.Core.Option.{Option, none, some}
+use mathlib.Core.Path.{◌≡◌, refl, ap, ◌∙◌}
+use mathlib.Core.Bool.{Bool, true, false, cond, ◌||◌, and-false, or-true}
+use mathlib.Core.List.{List, [], ◌∷◌, ◌++◌, map}
+use Rattle.std.specs.Prelude.{Option, None, Some}
 use Prim.Native.Nat.{ℕ, ◌+◌, ◌≤◌, ◌<◌}
 use native.Mathlib.Omega.{arith}
 use native.Mathlib.Decide.{dec_lt}
 use lib.ListN.{drop, take, length, length-append}
 use lib.Dec.{leb, ltb}
-use borrow.Author.Tests.{lt-ltb, le-ltb, lt-leb}
-use Rattle.framing.specs.declared.Event.TheVariants.{Nothing, Record, Unreadable}
+use borrow.Author.Tests.{lt-ltb, le-ltb, lt-leb, le-leb}
+use Rattle.framing.specs.declared.Event.TheVariants.{Record, Unreadable}
 use Rattle.framing.specs.declared.Step.{Step}
-use Rattle.framing.specs.Streams.{records_of, fitting, readables, until_end, has_end, after_end}
-use Rattle.framing.proofs.StreamLaws.{records-step, until-take, ended-short, after_none, short-ended, whole_open}
-use Rattle.framing.specs.Framing.{remaining, telling, passed, ended_step, open_step, step_of, last_of, Waits}
+use Rattle.framing.specs.Streams.{StreamRecord, records_of, fitting, readables, due_of, due, until_end, has_end, after_end}
+use Rattle.framing.proofs.StreamLaws.{records-step, until-take, ended-short, after_none, short-ended, whole_open, open_whole}
+use Rattle.framing.specs.Framing.{remaining, telling, passed, ended_step, open_step, step_of, is_begun, Waits}
 use Rattle.framing.proofs.ChunkLaws.{EndsIn, ends_in, after-passed, until-long, passed-most, passed-within}
 
 -- the step, by whether a CRLF is at hand
@@ -25,56 +25,64 @@ pub step_open : (b : Bool) (s : List ℕ) → length s ≤ length (until_end s) 
 unfolding step_of
 step_open b s h = rw (whole_open s h) refl
 
-readables-step : (s : List ℕ) → 0 < length s → readables s ≡ fitting (record { bytes = until_end s; ended = has_end s }) ∷ readables (after_end s)
-unfolding readables
-readables-step [] h = absurd (omega arith)
-readables-step (x ∷ s) h = rw (records-step x s) refl
+due-step : (o : Bool) (s : List ℕ) → 0 < length s → due o s ≡ due_of o (record { bytes = until_end s; ended = has_end s } ∷ records_of (after_end s))
+unfolding due
+due-step o [] h = absurd (omega arith)
+due-step o (x ∷ s) h = rw (records-step x s) refl
 
 -- the first record of the stream l and then z, where a CRLF is at hand, and where l is too long without one
-first_ended : (l z : List ℕ) (p : EndsIn l z) → 0 < length l → readables (l ++ z) ≡ fitting (record { bytes = until_end l; ended = true }) ∷ readables (drop (length (until_end l) + 2) l ++ z)
-first_ended l z p h =
-    readables-step (l ++ z) (rw (length-append l z) (omega arith))
+first_ended : (o : Bool) (l z : List ℕ) (p : EndsIn l z) → 0 < length l → due o (l ++ z) ≡ fitting (record { bytes = until_end l; ended = true }) ∷ due o (drop (length (until_end l) + 2) l ++ z)
+unfolding due due_of
+first_ended o l z p h =
+    due-step o (l ++ z) (rw (length-append l z) (omega arith))
     ∙ rw (p.until, p.has, p.after) refl
 
-first-long : (l z : List ℕ) → has_end l ≡ false → 1024 ≤ length l → readables (l ++ z) ≡ none ∷ readables (after_end (drop (passed l) l ++ z))
-unfolding fitting
-first-long l z e h =
+first-long : (o : Bool) (l z : List ℕ) → has_end l ≡ false → 1024 ≤ length l → due o (l ++ z) ≡ None ∷ due o (after_end (drop (passed l) l ++ z))
+unfolding fitting due due_of
+first-long o l z e h =
     let u = until-long l z e in
-    readables-step (l ++ z) (rw (length-append l z) (omega arith))
-    ∙ rw (lt-leb (length (until_end (l ++ z))) 1022 (omega arith), and-false (has_end (l ++ z)), after-passed l z e) refl
+    due-step o (l ++ z) (rw (length-append l z) (omega arith))
+    ∙ rw (lt-leb (length (until_end (l ++ z))) 1022 (omega arith), and-false (has_end (l ++ z)), after-passed l z e) (by (has_end (l ++ z)) refl)
+  where
+    by : (b : Bool) → has_end (l ++ z) ≡ b
+        → cond (b || (leb 1024 (length (until_end (l ++ z))) || o)) (None ∷ due_of o (records_of (after_end (drop (passed l) l ++ z)))) (due_of o (records_of (after_end (drop (passed l) l ++ z)))) ≡ None ∷ due_of o (records_of (after_end (drop (passed l) l ++ z)))
+    by true q = refl
+    by false q =
+        let k : 1024 ≤ length (until_end (l ++ z)) = rw (open_whole (l ++ z) q, length-append l z) (omega arith) in
+        rw (le-leb 1024 (length (until_end (l ++ z))) k) refl
 
 -- what a step tells, and after it what it leaves
-told : List ℕ → List ℕ → Step → List (Option (List ℕ))
-told l z r = telling r.event (take r.length l) (remaining r.skipping (drop r.next l ++ z))
+told : Bool → List ℕ → List ℕ → Step → List (Option (List ℕ))
+told o l z r = telling r.event (take r.length l) (remaining o r.skipping (drop r.next l ++ z))
 
-ended-step : (b : Bool) (l z : List ℕ) → has_end l ≡ true → remaining b (l ++ z) ≡ told l z (ended_step b (length (until_end l)))
+ended-step : (o b : Bool) (l z : List ℕ) → has_end l ≡ true → remaining o b (l ++ z) ≡ told o l z (ended_step b (length (until_end l)))
 unfolding told remaining fitting
-ended-step true l z e = rw (ends_in l z e).after refl
-ended-step false l z e =
-    first_ended l z (ends_in l z e) (let h = ended-short l e in omega arith)
-    ∙ go (leb (length (until_end l)) 1022) (until_end l) (readables (drop (length (until_end l) + 2) l ++ z)) (until-take l)
+ended-step o true l z e = rw (ends_in l z e).after refl
+ended-step o false l z e =
+    first_ended o l z (ends_in l z e) (let h = ended-short l e in omega arith)
+    ∙ go (leb (length (until_end l)) 1022) (until_end l) (due o (drop (length (until_end l) + 2) l ++ z)) (until-take l)
   where
-    go : (b : Bool) (u : List ℕ) (m : List (Option (List ℕ))) → u ≡ take (length (until_end l)) l → cond b (some u) none ∷ m ≡ telling (cond b Record Unreadable) (take (length (until_end l)) l) m
+    go : (b : Bool) (u : List ℕ) (m : List (Option (List ℕ))) → u ≡ take (length (until_end l)) l → cond b (Some u) None ∷ m ≡ telling (cond b Record Unreadable) (take (length (until_end l)) l) m
     go true u m q = rw q refl
     go false u m q = refl
 
-open_step_told : (b : Bool) (l z : List ℕ) → has_end l ≡ false → remaining b (l ++ z) ≡ told l z (open_step b l)
+open_step_told : (o b : Bool) (l z : List ℕ) → has_end l ≡ false → remaining o b (l ++ z) ≡ told o l z (open_step b l)
 unfolding told remaining
-open_step_told true l z e = rw (after-passed l z e) refl
-open_step_told false l z e = go (dec_lt (length l) 1024)
+open_step_told o true l z e = rw (after-passed l z e) refl
+open_step_told o false l z e = go (dec_lt (length l) 1024)
   where
-    go : Dec (length l < 1024) → remaining false (l ++ z) ≡ told l z (open_step false l)
+    go : Dec (length l < 1024) → remaining o false (l ++ z) ≡ told o l z (open_step false l)
     go (yes h) = rw (lt-ltb (length l) 1024 h) refl
-    go (no h) = let k : 1024 ≤ length l = omega arith in rw (le-ltb (length l) 1024 k) (first-long l z e k)
+    go (no h) = let k : 1024 ≤ length l = omega arith in rw (le-ltb (length l) 1024 k) (first-long o l z e k)
 
 -- whatever comes after the bytes at hand, what was left before a step is what it tells, and then what is left after it
-pub step-told : (b : Bool) (l z : List ℕ) → remaining b (l ++ z) ≡ telling (step_of b l).event (take (step_of b l).length l) (remaining (step_of b l).skipping (drop (step_of b l).next l ++ z))
+pub step-told : (o b : Bool) (l z : List ℕ) → remaining o b (l ++ z) ≡ telling (step_of b l).event (take (step_of b l).length l) (remaining o (step_of b l).skipping (drop (step_of b l).next l ++ z))
 unfolding step_of told
-step-told b l z = go (has_end l) refl
+step-told o b l z = go (has_end l) refl
   where
-    go : (x : Bool) → has_end l ≡ x → remaining b (l ++ z) ≡ told l z (cond x (ended_step b (length (until_end l))) (open_step b l))
-    go true e = ended-step b l z e
-    go false e = open_step_told b l z e
+    go : (x : Bool) → has_end l ≡ x → remaining o b (l ++ z) ≡ told o l z (cond x (ended_step b (length (until_end l))) (open_step b l))
+    go true e = ended-step o b l z e
+    go false e = open_step_told o b l z e
 
 pub step_waits : (b : Bool) (l : List ℕ) → (step_of b l).next ≡ 0 → Waits l
 unfolding step_of
@@ -112,25 +120,24 @@ step-within skipping l = by (has_end l) refl skipping
         go false q = record { length_to = rw (e, q) (omega arith); next-to = rw (e, q) (passed-within l) }
 
 -- at the end of input, bytes without a CRLF are an unreadable record, if there are any
-pub last-told : (b : Bool) (l : List ℕ) → has_end l ≡ false → remaining b l ≡ telling (last_of b l) [] []
-unfolding remaining last_of readables records_of fitting
+pub last-told : (b : Bool) (l : List ℕ) → has_end l ≡ false → remaining true b l ≡ cond (is_begun b l) (None ∷ []) []
+unfolding remaining due due_of records_of fitting
 last-told true l e = rw (after_none l e) refl
 last-told false [] e = refl
-last-told false (x ∷ l) e = readables-step (x ∷ l) (omega arith) ∙ rw (e, after_none (x ∷ l) e) refl
+last-told false (x ∷ l) e = due-step true (x ∷ l) (omega arith) ∙ rw (e, after_none (x ∷ l) e, or-true (leb 1024 (length (until_end (x ∷ l))))) refl
 
--- what is to tell at the end of input, by cases
-pub last-skipping : (b : Bool) (s : List ℕ) → b ≡ true → last_of b s ≡ Nothing
-unfolding last_of
-last-skipping b s e = rw e refl
+-- and before it, few bytes without a CRLF are nothing yet
+pub none_yet : (b : Bool) (l : List ℕ) → Waits l → remaining false b l ≡ []
+unfolding remaining due due_of records_of
+none_yet true l w = rw (after_none l w.open_ended) refl
+none_yet false [] w = refl
+none_yet false (x ∷ l) w = due-step false (x ∷ l) (omega arith) ∙ rw (w.open_ended, after_none (x ∷ l) w.open_ended, open_whole (x ∷ l) w.open_ended, lt-leb 1024 (length (x ∷ l)) w.few) refl
 
-pub last_empty : (b : Bool) (s : List ℕ) → length s ≡ 0 → last_of b s ≡ Nothing
-unfolding last_of
-last_empty true s h = refl
-last_empty false [] h = refl
-last_empty false (x ∷ s) h = absurd (omega arith)
-
-pub last_some : (b : Bool) (s : List ℕ) → b ≡ false → (length s ≡ 0 → ⊥) → last_of b s ≡ Unreadable
-unfolding last_of
-last_some true s e h = absurd (true≢false e)
-last_some false [] e h = absurd (h refl)
-last_some false (x ∷ s) e h = refl
+-- of a stream that is over, all its records are to be answered
+pub due-over : (s : List ℕ) → due true s ≡ readables s
+unfolding due due_of readables
+due-over s = go (records_of s)
+  where
+    go : (rs : List StreamRecord) → due_of true rs ≡ map fitting rs
+    go [] = refl
+    go (r ∷ rs) = rw (or-true (leb 1024 (length r.bytes)), or-true r.ended) (ap (λ (l : List (Option (List ℕ))). fitting r ∷ l) (go rs))

@@ -1,21 +1,21 @@
 -- One step through a stream of which only the first bytes are at hand.
 use Rattle.std.specs.Prelude.{Bool, true, false, cond, List, [], ◌∷◌, ℕ, ◌+◌, ◌<◌, length, eqb, leb, ltb, ◌≡◌}
-use Rattle.std.proofs.Math.Option.{Option, none, some}
+use Rattle.std.specs.Prelude.{Option, None, Some}
 use Rattle.framing.specs.declared.Event.{Event}
 use Rattle.framing.specs.declared.Event.TheVariants.{Nothing, Record, Unreadable}
 use Rattle.framing.specs.declared.Step.{Step}
-use Rattle.framing.specs.Streams.{readables, until_end, has_end, after_end}
+use Rattle.framing.specs.Streams.{due, until_end, has_end, after_end}
 
--- what is left to read of a stream; where the start of a record that is too long was answered already, its rest is skipped
-unfoldable pub remaining : Bool → List ℕ → List (Option (List ℕ))
-remaining true s = readables (after_end s)
-remaining false s = readables s
+-- what is left to answer of a stream; where the start of a record that is too long was answered already, its rest is skipped
+unfoldable pub remaining : Bool → Bool → List ℕ → List (Option (List ℕ))
+remaining over true s = due over (after_end s)
+remaining over false s = due over s
 
 -- what an event adds in front; a record is the first n bytes at hand
 abbrev pub telling : Event → List ℕ → List (Option (List ℕ)) → List (Option (List ℕ))
 telling Nothing b l = l
-telling Record b l = some b ∷ l
-telling Unreadable b l = none ∷ l
+telling Record b l = Some b ∷ l
+telling Unreadable b l = None ∷ l
 
 -- how many bytes to let go of where there is no CRLF: all but a CR at the end, whose LF may come next
 unfoldable pub passed : List ℕ → ℕ
@@ -40,11 +40,11 @@ open_step false s = cond (ltb (length s) 1024) (record { event = Nothing; length
 unfoldable pub step_of : Bool → List ℕ → Step
 step_of skipping s = cond (has_end s) (ended_step skipping (length (until_end s))) (open_step skipping s)
 
--- what is to tell at the end of input of the bytes that are left
-unfoldable pub last_of : Bool → List ℕ → Event
-last_of true s = Nothing
-last_of false [] = Nothing
-last_of false (x ∷ s) = Unreadable
+-- a record is begun that was not answered
+abbrev pub is_begun : Bool → List ℕ → Bool
+is_begun true s = false
+is_begun false [] = false
+is_begun false (x ∷ s) = true
 
 -- a step that stays where it is waits for more bytes: those at hand are few, and have no CRLF
 pub record Waits (l : List ℕ) : Type 0 where

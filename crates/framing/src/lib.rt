@@ -1,22 +1,26 @@
-// Where records end in a stream of bytes that comes piece by piece (scope document: The runner).
+//! Where records end in a stream of bytes.
+//!
+//! The bytes come piece by piece: a record, an unreadable one, or nothing yet (specs/Framing), so that all pieces together give the records of the whole stream (specs/Streams). docs/RULES.md, "Records".
 #![tactic(auto)]
+
+pub mod records;
 
 ghost use Rattle.std.specs.Prelude.{◌≡◌, length};
 ghost use Rattle.framing.specs.Streams.{until_end};
-ghost use Rattle.framing.specs.Framing.{passed, ended_event, open_step, step_of, last_of};
+ghost use Rattle.framing.specs.Framing.{passed, ended_event, open_step, step_of};
 
-// What a step tells.
+/// What a step tells.
 #[derive(Clone, Copy)]
 pub enum Event {
-    // Nothing yet.
+    /// Nothing yet.
     Nothing,
-    // A record of at most 1,024 bytes with its CRLF.
+    /// A record of at most 1,024 bytes with its CRLF.
     Record,
-    // A record that is longer, or lacks its CRLF.
+    /// A record that is longer, or lacks its CRLF.
     Unreadable,
 }
 
-// A step: the event, the length of its record without the CRLF, the next place, and whether a record that was answered goes on there.
+/// A step: the event, the length of its record without the CRLF, the next place, and whether a record that was answered goes on there.
 #[derive(Clone, Copy)]
 pub struct Step {
     pub event: Event,
@@ -46,6 +50,7 @@ fn find_end(s: &[u8]) -> usize
 }
 
 // The place up to which bytes without a CRLF can be let go of: a CR at the end stays.
+#[tactic(auto, using(crate::proofs::ChunkLaws::passed_none, crate::proofs::ChunkLaws::passed_kept, crate::proofs::ChunkLaws::passed_all))]
 fn find_passed(s: &[u8]) -> usize
     ensures { result ≡ passed s.now }
 {
@@ -100,7 +105,7 @@ fn step_open(skipping: bool, s: &[u8]) -> Step
     }
 }
 
-// The step from the bytes at hand.
+/// The step from the bytes at hand.
 pub fn next_step(skipping: bool, s: &[u8]) -> Step
     ensures { result ≡ step_of skipping s.now }
 {
@@ -114,17 +119,4 @@ pub fn next_step(skipping: bool, s: &[u8]) -> Step
         };
     }
     step_open(skipping, s)
-}
-
-// What is to tell at the end of input of the bytes that are left, which have no CRLF.
-pub fn last(skipping: bool, s: &[u8]) -> Event
-    ensures { result ≡ last_of skipping s.now }
-{
-    if skipping {
-        return Event::Nothing;
-    }
-    if s.len() == 0 {
-        return Event::Nothing;
-    }
-    Event::Unreadable
 }

@@ -1,4 +1,4 @@
-// The batch that a host or a guest hands over: a row of certificates, each with the answer of accept at its turn (change request: Point 4).
+// The batch that a host or a guest hands over: a row of certificates, each with the answer of accept at its turn (docs/RULES.md, "Batches").
 ghost use Rattle.engine.specs.Guests.{batch_needs};
 ghost use Rattle.hosting.specs.Calls.{plain, Done};
 ghost use Rattle.hosting.specs.Guested.{as_guest};

@@ -1,14 +1,15 @@
 // The calls that a host makes: open, propose, endorse, certify, accept, advance, commit.
 ghost use Rattle.std.specs.Prelude.{true, [], ltb};
 ghost use Rattle.engine.specs.Calls.{opens, propose, endorse, certify, accept, advance, commit};
+ghost use Rattle.refusals.specs.Refusals.{refusal_in, packed_in};
 ghost use Rattle.words.specs.Bodies.{lone_body_reads, body_in};
 ghost use Rattle.words.specs.Proposals.{proposal_reads, proposal_in, certificate_reads, certificate_in};
 ghost use Rattle.words.specs.Sheets.{sheet_reads, sheet_in};
 ghost use Rattle.hosting.specs.Calls.{plain, packed, Done, result_of};
 
+use refusals::Refusal;
 use terms::Member;
 use terms::sheet::Rights;
-use words::bodies;
 use words::bodies::lengths::STATE;
 
 // Open: the state is written fresh, with the rights of callers, and the used part of the table cleared.
@@ -22,16 +23,28 @@ pub extern "C" fn forgelilac_open(
 ) -> u32
     ensures { Done plain (result_of state.old table.old [] (sheet_reads sheet.now) (opens (record { 0 = own }) (sheet_in sheet.now (record { 0 = rights })))) result state.new table.new [] }
 {
+    hosting::plain(open(state, table, own, sheet, rights))
+}
+
+pub fn open(
+    state: &mut [u32],
+    table: &mut [u32],
+    own: u32,
+    sheet: &[u32],
+    rights: u32,
+) -> Result<(), Refusal>
+    ensures { Done plain (result_of state.old table.old [] (sheet_reads sheet.now) (opens (record { 0 = own }) (sheet_in sheet.now (record { 0 = rights })))) (refusal_in result) state.new table.new [] }
+{
     if state.len() < STATE {
-        return 1;
+        return Err(Refusal::Malformed);
     }
-    if !words::sheets::sheet_reads(sheet) {
-        return 1;
-    }
-    let written = words::sheets::sheet_in(sheet, Rights(rights));
-    let closed = open::closed();
-    let x = open::open(closed, table, Member(own), written);
-    hosting::settle(state, x)
+    let Some(written) = words::sheets::sheet(sheet, Rights(rights)) else {
+        return Err(Refusal::Malformed);
+    };
+    let mut s = open::closed();
+    open::open(&mut s, table, Member(own), written)?;
+    words::states::put_state(state, s);
+    Ok(())
 }
 
 // Propose: the proposal is kept in the state.
@@ -39,16 +52,21 @@ pub extern "C" fn forgelilac_open(
 pub extern "C" fn forgelilac_propose(state: &mut [u32], table: &[u32], body: &[u32]) -> u32
     ensures { Done plain (result_of state.old table.now [] (lone_body_reads body.now) (propose (body_in body.now 0))) result state.new table.now [] }
 {
-    if !words::states::state_reads(state) {
-        return 1;
-    }
-    if !bodies::lone_body_reads(body) {
-        return 1;
-    }
-    let s = words::states::state_in(state);
-    let b = bodies::body_in(body, 0);
-    let x = propose::propose(s, table, b);
-    hosting::settle(state, x)
+    hosting::plain(propose(state, table, body))
+}
+
+pub fn propose(state: &mut [u32], table: &[u32], body: &[u32]) -> Result<(), Refusal>
+    ensures { Done plain (result_of state.old table.now [] (lone_body_reads body.now) (propose (body_in body.now 0))) (refusal_in result) state.new table.now [] }
+{
+    let Some(mut s) = words::states::state(state) else {
+        return Err(Refusal::Malformed);
+    };
+    let Some(b) = words::bodies::body(body) else {
+        return Err(Refusal::Malformed);
+    };
+    propose::propose(&mut s, table, b)?;
+    words::states::put_state(state, s);
+    Ok(())
 }
 
 // Endorse: the proposal's place is marked endorsed in the table.
@@ -56,17 +74,19 @@ pub extern "C" fn forgelilac_propose(state: &mut [u32], table: &[u32], body: &[u
 pub extern "C" fn forgelilac_endorse(state: &[u32], table: &mut [u32], proposal: &[u32]) -> u32
     ensures { Done plain (result_of state.now table.old [] (proposal_reads proposal.now) (endorse (proposal_in proposal.now))) result state.now table.new [] }
 {
-    if !words::states::state_reads(state) {
-        return 1;
-    }
-    if !words::proposals::proposal_reads(proposal) {
-        return 1;
-    }
-    let s = words::states::state_in(state);
-    let p = words::proposals::proposal_in(proposal);
-    let x = endorse::endorse(s, table, p);
-    let a = x.answer;
-    hosting::refusal_in(a)
+    hosting::plain(endorse(state, table, proposal))
+}
+
+pub fn endorse(state: &[u32], table: &mut [u32], proposal: &[u32]) -> Result<(), Refusal>
+    ensures { Done plain (result_of state.now table.old [] (proposal_reads proposal.now) (endorse (proposal_in proposal.now))) (refusal_in result) state.now table.new [] }
+{
+    let Some(s) = words::states::state(state) else {
+        return Err(Refusal::Malformed);
+    };
+    let Some(p) = words::proposals::proposal(proposal) else {
+        return Err(Refusal::Malformed);
+    };
+    endorse::endorse(&s, table, p)
 }
 
 // Certify: the certificate of the present proposal is held in the table, with these endorsers.
@@ -74,16 +94,19 @@ pub extern "C" fn forgelilac_endorse(state: &[u32], table: &mut [u32], proposal:
 pub extern "C" fn forgelilac_certify(state: &[u32], table: &mut [u32], endorsers: u32) -> u32
     ensures { Done plain (result_of state.now table.old [] (ltb endorsers 65536) (certify endorsers)) result state.now table.new [] }
 {
-    if !words::states::state_reads(state) {
-        return 1;
-    }
+    hosting::plain(certify(state, table, endorsers))
+}
+
+pub fn certify(state: &[u32], table: &mut [u32], endorsers: u32) -> Result<(), Refusal>
+    ensures { Done plain (result_of state.now table.old [] (ltb endorsers 65536) (certify endorsers)) (refusal_in result) state.now table.new [] }
+{
+    let Some(s) = words::states::state(state) else {
+        return Err(Refusal::Malformed);
+    };
     if 65536 <= endorsers {
-        return 1;
+        return Err(Refusal::Malformed);
     }
-    let s = words::states::state_in(state);
-    let x = certify::certify(s, table, endorsers as u16);
-    let a = x.answer;
-    hosting::refusal_in(a)
+    certify::certify(&s, table, endorsers as u16)
 }
 
 // Accept: the certificate is held in the table with its endorsers, and its endorsed mark cleared.
@@ -91,17 +114,19 @@ pub extern "C" fn forgelilac_certify(state: &[u32], table: &mut [u32], endorsers
 pub extern "C" fn forgelilac_accept(state: &[u32], table: &mut [u32], certificate: &[u32]) -> u32
     ensures { Done plain (result_of state.now table.old [] (certificate_reads certificate.now) (accept (certificate_in certificate.now))) result state.now table.new [] }
 {
-    if !words::states::state_reads(state) {
-        return 1;
-    }
-    if !words::proposals::certificate_reads(certificate) {
-        return 1;
-    }
-    let s = words::states::state_in(state);
-    let c = words::proposals::certificate_in(certificate);
-    let x = accept::accept(s, table, c);
-    let a = x.answer;
-    hosting::refusal_in(a)
+    hosting::plain(accept(state, table, certificate))
+}
+
+pub fn accept(state: &[u32], table: &mut [u32], certificate: &[u32]) -> Result<(), Refusal>
+    ensures { Done plain (result_of state.now table.old [] (certificate_reads certificate.now) (accept (certificate_in certificate.now))) (refusal_in result) state.now table.new [] }
+{
+    let Some(s) = words::states::state(state) else {
+        return Err(Refusal::Malformed);
+    };
+    let Some(c) = words::proposals::certificate(certificate) else {
+        return Err(Refusal::Malformed);
+    };
+    accept::accept(&s, table, c)
 }
 
 // Advance: next round, proposal dropped; where a quorum of the present round is held.
@@ -109,12 +134,18 @@ pub extern "C" fn forgelilac_accept(state: &[u32], table: &mut [u32], certificat
 pub extern "C" fn forgelilac_advance(state: &mut [u32], table: &[u32]) -> u32
     ensures { Done plain (result_of state.old table.now [] true advance) result state.new table.now [] }
 {
-    if !words::states::state_reads(state) {
-        return 1;
-    }
-    let s = words::states::state_in(state);
-    let x = advance::advance(s, table);
-    hosting::settle(state, x)
+    hosting::plain(advance(state, table))
+}
+
+pub fn advance(state: &mut [u32], table: &[u32]) -> Result<(), Refusal>
+    ensures { Done plain (result_of state.old table.now [] true advance) (refusal_in result) state.new table.now [] }
+{
+    let Some(mut s) = words::states::state(state) else {
+        return Err(Refusal::Malformed);
+    };
+    advance::advance(&mut s, table)?;
+    words::states::put_state(state, s);
+    Ok(())
 }
 
 // Commit: blocks are made in the table; the value is the number of blocks added.
@@ -122,10 +153,16 @@ pub extern "C" fn forgelilac_advance(state: &mut [u32], table: &[u32]) -> u32
 pub extern "C" fn forgelilac_commit(state: &mut [u32], table: &mut [u32]) -> u64
     ensures { Done packed (result_of state.old table.old [] true commit) result state.new table.new [] }
 {
-    if !words::states::state_reads(state) {
-        return hosting::unread();
-    }
-    let s = words::states::state_in(state);
-    let x = commit::commit(s, table);
-    hosting::settle_commit(state, x)
+    hosting::packed(commit(state, table))
+}
+
+pub fn commit(state: &mut [u32], table: &mut [u32]) -> Result<u32, Refusal>
+    ensures { Done packed (result_of state.old table.old [] true commit) (packed_in result) state.new table.new [] }
+{
+    let Some(mut s) = words::states::state(state) else {
+        return Err(Refusal::Malformed);
+    };
+    let added = commit::commit(&mut s, table)?;
+    words::states::put_state(state, s);
+    Ok(added)
 }

@@ -1,11 +1,13 @@
-// What guests read, each with the right to read: the caller's right, and then the host's own read (change request: Point 11).
+// What guests read, each with the right to read: the caller's right, and then the host's own read.
 ghost use Rattle.std.specs.Prelude.{true, [], length};
 ghost use Rattle.engine.specs.Calls.{committee, share, effect, certificate, block, preview, critical};
 ghost use Rattle.engine.specs.Guests.{aside};
+ghost use Rattle.refusals.specs.Refusals.{refusal_in, packed_in};
 ghost use Rattle.hosting.specs.Calls.{plain, packed, Done};
 ghost use Rattle.hosting.specs.Guested.{guest_result};
 
 use hosting::guesting;
+use refusals::Refusal;
 use terms::rights::Right;
 
 // Committee of a round.
@@ -19,11 +21,20 @@ pub extern "C" fn forgelilac_guest_committee(
 ) -> u32
     ensures { Done plain (guest_result state.now table.now out.old caller true (aside (committee (record { 0 = round })))) result state.now table.now out.new }
 {
-    let n = guesting::refusal(state, Right::Read, caller);
-    if n != 0 {
-        return n;
-    }
-    crate::views::forgelilac_committee(state, table, round, out)
+    hosting::plain(committee(caller, state, table, round, out))
+}
+
+pub fn committee(
+    caller: u32,
+    state: &[u32],
+    table: &[u32],
+    round: u32,
+    out: &mut [u32],
+) -> Result<(), Refusal>
+    ensures { Done plain (guest_result state.now table.now out.old caller true (aside (committee (record { 0 = round })))) (refusal_in result) state.now table.now out.new }
+{
+    guesting::check(state, Right::Read, caller)?;
+    crate::views::committee(state, table, round, out)
 }
 
 // Share of a member.
@@ -37,11 +48,20 @@ pub extern "C" fn forgelilac_guest_share(
 ) -> u64
     ensures { Done packed (guest_result state.now table.now [] caller true (aside (share (record { 0 = member }) (record { 0 = round })))) result state.now table.now [] }
 {
-    let n = guesting::refusal(state, Right::Read, caller);
-    if n != 0 {
-        return guesting::packed(n);
-    }
-    crate::views::forgelilac_share(state, table, member, round)
+    hosting::packed(share(caller, state, table, member, round))
+}
+
+pub fn share(
+    caller: u32,
+    state: &[u32],
+    table: &[u32],
+    member: u32,
+    round: u32,
+) -> Result<u32, Refusal>
+    ensures { Done packed (guest_result state.now table.now [] caller true (aside (share (record { 0 = member }) (record { 0 = round })))) (packed_in result) state.now table.now [] }
+{
+    guesting::check(state, Right::Read, caller)?;
+    crate::views::share(state, table, member, round)
 }
 
 // Effect of a bond.
@@ -57,11 +77,22 @@ pub extern "C" fn forgelilac_guest_bond_effect(
 ) -> u32
     ensures { Done plain (guest_result state.now table.now out.old caller true (aside (effect (record { 0 = member }) (record { 0 = round }) amount))) result state.now table.now out.new }
 {
-    let n = guesting::refusal(state, Right::Read, caller);
-    if n != 0 {
-        return n;
-    }
-    crate::views::forgelilac_bond_effect(state, table, member, round, amount, out)
+    hosting::plain(bond_effect(caller, state, table, member, round, amount, out))
+}
+
+pub fn bond_effect(
+    caller: u32,
+    state: &[u32],
+    table: &[u32],
+    member: u32,
+    round: u32,
+    amount: u32,
+    out: &mut [u32],
+) -> Result<(), Refusal>
+    ensures { Done plain (guest_result state.now table.now out.old caller true (aside (effect (record { 0 = member }) (record { 0 = round }) amount))) (refusal_in result) state.now table.now out.new }
+{
+    guesting::check(state, Right::Read, caller)?;
+    crate::views::bond_effect(state, table, member, round, amount, out)
 }
 
 // Certificate of a place.
@@ -76,11 +107,21 @@ pub extern "C" fn forgelilac_guest_certificate(
 ) -> u32
     ensures { Done plain (guest_result state.now table.now out.old caller true (aside (certificate (record { 0 = author }) (record { 0 = round })))) result state.now table.now out.new }
 {
-    let n = guesting::refusal(state, Right::Read, caller);
-    if n != 0 {
-        return n;
-    }
-    crate::views::forgelilac_certificate(state, table, author, round, out)
+    hosting::plain(certificate(caller, state, table, author, round, out))
+}
+
+pub fn certificate(
+    caller: u32,
+    state: &[u32],
+    table: &[u32],
+    author: u32,
+    round: u32,
+    out: &mut [u32],
+) -> Result<(), Refusal>
+    ensures { Done plain (guest_result state.now table.now out.old caller true (aside (certificate (record { 0 = author }) (record { 0 = round })))) (refusal_in result) state.now table.now out.new }
+{
+    guesting::check(state, Right::Read, caller)?;
+    crate::views::certificate(state, table, author, round, out)
 }
 
 // Block by number.
@@ -93,11 +134,14 @@ pub extern "C" fn forgelilac_guest_block(
 ) -> u64
     ensures { Done packed (guest_result state.now table.now [] caller true (aside (block number))) result state.now table.now [] }
 {
-    let n = guesting::refusal(state, Right::Read, caller);
-    if n != 0 {
-        return guesting::packed(n);
-    }
-    crate::views::forgelilac_block(state, table, number)
+    hosting::packed(block(caller, state, table, number))
+}
+
+pub fn block(caller: u32, state: &[u32], table: &[u32], number: u32) -> Result<u32, Refusal>
+    ensures { Done packed (guest_result state.now table.now [] caller true (aside (block number))) (packed_in result) state.now table.now [] }
+{
+    guesting::check(state, Right::Read, caller)?;
+    crate::views::block(state, table, number)
 }
 
 // Preview of a commit.
@@ -110,11 +154,14 @@ pub extern "C" fn forgelilac_guest_preview(
 ) -> u64
     ensures { Done packed (guest_result state.now table.now list.old caller true (aside (preview (length list.old)))) result state.now table.now list.new }
 {
-    let n = guesting::refusal(state, Right::Read, caller);
-    if n != 0 {
-        return guesting::packed(n);
-    }
-    crate::previews::forgelilac_preview(state, table, list)
+    hosting::packed(preview(caller, state, table, list))
+}
+
+pub fn preview(caller: u32, state: &[u32], table: &[u32], list: &mut [u32]) -> Result<u32, Refusal>
+    ensures { Done packed (guest_result state.now table.now list.old caller true (aside (preview (length list.old)))) (packed_in result) state.now table.now list.new }
+{
+    guesting::check(state, Right::Read, caller)?;
+    crate::previews::preview(state, table, list)
 }
 
 // The certificates that a commit hangs on.
@@ -127,9 +174,17 @@ pub extern "C" fn forgelilac_guest_critical(
 ) -> u64
     ensures { Done packed (guest_result state.now table.old list.old caller true (aside (critical (length list.old)))) result state.now table.new list.new }
 {
-    let n = guesting::refusal(state, Right::Read, caller);
-    if n != 0 {
-        return guesting::packed(n);
-    }
-    crate::criticals::forgelilac_critical(state, table, list)
+    hosting::packed(critical(caller, state, table, list))
+}
+
+pub fn critical(
+    caller: u32,
+    state: &[u32],
+    table: &mut [u32],
+    list: &mut [u32],
+) -> Result<u32, Refusal>
+    ensures { Done packed (guest_result state.now table.old list.old caller true (aside (critical (length list.old)))) (packed_in result) state.now table.new list.new }
+{
+    guesting::check(state, Right::Read, caller)?;
+    crate::criticals::critical(state, table, list)
 }

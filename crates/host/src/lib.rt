@@ -1,4 +1,6 @@
-// The engine for a host: every call and read, its own and its guests', over words that it lends.
+//! The library: every call and read over lent words.
+//!
+//! The functions that hosts link, their own and their guests'. None has a premise: on any words and lengths each answers and leaves what `hosting` says (its specs/Calls). include/forgelilac.h declares them, docs/HOSTS.md describes them.
 #![tactic(auto)]
 
 mod batches;

@@ -1,10 +1,11 @@
-// The calls on guests' queues that a host makes: enqueue, draw (change request: Point 6).
+// The calls on guests' queues that a host makes: enqueue, draw.
 ghost use Rattle.std.specs.Prelude.{[], ltb};
 ghost use Rattle.engine.specs.Calls.{enqueue, draw};
+ghost use Rattle.refusals.specs.Refusals.{refusal_in};
 ghost use Rattle.words.specs.Bodies.{lone_triple_reads, triple_in};
 ghost use Rattle.hosting.specs.Calls.{plain, Done, result_of};
 
-use words::bodies;
+use refusals::Refusal;
 
 // Enqueue: the transaction is added to the guest's queue in the table.
 #[unsafe(no_mangle)]
@@ -16,17 +17,24 @@ pub extern "C" fn forgelilac_enqueue(
 ) -> u32
     ensures { Done plain (result_of state.now table.old [] (lone_triple_reads transaction.now) (enqueue guest (triple_in transaction.now))) result state.now table.new [] }
 {
-    if !words::states::state_reads(state) {
-        return 1;
-    }
-    if !bodies::lone_triple_reads(transaction) {
-        return 1;
-    }
-    let s = words::states::state_in(state);
-    let x = bodies::triple_in(transaction);
-    let y = enqueue::enqueue(s, table, guest, x);
-    let a = y.answer;
-    hosting::refusal_in(a)
+    hosting::plain(enqueue(state, table, guest, transaction))
+}
+
+pub fn enqueue(
+    state: &[u32],
+    table: &mut [u32],
+    guest: u32,
+    transaction: &[u32],
+) -> Result<(), Refusal>
+    ensures { Done plain (result_of state.now table.old [] (lone_triple_reads transaction.now) (enqueue guest (triple_in transaction.now))) (refusal_in result) state.now table.new [] }
+{
+    let Some(s) = words::states::state(state) else {
+        return Err(Refusal::Malformed);
+    };
+    let Some(x) = words::bodies::transaction(transaction) else {
+        return Err(Refusal::Malformed);
+    };
+    enqueue::enqueue(&s, table, guest, x)
 }
 
 // Draw: what waits in guests' queues is proposed with a previous set, and leaves them; the proposal is kept in the state.
@@ -34,13 +42,19 @@ pub extern "C" fn forgelilac_enqueue(
 pub extern "C" fn forgelilac_draw(state: &mut [u32], table: &mut [u32], previous: u32) -> u32
     ensures { Done plain (result_of state.old table.old [] (ltb previous 65536) (draw previous)) result state.new table.new [] }
 {
-    if !words::states::state_reads(state) {
-        return 1;
-    }
+    hosting::plain(draw(state, table, previous))
+}
+
+pub fn draw(state: &mut [u32], table: &mut [u32], previous: u32) -> Result<(), Refusal>
+    ensures { Done plain (result_of state.old table.old [] (ltb previous 65536) (draw previous)) (refusal_in result) state.new table.new [] }
+{
+    let Some(mut s) = words::states::state(state) else {
+        return Err(Refusal::Malformed);
+    };
     if 65536 <= previous {
-        return 1;
+        return Err(Refusal::Malformed);
     }
-    let s = words::states::state_in(state);
-    let x = draw::draw(s, table, previous as u16);
-    hosting::settle(state, x)
+    draw::draw(&mut s, table, previous as u16)?;
+    words::states::put_state(state, s);
+    Ok(())
 }

@@ -15,14 +15,13 @@ use Rattle.terms.specs.declared.Member.{Member}
 use Rattle.terms.specs.declared.Round.{Round}
 use Rattle.committee.specs.Shares.{apart}
 use Rattle.committee.specs.declared.effects.Effect.{Effect}
-use Rattle.rules.specs.Reads.{share_read}
+use Rattle.rules.specs.Reads.{share_read, effect_read}
 use Rattle.state.specs.View.{view}
-use Rattle.reads.specs.CommitteeReads.{share_refusal}
 use Rattle.reads.specs.Bounds.{moved_at}
-use Rattle.reads.specs.BondReads.{effect_refusal, effect_answer}
-use Rattle.reads.proofs.BoundLaws.{effect-bounded, largest-of-all, member_shared, effect-of-shares}
+use Rattle.reads.specs.Reads.{share_refusal, effect_refusal}
+use Rattle.reads.proofs.BoundLaws.{effect_bounded, largest_of_all, member_shared, effect_of_shares}
 use Rattle.engine.specs.Calls.{share, effect, aside}
-use Rattle.engine.proofs.ValueLaws.{value-accepted, effect-value}
+use Rattle.engine.proofs.ValueLaws.{value-accepted}
 use Rattle.words.specs.Lengths.{effect_length}
 use Rattle.words.specs.Words.{word, sixteen}
 use Rattle.words.proofs.PasteLaws.{length-sixteen, in_sixteen}
@@ -85,7 +84,7 @@ weights-long w = length-tab _ 16
 
 module _ (w t o : List ℕ) (m : Member) (r : Round) (a : ℕ) (z : (effect_result w t o m r a).refusal ≡ 0) where
   abbrev told : Effect
-  told = (effect_answer (state_in w) t m.0 r.0 a).effect
+  told = effect_read (state_in w).settings (view (state_in w) t) m.0 r.0 a
 
   accepted : effect_refusal (state_in w) t m.0 r.0 a ≡ 0
   unfolding effect_refusal
@@ -96,17 +95,17 @@ module _ (w t o : List ℕ) (m : Member) (r : Round) (a : ℕ) (z : (effect_resu
   out-told =
       let c = accepted-call w t o true (aside (effect m r a)) z in
       let room = leb-true effect_length (length o) (both (state_reads w) (leb effect_length (length o)) c.serving).1 in
-      rw (c.its_out, effect-value (engine_in w t) m r a c.accepted) (put-told told o room)
+      rw (c.its_out, value-accepted (engine_in w t) (aside (effect m r a)) c.accepted) (put-told told o room)
 
-pub bounded-over-words : BoundedOverWords
-bounded-over-words w t o m r a z =
-    let b = effect-bounded (state_in w) t (weights-long w) m.0 r.0 a (accepted w t o m r a z) in
+pub bounded_over_words : BoundedOverWords
+bounded_over_words w t o m r a z =
+    let b = effect_bounded (state_in w) t (weights-long w) m.0 r.0 a (accepted w t o m r a z) in
     omega (arith, b, (out-told w t o m r a z).largest)
 
-pub largest-over-words : LargestOverWords
-largest-over-words w t o m r a z =
+pub largest_over_words : LargestOverWords
+largest_over_words w t o m r a z =
     let x = out-told w t o m r a z in
-    let l = largest-of-all (state_in w) t m.0 r.0 a (accepted w t o m r a z) in
+    let l = largest_of_all (state_in w) t m.0 r.0 a (accepted w t o m r a z) in
     let same : (i : ℕ) → i < 16 → moved_in (effect_result w t o m r a).out i ≡ moved_at (told w t o m r a z) i = λ i h. ap₂ (λ (y z : ℕ). apart y z) (x.before i h) (x.after i h) in
     (λ i h. rw (same i h, x.largest) (l.0 i h), (l.1.0, l.1.1, rw (same l.1.0 l.1.1, x.largest) l.1.2))
 
@@ -118,9 +117,9 @@ share-told w t i r z =
     let c = accepted-call w t [] true (aside (share i r)) z in
     (c.accepted, rw (c.serving, value-accepted (engine_in w t) (aside (share i r)) c.accepted) refl)
 
-pub shares-over-words : SharesOverWords
-shares-over-words w t o m i r a z y =
+pub shares_over_words : SharesOverWords
+shares_over_words w t o m i r a z y =
     let s = share-told w t i r y in
     (out-told w t o m r a z).before i.0 (member_shared (state_in w) t i.0 r.0 s.0)
-    ∙ effect-of-shares (state_in w) t m.0 r.0 a i.0 (accepted w t o m r a z) s.0
+    ∙ effect_of_shares (state_in w) t m.0 r.0 a i.0 (accepted w t o m r a z) s.0
     ∙ sym s.1

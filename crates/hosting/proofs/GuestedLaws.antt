@@ -39,11 +39,11 @@ module _ (w t o : List ℕ) (c : ℕ) (r : Right) (x : Result) where
   done-barred-packed e h q = done-barred e h (omega arith)
 
 -- the claims
-pub allowed-over-words : AllowedOverWords
-allowed-over-words w t o c r h x = guest-allowed w t o c r x (allowed (rights_in w) r c h)
+pub allowed_over_words : AllowedOverWords
+allowed_over_words w t o c r h x = guest-allowed w t o c r x (allowed (rights_in w) r c h)
 
-pub noninterference-over-words : NoninterferenceOverWords
-noninterference-over-words w t o v u p q c r h x y =
+pub noninterference_over_words : NoninterferenceOverWords
+noninterference_over_words w t o v u p q c r h x y =
     let n = barred (rights_in w) r c h in
     record { first = guest-barred w t o c r x n; second = rw (← q) at (guest-barred v u p c r y (rw (← q) n)) }
 
@@ -66,8 +66,8 @@ rights-read : (w : List ℕ) → (state_in w).rights ≡ rights_in w
 unfolding state_in
 rights-read w = refl
 
-pub rights-word-stays : RightsWordStays
-rights-word-stays w t o b k h other = go (ℕ_discrete (result_of w t o b k).refusal 0)
+pub rights_word_stays : RightsWordStays
+rights_word_stays w t o b k h other = go (ℕ_discrete (result_of w t o b k).refusal 0)
   where
     go : Dec ((result_of w t o b k).refusal ≡ 0) → rights_in (result_of w t o b k).state ≡ rights_in w
     go (yes z) =

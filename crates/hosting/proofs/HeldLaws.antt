@@ -1,5 +1,5 @@
 -- What the certificate read shows is the held certificate as accept takes it: a host can pass it on as it is.
-use mathlib.Core.Path.{◌≡◌, refl, ap, ◌∙◌}
+use mathlib.Core.Path.{◌≡◌, refl, sym, ap, ◌∙◌}
 use mathlib.Core.Bool.{true}
 use mathlib.Core.List.{List, [], ◌∷◌, ◌++◌}
 use Prim.Native.Nat.{ℕ, zero, suc, ◌+◌, ◌<◌, ◌≤◌}
@@ -25,10 +25,12 @@ use Rattle.terms.specs.Bodies.{body_of}
 use Rattle.store.specs.Table.{content_at, endorsers_at, mark_at, proposal_of}
 use Rattle.store.proofs.TableLaws.{content-previous, previous_lt, endorsers_lt}
 use Rattle.store.proofs.RecordLaws.{proposal-few, proposal-content}
-use Rattle.reads.proofs.CertificateReadLaws.{certificate-given}
-use Rattle.reads.specs.CertificateReads.{certificate_refusal}
+use Rattle.reads.specs.declared.Held.{Held}
+use Rattle.reads.specs.Reads.{certificate_refusal}
+use Rattle.reads.specs.Held.{certificate_read}
+use Rattle.reads.proofs.CertificateReadLaws.{certificate-passed, held-told}
 use Rattle.engine.specs.Calls.{aside, certificate}
-use Rattle.engine.proofs.ValueLaws.{certificate-value}
+use Rattle.engine.proofs.ValueLaws.{value-accepted}
 use Rattle.words.specs.Lengths.{proposal_length, certificate_length, held_length}
 use Rattle.words.specs.Words.{word}
 use Rattle.words.specs.Bodies.{triple_reads, body_reads, slot_in, body_in, used_of, used_words, body_words}
@@ -109,7 +111,7 @@ tidy-transactions : (b : Body) → b.count ≤ 4 → transactions_of (tidy_body 
 unfolding transactions_of tidy_body used_of
 tidy-transactions b few =
     tab-same (slot_of (tidy_body b)) (slot_of b) b.count
-    (λ k h. slot-tab b.previous b.count (λ j. record { transaction = used_of b j }) k (omega arith) ∙ rw (lt-ltb k b.count h) refl)
+    (λ k h. slot-tab b.previous b.count (used_of b) k (omega arith) ∙ rw (lt-ltb k b.count h) refl)
 
 tidy-content : (p : Proposal) → p.body.count ≤ 4 → content_of (record { author = p.author; round = p.round; body = tidy_body p.body }) ≡ content_of p
 unfolding tidy_body
@@ -129,8 +131,10 @@ shown-passes t a r k o l =
 
 -- what an accepted read writes
 pub passes_on : (w t o : List ℕ) (m : Member) (r : Round) → (result_of w t o true (aside (certificate m r))).refusal ≡ 0 → PassesOn t m.0 r.0 (result_of w t o true (aside (certificate m r))).out
-unfolding certificate_refusal
+unfolding certificate_refusal certificate_read
 passes_on w t o m r z =
     let a = accepted-call w t o true (aside (certificate m r)) z in
-    rw (a.its_out, certificate-value (engine_in w t) m r a.accepted, ← certificate-given (state_in w) t m.0 r.0 refl a.accepted refl refl refl)
+    let k = certificate-passed (state_in w) t m.0 r.0 a.accepted in
+    let told = sym (held-told (state_in w) t m.0 r.0 k.well k.from k.to k.held refl refl refl) in
+    rw (a.its_out, value-accepted (engine_in w t) (aside (certificate m r)) a.accepted, ap (λ (h : Held). paste o 0 (held_words h.proposal h.endorsers h.block) held_length) told)
     (shown-passes t m.0 r.0 (mark_at t m.0 r.0) o (leb-true held_length (length o) (both (state_reads w) (leb held_length (length o)) a.serving).1))

@@ -1,10 +1,9 @@
 pub mod CallLaws
-pub mod AnsweredLaws
+pub mod SettledLaws
 pub mod AnswerLaws
 pub mod RefusalLaws
 pub mod HandedLaws
 pub mod NextLaws
-pub mod BeyondLaws
 pub mod FormedLaws
 pub mod HeldLaws
 pub mod OpenLaws

@@ -1,5 +1,6 @@
 -- After an accepted call the state's words can be read, and they give the state that the engine's call leaves: nothing is lost between two calls.
-use mathlib.Core.Path.{◌≡◌, refl, sym, ◌∙◌}
+use mathlib.Core.Path.{◌≡◌, refl, sym, ap, ◌∙◌}
+use Rattle.std.specs.Prelude.{Some}
 use mathlib.Core.Bool.{Bool, true}
 use mathlib.Core.List.{List}
 use Prim.Native.Nat.{ℕ, ◌<◌, ◌≤◌}
@@ -12,9 +13,9 @@ use Rattle.base.proofs.Bools.{both}
 use Rattle.terms.specs.declared.Body.{Body}
 use Rattle.terms.specs.Sheets.{filled}
 use Rattle.state.specs.declared.State.{State}
-use Rattle.state.specs.States.{proposed, advanced, no_body}
+use Rattle.state.specs.States.{proposed, advanced, own_body}
 use Rattle.open.specs.Open.{fresh_state}
-use Rattle.commit.specs.Commit.{blocks_then}
+use Rattle.commit.specs.Commit.{blocks_then, with_blocks}
 use Rattle.queues.specs.Queues.{transactions_in}
 use Rattle.draw.specs.Draw.{draws, drawn_body}
 use Rattle.engine.specs.Calls.{Call, opens, propose, endorse, certify, accept, advance, commit, enqueue, draw, port, aside}
@@ -28,7 +29,7 @@ use Rattle.words.specs.TidyStates.{tidy_body, tidy}
 use Rattle.hosting.specs.Handed.{Handed}
 use Rattle.hosting.specs.Calls.{Use, writes, rewrites, accesses, reads, use_of, serves, engine_for, state_over, result_of}
 use Rattle.words.proofs.ReadingLaws.{state-read, set-read}
-use Rattle.words.proofs.TidyLaws.{tidy-by, of-tidy, weights-tidy, filled-tidy, blocks-tidy}
+use Rattle.words.proofs.TidyLaws.{tidy-by, of-tidy, weights-tidy, filled-tidy, own-proposal-tidy}
 use Rattle.words.proofs.BackLaws.{put_back, put-read}
 use Rattle.hosting.proofs.CallLaws.{AcceptedCall, accepted-call}
 
@@ -63,23 +64,27 @@ module _ (w t o : List ℕ) where
   unfolding drawn_body
   drawn-tidy s v = of-tidy v (transactions_in (draws s t))
 
+  blocks-tidy : (k : ℕ) → tidy (with_blocks (state_in w) k) ≡ with_blocks (state_in w) k
+  unfolding state_in
+  blocks-tidy k = tidy-by (with_blocks (state_in w) k) (weights-tidy w) (own-proposal-tidy w)
+
   left : (c : Call) → ((x : Body) → c ≡ propose x → tidy_body x ≡ x) → Left (use_of c) (renewed (engine_for w t o (use_of c)) c).state
   left (opens own sheet) h = tidy-by (fresh_state own (filled sheet) sheet.rights) (filled-tidy sheet) refl
-  left (propose b) h = tidy-by (proposed (state_in w) b) (weights-tidy w) (h b refl)
+  left (propose b) h = tidy-by (proposed (state_in w) b) (weights-tidy w) (ap Some (h b refl))
   left (endorse p) h = refl
   left (certify d) h = refl
   left (accept c) h = refl
-  left advance h = tidy-by (advanced (state_in w) no_body) (weights-tidy w) refl
-  left commit h = blocks-tidy w (blocks_then (state_in w) t)
+  left advance h = tidy-by (advanced (state_in w)) (weights-tidy w) refl
+  left commit h = blocks-tidy (blocks_then (state_in w) t)
   left (enqueue g x) h = refl
-  left (draw v) h = tidy-by (proposed (state_in w) (drawn_body (state_in w) t v)) (weights-tidy w) (drawn-tidy (state_in w) v)
+  left (draw v) h = tidy-by (proposed (state_in w) (drawn_body (state_in w) t v)) (weights-tidy w) (ap Some (drawn-tidy (state_in w) v))
   left (port x) h = refl
   left (aside x) h = refl
 
-  put-gives : (s : State) → state_length ≤ length w → s.body.previous < 65536 → tidy s ≡ s → Gives (paste w 0 (state_words s) state_length) s
-  put-gives s l i e = record { can_read = put-read w s l (λ p. i); gives = put_back w s l ∙ e }
+  put-gives : (s : State) → state_length ≤ length w → (own_body s).previous < 65536 → tidy s ≡ s → Gives (paste w 0 (state_words s) state_length) s
+  put-gives s l i e = record { can_read = put-read w s l i; gives = put_back w s l ∙ e }
 
-  over-gives : (u : Use) (s : State) → serves w t o u ≡ true → s.body.previous < 65536 → Left u s → Gives (state_over w t o u s) s
+  over-gives : (u : Use) (s : State) → serves w t o u ≡ true → (own_body s).previous < 65536 → Left u s → Gives (state_over w t o u s) s
   over-gives writes s r i e = put-gives s (leb-true state_length (length w) r) i e
   over-gives rewrites s r i e = put-gives s (state-read w r).long i e
   over-gives (accesses x) s r i e = record { can_read = r; gives = sym e }

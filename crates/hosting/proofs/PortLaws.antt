@@ -1,7 +1,7 @@
 -- What is asked of a port is refused by the checks before 1 whether the words of the state can be read or not.
 use mathlib.Core.Path.{◌≡◌, refl, sym, ◌∙◌}
 use mathlib.Core.Bool.{Bool, true, false, cond, ◌&&◌}
-use mathlib.Core.List.{List, [], ◌∷◌, ◌++◌}
+use mathlib.Core.List.{List, [], ◌∷◌}
 use mathlib.Core.Logic.{◌≢◌}
 use Prim.Native.Nat.{ℕ, ◌*◌}
 use native.Mathlib.Omega.{arith}
@@ -44,8 +44,8 @@ module _ (w t o : List ℕ) (b : Bool) (x : PortCall) {n : ℕ} (q : n ≡ refus
   done-unread-port p z k e = done-unserved w t o b (port x) k (rw (passed-unread p z) e)
 
 -- the claim
-pub refused-first : RefusedFirst
-refused-first =
+pub refused_first : RefusedFirst
+refused_first =
     record {
       above = λ w t o b g a h. early-number w t o b (access g a) (sym (refuses 26 _ (lt-ltb 7 g h))) (λ z. omega arith);
       offset = λ w t o b g a l h. early-number w t o b (access g a) (sym (passes 26 _ (le-ltb 7 g l) ∙ refuses 31 _ (lt-ltb 7 (offset_of a) h))) (λ z. omega arith);

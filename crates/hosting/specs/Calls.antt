@@ -13,7 +13,7 @@ use Rattle.engine.specs.Calls.{Aside, committee, share, effect, certificate, blo
 use Rattle.engine.specs.Engine.{Engine, refusal_for, after}
 use Rattle.engine.specs.Values.{Value, nothing, number, weights, shares, held, entries, places, chain, value_of}
 use Rattle.words.specs.Lengths.{state_length, held_length, committee_length, effect_length}
-use Rattle.words.specs.Words.{sixteen}
+use Rattle.words.specs.Words.{weight_words}
 use Rattle.words.specs.Proposals.{held_words}
 use Rattle.words.specs.Effects.{effect_words}
 use Rattle.words.specs.States.{state_reads, state_in, state_words}
@@ -126,7 +126,7 @@ module _ (w t o : List ℕ) where
   abbrev pub out_over : Value → List ℕ
   out_over nothing = o
   out_over (number n) = o
-  out_over (weights x) = paste o 0 (sixteen x) committee_length
+  out_over (weights x) = paste o 0 (weight_words x) committee_length
   out_over (shares x) = paste o 0 (effect_words x) effect_length
   out_over (held p endorsers k) = paste o 0 (held_words p endorsers k) held_length
   out_over (entries l) = sets o 0 (words_of l)

@@ -1,4 +1,4 @@
--- Guests' calls over the words that a host lends: the complete answer, and what the stretches hold afterwards, refusals included (change request: Point 11).
+-- Guests' calls over the words that a host lends: the complete answer, and what the stretches hold afterwards, refusals included (docs/RULES.md, "Rights").
 use Rattle.std.specs.Prelude.{◌≡◌, Bool, true, false, cond, List, ◌≢◌, ℕ, eqb}
 use Rattle.terms.specs.declared.Member.{Member}
 use Rattle.terms.specs.declared.sheet.Rights.{Rights}

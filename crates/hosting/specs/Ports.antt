@@ -1,4 +1,4 @@
--- What is asked of a port is refused with 26 and 31 before 1, whatever words are lent, read or not (change request: Point 14).
+-- What is asked of a port is refused with 26 and 31 before 1, whatever words are lent, read or not (docs/RULES.md, "Serial ports").
 use Rattle.std.specs.Prelude.{◌≡◌, Bool, List, ℕ, ◌<◌, ◌≤◌}
 use Rattle.serial.specs.Calls.{Access, offset_of, access, reset}
 use Rattle.engine.specs.Calls.{port}

@@ -1,9 +1,11 @@
-// A guest's call over words: its caller's right, read from the state's words before anything else is looked at (change request: Point 11).
+// A guest's call over words: its caller's right, read from the state's words before anything else is looked at.
 
-ghost use Rattle.std.specs.Prelude.{◌≡◌, ◌*◌};
+ghost use Rattle.std.specs.Prelude.{◌≡◌};
 ghost use Rattle.terms.specs.Rights.{caller_refusal};
+ghost use Rattle.refusals.specs.Refusals.{refusal_in};
 ghost use Rattle.hosting.specs.Guested.{rights_in};
 
+use refusals::Refusal;
 use terms::rights;
 use terms::rights::Right;
 use terms::sheet::Rights;
@@ -19,17 +21,14 @@ fn rights_in(state: &[u32]) -> Rights
     Rights(state[38])
 }
 
-// The number that refuses the caller, 0 for none: 26 caller above 7; 29 missing right.
-pub fn refusal(state: &[u32], right: Right, caller: u32) -> u32
-    ensures { result ≡ caller_refusal (rights_in state.now) right caller }
+/// Is the caller 0 to 7, and has it the right?
+#[tactic(auto, unfolding(base::specs::Checks::refusal, terms::specs::Rights::caller_refusal, terms::specs::Rights::may, terms::specs::Rights::right_number))]
+pub fn check(state: &[u32], right: Right, caller: u32) -> Result<(), Refusal>
+    ensures { refusal_in result ≡ caller_refusal (rights_in state.now) right caller }
 {
-    let rights = rights_in(state);
-    rights::caller_refusal(rights, right, caller)
-}
-
-// The same number as the answer of a call that has a value.
-pub fn packed(refusal: u32) -> u64
-    ensures { result ≡ refusal * 4294967296 }
-{
-    refusal as u64 * 4294967296
+    match rights::caller_refusal(rights_in(state), right, caller) {
+        0 => Ok(()),
+        26 => Err(Refusal::NoSuchCaller),
+        _ => Err(Refusal::RightMissing),
+    }
 }

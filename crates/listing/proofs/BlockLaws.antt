@@ -8,6 +8,7 @@ use native.Mathlib.Numerals.{add-one}
 use borrow.Author.Tests.{eq-eqb}
 use Rattle.listing.specs.Lines.{listing_line}
 use Rattle.base.specs.Folds.{fold_to}
+use Rattle.base.proofs.Ranges.{fold_none, fold_next}
 use Rattle.store.specs.Table.{held_at, mark_at, content_at, block_round}
 use Rattle.terms.specs.declared.sheet.Settings.{Settings}
 use Rattle.committee.specs.Changes.{at_most_one, row, rows}
@@ -29,9 +30,8 @@ block_lines S t k = content_lines (k + 1) (block_round t (k + 1)) (ordered S (bl
 
 -- lists put one after the other, after one more
 fold_append : (h : ℕ → List ℕ) (n : ℕ) (x : List ℕ) → fold_to (λ i l. l ++ h i) n x ≡ x ++ fold_to (λ i l. l ++ h i) n []
-unfolding fold_to
-fold_append h zero x = sym (append-nil x)
-fold_append h (suc n) x = rw (fold_append h n x) (append_assoc x (fold_to (λ i l. l ++ h i) n []) (h n))
+fold_append h zero x = rw (fold_none (λ i (l : List ℕ). l ++ h i) x, fold_none (λ i (l : List ℕ). l ++ h i) []) (sym (append-nil x))
+fold_append h (suc n) x = rw (fold_next (λ i (l : List ℕ). l ++ h i) n x, fold_next (λ i (l : List ℕ). l ++ h i) n [], fold_append h n x) (append_assoc x (fold_to (λ i l. l ++ h i) n []) (h n))
 
 module _ (t : List ℕ) (k : ℕ) where
   -- a place that is not marked has no line
@@ -53,23 +53,24 @@ module _ (t : List ℕ) (k : ℕ) where
   row-after a r x = fold_append (λ i. place_lines t k (r * 16 + (a + i) % 16)) 16 x
 
   row-lines : (n a r m : ℕ) → 1 ≤ r → r ≤ n → m ≤ 16 → content_lines k (block_round t k) (row (block_at n t k) a r m) ≡ fold_to (λ i l. l ++ place_lines t k (r * 16 + (a + i) % 16)) m []
-  unfolding content_lines fold_to place_lines
-  row-lines n a r zero l u h = rw (row-none (block_at n t k) a r) refl
+  unfolding content_lines place_lines
+  row-lines n a r zero l u h = rw (row-none (block_at n t k) a r, fold_none (λ i (l : List ℕ). l ++ place_lines t k (r * 16 + (a + i) % 16)) []) refl
   row-lines n a r (suc m) l u h =
       let i : (r * 16 + (a + m) % 16) % 16 ≡ (a + m) % 16 = omega arith in
       let j : (r * 16 + (a + m) % 16) / 16 ≡ r = omega arith in
       let z = at_most_one (holds_at t k ((a + m) % 16) r) in
-      rw (row_more (block_at n t k) a r m, block_inside n t k ((a + m) % 16) r l u, lines-append k (block_round t k) (row (block_at n t k) a r m) z, row-lines n a r m l u (omega arith), i, j) refl
+      rw (row_more (block_at n t k) a r m, block_inside n t k ((a + m) % 16) r l u, lines-append k (block_round t k) (row (block_at n t k) a r m) z, row-lines n a r m l u (omega arith), fold_next (λ i (l : List ℕ). l ++ place_lines t k (r * 16 + (a + i) % 16)) m [], i, j) refl
 
   rows-lines : (n a m : ℕ) → m ≤ n → content_lines k (block_round t k) (rows (block_at n t k) a m) ≡ rows_over (add_lines t k) a m []
-  unfolding content_lines rows_over places_over add_lines fold_to
-  rows-lines n a zero u = rw (rows_none (block_at n t k) a) refl
+  unfolding content_lines rows_over fold_to places_over place_lines add_lines
+  rows-lines n a zero u = rw (rows_none (block_at n t k) a, fold_none (λ r. places_over (add_lines t k) a (r + 1)) []) refl
   rows-lines n a (suc m) u =
       rw (
         rows_more (block_at n t k) a m,
         lines-append k (block_round t k) (rows (block_at n t k) a m) (row (block_at n t k) a (suc m) 16),
         rows-lines n a m (omega arith),
         row-lines n a (suc m) 16 (omega arith) u (omega arith),
+        fold_next (λ r. places_over (add_lines t k) a (r + 1)) m [],
         ← add-one m,
       )
       (sym (row-after a (m + 1) (rows_over (add_lines t k) a m [])))

@@ -8,15 +8,15 @@ use native.Mathlib.Decide.{ℕ_discrete, dec_lt}
 use lib.Dec.{eqb, leb}
 use borrow.Author.Tests.{eq-eqb, ne_eqb, le-leb, lt-leb}
 use Rattle.base.specs.Folds.{sum_to}
+use Rattle.base.proofs.Ranges.{sum_none, sum_next}
 use Rattle.base.proofs.SumLaws.{sum_same, sum_add, sum_le, sum_up, sum_turned}
 use Rattle.store.specs.Table.{mark_at}
 use Rattle.listing.specs.Counts.{in_block, in_first, block_count, chain_count, row_count}
 
 -- so many places from p on, after those below it
 sum_join : (f : ℕ → ℕ) (p n : ℕ) → sum_to f (p + n) ≡ sum_to f p + sum_to (λ i. f (p + i)) n
-unfolding sum_to
-sum_join f p zero = let e : p + 0 ≡ p = omega arith in rw e (omega arith)
-sum_join f p (suc n) = let e : p + suc n ≡ suc (p + n) = omega arith in rw (e, sum_join f p n) (omega arith)
+sum_join f p zero = let e : p + 0 ≡ p = omega arith in rw (e, sum_none (λ i. f (p + i))) (omega arith)
+sum_join f p (suc n) = let e : p + suc n ≡ suc (p + n) = omega arith in rw (e, sum_next f (p + n), sum_next (λ i. f (p + i)) n, sum_join f p n) (omega arith)
 
 -- the row of round r after the rows below it
 pub row_next : (t : List ℕ) (k r q : ℕ) → r * 16 + 16 ≤ q → sum_to (in_block t k) (r * 16) + row_count t k r ≤ sum_to (in_block t k) q

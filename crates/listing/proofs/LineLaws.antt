@@ -9,6 +9,7 @@ use lib.ListN.{length, length-append}
 use borrow.Author.Tests.{lt-ltb, le-ltb}
 use native.Mathlib.Numerals.{add-one}
 use Rattle.base.specs.Folds.{tab}
+use Rattle.base.proofs.Ranges.{tab_next}
 use Rattle.terms.specs.declared.Transaction.{Transaction}
 use Rattle.listing.specs.Lines.{digits_to, decimal, triple_fields, triples_fields}
 
@@ -71,8 +72,7 @@ triples-more [] x = append-nil (triple_fields x)
 triples-more (y ∷ l) x = rw (triples-more l x) (sym (append_assoc (triple_fields y) (triples_fields l) (triple_fields x)))
 
 pub triples-next : (f : ℕ → Transaction) (k : ℕ) → triples_fields (tab f (k + 1)) ≡ triples_fields (tab f k) ++ triple_fields (f k)
-unfolding tab
-triples-next f k = rw (add-one k) (triples-more (tab f k) (f k))
+triples-next f k = rw (add-one k, tab_next f k) (triples-more (tab f k) (f k))
 
 pub triples_none : (f : ℕ → Transaction) → triples_fields (tab f 0) ≡ []
 unfolding tab triples_fields

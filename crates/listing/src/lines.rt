@@ -1,4 +1,4 @@
-// Answers and listings as bytes, put into a buffer from a place on. Each function returns the next place (scope document: The runner).
+// Answers and listings as bytes, put into a buffer from a place on. Each function returns the next place (docs/RULES.md, "Records").
 
 ghost use Rattle.std.specs.Prelude.{◌≡◌, [], ◌∷◌, ◌+◌, ◌≤◌, ◌<◌, length};
 ghost use Rattle.terms.specs.Proposals.{transactions_of};
@@ -110,8 +110,7 @@ fn put_triples(buf: &mut [u8], at: usize, body: Body) -> usize
     let n = body.count;
     let mut next = at;
     for k in 0..n {
-        let x = terms::slot_at(body, k);
-        next = put_triple(buf, next, x);
+        next = put_triple(buf, next, body.slots[k as usize]);
     }
     next
 }

@@ -1,4 +1,6 @@
-// Every set of sixteen members looked up at every position and one past them: a checksum of the members found, a line for each upper half (scope document: Committees, quorums, leaders).
+//! Members looked up in every set.
+//!
+//! Every set of sixteen members is looked up at every position and one past them: a checksum of the members found, a line for each upper half. docs/RULES.md, "Leader and anchor".
 #![tactic(auto)]
 
 ghost use Rattle.std.specs.Prelude.{◌≡◌, ◌<◌, [], ◌∷◌, ◌++◌, OnOk, decimal};

@@ -15,7 +15,7 @@ module _ (X : Members engine_behaviour) where
   open X use {correct, settings}
 
   -- b is any block of member i's chain, and c the chain below it
-  pub starts-with-anchor : (l : List Entry) → Run X l → (i : ℕ) → correct i ≡ true
+  pub starts_with_anchor : (l : List Entry) → Run X l → (i : ℕ) → correct i ≡ true
       → (newer : Chain Content) (b : Block Content) (c : Chain Content) → chain (engine_after X l i) ≡ newer ++ (b ∷ c)
       → StartsWithAnchor settings (chain (engine_after X l i)) b c
-  starts-with-anchor l r = run-starts (group X) l (run-ruled X l r)
+  starts_with_anchor l r = run-starts (group X) l (run-ruled X l r)

@@ -24,18 +24,10 @@ use Rattle.engine.specs.Calls.{Aside, committee, share, effect, certificate, blo
 use Rattle.engine.specs.Engine.{Engine, aside_checks, refusal_for}
 use Rattle.engine.specs.Steps.{view_at, ruled}
 use Rattle.engine.specs.Reached.{Good}
-use Rattle.nonforking.specs.Statement.{Members, Entry, engine_after, engine_behaviour}
+use Rattle.nonforking.specs.Statement.{Members, engine_after, engine_behaviour}
+use Rattle.nonforking.specs.Witness.{Answered, entries, AreAnswered}
 use Rattle.nonforking.proofs.Converses.{refusal-by-rules, on_their_views, shown}
 use Rattle.nonforking.proofs.PlainTests.{is_plain, are_plain, open_refused, plain-found}
-
--- an entry, and the number that answers it: 0 where it is accepted
-pub record Answered : Type 0 where
-  pub entry : Entry
-  pub answer : ℕ
-
-abbrev pub entries : List Answered → List Entry
-entries [] = []
-entries (x ∷ l) = x.entry ∷ entries l
 
 -- ---- one call
 
@@ -109,11 +101,6 @@ module _ {S : Settings} {k : ℕ} {e : Engine} (good : Good S k e) where
 module _ (X : Members engine_behaviour) where
   open X use {correct, settings}
 
-  -- each entry is answered with its number
-  abbrev pub AreAnswered : List Answered → Type 0
-  AreAnswered [] = Unit {0}
-  AreAnswered (x ∷ l) = (refusal_for (engine_after X (entries l) x.entry.who) x.entry.call ≡ x.answer) × AreAnswered l
-
   module _ (fit : out_of_range settings ≡ false) where
     abbrev pub are_answered : List Answered → Bool
     are_answered [] = true
@@ -122,7 +109,7 @@ module _ (X : Members engine_behaviour) where
         let e = engine_after X (entries l) i in
         correct i && (eqb (refusal_by settings i (view_after (on_their_views X fit) (entries l) i) (case_of e x.entry.call)) x.answer && are_answered l)
 
-    pub answered-found : (l : List Answered) → are_plain (entries l) ≡ true → are_answered l ≡ true → AreAnswered l
+    pub answered-found : (l : List Answered) → are_plain (entries l) ≡ true → are_answered l ≡ true → AreAnswered X l
     answered-found [] p h = tt
     answered-found (x ∷ l) p h =
         let i = x.entry.who in

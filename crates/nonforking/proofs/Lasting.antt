@@ -24,17 +24,17 @@ module _ (X : Members engine_behaviour) where
   earlier (e ∷ m) l r = earlier m l r.2
 
   -- every state that a run reaches is well formed
-  pub run-formed : (l : List Entry) → Run X l → (i : ℕ) → correct i ≡ true → well_formed (engine_after X l i).state (engine_after X l i).table ≡ true
-  run-formed l r i c = (run-good X l r i c).formed
+  pub run_formed : (l : List Entry) → Run X l → (i : ℕ) → correct i ≡ true → well_formed (engine_after X l i).state (engine_after X l i).table ≡ true
+  run_formed l r i c = (run-good X l r i c).formed
 
   -- the entries m follow the entries l
   module _ (m l : List Entry) (r : Run X (m ++ l)) (i : ℕ) (c : correct i ≡ true) where
     -- a block once made stays, with its number, its round and its certificates
-    pub block-kept : (n : ℕ) {b : Block Content} → block_numbered (chain (engine_after X l i)) n ≡ some b → block_numbered (chain (engine_after X (m ++ l) i)) n ≡ some b
-    block-kept n = agreement.block-kept (group X) m l (run-ruled X (m ++ l) r) i c n
+    pub block_kept : (n : ℕ) {b : Block Content} → block_numbered (chain (engine_after X l i)) n ≡ some b → block_numbered (chain (engine_after X (m ++ l) i)) n ≡ some b
+    block_kept n = agreement.block-kept (group X) m l (run-ruled X (m ++ l) r) i c n
 
     -- and as chains are listed: the later one lists the same blocks, with the same certificates in the same order, and perhaps more
-    pub chain-kept : Prefix (engine_after X l i) (engine_after X (m ++ l) i)
-    chain-kept =
+    pub chain_kept : Prefix (engine_after X l i) (engine_after X (m ++ l) i)
+    chain_kept =
         prefix-own (engine_after X l i) (engine_after X (m ++ l) i) (run-good X l (earlier m l r) i c) (run-good X (m ++ l) r i c)
         (lists-prefix (ordered settings) (agreement.chain-grows (group X) m l (run-ruled X (m ++ l) r) i c))

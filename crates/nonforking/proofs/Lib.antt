@@ -1,4 +1,4 @@
--- Demand 3
+-- Chains never fork
 pub mod Implemented
 pub mod StartLaws
 pub mod RunLaws

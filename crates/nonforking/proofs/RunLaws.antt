@@ -29,11 +29,12 @@ use Rattle.engine.proofs.RuledLaws.{good-after}
 use Rattle.nonforking.specs.Statement.{chain, Prefix, draft, Members, Entry, Takes, certifies, accepts, Proposes, proposes, draws, Endorses, endorses, engine_after, Made, Signed, Fair, WithinBound, Run, engine_behaviour}
 use Rattle.nonforking.proofs.Implemented.{Handed}
 use Rattle.nonforking.proofs.StartLaws.{starts, group}
+use Rattle.state.specs.States.{own_body}
 
 -- ---- one call
 
 -- an accepted certify has a proposal
-pub proposal-there : (e : Engine) (d : ℕ) → refusal_for e (certify d) ≡ 0 → own_proposal e.state ≡ some (draft e e.state.body)
+pub proposal-there : (e : Engine) (d : ℕ) → refusal_for e (certify d) ≡ 0 → own_proposal e.state ≡ some (draft e (own_body e.state))
 proposal-there e d a = proposal-some e.state (certify-passed e.state e.table d a).proposing
 
 module _ (S : Settings) (e : Engine) where

@@ -8,8 +8,8 @@ use Rattle.store.proofs.TableLaws.{held-member}
 use Rattle.store.proofs.RecordLaws.{proposal-content}
 use Rattle.terms.specs.declared.sheet.Settings.{Settings}
 use Rattle.state.proofs.FormedLaws.{formed, formed-ports}
-use Rattle.reads.specs.declared.CertificateRead.{CertificateRead}
-use Rattle.reads.proofs.CertificateReadLaws.{HeldThere, certificate-accepted, certificate-given}
+use Rattle.reads.specs.declared.Held.{Held}
+use Rattle.reads.proofs.CertificateReadLaws.{HeldThere, certificate-accepted, held-told}
 use Rattle.engine.specs.Calls.{Call, InRange}
 use Rattle.engine.specs.Engine.{Engine, after}
 use Rattle.engine.specs.Sequences.{after_calls, AllInRange, NoOpen, Opening, after_opening}
@@ -17,7 +17,7 @@ use Rattle.engine.specs.Reached.{Good}
 use Rattle.engine.proofs.RuledLaws.{good-after}
 use Rattle.engine.proofs.ReachedLaws.{intact, reached}
 use Rattle.nonforking.specs.Stored.{Holds, Stored, Shows, StoredShown}
-use Rattle.nonforking.proofs.StoredLaws.{taking_no_open, taken-fits, stored-held}
+use Rattle.nonforking.proofs.StoredLaws.{taking_no_open, taken-fits, stored_held}
 
 -- ---- one state
 
@@ -25,11 +25,11 @@ use Rattle.nonforking.proofs.StoredLaws.{taking_no_open, taken-fits, stored-held
 held-shown : (e : Engine) (a r : ℕ) (p : Content) (d : ℕ) → Holds e.table a r p d → HeldThere e.state e.table a r → Shows e a r p d
 held-shown e a r p d h k =
     let t = e.table in
-    let q = sym (certificate-given e.state t a r refl (certificate-accepted e.state t k) refl refl refl) in
+    let q = sym (held-told e.state t a r k.well k.from k.to k.held refl refl refl) in
     record {
-      accepted = ap (λ (z : CertificateRead). z.answer) q;
-      proposal = ap (λ (z : CertificateRead). content_of z.proposal) q ∙ proposal-content t a r refl ∙ h.proposal;
-      endorsers = ap (λ (z : CertificateRead). z.endorsers) q ∙ h.endorsers;
+      accepted = certificate-accepted e.state t k;
+      proposal = ap (λ (z : Held). content_of z.proposal) q ∙ proposal-content t a r refl ∙ h.proposal;
+      endorsers = ap (λ (z : Held). z.endorsers) q ∙ h.endorsers;
     }
 
 -- ---- rounds
@@ -54,10 +54,10 @@ stored-round x [] i p d y = elim y [ ]
 
 -- ---- lists of calls
 
-pub stored-shown : StoredShown
-stored-shown x l i p d k =
+pub stored_shown : StoredShown
+stored_shown x l i p d k =
     let e = after_calls (after_opening x) l in
-    let h = stored-held x l i p d k in
+    let h = stored_held x l i p d k in
     let r = stored-round x l i p d k in
     held-shown e p.author p.round p d h
     (record {

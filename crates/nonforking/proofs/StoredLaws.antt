@@ -220,16 +220,16 @@ module _ (e : Engine) where
 
 -- ---- lists of calls
 
-pub certificate-stays : CertificateStays
+pub certificate_stays : CertificateStays
 unfolding after_calls
-certificate-stays e [] o a r p d x = x
-certificate-stays e (c ∷ l) o a r p d x = holds_after (after_calls e l) a r p d (certificate-stays e l o.1 a r p d x) c o.0
+certificate_stays e [] o a r p d x = x
+certificate_stays e (c ∷ l) o a r p d x = holds_after (after_calls e l) a r p d (certificate_stays e l o.1 a r p d x) c o.0
 
-pub stored-held : StoredHeld
+pub stored_held : StoredHeld
 unfolding after_calls
-stored-held x (c ∷ l) i p d (inl k) = taken (after_calls (after_opening x) l) (intact (reached x l i.1)).good c i.0 k.0 p d k.1
-stored-held x (c ∷ l) i p d (inr k) = holds_after (after_calls (after_opening x) l) p.author p.round p d (stored-held x l i.1 p d k.1) c k.0
-stored-held x [] i p d y = elim y [ ]
+stored_held x (c ∷ l) i p d (inl k) = taken (after_calls (after_opening x) l) (intact (reached x l i.1)).good c i.0 k.0 p d k.1
+stored_held x (c ∷ l) i p d (inr k) = holds_after (after_calls (after_opening x) l) p.author p.round p d (stored_held x l i.1 p d k.1) c k.0
+stored_held x [] i p d y = elim y [ ]
 
 -- after an accepted open nothing is
 nothing-held : (e : Engine) (own : Member) (sheet : Sheet) → refusal_for e (opens own sheet) ≡ 0 → (a r : ℕ) → r ≤ (after e (opens own sheet)).state.settings.ceiling.0 → held_at (after e (opens own sheet)).table a r ≡ true → ⊥
@@ -270,7 +270,7 @@ stored-by x c l i a r p d to h older = by (ℕ_discrete (refusal_for e c) 0)
     by (yes n) = accepted n (subst (λ (z : Engine). Holds z.table a r p d) (accepted-new e c n) h) (stores e c n)
     by (no n) = before (λ own sheet q. n) (subst (λ (z : Engine). Holds z.table a r p d) (refused-same e c n) h)
 
-pub held-stored : HeldStored
+pub held_stored : HeldStored
 unfolding after_calls
-held-stored x [] i a r p d to h = absurd (nothing-held x.before x.own x.sheet x.accepted a r to h.held)
-held-stored x (c ∷ l) i a r p d to h = stored-by x c l i a r p d to h (λ at y. held-stored x l i.1 a r p d at y)
+held_stored x [] i a r p d to h = absurd (nothing-held x.before x.own x.sheet x.accepted a r to h.held)
+held_stored x (c ∷ l) i a r p d to h = stored-by x c l i a r p d to h (λ at y. held_stored x l i.1 a r p d at y)

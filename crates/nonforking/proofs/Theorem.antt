@@ -1,4 +1,4 @@
--- Demand 3, proved: in every run the chains of correct members never fork, and committees are alike.
+-- Proved: in every run the chains of correct members never fork, and committees are alike.
 use mathlib.Core.Path.{◌≡◌, sym, subst₂}
 use mathlib.Core.Bool.{true}
 use mathlib.Core.List.{List}
@@ -10,7 +10,7 @@ use Rattle.terms.specs.Ranges.{weight_in}
 use Rattle.committee.specs.Committees.{committee_of, ordered, known_by}
 use Rattle.rules.proofs.Runs as runs
 use Rattle.rules.proofs.RunAgreement.{runs_agree}
-use Rattle.nonforking.specs.Statement.{chain, Prefix, Knows, weights, Members, Entry, engine_after, Run, Agreed, engine_behaviour, DemandThree}
+use Rattle.nonforking.specs.Statement.{chain, Prefix, Knows, weights, Members, Entry, engine_after, Run, engine_behaviour, ChainsNeverFork}
 use Rattle.nonforking.proofs.StartLaws.{group}
 use Rattle.nonforking.proofs.RunLaws.{prefix-own, run-good, run-ruled}
 
@@ -36,6 +36,6 @@ module _ (X : Members engine_behaviour) (l : List Entry) (r : Run X l) where
       subst₂ (λ (S T : Settings). known_by S x q ≡ true → known_by T y q ≡ true → (m : ℕ) → weight_in (committee_of S x q) m ≡ weight_in (committee_of T y q) m)
       (sym (run-good X l r i ci).settings) (sym (run-good X l r j cj).settings) (agreed.committees i j q ci cj)
 
--- demand 3
-pub demand_3 : DemandThree
-demand_3 X l r = record { chains = chains-agree X l r; committees = committees-agree X l r }
+-- the claim
+pub chains_never_fork : ChainsNeverFork
+chains_never_fork X l r = record { chains = chains-agree X l r; committees = committees-agree X l r }

@@ -1,4 +1,4 @@
--- Demand 3, the scope document's section "Runs": what is claimed of every list of calls.
+-- What is claimed of every list of calls: chains never fork (docs/RULES.md, "What is claimed of runs").
 use Rattle.std.specs.Prelude.{◌≡◌, Bool, true, List, [], ◌∷◌, ◌++◌, ◌⊎◌, ◌≢◌, ℕ, ◌≤◌}
 use Rattle.base.specs.Sets.{is_in}
 use Rattle.agreement.specs.Weights.{weigh, total, outside}
@@ -21,6 +21,7 @@ use Rattle.draw.specs.Draw.{drawn_body}
 use Rattle.engine.specs.Calls.{Call, opens, propose, endorse, certify, accept, draw, InRange}
 use Rattle.engine.specs.Engine as engine
 use Rattle.engine.specs.Engine.{Engine, refusal_for}
+use Rattle.state.specs.States.{own_body}
 
 -- ---- what an engine shows
 
@@ -73,7 +74,7 @@ Entry = entries.Entry Call
 
 -- the certificate that a certify makes or an accept hands in: its proposal and its endorsers
 pub data Takes (e : Engine) : Call → Content → ℕ → Type 0 where
-  certifies : (d : ℕ) → Takes e (certify d) (draft e e.state.body) d
+  certifies : (d : ℕ) → Takes e (certify d) (draft e (own_body e.state)) d
   accepts : (c : Certificate) → Takes e (accept c) (content_of c.proposal) c.endorsers
 
 -- the call is a propose of p: of a body that is handed in, or of what is drawn from guests' queues
@@ -135,6 +136,6 @@ module _ {B : Behaviour} (X : Members B) where
 abbrev pub engine_behaviour : Behaviour
 engine_behaviour = record { refusal = refusal_for; after = engine.after }
 
--- demand 3
-abbrev pub DemandThree : Type 0
-DemandThree = (X : Members engine_behaviour) (l : List Entry) → Run X l → Agreed X l
+-- the claim
+abbrev pub ChainsNeverFork : Type 0
+ChainsNeverFork = (X : Members engine_behaviour) (l : List Entry) → Run X l → Agreed X l

@@ -2,8 +2,8 @@
 use Rattle.std.specs.Prelude.{◌≡◌, true, List, [], ◌∷◌, ◌⊎◌, ℕ, ◌<◌, ◌≤◌}
 use Rattle.terms.specs.Proposals.{Content, content_of}
 use Rattle.store.specs.Table.{held_at, endorsers_at, content_at}
-use Rattle.state.specs.declared.checks.Answer.TheVariants.{Accepted}
-use Rattle.reads.specs.CertificateReads.{certificate_answer}
+use Rattle.reads.specs.Reads.{certificate_refusal}
+use Rattle.reads.specs.Held.{certificate_read}
 use Rattle.engine.specs.Calls.{Call}
 use Rattle.engine.specs.Engine.{Engine, refusal_for}
 use Rattle.engine.specs.Sequences.{after_calls, AllInRange, NoOpen, NoOpens, Opening, after_opening}
@@ -23,9 +23,9 @@ Stored e (c ∷ l) p d = ((refusal_for (after_calls e l) c ≡ 0) × Takes (afte
 
 -- the certificate read of author a and round r is accepted, and gives the proposal p and the endorsers d
 pub record Shows (e : Engine) (a r : ℕ) (p : Content) (d : ℕ) : Type 0 where
-  pub accepted : (certificate_answer e.state e.table a r).answer ≡ Accepted
-  pub proposal : content_of (certificate_answer e.state e.table a r).proposal ≡ p
-  pub endorsers : (certificate_answer e.state e.table a r).endorsers ≡ d
+  pub accepted : certificate_refusal e.state e.table a r ≡ 0
+  pub proposal : content_of (certificate_read e.state e.table a r).proposal ≡ p
+  pub endorsers : (certificate_read e.state e.table a r).endorsers ≡ d
 
 -- ---- what is claimed, of every list of calls
 

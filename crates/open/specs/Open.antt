@@ -1,5 +1,5 @@
 -- Open: its checks, and the fresh state and the cleared table of an accepted one.
-use Rattle.std.specs.Prelude.{false, List, [], ◌∷◌, ℕ, length, replicate, ltb}
+use Rattle.std.specs.Prelude.{None, List, [], ◌∷◌, ℕ, length, replicate, ltb}
 use Rattle.base.specs.Checks.{Checks, refusal}
 use Rattle.terms.specs.declared.Member.{Member}
 use Rattle.store.specs.Table.{used_length}
@@ -8,28 +8,26 @@ use Rattle.terms.specs.declared.sheet.Rights.{Rights}
 use Rattle.terms.specs.declared.sheet.Settings.{Settings}
 use Rattle.terms.specs.declared.sheet.Sheet.{Sheet}
 use Rattle.terms.specs.Sheets.{filled}
-use Rattle.terms.specs.Ranges.{out_of_range, weightless}
+use Rattle.terms.specs.Ranges.{weight, out_of_range, weightless}
 use Rattle.state.specs.declared.State.{State}
-use Rattle.state.specs.States.{fresh, no_body}
-use Rattle.state.specs.declared.checks.Outcome.{Outcome}
-use Rattle.state.specs.Answers.{if_accepted, outcome_of}
+use Rattle.state.specs.States.{fresh}
+use Rattle.state.specs.Answers.{if_accepted}
 
 -- the state before an open: it is not well formed
 abbrev pub closed_state : State
 closed_state =
     record {
       own = record { 0 = 0 };
-      settings = record { lookback = 0; ceiling = record { 0 = 0 }; allowance = 0; weights = replicate 16 0; margin = 0 };
+      settings = record { lookback = 0; ceiling = record { 0 = 0 }; allowance = 0; weights = replicate 16 (weight 0); margin = 0 };
       round = record { 0 = 0 };
-      proposing = false;
-      body = no_body;
+      proposal = None;
       blocks = 0;
       rights = record { 0 = 0 };
     }
 
 -- a fresh state has round 1 and nothing else, beside the rights
 abbrev pub fresh_state : Member → Settings → Rights → State
-fresh_state own S R = fresh own S R no_body
+fresh_state own S R = fresh own S R
 
 -- 4 member above 15; 2 setting out of range; 3 no positive weight; 1 lent table too short
 abbrev pub opening : List ℕ → Member → Settings → Checks
@@ -39,8 +37,8 @@ unfoldable pub open_refusal : List ℕ → Member → Settings → ℕ
 open_refusal t own S = refusal (opening t own S)
 
 -- of a sheet only its filled settings and the rights are seen
-unfoldable pub open_outcome : State → List ℕ → Member → Sheet → Outcome
-open_outcome s t own sheet = outcome_of (open_refusal t own (filled sheet)) (fresh_state own (filled sheet) sheet.rights) s
+unfoldable pub open_state : State → List ℕ → Member → Sheet → State
+open_state s t own sheet = if_accepted (open_refusal t own (filled sheet)) (fresh_state own (filled sheet) sheet.rights) s
 
 unfoldable pub open_table : List ℕ → Member → Sheet → List ℕ
 open_table t own sheet = if_accepted (open_refusal t own (filled sheet)) (clear_used t (filled sheet).ceiling.0) t

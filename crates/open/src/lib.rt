@@ -1,19 +1,24 @@
-// Open: a fresh state, and the used part of the table cleared (scope document: Calls, in the order of their checks).
+//! Open: a fresh state, and the used table cleared.
+//!
+//! Refused, nothing changes; accepted, the state is fresh by the filled sheet, and every word that it uses of the table is 0 (specs/Open). docs/RULES.md, "Open".
 #![tactic(auto)]
 
-ghost use Rattle.std.specs.Prelude.{◌≡◌};
-ghost use Rattle.terms.specs.Sheets.{filled};
-ghost use Rattle.state.specs.Answers.{WritingCallAnswered};
-ghost use Rattle.open.specs.Open.{closed_state, fresh_state, open_refusal, open_outcome, open_table};
+pub mod theorems;
 
+ghost use Rattle.std.specs.Prelude.{◌≡◌, OnOk};
+ghost use Rattle.store.specs.Table.{Row};
+ghost use Rattle.terms.specs.Sheets.{filled};
+ghost use Rattle.refusals.specs.Refusals.{refusal_in};
+ghost use Rattle.open.specs.Open.{closed_state, fresh_state, open_refusal, open_state, open_table};
+
+use refusals::Refusal;
 use state::State;
-use state::checks::{Answer, Outcome};
 use store::clearing;
 use store::lengths::ROW;
-use terms::sheet::{Rights, Settings, Sheet};
+use terms::sheet::{Rights, Settings, Sheet, Weight};
 use terms::{Member, Round, sheet};
 
-// The state before an open: it is not well formed, so every call but open answers 1.
+/// The state before an open: it is not well formed, so every call but open answers 1.
 pub fn closed() -> State
     ensures { result ≡ closed_state }
 {
@@ -23,12 +28,11 @@ pub fn closed() -> State
             lookback: 0,
             ceiling: Round(0),
             allowance: 0,
-            weights: [0u64; 16],
+            weights: [Weight(0); 16],
             margin: 0,
         },
         round: Round(0),
-        proposing: false,
-        body: terms::bare_body(0),
+        proposal: None,
         blocks: 0,
         rights: Rights(0),
     }
@@ -42,47 +46,43 @@ fn fresh(own: Member, settings: Settings, rights: Rights) -> State
         own,
         settings,
         round: Round(1),
-        proposing: false,
-        body: terms::bare_body(0),
+        proposal: None,
         blocks: 0,
         rights,
     }
 }
 
-// The number of the first check that refuses, 0 for none: 4 member above 15; 2 setting out of range; 3 no positive weight; 1 lent table too short.
-pub fn open_refusal(t: &[u32], own: Member, settings: Settings) -> u32
-    ensures { result ≡ open_refusal t.now own settings }
+// The checks: 4 member above 15; 2 setting out of range; 3 no positive weight; 1 lent table too short.
+#[tactic(auto, unfolding(base::specs::Checks::refusal, crate::specs::Open::open_refusal))]
+fn check(t: &[u32], own: Member, settings: Settings) -> Result<(), Refusal>
+    ensures refusal { refusal_in result ≡ open_refusal t.now own settings }
+    ensures room { OnOk result (Row t.now settings.ceiling.0) }
 {
     if 15 < own.0 {
-        return 4;
+        return Err(Refusal::NoSuchMember);
     }
     if sheet::is_out_of_range(settings) {
-        return 2;
+        return Err(Refusal::SettingOutOfRange);
     }
     if sheet::is_weightless(settings) {
-        return 3;
+        return Err(Refusal::NoWeight);
     }
     if t.len() < settings.ceiling.0 as usize * ROW + ROW {
-        return 1;
+        return Err(Refusal::Malformed);
     }
-    0
+    Ok(())
 }
 
-// Opens the engine of a member; a refused open leaves the state s and the table as they were.
-pub fn open(s: State, t: &mut [u32], own: Member, written: Sheet) -> Outcome
-    ensures { WritingCallAnswered (open_outcome s t.old own written) (open_table t.old own written) (open_refusal t.old own (filled written)) result t.new }
+/// Opens the engine of a member; a refused open leaves the state and the table as they were.
+#[tactic(auto, unfolding(state::specs::Answers::if_accepted, crate::specs::Open::open_state, crate::specs::Open::open_table))]
+pub fn open(s: &mut State, t: &mut [u32], own: Member, written: Sheet) -> Result<(), Refusal>
+    ensures refusal { refusal_in result ≡ open_refusal t.old own (filled written) }
+    ensures state { s.new ≡ open_state s.old t.old own written }
+    ensures table { t.new ≡ open_table t.old own written }
 {
     let settings = sheet::fill(written);
-    let n = open_refusal(t, own, settings);
-    if n != 0 {
-        return Outcome {
-            state: s,
-            answer: Answer::Refused(n),
-        };
-    }
+    check(t, own, settings)?;
     clearing::clear_used(t, settings.ceiling);
-    Outcome {
-        state: fresh(own, settings, written.rights),
-        answer: Answer::Accepted,
-    }
+    *s = fresh(own, settings, written.rights);
+    Ok(())
 }

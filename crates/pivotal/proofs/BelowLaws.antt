@@ -23,7 +23,7 @@ use Rattle.engine.specs.Engine.{Engine, after}
 use Rattle.engine.specs.Steps.{FreshlyOpened, Step, refused, opened, moved, view_at, ruled}
 use Rattle.engine.specs.Reached.{Reached, Intact}
 use Rattle.engine.proofs.ReachedLaws.{opened-fresh, always}
-use Rattle.engine.proofs.StepLaws.{every-step}
+use Rattle.engine.proofs.StepLaws.{every_step}
 
 abbrev pub Below : {P : Type 0} → Chain P → Type 0
 Below [] = Unit {0}
@@ -85,7 +85,7 @@ fresh-below : {own : Member} {sheet : Sheet} {e x : Engine} → FreshlyOpened ow
 fresh-below f = chain_by _ _ _ f.shows tt
 
 call_below : (e : Engine) → Intact e → (c : Call) → InRange c → Below (chain_in e) → Below (chain_in (after e c))
-call_below e r c i b = go (every-step e r.good.small c i)
+call_below e r c i b = go (every_step e r.good.small c i)
   where
     go : Step e c → Below (chain_in (after e c))
     go (refused n h) = subst (λ (x : Engine). Below (chain_in x)) (sym h) b

@@ -2,8 +2,8 @@
 use mathlib.Core.Path.{◌≡◌, refl, sym, ap, ap₂, ◌∙◌}
 use mathlib.Core.Bool.{Bool, true, false, not, cond, ◌&&◌, true≢false}
 use mathlib.Core.List.{List, [], ◌∷◌, ◌++◌}
-use mathlib.Core.Logic.{inl, inr, ◌≢◌}
-use Prim.Native.Nat.{ℕ, zero, suc, ◌+◌, ◌-◌, ◌<◌, ◌≤◌}
+use mathlib.Core.Logic.{inl, inr}
+use Prim.Native.Nat.{ℕ, zero, suc, ◌-◌, ◌<◌, ◌≤◌}
 use native.Mathlib.Decide.{dec_lt, ℕ_discrete}
 use native.Mathlib.Omega.{arith}
 use lib.Dec.{eqb, leb, ltb}
@@ -14,6 +14,7 @@ use Rattle.agreement.specs.Anchors.{votes}
 use Rattle.terms.specs.Proposals.{Content}
 use Rattle.store.specs.Table.{held_at, content_at}
 use Rattle.store.proofs.TableLaws.{held_in, content-author, content-round}
+use Rattle.terms.specs.declared.sheet.Weight.{Weight}
 use Rattle.terms.specs.Ranges.{weight_in}
 use Rattle.committee.specs.Chain.{chain_of}
 use Rattle.committee.specs.Committees.{bound_of}
@@ -60,7 +61,7 @@ module _ (s : State) (t : List ℕ) (y : Accepted s t) (b : Below (chain_of s.se
   abbrev lead : ℕ
   lead = leader_on s t (r - 1)
 
-  abbrev w : List ℕ
+  abbrev w : List Weight
   w = committee_on s t r
 
   abbrev x : Content
@@ -154,7 +155,7 @@ module _ (s : State) (t : List ℕ) (y : Accepted s t) (b : Below (chain_of s.se
   unfolding critical_places
   hangs = rw (row_before 16 (omega arith), row_now 16 (omega arith), lt-ltb lead 16 (leader-low weighs), content-round t lead (r - 1), content-author t lead (r - 1)) refl
 
-pub commits_hang_on-pivots : CommitsHangOnPivots
-commits_hang_on-pivots e h a =
+pub commits_hang_on_pivots : CommitsHangOnPivots
+commits_hang_on_pivots e h a =
     let y = accepted e.state e.table a in
     record { anchor = _; is-anchor = anchor-led _ _ y.formed y.timely.from y.led; exactly = hangs e.state e.table y (reached-below h) }

@@ -19,8 +19,8 @@ use Rattle.engine.specs.Calls.{commit, critical, aside}
 use Rattle.engine.specs.Engine.{refusal_for}
 use Rattle.pivotal.specs.Pivotal.{AbsentAsCommit, CriticalRefusedAsCommit, RoomForCritical}
 
-pub critical-refused_as_commit : CriticalRefusedAsCommit
-critical-refused_as_commit e words h = go (well_formed e.state e.table) refl
+pub critical_refused_as_commit : CriticalRefusedAsCommit
+critical_refused_as_commit e words h = go (well_formed e.state e.table) refl
   where
     go : (b : Bool) → well_formed e.state e.table ≡ b → refusal_for e (aside (critical words)) ≡ refusal_for e commit
     go true f = passes 1 (reading_critical e.state e.table words) (rw f refl) ∙ passes 25 _ (le-ltb (words / 2) 32 h) ∙ sym (refusal-by e.state e.table f)

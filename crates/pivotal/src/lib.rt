@@ -1,2 +1,6 @@
-// In every engine that calls lead to from an accepted open, a commit hangs on its anchor and on each vote without which the others weigh not more than the bound, and on nothing else. No code (change request: Point 10).
+//! A commit hangs on its anchor and on decisive votes.
+//!
+//! Theorems, no code. In every engine that calls lead to from an accepted open: on the anchor, on each vote without which the others weigh not more than the bound, and on nothing else (specs/Pivotal). docs/RULES.md, "What a commit hangs on".
 #![tactic(auto)]
+
+pub mod theorems;

@@ -77,7 +77,7 @@ module _ (S : Settings) (t : List ℕ) (blocks : ℕ) where
       go true e = (refl, some-injective v (line_at t (q % 16) (q / 16)) (sym h ∙ line-listed q e))
       go false e = absurd (none-ne-some v (sym (line-unlisted q e) ∙ h))
 
-  -- past the end or not, where something was read: the paper's words, and the test
+  -- past the end or not, where something was read: the rules' words, and the test
   read_fits : (p j : ℕ) → leb (read_to (placed_lines S t blocks) p j) (length (listing_of S t blocks)) ≡ (is_listed t n blocks p && in_line j (length (line_at t (p % 16) (p / 16))))
   read_fits p j = rw (← text-lines S (chain_of n t blocks)) (go (is_listed t n blocks p) refl)
     where

@@ -4,9 +4,9 @@ use Rattle.ports.specs.Uart.{values_at, after_read, after_write}
 use Rattle.ports.specs.Registers.{RegistersHold}
 
 -- the claim
-pub registers-hold : RegistersHold
+pub registers_hold : RegistersHold
 unfolding values_at after_read after_write
-registers-hold =
+registers_hold =
     record {
       shown = λ l p. record { line = refl; modem = refl; scratch = refl; enable = λ d. rw d refl; low = λ d. rw d refl; high = λ d. rw d refl };
       written = λ p b. record { enable = λ d. rw d refl; line = refl; modem = refl; scratch = refl; low = λ d. rw d refl; high = λ d. rw d refl };

@@ -1,4 +1,4 @@
--- The registers of a 16450 as a guest sees them, over a listing of bytes (change request: Point 14).
+-- The registers of a 16450 as a guest sees them, over a listing of bytes (docs/RULES.md, "Serial ports").
 use Rattle.std.specs.Prelude.{Bool, cond, not, ◌&&◌, List, [], ◌∷◌, ℕ, suc, ◌%◌, eqb, leb, ltb, length, get_or}
 use Rattle.base.specs.Folds.{all_to}
 

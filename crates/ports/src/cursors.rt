@@ -1,4 +1,4 @@
-// Where a reader stands in the listing of a chain: the last byte that it has read, and the line after it (change request: Point 14).
+// Where a reader stands in the listing of a chain: the last byte that it has read, and the line after it (docs/RULES.md, "Serial ports").
 // A reader stands at a place, 16 r + m for the certificate of member m and round r, or at 0, before the first line.
 
 ghost use Rattle.std.specs.Prelude.{◌≡◌, true, false, List, ◌≢◌, ℕ, ◌+◌, ◌*◌, ◌/◌, ◌%◌, ◌<◌, ◌≤◌, length, get_or};

@@ -1,8 +1,11 @@
-// Guests' serial ports in the table: when their words are well formed (change request: Point 14).
+//! Guests' serial ports over the listing of a chain.
+//!
+//! Eight byte registers for each of eight guests: what each offset shows, what a read takes, what a write and a reset leave (specs/Uart, over a listing; specs/Ports, in the table). Where a port stands is the last byte that it has read (specs/Cursors); the next one is found without the listing being made (specs/Next). A port that has read past the listing's end is not well formed. docs/RULES.md, "Serial ports".
 #![tactic(auto)]
 
 pub mod cursors;
 pub mod registers;
+pub mod theorems;
 
 ghost use Rattle.std.specs.Prelude.{◌≡◌, true, not, ◌+◌, ◌/◌, ◌%◌, ◌<◌, ◌≤◌, leb, get_or};
 ghost use Rattle.base.specs.Folds.{all_to};

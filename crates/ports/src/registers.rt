@@ -1,4 +1,4 @@
-// The registers of guests' serial ports, eight bytes of the 16450 each, over the listing of the chain: reads, writes, resets (change request: Point 14).
+// The registers of guests' serial ports, eight bytes of the 16450 each, over the listing of the chain: reads, writes, resets (docs/RULES.md, "Serial ports").
 
 ghost use Rattle.std.specs.Prelude.{◌≡◌, true, cond, not, ◌&&◌, ◌≢◌, ℕ, ◌+◌, ◌/◌, ◌%◌, ◌<◌, eqb, leb, ltb, length, get_or, set, replicate};
 ghost use Rattle.std.proofs.Math.Seq.{paste};

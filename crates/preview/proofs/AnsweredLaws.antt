@@ -1,4 +1,4 @@
--- What a preview answers and leaves in the list, where it is refused and where it is accepted.
+-- What an accepted preview answers and leaves in the list.
 use mathlib.Core.Path.{◌≡◌, sym, ap, ◌∙◌}
 use mathlib.Core.List.{List}
 use mathlib.Core.Logic.{◌≢◌}
@@ -11,22 +11,13 @@ use Rattle.blocks.specs.Anchors.{taken_leaders}
 use Rattle.state.specs.declared.State.{State}
 use Rattle.votes.specs.Checks.{leaders_for}
 use Rattle.prospects.specs.Prospects.{words_after}
-use Rattle.state.specs.declared.checks.Listed.TheVariants.{Count, Refused}
-use Rattle.state.proofs.AnswerLaws.{listed-count, listed-refused}
 use Rattle.preview.specs.Entries.{words_of}
-use Rattle.preview.specs.Preview.{preview_refusal, preview_entries}
-use Rattle.preview.specs.Answers.{preview_answer, Previews}
+use Rattle.preview.specs.Preview.{preview_refusal, preview_entries, preview_list}
 use Rattle.preview.proofs.EntryLaws.{words-length}
 use Rattle.preview.proofs.PreviewLaws.{words-listed, words-room}
-use Rattle.preview.proofs.RefusalLaws.{preview-passed, list_refused, list_accepted, list_room}
+use Rattle.preview.proofs.RefusalLaws.{preview-passed, list_accepted, list_room}
 
 module _ (s : State) (t list : List ℕ) where
-  pub previews_refused : (n : ℕ) → n ≡ preview_refusal s t (length list) → n ≢ 0 → Previews s t list (Refused n) list
-  unfolding preview_answer
-  previews_refused n e h =
-      let z : preview_refusal s t (length list) ≢ 0 = λ q. h (e ∙ q) in
-      record { answer = rw e (sym (listed-refused _ _ z)); entries = sym (list_refused s t list z) }
-
   -- m is the last block's round, and l has the leaders that are taken
   module _ (ok : preview_refusal s t (length list) ≡ 0) (m : ℕ) (i : m ≡ last_round t s.blocks) (l : List ℕ) (j : l ≡ taken_leaders t m (s.round.0 - 1) (leaders_for s t)) where
     abbrev words : List ℕ
@@ -46,8 +37,10 @@ module _ (s : State) (t list : List ℕ) where
     pub words-few : length words ≤ 3 * (16 * s.settings.ceiling.0)
     words-few = rw same (words-room s t (preview-passed s t (length list) ok).1)
 
-    pub previews_listed : (list' : List ℕ) (n : ℕ) → Puts list list' 0 n words (length words) → Previews s t list (Count (n / 3)) list'
-    unfolding preview_answer
-    previews_listed list' n p =
-        let e : n / 3 ≡ length (preview_entries s t) = omega (arith, counted, p.past) in
-        record { answer = rw e (sym (listed-count _ _ ok)); entries = p.bytes ∙ sym (rw (sym i, sym j) at (list_accepted s t list ok)) }
+    -- what is answered and listed
+    module _ (list' : List ℕ) (n : ℕ) (p : Puts list list' 0 n words (length words)) where
+      pub told-number : n / 3 ≡ length (preview_entries s t)
+      told-number = omega (arith, counted, p.past)
+
+      pub told-list : list' ≡ preview_list s t list
+      told-list = p.bytes ∙ sym (rw (sym i, sym j) at (list_accepted s t list ok))

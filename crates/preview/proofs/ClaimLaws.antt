@@ -19,8 +19,8 @@ refused_as_commit s t words h = go (well_formed s t) refl
     go true e = preview-rest s t words e h
     go false e = preview-unread s t words e ∙ sym (number-unread s t e)
 
-pub entries-beyond : EntriesBeyond
-entries-beyond s t ok = ruled_previewed s t ok
+pub entries_beyond : EntriesBeyond
+entries_beyond s t ok = ruled_previewed s t ok
 
 pub room_for_all : RoomForAll
 room_for_all s t ok = omega (arith, words-length (preview_entries s t), words-room s t ok)

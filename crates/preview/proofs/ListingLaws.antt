@@ -12,8 +12,8 @@ use Rattle.committee.specs.Committees.{ordered}
 use Rattle.committee.proofs.ChainLaws.{chain_more}
 use Rattle.rules.specs.Tests.{MemberView}
 use Rattle.state.specs.declared.State.{State}
-use Rattle.commit.specs.Commit.{commit_refusal, commit_outcome, commit_table_after, ruled_view}
-use Rattle.commit.proofs.RuledLaws.{rules_give}
+use Rattle.commit.specs.Commit.{commit_refusal, commit_state, commit_table_after, ruled_view}
+use Rattle.commit.proofs.MadeLaws.{rules_give}
 use Rattle.preview.specs.Entries.{entries_of, entries_after}
 use Rattle.preview.specs.Preview.{preview_entries}
 use Rattle.preview.specs.Claims.{listed_entries, ListsBeyond}
@@ -59,14 +59,14 @@ module _ (S : Settings) (u : List ℕ) (k : ℕ) where
 
 -- an accepted commit's chain on the table
 pub chain_previewed : (s : State) (t : List ℕ) → commit_refusal s t ≡ 0
-    → let n = s.settings.ceiling.0 in ListsBeyond s.settings s.blocks (chain_of n t s.blocks) (chain_of n (commit_table_after s t) (commit_outcome s t).state.blocks) (preview_entries s t)
+    → let n = s.settings.ceiling.0 in ListsBeyond s.settings s.blocks (chain_of n t s.blocks) (chain_of n (commit_table_after s t) (commit_state s t).blocks) (preview_entries s t)
 unfolding preview_entries
 chain_previewed s t ok =
     let S = s.settings in
     let n = S.ceiling.0 in
     let k = s.blocks in
     let u = commit_table_after s t in
-    let c = (commit_outcome s t).state.blocks in
+    let c = (commit_state s t).blocks in
     let h : k ≤ c = blocks_grow s t ok in
     let e : k + (c - k) ≡ c = omega arith in
     record {

@@ -9,9 +9,8 @@ use Rattle.running.specs.BlockChanges.{last_round}
 use Rattle.blocks.specs.Anchors.{taken_leaders}
 use Rattle.state.specs.declared.State.{State}
 use Rattle.votes.specs.Checks.{leaders_for}
-use Rattle.commit.specs.Commit.{commit_refusal, blocks_then, committed_table, commit_outcome, commit_table_after}
-use Rattle.commit.specs.declared.Outcome.{Outcome}
-use Rattle.commit.proofs.AnswerLaws.{answers-accepted}
+use Rattle.commit.specs.Commit.{commit_refusal, blocks_then, committed_table, commit_state, commit_table_after}
+use Rattle.commit.proofs.MadeLaws.{state-then, table-then}
 use Rattle.commit.proofs.PreservedLaws.{blocks-added}
 use Rattle.prospects.specs.Prospects.{words_after}
 use Rattle.preview.specs.Entries.{entries_after, words_of}
@@ -38,8 +37,7 @@ module _ (s : State) (t : List ℕ) (ok : commit_refusal s t ≡ 0) where
   entries-then : preview_entries s t ≡ entries_after s.settings (committed_table s t) k (blocks_then s t - k)
   unfolding preview_entries
   entries-then =
-      let a = answers-accepted s t ok in
-      sym (ap₂ (λ (o : Outcome) (u : List ℕ). entries_after s.settings u k (o.state.blocks - k)) a.0 a.1)
+      sym (ap₂ (λ (x : State) (u : List ℕ). entries_after s.settings u k (x.blocks - k)) (sym (state-then s t ok)) (sym (table-then s t ok)))
 
   -- what the table tells after the commit
   told : Told s.settings t (leaders_for s t) m top k top (blocks_then s t) (committed_table s t)
@@ -60,11 +58,10 @@ module _ (s : State) (t : List ℕ) (ok : commit_refusal s t ≡ 0) where
       rw words-listed (omega arith)
 
   -- blocks are only added, and those that were there stay
-  pub blocks_grow : k ≤ (commit_outcome s t).state.blocks
+  pub blocks_grow : k ≤ (commit_state s t).blocks
   blocks_grow =
-      let a = answers-accepted s t ok in
       let b = blocks-added s t ok in
-      rw (← a.0) (omega arith)
+      rw (state-then s t ok) (omega arith)
 
   pub chain-before : chain_of s.settings.ceiling.0 (commit_table_after s t) k ≡ chain_of s.settings.ceiling.0 t k
-  chain-before = let a = answers-accepted s t ok in rw (← a.1) told.before
+  chain-before = rw (table-then s t ok) told.before

@@ -9,6 +9,7 @@ use lib.Dec.{ltb}
 use lib.ListN.{length}
 use lib.Seq.{sets}
 use borrow.Author.Tests.{lt-ltb, le-ltb, ltb-false, eq-eqb, ne_eqb}
+use Rattle.base.specs.Checks.{refusal}
 use Rattle.base.proofs.CheckLaws.{refuses, passes, cleared}
 use Rattle.running.specs.BlockChanges.{last_round}
 use Rattle.blocks.specs.Anchors.{taken_leaders}
@@ -33,10 +34,6 @@ module _ (s : State) (t : List ℕ) where
     unfolding preview_refusal
     preview-unread e = refuses 1 (previewing s t words) (rw e refl)
 
-    pub preview-short : well_formed s t ≡ true → words / 3 < 16 * s.settings.ceiling.0 → preview_refusal s t words ≡ 25
-    unfolding preview_refusal
-    preview-short e h = passes 1 (previewing s t words) (rw e refl) ∙ refuses 25 _ (lt-ltb (words / 3) (16 * s.settings.ceiling.0) h)
-
     -- with room enough the checks are those of the commit
     pub preview-rest : well_formed s t ≡ true → 16 * s.settings.ceiling.0 ≤ words / 3 → preview_refusal s t words ≡ commit_refusal s t
     unfolding preview_refusal
@@ -54,12 +51,12 @@ module _ (s : State) (t : List ℕ) where
       let q = cleared (ltb (words / 3) n) 25 l (omega arith) p.1 in
       (ltb-false (words / 3) n q.0, passes 1 l p.0 ∙ q.1)
 
-  module _ (list : List ℕ) where
-    -- a refused preview leaves the list
-    pub list_refused : preview_refusal s t (length list) ≢ 0 → preview_list s t list ≡ list
-    unfolding preview_list if_accepted
-    list_refused h = rw (ne_eqb (preview_refusal s t (length list)) 0 h) refl
+  -- by the checks of a well-formed state
+  pub preview-none : (words : ℕ) → well_formed s t ≡ true → 0 ≡ refusal (previewing s t words) → preview_refusal s t words ≡ 0
+  unfolding preview_refusal
+  preview-none words e z = passes 1 (previewing s t words) (rw e refl) ∙ sym z
 
+  module _ (list : List ℕ) where
     module _ (ok : preview_refusal s t (length list) ≡ 0) where
       abbrev words : List ℕ
       words =

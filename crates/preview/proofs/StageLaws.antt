@@ -31,6 +31,7 @@ use Rattle.prospects.proofs.RowLaws.{rows_same, rows-to}
 use Rattle.preview.proofs.EntryLaws.{words_append, words-empty, rows_words}
 use Rattle.preview.proofs.BlockLaws.{committee-more, block-placed, chain-old, block_new, entries-old}
 use Rattle.prospects.proofs.ProspectLaws.{reach_none, count_none, words-none, reach_led, count-led, words-led, reach_passed, count-passed, words-passed}
+use Rattle.terms.specs.declared.sheet.Weight.{Weight}
 
 -- what is free after a block: what was free and is not in its history
 free-then : (c : ℕ) (h : Bool) (x : ℕ) → eqb (new_mark (suc c) h x) 0 ≡ (eqb x 0 && not h)
@@ -174,7 +175,7 @@ module _ (S : Settings) (t l : List ℕ) (m top k : ℕ) where
       order : ordered S b (chain_of n v c) ≡ rows b a n
       order =
           ordered-by S b (chain_of n v c) (suc r) a its-round
-          (ap (λ (w : List ℕ). leader_by w (suc r)) (ap (λ (e : Chain Content). committee_of S e (suc r)) (chain-old n c a (suc r) u row c (omega arith)) ∙ d.committees (suc r) h)
+          (ap (λ (w : List Weight). leader_by w (suc r)) (ap (λ (e : Chain Content). committee_of S e (suc r)) (chain-old n c a (suc r) u row c (omega arith)) ∙ d.committees (suc r) h)
           ∙ W.led (suc r) (omega (arith, s.from)) h low)
 
       block_words_lem : words_of (block_entries S v c) ≡ block_words t f (c + 1) a (suc r)

@@ -1,5 +1,4 @@
 pub mod Entries
 pub mod Preview
-pub mod Answers
 -- What is claimed
 pub mod Claims

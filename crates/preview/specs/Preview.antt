@@ -7,7 +7,7 @@ use Rattle.state.specs.declared.State.{State}
 use Rattle.state.specs.View.{view}
 use Rattle.state.specs.Refusals.{guarded}
 use Rattle.state.specs.Answers.{if_accepted}
-use Rattle.commit.specs.Commit.{commit_outcome, commit_table_after}
+use Rattle.commit.specs.Commit.{commit_state, commit_table_after}
 use Rattle.preview.specs.Entries.{Entry, entries_after, words_of}
 
 module _ (s : State) (t : List ℕ) where
@@ -20,7 +20,7 @@ module _ (s : State) (t : List ℕ) where
 
   -- committing on a copy of state and table, and reading the new blocks
   unfoldable pub preview_entries : List Entry
-  preview_entries = entries_after s.settings (commit_table_after s t) s.blocks ((commit_outcome s t).state.blocks - s.blocks)
+  preview_entries = entries_after s.settings (commit_table_after s t) s.blocks ((commit_state s t).blocks - s.blocks)
 
   -- what the lent list holds then: the entries, and its rest as it was
   unfoldable pub preview_list : List ℕ → List ℕ

@@ -1,55 +1,49 @@
-// A preview of commit: the certificates of the blocks that it would add, and nothing changed (change request: Point 8).
+//! A preview of commit: its blocks, nothing changed.
+//!
+//! The number that would refuse the commit, or the certificates of each block that it would add: those of a commit on a copy (specs/Preview, specs/Entries). docs/RULES.md, "Preview".
 #![tactic(auto)]
 
-ghost use Rattle.std.specs.Prelude.{◌≡◌};
-ghost use Rattle.state.specs.WellFormed.{well_formed};
-ghost use Rattle.preview.specs.Answers.{ChecksWanted, Checked, Previews};
+pub mod theorems;
 
-use blocks::histories;
+ghost use Rattle.std.specs.Prelude.{◌≡◌, IfOk, length};
+ghost use Rattle.base.specs.Checks.{refusal};
+ghost use Rattle.refusals.specs.Refusals.{refusal_in};
+ghost use Rattle.votes.specs.Checks.{leaders_for};
+ghost use Rattle.preview.specs.Preview.{previewing, preview_refusal, preview_entries, preview_list};
+
+use blocks::histories::anchors;
+use member_view::View;
+use refusals::Refusal;
 use running::bonded;
 use state::State;
-use state::checks::Listed;
 use terms::Round;
+use votes::checks;
 
-// The number of the first check that refuses, 0 for none; l, of 16s, then has the leaders by round. The list has so many words.
-fn preview_refusal(formed: bool, s: State, t: &[u32], words: usize, l: &mut [u32; 1025]) -> u32
-    requires { ChecksWanted s t.now formed l.old }
-    ensures { Checked s t.now words result l.new }
+// The checks of a well-formed state: 25, and those of commit; and the leaders by round. The list has so many words.
+#[tactic(auto, unfolding(base::specs::Checks::refusal))]
+fn check(v: &View, words: usize) -> Result<[u32; 1025], Refusal>
+    ensures refusal { refusal_in result ≡ refusal (previewing v.now.state.now v.now.table.now words) }
+    ensures leaders { IfOk result (λ l. l ≡ leaders_for v.now.state.now v.now.table.now) }
 {
-    if !formed {
-        return 1;
-    }
-    let ceiling = s.settings.ceiling.0 as usize;
+    let ceiling = v.state.settings.ceiling.0 as usize;
     if words / 3 < 16 * ceiling {
-        return 25;
+        return Err(Refusal::ListTooShort);
     }
-    let late = votes::refusals::time_refusal(s, t);
-    if late != 0 {
-        return late;
-    }
-    votes::refusals::anchor_refusal(s, t, l)
+    checks::check(v)
 }
 
-// The call, where it is told whether the state is well formed.
-fn preview_cached(formed: bool, s: State, t: &[u32], list: &mut [u32]) -> Listed
-    requires { formed ≡ well_formed s t.now }
-    ensures { Previews s t.now list.old result list.new }
+/// Lists the certificates that a commit would put into blocks; the value is their number.
+#[tactic(auto, unfolding(base::specs::Checks::refusal, state::specs::Answers::if_accepted, crate::specs::Preview::preview_refusal, crate::specs::Preview::preview_list))]
+pub fn preview(s: &State, t: &[u32], list: &mut [u32]) -> Result<u32, Refusal>
+    ensures refusal { refusal_in result ≡ preview_refusal s.now t.now (length list.old) }
+    ensures value { IfOk result (λ n. n ≡ length (preview_entries s.now t.now)) }
+    ensures list { list.new ≡ preview_list s.now t.now list.old }
 {
-    let mut leaders = [16u32; 1025];
-    let n = preview_refusal(formed, s, t, list.len(), &mut leaders);
-    if n != 0 {
-        return Listed::Refused(n);
-    }
+    let words = list.len();
+    let mut leaders = check(&View::known(state::well_formed(*s, t), &[], s, t)?, words)?;
     let last = bonded::last_round(t, s.blocks);
     let top = Round(s.round.0 - 1);
-    histories::anchors::take_leaders(t, &mut leaders, last, top);
-    let words = prospects::list_blocks(t, &leaders, last, top, s.blocks, list);
-    Listed::Count((words / 3) as u32)
-}
-
-pub fn preview(s: State, t: &[u32], list: &mut [u32]) -> Listed
-    ensures { Previews s t.now list.old result list.new }
-{
-    let formed = state::well_formed(s, t);
-    preview_cached(formed, s, t, list)
+    anchors::take_leaders(t, &mut leaders, last, top);
+    let put = prospects::list_blocks(t, &leaders, last, top, s.blocks, list);
+    Ok((put / 3) as u32)
 }

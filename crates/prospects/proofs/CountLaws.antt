@@ -5,6 +5,7 @@ use Prim.Native.Nat.{ℕ, zero, suc, ◌+◌, ◌*◌, ◌%◌, ◌≤◌}
 use native.Mathlib.Omega.{arith}
 use lib.ListN.{length, length-append}
 use Rattle.base.specs.Folds.{sum_to}
+use Rattle.base.proofs.Ranges.{sum_none, sum_next}
 use Rattle.base.proofs.SumLaws.{sum_same, sum_le, sum_add, sum_to_none, sum_turned}
 use Rattle.prospects.specs.Entries.{entry_if, row_entries, rows_entries}
 
@@ -22,21 +23,23 @@ entry_length true k r a = refl
 entry_length false k r a = refl
 
 row-length : (f : ℕ → Bool) (k r a n : ℕ) → length (row_entries f k r a n) ≡ 3 * sum_to (λ i. cond (f ((a + i) % 16)) 1 0) n
-unfolding row_entries sum_to
-row-length f k r a zero = refl
+unfolding row_entries
+row-length f k r a zero = rw (sum_none (λ i. cond (f ((a + i) % 16)) 1 0)) refl
 row-length f k r a (suc n) =
     let h = row-length f k r a n in
     let e = entry_length (f ((a + n) % 16)) k r ((a + n) % 16) in
+    let s = sum_next (λ i. cond (f ((a + i) % 16)) 1 0) n in
     rw (length-append (row_entries f k r a n) (entry_if (f ((a + n) % 16)) k r ((a + n) % 16))) (omega arith)
 
 pub rows-counted : (f : ℕ → ℕ → Bool) (k a n : ℕ) → length (rows_entries f k a 0 n) ≡ 3 * place_count f n
-unfolding rows_entries sum_to
-rows-counted f k a zero = refl
+unfolding rows_entries
+rows-counted f k a zero = rw (sum_none (λ q. row_count (λ i. f i (suc q)))) refl
 rows-counted f k a (suc n) =
     let h = rows-counted f k a n in
     let i : 0 + suc n ≡ suc n = omega arith in
     let e = row-length (λ i. f i (suc n)) k (suc n) a 16 in
     let w = sum_turned (λ i. cond (f i (suc n)) 1 0) a in
+    let s = sum_next (λ q. row_count (λ i. f i (suc q))) n in
     rw (i, length-append (rows_entries f k a 0 n) (row_entries (λ i. f i (suc n)) k (suc n) a 16)) (omega arith)
 
 -- ---- places

@@ -1,4 +1,4 @@
-// Entries of a preview put into a lent list: block number, certificate round, author. Each function returns the next place (change request: Point 8).
+// Entries of a preview put into a lent list: block number, certificate round, author. Each function returns the next place (docs/RULES.md, "Preview").
 
 ghost use Rattle.std.specs.Prelude.{◌+◌, ◌-◌, ◌≤◌, ◌<◌, length};
 ghost use Rattle.base.specs.Sets.{is_in};

@@ -1,4 +1,6 @@
-// The blocks that a commit would make, listed without making them: nothing is written but the list (change request: Point 8).
+//! The blocks that a commit would make, listed.
+//!
+//! Nothing is written but the list: what an anchor's history has that is in no block and that no earlier anchor reached (specs/Reaching), as entries in the blocks' order (specs/Prospects, specs/Entries). Equal to what a commit would make: preview.
 #![tactic(auto)]
 
 pub mod entries;

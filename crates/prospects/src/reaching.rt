@@ -1,4 +1,4 @@
-// What a history has that is in no block yet, by round; nothing is written to the table (change request: Point 8).
+// What a history has that is in no block yet, by round; nothing is written to the table (docs/RULES.md, "Preview").
 
 ghost use Rattle.std.specs.Prelude.{◌≡◌, cond, not, ◌&&◌, eqb};
 ghost use Rattle.base.specs.Sets.{is_in, add};

@@ -12,6 +12,7 @@ use lib.ListN.{get_or, set, length-set}
 use lib.Seq.{get_or-set_same, get_or-set_other}
 use borrow.Author.Tests.{eq-eqb, ne_eqb}
 use Rattle.base.specs.Folds.{tab}
+use Rattle.base.proofs.Ranges.{tab_next}
 use Rattle.base.proofs.FoldLaws.{tab-same}
 use Rattle.terms.specs.declared.Transaction.{Transaction}
 use Rattle.terms.specs.Transactions.{kind_of, number_of, amount_of, read_transaction, in_range}
@@ -122,11 +123,10 @@ module _ (t : List ℕ) (g : ℕ) (x : Transaction) (at : Place t g (waiting_cou
   last_fits = triple-added triple_fits ∙ triple-fits x
 
   pub queue_added : queue_of (added_table t g x) g ≡ queue_of t g ++ (x ∷ [])
-  unfolding tab
   queue_added =
       let n = waiting_count t g in
       let u = added_table t g x in
-      rw (queue_tab u g at.guest, queue_tab t g at.guest, count-added, add-one n, last-added)
+      rw (queue_tab u g at.guest, queue_tab t g at.guest, count-added, add-one n, tab_next (waiting_at u g) n, last-added)
       (ap (λ (l : List Transaction). l ++ (x ∷ [])) (tab-same (waiting_at u g) (waiting_at t g) n (λ k h. waiting-same t u g k g k (λ i l. place-before k i h l))))
 
   module _ (e : queues_fit t ≡ true) where

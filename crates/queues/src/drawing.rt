@@ -1,4 +1,4 @@
-// Guests' queues as calls change them: a transaction added, and a draw (change request: Point 6).
+// Guests' queues as calls change them: a transaction added, and a draw (docs/RULES.md, "Guests' queues").
 
 ghost use Rattle.std.specs.Prelude.{◌≡◌, true, ◌*◌, ◌<◌, ◌≤◌, drop};
 ghost use Rattle.std.proofs.Math.Seq.{paste};
@@ -29,9 +29,7 @@ fn move_up(t: &mut [u32], g: u32)
     ensures { t.new ≡ paste t.old (place_start g 0) (drop (place_start g 1) t.old) (7 * transaction_length) }
 {
     let at = crate::place_start(g, 0);
-    for i in 0..21usize {
-        t[at + i] = t[at + 3 + i];
-    }
+    t.copy_within(at + 3..at + 24, at);
 }
 
 // Takes the oldest transaction of a guest away, who is the guest served last then.
@@ -84,9 +82,7 @@ fn copy_row(row: &mut [u32], t: &[u32])
     requires { Row row.old 0 × Row t.now 0 }
     ensures { row.new ≡ paste row.old 0 t.now row_length }
 {
-    for i in 0..272usize {
-        row[i] = t[i];
-    }
+    row[..272].copy_from_slice(&t[..272]);
 }
 
 // The body that a draw makes, with nothing gone from its queue: the draw is made on a copy of row 0.

@@ -1,10 +1,12 @@
-// Guests' queues in row 0 of the table: what waits in them, and whether they are well formed (change request: Point 6).
-// Row 0: the guest served last plus 1, 0 for none; how many wait of each of eight guests; 15 words kept for later; then for each guest eight places of three words, oldest first, and eight words kept for later behind all but the last.
+//! Guests' queues, in row 0 of the table.
+//!
+//! Row 0: the guest served last plus 1, 0 for none; how many wait of each of eight guests; 15 words kept for later; then for each guest eight places of three words, oldest first, and eight words kept for later behind all but the last.
+//! What waits, what is drawn and what is left (specs/Queues) is told of these words (specs/Words): a draw takes the oldest of each guest that waits, going round from the one behind the guest served last. docs/RULES.md, "Guests' queues".
 #![tactic(auto)]
 
 pub mod drawing;
 
-ghost use Rattle.std.specs.Prelude.{◌≡◌, ◌<◌};
+ghost use Rattle.std.specs.Prelude.{◌≡◌, ◌<◌, ◌≤◌};
 ghost use Rattle.base.specs.Folds.{all_to};
 ghost use Rattle.store.specs.Table.{Row};
 ghost use Rattle.scan.specs.Scan.{triple_fits};
@@ -43,19 +45,15 @@ pub fn waiting_at(t: &[u32], g: u32, k: u32) -> Transaction
 }
 
 // Are the three words a transaction in range?
+#[tactic(auto, unfolding(scan::specs::Scan::triple_fits))]
 fn triple_fits(kind: u32, number: u32, amount: u32) -> bool
     ensures { result ≡ triple_fits kind number amount }
 {
-    if kind == 0 {
-        return terms::bond_in_range(Member(number), amount);
+    match kind {
+        0 => terms::bond_in_range(Member(number), amount),
+        1 => amount == 0 && number < 16,
+        _ => amount == 0 && kind == 2,
     }
-    if amount != 0 {
-        return false;
-    }
-    if kind == 1 {
-        return number < 16;
-    }
-    kind == 2
 }
 
 // Is the transaction at place k of a guest's queue in range?
@@ -67,35 +65,30 @@ fn waiting_fits(t: &[u32], g: u32, k: u32) -> bool
     triple_fits(t[i], t[i + 1], t[i + 2])
 }
 
+// Are the transactions at the first n places of a guest's queue in range?
+#[tactic(auto, unfolding(base::specs::Folds::all_to))]
+fn places_fit(t: &[u32], g: u32, n: u32) -> bool
+    requires { Place t.now g 0 × (n ≤ 8) }
+    ensures { result ≡ all_to (waiting_fits t.now g) n }
+{
+    (0..n).all(|k| waiting_fits(t, g, k))
+}
+
 // Are at most eight of a guest's transactions waiting, all in range?
+#[tactic(auto, unfolding(crate::specs::Words::queue_fits))]
 fn queue_fits(t: &[u32], g: u32) -> bool
     requires { Place t.now g 0 }
     ensures { result ≡ queue_fits t.now g }
 {
     let n = waiting_count(t, g);
-    if PLACES < n {
-        return false;
-    }
-    for k in 0..n {
-        if !waiting_fits(t, g, k) {
-            return false;
-        }
-    }
-    true
+    n <= PLACES && places_fit(t, g, n)
 }
 
 // Is that so of every guest, and is the guest served last 0 to 7 or none?
+#[tactic(auto, unfolding(crate::specs::Words::queues_fit, crate::specs::Words::served_word, base::specs::Folds::all_to))]
 pub fn queues_fit(t: &[u32]) -> bool
     requires { Row t.now 0 }
     ensures { result ≡ queues_fit t.now }
 {
-    if GUESTS < t[0] {
-        return false;
-    }
-    for g in 0..GUESTS {
-        if !queue_fits(t, g) {
-            return false;
-        }
-    }
-    true
+    t[0] <= GUESTS && (0..GUESTS).all(|g| queue_fits(t, g))
 }

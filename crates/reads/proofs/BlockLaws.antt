@@ -16,6 +16,9 @@ use Rattle.store.proofs.TableLaws.{certificate-present}
 use Rattle.committee.specs.Chain.{block_at, chain_of}
 use Rattle.committee.proofs.ChainLaws.{holds_at_lem, block-round, block_inside, chain-none, chain_more, chain_length}
 use Rattle.rules.specs.Reads.{block_number, round_of}
+use Rattle.state.specs.declared.State.{State}
+use Rattle.state.specs.View.{view}
+use lib.ListN.{length}
 
 module _ (n : ℕ) (t : List ℕ) where
   -- block j of the first k is the one that the table tells
@@ -51,3 +54,14 @@ module _ (n : ℕ) (t : List ℕ) where
         go : (b : Bool) → eqb (mark_at t a r) (suc k) ≡ b → (mark_at t a r ≤ k → block_number (chain_of n t k) a r ≡ mark_at t a r) → cond b (suc k) (block_number (chain_of n t k) a r) ≡ mark_at t a r
         go true e f = sym (eqb-true (mark_at t a r) (suc k) e)
         go false e f = let d = eqb-false (mark_at t a r) (suc k) e in f (omega arith)
+
+-- ---- what a view shows of them
+
+module _ (s : State) (t : List ℕ) where
+  -- how many there are
+  pub blocks_shown : length (view s t).chain ≡ s.blocks
+  blocks_shown = chain_length s.settings.ceiling.0 t s.blocks
+
+  -- the round of each
+  pub round_shown : (k : ℕ) → 0 < k → k ≤ s.blocks → round_of (chains.block_numbered (view s t).chain k) ≡ block_round t k
+  round_shown = chain-round s.settings.ceiling.0 t s.blocks

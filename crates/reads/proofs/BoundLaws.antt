@@ -4,7 +4,7 @@ use mathlib.Core.List.{List}
 use Prim.Native.Nat.{ℕ, ◌<◌}
 use native.Mathlib.Omega.{arith}
 use lib.ListN.{length}
-use borrow.Author.Tests.{ltb-false, ne_eqb}
+use borrow.Author.Tests.{ltb-false, eqb-false, ne_eqb}
 use Rattle.base.proofs.CheckLaws.{numbered}
 use Rattle.base.proofs.Passed.{passed}
 use Rattle.committee.specs.Totals.{total_in}
@@ -15,40 +15,45 @@ use Rattle.committee.proofs.BondEffectLaws.{share-at, share-none, at-most-larges
 use Rattle.rules.specs.Reads.{committee_read}
 use Rattle.state.specs.declared.State.{State}
 use Rattle.state.specs.View.{view}
-use Rattle.reads.specs.CommitteeReads.{share_refusal}
+use Rattle.reads.specs.Reads.{share_refusal, effect_refusal, effect_checks}
 use Rattle.reads.specs.Bounds.{EffectBounded, LargestOfAll, EffectOfShares, NoneWithoutWeight}
-use Rattle.reads.proofs.BondReadLaws.{accepted-total, effect-accepted}
+use Rattle.terms.specs.declared.sheet.Weight.{Weight}
 
 module _ (s : State) (t : List ℕ) where
-  abbrev weights : ℕ → List ℕ
+  abbrev weights : ℕ → List Weight
   weights r = committee_read s.settings (view s t) r
 
-  pub effect-bounded : EffectBounded s t
-  effect-bounded l m r a e =
-      let k = accepted-total s t m r a e in
-      rw (effect-accepted s t m r a e) (effect-le (weights r) m a (length-committee s.settings (view s t).chain r ∙ l) k.0 k.1)
+  -- the checks that an accepted one has passed
+  accepted-total : (m r a : ℕ) → effect_refusal s t m r a ≡ 0 → (m < 16) × (0 < total_in (weights r))
+  unfolding effect_refusal numbered
+  accepted-total m r a e =
+      passed (effect_checks s t m r a) refl e λ h1 h4 h5 h6 h8 h30.
+      (omega (arith, ltb-false 15 m h4), (let z = eqb-false (total_in (weights r)) 0 h30 in omega arith))
 
-  pub largest-of-all : LargestOfAll s t
+  pub effect_bounded : EffectBounded s t
+  effect_bounded l m r a e =
+      let k = accepted-total m r a e in
+      (effect-le (weights r) m a (length-committee s.settings (view s t).chain r ∙ l) k.0 k.1)
+
+  pub largest_of_all : LargestOfAll s t
   unfolding bond_effect
-  largest-of-all m r a e =
-      rw (effect-accepted s t m r a e)
+  largest_of_all m r a e =
       (at-most-largest (shares_of (weights r)) (shares_of (bonded m a (weights r))) 16, is-largest (shares_of (weights r)) (shares_of (bonded m a (weights r))) 15)
 
   pub member_shared : (i r : ℕ) → share_refusal s t i r ≡ 0 → i < 16
   unfolding share_refusal numbered
   member_shared i r e = passed _ refl e λ h1 h4 h5 h8 h9. omega (arith, ltb-false 15 i h4)
 
-  pub effect-of-shares : EffectOfShares s t
+  pub effect_of_shares : EffectOfShares s t
   unfolding bond_effect
-  effect-of-shares m r a i e k = rw (effect-accepted s t m r a e) (share-at (weights r) i (member_shared i r k))
+  effect_of_shares m r a i e k = share-at (weights r) i (member_shared i r k)
 
   pub none_without_weight : NoneWithoutWeight s t
   unfolding bond_effect
   none_without_weight l m r a i e h z =
-      let k = accepted-total s t m r a e in
+      let k = accepted-total m r a e in
       let w = weights r in
-      let j : length w ≡ 16 = length-committee s.settings (view s t).chain r ∙ l in
-      rw (effect-accepted s t m r a e) (
+      let j : length w ≡ 16 = length-committee s.settings (view s t).chain r ∙ l in (
         share-at w i h ∙ rw z (share-none (total_in w) k.1),
         λ n. share-at (bonded m a w) i h ∙ rw (bond-at m a w i j h, ne_eqb m i (λ q. n (sym q)), z) (share-none (total_in (bonded m a w)) (let b = total-bonded w m a j k.0 in omega arith)),
       )

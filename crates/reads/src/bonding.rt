@@ -1,69 +1,51 @@
-// The read of what a bond would do to all sixteen shares. It changes nothing (change request: Point 13).
+// The read of what a bond would do to all sixteen shares. It changes nothing.
 
-ghost use Rattle.std.specs.Prelude.{◌≡◌};
+ghost use Rattle.std.specs.Prelude.{◌≡◌, IfOk};
 ghost use Rattle.base.specs.Checks.{refusal};
-ghost use Rattle.reads.specs.CommitteeAnswers.{ReadAnswered};
-ghost use Rattle.reads.specs.BondReads.{early_checks, effect_refusal, refused_read, effect_answer};
+ghost use Rattle.rules.specs.Reads.{reading_effect, effect_read};
+ghost use Rattle.state.specs.View.{view};
+ghost use Rattle.refusals.specs.Refusals.{refusal_in};
+ghost use Rattle.member_view.specs.Views.{settings_of, shown};
+ghost use Rattle.reads.specs.Reads.{effect_refusal};
 
 use committee::effects::Effect;
 use committee::{effects, weighing};
-use running::bonded;
-use state::checks::Answer;
-use state::{State, checks};
+use member_view::View;
+use refusals::Refusal;
+use state::State;
 use terms::{Member, Round};
 
-// Sixteen shares before and after, and the largest difference; all 0 where the read is refused.
-#[derive(Clone, Copy)]
-pub struct EffectRead {
-    pub answer: Answer,
-    pub effect: Effect,
-}
-
-fn refused(n: u32) -> EffectRead
-    ensures { result ≡ refused_read n }
+// Checks 4, 5, 6, 8, 30, and the shares.
+#[tactic(auto, unfolding(base::specs::Checks::refusal))]
+fn effect_of(v: &View, m: Member, r: Round, a: u32) -> Result<Effect, Refusal>
+    ensures refusal { refusal_in result ≡ refusal (reading_effect (settings_of v.now) (shown v.now) m.0 r.0 a) }
+    ensures value { IfOk result (λ x. x ≡ effect_read (settings_of v.now) (shown v.now) m.0 r.0 a) }
 {
-    EffectRead {
-        answer: Answer::Refused(n),
-        effect: effects::none(),
-    }
-}
-
-// The number of the first check but the last that refuses, 0 for none.
-fn early_refusal(s: State, t: &[u32], m: Member, r: Round, a: u32) -> u32
-    ensures { result ≡ refusal (early_checks s t.now m.0 r.0 a) }
-{
-    if !state::well_formed(s, t) {
-        return 1;
-    }
     if 15 < m.0 {
-        return 4;
+        return Err(Refusal::NoSuchMember);
     }
-    if checks::is_bad_round(s.settings, r) {
-        return 5;
+    if v.is_bad_round(r) {
+        return Err(Refusal::NoSuchRound);
     }
     if !terms::amount_in_range(a) {
-        return 6;
+        return Err(Refusal::BadTransactions);
     }
-    if !bonded::known(t, s.settings, s.blocks, r) {
-        return 8;
+    if v.is_unknown(r) {
+        return Err(Refusal::CommitteeUnknown);
     }
-    0
+    let committee = v.committee(r);
+    let total = weighing::total_weight(&committee.weights);
+    if total.0 == 0 {
+        return Err(Refusal::NoTotal);
+    }
+    Ok(effects::bond_effect(committee.weights, total, m, a))
 }
 
-pub fn effect(s: State, t: &[u32], m: Member, r: Round, a: u32) -> EffectRead
-    ensures { ReadAnswered (effect_answer s t.now m.0 r.0 a) (effect_refusal s t.now m.0 r.0 a) result result.answer }
+/// Sixteen shares before and after a bond of the member by an amount, and the largest difference.
+#[tactic(auto, unfolding(base::specs::Checks::refusal, crate::specs::Reads::effect_refusal))]
+pub fn effect(s: &State, t: &[u32], m: Member, r: Round, a: u32) -> Result<Effect, Refusal>
+    ensures refusal { refusal_in result ≡ effect_refusal s.now t.now m.0 r.0 a }
+    ensures value { IfOk result (λ x. x ≡ effect_read s.now.settings (view s.now t.now) m.0 r.0 a) }
 {
-    let n = early_refusal(s, t, m, r, a);
-    if n != 0 {
-        return refused(n);
-    }
-    let w = bonded::committee_of(t, s.settings, s.blocks, r);
-    let total = weighing::total_weight(&w);
-    if total.0 == 0 {
-        return refused(30);
-    }
-    EffectRead {
-        answer: Answer::Accepted,
-        effect: effects::bond_effect(w, total, m, a),
-    }
+    effect_of(&View::known(state::well_formed(*s, t), &[], s, t)?, m, r, a)
 }

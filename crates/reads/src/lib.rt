@@ -1,89 +1,84 @@
-// The reads of a certificate and of a block. They change nothing (scope document: Reads).
+//! The reads: committees, shares, certificates, blocks.
+//!
+//! They change nothing. Each gives what the rules give at the view, or the number of the first check that fails: committee and share (specs/CommitteeReads), certificate and block (specs/CertificateReads), how far a bond moves the shares (specs/BondReads), and by how much at most (specs/Bounds). docs/RULES.md, "Reads".
 #![tactic(auto)]
 
 pub mod bonding;
 pub mod standing;
+pub mod theorems;
 
-ghost use Rattle.std.specs.Prelude.{◌≡◌};
-ghost use Rattle.reads.specs.CommitteeAnswers.{ReadAnswered, ValueAnswered};
-ghost use Rattle.reads.specs.CertificateAnswers.{blocked_answer, blocked_value};
-ghost use Rattle.reads.specs.CertificateReads.{certificate_refusal, certificate_answer, block_refusal, block_answer, block_value};
+ghost use Rattle.std.specs.Prelude.{◌≡◌, IfOk};
+ghost use Rattle.base.specs.Checks.{refusal};
+ghost use Rattle.rules.specs.Reads.{reading_certificate, reading_block, block_read};
+ghost use Rattle.state.specs.View.{view};
+ghost use Rattle.refusals.specs.Refusals.{refusal_in};
+ghost use Rattle.member_view.specs.Views.{settings_of, shown};
+ghost use Rattle.reads.specs.Reads.{certificate_refusal, block_refusal};
+ghost use Rattle.reads.specs.Held.{certificate_read};
 
-use state::checks::Answer;
-use state::{State, checks};
+use member_view::View;
+use refusals::Refusal;
+use state::State;
+use store::record;
 use terms::{Member, Proposal, Round};
 
-// A held certificate: its proposal, the endorsers that it was stored with, and the number of its block, 0 for none; nothing where the read is refused.
+/// A held certificate: its proposal, the endorsers that it was stored with, and the number of its block, 0 for none.
 #[derive(Clone, Copy)]
-pub struct CertificateRead {
-    pub answer: Answer,
+pub struct Held {
     pub proposal: Proposal,
     pub endorsers: u16,
     pub block: u32,
 }
 
-// The round of a block.
-#[derive(Clone, Copy)]
-pub enum BlockRead {
-    At(Round),
-    Refused(u32),
-}
-
-// The number of the first check that refuses a read of a certificate, 0 for none.
-fn certificate_refusal(s: State, t: &[u32], m: Member, r: Round) -> u32
-    ensures { result ≡ certificate_refusal s t.now m.0 r.0 }
+// Checks 4, 5, 23, and the certificate.
+#[tactic(auto, unfolding(base::specs::Checks::refusal))]
+fn certificate_of(v: &View, m: Member, r: Round) -> Result<Held, Refusal>
+    ensures refusal { refusal_in result ≡ refusal (reading_certificate (settings_of v.now) (shown v.now) m.0 r.0) }
+    ensures value { IfOk result (λ h. h ≡ certificate_read v.now.state.now v.now.table.now m.0 r.0) }
 {
-    if !state::well_formed(s, t) {
-        return 1;
-    }
     if 15 < m.0 {
-        return 4;
+        return Err(Refusal::NoSuchMember);
     }
-    if checks::is_bad_round(s.settings, r) {
-        return 5;
+    if v.is_bad_round(r) {
+        return Err(Refusal::NoSuchRound);
     }
-    if !store::held(t, m, r) {
-        return 23;
+    if !v.is_held(m, r) {
+        return Err(Refusal::NoneThere);
     }
-    0
+    let t = v.table;
+    Ok(Held {
+        proposal: record::proposal_at(t, m, r),
+        endorsers: record::endorsers(t, m, r),
+        block: record::mark(t, m, r),
+    })
 }
 
-pub fn certificate(s: State, t: &[u32], m: Member, r: Round) -> CertificateRead
-    ensures { ReadAnswered (certificate_answer s t.now m.0 r.0) (certificate_refusal s t.now m.0 r.0) result result.answer }
+/// The certificate of a place.
+#[tactic(auto, unfolding(base::specs::Checks::refusal, crate::specs::Reads::certificate_refusal))]
+pub fn certificate(s: &State, t: &[u32], m: Member, r: Round) -> Result<Held, Refusal>
+    ensures refusal { refusal_in result ≡ certificate_refusal s.now t.now m.0 r.0 }
+    ensures value { IfOk result (λ h. h ≡ certificate_read s.now t.now m.0 r.0) }
 {
-    let n = certificate_refusal(s, t, m, r);
-    if n != 0 {
-        return CertificateRead {
-            answer: Answer::Refused(n),
-            proposal: Proposal {
-                author: Member(0),
-                round: Round(0),
-                body: terms::bare_body(0),
-            },
-            endorsers: 0,
-            block: 0,
-        };
-    }
-    CertificateRead {
-        answer: Answer::Accepted,
-        proposal: store::record::proposal_at(t, m, r),
-        endorsers: store::record::endorsers(t, m, r),
-        block: store::record::mark(t, m, r),
-    }
+    certificate_of(&View::known(state::well_formed(*s, t), &[], s, t)?, m, r)
 }
 
-pub fn block(s: State, t: &[u32], k: u32) -> BlockRead
-    ensures { ValueAnswered (block_answer s t.now k) (block_refusal s t.now k) (block_value s t.now k) result (blocked_answer result) (blocked_value result) }
+// Check 23, and the round.
+#[tactic(auto, using(crate::proofs::BlockLaws::blocks_shown, crate::proofs::BlockLaws::round_shown), unfolding(base::specs::Checks::refusal))]
+fn block_of(v: &View, k: u32) -> Result<Round, Refusal>
+    ensures refusal { refusal_in result ≡ refusal (reading_block (settings_of v.now) (shown v.now) k) }
+    ensures value { IfOk result (λ r. r.0 ≡ block_read (settings_of v.now) (shown v.now) k) }
 {
-    if !state::well_formed(s, t) {
-        return BlockRead::Refused(1);
+    if k == 0 || v.state.blocks < k {
+        return Err(Refusal::NoneThere);
     }
-    if k == 0 {
-        return BlockRead::Refused(23);
-    }
-    if s.blocks < k {
-        return BlockRead::Refused(23);
-    }
-    let r = store::block_round(t, k);
-    BlockRead::At(r)
+    Ok(store::block_round(v.table, k))
+}
+
+/// The round of a block, by its number from 1.
+#[tactic(auto, unfolding(base::specs::Checks::refusal, crate::specs::Reads::block_refusal))]
+pub fn block(s: &State, t: &[u32], k: u32) -> Result<Round, Refusal>
+    ensures refusal { refusal_in result ≡ block_refusal s.now t.now k }
+    ensures value { IfOk result (λ r. r.0 ≡ block_read s.now.settings (view s.now t.now) k) }
+{
+    block_of(&View::known(state::well_formed(*s, t), &[], s, t)?, k)
 }

@@ -1,5 +1,5 @@
 -- Newer blocks add lines at the end of a listing; and what a port tells is as it was.
-use mathlib.Core.Path.{◌≡◌, refl, sym, ap, ap₂, ◌∙◌}
+use mathlib.Core.Path.{◌≡◌, sym, ap, ap₂, ◌∙◌}
 use mathlib.Core.Bool.{true, true≢false}
 use mathlib.Core.List.{List, [], ◌∷◌, ◌++◌, append_assoc, append-nil}
 use Prim.Native.Nat.{ℕ, ◌+◌, ◌<◌}
@@ -22,7 +22,7 @@ use Rattle.engine.specs.Steps.{SetInRange, Step, refused, opened, moved}
 use Rattle.engine.specs.Sequences.{NoOpen}
 use Rattle.engine.specs.Reached.{Intact}
 use Rattle.engine.proofs.AfterLaws.{accepted-new}
-use Rattle.engine.proofs.StepLaws.{every-step}
+use Rattle.engine.proofs.StepLaws.{every_step}
 use Rattle.engine.proofs.PortLaws.{leaves_ports, ports-left}
 use Rattle.engine.proofs.GrowthLaws.{chain_in, chain-newer}
 use Rattle.receiving.specs.Received.{listing_in}
@@ -82,7 +82,7 @@ module _ (e : Engine) (k : Intact e) (c : Call) (h : leaves_ports c ≡ true) (i
   no_open own sheet q z = true≢false (sym h ∙ ap leaves_ports q)
 
   same-settings : (after e c).state.settings ≡ e.state.settings
-  same-settings = go (every-step e k.good.small c i)
+  same-settings = go (every_step e k.good.small c i)
     where
       go : Step e c → (after e c).state.settings ≡ e.state.settings
       go (refused n z) = absurd (n a)

@@ -1,5 +1,5 @@
 -- What a caller asks leaves every other guest's port as it was.
-use mathlib.Core.Path.{◌≡◌, refl, sym, ap, ◌∙◌, subst}
+use mathlib.Core.Path.{◌≡◌, refl, sym, ap, ◌∙◌}
 use mathlib.Core.Bool.{Bool, true, false, cond}
 use mathlib.Core.List.{List, [], ◌∷◌, ◌++◌}
 use mathlib.Core.Logic.{◌⊎◌, inl, inr, ◌≢◌}
@@ -17,17 +17,17 @@ use Rattle.serial.proofs.PutLaws.{others_put}
 use Rattle.engine.specs.Calls.{Call, opens, propose, endorse, certify, accept, advance, commit, enqueue, draw, port, aside, InRange}
 use Rattle.engine.specs.Engine.{Engine, refusal_for, after}
 use Rattle.engine.specs.Sequences.{after_calls, AllInRange, NoOpen}
-use Rattle.engine.specs.Reached.{Reached, Intact}
+use Rattle.engine.specs.Reached.{Intact}
 use Rattle.engine.proofs.AfterLaws.{refused-same, accepted-new}
-use Rattle.engine.proofs.PortLaws.{leaves_ports}
+use Rattle.engine.proofs.PortLaws.{leaves_ports as keeps_ports}
 use Rattle.engine.proofs.ReachedLaws.{intact, intact-after}
 use Rattle.engine.specs.Guests as guest
 use Rattle.engine.specs.Guests.{GuestCall, as_host}
 use Rattle.batch.specs.Batch.{Row, turns_of, batch_refusal}
-use Rattle.submissions.specs.Submissions.{Submission, one, batch, accepts_of, after_submission, calls_of}
+use Rattle.submissions.specs.Submissions.{batch, accepts_of, after_submission, calls_of}
 use Rattle.submissions.specs.Requests as requests
-use Rattle.submissions.specs.Requests.{Asked, asks, asks_batch, submitted_by, caller_number, submission_of, InRangeThen}
-use Rattle.submissions.proofs.SubmissionLaws.{leaves_as_its-calls}
+use Rattle.submissions.specs.Requests.{Asked, asks, asks_batch, submitted_by, caller_number, InRangeThen}
+use Rattle.submissions.proofs.SubmissionLaws.{leaves_as_its_calls}
 use Rattle.submissions.proofs.RequestLaws.{left_by}
 use Rattle.receiving.specs.Received.{port_on, LeavesPorts, LeavesOtherPorts}
 use Rattle.receiving.proofs.GrownListings.{port-same}
@@ -35,7 +35,7 @@ use Rattle.receiving.proofs.GrownListings.{port-same}
 module _ (h : ℕ) (low : h < 8) where
   -- ---- calls that leave ports
 
-  call-leaves : (e : Engine) → Intact e → (c : Call) → leaves_ports c ≡ true → InRange c → port_on (after e c) h ≡ port_on e h
+  call-leaves : (e : Engine) → Intact e → (c : Call) → keeps_ports c ≡ true → InRange c → port_on (after e c) h ≡ port_on e h
   call-leaves e k c l i = go (ℕ_discrete (refusal_for e c) 0)
     where
       go : Dec (refusal_for e c ≡ 0) → port_on (after e c) h ≡ port_on e h
@@ -69,7 +69,7 @@ module _ (h : ℕ) (low : h < 8) where
   -- so for a list of calls that leave ports
   abbrev AllLeave : List Call → Type 0
   AllLeave [] = Unit {0}
-  AllLeave (c ∷ m) = (leaves_ports c ≡ true) × AllLeave m
+  AllLeave (c ∷ m) = (keeps_ports c ≡ true) × AllLeave m
 
   both_leave : (l m : List Call) → AllLeave l → AllLeave m → AllLeave (l ++ m)
   both_leave [] m x y = y
@@ -103,7 +103,7 @@ module _ (h : ℕ) (low : h < 8) where
 
   module _ (e : Engine) (k : Intact e) (c : ℕ) (other : h ≢ c) where
     -- an access to its own port, or a call that leaves ports
-    asked-leaves : (x : GuestCall) → (leaves_ports (as_host c x) ≡ true) ⊎ ((a : Access) × (as_host c x ≡ port (access c a)))
+    asked-leaves : (x : GuestCall) → (keeps_ports (as_host c x) ≡ true) ⊎ ((a : Access) × (as_host c x ≡ port (access c a)))
     asked-leaves (guest.propose b) = inl refl
     asked-leaves (guest.draw v) = inl refl
     asked-leaves (guest.enqueue x) = inl refl
@@ -118,17 +118,17 @@ module _ (h : ℕ) (low : h < 8) where
     submitted-leaves : (x : Asked) → AllInRange (calls_of e (submitted_by c x)) → port_on (after_submission e (submitted_by c x)) h ≡ port_on e h
     submitted-leaves (asks x) i = go (asked-leaves x)
       where
-        go : (leaves_ports (as_host c x) ≡ true) ⊎ ((a : Access) × (as_host c x ≡ port (access c a))) → port_on (after e (as_host c x)) h ≡ port_on e h
+        go : (keeps_ports (as_host c x) ≡ true) ⊎ ((a : Access) × (as_host c x ≡ port (access c a))) → port_on (after e (as_host c x)) h ≡ port_on e h
         go (inl l) = call-leaves e k (as_host c x) l i.0
         go (inr y) = ap (λ (d : Call). port_on (after e d) h) y.1 ∙ other-leaves e (access c y.0) (λ q. other (sym q))
-    submitted-leaves (asks_batch row answers) i = ap (λ (d : Engine). port_on d h) (leaves_as_its-calls e (batch row answers)) ∙ (calls_leave e k (calls_of e (batch row answers)) (batch-leaves e row answers) i).1
+    submitted-leaves (asks_batch row answers) i = ap (λ (d : Engine). port_on d h) (leaves_as_its_calls e (batch row answers)) ∙ (calls_leave e k (calls_of e (batch row answers)) (batch-leaves e row answers) i).1
 
 -- the claims
-pub leaves-ports : LeavesPorts
-leaves-ports e r c i o h low n = any_leaves h low e (intact r) c i o n
+pub leaves_ports : LeavesPorts
+leaves_ports e r c i o h low n = any_leaves h low e (intact r) c i o n
 
-pub leaves-other-ports : LeavesOtherPorts
-leaves-other-ports e r c a i h low other = ap (λ (d : Engine). port_on d h) (left_by e (requests.guest c a)) ∙ go (eqb (caller_number e c a) 0) i
+pub leaves_other_ports : LeavesOtherPorts
+leaves_other_ports e r c a i h low other = ap (λ (d : Engine). port_on d h) (left_by e (requests.guest c a)) ∙ go (eqb (caller_number e c a) 0) i
   where
     go : (b : Bool) → InRangeThen e (cond b (some (submitted_by c a)) none) → port_on (if_there (cond b (some (submitted_by c a)) none) e (after_submission e)) h ≡ port_on e h
     go true j = submitted-leaves h low e (intact r) c other a j

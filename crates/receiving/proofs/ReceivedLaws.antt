@@ -1,10 +1,10 @@
 -- What was read from a port since it was reset is a prefix of the listing, over every list of requests.
 use mathlib.Core.Path.{◌≡◌, refl, sym, ap, ◌∙◌, subst}
-use mathlib.Core.Bool.{Bool, true, false, cond, not, ◌&&◌, true≢false}
+use mathlib.Core.Bool.{Bool, true, false, cond, not, ◌&&◌}
 use mathlib.Core.List.{List, [], ◌∷◌, ◌++◌}
 use mathlib.Core.Logic.{◌≢◌}
 use mathlib.Core.Option.{Option, none, some}
-use Prim.Native.Nat.{ℕ, suc, ◌+◌, ◌<◌, ◌≤◌}
+use Prim.Native.Nat.{ℕ, ◌<◌}
 use native.Mathlib.Omega.{arith}
 use native.Mathlib.Decide.{ℕ_discrete}
 use lib.Dec.{eqb, leb, ltb}
@@ -15,28 +15,24 @@ use Rattle.base.proofs.Bools.{both}
 use Rattle.terms.specs.declared.Member.{Member}
 use Rattle.terms.specs.declared.sheet.Sheet.{Sheet}
 use Rattle.ports.specs.Uart.{Port, divisor, waits, takes, values_at, after_read, after_write, reset_port}
-use Rattle.ports.specs.Ports.{port_in}
-use Rattle.state.specs.WellFormed.{well_formed}
 use Rattle.state.specs.Answers.{if_accepted}
 use Rattle.state.proofs.AnswerLaws.{if_accepted-new, if_accepted-old}
-use Rattle.serial.specs.Calls.{Access, read, write, PortCall, access, reset, PortInRange, port_of}
+use Rattle.serial.specs.Calls.{read, write, PortCall, access, reset, PortInRange, port_of}
 use Rattle.serial.specs.Serial.{listing, port_at, register, port_then, ported_table}
-use Rattle.serial.proofs.LeftLaws.{Fits, PortPassed, port-passed, then-fits}
+use Rattle.serial.proofs.LeftLaws.{PortPassed, port-passed, then-fits}
 use Rattle.serial.proofs.PutLaws.{listing-put, others_put, port-back}
 use Rattle.engine.specs.Calls.{Call, opens, propose, endorse, certify, accept, advance, commit, enqueue, draw, port, aside, InRange}
 use Rattle.engine.specs.Engine.{Engine, refusal_for, after}
-use Rattle.engine.specs.Steps.{Step, refused, opened, moved}
-use Rattle.engine.specs.Sequences.{after_calls, AllInRange, NoOpen, Opening, after_opening}
+use Rattle.engine.specs.Sequences.{after_calls, AllInRange, Opening, after_opening}
 use Rattle.engine.specs.Reached.{Reached, by_open, Intact}
 use Rattle.engine.proofs.AfterLaws.{refused-same, accepted-new}
 use Rattle.engine.proofs.PortLaws.{leaves_ports}
-use Rattle.engine.proofs.StepLaws.{every-step}
 use Rattle.engine.proofs.ReachedLaws.{intact, intact-after}
 use Rattle.submissions.specs.Submissions.{Submission, after_submission, calls_of}
-use Rattle.submissions.specs.Requests.{Request, result_of, submission_of, InRangeThen, after_requests}
-use Rattle.submissions.proofs.SubmissionLaws.{leaves_as_its-calls}
-use Rattle.submissions.proofs.RequestLaws.{left_by, requests_lead-to}
-use Rattle.receiving.specs.Received.{listing_in, shown, asked_of, accepted_bytes, bytes_after, bytes_then, received, AskedInRange, Served, ReadsAPrefix}
+use Rattle.submissions.specs.Requests.{Request, submission_of, InRangeThen, after_requests}
+use Rattle.submissions.proofs.SubmissionLaws.{leaves_as_its_calls}
+use Rattle.submissions.proofs.RequestLaws.{left_by, requests_lead_to}
+use Rattle.receiving.specs.Received.{listing_in, asked_of, accepted_bytes, bytes_after, bytes_then, received, AskedInRange, ReadsAPrefix}
 use Rattle.receiving.proofs.ByteLaws.{PrefixOf, prefix-none, prefix-grown, prefix-next}
 use Rattle.receiving.proofs.ResetLaws.{open_resets}
 use Rattle.receiving.proofs.GrownListings.{listing-more, port-same}
@@ -175,15 +171,15 @@ module _ (g : ℕ) (guest : g < 8) where
   requests_read x (q ∷ l) i =
       let y = requests_read x l i.1 in
       let d = after_requests (after_opening x) l in
-      (requests_lead-to d y.0 q i.0, rw (left_by d q) (go d y.0 (received (after_opening x) g l) y.1 (submission_of d q) i.0))
+      (requests_lead_to d y.0 q i.0, rw (left_by d q) (go d y.0 (received (after_opening x) g l) y.1 (submission_of d q) i.0))
     where
       go : (d : Engine) → Reached d → (b : List ℕ) → ReadsOf g d b → (o : Option Submission) → InRangeThen d o → ReadsOf g (if_there o d (after_submission d)) (if_there o b (λ s. bytes_then d g (calls_of d s) b))
       go d k b r none j = r
-      go d k b r (some s) j = rw (leaves_as_its-calls d s) (calls-read d (intact k) b r (calls_of d s) j).1
+      go d k b r (some s) j = rw (leaves_as_its_calls d s) (calls-read d (intact k) b r (calls_of d s) j).1
 
 -- the claim
-pub reads-a-prefix : ReadsAPrefix
+pub reads_a_prefix : ReadsAPrefix
 unfolding register values_at
-reads-a-prefix x l i g guest =
+reads_a_prefix x l i g guest =
     let r = (requests_read g guest x l i).1 in
     record { prefix = r.prefix; counted = r.counted; waiting = rw r.counted refl }

@@ -10,7 +10,7 @@ use Rattle.ports.specs.Uart.{reset_port}
 use Rattle.ports.specs.Ports.{port_in}
 use Rattle.ports.proofs.WrittenLaws.{cleared-words}
 use Rattle.serial.specs.Calls.{read, access, reset}
-use Rattle.serial.specs.Serial.{register, port_then, ported_table}
+use Rattle.serial.specs.Serial.{register, ported_table}
 use Rattle.serial.proofs.LeftLaws.{port-passed, then-fits}
 use Rattle.serial.proofs.PutLaws.{port-back}
 use Rattle.engine.specs.Calls.{opens, port}
@@ -19,9 +19,9 @@ use Rattle.engine.proofs.AfterLaws.{renewed, accepted-new}
 use Rattle.engine.proofs.ValueLaws.{value-accepted}
 use Rattle.receiving.specs.Received.{port_on, AnswersShown, Resets, OpeningResets}
 
-pub answers-shown : AnswersShown
+pub answers_shown : AnswersShown
 unfolding register
-answers-shown e g o a = value-accepted e (port (access g (read o))) a
+answers_shown e g o a = value-accepted e (port (access g (read o))) a
 
 pub resets : Resets
 unfolding ported_table
@@ -50,5 +50,5 @@ cleared e own sheet g h =
 pub open_resets : (e : Engine) (own : Member) (sheet : Sheet) → refusal_for e (opens own sheet) ≡ 0 → (g : ℕ) → g < 8 → port_on (after e (opens own sheet)) g ≡ reset_port
 open_resets e own sheet a g h = ap (λ (d : Engine). port_on d g) (accepted-new e (opens own sheet) a) ∙ cleared e own sheet g h
 
-pub opening-resets : OpeningResets
-opening-resets x = open_resets x.before x.own x.sheet x.accepted
+pub opening_resets : OpeningResets
+opening_resets x = open_resets x.before x.own x.sheet x.accepted

@@ -1,4 +1,4 @@
--- The listing bytes that a guest has read from its serial port since it was reset, over lists of requests (change request: Point 14).
+-- The listing bytes that a guest has read from its serial port since it was reset, over lists of requests (docs/RULES.md, "Serial ports").
 use Rattle.std.specs.Prelude.{◌≡◌, cond, not, ◌&&◌, List, [], ◌∷◌, ◌++◌, ◌≢◌, ℕ, ◌<◌, eqb, leb, ltb, length, get_or}
 use Rattle.base.specs.Options.{if_there}
 use Rattle.ports.specs.Uart.{Port, values_at, reset_port}

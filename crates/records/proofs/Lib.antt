@@ -1,10 +1,2 @@
-pub mod FieldLaws
-pub mod NumberLaws
-pub mod CursorLaws
-pub mod WordLaws
-pub mod BodyLaws
-pub mod TripleLaws
-pub mod SettingLaws
-pub mod RequestLaws
-pub mod DamageLaws
-pub mod DamagedRequests
+pub mod Reading
+pub mod Marks

@@ -1,7 +1,8 @@
 -- Laws of what is cached beside a state: one that is not well formed, and one after a commit.
-use mathlib.Core.Path.{◌≡◌, refl, sym, ap, ◌∙◌}
+use mathlib.Core.Path.{◌≡◌, refl, sym, ◌∙◌}
 use mathlib.Core.Bool.{Bool, true, false, false≢true}
 use mathlib.Core.List.{List}
+use mathlib.Core.Logic.{◌≢◌}
 use Prim.Native.Nat.{ℕ}
 use native.Mathlib.Omega.{arith}
 use Rattle.state.specs.declared.State.{State}
@@ -9,13 +10,10 @@ use Rattle.state.specs.WellFormed.{well_formed}
 use Rattle.state.proofs.FormedLaws.{formed}
 use Rattle.state.specs.Cached.{Cached}
 use Rattle.open.specs.Open.{closed_state}
-use Rattle.commit.specs.declared.Committed.TheVariants.{Refused}
-use Rattle.commit.specs.declared.Outcome.{Outcome}
-use Rattle.commit.specs.Commit.{commit_outcome, commit_table_after}
+use Rattle.commit.specs.Commit.{commit_state, commit_table_after}
 use Rattle.engine.specs.Calls.{commit}
-use Rattle.engine.specs.Engine.{Engine}
+use Rattle.engine.specs.Engine.{Engine, refusal_for}
 use Rattle.engine.specs.Steps.{SetInRange}
-use Rattle.engine.proofs.OutcomeLaws.{commit-refused}
 use Rattle.engine.proofs.CachedLaws.{formed-commit, cached-refused}
 
 -- beside a state that is not well formed nothing need be cached
@@ -33,12 +31,12 @@ closed-unformed t = go (well_formed closed_state t) refl
 pub cached-closed : (t cache : List ℕ) → Cached closed_state t false cache
 cached-closed t cache = cached-unformed cache (sym (closed-unformed t)) refl
 
--- o is what a commit has come to, u the table after it
-module _ (e : Engine) {o : Outcome} {u : List ℕ} (q : o ≡ commit_outcome e.state e.table) (d : u ≡ commit_table_after e.state e.table) {b : Bool} where
+-- s and u are the state and the table after a commit
+module _ (e : Engine) {s : State} {u : List ℕ} (q : s ≡ commit_state e.state e.table) (d : u ≡ commit_table_after e.state e.table) {b : Bool} where
   -- it leaves a well-formed state so
-  pub committed-formed : SetInRange e → b ≡ well_formed e.state e.table → b ≡ well_formed o.state u
+  pub committed-formed : SetInRange e → b ≡ well_formed e.state e.table → b ≡ well_formed s u
   committed-formed low w = rw (q, d) (w ∙ sym (formed-commit e low))
 
   -- a refused one changes nothing: what was cached stays
-  pub cached_uncommitted : {n : ℕ} {cache : List ℕ} → o.answer ≡ Refused n → Cached e.state e.table b cache → Cached o.state u b cache
-  cached_uncommitted r k = rw (q, d) (cached-refused e commit (commit-refused e (ap (λ (z : Outcome). z.answer) (sym q) ∙ r)) k)
+  pub cached_uncommitted : refusal_for e commit ≢ 0 → {cache : List ℕ} → Cached e.state e.table b cache → Cached s u b cache
+  cached_uncommitted r k = rw (q, d) (cached-refused e commit r k)

@@ -1,4 +1,4 @@
+pub mod ReadBack
 pub mod CachedLaws
 pub mod RecordLaws
 pub mod ReplyLaws
-pub mod ReadBack

@@ -1,16 +1,15 @@
 -- The line of an answer.
-use Rattle.std.specs.Prelude.{List, ℕ}
-use Rattle.state.specs.declared.checks.Answer as Said
-use Rattle.state.specs.declared.checks.Answer.TheVariants.{Accepted, Refused}
-use Rattle.commit.specs.declared.Committed as Made
+use Rattle.std.specs.Prelude.{List, ℕ, Result, Ok, Err}
+use Rattle.refusals.specs.declared.Refusal.{Refusal}
+use Rattle.refusals.specs.Refusals.{number_of}
 use Rattle.listing.specs.Lines.{ok_line, count_line, refused_line}
 
 -- of open, propose, endorse, certify, accept, advance
-abbrev pub answer_line : Said.Answer → List ℕ
-answer_line Accepted = ok_line
-answer_line (Refused n) = refused_line n
+abbrev pub answer_line : Result Unit Refusal → List ℕ
+answer_line (Ok x) = ok_line
+answer_line (Err e) = refused_line (number_of e)
 
 -- of commit
-abbrev pub committed_line : Made.Committed → List ℕ
-committed_line (Made.TheVariants.Added n) = count_line n
-committed_line (Made.TheVariants.Refused n) = refused_line n
+abbrev pub committed_line : Result ℕ Refusal → List ℕ
+committed_line (Ok n) = count_line n
+committed_line (Err e) = refused_line (number_of e)

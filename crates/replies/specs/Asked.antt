@@ -1,32 +1,21 @@
 -- The engine's call that a record asks for.
-use Rattle.std.proofs.Math.Option.{Option, none, some}
-use Rattle.terms.specs.declared.Proposal.{Proposal}
-use Rattle.terms.specs.declared.Certificate.{Certificate}
+use Rattle.std.specs.Prelude.{List, ℕ, Option}
+use Rattle.std.specs.Option.{option_map, option_and_then}
 use Rattle.engine.specs.Calls.{Call, opens, propose, endorse, certify, accept, advance, commit, aside, listing}
-use Rattle.records.specs.declared.requests.Kind.{Kind}
-use Rattle.records.specs.declared.requests.Kind.TheVariants.{Unreadable, Open, Propose, Endorse, Certify, Accept, Advance, Commit, Chain}
-use Rattle.records.specs.declared.requests.Reading.{Reading}
+use Rattle.records.specs.declared.Record.{Record}
+use Rattle.records.specs.declared.Record.TheVariants.{Open, Propose, Endorse, Certify, Accept, Advance, Commit, Chain}
+use Rattle.records.specs.Records.{record_in}
 
--- the proposal that a record names
-abbrev pub proposal_read : Reading → Proposal
-proposal_read q = record { author = q.author; round = q.round; body = q.body }
+abbrev pub call_of : Record → Call
+call_of (Open own sheet) = opens own sheet
+call_of (Propose b) = propose b
+call_of (Endorse p) = endorse p
+call_of (Certify e) = certify e
+call_of (Accept c) = accept c
+call_of Advance = advance
+call_of Commit = commit
+call_of Chain = aside listing
 
--- the certificate that it names
-abbrev pub certificate_read : Reading → Certificate
-certificate_read q = record { proposal = proposal_read q; endorsers = q.endorsers }
-
--- by the record's kind
-abbrev pub call_as : Reading → Kind → Option Call
-call_as q Unreadable = none
-call_as q Open = some (opens q.own q.sheet)
-call_as q Propose = some (propose q.body)
-call_as q Endorse = some (endorse (proposal_read q))
-call_as q Certify = some (certify q.endorsers)
-call_as q Accept = some (accept (certificate_read q))
-call_as q Advance = some advance
-call_as q Commit = some commit
-call_as q Chain = some (aside listing)
-
--- the call that a record asks for, none where it is unreadable
-unfoldable pub call_of : Reading → Option Call
-call_of q = call_as q q.kind
+-- the call that a record of these bytes asks for, none where it is unreadable
+abbrev pub call_in : Option (List ℕ) → Option Call
+call_in b = option_map call_of (option_and_then record_in b)

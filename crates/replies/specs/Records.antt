@@ -1,6 +1,5 @@
 -- What a record does: the engine after it, and the lines that answer it.
-use Rattle.std.specs.Prelude.{◌≡◌, cond, List, ◌++◌, ℕ, ◌+◌, ◌*◌, length, eqb}
-use Rattle.std.proofs.Math.Option.{Option, none, some}
+use Rattle.std.specs.Prelude.{◌≡◌, cond, List, ◌++◌, ℕ, ◌+◌, ◌*◌, length, eqb, Option, None, Some}
 use Rattle.terms.specs.declared.sheet.Settings.{Settings}
 use Rattle.state.specs.declared.State.{State}
 use Rattle.engine.specs.Calls.{Call}
@@ -35,15 +34,15 @@ lines_for e c = cond (eqb (refusal_for e c) 0) (value_lines e.state.settings (ac
 
 -- the engine after it; an unreadable one changes nothing
 unfoldable pub served_engine : Engine → Option Call → Engine
-served_engine e none = e
-served_engine e (some c) = after e c
+served_engine e None = e
+served_engine e (Some c) = after e c
 
 -- the lines that answer it
 unfoldable pub served_lines : Engine → Option Call → List ℕ
-served_lines e none = refused_line 24
-served_lines e (some c) = lines_for e c
+served_lines e None = refused_line 24
+served_lines e (Some c) = lines_for e c
 
--- the engine left, and the lines put into a buffer from `at` on
-pub record RecordAnswered (e : Engine) (o : Option Call) (left : Engine) (x y : List ℕ) (at next : ℕ) : Type 0 where
+-- the engine left, and the lines put at the front of a buffer
+pub record RecordAnswered (e : Engine) (o : Option Call) (left : Engine) (x y : List ℕ) (next : ℕ) : Type 0 where
   pub its-engine : left ≡ served_engine e o
-  pub its-lines : Puts x y at next (served_lines e o) (length e.table * 9 + 20)
+  pub its-lines : Puts x y 0 next (served_lines e o) (length e.table * 9 + 20)

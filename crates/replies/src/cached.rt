@@ -1,31 +1,34 @@
 // What is cached beside the state, after the calls that change it.
-ghost use Rattle.std.specs.Prelude.{◌≡◌};
+ghost use Rattle.std.specs.Prelude.{◌≡◌, ◌<◌};
+ghost use Rattle.std.specs.Option.{unwrap_or};
+ghost use Rattle.state.specs.States.{no_body};
 ghost use Rattle.state.specs.Cached.{Cached};
 ghost use Rattle.state.specs.WellFormed.{well_formed};
-ghost use Rattle.state.specs.Answers.{formed_by};
 
 use running::cache;
 use state::State;
-use state::checks::Answer;
-use terms::Round;
+use terms::{Body, Round};
 
-// Is the state after a call well formed? An accepted call leaves a well-formed state, a refused one the state as it was.
-pub fn formed_by(formed: bool, a: Answer) -> bool
-    ensures { result ≡ formed_by formed a }
+/// Committees cached anew, where the state is well formed.
+pub fn renew(formed: bool, s: &State, t: &[u32], cache: &mut [u64])
+    requires { formed ≡ well_formed s.now t.now }
+    ensures { Cached s.now t.now formed cache.new }
 {
-    match a {
-        Answer::Accepted => true,
-        Answer::Refused(n) => formed,
+    if formed {
+        cache::fill_cache(t, s.settings, s.blocks, Round(0), cache);
     }
 }
 
-// Committees cached anew, where the state is well formed.
-pub fn renew(formed: bool, s: State, t: &[u32], cache: &mut [u64])
-    requires { formed ≡ well_formed s t.now }
-    ensures { Cached s t.now formed cache.new }
+fn set_fits(set: u16)
+    ensures { set < 65536 }
+{}
+
+/// A proposal's previous set is a 16-bit number: this does nothing, and says what the type says.
+pub fn previous_fits(proposal: Option<Body>)
+    ensures { (unwrap_or proposal no_body).previous < 65536 }
 {
-    if formed {
-        let settings = s.settings;
-        cache::fill_cache(t, settings, s.blocks, Round(0), cache);
+    match proposal {
+        None => {}
+        Some(body) => set_fits(body.previous),
     }
 }

@@ -1,117 +1,98 @@
-// The reply to a call: the state that it leaves, what is cached beside it, and the line that answers it (scope document: The runner).
+//! The reply to a call: its state, cache and line.
+//!
+//! The state that the call leaves, the committees kept beside it, and the bytes that answer (specs/Replies, specs/Records), by the call that a record asks for (specs/Asked). docs/RULES.md, "Records".
 #![tactic(auto)]
 
 pub mod answer;
 pub mod cached;
 
-ghost use Rattle.std.specs.Prelude.{◌≡◌, ◌+◌, ◌*◌, ◌≤◌, length};
+ghost use Rattle.std.specs.Prelude.{◌≡◌, ◌+◌, ◌*◌, ◌≤◌, true, length};
 ghost use Rattle.state.specs.Cached.{Cached};
 ghost use Rattle.state.specs.WellFormed.{well_formed};
-ghost use Rattle.state.specs.Answers.{formed_by};
+ghost use Rattle.state.specs.Answers.{if_accepted};
 ghost use Rattle.engine.specs.Calls.{opens, commit, aside, listing};
 ghost use Rattle.base.specs.Puts.{Puts};
+ghost use Rattle.refusals.specs.Refusals.{refusal_in};
 ghost use Rattle.replies.specs.Answers.{answer_line, committed_line};
 ghost use Rattle.replies.specs.Records.{engine_of, lines_for};
-ghost use Rattle.replies.specs.Replies.{OutcomeReplied, CallServed};
+ghost use Rattle.replies.specs.Replies.{AnswerReplied, CallServed};
 
-use commit::{Committed, commit_cached};
+use commit::commit_cached;
 use listing::lines;
 use open::open;
-use state::{State, checks};
+use refusals::Refusal;
+use state::State;
 use terms::Member;
 use terms::sheet::Sheet;
 
-// The state after a record, whether it is well formed, and the next place of the buffer.
+/// Whether the state is well formed after a record, and the length of the answer.
 #[derive(Clone, Copy)]
 pub struct Reply {
-    pub state: State,
     pub formed: bool,
     pub next: usize,
 }
 
-// What a call of a member leaves and answers.
-pub fn replied(formed: bool, o: checks::Outcome, out: &mut [u8], at: usize) -> Reply
-    requires { at + 20 ≤ length out.old }
-    ensures { OutcomeReplied o.state (formed_by formed o.answer) (answer_line o.answer) result out.old out.new at }
+/// What a call of a member answers. An accepted one leaves a well-formed state, a refused one the state as it was.
+#[tactic(auto, unfolding(state::specs::Answers::if_accepted))]
+pub fn replied(formed: bool, answer: Result<(), Refusal>, out: &mut [u8]) -> Reply
+    requires { 20 ≤ length out.old }
+    ensures { AnswerReplied (if_accepted (refusal_in answer) true formed) (answer_line answer) result out.old out.new }
 {
-    let state = o.state;
-    let a = o.answer;
-    let then = crate::cached::formed_by(formed, a);
-    let next = crate::answer::put_answer(a, out, at);
-    Reply {
-        state,
-        formed: then,
-        next,
-    }
+    let then = formed || answer.is_ok();
+    let next = crate::answer::put_answer(answer, out, 0);
+    Reply { formed: then, next }
 }
 
-// What commit leaves and answers.
-fn counted(formed: bool, o: commit::Outcome, out: &mut [u8], at: usize) -> Reply
-    requires { at + 20 ≤ length out.old }
-    ensures { OutcomeReplied o.state formed (committed_line o.answer) result out.old out.new at }
-{
-    let state = o.state;
-    let a = o.answer;
-    let next = crate::answer::put_committed(a, out, at);
-    Reply {
-        state,
-        formed,
-        next,
-    }
-}
-
-// Open; the committees are cached anew.
+/// Open; the committees are cached anew.
+#[inline(never)]
 pub fn opened(
     formed: bool,
     cache: &mut [u64],
-    s: State,
+    s: &mut State,
     t: &mut [u32],
     own: Member,
     written: Sheet,
     out: &mut [u8],
-    at: usize,
 ) -> Reply
-    requires { (at + 20 ≤ length out.old) × (formed ≡ well_formed s t.old) }
-    ensures { CallServed (engine_of s t.old) (opens own written) result t.new cache.new out.old out.new at }
+    requires { (20 ≤ length out.old) × (formed ≡ well_formed s.old t.old) }
+    ensures { CallServed (engine_of s.old t.old) (opens own written) s.new result t.new cache.new out.old out.new }
 {
-    let r = replied(formed, open(s, t, own, written), out, at);
-    let state = r.state;
-    crate::cached::renew(r.formed, state, t, cache);
-    r
+    crate::cached::previous_fits(s.proposal);
+    let answer = open(s, t, own, written);
+    let reply = replied(formed, answer, out);
+    crate::cached::renew(reply.formed, s, t, cache);
+    reply
 }
 
-// Commit; where it has added blocks, the committees are cached anew.
+/// Commit; where it is accepted, the committees are cached anew.
 pub fn committed(
     formed: bool,
     cache: &mut [u64],
-    s: State,
+    s: &mut State,
     t: &mut [u32],
     out: &mut [u8],
-    at: usize,
 ) -> Reply
-    requires { (at + 20 ≤ length out.old) × Cached s t.old formed cache.old }
-    ensures { CallServed (engine_of s t.old) commit result t.new cache.new out.old out.new at }
+    requires { (20 ≤ length out.old) × Cached s.old t.old formed cache.old }
+    ensures { CallServed (engine_of s.old t.old) commit s.new result t.new cache.new out.old out.new }
 {
-    let o = commit_cached(formed, s, t);
-    let state = o.state;
-    let a = o.answer;
-    let r = counted(formed, o, out, at);
-    if let Committed::Refused(n) = a {
-        return r;
+    crate::cached::previous_fits(s.proposal);
+    let answer = commit_cached(formed, s, t);
+    let next = crate::answer::put_committed(answer, out, 0);
+    if let Err(_) = answer {
+        return Reply { formed, next };
     }
-    crate::cached::renew(formed, state, t, cache);
-    r
+    crate::cached::renew(formed, s, t, cache);
+    Reply { formed, next }
 }
 
-// The lines of a chain, and the answer after them.
-pub fn listed(formed: bool, s: State, t: &[u32], out: &mut [u8], at: usize) -> usize
-    requires { (at + length t.now * 9 + 20 ≤ length out.old) × (formed ≡ well_formed s t.now) }
-    ensures { Puts out.old out.new at result (lines_for (engine_of s t.now) (aside listing)) (length t.now * 9 + 20) }
+/// The lines of a chain, and the answer after them.
+pub fn listed(formed: bool, s: &State, t: &[u32], out: &mut [u8]) -> usize
+    requires { (length t.now * 9 + 20 ≤ length out.old) × (formed ≡ well_formed s.now t.now) }
+    ensures { Puts out.old out.new 0 result (lines_for (engine_of s.now t.now) (aside listing)) (length t.now * 9 + 20) }
 {
     if !formed {
-        return lines::put_refused(out, at, 1);
+        return lines::put_refused(out, 0, 1);
     }
-    let settings = s.settings;
-    let next = listing::list_chain(t, settings, s.blocks, out, at);
+    let next = listing::list_chain(t, s.settings, s.blocks, out, 0);
     lines::put_ok(out, next)
 }

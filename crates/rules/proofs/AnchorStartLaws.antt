@@ -20,6 +20,7 @@ use Rattle.committee.specs.Committees.{leader_by, committee_of, start_of}
 use Rattle.committee.specs.Leaders.{leader_of, leader_number}
 use Rattle.committee.proofs.Lawful.{committee-below}
 use Rattle.committee.specs.Instance.{rules}
+use Rattle.terms.specs.declared.sheet.Weight.{Weight}
 use Rattle.rules.specs.Tests.{MemberView}
 use Rattle.rules.proofs.Implementations.{Implementation}
 use Rattle.rules.proofs.Runs.{Group, Entries, chain_after, Run}
@@ -76,7 +77,7 @@ module _ (S : Settings) {correct : ℕ → Bool} {G : Log (rules S)} {k : ℕ} {
       placed = I.storing.place seen.held
 
       start : start_of S b c ≡ seen.lead
-      start = ap (λ (w : List ℕ). leader_number (leader_of (weight_in w) b.round)) (sym (committee-below S below.1) ∙ ap (λ (d : Chain Content). committee_of S d b.round) (sym e)) ∙ ap leader_number seen.leads
+      start = ap (λ (w : List Weight). leader_number (leader_of (weight_in w) b.round)) (sym (committee-below S below.1) ∙ ap (λ (d : Chain Content). committee_of S d b.round) (sym e)) ∙ ap leader_number seen.leads
 
       inside : b.holds seen.lead b.round ≡ some x
       inside = (link.content seen.lead b.round x).1 (record { by = placed.0; at = placed.1; reached = here; unused = λ h. absurd (omega (arith, in_low c below.0.3 x h, placed.1, link.spaced)) })

@@ -15,6 +15,7 @@ use Rattle.committee.specs.Leaders.{members}
 use Rattle.committee.specs.declared.effects.Effect.{Effect}
 use Rattle.committee.specs.BondEffects.{bond_effect}
 use Rattle.rules.specs.Tests.{MemberView, bad_round, committee_in, unknown}
+use Rattle.terms.specs.declared.sheet.Weight.{Weight}
 
 -- the number of the block that holds the certificate of a place, 0 for none
 unfoldable pub block_number : Chain Content → ℕ → ℕ → ℕ
@@ -32,7 +33,7 @@ module _ (S : Settings) where
   reading_committee s r = (bad_round S r, 5) ∷ (unknown S s r, 8) ∷ []
 
   -- sixteen weights, 0 for a non-member
-  abbrev pub committee_read : MemberView S → ℕ → List ℕ
+  abbrev pub committee_read : MemberView S → ℕ → List Weight
   committee_read s r = committee_of S s.chain r
 
   -- share: 4, 5, 8, 9

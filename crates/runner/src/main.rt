@@ -1,21 +1,23 @@
-// The runner: records come in on standard input, and the lines that answer them go out on standard output (scope document: The runner).
-// Its memory is fixed: a table for ceilings up to 64, the committees of its rounds, and a buffer each for input and output.
+//! The runner on standard input and output.
+//!
+//! Records come in, and the lines that answer them go out. `run` of serving is handed standard input and output, and its contract says what comes of them. The memory is fixed: a table for ceilings up to 64, the committees of its rounds, and a buffer each for input and output. docs/SECOND-SUPPLIER.md.
 #![tactic(auto)]
 
+use serving::keeper::Keeper;
 use serving::lengths::{CACHE, INPUT, OUTPUT, TABLE};
-use session::passes;
+use std::io;
+use stream::tied::Tied;
 
-fn main(rt: HostRuntime) {
+// Where answers are lost, or records of the input, the program ends with a status that is not 0.
+fn main(rt: HostRuntime) -> io::Result<()> {
     let mut cache = [0u64; CACHE];
     let mut table = [0u32; TABLE];
     let mut buf = [0u8; INPUT];
     let mut out = [0u8; OUTPUT];
-    passes::run(
-        &mut rt.stdin(),
-        &mut rt.stdout(),
-        &mut cache,
-        &mut table,
-        &mut buf,
-        &mut out,
-    );
+    let mut streams = Tied {
+        input: rt.stdin(),
+        output: rt.stdout(),
+    };
+    let mut keeper = Keeper::new(&mut cache, &mut table);
+    serving::run(&mut streams, &mut keeper, &mut buf, &mut out).told()
 }

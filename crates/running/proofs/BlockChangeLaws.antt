@@ -10,7 +10,7 @@ use Rattle.base.specs.Folds.{fold_to}
 use Rattle.base.proofs.FoldLaws.{fold_to_none, fold_same, fold_high}
 use Rattle.terms.specs.Transactions.{read_transaction}
 use Rattle.store.specs.Table.{mark_at, held_at, count_at, kind_at, number_at, amount_at, transaction_at, content_at}
-use Rattle.store.proofs.TableLaws.{count-le, content-transactions, transaction-words}
+use Rattle.store.proofs.TableLaws.{count_le, content-transactions, transaction-words}
 use Rattle.committee.specs.Chain.{holds_at, block_at, chain_of}
 use Rattle.committee.proofs.ChainLaws.{holds-present, holds-other, holds-absent, block_inside}
 use Rattle.committee.specs.Changes.{change, changes, changes_of, at_most_one}
@@ -21,14 +21,15 @@ use Rattle.running.specs.BlockChanges.{slot_change, place_change, record_change,
 use Rattle.running.specs.Links.{Marked}
 use Rattle.running.specs.LinkRuns.{places_over, rows_over}
 use Rattle.running.proofs.RunLaws.{SameAt}
+use Rattle.terms.specs.declared.sheet.Weight.{Weight}
 
 -- ---- a place
 
 -- a record's transactions, one by one
-pub record_fold : (t : List ℕ) (m r : ℕ) (w : List ℕ) → changes (content_at t m r).transactions w ≡ fold_to (λ k. change (transaction_at t m r k)) (count_at t m r) w
+pub record_fold : (t : List ℕ) (m r : ℕ) (w : List Weight) → changes (content_at t m r).transactions w ≡ fold_to (λ k. change (transaction_at t m r k)) (count_at t m r) w
 record_fold t m r w = rw (content-transactions t m r) (changes-tab (transaction_at t m r) (count_at t m r) w)
 
-module _ (t : List ℕ) (m r : ℕ) (w : List ℕ) where
+module _ (t : List ℕ) (m r : ℕ) (w : List Weight) where
   -- the three words of a slot
   pub slot-words : (k : ℕ) → slot_change t m r k w ≡ cond (ltb k (count_at t m r)) (change (read_transaction (kind_at t m r k) (number_at t m r k) (amount_at t m r k)) w) w
   unfolding slot_change
@@ -40,13 +41,13 @@ module _ (t : List ℕ) (m r : ℕ) (w : List ℕ) where
   record_slots =
       record_fold t m r w
       ∙ fold_same (λ k. change (transaction_at t m r k)) (slot_change t m r) (count_at t m r) w (λ k v h. rw (lt-ltb k (count_at t m r) h) refl)
-      ∙ sym (fold_high (slot_change t m r) 4 (count_at t m r) w (count-le t m r) (λ k v h _. rw (le-ltb k (count_at t m r) h) refl))
+      ∙ sym (fold_high (slot_change t m r) 4 (count_at t m r) w (count_le t m r) (λ k v h _. rw (le-ltb k (count_at t m r) h) refl))
 
   -- none, if it has none
   pub record_empty : count_at t m r ≡ 0 → w ≡ changes (content_at t m r).transactions w
   record_empty e = sym (record_fold t m r w ∙ rw e (fold_to_none (λ k. change (transaction_at t m r k)) w))
 
-module _ (t : List ℕ) (k m r : ℕ) (w : List ℕ) where
+module _ (t : List ℕ) (k m r : ℕ) (w : List Weight) where
   -- a place that is not held changes nothing
   pub place-absent : held_at t m r ≡ false → changes_of (at_most_one (holds_at t k m r)) w ≡ w
   place-absent e = rw (holds-absent t k m r e) (changes-none w)
@@ -59,7 +60,7 @@ module _ (t : List ℕ) (k m r : ℕ) (w : List ℕ) where
   place-present e q = rw (holds-present t k m r e q) (changes-one (content_at t m r) w)
 
 -- a place that is not marked changes nothing
-place-unmarked : (t : List ℕ) (k p : ℕ) (w : List ℕ) → (Marked t k p → ⊥) → place_change t k p w ≡ w
+place-unmarked : (t : List ℕ) (k p : ℕ) (w : List Weight) → (Marked t k p → ⊥) → place_change t k p w ≡ w
 unfolding place_change
 place-unmarked t k p w n = go (held_at t (p % 16) (p / 16)) refl
   where
@@ -79,7 +80,7 @@ same_at t k =
 -- ---- a block
 
 -- by round, then numbers from that of its start on
-pub block-rows : (S : Settings) (t : List ℕ) (k : ℕ) (w : List ℕ) → block_change S t k w ≡ rows_over (place_change t (k + 1)) (start_at S t k) S.ceiling.0 w
+pub block-rows : (S : Settings) (t : List ℕ) (k : ℕ) (w : List Weight) → block_change S t k w ≡ rows_over (place_change t (k + 1)) (start_at S t k) S.ceiling.0 w
 unfolding block_change start_at rows_over places_over place_change
 block-rows S t k w =
     let n = S.ceiling.0 in

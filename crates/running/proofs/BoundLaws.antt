@@ -14,7 +14,7 @@ use Rattle.base.proofs.SumLaws.{sum_turned, sum_same, sum_le}
 use Rattle.terms.specs.declared.sheet.Settings.{Settings}
 use Rattle.terms.specs.Transactions.{amount_of}
 use Rattle.store.specs.Table.{block_round, held_at, mark_at, count_at, transaction_at}
-use Rattle.store.proofs.TableLaws.{count-le, amount_lt}
+use Rattle.store.proofs.TableLaws.{count_le, amount_lt}
 use Rattle.committee.specs.Chain.{holds_at, block_at, chain_of}
 use Rattle.committee.proofs.ChainLaws.{block-round}
 use Rattle.committee.specs.Changes.{change, changes_of, at_most_one}
@@ -26,6 +26,7 @@ use Rattle.running.specs.BlockChanges.{slot_change, place_change, record_change,
 use Rattle.running.specs.LinkRuns.{run_over, places_over, rows_over}
 use Rattle.running.proofs.BlockChangeLaws.{record_fold, record_slots, place-absent, place_other, place-present, block-rows}
 use Rattle.running.proofs.ChainLaws.{block_counts}
+use Rattle.terms.specs.declared.sheet.Weight.{Weight}
 
 -- the amounts of held transactions are at most a, in the rounds 1 to n
 abbrev pub WeightsBounded : List ℕ → ℕ → ℕ → Type 0
@@ -48,10 +49,10 @@ module _ (t : List ℕ) (n a : ℕ) (bounded : WeightsBounded t n a) where
       go true e true q =
           raises_same (changes_of (at_most_one (holds_at t k m r))) (fold_to (λ j. change (transaction_at t m r j)) (count_at t m r)) (4 * a)
           (λ w. place-present t k m r w e (eqb-true (mark_at t m r) k q) ∙ record_fold t m r w)
-          (transactions_raise t m r a (count_at t m r) (count-le t m r) (λ j i. bounded m r j h l e i))
+          (transactions_raise t m r a (count_at t m r) (count_le t m r) (λ j i. bounded m r j h l e i))
 
   -- each place counts once at most
-  once : (f : ℕ → List ℕ → List ℕ) → ((k : ℕ) → Raises (f k) (sum_to (λ r. sum_to (λ m. cond (eqb (mark_at t m (r + 1)) (k + 1)) (4 * a) 0) 16) n)) → (k : ℕ) → Raises (fold_to f k) (n * (16 * (4 * a)))
+  once : (f : ℕ → List Weight → List Weight) → ((k : ℕ) → Raises (f k) (sum_to (λ r. sum_to (λ m. cond (eqb (mark_at t m (r + 1)) (k + 1)) (4 * a) 0) 16) n)) → (k : ℕ) → Raises (fold_to f k) (n * (16 * (4 * a)))
   once f h k =
       raises_more (fold_to f k) (sum_to (λ j. sum_to (λ r. sum_to (λ m. cond (eqb (mark_at t m (r + 1)) (j + 1)) (4 * a) 0) 16) n) k) (n * (16 * (4 * a)))
       (marks-once (λ m r. mark_at t m (r + 1)) (4 * a) k n)
@@ -108,7 +109,7 @@ module _ (t : List ℕ) (S : Settings) (a : ℕ) (bounded : WeightsBounded t S.c
       (raised (fold_to (λ j. step S s (block_at n t (j + 1)) (chain_of n t j)) k) (n * (16 * (4 * a))) (once t n a bounded (λ j. step S s (block_at n t (j + 1)) (chain_of n t j)) (step_raises s) k) S.weights)
 
   -- the weights after the first k blocks
-  after_raises : (k : ℕ) (w : List ℕ) → total_in (after_blocks S t k w) ≤ total_in w + n * (16 * (4 * a))
+  after_raises : (k : ℕ) (w : List Weight) → total_in (after_blocks S t k w) ≤ total_in w + n * (16 * (4 * a))
   unfolding after_blocks
   after_raises k w = raised (fold_to (block_change S t) k) (n * (16 * (4 * a))) (once t n a bounded (block_change S t) block_raises k) w
 
@@ -119,7 +120,7 @@ module _ (t : List ℕ) (words : (i : ℕ) → get_or t i 0 < 4294967296) where
   weights-bounded n m r k _ _ _ _ = amount_lt t m r words k
 
   -- the slots below c
-  pub slots_total : (m r c : ℕ) (w : List ℕ) → c ≤ 4 → total_in (fold_to (slot_change t m r) c w) ≤ total_in w + 17179869180
+  pub slots_total : (m r c : ℕ) (w : List Weight) → c ≤ 4 → total_in (fold_to (slot_change t m r) c w) ≤ total_in w + 17179869180
   unfolding slot_change
   slots_total m r c w h =
       let l = raised (fold_to (slot_change t m r) c) (c * 4294967295)
@@ -130,11 +131,11 @@ module _ (t : List ℕ) (words : (i : ℕ) → get_or t i 0 < 4294967296) where
       omega arith
 
   -- a record
-  pub record_total : (p : ℕ) (w : List ℕ) → total_in (record_change t p w) ≤ total_in w + 17179869180
+  pub record_total : (p : ℕ) (w : List Weight) → total_in (record_change t p w) ≤ total_in w + 17179869180
   unfolding record_change
   record_total p w = rw (record_slots t (p % 16) (p / 16) w) (slots_total (p % 16) (p / 16) 4 w (omega arith))
 
-  pub from-total : (y p : ℕ) (w : List ℕ) → total_in (cond (leb y p) (record_change t p w) w) ≤ total_in w + 17179869180
+  pub from-total : (y p : ℕ) (w : List Weight) → total_in (cond (leb y p) (record_change t p w) w) ≤ total_in w + 17179869180
   from-total y p w = go (leb y p)
     where
       go : (b : Bool) → total_in (cond b (record_change t p w) w) ≤ total_in w + 17179869180
@@ -142,12 +143,12 @@ module _ (t : List ℕ) (words : (i : ℕ) → get_or t i 0 < 4294967296) where
       go false = omega arith
 
   -- a run of at most n places
-  pub run-total : (next : List ℕ) (y z n q : ℕ) (w : List ℕ) → total_in (run_over (record_change t) next y z n q w) ≤ total_in w + n * 17179869180
+  pub run-total : (next : List ℕ) (y z n q : ℕ) (w : List Weight) → total_in (run_over (record_change t) next y z n q w) ≤ total_in w + n * 17179869180
   unfolding run_over
   run-total next y z zero q w = omega arith
   run-total next y z (suc n) q w = go (ltb q z) (run-total next y z n (get_or next q 0) (cond (leb y q) (record_change t q w) w))
     where
-      v : List ℕ
+      v : List Weight
       v = cond (leb y q) (record_change t q w) w
 
       go : (b : Bool) → total_in (run_over (record_change t) next y z n (get_or next q 0) v) ≤ total_in v + n * 17179869180
@@ -156,12 +157,12 @@ module _ (t : List ℕ) (words : (i : ℕ) → get_or t i 0 < 4294967296) where
       go false i = omega arith
 
   -- the rows of a block up to m
-  pub rows-total : (k s m : ℕ) (w : List ℕ) → m ≤ 1024 → total_in (rows_over (place_change t k) s m w) ≤ total_in w + 281474976645120
+  pub rows-total : (k s m : ℕ) (w : List Weight) → m ≤ 1024 → total_in (rows_over (place_change t k) s m w) ≤ total_in w + 281474976645120
   rows-total k s m w h =
       let r = raised (rows_over (place_change t k) s m) (m * (16 * (4 * 4294967295))) (rows-most t 1024 4294967295 (weights-bounded 1024) k s m h) w in
       omega arith
 
-  pub after-total : (S : Settings) (k : ℕ) (w : List ℕ) → S.ceiling.0 ≤ 1024 → total_in (after_blocks S t k w) ≤ total_in w + 281474976645120
+  pub after-total : (S : Settings) (k : ℕ) (w : List Weight) → S.ceiling.0 ≤ 1024 → total_in (after_blocks S t k w) ≤ total_in w + 281474976645120
   after-total S k w h = let p = after_raises t S 4294967295 (weights-bounded S.ceiling.0) k w in omega arith
 
   pub bonded-total : (S : Settings) (k s : ℕ) → S.ceiling.0 ≤ 1024 → total_in (bonded_from S (chain_of S.ceiling.0 t k) s) ≤ total_in S.weights + 281474976645120

@@ -18,6 +18,7 @@ use Rattle.running.specs.BlockChanges.{block_change, last_round, blocks_fit}
 use Rattle.running.proofs.ChainLaws.{last_none, last_some, fits-at, last-from, bonded-split, after_none, after_more}
 use Rattle.running.proofs.BoundLaws.{after-total, bonded-total}
 use Rattle.running.specs.ChainInTable.{ChainInTable, AfterBlocks}
+use Rattle.terms.specs.declared.sheet.Weight.{Weight}
 
 -- settings in range, a table long enough and fitting blocks are enough
 pub chain_in_table : (S : Settings) (t : List ℕ) (blocks : ℕ) → SettingsFit S → Row t S.ceiling.0 → blocks_fit S.ceiling.0 t blocks ≡ true → ChainInTable S t blocks
@@ -44,15 +45,15 @@ module _ {S : Settings} {t : List ℕ} {blocks : ℕ} where
   pub after-start : (q : ℕ) → AfterBlocks S t blocks q 0 S.weights
   after-start q = record { within = omega arith; passed = omega (arith, last_none t); weights = sym (after_none S t S.weights) }
 
-  pub after-up : {q k : ℕ} {w : List ℕ} (q' : ℕ) → q ≤ q' → AfterBlocks S t blocks q k w → AfterBlocks S t blocks q' k w
+  pub after-up : {q k : ℕ} {w : List Weight} (q' : ℕ) → q ≤ q' → AfterBlocks S t blocks q k w → AfterBlocks S t blocks q' k w
   after-up q' h s = record { within = s.within; passed = let p = s.passed in omega arith; weights = s.weights }
 
   -- with another bound
-  pub after-at : {q k : ℕ} {w : List ℕ} (q' : ℕ) → last_round t k ≤ q' → AfterBlocks S t blocks q k w → AfterBlocks S t blocks q' k w
+  pub after-at : {q k : ℕ} {w : List Weight} (q' : ℕ) → last_round t k ≤ q' → AfterBlocks S t blocks q k w → AfterBlocks S t blocks q' k w
   after-at q' h s = record { within = s.within; passed = h; weights = s.weights }
 
   -- no block has a round above the ceiling
-  pub after_any : {q k : ℕ} {w : List ℕ} → ChainInTable S t blocks → AfterBlocks S t blocks q k w → AfterBlocks S t blocks 1024 k w
+  pub after_any : {q k : ℕ} {w : List Weight} → ChainInTable S t blocks → AfterBlocks S t blocks q k w → AfterBlocks S t blocks 1024 k w
   after_any {k = k} a s = after-at 1024 (go (ℕ_discrete k 0)) s
     where
       go : Dec (k ≡ 0) → last_round t k ≤ 1024
@@ -65,7 +66,7 @@ module _ {S : Settings} {t : List ℕ} {blocks : ℕ} where
           rw (last_some t k z) (omega arith)
 
   -- one block more
-  pub after_next : {q k : ℕ} {w : List ℕ} (v : List ℕ) → k < blocks → block_round t (k + 1) ≤ q → v ≡ block_change S t k w → AfterBlocks S t blocks q k w → AfterBlocks S t blocks q (k + 1) v
+  pub after_next : {q k : ℕ} {w : List Weight} (v : List Weight) → k < blocks → block_round t (k + 1) ≤ q → v ≡ block_change S t k w → AfterBlocks S t blocks q k w → AfterBlocks S t blocks q (k + 1) v
   after_next {q} {k} {w} v h l e s =
       record {
         within = omega arith;
@@ -74,7 +75,7 @@ module _ {S : Settings} {t : List ℕ} {blocks : ℕ} where
       }
 
   -- where no block of a round below s is left, it is the bonded committee of that round
-  pub after-bonded : {k : ℕ} {w : List ℕ} (s : ℕ) → 1 ≤ s → ChainInTable S t blocks → (k < blocks → s ≤ block_round t (k + 1)) → AfterBlocks S t blocks (s - 1) k w
+  pub after-bonded : {k : ℕ} {w : List Weight} (s : ℕ) → 1 ≤ s → ChainInTable S t blocks → (k < blocks → s ≤ block_round t (k + 1)) → AfterBlocks S t blocks (s - 1) k w
       → w ≡ bonded_from S (chain_of S.ceiling.0 t blocks) s
   after-bonded {k} {w} s h a f x =
       let p = x.passed in
@@ -91,7 +92,7 @@ module _ {S : Settings} {t : List ℕ} {blocks : ℕ} where
       go (no l) = committee-start S (chain_of S.ceiling.0 t blocks) q (omega arith)
 
   -- before the first block's round it is the starting one
-  pub after_first : {k : ℕ} {w : List ℕ} → ChainInTable S t blocks → AfterBlocks S t blocks 0 k w → w ≡ S.weights
+  pub after_first : {k : ℕ} {w : List Weight} → ChainInTable S t blocks → AfterBlocks S t blocks 0 k w → w ≡ S.weights
   after_first {k} {w} a s =
       let p = last-from S.ceiling.0 t blocks a.rounds k s.within in
       let q = s.passed in
@@ -99,7 +100,7 @@ module _ {S : Settings} {t : List ℕ} {blocks : ℕ} where
       s.weights ∙ rw e (after_none S t S.weights)
 
   -- its total is bounded, where each word of the table is a 32-bit number
-  pub after-bounded : {q k : ℕ} {w : List ℕ} → ((i : ℕ) → get_or t i 0 < 4294967296) → ChainInTable S t blocks → AfterBlocks S t blocks q k w → TotalBounded w
+  pub after-bounded : {q k : ℕ} {w : List Weight} → ((i : ℕ) → get_or t i 0 < 4294967296) → ChainInTable S t blocks → AfterBlocks S t blocks q k w → TotalBounded w
   after-bounded {q} {k} {w} words a s =
       let l = after-total t words S k S.weights a.ceiling in
       let h = a.total in

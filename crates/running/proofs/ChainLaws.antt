@@ -21,6 +21,7 @@ use Rattle.committee.specs.Committees.{bonded_from, committee_of, leader_by, sta
 use Rattle.committee.proofs.CommitteeLaws.{committee-start, committee-bonded}
 use Rattle.committee.proofs.BondedLaws.{step, step_counts, step_waits, bonded-none, bonded-more}
 use Rattle.running.specs.BlockChanges.{start_at, block_change, after_blocks, last_round, block_fits, blocks_fit}
+use Rattle.terms.specs.declared.sheet.Weight.{Weight}
 
 -- ---- the last round
 
@@ -39,7 +40,7 @@ last-chain n t k = chain-last n t k
 -- ---- a block
 
 -- of a round below s it counts
-pub block_counts : (S : Settings) (s k : ℕ) (t w : List ℕ) → block_round t (k + 1) < s → step S s (block_at S.ceiling.0 t (k + 1)) (chain_of S.ceiling.0 t k) w ≡ block_change S t k w
+pub block_counts : (S : Settings) (s k : ℕ) (t : List ℕ) (w : List Weight) → block_round t (k + 1) < s → step S s (block_at S.ceiling.0 t (k + 1)) (chain_of S.ceiling.0 t k) w ≡ block_change S t k w
 unfolding block_change
 block_counts S s k t w h = let n = S.ceiling.0 in step_counts S s (block_at n t (k + 1)) (chain_of n t k) w (rw (block-round n t (k + 1)) h)
 
@@ -90,11 +91,11 @@ module _ (n : ℕ) (t : List ℕ) (blocks : ℕ) (fit : blocks_fit n t blocks �
 
 -- ---- one block more
 
-pub after_none : (S : Settings) (t w : List ℕ) → after_blocks S t 0 w ≡ w
+pub after_none : (S : Settings) (t : List ℕ) (w : List Weight) → after_blocks S t 0 w ≡ w
 unfolding after_blocks fold_to
 after_none S t w = refl
 
-pub after_more : (S : Settings) (t : List ℕ) (k : ℕ) (w : List ℕ) → after_blocks S t (k + 1) w ≡ block_change S t k (after_blocks S t k w)
+pub after_more : (S : Settings) (t : List ℕ) (k : ℕ) (w : List Weight) → after_blocks S t (k + 1) w ≡ block_change S t k (after_blocks S t k w)
 unfolding after_blocks
 after_more S t k w = fold_more (block_change S t) k w
 
@@ -106,12 +107,11 @@ module _ (S : Settings) (t : List ℕ) (blocks : ℕ) (fit : blocks_fit S.ceilin
 
   -- where the newest block's round is below s, all count
   bonded-all : (s k : ℕ) → k ≤ blocks → last_round t k < s → bonded_from S (chain_of n t k) s ≡ after_blocks S t k S.weights
-  unfolding after_blocks fold_to
-  bonded-all s zero h l = bonded-none S n t s
+  bonded-all s zero h l = bonded-none S n t s ∙ sym (after_none S t S.weights)
   bonded-all s (suc k) h l =
       let q = fits-at n t blocks fit k (omega arith) in
       let b : block_round t (k + 1) < s = rw (last-next n t blocks fit k) at l in
-      rw (← add-one k, bonded-more S n t k s, block_counts S s k t (bonded_from S (chain_of n t k) s) b, bonded-all s k (omega arith) (omega arith)) refl
+      rw (← add-one k, bonded-more S n t k s, block_counts S s k t (bonded_from S (chain_of n t k) s) b, bonded-all s k (omega arith) (omega arith), after_more S t k S.weights) refl
 
   -- the first j count where the round of block j is below s, and that of the next is not
   pub bonded-split : (s j k : ℕ) → j ≤ k → k ≤ blocks → last_round t j < s → (j < k → s ≤ block_round t (j + 1)) → bonded_from S (chain_of n t k) s ≡ after_blocks S t j S.weights

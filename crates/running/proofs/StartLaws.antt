@@ -18,6 +18,7 @@ use Rattle.running.proofs.ChainLaws.{last_some, fits-at, start-now}
 use Rattle.running.specs.ChainInTable.{ChainInTable, AfterBlocks}
 use Rattle.running.proofs.ChainInTableLaws.{after-start, after-up, after-at, after_next}
 use Rattle.running.specs.Starts.{Started, Running, StartsAhead}
+use Rattle.terms.specs.declared.sheet.Weight.{Weight}
 
 -- a start is the number of a member, or 16 for none
 pub start-le : (S : Settings) (t : List ℕ) (k : ℕ) → start_at S t k ≤ 16
@@ -55,7 +56,7 @@ module _ {S : Settings} {t : List ℕ} {blocks : ℕ} where
   started_none n = record { size = length-replicate 512 n; from = omega arith; to = omega arith; written = λ i h. absurd (omega arith); ahead = λ h. absurd (omega arith) }
 
   -- one start more: that of a block within lookback rounds of the one to be applied next
-  pub started-next : {k i : ℕ} {q : ℕ} {w : List ℕ} {starts : List ℕ} {v : ℕ} → ChainInTable S t blocks → i < blocks → block_round t (i + 1) ≤ block_round t (k + 1) + S.lookback → v ≡ leader_by w (block_round t (i + 1))
+  pub started-next : {k i : ℕ} {q : ℕ} {w : List Weight} {starts : List ℕ} {v : ℕ} → ChainInTable S t blocks → i < blocks → block_round t (i + 1) ≤ block_round t (k + 1) + S.lookback → v ≡ leader_by w (block_round t (i + 1))
       → AfterBlocks S t blocks q k w → Started S t blocks k i starts → Started S t blocks k (i + 1) (set starts i v)
   started-next {k} {i} {q} {w} {starts} {v} a h near e x s =
       record {
@@ -90,7 +91,7 @@ module _ {S : Settings} {t : List ℕ} {blocks : ℕ} where
       }
 
   -- one block more, in its own order
-  pub running-next : {k f : ℕ} {w v starts : List ℕ} → ChainInTable S t blocks → k < blocks → AfterBlocks S t blocks 1024 k w → StartsAhead S t blocks k f starts
+  pub running-next : {k f : ℕ} {w v : List Weight} {starts : List ℕ} → ChainInTable S t blocks → k < blocks → AfterBlocks S t blocks 1024 k w → StartsAhead S t blocks k f starts
       → v ≡ rows_over (place_change t (k + 1)) (get_or starts k 0) S.ceiling.0 w
       → Running S t blocks 1024 (record { blocks = k + 1; starts = f }) v starts
   running-next {k} {f} {w} {v} {starts} a h x s e =
@@ -102,12 +103,12 @@ module _ {S : Settings} {t : List ℕ} {blocks : ℕ} where
       }
 
   -- where the last block's round is below q
-  pub running-below : (k q : ℕ) {y : Applied} {w starts : List ℕ} → y.blocks ≡ k + 1 → block_round t (k + 1) < q → Running S t blocks 1024 y w starts → Running S t blocks (q - 1) y w starts
+  pub running-below : (k q : ℕ) {y : Applied} {w : List Weight} {starts : List ℕ} → y.blocks ≡ k + 1 → block_round t (k + 1) < q → Running S t blocks 1024 y w starts → Running S t blocks (q - 1) y w starts
   running-below k q e h r = record { after = after-at (q - 1) (rw (e, last_some t (k + 1) (λ z. omega arith)) (omega arith)) r.after; started = r.started }
 
   -- at the start
-  pub running_none : {x : Applied} {w starts : List ℕ} (q : ℕ) → (x.blocks ≡ 0) × (x.starts ≡ 0) → w ≡ S.weights → Started S t blocks 0 0 starts → Running S t blocks q x w starts
+  pub running_none : {x : Applied} {w : List Weight} {starts : List ℕ} (q : ℕ) → (x.blocks ≡ 0) × (x.starts ≡ 0) → w ≡ S.weights → Started S t blocks 0 0 starts → Running S t blocks q x w starts
   running_none q z e s = record { after = rw (z.0, e) (after-start q); started = rw (z.0, z.1) s }
 
-  pub running-up : {q : ℕ} {x : Applied} {w starts : List ℕ} (q' : ℕ) → q ≤ q' → Running S t blocks q x w starts → Running S t blocks q' x w starts
+  pub running-up : {q : ℕ} {x : Applied} {w : List Weight} {starts : List ℕ} (q' : ℕ) → q ≤ q' → Running S t blocks q x w starts → Running S t blocks q' x w starts
   running-up q' h r = record { after = after-up q' h r.after; started = r.started }

@@ -13,7 +13,7 @@ use Rattle.base.proofs.SumLaws.{sum_le}
 use Rattle.base.proofs.TestLaws.{all-at}
 use Rattle.terms.specs.Transactions.{in_range}
 use Rattle.terms.specs.Proposals.{bad_transactions}
-use Rattle.terms.proofs.ProposalLaws.{range_amount, bad_transactions-tab}
+use Rattle.terms.proofs.ProposalLaws.{range_amount, bad_transactions_tab}
 use Rattle.store.specs.Table.{count_at, transaction_at}
 use Rattle.store.proofs.TableLaws.{content-transactions}
 use Rattle.scan.specs.Scan.{rows_fit}
@@ -29,7 +29,7 @@ use Rattle.running.proofs.BoundLaws.{WeightsBounded, bonded_raises}
 rows-weights : (t : List ℕ) (allowance blocks n : ℕ) → rows_fit t allowance blocks n ≡ true → WeightsBounded t n 1000
 rows-weights t allowance blocks n e m r k h l f i =
     let w = (rows-held t allowance blocks n e r h l).records m f in
-    let u = sym (bad_transactions-tab allowance (transaction_at t m r) (count_at t m r)) ∙ ap (bad_transactions allowance) (sym (content-transactions t m r)) ∙ transactions-fit w in
+    let u = sym (bad_transactions_tab allowance (transaction_at t m r) (count_at t m r)) ∙ ap (bad_transactions allowance) (sym (content-transactions t m r)) ∙ transactions-fit w in
     let a = not-false (all_to (λ j. in_range (transaction_at t m r j)) (count_at t m r)) (neither (ltb allowance (count_at t m r)) (not (all_to (λ j. in_range (transaction_at t m r j)) (count_at t m r))) u).1 in
     range_amount (transaction_at t m r k) (all-at (λ j. in_range (transaction_at t m r j)) (count_at t m r) k i a)
 

@@ -4,6 +4,7 @@ use Rattle.store.specs.Table.{Row}
 use Rattle.terms.specs.declared.sheet.Settings.{Settings}
 use Rattle.committee.specs.Totals.{total_in}
 use Rattle.running.specs.BlockChanges.{after_blocks, last_round, blocks_fit}
+use Rattle.terms.specs.declared.sheet.Weight.{Weight}
 
 pub record ChainInTable (S : Settings) (t : List ℕ) (blocks : ℕ) : Type 0 where
   pub ceiling : S.ceiling.0 ≤ 1024
@@ -13,7 +14,7 @@ pub record ChainInTable (S : Settings) (t : List ℕ) (blocks : ℕ) : Type 0 wh
   pub total : total_in S.weights ≤ 16000000
 
 -- the starting weights, changed by the first k blocks, none of which has a round above q
-pub record AfterBlocks (S : Settings) (t : List ℕ) (blocks q k : ℕ) (w : List ℕ) : Type 0 where
+pub record AfterBlocks (S : Settings) (t : List ℕ) (blocks q k : ℕ) (w : List Weight) : Type 0 where
   pub within : k ≤ blocks
   pub passed : last_round t k ≤ q
   pub weights : w ≡ after_blocks S t k S.weights

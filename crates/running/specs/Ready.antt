@@ -4,33 +4,34 @@ use Rattle.store.specs.Table.{Row, Within, count_at}
 use Rattle.committee.specs.Totals.{total_in}
 use Rattle.running.specs.Rows.{RowsTo, RowRoom}
 use Rattle.running.specs.Links.{Links}
+use Rattle.terms.specs.declared.sheet.Weight.{Weight}
 
 -- slot k of the record of a place, which has n transactions
-pub record SlotReady (t : List ℕ) (m r n k : ℕ) (w : List ℕ) : Type 0 where
+pub record SlotReady (t : List ℕ) (m r n k : ℕ) (w : List Weight) : Type 0 where
   pub place : Within t m r
   pub count : n ≡ count_at t m r
   pub slot : k ≤ 3
   pub total : total_in w ≤ 4611686018427387904
 
 -- the record of a place
-pub record RecordReady (t : List ℕ) (m r : ℕ) (w : List ℕ) : Type 0 where
+pub record RecordReady (t : List ℕ) (m r : ℕ) (w : List Weight) : Type 0 where
   pub place : Within t m r
   pub total : total_in w ≤ 2305843009213693952
 
 -- the places of a row that lie below z
-pub record RunReady (t next : List ℕ) (z : ℕ) (w : List ℕ) : Type 0 where
+pub record RunReady (t next : List ℕ) (z : ℕ) (w : List Weight) : Type 0 where
   pub long : Row t ((z - 1) / 16)
   pub places : z ≤ length next
   pub total : total_in w ≤ 1152921504606846976
 
 -- the row of round r, which starts with member a
-pub record RowReady (t next : List ℕ) (a r : ℕ) (w : List ℕ) : Type 0 where
+pub record RowReady (t next : List ℕ) (a r : ℕ) (w : List Weight) : Type 0 where
   pub start : a ≤ 16
   pub room : RowRoom t next r
   pub total : total_in w ≤ 1125899906842624
 
 -- block b, where the ceiling is n and its rows start with member a
-pub record BlockReady (t head next : List ℕ) (b a n : ℕ) (w : List ℕ) : Type 0 where
+pub record BlockReady (t head next : List ℕ) (b a n : ℕ) (w : List Weight) : Type 0 where
   pub rows : RowsTo t n
   pub block : b < 512
   pub start : a ≤ 16

@@ -6,6 +6,7 @@ use Rattle.terms.specs.declared.sheet.Settings.{Settings}
 use Rattle.running.specs.BlockChanges.{start_at, last_round}
 use Rattle.running.specs.ChainInTable.{ChainInTable, AfterBlocks}
 use Rattle.running.specs.declared.Applied.{Applied}
+use Rattle.terms.specs.declared.sheet.Weight.{Weight}
 
 -- the first k blocks are applied, and the starts of the first f are written: at least of those up to lookback rounds after the last one applied
 pub record Started (S : Settings) (t : List ℕ) (blocks k f : ℕ) (starts : List ℕ) : Type 0 where
@@ -16,12 +17,12 @@ pub record Started (S : Settings) (t : List ℕ) (blocks k f : ℕ) (starts : Li
   pub ahead : 0 < k → f < blocks → last_round t k + S.lookback < block_round t (f + 1)
 
 -- a running committee, none of whose blocks has a round above q, and the starts written beside it
-pub record Running (S : Settings) (t : List ℕ) (blocks q : ℕ) (x : Applied) (w starts : List ℕ) : Type 0 where
+pub record Running (S : Settings) (t : List ℕ) (blocks q : ℕ) (x : Applied) (w : List Weight) (starts : List ℕ) : Type 0 where
   pub after : AfterBlocks S t blocks q x.blocks w
   pub started : Started S t blocks x.blocks x.starts starts
 
 -- a block comes after the first k, w is the running committee before it, and places is the table of members by position
-pub record BeforeBlock (S : Settings) (t : List ℕ) (blocks k f : ℕ) (places w starts : List ℕ) : Type 0 where
+pub record BeforeBlock (S : Settings) (t : List ℕ) (blocks k f : ℕ) (places : List ℕ) (w : List Weight) (starts : List ℕ) : Type 0 where
   pub chain : ChainInTable S t blocks
   pub positions : places ≡ place_table
   pub more : k < blocks

@@ -6,6 +6,7 @@ use Rattle.running.specs.ChainInTable.{ChainInTable}
 use Rattle.running.specs.Links.{Links}
 use Rattle.running.specs.Starts.{Started, Running}
 use Rattle.running.specs.declared.Applied.{Applied}
+use Rattle.terms.specs.declared.sheet.Weight.{Weight}
 
 -- the chain, and next has a word for each place
 pub record WalkRoom (S : Settings) (t : List ℕ) (blocks : ℕ) (next : List ℕ) : Type 0 where
@@ -19,12 +20,12 @@ pub record ChainLinked (S : Settings) (t : List ℕ) (blocks : ℕ) (head next p
   pub positions : places ≡ place_table
 
 -- no block is applied yet: w has the starting weights, and no start is written
-pub record WalkStart (S : Settings) (t : List ℕ) (blocks : ℕ) (head next places w starts : List ℕ) : Type 0 where
+pub record WalkStart (S : Settings) (t : List ℕ) (blocks : ℕ) (head next places : List ℕ) (w : List Weight) (starts : List ℕ) : Type 0 where
   pub linked : ChainLinked S t blocks head next places
   pub weights : w ≡ S.weights
   pub started : Started S t blocks 0 0 starts
 
 -- the blocks of x are applied, none of which has a round above q
-pub record Walking (S : Settings) (t : List ℕ) (blocks q : ℕ) (x : Applied) (head next places w starts : List ℕ) : Type 0 where
+pub record Walking (S : Settings) (t : List ℕ) (blocks q : ℕ) (x : Applied) (head next places : List ℕ) (w : List Weight) (starts : List ℕ) : Type 0 where
   pub linked : ChainLinked S t blocks head next places
   pub running : Running S t blocks q x w starts

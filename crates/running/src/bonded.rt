@@ -1,4 +1,4 @@
-// The committees of rounds, from the chain in the table (scope document: Committees, quorums, leaders).
+// The committees of rounds, from the chain in the table (docs/RULES.md, "Weights" to "Leader and anchor").
 // Its cost is that of one pass over the header of each row and each held certificate, of one leader for each block, and of at most two looks at each certificate in a block.
 
 ghost use Rattle.std.specs.Prelude.{◌≡◌, true, ℕ, ◌-◌, ◌<◌, ◌≤◌};
@@ -15,13 +15,13 @@ ghost use Rattle.running.specs.Walks.{WalkRoom};
 use crate::changes;
 use committee::positions;
 use terms::Round;
-use terms::sheet::Settings;
+use terms::sheet::{Settings, Weight};
 
 // The committees of a round and of the one before it.
 #[derive(Clone, Copy)]
 pub struct Pair {
-    pub before: [u64; 16],
-    pub at: [u64; 16],
+    pub before: [Weight; 16],
+    pub at: [Weight; 16],
 }
 
 // The round of the newest of the first k blocks, 0 for none.
@@ -147,7 +147,7 @@ pub fn committees_of(t: &[u32], s: Settings, blocks: u32, r: Round) -> Pair
 }
 
 // The committee of round r.
-pub fn committee_of(t: &[u32], s: Settings, blocks: u32, r: Round) -> [u64; 16]
+pub fn committee_of(t: &[u32], s: Settings, blocks: u32, r: Round) -> [Weight; 16]
     requires { ChainInTable s t.now blocks }
     ensures { (result ≡ committee_of s (chain_of s.ceiling.0 t.now blocks) r.0) × TotalBounded result }
 {

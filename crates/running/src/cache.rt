@@ -1,13 +1,12 @@
-// Committees cached by round beside the table, so that a call need not walk over it (scope document: Committees, quorums, leaders).
+// Committees cached by round beside the table, so that a call need not walk over it (docs/RULES.md, "Weights" to "Leader and anchor").
 // The first word of a cache is the first round that it has; then come sixteen words for each round from there on, up to the ceiling, as far as there is room.
 
 ghost use Rattle.std.specs.Prelude.{◌≡◌, true, ◌+◌, ◌≤◌, length};
 ghost use Rattle.std.proofs.Math.Seq.{paste};
-ghost use Rattle.base.specs.Parts.{part};
 ghost use Rattle.committee.specs.Chain.{chain_of};
 ghost use Rattle.committee.specs.Committees.{committee_of};
 ghost use Rattle.committee.specs.Totals.{TotalBounded};
-ghost use Rattle.running.specs.Caches.{first_round, words_at, InWindow, Caches};
+ghost use Rattle.running.specs.Caches.{first_round, words_at, weights_at, numbers, InWindow, Caches};
 ghost use Rattle.running.specs.Pairs.{PairOf};
 ghost use Rattle.running.specs.ChainInTable.{ChainInTable};
 ghost use Rattle.running.specs.Walks.{WalkRoom, WalkStart};
@@ -16,30 +15,26 @@ use crate::bonded::Pair;
 use crate::{bonded, changes};
 use committee::positions;
 use terms::Round;
-use terms::sheet::Settings;
+use terms::sheet::{Settings, Weight};
 
 // The first round of a window that has none: no ceiling is as high.
 pub const NO_ROUND: u64 = 4294967296;
 
-// Sixteen words from `at` on.
-fn words_at(cache: &[u64], at: usize) -> [u64; 16]
+// The sixteen weights from `at` on.
+fn weights_at(cache: &[u64], at: usize) -> [Weight; 16]
     requires { at + 16 ≤ length cache.now }
-    ensures { result ≡ part cache.now at 16 }
+    ensures { result ≡ weights_at cache.now at }
 {
-    let mut w = [0u64; 16];
-    for i in 0..16usize {
-        w[i] = cache[at + i];
-    }
-    w
+    std::array::from_fn(|i| Weight(cache[at + i]))
 }
 
-// Puts sixteen words from `at` on.
-fn put_words(w: [u64; 16], at: usize, cache: &mut [u64])
+// Puts sixteen weights from `at` on.
+fn put_weights(w: &[Weight; 16], at: usize, cache: &mut [u64])
     requires { at + 16 ≤ length cache.old }
-    ensures { (length w ≡ 16) × (cache.new ≡ paste cache.old at w 16) }
+    ensures { (length w.now ≡ 16) × (cache.new ≡ paste cache.old at (numbers w.now) 16) }
 {
     for i in 0..16usize {
-        cache[at + i] = w[i];
+        cache[at + i] = w[i].0;
     }
 }
 
@@ -63,13 +58,13 @@ pub fn is_cached(cache: &[u64], n: Round, r: Round) -> bool
     true
 }
 
-// The words of round r.
-fn cached_at(cache: &[u64], r: Round) -> [u64; 16]
+// The committee of round r.
+fn cached_at(cache: &[u64], r: Round) -> [Weight; 16]
     requires { InWindow cache.now r.0 }
-    ensures { result ≡ part cache.now (words_at (first_round cache.now) r.0) 16 }
+    ensures { result ≡ weights_at cache.now (words_at (first_round cache.now) r.0) }
 {
     let at = (r.0 as u64 - cache[0]) as usize * 16 + 1;
-    words_at(cache, at)
+    weights_at(cache, at)
 }
 
 // The committees of round r and of the one before it: those cached, or else by a walk.
@@ -91,7 +86,7 @@ pub fn committees(cache: &[u64], t: &[u32], s: Settings, blocks: u32, r: Round) 
 }
 
 // The committee of round r: the one cached, the starting one, or else by a walk.
-pub fn committee(cache: &[u64], t: &[u32], s: Settings, blocks: u32, r: Round) -> [u64; 16]
+pub fn committee(cache: &[u64], t: &[u32], s: Settings, blocks: u32, r: Round) -> [Weight; 16]
     requires { ChainInTable s t.now blocks × Caches s (chain_of s.ceiling.0 t.now blocks) cache.now }
     ensures { (result ≡ committee_of s (chain_of s.ceiling.0 t.now blocks) r.0) × TotalBounded result }
 {
@@ -113,7 +108,7 @@ fn cache_rounds(
     blocks: u32,
     first: Round,
     places: &[u8; 2048],
-    w: &mut [u64; 16],
+    w: &mut [Weight; 16],
     starts: &mut [u32; 512],
     cache: &mut [u64],
 )
@@ -128,7 +123,7 @@ fn cache_rounds(
             return;
         }
         x = crate::reach_round(t, head, next, s, blocks, x, Round(q), places, w, starts);
-        put_words(*w, at, cache);
+        put_weights(w, at, cache);
     }
 }
 

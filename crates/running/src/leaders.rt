@@ -1,4 +1,4 @@
-// The leaders of many rounds, going up with one running committee (scope document: Committees, quorums, leaders).
+// The leaders of many rounds, going up with one running committee (docs/RULES.md, "Weights" to "Leader and anchor").
 
 ghost use Rattle.committee.specs.Chain.{chain_of};
 ghost use Rattle.running.specs.Fill.{RoundSpan, LeadersFilled};
@@ -8,7 +8,7 @@ ghost use Rattle.running.specs.Walks.{WalkRoom, WalkStart};
 use crate::changes;
 use committee::{positions, weighing};
 use terms::Round;
-use terms::sheet::Settings;
+use terms::sheet::{Settings, Weight};
 
 // The leaders of the rounds above m up to top, where the places of each block are linked; w is the starting committee, and then that of the round above top.
 fn fill_rounds(
@@ -20,7 +20,7 @@ fn fill_rounds(
     m: Round,
     top: Round,
     places: &[u8; 2048],
-    w: &mut [u64; 16],
+    w: &mut [Weight; 16],
     starts: &mut [u32; 512],
     l: &mut [u32; 1025],
 )
@@ -57,7 +57,7 @@ fn filled_by(
     top: Round,
     next: &mut [u32],
     l: &mut [u32; 1025],
-) -> [u64; 16]
+) -> [Weight; 16]
     requires { WalkRoom s t.now blocks next.old × RoundSpan m.0 top.0 }
     ensures { LeadersFilled s (chain_of s.ceiling.0 t.now blocks) m.0 top.0 l.old l.new result }
 {
@@ -91,7 +91,7 @@ pub fn fill_leaders(
     m: Round,
     top: Round,
     l: &mut [u32; 1025],
-) -> [u64; 16]
+) -> [Weight; 16]
     requires { ChainInTable s t.now blocks × RoundSpan m.0 top.0 }
     ensures { LeadersFilled s (chain_of s.ceiling.0 t.now blocks) m.0 top.0 l.old l.new result }
 {

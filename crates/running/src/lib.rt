@@ -1,5 +1,7 @@
-// A running committee: the starting weights, changed by the first blocks of the chain, oldest first.
-// The rows of a block start with the leader of its round, whose committee is that of lookback rounds before: so the start of each block is told before the blocks from there on are applied.
+//! The committees of rounds, from the chain in the table.
+//!
+//! The starting weights, changed by the blocks of the chain, oldest first: whether a round is known, its committee, and its leader are those of the chain that the table shows (specs/ChainInTable, specs/BlockChanges), whatever its marks are. Committees may be kept beside the table, by round (specs/Caches).
+//! The rows of a block start with the leader of its round, whose committee is that of lookback rounds before: so the start of each block is told before the blocks from there on are applied (specs/Starts).
 #![tactic(auto)]
 
 pub mod bonded;
@@ -15,7 +17,7 @@ ghost use Rattle.running.specs.Starts.{Running, BeforeBlock, StartsAhead};
 ghost use Rattle.running.specs.Walks.{Walking};
 
 use committee::weighing;
-use terms::sheet::Settings;
+use terms::sheet::{Settings, Weight};
 use terms::{Member, Round};
 
 // How many blocks are applied, and of how many the starts are written.
@@ -43,7 +45,7 @@ fn fill_starts(
     k: u32,
     f: u32,
     places: &[u8; 2048],
-    w: &[u64; 16],
+    w: &[Weight; 16],
     starts: &mut [u32; 512],
 ) -> u32
     requires { BeforeBlock s t.now blocks k f places.now w.now starts.old }
@@ -72,7 +74,7 @@ pub fn apply_next(
     blocks: u32,
     x: Applied,
     places: &[u8; 2048],
-    w: &mut [u64; 16],
+    w: &mut [Weight; 16],
     starts: &mut [u32; 512],
 ) -> Applied
     requires { Walking s t.now blocks 1024 x head.now next.now places.now w.old starts.old × (x.blocks < blocks) }
@@ -98,7 +100,7 @@ fn apply_below(
     x: Applied,
     q: Round,
     places: &[u8; 2048],
-    w: &mut [u64; 16],
+    w: &mut [Weight; 16],
     starts: &mut [u32; 512],
 ) -> Applied
     requires { Walking s t.now blocks (q.0 - 1) x head.now next.now places.now w.old starts.old × (1 ≤ q.0) }
@@ -125,7 +127,7 @@ pub fn reach_round(
     x: Applied,
     r: Round,
     places: &[u8; 2048],
-    w: &mut [u64; 16],
+    w: &mut [Weight; 16],
     starts: &mut [u32; 512],
 ) -> Applied
     requires { Walking s t.now blocks (r.0 - s.lookback - 1) x head.now next.now places.now w.old starts.old }

@@ -16,7 +16,7 @@ use Rattle.terms.specs.declared.Transaction.{Transaction}
 use Rattle.terms.specs.declared.Transaction.TheVariants.{Bond, Unbond, Entry}
 use Rattle.terms.specs.Transactions.{kind_of, number_of, amount_of, in_range}
 use Rattle.terms.specs.Proposals.{Content, bad_transactions, bad_previous_set}
-use Rattle.terms.proofs.ProposalLaws.{bad_transactions-tab}
+use Rattle.terms.proofs.ProposalLaws.{bad_transactions_tab}
 use Rattle.store.specs.Table.{Row, Within, held_set, endorsed_set, held_at, mark_at, nth_of}
 use Rattle.store.proofs.TableLaws.{held-member}
 use Rattle.store.specs.Writes.{put_certificate, set_endorsed, clear_endorsed, clear_held, set_mark, set_block, clear_used}
@@ -43,7 +43,7 @@ triple-fits (Entry n) = refl
 
 -- transactions that are not bad
 fit_parts : (a : ℕ) (p : Content) → bad_transactions a p.transactions ≡ false → (length p.transactions ≤ a) × ((k : ℕ) → k < length p.transactions → in_range (nth_of p k) ≡ true)
-fit_parts a p e = go (ltb a (length p.transactions)) refl (sym (bad_transactions-tab a (nth_of p) (length p.transactions)) ∙ ap (bad_transactions a) (tab_nth p) ∙ e)
+fit_parts a p e = go (ltb a (length p.transactions)) refl (sym (bad_transactions_tab a (nth_of p) (length p.transactions)) ∙ ap (bad_transactions a) (tab_nth p) ∙ e)
   where
     go : (b : Bool) → ltb a (length p.transactions) ≡ b → (b || not (all_to (λ k. in_range (nth_of p k)) (length p.transactions))) ≡ false
         → (length p.transactions ≤ a) × ((k : ℕ) → k < length p.transactions → in_range (nth_of p k) ≡ true)
@@ -149,20 +149,6 @@ rows-marked {t = t} {u = u} o a b b' n f e = rows-kept t u a b b' n e row
       where
         go : (m : ℕ) → held_at t m r ≡ true → RecordFits u a b' m r
         go m h = record_same (word-marked o m r) (f m r z l h (w.records m h).mark) (w.records m h)
-
-pub rows-set-mark : (t : List ℕ) (m r k : ℕ) → Within t m r → (a b n : ℕ) → k ≤ b → rows_fit t a b n ≡ true → rows_fit (set_mark t m r k) a b n ≡ true
-rows-set-mark t m r k at a b n h = rows-marked (only-mark r t m r k at.member (omega arith)) a b b n (λ i q _ _ x y. rw (mark_set t m r k at i q (held-member t i q x)) (go (same_place i q m r) y))
-  where
-    go : {x : ℕ} (z : Bool) → x ≤ b → cond z k x ≤ b
-    go true y = h
-    go false y = y
-
-pub rows-set-block : (t : List ℕ) (k r a b n : ℕ) → rows_fit t a b n ≡ true → rows_fit (set_block t k r) a b n ≡ true
-rows-set-block t k r a b n = rows-marked (only-block k t k r (omega arith)) a b b n (λ i q _ _ x y. rw (mark-block t k r i q (held-member t i q x)) y)
-
--- more blocks
-pub rows_more : (t : List ℕ) (a b b' n : ℕ) → b ≤ b' → rows_fit t a b n ≡ true → rows_fit t a b' n ≡ true
-rows_more t a b b' n h = rows-marked (only-all 0 t) a b b' n (λ i q _ _ _ y. omega arith)
 
 -- ---- the used part cleared
 

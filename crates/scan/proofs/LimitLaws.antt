@@ -1,12 +1,13 @@
 -- Laws of the limits for the words of a transaction.
 use mathlib.Core.Path.{◌≡◌, refl, sym, ◌∙◌}
-use mathlib.Core.Bool.{Bool, true, false, cond, and-false, and_comm}
+use mathlib.Core.Bool.{Bool, true, false, cond, ◌&&◌, and-false, and_comm}
+use mathlib.Core.List.{List}
 use Prim.Native.Nat.{ℕ, zero, suc, ◌+◌, ◌<◌, ◌≤◌}
 use native.Mathlib.Omega.{arith}
 use native.Mathlib.Decide.{ℕ_discrete}
 use lib.ListN.{get_or}
 use lib.Dec.{eqb, leb, ltb}
-use borrow.Author.Tests.{le-ltb, lt-ltb, le-leb, lt-leb, ltb-false, ne_eqb, eq-eqb}
+use borrow.Author.Tests.{le-ltb, lt-ltb, le-leb, lt-leb, ltb-false, leb-true, leb-false, ne_eqb, eq-eqb}
 use Rattle.base.specs.Folds.{all_to}
 use Rattle.base.proofs.TestLaws.{all-high, all_same}
 use Rattle.terms.specs.Transactions.{bond_in_range}
@@ -59,6 +60,19 @@ module _ (number amount : ℕ) (small : number < 4294967296) (little : amount < 
   by_most true (suc (suc (suc k))) h l =
       let m = rw (lt-ltb 2 (suc (suc (suc k))) (omega arith)) at l in
       rw (lt-ltb 2 (suc (suc (suc k))) (omega arith), ne_eqb (suc (suc (suc k))) 0 (λ e. omega arith), ne_eqb amount 0 (λ e. omega (arith, m)), lt-leb amount 0 (omega (arith, m))) refl
+
+-- the three together
+pub by_limits : (number amount : ℕ) (there : Bool) (kind i : ℕ) (l : List ℕ) → number < 4294967296 → amount < 4294967296 → l ≡ limit_table → i ≡ limit_of there kind
+    → (leb number (get_or l i 0) && leb (get_or l (i + 5) 0) amount && leb amount (get_or l (i + 10) 0)) ≡ slot_fits there kind number amount
+by_limits number amount there kind i l small little e k = rw (e, k) (go (leb number (get_or limit_table j 0)) (leb (get_or limit_table (j + 5) 0) amount) refl refl)
+  where
+    j : ℕ
+    j = limit_of there kind
+
+    go : (a b : Bool) → leb number (get_or limit_table j 0) ≡ a → leb (get_or limit_table (j + 5) 0) amount ≡ b → (a && b && leb amount (get_or limit_table (j + 10) 0)) ≡ slot_fits there kind number amount
+    go false b p q = sym (over-number number amount (omega arith) (omega arith) there kind (leb-false _ _ p))
+    go true false p q = sym (under_amount number amount (omega arith) (omega arith) there kind (leb-false _ _ q))
+    go true true p q = by_most number amount (omega arith) (omega arith) there kind (leb-true _ _ p) (leb-true _ _ q)
 
 -- the first n of four slots
 pub all_there : (f : ℕ → Bool) (n : ℕ) → n ≤ 4 → all_to (λ k. cond (ltb k n) (f k) true) 4 ≡ all_to f n

@@ -16,9 +16,9 @@ use Rattle.base.proofs.UnionLaws.{in_none}
 use Rattle.terms.specs.declared.Transaction.TheVariants.{Bond, Unbond, Entry}
 use Rattle.terms.specs.Transactions.{read_transaction, in_range, bond_in_range}
 use Rattle.terms.specs.Proposals.{bad_transactions, bad_previous_set}
-use Rattle.terms.proofs.ProposalLaws.{bad_transactions-tab}
+use Rattle.terms.proofs.ProposalLaws.{bad_transactions_tab}
 use Rattle.store.specs.Table.{record_length, transaction_start, held_set, endorsed_set, held_at, record_word, previous_at, count_at, mark_at, endorsers_at, kind_at, number_at, amount_at, transaction_at, content_at}
-use Rattle.store.proofs.TableLaws.{count-le, held_in, held-member, content-previous, content-transactions}
+use Rattle.store.proofs.TableLaws.{count_le, held_in, held-member, content-previous, content-transactions}
 use Rattle.store.proofs.WriteLaws.{count_same, previous-same, endorsers-same}
 use Rattle.scan.specs.Scan.{triple_fits, transaction_fits, endorsers_fit, record_fits, place_fits, row_fits, rows_fit}
 
@@ -39,9 +39,9 @@ pub record RowFits (t : List ℕ) (allowance blocks r : ℕ) : Type 0 where
   pub records : (m : ℕ) → held_at t m r ≡ true → RecordFits t allowance blocks m r
 
 -- nothing to ask of a row where nothing is held
-pub free-row : (t : List ℕ) (allowance blocks r : ℕ) → held_set t r ≡ 0 → all_to (place_fits t allowance blocks r) 16 ≡ true
+pub free_row : (t : List ℕ) (allowance blocks r : ℕ) → held_set t r ≡ 0 → all_to (place_fits t allowance blocks r) 16 ≡ true
 unfolding place_fits
-free-row t allowance blocks r e = all_hold (place_fits t allowance blocks r) 16 (λ m _. rw (held_in t m r, e, in_none m) refl)
+free_row t allowance blocks r e = all_hold (place_fits t allowance blocks r) 16 (λ m _. rw (held_in t m r, e, in_none m) refl)
 
 -- ---- what a record tells
 
@@ -64,10 +64,6 @@ clamped t m r = go (ltb 4 (record_word t m r 1)) refl
     go false e = (omega arith, λ l. refl)
 
 module _ {t : List ℕ} {allowance blocks m r : ℕ} (w : RecordFits t allowance blocks m r) where
-  -- it has as many transactions as its count says
-  pub count-told : allowance ≤ 4 → count_at t m r ≡ record_word t m r 1
-  count-told h = (clamped t m r).1 (omega arith)
-
   is_in_range : (k : ℕ) → k < count_at t m r → in_range (transaction_at t m r k) ≡ true
   unfolding transaction_at transaction_fits
   is_in_range k h = triple-range (kind_at t m r k) (number_at t m r k) (amount_at t m r k) (w.triples k h)
@@ -77,7 +73,7 @@ module _ {t : List ℕ} {allowance blocks m r : ℕ} (w : RecordFits t allowance
   transactions-fit =
       rw (
         content-transactions t m r,
-        bad_transactions-tab allowance (transaction_at t m r) (count_at t m r),
+        bad_transactions_tab allowance (transaction_at t m r) (count_at t m r),
         le-ltb allowance (count_at t m r) (omega (arith, (clamped t m r).0)),
         all_hold (λ k. in_range (transaction_at t m r k)) (count_at t m r) is_in_range,
       )
@@ -92,7 +88,7 @@ pub record_same : {t u : List ℕ} {allowance blocks blocks' m r : ℕ} → ((k 
     → RecordFits t allowance blocks m r → RecordFits u allowance blocks' m r
 unfolding transaction_fits
 record_same {t} {u} {m = m} {r = r} e l w =
-    let n = count-le t m r in
+    let n = count_le t m r in
     let c = count_same t u m r e in
     record {
       count = rw (e 1 (omega arith) (omega arith)) w.count;

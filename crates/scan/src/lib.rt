@@ -1,7 +1,9 @@
-// Is a stretch of the table well formed in what the store owns? It looks at a row's header and at held certificates only (scope document: A member's state).
+//! Is a stretch of the table well formed?
+//!
+//! It looks at what the store owns: each row's header and the certificates that are held, and at nothing else (`rows_fit`, specs/Scan). All four slots of a held record are tested by a table of limits (specs/Limits), so that no branch goes by what a transaction is. docs/RULES.md, "A member's state".
 #![tactic(auto)]
 
-ghost use Rattle.std.specs.Prelude.{◌≡◌, true, cond, ◌≤◌, ltb};
+ghost use Rattle.std.specs.Prelude.{◌≡◌, true, cond, ◌<◌, ◌≤◌, ltb};
 ghost use Rattle.base.specs.Folds.{all_to};
 ghost use Rattle.store.specs.Table.{Within, Row};
 ghost use Rattle.scan.specs.Scan.{transaction_fits, endorsers_fit, record_fits, place_fits, row_fits, rows_fit};
@@ -18,31 +20,22 @@ fn limits() -> [u32; 15]
 }
 
 // Which of the five limits hold for a slot of this kind. A table and no branches: kinds come in any order.
+#[tactic(auto, unfolding(crate::specs::Limits::limit_of))]
 fn limit(there: bool, kind: u32) -> u32
-    ensures { result ≡ limit_of there kind }
+    ensures which { result ≡ limit_of there kind }
+    ensures few { result < 5 }
 {
-    if !there {
-        return 4;
-    }
-    if 2 < kind {
-        return 3;
-    }
-    kind
+    if !there { 4 } else { kind.min(3) }
 }
 
 // Are the three words a transaction in range, if one is there?
+#[tactic(auto, using(crate::proofs::LimitLaws::by_limits))]
 fn slot_fits(l: &[u32; 15], there: bool, kind: u32, number: u32, amount: u32) -> bool
     requires { l.now ≡ limit_table }
     ensures { result ≡ slot_fits there kind number amount }
 {
     let i = limit(there, kind) as usize;
-    if l[i] < number {
-        return false;
-    }
-    if amount < l[i + 5] {
-        return false;
-    }
-    amount <= l[i + 10]
+    (number <= l[i]) & (l[i + 5] <= amount) & (amount <= l[i + 10])
 }
 
 // Is transaction k of a record of n in range, if it is there?
@@ -57,106 +50,70 @@ fn transaction_fits(t: &[u32], l: &[u32; 15], m: Member, r: Round, n: u32, k: u3
 }
 
 // Are the first n transactions of a record in range? All four slots are looked at, however many there are.
+#[tactic(auto, unfolding(base::specs::Folds::all_to))]
 fn transactions_fit(t: &[u32], l: &[u32; 15], m: Member, r: Round, n: u32) -> bool
     requires { Scannable t.now l.now m.0 r.0 n 4 }
     ensures { result ≡ all_to (transaction_fits t.now m.0 r.0) n }
 {
-    if n == 0 {
-        return true;
-    }
-    for k in 0..4u32 {
-        if !transaction_fits(t, l, m, r, n, k) {
-            return false;
-        }
-    }
-    true
+    n == 0 || (0..4).all(|k| transaction_fits(t, l, m, r, n, k))
 }
 
 // Are the endorsers of a record a set of members, the author not among them?
+#[tactic(auto, unfolding(crate::specs::Scan::endorsers_fit))]
 fn endorsers_fit(t: &[u32], m: Member, r: Round) -> bool
     requires { Within t.now m.0 r.0 }
     ensures { result ≡ endorsers_fit t.now m.0 r.0 }
 {
     let endorsers = store::record::word_at(t, m, r, 3);
-    if 65536 <= endorsers {
-        return false;
-    }
-    !base::has(endorsers, m.0)
+    endorsers < 65536 && !base::has(endorsers, m.0)
 }
 
+#[tactic(auto, unfolding(crate::specs::Scan::record_fits))]
 fn record_fits(t: &[u32], l: &[u32; 15], allowance: u32, blocks: u32, m: Member, r: Round) -> bool
     requires { Within t.now m.0 r.0 × (l.now ≡ limit_table) }
     ensures { result ≡ record_fits t.now allowance blocks m.0 r.0 }
 {
-    if allowance < store::record::word_at(t, m, r, 1) {
-        return false;
-    }
-    let n = store::record::count(t, m, r);
-    if !transactions_fit(t, l, m, r, n) {
-        return false;
-    }
-    if 65536 <= store::record::word_at(t, m, r, 0) {
-        return false;
-    }
-    if terms::is_bad_previous_set(r, store::record::previous(t, m, r)) {
-        return false;
-    }
-    if blocks < store::record::mark(t, m, r) {
-        return false;
-    }
-    endorsers_fit(t, m, r)
+    store::record::word_at(t, m, r, 1) <= allowance
+        && transactions_fit(t, l, m, r, store::record::count(t, m, r))
+        && store::record::word_at(t, m, r, 0) < 65536
+        && !terms::is_bad_previous_set(r, store::record::previous(t, m, r))
+        && store::record::mark(t, m, r) <= blocks
+        && endorsers_fit(t, m, r)
 }
 
+#[tactic(auto, unfolding(crate::specs::Scan::place_fits))]
 fn place_fits(t: &[u32], l: &[u32; 15], allowance: u32, blocks: u32, m: Member, r: Round) -> bool
     requires { Within t.now m.0 r.0 × (l.now ≡ limit_table) }
     ensures { result ≡ place_fits t.now allowance blocks r.0 m.0 }
 {
-    if !store::held(t, m, r) {
-        return true;
-    }
-    record_fits(t, l, allowance, blocks, m, r)
+    !store::held(t, m, r) || record_fits(t, l, allowance, blocks, m, r)
 }
 
+#[tactic(auto, unfolding(base::specs::Folds::all_to))]
 fn places_fit(t: &[u32], l: &[u32; 15], allowance: u32, blocks: u32, r: Round) -> bool
     requires { Row t.now r.0 × (l.now ≡ limit_table) }
     ensures { result ≡ all_to (place_fits t.now allowance blocks r.0) 16 }
 {
-    for m in 0..16u32 {
-        if !place_fits(t, l, allowance, blocks, Member(m), r) {
-            return false;
-        }
-    }
-    true
+    (0..16).all(|m| place_fits(t, l, allowance, blocks, Member(m), r))
 }
 
+#[tactic(auto, unfolding(crate::specs::Scan::row_fits), using(crate::proofs::ScanLaws::free_row))]
 fn row_fits(t: &[u32], l: &[u32; 15], allowance: u32, blocks: u32, r: Round) -> bool
     requires { Row t.now r.0 × (l.now ≡ limit_table) }
     ensures { result ≡ row_fits t.now allowance blocks r.0 }
 {
     let held = store::held_set(t, r);
-    if 65536 <= held {
-        return false;
-    }
-    if 65536 <= store::endorsed_set(t, r) {
-        return false;
-    }
-    if held == 0 {
-        return true;
-    }
-    places_fit(t, l, allowance, blocks, r)
+    held < 65536
+        && store::endorsed_set(t, r) < 65536
+        && (held == 0 || places_fit(t, l, allowance, blocks, r))
 }
 
 // Are the rows of the rounds 1 to n well formed?
+#[tactic(auto, unfolding(crate::specs::Scan::rows_fit, base::specs::Folds::all_to))]
 pub fn rows_fit(t: &[u32], allowance: u32, blocks: u32, n: Round) -> bool
     requires { Row t.now n.0 × (n.0 ≤ 1024) }
     ensures { result ≡ rows_fit t.now allowance blocks n.0 }
 {
-    let end = n.0;
     let l = limits();
-    for r in 0..end {
-        if !row_fits(t, &l, allowance, blocks, Round(r + 1)) {
-            return false;
-        }
-    }
-    true
+    (0..n.0).all(|r| row_fits(t, &l, allowance, blocks, Round(r + 1)))
 }

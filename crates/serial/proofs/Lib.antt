@@ -1,4 +1,3 @@
 pub mod PassedLaws
-pub mod AnswerLaws
 pub mod PutLaws
 pub mod LeftLaws

@@ -18,7 +18,7 @@ use Rattle.state.specs.Formed.{Formed}
 use Rattle.state.proofs.FormedLaws.{formed, formed-ports}
 use Rattle.state.proofs.Walkable.{readable}
 use Rattle.serial.specs.Calls.{PortCall, access, reset}
-use Rattle.serial.specs.Serial.{access_checks, reset_checks, early_checks}
+use Rattle.serial.specs.Serial.{access_checks, reset_checks, early_checks, port_refusal}
 
 -- 26, 31 or 1, where the words of a state cannot be read
 pub early-some : (x : PortCall) → refusal (early_checks x ++ ((true, 1) ∷ [])) ≢ 0
@@ -37,9 +37,6 @@ module _ (s : State) (t : List ℕ) where
     early-refused h = q ∙ sym (first-refuses l late (omega arith))
 
     module _ (p : numbered l ≡ true) (z : n ≡ 0) where
-      pub late-refused : well_formed s t ≡ false → 1 ≡ refusal (l ++ late)
-      late-refused w = sym (first_passes l late p (sym q ∙ z) ∙ refuses 1 [] (rw w refl))
-
       pub none-refused : well_formed s t ≡ true → 0 ≡ refusal (l ++ late)
       none-refused w = sym (first_passes l late p (sym q ∙ z) ∙ passes 1 [] (rw w refl) ∙ passes-all)
 
@@ -79,3 +76,19 @@ module _ (s : State) (t : List ℕ) where
       let i = ltb-false 7 g h26 in
       let l = (formed s t w).long in
       record { whole = w; opened = port-opened w g (omega arith); row = omega arith }
+
+  -- ---- so where the checks of the port let it pass, in a well-formed state
+
+  module _ (w : well_formed s t ≡ true) where
+    pub access-none : (x : PortCall) → 0 ≡ refusal (early_checks x) → port_refusal s t x ≡ 0
+    unfolding port_refusal numbered
+    access-none (access g a) e = sym (none-refused (early_checks (access g a)) e refl refl w)
+    access-none (reset g) e = sym (none-refused (early_checks (reset g)) e refl refl w)
+
+    pub access-let : (g o : ℕ) → 0 ≡ refusal (access_checks g o) → AccessPassed g o
+    unfolding numbered
+    access-let g o e = access-passed g o (sym (none-refused (access_checks g o) e refl refl w))
+
+    pub reset-let : (g : ℕ) → 0 ≡ refusal (reset_checks g) → ResetPassed g
+    unfolding numbered
+    reset-let g e = reset-passed g (sym (none-refused (reset_checks g) e refl refl w))

@@ -1,12 +1,11 @@
--- Accesses to guests' serial ports and their resets, on a state and its table: the number that refuses, what is read, and the table (change request: Point 14).
+-- Accesses to guests' serial ports and their resets, on a state and its table: the number that refuses, what is read, and the table.
 use Rattle.std.specs.Prelude.{not, List, [], ◌∷◌, ◌++◌, ℕ, ltb, get_or}
 use Rattle.base.specs.Checks.{Checks, refusal}
 use Rattle.ports.specs.Uart.{Port, values_at, after_read, after_write, reset_port}
 use Rattle.ports.specs.Ports.{listing_of, port_in, put_port}
 use Rattle.state.specs.declared.State.{State}
 use Rattle.state.specs.WellFormed.{well_formed}
-use Rattle.state.specs.declared.checks.Outcome.{Outcome}
-use Rattle.state.specs.Answers.{if_accepted, outcome_of}
+use Rattle.state.specs.Answers.{if_accepted}
 use Rattle.serial.specs.Calls.{Access, read, write, offset_of, PortCall, access, reset, port_of}
 
 -- 26 port above 7; 31 offset above 7: both before 1
@@ -52,8 +51,5 @@ module _ (s : State) (t : List ℕ) where
   ported_table x = put_port s.settings t s.blocks (port_of x) (port_then x)
 
   -- the state stays
-  unfoldable pub port_outcome : PortCall → Outcome
-  port_outcome x = outcome_of (port_refusal x) s s
-
   unfoldable pub port_table : PortCall → List ℕ
   port_table x = if_accepted (port_refusal x) (ported_table x) t

@@ -1,2 +1,2 @@
-pub mod StreamLaws
-pub mod WorkLaws
+pub mod CeilingLaws
+pub mod KeepingLaws

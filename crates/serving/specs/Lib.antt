@@ -1,3 +1,4 @@
-pub mod Streams
 pub mod Lengths
-pub mod Work
+pub mod Ceilings
+pub mod Streams
+pub mod Keeping

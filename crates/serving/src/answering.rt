@@ -1,8 +1,7 @@
-// Records served: the call that a record asks for, and the lines that answer it (scope document: The runner).
+// Records served: the call that a record asks for, and the lines that answer it.
 
-pub mod next;
-
-ghost use Rattle.std.specs.Prelude.{◌+◌, ◌*◌, ◌≤◌, length};
+ghost use Rattle.std.specs.Prelude.{◌+◌, ◌*◌, ◌≤◌, length, Some};
+ghost use Rattle.std.specs.Option.{option_map};
 ghost use Rattle.state.specs.Cached.{Cached};
 ghost use Rattle.replies.specs.Asked.{call_of};
 ghost use Rattle.replies.specs.Records.{engine_of, RecordAnswered};
@@ -13,56 +12,55 @@ use certify::certify_cached;
 use endorse::endorse_cached;
 use listing::lines;
 use propose::propose_cached;
-use records::requests::{Kind, Reading};
-use replies::{Reply, committed, listed, opened, replied};
+use records::Record;
+use replies::{Reply, cached, committed, listed, opened, replied};
 use state::State;
-use terms::{Certificate, Proposal};
 
-// Serves a record: its call, and the lines that answer it. `formed` tells whether the state is well formed, and committees are cached.
+/// Serves a record, none an unreadable one: its call, and the lines that answer it. `formed` tells whether the state is well formed, and committees are cached.
 pub fn serve(
     formed: bool,
     cache: &mut [u64],
-    s: State,
+    s: &mut State,
     t: &mut [u32],
-    q: Reading,
+    asked: Option<Record>,
     out: &mut [u8],
-    at: usize,
 ) -> Reply
-    requires { (at + length t.old * 9 + 20 ≤ length out.old) × Cached s t.old formed cache.old }
-    ensures { RecordAnswered (engine_of s t.old) (call_of q) (engine_of result.state t.new) out.old out.new at result.next × Cached result.state t.new result.formed cache.new }
+    requires { (length t.old * 9 + 20 ≤ length out.old) × Cached s.old t.old formed cache.old }
+    ensures { RecordAnswered (engine_of s.old t.old) (option_map call_of asked) (engine_of s.new t.new) out.old out.new result.next × Cached s.new t.new result.formed cache.new }
 {
-    let kind = q.kind;
-    let own = q.own;
-    let author = q.author;
-    let round = q.round;
-    let body = q.body;
-    let e = q.endorsers;
-    let p = Proposal {
-        author,
-        round,
-        body,
-    };
-    let c = Certificate {
-        proposal: p,
-        endorsers: e,
-    };
-    match kind {
-        Kind::Unreadable => Reply {
-            state: s,
+    match asked {
+        None => Reply {
             formed,
-            next: lines::put_refused(out, at, 24),
+            next: lines::put_refused(out, 0, 24),
         },
-        Kind::Open => opened(formed, cache, s, t, own, q.sheet, out, at),
-        Kind::Propose => replied(formed, propose_cached(formed, cache, s, t, body), out, at),
-        Kind::Endorse => replied(formed, endorse_cached(formed, cache, s, t, p), out, at),
-        Kind::Certify => replied(formed, certify_cached(formed, cache, s, t, e), out, at),
-        Kind::Accept => replied(formed, accept_cached(formed, cache, s, t, c), out, at),
-        Kind::Advance => replied(formed, advance_cached(formed, cache, s, t), out, at),
-        Kind::Commit => committed(formed, cache, s, t, out, at),
-        Kind::Chain => Reply {
-            state: s,
+        Some(call) => serve_call(formed, cache, s, t, call, out),
+    }
+}
+
+// Serves a record that was read.
+fn serve_call(
+    formed: bool,
+    cache: &mut [u64],
+    s: &mut State,
+    t: &mut [u32],
+    asked: Record,
+    out: &mut [u8],
+) -> Reply
+    requires { (length t.old * 9 + 20 ≤ length out.old) × Cached s.old t.old formed cache.old }
+    ensures { RecordAnswered (engine_of s.old t.old) (Some (call_of asked)) (engine_of s.new t.new) out.old out.new result.next × Cached s.new t.new result.formed cache.new }
+{
+    cached::previous_fits(s.proposal);
+    match asked {
+        Record::Open(own, sheet) => opened(formed, cache, s, t, own, sheet, out),
+        Record::Propose(body) => replied(formed, propose_cached(formed, cache, s, t, body), out),
+        Record::Endorse(p) => replied(formed, endorse_cached(formed, cache, s, t, p), out),
+        Record::Certify(e) => replied(formed, certify_cached(formed, cache, s, t, e), out),
+        Record::Accept(c) => replied(formed, accept_cached(formed, cache, s, t, c), out),
+        Record::Advance => replied(formed, advance_cached(formed, cache, s, t), out),
+        Record::Commit => committed(formed, cache, s, t, out),
+        Record::Chain => Reply {
             formed,
-            next: listed(formed, s, t, out, at),
+            next: listed(formed, s, t, out),
         },
     }
 }

@@ -1,6 +1,6 @@
 -- A well-formed state has what the calls use of it, and a state that has it is well formed.
 use mathlib.Core.Path.{◌≡◌, refl}
-use mathlib.Core.Bool.{Bool, true, false, not, cond, ◌&&◌}
+use mathlib.Core.Bool.{Bool, true, false, not, cond, ◌&&◌, false≢true}
 use mathlib.Core.List.{List}
 use Prim.Native.Nat.{ℕ}
 use native.Mathlib.Omega.{arith}
@@ -12,17 +12,19 @@ use Rattle.base.specs.Folds.{all_to}
 use Rattle.terms.specs.declared.Body.{Body}
 use Rattle.terms.specs.Transactions.{in_range}
 use Rattle.terms.specs.Proposals.{slot_of, transactions_of, bad_transactions, bad_previous_set}
-use Rattle.terms.proofs.ProposalLaws.{transactions-tab, bad_transactions-tab}
+use Rattle.terms.proofs.ProposalLaws.{transactions_tab, bad_transactions_tab}
 use Rattle.store.specs.Table.{used_length, Row}
 use Rattle.scan.specs.Scan.{rows_fit}
 use Rattle.queues.specs.Words.{queues_fit}
 use Rattle.ports.specs.Ports.{ports_fit}
 use Rattle.terms.specs.Ranges.{out_of_range, weightless}
 use Rattle.terms.proofs.SheetLaws.{settings-fit}
+use Rattle.std.specs.Prelude.{Option, Some, None, is_some, unwrap_or}
 use Rattle.state.specs.declared.State.{State}
+use Rattle.state.specs.States.{no_body, is_proposing, own_body}
 use Rattle.running.specs.BlockChanges.{blocks_fit}
 use Rattle.state.proofs.RoundLaws.{few-blocks, last-below}
-use Rattle.state.specs.WellFormed.{numbers_fit, head_fits, body_fits, proposal_fits, well_formed}
+use Rattle.state.specs.WellFormed.{numbers_fit, head_fits, body_fits, fits_if_there, proposal_fits, well_formed}
 use Rattle.state.specs.Formed.{NumbersFit, BodyFits, Formed}
 
 numbers-parts : (o r b n : ℕ) → numbers_fit o r b n ≡ true → NumbersFit o r b n
@@ -49,29 +51,32 @@ head-parts s e =
 -- what checks 6 and 7 let pass
 pub body-fits : (allowance r : ℕ) (b : Body) → bad_transactions allowance (transactions_of b) ≡ false → bad_previous_set r b.previous ≡ false → BodyFits allowance r b
 body-fits a r b e h =
-    let p = neither (ltb a b.count) (not (all_to (λ k. in_range (slot_of b k)) b.count)) (rw (transactions-tab b, bad_transactions-tab a (slot_of b) b.count) at e) in
+    let p = neither (ltb a b.count) (not (all_to (λ k. in_range (slot_of b k)) b.count)) (rw (transactions_tab b, bad_transactions_tab a (slot_of b) b.count) at e) in
     record { few = ltb-false a b.count p.0; fit = e; right = h }
 
-proposal-parts : (s : State) → proposal_fits s ≡ true → s.proposing ≡ true → BodyFits s.settings.allowance s.round.0 s.body
+proposal-parts : (s : State) → proposal_fits s ≡ true → is_proposing s ≡ true → BodyFits s.settings.allowance s.round.0 (own_body s)
 unfolding proposal_fits body_fits
-proposal-parts s e h =
-    let a = s.settings.allowance in
-    let b = s.body in
-    let p = both (not (bad_transactions a (transactions_of b))) (not (bad_previous_set s.round.0 b.previous)) (rw h at e) in
-    body-fits a s.round.0 b (not-true (bad_transactions a (transactions_of b)) p.0) (not-true (bad_previous_set s.round.0 b.previous) p.1)
-
-proposal-whole : (s : State) → (s.proposing ≡ true → BodyFits s.settings.allowance s.round.0 s.body) → proposal_fits s ≡ true
-unfolding proposal_fits body_fits
-proposal-whole s f = go s.proposing f
+proposal-parts s = go s.proposal
   where
-    go : (b : Bool) → (b ≡ true → BodyFits s.settings.allowance s.round.0 s.body) → cond b (body_fits s.settings.allowance s.round.0 s.body) true ≡ true
-    go false k = refl
-    go true k = let w = k refl in rw (w.fit, w.right) refl
+    go : (o : Option Body) → fits_if_there s.settings.allowance s.round.0 o ≡ true → is_some o ≡ true → BodyFits s.settings.allowance s.round.0 (unwrap_or o no_body)
+    go None e h = absurd (false≢true h)
+    go (Some b) e h =
+        let a = s.settings.allowance in
+        let p = both (not (bad_transactions a (transactions_of b))) (not (bad_previous_set s.round.0 b.previous)) e in
+        body-fits a s.round.0 b (not-true (bad_transactions a (transactions_of b)) p.0) (not-true (bad_previous_set s.round.0 b.previous) p.1)
+
+proposal-whole : (s : State) → (is_proposing s ≡ true → BodyFits s.settings.allowance s.round.0 (own_body s)) → proposal_fits s ≡ true
+unfolding proposal_fits body_fits
+proposal-whole s = go s.proposal
+  where
+    go : (o : Option Body) → (is_some o ≡ true → BodyFits s.settings.allowance s.round.0 (unwrap_or o no_body)) → fits_if_there s.settings.allowance s.round.0 o ≡ true
+    go None k = refl
+    go (Some b) k = let w = k refl in rw (w.fit, w.right) refl
 
 module _ (s : State) (t : List ℕ) where
   -- the conditions alone
   pub formed-by : out_of_range s.settings ≡ false → weightless s.settings ≡ false → NumbersFit s.own.0 s.round.0 s.blocks s.settings.ceiling.0
-      → (s.proposing ≡ true → BodyFits s.settings.allowance s.round.0 s.body) → Row t s.settings.ceiling.0
+      → (is_proposing s ≡ true → BodyFits s.settings.allowance s.round.0 (own_body s)) → Row t s.settings.ceiling.0
       → rows_fit t s.settings.allowance s.blocks s.settings.ceiling.0 ≡ true → blocks_fit s.settings.ceiling.0 t s.blocks ≡ true → queues_fit t ≡ true → Formed s t
   formed-by e w n p l r b q =
       let f = settings-fit s.settings e in

@@ -31,9 +31,9 @@ module _ (s : State) (t : List ℕ) where
   view-propose b = λ i. record { round = s.round.0; proposal = proposal-some (proposed s b) refl i; dag = (view s t).dag; endorsed = (view s t).endorsed; chain = (view s t).chain }
 
   -- next round, proposal dropped
-  pub view-advance : (b : Body) → view (advanced s b) t ≡ after_advance (view s t)
-  view-advance b =
-      λ i. record { round = add-one s.round.0 i; proposal = proposal-none (advanced s b) refl i; dag = (view s t).dag; endorsed = (view s t).endorsed; chain = (view s t).chain }
+  pub view-advance : view (advanced s) t ≡ after_advance (view s t)
+  view-advance =
+      λ i. record { round = add-one s.round.0 i; proposal = proposal-none (advanced s) refl i; dag = (view s t).dag; endorsed = (view s t).endorsed; chain = (view s t).chain }
 
   module _ (p : Content) (long : Row t s.settings.ceiling.0) (k : Storable s.settings.ceiling.0 p) where
     -- the place is marked endorsed
@@ -65,8 +65,8 @@ module _ (s : State) (t : List ℕ) where
           λ i. record { round = s.round.0; proposal = own_proposal s; dag = g i; endorsed = e i; chain = c i }
 
 -- a fresh state has round 1 and nothing else
-pub view_open : (own : Member) (S : Settings) (R : Rights) (b : Body) (t : List ℕ)
-    → ◌≡◌ {A = tests.MemberView S} (view (fresh own S R b) (clear_used t S.ceiling.0)) (record { round = 1; proposal = none; dag = λ a r. none; endorsed = λ a r. false; chain = [] })
-view_open own S R b t =
+pub view_open : (own : Member) (S : Settings) (R : Rights) (t : List ℕ)
+    → ◌≡◌ {A = tests.MemberView S} (view (fresh own S R) (clear_used t S.ceiling.0)) (record { round = 1; proposal = none; dag = λ a r. none; endorsed = λ a r. false; chain = [] })
+view_open own S R t =
     let n = S.ceiling.0 in
-    λ i. record { round = 1; proposal = proposal-none (fresh own S R b) refl i; dag = dag-cleared n t i; endorsed = endorsed-of-cleared n t i; chain = chain-none n (clear_used t n) i }
+    λ i. record { round = 1; proposal = proposal-none (fresh own S R) refl i; dag = dag-cleared n t i; endorsed = endorsed-of-cleared n t i; chain = chain-none n (clear_used t n) i }

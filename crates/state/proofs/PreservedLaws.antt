@@ -28,7 +28,8 @@ use Rattle.terms.specs.declared.sheet.Settings.{Settings}
 use Rattle.terms.specs.Ranges.{out_of_range, weightless}
 use Rattle.terms.proofs.SheetLaws.{settings-fit}
 use Rattle.state.specs.declared.State.{State}
-use Rattle.state.specs.States.{with_round, proposed, advanced, fresh}
+use Rattle.state.specs.States.{with_round, proposed, advanced, fresh, no_body}
+use Rattle.std.specs.Prelude.{Option, Some, None, is_some, unwrap_or}
 use Rattle.state.proofs.RoundLaws.{blocks-whole, blocks-same}
 use Rattle.state.specs.Formed.{BodyFits, Formed}
 use Rattle.state.proofs.FormedLaws.{formed-by}
@@ -44,19 +45,19 @@ storable n allowance a r b h from to l f small =
 module _ (s : State) (t : List ℕ) (f : Formed s t) where
   -- ---- propose and advance: another round or another proposal
 
-  moved-kept : (r : Round) (proposing : Bool) (b : Body) → 1 ≤ r.0 → r.0 ≤ s.settings.ceiling.0 → (proposing ≡ true → BodyFits s.settings.allowance r.0 b)
-      → Formed (with_round s r proposing b) t
-  moved-kept r proposing b from to p =
-      formed-by (with_round s r proposing b) t f.is_in_range f.weighty
+  moved-kept : (r : Round) (o : Option Body) → 1 ≤ r.0 → r.0 ≤ s.settings.ceiling.0 → (is_some o ≡ true → BodyFits s.settings.allowance r.0 (unwrap_or o no_body))
+      → Formed (with_round s r o) t
+  moved-kept r o from to p =
+      formed-by (with_round s r o) t f.is_in_range f.weighty
       (record { own = f.numbers.own; round-from = from; round-to = to; blocks_to = f.numbers.blocks_to }) p f.long f.rows f.rounds f.queues
 
   -- a proposal that fits is kept
   pub propose-kept : (b : Body) → BodyFits s.settings.allowance s.round.0 b → Formed (proposed s b) t
-  propose-kept b p = moved-kept s.round true b f.numbers.round-from f.numbers.round-to (λ _. p)
+  propose-kept b p = moved-kept s.round (Some b) f.numbers.round-from f.numbers.round-to (λ _. p)
 
   -- below the ceiling the next round, with no proposal
-  pub advance-kept : (b : Body) → s.round.0 < s.settings.ceiling.0 → Formed (advanced s b) t
-  advance-kept b h = moved-kept (record { 0 = s.round.0 + 1 }) false b (omega arith) (omega arith) (λ e. absurd (false≢true e))
+  pub advance-kept : s.round.0 < s.settings.ceiling.0 → Formed (advanced s) t
+  advance-kept h = moved-kept (record { 0 = s.round.0 + 1 }) None (omega arith) (omega arith) (λ e. absurd (false≢true e))
 
   -- ---- endorse, certify, accept: another table
 
@@ -105,11 +106,11 @@ module _ (s : State) (t : List ℕ) (f : Formed s t) where
 
 -- ---- open: a fresh state and a cleared table
 
-pub open_formed : (own : Member) (S : Settings) (R : Rights) (b : Body) (t : List ℕ) → own.0 < 16 → out_of_range S ≡ false → weightless S ≡ false → Row t S.ceiling.0
-    → Formed (fresh own S R b) (clear_used t S.ceiling.0)
-open_formed own S R b t h e w l =
+pub open_formed : (own : Member) (S : Settings) (R : Rights) (t : List ℕ) → own.0 < 16 → out_of_range S ≡ false → weightless S ≡ false → Row t S.ceiling.0
+    → Formed (fresh own S R) (clear_used t S.ceiling.0)
+open_formed own S R t h e w l =
     let n = S.ceiling.0 in
     let f = settings-fit S e in
     let i = length-cleared t n l in
-    formed-by (fresh own S R b) (clear_used t n) e w (record { own = h; round-from = omega arith; round-to = omega arith; blocks_to = omega arith }) (λ x. absurd (false≢true x))
+    formed-by (fresh own S R) (clear_used t n) e w (record { own = h; round-from = omega arith; round-to = omega arith; blocks_to = omega arith }) (λ x. absurd (false≢true x))
     (omega arith) (rows-cleared t n S.allowance 0) (blocks-whole n (clear_used t n) 0 (λ k x. absurd (omega arith))) (fits-clear (clear_used t n) (cleared-first t n))

@@ -1,6 +1,6 @@
 -- What the view holds, by what the table says.
 use mathlib.Core.Path.{◌≡◌, refl, sym, ap, ◌∙◌, fun_ext}
-use mathlib.Core.Bool.{Bool, true, false, not, cond, ◌&&◌, and-true, not-not}
+use mathlib.Core.Bool.{Bool, true, false, not, cond, ◌&&◌, and-true, not-not, true≢false, false≢true}
 use mathlib.Core.List.{List}
 use mathlib.Core.Option.{Option, none, some}
 use Prim.Native.Nat.{ℕ, ◌-◌, ◌<◌, ◌≤◌}
@@ -19,7 +19,11 @@ use Rattle.committee.proofs.ChainLaws.{is-round, round-parts}
 use Rattle.committee.specs.Instance.{rules}
 use Rattle.rules.specs.Tests.{is_same, missing}
 use Rattle.state.specs.declared.State.{State}
-use Rattle.state.specs.View.{dag_of, endorsed_of, own_proposal, view}
+use Rattle.std.specs.Prelude.{Some, None, is_some, unwrap_or}
+use Rattle.std.specs.Prelude as state
+use Rattle.terms.specs.declared.Body.{Body}
+use Rattle.state.specs.States.{no_body, is_proposing, own_body}
+use Rattle.state.specs.View.{dag_of, endorsed_of, proposal_by, own_proposal, view}
 
 -- the certificate p of the view, at the place of author a and round r
 pub record InDag (n : ℕ) (t : List ℕ) (a r : ℕ) (p : Content) : Type 0 where
@@ -35,10 +39,6 @@ module _ (n : ℕ) (t : List ℕ) (a r : ℕ) where
   pub dag-place : dag_of n t a r ≡ cond (is_round n r) (certificate_at t a r) none
   unfolding dag_of
   dag-place = refl
-
-  pub dag-outside : is_round n r ≡ false → dag_of n t a r ≡ none
-  unfolding dag_of
-  dag-outside e = rw e refl
 
   pub in_dag : (p : Content) → dag_of n t a r ≡ some p → InDag n t a r p
   unfolding dag_of
@@ -101,23 +101,31 @@ module _ (n : ℕ) (t u : List ℕ) where
 -- ---- the proposal
 
 -- states that differ elsewhere have the same one
-pub proposal-same : (s u : State) → u.own ≡ s.own → u.round ≡ s.round → u.proposing ≡ s.proposing → u.body ≡ s.body → own_proposal u ≡ own_proposal s
+pub proposal-same : (s u : State) → u.own ≡ s.own → u.round ≡ s.round → u.proposal ≡ s.proposal → own_proposal u ≡ own_proposal s
 unfolding own_proposal
-proposal-same s u o r p b = λ i. cond (p i) (some (content_with (o i).0 (r i).0 (b i))) none
+proposal-same s u o r p = λ i. proposal_by (o i).0 (r i).0 (p i)
 
 module _ (s : State) where
-  pub proposal-none : s.proposing ≡ false → own_proposal s ≡ none
+  pub proposal-none : is_proposing s ≡ false → own_proposal s ≡ none
   unfolding own_proposal
-  proposal-none e = rw e refl
-
-  pub proposal-some : s.proposing ≡ true → own_proposal s ≡ some (content_with s.own.0 s.round.0 s.body)
-  unfolding own_proposal
-  proposal-some e = rw e refl
-
-  pub held-proposal : is_held (own_proposal s) ≡ s.proposing
-  held-proposal = go s.proposing refl
+  proposal-none = go s.proposal
     where
-      go : (b : Bool) → s.proposing ≡ b → is_held (own_proposal s) ≡ b
+      go : (o : state.Option Body) → is_some o ≡ false → proposal_by s.own.0 s.round.0 o ≡ none
+      go None e = refl
+      go (Some b) e = absurd (true≢false e)
+
+  pub proposal-some : is_proposing s ≡ true → own_proposal s ≡ some (content_with s.own.0 s.round.0 (own_body s))
+  unfolding own_proposal
+  proposal-some = go s.proposal
+    where
+      go : (o : state.Option Body) → is_some o ≡ true → proposal_by s.own.0 s.round.0 o ≡ some (content_with s.own.0 s.round.0 (unwrap_or o no_body))
+      go None e = absurd (false≢true e)
+      go (Some b) e = refl
+
+  pub held-proposal : is_held (own_proposal s) ≡ is_proposing s
+  held-proposal = go (is_proposing s) refl
+    where
+      go : (b : Bool) → is_proposing s ≡ b → is_held (own_proposal s) ≡ b
       go true e = ap is_held (proposal-some e)
       go false e = ap is_held (proposal-none e)
 

@@ -9,6 +9,7 @@ use Rattle.queues.specs.Words.{queues_fit}
 use Rattle.terms.specs.Ranges.{out_of_range, weightless, SettingsFit}
 use Rattle.committee.specs.Chain.{chain_of}
 use Rattle.state.specs.declared.State.{State}
+use Rattle.state.specs.States.{is_proposing, own_body}
 use Rattle.running.specs.BlockChanges.{blocks_fit}
 
 -- own number, present round and number of blocks are in range
@@ -29,7 +30,7 @@ pub record Formed (s : State) (t : List ℕ) : Type 0 where
   pub settings : SettingsFit s.settings
   pub weighty : weightless s.settings ≡ false
   pub numbers : NumbersFit s.own.0 s.round.0 s.blocks s.settings.ceiling.0
-  pub proposal : s.proposing ≡ true → BodyFits s.settings.allowance s.round.0 s.body
+  pub proposal : is_proposing s ≡ true → BodyFits s.settings.allowance s.round.0 (own_body s)
   pub long : Row t s.settings.ceiling.0
   pub rows : rows_fit t s.settings.allowance s.blocks s.settings.ceiling.0 ≡ true
   pub rounds : blocks_fit s.settings.ceiling.0 t s.blocks ≡ true

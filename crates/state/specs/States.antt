@@ -1,5 +1,5 @@
 -- The states that accepted calls leave, field by field.
-use Rattle.std.specs.Prelude.{Bool, true, false, ◌+◌}
+use Rattle.std.specs.Prelude.{Bool, ◌+◌, Option, Some, None, is_some, unwrap_or}
 use Rattle.terms.specs.declared.Body.{Body}
 use Rattle.terms.specs.declared.Member.{Member}
 use Rattle.terms.specs.declared.Round.{Round}
@@ -9,21 +9,29 @@ use Rattle.terms.specs.declared.sheet.Settings.{Settings}
 use Rattle.state.specs.declared.State.{State}
 
 -- another round, another proposal or none
-abbrev pub with_round : State → Round → Bool → Body → State
-with_round s r proposing b = record { own = s.own; settings = s.settings; round = r; proposing = proposing; body = b; blocks = s.blocks; rights = s.rights }
+abbrev pub with_round : State → Round → Option Body → State
+with_round s r o = record { own = s.own; settings = s.settings; round = r; proposal = o; blocks = s.blocks; rights = s.rights }
 
 -- propose: the proposal is kept
 abbrev pub proposed : State → Body → State
-proposed s b = with_round s s.round true b
+proposed s b = with_round s s.round (Some b)
 
--- advance: next round, proposal dropped; b stands where no proposal is
-abbrev pub advanced : State → Body → State
-advanced s b = with_round s (record { 0 = s.round.0 + 1 }) false b
+-- advance: next round, proposal dropped
+abbrev pub advanced : State → State
+advanced s = with_round s (record { 0 = s.round.0 + 1 }) None
 
 -- open: round 1 and nothing else, beside the rights
-abbrev pub fresh : Member → Settings → Rights → Body → State
-fresh own S R b = record { own = own; settings = S; round = record { 0 = 1 }; proposing = false; body = b; blocks = 0; rights = R }
+abbrev pub fresh : Member → Settings → Rights → State
+fresh own S R = record { own = own; settings = S; round = record { 0 = 1 }; proposal = None; blocks = 0; rights = R }
 
 -- no proposal
 abbrev pub no_body : Body
 no_body = bare_body 0
+
+-- is there a proposal?
+abbrev pub is_proposing : State → Bool
+is_proposing s = is_some s.proposal
+
+-- its body, a bare one where there is none
+abbrev pub own_body : State → Body
+own_body s = unwrap_or s.proposal no_body

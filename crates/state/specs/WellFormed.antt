@@ -1,5 +1,5 @@
--- When a state is well formed: the scope document's paragraph, condition by condition.
-use Rattle.std.specs.Prelude.{Bool, true, not, cond, ◌&&◌, List, ℕ, length, leb, ltb}
+-- When a state is well formed: docs/RULES.md, "A member's state", condition by condition.
+use Rattle.std.specs.Prelude.{Bool, true, not, Option, Some, None, ◌&&◌, List, ℕ, length, leb, ltb}
 use Rattle.terms.specs.declared.Body.{Body}
 use Rattle.terms.specs.Proposals.{transactions_of, bad_transactions, bad_previous_set}
 use Rattle.store.specs.Table.{used_length}
@@ -23,8 +23,12 @@ unfoldable pub body_fits : ℕ → ℕ → Body → Bool
 body_fits allowance r b = not (bad_transactions allowance (transactions_of b)) && not (bad_previous_set r b.previous)
 
 -- so for the proposal, if there is one; held certificates are the store's part (rows_fit), and so is that every commit mark names a block
+abbrev pub fits_if_there : ℕ → ℕ → Option Body → Bool
+fits_if_there allowance r None = true
+fits_if_there allowance r (Some b) = body_fits allowance r b
+
 unfoldable pub proposal_fits : State → Bool
-proposal_fits s = cond s.proposing (body_fits s.settings.allowance s.round.0 s.body) true
+proposal_fits s = fits_if_there s.settings.allowance s.round.0 s.proposal
 
 -- the lent table has at least the length for the ceiling, the conditions above hold, block rounds are even, rising and below the ceiling, guests' queues are well formed, and no guest's serial port has read past the listing's end
 unfoldable pub well_formed : State → List ℕ → Bool

@@ -1,7 +1,7 @@
-// A member's state, the view that it shows, and whether it is well formed (scope document: A member's state).
+//! A member's state, and the view that it shows.
+//!
+//! What a state is (specs/States), the view that the rules see of it and its table (specs/View), and when the two are well formed (specs/WellFormed): `well_formed` answers that for any words. The checks that several calls share, and what a call answers and leaves, stand here too (specs/SharedChecks, specs/Answers). docs/RULES.md, "A member's state".
 #![tactic(auto)]
-
-pub mod checks;
 
 ghost use Rattle.std.specs.Prelude.{◌≡◌, ◌<◌, ◌≤◌};
 ghost use Rattle.state.specs.WellFormed.{numbers_fit, head_fits, body_fits, proposal_fits, well_formed};
@@ -17,65 +17,51 @@ pub struct State {
     pub own: Member,
     pub settings: Settings,
     pub round: Round,
-    // Is there a proposal for the present round? Its author and round are the member's own.
-    pub proposing: bool,
-    pub body: Body,
+    // The proposal for the present round, if there is one: its author and round are the member's own.
+    pub proposal: Option<Body>,
     // The number of blocks.
     pub blocks: u32,
     // What guests may do, fixed at opening.
     pub rights: Rights,
 }
 
+#[tactic(auto, unfolding(crate::specs::WellFormed::numbers_fit))]
 fn numbers_fit(own: Member, round: Round, blocks: u32, ceiling: Round) -> bool
     ensures { result ≡ numbers_fit own.0 round.0 blocks ceiling.0 }
 {
-    if 16 <= own.0 {
-        return false;
-    }
-    if round.0 < 1 {
-        return false;
-    }
-    if ceiling.0 < round.0 {
-        return false;
-    }
-    blocks <= ceiling.0
+    own.0 < 16 && 1 <= round.0 && round.0 <= ceiling.0 && blocks <= ceiling.0
 }
 
+#[tactic(auto, unfolding(crate::specs::WellFormed::body_fits))]
 fn body_fits(allowance: u32, r: Round, b: Body) -> bool
     requires { allowance ≤ 4 }
     ensures { result ≡ body_fits allowance r.0 b }
 {
-    if terms::has_bad_transactions(allowance, b) {
-        return false;
-    }
-    !terms::is_bad_previous_set(r, b.previous as u32)
+    !terms::has_bad_transactions(allowance, b) && !terms::is_bad_previous_set(r, b.previous as u32)
 }
 
+#[tactic(auto, unfolding(crate::specs::WellFormed::proposal_fits))]
 fn proposal_fits(s: State) -> bool
     requires { s.settings.allowance ≤ 4 }
     ensures { result ≡ proposal_fits s }
 {
-    if !s.proposing {
-        return true;
+    match s.proposal {
+        None => true,
+        Some(body) => body_fits(s.settings.allowance, s.round, body),
     }
-    body_fits(s.settings.allowance, s.round, s.body)
 }
 
 // Are the settings in range, with some positive weight, and the numbers?
+#[tactic(auto, unfolding(crate::specs::WellFormed::head_fits))]
 fn head_fits(s: State) -> bool
     ensures { result ≡ head_fits s }
 {
-    let settings = s.settings;
-    if sheet::is_out_of_range(settings) {
-        return false;
-    }
-    if !numbers_fit(s.own, s.round, s.blocks, settings.ceiling) {
-        return false;
-    }
-    !sheet::is_weightless(settings)
+    !sheet::is_out_of_range(s.settings)
+        && numbers_fit(s.own, s.round, s.blocks, s.settings.ceiling)
+        && !sheet::is_weightless(s.settings)
 }
 
-// Are the state and the table what the scope document asks of them?
+// Are the state and the table what docs/RULES.md asks of them?
 pub fn well_formed(s: State, t: &[u32]) -> bool
     ensures { result ≡ well_formed s t.now }
 {

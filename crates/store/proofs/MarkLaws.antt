@@ -66,12 +66,6 @@ module _ {n : ℕ} {t u : List ℕ} (o : OnlyMarks n t u) where
   pub previous-marked : (m r : ℕ) → previous_at u m r ≡ previous_at t m r
   previous-marked m r = previous-same t u m r (word-marked m r)
 
-  pub count-marked : (m r : ℕ) → count_at u m r ≡ count_at t m r
-  count-marked m r = count_same t u m r (word-marked m r)
-
-  pub transaction-marked : (m r k : ℕ) → k < 4 → transaction_at u m r k ≡ transaction_at t m r k
-  transaction-marked m r = transaction-same t u m r (word-marked m r)
-
   pub content-marked : (m r : ℕ) → content_at u m r ≡ content_at t m r
   content-marked m r = content-same t u m r (word-marked m r)
 
@@ -80,11 +74,6 @@ module _ {n : ℕ} {t u : List ℕ} (o : OnlyMarks n t u) where
 
   pub beyond-marked : drop n u ≡ drop n t
   beyond-marked = same-beyond t u n o.size o.beyond
-
--- the rows above c keep their marks
-pub mark-beyond : (c : ℕ) {t u : List ℕ} → OnlyMarks (used_length c) t u → (m r : ℕ) → c < r → mark_at u m r ≡ mark_at t m r
-unfolding mark_at record_word
-mark-beyond c o m r h = o.beyond (record_start m r + 2) (omega arith)
 
 -- ---- marks
 

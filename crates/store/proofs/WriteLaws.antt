@@ -18,7 +18,7 @@ use Rattle.base.specs.Sets.{is_in, add, del}
 use Rattle.base.proofs.SetLaws.{in_add, in_del}
 use Rattle.base.proofs.PasteLaws.{paste-below, paste-inside, paste-above}
 use Rattle.store.specs.Table.{row_length, head_length, record_length, record_start, transaction_start, Within, held_set, held_at, record_word, previous_at, count_at, endorsers_at, transaction_at, content_at, certificate_at}
-use Rattle.store.proofs.TableLaws.{count-le, held-member}
+use Rattle.store.proofs.TableLaws.{count_le, held-member}
 use Rattle.store.specs.Writes.{put_record}
 
 -- (m, r) is the place (a, q)
@@ -75,7 +75,7 @@ module _ (t u : List ℕ) (m r : ℕ) (e : (k : ℕ) → k < record_length → k
   pub content-same : content_at u m r ≡ content_at t m r
   unfolding content_at
   content-same =
-      let l = count-le t m r in
+      let l = count_le t m r in
       let q : tab (transaction_at u m r) (count_at t m r) ≡ tab (transaction_at t m r) (count_at t m r) = tab-same (transaction_at u m r) (transaction_at t m r) (count_at t m r) (λ k h. transaction-same k (omega arith)) in
       rw (previous-same, count_same, q) refl
 

@@ -1,4 +1,4 @@
-// What is cleared in the table: the endorsed mark of a place, and the part that a state uses (scope document: A member's state).
+// What is cleared in the table: the endorsed mark of a place, and the part that a state uses (docs/RULES.md, "A member's state").
 
 ghost use Rattle.std.specs.Prelude.{◌≡◌};
 ghost use Rattle.store.specs.Table.{Within, Row};
@@ -18,12 +18,11 @@ pub fn clear_endorsed(t: &mut [u32], m: Member, r: Round)
 }
 
 // Clears what a state of ceiling n uses.
+#[tactic(auto, unfolding(crate::specs::Writes::clear_used))]
 pub fn clear_used(t: &mut [u32], n: Round)
     requires { Row t.old n.0 }
     ensures { t.new ≡ clear_used t.old n.0 }
 {
     let end = n.0 as usize * ROW + ROW;
-    for i in 0..end {
-        t[i] = 0;
-    }
+    t[..end].fill(0);
 }

@@ -1,4 +1,4 @@
-// What is written into the table: certificates put, endorsed marks set, marks and rounds of blocks (scope document: A member's state).
+// What is written into the table: certificates put, endorsed marks set, marks and rounds of blocks (docs/RULES.md, "A member's state").
 
 ghost use Rattle.std.specs.Prelude.{◌≡◌, ◌+◌, ◌*◌, ◌<◌, ◌≤◌, length};
 ghost use Rattle.std.proofs.Math.Seq.{paste};
@@ -10,17 +10,20 @@ use crate::lengths::{FIRST, HEAD, RECORD, ROW, TRANSACTION};
 use terms::{Body, Member, Proposal, Round, Transaction};
 
 // Slot k of a proposal, nothing beyond its transactions.
+#[tactic(auto, using(crate::proofs::RecordLaws::nth_with), unfolding(terms::specs::Proposals::slot_of))]
 fn slot(b: Body, k: u32, a: Member, r: Round) -> Transaction
     requires { (k < 4) × (b.count ≤ 4) }
     ensures { result ≡ nth_of (content_with a.0 r.0 b) k }
 {
     if k < b.count {
-        return terms::slot_at(b, k);
+        b.slots[k as usize]
+    } else {
+        Transaction::Bond(Member(0), 0)
     }
-    Transaction::Bond(Member(0), 0)
 }
 
 // A transaction as the three words of slot k.
+#[tactic(auto, unfolding(crate::specs::Writes::put_transaction))]
 fn put_transaction(w: [u32; RECORD], k: u32, x: Transaction) -> [u32; RECORD]
     requires { k < 4 }
     ensures { result ≡ put_transaction w k x }
@@ -56,9 +59,7 @@ fn put_words(t: &mut [u32], b: usize, w: [u32; RECORD])
     requires { b + record_length ≤ length t.old }
     ensures { t.new ≡ paste t.old b w record_length }
 {
-    for k in 0..RECORD {
-        t[b + k] = w[k];
-    }
+    t[b..b + RECORD].copy_from_slice(&w);
 }
 
 // Puts a certificate at its place with its endorsers, in no block.

@@ -16,10 +16,10 @@ use Rattle.engine.specs.Reached.{Reached}
 use Rattle.engine.proofs.GuestLaws.{call-rights, guest-opens-none}
 use Rattle.engine.specs.Guests.{as_host}
 use Rattle.nonforking.specs.Statement.{Members, engine_behaviour}
-use Rattle.nonforking.proofs.Theorem.{demand_3}
+use Rattle.nonforking.proofs.Theorem.{chains_never_fork}
 use Rattle.submissions.specs.Submissions.{Submission, one, batch, after_submission, engine_then, unrolled}
-use Rattle.submissions.specs.Requests.{Asked, asks, asks_batch, needed_for, submitted_by, Request, host, guest, refused_with, host_result, caller_number, result_of, AllowedAsHost, Noninterference, submission_of, NoOpenAsked, after_requests, RightsStayThen, InRangeThen, RequestsLeadTo, engine_asked, submitted, DemandThreeWithGuests}
-use Rattle.submissions.proofs.SubmissionLaws.{batches_lead-to, then-unrolled}
+use Rattle.submissions.specs.Requests.{Asked, asks, asks_batch, needed_for, submitted_by, Request, host, guest, refused_with, host_result, caller_number, result_of, AllowedAsHost, Noninterference, submission_of, NoOpenAsked, after_requests, RightsStayThen, InRangeThen, RequestsLeadTo, engine_asked, submitted, ChainsNeverForkWithGuests}
+use Rattle.submissions.proofs.SubmissionLaws.{batches_lead_to, then-unrolled}
 
 -- ---- one request
 
@@ -69,12 +69,12 @@ left_by e (guest c a) = go (eqb (caller_number e c a) 0)
     go true = host-left e (submitted_by c a)
     go false = refl
 
-pub requests_lead-to : RequestsLeadTo
-requests_lead-to e r x i = rw (left_by e x) (go (submission_of e x) i)
+pub requests_lead_to : RequestsLeadTo
+requests_lead_to e r x i = rw (left_by e x) (go (submission_of e x) i)
   where
     go : (o : Option Submission) → InRangeThen e o → Reached (if_there o e (after_submission e))
     go none i = r
-    go (some s) i = batches_lead-to e r s i
+    go (some s) i = batches_lead_to e r s i
 
 -- ---- rights
 
@@ -126,5 +126,5 @@ module _ (X : Members engine_behaviour) where
               ∙ ap (λ (d : Engine). after_submission d s) h
           by-some false e = h
 
-pub demand_3_with_guests : DemandThreeWithGuests
-demand_3_with_guests X l r = record { agreed = demand_3 X (unrolled X (submitted X l)) r; engines = λ i. asked-submitted X l i ∙ then-unrolled X (submitted X l) i }
+pub chains_never_fork_with_guests : ChainsNeverForkWithGuests
+chains_never_fork_with_guests X l r = record { agreed = chains_never_fork X (unrolled X (submitted X l)) r; engines = λ i. asked-submitted X l i ∙ then-unrolled X (submitted X l) i }

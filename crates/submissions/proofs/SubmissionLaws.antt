@@ -1,4 +1,4 @@
--- Laws of calls and batches: a submission leaves what its calls leave, so demand 3 holds where a host submits batches too.
+-- Laws of calls and batches: a submission leaves what its calls leave, so chains never fork where a host submits batches too.
 use mathlib.Core.Path.{◌≡◌, refl, sym, ap, ◌∙◌}
 use mathlib.Core.Bool.{Bool, true, false, cond}
 use mathlib.Core.List.{List, [], ◌∷◌, ◌++◌}
@@ -21,8 +21,8 @@ use Rattle.engine.specs.Reached.{Reached, by_call}
 use Rattle.batch.specs.Batch.{Row, turns_of, table_after, batch_refusal}
 use Rattle.batch.proofs.BatchLaws.{after-accepts, batch-refused, batch-table}
 use Rattle.nonforking.specs.Statement.{Members, Entry, engine_after, engine_behaviour}
-use Rattle.nonforking.proofs.Theorem.{demand_3}
-use Rattle.submissions.specs.Submissions.{Submission, one, batch, after_submission, accepts_of, calls_of, entries_of, engine_then, unrolled, LeavesAsItsCalls, BatchesLeadTo, DemandThreeWithBatches}
+use Rattle.nonforking.proofs.Theorem.{chains_never_fork}
+use Rattle.submissions.specs.Submissions.{Submission, one, batch, after_submission, accepts_of, calls_of, entries_of, engine_then, unrolled, LeavesAsItsCalls, BatchesLeadTo, ChainsNeverForkWithBatches}
 
 -- ---- one submission
 
@@ -46,10 +46,10 @@ after-turns row (p ∷ l) e =
     go (some c) = after-accepts e c
 
 -- the claim
-pub leaves_as_its-calls : LeavesAsItsCalls
+pub leaves_as_its_calls : LeavesAsItsCalls
 unfolding after_calls
-leaves_as_its-calls e (one c) = refl
-leaves_as_its-calls e (batch row answers) = go (ℕ_discrete (batch_refusal e.state e.table row.count (length answers)) 0)
+leaves_as_its_calls e (one c) = refl
+leaves_as_its_calls e (batch row answers) = go (ℕ_discrete (batch_refusal e.state e.table row.count (length answers)) 0)
   where
     with-table : {t u : List ℕ} → t ≡ u → ◌≡◌ {A = Engine} (record { state = e.state; table = t }) (record { state = e.state; table = u })
     with-table h = ap (λ (t : List ℕ). record { state = e.state; table = t }) h
@@ -63,8 +63,8 @@ unfolding after_calls
 calls-lead-to e r [] i = r
 calls-lead-to e r (c ∷ l) i = by_call (after_calls e l) (calls-lead-to e r l i.1) c i.0
 
-pub batches_lead-to : BatchesLeadTo
-batches_lead-to e r x i = rw (leaves_as_its-calls e x) (calls-lead-to e r (calls_of e x) i)
+pub batches_lead_to : BatchesLeadTo
+batches_lead_to e r x i = rw (leaves_as_its_calls e x) (calls-lead-to e r (calls_of e x) i)
 
 -- ---- a list of submissions
 
@@ -94,11 +94,11 @@ module _ (X : Members engine_behaviour) where
           → cond b (after_submission (engine_then X l i) x.call) (engine_then X l i)
           ≡ cond b (after_calls (engine_after X (unrolled X l) i) (calls_of (engine_then X l x.who) x.call)) (engine_after X (unrolled X l) i)
       go true e h =
-          leaves_as_its-calls (engine_then X l i) x.call
+          leaves_as_its_calls (engine_then X l i) x.call
           ∙ ap (λ (k : ℕ). after_calls (engine_then X l i) (calls_of (engine_then X l k) x.call)) (eqb-true i x.who e)
           ∙ ap (λ (d : Engine). after_calls d (calls_of (engine_then X l x.who) x.call)) h
       go false e h = h
 
--- demand 3 with batches
-pub demand_3_with_batches : DemandThreeWithBatches
-demand_3_with_batches X l r = record { agreed = demand_3 X (unrolled X l) r; engines = then-unrolled X l }
+-- the claim
+pub chains_never_fork_with_batches : ChainsNeverForkWithBatches
+chains_never_fork_with_batches X l r = record { agreed = chains_never_fork X (unrolled X l) r; engines = then-unrolled X l }

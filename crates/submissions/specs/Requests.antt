@@ -1,4 +1,4 @@
--- Requests of hosts and of guests: a guest's is refused by the rights that its caller lacks, or it does and answers what the host's own would (change request: Point 11).
+-- Requests of hosts and of guests: a guest's is refused by the rights that its caller lacks, or it does and answers what the host's own would (docs/RULES.md, "Rights").
 use Rattle.std.specs.Prelude.{◌≡◌, true, false, cond, List, [], ◌∷◌, ℕ, length, eqb}
 use Rattle.std.proofs.Math.Option.{Option, none, some}
 use Rattle.base.specs.Options.{if_there}
@@ -155,11 +155,11 @@ module _ (X : Members engine_behaviour) where
   submitted [] = []
   submitted (x ∷ l) = if_there (submission_of (engine_asked l x.who) x.call) (submitted l) (λ s. record { who = x.who; call = s } ∷ submitted l)
 
--- demand 3 with guests' requests as entries: premises and claim are those of the calls that they count as, and each member's engine is the one after those
+-- chains never fork with guests' requests as entries: premises and claim are those of the calls that they count as, and each member's engine is the one after those
 pub record AgreedAsked (X : Members engine_behaviour) (l : List (entries.Entry Request)) : Type 0 where
   pub agreed : Agreed X (unrolled X (submitted X l))
   pub engines : (i : ℕ) → engine_asked X l i ≡ engine_after X (unrolled X (submitted X l)) i
 
 -- the members' rights are any: they need not be equal
-abbrev pub DemandThreeWithGuests : Type 0
-DemandThreeWithGuests = (X : Members engine_behaviour) (l : List (entries.Entry Request)) → Run X (unrolled X (submitted X l)) → AgreedAsked X l
+abbrev pub ChainsNeverForkWithGuests : Type 0
+ChainsNeverForkWithGuests = (X : Members engine_behaviour) (l : List (entries.Entry Request)) → Run X (unrolled X (submitted X l)) → AgreedAsked X l

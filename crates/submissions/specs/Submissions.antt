@@ -55,10 +55,10 @@ LeavesAsItsCalls = (e : Engine) (x : Submission) → after_submission e x ≡ af
 abbrev pub BatchesLeadTo : Type 0
 BatchesLeadTo = (e : Engine) → Reached e → (x : Submission) → AllInRange (calls_of e x) → Reached (after_submission e x)
 
--- demand 3 with batches as entries: premises and claim are those of the unrolled list, and each member's engine is the one after it
+-- chains never fork with batches as entries: premises and claim are those of the unrolled list, and each member's engine is the one after it
 pub record AgreedThen (X : Members engine_behaviour) (l : List (entries.Entry Submission)) : Type 0 where
   pub agreed : Agreed X (unrolled X l)
   pub engines : (i : ℕ) → engine_then X l i ≡ engine_after X (unrolled X l) i
 
-abbrev pub DemandThreeWithBatches : Type 0
-DemandThreeWithBatches = (X : Members engine_behaviour) (l : List (entries.Entry Submission)) → Run X (unrolled X l) → AgreedThen X l
+abbrev pub ChainsNeverForkWithBatches : Type 0
+ChainsNeverForkWithBatches = (X : Members engine_behaviour) (l : List (entries.Entry Submission)) → Run X (unrolled X l) → AgreedThen X l

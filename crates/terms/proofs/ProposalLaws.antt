@@ -10,6 +10,7 @@ use lib.Dec.{eqb, ltb, leb}
 use borrow.Author.Tests.{eq-eqb, ne_eqb, eqb-true, leb-true, lt-ltb, not-false}
 use Rattle.base.proofs.Bools.{both}
 use Rattle.base.specs.Folds.{all_to, any_to, tab}
+use Rattle.base.proofs.Ranges.{tab_next, all_next}
 use Rattle.base.proofs.FoldLaws.{length-tab, get_d_tab}
 use Rattle.base.proofs.TestLaws.{any_true}
 use Rattle.base.specs.Sets.{is_in, is_empty}
@@ -17,7 +18,6 @@ use Rattle.base.proofs.UnionLaws.{in_none, empty_in}
 use Rattle.terms.specs.declared.Transaction.{Transaction}
 use Rattle.terms.specs.declared.Transaction.TheVariants.{Bond, Unbond, Entry}
 use Rattle.terms.specs.Transactions.{kind_of, number_of, amount_of, read_transaction, no_transaction, same_transaction, bond_in_range, in_range}
-use Rattle.terms.specs.declared.Slot.{Slot}
 use Rattle.terms.specs.declared.Body.{Body}
 use Rattle.terms.specs.Proposals.{Content, slot_of, transactions_of, same_transactions, same_proposal, all_in_range, bad_transactions, bad_previous_set}
 
@@ -135,7 +135,7 @@ same_tabs f g zero = empty
   where
     empty : same_transactions [] [] ≡ true
     empty = list_self []
-same_tabs f g (suc n) = same_snoc (tab f n) (tab g n) (f n) (g n) (length-tab f n ∙ sym (length-tab g n)) ∙ rw (same_tabs f g n) refl
+same_tabs f g (suc n) = rw (tab_next f n, tab_next g n, all_next (λ k. same_transaction (f k) (g k)) n) (same_snoc (tab f n) (tab g n) (f n) (g n) (length-tab f n ∙ sym (length-tab g n)) ∙ rw (same_tabs f g n) refl)
 
 other-lengths : (l m : List Transaction) → eqb (length l) (length m) ≡ false → same_transactions l m ≡ false
 other-lengths l m e = go (same_transactions l m) refl
@@ -148,17 +148,17 @@ other-lengths l m e = go (same_transactions l m) refl
 pub other_tabs : (f g : ℕ → Transaction) (m n : ℕ) → eqb m n ≡ false → same_transactions (tab f m) (tab g n) ≡ false
 other_tabs f g m n e = other-lengths (tab f m) (tab g n) (rw (length-tab f m, length-tab g n) e)
 
-pub transactions-tab : (b : Body) → transactions_of b ≡ tab (slot_of b) b.count
+pub transactions_tab : (b : Body) → transactions_of b ≡ tab (slot_of b) b.count
 unfolding transactions_of
-transactions-tab b = refl
+transactions_tab b = refl
 
 pub length-transactions : (b : Body) → length (transactions_of b) ≡ b.count
-length-transactions b = rw (transactions-tab b) (length-tab (slot_of b) b.count)
+length-transactions b = rw (transactions_tab b) (length-tab (slot_of b) b.count)
 
 -- the slots of a body that are filled place by place
-pub slot-tab : (v n : ℕ) (f : ℕ → Slot) (k : ℕ) → k < 4 → slot_of (record { previous = v; count = n; slots = tab f 4 }) k ≡ (f k).transaction
+pub slot-tab : (v n : ℕ) (f : ℕ → Transaction) (k : ℕ) → k < 4 → slot_of (record { previous = v; count = n; slots = tab f 4 }) k ≡ f k
 unfolding slot_of
-slot-tab v n f k h = ap (λ (z : Slot). z.transaction) (get_d_tab f 4 k (record { transaction = no_transaction }) h)
+slot-tab v n f k h = get_d_tab f 4 k no_transaction h
 
 range-append : (l m : List Transaction) → all_in_range (l ++ m) ≡ (all_in_range l && all_in_range m)
 unfolding all_in_range
@@ -168,11 +168,11 @@ range-append (x ∷ l) m = rw (range-append l m) (sym (and_assoc (in_range x) (a
 pub range-tab : (f : ℕ → Transaction) (n : ℕ) → all_in_range (tab f n) ≡ all_to (λ k. in_range (f k)) n
 unfolding tab all_to all_in_range
 range-tab f zero = refl
-range-tab f (suc n) = range-append (tab f n) (f n ∷ []) ∙ rw (range-tab f n, and-true (in_range (f n))) refl
+range-tab f (suc n) = ap all_in_range (tab_next f n) ∙ range-append (tab f n) (f n ∷ []) ∙ rw (range-tab f n, and-true (in_range (f n))) (sym (all_next (λ k. in_range (f k)) n))
 
-pub bad_transactions-tab : (a : ℕ) (f : ℕ → Transaction) (n : ℕ) → bad_transactions a (tab f n) ≡ (ltb a n || not (all_to (λ k. in_range (f k)) n))
+pub bad_transactions_tab : (a : ℕ) (f : ℕ → Transaction) (n : ℕ) → bad_transactions a (tab f n) ≡ (ltb a n || not (all_to (λ k. in_range (f k)) n))
 unfolding bad_transactions
-bad_transactions-tab a f n = rw (length-tab f n, range-tab f n) refl
+bad_transactions_tab a f n = rw (length-tab f n, range-tab f n) refl
 
 -- over the allowance
 pub bad_transactions-over : (a : ℕ) (l : List Transaction) → a < length l → bad_transactions a l ≡ true

@@ -1,9 +1,11 @@
 -- Laws of sheets: what settings in range give, and that opening sees only the filled settings.
 use mathlib.Core.Path.{◌≡◌, refl, ap, ◌∙◌}
 use mathlib.Core.Bool.{Bool, true, false, not, ◌||◌, true≢false}
-use mathlib.Core.List.{[], ◌∷◌}
+use mathlib.Core.List.{List, [], ◌∷◌}
 use Prim.Native.Nat.{ℕ, ◌≤◌, ◌<◌}
 use lib.Dec.{ltb}
+use lib.ListN.{set, length}
+use lib.Seq.{get_or-set_same, get_or-set_other}
 use borrow.Author.Tests.{ltb-true, ltb-false}
 use Rattle.base.proofs.Bools.{neither}
 use Rattle.base.specs.Checks.{Checks}
@@ -11,12 +13,13 @@ use Rattle.base.specs.Folds.{any_to, tab}
 use Rattle.base.proofs.FoldLaws.{get_d_tab, tab-same}
 use Rattle.base.proofs.TestLaws.{any_true, any_false}
 use Rattle.terms.specs.declared.sheet.Setting.TheVariants.{Blank, Written}
-use Rattle.terms.specs.declared.sheet.Cell.{Cell}
+use Rattle.terms.specs.declared.sheet.Setting.{Setting}
+use Rattle.terms.specs.declared.sheet.Weight.{Weight}
 use Rattle.terms.specs.declared.sheet.Rights.{Rights}
 use Rattle.terms.specs.declared.sheet.Sheet.{Sheet}
 use Rattle.terms.specs.declared.sheet.Settings.{Settings}
-use Rattle.terms.specs.Sheets.{weight_at, filled}
-use Rattle.terms.specs.Ranges.{weight_in, not_within, out_of_range, weightless, SettingsFit}
+use Rattle.terms.specs.Sheets.{weight_at, starting_weights, filled}
+use Rattle.terms.specs.Ranges.{weight, weight_in, not_within, out_of_range, weightless, SettingsFit}
 
 inside : (x a b : ℕ) → not_within x a b ≡ false → (a ≤ x) × (x ≤ b)
 unfolding not_within
@@ -45,33 +48,10 @@ settings-fit S h =
       margin_to = m.1;
     }
 
--- settings that check 3 lets pass have a member
-pub some-weight : (S : Settings) → weightless S ≡ false → (i : ℕ) × (i < 16) × (0 < weight_in S.weights i)
-unfolding weightless
-some-weight S h =
-    let x = any_true (λ i. ltb 0 (weight_in S.weights i)) 16 (go (any_to (λ i. ltb 0 (weight_in S.weights i)) 16) h) in
-    (x.0, x.1, ltb-true 0 (weight_in S.weights x.0) x.2)
-  where
-    go : (b : Bool) → not b ≡ false → b ≡ true
-    go true e = refl
-    go false e = absurd (true≢false e)
-
 -- the filled weights, member by member
-pub filled-weights : (s : Sheet) → (filled s).weights ≡ tab (weight_at s.weights) 16
+pub filled-weights : (s : Sheet) → (filled s).weights ≡ starting_weights s.weights
 unfolding filled
 filled-weights s = refl
-
--- checks 2 and 3 of open
-abbrev setting_checks : Settings → Checks
-setting_checks S = (out_of_range S, 2) ∷ (weightless S, 3) ∷ []
-
--- sheets with equal filled settings are the same to opening: its checks of a sheet are those of the filled settings
-pub same_sheets : (s u : Sheet) → filled s ≡ filled u → setting_checks (filled s) ≡ setting_checks (filled u)
-same_sheets s u e = ap setting_checks e
-
--- a setting as an element of an array, written
-abbrev cell : ℕ → Cell
-cell n = record { setting = Written n }
 
 -- the sheet with every setting written, and the rights beside them
 unfoldable pub written : Settings → Rights → Sheet
@@ -80,18 +60,15 @@ written S R =
       lookback = Written S.lookback;
       ceiling = Written S.ceiling.0;
       allowance = Written S.allowance;
-      weights = tab (λ i. cell (weight_in S.weights i)) 16;
+      weights = tab (λ i. Written (weight_in S.weights i)) 16;
       margin = Written S.margin;
       rights = R;
     }
 
-written-weight : (f : ℕ → ℕ) (i : ℕ) → i < 16 → weight_at (tab (λ j. cell (f j)) 16) i ≡ f i
-unfolding weight_at
-written-weight f i h = rw (get_d_tab (λ j. cell (f j)) 16 i (record { setting = Blank }) h) refl
+-- ---- a weight set, the others as they were
 
--- a blank is the same as its default, written
-pub fill_written : (s : Sheet) → filled (written (filled s) s.rights) ≡ filled s
-unfolding filled written
-fill_written s =
-    let f = weight_at s.weights in
-    rw (tab-same (weight_at (tab (λ j. cell (weight_in (tab f 16) j)) 16)) f 16 (λ i h. written-weight (weight_in (tab f 16)) i h ∙ get_d_tab f 16 i 0 h)) refl
+pub weight_same : (w : List Weight) (m v : ℕ) → m < length w → weight_in (set w m (weight v)) m ≡ v
+weight_same w m v h = ap (λ (x : Weight). x.0) (get_or-set_same w m (weight v) (weight 0) h)
+
+pub weight_other : (w : List Weight) (m i v : ℕ) → (i ≡ m → ⊥) → weight_in (set w m (weight v)) i ≡ weight_in w i
+weight_other w m i v n = ap (λ (x : Weight). x.0) (get_or-set_other w m i (weight v) (weight 0) n)

@@ -1,11 +1,16 @@
 -- The ranges of the settings: checks 2 and 3 of open, which well-formed states pass as well.
 use Rattle.std.specs.Prelude.{Bool, not, ◌||◌, List, ℕ, ◌≤◌, ◌<◌, get_or, ltb}
 use Rattle.base.specs.Folds.{any_to}
+use Rattle.terms.specs.declared.sheet.Weight.{Weight}
 use Rattle.terms.specs.declared.sheet.Settings.{Settings}
 
+-- a weight by its number
+abbrev pub weight : ℕ → Weight
+weight n = record { 0 = n }
+
 -- the weight of member i, of sixteen
-abbrev pub weight_in : List ℕ → ℕ → ℕ
-weight_in w i = get_or w i 0
+abbrev pub weight_in : List Weight → ℕ → ℕ
+weight_in w i = (get_or w i (weight 0)).0
 
 -- x is not from a to b
 unfoldable pub not_within : ℕ → ℕ → ℕ → Bool

@@ -1,4 +1,7 @@
-// Members, rounds, transactions, proposals and certificates, as they are handed in (scope document: Terms and sheet).
+//! Members, rounds, transactions, proposals, the sheet.
+//!
+//! What is handed in, and when it is in range: transactions (specs/Transactions), proposals and certificates, and when two are the same (specs/Proposals), the settings with their defaults and ranges (specs/Sheets, specs/Ranges), and the rights of callers (specs/Rights). docs/RULES.md, "Terms" and "The sheet".
+//! Each test answers what its definition says of every value, in range or not.
 #![tactic(auto)]
 
 pub mod rights;
@@ -6,30 +9,24 @@ pub mod sheet;
 
 ghost use Rattle.std.specs.Prelude.{◌≡◌, ◌<◌, ◌≤◌};
 ghost use Rattle.base.specs.Folds.{all_to};
-ghost use Rattle.terms.specs.Transactions.{kind_of, number_of, amount_of, read_transaction, same_transaction, amount_in_range, bond_in_range, in_range};
+ghost use Rattle.terms.specs.Transactions.{kind_of, number_of, amount_of, read_transaction, amount_in_range, bond_in_range, in_range};
 ghost use Rattle.terms.specs.Bodies.{push};
 ghost use Rattle.terms.specs.Proposals.{bare_body, slot_of, transactions_of, bad_transactions, bad_previous_set};
 
 // A member's number: 0 to 15.
-#[derive(Clone, Copy)]
+#[derive(Clone, Copy, PartialEq, Eq)]
 pub struct Member(pub u32);
 
 // A round: 1 to 1,024.
-#[derive(Clone, Copy)]
+#[derive(Clone, Copy, PartialEq, Eq)]
 pub struct Round(pub u32);
 
 // Bond (member, amount), unbond (member), or an entry, which is any number.
-#[derive(Clone, Copy)]
+#[derive(Clone, Copy, PartialEq, Eq)]
 pub enum Transaction {
     Bond(Member, u32),
     Unbond(Member),
     Entry(u32),
-}
-
-// A transaction as an element of an array.
-#[derive(Clone, Copy)]
-pub struct Slot {
-    pub transaction: Transaction,
 }
 
 // What a proposal has beside author and round. The first count slots are its transactions; a count above four is over every allowance.
@@ -37,7 +34,7 @@ pub struct Slot {
 pub struct Body {
     pub previous: u16,
     pub count: u32,
-    pub slots: [Slot; 4],
+    pub slots: [Transaction; 4],
 }
 
 #[derive(Clone, Copy)]
@@ -58,33 +55,29 @@ pub struct Certificate {
 pub fn bare_body(previous: u16) -> Body
     ensures { result ≡ bare_body previous }
 {
-    let slot = Slot {
-        transaction: Transaction::Bond(Member(0), 0),
-    };
     Body {
         previous,
         count: 0,
-        slots: [slot; 4],
+        slots: [Transaction::Bond(Member(0), 0); 4],
     }
 }
 
 // A body with one transaction more.
+#[tactic(auto, unfolding(crate::specs::Bodies::push))]
 pub fn pushed(b: Body, x: Transaction) -> Body
     requires { b.count < 4294967295 }
     ensures { result ≡ push b x }
 {
-    let n = b.count;
     let mut next = b;
-    next.count = n + 1;
-    if 4 <= n {
-        return next;
+    if b.count < 4 {
+        next.slots[b.count as usize] = x;
     }
-    let slot = Slot { transaction: x };
-    next.slots[n as usize] = slot;
+    next.count = b.count + 1;
     next
 }
 
 // A transaction's kind as a number: 0 bond, 1 unbond, 2 entry.
+#[tactic(auto, unfolding(crate::specs::Transactions::kind_of))]
 pub fn kind(x: Transaction) -> u32
     ensures { result ≡ kind_of x }
 {
@@ -96,6 +89,7 @@ pub fn kind(x: Transaction) -> u32
 }
 
 // The member of a bond or unbond, or the number of an entry.
+#[tactic(auto, unfolding(crate::specs::Transactions::number_of))]
 pub fn number(x: Transaction) -> u32
     ensures { result ≡ number_of x }
 {
@@ -107,6 +101,7 @@ pub fn number(x: Transaction) -> u32
 }
 
 // The amount of a bond, 0 of another.
+#[tactic(auto, unfolding(crate::specs::Transactions::amount_of))]
 pub fn amount(x: Transaction) -> u32
     ensures { result ≡ amount_of x }
 {
@@ -118,52 +113,35 @@ pub fn amount(x: Transaction) -> u32
 }
 
 // The transaction that three numbers tell; an unknown kind is read as an entry.
+#[tactic(auto, unfolding(crate::specs::Transactions::read_transaction))]
 pub fn read_transaction(kind: u32, number: u32, amount: u32) -> Transaction
     ensures { result ≡ read_transaction kind number amount }
 {
-    if kind == 0 {
-        return Transaction::Bond(Member(number), amount);
+    match kind {
+        0 => Transaction::Bond(Member(number), amount),
+        1 => Transaction::Unbond(Member(number)),
+        _ => Transaction::Entry(number),
     }
-    if kind == 1 {
-        return Transaction::Unbond(Member(number));
-    }
-    Transaction::Entry(number)
-}
-
-// Are the two equal?
-pub fn same_transaction(x: Transaction, y: Transaction) -> bool
-    ensures { result ≡ same_transaction x y }
-{
-    if kind(x) != kind(y) {
-        return false;
-    }
-    if number(x) != number(y) {
-        return false;
-    }
-    amount(x) == amount(y)
 }
 
 // Is a bond's amount in range?
+#[tactic(auto, unfolding(crate::specs::Transactions::amount_in_range))]
 pub fn amount_in_range(a: u32) -> bool
     ensures { result ≡ amount_in_range a }
 {
-    if a < 1 {
-        return false;
-    }
-    a <= 1000
+    1 <= a && a <= 1000
 }
 
 // Are a bond's member and amount in range?
+#[tactic(auto, unfolding(crate::specs::Transactions::bond_in_range))]
 pub fn bond_in_range(m: Member, a: u32) -> bool
     ensures { result ≡ bond_in_range m.0 a }
 {
-    if 16 <= m.0 {
-        return false;
-    }
-    amount_in_range(a)
+    m.0 < 16 && amount_in_range(a)
 }
 
 // Is the transaction in range?
+#[tactic(auto, unfolding(crate::specs::Transactions::in_range))]
 pub fn in_range(x: Transaction) -> bool
     ensures { result ≡ in_range x }
 {
@@ -174,48 +152,33 @@ pub fn in_range(x: Transaction) -> bool
     }
 }
 
-// Slot k of a body.
-pub fn slot_at(b: Body, k: u32) -> Transaction
-    requires { k < 4 }
-    ensures { result ≡ slot_of b k }
-{
-    let slots = b.slots;
-    let s = slots[k as usize];
-    s.transaction
-}
-
 // Are the first n transactions of a body in range?
+#[tactic(auto, unfolding(base::specs::Folds::all_to, crate::specs::Proposals::slot_of))]
 fn slots_in_range(b: Body, n: u32) -> bool
     requires { n ≤ 4 }
     ensures { result ≡ all_to (λ k. in_range (slot_of b k)) n }
 {
-    for k in 0..n {
-        let x = slot_at(b, k);
-        if !in_range(x) {
-            return false;
-        }
-    }
-    true
+    (0..n).all(|k| in_range(b.slots[k as usize]))
 }
 
 // Check 6: is a transaction out of range, or are there more than the allowance?
+#[tactic(auto, using(crate::proofs::ProposalLaws::bad_transactions_tab, crate::proofs::ProposalLaws::transactions_tab))]
 pub fn has_bad_transactions(allowance: u32, b: Body) -> bool
     requires { allowance ≤ 4 }
     ensures { result ≡ bad_transactions allowance (transactions_of b) }
 {
     let n = b.count;
-    if allowance < n {
-        return true;
-    }
-    !slots_in_range(b, n)
+    allowance < n || !slots_in_range(b, n)
 }
 
 // Check 7: is the previous set of a proposal of round r empty above round 1, or not empty in it?
+#[tactic(auto, unfolding(crate::specs::Proposals::bad_previous_set))]
 pub fn is_bad_previous_set(r: Round, set: u32) -> bool
     ensures { result ≡ bad_previous_set r.0 set }
 {
     if r.0 == 1 {
-        return !base::is_empty(set);
+        !base::is_empty(set)
+    } else {
+        base::is_empty(set)
     }
-    base::is_empty(set)
 }

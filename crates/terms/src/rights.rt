@@ -1,4 +1,4 @@
-// What guests may do: four rights of callers 0 to 7, fixed at opening (change request: Point 11).
+// What guests may do: four rights of callers 0 to 7, fixed at opening (docs/RULES.md, "Rights").
 
 ghost use Rattle.std.specs.Prelude.{◌≡◌, ◌<◌};
 ghost use Rattle.terms.specs.Rights.{right_number, may, caller_refusal};

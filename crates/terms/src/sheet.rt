@@ -1,26 +1,20 @@
-// The sheet of settings: what an integrator fills in, its defaults and its ranges (scope document: Terms and sheet).
+// The sheet of settings: what an integrator fills in, its defaults and its ranges (docs/RULES.md, "Terms" and "The sheet").
 
-ghost use Rattle.std.specs.Prelude.{◌≡◌, ◌<◌};
-ghost use Rattle.base.specs.Folds.{any_to, tab};
-ghost use Rattle.terms.specs.Sheets.{blank_sheet, value_or, blank_weight, weight_at, filled};
+ghost use Rattle.std.specs.Prelude.{◌≡◌, ◌<◌, ltb};
+ghost use Rattle.base.specs.Folds.{any_to};
+ghost use Rattle.terms.specs.Sheets.{blank_sheet, value_or, blank_weight, weight_at, starting_weights, filled};
 ghost use Rattle.terms.specs.Ranges.{weight_in, not_within, out_of_range, weightless};
 
 use crate::{Member, Round};
 
 // Each setting is blank or written with a number.
-#[derive(Clone, Copy)]
+#[derive(Clone, Copy, PartialEq, Eq)]
 pub enum Setting {
     Blank,
     Written(u32),
 }
 
-// A setting as an element of an array.
-#[derive(Clone, Copy)]
-pub struct Cell {
-    pub setting: Setting,
-}
-
-// What callers 0 to 7 may do, a bit each: bit 8 r + c is caller c's right r, where 0 is propose, 1 sign, 2 drive and 3 read (change request: Point 11).
+// What callers 0 to 7 may do, a bit each: bit 8 r + c is caller c's right r, where 0 is propose, 1 sign, 2 drive and 3 read (docs/RULES.md, "Rights").
 #[derive(Clone, Copy)]
 pub struct Rights(pub u32);
 
@@ -30,13 +24,13 @@ pub struct Sheet {
     pub lookback: Setting,
     pub ceiling: Setting,
     pub allowance: Setting,
-    pub weights: [Cell; 16],
+    pub weights: [Setting; 16],
     pub margin: Setting,
     pub rights: Rights,
 }
 
 // A member's weight.
-#[derive(Clone, Copy)]
+#[derive(Clone, Copy, PartialEq, Eq, PartialOrd, Ord)]
 pub struct Weight(pub u64);
 
 // The filled settings: the ceiling is the last round, the weights are the starting ones, and the margin is what a total less 1 is divided by for its fault bound.
@@ -45,7 +39,7 @@ pub struct Settings {
     pub lookback: u32,
     pub ceiling: Round,
     pub allowance: u32,
-    pub weights: [u64; 16],
+    pub weights: [Weight; 16],
     pub margin: u32,
 }
 
@@ -90,14 +84,11 @@ impl Sheet {
     pub fn blank() -> Sheet
         ensures { result ≡ blank_sheet }
     {
-        let cell = Cell {
-            setting: Setting::Blank,
-        };
         Sheet {
             lookback: Setting::Blank,
             ceiling: Setting::Blank,
             allowance: Setting::Blank,
-            weights: [cell; 16],
+            weights: [Setting::Blank; 16],
             margin: Setting::Blank,
             rights: Rights(0),
         }
@@ -115,113 +106,92 @@ fn value_or(x: Setting, d: u32) -> u32
 }
 
 // A member's weight where it is blank.
-fn blank_weight(m: Member) -> Weight
-    ensures { result.0 ≡ blank_weight m.0 }
+#[tactic(auto, unfolding(crate::specs::Sheets::blank_weight))]
+fn blank_weight(m: Member) -> u32
+    ensures { result ≡ blank_weight m.0 }
 {
     if m.0 < Sheet::FIRST_MEMBERS {
-        return Weight(Sheet::WEIGHT_FIRST as u64);
+        Sheet::WEIGHT_FIRST
+    } else {
+        Sheet::WEIGHT_OTHER
     }
-    Weight(Sheet::WEIGHT_OTHER as u64)
 }
 
 // A member's starting weight.
-fn weight_at(cells: [Cell; 16], m: Member) -> Weight
+#[tactic(auto, unfolding(crate::specs::Sheets::weight_at))]
+fn weight_at(weights: &[Setting; 16], m: Member) -> Weight
     requires { m.0 < 16 }
-    ensures { result.0 ≡ weight_at cells m.0 }
+    ensures { result.0 ≡ weight_at weights.now m.0 }
 {
-    let cell = cells[m.0 as usize];
-    let x = cell.setting;
-    match x {
-        Setting::Blank => blank_weight(m),
-        Setting::Written(n) => Weight(n as u64),
-    }
+    let number = value_or(weights[m.0 as usize], blank_weight(m));
+    Weight(number as u64)
 }
 
 // The sixteen starting weights.
-fn weights(cells: [Cell; 16]) -> [u64; 16]
-    ensures { result ≡ tab (weight_at cells) 16 }
+fn weights(sheet: &[Setting; 16]) -> [Weight; 16]
+    ensures { result ≡ starting_weights sheet.now }
 {
-    let mut w = [0u64; 16];
-    for i in 0..16u32 {
-        let x = weight_at(cells, Member(i));
-        w[i as usize] = x.0;
-    }
-    w
+    std::array::from_fn(|i| weight_at(sheet, Member(i as u32)))
 }
 
 // The filled settings of a sheet.
+#[tactic(auto, unfolding(crate::specs::Sheets::filled))]
 pub fn fill(s: Sheet) -> Settings
     ensures { result ≡ filled s }
 {
-    let lookback = s.lookback;
-    let ceiling = s.ceiling;
-    let allowance = s.allowance;
-    let cells = s.weights;
-    let margin = s.margin;
     Settings {
-        lookback: value_or(lookback, Sheet::LOOKBACK),
-        ceiling: Round(value_or(ceiling, Sheet::CEILING)),
-        allowance: value_or(allowance, Sheet::ALLOWANCE),
-        weights: weights(cells),
-        margin: value_or(margin, Sheet::MARGIN),
+        lookback: value_or(s.lookback, Sheet::LOOKBACK),
+        ceiling: Round(value_or(s.ceiling, Sheet::CEILING)),
+        allowance: value_or(s.allowance, Sheet::ALLOWANCE),
+        weights: weights(&s.weights),
+        margin: value_or(s.margin, Sheet::MARGIN),
     }
 }
 
 // Is the number below its least or above its greatest value?
+#[tactic(auto, unfolding(crate::specs::Ranges::not_within))]
 fn is_outside(x: u64, min: u32, max: u32) -> bool
     ensures { result ≡ not_within x min max }
 {
-    if x < (min as u64) {
-        return true;
-    }
-    (max as u64) < x
+    x < min as u64 || (max as u64) < x
 }
 
 // Is one of the weights out of range?
-fn has_outside(w: [u64; 16]) -> bool
-    ensures { result ≡ any_to (λ i. not_within (weight_in w i) 0 1000000) 16 }
+#[tactic(auto, unfolding(base::specs::Folds::any_to))]
+fn has_outside(weights: &[Weight; 16]) -> bool
+    ensures { result ≡ any_to (λ i. not_within (weight_in weights.now i) 0 1000000) 16 }
 {
-    for i in 0..16usize {
-        if is_outside(w[i], Sheet::WEIGHT_MIN, Sheet::WEIGHT_MAX) {
-            return true;
-        }
-    }
-    false
+    (0..16usize).any(|i| is_outside(weights[i].0, Sheet::WEIGHT_MIN, Sheet::WEIGHT_MAX))
 }
 
 // Check 2: is a setting out of range?
+#[tactic(auto, unfolding(crate::specs::Ranges::out_of_range))]
 pub fn is_out_of_range(s: Settings) -> bool
     ensures { result ≡ out_of_range s }
 {
-    if is_outside(s.lookback as u64, Sheet::LOOKBACK_MIN, Sheet::LOOKBACK_MAX) {
-        return true;
-    }
-    if is_outside(s.ceiling.0 as u64, Sheet::CEILING_MIN, Sheet::CEILING_MAX) {
-        return true;
-    }
-    if is_outside(
-        s.allowance as u64,
-        Sheet::ALLOWANCE_MIN,
-        Sheet::ALLOWANCE_MAX,
-    ) {
-        return true;
-    }
-    let w = s.weights;
-    if has_outside(w) {
-        return true;
-    }
-    is_outside(s.margin as u64, Sheet::MARGIN_MIN, Sheet::MARGIN_MAX)
+    is_outside(s.lookback as u64, Sheet::LOOKBACK_MIN, Sheet::LOOKBACK_MAX)
+        || is_outside(s.ceiling.0 as u64, Sheet::CEILING_MIN, Sheet::CEILING_MAX)
+        || is_outside(
+            s.allowance as u64,
+            Sheet::ALLOWANCE_MIN,
+            Sheet::ALLOWANCE_MAX,
+        )
+        || has_outside(&s.weights)
+        || is_outside(s.margin as u64, Sheet::MARGIN_MIN, Sheet::MARGIN_MAX)
+}
+
+// Is one of the weights positive?
+#[tactic(auto, unfolding(base::specs::Folds::any_to))]
+fn has_weight(weights: &[Weight; 16]) -> bool
+    ensures { result ≡ any_to (λ i. ltb 0 (weight_in weights.now i)) 16 }
+{
+    (0..16usize).any(|i| 0 < weights[i].0)
 }
 
 // Check 3: is no starting weight positive?
+#[tactic(auto, unfolding(crate::specs::Ranges::weightless))]
 pub fn is_weightless(s: Settings) -> bool
     ensures { result ≡ weightless s }
 {
-    let w = s.weights;
-    for i in 0..16usize {
-        if 0 < w[i] {
-            return false;
-        }
-    }
-    true
+    !has_weight(&s.weights)
 }

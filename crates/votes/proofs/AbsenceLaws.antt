@@ -33,6 +33,7 @@ use Rattle.votes.specs.Votes.{votes_at, votes_for}
 use Rattle.votes.specs.Checks.{time_checks, vote_checks, committee_on}
 use Rattle.votes.proofs.AnchorLaws.{leader_on}
 use Rattle.votes.proofs.CheckLaws.{anchor-none, votes-few, votes-enough}
+use Rattle.terms.specs.declared.sheet.Weight.{Weight}
 
 module _ (t : List ℕ) (a r : ℕ) (row : Row t r) where
   -- the votes of the round without a's
@@ -44,7 +45,7 @@ module _ (t : List ℕ) (a r : ℕ) (row : Row t r) where
       go true c d = refl
       go false c d = refl
 
-  pub weight_without : (w : List ℕ) (x : ℕ) → a < 16 → votes_for (clear_held t a r) w r x + cond (votes_at t r x a) (weight_in w a) 0 ≡ votes_for t w r x
+  pub weight_without : (w : List Weight) (x : ℕ) → a < 16 → votes_for (clear_held t a r) w r x + cond (votes_at t r x a) (weight_in w a) 0 ≡ votes_for t w r x
   unfolding votes_for
   weight_without w x h =
       let f : ℕ → ℕ = λ i. cond (votes_at t r x i) (weight_in w i) 0 in
@@ -53,7 +54,7 @@ module _ (t : List ℕ) (a r : ℕ) (row : Row t r) where
       ∙ sum_without f g 16 a h (rw (eq-eqb a a refl) refl) (λ i n. rw (ne_eqb i a n) refl)
 
 -- in another round the votes are as they were
-votes-elsewhere : (t : List ℕ) (a q r : ℕ) → Row t q → r ≢ q → (w : List ℕ) (x : ℕ) → votes_for (clear_held t a q) w r x ≡ votes_for t w r x
+votes-elsewhere : (t : List ℕ) (a q r : ℕ) → Row t q → r ≢ q → (w : List Weight) (x : ℕ) → votes_for (clear_held t a q) w r x ≡ votes_for t w r x
 unfolding votes_for votes_at
 votes-elsewhere t a q r row n w x =
     sum_same _ _ 16 (λ i h. rw (held-clear t a q row i r, previous-held (clear-held t a q row) i r h, ne_eqb r q n) (go (eqb i a) (held_at t i r) (is_in (previous_at t i r) x) (weight_in w i)))
@@ -83,7 +84,7 @@ module _ (s : State) (t : List ℕ) (f : Formed s t) (from : 1 < s.round.0) (led
   abbrev x : ℕ
   x = leader_on s t (r - 1)
 
-  abbrev w : List ℕ
+  abbrev w : List Weight
   w = committee_on s t r
 
   abbrev bound : ℕ
@@ -121,10 +122,10 @@ module _ (s : State) (t : List ℕ) (f : Formed s t) (from : 1 < s.round.0) (led
       still = held_then ∙ rw other refl
 
       weighed : votes_for u (committee_on s u r) r (leader_on s u (r - 1)) ≡ votes_for u w r x
-      weighed = ap₂ (λ (v : List ℕ) (y : ℕ). votes_for u v r y) committee-same leader-same
+      weighed = ap₂ (λ (v : List Weight) (y : ℕ). votes_for u v r y) committee-same leader-same
 
       bound-same : bound_of s.settings.margin (total 16 (weight_in (committee_on s u r))) ≡ bound
-      bound-same = ap (λ (v : List ℕ). bound_of s.settings.margin (total 16 (weight_in v))) committee-same
+      bound-same = ap (λ (v : List Weight). bound_of s.settings.margin (total 16 (weight_in v))) committee-same
 
       -- where it is not, the votes decide
       pub few-left : votes_for u w r x ≤ bound → refusal (vote_checks s u) ≡ 22

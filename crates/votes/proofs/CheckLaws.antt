@@ -13,7 +13,7 @@ use Rattle.base.proofs.Bools.{neither}
 use Rattle.base.specs.Checks.{refusal}
 use Rattle.base.proofs.CheckLaws.{refuses, passes, passes-all, cleared}
 use Rattle.base.specs.Sets.{is_in}
-use Rattle.agreement.specs.Rules.{Chain}
+use Rattle.agreement.specs.Rules.{Chain, last}
 use Rattle.agreement.specs.Weights.{total}
 use Rattle.agreement.specs.Commits.{anchor_at}
 use Rattle.terms.specs.Proposals.{Content}
@@ -31,6 +31,7 @@ use Rattle.state.specs.Formed.{Formed}
 use Rattle.votes.specs.Votes.{votes_for}
 use Rattle.votes.specs.Checks.{time_checks, vote_checks, committee_on, leaders_for}
 use Rattle.votes.proofs.AnchorLaws.{leader_on, anchor-on, unvoted-on, leaders-on}
+use Rattle.terms.specs.declared.sheet.Weight.{Weight}
 
 module _ (s : State) (t : List ℕ) where
   abbrev r : ℕ
@@ -42,31 +43,9 @@ module _ (s : State) (t : List ℕ) where
   abbrev chain : Chain Content
   chain = chain_of s.settings.ceiling.0 t s.blocks
 
-  -- ---- 19, 20, 8
-
-  pub round-even : r % 2 ≡ 0 → 19 ≡ refusal (time_checks s t)
-  round-even e = sym (refuses 19 _ (rw (eq-eqb (r % 2) 0 e) refl))
-
-  module _ (odd : r % 2 ≢ 0) where
-    pub round-one : r ≡ 1 → 19 ≡ refusal (time_checks s t)
-    round-one e = sym (refuses 19 _ (rw (ne_eqb (r % 2) 0 odd, eq-eqb r 1 e) refl))
-
-    module _ (later : r ≢ 1) where
-      in_round : (eqb (r % 2) 0 || eqb r 1) ≡ false
-      in_round = rw (ne_eqb (r % 2) 0 odd, ne_eqb r 1 later) refl
-
-      pub round-old : r - 1 ≤ m → 20 ≡ refusal (time_checks s t)
-      round-old h = sym (passes 19 _ in_round ∙ refuses 20 _ (rw (last-chain s.settings.ceiling.0 t s.blocks) (le-leb (r - 1) m h)))
-
-      module _ (above : m < r - 1) where
-        new-round : refusal (time_checks s t) ≡ refusal ((unknown s.settings (view s t) r, 8) ∷ [])
-        new-round = passes 19 _ in_round ∙ passes 20 _ (rw (last-chain s.settings.ceiling.0 t s.blocks) (lt-leb (r - 1) m above))
-
-        pub round-unknown : known_by s.settings chain r ≡ false → 8 ≡ refusal (time_checks s t)
-        round-unknown e = sym (new-round ∙ refuses 8 _ (unknown_not s.settings (view s t) r ∙ ap not e))
-
-        pub round-timely : known_by s.settings chain r ≡ true → 0 ≡ refusal (time_checks s t)
-        round-timely e = sym (new-round ∙ passes 8 _ (unknown_not s.settings (view s t) r ∙ ap not e) ∙ passes-all)
+  -- the last block's round, as the table has it
+  pub last_told : last chain ≡ m
+  last_told = last-chain s.settings.ceiling.0 t s.blocks
 
   -- what they let pass
   pub record Timely : Type 0 where
@@ -91,7 +70,7 @@ module _ (s : State) (t : List ℕ) where
     abbrev a : ℕ
     a = leader_on s t (r - 1)
 
-    abbrev w : List ℕ
+    abbrev w : List Weight
     w = committee_on s t r
 
     anchor : anchor_at (view s t) (r - 1) ≡ cond (is_in (held_set t (r - 1)) a) (some (content_at t a (r - 1))) none

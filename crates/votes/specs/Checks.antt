@@ -1,4 +1,4 @@
--- The checks of a commit in the paper's order, and the leaders and committees that they go by.
+-- The checks of a commit in their order, and the leaders and committees that they go by.
 use Rattle.std.specs.Prelude.{◌||◌, List, [], ◌∷◌, ℕ, ◌-◌, ◌%◌, replicate, eqb, leb}
 use Rattle.base.specs.Checks.{Checks}
 use Rattle.agreement.specs.Rules.{last}
@@ -11,6 +11,7 @@ use Rattle.rules.specs.Tests.{unknown}
 use Rattle.rules.specs.Calls as rules
 use Rattle.state.specs.declared.State.{State}
 use Rattle.state.specs.View.{view}
+use Rattle.terms.specs.declared.sheet.Weight.{Weight}
 
 module _ (s : State) (t : List ℕ) where
   -- the checks 19, 20, 8, and then 21, 22
@@ -26,5 +27,5 @@ module _ (s : State) (t : List ℕ) where
       fill_to (leader_at s.settings (chain_of s.settings.ceiling.0 t s.blocks)) (last_round t s.blocks) (s.round.0 - 1 - last_round t s.blocks) (replicate 1025 16)
 
   -- the committee of round q
-  abbrev pub committee_on : ℕ → List ℕ
+  abbrev pub committee_on : ℕ → List Weight
   committee_on q = committee_of s.settings (chain_of s.settings.ceiling.0 t s.blocks) q

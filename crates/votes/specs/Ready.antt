@@ -7,15 +7,16 @@ use Rattle.running.specs.BlockChanges.{last_round}
 use Rattle.state.specs.declared.State.{State}
 use Rattle.state.specs.Formed.{Formed}
 use Rattle.votes.specs.Checks.{time_checks, committee_on, leaders_for}
+use Rattle.terms.specs.declared.sheet.Weight.{Weight}
 
 -- round r is there, a is a member, and the weights of w can be added
-pub record VotesReady (t w : List ℕ) (r a : ℕ) : Type 0 where
+pub record VotesReady (t : List ℕ) (w : List Weight) (r a : ℕ) : Type 0 where
   pub row : Row t r
   pub member : a < 16
   pub bounded : TotalBounded w
 
 -- the state passes the checks of time, l has its leaders by round, and w is the committee of its round
-pub record AnchorReady (s : State) (t l w : List ℕ) : Type 0 where
+pub record AnchorReady (s : State) (t l : List ℕ) (w : List Weight) : Type 0 where
   pub formed : Formed s t
   pub from : 1 < s.round.0
   pub above : last_round t s.blocks < s.round.0 - 1

@@ -9,7 +9,7 @@ use terms::sheet::Weight;
 use terms::{Member, Round};
 
 // The weight of i, if its certificate of round r is held and names a.
-pub fn vote_of(t: &[u32], w: &[u64; 16], r: Round, a: Member, i: Member) -> Weight
+pub fn vote_of(t: &[u32], w: &[Weight; 16], r: Round, a: Member, i: Member) -> Weight
     requires { Within t.now i.0 r.0 × (a.0 < 16) }
     ensures { result.0 ≡ cond (votes_at t.now r.0 a.0 i.0) (weight_in w.now i.0) 0 }
 {
@@ -17,13 +17,13 @@ pub fn vote_of(t: &[u32], w: &[u64; 16], r: Round, a: Member, i: Member) -> Weig
         return Weight(0);
     }
     if base::has(store::record::previous(t, i, r), a.0) {
-        return Weight(w[i.0 as usize]);
+        return w[i.0 as usize];
     }
     Weight(0)
 }
 
 // The weight of all votes of round r for a.
-pub fn votes_for(t: &[u32], w: &[u64; 16], r: Round, a: Member) -> Weight
+pub fn votes_for(t: &[u32], w: &[Weight; 16], r: Round, a: Member) -> Weight
     requires { VotesReady t.now w.now r.0 a.0 }
     ensures { result.0 ≡ votes_for t.now w.now r.0 a.0 }
 {

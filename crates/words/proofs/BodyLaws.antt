@@ -21,10 +21,6 @@ module _ (b : Body) where
   unfolding body_words
   length-body = length-append (b.previous ∷ b.count ∷ []) (used_words b 4) ∙ ap (λ (k : ℕ). 2 + k) (length_used 4)
 
-  pub used_none : used_words b 0 ≡ []
-  unfolding used_words
-  used_none = refl
-
   -- transaction by transaction
   pub used_step : (t : List ℕ) (a k : ℕ) → a + k * transaction_length ≤ length t → paste (paste t a (used_words b k) (k * transaction_length)) (a + k * transaction_length) (triple_words (used_of b k)) transaction_length ≡ paste t a (used_words b (k + 1)) ((k + 1) * transaction_length)
   unfolding used_words

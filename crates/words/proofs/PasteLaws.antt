@@ -6,7 +6,9 @@ use native.Mathlib.Omega.{arith}
 use lib.ListN.{length, get_or, take, drop}
 use lib.Seq.{paste, take_all, take-append-add, take-paste, drop-paste, drop-drop}
 use Rattle.base.proofs.FoldLaws.{length-tab, get_d_tab}
-use Rattle.words.specs.Words.{word, sixteen}
+use Rattle.terms.specs.declared.sheet.Weight.{Weight}
+use Rattle.terms.specs.Ranges.{weight_in}
+use Rattle.words.specs.Words.{word, sixteen, weight_words}
 
 pub length-sixteen : (x : List ℕ) → length (sixteen x) ≡ 16
 unfolding sixteen
@@ -15,6 +17,14 @@ length-sixteen x = length-tab (word x) 16
 pub in_sixteen : (x : List ℕ) (i : ℕ) → i < 16 → get_or (sixteen x) i 0 ≡ get_or x i 0
 unfolding sixteen
 in_sixteen x i h = get_d_tab (word x) 16 i 0 h
+
+pub length-weights : (x : List Weight) → length (weight_words x) ≡ 16
+unfolding weight_words
+length-weights x = length-tab (weight_in x) 16
+
+pub in_weights : (x : List Weight) (i : ℕ) → i < 16 → get_or (weight_words x) i 0 ≡ weight_in x i
+unfolding weight_words
+in_weights x i h = get_d_tab (weight_in x) 16 i 0 h
 
 -- x of n words from b on, and then y of m words behind it, are the two at once
 pub paste-append : (t : List ℕ) (b : ℕ) (x y : List ℕ) (n m : ℕ) → length x ≡ n → b + n ≤ length t → paste (paste t b x n) (b + n) y m ≡ paste t b (x ++ y) (n + m)

@@ -9,14 +9,15 @@ use lib.Seq.{paste}
 use Rattle.terms.specs.declared.Proposal.{Proposal}
 use Rattle.committee.specs.declared.effects.Effect.{Effect}
 use Rattle.state.specs.declared.State.{State}
+use Rattle.state.specs.States.{is_proposing, own_body}
 use Rattle.words.specs.Lengths.{state_length, body_length, proposal_length, held_length, effect_length}
-use Rattle.words.specs.Words.{sixteen}
-use Rattle.words.proofs.PasteLaws.{paste-append, length-sixteen}
+use Rattle.words.specs.Words.{sixteen, weight_words}
+use Rattle.words.proofs.PasteLaws.{paste-append, length-sixteen, length-weights}
 use Rattle.words.specs.Bodies.{body_words}
 use Rattle.words.proofs.BodyLaws.{length-body}
 use Rattle.words.specs.Proposals.{held_words}
 use Rattle.words.specs.Effects.{effect_words}
-use Rattle.words.specs.States.{own_body, state_words}
+use Rattle.words.specs.States.{state_words}
 
 pub held-put : (p : Proposal) (d k : ℕ) (t : List ℕ) → held_length ≤ length t
     → paste (paste (paste t 0 (p.author.0 ∷ p.round.0 ∷ []) 2) 2 (body_words p.body) body_length) proposal_length (d ∷ k ∷ []) 2 ≡ paste t 0 (held_words p d k) held_length
@@ -41,9 +42,9 @@ pub state-put : (s : State) (t : List ℕ) → state_length ≤ length t
     → paste
     (paste
     (paste
-    (paste (paste t 0 (s.own.0 ∷ s.settings.lookback ∷ s.settings.ceiling.0 ∷ s.settings.allowance ∷ []) 4) 4 (sixteen s.settings.weights) 16)
+    (paste (paste t 0 (s.own.0 ∷ s.settings.lookback ∷ s.settings.ceiling.0 ∷ s.settings.allowance ∷ []) 4) 4 (weight_words s.settings.weights) 16)
     20
-    (s.round.0 ∷ cond s.proposing 1 0 ∷ s.blocks ∷ [])
+    (s.round.0 ∷ cond (is_proposing s) 1 0 ∷ s.blocks ∷ [])
     3)
     23
     (body_words (own_body s))
@@ -55,10 +56,10 @@ pub state-put : (s : State) (t : List ℕ) → state_length ≤ length t
 unfolding state_words
 state-put s t h =
     let head = s.own.0 ∷ s.settings.lookback ∷ s.settings.ceiling.0 ∷ s.settings.allowance ∷ [] in
-    let middle = s.round.0 ∷ cond s.proposing 1 0 ∷ s.blocks ∷ [] in
-    let w = sixteen s.settings.weights in
+    let middle = s.round.0 ∷ cond (is_proposing s) 1 0 ∷ s.blocks ∷ [] in
+    let w = weight_words s.settings.weights in
     let b = body_words (own_body s) in
-    let l : length (head ++ w) ≡ 20 = length-append head w ∙ ap (λ (z : ℕ). 4 + z) (length-sixteen s.settings.weights) in
+    let l : length (head ++ w) ≡ 20 = length-append head w ∙ ap (λ (z : ℕ). 4 + z) (length-weights s.settings.weights) in
     let m : length (head ++ w ++ middle) ≡ 23 = length-append (head ++ w) middle ∙ ap (λ (z : ℕ). z + 3) l in
     let n : length (head ++ w ++ middle ++ b) ≡ 37 = length-append (head ++ w ++ middle) b ∙ ap₂ (λ (y z : ℕ). y + z) m (length-body (own_body s)) in
     let d = s.settings.margin ∷ s.rights.0 ∷ [] in

@@ -8,13 +8,14 @@ use lib.ListN.{length, get_or}
 use lib.Dec.{eqb, leb, ltb}
 use borrow.Author.Tests.{leb-true, ltb-true, eqb-false, ne_eqb}
 use Rattle.base.proofs.Bools.{both}
-use Rattle.state.specs.States.{no_body}
+use Rattle.std.specs.Prelude.{Some, None, unwrap_or}
+use Rattle.state.specs.States.{no_body, own_body}
 use Rattle.words.specs.Lengths.{transaction_length, state_length, body_length, proposal_length, certificate_length, sheet_length}
 use Rattle.words.specs.Words.{word}
 use Rattle.words.specs.Bodies.{body_reads, lone_body_reads, body_in, lone_triple_reads}
 use Rattle.words.specs.Proposals.{proposal_reads, certificate_reads}
 use Rattle.words.specs.Sheets.{sheet_reads}
-use Rattle.words.specs.States.{state_reads, own_body_in, state_in}
+use Rattle.words.specs.States.{state_reads, own_proposal_in, state_in}
 use Rattle.words.specs.Readings.{ProposalRead, CertificateRead, StateRead}
 
 module _ (w : List ℕ) where
@@ -57,10 +58,10 @@ module _ (w : List ℕ) where
       go false h k = k
 
 -- the previous set in a state that is read
-pub set-read : (w : List ℕ) → state_reads w ≡ true → (state_in w).body.previous < 65536
-unfolding state_in own_body_in body_in
+pub set-read : (w : List ℕ) → state_reads w ≡ true → (own_body (state_in w)).previous < 65536
+unfolding state_in own_proposal_in body_in
 set-read w r = go (eqb (word w 21) 0) refl
   where
-    go : (b : Bool) → eqb (word w 21) 0 ≡ b → (cond b no_body (body_in w 23)).previous < 65536
+    go : (b : Bool) → eqb (word w 21) 0 ≡ b → (unwrap_or (cond b None (Some (body_in w 23))) no_body).previous < 65536
     go true e = omega arith
     go false e = (state-read w r).previous (eqb-false (word w 21) 0 e)

@@ -1,5 +1,5 @@
 -- Words that agree on a layout give the same: what lies beyond is no part of it.
-use mathlib.Core.Path.{◌≡◌, refl}
+use mathlib.Core.Path.{◌≡◌, refl, ap}
 use mathlib.Core.List.{List}
 use Prim.Native.Nat.{ℕ, ◌+◌, ◌*◌, ◌<◌, ◌≤◌}
 use native.Mathlib.Omega.{arith}
@@ -7,10 +7,11 @@ use lib.ListN.{length, get_or}
 use borrow.Author.Tests.{le-leb}
 use Rattle.base.proofs.FoldLaws.{tab-same}
 use Rattle.base.proofs.TestLaws.{all_same}
+use Rattle.terms.specs.Ranges.{weight}
 use Rattle.words.specs.Lengths.{state_length, transaction_length, body_length}
 use Rattle.words.specs.Words.{word}
 use Rattle.words.specs.Bodies.{triple_reads, body_reads, slot_in, body_in}
-use Rattle.words.specs.States.{state_reads, settings_in, own_body_in, state_in}
+use Rattle.words.specs.States.{state_reads, settings_in, own_proposal_in, state_in}
 
 -- the first n words are the same
 abbrev pub Agree : ℕ → List ℕ → List ℕ → Type 0
@@ -39,15 +40,15 @@ module _ (u v : List ℕ) (e : Agree state_length u v) where
   settings-same : settings_in u ≡ settings_in v
   unfolding settings_in
   settings-same =
-      rw (e 1 (omega arith), e 2 (omega arith), e 3 (omega arith), tab-same (λ i. word u (4 + i)) (λ i. word v (4 + i)) 16 (λ i h. e (4 + i) (omega arith)), e 37 (omega arith)) refl
+      rw (e 1 (omega arith), e 2 (omega arith), e 3 (omega arith), tab-same (λ i. weight (word u (4 + i))) (λ i. weight (word v (4 + i))) 16 (λ i h. ap weight (e (4 + i) (omega arith))), e 37 (omega arith)) refl
 
-  own-body-same : own_body_in u ≡ own_body_in v
-  unfolding own_body_in
-  own-body-same = rw (e 21 (omega arith), body_same state_length u v e 23 (omega arith)) refl
+  own-proposal-same : own_proposal_in u ≡ own_proposal_in v
+  unfolding own_proposal_in
+  own-proposal-same = rw (e 21 (omega arith), body_same state_length u v e 23 (omega arith)) refl
 
   pub state-same : state_in u ≡ state_in v
   unfolding state_in
-  state-same = rw (e 0 (omega arith), e 20 (omega arith), e 21 (omega arith), e 22 (omega arith), e 38 (omega arith), settings-same, own-body-same) refl
+  state-same = rw (e 0 (omega arith), e 20 (omega arith), e 22 (omega arith), e 38 (omega arith), settings-same, own-proposal-same) refl
 
   pub state-reads-same : state_length ≤ length u → state_length ≤ length v → state_reads u ≡ state_reads v
   unfolding state_reads

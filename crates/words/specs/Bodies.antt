@@ -2,7 +2,6 @@
 use Rattle.std.specs.Prelude.{Bool, true, cond, ◌&&◌, ◌||◌, List, [], ◌∷◌, ◌++◌, ℕ, zero, suc, ◌+◌, ◌*◌, length, eqb, leb, ltb}
 use Rattle.base.specs.Folds.{all_to, tab}
 use Rattle.terms.specs.declared.Transaction.{Transaction}
-use Rattle.terms.specs.declared.Slot.{Slot}
 use Rattle.terms.specs.declared.Body.{Body}
 use Rattle.terms.specs.Transactions.{kind_of, number_of, amount_of, read_transaction, no_transaction}
 use Rattle.terms.specs.Proposals.{slot_of}
@@ -34,10 +33,10 @@ lone_triple_reads w = leb transaction_length (length w) && is_triple (word w 0) 
 -- ---- what it gives
 
 -- what lies beyond the count is not looked at
-unfoldable pub slot_in : List ℕ → ℕ → ℕ → Slot
-slot_in w a k = record { transaction = cond (ltb k (word w (a + 1))) (read_transaction (word w (a + 2 + k * transaction_length)) (word w (a + 2 + k * transaction_length + 1)) (word w (a + 2 + k * transaction_length + 2))) no_transaction }
+unfoldable pub slot_in : List ℕ → ℕ → ℕ → Transaction
+slot_in w a k = cond (ltb k (word w (a + 1))) (read_transaction (word w (a + 2 + k * transaction_length)) (word w (a + 2 + k * transaction_length + 1)) (word w (a + 2 + k * transaction_length + 2))) no_transaction
 
-abbrev pub slots_in : List ℕ → ℕ → List Slot
+abbrev pub slots_in : List ℕ → ℕ → List Transaction
 slots_in w a = tab (slot_in w a) 4
 
 unfoldable pub body_in : List ℕ → ℕ → Body

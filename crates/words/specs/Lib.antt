@@ -1,3 +1,4 @@
+pub mod Given
 pub mod Lengths
 pub mod Words
 pub mod Bodies

@@ -3,7 +3,6 @@ use Rattle.std.specs.Prelude.{Bool, cond, ◌&&◌, List, ℕ, ◌+◌, ◌*◌,
 use Rattle.base.specs.Folds.{all_to, tab}
 use Rattle.terms.specs.declared.sheet.Setting.{Setting}
 use Rattle.terms.specs.declared.sheet.Setting.TheVariants.{Blank, Written}
-use Rattle.terms.specs.declared.sheet.Cell.{Cell}
 use Rattle.terms.specs.declared.sheet.Rights.{Rights}
 use Rattle.terms.specs.declared.sheet.Sheet.{Sheet}
 use Rattle.words.specs.Lengths.{sheet_length}
@@ -16,9 +15,6 @@ sheet_reads w = leb sheet_length (length w) && all_to (λ k. leb (word w (k * 2)
 unfoldable pub setting_in : List ℕ → ℕ → Setting
 setting_in w k = cond (eqb (word w (k * 2)) 0) Blank (Written (word w (k * 2 + 1)))
 
-abbrev pub cell_in : List ℕ → ℕ → Cell
-cell_in w i = record { setting = setting_in w (3 + i) }
-
 -- and the rights beside it
 unfoldable pub sheet_in : List ℕ → Rights → Sheet
-sheet_in w R = record { lookback = setting_in w 0; ceiling = setting_in w 1; allowance = setting_in w 2; weights = tab (cell_in w) 16; margin = setting_in w 19; rights = R }
+sheet_in w R = record { lookback = setting_in w 0; ceiling = setting_in w 1; allowance = setting_in w 2; weights = tab (λ i. setting_in w (3 + i)) 16; margin = setting_in w 19; rights = R }

@@ -1,26 +1,28 @@
 -- A member's state as words.
-use Rattle.std.specs.Prelude.{Bool, true, not, cond, ◌&&◌, List, [], ◌∷◌, ◌++◌, ℕ, ◌+◌, length, eqb, leb}
+use Rattle.std.specs.Prelude.{Bool, true, cond, ◌&&◌, List, [], ◌∷◌, ◌++◌, ℕ, ◌+◌, Option, Some, None, length, eqb, leb}
 use Rattle.base.specs.Folds.{tab}
 use Rattle.terms.specs.declared.Body.{Body}
+use Rattle.terms.specs.declared.sheet.Weight.{Weight}
 use Rattle.terms.specs.declared.sheet.Settings.{Settings}
+use Rattle.terms.specs.Ranges.{weight}
 use Rattle.state.specs.declared.State.{State}
-use Rattle.state.specs.States.{no_body}
+use Rattle.state.specs.States.{is_proposing, own_body}
 use Rattle.words.specs.Lengths.{state_length}
-use Rattle.words.specs.Words.{word, sixteen}
+use Rattle.words.specs.Words.{word, weight_words}
 use Rattle.words.specs.Bodies.{body_reads, body_in, body_words}
 
 -- word 21 tells whether there is a proposal; its body is words 23 to 36, which are not looked at where there is none
 unfoldable pub state_reads : List ℕ → Bool
 state_reads w = leb state_length (length w) && (leb (word w 21) 1 && cond (eqb (word w 21) 0) true (body_reads w 23))
 
-abbrev pub weights_in : List ℕ → List ℕ
-weights_in w = tab (λ i. word w (4 + i)) 16
+abbrev pub weights_in : List ℕ → List Weight
+weights_in w = tab (λ i. weight (word w (4 + i))) 16
 
 unfoldable pub settings_in : List ℕ → Settings
 settings_in w = record { lookback = word w 1; ceiling = record { 0 = word w 2 }; allowance = word w 3; weights = weights_in w; margin = word w 37 }
 
-unfoldable pub own_body_in : List ℕ → Body
-own_body_in w = cond (eqb (word w 21) 0) no_body (body_in w 23)
+unfoldable pub own_proposal_in : List ℕ → Option Body
+own_proposal_in w = cond (eqb (word w 21) 0) None (Some (body_in w 23))
 
 unfoldable pub state_in : List ℕ → State
 state_in w =
@@ -28,22 +30,18 @@ state_in w =
       own = record { 0 = word w 0 };
       settings = settings_in w;
       round = record { 0 = word w 20 };
-      proposing = not (eqb (word w 21) 0);
-      body = own_body_in w;
+      proposal = own_proposal_in w;
       blocks = word w 22;
       rights = record { 0 = word w 38 };
     }
 
 -- ---- its words
 
-unfoldable pub own_body : State → Body
-own_body s = cond s.proposing s.body no_body
-
 -- own number, lookback, ceiling, allowance; sixteen weights; round, is there a proposal, number of blocks; the proposal's body, all 0 where there is none; margin, rights
 unfoldable pub state_words : State → List ℕ
 state_words s =
     (s.own.0 ∷ s.settings.lookback ∷ s.settings.ceiling.0 ∷ s.settings.allowance ∷ [])
-    ++ sixteen s.settings.weights
-    ++ (s.round.0 ∷ cond s.proposing 1 0 ∷ s.blocks ∷ [])
+    ++ weight_words s.settings.weights
+    ++ (s.round.0 ∷ cond (is_proposing s) 1 0 ∷ s.blocks ∷ [])
     ++ body_words (own_body s)
     ++ (s.settings.margin ∷ s.rights.0 ∷ [])

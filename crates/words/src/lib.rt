@@ -1,4 +1,6 @@
-// What a host's words mean: proposals, certificates, sheets and states as words, read and put.
+//! What a host's words mean, read and put.
+//!
+//! Proposals, certificates, sheets, states and what a read gives, as words: reading gives the value or says that there is none, and what is put reads back (specs/Bodies, specs/Proposals, specs/Sheets, specs/States, specs/Effects). docs/TABLES.md has their layout.
 #![tactic(auto)]
 
 pub mod bodies;
@@ -9,18 +11,19 @@ pub mod states;
 ghost use Rattle.std.specs.Prelude.{◌≡◌, ◌+◌, ◌≤◌, length};
 ghost use Rattle.std.proofs.Math.Seq.{paste};
 ghost use Rattle.words.specs.Lengths.{effect_length};
-ghost use Rattle.words.specs.Words.{sixteen, Narrow};
+ghost use Rattle.words.specs.Words.{sixteen, weight_words, Narrow};
 ghost use Rattle.words.specs.Effects.{effect_words};
 
 use committee::effects::Effect;
+use terms::sheet::Weight;
 
 // Puts sixteen weights from `at` on, a word each.
-pub fn put_weights(w: &mut [u32], at: usize, x: [u64; 16])
+pub fn put_weights(w: &mut [u32], at: usize, x: [Weight; 16])
     requires { (at + 16 ≤ length w.old) × Narrow x }
-    ensures { w.new ≡ paste w.old at (sixteen x) 16 }
+    ensures { w.new ≡ paste w.old at (weight_words x) 16 }
 {
     for i in 0..16usize {
-        w[at + i] = x[i] as u32;
+        w[at + i] = x[i].0 as u32;
     }
 }
 

@@ -3,58 +3,41 @@ ghost use Rattle.std.specs.Prelude.{◌≡◌, ◌≤◌, length};
 ghost use Rattle.std.proofs.Math.Seq.{paste};
 ghost use Rattle.words.specs.Lengths.{held_length};
 ghost use Rattle.words.specs.Proposals.{proposal_reads, proposal_in, certificate_reads, certificate_in, held_words};
-ghost use Rattle.words.specs.Readings.{ProposalRead, CertificateRead};
+ghost use Rattle.words.specs.Given.{Given};
 
 use crate::bodies;
 use crate::bodies::lengths::{CERTIFICATE, PROPOSAL};
 use terms::{Certificate, Member, Proposal, Round};
 
-// Can the words be read as a proposal?
-pub fn proposal_reads(w: &[u32]) -> bool
-    ensures { result ≡ proposal_reads w.now }
+/// A proposal.
+#[tactic(auto, unfolding(crate::specs::Proposals::proposal_reads, crate::specs::Proposals::proposal_in))]
+pub fn proposal(w: &[u32]) -> Option<Proposal>
+    ensures { Given (proposal_reads w.now) (proposal_in w.now) result }
 {
     if w.len() < PROPOSAL {
-        return false;
+        return None;
     }
-    bodies::body_reads(w, 2)
-}
-
-// The proposal that the words give.
-pub fn proposal_in(w: &[u32]) -> Proposal
-    requires { ProposalRead w.now }
-    ensures { result ≡ proposal_in w.now }
-{
-    let body = bodies::body_in(w, 2);
-    Proposal {
+    let body = bodies::body_at(w, 2)?;
+    Some(Proposal {
         author: Member(w[0]),
         round: Round(w[1]),
         body,
-    }
+    })
 }
 
-// Can the words be read as a certificate?
-pub fn certificate_reads(w: &[u32]) -> bool
-    ensures { result ≡ certificate_reads w.now }
+/// A certificate.
+#[tactic(auto, unfolding(crate::specs::Proposals::certificate_reads, crate::specs::Proposals::certificate_in))]
+pub fn certificate(w: &[u32]) -> Option<Certificate>
+    ensures { Given (certificate_reads w.now) (certificate_in w.now) result }
 {
-    if w.len() < CERTIFICATE {
-        return false;
+    if w.len() < CERTIFICATE || 65536 <= w[PROPOSAL] {
+        return None;
     }
-    if 65536 <= w[PROPOSAL] {
-        return false;
-    }
-    proposal_reads(w)
-}
-
-// The certificate that the words give.
-pub fn certificate_in(w: &[u32]) -> Certificate
-    requires { CertificateRead w.now }
-    ensures { result ≡ certificate_in w.now }
-{
-    let proposal = proposal_in(w);
-    Certificate {
+    let proposal = proposal(w)?;
+    Some(Certificate {
         proposal,
         endorsers: w[PROPOSAL] as u16,
-    }
+    })
 }
 
 // Puts a held certificate, and the number of its block.

@@ -3,51 +3,26 @@ ghost use Rattle.std.specs.Prelude.{◌≡◌, cond, ◌≤◌, length};
 ghost use Rattle.std.proofs.Math.Seq.{paste};
 ghost use Rattle.words.specs.Lengths.{state_length};
 ghost use Rattle.words.specs.Words.{Narrow};
-ghost use Rattle.words.specs.States.{state_reads, weights_in, settings_in, own_body_in, state_in, own_body, state_words};
-ghost use Rattle.words.specs.Readings.{StateRead};
+ghost use Rattle.state.specs.States.{own_body};
+ghost use Rattle.words.specs.States.{state_reads, weights_in, settings_in, state_in, state_words};
+ghost use Rattle.words.specs.Given.{Given};
 
 use crate::bodies;
 use crate::bodies::lengths::STATE;
 use state::State;
-use terms::sheet::{Rights, Settings};
+use terms::sheet::{Rights, Settings, Weight};
 use terms::{Body, Member, Round};
 
-// Can the words be read as a state?
-pub fn state_reads(w: &[u32]) -> bool
-    ensures { result ≡ state_reads w.now }
-{
-    if w.len() < STATE {
-        return false;
-    }
-    if 1 < w[21] {
-        return false;
-    }
-    if w[21] == 0 {
-        return true;
-    }
-    bodies::body_reads(w, 23)
-}
-
-// A word as a number of 64 bits.
-fn wide(x: u32) -> u64
-    ensures { result ≡ x }
-{
-    x as u64
-}
-
 // The sixteen starting weights that the words give.
-fn weights_in(w: &[u32]) -> [u64; 16]
+fn weights_in(w: &[u32]) -> [Weight; 16]
     requires { state_length ≤ length w.now }
     ensures { result ≡ weights_in w.now }
 {
-    let mut x = [0u64; 16];
-    for i in 0..16usize {
-        x[i] = wide(w[4 + i]);
-    }
-    x
+    std::array::from_fn(|i| Weight(w[4 + i] as u64))
 }
 
 // The settings that the words give.
+#[tactic(auto, unfolding(crate::specs::States::settings_in))]
 fn settings_in(w: &[u32]) -> Settings
     requires { state_length ≤ length w.now }
     ensures { result ≡ settings_in w.now }
@@ -61,33 +36,34 @@ fn settings_in(w: &[u32]) -> Settings
     }
 }
 
-// The body of the proposal that the words give, none where there is no proposal.
-fn own_body_in(w: &[u32]) -> Body
-    requires { StateRead w.now }
-    ensures { result ≡ own_body_in w.now }
+/// A state.
+#[tactic(auto, unfolding(crate::specs::States::state_reads, crate::specs::States::state_in, crate::specs::States::own_proposal_in))]
+pub fn state(w: &[u32]) -> Option<State>
+    ensures { Given (state_reads w.now) (state_in w.now) result }
 {
-    if w[21] == 0 {
-        return terms::bare_body(0);
+    if w.len() < STATE || 1 < w[21] {
+        return None;
     }
-    bodies::body_in(w, 23)
-}
-
-// The state that the words give.
-pub fn state_in(w: &[u32]) -> State
-    requires { StateRead w.now }
-    ensures { result ≡ state_in w.now }
-{
-    let settings = settings_in(w);
-    let body = own_body_in(w);
-    State {
+    let proposal = if w[21] == 0 {
+        None
+    } else {
+        Some(bodies::body_at(w, 23)?)
+    };
+    Some(State {
         own: Member(w[0]),
-        settings,
+        settings: settings_in(w),
         round: Round(w[20]),
-        proposing: w[21] != 0,
-        body,
+        proposal,
         blocks: w[22],
         rights: Rights(w[38]),
-    }
+    })
+}
+
+// The body of the proposal in a state, none where there is no proposal.
+fn own_body(s: State) -> Body
+    ensures { result ≡ own_body s }
+{
+    s.proposal.unwrap_or(terms::bare_body(0))
 }
 
 // 1 for yes, 0 for no.
@@ -95,16 +71,6 @@ fn flag(p: bool) -> u32
     ensures { result ≡ cond p 1 0 }
 {
     if p { 1 } else { 0 }
-}
-
-// The body of the proposal in a state, none where there is no proposal.
-fn own_body(s: State) -> Body
-    ensures { result ≡ own_body s }
-{
-    if s.proposing {
-        return s.body;
-    }
-    terms::bare_body(0)
 }
 
 // Puts a state.
@@ -121,7 +87,7 @@ pub fn put_state(w: &mut [u32], s: State)
         settings.ceiling.0,
         settings.allowance,
     ];
-    let middle = [s.round.0, flag(s.proposing), s.blocks];
+    let middle = [s.round.0, flag(s.proposal.is_some()), s.blocks];
     let last = [settings.margin, s.rights.0];
     bodies::stretch::put(w, 0, &head);
     crate::put_weights(w, 4, weights);

@@ -1,8 +1,7 @@
 use mathlib.Core.Path.{refl, sym, ◌∙◌}
-use borrow.Author.Tests.{not-true, not-false, lt-ltb, le-ltb}
+use borrow.Author.Tests.{lt-ltb, le-ltb}
 use Rattle.base.proofs.CheckLaws.{refuses, passes, passes-all}
 use Rattle.batch.specs.Batch.{batch_refusal}
-use borrow.Author.Rules.{rules}
 use Rattle.batching.proofs.batch_refusal.Goals as goal
 
 pub returns-then-not-well_formed : goal.returns-then-not-well_formed

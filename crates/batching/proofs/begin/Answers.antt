@@ -1,32 +1,26 @@
 use mathlib.Core.Path.{refl, sym, ◌∙◌}
 use native.Mathlib.Omega.{arith}
-use borrow.Author.Tests.{not-true, not-false}
-use Rattle.words.proofs.ReadingLaws.{state-read, set-read}
+use Rattle.words.proofs.ReadingLaws.{set-read}
 use Rattle.batch.proofs.BatchLaws.{batch-passed}
 use Rattle.batching.proofs.BeginLaws.{some-turns, ready-begun}
-use borrow.Author.Rules.{rules}
 use Rattle.batching.proofs.begin.Goals as goal
 
-pub returns-then-not-state_reads : goal.returns-then-not-state_reads
-returns-then-not-state_reads c = let e = sym c.state_reads.ensures ∙ c.if-not-state_reads.true in
-    record {
-      refusal = rw e refl;
-      turns = refl;
-      stage = c.fresh-progress.ensures.0;
-      state = λ z. absurd (omega arith);
-      few = λ z. absurd (omega arith);
-      ready = λ z. absurd (omega arith);
-    }
-
-pub state_in-s-requires : goal.state_in-s-requires
-state_in-s-requires c = state-read _ (sym c.state_reads.ensures ∙ c.if-not-state_reads.false)
+pub returns-in_default : goal.returns-in_default
+returns-in_default c = record {
+  refusal = rw c.in_default.ensures refl;
+  turns = refl;
+  stage = c.fresh-progress.ensures.0;
+  state = λ z. absurd (omega arith);
+  few = λ z. absurd (omega arith);
+  ready = λ z. absurd (omega arith);
+}
 
 pub turns_for-turns-requires : goal.turns_for-turns-requires
 turns_for-turns-requires c = λ z. (batch-passed _ _ _ _ (sym c.batch_refusal-refusal.ensures ∙ z)).1
 
 pub returns : goal.returns
-returns c = let e = sym c.state_reads.ensures ∙ c.if-not-state_reads.false in
-    let q = c.state_in-s.ensures in
+returns c = let e = c.in-Some.ensures.0 in
+    let q = c.in-Some.ensures.1 in
     let b = c.batch_refusal-refusal.ensures in
     let f = c.fresh-progress.ensures in
     record {

@@ -1,13 +1,10 @@
 use mathlib.Core.Path.{◌≡◌, refl, sym}
-use mathlib.Core.List.{List}
-use Prim.Native.Nat.{ℕ, ◌-◌, ◌≤◌}
 use native.Mathlib.Omega.{arith}
 use lib.ListN.{length, length-set}
-use lib.Seq.{paste, paste-zero}
+use lib.Seq.{paste-zero}
 use borrow.Author.Tests.{eq-eqb, ne_eqb}
 use Rattle.base.proofs.PasteLaws.{paste-front}
 use Rattle.state.specs.Answers.{if_accepted}
-use Rattle.batching.proofs.put_answers.Invariants.{AnswersPut}
 use borrow.Author.Rules.{rules}
 use Rattle.batching.proofs.put_answers.Goals as goal
 

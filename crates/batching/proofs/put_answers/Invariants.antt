@@ -1,12 +1,8 @@
-use mathlib.Core.Path.{◌≡◌, refl, sym}
+use mathlib.Core.Path.{◌≡◌}
 use mathlib.Core.List.{List}
-use Prim.Native.Nat.{ℕ, ◌-◌, ◌≤◌}
-use native.Mathlib.Omega.{arith}
-use lib.ListN.{length, length-set}
-use lib.Seq.{paste, paste-zero}
-use borrow.Author.Tests.{eq-eqb, ne_eqb}
-use Rattle.base.proofs.PasteLaws.{paste-front}
-use Rattle.state.specs.Answers.{if_accepted}
+use Prim.Native.Nat.{ℕ, ◌≤◌}
+use lib.ListN.{length}
+use lib.Seq.{paste}
 use Rattle.batching.proofs.put_answers.Given as goal
 
 -- the first i answers are put

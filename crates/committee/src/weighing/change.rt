@@ -42,12 +42,11 @@ fn weight_after(e: u32, amount: u32, x: Weight) -> Weight
 }
 
 // The transaction that three words tell, applied to the weights, if it is there.
-pub fn apply(w: &mut [u64; 16], there: bool, kind: u32, number: u32, amount: u32)
+pub fn apply(w: &mut [Weight; 16], there: bool, kind: u32, number: u32, amount: u32)
     requires { total_in w.old ≤ 4611686018427387904 }
     ensures { w.new ≡ cond there (change (read_transaction kind number amount) w.old) w.old }
 {
     let e = effect(there, kind, number);
     let i = (number % 16) as usize;
-    let x = weight_after(e, amount, Weight(w[i]));
-    w[i] = x.0;
+    w[i] = weight_after(e, amount, w[i]);
 }

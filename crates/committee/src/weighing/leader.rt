@@ -7,28 +7,28 @@ ghost use Rattle.committee.specs.Places.{place_table};
 ghost use Rattle.committee.specs.Leaders.{member_at, joined, member_set, leader_of, leader_number};
 
 use crate::positions;
+use terms::sheet::Weight;
 use terms::{Member, Round};
 
 // The set, with the member if it has a weight.
-fn join(w: &[u64; 16], set: u32, m: Member) -> u32
+#[tactic(auto, unfolding(crate::specs::Leaders::joined))]
+fn join(w: &[Weight; 16], set: u32, m: Member) -> u32
     requires { m.0 < 16 }
     ensures { result ≡ joined w.now m.0 set }
 {
     if crate::weighing::is_member(w, m) {
-        return base::with(set, m.0);
+        base::with(set, m.0)
+    } else {
+        set
     }
-    set
 }
 
 // The members of a committee, as a set.
-fn member_set(w: &[u64; 16]) -> u32
+#[tactic(auto, unfolding(crate::specs::Leaders::member_set, base::specs::Folds::fold_to))]
+fn member_set(w: &[Weight; 16]) -> u32
     ensures { result ≡ member_set w.now }
 {
-    let mut set: u32 = 0;
-    for i in 0..16u32 {
-        set = join(w, set, Member(i));
-    }
-    set
+    (0..16).fold(0, |set, m| join(w, set, Member(m)))
 }
 
 // How many are in the set.
@@ -55,7 +55,7 @@ pub fn member_at(places: &[u8; 2048], set: u32, k: u32) -> Member
 }
 
 // The leader of round r, 16 for none.
-pub fn leader(places: &[u8; 2048], w: &[u64; 16], r: Round) -> Member
+pub fn leader(places: &[u8; 2048], w: &[Weight; 16], r: Round) -> Member
     requires { places.now ≡ place_table }
     ensures { result.0 ≡ leader_number (leader_of (weight_in w.now) r.0) }
 {

@@ -1,11 +1,7 @@
-use mathlib.Core.Path.{sym, ◌∙◌}
-use Rattle.critical.proofs.AnswerLaws.{refused-early, lists-refused}
-use borrow.Author.Rules.{rules}
+use native.Mathlib.Omega.{arith}
+use Rattle.critical.specs.Critical.{critical_places}
+use Rattle.critical.proofs.PlaceLaws.{words-length}
 use Rattle.critical.proofs.critical.Goals as goal
 
-pub returns-then-early-ne0 : goal.returns-then-early-ne0
-returns-then-early-ne0 c = let e = c.early_refusal-early.ensures in
-    lists-refused _ _ _ _ (refused-early _ _ _ (λ z. c.if-early-ne0.true (e ∙ z)) ∙ sym e) c.if-early-ne0.true
-
-pub list_voted-requires : goal.list_voted-requires
-list_voted-requires c = sym c.early_refusal-early.ensures ∙ c.if-early-ne0.false
+pub returns-clause-value : goal.returns-clause-value
+returns-clause-value c = let put = c.list_places-put.ensures.1 in omega (arith, put.past, words-length (critical_places c.args.s.now c.args.t.now))

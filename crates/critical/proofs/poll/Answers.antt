@@ -15,8 +15,8 @@ fill_leaders-weights-requires c = let on-time : Timely c.args.s c.args.t.now = t
       record { from = omega (arith, (on-time).above, c.last_round-last.ensures); to = omega (arith, f.numbers.round-to, f.settings.ceiling-to) },
     )
 
-pub vote_refusal-refusal-requires : goal.vote_refusal-refusal-requires
-vote_refusal-refusal-requires c = let on-time : Timely c.args.s c.args.t.now = timely _ _ c.requires.formed c.requires.in_time in
+pub check_votes-answer-requires : goal.check_votes-answer-requires
+check_votes-answer-requires c = let on-time : Timely c.args.s c.args.t.now = timely _ _ c.requires.formed c.requires.in_time in
     let leads : let a = c.args in c.fill_leaders-weights.new.l ≡ leaders_for a.s a.t.now = leaders-filled _ _ _ _ c.fill_leaders-weights.ensures.leaders c.last_round-last.ensures in
     let weights : let a = c.args in c.fill_leaders-weights.result ≡ committee_on a.s a.t.now a.s.round.0 = let r = c.args.s.round.0 in
     let i : r - 1 + 1 ≡ r = omega (arith, (on-time).from) in
@@ -37,7 +37,7 @@ returns c = let on-time : Timely c.args.s c.args.t.now = timely _ _ c.requires.f
     rw i at c.fill_leaders-weights.ensures.committee in
     let w = on-time in
     record {
-      its-refusal = c.vote_refusal-refusal.ensures;
+      its-refusal = c.check_votes-answer.ensures;
       its-leader = led_on _ _ c.requires.formed w.from _ (leads) w.above;
       its-weights = weights;
       bounded = c.fill_leaders-weights.ensures.bounded;

@@ -1,25 +1,27 @@
-use native.Mathlib.Omega.{arith}
-use Rattle.engine.specs.Engine.{Engine}
+use mathlib.Core.Path.{sym, ap, ◌∙◌}
+use Prim.Native.Nat.{ℕ}
+use Rattle.std.specs.Prelude.{Result}
+use Rattle.refusals.specs.declared.Refusal.{Refusal}
+use Rattle.refusals.specs.Refusals.{refusal_in}
+use Rattle.refusals.proofs.RefusalLaws.{some-number}
 use Rattle.engine.specs.Steps.{SetInRange}
 use Rattle.replies.specs.Records.{engine_of}
 use Rattle.replies.proofs.CachedLaws.{committed-formed, cached_uncommitted}
 use Rattle.replies.proofs.ReplyLaws.{counted-served}
-use borrow.Author.Rules.{rules}
 use Rattle.replies.proofs.committed.Goals as goal
 
-pub returns-in-Refused : goal.returns-in-Refused
-returns-in-Refused c = let engine = engine_of c.args.s c.args.t.now in
-    let e = engine in
-    let h = c.commit_cached-o.ensures in
-    counted-served e h.outcome h.table c.counted-r.ensures (cached_uncommitted e h.outcome h.table c.in-Refused.is c.requires.1)
+pub returns-in-Err : goal.returns-in-Err
+returns-in-Err c = let e = engine_of c.args.s.now c.args.t.now in
+    let h = c.commit_cached-answer.ensures in
+    let n = ap (λ (a : Result ℕ Refusal). refusal_in a) (sym c.in-Err.is) ∙ h.refusal in
+    counted-served e _ h.refusal h.value h.state h.table c.put_committed-next.ensures (cached_uncommitted e h.state h.table (λ z. some-number _ (n ∙ z)) c.requires.1)
 
 pub renew-requires : goal.renew-requires
-renew-requires c = let engine = engine_of c.args.s c.args.t.now in
-    let low : SetInRange (engine) = omega (arith, c.well_formed.1.1.0) in
-    let h = c.commit_cached-o.ensures in
-    committed-formed (engine) h.outcome h.table (low) c.requires.1.form
+renew-requires c = let e = engine_of c.args.s.now c.args.t.now in
+    let low : SetInRange e = c.previous_fits.ensures in
+    let h = c.commit_cached-answer.ensures in
+    committed-formed e h.state h.table low c.requires.1.form
 
 pub returns : goal.returns
-returns c = let engine = engine_of c.args.s c.args.t.now in
-    let h = c.commit_cached-o.ensures in
-    counted-served (engine) h.outcome h.table c.counted-r.ensures c.renew.ensures
+returns c = let h = c.commit_cached-answer.ensures in
+    counted-served (engine_of c.args.s.now c.args.t.now) _ h.refusal h.value h.state h.table c.put_committed-next.ensures c.renew.ensures

@@ -8,10 +8,11 @@ ghost use Rattle.running.specs.LinkRuns.{run_over, row_over, rows_over, run_end}
 ghost use Rattle.running.specs.Ready.{SlotReady, RecordReady, RunReady, RowReady, BlockReady};
 
 use committee::weighing;
+use terms::sheet::Weight;
 use terms::{Member, Round};
 
 // Slot k of a record that has n transactions.
-fn apply_slot(t: &[u32], m: Member, r: Round, n: u32, k: u32, w: &mut [u64; 16])
+fn apply_slot(t: &[u32], m: Member, r: Round, n: u32, k: u32, w: &mut [Weight; 16])
     requires { SlotReady t.now m.0 r.0 n k w.old }
     ensures { w.new ≡ slot_change t.now m.0 r.0 k w.old }
 {
@@ -22,7 +23,7 @@ fn apply_slot(t: &[u32], m: Member, r: Round, n: u32, k: u32, w: &mut [u64; 16])
 }
 
 // The transactions of a record, in order. All four slots are looked at, however many there are.
-fn apply_record(t: &[u32], m: Member, r: Round, w: &mut [u64; 16])
+fn apply_record(t: &[u32], m: Member, r: Round, w: &mut [Weight; 16])
     requires { RecordReady t.now m.0 r.0 w.old }
     ensures { w.new ≡ changes (content_at t.now m.0 r.0).transactions w.old }
 {
@@ -36,7 +37,7 @@ fn apply_record(t: &[u32], m: Member, r: Round, w: &mut [u64; 16])
 }
 
 // A place that comes while a run goes on: it counts from y on.
-fn apply_from(t: &[u32], y: u32, p: u32, w: &mut [u64; 16])
+fn apply_from(t: &[u32], y: u32, p: u32, w: &mut [Weight; 16])
     requires { RecordReady t.now (p % 16) (p / 16) w.old }
     ensures { w.new ≡ cond (leb y p) (record_change t.now p w.old) w.old }
 {
@@ -47,7 +48,7 @@ fn apply_from(t: &[u32], y: u32, p: u32, w: &mut [u64; 16])
 }
 
 // The places of a row from p on, one after the other: those below z and not below y. Gives the first one from z on.
-fn apply_run(t: &[u32], next: &[u32], y: u32, z: u32, p: u32, w: &mut [u64; 16]) -> u32
+fn apply_run(t: &[u32], next: &[u32], y: u32, z: u32, p: u32, w: &mut [Weight; 16]) -> u32
     requires { RunReady t.now next.now z w.old }
     ensures { (w.new ≡ run_over (record_change t.now) next.now y z 16 p w.old) × (result ≡ run_end next.now z 16 p) }
 {
@@ -63,7 +64,7 @@ fn apply_run(t: &[u32], next: &[u32], y: u32, z: u32, p: u32, w: &mut [u64; 16])
 }
 
 // The places of the row of place p: from member a on, then those below it. Gives the first one after the row.
-fn apply_row(t: &[u32], next: &[u32], a: Member, p: u32, w: &mut [u64; 16]) -> u32
+fn apply_row(t: &[u32], next: &[u32], a: Member, p: u32, w: &mut [Weight; 16]) -> u32
     requires { RowReady t.now next.now a.0 (p / 16) w.old }
     ensures { (w.new ≡ row_over (record_change t.now) next.now a.0 p w.old) × (result ≡ run_end next.now (p / 16 * 16 + 16) 16 p) }
 {
@@ -81,7 +82,7 @@ pub fn apply_block(
     b: u32,
     a: Member,
     n: Round,
-    w: &mut [u64; 16],
+    w: &mut [Weight; 16],
 )
     requires { BlockReady t.now head.now next.now b a.0 n.0 w.old }
     ensures { w.new ≡ rows_over (place_change t.now b) a.0 n.0 w.old }

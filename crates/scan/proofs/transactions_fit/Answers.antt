@@ -1,32 +1,14 @@
-use mathlib.Core.Path.{◌≡◌, refl, sym, ◌∙◌}
-use native.Mathlib.Omega.{arith}
+use Rattle.std.proofs.Common.{rules, tests, refl, Bool, true, cond, ltb, ◌∙◌}
+use Rattle.std.proofs.lemmas.Iterator.{YieldsList-from_range}
+use Rattle.std.proofs.lemmas.Iterator.Search.{all_from_yields_List}
 use Rattle.base.specs.Folds.{all_to}
-use Rattle.base.proofs.TestLaws.{all_start, all-next, all_done, all_fails}
 use Rattle.scan.specs.Scan.{transaction_fits}
 use Rattle.scan.proofs.LimitLaws.{all_there}
-use Rattle.scan.proofs.transactions_fit.Invariants.{fits}
 use Rattle.scan.proofs.transactions_fit.Goals as goal
 
-pub returns-then-n-eq0 : goal.returns-then-n-eq0
+-- all four slots are looked at, and those from n on hold
+pub returns-else-n-eq0 : goal.returns-else-n-eq0
 unfolding all_to
-returns-then-n-eq0 c = let e : c.args.n ≡ 0 = omega arith in rw e refl
-
-pub loop-k-init : goal.loop-k-init
-loop-k-init c = all_start _ 4
-
-pub transaction_fits-requires : goal.transaction_fits-requires
-transaction_fits-requires c = let p = c.requires in record { within = p.within; few = omega arith; limits = p.limits }
-
-pub returns-then-not-transaction_fits : goal.returns-then-not-transaction_fits
-returns-then-not-transaction_fits c = let slots = let a = c.args in fits a.t.now a.m.0 a.r.0 a.n in
-    let by_slots : all_to (slots) 4 ≡ all_to (transaction_fits c.args.t.now c.args.m.0 c.args.r.0) c.args.n = all_there (transaction_fits c.args.t.now c.args.m.0 c.args.r.0) c.args.n c.requires.few in
-    let x = c.loop-k in
-    sym (sym (by_slots) ∙ all_fails (slots) 4 x.k (omega arith) (sym c.transaction_fits.ensures ∙ c.if-not-transaction_fits.true))
-
-pub loop-k-preserved : goal.loop-k-preserved
-loop-k-preserved c = let x = c.loop-k in all-next x.invariant (omega arith) (sym c.transaction_fits.ensures ∙ c.if-not-transaction_fits.false)
-
-pub returns : goal.returns
-returns c = let slots = let a = c.args in fits a.t.now a.m.0 a.r.0 a.n in
-    let by_slots : all_to (slots) 4 ≡ all_to (transaction_fits c.args.t.now c.args.m.0 c.args.r.0) c.args.n = all_there (transaction_fits c.args.t.now c.args.m.0 c.args.r.0) c.args.n c.requires.few in
-    let x = c.loop-k in sym (sym (by_slots) ∙ all_done x.invariant (omega arith))
+returns-else-n-eq0 c = let a = c.args in
+    all_from_yields_List (λ k. cond (ltb k a.n) (transaction_fits a.t.now a.m.0 a.r.0 k) true) _ _ _ c.all.ensures.ran (YieldsList-from_range 0 4 4 refl refl) (λ x b q k. search (rules, tests))
+    ∙ all_there (transaction_fits a.t.now a.m.0 a.r.0) a.n c.requires.few

@@ -5,7 +5,6 @@ use native.Mathlib.Omega.{arith}
 use lib.Seq.{paste}
 use Rattle.words.specs.Words.{sixteen}
 use Rattle.words.proofs.PutLaws.{effect-put}
-use borrow.Author.Rules.{rules}
 use Rattle.words.proofs.put_effect.Goals as goal
 
 -- the three puts, one after the other

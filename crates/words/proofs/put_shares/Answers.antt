@@ -1,10 +1,7 @@
-use Rattle.words.specs.Words.{sixteen}
 use Rattle.words.proofs.PasteLaws.{length-sixteen, in_sixteen}
 use mathlib.Core.Path.{sym}
-use Prim.Native.Nat.{◌-◌}
 use native.Mathlib.Omega.{arith}
-use Rattle.base.proofs.FillLaws.{Pasting, pasting_none, pasting_more, pasting_all}
-use borrow.Author.Rules.{rules}
+use Rattle.base.proofs.FillLaws.{pasting_none, pasting_more, pasting_all}
 use Rattle.words.proofs.put_shares.Goals as goal
 
 pub loop-i-init : goal.loop-i-init

@@ -1,10 +1,7 @@
-use Rattle.words.specs.Words.{sixteen}
-use Rattle.words.proofs.PasteLaws.{length-sixteen, in_sixteen}
+use Rattle.words.proofs.PasteLaws.{length-weights, in_weights}
 use mathlib.Core.Path.{sym}
-use Prim.Native.Nat.{◌-◌}
 use native.Mathlib.Omega.{arith}
-use Rattle.base.proofs.FillLaws.{Pasting, pasting_none, pasting_more, pasting_all}
-use borrow.Author.Rules.{rules}
+use Rattle.base.proofs.FillLaws.{pasting_none, pasting_more, pasting_all}
 use Rattle.words.proofs.put_weights.Goals as goal
 
 pub loop-i-init : goal.loop-i-init
@@ -15,8 +12,8 @@ overflow_cast-w c = record { fits = c.requires.1 c.loop-i.i (omega arith) }
 
 pub loop-i-preserved : goal.loop-i-preserved
 loop-i-preserved c = let a = c.args in
-    let l = length-sixteen a.x in
-    pasting_more c.loop-i.invariant (omega arith) (omega arith) (omega arith) (sym (in_sixteen a.x c.loop-i.i (omega arith)))
+    let l = length-weights a.x in
+    pasting_more c.loop-i.invariant (omega arith) (omega arith) (omega arith) (sym (in_weights a.x c.loop-i.i (omega arith)))
 
 pub returns : goal.returns
 returns c = pasting_all c.loop-i.invariant (omega arith)

@@ -1,10 +1,6 @@
-use Rattle.words.specs.Words.{sixteen}
-use Rattle.words.proofs.PasteLaws.{length-sixteen, in_sixteen}
-use mathlib.Core.Path.{sym}
-use Prim.Native.Nat.{◌-◌}
-use native.Mathlib.Omega.{arith}
-use Rattle.base.proofs.FillLaws.{Pasting, pasting_none, pasting_more, pasting_all}
+use Rattle.words.specs.Words.{weight_words}
+use Rattle.base.proofs.FillLaws.{Pasting}
 use Rattle.words.proofs.put_weights.Given as goal
 
 abbrev pub invariant-loop-i : goal.invariant-loop-i
-invariant-loop-i l = Pasting l.initial.w l.at (sixteen l.x) 16 l.w l.i
+invariant-loop-i l = Pasting l.initial.w l.at (weight_words l.x) 16 l.w l.i

@@ -1,27 +1,22 @@
-use mathlib.Core.Path.{◌≡◌, refl, ◌∙◌}
-use mathlib.Core.Bool.{true}
+use mathlib.Core.Path.{◌≡◌, refl}
+use borrow.Author.Rules.{rules}
+use Prim.Native.Nat.{◌+◌, ◌*◌}
 use Rattle.base.proofs.CheckLaws.{numbered}
-use Rattle.hosting.proofs.CallLaws.{not_read, is_read}
-use Rattle.hosting.proofs.PortLaws.{done-early-packed, done-unread-port}
-use Rattle.hosting.proofs.AnsweredLaws.{register-packed, done-kept}
-use Rattle.words.specs.States.{state_reads}
-use Rattle.words.proofs.ReadingLaws.{state-read}
-use mathlib.Core.Path.{ap}
-use mathlib.Core.Bool.{not}
+use Rattle.refusals.specs.Refusals.{number_of, packed_in}
+use Rattle.refusals.proofs.RefusalLaws.{some-number}
+use Rattle.hosting.proofs.PortLaws.{done-early, done-unread-port}
+use Rattle.hosting.proofs.SettledLaws.{ported-told}
 use Rattle.host.proofs.port_calls.port_read.Goals as goal
 
-pub returns-then-n-ne0 : goal.returns-then-n-ne0
-returns-then-n-ne0 c = done-early-packed _ _ _ _ _ c.access_refusal-n.ensures c.if-n-ne0.true c.packed.ensures
+pub returns-in_err-check_access : goal.returns-in_err-check_access
+returns-in_err-check_access c = let n : packed_in c.from_residual.result ≡ 0 + number_of c.in_err-check_access.field-0.0 * 4294967296 = search rules in
+    rw n (done-early _ _ _ _ _ c.in_err-check_access.ensures (some-number c.in_err-check_access.field-0.0) refl)
 
-pub returns-then-not-state_reads : goal.returns-then-not-state_reads
+pub returns-in_default : goal.returns-in_default
 unfolding numbered
-returns-then-not-state_reads c = done-unread-port _ _ _ _ _ c.access_refusal-n.ensures refl c.if-n-ne0.false (not_read c.state_reads.ensures (ap not c.if-not-state_reads.true)) c.unread.ensures
-
-pub state_in-s-requires : goal.state_in-s-requires
-state_in-s-requires c = let state-serves : state_reads c.args.state.now ≡ true = is_read c.state_reads.ensures (ap not c.if-not-state_reads.false) in
-    state-read _ (state-serves)
+returns-in_default c = done-unread-port _ _ _ _ _ c.in_ok-check_access.ensures refl refl c.in_default.ensures refl
 
 pub returns : goal.returns
-returns c = let state-serves : state_reads c.args.state.now ≡ true = is_read c.state_reads.ensures (ap not c.if-not-state_reads.false) in
-    let x = rw c.state_in-s.ensures at c.read-x.ensures in
-    done-kept _ _ _ _ (state-serves) refl refl (c.register_number.ensures ∙ register-packed _ _ _ _ x.0) x.1 (λ s. refl)
+returns c = let s = c.in-Some.ensures in
+    let x = rw s.1 at c.read.ensures in
+    ported-told _ _ _ s.0 refl _ x.refusal x.value x.table

@@ -2,7 +2,6 @@ use mathlib.Core.Path.{sym, ap}
 use Prim.Native.Nat.{ℕ}
 use native.Mathlib.Omega.{arith}
 use lib.ListN.{get_or-eq_default}
-use borrow.Author.Rules.{rules}
 use Rattle.hosting.proofs.guesting.rights_in.Goals as goal
 
 pub returns-then-state-lt-STATE : goal.returns-then-state-lt-STATE

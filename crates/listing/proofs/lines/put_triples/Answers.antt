@@ -2,7 +2,7 @@ use mathlib.Core.Path.{◌≡◌, refl, ◌∙◌}
 use native.Mathlib.Omega.{arith}
 use Prim.Native.Nat.{◌+◌, ◌*◌, ◌≤◌}
 use Rattle.terms.specs.Proposals.{slot_of}
-use Rattle.terms.proofs.ProposalLaws.{transactions-tab}
+use Rattle.terms.proofs.ProposalLaws.{transactions_tab}
 use Rattle.base.proofs.PutLaws.{puts_then, puts-within}
 use Rattle.listing.proofs.LineLaws.{triples_none, triples-next}
 use Rattle.listing.proofs.lines.put_triples.Goals as goal
@@ -19,9 +19,10 @@ put_triple-next-requires c = let l = c.loop-k in
     omega (arith, l.invariant.kept, l.invariant.puts.past, l.invariant.puts.room)
 
 pub loop-k-preserved : goal.loop-k-preserved
+unfolding slot_of
 loop-k-preserved c = let a = c.args in
     let l = c.loop-k in
-    let p = rw c.slot_at-x.ensures at c.put_triple-next.ensures in
+    let p = c.put_triple-next.ensures in
     record {
       so_far = omega arith;
       kept = c.put_triple-next.auto.buf ∙ l.invariant.kept;
@@ -33,4 +34,4 @@ returns c = let a = c.args in
     let l = c.loop-k in
     let e : l.k ≡ a.body.count = omega arith in
     let h : a.body.count * 24 ≤ 96 = omega arith in
-    rw (transactions-tab a.body) (puts-within 96 h (rw e at l.invariant.puts))
+    rw (transactions_tab a.body) (puts-within 96 h (rw e at l.invariant.puts))

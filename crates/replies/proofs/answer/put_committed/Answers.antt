@@ -1,12 +1,12 @@
-use mathlib.Core.Path.{ap}
+use mathlib.Core.Path.{sym, ◌∙◌, ap}
 use native.Mathlib.Omega.{arith}
+use Rattle.listing.specs.Lines.{refused_line}
 use Rattle.replies.specs.Answers.{committed_line}
 use Rattle.base.proofs.PutLaws.{puts_as}
-use borrow.Author.Rules.{rules}
 use Rattle.replies.proofs.answer.put_committed.Goals as goal
 
-pub returns-in-Added : goal.returns-in-Added
-returns-in-Added c = puts_as (ap committed_line c.in-Added.is) (omega arith) c.put_count.ensures
+pub returns-in-Ok : goal.returns-in-Ok
+returns-in-Ok c = puts_as (ap committed_line c.in-Ok.is) (omega arith) c.put_count.ensures
 
-pub returns-in-Refused : goal.returns-in-Refused
-returns-in-Refused c = puts_as (ap committed_line c.in-Refused.is) (omega arith) c.put_refused.ensures
+pub returns-in-Err : goal.returns-in-Err
+returns-in-Err c = puts_as (ap committed_line c.in-Err.is ∙ ap refused_line (sym c.number.ensures)) (omega arith) c.put_refused.ensures

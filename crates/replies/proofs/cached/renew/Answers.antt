@@ -3,7 +3,6 @@ use native.Mathlib.Omega.{arith}
 use Rattle.state.proofs.FormedLaws.{formed}
 use Rattle.state.proofs.Walkable.{readable}
 use Rattle.replies.proofs.CachedLaws.{cached-unformed}
-use borrow.Author.Rules.{rules}
 use Rattle.replies.proofs.cached.renew.Goals as goal
 
 pub fill_cache-requires : goal.fill_cache-requires

@@ -17,7 +17,7 @@ reach_round-x-requires c = record { linked = c.requires.0.linked; running = c.lo
 pub loop-q-preserved : goal.loop-q-preserved
 loop-q-preserved c = let x = c.loop-q in
     let d = c.reach_round-x.ensures in
-    let e = c.put_words.ensures in
+    let e = c.put_weights.ensures in
     record {
       from = omega (arith, x.invariant.from);
       count = omega arith;

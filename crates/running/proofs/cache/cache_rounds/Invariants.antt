@@ -7,10 +7,11 @@ use Rattle.committee.specs.Chain.{chain_of}
 use Rattle.running.proofs.CacheLaws.{CachesTo}
 use Rattle.running.specs.declared.Applied.{Applied}
 use Rattle.running.specs.Starts.{Running}
+use Rattle.terms.specs.declared.sheet.Weight.{Weight}
 use Rattle.running.proofs.cache.cache_rounds.Given as goal
 
 -- the rounds from the first on and below q are cached
-pub record RoundsCached (S : Settings) (t : List ℕ) (blocks first q-end : ℕ) (cache₀ w starts cache : List ℕ) (x : Applied) (q : ℕ) : Type 0 where
+pub record RoundsCached (S : Settings) (t : List ℕ) (blocks first q-end : ℕ) (cache₀ : List ℕ) (w : List Weight) (starts cache : List ℕ) (x : Applied) (q : ℕ) : Type 0 where
   pub from : first ≤ q
   pub count : q ≤ q-end
   pub running : Running S t blocks (q - S.lookback - 1) x w starts

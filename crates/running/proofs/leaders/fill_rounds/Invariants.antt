@@ -6,10 +6,11 @@ use Rattle.committee.specs.Chain.{chain_of}
 use Rattle.running.specs.Fill.{leader_at, fill_to}
 use Rattle.running.specs.declared.Applied.{Applied}
 use Rattle.running.specs.Starts.{Running}
+use Rattle.terms.specs.declared.sheet.Weight.{Weight}
 use Rattle.running.proofs.leaders.fill_rounds.Given as goal
 
 -- the rounds above q₀ up to q have their leaders
-pub record LeadersTo (S : Settings) (t : List ℕ) (blocks q₀ q-end : ℕ) (l₀ w starts l : List ℕ) (x : Applied) (q : ℕ) : Type 0 where
+pub record LeadersTo (S : Settings) (t : List ℕ) (blocks q₀ q-end : ℕ) (l₀ : List ℕ) (w : List Weight) (starts l : List ℕ) (x : Applied) (q : ℕ) : Type 0 where
   pub from : q₀ ≤ q
   pub to : q ≤ q-end
   pub running : Running S t blocks (q - S.lookback) x w starts

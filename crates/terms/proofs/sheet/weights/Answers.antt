@@ -1,13 +1,7 @@
-use mathlib.Core.Path.{refl}
-use native.Mathlib.Omega.{arith}
-use Rattle.base.proofs.FillLaws.{filling_none, filling_more, filling_all}
+use Rattle.std.proofs.Common.{rules, refl}
+use Rattle.base.proofs.FromFn.{tab_from_fn}
+use Rattle.terms.specs.Sheets.{weight_at}
 use Rattle.terms.proofs.sheet.weights.Goals as goal
 
-pub loop-i-init : goal.loop-i-init
-loop-i-init c = filling_none refl
-
-pub loop-i-preserved : goal.loop-i-preserved
-loop-i-preserved c = filling_more c.loop-i.invariant (omega arith) c.weight_at-x.ensures
-
 pub returns : goal.returns
-returns c = filling_all c.loop-i.invariant (omega arith)
+returns c = tab_from_fn (λ k. record { 0 = weight_at c.args.sheet.now k }) _ _ (record { 0 = 0 }) (λ k y q e. search rules) 16 c.from_fn.ensures.items

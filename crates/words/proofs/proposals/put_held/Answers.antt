@@ -6,7 +6,6 @@ use native.Mathlib.Omega.{arith}
 use Rattle.words.specs.Lengths.{body_length, proposal_length}
 use Rattle.words.specs.Bodies.{body_words}
 use Rattle.words.proofs.PutLaws.{held-put}
-use borrow.Author.Rules.{rules}
 use Rattle.words.proofs.proposals.put_held.Goals as goal
 
 pub returns : goal.returns

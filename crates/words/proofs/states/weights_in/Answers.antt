@@ -1,16 +1,7 @@
-use mathlib.Core.Path.{refl}
-use native.Mathlib.Omega.{arith}
-use Prim.Native.Nat.{◌+◌, ◌-◌}
-use Rattle.base.proofs.FillLaws.{Filling, filling_none, filling_more, filling_all}
-use Rattle.words.specs.Words.{word}
-use borrow.Author.Rules.{rules}
+use Rattle.std.proofs.Common.{rules, get_or, ◌+◌}
+use Rattle.base.proofs.FromFn.{tab_from_fn}
+use Rattle.terms.specs.Ranges.{weight}
 use Rattle.words.proofs.states.weights_in.Goals as goal
 
-pub loop-i-init : goal.loop-i-init
-loop-i-init c = filling_none refl
-
-pub loop-i-preserved : goal.loop-i-preserved
-loop-i-preserved c = filling_more c.loop-i.invariant (omega arith) c.wide.ensures
-
 pub returns : goal.returns
-returns c = filling_all c.loop-i.invariant (omega arith)
+returns c = let w = c.args.w.now in tab_from_fn (λ i. weight (get_or w (4 + i) 0)) _ _ (weight 0) (λ k y q e. search rules) 16 c.from_fn.ensures.items

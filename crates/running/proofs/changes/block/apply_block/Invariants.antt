@@ -4,10 +4,11 @@ use Prim.Native.Nat.{ℕ, ◌-◌, ◌*◌, ◌/◌, ◌≤◌}
 use Rattle.running.specs.BlockChanges.{place_change}
 use Rattle.running.specs.LinkRuns.{rows_over}
 use Rattle.running.proofs.RunLaws.{LinkedFrom}
+use Rattle.terms.specs.declared.sheet.Weight.{Weight}
 use Rattle.running.proofs.changes.block.apply_block.Given as goal
 
 -- the rows below that of p are done, and p is the first place of its row
-pub record RowsDone (t next : List ℕ) (b a end : ℕ) (w₀ w : List ℕ) (p : ℕ) : Type 0 where
+pub record RowsDone (t next : List ℕ) (b a end : ℕ) (w₀ w : List Weight) (p : ℕ) : Type 0 where
   pub low : 16 ≤ p
   pub linked : LinkedFrom t next b (p / 16 * 16) end p
   pub weights : w ≡ rows_over (place_change t b) a (p / 16 - 1) w₀

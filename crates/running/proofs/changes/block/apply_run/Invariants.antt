@@ -4,10 +4,11 @@ use Prim.Native.Nat.{ℕ, ◌+◌, ◌-◌, ◌*◌, ◌≤◌}
 use Rattle.committee.specs.Totals.{total_in}
 use Rattle.running.specs.BlockChanges.{record_change}
 use Rattle.running.specs.LinkRuns.{run_over, run_end}
+use Rattle.terms.specs.declared.sheet.Weight.{Weight}
 use Rattle.running.proofs.changes.block.apply_run.Given as goal
 
 -- what is left of the run, of at most 16 - i places, does what the whole run does, and ends where it ends
-pub record RunLeft (t next : List ℕ) (y z p : ℕ) (w₀ w : List ℕ) (q i : ℕ) : Type 0 where
+pub record RunLeft (t next : List ℕ) (y z p : ℕ) (w₀ w : List Weight) (q i : ℕ) : Type 0 where
   pub count : i ≤ 16
   pub rest : run_over (record_change t) next y z (16 - i) q w ≡ run_over (record_change t) next y z 16 p w₀
   pub last : run_end next z (16 - i) q ≡ run_end next z 16 p

@@ -1,0 +1,109 @@
+-- Laws of what a held certificate keeps over every list of requests.
+use mathlib.Core.Path.{◌≡◌, refl, sym, ap, ◌∙◌, subst}
+use mathlib.Core.Bool.{Bool, true, false, cond}
+use mathlib.Core.List.{List, [], ◌∷◌, ◌++◌}
+use mathlib.Core.Option.{Option, none, some}
+use Prim.Native.Nat.{ℕ, ◌≤◌}
+use lib.Dec.{eqb}
+use lib.ListN.{length}
+use Rattle.base.specs.Options.{if_there}
+use Rattle.terms.specs.declared.Certificate.{Certificate}
+use Rattle.engine.specs.Calls.{Call, opens, accept}
+use Rattle.engine.specs.Engine.{Engine, after}
+use Rattle.engine.specs.Sequences.{after_calls, NoOpen, NoOpens, after_opening}
+use Rattle.engine.proofs.GuestLaws.{guest-opens-none}
+use Rattle.batch.specs.Batch.{Row, turns_of, batch_refusal}
+use Rattle.nonforking.specs.Stored.{Holds, Shows}
+use Rattle.nonforking.proofs.StoredLaws.{certificate_stays, stored_held, held_stored}
+use Rattle.nonforking.proofs.ShownLaws.{stored_shown}
+use Rattle.submissions.specs.Submissions.{Submission, one, batch, after_submission, accepts_of, calls_of}
+use Rattle.submissions.specs.Requests.{Asked, asks, asks_batch, Request, host, guest, submitted_by, caller_number, submission_of, after_requests, NoOpenAsked, NoOpensAsked}
+use Rattle.submissions.proofs.SubmissionLaws.{leaves_as_its_calls}
+use Rattle.submissions.proofs.RequestLaws.{left_by}
+use Rattle.kept.specs.Kept.{calls_asked, LeavesAsCalls, CertificateStaysThen, StoredHeldThen, HeldStoredThen, StoredShownThen}
+
+-- ---- what requests leave
+
+-- the calls m, then the calls l
+after-join : (e : Engine) (l m : List Call) → after_calls e (l ++ m) ≡ after_calls (after_calls e m) l
+unfolding after_calls
+after-join e [] m = refl
+after-join e (c ∷ l) m = ap (λ (x : Engine). after x c) (after-join e l m)
+
+pub leaves_as_calls : LeavesAsCalls
+unfolding after_requests after_calls calls_asked
+leaves_as_calls e [] = refl
+leaves_as_calls e (x ∷ l) = left_by (after_requests e l) x ∙ go (submission_of (after_requests e l) x) (leaves_as_calls e l)
+  where
+    go : (o : Option Submission) → after_requests e l ≡ after_calls e (calls_asked e l)
+        → if_there o (after_requests e l) (after_submission (after_requests e l)) ≡ after_calls e (if_there o [] (calls_of (after_requests e l)) ++ calls_asked e l)
+    go none h = h
+    go (some s) h =
+        leaves_as_its_calls (after_requests e l) s
+        ∙ ap (λ (d : Engine). after_calls d (calls_of (after_requests e l) s)) h
+        ∙ sym (after-join e (calls_of (after_requests e l) s) (calls_asked e l))
+
+-- ---- no opens
+
+no_opens-join : (e : Engine) (l m : List Call) → NoOpens (after_calls e m) l → NoOpens e m → NoOpens e (l ++ m)
+unfolding after_calls
+no_opens-join e [] m p q = q
+no_opens-join e (c ∷ l) m p q = (subst (λ (x : Engine). NoOpen x c) (sym (after-join e l m)) p.0, no_opens-join e l m p.1 q)
+
+-- a batch opens nothing
+accepts_open_none : (row : Row) (l : List ℕ) (e : Engine) → NoOpens e (accepts_of row l)
+unfolding accepts_of after_calls
+accepts_open_none row [] e = tt
+accepts_open_none row (p ∷ l) e =
+    let m = if_there (row.at p).certificate [] (λ c. accept c ∷ []) in
+    no_opens-join e (accepts_of row l) m (accepts_open_none row l (after_calls e m)) (go (row.at p).certificate)
+  where
+    go : (o : Option Certificate) → NoOpens e (if_there o [] (λ c. accept c ∷ []))
+    go none = tt
+    go (some c) = ((λ own sheet q. absurd (cc q)), tt)
+
+batch-opens-none : (e : Engine) (row : Row) (answers : List ℕ) → NoOpens e (calls_of e (batch row answers))
+batch-opens-none e row answers = go (eqb (batch_refusal e.state e.table row.count (length answers)) 0)
+  where
+    go : (b : Bool) → NoOpens e (cond b (accepts_of row (turns_of row)) [])
+    go true = accepts_open_none row (turns_of row) e
+    go false = tt
+
+guest-calls_open_none : (e : Engine) (c : ℕ) (a : Asked) → NoOpens e (calls_of e (submitted_by c a))
+unfolding after_calls
+guest-calls_open_none e c (asks k) = (guest-opens-none e c k, tt)
+guest-calls_open_none e c (asks_batch row answers) = batch-opens-none e row answers
+
+asked-opens-none : (e : Engine) (x : Request) → NoOpenAsked e x → NoOpens e (if_there (submission_of e x) [] (calls_of e))
+unfolding after_calls
+asked-opens-none e (host (one c)) n = (n, tt)
+asked-opens-none e (host (batch row answers)) n = batch-opens-none e row answers
+asked-opens-none e (guest c a) n = go (eqb (caller_number e c a) 0)
+  where
+    go : (b : Bool) → NoOpens e (if_there (cond b (some (submitted_by c a)) none) [] (calls_of e))
+    go true = guest-calls_open_none e c a
+    go false = tt
+
+no_opens : (e : Engine) (l : List Request) → NoOpensAsked e l → NoOpens e (calls_asked e l)
+unfolding calls_asked
+no_opens e [] n = tt
+no_opens e (x ∷ l) n =
+    no_opens-join e (if_there (submission_of (after_requests e l) x) [] (calls_of (after_requests e l))) (calls_asked e l)
+    (subst (λ (d : Engine). NoOpens d (if_there (submission_of (after_requests e l) x) [] (calls_of (after_requests e l)))) (leaves_as_calls e l) (asked-opens-none (after_requests e l) x n.0))
+    (no_opens e l n.1)
+
+-- ---- the claims
+
+pub certificate_stays_then : CertificateStaysThen
+certificate_stays_then e l n a r p d h = subst (λ (x : Engine). Holds x.table a r p d) (sym (leaves_as_calls e l)) (certificate_stays e (calls_asked e l) (no_opens e l n) a r p d h)
+
+pub stored_held_then : StoredHeldThen
+stored_held_then x l i p d k = subst (λ (e : Engine). Holds e.table p.author p.round p d) (sym (leaves_as_calls (after_opening x) l)) (stored_held x (calls_asked (after_opening x) l) i p d k)
+
+pub held_stored_then : HeldStoredThen
+held_stored_then x l i a r p d to h =
+    let q = leaves_as_calls (after_opening x) l in
+    held_stored x (calls_asked (after_opening x) l) i a r p d (subst (λ (e : Engine). r ≤ e.state.settings.ceiling.0) q to) (subst (λ (e : Engine). Holds e.table a r p d) q h)
+
+pub stored_shown_then : StoredShownThen
+stored_shown_then x l i p d k = subst (λ (e : Engine). Shows e p.author p.round p d) (sym (leaves_as_calls (after_opening x) l)) (stored_shown x (calls_asked (after_opening x) l) i p d k)

@@ -1,0 +1,38 @@
+-- Laws of lists of the library's calls: from an accepted open the words give the engine that the requests lead to.
+use mathlib.Core.Path.{refl, ap, ◌∙◌}
+use mathlib.Core.List.{[], ◌∷◌}
+use mathlib.Core.Option.{Option, none, some}
+use Rattle.base.specs.Options.{if_there}
+use Rattle.engine.specs.Engine.{Engine}
+use Rattle.submissions.specs.Requests.{Request, after_requests}
+use Rattle.words.specs.Sheets.{sheet_reads}
+use Rattle.hosting.proofs.CallLaws.{accepted-call}
+use Rattle.hosting.proofs.NextLaws.{accepted-gives}
+use Rattle.hosting.proofs.HandedLaws.{open_handed}
+use Rattle.library.specs.Calls.{LibraryCall, by_host, opens, host_in, Typed, request_in}
+use Rattle.library.specs.Lists.{Words, after_call, after_list, requests_in, Opening, after_opening, engine_opened, Gives, WordsGiveEngines}
+use Rattle.library.proofs.StepLaws.{left, call-leaves}
+
+-- an accepted open
+pub opening-gives : (x : Opening) → Gives (after_opening x) (engine_opened x)
+opening-gives x =
+    let c = by_host (opens x.own x.sheet x.rights) in
+    let h = open_handed (record { 0 = x.own }) x.sheet (record { 0 = x.rights }) in
+    let a = accepted-call x.before.state x.before.table [] (sheet_reads x.sheet) (host_in (opens x.own x.sheet x.rights)) x.accepted in
+    let g = accepted-gives x.before.state x.before.table [] h x.accepted in
+    record { can_read = g.can_read; gives = rw (g.gives, a.its-table) refl }
+
+-- a call more
+pub call-gives : (x : Words) (e : Engine) → Gives x e → (c : LibraryCall) → Typed c → Gives (after_call x c) (left e (request_in c))
+call-gives x e g c i = let k = call-leaves x.state x.table g.can_read c i in record { can_read = k.can_read; gives = k.gives ∙ ap (λ (d : Engine). left d (request_in c)) g.gives }
+
+-- the claim
+pub words_give_engines : WordsGiveEngines
+unfolding after_list requests_in after_requests
+words_give_engines x [] i = opening-gives x
+words_give_engines x (c ∷ l) i = go (request_in c) (call-gives (after_list (after_opening x) l) (after_requests (engine_opened x) (requests_in l)) (words_give_engines x l i.1) c i.0)
+  where
+    go : (q : Option Request) → Gives (after_call (after_list (after_opening x) l) c) (left (after_requests (engine_opened x) (requests_in l)) q)
+        → Gives (after_call (after_list (after_opening x) l) c) (after_requests (engine_opened x) (if_there q (requests_in l) (λ q. q ∷ requests_in l)))
+    go none g = g
+    go (some q) g = g

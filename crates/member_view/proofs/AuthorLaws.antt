@@ -1,0 +1,25 @@
+-- The authors of the certificates held in the present round, by the held set of the table.
+use mathlib.Core.Path.{◌≡◌, refl, ◌∙◌, fun_ext}
+use mathlib.Core.Bool.{Bool, not}
+use mathlib.Core.List.{List}
+use Prim.Native.Nat.{ℕ}
+use Rattle.base.specs.Sets.{is_in}
+use Rattle.store.specs.Table.{held_set}
+use Rattle.store.proofs.TableLaws.{held_in}
+use Rattle.terms.specs.Ranges.{weight_in}
+use Rattle.committee.specs.Committees.{committee_of, quorum}
+use Rattle.rules.specs.Tests.{committee_in, authors_in}
+use Rattle.state.specs.declared.State.{State}
+use Rattle.state.specs.Formed.{Formed}
+use Rattle.state.specs.View.{view}
+use Rattle.state.proofs.ViewLaws.{held-dag}
+use Rattle.terms.specs.declared.sheet.Weight.{Weight}
+
+module _ (s : State) (t : List ℕ) (f : Formed s t) where
+  pub authors-held : authors_in s.settings (view s t) s.round.0 ≡ is_in (held_set t s.round.0)
+  authors-held = fun_ext λ i. held-dag s.settings.ceiling.0 t i s.round.0 f.numbers.round-from f.numbers.round-to ∙ held_in t i s.round.0
+
+  -- check 28, by the committee w and the set h that the code has
+  pub thin_by : {w : List Weight} {h : ℕ} {b : Bool} → w ≡ committee_of s.settings (view s t).chain s.round.0 → h ≡ held_set t s.round.0 → b ≡ quorum s.settings.margin (weight_in w) (is_in h)
+      → not (quorum s.settings.margin (committee_in s.settings (view s t) s.round.0) (authors_in s.settings (view s t) s.round.0)) ≡ not b
+  thin_by e i k = rw (authors-held, ← e, ← i, k) refl

@@ -1,0 +1,2 @@
+pub mod AuthorLaws
+pub mod PreviousLaws

@@ -1,0 +1,5 @@
+use Rattle.state.proofs.CachedLaws.{cached-both}
+use Rattle.member_view.proofs.View.known.Goals as goal
+
+pub invariant_of-result : goal.invariant_of-result
+invariant_of-result c = let p = cached-both c.requires c.if-not-formed.false in record { formed = p.0; caches = p.1 }

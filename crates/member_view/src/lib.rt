@@ -1,0 +1,207 @@
+//! A member's view, and the tests that rules make of it.
+//!
+//! A well-formed state with its table and what is cached beside it: each method is one test of a call, and answers what the rules' test of that name says (rules/specs/Tests). docs/RULES.md, "A member's state".
+#![tactic(auto)]
+
+pub mod committees;
+
+ghost use Rattle.std.specs.Prelude.{◌≡◌, true};
+ghost use Rattle.state.specs.WellFormed.{well_formed};
+ghost use Rattle.state.specs.Formed.{Formed};
+ghost use Rattle.state.specs.Cached.{CachesFor};
+
+use crate::committees::{Committee, Committees};
+use refusals::Refusal;
+use running::{bonded, cache};
+use state::State;
+use terms::{Body, Member, Proposal, Round};
+
+/// A state and its table, both well formed, and what is cached beside them: committees of theirs.
+#[derive(Clone, Copy)]
+pub struct View<'a> {
+    pub state: &'a State,
+    pub table: &'a [u32],
+    pub cache: &'a [u64],
+    ghost formed: { Formed state.now table.now },
+    ghost caches: { CachesFor state.now table.now cache.now },
+}
+
+impl<'a> View<'a> {
+    ghost use Rattle.std.specs.Prelude.{◌≡◌, false, not, ◌||◌, ◌-◌, ◌≤◌, ◌<◌, IfOk, IfErr, OnOk};
+    ghost use Rattle.agreement.specs.Dag.{is_held};
+    ghost use Rattle.base.specs.Checks.{refusal};
+    ghost use Rattle.base.specs.Sets.{is_in};
+    ghost use Rattle.terms.specs.Ranges.{weight_in};
+    ghost use Rattle.terms.specs.Proposals.{content_of, content_with, bad_transactions, bad_previous_set, transactions_of};
+    ghost use Rattle.committee.specs.Committees.{quorum, committee_of};
+    ghost use Rattle.rules.specs.Tests.{bad_round, above, missing, unknown, committee_in, authors_in};
+    ghost use Rattle.state.specs.Cached.{Cached};
+    ghost use Rattle.state.specs.SharedChecks.{FormFits, form_checks};
+    ghost use Rattle.refusals.specs.Refusals.{refusal_in};
+    ghost use Rattle.member_view.specs.Views.{settings_of, shown};
+
+    /// Check 1 of every call but open, where it is known whether the state is well formed, and committees may be cached.
+    pub fn known(
+        formed: bool,
+        cache: &'a [u64],
+        state: &'a State,
+        table: &'a [u32],
+    ) -> Result<View<'a>, Refusal>
+        requires { Cached state.now table.now formed cache.now }
+        ensures ok { IfOk result (λ v. (v.state.now ≡ state.now) × (v.table.now ≡ table.now) × (well_formed state.now table.now ≡ true)) }
+        ensures err { IfErr result (λ e. (e ≡ Refusal.Malformed) × (well_formed state.now table.now ≡ false)) }
+    {
+        if !formed {
+            return Err(Refusal::Malformed);
+        }
+        Ok(View {
+            state,
+            table,
+            cache,
+        })
+    }
+
+    /// Check 5: is the round 0 or over the ceiling?
+    #[tactic(auto, unfolding(rules::specs::Tests::bad_round))]
+    pub fn is_bad_round(&self, r: Round) -> bool
+        ensures { result ≡ bad_round (settings_of self.now) r.0 }
+    {
+        r.0 == 0 || self.state.settings.ceiling.0 < r.0
+    }
+
+    /// Check 6: is a transaction out of range, or are there too many?
+    pub fn has_bad_transactions(&self, b: Body) -> bool
+        ensures { result ≡ bad_transactions (settings_of self.now).allowance (transactions_of b) }
+    {
+        terms::has_bad_transactions(self.state.settings.allowance, b)
+    }
+
+    /// Check 8: is the committee of the round unknown?
+    #[tactic(auto, unfolding(rules::specs::Tests::unknown))]
+    pub fn is_unknown(&self, r: Round) -> bool
+        ensures { result ≡ unknown (settings_of self.now) (shown self.now) r.0 }
+    {
+        !bonded::known(self.table, self.state.settings, self.state.blocks, r)
+    }
+
+    /// Check 8 of an endorsement: above round 1, is the committee of the round before unknown?
+    #[tactic(auto, unfolding(rules::specs::Tests::above))]
+    pub fn is_unknown_before(&self, r: Round) -> bool
+        requires { 0 < r.0 }
+        ensures { result ≡ above r.0 (unknown (settings_of self.now) (shown self.now) (r.0 - 1)) }
+    {
+        r.0 != 1 && self.is_unknown(Round(r.0 - 1))
+    }
+
+    /// The committee of a round.
+    pub fn committee(&self, r: Round) -> Committee
+        ensures weights { result.weights ≡ committee_of (settings_of self.now) (shown self.now).chain r.0 }
+        ensures margin { result.margin ≡ (settings_of self.now).margin }
+    {
+        let settings = self.state.settings;
+        Committee {
+            weights: cache::committee(self.cache, self.table, settings, self.state.blocks, r),
+            margin: settings.margin,
+        }
+    }
+
+    /// The committees of a round and of the one before, by one walk.
+    pub fn committees(&self, r: Round) -> Committees
+        ensures at { result.at.weights ≡ committee_of (settings_of self.now) (shown self.now).chain r.0 }
+        ensures before { result.before.weights ≡ committee_of (settings_of self.now) (shown self.now).chain (r.0 - 1) }
+        ensures margin_at { result.at.margin ≡ (settings_of self.now).margin }
+        ensures margin_before { result.before.margin ≡ (settings_of self.now).margin }
+    {
+        let settings = self.state.settings;
+        let margin = settings.margin;
+        let pair = cache::committees(self.cache, self.table, settings, self.state.blocks, r);
+        let weights = pair.before;
+        let before = Committee { weights, margin };
+        let weights = pair.at;
+        let at = Committee { weights, margin };
+        Committees { before, at }
+    }
+
+    /// Is the member's place of the round held?
+    pub fn is_held(&self, m: Member, r: Round) -> bool
+        requires place { m.0 < 16 }
+        requires from { 0 < r.0 }
+        requires to { r.0 ≤ (settings_of self.now).ceiling.0 }
+        ensures { result ≡ is_held ((shown self.now).dag m.0 r.0) }
+    {
+        store::held(self.table, m, r)
+    }
+
+    /// Check 10 of an endorsement: is the member's place of the round held or already endorsed?
+    pub fn is_taken(&self, m: Member, r: Round) -> bool
+        requires place { m.0 < 16 }
+        requires from { 0 < r.0 }
+        requires to { r.0 ≤ (settings_of self.now).ceiling.0 }
+        ensures { result ≡ (is_held ((shown self.now).dag m.0 r.0) || (shown self.now).endorsed m.0 r.0) }
+    {
+        self.is_held(m, r) || store::endorsed(self.table, m, r)
+    }
+
+    /// Check 28: do the authors of the certificates held in the present round form no quorum of its committee?
+    pub fn is_thin(&self) -> bool
+        ensures { let v = self.now in result ≡ not (quorum (settings_of v).margin (committee_in (settings_of v) (shown v) (shown v).round) (authors_in (settings_of v) (shown v) (shown v).round)) }
+    {
+        let round = self.state.round;
+        !self
+            .committee(round)
+            .has_quorum(store::held_set(self.table, round))
+    }
+
+    /// Check 10 of propose: is there a proposal, or is one's own place held?
+    pub fn has_proposed(&self) -> bool
+        ensures { let v = self.now in result ≡ (is_held (shown v).proposal || is_held ((shown v).dag v.state.now.own.0 (shown v).round)) }
+    {
+        self.state.proposal.is_some() || self.is_held(self.state.own, self.state.round)
+    }
+
+    /// Check 11: above round 1, is a named previous certificate not held?
+    pub fn lacks_previous(&self, p: Proposal) -> bool
+        requires from { 0 < p.round.0 }
+        requires to { p.round.0 ≤ (settings_of self.now).ceiling.0 }
+        ensures { result ≡ above p.round.0 (missing (settings_of self.now) (shown self.now) (content_of p)) }
+    {
+        p.round.0 != 1
+            && !base::is_subset(
+                p.body.previous as u32,
+                store::held_set(self.table, Round(p.round.0 - 1)),
+            )
+    }
+
+    /// Check 12: above round 1, is the previous set no quorum of the round before?
+    #[tactic(auto, unfolding(rules::specs::Tests::above))]
+    pub fn lacks_quorum(&self, p: Proposal) -> bool
+        requires { 0 < p.round.0 }
+        ensures { result ≡ above p.round.0 (not (quorum (settings_of self.now).margin (committee_in (settings_of self.now) (shown self.now) (p.round.0 - 1)) (is_in p.body.previous))) }
+    {
+        p.round.0 != 1
+            && !self
+                .committee(Round(p.round.0 - 1))
+                .has_quorum(p.body.previous as u32)
+    }
+
+    /// Checks 4, 5, 6, 7 of a proposal.
+    #[tactic(auto, unfolding(base::specs::Checks::refusal))]
+    pub fn check_form(&self, p: Proposal) -> Result<(), Refusal>
+        ensures refusal { refusal_in result ≡ refusal (form_checks (settings_of self.now) (content_of p)) }
+        ensures fits { OnOk result (FormFits self.now.state.now p) }
+    {
+        if 15 < p.author.0 {
+            return Err(Refusal::NoSuchMember);
+        }
+        if self.is_bad_round(p.round) {
+            return Err(Refusal::NoSuchRound);
+        }
+        if self.has_bad_transactions(p.body) {
+            return Err(Refusal::BadTransactions);
+        }
+        if terms::is_bad_previous_set(p.round, p.body.previous as u32) {
+            return Err(Refusal::BadPreviousSet);
+        }
+        Ok(())
+    }
+}

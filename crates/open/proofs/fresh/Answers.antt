@@ -1,5 +1,0 @@
-use mathlib.Core.Path.{refl}
-use Rattle.open.proofs.fresh.Goals as goal
-
-pub returns : goal.returns
-returns c = rw c.bare_body.ensures refl

@@ -1,0 +1,18 @@
+use mathlib.Core.Path.{◌≡◌}
+use mathlib.Core.List.{List}
+use Prim.Native.Nat.{ℕ, ◌<◌, ◌≤◌}
+use lib.ListN.{length}
+use lib.Seq.{paste}
+use Rattle.terms.specs.declared.sheet.Weight.{Weight}
+use Rattle.running.specs.Caches.{numbers}
+use Rattle.running.proofs.cache.put_weights.Given as goal
+
+-- the first i words of w are put
+pub record WordsPut (cache₀ : List ℕ) (w : List Weight) (at : ℕ) (cache : List ℕ) (i : ℕ) : Type 0 where
+  pub count : i ≤ 16
+  pub words : cache ≡ paste cache₀ at (numbers w) i
+  pub size : length cache ≡ length cache₀
+  pub whole : 0 < i → length w ≡ 16
+
+abbrev pub invariant-loop-i : goal.invariant-loop-i
+invariant-loop-i l = WordsPut l.initial.cache l.w l.at l.cache l.i

@@ -1,0 +1,5 @@
+use Rattle.replies.proofs.CachedLaws.{cached-closed}
+use Rattle.serving.proofs.keeper.Keeper.new.Goals as goal
+
+pub invariant_of-result : goal.invariant_of-result
+invariant_of-result c = record { table = c.requires; cached = rw c.closed.ensures (cached-closed _ _) }

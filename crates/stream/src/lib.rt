@@ -1,0 +1,61 @@
+//! A stream of records, served one after another.
+//!
+//! Each record that is found in the bytes at hand is answered, in order, for any engine and any reader and writer: what can be answered is handed out before more is read. docs/RULES.md, "Records".
+#![tactic(auto)]
+
+pub mod ended;
+pub mod hand;
+pub mod lines;
+pub mod passed;
+pub mod peer;
+pub mod run;
+pub mod tied;
+
+ghost use Rattle.std.specs.Prelude.{◌≡◌, ◌≤◌, List, ℕ, Option, length, take};
+ghost use Rattle.framing.specs.AtHand.{record_now};
+ghost use Rattle.stream.specs.Answers.{Answered};
+
+use crate::lines::Lines;
+use framing::records::Records;
+
+/// What serves records.
+pub trait Engine {
+    // What a record makes of it, none an unreadable one, and the bytes that answer it: so many at most.
+    ghost after: { Self → Option (List ℕ) → Self };
+
+    ghost answer: { Self → Option (List ℕ) → List ℕ };
+
+    ghost most: { Self → ℕ };
+
+    /// The bytes of its longest answer.
+    fn most(&self) -> usize
+        ensures { result ≡ most self.now };
+
+    /// Serves a record, and puts its answer at the front of the memory. Gives how long it is.
+    fn serve(&mut self, bytes: Option<&[u8]>, out: &mut [u8]) -> usize
+        requires { most self.old ≤ length out.old }
+        ensures engine { self.new ≡ after self.old (record_now bytes.entry) }
+        ensures answer { take result out.new ≡ answer self.old (record_now bytes.entry) }
+        ensures within { result ≤ length out.new }
+        ensures steady { most self.new ≡ most self.old };
+}
+
+/// What it takes to go on.
+#[derive(Clone, Copy)]
+pub enum Wanted {
+    Bytes,
+    Room,
+}
+
+/// Serves the records at hand, until more bytes are wanted, or more room.
+pub fn answer_all<E: Engine>(engine: &mut E, records: &mut Records, out: &mut Lines) -> Wanted
+    ensures { Answered E.after E.answer E.most result engine.old records.old engine.new records.new out.old out.new }
+{
+    while engine.most() <= out.free() {
+        let Some(bytes) = records.next() else {
+            return Wanted::Bytes;
+        };
+        out.put_answer(engine, bytes);
+    }
+    Wanted::Room
+}

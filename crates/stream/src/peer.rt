@@ -1,0 +1,52 @@
+// Someone who sends records and gets their answers.
+ghost use Rattle.std.specs.Prelude.{◌≡◌, List, [], ◌∷◌, ◌++◌, ℕ, Option, ◌≤◌, ◌<◌, length, IfSome};
+ghost use Rattle.stream.specs.Talk.{Event};
+ghost use Rattle.stream.specs.Peer.{read_gave, write_took, flush_did, HandedOut};
+ghost use Rattle.stream.specs.Known.{Moved};
+
+/// Someone who sends records and gets their answers.
+pub trait Peer {
+    // These steps, in this order, led from one to the other.
+    ghost talk: { Self → List Event → Self → Type 0 };
+
+    // The bytes that reads will give from here on, and those that were written, where they are known.
+    ghost remaining: { Self → Option (List ℕ) };
+
+    ghost contents: { Self → Option (List ℕ) };
+
+    /// How many bytes came, none at the end of the input; nothing where the read failed.
+    fn read(&mut self, buf: &mut [u8]) -> Option<usize>
+        requires { 0 < length buf.old }
+        ensures count { IfSome result (λ n. n ≤ length buf.new) }
+        ensures talks { talk self.old (read_gave result buf.new ∷ []) self.new };
+
+    /// How many of the bytes went out, some; nothing where the write failed.
+    fn write(&mut self, bytes: &[u8]) -> Option<usize>
+        requires { 0 < length bytes.now }
+        ensures count { IfSome result (λ n. (0 < n) × (n ≤ length bytes.now)) }
+        ensures talks { talk self.old (write_took result bytes.now ∷ []) self.new };
+
+    /// Did what went out reach the other side of any buffer?
+    fn flush(&mut self) -> bool
+        ensures talks { talk self.old (flush_did result ∷ []) self.new };
+
+    ghost silent: { (p : Self) → talk p [] p };
+
+    ghost joined: { (p q r : Self) (l m : List Event) → talk p l q → talk q m r → talk p (l ++ m) r };
+
+    ghost moves: { (p q : Self) (l : List Event) → talk p l q → Moved (remaining p) (remaining q) (contents p) (contents q) l };
+}
+
+/// Writes all of the bytes, as many writes as it takes, and flushes. Where one fails, that is all.
+pub fn hand_out<P: Peer>(peer: &mut P, bytes: &[u8]) -> bool
+    ensures { HandedOut P.talk peer.old bytes.now result peer.new }
+{
+    let mut at = 0;
+    while at < bytes.len() {
+        match peer.write(&bytes[at..]) {
+            Some(n) => at += n,
+            None => return false,
+        }
+    }
+    peer.flush()
+}

@@ -1,0 +1,103 @@
+// A whole run: pass after pass to the end of the input, in memory that is lent.
+ghost use Rattle.std.specs.Prelude.{◌≡◌, ◌≤◌, length, IfSome};
+ghost use Rattle.std.specs.Io.KnownBytes.{Appends};
+ghost use Rattle.framing.specs.Streams.{readables};
+ghost use Rattle.stream.specs.Answers.{after_all, answers};
+ghost use Rattle.stream.specs.Known.{AddsPart};
+ghost use Rattle.stream.specs.Passes.{PassDone, FinishDone};
+ghost use Rattle.stream.specs.Talk.{Ran};
+
+use crate::ended::Ended;
+use crate::hand::Hand;
+use crate::lines::Lines;
+use crate::passed::Passed;
+use crate::peer::{Peer, hand_out};
+use crate::{Engine, Wanted, answer_all};
+
+// Answers the records at hand and hands the answers out; only then reads more.
+fn pass<P: Peer, E: Engine>(peer: &mut P, engine: &mut E, hand: &mut Hand, out: &mut [u8]) -> Passed
+    requires buffer { 1024 ≤ hand.old.size }
+    requires room { E.most engine.old ≤ length out.old }
+    ensures { PassDone E.after E.answer E.most P.talk engine.old hand.old peer.old engine.new hand.new peer.new result }
+{
+    let mut lines = Lines::new(out);
+    let mut records = hand.records();
+    let wanted = answer_all(engine, &mut records, &mut lines);
+    let left = records.hand().len();
+    let skipping = records.is_skipping();
+    hand.keep(left, skipping);
+    if !hand_out(peer, lines.bytes()) {
+        return Passed::Lost;
+    }
+    match wanted {
+        Wanted::Room => Passed::On,
+        Wanted::Bytes => match hand.more(peer) {
+            Some(0) => Passed::Over,
+            Some(_) => Passed::On,
+            None => Passed::Cut,
+        },
+    }
+}
+
+// Answers the record that was begun, and hands the answer out. Gives how the run ended.
+fn finish<P: Peer, E: Engine>(
+    peer: &mut P,
+    engine: &mut E,
+    hand: &Hand,
+    out: &mut [u8],
+    ended: Ended,
+) -> Ended
+    requires room { E.most engine.old ≤ length out.old }
+    ensures { FinishDone E.after E.answer E.most P.talk engine.old hand.now peer.old engine.new peer.new ended result }
+{
+    let mut lines = Lines::new(out);
+    if hand.is_in_record() {
+        lines.put_answer(engine, None);
+    }
+    if hand_out(peer, lines.bytes()) {
+        ended
+    } else {
+        Ended::WriteFailed
+    }
+}
+
+// Makes pass after pass to the end.
+fn run_passes<P: Peer, E: Engine>(
+    peer: &mut P,
+    engine: &mut E,
+    buf: &mut [u8],
+    out: &mut [u8],
+) -> Ended
+    requires buffer { 1024 ≤ length buf.old }
+    requires room { E.most engine.old ≤ length out.old }
+    ensures { Ran E.after E.answer engine.old P.talk engine.new peer.old peer.new result }
+{
+    let mut hand = Hand::new(buf);
+    for _ in 0..u64::MAX {
+        match pass(peer, engine, &mut hand, out) {
+            Passed::On => {}
+            Passed::Over => return finish(peer, engine, &hand, out, Ended::Input),
+            Passed::Cut => return finish(peer, engine, &hand, out, Ended::ReadFailed),
+            Passed::Lost => return Ended::WriteFailed,
+        }
+    }
+    Ended::TooLong
+}
+
+/// Serves all records of the input, and hands the answers out.
+pub fn run<P: Peer, E: Engine>(
+    peer: &mut P,
+    engine: &mut E,
+    buf: &mut [u8],
+    out: &mut [u8],
+) -> Ended
+    requires buffer { 1024 ≤ length buf.old }
+    requires room { E.most engine.old ≤ length out.old }
+    ensures ran { Ran E.after E.answer engine.old P.talk engine.new peer.old peer.new result }
+    ensures whole { result ≡ Ended.Input → IfSome (P.remaining peer.old)
+        (λ bytes. Appends (P.contents peer.old) (P.contents peer.new) (answers E.after E.answer engine.old (readables bytes))) }
+    ensures state { result ≡ Ended.Input → IfSome (P.remaining peer.old) (λ bytes. engine.new ≡ after_all E.after E.answer engine.old (readables bytes)) }
+    ensures part { AddsPart E.after E.answer engine.old (P.remaining peer.old) (P.remaining peer.new) (P.contents peer.old) (P.contents peer.new) }
+{
+    run_passes(peer, engine, buf, out)
+}

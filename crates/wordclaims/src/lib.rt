@@ -1,0 +1,32 @@
+//! What is claimed of engines, of the words hosts keep.
+//!
+//! Theorems, no code. Over every list of the library's calls: what was stored is passed on with its endorsers, weights add up, and a commit hangs on its anchor and on decisive votes.
+#![tactic(auto)]
+
+ghost use Rattle.std.specs.Prelude.{◌≡◌, List, ℕ, ◌≤◌, length};
+ghost use Rattle.terms.specs.Proposals.{Content};
+ghost use Rattle.engine.specs.Calls.{commit};
+ghost use Rattle.engine.specs.Engine.{refusal_for};
+ghost use Rattle.words.specs.Lengths.{held_length};
+ghost use Rattle.kept.specs.Kept.{StoredThen};
+ghost use Rattle.balance.specs.Balance.{AddsUp};
+ghost use Rattle.pivotal.specs.Pivotal.{HangsOnPivots};
+ghost use Rattle.library.specs.Calls.{LibraryCall};
+ghost use Rattle.library.specs.Lists.{engine_of, requests_in, Opening, engine_opened, AllTyped};
+ghost use Rattle.wordclaims.specs.Claims.{left_after, PassesOn};
+
+/// What an accepted certify or accept took, alone, for a guest or in a batch, can be passed on with the endorsers that it was taken with.
+pub fn stored_passes_on()
+    ensures { (x : Opening) (l : List LibraryCall) → AllTyped l → (p : Content) (d : ℕ) → StoredThen (engine_opened x) (requests_in l) p d → (o : List ℕ) → held_length ≤ length o → PassesOn (left_after x l) p d o }
+{}
+
+/// In all words that the library leaves weights add up.
+pub fn weights_add_up()
+    ensures { (x : Opening) (l : List LibraryCall) → AllTyped l → AddsUp (engine_of (left_after x l)) }
+{}
+
+/// Where a commit would be accepted, it hangs on exactly its pivots.
+#[tactic(auto, using(crate::proofs::ClaimLaws::commits_hang_over_words))]
+pub fn commits_hang_on_pivots()
+    ensures { (x : Opening) (l : List LibraryCall) → AllTyped l → refusal_for (engine_of (left_after x l)) commit ≡ 0 → HangsOnPivots (engine_of (left_after x l)) }
+{}
