@@ -1,20 +1,35 @@
 -- Laws of how a batch begins: with an empty window of committees, and ready for its turns where it is accepted.
 use mathlib.Core.Path.{◌≡◌, refl}
-use mathlib.Core.Bool.{Bool, true, false, cond}
+use mathlib.Core.Logic.{◌≢◌}
+use mathlib.Core.Bool.{Bool, true, false, cond, false≢true, true≢false}
 use mathlib.Core.List.{List}
 use Prim.Native.Nat.{ℕ, ◌+◌, ◌<◌}
 use native.Mathlib.Omega.{arith}
 use lib.Dec.{eqb}
 use borrow.Author.Tests.{eqb-true}
+use Rattle.std.specs.Prelude.{Result, Ok, Err}
+use Rattle.std.specs.Result.{is_err}
 use Rattle.running.specs.Caches.{first_round}
 use Rattle.state.specs.declared.State.{State}
 use Rattle.state.proofs.FormedLaws.{formed}
+use Rattle.refusals.specs.declared.Refusal.{Refusal}
+use Rattle.refusals.specs.Refusals.{refusal_in}
+use Rattle.refusals.proofs.RefusalLaws.{some-number}
 use Rattle.batch.specs.Batch.{batch_refusal}
 use Rattle.batch.proofs.BatchLaws.{batch-passed}
 use Rattle.batching.specs.declared.offering.Progress.{Progress}
 use Rattle.batching.specs.TakenTurns.{Ready}
 use Rattle.batching.specs.Begun.{fresh_stage}
 use Rattle.state.specs.States.{own_body}
+
+-- an answer that is an error has a number, and any other has none
+pub err-some : {A : Type 0} (r : Result A Refusal) → is_err r ≡ true → refusal_in r ≢ 0
+err-some (Ok x) h = absurd (false≢true h)
+err-some (Err e) h = some-number e
+
+pub ok-none : {A : Type 0} (r : Result A Refusal) → is_err r ≡ false → refusal_in r ≡ 0
+ok-none (Ok x) h = refl
+ok-none (Err e) h = absurd (true≢false h)
 
 -- where turns are taken the batch is not refused, and it has a record
 pub some-turns : {r n k : ℕ} → k ≡ cond (eqb r 0) (n + n) 0 → 0 < k → (r ≡ 0) × (0 < n)

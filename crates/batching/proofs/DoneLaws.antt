@@ -17,6 +17,7 @@ use Rattle.state.specs.Answers.{if_accepted}
 use Rattle.state.proofs.AnswerLaws.{if_accepted-old, if_accepted-new}
 use Rattle.engine.specs.Guests.{batch_needs}
 use Rattle.words.specs.States.{state_reads, state_in}
+use Rattle.refusals.specs.Refusals.{refusal_in}
 use Rattle.batch.specs.Batch.{batch_refusal, tried_table, answer_at}
 use Rattle.batch.proofs.BatchLaws.{batch-refused, batch-table, batch-answers}
 use Rattle.hosting.specs.Calls.{plain, Done, refused}
@@ -44,12 +45,12 @@ module _ (k : ℕ) (w t : List ℕ) (row : List CertificateRecord) (answers : Li
   counted = room.count
 
   -- what is asked where the answers are put
-  pub put-asks : x.refusal ≡ 0 → (r.stage.count ≤ 64) × (r.stage.count ≤ length answers)
+  pub put-asks : refusal_in x.checked ≡ 0 → (r.stage.count ≤ 64) × (r.stage.count ≤ length answers)
   put-asks z = rw counted (b.few z)
 
   -- ---- accepted
 
-  module _ (z : x.refusal ≡ 0) where
+  module _ (z : refusal_in x.checked ≡ 0) where
     caller : k ≡ 0
     caller = go (eqb k 0) refl (sym b.refusal ∙ z)
       where
@@ -57,7 +58,7 @@ module _ (k : ℕ) (w t : List ℕ) (row : List CertificateRecord) (answers : Li
         go true e f = eqb-true k 0 e
         go false e f = f
 
-    number : x.refusal ≡ cond (state_reads w) (batch_refusal (state_in w) t (length row) (length answers)) 1
+    number : refusal_in x.checked ≡ cond (state_reads w) (batch_refusal (state_in w) t (length row) (length answers)) 1
     number = rw (eq-eqb k 0 caller) at b.refusal
 
     can_read : state_reads w ≡ true
@@ -73,48 +74,48 @@ module _ (k : ℕ) (w t : List ℕ) (row : List CertificateRecord) (answers : Li
     -- the turns, from a fresh stage
     all : (u ≡ tried_table (state_in w) (row_of row) t) × ((q : ℕ) → q < length row → get_or r.stage.answers q 0 ≡ answer_at (state_in w) (row_of row) t q)
     all =
-        let n = rw (eq-eqb x.refusal 0 z) at b.turns in
+        let n = rw (eq-eqb (refusal_in x.checked) 0 z) at b.turns in
         let y = all-turns row (state_in w) (b.few z).0 t in
         let e = rw (b.state z, n, b.stage) at ran.stage in
         let f = rw (b.state z, n, b.stage) at ran.table in
         (f ∙ y.0, λ q h. ap (λ (g : Stage). get_or g.answers q 0) e ∙ y.1 q h)
 
-    taken : {m : ℕ} {out : List ℕ} → m ≡ x.refusal → out ≡ if_accepted x.refusal (paste answers 0 r.stage.answers r.stage.count) answers → Done plain (answered w t row answers) m w u out
+    taken : {m : ℕ} {out : List ℕ} → m ≡ refusal_in x.checked → out ≡ if_accepted (refusal_in x.checked) (paste answers 0 r.stage.answers r.stage.count) answers → Done plain (answered w t row answers) m w u out
     taken e o =
         record {
           its-answer = e ∙ z ∙ sym accepted;
           its-state = refl;
           its-table = all.0 ∙ sym (batch-table (state_in w) t (row_of row) answers accepted);
-          its_out = o ∙ if_accepted-new x.refusal _ answers z ∙ rw counted (put_same answers r.stage.answers (tab (answer_at (state_in w) (row_of row) t) (length row)) (length row) (omega (arith, room.room, (b.few z).0, length-replicate {A = ℕ} 64 0)) (omega (arith, length-tab (answer_at (state_in w) (row_of row) t) (length row))) (λ i h. all.1 i h ∙ sym (get_d_tab (answer_at (state_in w) (row_of row) t) (length row) i 0 h)))
+          its_out = o ∙ if_accepted-new (refusal_in x.checked) _ answers z ∙ rw counted (put_same answers r.stage.answers (tab (answer_at (state_in w) (row_of row) t) (length row)) (length row) (omega (arith, room.room, (b.few z).0, length-replicate {A = ℕ} 64 0)) (omega (arith, length-tab (answer_at (state_in w) (row_of row) t) (length row))) (λ i h. all.1 i h ∙ sym (get_d_tab (answer_at (state_in w) (row_of row) t) (length row) i 0 h)))
               ∙ sym (batch-answers (state_in w) t (row_of row) answers accepted);
         }
 
   -- ---- the whole
 
-  pub batch-done : (m : ℕ) (out : List ℕ) → m ≡ x.refusal → out ≡ if_accepted x.refusal (paste answers 0 r.stage.answers r.stage.count) answers → Done plain (cond (eqb k 0) (batch_result w t row answers) (refused w t answers k)) m w u out
+  pub batch-done : (m : ℕ) (out : List ℕ) → m ≡ refusal_in x.checked → out ≡ if_accepted (refusal_in x.checked) (paste answers 0 r.stage.answers r.stage.count) answers → Done plain (cond (eqb k 0) (batch_result w t row answers) (refused w t answers k)) m w u out
   unfolding batch_result
-  batch-done m out e o = go (ℕ_discrete x.refusal 0)
+  batch-done m out e o = go (ℕ_discrete (refusal_in x.checked) 0)
     where
       -- refused: no turn is taken
-      still : x.refusal ≢ 0 → u ≡ t
-      still z = rw (rw (ne_eqb x.refusal 0 z) at b.turns) at ran.table ∙ (ran_none row x.state x.progress.stage t).1
+      still : refusal_in x.checked ≢ 0 → u ≡ t
+      still z = rw (rw (ne_eqb (refusal_in x.checked) 0 z) at b.turns) at ran.table ∙ (ran_none row x.state x.progress.stage t).1
 
-      not_taken : x.refusal ≢ 0 → (c : Bool) → x.refusal ≡ cond c (batch_refusal (state_in w) t (length row) (length answers)) 1 → Done plain (cond c (answered w t row answers) (refused w t answers 1)) m w u out
+      not_taken : refusal_in x.checked ≢ 0 → (c : Bool) → refusal_in x.checked ≡ cond c (batch_refusal (state_in w) t (length row) (length answers)) 1 → Done plain (cond c (answered w t row answers) (refused w t answers 1)) m w u out
       not_taken z true y =
           let k = batch-refused (state_in w) t (row_of row) answers (λ q. z (y ∙ q)) in
-          record { its-answer = e ∙ y; its-state = refl; its-table = still z ∙ sym k.0; its_out = o ∙ if_accepted-old x.refusal _ answers z ∙ sym k.1 }
-      not_taken z false y = record { its-answer = e ∙ y; its-state = refl; its-table = still z; its_out = o ∙ if_accepted-old x.refusal _ answers z }
+          record { its-answer = e ∙ y; its-state = refl; its-table = still z ∙ sym k.0; its_out = o ∙ if_accepted-old (refusal_in x.checked) _ answers z ∙ sym k.1 }
+      not_taken z false y = record { its-answer = e ∙ y; its-state = refl; its-table = still z; its_out = o ∙ if_accepted-old (refusal_in x.checked) _ answers z }
 
-      by-caller : x.refusal ≢ 0 → (c : Bool) → x.refusal ≡ cond c (cond (state_reads w) (batch_refusal (state_in w) t (length row) (length answers)) 1) k → Done plain (cond c (batch_result w t row answers) (refused w t answers k)) m w u out
+      by-caller : refusal_in x.checked ≢ 0 → (c : Bool) → refusal_in x.checked ≡ cond c (cond (state_reads w) (batch_refusal (state_in w) t (length row) (length answers)) 1) k → Done plain (cond c (batch_result w t row answers) (refused w t answers k)) m w u out
       by-caller z true y = not_taken z (state_reads w) y
-      by-caller z false y = record { its-answer = e ∙ y; its-state = refl; its-table = still z; its_out = o ∙ if_accepted-old x.refusal _ answers z }
+      by-caller z false y = record { its-answer = e ∙ y; its-state = refl; its-table = still z; its_out = o ∙ if_accepted-old (refusal_in x.checked) _ answers z }
 
-      go : Dec (x.refusal ≡ 0) → Done plain (cond (eqb k 0) (batch_result w t row answers) (refused w t answers k)) m w u out
+      go : Dec (refusal_in x.checked ≡ 0) → Done plain (cond (eqb k 0) (batch_result w t row answers) (refused w t answers k)) m w u out
       go (yes z) = rw (eq-eqb k 0 (caller z), can_read z) (taken z e o)
       go (no z) = by-caller z (eqb k 0) b.refusal
 
 -- a guest's, where c is the caller's number
 pub guest-batch-done : (c : ℕ) (w t : List ℕ) (row : List CertificateRecord) (answers : List ℕ) (x : Start) (r : Progress) (u : List ℕ) → Begun (caller_number w c batch_needs) w t (length row) (length answers) x → Ran row x.state x.turns t x.progress r u
-    → (m : ℕ) (out : List ℕ) → m ≡ x.refusal → out ≡ if_accepted x.refusal (paste answers 0 r.stage.answers r.stage.count) answers → Done plain (as_guest w t answers c batch_needs (batch_result w t row answers)) m w u out
+    → (m : ℕ) (out : List ℕ) → m ≡ refusal_in x.checked → out ≡ if_accepted (refusal_in x.checked) (paste answers 0 r.stage.answers r.stage.count) answers → Done plain (as_guest w t answers c batch_needs (batch_result w t row answers)) m w u out
 unfolding as_guest
 guest-batch-done c w t row answers x r u b ran m out e o = batch-done (caller_number w c batch_needs) w t row answers x r u b ran m out e o

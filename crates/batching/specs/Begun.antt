@@ -1,6 +1,7 @@
 -- How a batch begins: the checks, and the stage before the first turn.
 use Rattle.std.specs.Prelude.{◌≡◌, false, cond, List, ℕ, ◌+◌, ◌<◌, ◌≤◌, replicate, eqb}
 use Rattle.words.specs.States.{state_reads, state_in}
+use Rattle.refusals.specs.Refusals.{refusal_in}
 use Rattle.batch.specs.Batch.{batch_refusal}
 use Rattle.batching.specs.declared.offering.Stage.{Stage}
 use Rattle.batching.specs.TakenTurns.{Ready}
@@ -12,10 +13,10 @@ fresh_stage n = record { count = n; seen = 0; place = 0; rounds = replicate 64 0
 
 -- a batch of n records, with room for so many answers, has begun with x; k is the number that refuses its caller, 0 for none and for the host
 pub record Begun (k : ℕ) (w t : List ℕ) (n room : ℕ) (x : Start) : Type 0 where
-  pub refusal : x.refusal ≡ cond (eqb k 0) (cond (state_reads w) (batch_refusal (state_in w) t n room) 1) k
+  pub refusal : refusal_in x.checked ≡ cond (eqb k 0) (cond (state_reads w) (batch_refusal (state_in w) t n room) 1) k
   -- two turns for each record, none where it is refused
-  pub turns : x.turns ≡ cond (eqb x.refusal 0) (n + n) 0
+  pub turns : x.turns ≡ cond (eqb (refusal_in x.checked) 0) (n + n) 0
   pub stage : x.progress.stage ≡ fresh_stage n
-  pub state : x.refusal ≡ 0 → x.state ≡ state_in w
-  pub few : x.refusal ≡ 0 → (n ≤ 64) × (n ≤ room)
+  pub state : refusal_in x.checked ≡ 0 → x.state ≡ state_in w
+  pub few : refusal_in x.checked ≡ 0 → (n ≤ 64) × (n ≤ room)
   pub ready : 0 < x.turns → Ready n x.state t x.progress

@@ -12,6 +12,7 @@ ghost use Rattle.std.specs.Prelude.{◌≡◌, cond, ◌+◌, ◌≤◌, eqb, le
 ghost use Rattle.std.proofs.Math.Seq.{paste};
 ghost use Rattle.running.specs.Caches.{first_round};
 ghost use Rattle.state.specs.Answers.{if_accepted};
+ghost use Rattle.refusals.specs.Refusals.{refusal_in};
 ghost use Rattle.batch.specs.Batch.{batch_refusal};
 ghost use Rattle.terms.specs.Rights.{caller_refusal};
 ghost use Rattle.engine.specs.Guests.{batch_needs};
@@ -20,14 +21,15 @@ ghost use Rattle.batching.specs.Begun.{fresh_stage, Begun};
 
 use crate::offering::{Progress, Stage};
 use hosting::guesting;
+use refusals::Refusal;
 use running::cache;
 use state::State;
 use terms::rights::Right;
 
-// The refusal's number, 0 for none, the state, how many turns are to be taken, and what they start from.
+// What the checks give, the state, how many turns are to be taken, and what they start from.
 #[derive(Clone, Copy)]
 pub struct Start {
-    pub refusal: u32,
+    pub checked: Result<(), Refusal>,
     pub state: State,
     pub turns: usize,
     pub progress: Progress,
@@ -52,31 +54,32 @@ fn fresh(n: usize) -> Progress
     Progress { stage, cache }
 }
 
-// The number of the first check that refuses, 0 for none.
-fn batch_refusal(s: State, t: &[u32], n: usize, room: usize) -> u32
-    ensures { result ≡ batch_refusal s t.now n room }
+// The checks of a batch in their order: the first that fails refuses it.
+#[tactic(auto, unfolding(base::specs::Checks::refusal, batch::specs::Batch::batch_refusal))]
+fn check(s: State, t: &[u32], n: usize, room: usize) -> Result<(), Refusal>
+    ensures { refusal_in result ≡ batch_refusal s t.now n room }
 {
     if !state::well_formed(s, t) {
-        return 1;
+        return Err(Refusal::Malformed);
     }
     if 64 < n {
-        return 25;
+        return Err(Refusal::ListTooShort);
     }
     if room < n {
-        return 25;
+        return Err(Refusal::ListTooShort);
     }
-    0
+    Ok(())
 }
 
 // Two turns for each record, none where the batch is refused.
-fn turns_for(refusal: u32, n: usize) -> usize
-    requires { refusal ≡ 0 → n ≤ 64 }
-    ensures { result ≡ cond (eqb refusal 0) (n + n) 0 }
+fn turns_for(checked: Result<(), Refusal>, n: usize) -> usize
+    requires { refusal_in checked ≡ 0 → n ≤ 64 }
+    ensures { result ≡ cond (eqb (refusal_in checked) 0) (n + n) 0 }
 {
-    if refusal == 0 {
-        return n + n;
+    match checked {
+        Ok(()) => n + n,
+        Err(_) => 0,
     }
-    0
 }
 
 // The checks of a batch of n records with room for so many answers, and its start.
@@ -86,16 +89,16 @@ pub fn begin(state: &[u32], t: &[u32], n: usize, room: usize) -> Start
     let progress = fresh(n);
     let Some(s) = words::states::state(state) else {
         return Start {
-            refusal: 1,
+            checked: Err(Refusal::Malformed),
             state: open::closed(),
             turns: 0,
             progress,
         };
     };
-    let refusal = batch_refusal(s, t, n, room);
-    let turns = turns_for(refusal, n);
+    let checked = check(s, t, n, room);
+    let turns = turns_for(checked, n);
     Start {
-        refusal,
+        checked,
         state: s,
         turns,
         progress,
@@ -106,12 +109,12 @@ pub fn begin(state: &[u32], t: &[u32], n: usize, room: usize) -> Start
 pub fn begin_guest(caller: u32, state: &[u32], t: &[u32], n: usize, room: usize) -> Start
     ensures { Begun (caller_refusal (rights_in state.now) batch_needs caller) state.now t.now n room result }
 {
-    let barred = hosting::plain(guesting::check(state, Right::Sign, caller));
-    if barred != 0 {
+    let checked = guesting::check(state, Right::Sign, caller);
+    if checked.is_err() {
         let progress = fresh(n);
         let closed = open::closed();
         return Start {
-            refusal: barred,
+            checked,
             state: closed,
             turns: 0,
             progress,
@@ -121,10 +124,11 @@ pub fn begin_guest(caller: u32, state: &[u32], t: &[u32], n: usize, room: usize)
 }
 
 // Puts the answers, each at its place, where the batch is not refused; gives the refusal's number.
-pub fn put_answers(refusal: u32, w: Progress, answers: &mut [u32]) -> u32
-    requires { refusal ≡ 0 → (w.stage.count ≤ 64) × (w.stage.count ≤ length answers.old) }
-    ensures { (result ≡ refusal) × (answers.new ≡ if_accepted refusal (paste answers.old 0 w.stage.answers w.stage.count) answers.old) }
+pub fn put_answers(checked: Result<(), Refusal>, w: Progress, answers: &mut [u32]) -> u32
+    requires { refusal_in checked ≡ 0 → (w.stage.count ≤ 64) × (w.stage.count ≤ length answers.old) }
+    ensures { (result ≡ refusal_in checked) × (answers.new ≡ if_accepted (refusal_in checked) (paste answers.old 0 w.stage.answers w.stage.count) answers.old) }
 {
+    let refusal = hosting::plain(checked);
     if refusal != 0 {
         return refusal;
     }

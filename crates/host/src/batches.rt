@@ -19,7 +19,7 @@ pub extern "C" fn forgelilac_batch(
 {
     let start = batching::begin(state, table, row.len(), answers.len());
     let done = trying::run(table, row, start.state, start.progress, start.turns);
-    batching::put_answers(start.refusal, done, answers)
+    batching::put_answers(start.checked, done, answers)
 }
 
 // A guest's batch needs the right to sign; refused by it, nothing is tried.
@@ -35,5 +35,5 @@ pub extern "C" fn forgelilac_guest_batch(
 {
     let start = batching::begin_guest(caller, state, table, row.len(), answers.len());
     let done = trying::run(table, row, start.state, start.progress, start.turns);
-    batching::put_answers(start.refusal, done, answers)
+    batching::put_answers(start.checked, done, answers)
 }

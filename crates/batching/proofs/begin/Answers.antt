@@ -16,12 +16,12 @@ returns-in_default c = record {
 }
 
 pub turns_for-turns-requires : goal.turns_for-turns-requires
-turns_for-turns-requires c = λ z. (batch-passed _ _ _ _ (sym c.batch_refusal-refusal.ensures ∙ z)).1
+turns_for-turns-requires c = λ z. (batch-passed _ _ _ _ (sym c.check-checked.ensures ∙ z)).1
 
 pub returns : goal.returns
 returns c = let e = c.in-Some.ensures.0 in
     let q = c.in-Some.ensures.1 in
-    let b = c.batch_refusal-refusal.ensures in
+    let b = c.check-checked.ensures in
     let f = c.fresh-progress.ensures in
     record {
       refusal = rw (e, ← q) b;

@@ -3,15 +3,17 @@ use mathlib.Core.Logic.{◌≢◌}
 use Prim.Native.Nat.{ℕ}
 use native.Mathlib.Omega.{arith}
 use borrow.Author.Tests.{ne_eqb}
+use Rattle.refusals.specs.Refusals.{refusal_in}
 use Rattle.batching.specs.Begun.{Begun}
+use Rattle.batching.proofs.BeginLaws.{err-some, ok-none}
 use Rattle.batching.proofs.begin_guest.Goals as goal
 
-pub returns-then-barred-ne0 : goal.returns-then-barred-ne0
-returns-then-barred-ne0 c = let n = c.plain-barred in
-    let h : n.result ≢ 0 = c.if-barred-ne0.true in
+pub returns-then-is_err : goal.returns-then-is_err
+returns-then-is_err c = let n = c.check-checked in
+    let h : refusal_in n.result ≢ 0 = err-some n.result (sym c.is_err.ensures.value ∙ c.if-is_err.true) in
     record {
-      refusal = rw (← (n.ensures ∙ c.check.ensures), ne_eqb n.result 0 h) refl;
-      turns = rw (ne_eqb n.result 0 h) refl;
+      refusal = rw (← n.ensures, ne_eqb (refusal_in n.result) 0 h) refl;
+      turns = rw (ne_eqb (refusal_in n.result) 0 h) refl;
       stage = c.fresh-progress.ensures.0;
       state = λ z. absurd (h z);
       few = λ z. absurd (h z);
@@ -20,4 +22,5 @@ returns-then-barred-ne0 c = let n = c.plain-barred in
 
 pub returns : goal.returns
 returns c = let a = c.args in
-    subst (λ (k : ℕ). Begun k a.state.now a.t.now a.n a.room c.begin.result) (sym c.if-barred-ne0.false ∙ c.plain-barred.ensures ∙ c.check.ensures) c.begin.ensures
+    let n = c.check-checked in
+    subst (λ (k : ℕ). Begun k a.state.now a.t.now a.n a.room c.begin.result) (sym (ok-none n.result (sym c.is_err.ensures.value ∙ c.if-is_err.false)) ∙ n.ensures) c.begin.ensures

@@ -1,4 +1,4 @@
-use mathlib.Core.Path.{◌≡◌, refl, sym}
+use mathlib.Core.Path.{◌≡◌, refl, sym, ◌∙◌}
 use native.Mathlib.Omega.{arith}
 use lib.ListN.{length, length-set}
 use lib.Seq.{paste-zero}
@@ -10,25 +10,25 @@ use Rattle.batching.proofs.put_answers.Goals as goal
 
 pub returns-then-refusal-ne0 : goal.returns-then-refusal-ne0
 unfolding if_accepted
-returns-then-refusal-ne0 c = (refl, rw (ne_eqb _ _ c.if-refusal-ne0.true) refl)
+returns-then-refusal-ne0 c = let e = c.plain-refusal.ensures in (e, rw (← e, ne_eqb _ _ c.if-refusal-ne0.true) refl)
 
 pub loop-i-init : goal.loop-i-init
 loop-i-init c = record { count = omega arith; words = paste-zero c.args.answers.now 0 c.args.w.stage.answers; size = refl }
 
 pub offset_bounds-given-i : goal.offset_bounds-given-i
-offset_bounds-given-i c = let f = c.requires c.if-refusal-ne0.false in omega (arith, f.0, f.1, c.loop-i.invariant.size, c.loop-i-test.true)
+offset_bounds-given-i c = let f = c.requires (sym c.plain-refusal.ensures ∙ c.if-refusal-ne0.false) in omega (arith, f.0, f.1, c.loop-i.invariant.size, c.loop-i-test.true)
 
 pub bounds-given-i : goal.bounds-given-i
-bounds-given-i c = let f = c.requires c.if-refusal-ne0.false in omega (arith, f.0, f.1, c.loop-i.invariant.size, c.loop-i-test.true)
+bounds-given-i c = let f = c.requires (sym c.plain-refusal.ensures ∙ c.if-refusal-ne0.false) in omega (arith, f.0, f.1, c.loop-i.invariant.size, c.loop-i-test.true)
 
 pub offset_bounds-answers-i : goal.offset_bounds-answers-i
-offset_bounds-answers-i c = let f = c.requires c.if-refusal-ne0.false in omega (arith, f.0, f.1, c.loop-i.invariant.size, c.loop-i-test.true)
+offset_bounds-answers-i c = let f = c.requires (sym c.plain-refusal.ensures ∙ c.if-refusal-ne0.false) in omega (arith, f.0, f.1, c.loop-i.invariant.size, c.loop-i-test.true)
 
 pub bounds-answers-i : goal.bounds-answers-i
-bounds-answers-i c = let f = c.requires c.if-refusal-ne0.false in omega (arith, f.0, f.1, c.loop-i.invariant.size, c.loop-i-test.true)
+bounds-answers-i c = let f = c.requires (sym c.plain-refusal.ensures ∙ c.if-refusal-ne0.false) in omega (arith, f.0, f.1, c.loop-i.invariant.size, c.loop-i-test.true)
 
 pub loop-i-preserved : goal.loop-i-preserved
-loop-i-preserved c = let f = c.requires c.if-refusal-ne0.false in
+loop-i-preserved c = let f = c.requires (sym c.plain-refusal.ensures ∙ c.if-refusal-ne0.false) in
     let x = c.loop-i in
     let l : length c.args.w.stage.answers ≡ 64 = search rules in
     record {
@@ -39,6 +39,6 @@ loop-i-preserved c = let f = c.requires c.if-refusal-ne0.false in
 
 pub returns : goal.returns
 unfolding if_accepted
-returns c = let z = c.if-refusal-ne0.false in
+returns c = let z = sym c.plain-refusal.ensures ∙ c.if-refusal-ne0.false in
     let e : c.loop-i.i ≡ c.args.w.stage.count = omega (arith, c.loop-i.invariant.count) in
     (sym z, rw (eq-eqb _ _ z, ← e) c.loop-i.invariant.words)
