@@ -79,9 +79,9 @@ extern "C" {
 #define FORGELILAC_PREVIEW_WORDS(ceiling) (48u * (ceiling))
 
 /* Bytes of stack that serve every call and every function below on x86-64; examples/stack.c
- * measures what they use. Preview uses about 88 KB, commit and batch about 84 KB, draw about 82 KB,
- * critical and propose about 81 KB, endorse, certify, accept, advance, committee, share, bond effect
- * and a port read 75 to 77 KB, forgelilac_chain about 3 KB, the others less than 1.5 KB; a guest's form
+ * measures what they use. Preview uses about 90 KB, commit and batch about 85 KB, critical about 83 KB,
+ * accept and a port read about 79 KB, propose, draw, endorse, certify, advance, committee, share and
+ * bond effect 75 to 77 KB, forgelilac_chain about 2 KB, the others less than 1.2 KB; a guest's form
  * little more than the host's call. */
 #define FORGELILAC_STACK_BYTES 98304
 

@@ -1,4 +1,4 @@
-// The checks of an accept, and the committees cached for them.
+//! The checks of an accept, and the committees cached for them.
 
 ghost use Rattle.std.specs.Prelude.{◌≡◌, true, ◌≤◌, ◌<◌, OnOk};
 ghost use Rattle.base.specs.Checks.{refusal};
@@ -26,7 +26,7 @@ fn holds_same(v: &View, p: Proposal) -> bool
     store::held(v.table, p.author, p.round) && store::record::is_same(v.table, p)
 }
 
-// The checks of a well-formed state: 4, 5, 6, 7, 14, 16, 17, 8, 9, 13, 11.
+/// The checks of a well-formed state, in this order: 4, 5, 6, 7, 14, 16, 17, 8, 9, 13, 11.
 #[tactic(auto, unfolding(base::specs::Checks::refusal, rules::specs::Tests::signers_of))]
 pub fn check(v: &View, c: Certificate) -> Result<(), Refusal>
     ensures refusal { refusal_in result ≡ refusal (accepting (settings_of v.now) (shown v.now) (content_of c.proposal) c.endorsers) }

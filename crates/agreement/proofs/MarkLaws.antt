@@ -30,23 +30,6 @@ module _ {P : Type 0} (d : ℕ → ℕ → Option P) where
       ap₂ ◌∷◌ (λ i. record { round = r; holds = λ a q. f (suc (length l)) a q (omega arith) (omega arith) i })
       (same_blocks m n l λ j a q p h. f j a q p (omega arith))
 
--- more certificates leave the chain, where only held places are marked
-pub same_certificates : {P : Type 0} (d e : ℕ → ℕ → Option P) (m : ℕ → ℕ → ℕ) (l : List ℕ) → ((a q : ℕ) → 0 < m a q → d a q ≡ e a q)
-    → marked_chain d m l ≡ marked_chain e m l
-unfolding marked_chain
-same_certificates d e m [] f = refl
-same_certificates {P} d e m (r ∷ l) f = ap₂ ◌∷◌ (λ i. record { round = r; holds = λ a q. alike a q (eqb (m a q) (suc (length l))) refl i }) (same_certificates d e m l f)
-  where
-    alike : (a q : ℕ) (b : Bool) → eqb (m a q) (suc (length l)) ≡ b → ◌≡◌ {A = Option P} (cond b (d a q) none) (cond b (e a q) none)
-    alike a q true h = let k = eqb-true (m a q) (suc (length l)) h in f a q (omega arith)
-    alike a q false h = refl
-
--- one block for each anchor
-pub rounds-count : (R : Rules) (rs : List ℕ) (l : List R.P) → length (rounds_of R rs l) ≡ length l + length rs
-unfolding rounds_of
-rounds-count R rs [] = omega arith
-rounds-count R rs (x ∷ l) = omega (arith, rounds-count R rs l)
-
 module _ {R : Rules} (s : View R) where
   open R use {P, round}
 

@@ -12,7 +12,7 @@ use Rattle.agreement.specs.Dag.{Closed}
 use Rattle.agreement.specs.Places.{put}
 use Rattle.agreement.specs.Links.{Link, ReachesLast, Linked, LastElected}
 use Rattle.agreement.specs.Invariants.{Certified, Storing, Invariant, Sound}
-use Rattle.agreement.specs.Moves.{Extension, first_block, next-block, Move, other-call, propose, endorse, certify, accept, advance, commit}
+use Rattle.agreement.specs.Moves.{Extension, first_block, next-block, Move, certify, accept, commit}
 use Rattle.agreement.proofs.DagLaws.{at_place}
 use Rattle.agreement.proofs.AnchorPaths.{anchor_path}
 use Rattle.agreement.proofs.PlaceLaws.{put_only}
@@ -46,13 +46,9 @@ module _ {R : Rules} {correct : ℕ → Bool} {w : World R} {G : Log R} (S : Sou
 
   -- each certificate after a move is in order
   admissible : {t : View R} {m : List P} → Move correct G k (w k) (G k) t m → (a r : ℕ) (p : P) → t.dag a r ≡ some p → Admissible correct G (w k) a r p
-  admissible other-call a r q h = held-admissible h
-  admissible (propose p ek er f g) a r q h = held-admissible h
-  admissible (endorse p n e f g) a r q h = held-admissible h
   admissible (certify p e f b) a r q h = put-admissible p (mine.signing.signable p (mine.signing.proposed p e).0).closed b a r q h
   admissible (accept p f c b) a r q h = put-admissible p c b a r q h
-  admissible advance a r q h = held-admissible h
-  admissible (commit c x e) a r q h = held-admissible h
+  admissible c a r q h = held-admissible h
 
   storing-kept : {t : View R} {m : List P} → Grows (w k) t → Move correct G k (w k) (G k) t m → Storing correct G t
   storing-kept g v =
@@ -77,13 +73,8 @@ module _ {R : Rules} {correct : ℕ → Bool} {w : World R} {G : Log R} (S : Sou
 
   -- the chain after a move is linked, with an elected top, already in the world before it
   pub new-chain : {t : View R} {m : List P} → Move correct G k (w k) (G k) t m → Linked (w k) t.chain × LastElected (w k) t.chain
-  new-chain other-call = (mine.ordering.linked, mine.ordering.elected)
-  new-chain (propose p ek er f g) = (mine.ordering.linked, mine.ordering.elected)
-  new-chain (endorse p n e f g) = (mine.ordering.linked, mine.ordering.elected)
-  new-chain (certify p e f b) = (mine.ordering.linked, mine.ordering.elected)
-  new-chain (accept p f c b) = (mine.ordering.linked, mine.ordering.elected)
-  new-chain advance = (mine.ordering.linked, mine.ordering.elected)
   new-chain (commit c x e) = (extension_linked x, e)
+  new-chain c = (mine.ordering.linked, mine.ordering.elected)
 
   pub invariant-kept : {t : View R} {m : List P} → Move correct G k (w k) (G k) t m → Invariant correct G k t m
   invariant-kept v =

@@ -19,13 +19,9 @@ use Rattle.agreement.proofs.Growth.{Grows, signable-grows}
 -- what was signed stays signed
 pub signed-stays : {R : Rules} {correct : ℕ → Bool} {G : Log R} {k : ℕ} {s t : View R} {l m : List R.P}
     → Move correct G k s l t m → (x : R.P) → Among x l → Among x m
-signed-stays other-call x h = h
 signed-stays (propose p ek er f g) x h = Memᴰ.tail h
 signed-stays (endorse p n e f g) x h = Memᴰ.tail h
-signed-stays (certify p e f b) x h = h
-signed-stays (accept p f c b) x h = h
-signed-stays advance x h = h
-signed-stays (commit c v e) x h = h
+signed-stays c x h = h
 
 module _ {R : Rules} (Y : Lawful R) {k : ℕ} (s : View R) (l : List R.P) (X : Signing s k l) where
   open R use {P, author, round}

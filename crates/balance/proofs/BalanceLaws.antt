@@ -19,14 +19,14 @@ use Rattle.running.proofs.TotalBound.{committee-total}
 use Rattle.state.specs.Formed.{Formed}
 use Rattle.state.proofs.FormedLaws.{formed}
 use Rattle.engine.specs.Engine.{Engine}
-use Rattle.engine.specs.Reached.{Intact}
+use Rattle.engine.specs.Reached.{Intact, Reached}
 use Rattle.engine.proofs.ReachedLaws.{intact}
 use Rattle.nonforking.specs.Statement.{Knows}
 use Rattle.balance.proofs.LedgerLaws.{weights_after, bonded-journal, member_adds}
 use Rattle.balance.proofs.TotalLaws.{total_adds}
 use Rattle.balance.proofs.JournalLaws.{all-below, journal-fit}
 use Rattle.balance.proofs.ListedLaws.{journal_listed}
-use Rattle.balance.specs.Balance.{chain_to, transactions_to, round_after, AddsUpTo, AddsUp, WeightsAddUp}
+use Rattle.balance.specs.Balance.{chain_to, transactions_to, round_after, AddsUpTo, AddsUp}
 
 module _ (e : Engine) (r : Intact e) where
   abbrev S : Settings
@@ -82,5 +82,6 @@ module _ (e : Engine) (r : Intact e) where
         shown = journal_listed S (chain_to e blocks);
       }
 
-pub weights_add_up : WeightsAddUp
+-- of every engine that calls from an accepted open lead to
+pub weights_add_up : (e : Engine) → Reached e → AddsUp e
 weights_add_up e r = adds_up e (intact r)

@@ -6,7 +6,9 @@ use Rattle.agreement.specs.Listing.{listing}
 use Rattle.terms.specs.declared.Transaction.{Transaction}
 use Rattle.terms.specs.Proposals.{Content}
 use Rattle.committee.specs.Committees.{ordered}
-use Rattle.balance.specs.Ledger.{entered, entered_of, journal, transactions_of_all, listed_transactions, JournalListed}
+use Rattle.balance.specs.Ledger.{entered, entered_of, journal, transactions_of_all, listed_transactions}
+use Rattle.terms.specs.declared.sheet.Settings.{Settings}
+use Rattle.agreement.specs.Rules.{Chain}
 
 entered-then : (l m e : List Transaction) → entered (l ++ m) e ≡ entered m (entered l e)
 unfolding entered
@@ -27,7 +29,8 @@ listed-one : (r : ℕ) (l : List Content) → listed_transactions ((r, l) ∷ []
 unfolding listed_transactions
 listed-one r l = append-nil (transactions_of_all l)
 
-pub journal_listed : JournalListed
+-- the journal is what the listing shows, newest first
+pub journal_listed : (S : Settings) (c : Chain Content) → journal S c ≡ entered (listed_transactions (listing (ordered S) c)) []
 unfolding journal listing entered listed_transactions
 journal_listed S [] = refl
 journal_listed S (b ∷ c) =

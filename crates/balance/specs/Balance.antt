@@ -7,7 +7,6 @@ use Rattle.terms.specs.Proposals.{Content}
 use Rattle.terms.specs.Ranges.{weight_in}
 use Rattle.committee.specs.Chain.{chain_of}
 use Rattle.engine.specs.Engine.{Engine}
-use Rattle.engine.specs.Reached.{Reached}
 use Rattle.nonforking.specs.Statement.{listed, Knows, weights}
 use Rattle.balance.specs.Ledger.{entered, journal, listed_transactions, bonded_to, released_from, bonded_all, released_all}
 
@@ -44,7 +43,3 @@ pub record AddsUp (e : Engine) : Type 0 where
   pub bounded : (r : ℕ) → total 16 (weights e r) ≤ 81536000
   -- the transactions are those that the chain's listing shows
   pub shown : transactions_to e e.state.blocks ≡ entered (listed_transactions (listed e)) []
-
--- the claim, of every engine that calls from an accepted open lead to
-abbrev pub WeightsAddUp : Type 0
-WeightsAddUp = (e : Engine) → Reached e → AddsUp e

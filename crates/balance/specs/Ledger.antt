@@ -1,7 +1,6 @@
 -- The ledger of a chain: what its transactions, in the chain's order, bond and release (docs/RULES.md, "Weights that add up").
-use Rattle.std.specs.Prelude.{◌≡◌, Bool, false, cond, List, [], ◌∷◌, ◌++◌, ℕ, ◌+◌, eqb}
+use Rattle.std.specs.Prelude.{Bool, false, cond, List, [], ◌∷◌, ◌++◌, ℕ, ◌+◌, eqb}
 use Rattle.agreement.specs.Rules.{Chain}
-use Rattle.agreement.specs.Listing.{listing}
 use Rattle.terms.specs.declared.Transaction.{Transaction}
 use Rattle.terms.specs.declared.Transaction.TheVariants.{Bond, Unbond, Entry}
 use Rattle.terms.specs.Transactions.{amount_of}
@@ -37,10 +36,6 @@ transactions_of_all (p ∷ l) = p.transactions ++ transactions_of_all l
 unfoldable pub listed_transactions : List (ℕ × List Content) → List Transaction
 listed_transactions [] = []
 listed_transactions (x ∷ l) = transactions_of_all x.1 ++ listed_transactions l
-
--- the journal is what the listing shows, newest first
-abbrev pub JournalListed : Type 0
-JournalListed = (S : Settings) (c : Chain Content) → journal S c ≡ entered (listed_transactions (listing (ordered S) c)) []
 
 -- ---- one member
 

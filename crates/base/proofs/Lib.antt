@@ -8,7 +8,6 @@ pub mod SumLaws
 pub mod SetLaws
 pub mod UnionLaws
 pub mod PasteLaws
-pub mod FillLaws
 pub mod Ranges
 pub mod FromFn
 pub mod PutLaws

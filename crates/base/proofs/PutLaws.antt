@@ -1,12 +1,11 @@
 -- Laws of what is put into a list from a place on: the rest of the list stays as it was.
 use mathlib.Core.Path.{◌≡◌, refl, ◌∙◌}
 use mathlib.Core.List.{List, [], ◌∷◌, ◌++◌}
-use Prim.Native.Nat.{ℕ, suc, ◌+◌, ◌≤◌, ◌<◌}
+use Prim.Native.Nat.{ℕ, suc, ◌+◌, ◌≤◌}
 use native.Mathlib.Omega.{arith}
 use native.Mathlib.Nat.{add-zero, add-suc, suc-add}
-use lib.ListN.{length, get_or, take, set, length-append}
-use native.Mathlib.Numerals.{add-one}
-use lib.Seq.{sets, take-suc, take_all, length-take-le}
+use lib.ListN.{length, set, length-append}
+use lib.Seq.{sets}
 use Rattle.base.specs.Puts.{Puts}
 
 -- i of n rounds of a loop have put bytes, and the buffer kept its length
@@ -37,19 +36,6 @@ puts-more {t} {u} {at} {next} {l} {m} x p k h =
     let q : Puts u (set u next x) next (next + 1) (x ∷ []) 1 = record { bytes = refl; past = refl; room = omega arith } in
     let r = puts_then p q in
     record { bytes = r.bytes; past = r.past; room = h }
-
--- the bytes of w copied one by one
-pub puts_copy : {t : List ℕ} {u : List ℕ} {at : ℕ} (w : List ℕ) (i : ℕ) → i < length w → Puts t u at (at + i) (take i w) i → Puts t (set u (at + i) (get_or w i 0)) at (at + (i + 1)) (take (i + 1) w) (i + 1)
-puts_copy {t} {u} {at} w i h p =
-    let e : at + (i + 1) ≡ at + i + 1 = omega arith in
-    let l = length-take-le i w (omega arith) in
-    rw (e, add-one i, take-suc w i 0 h) (puts-more (get_or w i 0) p (suc i) (rw (length-append (take i w) (get_or w i 0 ∷ [])) (omega arith)))
-
-pub puts-all : {t : List ℕ} {u : List ℕ} {at : ℕ} (w : List ℕ) (i : ℕ) → i ≡ length w → Puts t u at (at + i) (take i w) i → Puts t u at (at + i) w (length w)
-puts-all {t} {u} {at} w i e p =
-    let q = take_all i w (omega arith) in
-    let r = rw q at p in
-    record { bytes = r.bytes; past = r.past; room = omega arith }
 
 -- a larger bound
 pub puts-within : {t : List ℕ} {u : List ℕ} {at : ℕ} {next : ℕ} {l : List ℕ} {m : ℕ} (n : ℕ) → m ≤ n → Puts t u at next l m → Puts t u at next l n

@@ -1,26 +1,13 @@
 -- Laws of tests over the numbers below a bound.
 use mathlib.Core.Path.{◌≡◌, refl, sym, ◌∙◌}
-use mathlib.Core.Bool.{Bool, true, false, not, ◌&&◌, ◌||◌, and-false, and_comm, or-true, false≢true, true≢false}
-use mathlib.Core.Logic.{⊎_elim}
-use native.Mathlib.Nat.{eq-or-lt_of_le, le_refl}
+use mathlib.Core.Bool.{Bool, true, false, not, ◌&&◌, ◌||◌, and_comm, or-true, false≢true, true≢false}
+use native.Mathlib.Nat.{le_refl}
 use native.Mathlib.Decide.{ℕ_discrete}
-use Prim.Native.Nat.{ℕ, zero, suc, ◌+◌, ◌<◌, ◌≤◌}
+use Prim.Native.Nat.{ℕ, zero, suc, ◌<◌, ◌≤◌}
 use native.Mathlib.Omega.{arith}
-use native.Mathlib.Numerals.{add-one}
 use Rattle.base.proofs.Bools.{both}
 use Rattle.base.specs.Folds.{all_to, any_to}
 use Rattle.base.proofs.Ranges.{all_none, all_next, any_none, any_next}
-
-pub all_more : (f : ℕ → Bool) (n : ℕ) → all_to f (n + 1) ≡ (all_to f n && f n)
-all_more f n = rw (add-one n) (all_next f n)
-
--- one that fails is enough
-pub all_fails : (f : ℕ → Bool) (n i : ℕ) → i < n → f i ≡ false → all_to f n ≡ false
-all_fails f zero i h e = absurd (omega arith)
-all_fails f (suc n) i h e = all_next f n ∙ ⊎_elim (λ (q : i ≡ n). rw (← q, e) (and-false (all_to f i))) (λ l. rw (all_fails f n i l e)) (eq-or-lt_of_le (le h))
-  where
-    le : i < suc n → i ≤ n
-    le l = omega arith
 
 -- where all hold, each does
 pub all-at : (f : ℕ → Bool) (n i : ℕ) → i < n → all_to f n ≡ true → f i ≡ true
@@ -49,27 +36,6 @@ all-high f (suc n) z h high = all_next f n ∙ go (ℕ_discrete z (suc n)) (λ l
     go : Dec (z ≡ suc n) → (z ≤ n → all_to f n ≡ all_to f z) → (all_to f n && f n) ≡ all_to f z
     go (yes p) k = rw p (sym (all_next f n))
     go (no p) k = rw (high n (omega arith), and_comm (all_to f n) true) (k (omega arith))
-
--- n tests, of which the first i hold
-pub record AllSoFar (f : ℕ → Bool) (n i : ℕ) : Type 0 where
-  pub so_far : i ≤ n
-  pub hold : all_to f i ≡ true
-
-pub all_start : (f : ℕ → Bool) (n : ℕ) → AllSoFar f n 0
-all_start f n = record { so_far = omega arith; hold = all_none f }
-
-module _ {f : ℕ → Bool} {n i : ℕ} where
-  pub all-next : AllSoFar f n i → i < n → f i ≡ true → AllSoFar f n (i + 1)
-  all-next p h e = record { so_far = omega arith; hold = all_more f i ∙ rw (p.hold, e) refl }
-
-  pub all_done : AllSoFar f n i → n ≤ i → all_to f n ≡ true
-  all_done p h =
-      let q = p.so_far in
-      let e : i ≡ n = omega arith in
-      rw e at p.hold
-
-pub any_more : (f : ℕ → Bool) (n : ℕ) → any_to f (n + 1) ≡ (any_to f n || f n)
-any_more f n = rw (add-one n) (any_next f n)
 
 -- some holds exactly where not all fail
 pub any_all : (f : ℕ → Bool) (n : ℕ) → any_to f n ≡ not (all_to (λ i. not (f i)) n)

@@ -21,8 +21,8 @@ use Rattle.batch.specs.Turns.{Key, leaves}
 use Rattle.batch.specs.Order.{earlier, OneTurnEach}
 use Rattle.batch.proofs.OrderLaws.{each_has_one_turn, round-of-earlier}
 use Rattle.batch.proofs.AnswerLaws.{Parts, leaves-join, leaves-one, turns_keep, turn-parts, turn_low, turn-later, answer-once}
-use Rattle.batch.specs.Batch.{Row, turns_of, number_on, table_after, tried_table, answer_at}
-use Rattle.batch.specs.Again.{RowReads, FilledBy, AgainAs, ElevenAgainOrSeventeen}
+use Rattle.batch.specs.Batch.{Row, turns_of, number_on, table_after, tried_table, answer_at, batch_refusal}
+use Rattle.batch.specs.Again.{RowReads, FilledBy, AgainAs}
 use Rattle.batch.proofs.BatchLaws.{accept_of, accept-ruled, accept-shows, accept-left, row-range, leaves-formed, refused-still, batch-passed}
 use Rattle.batch.proofs.FrozenLaws.{Eleven, got_eleven, not_same, Filled, Frozen, frozen_same, accept-frozen, again-frozen}
 use Rattle.state.specs.States.{own_body}
@@ -183,6 +183,7 @@ module _ (s : State) (low : (own_body s).previous < 65536) (row : Row) (reads : 
       go h (inl e) = absurd (true≢false (sym h ∙ ap is_held e ∙ then_eleven.free))
       go h (inr f) = filled-by f
 
--- the claim
-pub eleven_again_or_seventeen : ElevenAgainOrSeventeen
+-- of an accepted batch
+pub eleven_again_or_seventeen : (s : State) (t : List ℕ) (row : Row) (room : ℕ) → RowReads row → (own_body s).previous < 65536 → batch_refusal s t row.count room ≡ 0
+    → (q : ℕ) (c : Certificate) → q < row.count → (row.at q).certificate ≡ some c → answer_at s row t q ≡ 11 → AgainAs s row t q c
 eleven_again_or_seventeen s t row room reads low h q c there offered answer = again s low row reads t (batch-passed s t row.count room h).0 q c there offered answer

@@ -7,8 +7,7 @@ use Rattle.store.specs.Table.{held_at, content_at}
 use Rattle.state.specs.declared.State.{State}
 use Rattle.accept.specs.Accept.{accept_refusal}
 use Rattle.batch.specs.Order.{earlier}
-use Rattle.batch.specs.Batch.{Row, key_of, tried_table, answer_at, batch_refusal}
-use Rattle.state.specs.States.{own_body}
+use Rattle.batch.specs.Batch.{Row, key_of, tried_table, answer_at}
 
 -- a certificate that can be read is tried by its own round and author, and its sets are 16-bit numbers
 pub record RowReads (row : Row) : Type 0 where
@@ -32,8 +31,3 @@ module _ (s : State) (row : Row) (t : List ℕ) where
   pub record AgainAs (q : ℕ) (c : Certificate) : Type 0 where
     pub number : accept_refusal s (tried_table s row t) c ≡ cond (held_at (tried_table s row t) c.proposal.author.0 c.proposal.round.0) 17 11
     pub filled : held_at (tried_table s row t) c.proposal.author.0 c.proposal.round.0 ≡ true → (i : ℕ) × (d : Certificate) × FilledBy q c i d
-
--- the claim, of an accepted batch
-abbrev pub ElevenAgainOrSeventeen : Type 0
-ElevenAgainOrSeventeen = (s : State) (t : List ℕ) (row : Row) (room : ℕ) → RowReads row → (own_body s).previous < 65536 → batch_refusal s t row.count room ≡ 0
-    → (q : ℕ) (c : Certificate) → q < row.count → (row.at q).certificate ≡ some c → answer_at s row t q ≡ 11 → AgainAs s row t q c

@@ -16,7 +16,7 @@ use Rattle.state.specs.declared.State.{State}
 use Rattle.accept.specs.Accept.{accept_refusal}
 use Rattle.words.specs.States.{state_reads, state_in}
 use Rattle.words.specs.Proposals.{certificate_reads, certificate_in}
-use Rattle.words.proofs.ReadingLaws.{set-read}
+use Rattle.words.proofs.ReadingLaws.{state-read}
 use Rattle.engine.specs.Calls.{accept}
 use Rattle.hosting.specs.Calls.{Result, engine_in, refused, answered, result_of}
 use Rattle.hosting.proofs.CallLaws.{no_out}
@@ -31,7 +31,7 @@ use Rattle.batching.specs.Rows.{no_record, record_words, certificate_of, row_of}
 use Rattle.batching.proofs.RecordLaws.{row_reads}
 use Rattle.batching.specs.Batched as batched
 use Rattle.batching.specs.Batched.{batch_result}
-use Rattle.batching.specs.Claims.{accept_answer, left_by, record_of, AtItsTurn, AnsweredAsAccept, OfferedAgain}
+use Rattle.batching.specs.Claims.{accept_answer, left_by, record_of, AtItsTurn}
 
 -- what accept answers to a record: 1 where its words cannot be read
 accept-answer : (w t : List ℕ) → state_reads w ≡ true → (e : CertificateRecord) → accept_answer w t e ≡ if_there (certificate_of e) 1 (accept_refusal (state_in w) t)
@@ -91,10 +91,11 @@ module _ (w t : List ℕ) (row : List CertificateRecord) (answers : List ℕ) (a
         answer = answer-left q h ∙ answer-once one p.former q p.latter p.whole (table_after s (row_of row)) (number_on s (row_of row)) t ∙ sym (accept-answer w (left_by w t row answers p.former) can_read (record_of w t row answers q));
       }
 
-pub answered_as_accept : AnsweredAsAccept
+-- the claims, of every accepted batch
+pub answered_as_accept : (w t : List ℕ) (row : List CertificateRecord) (answers : List ℕ) → (batch_result w t row answers).refusal ≡ 0 → (q : ℕ) → q < length row → AtItsTurn w t row answers q
 answered_as_accept w t row answers a q h = at-its-turn w t row answers a q h
 
-pub offered_again : OfferedAgain
+pub offered_again : (w t : List ℕ) (row : List CertificateRecord) (answers : List ℕ) → (batch_result w t row answers).refusal ≡ 0 → (q : ℕ) → q < length row → get_or (batch_result w t row answers).out q 0 ≡ 11 → let u = (batch_result w t row answers).table in let e = get_or row q no_record in accept_answer w u e ≡ cond (held_at u e.author e.round) 17 11
 offered_again w t row answers a q h e = rw (table-left w t row answers a) (go (certificate_of d) refl)
   where
     d : CertificateRecord
@@ -113,5 +114,5 @@ offered_again w t row answers a q h e = rw (table-left w t row answers a) (go (c
         absurd (omega arith)
     go (some c) x =
         let r = row_reads row in
-        let y = eleven_again_or_seventeen (state_in w) t (row_of row) (length answers) r (set-read w reads) (accepted w t row answers a) q c h x (sym (answer-left w t row answers a q h) ∙ e) in
+        let y = eleven_again_or_seventeen (state_in w) t (row_of row) (length answers) r (state-read w reads).set (accepted w t row answers a) q c h x (sym (answer-left w t row answers a q h) ∙ e) in
         accept-answer w left reads d ∙ ap (λ (o : Option Certificate). if_there o 1 (accept_refusal (state_in w) left)) x ∙ y.number ∙ ap (λ (k : Key). cond (held_at left k.author k.round) 17 11) (sym (r.keyed q c x))

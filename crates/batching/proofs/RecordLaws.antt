@@ -23,14 +23,14 @@ unfolding record_words
 length_record e h = length-append ((e.author ∷ e.round ∷ []) ++ e.body) (e.endorsers ∷ []) ∙ ap (λ (z : ℕ). z + 1) (length-append (e.author ∷ e.round ∷ []) e.body ∙ ap (λ (z : ℕ). 2 + z) h)
 
 -- the pieces of a record's words, one after the other
-pub record_put : (e : CertificateRecord) → length e.body ≡ 14 → (t : List ℕ) → length t ≡ 17
-    → paste (paste (paste t 0 (e.author ∷ e.round ∷ []) 2) 2 e.body 14) 16 (e.endorsers ∷ []) 1 ≡ record_words e
+pub record_put : (e : CertificateRecord) (t : List ℕ) → length e.body ≡ 14 → length t ≡ 17
+    → paste (paste (paste t 0 (e.author ∷ e.round ∷ []) 2) 2 e.body (length e.body)) 16 (e.endorsers ∷ []) 1 ≡ record_words e
 unfolding record_words
-record_put e h t n =
+record_put e t h n =
     let head = e.author ∷ e.round ∷ [] in
-    ap (λ (z : List ℕ). paste z 16 (e.endorsers ∷ []) 1) (paste-append t 0 head e.body 2 14 refl (omega arith))
+    rw h (ap (λ (z : List ℕ). paste z 16 (e.endorsers ∷ []) 1) (paste-append t 0 head e.body 2 14 refl (omega arith))
     ∙ paste-append t 0 (head ++ e.body) (e.endorsers ∷ []) 16 1 (length-append head e.body ∙ ap (λ (z : ℕ). 2 + z) h) (omega arith)
-    ∙ paste-whole t (head ++ e.body ++ (e.endorsers ∷ [])) 17 n (length_record e h)
+    ∙ paste-whole t (head ++ e.body ++ (e.endorsers ∷ [])) 17 n (length_record e h))
 
 -- a record whose words cannot be read offers nothing, and one whose words can be read their certificate
 pub offers_nothing : (e : CertificateRecord) → certificate_reads (record_words e) ≡ false → certificate_of e ≡ none

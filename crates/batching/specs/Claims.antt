@@ -1,6 +1,5 @@
--- What is claimed of a host's accepted batch: each record gets what accept would have answered at its turn, and one that got 11 gets 11 again, or 17.
-use Rattle.std.specs.Prelude.{◌≡◌, cond, List, [], ◌∷◌, ◌++◌, ℕ, ◌<◌, length, get_or}
-use Rattle.store.specs.Table.{held_at}
+-- What the claims of a host's accepted batch speak of (batching::theorems): what accept would have answered to a record at its turn.
+use Rattle.std.specs.Prelude.{◌≡◌, List, [], ◌∷◌, ◌++◌, ℕ, get_or}
 use Rattle.words.specs.Proposals.{certificate_reads, certificate_in}
 use Rattle.words.specs.States.{state_in}
 use Rattle.engine.specs.Calls.{accept}
@@ -29,11 +28,3 @@ module _ (w t : List ℕ) (row : List CertificateRecord) (answers : List ℕ) wh
     pub latter : List ℕ
     pub turn : turns_of (row_of row) ≡ former ++ (q ∷ latter)
     pub answer : get_or (batch_result w t row answers).out q 0 ≡ accept_answer w (left_by former) (record_of q)
-
--- the claims, of every accepted batch
-abbrev pub AnsweredAsAccept : Type 0
-AnsweredAsAccept = (w t : List ℕ) (row : List CertificateRecord) (answers : List ℕ) → (batch_result w t row answers).refusal ≡ 0 → (q : ℕ) → q < length row → AtItsTurn w t row answers q
-
-abbrev pub OfferedAgain : Type 0
-OfferedAgain = (w t : List ℕ) (row : List CertificateRecord) (answers : List ℕ) → (batch_result w t row answers).refusal ≡ 0 → (q : ℕ) → q < length row → get_or (batch_result w t row answers).out q 0 ≡ 11
-    → let u = (batch_result w t row answers).table in let e = get_or row q no_record in accept_answer w u e ≡ cond (held_at u e.author e.round) 17 11

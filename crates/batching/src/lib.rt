@@ -26,12 +26,16 @@ use running::cache;
 use state::State;
 use terms::rights::Right;
 
-// What the checks give, the state, how many turns are to be taken, and what they start from.
+/// What a batch starts from: what the checks give, the state, how many turns are to be taken, and the progress before the first.
 #[derive(Clone, Copy)]
 pub struct Start {
+    /// The first check that fails, if one does: then no turn is to be taken.
     pub checked: Result<(), Refusal>,
+    /// The state that the words give, where the batch is accepted.
     pub state: State,
+    /// Two for each record, none where the batch is refused.
     pub turns: usize,
+    /// Nothing looked at yet.
     pub progress: Progress,
 }
 
@@ -39,16 +43,14 @@ pub struct Start {
 fn fresh(n: usize) -> Progress
     ensures { (result.stage ≡ fresh_stage n) × (first_round result.cache ≡ 4294967296) }
 {
-    let words = [0u32; 64];
-    let left = [false; 64];
     let stage = Stage {
         count: n,
         seen: 0,
         place: 0,
-        rounds: words,
-        authors: words,
-        left,
-        answers: words,
+        rounds: [0; 64],
+        authors: [0; 64],
+        left: [false; 64],
+        answers: [0; 64],
     };
     let cache = [cache::NO_ROUND; 129];
     Progress { stage, cache }
@@ -62,10 +64,7 @@ fn check(s: State, t: &[u32], n: usize, room: usize) -> Result<(), Refusal>
     if !state::well_formed(s, t) {
         return Err(Refusal::Malformed);
     }
-    if 64 < n {
-        return Err(Refusal::ListTooShort);
-    }
-    if room < n {
+    if 64 < n || room < n {
         return Err(Refusal::ListTooShort);
     }
     Ok(())
@@ -82,7 +81,7 @@ fn turns_for(checked: Result<(), Refusal>, n: usize) -> usize
     }
 }
 
-// The checks of a batch of n records with room for so many answers, and its start.
+/// The checks of a batch of n records with room for so many answers, and its start: 1 where the state's words mean none or the state is not well formed, then 25 for more than 64 records or for too little room.
 pub fn begin(state: &[u32], t: &[u32], n: usize, room: usize) -> Start
     ensures { Begun 0 state.now t.now n room result }
 {
@@ -96,47 +95,40 @@ pub fn begin(state: &[u32], t: &[u32], n: usize, room: usize) -> Start
         };
     };
     let checked = check(s, t, n, room);
-    let turns = turns_for(checked, n);
     Start {
         checked,
         state: s,
-        turns,
+        turns: turns_for(checked, n),
         progress,
     }
 }
 
-// The same for a guest: where its caller is refused no turn is to be taken.
+/// The same for a guest: where its caller is refused no turn is to be taken.
 pub fn begin_guest(caller: u32, state: &[u32], t: &[u32], n: usize, room: usize) -> Start
     ensures { Begun (caller_refusal (rights_in state.now) batch_needs caller) state.now t.now n room result }
 {
     let checked = guesting::check(state, Right::Sign, caller);
     if checked.is_err() {
-        let progress = fresh(n);
-        let closed = open::closed();
         return Start {
             checked,
-            state: closed,
+            state: open::closed(),
             turns: 0,
-            progress,
+            progress: fresh(n),
         };
     }
     begin(state, t, n, room)
 }
 
-// Puts the answers, each at its place, where the batch is not refused; gives the refusal's number.
-pub fn put_answers(checked: Result<(), Refusal>, w: Progress, answers: &mut [u32]) -> u32
-    requires { refusal_in checked ≡ 0 → (w.stage.count ≤ 64) × (w.stage.count ≤ length answers.old) }
-    ensures { (result ≡ refusal_in checked) × (answers.new ≡ if_accepted (refusal_in checked) (paste answers.old 0 w.stage.answers w.stage.count) answers.old) }
+/// Puts the answers, each at its place, where the batch is not refused; gives the refusal's number, 0 for none.
+#[tactic(auto, unfolding(state::specs::Answers::if_accepted))]
+pub fn put_answers(checked: Result<(), Refusal>, w: &Progress, answers: &mut [u32]) -> u32
+    requires { refusal_in checked ≡ 0 → (w.now.stage.count ≤ 64) × (w.now.stage.count ≤ length answers.old) }
+    ensures { (result ≡ refusal_in checked) × (answers.new ≡ if_accepted (refusal_in checked) (paste answers.old 0 w.now.stage.answers w.now.stage.count) answers.old) }
 {
     let refusal = hosting::plain(checked);
-    if refusal != 0 {
-        return refusal;
+    if refusal == 0 {
+        let n = w.stage.count;
+        answers[..n].copy_from_slice(&w.stage.answers[..n]);
     }
-    let g = w.stage;
-    let given = g.answers;
-    let n = g.count;
-    for i in 0..n {
-        answers[i] = given[i];
-    }
-    0
+    refusal
 }

@@ -1,4 +1,4 @@
-// The turns of a batch over a lent row of certificate records (docs/RULES.md, "Batches").
+//! The turns of a batch over a lent row of certificate records (docs/RULES.md, "Batches").
 
 ghost use Rattle.std.specs.Prelude.{◌<◌, length, get_or};
 ghost use Rattle.batching.specs.Rows.{no_record};
@@ -11,31 +11,22 @@ use crate::rows::CertificateRecord;
 use state::State;
 
 // The only function that reads the row: it copies an entry, and the entry takes its turn.
-fn try_at(t: &mut [u32], row: &[CertificateRecord], s: State, w: Progress) -> Progress
-    requires { Ready (length row.now) s t.old w }
-    ensures { Taken s t.old w (get_or row.now w.stage.place no_record) result t.new }
+fn try_at(t: &mut [u32], row: &[CertificateRecord], s: &State, w: &mut Progress)
+    requires { Ready (length row.now) s.now t.old w.old }
+    ensures { Taken s.now t.old w.old (get_or row.now w.old.stage.place no_record) w.new t.new }
 {
-    let i = w.stage.place;
-    let e = row[i];
+    let e = row[w.stage.place];
     offering::take_turn(t, s, w, e)
 }
 
-// So many turns.
-pub fn run(
-    t: &mut [u32],
-    row: &[CertificateRecord],
-    s: State,
-    start: Progress,
-    turns: usize,
-) -> Progress
-    requires { 0 < turns → Ready (length row.now) s t.old start }
-    ensures { Ran row.now s turns t.old start result t.new }
+/// So many turns over a row; where there are any, the first must be ready.
+pub fn run(t: &mut [u32], row: &[CertificateRecord], s: &State, w: &mut Progress, turns: usize)
+    requires { 0 < turns → Ready (length row.now) s.now t.old w.old }
+    ensures { Ran row.now s.now turns t.old w.old w.new t.new }
 {
-    let mut w = start;
     let mut k = turns;
     while 0 < k {
-        w = try_at(t, row, s, w);
+        try_at(t, row, s, w);
         k -= 1;
     }
-    w
 }

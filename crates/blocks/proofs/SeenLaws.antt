@@ -41,9 +41,9 @@ below_by t s r a h =
 unfoldable pub see : List ℕ → ℕ → ℕ → List ℕ
 see v r s = set v r (union (get_or v r 0) s)
 
-pub see-is : (v : List ℕ) (r s x : ℕ) → x ≡ union (get_or v r 0) s → set v r x ≡ see v r s
+pub see_is : (v : List ℕ) (r s x : ℕ) → x ≡ union (get_or v r 0) s → set v r x ≡ see v r s
 unfolding see
-see-is v r s x e = rw e refl
+see_is v r s x e = rw e refl
 
 length-see : (v : List ℕ) (r s : ℕ) → length (see v r s) ≡ length v
 unfolding see
@@ -127,14 +127,15 @@ seen_none n t h =
       closed = λ q _ a e. absurd (false≢true (sym (in_none a) ∙ (rw (zeros n (suc q), below_none t (suc q)) at e)));
     }
 
-pub seen-begin : (r s : ℕ) (t v : List ℕ) → r ≤ 1024 → Seen t v v → Seen t v (see v r s)
-seen-begin r s t v l k =
+pub seen_begin : (r s : ℕ) (t v : List ℕ) → r ≤ 1024 → Seen t v v → Seen t v (see v r s)
+seen_begin r s t v l k =
     record { long = k.long; marked = k.marked; closed = λ q h a e. see-old v r s (omega (arith, k.long)) q a (k.closed q h a e) }
 
 -- a block's round does not matter
-pub seen-block : (b r : ℕ) (t v : List ℕ) → Seen t v v → Seen (set_block t b r) v v
-seen-block b r t v k =
+pub seen_block : (b r : ℕ) (t u v : List ℕ) → u ≡ set_block t b r → Seen t v v → Seen u v v
+seen_block b r t u v h k =
     let o = only-block b t b r (omega arith) in
+    rw h
     record {
       long = k.long;
       marked = λ q a e. rw (mark-block t b r a q (in_member (get_or v q 0) a e)) (k.marked q a e);

@@ -1,16 +1,14 @@
 -- What an accepted commit relies on and leaves.
 use mathlib.Core.Path.{◌≡◌, refl, sym, ap, ◌∙◌}
-use mathlib.Core.Bool.{true, false, cond}
+use mathlib.Core.Bool.{true}
 use mathlib.Core.List.{List}
 use Prim.Native.Nat.{ℕ, ◌-◌, ◌<◌, ◌≤◌}
 use native.Mathlib.Omega.{arith}
 use lib.ListN.{length, get_or}
-use lib.Dec.{eqb}
-use borrow.Author.Tests.{eq-eqb}
 use Rattle.base.specs.Checks.{refusal}
 use Rattle.running.specs.BlockChanges.{last_round}
 use Rattle.blocks.specs.Blocks.{commit_table, commit_count}
-use Rattle.blocks.specs.WalkReady.{CommitReady}
+use Rattle.blocks.specs.WalkReady.{CommitReady, CommitMade}
 use Rattle.blocks.proofs.CommitLaws.{commit-stage}
 use Rattle.base.proofs.SetLaws.{in_member}
 use Rattle.state.specs.Formed.{Formed}
@@ -37,9 +35,6 @@ module _ (s : State) (t : List ℕ) where
   blocks_more : Timely s t → (m : ℕ) → m ≡ last_round t s.blocks → (l : List ℕ) → s.blocks ≤ commit_count m (s.round.0 - 1) s.blocks l t
   blocks_more w m i l = (commit-stage m (s.round.0 - 1) s.blocks l t (rw i w.few) (rw i w.above)).more
 
-  pub number-none : well_formed s t ≡ true → 0 ≡ refusal (rules.checks s.settings s.own.0 (view s t) rules.commit) → commit_refusal s t ≡ 0
-  number-none e z = refusal-by s t e ∙ sym z
-
   module _ (ok : commit_refusal s t ≡ 0) where
     pub ready : (l : List ℕ) → l ≡ leaders_for s t → (m : ℕ) → m ≡ last_round t s.blocks → CommitReady t l m (s.round.0 - 1) s.blocks
     ready l i m q =
@@ -54,20 +49,20 @@ module _ (s : State) (t : List ℕ) where
           anchors = record { above = omega (arith, w.above); row = omega (arith, f.long); listed = omega arith; member = led-low f w a.voted l i };
         }
 
-    pub more : (l : List ℕ) → (m : ℕ) → m ≡ last_round t s.blocks → (k : ℕ) → k ≡ commit_count m (s.round.0 - 1) s.blocks l t → s.blocks ≤ k
+    more : (l : List ℕ) → (m : ℕ) → m ≡ last_round t s.blocks → (k : ℕ) → k ≡ commit_count m (s.round.0 - 1) s.blocks l t → s.blocks ≤ k
     more l m q k j = rw j (blocks_more (accepted s t ok).timely m q l)
 
   module _ (l : List ℕ) (i : l ≡ leaders_for s t) (m : ℕ) (q : m ≡ last_round t s.blocks) where
-    pub count : (k : ℕ) → k ≡ commit_count m (s.round.0 - 1) s.blocks l t → k ≡ blocks_then s t
+    count : (k : ℕ) → k ≡ commit_count m (s.round.0 - 1) s.blocks l t → k ≡ blocks_then s t
     unfolding blocks_then
     count k j = j ∙ rw (i, q) refl
 
-    pub table : (u : List ℕ) → u ≡ commit_table m (s.round.0 - 1) s.blocks l t → u ≡ committed_table s t
+    table : (u : List ℕ) → u ≡ commit_table m (s.round.0 - 1) s.blocks l t → u ≡ committed_table s t
     unfolding committed_table
     table u j = j ∙ rw (i, q) refl
 
   module _ (ok : commit_refusal s t ≡ 0) where
-    pub ruled : (k : ℕ) (u : List ℕ) → k ≡ blocks_then s t → s.blocks ≤ k → u ≡ committed_table s t → RulesGive s t (k - s.blocks) (with_blocks s k) u
+    ruled : (k : ℕ) (u : List ℕ) → k ≡ blocks_then s t → s.blocks ≤ k → u ≡ committed_table s t → RulesGive s t (k - s.blocks) (with_blocks s k) u
     ruled k u j h i =
         let n = count-commit s t ok in
         let e : length (ruled_view s t).chain ≡ blocks_then s t = ap (λ (v : MemberView s.settings). length v.chain) (sym (view-commit s t ok)) ∙ n.1 in
@@ -89,3 +84,27 @@ module _ (s : State) (t : List ℕ) where
     -- are those of the rules' commit
     pub rules_give : RulesGive s t (blocks_then s t - s.blocks) (commit_state s t) (commit_table_after s t)
     rules_give = rw (state-then, table-then) (ruled (blocks_then s t) (committed_table s t) refl blocks-grown refl)
+
+-- what the checks let pass, at the view that they looked at, which is that of the state and its table
+pub record Passed (s : State) (t l : List ℕ) : Type 0 where
+  pub accepted : commit_refusal s t ≡ 0
+  pub leaders : l ≡ leaders_for s t
+
+pub passed : {s x : State} {t u l : List ℕ} → (x ≡ s) × (u ≡ t) × (well_formed s t ≡ true) → 0 ≡ refusal (rules.checks x.settings x.own.0 (view x u) rules.commit) → l ≡ leaders_for x u → Passed s t l
+passed {s} {x} {t} {u} k z i = record { accepted = refusal-by s t k.2 ∙ sym (rw (k.0, k.1) at z); leaders = rw (k.0, k.1) at i }
+
+-- what is so when its blocks are made: k blocks, and the table u
+pub record Made (s : State) (t : List ℕ) (k : ℕ) (u : List ℕ) : Type 0 where
+  pub more : s.blocks ≤ k
+  pub added : k - s.blocks ≡ blocks_then s t - s.blocks
+  pub state : with_blocks s k ≡ commit_state s t
+  pub table : u ≡ commit_table_after s t
+  pub ruled : RulesGive s t (k - s.blocks) (with_blocks s k) u
+
+pub made : {s : State} {t l : List ℕ} {m k : ℕ} {u l' : List ℕ} → Passed s t l → m ≡ last_round t s.blocks → CommitMade l m (s.round.0 - 1) s.blocks t k u l' → Made s t k u
+made {s} {t} {l} {m} {k} {u} p q x =
+    let ok = p.accepted in
+    let n = count s t l p.leaders m q k x.count in
+    let v = table s t l p.leaders m q u x.table in
+    let h = more s t ok l m q k x.count in
+    record { more = h; added = ap (λ (j : ℕ). j - s.blocks) n; state = ap (with_blocks s) n ∙ sym (state-then s t ok); table = v ∙ sym (table-then s t ok); ruled = ruled s t ok k u n h v }

@@ -26,12 +26,14 @@ pub fn commit_cached(formed: bool, s: &mut State, t: &mut [u32]) -> Result<u32, 
     ensures table { t.new ≡ commit_table_after s.old t.old }
     ensures ruled { IfOk result (λ n. RulesGive s.old t.old n s.new t.new) }
 {
-    let mut leaders = checks::check(&View::known(formed, &[], s, t)?)?;
+    let mut leaders = [0u32; 1025];
+    checks::check(&View::known(formed, &[], s, t)?, &mut leaders)?;
     let blocks = s.blocks;
     let last = bonded::last_round(t, blocks);
     let top = Round(s.round.0 - 1);
     s.blocks = making::commit_blocks(t, &mut leaders, last, top, blocks);
-    Ok(s.blocks - blocks)
+    let added = s.blocks - blocks;
+    Ok(added)
 }
 
 /// Adds the blocks of a commit; the value is their number.

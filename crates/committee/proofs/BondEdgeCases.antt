@@ -7,6 +7,6 @@ use Rattle.committee.specs.Edges.{agree}
 use Rattle.committee.specs.BondEffects.{shares_of, largest_to, bond_effect}
 use Rattle.committee.specs.BondEdges.{sole, alike, heavy, before, after, cases}
 
-pub edges : agree cases ≡ true
+pub bond_edges : agree cases ≡ true
 unfolding agree cases sole alike heavy before after bond_effect shares_of largest_to share_of nearest rounded even_neighbour fold_to sum_to tab
-edges = refl
+bond_edges = refl

@@ -1,5 +1,5 @@
 -- No share moves by more than 1 plus the whole part of 1,000 times the amount divided by the total after the bond.
-use mathlib.Core.Path.{◌≡◌, refl, sym, ◌∙◌}
+use mathlib.Core.Path.{◌≡◌, sym, ◌∙◌}
 use mathlib.Core.Bool.{Bool, true, false, cond}
 use mathlib.Core.List.{List}
 use Prim.Native.Nat.{ℕ, zero, suc, ◌+◌, ◌*◌, ◌<◌, ◌≤◌, max}
@@ -7,18 +7,17 @@ use native.Mathlib.Omega.{arith}
 use native.Mathlib.Decide.{ℕ_discrete, dec_lt}
 use lib.ListN.{length, get_or}
 use lib.Dec.{eqb}
-use Rattle.base.specs.Folds.{fold_to}
 use Rattle.base.proofs.Ranges.{fold_none, fold_next}
-use Rattle.base.proofs.FoldLaws.{get_d_tab, fold_more}
+use Rattle.base.proofs.FoldLaws.{get_d_tab}
 use Rattle.base.proofs.SumLaws.{sum_same, sum_add, sum_at, sum_only}
 use Rattle.terms.specs.declared.sheet.Weight.{Weight}
 use Rattle.terms.specs.Ranges.{weight_in}
-use Rattle.committee.specs.Shares.{share_of, apart}
+use Rattle.committee.specs.Shares.{share_of, apart, PartOf}
 use Rattle.committee.proofs.ShareLaws.{nearest-le}
 use Rattle.committee.proofs.MoveLaws.{moves}
 use Rattle.committee.specs.Totals.{total_in}
 use Rattle.committee.proofs.ChangeLaws.{bond-at}
-use Rattle.committee.specs.BondEffects.{share_in, shares_of, bonded, largest_to, bond_effect, most_moved}
+use Rattle.committee.specs.BondEffects.{share_in, shares_of, bonded, largest_to, bond_effect, most_moved, TotalOf}
 
 pub share-at : (w : List Weight) (i : ℕ) → i < 16 → get_or (shares_of w) i 0 ≡ share_in w i
 unfolding shares_of
@@ -29,15 +28,15 @@ pub share-none : (n : ℕ) → 0 < n → share_of 0 n ≡ 0
 unfolding share_of
 share-none n h = let l = nearest-le (1000 * 0) n 0 h (omega arith) in omega arith
 
+-- each weight is a part of the total
+pub part_of_total : {w : List Weight} {n : ℕ} → TotalOf w n → (i : ℕ) → i < 16 → PartOf (weight_in w i) n
+part_of_total {w} p i h = record { some = p.some; part = omega (arith, sum_at (weight_in w) 16 i h, p.total); bounded = p.bounded }
+
 -- ---- the largest difference
 
-pub largest-none : (x y : List ℕ) → 0 ≡ largest_to 0 x y
+largest_none : (x y : List ℕ) → 0 ≡ largest_to 0 x y
 unfolding largest_to
-largest-none x y = sym (fold_none (λ i d. max d (apart (get_or x i 0) (get_or y i 0))) 0)
-
-pub largest-more : (x y : List ℕ) (n : ℕ) → largest_to (n + 1) x y ≡ max (largest_to n x y) (apart (get_or x n 0) (get_or y n 0))
-unfolding largest_to
-largest-more x y n = fold_more _ n 0
+largest_none x y = sym (fold_none (λ i d. max d (apart (get_or x i 0) (get_or y i 0))) 0)
 
 largest_next : (x y : List ℕ) (n : ℕ) → largest_to (suc n) x y ≡ max (largest_to n x y) (apart (get_or x n 0) (get_or y n 0))
 unfolding largest_to
@@ -45,7 +44,7 @@ largest_next x y n = fold_next (λ i d. max d (apart (get_or x i 0) (get_or y i 
 
 -- where none is above b, neither is the largest
 pub largest-le : (x y : List ℕ) (b n : ℕ) → ((i : ℕ) → i < n → apart (get_or x i 0) (get_or y i 0) ≤ b) → largest_to n x y ≤ b
-largest-le x y b zero h = omega (arith, largest-none x y)
+largest-le x y b zero h = omega (arith, largest_none x y)
 largest-le x y b (suc n) h = let p = largest-le x y b n (λ i l. h i (omega arith)) in let q = h n (omega arith) in rw (largest_next x y n) (omega arith)
 
 -- none is above it
@@ -65,7 +64,7 @@ larger-before m d l = omega arith
 
 -- and one is it
 pub is-largest : (x y : List ℕ) (n : ℕ) → (i : ℕ) × (i < suc n) × (apart (get_or x i 0) (get_or y i 0) ≡ largest_to (suc n) x y)
-is-largest x y zero = (0, omega arith, rw (largest_next x y 0, ← largest-none x y) (omega arith))
+is-largest x y zero = (0, omega arith, rw (largest_next x y 0, ← largest_none x y) (omega arith))
 is-largest x y (suc n) = rw (largest_next x y (suc n)) (go (dec_lt (largest_to (suc n) x y) (apart (get_or x (suc n) 0) (get_or y (suc n) 0))) (is-largest x y n))
   where
     go : Dec (largest_to (suc n) x y < apart (get_or x (suc n) 0) (get_or y (suc n) 0)) → (i : ℕ) × (i < suc n) × (apart (get_or x i 0) (get_or y i 0) ≡ largest_to (suc n) x y)
@@ -83,6 +82,8 @@ module _ (w : List Weight) (m a : ℕ) (l : length w ≡ 16) (h : m < 16) where
       let t = sum_add (λ i. cond (eqb m i) a 0) (weight_in w) 16 in
       let u = (sum_only (λ i. a) m 16).1 h in
       omega arith
+
+  pub ruleset after_bond = total-bonded
 
   pub effect-le : 0 < total_in w → (bond_effect m a w).largest ≤ most_moved (total_in w) a
   unfolding bond_effect

@@ -2,7 +2,7 @@
 use mathlib.Core.Path.{◌≡◌, refl, ◌∙◌}
 use mathlib.Core.Bool.{Bool, true, false, cond}
 use mathlib.Core.List.{List}
-use Prim.Native.Nat.{ℕ, zero, suc, ◌+◌, ◌*◌, ◌%◌, ◌<◌, ◌≤◌}
+use Prim.Native.Nat.{ℕ, zero, suc, ◌+◌, ◌%◌, ◌<◌, ◌≤◌}
 use native.Mathlib.Omega.{arith}
 use native.Mathlib.Decide.{dec_lt}
 use lib.ListN.{set}
@@ -16,16 +16,10 @@ use Rattle.terms.specs.Ranges.{weight, weight_in}
 use Rattle.committee.specs.Changes.{change}
 use Rattle.committee.specs.WeightEffects.{effect_of, weight_after}
 
--- once or not at all
-pub at_most : (x k : ℕ) → k ≤ 1 → x * k ≤ x
-at_most x zero h = omega arith
-at_most x (suc zero) h = omega arith
-at_most x (suc (suc k)) h = absurd (omega arith)
-
-pub effect-le : (there : Bool) (kind number : ℕ) → effect_of there kind number ≤ 2
+pub effect_le : (there : Bool) (kind number : ℕ) → effect_of there kind number ≤ 2
 unfolding effect_of
-effect-le false kind number = omega arith
-effect-le true kind number = go (ltb 15 number) (ltb 2 kind) refl
+effect_le false kind number = omega arith
+effect_le true kind number = go (ltb 15 number) (ltb 2 kind) refl
   where
     go : (a b : Bool) → ltb 2 kind ≡ b → cond a 2 (cond b 2 kind) ≤ 2
     go true b e = omega arith
@@ -53,11 +47,11 @@ module _ (number amount : ℕ) (w : List Weight) where
   inside (suc (suc (suc k))) h = rw (read-entry (suc k) number amount, lt-ltb 2 (suc (suc (suc k))) (omega arith)) (still w number amount)
 
   -- the weight of the number's remainder by sixteen, after its effect: the others stay
-  pub effect-changes : (there : Bool) (kind : ℕ)
+  pub effect_changes : (there : Bool) (kind : ℕ)
       → set w (number % 16) (weight (weight_after (effect_of there kind number) amount (weight_in w (number % 16)))) ≡ cond there (change (read_transaction kind number amount) w) w
   unfolding effect_of
-  effect-changes false kind = still w (number % 16) amount
-  effect-changes true kind = go (dec_lt number 16)
+  effect_changes false kind = still w (number % 16) amount
+  effect_changes true kind = go (dec_lt number 16)
     where
       go : Dec (number < 16) → set w (number % 16) (weight (weight_after (effect_of true kind number) amount (weight_in w (number % 16)))) ≡ change (read_transaction kind number amount) w
       go (yes h) = let e : number % 16 ≡ number = omega arith in rw (le-ltb 15 number (omega arith), e) (inside kind h)

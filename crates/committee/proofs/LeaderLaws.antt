@@ -63,14 +63,16 @@ pub leader-odd : (w : ℕ → ℕ) (r : ℕ) → (r % 2 ≡ 0 → ⊥) → leade
 unfolding leader_of
 leader-odd w r h = rw (ne_eqb (r % 2) 0 h) refl
 
-pub leader-early : (w : ℕ → ℕ) (r : ℕ) → r < 2 → leader_of w r ≡ none
+pub leader_early : (w : ℕ → ℕ) (r : ℕ) → r < 2 → leader_of w r ≡ none
 unfolding leader_of
-leader-early w r h = rw (lt-leb 2 r h, and-false (eqb (r % 2) 0)) refl
+leader_early w r h = rw (lt-leb 2 r h, and-false (eqb (r % 2) 0)) refl
 
 -- the leader of an even round from 2 on, by the members as a set
-pub leader-set : (w : List Weight) (r : ℕ) → r % 2 ≡ 0 → 2 ≤ r → leader_of (weight_in w) r ≡ member_at (is_in (member_set w)) (r / 2 % count_below (is_in (member_set w)) 16)
+pub leader_set : (w : List Weight) (r : ℕ) → r % 2 ≡ 0 → 2 ≤ r → leader_of (weight_in w) r ≡ member_at (is_in (member_set w)) (r / 2 % count_below (is_in (member_set w)) 16)
 unfolding leader_of
-leader-set w r e h = rw (set_at w (r / 2 % count_below (is_in (member_set w)) 16), set-count w, eq-eqb (r % 2) 0 e, le-leb 2 r h) refl
+leader_set w r e h = rw (set_at w (r / 2 % count_below (is_in (member_set w)) 16), set-count w, eq-eqb (r % 2) 0 e, le-leb 2 r h) refl
+
+pub ruleset leader_cases = (at_none, leader-odd, leader_early, leader_set)
 
 -- ---- a leader's number
 

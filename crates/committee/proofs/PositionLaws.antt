@@ -73,9 +73,9 @@ below-le set m (suc n) k h = go (set n && eqb (count_below set n) k) (below-le s
     go true l = omega arith
     go false l = l
 
-pub place-le : (s p : ℕ) → place_in s p ≤ 8
+pub place_le : (s p : ℕ) → place_in s p ≤ 8
 unfolding place_in
-place-le s p = below-le (mem s) 8 8 _ (omega arith)
+place_le s p = below-le (mem s) 8 8 _ (omega arith)
 
 -- ---- a set in two parts
 

@@ -1,7 +1,7 @@
 -- Laws of shares: to the nearest thousandth, an exact half to the even one, at most a thousand.
 use mathlib.Core.Path.{◌≡◌, refl, sym}
 use mathlib.Core.Bool.{Bool, true, false, cond}
-use Prim.Native.Nat.{ℕ, zero, suc, ◌+◌, ◌-◌, ◌*◌, ◌/◌, ◌%◌, ◌≤◌, ◌<◌}
+use Prim.Native.Nat.{ℕ, zero, suc, ◌+◌, ◌*◌, ◌/◌, ◌%◌, ◌≤◌, ◌<◌}
 use native.Mathlib.Decide.{dec_lt}
 use native.Mathlib.Omega.{arith}
 use native.Mathlib.Nat.{div-add-mod, mod-lt, mul-le-mul_left, lt_of_mul-lt-mul_left}
@@ -44,18 +44,6 @@ half_even a q n h e = go (a / n) (a % n) (mod-lt a h) (rw (div-add-mod a n) e)
             let m : n * p ≡ n * q = rw j refl in
             rw (le-ltb (2 * r) n (omega arith), le-ltb n (2 * r) (omega arith)) (omega arith)
 
--- the rest, from the whole part
-pub rest : (a n : ℕ) → a - a / n * n ≡ a % n
-rest a n = omega (arith, div-add-mod a n)
-
-pub whole-fits : (a n : ℕ) → a / n * n ≤ a
-whole-fits a n = omega (arith, div-add-mod a n)
-
-pub whole_le : (a n m : ℕ) → 0 < n → a ≤ n * m → a / n ≤ m
-whole_le a n m h l =
-    let u : n * (a / n) < n * (m + 1) = omega (arith, whole-fits a n) in
-    omega (arith, lt_of_mul-lt-mul_left n u)
-
 pub nearest-le : (a n m : ℕ) → 0 < n → a ≤ n * m → nearest a n ≤ m
 nearest-le a n m h l =
     let u : n * nearest a n < n * (m + 1) = omega (arith, (nearest-near a n h).above) in
@@ -69,6 +57,8 @@ share-near w n h = nearest-near (1000 * w) n h
 pub share-le : (w n : ℕ) → 0 < n → w ≤ n → share_of w n ≤ 1000
 unfolding share_of
 share-le w n h l = nearest-le (1000 * w) n 1000 h (omega arith)
+
+pub ruleset share_bound = share-le
 
 -- a number one above another, both near to a / n: an exact half lies between them
 between : (a n s : ℕ) → Near a n s → Near a n (s + 1) → 2 * a ≡ 2 * (n * s) + n

@@ -1,5 +1,5 @@
 -- What a bond does to the shares of a committee (docs/RULES.md, "How far a bond moves the shares").
-use Rattle.std.specs.Prelude.{◌≡◌, List, ℕ, ◌+◌, ◌*◌, ◌/◌, max, ◌<◌, ◌≤◌, get_or, replicate}
+use Rattle.std.specs.Prelude.{◌≡◌, List, ℕ, ◌+◌, ◌*◌, ◌/◌, max, ◌<◌, ◌≤◌, get_or}
 use Rattle.base.specs.Folds.{fold_to, tab}
 use Rattle.terms.specs.declared.Transaction.TheVariants.{Bond}
 use Rattle.terms.specs.declared.sheet.Weight.{Weight}
@@ -28,10 +28,6 @@ largest_to n x y = fold_to (λ i d. max d (apart (get_or x i 0) (get_or y i 0)))
 -- all of it
 unfoldable pub bond_effect : ℕ → ℕ → List Weight → Effect
 bond_effect m a w = record { before = shares_of w; after = shares_of (bonded m a w); largest = largest_to 16 (shares_of w) (shares_of (bonded m a w)) }
-
--- where there is none
-unfoldable pub no_effect : Effect
-no_effect = record { before = replicate 16 0; after = replicate 16 0; largest = 0 }
 
 -- how far a share moves at most, where the total before the bond is n: 1 plus the whole part of 1,000 times a divided by n plus a
 abbrev pub most_moved : ℕ → ℕ → ℕ

@@ -1,4 +1,4 @@
-// Members of a set of eight by position, from a table (docs/RULES.md, "Weights" to "Leader and anchor").
+//! Members of a set of eight by position, from a table (docs/RULES.md, "Weights" to "Leader and anchor").
 
 ghost use Rattle.std.specs.Prelude.{◌≡◌, ◌≤◌};
 ghost use Rattle.committee.specs.Places.{place_table, HasEntry};
@@ -263,25 +263,21 @@ const PLACES: [u8; 2048] = *b"\
     \x01\x02\x03\x04\x05\x06\x07\x08\
     \x00\x01\x02\x03\x04\x05\x06\x07";
 
-// The table, for whoever looks up many to lend: a constant is written out anew wherever it is used.
+/// The table, for whoever looks up many to lend: a constant is written out anew wherever it is used.
+#[tactic(auto, unfolding(crate::specs::Places::place_table))]
 pub fn places() -> [u8; 2048]
     ensures { result ≡ place_table }
 {
     PLACES
 }
 
-// The same number.
-fn wide(x: u8) -> u32
-    ensures { result ≡ x }
-{
-    x as u32
-}
-
-// The number of the member at position p of the set s, 8 for none.
+/// The number of the member at position p of the set s, 8 for none.
+///
+/// It is for sets of members 0 to 7 and positions 0 to 7, and reads the table l.
+#[tactic(auto, using(crate::proofs::Rule::place_rule, crate::proofs::PositionLaws::place_le))]
 pub fn member_in(l: &[u8; 2048], s: u32, p: u32) -> u32
     requires { HasEntry l.now s p }
     ensures { (result ≡ place_in s p) × (result ≤ 8) }
 {
-    let i = s as usize * 8 + p as usize;
-    wide(l[i])
+    l[s as usize * 8 + p as usize] as u32
 }

@@ -1,4 +1,4 @@
-// Committees as sixteen weights: fault bound, quorums, leaders, and a member's share (docs/RULES.md, "Weights" to "Leader and anchor").
+//! Committees as sixteen weights: fault bound, quorums, leaders, and a member's share (docs/RULES.md, "Weights" to "Leader and anchor").
 
 pub mod change;
 pub mod leader;
@@ -16,7 +16,7 @@ use crate::shares;
 use terms::Member;
 use terms::sheet::Weight;
 
-// Is m a member of the committee?
+/// Is member m, 0 to 15, in the committee: has it a weight?
 pub fn is_member(w: &[Weight; 16], m: Member) -> bool
     requires { m.0 < 16 }
     ensures { result ≡ members (weight_in w.now) m.0 }
@@ -24,16 +24,13 @@ pub fn is_member(w: &[Weight; 16], m: Member) -> bool
     0 < w[m.0 as usize].0
 }
 
-// The total weight.
+/// The total weight.
+#[tactic(auto, unfolding(base::specs::Folds::sum_to))]
 pub fn total_weight(w: &[Weight; 16]) -> Weight
     requires { TotalBounded w.now }
     ensures { result.0 ≡ total 16 (weight_in w.now) }
 {
-    let mut sum: u64 = 0;
-    for i in 0..16usize {
-        sum += w[i].0;
-    }
-    Weight(sum)
+    Weight((0..16usize).map(|i| w[i].0).sum())
 }
 
 // What a member adds to the weight of a set.
@@ -42,33 +39,28 @@ fn part(w: &[Weight; 16], set: u32, m: Member) -> Weight
     ensures { result.0 ≡ cond (is_in set m.0) (weight_in w.now m.0) 0 }
 {
     if base::has(set, m.0) {
-        return w[m.0 as usize];
+        w[m.0 as usize]
+    } else {
+        Weight(0)
     }
-    Weight(0)
 }
 
-// The weight of a set of members.
+/// The weight of a set of members. Who is outside the committee weighs nothing.
+#[tactic(auto, unfolding(base::specs::Folds::sum_to))]
 pub fn set_weight(w: &[Weight; 16], set: u32) -> Weight
     requires { TotalBounded w.now }
     ensures { result.0 ≡ weigh 16 (weight_in w.now) (is_in set) }
 {
-    let mut sum: u64 = 0;
-    for i in 0..16u32 {
-        let x = part(w, set, Member(i));
-        sum += x.0;
-    }
-    Weight(sum)
+    Weight((0..16).map(|m| part(w, set, Member(m)).0).sum())
 }
 
-// The fault bound of a total weight, by the margin d.
+/// The fault bound of a total weight n by the margin d, 3 to 5: the whole part of n - 1 divided by d, and 0 of none.
+#[tactic(auto, unfolding(crate::specs::Committees::bound_of))]
 pub fn fault_bound(d: u32, n: Weight) -> Weight
     requires { MarginFits d }
     ensures { result.0 ≡ bound_of d n.0 }
 {
-    if n.0 == 0 {
-        return Weight(0);
-    }
-    Weight((n.0 - 1) / (d as u64))
+    Weight(n.0.saturating_sub(1) / d as u64)
 }
 
 // Is the member in the set, and outside the committee?
@@ -79,7 +71,7 @@ fn is_outsider(w: &[Weight; 16], set: u32, m: Member) -> bool
     base::has(set, m.0) && !is_member(w, m)
 }
 
-// Is somebody of the set outside the committee?
+/// Is somebody of the set outside the committee?
 #[tactic(auto, unfolding(crate::specs::Committees::outsider, base::specs::Folds::any_to))]
 pub fn has_outsider(w: &[Weight; 16], set: u32) -> bool
     ensures { result ≡ outsider (weight_in w.now) (is_in set) }
@@ -87,18 +79,17 @@ pub fn has_outsider(w: &[Weight; 16], set: u32) -> bool
     (0..16).any(|m| is_outsider(w, set, Member(m)))
 }
 
-// Does the set weigh less than a quorum?
+/// Does the set weigh less than a quorum: less than the total minus the fault bound?
+#[tactic(auto, using(crate::proofs::CommitteeLaws::bounds), unfolding(crate::specs::Committees::short, crate::specs::Committees::quorum_weight))]
 pub fn is_short(d: u32, w: &[Weight; 16], set: u32) -> bool
     requires { MarginFits d × TotalBounded w.now }
     ensures { result ≡ short d (weight_in w.now) (is_in set) }
 {
     let n = total_weight(w);
-    let f = fault_bound(d, n);
-    let a = set_weight(w, set);
-    a.0 < n.0 - f.0
+    set_weight(w, set).0 < n.0 - fault_bound(d, n).0
 }
 
-// Is the set a quorum?
+/// Is the set a quorum by the margin d: nobody outside the committee, and of enough weight?
 #[tactic(auto, unfolding(crate::specs::Committees::quorum))]
 pub fn is_quorum(d: u32, w: &[Weight; 16], set: u32) -> bool
     requires { MarginFits d × TotalBounded w.now }
@@ -107,11 +98,13 @@ pub fn is_quorum(d: u32, w: &[Weight; 16], set: u32) -> bool
     !has_outsider(w, set) && !is_short(d, w, set)
 }
 
-// A member's share: its weight in thousandths of the total, to the nearest, an exact half to the even neighbour.
+/// A member's share: its weight in thousandths of the total, to the nearest, an exact half to the even neighbour.
+///
+/// The member has a weight, so the total is above 0.
+#[tactic(auto, using(crate::proofs::CommitteeLaws::part_of_share))]
 pub fn share(w: &[Weight; 16], m: Member) -> u32
     requires { HasShare w.now m.0 }
     ensures { result ≡ share_of (weight_in w.now m.0) (total 16 (weight_in w.now)) }
 {
-    let n = total_weight(w);
-    shares::thousandths(w[m.0 as usize], n)
+    shares::thousandths(w[m.0 as usize], total_weight(w))
 }

@@ -28,18 +28,21 @@ use Rattle.votes.proofs.AnchorLaws.{leader_on}
 use Rattle.votes.proofs.CheckLaws.{Timely, timely, voted, votes-few}
 use Rattle.votes.proofs.AbsenceLaws.{time-same, weight_without, anchor-absent, few-left, enough-left, votes-left}
 use Rattle.critical.specs.Critical.{refusal_without, is_critical}
-use Rattle.critical.specs.Answers.{MayLack, Weighs, InView, Free}
+use Rattle.critical.specs.Answers.{InTime, MayLack, Weighs, InView, Free}
 use Rattle.critical.specs.declared.Weighed.{Weighed}
 
 module _ {s : State} {t : List ℕ} {a q : ℕ} (m : MayLack s t a q) where
   row : Row t q
   row = omega (arith, m.timely.formed.long, m.to)
 
-  pub lacking_formed : Formed s (clear_held t a q)
+  lacking_formed : Formed s (clear_held t a q)
   lacking_formed = absent-kept s t m.timely.formed a q m.member m.from m.to
 
-  pub lacking_timely : refusal (time_checks s (clear_held t a q)) ≡ 0
+  lacking_timely : refusal (time_checks s (clear_held t a q)) ≡ 0
   lacking_timely = time-same s t a q row m.timely.in_time
+
+  pub lacking : InTime s (clear_held t a q)
+  lacking = record { formed = lacking_formed; in_time = lacking_timely }
 
   -- the votes decide
   pub without_votes : refusal_without s t a q ≡ refusal (vote_checks s (clear_held t a q))

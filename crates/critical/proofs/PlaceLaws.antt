@@ -3,8 +3,9 @@ use mathlib.Core.Path.{◌≡◌, refl, ap}
 use mathlib.Core.Bool.{true, false}
 use mathlib.Core.List.{List, [], ◌∷◌, ◌++◌}
 use Prim.Native.Nat.{ℕ, suc, ◌+◌, ◌-◌, ◌*◌}
-use lib.ListN.{length}
+use lib.ListN.{length, set}
 use native.Mathlib.Omega.{arith}
+use Rattle.base.specs.Puts.{Puts}
 use Rattle.state.specs.declared.State.{State}
 use Rattle.critical.specs.Critical.{Place, place_words, is_critical, critical_at, critical_in, critical_places}
 
@@ -14,9 +15,9 @@ words_append [] m = refl
 words_append (x ∷ l) m = ap (λ (w : List ℕ). x.round ∷ x.author ∷ w) (words_append l m)
 
 module _ (s : State) (t : List ℕ) (q : ℕ) where
-  pub place-there : (a : ℕ) → is_critical s t a q ≡ true → place_words (critical_at s t a q) ≡ q ∷ a ∷ []
+  pub place_there : (a : ℕ) → is_critical s t a q ≡ true → place_words (critical_at s t a q) ≡ q ∷ a ∷ []
   unfolding critical_at place_words
-  place-there a e = rw e refl
+  place_there a e = rw e refl
 
   pub place_none : (a : ℕ) → is_critical s t a q ≡ false → place_words (critical_at s t a q) ≡ []
   unfolding critical_at place_words
@@ -41,3 +42,7 @@ words-length (x ∷ l) = omega (arith, words-length l)
 pub places-words : (s : State) (t : List ℕ) → place_words (critical_places s t) ≡ place_words (critical_in s t (s.round.0 - 1) 16) ++ place_words (critical_in s t s.round.0 16)
 unfolding critical_places
 places-words s t = words_append (critical_in s t (s.round.0 - 1) 16) (critical_in s t s.round.0 16)
+
+-- the two words of a place
+pub place_put : (t : List ℕ) (at q a : ℕ) → Puts t (set (set t at q) (at + 1) a) at (at + 2) (q ∷ a ∷ []) 2
+place_put t at q a = let one : at + 1 ≡ suc at = omega arith in record { bytes = rw one refl; past = refl; room = omega arith }

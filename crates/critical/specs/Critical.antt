@@ -47,12 +47,9 @@ module _ (s : State) (t : List ℕ) where
   abbrev pub reading_critical : ℕ → Checks
   reading_critical words = (ltb (words / 2) 32, 25) ∷ rules.checks s.settings s.own.0 (view s t) rules.commit
 
-  -- those before the votes: 25, 19, 20, 8; and 1 before them
+  -- those of a well-formed state before the votes: 25, 19, 20, 8
   abbrev pub late_checks : ℕ → Checks
   late_checks words = (ltb (words / 2) 32, 25) ∷ time_checks s t
-
-  abbrev pub early_checks : ℕ → Checks
-  early_checks words = guarded s t (late_checks words)
 
   unfoldable pub critical_refusal : ℕ → ℕ
   critical_refusal words = refusal (guarded s t (reading_critical words))

@@ -8,22 +8,19 @@ ghost use Rattle.base.specs.Puts.{Puts};
 ghost use Rattle.base.specs.Checks.{refusal};
 ghost use Rattle.refusals.specs.Refusals.{refusal_in};
 ghost use Rattle.store.specs.Table.{Within, mark_at};
-ghost use Rattle.state.specs.View.{view};
-ghost use Rattle.member_view.specs.Views.{settings_of, shown};
 ghost use Rattle.critical.specs.Critical.{place_words, refusal_without, is_critical, critical_at, critical_in, critical_places, critical_refusal, critical_list, late_checks};
 ghost use Rattle.critical.specs.Answers.{InTime, Polls, MayLack, Weighs, Near, InView, Free};
 
 use committee::weighing;
 use member_view::View;
 use refusals::Refusal;
-use running::{bonded, leaders};
 use state::State;
 use store::writes;
 use terms::sheet::Weight;
 use terms::{Member, Round};
 use votes::checks;
 
-// What a commit goes by after the checks of time: what those of the votes answer; the leader of the round before, 16 for none; and the committee of the present round.
+/// What a commit goes by after the checks of time: what those of the votes answer; the leader of the round before, 16 for none; and the committee of the present round.
 #[derive(Clone, Copy)]
 pub struct Polled {
     pub answer: Result<(), Refusal>,
@@ -31,7 +28,7 @@ pub struct Polled {
     pub weights: [Weight; 16],
 }
 
-// What an accepted commit is weighed by: the leader of the round before, and of the present round the committee, its fault bound and the votes.
+/// What an accepted commit is weighed by: the leader of the round before, and of the present round the committee, its fault bound and the votes.
 #[derive(Clone, Copy)]
 pub struct Weighed {
     pub leader: Member,
@@ -46,13 +43,11 @@ fn poll(s: State, t: &[u32]) -> Polled
     ensures { Polls s t.now result }
 {
     let mut leaders = [16u32; 1025];
-    let last = bonded::last_round(t, s.blocks);
-    let top = Round(s.round.0 - 1);
-    let weights = leaders::fill_leaders(t, s.settings, s.blocks, last, top, &mut leaders);
+    let weights = checks::fill_leaders(&s, t, &mut leaders);
     let answer = checks::check_votes(&s, t, &leaders, &weights);
     Polled {
         answer,
-        leader: Member(leaders[top.0 as usize]),
+        leader: Member(leaders[s.round.0 as usize - 1]),
         weights,
     }
 }
@@ -75,12 +70,12 @@ fn is_pivotal(s: State, t: &[u32], x: Weighed, a: Member, q: Round) -> bool
     requires { Weighs s t.now x × (InView s a.0 q.0 × Free t.now a.0 q.0) }
     ensures { result ≡ is_critical s t.now a.0 q.0 }
 {
-    if q.0 != s.round.0 {
-        return a.0 == x.leader.0;
+    if q.0 == s.round.0 {
+        let vote = votes::counting::vote_of(t, &x.weights, q, x.leader, a);
+        x.votes.0 - vote.0 <= x.bound.0
+    } else {
+        a.0 == x.leader.0
     }
-    let w = x.weights;
-    let vote = votes::counting::vote_of(t, &w, q, x.leader, a);
-    x.votes.0 - vote.0 <= x.bound.0
 }
 
 // Is the certificate of a place in a block?
@@ -100,12 +95,14 @@ fn is_critical(s: State, t: &mut [u32], x: Weighed, a: Member, q: Round) -> bool
         return false;
     }
     if is_in_block(t, a, q) {
-        return answer_without(s, t, a, q).is_err();
+        answer_without(s, t, a, q).is_err()
+    } else {
+        is_pivotal(s, t, x, a, q)
     }
-    is_pivotal(s, t, x, a, q)
 }
 
 // One place.
+#[tactic(auto, using(crate::proofs::PlaceLaws::place_put))]
 fn put_place(list: &mut [u32], at: usize, a: Member, q: Round) -> usize
     requires { at + 2 ≤ length list.old }
     ensures { Puts list.old list.new at result (q.0 ∷ a.0 ∷ []) 2 }
@@ -116,6 +113,7 @@ fn put_place(list: &mut [u32], at: usize, a: Member, q: Round) -> usize
 }
 
 // That of a and round q, if the commit hangs on it.
+#[tactic(auto, using(crate::proofs::PlaceLaws::place_there, crate::proofs::PlaceLaws::place_none))]
 fn list_place(
     s: State,
     t: &mut [u32],
@@ -129,9 +127,10 @@ fn list_place(
     ensures { (t.new ≡ t.old) × Puts list.old list.new at result (place_words (critical_at s t.old a.0 q.0)) 2 }
 {
     if is_critical(s, t, x, a, q) {
-        return put_place(list, at, a, q);
+        put_place(list, at, a, q)
+    } else {
+        at
     }
-    at
 }
 
 // Those of round q.
@@ -161,15 +160,12 @@ fn weigh_up(s: State, t: &[u32], p: Polled) -> Weighed
     requires { InTime s t.now × (Polls s t.now p × (refusal_in p.answer ≡ 0)) }
     ensures { Weighs s t.now result }
 {
-    let leader = p.leader;
-    let w = p.weights;
-    let bound = weighing::fault_bound(s.settings.margin, weighing::total_weight(&w));
-    let votes = votes::counting::votes_for(t, &w, s.round, leader);
+    let total = weighing::total_weight(&p.weights);
     Weighed {
-        leader,
-        weights: w,
-        bound,
-        votes,
+        leader: p.leader,
+        weights: p.weights,
+        bound: weighing::fault_bound(s.settings.margin, total),
+        votes: votes::counting::votes_for(t, &p.weights, s.round, p.leader),
     }
 }
 
@@ -184,8 +180,10 @@ fn check(v: &View, words: usize) -> Result<(), Refusal>
     checks::check_time(v)
 }
 
-/// Lists the certificates that a commit hangs on; the value is their number. The table is lent for writing, and is afterwards as it was: a certificate in a block is tried with its bit cleared, and the bit set again.
-#[tactic(auto, unfolding(base::specs::Checks::refusal, state::specs::Answers::if_accepted, crate::specs::Critical::critical_refusal, crate::specs::Critical::critical_list))]
+/// Lists the certificates that a commit hangs on, of the round before and of the present round, by round, then author; the value is their number. The list needs 32 places, of two words each: round and author.
+///
+/// The table is lent for writing, and is afterwards as it was: a certificate in a block is tried with its bit cleared, and the bit set again.
+#[tactic(auto, using(crate::proofs::AnswerLaws::votes_decide), unfolding(base::specs::Checks::refusal, state::specs::Answers::if_accepted, crate::specs::Critical::critical_refusal, crate::specs::Critical::critical_list))]
 pub fn critical(s: &State, t: &mut [u32], list: &mut [u32]) -> Result<u32, Refusal>
     ensures refusal { refusal_in result ≡ critical_refusal s.now t.old (length list.old) }
     ensures value { IfOk result (λ n. n ≡ length (critical_places s.now t.old)) }

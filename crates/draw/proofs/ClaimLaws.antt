@@ -18,10 +18,11 @@ use Rattle.state.proofs.FormedLaws.{formed}
 use Rattle.state.proofs.RefusalLaws.{refusal-formed}
 use Rattle.propose.specs.Propose.{propose_refusal}
 use Rattle.draw.specs.Draw.{draws, drawn_body, draw_refusal}
-use Rattle.draw.specs.Claims.{DrawnSeen, NeverSix}
 use Rattle.draw.proofs.PassedLaws.{first-row}
+use Rattle.std.specs.Prelude.{◌≢◌}
 
-pub drawn_seen : DrawnSeen
+-- what is drawn, in its order, is the transaction list that the usual rules see
+pub drawn_seen : (s : State) (t : List ℕ) (v : ℕ) → well_formed s t ≡ true → transactions_of (drawn_body s t v) ≡ transactions_in (draws s t)
 unfolding drawn_body
 drawn_seen s t v w =
     let f = formed s t w in
@@ -41,7 +42,8 @@ drawn-passes s t v w =
     )
     refl
 
-pub never_six : NeverSix
+-- 6 is no answer: what is drawn is in range and within the allowance
+pub never_six : (s : State) (t : List ℕ) (v : ℕ) → well_formed s t ≡ true → draw_refusal s t v ≢ 6
 unfolding draw_refusal propose_refusal lacks
 never_six s t v w e =
     let b = drawn_body s t v in

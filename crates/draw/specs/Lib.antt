@@ -1,2 +1,1 @@
 pub mod Draw
-pub mod Claims

@@ -13,13 +13,14 @@ use Rattle.state.specs.View.{view}
 use Rattle.state.specs.Refusals.{guarded, refusal_of}
 use Rattle.state.proofs.AnswerLaws.{if_accepted-new, if_accepted-old}
 use Rattle.advance.specs.Advance.{advance_refusal}
-use Rattle.engine.specs.Calls.{Call, opens, propose, endorse, certify, accept, advance, commit, enqueue, draw, port, aside}
+use Rattle.engine.specs.Calls.{Call, opens, advance}
 use Rattle.engine.specs.Engine.{Engine, refusal_for, after}
 use Rattle.engine.proofs.AfterLaws.{refused-same, accepted-new}
-use Rattle.nonforking.specs.Statement.{Prefix, Knows, weights, engine_behaviour}
-use Rattle.earlier.specs.Refusing.{accepted_only, answering_as}
-use Rattle.earlier.specs.Earlier.{earlier_refusal, earlier_after, earlier_behaviour, answered_earlier, MembersRefuseMore, OnlyThinRefused, EarlierRefusedSame, WasAllowedEarlier, AgreementCarriesOver}
+use Rattle.nonforking.specs.Statement.{Prefix, Knows, weights, engine_behaviour, Members, Entry, Run, Agreed, ChainsNeverFork}
+use Rattle.earlier.specs.Refusing.{accepted_only, answering_as, WasAllowed}
+use Rattle.earlier.specs.Earlier.{earlier_refusal, earlier_after, earlier_behaviour, answered_earlier, MembersRefuseMore}
 use Rattle.earlier.proofs.RefusingLaws.{same_engines, runs_were_allowed}
+use Rattle.std.specs.Prelude.{◌≢◌, List}
 
 -- an advance that passes now passed earlier
 advance-passed-earlier : (e : Engine) → refusal_for e advance ≡ 0 → earlier_refusal e advance ≡ 0
@@ -30,18 +31,10 @@ advance-passed-earlier e h =
 
 allowed : (e : Engine) (c : Call) → refusal_for e c ≡ 0 → (earlier_refusal e c ≡ 0) × (earlier_after e c ≡ after e c)
 allowed e (opens own sheet) a = (a, refl)
-allowed e (propose b) a = (a, refl)
-allowed e (endorse p) a = (a, refl)
-allowed e (certify d) a = (a, refl)
-allowed e (accept c) a = (a, refl)
 allowed e advance a =
     let b = advance-passed-earlier e a in
     (b, rw (if_accepted-new (earlier_refusal e advance) (advanced e.state) e.state b, accepted-new e advance a) refl)
-allowed e commit a = (a, refl)
-allowed e (enqueue g x) a = (a, refl)
-allowed e (draw v) a = (a, refl)
-allowed e (port x) a = (a, refl)
-allowed e (aside x) a = (a, refl)
+allowed e c a = (a, refl)
 
 pub members_refuse_more : MembersRefuseMore
 members_refuse_more = record { unchanged = refused-same; allowed = allowed; opens-alike = λ e own sheet. refl }
@@ -55,19 +48,23 @@ first-of false false true d = refl
 first-of false false false true = refl
 first-of false false false false = refl
 
-pub only_thin_refused : OnlyThinRefused
+-- by 8 and 28 of an advance, and by nothing else
+pub only_thin_refused : (e : Engine) → earlier_refusal e advance ≡ answered_earlier (refusal_for e advance)
 unfolding advance_refusal refusal_of
 only_thin_refused e = first-of _ _ _ _
 
-pub earlier_refused_same : EarlierRefusedSame
+-- what was refused earlier changed nothing
+pub earlier_refused_same : (e : Engine) → earlier_refusal e advance ≢ 0 → earlier_after e advance ≡ e
 earlier_refused_same e n = rw (if_accepted-old (earlier_refusal e advance) (advanced e.state) e.state n) refl
 
 -- ---- runs
 
-pub was_allowed_earlier : WasAllowedEarlier
+-- every run of now, its refused calls left out, was allowed earlier
+pub was_allowed_earlier : (R : MembersRefuseMore) (X : Members engine_behaviour) (l : List Entry) → Run X l → WasAllowed R X l
 was_allowed_earlier = runs_were_allowed engine_behaviour earlier_behaviour
 
-pub agreement_carries_over : AgreementCarriesOver
+-- if members never parted by the earlier rules, they never part now
+pub agreement_carries_over : ((X : Members earlier_behaviour) (l : List Entry) → Run X l → Agreed X l) → ChainsNeverFork
 agreement_carries_over h X l r =
     let g = h (answering_as members_refuse_more X) (accepted_only X l) (was_allowed_earlier members_refuse_more X l r).run in
     let s = fun_ext (same_engines engine_behaviour earlier_behaviour members_refuse_more X l) in

@@ -13,7 +13,7 @@ use Rattle.committee.specs.Committees.{bound_of}
 use Rattle.engine.specs.Calls.{Call}
 use Rattle.engine.specs.Engine.{Engine}
 use Rattle.nonforking.specs.Statement.{Behaviour, Members, Entry, engine_after, Knows, weights, Takes, Proposes, Endorses, Made, Signed, Fair, WithinBound, Run}
-use Rattle.earlier.specs.Refusing.{AllAccepted, accepted_only, RefusesMore, answering_as, SameEngines, RunsWereAllowed, CarriesOver}
+use Rattle.earlier.specs.Refusing.{AllAccepted, accepted_only, RefusesMore, answering_as, CarriesOver, WasAllowed}
 
 module _ {E D : Behaviour} (R : RefusesMore E D) (X : Members E) where
   open X use {correct, before, sheet, settings}
@@ -88,10 +88,12 @@ module _ {E D : Behaviour} (R : RefusesMore E D) (X : Members E) where
       go true q k w = let a = eqb-true (number_at e l) 0 q in ((fair_left e l a r.0, w, k.0), (accepted-there l e.who e.call a, k.1))
       go false q k w = k
 
-pub same_engines : SameEngines
+-- after every list each member's engine is the same: the list with its refused calls left out leads D where the whole leads E
+pub same_engines : (E D : Behaviour) (R : RefusesMore E D) (X : Members E) (l : List Entry) (i : ℕ) → engine_after (answering_as R X) (accepted_only X l) i ≡ engine_after X l i
 same_engines E D R X l i = same-engine R X l i
 
-pub runs_were_allowed : RunsWereAllowed
+-- every run of E, its refused calls left out, was allowed by D
+pub runs_were_allowed : (E D : Behaviour) (R : RefusesMore E D) (X : Members E) (l : List Entry) → Run X l → WasAllowed R X l
 runs_were_allowed E D R X l r = let p = parts R X l r in record { run = p.0; all-accepted = p.1 }
 
 pub carries_over : CarriesOver

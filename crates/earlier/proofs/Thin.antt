@@ -26,11 +26,12 @@ use Rattle.state.specs.View.{view}
 use Rattle.state.proofs.FormedLaws.{formed}
 use Rattle.state.proofs.RefusalLaws.{refusal-formed}
 use Rattle.advance.specs.Advance.{advance_refusal}
-use Rattle.engine.specs.Engine.{Engine}
+use Rattle.engine.specs.Calls.{advance}
+use Rattle.engine.specs.Engine.{Engine, refusal_for}
 use Rattle.engine.specs.Steps.{view_at, FreshlyOpened}
 use Rattle.engine.specs.Sequences.{Opening, after_opening}
 use Rattle.engine.proofs.ReachedLaws.{opened-fresh}
-use Rattle.earlier.specs.Earlier.{earlier_advancing, ThinAdvance}
+use Rattle.earlier.specs.Earlier.{earlier_advancing, earlier_refusal}
 
 -- nobody is no quorum of a committee that weighs something
 
@@ -84,12 +85,15 @@ module _ (x : Opening) where
   whole : Formed engine.state engine.table
   whole = formed engine.state engine.table fresh.formed
 
-  pub thin_advance : ThinAdvance x
+  fits : SettingsFit (filled x.sheet)
+  fits = subst SettingsFit fresh.its-settings whole.settings
+
+  weighty : weightless (filled x.sheet) ≡ false
+  weighty = subst (λ (S : Settings). weightless S ≡ false) fresh.its-settings whole.weighty
+
+  pub thin_refused : refusal_for (after_opening x) advance ≡ 28
   unfolding advance_refusal
-  thin_advance =
-      let fits = subst SettingsFit fresh.its-settings whole.settings in
-      let some = subst (λ (S : Settings). weightless S ≡ false) fresh.its-settings whole.weighty in
-      record {
-        refused = refusal-formed _ _ rules.advance fresh.formed ∙ of-view (λ S s. refusal (advancing S s) ≡ 28) (now-refused (filled x.sheet) fits some);
-        allowed-earlier = passes 1 _ (rw fresh.formed refl) ∙ of-view (λ S s. refusal (earlier_advancing S s) ≡ 0) (then-passed (filled x.sheet) fits some);
-      }
+  thin_refused = refusal-formed _ _ rules.advance fresh.formed ∙ of-view (λ S s. refusal (advancing S s) ≡ 28) (now-refused (filled x.sheet) fits weighty)
+
+  pub thin_allowed_earlier : earlier_refusal (after_opening x) advance ≡ 0
+  thin_allowed_earlier = passes 1 _ (rw fresh.formed refl) ∙ of-view (λ S s. refusal (earlier_advancing S s) ≡ 0) (then-passed (filled x.sheet) fits weighty)

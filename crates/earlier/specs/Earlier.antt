@@ -1,5 +1,5 @@
 -- The rules before an advance asked for a quorum: an advance is refused at the ceiling and nowhere else. Every other call is as it is now.
-use Rattle.std.specs.Prelude.{◌≡◌, cond, ◌||◌, List, [], ◌∷◌, ◌≢◌, ℕ, eqb, leb}
+use Rattle.std.specs.Prelude.{cond, ◌||◌, [], ◌∷◌, ℕ, eqb, leb}
 use Rattle.base.specs.Checks.{Checks, refusal}
 use Rattle.terms.specs.declared.sheet.Settings.{Settings}
 use Rattle.rules.specs.Tests.{MemberView}
@@ -7,11 +7,10 @@ use Rattle.state.specs.States.{advanced}
 use Rattle.state.specs.View.{view}
 use Rattle.state.specs.Refusals.{guarded}
 use Rattle.state.specs.Answers.{if_accepted}
-use Rattle.engine.specs.Calls.{Call, opens, propose, endorse, certify, accept, advance, commit, enqueue, draw, port, aside}
+use Rattle.engine.specs.Calls.{Call, advance}
 use Rattle.engine.specs.Engine.{Engine, refusal_for, after}
-use Rattle.engine.specs.Sequences.{Opening, after_opening}
-use Rattle.nonforking.specs.Statement.{Behaviour, Members, Entry, Run, Agreed, engine_behaviour, ChainsNeverFork}
-use Rattle.earlier.specs.Refusing.{RefusesMore, WasAllowed}
+use Rattle.nonforking.specs.Statement.{Behaviour, engine_behaviour}
+use Rattle.earlier.specs.Refusing.{RefusesMore}
 
 -- 18 at the ceiling
 abbrev pub earlier_advancing : (S : Settings) → MemberView S → Checks
@@ -19,17 +18,8 @@ earlier_advancing S s = (leb S.ceiling.0 s.round, 18) ∷ []
 
 -- x for an advance, y for any other call
 abbrev pub of_advance : {A : Type 0} → A → A → Call → A
-of_advance x y (opens own sheet) = y
-of_advance x y (propose b) = y
-of_advance x y (endorse p) = y
-of_advance x y (certify d) = y
-of_advance x y (accept c) = y
 of_advance x y advance = x
-of_advance x y commit = y
-of_advance x y (enqueue g z) = y
-of_advance x y (draw v) = y
-of_advance x y (port z) = y
-of_advance x y (aside z) = y
+of_advance x y c = y
 
 -- of an advance
 abbrev pub earlier_advance_refusal : Engine → ℕ
@@ -53,24 +43,3 @@ answered_earlier n = cond (eqb n 8 || eqb n 28) 0 n
 -- members refuse more than before
 abbrev pub MembersRefuseMore : Type 0
 MembersRefuseMore = RefusesMore engine_behaviour earlier_behaviour
-
--- by 8 and 28 of an advance, and by nothing else
-abbrev pub OnlyThinRefused : Type 0
-OnlyThinRefused = (e : Engine) → earlier_refusal e advance ≡ answered_earlier (refusal_for e advance)
-
--- what was refused earlier changed nothing
-abbrev pub EarlierRefusedSame : Type 0
-EarlierRefusedSame = (e : Engine) → earlier_refusal e advance ≢ 0 → earlier_after e advance ≡ e
-
--- and they do refuse more: whoever has just opened, and holds nothing, went on to the next round
-pub record ThinAdvance (x : Opening) : Type 0 where
-  pub refused : refusal_for (after_opening x) advance ≡ 28
-  pub allowed-earlier : earlier_refusal (after_opening x) advance ≡ 0
-
--- every run of now, its refused calls left out, was allowed earlier
-abbrev pub WasAllowedEarlier : Type 0
-WasAllowedEarlier = (R : MembersRefuseMore) (X : Members engine_behaviour) (l : List Entry) → Run X l → WasAllowed R X l
-
--- if members never parted by the earlier rules, they never part now
-abbrev pub AgreementCarriesOver : Type 0
-AgreementCarriesOver = ((X : Members earlier_behaviour) (l : List Entry) → Run X l → Agreed X l) → ChainsNeverFork

@@ -52,14 +52,6 @@ module _ {E D : Behaviour} (R : RefusesMore E D) (X : Members E) where
 
 -- ---- what is claimed
 
--- after every list each member's engine is the same: the list with its refused calls left out leads D where the whole leads E
-abbrev pub SameEngines : Type 0
-SameEngines = (E D : Behaviour) (R : RefusesMore E D) (X : Members E) (l : List Entry) (i : ℕ) → engine_after (answering_as R X) (accepted_only X l) i ≡ engine_after X l i
-
--- every run of E, its refused calls left out, was allowed by D
-abbrev pub RunsWereAllowed : Type 0
-RunsWereAllowed = (E D : Behaviour) (R : RefusesMore E D) (X : Members E) (l : List Entry) → Run X l → WasAllowed R X l
-
 -- what holds of the engines after every run of D holds of them after every run of E
 abbrev pub CarriesOver : Type 1
 CarriesOver = (E D : Behaviour) (R : RefusesMore E D) (X : Members E) (Q : (ℕ → Engine) → Type 0)

@@ -49,6 +49,7 @@ pub fn agreement_carries_over()
 {}
 
 /// And members do refuse more: whoever has just opened and holds nothing went on to the next round by the earlier rules, and is refused now.
+#[tactic(auto, using(crate::proofs::Thin::thin_refused, crate::proofs::Thin::thin_allowed_earlier))]
 pub fn thin_advance()
     ensures refused { (x : Opening) → refusal_for (after_opening x) advance ≡ 28 }
     ensures allowed { (x : Opening) → earlier_refusal (after_opening x) advance ≡ 0 }

@@ -68,15 +68,11 @@ module _ (e : Engine) where
   unfolding open_state open_table propose_state endorse_table certify_table accept_table advance_state commit_state commit_table_after enqueue_table draw_refusal draw_state draw_table port_table if_accepted
   after-by (opens own sheet) = both_by (renewed e (opens own sheet)) (eqb (refusal_for e (opens own sheet)) 0)
   after-by (propose b) = state-by (proposed state b) (eqb (refusal_for e (propose b)) 0)
-  after-by (endorse p) = table-by (renewed e (endorse p)).table (eqb (refusal_for e (endorse p)) 0)
-  after-by (certify d) = table-by (renewed e (certify d)).table (eqb (refusal_for e (certify d)) 0)
-  after-by (accept c) = table-by (renewed e (accept c)).table (eqb (refusal_for e (accept c)) 0)
   after-by advance = state-by (advanced state) (eqb (refusal_for e advance) 0)
   after-by commit = both_by (renewed e commit) (eqb (refusal_for e commit) 0)
-  after-by (enqueue g x) = table-by (renewed e (enqueue g x)).table (eqb (refusal_for e (enqueue g x)) 0)
   after-by (draw v) = both_by (renewed e (draw v)) (eqb (refusal_for e (draw v)) 0)
-  after-by (port x) = table-by (renewed e (port x)).table (eqb (refusal_for e (port x)) 0)
   after-by (aside x) = sym (cond_same (eqb (refusal_for e (aside x)) 0) e)
+  after-by c = table-by (renewed e c).table (eqb (refusal_for e c) 0)
 
   -- a refused call changes nothing
   pub refused-same : (c : Call) → refusal_for e c ≢ 0 → after e c ≡ e

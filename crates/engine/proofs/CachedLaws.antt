@@ -24,28 +24,21 @@ use Rattle.engine.proofs.StepLaws.{every_step}
 
 -- a call of the rules that leaves the chain: any but commit, and but read, which an open stands for
 abbrev pub leaves_chain : rules.Call → Bool
-leaves_chain (rules.propose p l) = true
-leaves_chain (rules.endorse p) = true
-leaves_chain (rules.certify d) = true
-leaves_chain (rules.accept p d) = true
-leaves_chain rules.advance = true
 leaves_chain rules.commit = false
 leaves_chain rules.read = false
+leaves_chain c = true
 
 module _ (S : Settings) (k : ℕ) (s : MemberView S) where
   chain_left : (c : rules.Call) → leaves_chain c ≡ true → (rules.after S k s c).chain ≡ s.chain
   unfolding rules.after
-  chain_left (rules.propose p l) h = refl
-  chain_left (rules.endorse p) h = refl
   chain_left (rules.certify d) h = go s.proposal
     where
       go : (o : Option Content) → (rules.certified S s o).chain ≡ s.chain
       go none = refl
       go (some p) = refl
-  chain_left (rules.accept p d) h = refl
-  chain_left rules.advance h = refl
   chain_left rules.commit h = absurd (false≢true h)
   chain_left rules.read h = absurd (false≢true h)
+  chain_left c h = refl
 
 module _ (e : Engine) (low : SetInRange e) where
   module _ (c : Call) (i : InRange c) where

@@ -33,21 +33,17 @@ module _ (S : Settings) (k : ℕ) (s : MemberView S) where
 
   ruled-newer : (c : rules.Call) → Newer s.chain (rules.after S k s c).chain
   unfolding rules.after
-  ruled-newer (rules.propose p l) = ([], refl)
-  ruled-newer (rules.endorse p) = ([], refl)
   ruled-newer (rules.certify d) = go s.proposal
     where
       go : (o : Option Content) → Newer s.chain (rules.certified S s o).chain
       go none = ([], refl)
       go (some p) = ([], refl)
-  ruled-newer (rules.accept p d) = ([], refl)
-  ruled-newer rules.advance = ([], refl)
   ruled-newer rules.commit = go (anchor_at s (s.round - 1))
     where
       go : (o : Option Content) → Newer s.chain (rules.added S s o)
       go none = ([], refl)
       go (some x) = committed-newer x
-  ruled-newer rules.read = ([], refl)
+  ruled-newer c = ([], refl)
 
 -- the chain of an engine
 abbrev pub chain_in : Engine → Chain Content

@@ -21,23 +21,15 @@ use Rattle.accept.proofs.PassedLaws.{accept-passed}
 use Rattle.enqueue.proofs.PassedLaws.{enqueue-passed}
 use Rattle.draw.proofs.PassedLaws.{draw-passed}
 use Rattle.commit.proofs.PreservedLaws.{ports-commit}
-use Rattle.engine.specs.Calls.{Call, opens, propose, endorse, certify, accept, advance, commit, enqueue, draw, port, aside}
+use Rattle.engine.specs.Calls.{Call, opens, endorse, certify, accept, commit, enqueue, draw, port}
 use Rattle.engine.specs.Engine.{Engine, refusal_for}
 use Rattle.engine.proofs.AfterLaws.{renewed}
 use Rattle.state.specs.States.{own_body}
 
 abbrev pub leaves_ports : Call → Bool
 leaves_ports (opens own sheet) = false
-leaves_ports (propose b) = true
-leaves_ports (endorse p) = true
-leaves_ports (certify d) = true
-leaves_ports (accept c) = true
-leaves_ports advance = true
-leaves_ports commit = true
-leaves_ports (enqueue g x) = true
-leaves_ports (draw v) = true
 leaves_ports (port x) = false
-leaves_ports (aside x) = true
+leaves_ports c = true
 
 module _ (e : Engine) where
   open e use {state, table}
@@ -47,7 +39,6 @@ module _ (e : Engine) where
 
   pub ports-left : (c : Call) → leaves_ports c ≡ true → refusal_for e c ≡ 0 → PortsKept table (renewed e c).table n state.blocks (renewed e c).state.blocks
   ports-left (opens own sheet) h a = absurd (false≢true h)
-  ports-left (propose b) h a = kept_same
   ports-left (endorse p) h a =
       let k = endorse-passed state table p a in
       endorse-ports n state.blocks (set-endorsed table p.author.0 p.round.0) (set-endorsed-first table p.author.0 p.round.0 k.fits.from)
@@ -65,7 +56,6 @@ module _ (e : Engine) where
       kept_then
       (put-ports table (content_of p) c.endorsers w k.free n state.blocks (put_first table (content_of p) c.endorsers w f.from))
       (endorse-ports n state.blocks (clear-endorsed held p.author.0 p.round.0) (clear-endorsed-first held p.author.0 p.round.0 f.from))
-  ports-left advance h a = kept_same
   ports-left commit h a = ports-commit state table a
   ports-left (enqueue g x) h a =
       let k = enqueue-passed state table g x a in
@@ -75,7 +65,7 @@ module _ (e : Engine) where
       let q = queues_of table in
       first-ports n state.blocks (only-drawn state.settings.allowance q table k.row) (before-words table _ (drawn-before state.settings.allowance q table k.row))
   ports-left (port x) h a = absurd (false≢true h)
-  ports-left (aside x) h a = kept_same
+  ports-left c h a = kept_same
 
   -- so they still fit
   pub ports-fit : (c : Call) → leaves_ports c ≡ true → refusal_for e c ≡ 0 → well_formed state table ≡ true → ports_fit state.settings (renewed e c).table (renewed e c).state.blocks ≡ true

@@ -21,7 +21,7 @@ use Rattle.accept.specs.Accept.{accept_refusal}
 use Rattle.advance.specs.Advance.{advance_refusal}
 use Rattle.commit.specs.Commit.{commit_refusal}
 use Rattle.draw.specs.Draw.{draw_refusal}
-use Rattle.engine.specs.Calls.{Call, opens, propose, endorse, certify, accept, advance, commit, enqueue, draw, port, aside, InRange}
+use Rattle.engine.specs.Calls.{Call, opens, advance, commit, enqueue, port, aside, InRange}
 use Rattle.engine.specs.Engine.{Engine, refusal_for, after}
 use Rattle.engine.specs.Steps.{view_at, ruled, Step, refused, opened, moved}
 use Rattle.engine.specs.Sequences.{NoOpen}
@@ -49,16 +49,12 @@ module _ (e : Engine) (w : well_formed e.state e.table ≡ true) where
   ruling : (c : Call) → Ruling c
   unfolding propose_refusal endorse_refusal certify_refusal accept_refusal advance_refusal commit_refusal draw_refusal
   ruling (opens own sheet) = inr refl
-  ruling (propose b) = inl (refusal-formed state table (ruled e (propose b)) w ∙ by-rules (ruled e (propose b)))
-  ruling (endorse p) = inl (refusal-formed state table (ruled e (endorse p)) w ∙ by-rules (ruled e (endorse p)))
-  ruling (certify d) = inl (refusal-formed state table (ruled e (certify d)) w ∙ by-rules (ruled e (certify d)))
-  ruling (accept c) = inl (refusal-formed state table (ruled e (accept c)) w ∙ by-rules (ruled e (accept c)))
   ruling advance = inl (refusal-formed state table rules.advance w ∙ by-rules rules.advance)
   ruling commit = inl (refusal-formed state table rules.commit w ∙ by-rules rules.commit)
   ruling (enqueue g x) = inr refl
-  ruling (draw v) = inl (refusal-formed state table (ruled e (draw v)) w ∙ by-rules (ruled e (draw v)))
   ruling (port x) = inr refl
   ruling (aside x) = inr refl
+  ruling c = inl (refusal-formed state table (ruled e c) w ∙ by-rules (ruled e c))
 
   -- the rules let an accepted call pass
   accepted-passes : (c : Call) → refusal_for e c ≡ 0 → ruled_refusal state.settings state.own.0 (view state table) (ruled e c) ≡ 0

@@ -5,7 +5,7 @@ use native.Mathlib.Decide.{ℕ_discrete}
 use Rattle.state.specs.WellFormed.{well_formed}
 use Rattle.engine.specs.Calls.{Call, opens, propose, endorse, certify, accept, advance, commit, enqueue, draw, port, aside, InRange}
 use Rattle.engine.specs.Engine.{Engine, refusal_for, aside_checks}
-use Rattle.engine.specs.Steps.{AsRuled, Step, refused, opened, moved, SetInRange, EveryStep}
+use Rattle.engine.specs.Steps.{AsRuled, Step, refused, opened, moved, SetInRange}
 use Rattle.engine.proofs.AfterLaws.{renewed, refused-same, accepted-new}
 use Rattle.engine.proofs.WellLaws.{whole_by, propose-whole, draw-whole, endorse-whole, certify-whole, accept-whole, advance-whole, commit-whole, enqueue-whole, port-whole}
 use Rattle.engine.proofs.NextLaws.{open_fresh, propose-next, endorse-next, certify-next, accept-next, advance-next, commit-next, enqueue-next, draw-next, port-next, aside-next}
@@ -29,7 +29,8 @@ module _ (e : Engine) (low : SetInRange e) where
   accepted-step (port x) r a = by_next (port x) a (port-whole e x a) (port-next e low x r a)
   accepted-step (aside x) r a = let w = whole_by e (aside_checks e x) a in by_next (aside x) a w (aside-next e low x w)
 
-pub every_step : EveryStep
+-- every call is refused and changes nothing, or does what the rules say
+pub every_step : (e : Engine) → SetInRange e → (c : Call) → InRange c → Step e c
 every_step e low c r = go (ℕ_discrete (refusal_for e c) 0)
   where
     go : Dec (refusal_for e c ≡ 0) → Step e c

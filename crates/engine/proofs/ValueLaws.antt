@@ -1,11 +1,8 @@
 -- The value of a call: what an accepted one gives, and none of a refused one; and the refusals of calls that list.
 use mathlib.Core.Path.{◌≡◌, refl}
 use mathlib.Core.Logic.{◌≢◌}
-use Prim.Native.Nat.{ℕ}
 use borrow.Author.Tests.{eq-eqb, ne_eqb}
-use Rattle.preview.specs.Preview.{preview_refusal}
-use Rattle.critical.specs.Critical.{critical_refusal}
-use Rattle.engine.specs.Calls.{preview, critical, Call, aside}
+use Rattle.engine.specs.Calls.{Call}
 use Rattle.engine.specs.Engine.{Engine, refusal_for}
 use Rattle.engine.specs.Values.{nothing, accepted_value, value_of}
 

@@ -45,14 +45,10 @@ pub data Call : Type 0 where
 
 -- a set of members is a 16-bit number, what is written to a port a byte; all other values are any
 abbrev pub InRange : Call → Type 0
-InRange (opens own sheet) = Unit {0}
 InRange (propose b) = b.previous < 65536
 InRange (endorse p) = p.body.previous < 65536
 InRange (certify d) = d < 65536
 InRange (accept c) = (c.proposal.body.previous < 65536) × (c.endorsers < 65536)
-InRange advance = Unit {0}
-InRange commit = Unit {0}
-InRange (enqueue g x) = Unit {0}
 InRange (draw v) = v < 65536
 InRange (port x) = PortInRange x
-InRange (aside x) = Unit {0}
+InRange c = Unit {0}

@@ -1,5 +1,5 @@
 -- What a guest may ask of an engine, and the right that it needs (docs/RULES.md, "Rights").
-use Rattle.std.specs.Prelude.{◌≡◌, List, ℕ}
+use Rattle.std.specs.Prelude.{ℕ}
 use Rattle.terms.specs.declared.Transaction.{Transaction}
 use Rattle.terms.specs.declared.Body.{Body}
 use Rattle.terms.specs.declared.Proposal.{Proposal}
@@ -10,8 +10,6 @@ use Rattle.serial.specs.Calls as serial
 use Rattle.serial.specs.Calls.{Access}
 use Rattle.engine.specs.Calls as host
 use Rattle.engine.specs.Calls.{Aside, Call}
-use Rattle.engine.specs.Engine.{Engine}
-use Rattle.engine.specs.Sequences.{Opening, after_opening, after_calls, NoOpens}
 
 -- the calls of a host but open and the reset of a port; a batch is asked for beside them
 pub data GuestCall : Type 0 where
@@ -59,8 +57,3 @@ as_host c advance = host.advance
 as_host c commit = host.commit
 as_host c (access a) = host.port (serial.access c a)
 as_host c (aside x) = host.aside x
-
--- rights are those of the open, and no other call changes them, whatever state and table it is made on
-pub record RightsStay : Type 0 where
-  pub opened : (x : Opening) → (after_opening x).state.rights ≡ x.sheet.rights
-  pub kept : (e : Engine) (l : List Call) → NoOpens e l → (after_calls e l).state.rights ≡ e.state.rights

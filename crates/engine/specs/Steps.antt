@@ -13,7 +13,7 @@ use Rattle.rules.specs.Calls as rules
 use Rattle.state.specs.WellFormed.{well_formed}
 use Rattle.state.specs.View.{dag_of, endorsed_of, own_proposal}
 use Rattle.draw.specs.Draw.{drawn_body}
-use Rattle.engine.specs.Calls.{Call, opens, propose, endorse, certify, accept, advance, commit, enqueue, draw, port, aside, InRange}
+use Rattle.engine.specs.Calls.{Call, opens, propose, endorse, certify, accept, advance, commit, draw}
 use Rattle.engine.specs.Engine.{Engine, refusal_for, after}
 use Rattle.state.specs.States.{own_body}
 
@@ -34,17 +34,14 @@ ruled_propose b = rules.propose b.previous (transactions_of b)
 
 -- the call of the rules that a call on an engine stands for: a draw proposes what the engine's queues hold; a refused open changes nothing, an enqueue and what is asked of a port nothing that the rules see, so they stand for a read
 abbrev pub ruled : Engine → Call → rules.Call
-ruled e (opens own sheet) = rules.read
 ruled e (propose b) = ruled_propose b
 ruled e (endorse p) = rules.endorse (content_of p)
 ruled e (certify d) = rules.certify d
 ruled e (accept c) = rules.accept (content_of c.proposal) c.endorsers
 ruled e advance = rules.advance
 ruled e commit = rules.commit
-ruled e (enqueue g x) = rules.read
 ruled e (draw v) = ruled_propose (drawn_body e.state e.table v)
-ruled e (port x) = rules.read
-ruled e (aside x) = rules.read
+ruled e c = rules.read
 
 -- the previous set in a state is a 16-bit number
 abbrev pub SetInRange : Engine → Type 0
@@ -79,7 +76,3 @@ pub data Step (e : Engine) (c : Call) : Type 0 where
   refused : refusal_for e c ≢ 0 → after e c ≡ e → Step e c
   opened : (own : Member) (sheet : Sheet) → c ≡ opens own sheet → refusal_for e c ≡ 0 → FreshlyOpened own sheet e (after e c) → Step e c
   moved : refusal_for e c ≡ 0 → well_formed e.state e.table ≡ true → AsRuled e c (after e c) → Step e c
-
--- the claim
-abbrev pub EveryStep : Type 0
-EveryStep = (e : Engine) → SetInRange e → (c : Call) → InRange c → Step e c

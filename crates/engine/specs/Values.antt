@@ -15,7 +15,7 @@ use Rattle.critical.specs.Critical.{Place, critical_places}
 use Rattle.reads.specs.Held as reads
 use Rattle.serial.specs.Calls.{read, write, PortCall, access, reset}
 use Rattle.serial.specs.Serial.{register}
-use Rattle.engine.specs.Calls.{Aside, committee, share, effect, certificate, block, preview, critical, listing, Call, opens, propose, endorse, certify, accept, advance, commit, enqueue, draw, port, aside}
+use Rattle.engine.specs.Calls.{Aside, committee, share, effect, certificate, block, preview, critical, listing, Call, commit, port, aside}
 use Rattle.engine.specs.Engine.{Engine, refusal_for}
 
 pub data Value : Type 0 where
@@ -54,17 +54,10 @@ port_value e (reset g) = nothing
 
 -- of a call that is accepted
 abbrev pub accepted_value : Engine → Call → Value
-accepted_value e (opens own sheet) = nothing
-accepted_value e (propose b) = nothing
-accepted_value e (endorse p) = nothing
-accepted_value e (certify d) = nothing
-accepted_value e (accept c) = nothing
-accepted_value e advance = nothing
 accepted_value e commit = number (blocks_then e.state e.table - e.state.blocks)
-accepted_value e (enqueue g x) = nothing
-accepted_value e (draw v) = nothing
 accepted_value e (port x) = port_value e x
 accepted_value e (aside x) = aside_value e x
+accepted_value e c = nothing
 
 -- a refused call gives none
 unfoldable pub value_of : Engine → Call → Value

@@ -12,6 +12,7 @@ pub fn every_step()
 {}
 
 /// Rights are those of the open, and no other call changes them, whatever state and table it is made on.
+#[tactic(auto, using(crate::proofs::GuestLaws::rights_opened, crate::proofs::GuestLaws::rights_kept))]
 pub fn rights_stay()
     ensures opened { (x : Opening) → (after_opening x).state.rights ≡ x.sheet.rights }
     ensures kept { (e : Engine) (l : List Call) → NoOpens e l → (after_calls e l).state.rights ≡ e.state.rights }

@@ -17,11 +17,12 @@ use Rattle.batch.specs.Batch.{Row, turns_of, batch_refusal}
 use Rattle.submissions.specs.Submissions.{Submission, one, batch, accepts_of, after_submission}
 use Rattle.submissions.proofs.SubmissionLaws.{leaves_as_its_calls}
 use Rattle.fairness.specs.Kept.{queues, queues_after}
-use Rattle.fairness.specs.Batches.{BatchKeepsQueues, submission_moments, moments_then, FairnessWithBatches}
+use Rattle.fairness.specs.Batches.{submission_moments, moments_then}
 use Rattle.fairness.proofs.KeptLaws.{queues_kept}
 use Rattle.fairness.proofs.Timelines.{by_call, Timeline, last, timeline-join}
 use Rattle.fairness.proofs.CallMoments.{timeline-call, last-call}
 use Rattle.fairness.proofs.FairLaws.{fair_moments}
+use Rattle.fairness.specs.Fairness.{FairIn}
 
 -- an accept leaves them, accepted or refused
 accept-keeps : (e : Engine) (c : Certificate) → queues (after e (accept c)) ≡ queues e
@@ -44,7 +45,8 @@ accepts_keep row (p ∷ l) e =
     go none = refl
     go (some c) = accept-keeps e c
 
-pub batch_keeps_queues : BatchKeepsQueues
+-- a batch leaves the queues
+pub batch_keeps_queues : (e : Engine) (row : Row) (answers : List ℕ) → queues (after_submission e (batch row answers)) ≡ queues e
 unfolding after_calls
 batch_keeps_queues e row answers = ap queues (leaves_as_its_calls e (batch row answers)) ∙ go (eqb (batch_refusal e.state e.table row.count (length answers)) 0)
   where
@@ -69,5 +71,5 @@ timeline-then e (x ∷ l) =
     timeline-join (queues e) (submission_moments e x) (moments_then (after_submission e x) l) (submission_timeline e x)
     (subst (λ (q : Queues). Timeline q (moments_then (after_submission e x) l)) (sym (submission_last e x)) (timeline-then (after_submission e x) l))
 
-pub fairness_with_batches : FairnessWithBatches
+pub fairness_with_batches : (e : Engine) (l : List Submission) → FairIn (moments_then e l)
 fairness_with_batches e l = fair_moments (queues e) (moments_then e l) (timeline-then e l)

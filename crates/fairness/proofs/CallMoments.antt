@@ -8,7 +8,7 @@ use Rattle.state.proofs.AnswerLaws.{if_accepted-new, if_accepted-old}
 use Rattle.state.specs.Answers.{if_accepted}
 use Rattle.queues.specs.Queues.{Queues, added, empty_queues, after_draws}
 use Rattle.draw.specs.Draw.{draws}
-use Rattle.engine.specs.Calls.{Call, opens, propose, endorse, certify, accept, advance, commit, enqueue, draw, port, aside}
+use Rattle.engine.specs.Calls.{Call, opens, enqueue, draw}
 use Rattle.engine.specs.Engine.{Engine, refusal_for, after}
 use Rattle.fairness.specs.Kept.{queues, accepted_draws, draws_of, accepted_queues, queues_after}
 use Rattle.fairness.specs.Fairness.{Moment, draw_moments, moments_of}
@@ -26,32 +26,16 @@ last_more q (x ∷ l) m = last_more x.then l m
 module _ (e : Engine) where
   -- what an accepted call draws, and what is waiting after it
   accepted-draws : (c : Call) → Timeline (queues e) (draw_moments (queues e) (accepted_draws e c))
-  accepted-draws (opens own sheet) = tt
-  accepted-draws (propose b) = tt
-  accepted-draws (endorse p) = tt
-  accepted-draws (certify d) = tt
-  accepted-draws (accept c) = tt
-  accepted-draws advance = tt
-  accepted-draws commit = tt
-  accepted-draws (enqueue g x) = tt
   accepted-draws (draw v) = timeline-draws e.state.settings.allowance (queues e)
-  accepted-draws (port x) = tt
-  accepted-draws (aside x) = tt
+  accepted-draws c = tt
 
   accepted-follows : (c : Call) → Follows (last (queues e) (draw_moments (queues e) (accepted_draws e c))) (quiet (accepted_queues e c))
   accepted-follows (opens own sheet) = by_open empty_queues (λ g. refl)
-  accepted-follows (propose b) = by_call (queues e) refl
-  accepted-follows (endorse p) = by_call (queues e) refl
-  accepted-follows (certify d) = by_call (queues e) refl
-  accepted-follows (accept c) = by_call (queues e) refl
-  accepted-follows advance = by_call (queues e) refl
-  accepted-follows commit = by_call (queues e) refl
   accepted-follows (enqueue g x) = by_call (added (queues e) g x) refl
   accepted-follows (draw v) =
       let l = draws e.state e.table in
       by_call (after_draws l (queues e)) (ap (λ (q : Queues). q.from) (sym (last-draws (queues e) l)))
-  accepted-follows (port x) = by_call (queues e) refl
-  accepted-follows (aside x) = by_call (queues e) refl
+  accepted-follows c = by_call (queues e) refl
 
   -- by the number that refuses
   drawn-by : (c : Call) (n : ℕ) → Timeline (queues e) (draw_moments (queues e) (if_accepted n (accepted_draws e c) []) ++ (quiet (if_accepted n (accepted_queues e c) (queues e)) ∷ []))

@@ -12,7 +12,7 @@ use Rattle.queues.proofs.DrawLaws.{next-waits}
 use Rattle.engine.specs.Calls.{Call}
 use Rattle.engine.specs.Engine.{Engine, after}
 use Rattle.fairness.specs.Kept.{queues}
-use Rattle.fairness.specs.Fairness.{Moment, moments, moments_of, Waits, Drawn, FairIn, Fairness}
+use Rattle.fairness.specs.Fairness.{Moment, moments, moments_of, Waits, Drawn, FairIn}
 use Rattle.fairness.proofs.GoingRound.{Ahead, ahead-first, not_behind, still-ahead}
 use Rattle.fairness.proofs.Timelines.{Follows, by-draw, by_call, by_open, Timeline, last, timeline-join, timeline-first, timeline-rest}
 use Rattle.fairness.proofs.CallMoments.{timeline-call, last-call}
@@ -60,5 +60,6 @@ timeline e (c ∷ l) =
     timeline-join (queues e) (moments_of e c) (moments (after e c) l) (timeline-call e c)
     (subst (λ (q : Queues). Timeline q (moments (after e c) l)) (sym (last-call e c)) (timeline (after e c) l))
 
-pub fairness : Fairness
+-- of every list of calls from any engine
+pub fairness : (e : Engine) (calls : List Call) → FairIn (moments e calls)
 fairness e l = fair_moments (queues e) (moments e l) (timeline e l)

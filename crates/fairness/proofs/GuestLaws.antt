@@ -22,11 +22,12 @@ use Rattle.submissions.specs.Requests.{Asked, asks, asks_batch, submitted_by, Re
 use Rattle.submissions.proofs.RequestLaws.{left_by}
 use Rattle.fairness.specs.Kept.{queues, accepted_queues, queues_after}
 use Rattle.fairness.specs.Batches.{submission_moments}
-use Rattle.fairness.specs.Guests.{LeftOf, AddsToNoOther, request_moments, moments_asked, FairnessWithGuests}
+use Rattle.fairness.specs.Guests.{LeftOf, request_moments, moments_asked}
 use Rattle.fairness.proofs.KeptLaws.{queues_kept}
 use Rattle.fairness.proofs.Timelines.{by_call, Timeline, last, timeline-join}
 use Rattle.fairness.proofs.FairLaws.{fair_moments}
 use Rattle.fairness.proofs.BatchLaws.{batch_keeps_queues, submission_timeline, submission_last}
+use Rattle.fairness.specs.Fairness.{FairIn}
 
 -- ---- what is left of a queue
 
@@ -56,16 +57,9 @@ draws-left (d ∷ l) q h = left-then (served-left q d.guest h) (draws-left l (se
 
 module _ (e : Engine) (c h : ℕ) (other : h ≢ c) where
   accepted-left : (k : GuestCall) → LeftOf ((queues e).waiting h) ((accepted_queues e (as_host c k)).waiting h)
-  accepted-left (guest.propose b) = all_left ((queues e).waiting h)
   accepted-left (guest.draw v) = draws-left _ (queues e) h
   accepted-left (guest.enqueue x) = rw (ne_eqb h c other) (all_left ((queues e).waiting h))
-  accepted-left (guest.endorse p) = all_left ((queues e).waiting h)
-  accepted-left (guest.certify d) = all_left ((queues e).waiting h)
-  accepted-left (guest.accept x) = all_left ((queues e).waiting h)
-  accepted-left guest.advance = all_left ((queues e).waiting h)
-  accepted-left guest.commit = all_left ((queues e).waiting h)
-  accepted-left (guest.access a) = all_left ((queues e).waiting h)
-  accepted-left (guest.aside x) = all_left ((queues e).waiting h)
+  accepted-left c = all_left ((queues e).waiting h)
 
   call-left : (k : GuestCall) → LeftOf ((queues e).waiting h) ((queues (after e (as_host c k))).waiting h)
   unfolding queues_after
@@ -79,8 +73,8 @@ module _ (e : Engine) (c h : ℕ) (other : h ≢ c) where
   submitted-left (asks k) = call-left k
   submitted-left (asks_batch row answers) = rw (batch_keeps_queues e row answers) (all_left ((queues e).waiting h))
 
--- the claim
-pub adds_to_no_other : AddsToNoOther
+-- a request of caller c adds to no other queue
+pub adds_to_no_other : (e : Engine) (c : ℕ) (a : Asked) (h : ℕ) → h ≢ c → LeftOf ((queues e).waiting h) ((queues (result_of e (request.guest c a)).engine).waiting h)
 adds_to_no_other e c a h other = rw (left_by e (request.guest c a)) (go (eqb (caller_number e c a) 0))
   where
     go : (b : Bool) → LeftOf ((queues e).waiting h) ((queues (if_there (cond b (some (submitted_by c a)) none) e (after_submission e))).waiting h)
@@ -105,5 +99,5 @@ timeline-asked e (x ∷ l) =
     timeline-join (queues e) (request_moments e x) (moments_asked (result_of e x).engine l) (moments-timeline e (submission_of e x))
     (subst (λ (q : Queues). Timeline q (moments_asked (result_of e x).engine l)) (sym (moments-last e (submission_of e x) ∙ sym (ap queues (left_by e x)))) (timeline-asked (result_of e x).engine l))
 
-pub fairness_with_guests : FairnessWithGuests
+pub fairness_with_guests : (e : Engine) (l : List Request) → FairIn (moments_asked e l)
 fairness_with_guests e l = fair_moments (queues e) (moments_asked e l) (timeline-asked e l)

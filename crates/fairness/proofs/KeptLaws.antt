@@ -21,10 +21,10 @@ use Rattle.state.proofs.FormedLaws.{formed}
 use Rattle.serial.proofs.LeftLaws.{port-passed, queues_ported}
 use Rattle.commit.proofs.CheckLaws as commits
 use Rattle.commit.proofs.FirstRow.{first-commit}
-use Rattle.engine.specs.Calls.{Call, opens, propose, endorse, certify, accept, advance, commit, enqueue, draw, port, aside}
+use Rattle.engine.specs.Calls.{Call, opens, endorse, certify, accept, commit, enqueue, draw, port}
 use Rattle.engine.specs.Engine.{Engine, refusal_for, after}
 use Rattle.engine.proofs.AfterLaws.{renewed, refused-same, accepted-new}
-use Rattle.fairness.specs.Kept.{queues, accepted_queues, queues_after, QueuesKept}
+use Rattle.fairness.specs.Kept.{queues, accepted_queues, queues_after}
 use Rattle.state.specs.States.{own_body}
 
 module _ (e : Engine) where
@@ -32,7 +32,6 @@ module _ (e : Engine) where
 
   renewed-queues : (c : Call) → refusal_for e c ≡ 0 → queues (renewed e c) ≡ accepted_queues e c
   renewed-queues (opens own sheet) a = queues-clear _ (cleared-first table (filled sheet).ceiling.0)
-  renewed-queues (propose b) a = refl
   renewed-queues (endorse p) a = let k = endorse-passed state table p a in queues-same table _ (set-endorsed-first table p.author.0 p.round.0 k.fits.from) k.formed.queues
   renewed-queues (certify d) a =
       let k = certify-passed state table d a in
@@ -42,14 +41,14 @@ module _ (e : Engine) where
       let p = c.proposal in
       let held = put_certificate table (content_of p) c.endorsers in
       queues-same table _ (same_then table held (clear_endorsed held p.author.0 p.round.0) (put_first table (content_of p) c.endorsers (fits-within state table p k.formed k.fits) k.fits.from) (clear-endorsed-first held p.author.0 p.round.0 k.fits.from)) k.formed.queues
-  renewed-queues advance a = refl
   renewed-queues commit a = queues-same table _ (first-commit state table a) (commits.accepted state table a).formed.queues
   renewed-queues (enqueue g x) a = let k = enqueue-passed state table g x a in queues-added table g x k.place k.formed.queues
   renewed-queues (draw v) a = let k = draw-passed state table v a in queues-drawn state.settings.allowance table k.row k.formed.queues
   renewed-queues (port x) a = let k = port-passed state table x a in words.queues_kept table _ (queues_ported state table x k) (formed state table k.whole).queues
-  renewed-queues (aside x) a = refl
+  renewed-queues c a = refl
 
-pub queues_kept : QueuesKept
+-- of every engine and every call
+pub queues_kept : (e : Engine) (c : Call) → queues (after e c) ≡ queues_after e c
 unfolding queues_after if_accepted
 queues_kept e c = go (ℕ_discrete (refusal_for e c) 0)
   where

@@ -1,15 +1,10 @@
--- Batches leave guests' queues, and draws are fair with batches among the calls.
-use Rattle.std.specs.Prelude.{◌≡◌, List, [], ◌∷◌, ◌++◌, ℕ}
+-- What the claims of draws with batches among the calls speak of (fairness::theorems): the moments of submissions.
+use Rattle.std.specs.Prelude.{List, [], ◌∷◌, ◌++◌}
 use Rattle.std.proofs.Math.Option.{none}
-use Rattle.batch.specs.Batch.{Row}
 use Rattle.submissions.specs.Submissions.{Submission, one, batch, after_submission}
 use Rattle.engine.specs.Engine.{Engine}
 use Rattle.fairness.specs.Kept.{queues}
-use Rattle.fairness.specs.Fairness.{Moment, moments_of, FairIn}
-
--- a batch leaves the queues
-abbrev pub BatchKeepsQueues : Type 0
-BatchKeepsQueues = (e : Engine) (row : Row) (answers : List ℕ) → queues (after_submission e (batch row answers)) ≡ queues e
+use Rattle.fairness.specs.Fairness.{Moment, moments_of}
 
 -- the moments of a submission: those of a call; of a batch, which draws nothing, one after it
 abbrev pub submission_moments : Engine → Submission → List Moment
@@ -20,6 +15,3 @@ submission_moments e (batch row answers) = record { drew = none; then = queues (
 unfoldable pub moments_then : Engine → List Submission → List Moment
 moments_then e [] = []
 moments_then e (x ∷ l) = submission_moments e x ++ moments_then (after_submission e x) l
-
-abbrev pub FairnessWithBatches : Type 0
-FairnessWithBatches = (e : Engine) (l : List Submission) → FairIn (moments_then e l)

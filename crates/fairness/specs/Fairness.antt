@@ -39,7 +39,3 @@ Drawn h (m ∷ l) = (m.drew ≡ some h) ⊎ Drawn h l
 abbrev pub FairIn : List Moment → Type 0
 FairIn m = (a b d : List Moment) (x y : Moment) (g h : ℕ) → m ≡ a ++ (x ∷ b) ++ (y ∷ d)
     → x.drew ≡ some g → y.drew ≡ some g → h < 8 → h ≢ g → Waits h (x ∷ b) → Drawn h b
-
--- the claim, of every list of calls from any engine
-abbrev pub Fairness : Type 0
-Fairness = (e : Engine) (calls : List Call) → FairIn (moments e calls)

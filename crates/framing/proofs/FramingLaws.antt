@@ -17,9 +17,9 @@ use Rattle.framing.specs.Framing.{remaining, telling, passed, ended_step, open_s
 use Rattle.framing.proofs.ChunkLaws.{EndsIn, ends_in, after-passed, until-long, passed-most, passed-within}
 
 -- the step, by whether a CRLF is at hand
-pub step-ended : (b : Bool) (s : List ℕ) → length (until_end s) < length s → step_of b s ≡ ended_step b (length (until_end s))
+pub step_ended : (b : Bool) (s : List ℕ) → length (until_end s) < length s → step_of b s ≡ ended_step b (length (until_end s))
 unfolding step_of
-step-ended b s h = rw (short-ended s h) refl
+step_ended b s h = rw (short-ended s h) refl
 
 pub step_open : (b : Bool) (s : List ℕ) → length s ≤ length (until_end s) → step_of b s ≡ open_step b s
 unfolding step_of

@@ -5,11 +5,11 @@
 
 pub mod records;
 
-ghost use Rattle.std.specs.Prelude.{◌≡◌, length};
+ghost use Rattle.std.specs.Prelude.{◌≡◌, ◌≤◌, length};
 ghost use Rattle.framing.specs.Streams.{until_end};
 ghost use Rattle.framing.specs.Framing.{passed, ended_event, open_step, step_of};
 
-/// What a step tells.
+/// What a step tells of a record.
 #[derive(Clone, Copy)]
 pub enum Event {
     /// Nothing yet.
@@ -20,48 +20,40 @@ pub enum Event {
     Unreadable,
 }
 
-/// A step: the event, the length of its record without the CRLF, the next place, and whether a record that was answered goes on there.
+/// A step through the bytes at hand.
 #[derive(Clone, Copy)]
 pub struct Step {
+    /// What it tells.
     pub event: Event,
+    /// The bytes of its record, without the CRLF.
     pub length: usize,
+    /// The place where the next step begins. It is 0 where more bytes are wanted.
     pub next: usize,
+    /// Whether a record that was answered goes on there.
     pub skipping: bool,
 }
 
 // The place of the first CRLF, or the end where there is none.
+#[tactic(auto, using(crate::proofs::StreamLaws::end_here, crate::proofs::StreamLaws::end_later, crate::proofs::StreamLaws::end_last))]
 fn find_end(s: &[u8]) -> usize
     ensures { result ≡ length (until_end s.now) }
 {
-    let n = s.len();
-    if n == 0 {
-        return 0;
-    }
-    let mut i: usize = 0;
-    while i < n - 1 {
-        if s[i] == 13 {
-            if s[i + 1] == 10 {
-                return i;
-            }
+    for i in 0..s.len().saturating_sub(1) {
+        if s[i] == b'\r' && s[i + 1] == b'\n' {
+            return i;
         }
-        i += 1;
     }
-    n
+    s.len()
 }
 
 // The place up to which bytes without a CRLF can be let go of: a CR at the end stays.
 #[tactic(auto, using(crate::proofs::ChunkLaws::passed_none, crate::proofs::ChunkLaws::passed_kept, crate::proofs::ChunkLaws::passed_all))]
 fn find_passed(s: &[u8]) -> usize
-    ensures { result ≡ passed s.now }
+    ensures place { result ≡ passed s.now }
+    ensures within { result ≤ length s.now }
 {
     let n = s.len();
-    if n == 0 {
-        return 0;
-    }
-    if s[n - 1] == 13 {
-        return n - 1;
-    }
-    n
+    if n > 0 && s[n - 1] == b'\r' { n - 1 } else { n }
 }
 
 // What is to tell of a record whose CRLF is n bytes from here.
@@ -69,54 +61,50 @@ fn ended_event(skipping: bool, n: usize) -> Event
     ensures { result ≡ ended_event skipping n }
 {
     if skipping {
-        return Event::Nothing;
+        Event::Nothing
+    } else if n <= 1022 {
+        Event::Record
+    } else {
+        Event::Unreadable
     }
-    if n <= 1022 {
-        return Event::Record;
-    }
-    Event::Unreadable
 }
 
 // The step where no CRLF is at hand.
 fn step_open(skipping: bool, s: &[u8]) -> Step
-    ensures { result ≡ open_step skipping s.now }
+    ensures step { result ≡ open_step skipping s.now }
+    ensures next { result.next ≤ length s.now }
 {
-    if skipping {
-        return Step {
-            event: Event::Nothing,
-            length: 0,
-            next: find_passed(s),
-            skipping: true,
-        };
-    }
-    if s.len() < 1024 {
-        return Step {
-            event: Event::Nothing,
-            length: 0,
-            next: 0,
-            skipping: false,
-        };
-    }
+    let (event, next, skipping) = if skipping {
+        (Event::Nothing, find_passed(s), true)
+    } else if s.len() < 1024 {
+        (Event::Nothing, 0, false)
+    } else {
+        (Event::Unreadable, find_passed(s), true)
+    };
     Step {
-        event: Event::Unreadable,
+        event,
         length: 0,
-        next: find_passed(s),
-        skipping: true,
+        next,
+        skipping,
     }
 }
 
-/// The step from the bytes at hand.
+/// The first step through the bytes at hand. `skipping` tells whether a record that was answered goes on in them.
+#[tactic(auto, using(crate::proofs::FramingLaws::step_ended, crate::proofs::FramingLaws::step_open, crate::proofs::StreamLaws::end_room))]
 pub fn next_step(skipping: bool, s: &[u8]) -> Step
-    ensures { result ≡ step_of skipping s.now }
+    ensures step { result ≡ step_of skipping s.now }
+    ensures length { result.length ≤ length s.now }
+    ensures next { result.next ≤ length s.now }
 {
     let n = find_end(s);
     if n < s.len() {
-        return Step {
+        Step {
             event: ended_event(skipping, n),
             length: n,
             next: n + 2,
             skipping: false,
-        };
+        }
+    } else {
+        step_open(skipping, s)
     }
-    step_open(skipping, s)
 }

@@ -1,4 +1,5 @@
-// The records in the bytes at hand of a stream.
+//! The records in the bytes at hand of a stream.
+
 ghost use Rattle.std.specs.Prelude.{◌≡◌, false};
 ghost use Rattle.framing.specs.AtHand.{AtHand, Tells, told};
 
@@ -19,6 +20,7 @@ impl<'a> Model for Records<'a> {
 }
 
 impl<'a> Records<'a> {
+    /// Nothing is told yet of these bytes. `skipping` tells whether a record that was answered goes on in them.
     pub fn new(hand: &'a [u8], skipping: bool) -> Self
         ensures hand { result.hand ≡ hand.now }
         ensures skipping { result.skipping ≡ skipping }
@@ -26,12 +28,14 @@ impl<'a> Records<'a> {
         Records { hand, skipping }
     }
 
+    /// The bytes of which nothing is told yet.
     pub fn hand(&self) -> &'a [u8]
         ensures { result.now ≡ self.now.hand }
     {
         self.hand
     }
 
+    /// Does a record that was answered go on in these bytes?
     pub fn is_skipping(&self) -> bool
         ensures { result ≡ self.now.skipping }
     {
@@ -50,11 +54,8 @@ impl<'a> Records<'a> {
             match step.event {
                 Event::Record => return Some(Some(bytes)),
                 Event::Unreadable => return Some(None),
-                Event::Nothing => {
-                    if step.next == 0 {
-                        return None;
-                    }
-                }
+                Event::Nothing if step.next == 0 => return None,
+                Event::Nothing => {}
             }
         }
     }

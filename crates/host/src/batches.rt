@@ -1,4 +1,4 @@
-// The batch that a host or a guest hands over: a row of certificates, each with the answer of accept at its turn (docs/RULES.md, "Batches").
+//! The batch that a host or a guest hands over: a row of certificates, each with the answer of accept at its turn (docs/RULES.md, "Batches").
 ghost use Rattle.engine.specs.Guests.{batch_needs};
 ghost use Rattle.hosting.specs.Calls.{plain, Done};
 ghost use Rattle.hosting.specs.Guested.{as_guest};
@@ -7,7 +7,7 @@ ghost use Rattle.batching.specs.Batched.{batch_result};
 use batching::rows::CertificateRecord;
 use batching::trying;
 
-// Batch: the certificates of the row are tried by rising round, then author, then place; the answer of each is put at its place in the answers.
+/// Takes a row of up to 64 certificates of 17 words each. They are tried by rising round, then author, then place; the answer that accept gives at its turn is put at each one's place in `answers`, which is as long as the row at least. The state is only read. Answers 0, or the number that refuses, and then nothing is tried: 1, 25. docs/RULES.md, "Batches".
 #[unsafe(no_mangle)]
 pub extern "C" fn forgelilac_batch(
     state: &[u32],
@@ -18,11 +18,12 @@ pub extern "C" fn forgelilac_batch(
     ensures { Done plain (batch_result state.now table.old row.now answers.old) result state.now table.new answers.new }
 {
     let start = batching::begin(state, table, row.len(), answers.len());
-    let done = trying::run(table, row, start.state, start.progress, start.turns);
-    batching::put_answers(start.checked, done, answers)
+    let mut progress = start.progress;
+    trying::run(table, row, &start.state, &mut progress, start.turns);
+    batching::put_answers(start.checked, &progress, answers)
 }
 
-// A guest's batch needs the right to sign; refused by it, nothing is tried.
+/// A guest has a row of certificates tried. It answers 26 for a caller above 7 and 29 for one without the right, and then nothing is tried and no word changes. Else it does and answers what `forgelilac_batch` does. Right: sign. docs/RULES.md, "Rights" and "Batches".
 #[unsafe(no_mangle)]
 pub extern "C" fn forgelilac_guest_batch(
     caller: u32,
@@ -34,6 +35,7 @@ pub extern "C" fn forgelilac_guest_batch(
     ensures { Done plain (as_guest state.now table.old answers.old caller batch_needs (batch_result state.now table.old row.now answers.old)) result state.now table.new answers.new }
 {
     let start = batching::begin_guest(caller, state, table, row.len(), answers.len());
-    let done = trying::run(table, row, start.state, start.progress, start.turns);
-    batching::put_answers(start.checked, done, answers)
+    let mut progress = start.progress;
+    trying::run(table, row, &start.state, &mut progress, start.turns);
+    batching::put_answers(start.checked, &progress, answers)
 }

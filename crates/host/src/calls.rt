@@ -1,4 +1,6 @@
-// The calls that a host makes: open, propose, endorse, certify, accept, advance, commit.
+//! The calls that a host makes: open, propose, endorse, certify, accept, advance, commit.
+#![tactic(auto, using(crate::proofs::Answered::result_read, crate::proofs::Answered::result_unread, crate::proofs::Guests::some_number), unfolding(engine::specs::Values::value_of))]
+
 ghost use Rattle.std.specs.Prelude.{true, [], ltb};
 ghost use Rattle.engine.specs.Calls.{opens, propose, endorse, certify, accept, advance, commit};
 ghost use Rattle.refusals.specs.Refusals.{refusal_in, packed_in};
@@ -12,7 +14,7 @@ use terms::Member;
 use terms::sheet::Rights;
 use words::bodies::lengths::STATE;
 
-// Open: the state is written fresh, with the rights of callers, and the used part of the table cleared.
+/// Opens a member by its number, a sheet of 40 words and the rights of callers, one word. Accepted: the state's 39 words are written fresh, and the used part of the table, 272 words for each round up to the ceiling and for row 0, is cleared. Answers 0, or the number of the first check that refuses: 1 for words that cannot be read, 4, 2, 3, 1. docs/RULES.md, "Open" and "The sheet".
 #[unsafe(no_mangle)]
 pub extern "C" fn forgelilac_open(
     state: &mut [u32],
@@ -26,7 +28,8 @@ pub extern "C" fn forgelilac_open(
     hosting::plain(open(state, table, own, sheet, rights))
 }
 
-pub fn open(
+// The call, told as a result.
+fn open(
     state: &mut [u32],
     table: &mut [u32],
     own: u32,
@@ -47,7 +50,7 @@ pub fn open(
     Ok(())
 }
 
-// Propose: the proposal is kept in the state.
+/// Proposes a body of 14 words for the member's own place of the present round. Accepted: the proposal is kept in the state's words; the table is only read. Answers 0, or the number that refuses: 1, 6, 7, 10, 8, 9, 11, 12. docs/RULES.md, "Propose".
 #[unsafe(no_mangle)]
 pub extern "C" fn forgelilac_propose(state: &mut [u32], table: &[u32], body: &[u32]) -> u32
     ensures { Done plain (result_of state.old table.now [] (lone_body_reads body.now) (propose (body_in body.now 0))) result state.new table.now [] }
@@ -55,7 +58,8 @@ pub extern "C" fn forgelilac_propose(state: &mut [u32], table: &[u32], body: &[u
     hosting::plain(propose(state, table, body))
 }
 
-pub fn propose(state: &mut [u32], table: &[u32], body: &[u32]) -> Result<(), Refusal>
+// The call, told as a result.
+fn propose(state: &mut [u32], table: &[u32], body: &[u32]) -> Result<(), Refusal>
     ensures { Done plain (result_of state.old table.now [] (lone_body_reads body.now) (propose (body_in body.now 0))) (refusal_in result) state.new table.now [] }
 {
     let Some(mut s) = words::states::state(state) else {
@@ -69,7 +73,7 @@ pub fn propose(state: &mut [u32], table: &[u32], body: &[u32]) -> Result<(), Ref
     Ok(())
 }
 
-// Endorse: the proposal's place is marked endorsed in the table.
+/// Endorses a proposal of another member, 16 words. Accepted: its place is marked endorsed in the table; the state is only read. Answers 0, or the number that refuses: 1, 4, 5, 6, 7, 14, 10, 8, 11, 12. docs/RULES.md, "Endorse".
 #[unsafe(no_mangle)]
 pub extern "C" fn forgelilac_endorse(state: &[u32], table: &mut [u32], proposal: &[u32]) -> u32
     ensures { Done plain (result_of state.now table.old [] (proposal_reads proposal.now) (endorse (proposal_in proposal.now))) result state.now table.new [] }
@@ -77,7 +81,8 @@ pub extern "C" fn forgelilac_endorse(state: &[u32], table: &mut [u32], proposal:
     hosting::plain(endorse(state, table, proposal))
 }
 
-pub fn endorse(state: &[u32], table: &mut [u32], proposal: &[u32]) -> Result<(), Refusal>
+// The call, told as a result.
+fn endorse(state: &[u32], table: &mut [u32], proposal: &[u32]) -> Result<(), Refusal>
     ensures { Done plain (result_of state.now table.old [] (proposal_reads proposal.now) (endorse (proposal_in proposal.now))) (refusal_in result) state.now table.new [] }
 {
     let Some(s) = words::states::state(state) else {
@@ -89,7 +94,7 @@ pub fn endorse(state: &[u32], table: &mut [u32], proposal: &[u32]) -> Result<(),
     endorse::endorse(&s, table, p)
 }
 
-// Certify: the certificate of the present proposal is held in the table, with these endorsers.
+/// Makes a certificate of the member's own proposal with these endorsers, a set of at most 16 bits without the member itself. Accepted: it is held in the table; the state is only read. Answers 0, or the number that refuses: 1, 15, 10, 14, 8, 9, 13. docs/RULES.md, "Certify".
 #[unsafe(no_mangle)]
 pub extern "C" fn forgelilac_certify(state: &[u32], table: &mut [u32], endorsers: u32) -> u32
     ensures { Done plain (result_of state.now table.old [] (ltb endorsers 65536) (certify endorsers)) result state.now table.new [] }
@@ -97,19 +102,20 @@ pub extern "C" fn forgelilac_certify(state: &[u32], table: &mut [u32], endorsers
     hosting::plain(certify(state, table, endorsers))
 }
 
-pub fn certify(state: &[u32], table: &mut [u32], endorsers: u32) -> Result<(), Refusal>
+// The call, told as a result.
+fn certify(state: &[u32], table: &mut [u32], endorsers: u32) -> Result<(), Refusal>
     ensures { Done plain (result_of state.now table.old [] (ltb endorsers 65536) (certify endorsers)) (refusal_in result) state.now table.new [] }
 {
     let Some(s) = words::states::state(state) else {
         return Err(Refusal::Malformed);
     };
-    if 65536 <= endorsers {
+    let Ok(endorsers) = u16::try_from(endorsers) else {
         return Err(Refusal::Malformed);
-    }
-    certify::certify(&s, table, endorsers as u16)
+    };
+    certify::certify(&s, table, endorsers)
 }
 
-// Accept: the certificate is held in the table with its endorsers, and its endorsed mark cleared.
+/// Takes a certificate of 17 words. Accepted: it is held in the table with its endorsers, and its endorsed mark cleared; the state is only read. Answers 0, or the number that refuses: 1, 4, 5, 6, 7, 14, 16, 17, 8, 9, 13, 11. docs/RULES.md, "Accept".
 #[unsafe(no_mangle)]
 pub extern "C" fn forgelilac_accept(state: &[u32], table: &mut [u32], certificate: &[u32]) -> u32
     ensures { Done plain (result_of state.now table.old [] (certificate_reads certificate.now) (accept (certificate_in certificate.now))) result state.now table.new [] }
@@ -117,7 +123,8 @@ pub extern "C" fn forgelilac_accept(state: &[u32], table: &mut [u32], certificat
     hosting::plain(accept(state, table, certificate))
 }
 
-pub fn accept(state: &[u32], table: &mut [u32], certificate: &[u32]) -> Result<(), Refusal>
+// The call, told as a result.
+fn accept(state: &[u32], table: &mut [u32], certificate: &[u32]) -> Result<(), Refusal>
     ensures { Done plain (result_of state.now table.old [] (certificate_reads certificate.now) (accept (certificate_in certificate.now))) (refusal_in result) state.now table.new [] }
 {
     let Some(s) = words::states::state(state) else {
@@ -129,7 +136,7 @@ pub fn accept(state: &[u32], table: &mut [u32], certificate: &[u32]) -> Result<(
     accept::accept(&s, table, c)
 }
 
-// Advance: next round, proposal dropped; where a quorum of the present round is held.
+/// Goes on to the next round, where the authors of the certificates that are held in the present round form a quorum. Accepted: the proposal is dropped from the state's words; the table is only read. Answers 0, or the number that refuses: 1, 18, 8, 28. docs/RULES.md, "Advance".
 #[unsafe(no_mangle)]
 pub extern "C" fn forgelilac_advance(state: &mut [u32], table: &[u32]) -> u32
     ensures { Done plain (result_of state.old table.now [] true advance) result state.new table.now [] }
@@ -137,7 +144,8 @@ pub extern "C" fn forgelilac_advance(state: &mut [u32], table: &[u32]) -> u32
     hosting::plain(advance(state, table))
 }
 
-pub fn advance(state: &mut [u32], table: &[u32]) -> Result<(), Refusal>
+// The call, told as a result.
+fn advance(state: &mut [u32], table: &[u32]) -> Result<(), Refusal>
     ensures { Done plain (result_of state.old table.now [] true advance) (refusal_in result) state.new table.now [] }
 {
     let Some(mut s) = words::states::state(state) else {
@@ -148,7 +156,7 @@ pub fn advance(state: &mut [u32], table: &[u32]) -> Result<(), Refusal>
     Ok(())
 }
 
-// Commit: blocks are made in the table; the value is the number of blocks added.
+/// Makes blocks in the table. The low half of the answer is how many were added, the high half the number that refuses, 0 for none: 1, 19, 20, 8, 21, 22. docs/RULES.md, "Commit".
 #[unsafe(no_mangle)]
 pub extern "C" fn forgelilac_commit(state: &mut [u32], table: &mut [u32]) -> u64
     ensures { Done packed (result_of state.old table.old [] true commit) result state.new table.new [] }
@@ -156,7 +164,8 @@ pub extern "C" fn forgelilac_commit(state: &mut [u32], table: &mut [u32]) -> u64
     hosting::packed(commit(state, table))
 }
 
-pub fn commit(state: &mut [u32], table: &mut [u32]) -> Result<u32, Refusal>
+// The call, told as a result.
+fn commit(state: &mut [u32], table: &mut [u32]) -> Result<u32, Refusal>
     ensures { Done packed (result_of state.old table.old [] true commit) (packed_in result) state.new table.new [] }
 {
     let Some(mut s) = words::states::state(state) else {

@@ -1,4 +1,6 @@
-// The certificates that a commit hangs on, which a host asks for.
+//! The certificates that a commit hangs on, which a host asks for.
+#![tactic(auto, using(crate::proofs::Answered::result_unread))]
+
 ghost use Rattle.std.specs.Prelude.{true, length};
 ghost use Rattle.engine.specs.Calls.{aside, critical};
 ghost use Rattle.refusals.specs.Refusals.{packed_in};
@@ -6,7 +8,7 @@ ghost use Rattle.hosting.specs.Calls.{packed, Done, result_of};
 
 use refusals::Refusal;
 
-// Critical: the certificates whose absence alone would turn a commit into a refusal, two words each, into list; the value is their number. The table is lent for writing, and is afterwards as it was.
+/// Lists the certificates whose absence alone would turn a commit into a refusal, two words each, into `list`, which has room for 32 at least. The table is lent for writing, and is afterwards as it was. The low half of the answer is how many were listed, the high half the number that refuses, 0 for none: 1, 25, 19, 20, 8, 21, 22. docs/RULES.md, "What a commit hangs on".
 #[unsafe(no_mangle)]
 pub extern "C" fn forgelilac_critical(state: &[u32], table: &mut [u32], list: &mut [u32]) -> u64
     ensures { Done packed (result_of state.now table.old list.old true (aside (critical (length list.old)))) result state.now table.new list.new }
@@ -14,7 +16,8 @@ pub extern "C" fn forgelilac_critical(state: &[u32], table: &mut [u32], list: &m
     hosting::packed(critical(state, table, list))
 }
 
-pub fn critical(state: &[u32], table: &mut [u32], list: &mut [u32]) -> Result<u32, Refusal>
+// The call, told as a result.
+fn critical(state: &[u32], table: &mut [u32], list: &mut [u32]) -> Result<u32, Refusal>
     ensures { Done packed (result_of state.now table.old list.old true (aside (critical (length list.old)))) (packed_in result) state.now table.new list.new }
 {
     let Some(s) = words::states::state(state) else {

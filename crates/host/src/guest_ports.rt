@@ -1,16 +1,16 @@
-// Guests' accesses to their serial ports: the caller's right to read, and then the access.
+//! Guests' accesses to their serial ports: the caller's right to read, and then the access.
+#![tactic(auto, using(crate::proofs::Guests::guest_refused, crate::proofs::Guests::guest_allowed, crate::proofs::Guests::some_number))]
+
 ghost use Rattle.std.specs.Prelude.{true, []};
 ghost use Rattle.serial.specs.Calls.{read, write};
 ghost use Rattle.engine.specs.Guests.{access};
-ghost use Rattle.refusals.specs.Refusals.{refusal_in, packed_in};
 ghost use Rattle.hosting.specs.Calls.{plain, packed, Done};
 ghost use Rattle.hosting.specs.Guested.{guest_result};
 
 use hosting::guesting;
-use refusals::Refusal;
 use terms::rights::Right;
 
-// A read of the caller's port.
+/// A guest reads a register of its own port, by its offset 0 to 7. The low half of the answer is the byte, the high half the number that refuses, 0 for none: 26 for a caller above 7, 29 without the right to read, 31 for an offset above 7, then 1. A read at offset 0 that takes a byte changes two words of the table, no other read changes a word. docs/RULES.md, "Serial ports".
 #[unsafe(no_mangle)]
 pub extern "C" fn forgelilac_guest_port_read(
     caller: u32,
@@ -20,17 +20,13 @@ pub extern "C" fn forgelilac_guest_port_read(
 ) -> u64
     ensures { Done packed (guest_result state.now table.old [] caller true (access (read offset))) result state.now table.new [] }
 {
-    hosting::packed(port_read(caller, state, table, offset))
+    match guesting::check(state, Right::Read, caller) {
+        Ok(()) => hosting::packed(crate::port_calls::port_read(state, table, caller, offset)),
+        Err(refusal) => hosting::packed(Err(refusal)),
+    }
 }
 
-pub fn port_read(caller: u32, state: &[u32], table: &mut [u32], offset: u32) -> Result<u32, Refusal>
-    ensures { Done packed (guest_result state.now table.old [] caller true (access (read offset))) (packed_in result) state.now table.new [] }
-{
-    guesting::check(state, Right::Read, caller)?;
-    crate::port_calls::port_read(state, table, caller, offset)
-}
-
-// A write to it.
+/// A guest writes a byte to a register of its own port, by its offset 0 to 7. At most one word of the table changes. Answers 0, or the number that refuses: 26 for a caller above 7, 29 without the right to read, 31 for an offset above 7, then 1. docs/RULES.md, "Serial ports".
 #[unsafe(no_mangle)]
 pub extern "C" fn forgelilac_guest_port_write(
     caller: u32,
@@ -41,18 +37,10 @@ pub extern "C" fn forgelilac_guest_port_write(
 ) -> u32
     ensures { Done plain (guest_result state.now table.old [] caller true (access (write offset value))) result state.now table.new [] }
 {
-    hosting::plain(port_write(caller, state, table, offset, value))
-}
-
-pub fn port_write(
-    caller: u32,
-    state: &[u32],
-    table: &mut [u32],
-    offset: u32,
-    value: u8,
-) -> Result<(), Refusal>
-    ensures { Done plain (guest_result state.now table.old [] caller true (access (write offset value))) (refusal_in result) state.now table.new [] }
-{
-    guesting::check(state, Right::Read, caller)?;
-    crate::port_calls::port_write(state, table, caller, offset, value)
+    match guesting::check(state, Right::Read, caller) {
+        Ok(()) => hosting::plain(crate::port_calls::port_write(
+            state, table, caller, offset, value,
+        )),
+        Err(refusal) => hosting::plain(Err(refusal)),
+    }
 }

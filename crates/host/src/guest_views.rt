@@ -1,16 +1,16 @@
-// What guests read, each with the right to read: the caller's right, and then the host's own read.
+//! What guests read, each with the right to read: the caller's right, and then the host's own read.
+#![tactic(auto, using(crate::proofs::Guests::guest_refused, crate::proofs::Guests::guest_allowed, crate::proofs::Guests::some_number))]
+
 ghost use Rattle.std.specs.Prelude.{true, [], length};
 ghost use Rattle.engine.specs.Calls.{committee, share, effect, certificate, block, preview, critical};
 ghost use Rattle.engine.specs.Guests.{aside};
-ghost use Rattle.refusals.specs.Refusals.{refusal_in, packed_in};
 ghost use Rattle.hosting.specs.Calls.{plain, packed, Done};
 ghost use Rattle.hosting.specs.Guested.{guest_result};
 
 use hosting::guesting;
-use refusals::Refusal;
 use terms::rights::Right;
 
-// Committee of a round.
+/// A guest reads the sixteen weights of a round's committee, into `out`. It answers 26 for a caller above 7 and 29 for one without the right, and then no word changes. Else it does and answers what `forgelilac_committee` does. Right: read. docs/RULES.md, "Rights".
 #[unsafe(no_mangle)]
 pub extern "C" fn forgelilac_guest_committee(
     caller: u32,
@@ -21,23 +21,13 @@ pub extern "C" fn forgelilac_guest_committee(
 ) -> u32
     ensures { Done plain (guest_result state.now table.now out.old caller true (aside (committee (record { 0 = round })))) result state.now table.now out.new }
 {
-    hosting::plain(committee(caller, state, table, round, out))
+    match guesting::check(state, Right::Read, caller) {
+        Ok(()) => crate::views::forgelilac_committee(state, table, round, out),
+        Err(refusal) => hosting::plain(Err(refusal)),
+    }
 }
 
-pub fn committee(
-    caller: u32,
-    state: &[u32],
-    table: &[u32],
-    round: u32,
-    out: &mut [u32],
-) -> Result<(), Refusal>
-    ensures { Done plain (guest_result state.now table.now out.old caller true (aside (committee (record { 0 = round })))) (refusal_in result) state.now table.now out.new }
-{
-    guesting::check(state, Right::Read, caller)?;
-    crate::views::committee(state, table, round, out)
-}
-
-// Share of a member.
+/// A guest reads the share of a member, in thousandths. It refuses with 26 a caller above 7 and with 29 one without the right, in the high half of the answer; then no word changes, and the low half is 0. Else it does and answers what `forgelilac_share` does. Right: read. docs/RULES.md, "Rights".
 #[unsafe(no_mangle)]
 pub extern "C" fn forgelilac_guest_share(
     caller: u32,
@@ -48,23 +38,13 @@ pub extern "C" fn forgelilac_guest_share(
 ) -> u64
     ensures { Done packed (guest_result state.now table.now [] caller true (aside (share (record { 0 = member }) (record { 0 = round })))) result state.now table.now [] }
 {
-    hosting::packed(share(caller, state, table, member, round))
+    match guesting::check(state, Right::Read, caller) {
+        Ok(()) => crate::views::forgelilac_share(state, table, member, round),
+        Err(refusal) => hosting::packed(Err(refusal)),
+    }
 }
 
-pub fn share(
-    caller: u32,
-    state: &[u32],
-    table: &[u32],
-    member: u32,
-    round: u32,
-) -> Result<u32, Refusal>
-    ensures { Done packed (guest_result state.now table.now [] caller true (aside (share (record { 0 = member }) (record { 0 = round })))) (packed_in result) state.now table.now [] }
-{
-    guesting::check(state, Right::Read, caller)?;
-    crate::views::share(state, table, member, round)
-}
-
-// Effect of a bond.
+/// A guest reads how far a bond would move the shares, 33 words into `out`. It answers 26 for a caller above 7 and 29 for one without the right, and then no word changes. Else it does and answers what `forgelilac_bond_effect` does. Right: read. docs/RULES.md, "Rights".
 #[unsafe(no_mangle)]
 pub extern "C" fn forgelilac_guest_bond_effect(
     caller: u32,
@@ -77,25 +57,13 @@ pub extern "C" fn forgelilac_guest_bond_effect(
 ) -> u32
     ensures { Done plain (guest_result state.now table.now out.old caller true (aside (effect (record { 0 = member }) (record { 0 = round }) amount))) result state.now table.now out.new }
 {
-    hosting::plain(bond_effect(caller, state, table, member, round, amount, out))
+    match guesting::check(state, Right::Read, caller) {
+        Ok(()) => crate::views::forgelilac_bond_effect(state, table, member, round, amount, out),
+        Err(refusal) => hosting::plain(Err(refusal)),
+    }
 }
 
-pub fn bond_effect(
-    caller: u32,
-    state: &[u32],
-    table: &[u32],
-    member: u32,
-    round: u32,
-    amount: u32,
-    out: &mut [u32],
-) -> Result<(), Refusal>
-    ensures { Done plain (guest_result state.now table.now out.old caller true (aside (effect (record { 0 = member }) (record { 0 = round }) amount))) (refusal_in result) state.now table.now out.new }
-{
-    guesting::check(state, Right::Read, caller)?;
-    crate::views::bond_effect(state, table, member, round, amount, out)
-}
-
-// Certificate of a place.
+/// A guest reads a certificate that is held, 18 words into `out`. It answers 26 for a caller above 7 and 29 for one without the right, and then no word changes. Else it does and answers what `forgelilac_certificate` does. Right: read. docs/RULES.md, "Rights".
 #[unsafe(no_mangle)]
 pub extern "C" fn forgelilac_guest_certificate(
     caller: u32,
@@ -107,24 +75,13 @@ pub extern "C" fn forgelilac_guest_certificate(
 ) -> u32
     ensures { Done plain (guest_result state.now table.now out.old caller true (aside (certificate (record { 0 = author }) (record { 0 = round })))) result state.now table.now out.new }
 {
-    hosting::plain(certificate(caller, state, table, author, round, out))
+    match guesting::check(state, Right::Read, caller) {
+        Ok(()) => crate::views::forgelilac_certificate(state, table, author, round, out),
+        Err(refusal) => hosting::plain(Err(refusal)),
+    }
 }
 
-pub fn certificate(
-    caller: u32,
-    state: &[u32],
-    table: &[u32],
-    author: u32,
-    round: u32,
-    out: &mut [u32],
-) -> Result<(), Refusal>
-    ensures { Done plain (guest_result state.now table.now out.old caller true (aside (certificate (record { 0 = author }) (record { 0 = round })))) (refusal_in result) state.now table.now out.new }
-{
-    guesting::check(state, Right::Read, caller)?;
-    crate::views::certificate(state, table, author, round, out)
-}
-
-// Block by number.
+/// A guest reads the round of a block by its number. It refuses with 26 a caller above 7 and with 29 one without the right, in the high half of the answer; then no word changes, and the low half is 0. Else it does and answers what `forgelilac_block` does. Right: read. docs/RULES.md, "Rights".
 #[unsafe(no_mangle)]
 pub extern "C" fn forgelilac_guest_block(
     caller: u32,
@@ -134,17 +91,13 @@ pub extern "C" fn forgelilac_guest_block(
 ) -> u64
     ensures { Done packed (guest_result state.now table.now [] caller true (aside (block number))) result state.now table.now [] }
 {
-    hosting::packed(block(caller, state, table, number))
+    match guesting::check(state, Right::Read, caller) {
+        Ok(()) => crate::views::forgelilac_block(state, table, number),
+        Err(refusal) => hosting::packed(Err(refusal)),
+    }
 }
 
-pub fn block(caller: u32, state: &[u32], table: &[u32], number: u32) -> Result<u32, Refusal>
-    ensures { Done packed (guest_result state.now table.now [] caller true (aside (block number))) (packed_in result) state.now table.now [] }
-{
-    guesting::check(state, Right::Read, caller)?;
-    crate::views::block(state, table, number)
-}
-
-// Preview of a commit.
+/// A guest reads what a commit would do, three words for each certificate into `list`. It refuses with 26 a caller above 7 and with 29 one without the right, in the high half of the answer; then no word changes, and the low half is 0. Else it does and answers what `forgelilac_preview` does. Right: read. docs/RULES.md, "Rights".
 #[unsafe(no_mangle)]
 pub extern "C" fn forgelilac_guest_preview(
     caller: u32,
@@ -154,17 +107,13 @@ pub extern "C" fn forgelilac_guest_preview(
 ) -> u64
     ensures { Done packed (guest_result state.now table.now list.old caller true (aside (preview (length list.old)))) result state.now table.now list.new }
 {
-    hosting::packed(preview(caller, state, table, list))
+    match guesting::check(state, Right::Read, caller) {
+        Ok(()) => crate::previews::forgelilac_preview(state, table, list),
+        Err(refusal) => hosting::packed(Err(refusal)),
+    }
 }
 
-pub fn preview(caller: u32, state: &[u32], table: &[u32], list: &mut [u32]) -> Result<u32, Refusal>
-    ensures { Done packed (guest_result state.now table.now list.old caller true (aside (preview (length list.old)))) (packed_in result) state.now table.now list.new }
-{
-    guesting::check(state, Right::Read, caller)?;
-    crate::previews::preview(state, table, list)
-}
-
-// The certificates that a commit hangs on.
+/// A guest reads what a commit hangs on, two words for each certificate into `list`. It refuses with 26 a caller above 7 and with 29 one without the right, in the high half of the answer; then no word changes, and the low half is 0. Else it does and answers what `forgelilac_critical` does. Right: read. docs/RULES.md, "Rights".
 #[unsafe(no_mangle)]
 pub extern "C" fn forgelilac_guest_critical(
     caller: u32,
@@ -174,17 +123,8 @@ pub extern "C" fn forgelilac_guest_critical(
 ) -> u64
     ensures { Done packed (guest_result state.now table.old list.old caller true (aside (critical (length list.old)))) result state.now table.new list.new }
 {
-    hosting::packed(critical(caller, state, table, list))
-}
-
-pub fn critical(
-    caller: u32,
-    state: &[u32],
-    table: &mut [u32],
-    list: &mut [u32],
-) -> Result<u32, Refusal>
-    ensures { Done packed (guest_result state.now table.old list.old caller true (aside (critical (length list.old)))) (packed_in result) state.now table.new list.new }
-{
-    guesting::check(state, Right::Read, caller)?;
-    crate::criticals::critical(state, table, list)
+    match guesting::check(state, Right::Read, caller) {
+        Ok(()) => crate::criticals::forgelilac_critical(state, table, list),
+        Err(refusal) => hosting::packed(Err(refusal)),
+    }
 }

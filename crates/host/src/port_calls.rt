@@ -1,4 +1,6 @@
-// Guests' serial ports: a read or a write for the guest whose port it is, and the host's own reset.
+//! Guests' serial ports: a read or a write for the guest whose port it is, and the host's own reset.
+#![tactic(auto, using(crate::proofs::Answered::result_read, crate::proofs::Answered::port_early, crate::proofs::Answered::port_unread, crate::proofs::Guests::some_number), unfolding(engine::specs::Values::value_of))]
+
 ghost use Rattle.std.specs.Prelude.{true, []};
 ghost use Rattle.serial.specs.Calls.{access, read, write, reset};
 ghost use Rattle.engine.specs.Calls.{port};
@@ -7,7 +9,7 @@ ghost use Rattle.hosting.specs.Calls.{plain, packed, Done, result_of};
 
 use refusals::Refusal;
 
-// A read of a guest's port: the value is the byte.
+/// Reads a register of a guest's port, 0 to 7, by its offset 0 to 7. The value is the byte.
 pub fn port_read(state: &[u32], table: &mut [u32], guest: u32, offset: u32) -> Result<u32, Refusal>
     ensures { Done packed (result_of state.now table.old [] true (port (access guest (read offset)))) (packed_in result) state.now table.new [] }
 {
@@ -18,7 +20,7 @@ pub fn port_read(state: &[u32], table: &mut [u32], guest: u32, offset: u32) -> R
     serial::read(&s, table, guest, offset)
 }
 
-// A write to a guest's port.
+/// Writes a byte to a register of a guest's port, 0 to 7, by its offset 0 to 7.
 pub fn port_write(
     state: &[u32],
     table: &mut [u32],
@@ -35,7 +37,7 @@ pub fn port_write(
     serial::write(&s, table, guest, offset, value)
 }
 
-// Reset of a guest's port.
+/// Resets the port of a guest, 0 to 7: its eight words of the table become 0. Only the table changes. Answers 0, or the number that refuses: 26, which comes before everything else, then 1. docs/RULES.md, "Serial ports".
 #[unsafe(no_mangle)]
 pub extern "C" fn forgelilac_port_reset(state: &[u32], table: &mut [u32], guest: u32) -> u32
     ensures { Done plain (result_of state.now table.old [] true (port (reset guest))) result state.now table.new [] }
@@ -43,7 +45,8 @@ pub extern "C" fn forgelilac_port_reset(state: &[u32], table: &mut [u32], guest:
     hosting::plain(port_reset(state, table, guest))
 }
 
-pub fn port_reset(state: &[u32], table: &mut [u32], guest: u32) -> Result<(), Refusal>
+// The call, told as a result.
+fn port_reset(state: &[u32], table: &mut [u32], guest: u32) -> Result<(), Refusal>
     ensures { Done plain (result_of state.now table.old [] true (port (reset guest))) (refusal_in result) state.now table.new [] }
 {
     serial::check_reset(guest)?;

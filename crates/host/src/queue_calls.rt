@@ -1,4 +1,6 @@
-// The calls on guests' queues that a host makes: enqueue, draw.
+//! The calls on guests' queues that a host makes: enqueue, draw.
+#![tactic(auto, using(crate::proofs::Answered::result_read, crate::proofs::Answered::result_unread, crate::proofs::Guests::some_number), unfolding(engine::specs::Values::value_of))]
+
 ghost use Rattle.std.specs.Prelude.{[], ltb};
 ghost use Rattle.engine.specs.Calls.{enqueue, draw};
 ghost use Rattle.refusals.specs.Refusals.{refusal_in};
@@ -7,7 +9,7 @@ ghost use Rattle.hosting.specs.Calls.{plain, Done, result_of};
 
 use refusals::Refusal;
 
-// Enqueue: the transaction is added to the guest's queue in the table.
+/// Adds a transaction of three words to the queue of a guest, 0 to 7, as its youngest. Only the table changes. Answers 0, or the number that refuses: 1, 26, 6, 27. docs/RULES.md, "Guests' queues".
 #[unsafe(no_mangle)]
 pub extern "C" fn forgelilac_enqueue(
     state: &[u32],
@@ -20,12 +22,8 @@ pub extern "C" fn forgelilac_enqueue(
     hosting::plain(enqueue(state, table, guest, transaction))
 }
 
-pub fn enqueue(
-    state: &[u32],
-    table: &mut [u32],
-    guest: u32,
-    transaction: &[u32],
-) -> Result<(), Refusal>
+// The call, told as a result.
+fn enqueue(state: &[u32], table: &mut [u32], guest: u32, transaction: &[u32]) -> Result<(), Refusal>
     ensures { Done plain (result_of state.now table.old [] (lone_triple_reads transaction.now) (enqueue guest (triple_in transaction.now))) (refusal_in result) state.now table.new [] }
 {
     let Some(s) = words::states::state(state) else {
@@ -37,7 +35,7 @@ pub fn enqueue(
     enqueue::enqueue(&s, table, guest, x)
 }
 
-// Draw: what waits in guests' queues is proposed with a previous set, and leaves them; the proposal is kept in the state.
+/// Proposes what it draws from guests' queues, with a previous set of at most 16 bits. Accepted: the proposal is kept in the state's words, and what was drawn leaves its queues in the table. Answers 0, or the number that refuses: 1, 7, 10, 8, 9, 11, 12. docs/RULES.md, "Guests' queues".
 #[unsafe(no_mangle)]
 pub extern "C" fn forgelilac_draw(state: &mut [u32], table: &mut [u32], previous: u32) -> u32
     ensures { Done plain (result_of state.old table.old [] (ltb previous 65536) (draw previous)) result state.new table.new [] }
@@ -45,16 +43,17 @@ pub extern "C" fn forgelilac_draw(state: &mut [u32], table: &mut [u32], previous
     hosting::plain(draw(state, table, previous))
 }
 
-pub fn draw(state: &mut [u32], table: &mut [u32], previous: u32) -> Result<(), Refusal>
+// The call, told as a result.
+fn draw(state: &mut [u32], table: &mut [u32], previous: u32) -> Result<(), Refusal>
     ensures { Done plain (result_of state.old table.old [] (ltb previous 65536) (draw previous)) (refusal_in result) state.new table.new [] }
 {
     let Some(mut s) = words::states::state(state) else {
         return Err(Refusal::Malformed);
     };
-    if 65536 <= previous {
+    let Ok(previous) = u16::try_from(previous) else {
         return Err(Refusal::Malformed);
-    }
-    draw::draw(&mut s, table, previous as u16)?;
+    };
+    draw::draw(&mut s, table, previous)?;
     words::states::put_state(state, s);
     Ok(())
 }

@@ -1,4 +1,6 @@
-// The reads that a host makes: committee, share, bond effect, certificate, block, and the length of a table.
+//! The reads that a host makes: committee, share, bond effect, certificate, block, and the length of a table.
+#![tactic(auto, using(crate::proofs::Answered::result_read, crate::proofs::Answered::result_unread, crate::proofs::Guests::some_number), unfolding(engine::specs::Values::value_of, reads::specs::Reads::committee_refusal, reads::specs::Reads::share_refusal, reads::specs::Reads::effect_refusal, reads::specs::Reads::certificate_refusal, reads::specs::Reads::block_refusal, reads::specs::Held::certificate_read))]
+
 ghost use Rattle.std.specs.Prelude.{◌≡◌, true, []};
 ghost use Rattle.store.specs.Table.{used_length};
 ghost use Rattle.engine.specs.Calls.{aside, committee, share, effect, certificate, block};
@@ -11,7 +13,7 @@ use store::lengths::ROW;
 use terms::{Member, Round};
 use words::bodies::lengths::{COMMITTEE, EFFECT, HELD};
 
-// Committee of a round: sixteen weights into out.
+/// Puts the sixteen weights of a round's committee into the first 16 words of `out`, 0 for one who is no member of it. State and table are only read. Answers 0, or the number that refuses: 1, 5, 8. docs/RULES.md, "Committees" and "Reads".
 #[unsafe(no_mangle)]
 pub extern "C" fn forgelilac_committee(
     state: &[u32],
@@ -24,7 +26,8 @@ pub extern "C" fn forgelilac_committee(
     hosting::plain(committee(state, table, round, out))
 }
 
-pub fn committee(state: &[u32], table: &[u32], round: u32, out: &mut [u32]) -> Result<(), Refusal>
+// The call, told as a result.
+fn committee(state: &[u32], table: &[u32], round: u32, out: &mut [u32]) -> Result<(), Refusal>
     ensures { Done plain (result_of state.now table.now out.old true (aside (committee (record { 0 = round })))) (refusal_in result) state.now table.now out.new }
 {
     let Some(s) = words::states::state(state) else {
@@ -38,7 +41,7 @@ pub fn committee(state: &[u32], table: &[u32], round: u32, out: &mut [u32]) -> R
     Ok(())
 }
 
-// Share of a member: the value is the thousandths.
+/// Gives the share of a member in a round's committee, in thousandths. State and table are only read. The low half of the answer is the share, the high half the number that refuses, 0 for none: 1, 4, 5, 8, 9. docs/RULES.md, "Shares".
 #[unsafe(no_mangle)]
 pub extern "C" fn forgelilac_share(state: &[u32], table: &[u32], member: u32, round: u32) -> u64
     ensures { Done packed (result_of state.now table.now [] true (aside (share (record { 0 = member }) (record { 0 = round })))) result state.now table.now [] }
@@ -46,7 +49,8 @@ pub extern "C" fn forgelilac_share(state: &[u32], table: &[u32], member: u32, ro
     hosting::packed(share(state, table, member, round))
 }
 
-pub fn share(state: &[u32], table: &[u32], member: u32, round: u32) -> Result<u32, Refusal>
+// The call, told as a result.
+fn share(state: &[u32], table: &[u32], member: u32, round: u32) -> Result<u32, Refusal>
     ensures { Done packed (result_of state.now table.now [] true (aside (share (record { 0 = member }) (record { 0 = round })))) (packed_in result) state.now table.now [] }
 {
     let Some(s) = words::states::state(state) else {
@@ -55,7 +59,7 @@ pub fn share(state: &[u32], table: &[u32], member: u32, round: u32) -> Result<u3
     standing::share(&s, table, Member(member), Round(round))
 }
 
-// Effect of a bond of the member: sixteen shares before, sixteen after and the largest difference into out.
+/// Tells how far a bond of the member by the amount would move the shares of a round's committee: the sixteen shares before, the sixteen after, and the largest difference, into the first 33 words of `out`. State and table are only read. Answers 0, or the number that refuses: 1, 4, 5, 6, 8, 30. docs/RULES.md, "How far a bond moves the shares".
 #[unsafe(no_mangle)]
 pub extern "C" fn forgelilac_bond_effect(
     state: &[u32],
@@ -70,7 +74,8 @@ pub extern "C" fn forgelilac_bond_effect(
     hosting::plain(bond_effect(state, table, member, round, amount, out))
 }
 
-pub fn bond_effect(
+// The call, told as a result.
+fn bond_effect(
     state: &[u32],
     table: &[u32],
     member: u32,
@@ -91,7 +96,7 @@ pub fn bond_effect(
     Ok(())
 }
 
-// Certificate of a place: its proposal, its endorsers and the number of its block, 0 for none, into out.
+/// Puts a certificate that is held into the first 18 words of `out`: its proposal, the endorsers that it was first stored with, and the number of its block, 0 for none. State and table are only read. Answers 0, or the number that refuses: 1, 4, 5, 23. docs/RULES.md, "Reads".
 #[unsafe(no_mangle)]
 pub extern "C" fn forgelilac_certificate(
     state: &[u32],
@@ -105,7 +110,8 @@ pub extern "C" fn forgelilac_certificate(
     hosting::plain(certificate(state, table, author, round, out))
 }
 
-pub fn certificate(
+// The call, told as a result.
+fn certificate(
     state: &[u32],
     table: &[u32],
     author: u32,
@@ -125,7 +131,7 @@ pub fn certificate(
     Ok(())
 }
 
-// Block by number: the value is its round.
+/// Gives the round of a block by its number, from 1 on. State and table are only read. The low half of the answer is the round, the high half the number that refuses, 0 for none: 1, 23. docs/RULES.md, "Reads".
 #[unsafe(no_mangle)]
 pub extern "C" fn forgelilac_block(state: &[u32], table: &[u32], number: u32) -> u64
     ensures { Done packed (result_of state.now table.now [] true (aside (block number))) result state.now table.now [] }
@@ -133,7 +139,8 @@ pub extern "C" fn forgelilac_block(state: &[u32], table: &[u32], number: u32) ->
     hosting::packed(block(state, table, number))
 }
 
-pub fn block(state: &[u32], table: &[u32], number: u32) -> Result<u32, Refusal>
+// The call, told as a result.
+fn block(state: &[u32], table: &[u32], number: u32) -> Result<u32, Refusal>
     ensures { Done packed (result_of state.now table.now [] true (aside (block number))) (packed_in result) state.now table.now [] }
 {
     let Some(s) = words::states::state(state) else {
@@ -143,7 +150,7 @@ pub fn block(state: &[u32], table: &[u32], number: u32) -> Result<u32, Refusal>
     Ok(round.0)
 }
 
-// How many words a table needs for a ceiling.
+/// Gives how many words a table needs for a ceiling: 272 for each round, and 272 more. It refuses nothing. docs/TABLES.md, "Length".
 #[unsafe(no_mangle)]
 pub extern "C" fn forgelilac_table_words(ceiling: u32) -> u64
     ensures { result ≡ used_length ceiling }

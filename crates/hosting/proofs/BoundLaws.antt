@@ -17,9 +17,9 @@ use Rattle.committee.specs.Shares.{apart}
 use Rattle.committee.specs.declared.effects.Effect.{Effect}
 use Rattle.rules.specs.Reads.{share_read, effect_read}
 use Rattle.state.specs.View.{view}
-use Rattle.reads.specs.Bounds.{moved_at}
+use Rattle.reads.specs.Bounds.{moved_at, total_at}
 use Rattle.reads.specs.Reads.{share_refusal, effect_refusal}
-use Rattle.reads.proofs.BoundLaws.{effect_bounded, largest_of_all, member_shared, effect_of_shares}
+use Rattle.reads.proofs.BoundLaws.{effect_bounded, none_moves_further, one_moves_as_far, member_shared, effect_of_shares}
 use Rattle.engine.specs.Calls.{share, effect, aside}
 use Rattle.engine.proofs.ValueLaws.{value-accepted}
 use Rattle.words.specs.Lengths.{effect_length}
@@ -28,8 +28,9 @@ use Rattle.words.proofs.PasteLaws.{length-sixteen, in_sixteen}
 use Rattle.words.specs.Effects.{effect_words}
 use Rattle.words.specs.States.{settings_in, state_reads, state_in}
 use Rattle.hosting.specs.Calls.{engine_in, result_of}
-use Rattle.hosting.specs.Bounds.{effect_result, moved_in, BoundedOverWords, LargestOverWords, SharesOverWords}
+use Rattle.hosting.specs.Bounds.{effect_result, moved_in}
 use Rattle.hosting.proofs.CallLaws.{accepted-call}
+use Rattle.committee.specs.BondEffects.{most_moved}
 
 -- the words of an effect: the largest difference is the last
 module _ (x : Effect) where
@@ -97,17 +98,28 @@ module _ (w t o : List ℕ) (m : Member) (r : Round) (a : ℕ) (z : (effect_resu
       let room = leb-true effect_length (length o) (both (state_reads w) (leb effect_length (length o)) c.serving).1 in
       rw (c.its_out, value-accepted (engine_in w t) (aside (effect m r a)) c.accepted) (put-told told o room)
 
-pub bounded_over_words : BoundedOverWords
+-- the largest difference is within the bound
+pub bounded_over_words : (w t o : List ℕ) (m : Member) (r : Round) (a : ℕ) → (effect_result w t o m r a).refusal ≡ 0 → word (effect_result w t o m r a).out 32 ≤ most_moved (total_at (state_in w) t r.0) a
 bounded_over_words w t o m r a z =
     let b = effect_bounded (state_in w) t (weights-long w) m.0 r.0 a (accepted w t o m r a z) in
     omega (arith, b, (out-told w t o m r a z).largest)
 
-pub largest_over_words : LargestOverWords
-largest_over_words w t o m r a z =
-    let x = out-told w t o m r a z in
-    let l = largest_of_all (state_in w) t m.0 r.0 a (accepted w t o m r a z) in
-    let same : (i : ℕ) → i < 16 → moved_in (effect_result w t o m r a).out i ≡ moved_at (told w t o m r a z) i = λ i h. ap₂ (λ (y z : ℕ). apart y z) (x.before i h) (x.after i h) in
-    (λ i h. rw (same i h, x.largest) (l.0 i h), (l.1.0, l.1.1, rw (same l.1.0 l.1.1, x.largest) l.1.2))
+-- in the words the shares move as in the effect
+moved-told : (w t o : List ℕ) (m : Member) (r : Round) (a : ℕ) (z : (effect_result w t o m r a).refusal ≡ 0) (i : ℕ) → i < 16 → moved_in (effect_result w t o m r a).out i ≡ moved_at (told w t o m r a z) i
+moved-told w t o m r a z i h = let x = out-told w t o m r a z in ap₂ (λ (y z : ℕ). apart y z) (x.before i h) (x.after i h)
+
+-- no share moves further
+pub none_moves_further_over_words : (w t o : List ℕ) (m : Member) (r : Round) (a : ℕ) → (effect_result w t o m r a).refusal ≡ 0 → (i : ℕ) → i < 16
+    → moved_in (effect_result w t o m r a).out i ≤ word (effect_result w t o m r a).out 32
+none_moves_further_over_words w t o m r a z i h =
+    rw (moved-told w t o m r a z i h, (out-told w t o m r a z).largest) (none_moves_further (state_in w) t m.0 r.0 a (accepted w t o m r a z) i h)
+
+-- and one moves as far
+pub one_moves_as_far_over_words : (w t o : List ℕ) (m : Member) (r : Round) (a : ℕ) → (effect_result w t o m r a).refusal ≡ 0
+    → (i : ℕ) × (i < 16) × (moved_in (effect_result w t o m r a).out i ≡ word (effect_result w t o m r a).out 32)
+one_moves_as_far_over_words w t o m r a z =
+    let l = one_moves_as_far (state_in w) t m.0 r.0 a (accepted w t o m r a z) in
+    (l.0, l.1, rw (moved-told w t o m r a z l.0 l.1, (out-told w t o m r a z).largest) l.2)
 
 -- the value of a share's read
 share-told : (w t : List ℕ) (i : Member) (r : Round) → (result_of w t [] true (aside (share i r))).refusal ≡ 0
@@ -117,7 +129,9 @@ share-told w t i r z =
     let c = accepted-call w t [] true (aside (share i r)) z in
     (c.accepted, rw (c.serving, value-accepted (engine_in w t) (aside (share i r)) c.accepted) refl)
 
-pub shares_over_words : SharesOverWords
+-- where the share of member i can be read too, it is word i
+pub shares_over_words : (w t o : List ℕ) (m i : Member) (r : Round) (a : ℕ) → (effect_result w t o m r a).refusal ≡ 0 → (result_of w t [] true (aside (share i r))).refusal ≡ 0
+    → word (effect_result w t o m r a).out i.0 ≡ (result_of w t [] true (aside (share i r))).value
 shares_over_words w t o m i r a z y =
     let s = share-told w t i r y in
     (out-told w t o m r a z).before i.0 (member_shared (state_in w) t i.0 r.0 s.0)

@@ -1,33 +1,19 @@
 -- Laws of calls: what cannot be read, what the engine answers where all can, and what an accepted call is.
 use mathlib.Core.Path.{◌≡◌, refl, sym, ap, ◌∙◌}
-use mathlib.Core.Bool.{Bool, true, false, not, cond, ◌&&◌, and-false}
+use mathlib.Core.Bool.{Bool, true, false, cond, ◌&&◌}
 use mathlib.Core.List.{List, []}
 use mathlib.Core.Logic.{◌≢◌}
 use Prim.Native.Nat.{ℕ}
 use native.Mathlib.Omega.{arith}
 use lib.ListN.{length}
 use lib.Dec.{leb}
-use borrow.Author.Tests.{not-true, not-false, le-leb, eq-eqb}
+use borrow.Author.Tests.{le-leb, eq-eqb}
 use Rattle.base.proofs.Bools.{both}
 use Rattle.engine.specs.Calls.{Call}
 use Rattle.engine.specs.Engine.{Engine, refusal_for, after}
 use Rattle.engine.specs.Values.{value_of}
 use Rattle.serial.proofs.PassedLaws.{early-some}
 use Rattle.hosting.specs.Calls.{Result, Done, Use, writes, rewrites, accesses, reads, use_of, unread, serves, engine_for, state_over, out_over, refused, answered, result_of}
-
--- a test that the code found to fail, and one that it found to hold
-pub not_read : {a : Bool} {b : Bool} → a ≡ b → not a ≡ true → b ≡ false
-not_read {a} e h = sym e ∙ not-true a h
-
-pub is_read : {a : Bool} {b : Bool} → a ≡ b → not a ≡ false → b ≡ true
-is_read {a} e h = sym e ∙ not-false a h
-
--- either part of a test that fails, and both of one that holds
-pub left-unread : {a : Bool} (b : Bool) → a ≡ false → (a && b) ≡ false
-left-unread b e = rw e refl
-
-pub right-unread : (a : Bool) {b : Bool} → b ≡ false → (a && b) ≡ false
-right-unread a e = rw e (and-false a)
 
 pub both_read : {a : Bool} {b : Bool} → a ≡ true → b ≡ true → (a && b) ≡ true
 both_read e f = rw (e, f) refl
@@ -54,10 +40,6 @@ module _ (w t o : List ℕ) where
       pub done-unserved : serves w t o (use_of c) ≡ false → r ≡ answer (refused w t o (unread (use_of c))) → Done answer (result_of w t o b c) r w t o
       unfolding result_of
       done-unserved e h = rw e (record { its-answer = h; its-state = refl; its-table = refl; its_out = refl })
-
-      pub done-unread : b ≡ false → r ≡ answer (refused w t o (unread (use_of c))) → Done answer (result_of w t o b c) r w t o
-      unfolding result_of
-      done-unread e h = rw (e, and-false (serves w t o (use_of c))) (record { its-answer = h; its-state = refl; its-table = refl; its_out = refl })
 
       pub done-read : {s : List ℕ} {u : List ℕ} {z : List ℕ} → serves w t o (use_of c) ≡ true → b ≡ true → Done answer (answered w t o engine c) r s u z → Done answer (result_of w t o b c) r s u z
       unfolding result_of

@@ -2,20 +2,22 @@
 use mathlib.Core.Path.{◌≡◌, refl, sym, ap, ◌∙◌}
 use mathlib.Core.List.{List}
 use mathlib.Core.Logic.{◌≢◌}
-use Prim.Native.Nat.{ℕ, ◌*◌}
-use native.Mathlib.Omega.{arith}
+use Prim.Native.Nat.{ℕ}
 use native.Mathlib.Decide.{ℕ_discrete}
 use borrow.Author.Tests.{eq-eqb, ne_eqb}
 use Rattle.state.specs.declared.State.{State}
 use Rattle.terms.specs.declared.rights.Right.{Right}
 use Rattle.terms.proofs.RightLaws.{allowed, barred}
-use Rattle.engine.specs.Calls.{Call, opens, propose, endorse, certify, accept, advance, commit, enqueue, draw, port, aside}
+use Rattle.engine.specs.Calls.{Call, opens}
 use Rattle.engine.proofs.GuestLaws.{call-rights}
 use Rattle.words.specs.States.{state_in}
-use Rattle.hosting.specs.Calls.{Result, packed, Done, use_of, engine_for, refused, result_of}
+use Rattle.hosting.specs.Calls.{Result, use_of, engine_for, refused, result_of}
 use Rattle.hosting.proofs.RefusalLaws.{refused-same}
 use Rattle.hosting.proofs.NextLaws.{accepted-gives}
-use Rattle.hosting.specs.Guested.{rights_in, caller_number, as_guest, AllowedOverWords, NoninterferenceOverWords, NoOpening, RightsWordStays}
+use Rattle.hosting.specs.Guested.{rights_in, caller_number, as_guest, NoOpening, RefusedAlike}
+use Rattle.terms.specs.Rights.{may}
+use Rattle.std.specs.Prelude.{true, false, Bool}
+use Rattle.hosting.specs.Handed.{Handed}
 
 module _ (w t o : List ℕ) (c : ℕ) (r : Right) (x : Result) where
   pub guest-barred : caller_number w c r ≢ 0 → as_guest w t o c r x ≡ refused w t o (caller_number w c r)
@@ -25,24 +27,14 @@ module _ (w t o : List ℕ) (c : ℕ) (r : Right) (x : Result) where
   pub guest-allowed : caller_number w c r ≡ 0 → as_guest w t o c r x ≡ x
   unfolding as_guest
   guest-allowed h = rw (eq-eqb (caller_number w c r) 0 h) refl
-
   -- what the code does: the number n refuses, or is 0
-  module _ {answer : Result → ℕ} {n : ℕ} {a : ℕ} (e : n ≡ caller_number w c r) where
-    pub done-barred : n ≢ 0 → a ≡ answer (refused w t o n) → Done answer (as_guest w t o c r x) a w t o
-    done-barred h q = rw (guest-barred (λ z. h (e ∙ z)), ← e) (record { its-answer = q; its-state = refl; its-table = refl; its_out = refl })
 
-    pub done-allowed : {s : List ℕ} {u : List ℕ} {z : List ℕ} → n ≡ 0 → Done answer x a s u z → Done answer (as_guest w t o c r x) a s u z
-    done-allowed h d = rw (guest-allowed (sym e ∙ h)) d
-
-  -- refused, where the answer has a value
-  pub done-barred-packed : {n : ℕ} {a : ℕ} → n ≡ caller_number w c r → n ≢ 0 → a ≡ n * 4294967296 → Done packed (as_guest w t o c r x) a w t o
-  done-barred-packed e h q = done-barred e h (omega arith)
-
--- the claims
-pub allowed_over_words : AllowedOverWords
+-- a caller with the right gets what the host's own call comes to
+pub allowed_over_words : (w t o : List ℕ) (c : ℕ) (r : Right) → may (rights_in w) r c ≡ true → (x : Result) → as_guest w t o c r x ≡ x
 allowed_over_words w t o c r h x = guest-allowed w t o c r x (allowed (rights_in w) r c h)
 
-pub noninterference_over_words : NoninterferenceOverWords
+-- noninterference: so it is of two states with the same rights and a caller lacking one, whatever their other words, tables and lent lists, and whatever is handed in
+pub noninterference_over_words : (w t o v u p : List ℕ) → rights_in w ≡ rights_in v → (c : ℕ) (r : Right) → may (rights_in w) r c ≡ false → (x y : Result) → RefusedAlike w t o v u p c r x y
 noninterference_over_words w t o v u p q c r h x y =
     let n = barred (rights_in w) r c h in
     record { first = guest-barred w t o c r x n; second = rw (← q) at (guest-barred v u p c r y (rw (← q) n)) }
@@ -50,23 +42,15 @@ noninterference_over_words w t o v u p q c r h x y =
 -- the engine that a call but open is made on
 read-state : (w t o : List ℕ) (k : Call) → NoOpening k → (engine_for w t o (use_of k)).state ≡ state_in w
 read-state w t o (opens own sheet) q = absurd (q own sheet refl)
-read-state w t o (propose b) q = refl
-read-state w t o (endorse p) q = refl
-read-state w t o (certify d) q = refl
-read-state w t o (accept c) q = refl
-read-state w t o advance q = refl
-read-state w t o commit q = refl
-read-state w t o (enqueue g x) q = refl
-read-state w t o (draw v) q = refl
-read-state w t o (port x) q = refl
-read-state w t o (aside x) q = refl
+read-state w t o c q = refl
 
 -- the rights of the state that words give
 rights-read : (w : List ℕ) → (state_in w).rights ≡ rights_in w
 unfolding state_in
 rights-read w = refl
 
-pub rights_word_stays : RightsWordStays
+-- no call but open changes the word of rights, accepted or refused, on a state that is well formed or not
+pub rights_word_stays : (w t o : List ℕ) (b : Bool) (k : Call) → Handed b k → NoOpening k → rights_in (result_of w t o b k).state ≡ rights_in w
 rights_word_stays w t o b k h other = go (ℕ_discrete (result_of w t o b k).refusal 0)
   where
     go : Dec ((result_of w t o b k).refusal ≡ 0) → rights_in (result_of w t o b k).state ≡ rights_in w

@@ -18,7 +18,7 @@ use Rattle.open.specs.Open.{fresh_state}
 use Rattle.commit.specs.Commit.{blocks_then, with_blocks}
 use Rattle.queues.specs.Queues.{transactions_in}
 use Rattle.draw.specs.Draw.{draws, drawn_body}
-use Rattle.engine.specs.Calls.{Call, opens, propose, endorse, certify, accept, advance, commit, enqueue, draw, port, aside}
+use Rattle.engine.specs.Calls.{Call, opens, propose, advance, commit, draw}
 use Rattle.engine.specs.Engine.{after}
 use Rattle.engine.specs.Steps.{SetInRange}
 use Rattle.engine.proofs.AfterLaws.{renewed, accepted-new}
@@ -28,7 +28,7 @@ use Rattle.words.specs.States.{state_reads, state_in, state_words}
 use Rattle.words.specs.TidyStates.{tidy_body, tidy}
 use Rattle.hosting.specs.Handed.{Handed}
 use Rattle.hosting.specs.Calls.{Use, writes, rewrites, accesses, reads, use_of, serves, engine_for, state_over, result_of}
-use Rattle.words.proofs.ReadingLaws.{state-read, set-read}
+use Rattle.words.proofs.ReadingLaws.{state-read}
 use Rattle.words.proofs.TidyLaws.{tidy-by, of-tidy, weights-tidy, filled-tidy, own-proposal-tidy}
 use Rattle.words.proofs.BackLaws.{put_back, put-read}
 use Rattle.hosting.proofs.CallLaws.{AcceptedCall, accepted-call}
@@ -43,9 +43,9 @@ module _ (w t o : List ℕ) where
 
   set_in_range : (u : Use) → serves w t o u ≡ true → SetInRange (engine_for w t o u)
   set_in_range writes r = omega arith
-  set_in_range rewrites r = set-read w r
-  set_in_range (accesses x) r = set-read w r
-  set_in_range (reads n) r = set-read w (both (state_reads w) (leb n (length o)) r).0
+  set_in_range rewrites r = (state-read w r).set
+  set_in_range (accesses x) r = (state-read w r).set
+  set_in_range (reads n) r = (state-read w (both (state_reads w) (leb n (length o)) r).0).set
 
   module _ {b : Bool} {c : Call} (h : Handed b c) (a : AcceptedCall w t o b c) where
     pub well-left : WellLeft (after (engine_for w t o (use_of c)) c)
@@ -71,15 +71,10 @@ module _ (w t o : List ℕ) where
   left : (c : Call) → ((x : Body) → c ≡ propose x → tidy_body x ≡ x) → Left (use_of c) (renewed (engine_for w t o (use_of c)) c).state
   left (opens own sheet) h = tidy-by (fresh_state own (filled sheet) sheet.rights) (filled-tidy sheet) refl
   left (propose b) h = tidy-by (proposed (state_in w) b) (weights-tidy w) (ap Some (h b refl))
-  left (endorse p) h = refl
-  left (certify d) h = refl
-  left (accept c) h = refl
   left advance h = tidy-by (advanced (state_in w)) (weights-tidy w) refl
   left commit h = blocks-tidy (blocks_then (state_in w) t)
-  left (enqueue g x) h = refl
   left (draw v) h = tidy-by (proposed (state_in w) (drawn_body (state_in w) t v)) (weights-tidy w) (ap Some (drawn-tidy (state_in w) v))
-  left (port x) h = refl
-  left (aside x) h = refl
+  left c h = refl
 
   put-gives : (s : State) → state_length ≤ length w → (own_body s).previous < 65536 → tidy s ≡ s → Gives (paste w 0 (state_words s) state_length) s
   put-gives s l i e = record { can_read = put-read w s l i; gives = put_back w s l ∙ e }

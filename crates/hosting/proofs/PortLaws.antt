@@ -3,18 +3,17 @@ use mathlib.Core.Path.{◌≡◌, refl, sym, ◌∙◌}
 use mathlib.Core.Bool.{Bool, true, false, cond, ◌&&◌}
 use mathlib.Core.List.{List, [], ◌∷◌}
 use mathlib.Core.Logic.{◌≢◌}
-use Prim.Native.Nat.{ℕ, ◌*◌}
+use Prim.Native.Nat.{ℕ, ◌<◌, ◌≤◌}
 use native.Mathlib.Omega.{arith}
 use Rattle.base.specs.Checks.{refusal}
 use borrow.Author.Tests.{lt-ltb, le-ltb}
 use Rattle.base.proofs.CheckLaws.{numbered, first-refuses, first_passes, passes, refuses}
-use Rattle.serial.specs.Calls.{PortCall, offset_of, access, reset}
+use Rattle.serial.specs.Calls.{PortCall, Access, offset_of, access, reset}
 use Rattle.serial.specs.Serial.{early_checks, port_refusal}
 use Rattle.serial.proofs.PassedLaws.{early-refused}
 use Rattle.engine.specs.Calls.{port}
 use Rattle.words.specs.States.{state_reads}
-use Rattle.hosting.specs.Calls.{Result, packed, Done, engine_in, answered, refused, unread, accesses, result_of}
-use Rattle.hosting.specs.Ports.{RefusedFirst}
+use Rattle.hosting.specs.Calls.{Result, Done, engine_in, answered, refused, unread, accesses, result_of}
 use Rattle.hosting.proofs.CallLaws.{done-unserved}
 use Rattle.hosting.proofs.RefusalLaws.{refused-same}
 
@@ -33,9 +32,6 @@ module _ (w t o : List ℕ) (b : Bool) (x : PortCall) {n : ℕ} (q : n ≡ refus
       let y : result_of w t o b (port x) ≡ refused w t o n = refused-same w t o b (port x) (λ k. h (sym z ∙ k)) ∙ rw z refl in
       rw y (record { its-answer = e; its-state = refl; its-table = refl; its_out = refl })
 
-  pub done-early-packed : {r : ℕ} → n ≢ 0 → r ≡ n * 4294967296 → Done packed (result_of w t o b (port x)) r w t o
-  done-early-packed h e = done-early h (omega arith)
-
   -- then 1, where they cannot
   passed-unread : numbered (early_checks x) ≡ true → n ≡ 0 → unread (accesses x) ≡ 1
   passed-unread p z = first_passes (early_checks x) ((true, 1) ∷ []) p (sym q ∙ z) ∙ refuses 1 [] refl
@@ -43,11 +39,14 @@ module _ (w t o : List ℕ) (b : Bool) (x : PortCall) {n : ℕ} (q : n ≡ refus
   pub done-unread-port : {answer : Result → ℕ} {r : ℕ} → numbered (early_checks x) ≡ true → n ≡ 0 → state_reads w ≡ false → r ≡ answer (refused w t o 1) → Done answer (result_of w t o b (port x)) r w t o
   done-unread-port p z k e = done-unserved w t o b (port x) k (rw (passed-unread p z) e)
 
--- the claim
-pub refused_first : RefusedFirst
-refused_first =
-    record {
-      above = λ w t o b g a h. early-number w t o b (access g a) (sym (refuses 26 _ (lt-ltb 7 g h))) (λ z. omega arith);
-      offset = λ w t o b g a l h. early-number w t o b (access g a) (sym (passes 26 _ (le-ltb 7 g l) ∙ refuses 31 _ (lt-ltb 7 (offset_of a) h))) (λ z. omega arith);
-      resetting = λ w t o b g h. early-number w t o b (reset g) (sym (refuses 26 _ (lt-ltb 7 g h))) (λ z. omega arith);
-    }
+-- whatever words are lent: an access to a port above 7
+pub access_above : (w t o : List ℕ) (b : Bool) (g : ℕ) (a : Access) → 7 < g → (result_of w t o b (port (access g a))).refusal ≡ 26
+access_above w t o b g a h = early-number w t o b (access g a) (sym (refuses 26 _ (lt-ltb 7 g h))) (λ z. omega arith)
+
+-- one at an offset above 7
+pub offset_above : (w t o : List ℕ) (b : Bool) (g : ℕ) (a : Access) → g ≤ 7 → 7 < offset_of a → (result_of w t o b (port (access g a))).refusal ≡ 31
+offset_above w t o b g a l h = early-number w t o b (access g a) (sym (passes 26 _ (le-ltb 7 g l) ∙ refuses 31 _ (lt-ltb 7 (offset_of a) h))) (λ z. omega arith)
+
+-- a reset of a port above 7
+pub reset_above : (w t o : List ℕ) (b : Bool) (g : ℕ) → 7 < g → (result_of w t o b (port (reset g))).refusal ≡ 26
+reset_above w t o b g h = early-number w t o b (reset g) (sym (refuses 26 _ (lt-ltb 7 g h))) (λ z. omega arith)

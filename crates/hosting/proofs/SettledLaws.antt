@@ -2,12 +2,12 @@
 use mathlib.Core.Path.{◌≡◌, refl, sym, ap, ◌∙◌}
 use mathlib.Core.Bool.{Bool, true, false, cond}
 use mathlib.Core.List.{List, []}
-use Prim.Native.Nat.{ℕ, ◌+◌, ◌*◌, ◌<◌, ◌≤◌}
+use Prim.Native.Nat.{ℕ, ◌+◌, ◌*◌, ◌≤◌}
 use native.Mathlib.Omega.{arith}
-use lib.Dec.{eqb, leb}
+use lib.Dec.{eqb}
 use lib.ListN.{length}
 use lib.Seq.{paste}
-use borrow.Author.Tests.{eq-eqb, ne_eqb, le-leb, lt-leb}
+use borrow.Author.Tests.{eq-eqb, ne_eqb, le-leb}
 use Rattle.std.specs.Prelude.{Result, Ok, Err, IfOk}
 use Rattle.refusals.specs.declared.Refusal.{Refusal}
 use Rattle.refusals.specs.Refusals.{refusal_in, packed_in}
@@ -27,11 +27,11 @@ use Rattle.serial.specs.Calls.{PortCall}
 use Rattle.words.specs.Lengths.{state_length}
 use Rattle.words.specs.Words.{Narrow}
 use Rattle.words.specs.States.{state_reads, state_words}
-use Rattle.words.proofs.ReadingLaws.{state-read, set-read}
+use Rattle.words.proofs.ReadingLaws.{state-read}
 use Rattle.hosting.specs.Calls as hosting
 use Rattle.hosting.specs.Calls.{plain, packed, Done, writes, rewrites, reads, room_for, use_of, value_word, engine_in, serves, engine_for, state_over, out_over, answered, result_of}
 use Rattle.hosting.specs.Answers.{over}
-use Rattle.hosting.proofs.CallLaws.{both_read, left-unread, right-unread, done-unserved, done-unread, done-read}
+use Rattle.hosting.proofs.CallLaws.{both_read, done-read}
 
 -- ---- what cannot be read: answered with 1, and nothing changes
 
@@ -45,13 +45,6 @@ module _ (w t o : List ℕ) (b : Bool) (c : Call) where
   serving (by_rewriting u) e h = rw u e
   serving {n} (by-reading u) e h = rw u (both_read e (le-leb n (length o) h))
 
-  unserved : {n : ℕ} → Plainly c n → state_reads w ≡ false → serves w t o (use_of c) ≡ false
-  unserved (by_rewriting u) e = rw u e
-  unserved {n} (by-reading u) e = rw u (left-unread (leb n (length o)) e)
-
-  crowded : {n : ℕ} → use_of c ≡ reads n → length o < n → serves w t o (use_of c) ≡ false
-  crowded {n} u h = rw u (right-unread (state_reads w) (lt-leb n (length o) h))
-
   one : {n : ℕ} → Plainly c n → hosting.unread (use_of c) ≡ 1
   one (by_rewriting u) = rw u refl
   one (by-reading u) = rw u refl
@@ -59,16 +52,6 @@ module _ (w t o : List ℕ) (b : Bool) (c : Call) where
   for_it : {n : ℕ} → Plainly c n → engine_for w t o (use_of c) ≡ engine_in w t
   for_it (by_rewriting u) = rw u refl
   for_it (by-reading u) = rw u refl
-
-  module _ {answer : hosting.Result → ℕ} {n : ℕ} {r : ℕ} (k : Plainly c n) (q : r ≡ answer (hosting.refused w t o 1)) where
-    pub state-unread : state_reads w ≡ false → Done answer (result_of w t o b c) r w t o
-    state-unread e = done-unserved w t o b c (unserved k e) (rw (one k) q)
-
-    pub handed-unread : b ≡ false → Done answer (result_of w t o b c) r w t o
-    handed-unread e = done-unread w t o b c e (rw (one k) q)
-
-  pub no_room : {n : ℕ} → use_of c ≡ reads n → length o < n → Done plain (result_of w t o b c) 1 w t o
-  no_room u h = done-unserved w t o b c (crowded u h) (rw u refl)
 
   -- ---- what can be read
 
@@ -138,11 +121,6 @@ module _ (w t : List ℕ) (b : Bool) (c : Call) (k : use_of c ≡ rewrites) (e :
       → Done plain (result_of w t [] b c) (refusal_in r) u v []
   rewritten r s g i j h = rewritten-by r s g i j h g
 
-  -- and has one
-  pub rewritten-told : (r : Result ℕ Refusal) {u v : List ℕ} (s : State) → refusal_in r ≡ refusal_for on c → IfOk r (λ x. x ≡ value_word (accepted_value on c)) → s ≡ (after on c).state → v ≡ (after on c).table
-      → u ≡ over r w (state_words s) state_length → Done packed (result_of w t [] b c) (packed_in r) u v []
-  rewritten-told r s g x i j h = rewritten-by r s g i j h (packed-by on c r g x)
-
 -- a call that writes them without reading them
 pub freshly-written : (w t : List ℕ) (b : Bool) (c : Call) (r : Result Unit Refusal) {u v : List ℕ} (s : State) → use_of c ≡ writes → state_length ≤ length w → b ≡ true
     → let e = engine_for w t [] writes in out_over w t [] (accepted_value e c) ≡ [] → refusal_in r ≡ refusal_for e c → s ≡ (after e c).state → v ≡ (after e c).table
@@ -204,10 +182,6 @@ module _ (w t : List ℕ) (x : PortCall) (e : state_reads w ≡ true) (q : out_o
   pub ported : (r : Result Unit Refusal) {v : List ℕ} → refusal_in r ≡ refusal_for (engine_in w t) (port x) → v ≡ (after (engine_in w t) (port x)).table → Done plain (result_of w t [] true (port x)) (refusal_in r) w v []
   ported r g j = done-kept w t [] true (port x) e refl q g j (λ s. refl)
 
-  pub ported-told : (r : Result ℕ Refusal) {v : List ℕ} → refusal_in r ≡ refusal_for (engine_in w t) (port x) → IfOk r (λ m. m ≡ value_word (accepted_value (engine_in w t) (port x))) → v ≡ (after (engine_in w t) (port x)).table
-      → Done packed (result_of w t [] true (port x)) (packed_in r) w v []
-  ported-told r g i j = done-kept w t [] true (port x) e refl q (packed-by (engine_in w t) (port x) r g i) j (λ s. refl)
-
 -- ---- what fits a word each
 
 pub narrow : (S : Settings) → SettingsFit S → Narrow S.weights
@@ -221,4 +195,4 @@ narrow-left e low c i a q =
 
 -- so what is asked where it is put over the state's words
 pub fits-over : (w t : List ℕ) (c : Call) {s : State} → state_reads w ≡ true → InRange c → refusal_for (engine_in w t) c ≡ 0 → s ≡ (after (engine_in w t) c).state → (state_length ≤ length w) × Narrow s.settings.weights
-fits-over w t c e i a q = ((state-read w e).long, narrow-left (engine_in w t) (set-read w e) c i a q)
+fits-over w t c e i a q = let r = state-read w e in (r.long, narrow-left (engine_in w t) r.set c i a q)

@@ -9,9 +9,9 @@ use Rattle.preview.specs.Entries.{words_of}
 use Rattle.critical.specs.Critical.{place_words}
 use Rattle.serial.specs.Calls.{PortCall}
 use Rattle.serial.specs.Serial.{early_checks}
-use Rattle.engine.specs.Calls.{Aside, committee, share, effect, certificate, block, preview, critical, listing, Call, opens, propose, endorse, certify, accept, advance, commit, enqueue, draw, port, aside}
+use Rattle.engine.specs.Calls.{Aside, committee, effect, certificate, Call, opens, propose, endorse, certify, accept, advance, commit, enqueue, draw, port, aside}
 use Rattle.engine.specs.Engine.{Engine, refusal_for, after}
-use Rattle.engine.specs.Values.{Value, nothing, number, weights, shares, held, entries, places, chain, value_of}
+use Rattle.engine.specs.Values.{Value, number, weights, shares, held, entries, places, value_of}
 use Rattle.words.specs.Lengths.{state_length, held_length, committee_length, effect_length}
 use Rattle.words.specs.Words.{weight_words}
 use Rattle.words.specs.Proposals.{held_words}
@@ -52,13 +52,9 @@ pub data Use : Type 0 where
 -- how many words of the out stretch a read needs; a preview and the list of critical certificates test by themselves whether there are enough, and hosts are offered no listing of the chain
 abbrev pub room_for : Aside → ℕ
 room_for (committee r) = committee_length
-room_for (share m r) = 0
 room_for (effect m r a) = effect_length
 room_for (certificate m r) = held_length
-room_for (block n) = 0
-room_for (preview n) = 0
-room_for (critical n) = 0
-room_for listing = 0
+room_for c = 0
 
 abbrev pub use_of : Call → Use
 use_of (opens own sheet) = writes
@@ -82,14 +78,10 @@ unread (reads n) = 1
 
 -- the value of a packed answer; of what is listed its number
 abbrev pub value_word : Value → ℕ
-value_word nothing = 0
 value_word (number n) = n
-value_word (weights x) = 0
-value_word (shares x) = 0
-value_word (held p endorsers k) = 0
 value_word (entries l) = length l
 value_word (places l) = length l
-value_word (chain c) = 0
+value_word c = 0
 
 -- the engine that the state's words and the table give
 abbrev pub engine_in : List ℕ → List ℕ → Engine
@@ -124,14 +116,12 @@ module _ (w t o : List ℕ) where
 
   -- the out stretch; entries have three words each, places two, and its rest stays
   abbrev pub out_over : Value → List ℕ
-  out_over nothing = o
-  out_over (number n) = o
   out_over (weights x) = paste o 0 (weight_words x) committee_length
   out_over (shares x) = paste o 0 (effect_words x) effect_length
   out_over (held p endorsers k) = paste o 0 (held_words p endorsers k) held_length
   out_over (entries l) = sets o 0 (words_of l)
   out_over (places l) = sets o 0 (place_words l)
-  out_over (chain c) = o
+  out_over c = o
 
   -- ---- a call
 

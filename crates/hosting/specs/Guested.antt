@@ -1,14 +1,13 @@
 -- Guests' calls over the words that a host lends: the complete answer, and what the stretches hold afterwards, refusals included (docs/RULES.md, "Rights").
-use Rattle.std.specs.Prelude.{◌≡◌, Bool, true, false, cond, List, ◌≢◌, ℕ, eqb}
+use Rattle.std.specs.Prelude.{◌≡◌, Bool, cond, List, ◌≢◌, ℕ, eqb}
 use Rattle.terms.specs.declared.Member.{Member}
 use Rattle.terms.specs.declared.sheet.Rights.{Rights}
 use Rattle.terms.specs.declared.sheet.Sheet.{Sheet}
 use Rattle.terms.specs.declared.rights.Right.{Right}
-use Rattle.terms.specs.Rights.{may, caller_refusal}
+use Rattle.terms.specs.Rights.{caller_refusal}
 use Rattle.engine.specs.Calls.{Call, opens}
 use Rattle.engine.specs.Guests.{GuestCall, needs, as_host}
 use Rattle.words.specs.Words.{word}
-use Rattle.hosting.specs.Handed.{Handed}
 use Rattle.hosting.specs.Calls.{Result, refused, result_of}
 
 -- word 38 of a state, whatever else its words are; where there are fewer words nobody has a right
@@ -29,23 +28,11 @@ module _ (w t o : List ℕ) (c : ℕ) where
   abbrev pub guest_result : Bool → GuestCall → Result
   guest_result b k = as_guest (needs k) (result_of w t o b (as_host c k))
 
--- a caller with the right gets what the host's own call comes to
-abbrev pub AllowedOverWords : Type 0
-AllowedOverWords = (w t o : List ℕ) (c : ℕ) (r : Right) → may (rights_in w) r c ≡ true → (x : Result) → as_guest w t o c r x ≡ x
-
 -- on both states the same number, no value, and no word changes
 pub record RefusedAlike (w t o v u p : List ℕ) (c : ℕ) (r : Right) (x y : Result) : Type 0 where
   pub first : as_guest w t o c r x ≡ refused w t o (caller_number w c r)
   pub second : as_guest v u p c r y ≡ refused v u p (caller_number w c r)
 
--- noninterference: so it is of two states with the same rights and a caller lacking one, whatever their other words, tables and lent lists, and whatever is handed in
-abbrev pub NoninterferenceOverWords : Type 0
-NoninterferenceOverWords = (w t o v u p : List ℕ) → rights_in w ≡ rights_in v → (c : ℕ) (r : Right) → may (rights_in w) r c ≡ false → (x y : Result) → RefusedAlike w t o v u p c r x y
-
 -- the call is no open
 abbrev pub NoOpening : Call → Type 0
 NoOpening k = (own : Member) (sheet : Sheet) → k ≢ opens own sheet
-
--- no call but open changes the word of rights, accepted or refused, on a state that is well formed or not
-abbrev pub RightsWordStays : Type 0
-RightsWordStays = (w t o : List ℕ) (b : Bool) (k : Call) → Handed b k → NoOpening k → rights_in (result_of w t o b k).state ≡ rights_in w

@@ -3,5 +3,4 @@ pub mod Answers
 pub mod Handed
 pub mod Held
 pub mod Bounds
-pub mod Ports
 pub mod Guested

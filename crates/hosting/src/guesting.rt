@@ -9,26 +9,24 @@ use refusals::Refusal;
 use terms::rights;
 use terms::rights::Right;
 use terms::sheet::Rights;
-use words::bodies::lengths::STATE;
 
 // The rights that the words of a state give, well formed or not; too few words give nobody a right.
 fn rights_in(state: &[u32]) -> Rights
     ensures { result ≡ rights_in state.now }
 {
-    if state.len() < STATE {
-        return Rights(0);
-    }
-    Rights(state[38])
+    Rights(state.get(38).copied().unwrap_or(0))
 }
 
-/// Is the caller 0 to 7, and has it the right?
-#[tactic(auto, unfolding(base::specs::Checks::refusal, terms::specs::Rights::caller_refusal, terms::specs::Rights::may, terms::specs::Rights::right_number))]
+/// Is the caller 0 to 7, and has it the right? Refused with 26 where it is above 7, and with 29 where it has not.
+#[tactic(auto, unfolding(base::specs::Checks::refusal, terms::specs::Rights::caller_refusal))]
 pub fn check(state: &[u32], right: Right, caller: u32) -> Result<(), Refusal>
     ensures { refusal_in result ≡ caller_refusal (rights_in state.now) right caller }
 {
-    match rights::caller_refusal(rights_in(state), right, caller) {
-        0 => Ok(()),
-        26 => Err(Refusal::NoSuchCaller),
-        _ => Err(Refusal::RightMissing),
+    if 7 < caller {
+        return Err(Refusal::NoSuchCaller);
     }
+    if !rights::has_right(rights_in(state), right, caller) {
+        return Err(Refusal::RightMissing);
+    }
+    Ok(())
 }

@@ -27,6 +27,7 @@ pub fn bounded_over_words()
 {}
 
 /// No share in the words moves further than word 32 says, and one moves as far.
+#[tactic(auto, using(crate::proofs::BoundLaws::none_moves_further_over_words, crate::proofs::BoundLaws::one_moves_as_far_over_words))]
 pub fn largest_over_words()
     ensures bound { (w t o : List ℕ) (m : Member) (r : Round) (a : ℕ) → (effect_result w t o m r a).refusal ≡ 0 → (i : ℕ) → i < 16
         → moved_in (effect_result w t o m r a).out i ≤ word (effect_result w t o m r a).out 32 }
@@ -41,7 +42,8 @@ pub fn shares_over_words()
         → word (effect_result w t o m r a).out i.0 ≡ (result_of w t [] true (aside (share i r))).value }
 {}
 
-/// Whatever words are lent: an access or a reset of a port above 7 is refused with 26, and an access at an offset above 7 with 31.
+/// Whatever words are lent, read or not: an access or a reset of a port above 7 is refused with 26, and an access at an offset above 7 with 31.
+#[tactic(auto, using(crate::proofs::PortLaws::access_above, crate::proofs::PortLaws::offset_above, crate::proofs::PortLaws::reset_above))]
 pub fn refused_first()
     ensures above { (w t o : List ℕ) (b : Bool) (g : ℕ) (a : Access) → 7 < g → (result_of w t o b (port (access g a))).refusal ≡ 26 }
     ensures offset { (w t o : List ℕ) (b : Bool) (g : ℕ) (a : Access) → g ≤ 7 → 7 < offset_of a → (result_of w t o b (port (access g a))).refusal ≡ 31 }

@@ -8,9 +8,9 @@ use lib.Dec.{eqb}
 use lib.ListN.{length}
 use Rattle.base.specs.Options.{if_there}
 use Rattle.terms.specs.declared.Certificate.{Certificate}
-use Rattle.engine.specs.Calls.{Call, opens, accept}
+use Rattle.engine.specs.Calls.{Call, accept}
 use Rattle.engine.specs.Engine.{Engine, after}
-use Rattle.engine.specs.Sequences.{after_calls, NoOpen, NoOpens, after_opening}
+use Rattle.engine.specs.Sequences.{after_calls, NoOpen, NoOpens, after_opening, Opening}
 use Rattle.engine.proofs.GuestLaws.{guest-opens-none}
 use Rattle.batch.specs.Batch.{Row, turns_of, batch_refusal}
 use Rattle.nonforking.specs.Stored.{Holds, Shows}
@@ -20,7 +20,8 @@ use Rattle.submissions.specs.Submissions.{Submission, one, batch, after_submissi
 use Rattle.submissions.specs.Requests.{Asked, asks, asks_batch, Request, host, guest, submitted_by, caller_number, submission_of, after_requests, NoOpenAsked, NoOpensAsked}
 use Rattle.submissions.proofs.SubmissionLaws.{leaves_as_its_calls}
 use Rattle.submissions.proofs.RequestLaws.{left_by}
-use Rattle.kept.specs.Kept.{calls_asked, LeavesAsCalls, CertificateStaysThen, StoredHeldThen, HeldStoredThen, StoredShownThen}
+use Rattle.kept.specs.Kept.{calls_asked, AskedInRange, StoredThen}
+use Rattle.terms.specs.Proposals.{Content}
 
 -- ---- what requests leave
 
@@ -30,7 +31,8 @@ unfolding after_calls
 after-join e [] m = refl
 after-join e (c ∷ l) m = ap (λ (x : Engine). after x c) (after-join e l m)
 
-pub leaves_as_calls : LeavesAsCalls
+-- requests leave what the calls leave that they count as
+pub leaves_as_calls : (e : Engine) (l : List Request) → after_requests e l ≡ after_calls e (calls_asked e l)
 unfolding after_requests after_calls calls_asked
 leaves_as_calls e [] = refl
 leaves_as_calls e (x ∷ l) = left_by (after_requests e l) x ∙ go (submission_of (after_requests e l) x) (leaves_as_calls e l)
@@ -94,16 +96,21 @@ no_opens e (x ∷ l) n =
 
 -- ---- the claims
 
-pub certificate_stays_then : CertificateStaysThen
+-- a held certificate stays held, with its proposal and its endorsers, as long as no open is accepted
+pub certificate_stays_then : (e : Engine) (l : List Request) → NoOpensAsked e l → (a r : ℕ) (p : Content) (d : ℕ) → Holds e.table a r p d → Holds (after_requests e l).table a r p d
 certificate_stays_then e l n a r p d h = subst (λ (x : Engine). Holds x.table a r p d) (sym (leaves_as_calls e l)) (certificate_stays e (calls_asked e l) (no_opens e l n) a r p d h)
 
-pub stored_held_then : StoredHeldThen
+-- from an opening: what was taken is held, with the endorsers that it was taken with
+pub stored_held_then : (x : Opening) (l : List Request) → AskedInRange (after_opening x) l → (p : Content) (d : ℕ) → StoredThen (after_opening x) l p d → Holds (after_requests (after_opening x) l).table p.author p.round p d
 stored_held_then x l i p d k = subst (λ (e : Engine). Holds e.table p.author p.round p d) (sym (leaves_as_calls (after_opening x) l)) (stored_held x (calls_asked (after_opening x) l) i p d k)
 
-pub held_stored_then : HeldStoredThen
+-- and what is held was taken, with those endorsers
+pub held_stored_then : (x : Opening) (l : List Request) → AskedInRange (after_opening x) l → (a r : ℕ) (p : Content) (d : ℕ) → r ≤ (after_requests (after_opening x) l).state.settings.ceiling.0
+    → Holds (after_requests (after_opening x) l).table a r p d → StoredThen (after_opening x) l p d
 held_stored_then x l i a r p d to h =
     let q = leaves_as_calls (after_opening x) l in
     held_stored x (calls_asked (after_opening x) l) i a r p d (subst (λ (e : Engine). r ≤ e.state.settings.ceiling.0) q to) (subst (λ (e : Engine). Holds e.table a r p d) q h)
 
-pub stored_shown_then : StoredShownThen
+-- what is held so, the read shows
+pub stored_shown_then : (x : Opening) (l : List Request) → AskedInRange (after_opening x) l → (p : Content) (d : ℕ) → StoredThen (after_opening x) l p d → Shows (after_requests (after_opening x) l) p.author p.round p d
 stored_shown_then x l i p d k = subst (λ (e : Engine). Shows e p.author p.round p d) (sym (leaves_as_calls (after_opening x) l)) (stored_shown x (calls_asked (after_opening x) l) i p d k)

@@ -1,15 +1,12 @@
 -- What is claimed of runs, where members ask by batches and guests' requests too.
-use Rattle.std.specs.Prelude.{◌≡◌, true, List, ◌∷◌, ◌++◌, ℕ}
+use Rattle.std.specs.Prelude.{◌≡◌, List, ℕ}
 use Rattle.agreement.specs.Entries as entries
-use Rattle.agreement.specs.Rules.{Block, Chain}
-use Rattle.terms.specs.Proposals.{Content}
-use Rattle.rules.specs.AnchorStarts.{StartsWithAnchor}
 use Rattle.engine.specs.Engine.{Engine}
-use Rattle.nonforking.specs.Statement.{chain, Members, Entry, engine_after, engine_behaviour, Run, Agreed}
+use Rattle.nonforking.specs.Statement.{Members, Entry, engine_after, engine_behaviour, Run}
 use Rattle.submissions.specs.Submissions.{unrolled}
-use Rattle.submissions.specs.Requests.{Request, engine_asked, submitted, ChainsNeverForkWithGuests}
+use Rattle.submissions.specs.Requests.{Request, engine_asked, submitted}
 use Rattle.earlier.specs.Refusing.{accepted_only, answering_as, WasAllowed}
-use Rattle.earlier.specs.Earlier.{earlier_behaviour, MembersRefuseMore}
+use Rattle.earlier.specs.Earlier.{MembersRefuseMore}
 
 -- the calls that members' requests count as
 abbrev pub counted : Members engine_behaviour → List (entries.Entry Request) → List Entry
@@ -19,19 +16,7 @@ counted X l = unrolled X (submitted X l)
 abbrev pub CarriesToRequests : Type 1
 CarriesToRequests = (X : Members engine_behaviour) (Q : (ℕ → Engine) → Type 0) → ((l : List Entry) → Run X l → Q (engine_after X l)) → (l : List (entries.Entry Request)) → Run X (counted X l) → Q (engine_asked X l)
 
--- the order inside a block starts with the author of its anchor, for each block of each correct member
-abbrev pub StartsWithAnchorThen : Type 0
-StartsWithAnchorThen = (X : Members engine_behaviour) (l : List (entries.Entry Request)) → Run X (counted X l) → (i : ℕ) → X.correct i ≡ true
-    → (newer : Chain Content) (b : Block Content) (c : Chain Content) → chain (engine_asked X l i) ≡ newer ++ (b ∷ c) → StartsWithAnchor X.settings (chain (engine_asked X l i)) b c
-
 -- the calls that the requests l count as, the refused ones left out, were allowed before an advance asked for a quorum, and led to the same engines
 pub record AllowedThen (R : MembersRefuseMore) (X : Members engine_behaviour) (l : List (entries.Entry Request)) : Type 0 where
   pub allowed : WasAllowed R X (counted X l)
   pub engines : (i : ℕ) → engine_after (answering_as R X) (accepted_only X (counted X l)) i ≡ engine_asked X l i
-
-abbrev pub WasAllowedEarlierThen : Type 0
-WasAllowedEarlierThen = (R : MembersRefuseMore) (X : Members engine_behaviour) (l : List (entries.Entry Request)) → Run X (counted X l) → AllowedThen R X l
-
--- if members never parted by the rules of then, they do not now, batches and guests' requests among what they ask
-abbrev pub AgreementCarriesOverThen : Type 0
-AgreementCarriesOverThen = ((X : Members earlier_behaviour) (l : List Entry) → Run X l → Agreed X l) → ChainsNeverForkWithGuests

@@ -9,12 +9,12 @@ use lib.Dec.{eqb}
 use Rattle.base.specs.Options.{if_there}
 use Rattle.agreement.specs.Entries.{states}
 use Rattle.engine.specs.Engine.{Engine}
-use Rattle.nonforking.specs.Statement.{Prefix, Knows, weights, engine_after}
+use Rattle.nonforking.specs.Statement.{Prefix, Knows, weights, engine_after, Run}
 use Rattle.submissions.specs.Requests.{Request, engine_asked}
 use Rattle.submissions.proofs.RequestLaws.{chains_never_fork_with_guests}
 use Rattle.library.specs.Calls.{request_in}
 use Rattle.library.specs.Lists.{engine_of, after_call, Gives}
-use Rattle.library.specs.Hosts.{Hosts, members, Entry, AllTyped, asked, words_after, calls_in, ChainsNeverForkOverWords}
+use Rattle.library.specs.Hosts.{Hosts, members, Entry, AllTyped, asked, words_after, calls_in, Agreed}
 use Rattle.library.proofs.StepLaws.{left}
 use Rattle.library.proofs.ListLaws.{opening-gives, call-gives}
 
@@ -34,7 +34,8 @@ module _ (X : Hosts) where
       go true e (some r) g h = rw e h
       go false e (some r) g h = rw e g
 
-pub chains_never_fork_over_words : ChainsNeverForkOverWords
+-- chains never fork, over the library's words: whatever lists of calls hosts, guests and batches make, if the calls that their words count as are a run
+pub chains_never_fork_over_words : (X : Hosts) (l : List Entry) → AllTyped l → Run (members X) (calls_in X l) → Agreed X l
 chains_never_fork_over_words X l t r =
     let d = chains_never_fork_with_guests (members X) (asked l) r in
     let e : (i : ℕ) → X.correct i ≡ true → engine_after (members X) (calls_in X l) i ≡ engine_of (words_after X l i) = λ i c. sym ((host-gives X l t i c).gives ∙ d.engines i) in

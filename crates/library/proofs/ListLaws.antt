@@ -10,8 +10,9 @@ use Rattle.hosting.proofs.CallLaws.{accepted-call}
 use Rattle.hosting.proofs.NextLaws.{accepted-gives}
 use Rattle.hosting.proofs.HandedLaws.{open_handed}
 use Rattle.library.specs.Calls.{LibraryCall, by_host, opens, host_in, Typed, request_in}
-use Rattle.library.specs.Lists.{Words, after_call, after_list, requests_in, Opening, after_opening, engine_opened, Gives, WordsGiveEngines}
+use Rattle.library.specs.Lists.{Words, after_call, after_list, requests_in, Opening, after_opening, engine_opened, Gives, AllTyped}
 use Rattle.library.proofs.StepLaws.{left, call-leaves}
+use Rattle.std.specs.Prelude.{List}
 
 -- an accepted open
 pub opening-gives : (x : Opening) → Gives (after_opening x) (engine_opened x)
@@ -26,8 +27,8 @@ opening-gives x =
 pub call-gives : (x : Words) (e : Engine) → Gives x e → (c : LibraryCall) → Typed c → Gives (after_call x c) (left e (request_in c))
 call-gives x e g c i = let k = call-leaves x.state x.table g.can_read c i in record { can_read = k.can_read; gives = k.gives ∙ ap (λ (d : Engine). left d (request_in c)) g.gives }
 
--- the claim
-pub words_give_engines : WordsGiveEngines
+-- the words that a list of calls leaves give the engine that its requests lead to
+pub words_give_engines : (x : Opening) (l : List LibraryCall) → AllTyped l → Gives (after_list (after_opening x) l) (after_requests (engine_opened x) (requests_in l))
 unfolding after_list requests_in after_requests
 words_give_engines x [] i = opening-gives x
 words_give_engines x (c ∷ l) i = go (request_in c) (call-gives (after_list (after_opening x) l) (after_requests (engine_opened x) (requests_in l)) (words_give_engines x l i.1) c i.0)

@@ -10,7 +10,7 @@ use Rattle.engine.specs.Calls.{Call}
 use Rattle.engine.specs.Guests.{as_host}
 use Rattle.submissions.specs.Submissions.{one, batch}
 use Rattle.submissions.specs.Requests as requests
-use Rattle.submissions.specs.Requests.{Asked, asks, asks_batch, needed_for, submitted_by, Request, host, guest}
+use Rattle.submissions.specs.Requests.{Asked, asks, asks_batch, needed_for, submitted_by, host, guest}
 use Rattle.words.specs.States.{state_reads}
 use Rattle.hosting.specs.Calls.{Result, use_of, engine_in, result_of}
 use Rattle.hosting.specs.Guested.{caller_number, as_guest}
@@ -19,7 +19,7 @@ use Rattle.batching.specs.declared.rows.CertificateRecord.{CertificateRecord}
 use Rattle.batching.specs.Rows.{row_of}
 use Rattle.batching.specs.Batched.{batch_result}
 use Rattle.library.specs.Calls.{LibraryCall, by_host, by_guest, batch_by_host, batch_by_guest, host_reads, host_in, host_out, guest_reads, guest_in, guest_out, has_room, request_in, comes_to}
-use Rattle.library.specs.Lists.{after_list, after_opening, AnsweredAs, AnswersAsEngines}
+use Rattle.library.specs.Lists.{after_list, after_opening, AnsweredAs, Opening, AllTyped, engine_of}
 use Rattle.library.proofs.StepLaws.{refusal-same, served-room, caller-same}
 use Rattle.library.proofs.ListLaws.{words_give_engines}
 
@@ -56,5 +56,7 @@ call-number w t r (by_guest c x) =
 call-number w t r (batch_by_host row answers) = batch-number w t row answers r
 call-number w t r (batch_by_guest c row answers) = guest-number w t answers r c (asks_batch (row_of row) answers) (batch_result w t row answers) true (batch-number w t row answers r)
 
-pub answers_as_engines : AnswersAsEngines
+-- every later call is answered with the number that the engine which the words give answers
+pub answers_as_engines : (x : Opening) (l : List LibraryCall) → AllTyped l → (c : LibraryCall)
+    → AnsweredAs (engine_of (after_list (after_opening x) l)) (comes_to (after_list (after_opening x) l).state (after_list (after_opening x) l).table c).refusal (request_in c)
 answers_as_engines x l i c = call-number (after_list (after_opening x) l).state (after_list (after_opening x) l).table (words_give_engines x l i).can_read c

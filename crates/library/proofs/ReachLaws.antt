@@ -26,7 +26,7 @@ use Rattle.hosting.proofs.HandedLaws.{accept-handed}
 use Rattle.batching.specs.declared.rows.CertificateRecord.{CertificateRecord}
 use Rattle.batching.specs.Rows.{no_record, record_words, certificate_of, row_of}
 use Rattle.library.specs.Calls.{LibraryCall, by_host, by_guest, batch_by_host, batch_by_guest, opens, Typed, host_reads, host_in, host_out, guest_reads, guest_in, guest_out, has_room, request_in}
-use Rattle.library.specs.Lists.{requests_in, Opening, engine_opened, AllTyped, WordsReach}
+use Rattle.library.specs.Lists.{requests_in, Opening, engine_opened, AllTyped, engine_of, after_list, after_opening}
 use Rattle.library.proofs.StepLaws.{host-handed, guest-handed}
 use Rattle.library.proofs.ListLaws.{words_give_engines}
 
@@ -113,5 +113,6 @@ requests_reach x (c ∷ l) i = let e = after_requests (engine_opened x) (request
     go none p h = h
     go (some q) p h = requests_lead_to (after_requests (engine_opened x) (requests_in l)) h q p
 
-pub words_reach : WordsReach
+-- so what is claimed of every engine that calls from an opening lead to is so of every engine that the library's words give, with no premise but that they were opened
+pub words_reach : (x : Opening) (l : List LibraryCall) → AllTyped l → Reached (engine_of (after_list (after_opening x) l))
 words_reach x l i = subst Reached (sym (words_give_engines x l i).gives) (requests_reach x l i)

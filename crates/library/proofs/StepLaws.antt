@@ -19,7 +19,7 @@ use Rattle.serial.specs.Calls.{access}
 use Rattle.engine.specs.Guests.{as_host}
 use Rattle.submissions.specs.Submissions.{one, batch}
 use Rattle.submissions.specs.Requests as requests
-use Rattle.submissions.specs.Requests.{Asked, asks, asks_batch, needed_for, submitted_by, Request, host, guest, host_result, refused_with}
+use Rattle.submissions.specs.Requests.{Asked, asks, asks_batch, needed_for, submitted_by, Request, host, guest}
 use Rattle.words.specs.Lengths.{state_length}
 use Rattle.words.specs.States.{state_reads, state_in}
 use Rattle.words.proofs.ReadingLaws.{state-read}
@@ -60,29 +60,11 @@ module _ (w t o : List ℕ) where
   -- an open reads no state, and an accepted one leaves nothing of it
   pub refusal-same : (c : Call) → refusal_for (engine_for w t o (use_of c)) c ≡ refusal_for (engine_in w t) c
   refusal-same (opens own sheet) = refl
-  refusal-same (propose b) = refl
-  refusal-same (endorse p) = refl
-  refusal-same (certify d) = refl
-  refusal-same (accept c) = refl
-  refusal-same advance = refl
-  refusal-same commit = refl
-  refusal-same (enqueue g x) = refl
-  refusal-same (draw v) = refl
-  refusal-same (port x) = refl
-  refusal-same (aside x) = refl
+  refusal-same c = refl
 
   after-same : (c : Call) → refusal_for (engine_for w t o (use_of c)) c ≡ 0 → after (engine_for w t o (use_of c)) c ≡ after (engine_in w t) c
   after-same (opens own sheet) a = accepted-new (engine_for w t o writes) (opens own sheet) a ∙ sym (accepted-new (engine_in w t) (opens own sheet) a)
-  after-same (propose b) a = refl
-  after-same (endorse p) a = refl
-  after-same (certify d) a = refl
-  after-same (accept c) a = refl
-  after-same advance a = refl
-  after-same commit a = refl
-  after-same (enqueue g x) a = refl
-  after-same (draw v) a = refl
-  after-same (port x) a = refl
-  after-same (aside x) a = refl
+  after-same c a = refl
 
   -- where a state's words can be read, they serve if there is room
   room-served : (u : Use) → serves w t o u ≡ true → has_room u o ≡ true

@@ -58,29 +58,12 @@ pub data LibraryCall : Type 0 where
 
 -- with values of their types: what is written to a port is a byte
 abbrev pub HostTyped : HostCall → Type 0
-HostTyped (opens own sheet rights) = Unit {0}
-HostTyped (propose b) = Unit {0}
-HostTyped (endorse p) = Unit {0}
-HostTyped (certify d) = Unit {0}
-HostTyped (accept c) = Unit {0}
-HostTyped advance = Unit {0}
-HostTyped commit = Unit {0}
-HostTyped (enqueue g x) = Unit {0}
-HostTyped (draw v) = Unit {0}
 HostTyped (port x) = PortInRange x
-HostTyped (aside x o) = Unit {0}
+HostTyped c = Unit {0}
 
 abbrev pub GuestTyped : GuestForm → Type 0
-GuestTyped (propose b) = Unit {0}
-GuestTyped (draw v) = Unit {0}
-GuestTyped (enqueue x) = Unit {0}
-GuestTyped (endorse p) = Unit {0}
-GuestTyped (certify d) = Unit {0}
-GuestTyped (accept c) = Unit {0}
-GuestTyped advance = Unit {0}
-GuestTyped commit = Unit {0}
 GuestTyped (access a) = AccessInRange a
-GuestTyped (aside x o) = Unit {0}
+GuestTyped c = Unit {0}
 
 abbrev pub Typed : LibraryCall → Type 0
 Typed (by_host x) = HostTyped x
@@ -97,12 +80,9 @@ host_reads (propose b) = lone_body_reads b
 host_reads (endorse p) = proposal_reads p
 host_reads (certify d) = ltb d 65536
 host_reads (accept c) = certificate_reads c
-host_reads advance = true
-host_reads commit = true
 host_reads (enqueue g x) = lone_triple_reads x
 host_reads (draw v) = ltb v 65536
-host_reads (port x) = true
-host_reads (aside x o) = true
+host_reads c = true
 
 abbrev pub host_in : HostCall → Call
 host_in (opens own sheet rights) = engine.opens (record { 0 = own }) (sheet_in sheet (record { 0 = rights }))
@@ -118,17 +98,8 @@ host_in (port x) = engine.port x
 host_in (aside x o) = engine.aside x
 
 abbrev pub host_out : HostCall → List ℕ
-host_out (opens own sheet rights) = []
-host_out (propose b) = []
-host_out (endorse p) = []
-host_out (certify d) = []
-host_out (accept c) = []
-host_out advance = []
-host_out commit = []
-host_out (enqueue g x) = []
-host_out (draw v) = []
-host_out (port x) = []
 host_out (aside x o) = o
+host_out c = []
 
 abbrev pub guest_reads : GuestForm → Bool
 guest_reads (propose b) = lone_body_reads b
@@ -137,10 +108,7 @@ guest_reads (enqueue x) = lone_triple_reads x
 guest_reads (endorse p) = proposal_reads p
 guest_reads (certify d) = ltb d 65536
 guest_reads (accept c) = certificate_reads c
-guest_reads advance = true
-guest_reads commit = true
-guest_reads (access a) = true
-guest_reads (aside x o) = true
+guest_reads c = true
 
 abbrev pub guest_in : GuestForm → GuestCall
 guest_in (propose b) = guests.propose (body_in b 0)
@@ -155,16 +123,8 @@ guest_in (access a) = guests.access a
 guest_in (aside x o) = guests.aside x
 
 abbrev pub guest_out : GuestForm → List ℕ
-guest_out (propose b) = []
-guest_out (draw v) = []
-guest_out (enqueue x) = []
-guest_out (endorse p) = []
-guest_out (certify d) = []
-guest_out (accept c) = []
-guest_out advance = []
-guest_out commit = []
-guest_out (access a) = []
 guest_out (aside x o) = o
+guest_out c = []
 
 -- there is room in the out stretch o
 abbrev pub has_room : Use → List ℕ → Bool

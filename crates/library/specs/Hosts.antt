@@ -9,7 +9,7 @@ use Rattle.open.specs.Open.{closed_state}
 use Rattle.words.specs.Sheets.{sheet_reads, sheet_in}
 use Rattle.hosting.proofs.CallLaws.{accepted-call}
 use Rattle.engine.specs.Calls.{Call}
-use Rattle.nonforking.specs.Statement.{Members, engine_behaviour, Run, Prefix, Knows, weights}
+use Rattle.nonforking.specs.Statement.{Members, engine_behaviour, Prefix, Knows, weights}
 use Rattle.submissions.specs.Submissions.{unrolled}
 use Rattle.submissions.specs.Requests.{Request, engine_asked, submitted}
 use Rattle.library.specs.Calls.{LibraryCall, by_host, opens, host_in, Typed, request_in, comes_to}
@@ -73,7 +73,3 @@ module _ (X : Hosts) where
     -- and in the committee of every round that both know, every member has the same weight
     pub committees : (i j r : ℕ) → correct i ≡ true → correct j ≡ true → Knows (engine_of (words_after l i)) r → Knows (engine_of (words_after l j)) r
         → (m : ℕ) → weights (engine_of (words_after l i)) r m ≡ weights (engine_of (words_after l j)) r m
-
--- chains never fork, over the library's words: whatever lists of calls hosts, guests and batches make, if the calls that their words count as are a run
-abbrev pub ChainsNeverForkOverWords : Type 0
-ChainsNeverForkOverWords = (X : Hosts) (l : List Entry) → AllTyped l → Run (members X) (calls_in X l) → Agreed X l

@@ -4,9 +4,8 @@ use Rattle.std.proofs.Math.Option.{Option, none, some}
 use Rattle.base.specs.Options.{if_there}
 use Rattle.open.specs.Open.{closed_state}
 use Rattle.engine.specs.Engine.{Engine, after}
-use Rattle.engine.specs.Reached.{Reached}
 use Rattle.submissions.specs.Requests as requests
-use Rattle.submissions.specs.Requests.{Request, after_requests}
+use Rattle.submissions.specs.Requests.{Request}
 use Rattle.words.specs.States.{state_reads}
 use Rattle.hosting.specs.Calls.{engine_in}
 use Rattle.library.specs.Calls.{LibraryCall, by_host, opens, host_in, Typed, request_in, comes_to}
@@ -58,20 +57,7 @@ pub record Gives (x : Words) (e : Engine) : Type 0 where
   pub can_read : state_reads x.state ≡ true
   pub gives : engine_of x ≡ e
 
--- the claims
-abbrev pub WordsGiveEngines : Type 0
-WordsGiveEngines = (x : Opening) (l : List LibraryCall) → AllTyped l → Gives (after_list (after_opening x) l) (after_requests (engine_opened x) (requests_in l))
-
--- so what is claimed of every engine that calls from an opening lead to is so of every engine that the library's words give, with no premise but that they were opened
-abbrev pub WordsReach : Type 0
-WordsReach = (x : Opening) (l : List LibraryCall) → AllTyped l → Reached (engine_of (after_list (after_opening x) l))
-
 -- the number n answers the request as the engine e does; of what cannot be read nothing is said here
 abbrev pub AnsweredAs : Engine → ℕ → Option Request → Type 0
 AnsweredAs e n none = Unit {0}
 AnsweredAs e n (some q) = n ≡ (requests.result_of e q).refusal
-
--- every later call is answered with the number that the engine which the words give answers
-abbrev pub AnswersAsEngines : Type 0
-AnswersAsEngines = (x : Opening) (l : List LibraryCall) → AllTyped l → (c : LibraryCall)
-    → AnsweredAs (engine_of (after_list (after_opening x) l)) (comes_to (after_list (after_opening x) l).state (after_list (after_opening x) l).table c).refusal (request_in c)

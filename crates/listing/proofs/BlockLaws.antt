@@ -101,19 +101,19 @@ module _ (t : List ℕ) (k m r : ℕ) (h : m < 16) where
       rw (i, j) refl
 
   -- it has no line where block k does not hold it
-  pub line-absent : held_at t m r ≡ false → place_lines t k (r * 16 + m) ≡ []
-  line-absent e = place_at ∙ place-absent t k (block_round t k) m r e
+  pub line_absent : held_at t m r ≡ false → place_lines t k (r * 16 + m) ≡ []
+  line_absent e = place_at ∙ place-absent t k (block_round t k) m r e
 
   pub line_other : (mark_at t m r ≡ k → ⊥) → place_lines t k (r * 16 + m) ≡ []
   line_other e = place_at ∙ place_other t k (block_round t k) m r e
 
   -- and one where it does
-  pub line-present : held_at t m r ≡ true → mark_at t m r ≡ k → place_lines t k (r * 16 + m) ≡ listing_line k (block_round t k) r m (content_at t m r).transactions
-  line-present e q = place_at ∙ place-present t k (block_round t k) m r e q
+  pub line_present : held_at t m r ≡ true → mark_at t m r ≡ k → place_lines t k (r * 16 + m) ≡ listing_line k (block_round t k) r m (content_at t m r).transactions
+  line_present e q = place_at ∙ place-present t k (block_round t k) m r e q
 
-  pub count-present : mark_at t m r ≡ k → in_block t k (r * 16 + m) ≡ 1
+  pub count_present : mark_at t m r ≡ k → in_block t k (r * 16 + m) ≡ 1
   unfolding in_block
-  count-present q =
+  count_present q =
       let i : (r * 16 + m) % 16 ≡ m = omega arith in
       let j : (r * 16 + m) / 16 ≡ r = omega arith in
       rw (i, j, eq-eqb (mark_at t m r) k q) refl

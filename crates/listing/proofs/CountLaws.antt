@@ -11,6 +11,7 @@ use Rattle.base.specs.Folds.{sum_to}
 use Rattle.base.proofs.Ranges.{sum_none, sum_next}
 use Rattle.base.proofs.SumLaws.{sum_same, sum_add, sum_le, sum_up, sum_turned}
 use Rattle.store.specs.Table.{mark_at}
+use Rattle.running.proofs.StartLaws.{start-le}
 use Rattle.listing.specs.Counts.{in_block, in_first, block_count, chain_count, row_count}
 
 -- so many places from p on, after those below it
@@ -39,8 +40,8 @@ first_next t k p = go (mark_at t (p % 16) (p / 16))
         by (yes l) (yes e) = rw (lt-leb m k l, eq-eqb m (k + 1) e, le-leb m (k + 1) (omega arith)) refl
         by (yes l) (no e) = rw (lt-leb m k l, ne_eqb m (k + 1) e, lt-leb m (k + 1) (omega arith)) refl
 
-pub count-more : (n : ℕ) (t : List ℕ) (k : ℕ) → chain_count n t k + block_count n t (k + 1) ≡ chain_count n t (k + 1)
-count-more n t k =
+pub count_more : (n : ℕ) (t : List ℕ) (k : ℕ) → chain_count n t k + block_count n t (k + 1) ≡ chain_count n t (k + 1)
+count_more n t k =
     sym (sum_add (in_first t k) (in_block t (k + 1)) (n * 16 + 16))
     ∙ sum_same (λ p. in_first t k p + in_block t (k + 1) p) (in_first t (k + 1)) (n * 16 + 16) (λ p _. first_next t k p)
 
@@ -53,5 +54,8 @@ first-most t k p = go (leb (mark_at t (p % 16) (p / 16)) k)
     go true = omega arith
     go false = omega arith
 
-pub count-all : (n : ℕ) (t : List ℕ) (k : ℕ) → chain_count n t k ≤ n * 16 + 16
-count-all n t k = let h = sum_le (in_first t k) 1 (n * 16 + 16) (λ p _. first-most t k p) in omega arith
+pub count_all : (n : ℕ) (t : List ℕ) (k : ℕ) → chain_count n t k ≤ n * 16 + 16
+count_all n t k = let h = sum_le (in_first t k) 1 (n * 16 + 16) (λ p _. first-most t k p) in omega arith
+
+-- where the lines of the next block begin, and that there is room for them
+pub ruleset block_room = (start-le, count_more, count_all)

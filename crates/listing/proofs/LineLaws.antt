@@ -56,12 +56,12 @@ decimal-length (suc k) n h = go (dec_lt n 10) (λ l. decimal-length k (n / 10) l
         let l = f (omega arith) in
         rw (decimal-more n (omega arith), length-append (decimal (n / 10)) ((48 + n % 10) ∷ [])) (omega arith)
 
-pub decimal-fits : (n : ℕ) → n < 4294967296 → length (decimal n) ≤ 10
-decimal-fits n h = decimal-length 9 n (omega arith)
+pub decimal_fits : (n : ℕ) → n < 4294967296 → length (decimal n) ≤ 10
+decimal_fits n h = decimal-length 9 n (omega arith)
 
 pub decimal_tenth : (n : ℕ) → 10 ≤ n → n < 4294967296 → length (decimal (n / 10)) ≤ 9
 decimal_tenth n h l =
-    let f = decimal-fits n l in
+    let f = decimal_fits n l in
     let e = ap length (decimal-more n h) ∙ length-append (decimal (n / 10)) ((48 + n % 10) ∷ []) in
     omega arith
 
@@ -71,8 +71,8 @@ unfolding triples_fields
 triples-more [] x = append-nil (triple_fields x)
 triples-more (y ∷ l) x = rw (triples-more l x) (sym (append_assoc (triple_fields y) (triples_fields l) (triple_fields x)))
 
-pub triples-next : (f : ℕ → Transaction) (k : ℕ) → triples_fields (tab f (k + 1)) ≡ triples_fields (tab f k) ++ triple_fields (f k)
-triples-next f k = rw (add-one k, tab_next f k) (triples-more (tab f k) (f k))
+pub triples_next : (f : ℕ → Transaction) (k : ℕ) → triples_fields (tab f (k + 1)) ≡ triples_fields (tab f k) ++ triple_fields (f k)
+triples_next f k = rw (add-one k, tab_next f k) (triples-more (tab f k) (f k))
 
 pub triples_none : (f : ℕ → Transaction) → triples_fields (tab f 0) ≡ []
 unfolding tab triples_fields

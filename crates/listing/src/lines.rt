@@ -1,4 +1,4 @@
-// Answers and listings as bytes, put into a buffer from a place on. Each function returns the next place (docs/RULES.md, "Records").
+//! Answers and listings as bytes, put into a buffer from a place on. Each function returns the next place (docs/RULES.md, "Records").
 
 ghost use Rattle.std.specs.Prelude.{◌≡◌, [], ◌∷◌, ◌+◌, ◌≤◌, ◌<◌, length};
 ghost use Rattle.terms.specs.Proposals.{transactions_of};
@@ -21,15 +21,13 @@ fn put_bytes(buf: &mut [u8], at: usize, w: &[u8]) -> usize
     requires { at + length w.now ≤ length buf.old }
     ensures { Puts buf.old buf.new at result w.now (length w.now) }
 {
-    let mut i = 0;
-    while i < w.len() {
-        buf[at + i] = w[i];
-        i += 1;
-    }
-    at + i
+    let end = at + w.len();
+    buf[at..end].copy_from_slice(w);
+    end
 }
 
 // A number in decimal.
+#[tactic(auto, using(crate::proofs::LineLaws::decimal_tenth))]
 fn put_number(buf: &mut [u8], at: usize, n: u32) -> usize
     requires { at + 10 ≤ length buf.old }
     ensures { Puts buf.old buf.new at result (decimal n) 10 }
@@ -52,7 +50,7 @@ fn put_field(buf: &mut [u8], at: usize, n: u32) -> usize
     put_number(buf, next, n)
 }
 
-// The line ok.
+/// Puts the line ok: 4 bytes with its CRLF.
 pub fn put_ok(buf: &mut [u8], at: usize) -> usize
     requires { at + 4 ≤ length buf.old }
     ensures { Puts buf.old buf.new at result ok_line 4 }
@@ -60,7 +58,7 @@ pub fn put_ok(buf: &mut [u8], at: usize) -> usize
     put_bytes(buf, at, b"ok\r\n")
 }
 
-// The line ok with a count.
+/// Puts the line ok with a count: at most 15 bytes with its CRLF, 10 of them digits.
 pub fn put_count(buf: &mut [u8], at: usize, n: u32) -> usize
     requires { at + 15 ≤ length buf.old }
     ensures { Puts buf.old buf.new at result (count_line n) 15 }
@@ -70,7 +68,7 @@ pub fn put_count(buf: &mut [u8], at: usize, n: u32) -> usize
     put_bytes(buf, count, b"\r\n")
 }
 
-// The line refused with its number.
+/// Puts the line refused with its number: at most 20 bytes with its CRLF, 10 of them digits.
 pub fn put_refused(buf: &mut [u8], at: usize, n: u32) -> usize
     requires { at + 20 ≤ length buf.old }
     ensures { Puts buf.old buf.new at result (refused_line n) 20 }
@@ -107,15 +105,14 @@ fn put_triples(buf: &mut [u8], at: usize, body: Body) -> usize
     requires { (body.count ≤ 4) × (at + 96 ≤ length buf.old) }
     ensures { Puts buf.old buf.new at result (triples_fields (transactions_of body)) 96 }
 {
-    let n = body.count;
     let mut next = at;
-    for k in 0..n {
+    for k in 0..body.count {
         next = put_triple(buf, next, body.slots[k as usize]);
     }
     next
 }
 
-// The line of a certificate in a listing.
+/// Puts the line of a certificate in a listing: its block, the block's round, its own round, its author, and a triple for each of its transactions, at most four. That is at most 141 bytes with its CRLF.
 pub fn put_listing(
     buf: &mut [u8],
     at: usize,

@@ -1,4 +1,4 @@
-// A committee as the calls ask it: its weights, with the margin that its quorums are by.
+//! A committee as the calls ask it: its weights, with the margin that its quorums are by.
 
 ghost use Rattle.std.specs.Prelude.{◌≡◌, ◌<◌};
 ghost use Rattle.base.specs.Sets.{is_in};
@@ -14,7 +14,9 @@ use terms::sheet::Weight;
 /// Sixteen weights, 0 for a non-member; their sum, a thousandfold, fits 64 bits.
 #[derive(Clone, Copy)]
 pub struct Committee {
+    /// The weight of each member.
     pub weights: [Weight; 16],
+    /// The margin of the settings, 3 to 5.
     pub margin: u32,
     ghost bounded: { TotalBounded weights },
     ghost divisor: { MarginFits margin },
@@ -23,7 +25,9 @@ pub struct Committee {
 /// The committees of a round and of the one before it.
 #[derive(Clone, Copy)]
 pub struct Committees {
+    /// That of the round before.
     pub before: Committee,
+    /// That of the round.
     pub at: Committee,
 }
 

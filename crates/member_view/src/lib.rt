@@ -1,6 +1,6 @@
 //! A member's view, and the tests that rules make of it.
 //!
-//! A well-formed state with its table and what is cached beside it: each method is one test of a call, and answers what the rules' test of that name says (rules/specs/Tests). docs/RULES.md, "A member's state".
+//! A state that was found well formed, its table and what is cached beside them. Each method is one test of a call, and answers what the rules' test of it says (rules/specs/Tests): `lacks_previous` is `missing` there and `lacks_quorum` is `too_few_previous`, both above round 1. docs/RULES.md, "A member's state".
 #![tactic(auto)]
 
 pub mod committees;
@@ -16,11 +16,16 @@ use running::{bonded, cache};
 use state::State;
 use terms::{Body, Member, Proposal, Round};
 
-/// A state and its table, both well formed, and what is cached beside them: committees of theirs.
+/// A state and its table, and what is cached beside them: committees of theirs.
+///
+/// State and table are well formed but for the serial ports, of which no test here speaks (`Formed`, state/specs/Formed). `known` makes one, of a state that is well formed as a whole.
 #[derive(Clone, Copy)]
 pub struct View<'a> {
+    /// The member's state.
     pub state: &'a State,
+    /// Its table.
     pub table: &'a [u32],
+    /// Committees that were worked out before, or nothing.
     pub cache: &'a [u64],
     ghost formed: { Formed state.now table.now },
     ghost caches: { CachesFor state.now table.now cache.now },

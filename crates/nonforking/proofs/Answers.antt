@@ -20,7 +20,7 @@ use Rattle.rules.specs.Reads.{reading_committee, reading_share, reading_effect, 
 use Rattle.rules.proofs.Runs.{view_after}
 use Rattle.enqueue.proofs.PassedLaws.{enqueue-refused}
 use Rattle.serial.specs.Calls.{PortCall}
-use Rattle.engine.specs.Calls.{Aside, committee, share, effect, certificate, block, preview, critical, listing, Call, opens, propose, endorse, certify, accept, advance, commit, enqueue, draw, port, aside}
+use Rattle.engine.specs.Calls.{Aside, committee, share, effect, certificate, block, preview, critical, listing, Call, opens, enqueue, port, aside}
 use Rattle.engine.specs.Engine.{Engine, aside_checks, refusal_for}
 use Rattle.engine.specs.Steps.{view_at, ruled}
 use Rattle.engine.specs.Reached.{Good}
@@ -44,16 +44,10 @@ pub data CallCase (e : Engine) : Call → Type 0 where
 
 abbrev pub case_of : (e : Engine) (c : Call) → CallCase e c
 case_of e (opens own sheet) = an_open own sheet
-case_of e (propose b) = of-rules (propose b) (λ x. elim x [ ])
-case_of e (endorse p) = of-rules (endorse p) (λ x. elim x [ ])
-case_of e (certify d) = of-rules (certify d) (λ x. elim x [ ])
-case_of e (accept c) = of-rules (accept c) (λ x. elim x [ ])
-case_of e advance = of-rules advance (λ x. elim x [ ])
-case_of e commit = of-rules commit (λ x. elim x [ ])
 case_of e (enqueue g x) = an_enqueue g x
-case_of e (draw v) = of-rules (draw v) (λ x. elim x [ ])
 case_of e (port x) = a-port x
 case_of e (aside x) = an_aside x
+case_of e c = of-rules c (λ x. elim x [ ])
 
 module _ (S : Settings) where
   abbrev aside_by : ℕ → MemberView S → Aside → Checks
@@ -76,13 +70,7 @@ module _ (S : Settings) where
 
 aside-by : (e : Engine) (x : Aside) → aside_checks e x ≡ aside_by e.state.settings e.state.own.0 (view_at e.state.settings e) x
 aside-by e (committee r) = refl
-aside-by e (share m r) = refl
-aside-by e (effect m r a) = refl
-aside-by e (certificate m r) = refl
-aside-by e (block n) = refl
-aside-by e (preview n) = refl
-aside-by e (critical n) = refl
-aside-by e listing = refl
+aside-by e c = refl
 
 module _ {S : Settings} {k : ℕ} {e : Engine} (good : Good S k e) where
   pub refusal-by : {c : Call} (x : CallCase e c) → is_plain c ≡ true → refusal_for e c ≡ refusal_by S k (view_at S e) x

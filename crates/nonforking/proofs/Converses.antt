@@ -20,7 +20,6 @@ use Rattle.rules.proofs.Runs as runs
 use Rattle.rules.proofs.Runs.{Group, state_after}
 use Rattle.rules.proofs.RuleRuns.{on_views, opened}
 use Rattle.draw.specs.Draw.{drawn_body}
-use Rattle.engine.specs.Calls as calls
 use Rattle.engine.specs.Calls.{Call, propose, endorse, draw}
 use Rattle.engine.specs.Engine.{Engine, refusal_for, after}
 use Rattle.engine.specs.Steps.{view_at, ruled}
@@ -45,28 +44,11 @@ module _ {S : Settings} {k : ℕ} {e : Engine} (g : Good S k e) where
   propose-back (draw v) p (signatures.proposes x l) =
       let b = drawn_body e.state e.table v in
       subst (λ (i : ℕ). Proposes e (draw v) (content_with i e.state.round.0 b)) g.own (draws v)
-  propose-back (calls.opens _ _) p x = elim x [ ]
-  propose-back (endorse _) p x = elim x [ ]
-  propose-back (calls.certify _) p x = elim x [ ]
-  propose-back (calls.accept _) p x = elim x [ ]
-  propose-back calls.advance p x = elim x [ ]
-  propose-back calls.commit p x = elim x [ ]
-  propose-back (calls.enqueue _ _) p x = elim x [ ]
-  propose-back (calls.port _) p x = elim x [ ]
-  propose-back (calls.aside _) p x = elim x [ ]
+  propose-back c p x = elim x [ ]
 
   endorse-back : (c : Call) (p : Content) → signatures.Endorses (ruled e c) p → Endorses c p
   endorse-back (endorse q) p (signatures.endorses x) = endorses q
-  endorse-back (calls.opens _ _) p x = elim x [ ]
-  endorse-back (propose _) p x = elim x [ ]
-  endorse-back (calls.certify _) p x = elim x [ ]
-  endorse-back (calls.accept _) p x = elim x [ ]
-  endorse-back calls.advance p x = elim x [ ]
-  endorse-back calls.commit p x = elim x [ ]
-  endorse-back (calls.enqueue _ _) p x = elim x [ ]
-  endorse-back (draw _) p x = elim x [ ]
-  endorse-back (calls.port _) p x = elim x [ ]
-  endorse-back (calls.aside _) p x = elim x [ ]
+  endorse-back c p x = elim x [ ]
 
   takes-ruled : (c : Call) → refusal_for e c ≡ 0 → (p : Content) (d : ℕ) → Takes e c p d → signatures.Takes S (view_at S e) (ruled e c) p d
   takes-ruled c a p d (certifies x) = signatures.certifies p x (proposal-there e x a)

@@ -13,7 +13,6 @@ use Rattle.rules.proofs.Implementations.{Follows, Implementation}
 use Rattle.state.proofs.FormedLaws.{formed}
 use Rattle.state.proofs.ViewLaws.{in_dag}
 use Rattle.draw.proofs.PassedLaws.{drawn-small}
-use Rattle.engine.specs.Calls as calls
 use Rattle.engine.specs.Calls.{Call, propose, endorse, draw, InRange}
 use Rattle.engine.specs.Engine.{Engine, refusal_for, after}
 use Rattle.engine.specs.Steps.{view_at, ruled}
@@ -31,28 +30,11 @@ module _ (S : Settings) (k : ℕ) (e : Engine) (s : MemberView S) where
   proposed-fits : (c : Call) → InRange c → (p : Content) → Proposes S k s (ruled e c) p → p.previous < 65536
   proposed-fits (propose b) r p (proposes x l) = r
   proposed-fits (draw v) r p (proposes x l) = drawn-small e.state e.table v r
-  proposed-fits (calls.opens _ _) r p x = elim x [ ]
-  proposed-fits (endorse _) r p x = elim x [ ]
-  proposed-fits (calls.certify _) r p x = elim x [ ]
-  proposed-fits (calls.accept _) r p x = elim x [ ]
-  proposed-fits calls.advance r p x = elim x [ ]
-  proposed-fits calls.commit r p x = elim x [ ]
-  proposed-fits (calls.enqueue _ _) r p x = elim x [ ]
-  proposed-fits (calls.port _) r p x = elim x [ ]
-  proposed-fits (calls.aside _) r p x = elim x [ ]
+  proposed-fits c r p x = elim x [ ]
 
   endorsed-fits : (c : Call) → InRange c → (p : Content) → Endorses (ruled e c) p → p.previous < 65536
   endorsed-fits (endorse q) r p (endorses x) = r
-  endorsed-fits (calls.opens _ _) r p x = elim x [ ]
-  endorsed-fits (propose _) r p x = elim x [ ]
-  endorsed-fits (calls.certify _) r p x = elim x [ ]
-  endorsed-fits (calls.accept _) r p x = elim x [ ]
-  endorsed-fits calls.advance r p x = elim x [ ]
-  endorsed-fits calls.commit r p x = elim x [ ]
-  endorsed-fits (calls.enqueue _ _) r p x = elim x [ ]
-  endorsed-fits (draw _) r p x = elim x [ ]
-  endorsed-fits (calls.port _) r p x = elim x [ ]
-  endorsed-fits (calls.aside _) r p x = elim x [ ]
+  endorsed-fits c r p x = elim x [ ]
 
   pub sets-fit : (c : Call) → InRange c → SetsFit S k s (ruled e c)
   sets-fit c r = record { proposed = proposed-fits c r; endorsed = endorsed-fits c r }

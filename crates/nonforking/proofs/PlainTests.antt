@@ -10,7 +10,7 @@ use Rattle.base.proofs.CheckLaws.{refuses}
 use Rattle.terms.specs.declared.Member.{Member}
 use Rattle.terms.specs.declared.sheet.Sheet.{Sheet}
 use Rattle.open.specs.Open.{open_refusal}
-use Rattle.engine.specs.Calls.{Call, opens, propose, endorse, certify, accept, advance, commit, enqueue, draw, port, aside, InRange}
+use Rattle.engine.specs.Calls.{Call, opens, propose, endorse, certify, accept, enqueue, draw, port, InRange}
 use Rattle.engine.specs.Engine.{Engine, refusal_for}
 use Rattle.engine.specs.Sequences.{NoOpen}
 use Rattle.nonforking.specs.Statement.{Members, Entry, engine_after, engine_behaviour}
@@ -22,31 +22,25 @@ is_plain (propose b) = ltb b.previous 65536
 is_plain (endorse p) = ltb p.body.previous 65536
 is_plain (certify d) = ltb d 65536
 is_plain (accept c) = ltb c.proposal.body.previous 65536 && ltb c.endorsers 65536
-is_plain advance = true
-is_plain commit = true
 is_plain (enqueue g x) = ltb 7 g
 is_plain (draw v) = ltb v 65536
 is_plain (port x) = false
-is_plain (aside x) = true
+is_plain c = true
 
 abbrev pub are_plain : List Entry → Bool
 are_plain [] = true
 are_plain (e ∷ l) = is_plain e.call && are_plain l
 
 pub is_in_range : (c : Call) → is_plain c ≡ true → InRange c
-is_in_range (opens own sheet) h = tt
 is_in_range (propose b) h = ltb-true b.previous 65536 h
 is_in_range (endorse p) h = ltb-true p.body.previous 65536 h
 is_in_range (certify d) h = ltb-true d 65536 h
 is_in_range (accept c) h =
     let x = both (ltb c.proposal.body.previous 65536) _ h in
     (ltb-true c.proposal.body.previous 65536 x.0, ltb-true c.endorsers 65536 x.1)
-is_in_range advance h = tt
-is_in_range commit h = tt
-is_in_range (enqueue g x) h = tt
 is_in_range (draw v) h = ltb-true v 65536 h
 is_in_range (port x) h = absurd (false≢true h)
-is_in_range (aside x) h = tt
+is_in_range c h = tt
 
 -- whatever the table
 pub open_refused : (e : Engine) (own : Member) (sheet : Sheet) → ltb 15 own.0 ≡ true → refusal_for e (opens own sheet) ≡ 4

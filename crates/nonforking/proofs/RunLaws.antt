@@ -20,7 +20,6 @@ use Rattle.state.specs.View.{own_proposal}
 use Rattle.state.proofs.ViewLaws.{proposal-some}
 use Rattle.certify.proofs.PassedLaws.{certify-passed}
 use Rattle.draw.specs.Draw.{drawn_body}
-use Rattle.engine.specs.Calls as calls
 use Rattle.engine.specs.Calls.{Call, certify, accept}
 use Rattle.engine.specs.Engine.{Engine, refusal_for, after}
 use Rattle.engine.specs.Steps.{view_at, ruled}
@@ -50,15 +49,7 @@ module _ (S : Settings) (e : Engine) where
   takes_back (certify d) a p x (signatures.certifies q y i) =
       subst (λ (z : Content). Takes e (certify d) z d) (some-injective _ q (sym (proposal-there e d a) ∙ i)) (certifies d)
   takes_back (accept c) a p x (signatures.accepts q y) = accepts c
-  takes_back (calls.opens _ _) a p x y = elim y [ ]
-  takes_back (calls.propose _) a p x y = elim y [ ]
-  takes_back (calls.endorse _) a p x y = elim y [ ]
-  takes_back calls.advance a p x y = elim y [ ]
-  takes_back calls.commit a p x y = elim y [ ]
-  takes_back (calls.enqueue _ _) a p x y = elim y [ ]
-  takes_back (calls.draw _) a p x y = elim y [ ]
-  takes_back (calls.port _) a p x y = elim y [ ]
-  takes_back (calls.aside _) a p x y = elim y [ ]
+  takes_back c a p x y = elim y [ ]
 
 -- the rules speak of the settings of all, the claim of each member's own
 pub prefix-own : {S : Settings} {i j : ℕ} (e d : Engine) → Good S i e → Good S j d → Lists (ordered S) (chain e) (chain d) → Prefix e d

@@ -16,7 +16,7 @@ use Rattle.engine.specs.Sequences.{after_calls, AllInRange, NoOpen, Opening, aft
 use Rattle.engine.specs.Reached.{Good}
 use Rattle.engine.proofs.RuledLaws.{good-after}
 use Rattle.engine.proofs.ReachedLaws.{intact, reached}
-use Rattle.nonforking.specs.Stored.{Holds, Stored, Shows, StoredShown}
+use Rattle.nonforking.specs.Stored.{Holds, Stored, Shows}
 use Rattle.nonforking.proofs.StoredLaws.{taking_no_open, taken-fits, stored_held}
 
 -- ---- one state
@@ -54,7 +54,8 @@ stored-round x [] i p d y = elim y [ ]
 
 -- ---- lists of calls
 
-pub stored_shown : StoredShown
+-- what is held so, the read shows
+pub stored_shown : (x : Opening) (l : List Call) → AllInRange l → (p : Content) (d : ℕ) → Stored (after_opening x) l p d → Shows (after_calls (after_opening x) l) p.author p.round p d
 stored_shown x l i p d k =
     let e = after_calls (after_opening x) l in
     let h = stored_held x l i p d k in

@@ -31,15 +31,15 @@ use Rattle.commit.proofs.CommitLaws.{only-marks}
 use Rattle.enqueue.proofs.PassedLaws.{enqueue-passed}
 use Rattle.draw.proofs.PassedLaws.{draw-passed}
 use Rattle.serial.proofs.LeftLaws.{port-passed, only_ported}
-use Rattle.engine.specs.Calls.{Call, opens, propose, endorse, certify, accept, advance, commit, enqueue, draw, port, aside, InRange}
+use Rattle.engine.specs.Calls.{Call, opens, endorse, certify, accept, commit, enqueue, draw, port, InRange}
 use Rattle.engine.specs.Engine.{Engine, refusal_for, after}
-use Rattle.engine.specs.Sequences.{after_calls, AllInRange, NoOpen, Opening, after_opening}
+use Rattle.engine.specs.Sequences.{after_calls, AllInRange, NoOpen, Opening, after_opening, NoOpens}
 use Rattle.engine.specs.Reached.{Good, Intact}
 use Rattle.engine.proofs.AfterLaws.{renewed, refused-same, accepted-new}
 use Rattle.engine.proofs.RuledLaws.{good-after}
 use Rattle.engine.proofs.ReachedLaws.{intact, reached}
 use Rattle.nonforking.specs.Statement.{Takes, certifies, accepts}
-use Rattle.nonforking.specs.Stored.{Holds, Stored, CertificateStays, StoredHeld, HeldStored}
+use Rattle.nonforking.specs.Stored.{Holds, Stored}
 
 -- ---- two tables
 
@@ -135,16 +135,14 @@ module _ (e : Engine) where
 
   stores : (c : Call) → refusal_for e c ≡ 0 → Stores e c
   stores (opens own sheet) n = clears own sheet refl
-  stores (propose b) n = keeps (λ x. elim x [ ]) (λ a r h. same_itself)
   stores (endorse q) n = keeps (λ x. elim x [ ]) (λ a r h. same-endorsed (set-endorsed table q.author.0 q.round.0))
   stores (certify d) n = puts _ d (certifies d)
   stores (accept c) n = puts (content_of c.proposal) c.endorsers (accepts c)
-  stores advance n = keeps (λ x. elim x [ ]) (λ a r h. same_itself)
   stores commit n = keeps (λ x. elim x [ ]) (λ a r h. same-marked (only-marks state table n))
   stores (enqueue g x) n = keeps (λ x. elim x [ ]) (λ a r h. same-only (only-added table g x (enqueue-passed state table g x n).place) h)
   stores (draw v) n = let k = draw-passed state table v n in keeps (λ x. elim x [ ]) (λ a r h. same-only (only-drawn state.settings.allowance (queues_of table) table k.row) h)
   stores (port x) n = keeps (λ x. elim x [ ]) (λ a r h. same-only (only_ported state table x (port-passed state table x n)) h)
-  stores (aside x) n = keeps (λ x. elim x [ ]) (λ a r h. same_itself)
+  stores c n = keeps (λ x. elim x [ ]) (λ a r h. same_itself)
 
   -- what an accepted certify or accept took is put
   put-taken : (c : Call) → refusal_for e c ≡ 0 → (q : Content) (d : ℕ) → Takes e c q d → Put e q d (renewed e c).table
@@ -159,15 +157,7 @@ module _ (e : Engine) where
         free = k.free;
         same = λ a r. same-endorsed (clear-endorsed (put_certificate table (content_of p) c.endorsers) p.author.0 p.round.0);
       }
-  put-taken (opens _ _) n q d x = elim x [ ]
-  put-taken (propose _) n q d x = elim x [ ]
-  put-taken (endorse _) n q d x = elim x [ ]
-  put-taken advance n q d x = elim x [ ]
-  put-taken commit n q d x = elim x [ ]
-  put-taken (enqueue _ _) n q d x = elim x [ ]
-  put-taken (draw _) n q d x = elim x [ ]
-  put-taken (port _) n q d x = elim x [ ]
-  put-taken (aside _) n q d x = elim x [ ]
+  put-taken c n q d x = elim x [ ]
 
   -- what is held stays under any call but an accepted open
   module _ (a r : ℕ) (p : Content) (d : ℕ) (x : Holds table a r p d) where
@@ -188,15 +178,7 @@ module _ (e : Engine) where
     pub taken-fits : (c : Call) → InRange c → refusal_for e c ≡ 0 → (p : Content) (d : ℕ) → Takes e c p d → Storable state.settings.ceiling.0 p × (d < 65536)
     taken-fits (certify i) w n _ _ (certifies _) = let k = certify-passed state table i n in (own-placed state table k.formed k.proposing g.small, w)
     taken-fits (accept c) w n _ _ (accepts _) = let k = accept-passed state table c n in (placed state table c.proposal k.formed k.fits w.0, w.1)
-    taken-fits (opens _ _) w n p d x = elim x [ ]
-    taken-fits (propose _) w n p d x = elim x [ ]
-    taken-fits (endorse _) w n p d x = elim x [ ]
-    taken-fits advance w n p d x = elim x [ ]
-    taken-fits commit w n p d x = elim x [ ]
-    taken-fits (enqueue _ _) w n p d x = elim x [ ]
-    taken-fits (draw _) w n p d x = elim x [ ]
-    taken-fits (port _) w n p d x = elim x [ ]
-    taken-fits (aside _) w n p d x = elim x [ ]
+    taken-fits c w n y z x = elim x [ ]
 
     module _ (c : Call) (w : InRange c) (n : refusal_for e c ≡ 0) where
       -- it is held
@@ -220,12 +202,14 @@ module _ (e : Engine) where
 
 -- ---- lists of calls
 
-pub certificate_stays : CertificateStays
+-- a held certificate stays held, with its proposal and its endorsers, whatever calls follow, as long as no open is accepted
+pub certificate_stays : (e : Engine) (l : List Call) → NoOpens e l → (a r : ℕ) (p : Content) (d : ℕ) → Holds e.table a r p d → Holds (after_calls e l).table a r p d
 unfolding after_calls
 certificate_stays e [] o a r p d x = x
 certificate_stays e (c ∷ l) o a r p d x = holds_after (after_calls e l) a r p d (certificate_stays e l o.1 a r p d x) c o.0
 
-pub stored_held : StoredHeld
+-- from an opening: what an accepted certify or accept took since the last accepted open is held, with the endorsers that it took it with
+pub stored_held : (x : Opening) (l : List Call) → AllInRange l → (p : Content) (d : ℕ) → Stored (after_opening x) l p d → Holds (after_calls (after_opening x) l).table p.author p.round p d
 unfolding after_calls
 stored_held x (c ∷ l) i p d (inl k) = taken (after_calls (after_opening x) l) (intact (reached x l i.1)).good c i.0 k.0 p d k.1
 stored_held x (c ∷ l) i p d (inr k) = holds_after (after_calls (after_opening x) l) p.author p.round p d (stored_held x l i.1 p d k.1) c k.0
@@ -270,7 +254,9 @@ stored-by x c l i a r p d to h older = by (ℕ_discrete (refusal_for e c) 0)
     by (yes n) = accepted n (subst (λ (z : Engine). Holds z.table a r p d) (accepted-new e c n) h) (stores e c n)
     by (no n) = before (λ own sheet q. n) (subst (λ (z : Engine). Holds z.table a r p d) (refused-same e c n) h)
 
-pub held_stored : HeldStored
+-- and what is held an accepted certify or accept took, with those endorsers
+pub held_stored : (x : Opening) (l : List Call) → AllInRange l → (a r : ℕ) (p : Content) (d : ℕ) → r ≤ (after_calls (after_opening x) l).state.settings.ceiling.0
+    → Holds (after_calls (after_opening x) l).table a r p d → Stored (after_opening x) l p d
 unfolding after_calls
 held_stored x [] i a r p d to h = absurd (nothing-held x.before x.own x.sheet x.accepted a r to h.held)
 held_stored x (c ∷ l) i a r p d to h = stored-by x c l i a r p d to h (λ at y. held_stored x l i.1 a r p d at y)

@@ -30,8 +30,7 @@ use Rattle.rules.proofs.Runs.{Group, state_after, view_after, chain_after}
 use Rattle.rules.proofs.RunTestLaws.{run-found}
 use Rattle.rules.proofs.RunTests.{is_made, is_signed, is_bounded, is_fair, is_run}
 use Rattle.open.specs.Open.{closed_state, open_refusal}
-use Rattle.engine.specs.Calls.{accept, commit, committee, block}
-use Rattle.nonforking.specs.Statement.{listed, Members, engine_after, engine_behaviour}
+use Rattle.nonforking.specs.Statement.{Members, engine_after, engine_behaviour}
 use Rattle.nonforking.proofs.Implemented.{sets-fit}
 use Rattle.nonforking.proofs.Converses.{Shown, beside_engines, on_their_views, shown, by-view, run-back}
 use Rattle.nonforking.proofs.PlainTests.{is_plain, are_plain, is_in_range, plain-found}

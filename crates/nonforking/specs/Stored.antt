@@ -1,12 +1,12 @@
 -- What a held certificate keeps, and what the certificate read shows of it: the proposal and the endorsers that it was stored with.
-use Rattle.std.specs.Prelude.{◌≡◌, true, List, [], ◌∷◌, ◌⊎◌, ℕ, ◌<◌, ◌≤◌}
+use Rattle.std.specs.Prelude.{◌≡◌, true, List, [], ◌∷◌, ◌⊎◌, ℕ, ◌<◌}
 use Rattle.terms.specs.Proposals.{Content, content_of}
 use Rattle.store.specs.Table.{held_at, endorsers_at, content_at}
 use Rattle.reads.specs.Reads.{certificate_refusal}
 use Rattle.reads.specs.Held.{certificate_read}
 use Rattle.engine.specs.Calls.{Call}
 use Rattle.engine.specs.Engine.{Engine, refusal_for}
-use Rattle.engine.specs.Sequences.{after_calls, AllInRange, NoOpen, NoOpens, Opening, after_opening}
+use Rattle.engine.specs.Sequences.{after_calls, NoOpen}
 use Rattle.nonforking.specs.Statement.{Takes}
 
 -- the table t holds the certificate of author a and round r, with its proposal p and its endorsers d; rounds are from 1, and row 0 holds no certificates
@@ -26,22 +26,3 @@ pub record Shows (e : Engine) (a r : ℕ) (p : Content) (d : ℕ) : Type 0 where
   pub accepted : certificate_refusal e.state e.table a r ≡ 0
   pub proposal : content_of (certificate_read e.state e.table a r).proposal ≡ p
   pub endorsers : (certificate_read e.state e.table a r).endorsers ≡ d
-
--- ---- what is claimed, of every list of calls
-
--- a held certificate stays held, with its proposal and its endorsers, whatever calls follow, as long as no open is accepted
-abbrev pub CertificateStays : Type 0
-CertificateStays = (e : Engine) (l : List Call) → NoOpens e l → (a r : ℕ) (p : Content) (d : ℕ) → Holds e.table a r p d → Holds (after_calls e l).table a r p d
-
--- from an opening: what an accepted certify or accept took since the last accepted open is held, with the endorsers that it took it with
-abbrev pub StoredHeld : Type 0
-StoredHeld = (x : Opening) (l : List Call) → AllInRange l → (p : Content) (d : ℕ) → Stored (after_opening x) l p d → Holds (after_calls (after_opening x) l).table p.author p.round p d
-
--- and what is held an accepted certify or accept took, with those endorsers
-abbrev pub HeldStored : Type 0
-HeldStored = (x : Opening) (l : List Call) → AllInRange l → (a r : ℕ) (p : Content) (d : ℕ) → r ≤ (after_calls (after_opening x) l).state.settings.ceiling.0
-    → Holds (after_calls (after_opening x) l).table a r p d → Stored (after_opening x) l p d
-
--- what is held so, the read shows
-abbrev pub StoredShown : Type 0
-StoredShown = (x : Opening) (l : List Call) → AllInRange l → (p : Content) (d : ℕ) → Stored (after_opening x) l p d → Shows (after_calls (after_opening x) l) p.author p.round p d

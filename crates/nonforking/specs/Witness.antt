@@ -1,7 +1,7 @@
 -- The premises can be met: a run of engines in which members 0, 1 and 2 are correct and 3 is faulty.
 -- Members 0 and 1 make a block, whose bond changes a committee, and then a certificate whose signers are a quorum of that committee and were none of the starting one; member 2 has no block.
 -- Reads and refused calls are among the entries.
-use Rattle.std.specs.Prelude.{◌≡◌, Bool, true, false, List, [], ◌∷◌, ℕ, ltb, replicate}
+use Rattle.std.specs.Prelude.{◌≡◌, true, false, List, [], ◌∷◌, ℕ, ltb, replicate}
 use Rattle.base.specs.Sets.{is_in}
 use Rattle.terms.specs.declared.Transaction.{Transaction}
 use Rattle.terms.specs.declared.Transaction.TheVariants.{Bond}

@@ -1,13 +1,14 @@
 //! Chains never fork, and what holds of held certificates and blocks, over every list of calls.
 
 ghost use Rattle.std.proofs.Math.Option.{some};
-ghost use Rattle.std.specs.Prelude.{List, true, ℕ, ◌++◌, ◌∷◌, ◌≡◌};
+ghost use Rattle.std.specs.Prelude.{List, true, ℕ, ◌++◌, ◌∷◌, ◌≡◌, ◌≤◌};
 ghost use Rattle.agreement.specs.Prefixes.{block_numbered};
 ghost use Rattle.agreement.specs.Rules.{Block, Chain};
 ghost use Rattle.engine.specs.Calls.{Call};
-ghost use Rattle.engine.specs.Sequences.{AllInRange, Opening, after_calls, after_opening};
+ghost use Rattle.engine.specs.Engine.{Engine};
+ghost use Rattle.engine.specs.Sequences.{AllInRange, NoOpens, Opening, after_calls, after_opening};
 ghost use Rattle.nonforking.specs.Statement.{Agreed, Entry, Members, Prefix, Run, chain, engine_after, engine_behaviour};
-ghost use Rattle.nonforking.specs.Stored.{Shows, Stored};
+ghost use Rattle.nonforking.specs.Stored.{Holds, Shows, Stored};
 ghost use Rattle.nonforking.specs.Witness.{Met};
 ghost use Rattle.rules.specs.AnchorStarts.{StartsWithAnchor};
 ghost use Rattle.state.specs.WellFormed.{well_formed};
@@ -22,6 +23,24 @@ pub fn chains_never_fork()
 /// The premises can be met: there is a run of four members, one of them faulty, in which two make a block, and a bond changes the committee that signs after it.
 pub fn premises_can_be_met()
     ensures { (X : Members engine_behaviour) × Met X }
+{}
+
+/// A held certificate stays held, with its proposal and its endorsers, whatever calls follow, as long as no open is accepted.
+pub fn certificate_stays()
+    ensures { (e : Engine) (l : List Call) → NoOpens e l → (a r : ℕ) (p : Content) (d : ℕ) → Holds e.table a r p d → Holds (after_calls e l).table a r p d }
+{}
+
+/// From an opening: what an accepted certify or accept took since the last accepted open is held, with the endorsers that it took it with.
+#[tactic(auto, using(crate::proofs::StoredLaws::stored_held))]
+pub fn stored_held()
+    ensures { (x : Opening) (l : List Call) → AllInRange l → (p : Content) (d : ℕ) → Stored (after_opening x) l p d → Holds (after_calls (after_opening x) l).table p.author p.round p d }
+{}
+
+/// And what is held an accepted certify or accept took, with those endorsers.
+#[tactic(auto, using(crate::proofs::StoredLaws::held_stored))]
+pub fn held_stored()
+    ensures { (x : Opening) (l : List Call) → AllInRange l → (a r : ℕ) (p : Content) (d : ℕ) → r ≤ (after_calls (after_opening x) l).state.settings.ceiling.0
+        → Holds (after_calls (after_opening x) l).table a r p d → Stored (after_opening x) l p d }
 {}
 
 /// What an accepted certify or accept took, the read of a certificate shows ever after, with the endorsers that it was taken with.

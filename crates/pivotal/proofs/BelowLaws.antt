@@ -64,13 +64,9 @@ module _ (S : Settings) (k : ℕ) (s : MemberView S) (b : Below s.chain) where
 
   after-below : (c : rules.Call) → Below (rules.after S k s c).chain
   unfolding rules.after
-  after-below (rules.propose v l) = b
-  after-below (rules.endorse p) = b
   after-below (rules.certify e) = certified-below s.proposal
-  after-below (rules.accept p e) = b
-  after-below rules.advance = b
   after-below rules.commit = added-below (anchor_at s (s.round - 1))
-  after-below rules.read = b
+  after-below c = b
 
 -- ---- every engine
 

@@ -31,9 +31,12 @@ use Rattle.critical.specs.Answers.{Weighs, Free}
 use Rattle.critical.specs.declared.Weighed.{Weighed}
 use Rattle.critical.proofs.LackLaws.{enough, leader-low, before-critical, now-critical, absent-critical}
 use Rattle.commit.proofs.CheckLaws.{Accepted, accepted}
-use Rattle.pivotal.specs.Pivotal.{unvoted_without, pivotal_votes, pivots, CommitsHangOnPivots}
+use Rattle.pivotal.specs.Pivotal.{unvoted_without, pivotal_votes, pivots, HangsOnPivots}
 use Rattle.pivotal.proofs.BelowLaws.{Below, reached-below}
 use Rattle.pivotal.proofs.FreeLaws.{free-above}
+use Rattle.engine.specs.Engine.{Engine, refusal_for}
+use Rattle.engine.specs.Reached.{Reached}
+use Rattle.engine.specs.Calls.{commit}
 
 -- not more than: by the other test
 leb_not : (m n : ℕ) → leb m n ≡ not (ltb n m)
@@ -155,7 +158,8 @@ module _ (s : State) (t : List ℕ) (y : Accepted s t) (b : Below (chain_of s.se
   unfolding critical_places
   hangs = rw (row_before 16 (omega arith), row_now 16 (omega arith), lt-ltb lead 16 (leader-low weighs), content-round t lead (r - 1), content-author t lead (r - 1)) refl
 
-pub commits_hang_on_pivots : CommitsHangOnPivots
+-- of every engine that calls lead to, where a commit would be accepted
+pub commits_hang_on_pivots : (e : Engine) → Reached e → refusal_for e commit ≡ 0 → HangsOnPivots e
 commits_hang_on_pivots e h a =
     let y = accepted e.state e.table a in
     record { anchor = _; is-anchor = anchor-led _ _ y.formed y.timely.from y.led; exactly = hangs e.state e.table y (reached-below h) }

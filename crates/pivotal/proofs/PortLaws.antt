@@ -14,11 +14,11 @@ use Rattle.store.specs.Writes.{set_held, clear_held}
 use Rattle.store.proofs.FirstRow.{OnlyFirst, only-paste}
 use Rattle.rules.specs.Tests.{MemberView}
 use Rattle.rules.specs.Calls as rules
-use Rattle.ports.specs.Ports.{port_start}
+use Rattle.ports.specs.Ports.{port_start, port_count, port_length}
 use Rattle.state.specs.declared.State.{State}
 use Rattle.state.proofs.FirstRow.{view-only}
 use Rattle.critical.specs.Critical.{refusal_without, is_critical, critical_at, critical_in, critical_places}
-use Rattle.pivotal.specs.Pivotal.{PortsNotCounted}
+use Rattle.engine.specs.Engine.{Engine}
 
 module _ (t : List ℕ) (row : Row t 0) (g : ℕ) (guest : g < 8) (w : List ℕ) (size : length w ≡ 8) where
   abbrev u : List ℕ
@@ -68,6 +68,7 @@ module _ (t : List ℕ) (row : Row t 0) (g : ℕ) (guest : g < 8) (w : List ℕ)
     unfolding critical_places
     places_same = rw (row_same (s.round.0 - 1) 16, row_same s.round.0 16) refl
 
--- the claim
-pub ports_not_counted : PortsNotCounted
+-- so the list is the same whatever the words of a port are
+pub ports_not_counted : (e : Engine) → Row e.table 0 → (g : ℕ) → g < port_count → (w : List ℕ) → length w ≡ port_length
+    → critical_places e.state (paste e.table (port_start g) w port_length) ≡ critical_places e.state e.table
 ports_not_counted e row g guest w size = places_same e.table row g guest w size e.state

@@ -16,10 +16,11 @@ use Rattle.state.proofs.PreservedLaws.{absent-kept}
 use Rattle.critical.specs.Critical.{Place, refusal_without, reading_critical, is_critical, critical_at, critical_in, critical_places}
 use Rattle.commit.proofs.CheckLaws.{refusal-by, number-unread}
 use Rattle.engine.specs.Calls.{commit, critical, aside}
-use Rattle.engine.specs.Engine.{refusal_for}
-use Rattle.pivotal.specs.Pivotal.{AbsentAsCommit, CriticalRefusedAsCommit, RoomForCritical}
+use Rattle.engine.specs.Engine.{refusal_for, Engine}
+use Rattle.std.specs.Prelude.{◌<◌}
 
-pub critical_refused_as_commit : CriticalRefusedAsCommit
+-- a list of 32 places is refused as a commit would be, with the same number
+pub critical_refused_as_commit : (e : Engine) (words : ℕ) → 32 ≤ words / 2 → refusal_for e (aside (critical words)) ≡ refusal_for e commit
 critical_refused_as_commit e words h = go (well_formed e.state e.table) refl
   where
     go : (b : Bool) → well_formed e.state e.table ≡ b → refusal_for e (aside (critical words)) ≡ refusal_for e commit
@@ -34,7 +35,9 @@ unformed s t p = go (well_formed s t) refl
     go true e = absurd (false≢true (sym p ∙ formed-ports s t e))
     go false e = refl
 
-pub absent_as_commit : AbsentAsCommit
+-- on a well-formed state without the certificate a commit is refused with the number that the list goes by, so check 1 need not be asked again; but with 1 where a serial port stands at what is absent, and the list does not count that
+pub absent_as_commit : (e : Engine) → well_formed e.state e.table ≡ true → (a q : ℕ) → a < 16 → 0 < q → q ≤ e.state.settings.ceiling.0
+    → refusal_for (record { state = e.state; table = clear_held e.table a q }) commit ≡ cond (ports_fit e.state.settings (clear_held e.table a q) e.state.blocks) (refusal_without e.state e.table a q) 1
 unfolding refusal_without
 absent_as_commit e h a q m from to = go (ports_fit s.settings u s.blocks) refl
   where
@@ -58,7 +61,8 @@ module _ (s : State) (t : List ℕ) (q : ℕ) where
   row-few zero = omega arith
   row-few (suc n) = omega (arith, row-few n, one (is_critical s t n q) (record { round = q; author = n }), length-append (critical_in s t q n) (critical_at s t n q))
 
-pub room_for_critical : RoomForCritical
+-- and has room for them, in every state
+pub room_for_critical : (e : Engine) → length (critical_places e.state e.table) ≤ 32
 unfolding critical_places
 room_for_critical e =
     let s = e.state in

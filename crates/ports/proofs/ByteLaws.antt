@@ -21,15 +21,15 @@ use Rattle.ports.proofs.PlaceLaws.{text-lines}
 use Rattle.ports.proofs.OnceLaws.{once-chain}
 use Rattle.ports.proofs.NextLaws.{line-here, read_first, follows, line-follows, cursor-back}
 use Rattle.ports.specs.Ports.{listing_of, placed_lines, is_listed, cursor_fits}
-use Rattle.ports.proofs.FitLaws.{listed-place, line-listed, listed-line}
+use Rattle.ports.proofs.FitLaws.{listed_place, line-listed, listed-line}
 
 -- a line has bytes
 ends : (a : List ℕ) → 1 ≤ length (a ++ crlf)
 ends a = omega (arith, length-append a crlf)
 
-pub line-long : (t : List ℕ) (m r : ℕ) → 1 ≤ length (line_at t m r)
+pub line_long : (t : List ℕ) (m r : ℕ) → 1 ≤ length (line_at t m r)
 unfolding line_at
-line-long t m r = ends (decimal (mark_at t m r) ++ number_field (block_round t (mark_at t m r)) ++ number_field r ++ number_field m ++ triples_fields (content_at t m r).transactions)
+line_long t m r = ends (decimal (mark_at t m r) ++ number_field (block_round t (mark_at t m r)) ++ number_field r ++ number_field m ++ triples_fields (content_at t m r).transactions)
 
 no_text : length (text []) ≡ 0
 unfolding text
@@ -100,7 +100,7 @@ module _ (S : Settings) (t : List ℕ) (blocks p j : ℕ) where
     within_line = (both (is_listed t n blocks p) _ (rw (ne_eqb p 0 some_read) at fits)).1
 
     pub place : LinePlace t n blocks p
-    place = listed-place t n blocks p here
+    place = listed_place t n blocks p here
 
     read_is : (i : ℕ) → bytes_read lines p i ≡ read_to lines p i
     unfolding bytes_read
@@ -122,8 +122,8 @@ module _ (S : Settings) (t : List ℕ) (blocks p j : ℕ) where
     pub byte_next : length (line_in p) ≤ j → (q : ℕ) (v : List ℕ) (m : Lines) → lines_after lines p ≡ (q, v) ∷ m → is_listed t n blocks q ≡ true → v ≡ line_in q → ByteAt q 1 (get_or (line_in q) 0 0)
     byte_next h q v m x i e =
         let l = line-listed S t blocks p here in
-        let a = line-long t (p % 16) (p / 16) in
-        let b = line-long t (q % 16) (q / 16) in
+        let a = line_long t (p % 16) (p / 16) in
+        let b = line_long t (q % 16) (q / 16) in
         let z : j ≡ length (line_in p) = omega (arith, to) in
         let f = follows lines (once-chain S t blocks) p (line_in p) q (line_in q) m l a b (x ∙ ap (λ (y : List ℕ). (q, y) ∷ m) e) in
         let g = next-line lines p (line_in p) l a in
@@ -136,7 +136,7 @@ module _ (S : Settings) (t : List ℕ) (blocks p j : ℕ) where
     byte-none h x =
         let l = line-listed S t blocks p here in
         let z : j ≡ length (line_in p) = omega (arith, to) in
-        let g = next-line lines p (line_in p) l (line-long t (p % 16) (p / 16)) in
+        let g = next-line lines p (line_in p) l (line_long t (p % 16) (p / 16)) in
         rw (read_is j, z, ← text-lines S (chain_of n t blocks)) (omega (arith, g.0 ∙ ap (λ (y : Lines). read_to lines p (length (line_in p)) + length (text y)) x, no_text))
 
   -- ---- after the last byte of a line, or before the first: what the search for the next line tells
@@ -148,7 +148,7 @@ module _ (S : Settings) (t : List ℕ) (blocks p j : ℕ) where
     pub byte : v ≢ 0 → ByteAt v 1 (get_or (line_in v) 0 0)
 
   found : (q : ℕ) → is_listed t n blocks q ≡ true → ByteAt q 1 (get_or (line_in q) 0 0) → NextLine q
-  found q h b = let x = listed-place t n blocks q h in record { over = λ e. absurd (omega (arith, x.from)); listed = λ _. x; byte = λ _. b }
+  found q h b = let x = listed_place t n blocks q h in record { over = λ e. absurd (omega (arith, x.from)); listed = λ _. x; byte = λ _. b }
 
   over : read ≡ length (listing_of S t blocks) → NextLine 0
   over e = record { over = λ _. e; listed = λ f. absurd (f refl); byte = λ f. absurd (f refl) }
@@ -174,7 +174,7 @@ module _ (S : Settings) (t : List ℕ) (blocks p j : ℕ) where
       go [] x = over (none_read ∙ sym (ap length (sym (text-lines S (chain_of n t blocks)) ∙ ap text x) ∙ no_text))
       go (e ∷ m) x =
           let y = listed-line S t blocks e.0 e.1 (ap (λ (l : Lines). line_of l e.0) x ∙ line-here e m) in
-          let b = line-long t (e.0 % 16) (e.0 / 16) in
+          let b = line_long t (e.0 % 16) (e.0 / 16) in
           let k : 1 ≤ length e.1 = rw y.1 b in
           found e.0 y.0
           (byte_at e.0 1 (get_or (line_in e.0) 0 0) y.0 (omega arith) b

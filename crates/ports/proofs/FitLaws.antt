@@ -25,9 +25,9 @@ use Rattle.ports.specs.Uart.{limits, registers_fit}
 use Rattle.ports.specs.Ports.{port_word, listing_of, placed_lines, port_in, port_fits, is_listed, cursor_fits}
 
 -- what the test of a place tells
-pub listed-place : (t : List ℕ) (n blocks p : ℕ) → is_listed t n blocks p ≡ true → LinePlace t n blocks p
+pub listed_place : (t : List ℕ) (n blocks p : ℕ) → is_listed t n blocks p ≡ true → LinePlace t n blocks p
 unfolding is_listed
-listed-place t n blocks p e =
+listed_place t n blocks p e =
     let a = both (leb 16 p) _ e in
     let b = both (ltb p (n * 16 + 16)) _ a.1 in
     let c = both (held_at t (p % 16) (p / 16)) _ b.1 in
@@ -47,7 +47,7 @@ module _ (S : Settings) (t : List ℕ) (blocks : ℕ) where
   -- the test of a place
   pub is-listed : (p : ℕ) → is_listed t n blocks p ≡ true → Listed S t blocks (p % 16) (p / 16)
   is-listed p e =
-      let x = listed-place t n blocks p e in
+      let x = listed_place t n blocks p e in
       record { member = omega arith; from = omega (arith, x.from); to = omega (arith, x.to); held = x.held; mark-from = x.mark-from; mark-to = x.mark-to }
 
   pub listed-is : (p : ℕ) → Listed S t blocks (p % 16) (p / 16) → is_listed t n blocks p ≡ true

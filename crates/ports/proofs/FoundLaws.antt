@@ -1,30 +1,39 @@
--- What the loops of the search have gone over.
+-- What the searches over keys and over blocks have found.
 use mathlib.Core.Path.{◌≡◌}
 use mathlib.Core.List.{List}
 use Prim.Native.Nat.{ℕ, ◌+◌, ◌*◌, ◌<◌, ◌≤◌}
 use native.Mathlib.Omega.{arith}
-use native.Mathlib.Decide.{ℕ_discrete}
 use lib.ListN.{get_or}
-use Rattle.ports.specs.Next.{BlockFound, Heads}
+use Rattle.std.specs.Prelude.{Option, Some, None, MatchOption, unwrap_or}
+use Rattle.running.specs.Links.{Marked}
+use Rattle.ports.specs.Next.{key_place, KeyFound, BlockFound, Heads}
 
--- one more that is passed over
-pub pass-more : (P : ℕ → Type 0) (q i : ℕ) → ((j : ℕ) → q ≤ j → j < i → P j → ⊥) → (P i → ⊥) → (j : ℕ) → q ≤ j → j < i + 1 → P j → ⊥
-pass-more P q i f g j l u x = go (ℕ_discrete j i)
-  where
-    go : Dec (j ≡ i) → ⊥
-    go (yes e) = g (rw e at x)
-    go (no n) = f j l (omega arith) x
+-- the first number from a to e for which P holds, if there is one
+abbrev pub Search : (ℕ → Type 0) → ℕ → ℕ → Option ℕ → Type 0
+Search P a e r = MatchOption r ((i : ℕ) → a ≤ i → i < e → P i → ⊥) (λ v. (a ≤ v) × (v < e) × P v × ((i : ℕ) → a ≤ i → i < v → P i → ⊥))
 
--- the blocks whose head is the end are passed over
-pub block-found : (t head : List ℕ) (n blocks k v : ℕ) → blocks < 512 → k < v → v ≤ blocks + 1 → (v ≤ blocks → get_or head v 0 < n * 16 + 16)
-    → ((i : ℕ) → k + 1 ≤ i → i < v → get_or head i 0 < n * 16 + 16 → ⊥) → Heads t head n → BlockFound t n blocks k v
-block-found t head n blocks k v few from to here skipped x =
+-- of the keys
+pub key_found : (t : List ℕ) (n k a q : ℕ) (r : Option ℕ) → q ≤ n * 16 + 16 → Search (λ i. Marked t k (key_place a i)) q (n * 16 + 16) r → KeyFound t n k a q (unwrap_or r (n * 16 + 16))
+key_found t n k a q (Some v) h s = record { from = s.0; to = omega (arith, s.1); here = λ l. s.2; skipped = s.3 }
+key_found t n k a q None h s = record { from = h; to = omega arith; here = λ l. absurd (omega arith); skipped = s }
+
+above : (h e p : ℕ) → (h < e → ⊥) → p < e → p < h
+above h e p f l = omega arith
+
+-- of the blocks, by their heads
+pub block_found : (t head : List ℕ) (n blocks k : ℕ) (a e : ℕ) (r : Option ℕ) → blocks < 512 → k ≤ blocks → a ≡ k + 1 → e ≡ blocks + 1 → Search (λ j. get_or head j 0 < n * 16 + 16) a e r → Heads t head n → BlockFound t n blocks k (unwrap_or r e)
+block_found t head n blocks k a e (Some v) few h from to s x =
+    let f = x.each v (omega (arith, s.1)) in
     record {
-      from = from;
-      to = to;
-      here = λ l. let f = x.each v (omega arith) in (get_or head v 0, f.from, here l, f.here (here l));
-      skipped = λ j p a b c d m. let f = x.each j (omega arith) in f.skipped p c (let z = skipped j (omega arith) b in above (get_or head j 0) (n * 16 + 16) p z d) m;
+      from = omega (arith, s.0);
+      to = omega (arith, s.1);
+      here = λ l. (get_or head v 0, f.from, s.2, f.here s.2);
+      skipped = λ j p u w c d m. (x.each j (omega (arith, s.1))).skipped p c (above _ _ p (s.3 j (omega arith) w) d) m;
     }
-  where
-    above : (h e p : ℕ) → (h < e → ⊥) → p < e → p < h
-    above h e p f l = omega arith
+block_found t head n blocks k a e None few h from to s x =
+    record {
+      from = omega arith;
+      to = omega arith;
+      here = λ l. absurd (omega arith);
+      skipped = λ j p u w c d m. (x.each j (omega arith)).skipped p c (above _ _ p (s j (omega arith) (omega arith)) d) m;
+    }

@@ -18,7 +18,7 @@ use Rattle.ports.specs.Places.{line_at}
 use Rattle.ports.specs.Next.{LinePlace}
 use Rattle.ports.specs.Uart.{limits}
 use Rattle.ports.specs.Ports.{port_word, port_fits, ports_fit, is_listed, cursor_fits}
-use Rattle.ports.proofs.FitLaws.{listed-place, port_local}
+use Rattle.ports.proofs.FitLaws.{listed_place, port_local}
 
 pub record PortsKept (t u : List ℕ) (n k c : ℕ) : Type 0 where
   pub words : (g i : ℕ) → g < 8 → i < 8 → port_word u g i ≡ port_word t g i
@@ -55,7 +55,7 @@ module _ (S : Settings) (t u : List ℕ) (k c : ℕ) (x : PortsKept t u S.ceilin
       go (yes e) h = rw (eq-eqb p 0 e) (rw (eq-eqb p 0 e) at h)
       go (no d) h =
           let b = both (is_listed t n k p) _ (rw (ne_eqb p 0 d) at h) in
-          let l = listed-place t n k p b.0 in
+          let l = listed_place t n k p b.0 in
           rw (ne_eqb p 0 d, place-listed u n c p (x.places p l), x.lines p l) b.1
 
   port-kept : (g : ℕ) → g < 8 → port_fits S t k g ≡ true → port_fits S u c g ≡ true

@@ -12,11 +12,9 @@ pub mod FitLaws
 pub mod KeptLaws
 pub mod WrittenLaws
 pub mod EdgeCases
-pub mod RegisterLaws
 pub mod ByteLaws
 pub mod RegisterNextLaws
 pub mod PutLaws
-pub mod ValueLaws
 pub mod ReadLaws
 pub mod WriteLaws
 pub mod GrownLaws

@@ -73,11 +73,11 @@ module _ (S : Settings) (t : List ℕ) (blocks g : ℕ) (x : FormedPort S t bloc
   unfolding port_in looks_at_next
   takes-by o n e h = let x = h (rw e refl) in rw (e, x.waiting) refl
 
-  pub put-read : (o : ℕ) (n : Next) → (looks_at_next o ≡ true → NextByte S t blocks g n)
+  pub put_read : (o : ℕ) (n : Next) → (looks_at_next o ≡ true → NextByte S t blocks g n)
       → cond (eqb o 0 && (not (leb 128 (port_word t g 3)) && not (eqb n.place 0))) (set (set t (port_start g + 0) n.place) (port_start g + 1) n.bytes) t
       ≡ put_port S t blocks g (after_read listing port o)
   unfolding looks_at_next
-  put-read o n h = go (ℕ_discrete o 0)
+  put_read o n h = go (ℕ_discrete o 0)
     where
       by : (b : Bool) → (not (leb 128 (port_word t g 3)) && not (eqb n.place 0)) ≡ b → o ≡ 0 → cond b (set (set t (port_start g + 0) n.place) (port_start g + 1) n.bytes) t ≡ put_port S t blocks g (after_read listing port o)
       by true i e =

@@ -1,14 +1,13 @@
 -- What the code finds is the next byte of a port.
 use mathlib.Core.Path.{◌≡◌, sym, ap, ◌∙◌}
-use mathlib.Core.Bool.{true, false, not, ◌&&◌}
+use mathlib.Core.Bool.{true, not}
 use mathlib.Core.List.{List}
 use mathlib.Core.Logic.{◌≢◌}
 use Prim.Native.Nat.{ℕ, suc, ◌+◌, ◌/◌, ◌%◌, ◌<◌, ◌≤◌}
 use native.Mathlib.Omega.{arith}
 use native.Mathlib.Decide.{ℕ_discrete}
 use lib.ListN.{length, get_or, get_or-eq_default}
-use lib.Dec.{eqb, ltb}
-use borrow.Author.Tests.{eq-eqb, ne_eqb, eqb-false, lt-ltb, le-ltb, ltb-true, ltb-false, not-true}
+use borrow.Author.Tests.{eq-eqb, ne_eqb, lt-ltb, le-ltb}
 use Rattle.base.proofs.Bools.{both}
 use Rattle.terms.specs.declared.sheet.Settings.{Settings}
 use Rattle.running.specs.ChainInTable.{ChainInTable}
@@ -22,8 +21,8 @@ use Rattle.ports.proofs.FitLaws.{port_local}
 use Rattle.ports.proofs.ByteLaws.{ByteAt, NextLine, place, byte_inside, next-after, next-first}
 
 -- a place of a line is in the table
-pub has-line : (S : Settings) (t : List ℕ) (blocks p : ℕ) → ChainInTable S t blocks → LinePlace t S.ceiling.0 blocks p → HasLine t p
-has-line S t blocks p c x = record { within = record { member = omega arith; row = omega (arith, x.to, c.long) }; block = omega (arith, x.mark-to, c.few, c.long) }
+pub has_line : (S : Settings) (t : List ℕ) (blocks p : ℕ) → ChainInTable S t blocks → LinePlace t S.ceiling.0 blocks p → HasLine t p
+has_line S t blocks p c x = record { within = record { member = omega arith; row = omega (arith, x.to, c.long) }; block = omega (arith, x.mark-to, c.few, c.long) }
 
 module _ (S : Settings) (t : List ℕ) (blocks g : ℕ) (x : FormedPort S t blocks g) where
   abbrev p : ℕ
@@ -77,16 +76,8 @@ module _ (S : Settings) (t : List ℕ) (blocks g : ℕ) (x : FormedPort S t bloc
     pub stands_at : a ≢ 0 → LinePlace t S.ceiling.0 blocks a
     stands_at n = rw e (stands (λ z. n (e ∙ z)))
 
-    pub inside-at : (v : Next) → a ≢ 0 → b < length (line_at t (a % 16) (a / 16)) → v.place ≡ a → v.bytes ≡ b + 1 → v.byte ≡ get_or (line_at t (a % 16) (a / 16)) b 0 → NextByte S t blocks g v
-    inside-at v n h i k l = inside-told v (λ z. n (e ∙ z)) (rw (e, f) at h) (i ∙ e) (rw f at k) (rw (e, f) at l)
+    pub inside_at : {y : ℕ} → a ≢ 0 → b < length (line_at t (a % 16) (a / 16)) → y ≡ get_or (line_at t (a % 16) (a / 16)) b 0 → NextByte S t blocks g (record { place = a; bytes = b + 1; byte = y })
+    inside_at n h l = inside-told (record { place = _; bytes = _; byte = _ }) (λ z. n (e ∙ z)) (rw (e, f) at h) e (ap (λ (z : ℕ). z + 1) f) (rw (e, f) at l)
 
-    pub line-at : {v : ℕ} → v ≡ first_place (lines_from S t blocks a) → (a ≢ 0 → length (line_at t (a % 16) (a / 16)) ≤ b) → NextLine S t blocks p j v
-    line-at y h = rw (y, e) (line-told (λ n. rw (e, f) at (h (λ z. n (sym e ∙ z)))))
-
--- ---- the test whether a byte of the same line comes next
-
-pub inside_yes : (p j l : ℕ) → (not (eqb p 0) && ltb j l) ≡ true → (p ≢ 0) × (j < l)
-inside_yes p j l e = let x = both (not (eqb p 0)) (ltb j l) e in (eqb-false p 0 (not-true (eqb p 0) x.0), ltb-true j l x.1)
-
-pub inside_no : (p j l : ℕ) → (not (eqb p 0) && ltb j l) ≡ false → p ≢ 0 → l ≤ j
-inside_no p j l e n = ltb-false j l (rw (ne_eqb p 0 n) at e)
+    pub next_line_at : {v : ℕ} → v ≡ first_place (lines_from S t blocks a) → (a ≢ 0 → length (line_at t (a % 16) (a / 16)) ≤ b) → NextLine S t blocks p j v
+    next_line_at y h = rw (y, e) (line-told (λ n. rw (e, f) at (h (λ z. n (sym e ∙ z)))))

@@ -16,6 +16,7 @@ use Rattle.committee.specs.Chain.{holds_at, chain_of}
 use Rattle.committee.proofs.ChainLaws.{holds-other, holds-absent}
 use Rattle.running.specs.BlockChanges.{start_at}
 use Rattle.running.specs.Links.{Marked}
+use Rattle.running.proofs.StartLaws.{start-le}
 use Rattle.ports.specs.Cursors.{Lines, lines_after}
 use Rattle.ports.specs.Places.{lines_of, line_at}
 use Rattle.ports.specs.Next.{first_place, lines_from, lines_beyond, key_member, key_place, key_of, KeyFound, BlockFound, LinePlace, NextInBlock}
@@ -162,8 +163,8 @@ module _ (S : Settings) (t : List ℕ) where
     from-keys = rw (← start-after (mark - 1)) (from_place blocks p x)
 
     -- a key that was found after p's, or none
-    pub next-key_in : (v : ℕ) → KeyFound t ceiling mark start (key_of start (p % 16) (p / 16) + 1) v → v < ceiling * 16 + 16 → NextInBlock S t blocks p (key_place start v)
-    next-key_in v f l =
+    pub next_key_in : (v : ℕ) → KeyFound t ceiling mark start (key_of start (p % 16) (p / 16) + 1) v → v < ceiling * 16 + 16 → NextInBlock S t blocks p (key_place start v)
+    next_key_in v f l =
         let z : key_of start (p % 16) (p / 16) + 1 ≡ suc (key_of start (p % 16) (p / 16)) = omega arith in
         let e = found-key t ceiling mark start (suc (key_of start (p % 16) (p / 16))) v (rw z at f) l in
         record { here = λ _. sym (ap first_place (from-keys ∙ ap (λ (y : Lines). y ++ lines_beyond S t blocks mark) e)); later = λ q. absurd (omega (arith, f.from, x.from)) }
@@ -175,12 +176,12 @@ module _ (S : Settings) (t : List ℕ) where
         record { here = λ q. absurd (q refl); later = λ _. from-keys ∙ ap (λ (y : Lines). y ++ lines_beyond S t blocks mark) e }
 
   module _ (blocks k v : ℕ) (l : k ≤ blocks) (x : BlockFound t ceiling blocks k v) where
-    pub none-beyond : blocks < v → 0 ≡ first_place (lines_beyond S t blocks k)
-    none-beyond h = sym (ap first_place (beyond-later blocks k l ∙ no_block blocks k v l x h))
+    pub none_beyond : blocks < v → 0 ≡ first_place (lines_beyond S t blocks k)
+    none_beyond h = sym (ap first_place (beyond-later blocks k l ∙ no_block blocks k v l x h))
 
     -- a block that was found has a first key
-    pub first-beyond : v ≤ blocks → (q : ℕ) → KeyFound t ceiling v (start_at S t (v - 1)) 16 q → key_place (start_at S t (v - 1)) q ≡ first_place (lines_beyond S t blocks k)
-    first-beyond h q f =
+    pub first_beyond : v ≤ blocks → (q : ℕ) → KeyFound t ceiling v (start_at S t (v - 1)) 16 q → key_place (start_at S t (v - 1)) q ≡ first_place (lines_beyond S t blocks k)
+    first_beyond h q f =
         let a = start_at S t (v - 1) in
         let z : suc (v - 1) ≡ v = omega (arith, x.from) in
         let y : 16 + ceiling * 16 - 16 ≡ ceiling * 16 = omega arith in
@@ -204,3 +205,6 @@ module _ (S : Settings) (t : List ℕ) where
                 let i = key_of a (p % 16) (p / 16) in
                 let e : key_place a i ≡ p = key-place a (p % 16) (p / 16) (omega arith) ∙ by_place p in
                 absurd (f.skipped i (omega (arith, m.1)) (omega (arith, m.2)) (rw e m.3))
+
+-- a start is 16 or below, for the code
+pub ruleset start_low = start-le

@@ -2,19 +2,16 @@
 use mathlib.Core.Path.{◌≡◌, refl, sym, ap, ◌∙◌}
 use mathlib.Core.Bool.{true, false, cond, not, ◌&&◌}
 use mathlib.Core.List.{List, [], ◌∷◌}
-use Prim.Native.Nat.{ℕ, ◌+◌, ◌%◌, ◌<◌, ◌≤◌}
+use Prim.Native.Nat.{ℕ, ◌+◌, ◌%◌, ◌<◌}
 use native.Mathlib.Omega.{arith}
-use native.Mathlib.Decide.{ℕ_discrete}
 use mathlib.Core.Logic.{◌≢◌}
-use borrow.Author.Tests.{lt-ltb, ltb-true}
-use Rattle.base.proofs.Bools.{both}
+use borrow.Author.Tests.{ne_eqb}
 use lib.ListN.{set, replicate}
-use lib.Dec.{eqb, leb, ltb}
+use lib.Dec.{eqb, leb}
 use lib.Seq.{paste}
 use Rattle.terms.specs.declared.sheet.Settings.{Settings}
 use Rattle.ports.specs.Uart.{Port, divisor, after_write, reset_port}
 use Rattle.ports.specs.Ports.{port_start, port_word, placed_lines, port_in, FormedPort, port_words, put_port}
-use Rattle.ports.proofs.ValueLaws.{six}
 use Rattle.ports.proofs.PutLaws.{own, same-own, set_own}
 use Rattle.ports.proofs.BackLaws.{cursor-zero}
 use Rattle.ports.proofs.ReadLaws.{room, cursor-own}
@@ -35,6 +32,15 @@ module _ (S : Settings) (t : List ℕ) (blocks g : ℕ) (x : FormedPort S t bloc
   unfolding port_words after_write port_in
   words-after o = rw (cursor-own S t blocks g x) refl
 
+  -- bit 7 of offset 3
+  is_set : leb 128 (port_word t g 3) ≡ true → divisor port ≡ true
+  unfolding port_in
+  is_set d = d
+
+  is_clear : leb 128 (port_word t g 3) ≡ false → divisor port ≡ false
+  unfolding port_in
+  is_clear d = d
+
   -- one word is set
   module _ (o k v : ℕ) (h : k < 8) where
     pub one_set : port_words (placed_lines S t blocks) (after_write port o b) ≡ set (own t g) k v → set t (port_start g + k) v ≡ put_port S t blocks g (after_write port o b)
@@ -46,80 +52,35 @@ module _ (S : Settings) (t : List ℕ) (blocks g : ℕ) (x : FormedPort S t bloc
   unfolding put_port
   none-set o e = same-own t g (room S t blocks g x) ∙ ap (λ (w : List ℕ). paste t (port_start g) w 8) (sym e)
 
-  -- ---- by offset
-
-  module _ (o : ℕ) (d : leb 128 (port_word t g 3) ≡ true) where
-    by : divisor port ≡ true
-    unfolding port_in
-    by = d
-
-    pub low-written : o ≡ 0 → set t (port_start g + (6 + o)) b ≡ put_port S t blocks g (after_write port o b)
-    low-written e = rw e (one_set 0 6 b (omega arith) (words-after 0 ∙ rw by refl))
-
-    pub high-written : o ≡ 1 → set t (port_start g + (6 + o)) b ≡ put_port S t blocks g (after_write port o b)
-    high-written e = rw e (one_set 1 7 b (omega arith) (words-after 1 ∙ rw by refl))
-
-  module _ (o : ℕ) (d : leb 128 (port_word t g 3) ≡ false) where
-    not_by : divisor port ≡ false
-    unfolding port_in
-    not_by = d
-
-    pub dropped : o ≡ 0 → t ≡ put_port S t blocks g (after_write port o b)
-    dropped e = rw e (none-set 0 (words-after 0 ∙ rw not_by refl))
-
-    pub enable-written : o ≡ 1 → set t (port_start g + 2) (b % 2) ≡ put_port S t blocks g (after_write port o b)
-    enable-written e = rw e (one_set 1 2 (b % 2) (omega arith) (words-after 1 ∙ rw not_by refl))
+  -- ---- by offset, and by bit 7 of offset 3
 
   module _ (o : ℕ) where
-    pub line-written : o ≡ 3 → set t (port_start g + 3) b ≡ put_port S t blocks g (after_write port o b)
-    line-written e = rw e (one_set 3 3 b (omega arith) (words-after 3))
+    abbrev by_write : List ℕ
+    by_write = put_port S t blocks g (after_write port o b)
 
-    pub modem-written : o ≡ 4 → set t (port_start g + 4) (b % 32) ≡ put_port S t blocks g (after_write port o b)
-    modem-written e = rw e (one_set 4 4 (b % 32) (omega arith) (words-after 4))
+    pub low_written : leb 128 (port_word t g 3) ≡ true → o ≡ 0 → set t (port_start g + 6) b ≡ by_write
+    low_written d e = rw e (one_set 0 6 b (omega arith) (words-after 0 ∙ rw (is_set d) refl))
 
-    pub scratch-written : o ≡ 7 → set t (port_start g + 5) b ≡ put_port S t blocks g (after_write port o b)
-    scratch-written e = rw e (one_set 7 5 b (omega arith) (words-after 7))
+    pub high_written : leb 128 (port_word t g 3) ≡ true → o ≡ 1 → set t (port_start g + 7) b ≡ by_write
+    high_written d e = rw e (one_set 1 7 b (omega arith) (words-after 1 ∙ rw (is_set d) refl))
 
-    pub ignored : (o ≡ 2) → t ≡ put_port S t blocks g (after_write port o b)
-    ignored e = rw e (none-set 2 (words-after 2))
+    pub byte_dropped : leb 128 (port_word t g 3) ≡ false → o ≡ 0 → t ≡ by_write
+    byte_dropped d e = rw e (none-set 0 (words-after 0 ∙ rw (is_clear d) refl))
 
-    pub ignored_5 : (o ≡ 5) → t ≡ put_port S t blocks g (after_write port o b)
-    ignored_5 e = rw e (none-set 5 (words-after 5))
+    pub enable_written : leb 128 (port_word t g 3) ≡ false → o ≡ 1 → set t (port_start g + 2) (b % 2) ≡ by_write
+    enable_written d e = rw e (one_set 1 2 (b % 2) (omega arith) (words-after 1 ∙ rw (is_clear d) refl))
 
-    pub ignored_6 : (o ≡ 6) → t ≡ put_port S t blocks g (after_write port o b)
-    ignored_6 e = rw e (none-set 6 (words-after 6))
+    pub line_written : o ≡ 3 → set t (port_start g + 3) b ≡ by_write
+    line_written e = rw e (one_set 3 3 b (omega arith) (words-after 3))
 
-  -- ---- as the code tells the cases apart
+    pub modem_written : o ≡ 4 → set t (port_start g + 4) (b % 32) ≡ by_write
+    modem_written e = rw e (one_set 4 4 (b % 32) (omega arith) (words-after 4))
 
-  module _ (o : ℕ) where
-    pub divisor-written : (ltb o 2 && leb 128 (port_word t g 3)) ≡ true → set t (port_start g + (6 + o)) b ≡ put_port S t blocks g (after_write port o b)
-    divisor-written e = let x = both (ltb o 2) (leb 128 (port_word t g 3)) e in go x.1 (ltb-true o 2 x.0) (ℕ_discrete o 0)
-      where
-        one : o < 2 → o ≢ 0 → o ≡ 1
-        one l n = omega arith
+    pub scratch_written : o ≡ 7 → set t (port_start g + 5) b ≡ by_write
+    scratch_written e = rw e (one_set 7 5 b (omega arith) (words-after 7))
 
-        go : leb 128 (port_word t g 3) ≡ true → o < 2 → Dec (o ≡ 0) → set t (port_start g + (6 + o)) b ≡ put_port S t blocks g (after_write port o b)
-        go d l (yes z) = low-written o d z
-        go d l (no n) = high-written o d (one l n)
-
-    -- at offsets 0 and 1 bit 7 is clear
-    clear : (ltb o 2 && leb 128 (port_word t g 3)) ≡ false → o < 2 → leb 128 (port_word t g 3) ≡ false
-    clear e l = rw (lt-ltb o 2 l) at e
-
-    pub one_written : (ltb o 2 && leb 128 (port_word t g 3)) ≡ false → o ≡ 1 → set t (port_start g + 2) (b % 2) ≡ put_port S t blocks g (after_write port o b)
-    one_written e z = enable-written o (clear e (omega arith)) z
-
-    pub nothing_written : (ltb o 2 && leb 128 (port_word t g 3)) ≡ false → o ≢ 1 → o ≢ 3 → o ≢ 4 → o ≢ 7 → o < 8 → t ≡ put_port S t blocks g (after_write port o b)
-    nothing_written e n1 n3 n4 n7 l = go (ℕ_discrete o 0) (ℕ_discrete o 2) (ℕ_discrete o 5)
-      where
-        go : Dec (o ≡ 0) → Dec (o ≡ 2) → Dec (o ≡ 5) → t ≡ put_port S t blocks g (after_write port o b)
-        go (yes z) c d = dropped o (clear e (omega arith)) z
-        go (no z) (yes c) d = ignored o c
-        go (no z) (no c) (yes d) = ignored_5 o d
-        go (no z) (no c) (no d) = ignored_6 o (six o z n1 c n3 n4 d n7 (small o l))
-          where
-            small : (o : ℕ) → o < 8 → o ≤ 7
-            small o l = omega arith
+    pub nothing_written : o ≢ 0 → o ≢ 1 → o ≢ 3 → o ≢ 4 → o ≢ 7 → t ≡ by_write
+    nothing_written n0 n1 n3 n4 n7 = none-set o (words-after o ∙ rw (ne_eqb o 0 n0, ne_eqb o 1 n1, ne_eqb o 3 n3, ne_eqb o 4 n4, ne_eqb o 7 n7) refl)
 
 -- a reset
 pub put-reset : (S : Settings) (t : List ℕ) (blocks g : ℕ) → paste t (port_start g) (replicate 8 0) 8 ≡ put_port S t blocks g reset_port

@@ -1,6 +1,6 @@
--- What is claimed of the registers, of every listing, port and byte.
+-- What is claimed of the registers, of every listing, port and byte (`registers_hold`, ports::theorems).
 use Rattle.std.specs.Prelude.{◌≡◌, true, false, List, ℕ, ◌%◌, get_or, set}
-use Rattle.ports.specs.Uart.{Port, divisor, values_at, after_read, after_write, registers_of}
+use Rattle.ports.specs.Uart.{Port, divisor, values_at, after_write, registers_of}
 
 -- each offset shows its register: 3, 4, 7; and 0 and 1 by bit 7 of offset 3
 pub record Shown (l : List ℕ) (p : Port) : Type 0 where
@@ -26,11 +26,3 @@ pub record Ignored (p : Port) (b : ℕ) : Type 0 where
   pub interrupt : after_write p 2 b ≡ p
   pub status : after_write p 5 b ≡ p
   pub modem-status : after_write p 6 b ≡ p
-
-pub record RegistersHold : Type 0 where
-  pub shown : (l : List ℕ) (p : Port) → Shown l p
-  pub written : (p : Port) (b : ℕ) → Written p b
-  pub ignored : (p : Port) (b : ℕ) → Ignored p b
-  -- a write takes no byte, and a read changes no register
-  pub by-writes : (p : Port) (o b : ℕ) → (after_write p o b).read ≡ p.read
-  pub by-reads : (l : List ℕ) (p : Port) (o : ℕ) → registers_of (after_read l p o) ≡ registers_of p

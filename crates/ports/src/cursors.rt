@@ -1,5 +1,6 @@
-// Where a reader stands in the listing of a chain: the last byte that it has read, and the line after it (docs/RULES.md, "Serial ports").
-// A reader stands at a place, 16 r + m for the certificate of member m and round r, or at 0, before the first line.
+//! Where a reader stands in the listing of a chain: the last byte that it has read, and the line after it (docs/RULES.md, "Serial ports").
+//!
+//! A reader stands at a place, 16 r + m for the certificate of member m and round r, or at 0, before the first line.
 
 ghost use Rattle.std.specs.Prelude.{◌≡◌, true, false, List, ◌≢◌, ℕ, ◌+◌, ◌*◌, ◌/◌, ◌%◌, ◌<◌, ◌≤◌, length, get_or};
 ghost use Rattle.store.specs.Table.{Within};
@@ -16,6 +17,7 @@ use terms::sheet::Settings;
 use terms::{Member, Round};
 
 // The line of place p, from the start of a buffer on; gives its length.
+#[tactic(auto, unfolding(crate::specs::Places::line_at))]
 fn put_line(t: &[u32], p: u32, out: &mut [u8]) -> usize
     requires { LineRoom t.now p out.old }
     ensures { Puts out.old out.new 0 result (line_at t.now (p % 16) (p / 16)) 141 }
@@ -27,7 +29,7 @@ fn put_line(t: &[u32], p: u32, out: &mut [u8]) -> usize
     listing::list_place(t, k, b, m, r, out, 0)
 }
 
-// The length of the line of place p.
+/// The length of the line of place p, at most 141 bytes; p is of a certificate that is held and in a block.
 pub fn line_length(t: &[u32], p: u32) -> u32
     requires { HasLine t.now p }
     ensures { (result ≡ length (line_at t.now (p % 16) (p / 16))) × (result ≤ 141) }
@@ -36,7 +38,8 @@ pub fn line_length(t: &[u32], p: u32) -> u32
     put_line(t, p, &mut line) as u32
 }
 
-// Byte j of the line of place p, from 0 on.
+/// Byte j, from 0 on, of the line of place p, which has more than j.
+#[tactic(auto, using(crate::proofs::LineBytes::byte_put))]
 pub fn line_byte(t: &[u32], p: u32, j: u32) -> u8
     requires { HasLine t.now p × (j < length (line_at t.now (p % 16) (p / 16))) }
     ensures { result ≡ get_or (line_at t.now (p % 16) (p / 16)) j 0 }
@@ -53,10 +56,7 @@ fn is_marked(t: &[u32], k: u32, p: u32) -> bool
 {
     let m = Member(p % 16);
     let r = Round(p / 16);
-    if !store::held(t, m, r) {
-        return false;
-    }
-    store::record::mark(t, m, r) == k
+    store::held(t, m, r) && store::record::mark(t, m, r) == k
 }
 
 // The place of key q, where rows start with member a.
@@ -73,27 +73,22 @@ fn next_key(t: &[u32], n: Round, k: u32, a: Member, q: u32) -> u32
     ensures { KeyFound t.now n.0 k a.0 q result }
 {
     let end = n.0 * 16 + 16;
-    for i in q..end {
-        if is_marked(t, k, place_of(a, i)) {
-            return i;
-        }
-    }
-    end
+    (q..end)
+        .find(|&i| is_marked(t, k, place_of(a, i)))
+        .unwrap_or(end)
 }
 
 // The first block after k that has a certificate; one above the last if there is none.
 fn next_block(head: &[u32; 512], n: Round, blocks: u32, k: u32) -> u32
     requires { (n.0 ≤ 1024) × (blocks < 512) × (k ≤ blocks) }
-    ensures { (t : List ℕ) → Heads t head.now n.0 → BlockFound t n.0 blocks k result }
+    ensures found { (t : List ℕ) → Heads t head.now n.0 → BlockFound t n.0 blocks k result }
+    ensures later { k < result }
 {
     let end = n.0 * 16 + 16;
     let last = blocks + 1;
-    for j in k + 1..last {
-        if head[j as usize] < end {
-            return j;
-        }
-    }
-    last
+    (k + 1..last)
+        .find(|&j| head[j as usize] < end)
+        .unwrap_or(last)
 }
 
 // The key after that of place p.
@@ -105,6 +100,7 @@ fn key_after(a: Member, p: u32) -> u32
 }
 
 // The place after p in the order of its block, 0 for none.
+#[tactic(auto, using(crate::proofs::SearchLaws::start_low, crate::proofs::SearchLaws::next_key_in, crate::proofs::SearchLaws::no_key_in))]
 fn next_in_block(t: &[u32], s: Settings, blocks: u32, starts: &[u32; 512], p: u32) -> u32
     requires { ChainInTable s t.now blocks × Starts s t.now blocks starts.now × LinePlace t.now s.ceiling.0 blocks p }
     ensures { NextInBlock s t.now blocks p result }
@@ -113,13 +109,11 @@ fn next_in_block(t: &[u32], s: Settings, blocks: u32, starts: &[u32; 512], p: u3
     let a = Member(starts[(k - 1) as usize]);
     let n = s.ceiling;
     let q = next_key(t, n, k, a, key_after(a, p));
-    if q < n.0 * 16 + 16 {
-        return place_of(a, q);
-    }
-    0
+    if q < n.0 * 16 + 16 { place_of(a, q) } else { 0 }
 }
 
 // The place of the first line of the blocks after k, 0 for none.
+#[tactic(auto, using(crate::proofs::SearchLaws::start_low))]
 fn first_after(
     t: &[u32],
     s: Settings,
@@ -142,6 +136,7 @@ fn first_after(
 }
 
 // The place of the line after that of p, 0 for none; the first line's after 0.
+#[tactic(auto, using(crate::proofs::SearchLaws::from_start))]
 fn place_after(
     t: &[u32],
     s: Settings,
@@ -178,7 +173,7 @@ fn searched(t: &[u32], s: Settings, blocks: u32, p: u32, next: &mut [u32]) -> u3
     place_after(t, s, blocks, &head, &starts, p)
 }
 
-// The place of the line after that of p, 0 for none; the first line's after 0.
+/// The place of the line after that of place p in the listing of the first blocks, 0 for none; the first line's where p is 0. The listing is not made for it.
 pub fn line_after(t: &[u32], s: Settings, blocks: u32, p: u32) -> u32
     requires { ChainInTable s t.now blocks × (p ≢ 0 → LinePlace t.now s.ceiling.0 blocks p) }
     ensures { result ≡ first_place (lines_from s t.now blocks p) }

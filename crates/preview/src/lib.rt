@@ -5,7 +5,7 @@
 
 pub mod theorems;
 
-ghost use Rattle.std.specs.Prelude.{◌≡◌, IfOk, length};
+ghost use Rattle.std.specs.Prelude.{◌≡◌, IfOk, OnOk, length};
 ghost use Rattle.base.specs.Checks.{refusal};
 ghost use Rattle.refusals.specs.Refusals.{refusal_in};
 ghost use Rattle.votes.specs.Checks.{leaders_for};
@@ -19,20 +19,20 @@ use state::State;
 use terms::Round;
 use votes::checks;
 
-// The checks of a well-formed state: 25, and those of commit; and the leaders by round. The list has so many words.
+// The checks of a well-formed state: 25, and those of commit, by which l gets the leaders by round. The list has so many words.
 #[tactic(auto, unfolding(base::specs::Checks::refusal))]
-fn check(v: &View, words: usize) -> Result<[u32; 1025], Refusal>
+fn check(v: &View, words: usize, l: &mut [u32; 1025]) -> Result<(), Refusal>
     ensures refusal { refusal_in result ≡ refusal (previewing v.now.state.now v.now.table.now words) }
-    ensures leaders { IfOk result (λ l. l ≡ leaders_for v.now.state.now v.now.table.now) }
+    ensures leaders { OnOk result (l.new ≡ leaders_for v.now.state.now v.now.table.now) }
 {
     let ceiling = v.state.settings.ceiling.0 as usize;
     if words / 3 < 16 * ceiling {
         return Err(Refusal::ListTooShort);
     }
-    checks::check(v)
+    checks::check(v, l)
 }
 
-/// Lists the certificates that a commit would put into blocks; the value is their number.
+/// Lists the certificates that a commit would put into blocks, block by block, in each block's order; the value is their number. The list needs sixteen places for each round of the ceiling, of three words each: block number, round, author. State and table stay as they are.
 #[tactic(auto, unfolding(base::specs::Checks::refusal, state::specs::Answers::if_accepted, crate::specs::Preview::preview_refusal, crate::specs::Preview::preview_list))]
 pub fn preview(s: &State, t: &[u32], list: &mut [u32]) -> Result<u32, Refusal>
     ensures refusal { refusal_in result ≡ preview_refusal s.now t.now (length list.old) }
@@ -40,7 +40,12 @@ pub fn preview(s: &State, t: &[u32], list: &mut [u32]) -> Result<u32, Refusal>
     ensures list { list.new ≡ preview_list s.now t.now list.old }
 {
     let words = list.len();
-    let mut leaders = check(&View::known(state::well_formed(*s, t), &[], s, t)?, words)?;
+    let mut leaders = [0u32; 1025];
+    check(
+        &View::known(state::well_formed(*s, t), &[], s, t)?,
+        words,
+        &mut leaders,
+    )?;
     let last = bonded::last_round(t, s.blocks);
     let top = Round(s.round.0 - 1);
     anchors::take_leaders(t, &mut leaders, last, top);

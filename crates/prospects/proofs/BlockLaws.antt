@@ -1,15 +1,18 @@
 -- The words of a block, by what a walk down its anchor's history gives.
-use mathlib.Core.Path.{◌≡◌, refl, sym, ◌∙◌}
+use mathlib.Core.Path.{◌≡◌, refl, sym, ap, ◌∙◌}
 use mathlib.Core.Bool.{Bool, true, false, not, ◌&&◌}
 use mathlib.Core.List.{List}
 use Prim.Native.Nat.{ℕ, ◌+◌, ◌-◌, ◌<◌, ◌≤◌}
 use native.Mathlib.Omega.{arith}
 use lib.Dec.{eqb}
+use lib.ListN.{length}
 use Rattle.base.specs.Sets.{only}
 use Rattle.store.specs.Table.{mark_at}
 use Rattle.blocks.specs.History.{in_history}
 use Rattle.prospects.specs.Reaching.{WentDown}
-use Rattle.prospects.specs.Entries.{rows_entries, in_sets}
+use Rattle.base.specs.Puts.{Puts}
+use Rattle.prospects.specs.Entries.{rows_entries, in_sets, RowsFit}
+use Rattle.prospects.specs.Ready.{BlockReady, BlockListed}
 use Rattle.prospects.proofs.RowLaws.{rows_same, rows-from}
 use Rattle.prospects.specs.Prospects.{is_new, block_words}
 
@@ -29,3 +32,15 @@ module _ (t v : List ℕ) (k a r low : ℕ) (v' fresh : List ℕ) (w : WentDown 
       let e : low + (r - low) ≡ r = omega arith in
       rows_same (in_sets fresh) (is_new t (in_sets v) a r) k a low (r - low) (λ i q h l u. w.new q i l (omega arith))
       ∙ sym (rw e at (rows-from (is_new t (in_sets v) a r) k a low (r - low) (λ i q h l u. none-new i q l u)))
+
+-- ---- what a block asks and gives
+
+module _ {t v : List ℕ} {k a r : ℕ} {list : List ℕ} {at low : ℕ} {v' fresh' : List ℕ} where
+  pub rows_fit : {fresh : List ℕ} → WentDown t v (only a) r low v' fresh' → BlockReady t v fresh k a r list at → RowsFit list at fresh' k low r a
+  rows_fit w p =
+      let e = ap (λ (l : List ℕ). length l) (fresh-words t v k a r low v' fresh' w) in
+      record { start = p.author; upward = w.down; rounds = p.walk.round; room = omega (arith, e, p.room) }
+
+  pub block_listed : {list' : List ℕ} {next : ℕ} → WentDown t v (only a) r low v' fresh'
+      → Puts list list' at next (rows_entries (in_sets fresh') k a low (r - low)) (length (rows_entries (in_sets fresh') k a low (r - low))) → BlockListed t v k a r list list' at next v' fresh'
+  block_listed w p = record { rounds = w.rounds; words = rw (fresh-words t v k a r low v' fresh' w) at p; again = w.now; reaches = λ q i h. w.reaches q i h }

@@ -1,24 +1,25 @@
 -- Laws of a set that is filled member by member with those who pass a test.
 use mathlib.Core.Path.{◌≡◌, refl, ◌∙◌}
-use mathlib.Core.Bool.{Bool, true, false, cond, ◌&&◌, and-false}
-use Prim.Native.Nat.{ℕ, ◌+◌, ◌<◌, ◌≤◌}
+use mathlib.Core.Bool.{Bool, true, false, not, cond, ◌&&◌, and-false}
+use mathlib.Core.List.{List}
+use Prim.Native.Nat.{ℕ, zero, suc, ◌+◌, ◌<◌, ◌≤◌}
 use native.Mathlib.Decide.{dec_lt, ℕ_discrete}
 use native.Mathlib.Omega.{arith}
-use lib.Dec.{ltb}
+use native.Mathlib.Numerals.{add-one}
+use lib.Dec.{eqb, ltb}
 use borrow.Author.Tests.{lt-ltb, le-ltb, eq-eqb, ne_eqb}
 use Rattle.base.specs.Sets.{is_in, add}
-use Rattle.base.proofs.SetLaws.{add_lt, in_add}
+use Rattle.base.specs.Folds.{fold_to}
+use Rattle.base.proofs.Ranges.{fold_none, fold_next}
+use Rattle.base.proofs.SetLaws.{add_lt, in_add, in_member}
 use Rattle.base.proofs.UnionLaws.{in_none}
+use Rattle.store.specs.Table.{mark_at}
+use Rattle.prospects.specs.Reaching.{NewOf}
 
 -- the set u has those of the first i members who pass the test
-pub record Chosen (f : ℕ → Bool) (i u : ℕ) : Type 0 where
-  pub few : i ≤ 16
-  pub small : u < 65536
-  pub each : (a : ℕ) → is_in u a ≡ (ltb a i && f a)
-
--- of no member, nobody
-pub chosen_none : (f : ℕ → Bool) → Chosen f 0 0
-chosen_none f = record { few = omega arith; small = omega arith; each = λ a. in_none a ∙ rw (le-ltb a 0 (omega arith)) refl }
+record Chosen (f : ℕ → Bool) (i u : ℕ) : Type 0 where
+  small : u < 65536
+  each : (a : ℕ) → is_in u a ≡ (ltb a i && f a)
 
 -- a member who is not the last is among the first where they were before
 ltb_more : (a i : ℕ) → (i ≡ a → ⊥) → ltb a (i + 1) ≡ ltb a i
@@ -28,10 +29,10 @@ ltb_more a i n = by (dec_lt a i)
     by (yes h) = rw (lt-ltb a i h, lt-ltb a (i + 1) (omega arith)) refl
     by (no h) = let l : i + 1 ≤ a = omega (arith, n) in rw (le-ltb a i (omega arith), le-ltb a (i + 1) l) refl
 
-module _ (f : ℕ → Bool) (i u : ℕ) (k : Chosen f i u) where
+module _ (f : ℕ → Bool) where
   -- one member more
-  pub chosen_more : i < 16 → Chosen f (i + 1) (cond (f i) (add u i) u)
-  chosen_more h = record { few = omega arith; small = small (f i); each = λ a. each a (f i) refl (ℕ_discrete i a) }
+  chosen_more : (i u : ℕ) → i < 16 → Chosen f i u → Chosen f (i + 1) (cond (f i) (add u i) u)
+  chosen_more i u h k = record { small = small (f i); each = λ a. each a (f i) refl (ℕ_discrete i a) }
     where
       small : (b : Bool) → cond b (add u i) u < 65536
       small true = add_lt 16 i u h k.small
@@ -43,10 +44,21 @@ module _ (f : ℕ → Bool) (i u : ℕ) (k : Chosen f i u) where
       each a false e (yes y) = k.each a ∙ rw (← y, e, and-false (ltb i i), and-false (ltb i (i + 1))) refl
       each a false e (no n) = k.each a ∙ rw (ltb_more a i n) refl
 
-  -- all of them, where nobody else passes
-  pub chosen-all : 16 ≤ i → ((a : ℕ) → f a ≡ true → a < 16) → (a : ℕ) → is_in u a ≡ f a
-  chosen-all h g a = k.each a ∙ go (f a) refl
-    where
-      go : (b : Bool) → f a ≡ b → (ltb a i && b) ≡ b
-      go true e = let l = g a e in rw (lt-ltb a i (omega arith)) refl
-      go false e = and-false (ltb a i)
+  -- those of the first n who pass
+  chosen : (n : ℕ) → n ≤ 16 → Chosen f n (fold_to (λ a u. cond (f a) (add u a) u) n 0)
+  chosen zero h = rw (fold_none (λ a u. cond (f a) (add u a) u) 0) (record { small = omega arith; each = λ a. in_none a ∙ rw (le-ltb a 0 (omega arith)) refl })
+  chosen (suc n) h = rw (fold_next (λ a u. cond (f a) (add u a) u) n 0, ← add-one n) (chosen_more n (fold_to (λ a u. cond (f a) (add u a) u) n 0) h (chosen n (omega arith)))
+
+-- what is new among the members of a set
+pub new_chosen : (t : List ℕ) (here old r u : ℕ) → u ≡ fold_to (λ a u. cond (is_in here a && (not (is_in old a) && eqb (mark_at t a r) 0)) (add u a) u) 16 0 → NewOf t here old r u
+new_chosen t here old r u e = rw e (record { small = k.small; each = λ a. k.each a ∙ go a (is_in here a) refl })
+  where
+    f : ℕ → Bool
+    f a = is_in here a && (not (is_in old a) && eqb (mark_at t a r) 0)
+
+    k : Chosen f 16 (fold_to (λ a u. cond (f a) (add u a) u) 16 0)
+    k = chosen f 16 (omega arith)
+
+    go : (a : ℕ) (b : Bool) → is_in here a ≡ b → (ltb a 16 && (b && (not (is_in old a) && eqb (mark_at t a r) 0))) ≡ (b && (not (is_in old a) && eqb (mark_at t a r) 0))
+    go a true e = rw (lt-ltb a 16 (in_member here a e)) refl
+    go a false e = and-false (ltb a 16)

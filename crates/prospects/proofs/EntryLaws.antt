@@ -10,20 +10,20 @@ use Rattle.base.specs.Puts.{Puts}
 use Rattle.prospects.specs.Entries.{entry_words, entry_if, row_entries, rows_entries}
 
 -- the three words of an entry
-pub entry-put : (t : List ℕ) (at k r a : ℕ) → Puts t (set (set (set t at k) (at + 1) r) (at + 2) a) at (at + 3) (entry_words k r a) 3
-entry-put t at k r a =
+pub entry_put : (t : List ℕ) (at k r a : ℕ) → Puts t (set (set (set t at k) (at + 1) r) (at + 2) a) at (at + 3) (entry_words k r a) 3
+entry_put t at k r a =
     let one : at + 1 ≡ suc at = omega arith in
     let two : at + 2 ≡ suc (suc at) = omega arith in
     record { bytes = rw (one, two) refl; past = refl; room = omega arith }
 
 module _ (b : Bool) (k r a : ℕ) where
-  pub entry-there : b ≡ true → entry_if b k r a ≡ entry_words k r a
+  pub entry_there : b ≡ true → entry_if b k r a ≡ entry_words k r a
   unfolding entry_if
-  entry-there h = rw h refl
+  entry_there h = rw h refl
 
-  pub entry-none : b ≡ false → entry_if b k r a ≡ []
+  pub entry_none : b ≡ false → entry_if b k r a ≡ []
   unfolding entry_if
-  entry-none h = rw h refl
+  entry_none h = rw h refl
 
 -- what more is put makes a list longer
 longer : (l m : List ℕ) → length l ≤ length (l ++ m)

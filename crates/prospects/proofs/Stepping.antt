@@ -44,9 +44,9 @@ closed_none t n h =
       closed = λ q _ a e. absurd (false≢true (sym (in_none a) ∙ (rw (zeros n (suc q), below_none t (suc q)) at e)));
     }
 
-pub steps-begin : (t l : List ℕ) (m k rounds : ℕ) (list fresh : List ℕ) → 1024 < length fresh → Stepping t l m k rounds list list (replicate 1025 0) fresh k 0 0
+pub steps_begin : (t l : List ℕ) (m k rounds : ℕ) (list fresh : List ℕ) → 1024 < length fresh → Stepping t l m k rounds list list (replicate 1025 0) fresh k 0 0
 unfolding count_after words_after reach_after
-steps-begin t l m k rounds list fresh h =
+steps_begin t l m k rounds list fresh h =
     record {
       so_far = omega arith;
       kept = refl;
@@ -104,16 +104,16 @@ module _ {t : List ℕ} {l : List ℕ} {m : ℕ} {k : ℕ} {rounds : ℕ} {list�
   more = words_more t l m i k ∙ ap (λ (w : List ℕ). words_after t l m i k ++ w) (sym next-words)
 
   -- there is room for them
-  pub steps-room : i < rounds → length (words_after t l m rounds k) ≤ length list₀ → at + length (words_step t l (in_sets v) (m + 1 + i) n) ≤ length list
-  steps-room h room =
+  pub steps_room : i < rounds → length (words_after t l m rounds k) ≤ length list₀ → at + length (words_step t l (in_sets v) (m + 1 + i) n) ≤ length list
+  steps_room h room =
       let e : i + 1 + (rounds - (i + 1)) ≡ rounds = omega arith in
       let u = rw e at (words_up t l m k (i + 1) (rounds - (i + 1))) in
       let a = ap (λ (w : List ℕ). length w) more ∙ length-append (words_after t l m i k) (words_step t l (in_sets v) (m + 1 + i) n) in
       omega (arith, u, a, room, x.kept, x.words.past)
 
-  pub steps-more : {list' : List ℕ} {v' : List ℕ} {fresh' : List ℕ} {n' : ℕ} {at' : ℕ} → i < rounds → length list' ≡ length list
+  pub steps_more : {list' : List ℕ} {v' : List ℕ} {fresh' : List ℕ} {n' : ℕ} {at' : ℕ} → i < rounds → length list' ≡ length list
       → StepListed t v l (m + 1 + i) n list list' at n' at' v' fresh' → Stepping t l m k rounds list₀ list' v' fresh' n' at' (i + 1)
-  steps-more {n' = n'} h same y =
+  steps_more {n' = n'} h same y =
       let c = count-step l (m + 1 + i) n in
       let a = ap (λ (w : List ℕ). length w) more ∙ length-append (words_after t l m i k) (words_step t l (in_sets v) (m + 1 + i) n) in
       record {

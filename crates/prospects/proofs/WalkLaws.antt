@@ -13,13 +13,13 @@ use borrow.Author.Tests.{ne_eqb, eqb-true}
 use Rattle.base.proofs.Bools.{both}
 use Rattle.base.specs.Folds.{any_to}
 use Rattle.base.proofs.TestLaws.{any_true, true_any}
-use Rattle.base.specs.Sets.{is_in, union, common}
+use Rattle.base.specs.Sets.{is_in, union, common, is_subset}
 use Rattle.base.proofs.UnionLaws.{in_union, in_common}
 use Rattle.store.specs.Table.{mark_at, held_at, previous_at}
 use Rattle.blocks.specs.History.{below, in_history}
 use Rattle.blocks.proofs.HistoryLaws.{in_below, history-here, history-down, history-above, history-split}
 use Rattle.blocks.specs.Seen.{Inside}
-use Rattle.prospects.specs.Reaching.{NewOf, Closed, WentDown}
+use Rattle.prospects.specs.Reaching.{NewOf, Closed, WalkReady, WentDown}
 
 -- a choice that holds does by one of its parts
 either : (a b : Bool) → (a || b) ≡ true → (a ≡ true) ⊎ (b ≡ true)
@@ -107,12 +107,12 @@ pub record Walking (t v : List ℕ) (s top : ℕ) (w fresh : List ℕ) (r here :
   pub new : (q a : ℕ) → r < q → q ≤ top → is_in (get_or fresh q 0) a ≡ (in_history t top s a q && (not (is_in (get_or v q 0) a) && eqb (mark_at t a q) 0))
 
 -- at its beginning
-pub walk-begin : (t v fresh : List ℕ) (s top : ℕ) → 1024 < length v → 1024 < length fresh → Walking t v s top v fresh top s
-walk-begin t v fresh s top l m =
+pub walk_begin : {t v fresh : List ℕ} {s top : ℕ} → WalkReady t v fresh top → Walking t v s top v fresh top s
+walk_begin {t} {v} {fresh} {s} {top} k =
     record {
       to = omega arith;
-      long = l;
-      rounds = m;
+      long = k.earlier.long;
+      rounds = k.rounds;
       rest = λ q a _. refl;
       kept = λ q _. refl;
       reaches = λ q a h. rw (history-above t top s a q h) (sym (or-false (is_in (get_or v q 0) a)));
@@ -150,19 +150,23 @@ module _ (t v : List ℕ) (s top : ℕ) (w fresh : List ℕ) (r here x : ℕ) (l
       }
 
 -- one round down
-pub walk_step : (t v : List ℕ) (s top : ℕ) (w fresh : List ℕ) (r here x : ℕ) → 0 < r → top ≤ 1024 → Walking t v s top w fresh r here → NewOf t here (get_or w r 0) r x
+pub walk_step : {t v : List ℕ} {s top : ℕ} {w fresh : List ℕ} {r here x : ℕ} → 0 < r → top ≤ 1024 → Walking t v s top w fresh r here → NewOf t here (get_or w r 0) r x
     → Walking t v s top (set w r (union (get_or w r 0) here)) (set fresh r x) (r - 1) (below t here r)
-walk_step t v s top w fresh zero here x z l k n = absurd (omega arith)
-walk_step t v s top w fresh (suc r) here x z l k n = let e : suc r - 1 ≡ r = omega arith in rw e (walk-down t v s top w fresh r here x l k n)
+walk_step {r = zero} z l k n = absurd (omega arith)
+walk_step {t} {v} {s} {top} {w} {fresh} {r = suc r} {here} {x} z l k n = let e : suc r - 1 ≡ r = omega arith in rw e (walk-down t v s top w fresh r here x l k n)
+
+-- a set that is in another has nothing else in common with it
+subset_common : (s u : ℕ) → is_subset s u ≡ true → common s u ≡ s
+unfolding is_subset
+subset_common s u e = eqb-true (common s u) s e
 
 -- at round 0, or where all of `here` was reached before, the walk is at its end
-pub walk_end : (t v : List ℕ) (s top : ℕ) (w fresh : List ℕ) (r here : ℕ) → Closed t v v → Walking t v s top w fresh r here → (0 < r → common here (get_or w r 0) ≡ here)
-    → WentDown t v s top r w fresh
-walk_end t v s top w fresh r here c k f =
+pub walk_end : {t v : List ℕ} {s top : ℕ} {w fresh : List ℕ} {r here : ℕ} → Closed t v v → Walking t v s top w fresh r here → (0 < r → is_subset here (get_or w r 0) ≡ true) → WentDown t v s top r w fresh
+walk_end {t} {v} {s} {top} {w} {fresh} {r} {here} c k f =
     record { down = k.to; rounds = k.rounds; now = closed-more t v c s top w k.long reaches; reaches = reaches; old = old; new = k.new }
   where
     inside : 0 < r → Inside here (get_or v r 0)
-    inside h a e = rw (← k.kept r (omega arith)) (both (is_in here a) (is_in (get_or w r 0) a) (sym (in_common here (get_or w r 0) a) ∙ rw (f h) e)).1
+    inside h a e = rw (← k.kept r (omega arith)) (both (is_in here a) (is_in (get_or w r 0) a) (sym (in_common here (get_or w r 0) a) ∙ rw (subset_common here (get_or w r 0) (f h)) e)).1
 
     old : (q a : ℕ) → 0 < q → q ≤ r → in_history t top s a q ≡ true → is_in (get_or v q 0) a ≡ true
     old q a z h e = history-inside t v c r here inside q a z (k.rest q a h ∙ e)

@@ -8,6 +8,7 @@ ghost use Rattle.prospects.specs.Entries.{entry_words, entry_if, row_entries, ro
 use terms::{Member, Round};
 
 // One entry.
+#[tactic(auto, using(crate::proofs::EntryLaws::entry_put))]
 fn put_entry(list: &mut [u32], at: usize, k: u32, r: Round, a: Member) -> usize
     requires { at + 3 ≤ length list.old }
     ensures { Puts list.old list.new at result (entry_words k r.0 a.0) 3 }
@@ -19,14 +20,16 @@ fn put_entry(list: &mut [u32], at: usize, k: u32, r: Round, a: Member) -> usize
 }
 
 // That of a, where it is in the set x.
+#[tactic(auto, using(crate::proofs::EntryLaws::entry_there, crate::proofs::EntryLaws::entry_none))]
 fn put_member(list: &mut [u32], at: usize, x: u32, k: u32, r: Round, a: Member) -> usize
     requires { (a.0 < 16) × (at + length (entry_if (is_in x a.0) k r.0 a.0) ≤ length list.old) }
     ensures { Puts list.old list.new at result (entry_if (is_in x a.0) k r.0 a.0) (length (entry_if (is_in x a.0) k r.0 a.0)) }
 {
     if base::has(x, a.0) {
-        return put_entry(list, at, k, r, a);
+        put_entry(list, at, k, r, a)
+    } else {
+        at
     }
-    at
 }
 
 // Those of the set x of a round: numbers rise from that of a, with 0 after 15.
@@ -42,7 +45,7 @@ fn put_row(list: &mut [u32], at: usize, x: u32, k: u32, r: Round, a: Member) -> 
     to
 }
 
-// Those of the rounds above low up to top, by round; sets has a set of authors for each round.
+/// Puts the entries of the rounds above low up to top into the list, by round, from a place on; sets has a set of authors for each round, k is the block's number and a the author of its anchor. The place behind them.
 pub fn put_rows(
     list: &mut [u32],
     at: usize,

@@ -13,7 +13,7 @@ ghost use Rattle.prospects.specs.Ready.{BlockReady, BlockListed, StepReady, Step
 
 use terms::{Member, Round};
 
-// How many blocks there would be, and the next place of the list.
+/// How many blocks there would be, and the next place of the list.
 #[derive(Clone, Copy)]
 pub struct Listed {
     pub blocks: u32,
@@ -34,8 +34,7 @@ fn list_block(
     requires { BlockReady t.now seen.old fresh.old k a.0 r.0 list.old at }
     ensures { BlockListed t.now seen.old k a.0 r.0 list.old list.new at result seen.new fresh.new }
 {
-    let s = base::just(a.0);
-    let low = reaching::go_down(t, seen, fresh, s, r);
+    let low = reaching::go_down(t, seen, fresh, base::just(a.0), r);
     entries::put_rows(list, at, fresh, k, low, r, a)
 }
 
@@ -55,19 +54,19 @@ fn list_step(
 {
     let a = l[r.0 as usize];
     if a < 16 {
-        let next = list_block(t, seen, fresh, k + 1, Member(a), r, list, at);
-        return Listed {
+        Listed {
             blocks: k + 1,
-            next,
-        };
-    }
-    Listed {
-        blocks: k,
-        next: at,
+            next: list_block(t, seen, fresh, k + 1, Member(a), r, list, at),
+        }
+    } else {
+        Listed {
+            blocks: k,
+            next: at,
+        }
     }
 }
 
-// The blocks of the anchors above m up to top, oldest first, where there are k. The words that were put.
+/// Lists the blocks of the anchors above round m up to round top, oldest first, where there are k blocks: three words for each certificate, from the front of the list. l has the authors of the anchors by round, 16 for none. The number of words that were put.
 pub fn list_blocks(t: &[u32], l: &[u32], m: Round, top: Round, k: u32, list: &mut [u32]) -> usize
     requires { StepsReady t.now l.now m.0 top.0 k list.old }
     ensures { Puts list.old list.new 0 result (words_after t.now l.now m.0 (top.0 - m.0) k) (length (words_after t.now l.now m.0 (top.0 - m.0) k)) }

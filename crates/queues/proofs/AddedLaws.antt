@@ -11,7 +11,6 @@ use lib.Dec.{eqb}
 use lib.ListN.{get_or, set, length-set}
 use lib.Seq.{get_or-set_same, get_or-set_other}
 use borrow.Author.Tests.{eq-eqb, ne_eqb}
-use Rattle.base.specs.Folds.{tab}
 use Rattle.base.proofs.Ranges.{tab_next}
 use Rattle.base.proofs.FoldLaws.{tab-same}
 use Rattle.terms.specs.declared.Transaction.{Transaction}
@@ -22,7 +21,7 @@ use Rattle.scan.specs.Scan.{triple_fits}
 use Rattle.scan.proofs.FitLaws.{triple-fits}
 use Rattle.queues.specs.Queues.{added}
 use Rattle.queues.specs.Words.{served_word, waiting_count, place_start, Place, waiting_at, queue_of, queues_of, waiting_fits, queue_fits, queues_fit, added_table}
-use Rattle.queues.proofs.WordLaws.{queue_tab, fits-served, guest-fits, fits-waiting, guest-whole, guests_whole, triple, waiting-same, waiting-fits-same, SameQueue, queue_kept, guest-kept}
+use Rattle.queues.proofs.WordLaws.{queue_tab, fits_served, guest-fits, fits-waiting, guest-whole, guests_whole, triple, waiting-same, waiting-fits-same, SameQueue, queue_kept, guest-kept}
 
 -- the eight words before a queue are none of a queue's
 before_queue : (g h i j : ℕ) → i < 8 → j < 24 → 16 + h * 32 + i ≡ 24 + g * 32 + j → ⊥
@@ -145,7 +144,7 @@ module _ (t : List ℕ) (g : ℕ) (x : Transaction) (at : Place t g (waiting_cou
             go (no k) = rw (ne_eqb h g k) (queue_added-other h k)
 
     pub fits-added : in_range x ≡ true → queues_fit (added_table t g x) ≡ true
-    fits-added r = guests_whole (added_table t g x) (rw served-added (fits-served t e)) (λ h l. go h l (ℕ_discrete h g))
+    fits-added r = guests_whole (added_table t g x) (rw served-added (fits_served t e)) (λ h l. go h l (ℕ_discrete h g))
       where
         fit : (k : ℕ) → k < waiting_count (added_table t g x) g → Dec (k ≡ waiting_count t g) → waiting_fits (added_table t g x) g k ≡ true
         fit k l (yes q) = rw q (last_fits ∙ r)

@@ -18,7 +18,7 @@ use Rattle.queues.specs.Words.{Place, waiting_at, queues_of, queues_fit, served_
 use Rattle.queues.proofs.WordLaws.{oldest-at}
 use Rattle.queues.proofs.ServedLaws.{length-served, queues-served, fits-served-table}
 use Rattle.queues.proofs.DrawLaws.{drawn-zero, drawn-none, drawn-more, table-nothing, table_more}
-use Rattle.queues.proofs.GuestLaws.{guest-place, guest-waits}
+use Rattle.queues.proofs.GuestLaws.{guest_place, guest_waits}
 
 -- at most a transactions are to be drawn from t₀; i of them are in the body, with previous set v, and have left their queues, which gives t
 pub record Drawing (t₀ : List ℕ) (v a i : ℕ) (body : Body) (t : List ℕ) : Type 0 where
@@ -46,13 +46,13 @@ module _ {t₀ : List ℕ} {v a i : ℕ} {body : Body} {t : List ℕ} (p : Drawi
   -- one more
   module _ {g : ℕ} (l : i < a) (e : next_guest (queues_of t) ≡ some g) where
     place : Place t g 0
-    place = guest-place t e p.row
+    place = guest_place t e p.row
 
     drawn-next : drawn (a - i) (queues_of t) ≡ record { guest = g; transaction = waiting_at t g 0 } ∷ drawn (a - (i + 1)) (queues_of (served_table t g))
     drawn-next =
         let k = place in
         let s : a - i ≡ suc (a - (i + 1)) = omega arith in
-        rw (s, drawn-more (a - (i + 1)) (queues_of t) g e, oldest-at t g k.guest (guest-waits t e), queues-served t g k.row k.guest p.fits) refl
+        rw (s, drawn-more (a - (i + 1)) (queues_of t) g e, oldest-at t g k.guest (guest_waits t e), queues-served t g k.row k.guest p.fits) refl
 
     pub drawing_more : {x : Transaction} {b : Body} {u : List ℕ} → x ≡ waiting_at t g 0 → b ≡ push body x → u ≡ served_table t g → Drawing t₀ v a (i + 1) b u
     unfolding push

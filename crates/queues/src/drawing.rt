@@ -1,16 +1,18 @@
 // Guests' queues as calls change them: a transaction added, and a draw (docs/RULES.md, "Guests' queues").
 
-ghost use Rattle.std.specs.Prelude.{◌≡◌, true, ◌*◌, ◌<◌, ◌≤◌, drop};
+ghost use Rattle.std.specs.Prelude.{◌≡◌, true, ◌*◌, ◌<◌, ◌≤◌, take, drop, IfSome, IfNone};
+ghost use Rattle.std.proofs.Math.Option.{none, some};
 ghost use Rattle.std.proofs.Math.Seq.{paste};
-ghost use Rattle.base.specs.Options.{if_there};
 ghost use Rattle.terms.specs.Bodies.{body_of};
 ghost use Rattle.store.specs.Table.{row_length, transaction_length, Row};
 ghost use Rattle.queues.specs.Queues.{next_guest, transactions_in, drawn};
 ghost use Rattle.queues.specs.Words.{Place, served_word, waiting_count, place_start, queues_of, queues_fit, added_table, served_table, drawn_table};
 
+use crate::GUESTS;
 use terms::{Body, Transaction};
 
-// Puts a transaction behind those of a guest.
+/// Puts a transaction behind those of a guest, which are fewer than eight.
+#[tactic(auto, unfolding(crate::specs::Words::added_table))]
 pub fn add(t: &mut [u32], g: u32, x: Transaction)
     requires { Place t.old g (waiting_count t.old g) }
     ensures { t.new ≡ added_table t.old g x }
@@ -33,6 +35,7 @@ fn move_up(t: &mut [u32], g: u32)
 }
 
 // Takes the oldest transaction of a guest away, who is the guest served last then.
+#[tactic(auto, unfolding(crate::specs::Words::served_table))]
 fn serve(t: &mut [u32], g: u32)
     requires { Place t.old g 0 × (0 < waiting_count t.old g) }
     ensures { t.new ≡ served_table t.old g }
@@ -43,54 +46,55 @@ fn serve(t: &mut [u32], g: u32)
     t[0] = g + 1;
 }
 
-// The guest to draw from, 8 where all queues are empty.
-fn next_guest(t: &[u32]) -> u32
+// The guest to draw from, none where all queues are empty.
+#[tactic(auto, using(crate::proofs::GuestLaws::none_before, crate::proofs::GuestLaws::none_more, crate::proofs::GuestLaws::next_found, crate::proofs::GuestLaws::next_none), unfolding(crate::specs::Words::served_word))]
+fn next_guest(t: &[u32]) -> Option<u32>
     requires { Row t.now 0 × (served_word t.now ≤ 8) }
-    ensures { result ≡ if_there (next_guest (queues_of t.now)) 8 (λ g. g) }
+    ensures found { IfSome result (λ g. next_guest (queues_of t.now) ≡ some g) }
+    ensures nobody { IfNone result (next_guest (queues_of t.now) ≡ none) }
 {
     let from = t[0];
-    for i in 0..crate::GUESTS {
-        let g = (from + i) % crate::GUESTS;
+    for i in 0..GUESTS {
+        let g = (from + i) % GUESTS;
         if crate::waiting_count(t, g) != 0 {
-            return g;
+            return Some(g);
         }
     }
-    crate::GUESTS
+    None
 }
 
-// Draws as many as the allowance lets, and as wait: a body of them with a previous set. They leave their queues.
+/// Draws as many as the allowance lets, and as wait: a body of them with a previous set. They leave their queues, and the guest drawn from last is the one served last.
+#[tactic(auto, using(crate::proofs::WordLaws::fits_served, crate::proofs::GuestLaws::guest_place, crate::proofs::GuestLaws::guest_waits, crate::proofs::DrawnRowLaws::drawing_none, crate::proofs::DrawnRowLaws::drawing_more))]
 pub fn draw(t: &mut [u32], allowance: u32, previous: u16) -> Body
     requires { Row t.old 0 × (queues_fit t.old ≡ true) }
     ensures { (result ≡ body_of previous (transactions_in (drawn allowance (queues_of t.old)))) × (t.new ≡ drawn_table (drawn allowance (queues_of t.old)) t.old) }
 {
     let mut body = terms::bare_body(previous);
     for i in 0..allowance {
-        let g = next_guest(t);
-        if g == crate::GUESTS {
+        let Some(g) = next_guest(t) else {
             return body;
-        }
-        let x = crate::waiting_at(t, g, 0);
-        let next = terms::pushed(body, x);
-        body = next;
+        };
+        body = terms::pushed(body, crate::waiting_at(t, g, 0));
         serve(t, g);
     }
     body
 }
 
-// Copies row 0.
-fn copy_row(row: &mut [u32], t: &[u32])
-    requires { Row row.old 0 × Row t.now 0 }
-    ensures { row.new ≡ paste row.old 0 t.now row_length }
+// A copy of row 0.
+fn first_row(t: &[u32]) -> [u32; 272]
+    requires { Row t.now 0 }
+    ensures { result ≡ take row_length t.now }
 {
-    row[..272].copy_from_slice(&t[..272]);
+    let mut row = [0u32; 272];
+    row.copy_from_slice(&t[..272]);
+    row
 }
 
-// The body that a draw makes, with nothing gone from its queue: the draw is made on a copy of row 0.
+/// The body that a draw makes, with nothing gone from its queue: the draw is made on a copy of row 0.
+#[tactic(auto, using(crate::proofs::WordLaws::first_row, crate::proofs::WordLaws::first_queues, crate::proofs::WordLaws::first_fits))]
 pub fn drawn_body(t: &[u32], allowance: u32, previous: u16) -> Body
     requires { Row t.now 0 × (queues_fit t.now ≡ true) }
     ensures { result ≡ body_of previous (transactions_in (drawn allowance (queues_of t.now))) }
 {
-    let mut row = [0u32; 272];
-    copy_row(&mut row, t);
-    draw(&mut row, allowance, previous)
+    draw(&mut first_row(t), allowance, previous)
 }

@@ -14,12 +14,13 @@ ghost use Rattle.queues.specs.Words.{waiting_count, place_start, waiting_at, wai
 
 use terms::{Member, Transaction};
 
-// Guests.
+/// How many guests there are: 0 to 7.
 pub const GUESTS: u32 = 8;
-// Places of a guest's queue.
+/// How many transactions of a guest may wait.
 pub const PLACES: u32 = 8;
 
-// How many transactions of a guest are waiting.
+/// How many transactions of a guest are waiting: its word, 0 to 8 where the row is well formed.
+#[tactic(auto, unfolding(crate::specs::Words::waiting_count))]
 pub fn waiting_count(t: &[u32], g: u32) -> u32
     requires { Place t.now g 0 }
     ensures { result ≡ waiting_count t.now g }
@@ -27,7 +28,7 @@ pub fn waiting_count(t: &[u32], g: u32) -> u32
     t[1 + g as usize]
 }
 
-// Where place k of a guest's queue starts.
+/// Where place k, 0 to 7, of a guest's queue starts in row 0, in words.
 pub fn place_start(g: u32, k: u32) -> usize
     requires { (g < 8) × (k < 8) }
     ensures { result ≡ place_start g k }
@@ -35,7 +36,8 @@ pub fn place_start(g: u32, k: u32) -> usize
     24 + g as usize * 32 + k as usize * 3
 }
 
-// The transaction at place k of a guest's queue.
+/// The transaction at place k, 0 to 7, of a guest's queue, the oldest at 0, whether it counts or not.
+#[tactic(auto, unfolding(crate::specs::Words::waiting_at))]
 pub fn waiting_at(t: &[u32], g: u32, k: u32) -> Transaction
     requires { Place t.now g k }
     ensures { result ≡ waiting_at t.now g k }
@@ -57,6 +59,7 @@ fn triple_fits(kind: u32, number: u32, amount: u32) -> bool
 }
 
 // Is the transaction at place k of a guest's queue in range?
+#[tactic(auto, unfolding(crate::specs::Words::waiting_fits))]
 fn waiting_fits(t: &[u32], g: u32, k: u32) -> bool
     requires { Place t.now g k }
     ensures { result ≡ waiting_fits t.now g k }
@@ -84,7 +87,7 @@ fn queue_fits(t: &[u32], g: u32) -> bool
     n <= PLACES && places_fit(t, g, n)
 }
 
-// Is that so of every guest, and is the guest served last 0 to 7 or none?
+/// Are at most eight transactions of each guest waiting, all in range, and is the guest served last 0 to 7 or none?
 #[tactic(auto, unfolding(crate::specs::Words::queues_fit, crate::specs::Words::served_word, base::specs::Folds::all_to))]
 pub fn queues_fit(t: &[u32]) -> bool
     requires { Row t.now 0 }

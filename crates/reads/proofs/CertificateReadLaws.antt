@@ -1,6 +1,6 @@
 -- What an accepted read of a certificate has passed, and what the table tells of a held one.
 use mathlib.Core.Path.{◌≡◌, refl, sym, ap, ◌∙◌}
-use mathlib.Core.Bool.{true, false, not}
+use mathlib.Core.Bool.{true, not}
 use mathlib.Core.List.{List}
 use Prim.Native.Nat.{ℕ, ◌<◌, ◌≤◌}
 use native.Mathlib.Omega.{arith}
@@ -61,9 +61,6 @@ module _ (s : State) (t : List ℕ) where
 
   pub place-in : Formed s t → (m r : ℕ) → m < 16 → r ≤ s.settings.ceiling.0 → Within t m r
   place-in f m r a b = record { member = a; row = omega (arith, f.long) }
-
-  pub place-within : {m r : ℕ} → HeldThere s t m r → Within t m r
-  place-within k = record { member = k.member; row = omega (arith, k.well.long, k.to) }
 
   -- what the table tells of a held certificate is what the view shows of it
   pub held-told : (m r : ℕ) {p : Proposal} {d : ℕ} {b : ℕ} → Formed s t → 0 < r → r ≤ s.settings.ceiling.0 → held_at t m r ≡ true → p ≡ proposal_of (content_at t m r) → d ≡ endorsers_at t m r → b ≡ mark_at t m r

@@ -1,4 +1,4 @@
-// The read of what a bond would do to all sixteen shares. It changes nothing.
+//! The read of what a bond would do to all sixteen shares. It changes nothing.
 
 ghost use Rattle.std.specs.Prelude.{◌≡◌, IfOk};
 ghost use Rattle.base.specs.Checks.{refusal};
@@ -41,7 +41,7 @@ fn effect_of(v: &View, m: Member, r: Round, a: u32) -> Result<Effect, Refusal>
     Ok(effects::bond_effect(committee.weights, total, m, a))
 }
 
-/// Sixteen shares before and after a bond of the member by an amount, and the largest difference.
+/// Sixteen shares before and after a bond of the member by an amount, 1 to 1,000, and the largest difference. Checks 1, 4, 5, 6, 8 and 30, in this order.
 #[tactic(auto, unfolding(base::specs::Checks::refusal, crate::specs::Reads::effect_refusal))]
 pub fn effect(s: &State, t: &[u32], m: Member, r: Round, a: u32) -> Result<Effect, Refusal>
     ensures refusal { refusal_in result ≡ effect_refusal s.now t.now m.0 r.0 a }

@@ -1,6 +1,6 @@
 //! The reads: committees, shares, certificates, blocks.
 //!
-//! They change nothing. Each gives what the rules give at the view, or the number of the first check that fails: committee and share (specs/CommitteeReads), certificate and block (specs/CertificateReads), how far a bond moves the shares (specs/BondReads), and by how much at most (specs/Bounds). docs/RULES.md, "Reads".
+//! They change nothing. Each gives what the rules give at the view, or the number of the first check that fails: the numbers are specs/Reads, what the rules' reads give is rules/specs/Reads, a certificate as it is handed out is specs/Held, and how far a bond moves the shares at most is specs/Bounds. docs/RULES.md, "Reads".
 #![tactic(auto)]
 
 pub mod bonding;
@@ -25,8 +25,11 @@ use terms::{Member, Proposal, Round};
 /// A held certificate: its proposal, the endorsers that it was stored with, and the number of its block, 0 for none.
 #[derive(Clone, Copy)]
 pub struct Held {
+    /// Its author, round and body.
     pub proposal: Proposal,
+    /// The set of its endorsers, member i counting 2 to the power i; the author is not among them.
     pub endorsers: u16,
+    /// The number of its block, from 1; 0 for none.
     pub block: u32,
 }
 
@@ -53,7 +56,7 @@ fn certificate_of(v: &View, m: Member, r: Round) -> Result<Held, Refusal>
     })
 }
 
-/// The certificate of a place.
+/// The certificate of a place. Checks 1, 4, 5 and 23, in this order.
 #[tactic(auto, unfolding(base::specs::Checks::refusal, crate::specs::Reads::certificate_refusal))]
 pub fn certificate(s: &State, t: &[u32], m: Member, r: Round) -> Result<Held, Refusal>
     ensures refusal { refusal_in result ≡ certificate_refusal s.now t.now m.0 r.0 }
@@ -74,7 +77,7 @@ fn block_of(v: &View, k: u32) -> Result<Round, Refusal>
     Ok(store::block_round(v.table, k))
 }
 
-/// The round of a block, by its number from 1.
+/// The round of a block, by its number from 1. Checks 1 and 23, in this order.
 #[tactic(auto, unfolding(base::specs::Checks::refusal, crate::specs::Reads::block_refusal))]
 pub fn block(s: &State, t: &[u32], k: u32) -> Result<Round, Refusal>
     ensures refusal { refusal_in result ≡ block_refusal s.now t.now k }

@@ -1,4 +1,4 @@
-// The reads of a committee and of a share in it. They change nothing.
+//! The reads of a committee and of a share in it. They change nothing.
 
 ghost use Rattle.std.specs.Prelude.{◌≡◌, IfOk};
 ghost use Rattle.base.specs.Checks.{refusal};
@@ -30,7 +30,7 @@ fn committee_of(v: &View, r: Round) -> Result<[Weight; 16], Refusal>
     Ok(v.committee(r).weights)
 }
 
-/// The committee of a round: sixteen weights, 0 for a non-member.
+/// The committee of a round: sixteen weights, 0 for a non-member. Checks 1, 5 and 8, in this order.
 #[tactic(auto, unfolding(base::specs::Checks::refusal, crate::specs::Reads::committee_refusal))]
 pub fn committee(s: &State, t: &[u32], r: Round) -> Result<[Weight; 16], Refusal>
     ensures refusal { refusal_in result ≡ committee_refusal s.now t.now r.0 }
@@ -61,7 +61,7 @@ fn share_of(v: &View, m: Member, r: Round) -> Result<u32, Refusal>
     Ok(weighing::share(&committee.weights, m))
 }
 
-/// A member's share in the committee of a round, in thousandths.
+/// A member's share in the committee of a round, in thousandths. Checks 1, 4, 5, 8 and 9, in this order.
 #[tactic(auto, unfolding(base::specs::Checks::refusal, crate::specs::Reads::share_refusal))]
 pub fn share(s: &State, t: &[u32], m: Member, r: Round) -> Result<u32, Refusal>
     ensures refusal { refusal_in result ≡ share_refusal s.now t.now m.0 r.0 }

@@ -33,7 +33,7 @@ pub fn effect_of_shares()
 
 /// The share of a number that is no member is 0, and stays 0 unless it is the one that bonds.
 pub fn none_without_weight()
-    ensures before { (s : State) (t : List ℕ) → length s.settings.weights ≡ 16 → (m r a i : ℕ) → effect_refusal s t m r a ≡ 0 → i < 16 → committee_in s.settings (view s t) r i ≡ 0
+    ensures before { (s : State) (t : List ℕ) (m r a i : ℕ) → effect_refusal s t m r a ≡ 0 → i < 16 → committee_in s.settings (view s t) r i ≡ 0
         → get_or (effect_read s.settings (view s t) m r a).before i 0 ≡ 0 }
     ensures after { (s : State) (t : List ℕ) → length s.settings.weights ≡ 16 → (m r a i : ℕ) → effect_refusal s t m r a ≡ 0 → i < 16 → committee_in s.settings (view s t) r i ≡ 0 → i ≢ m
         → get_or (effect_read s.settings (view s t) m r a).after i 0 ≡ 0 }

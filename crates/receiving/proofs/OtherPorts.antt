@@ -14,10 +14,10 @@ use Rattle.serial.specs.Calls.{Access, PortCall, access, port_of}
 use Rattle.serial.specs.Serial.{port_then, ported_table}
 use Rattle.serial.proofs.LeftLaws.{port-passed}
 use Rattle.serial.proofs.PutLaws.{others_put}
-use Rattle.engine.specs.Calls.{Call, opens, propose, endorse, certify, accept, advance, commit, enqueue, draw, port, aside, InRange}
+use Rattle.engine.specs.Calls.{Call, opens, accept, port, InRange}
 use Rattle.engine.specs.Engine.{Engine, refusal_for, after}
 use Rattle.engine.specs.Sequences.{after_calls, AllInRange, NoOpen}
-use Rattle.engine.specs.Reached.{Intact}
+use Rattle.engine.specs.Reached.{Intact, Reached}
 use Rattle.engine.proofs.AfterLaws.{refused-same, accepted-new}
 use Rattle.engine.proofs.PortLaws.{leaves_ports as keeps_ports}
 use Rattle.engine.proofs.ReachedLaws.{intact, intact-after}
@@ -26,10 +26,10 @@ use Rattle.engine.specs.Guests.{GuestCall, as_host}
 use Rattle.batch.specs.Batch.{Row, turns_of, batch_refusal}
 use Rattle.submissions.specs.Submissions.{batch, accepts_of, after_submission, calls_of}
 use Rattle.submissions.specs.Requests as requests
-use Rattle.submissions.specs.Requests.{Asked, asks, asks_batch, submitted_by, caller_number, InRangeThen}
+use Rattle.submissions.specs.Requests.{Asked, asks, asks_batch, submitted_by, caller_number, InRangeThen, submission_of, result_of}
 use Rattle.submissions.proofs.SubmissionLaws.{leaves_as_its_calls}
 use Rattle.submissions.proofs.RequestLaws.{left_by}
-use Rattle.receiving.specs.Received.{port_on, LeavesPorts, LeavesOtherPorts}
+use Rattle.receiving.specs.Received.{port_on}
 use Rattle.receiving.proofs.GrownListings.{port-same}
 
 module _ (h : ℕ) (low : h < 8) where
@@ -55,16 +55,8 @@ module _ (h : ℕ) (low : h < 8) where
 
   any_leaves : (e : Engine) → Intact e → (c : Call) → InRange c → NoOpen e c → ((x : PortCall) → c ≡ port x → port_of x ≢ h) → port_on (after e c) h ≡ port_on e h
   any_leaves e k (opens own sheet) i o n = ap (λ (d : Engine). port_on d h) (refused-same e (opens own sheet) (o own sheet refl))
-  any_leaves e k (propose b) i o n = call-leaves e k (propose b) refl i
-  any_leaves e k (endorse p) i o n = call-leaves e k (endorse p) refl i
-  any_leaves e k (certify d) i o n = call-leaves e k (certify d) refl i
-  any_leaves e k (accept c) i o n = call-leaves e k (accept c) refl i
-  any_leaves e k advance i o n = call-leaves e k advance refl i
-  any_leaves e k commit i o n = call-leaves e k commit refl i
-  any_leaves e k (enqueue g x) i o n = call-leaves e k (enqueue g x) refl i
-  any_leaves e k (draw v) i o n = call-leaves e k (draw v) refl i
   any_leaves e k (port x) i o n = other-leaves e x (n x refl)
-  any_leaves e k (aside x) i o n = call-leaves e k (aside x) refl i
+  any_leaves e k c i o n = call-leaves e k c refl i
 
   -- so for a list of calls that leave ports
   abbrev AllLeave : List Call → Type 0
@@ -104,16 +96,8 @@ module _ (h : ℕ) (low : h < 8) where
   module _ (e : Engine) (k : Intact e) (c : ℕ) (other : h ≢ c) where
     -- an access to its own port, or a call that leaves ports
     asked-leaves : (x : GuestCall) → (keeps_ports (as_host c x) ≡ true) ⊎ ((a : Access) × (as_host c x ≡ port (access c a)))
-    asked-leaves (guest.propose b) = inl refl
-    asked-leaves (guest.draw v) = inl refl
-    asked-leaves (guest.enqueue x) = inl refl
-    asked-leaves (guest.endorse p) = inl refl
-    asked-leaves (guest.certify d) = inl refl
-    asked-leaves (guest.accept x) = inl refl
-    asked-leaves guest.advance = inl refl
-    asked-leaves guest.commit = inl refl
     asked-leaves (guest.access a) = inr (a, refl)
-    asked-leaves (guest.aside x) = inl refl
+    asked-leaves c = inl refl
 
     submitted-leaves : (x : Asked) → AllInRange (calls_of e (submitted_by c x)) → port_on (after_submission e (submitted_by c x)) h ≡ port_on e h
     submitted-leaves (asks x) i = go (asked-leaves x)
@@ -123,11 +107,13 @@ module _ (h : ℕ) (low : h < 8) where
         go (inr y) = ap (λ (d : Call). port_on (after e d) h) y.1 ∙ other-leaves e (access c y.0) (λ q. other (sym q))
     submitted-leaves (asks_batch row answers) i = ap (λ (d : Engine). port_on d h) (leaves_as_its_calls e (batch row answers)) ∙ (calls_leave e k (calls_of e (batch row answers)) (batch-leaves e row answers) i).1
 
--- the claims
-pub leaves_ports : LeavesPorts
+-- no call but an accepted open and what is asked of that port changes it
+pub leaves_ports : (e : Engine) → Reached e → (c : Call) → InRange c → NoOpen e c → (h : ℕ) → h < 8 → ((x : PortCall) → c ≡ port x → port_of x ≢ h) → port_on (after e c) h ≡ port_on e h
 leaves_ports e r c i o h low n = any_leaves h low e (intact r) c i o n
 
-pub leaves_other_ports : LeavesOtherPorts
+-- so what a caller asks leaves every other guest's port
+pub leaves_other_ports : (e : Engine) → Reached e → (c : ℕ) (a : Asked) → InRangeThen e (submission_of e (requests.guest c a)) → (h : ℕ) → h < 8 → h ≢ c
+    → port_on (result_of e (requests.guest c a)).engine h ≡ port_on e h
 leaves_other_ports e r c a i h low other = ap (λ (d : Engine). port_on d h) (left_by e (requests.guest c a)) ∙ go (eqb (caller_number e c a) 0) i
   where
     go : (b : Bool) → InRangeThen e (cond b (some (submitted_by c a)) none) → port_on (if_there (cond b (some (submitted_by c a)) none) e (after_submission e)) h ≡ port_on e h

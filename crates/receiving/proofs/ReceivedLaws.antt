@@ -21,7 +21,7 @@ use Rattle.serial.specs.Calls.{read, write, PortCall, access, reset, PortInRange
 use Rattle.serial.specs.Serial.{listing, port_at, register, port_then, ported_table}
 use Rattle.serial.proofs.LeftLaws.{PortPassed, port-passed, then-fits}
 use Rattle.serial.proofs.PutLaws.{listing-put, others_put, port-back}
-use Rattle.engine.specs.Calls.{Call, opens, propose, endorse, certify, accept, advance, commit, enqueue, draw, port, aside, InRange}
+use Rattle.engine.specs.Calls.{Call, opens, port, InRange}
 use Rattle.engine.specs.Engine.{Engine, refusal_for, after}
 use Rattle.engine.specs.Sequences.{after_calls, AllInRange, Opening, after_opening}
 use Rattle.engine.specs.Reached.{Reached, by_open, Intact}
@@ -32,7 +32,7 @@ use Rattle.submissions.specs.Submissions.{Submission, after_submission, calls_of
 use Rattle.submissions.specs.Requests.{Request, submission_of, InRangeThen, after_requests}
 use Rattle.submissions.proofs.SubmissionLaws.{leaves_as_its_calls}
 use Rattle.submissions.proofs.RequestLaws.{left_by, requests_lead_to}
-use Rattle.receiving.specs.Received.{listing_in, asked_of, accepted_bytes, bytes_after, bytes_then, received, AskedInRange, ReadsAPrefix}
+use Rattle.receiving.specs.Received.{listing_in, asked_of, accepted_bytes, bytes_after, bytes_then, received, AskedInRange, Served}
 use Rattle.receiving.proofs.ByteLaws.{PrefixOf, prefix-none, prefix-grown, prefix-next}
 use Rattle.receiving.proofs.ResetLaws.{open_resets}
 use Rattle.receiving.proofs.GrownListings.{listing-more, port-same}
@@ -136,16 +136,8 @@ module _ (e : Engine) (g : ℕ) (guest : g < 8) (l : List ℕ) (r : ReadsOf g e 
 
     accepted-reads : (c : Call) → InRange c → refusal_for e c ≡ 0 → ReadsOf g (after e c) (accepted_bytes e g c l)
     accepted-reads (opens own sheet) i a = opened-reads e own sheet a g guest
-    accepted-reads (propose b) i a = still (propose b) refl i a
-    accepted-reads (endorse p) i a = still (endorse p) refl i a
-    accepted-reads (certify d) i a = still (certify d) refl i a
-    accepted-reads (accept c) i a = still (accept c) refl i a
-    accepted-reads advance i a = still advance refl i a
-    accepted-reads commit i a = still commit refl i a
-    accepted-reads (enqueue h x) i a = still (enqueue h x) refl i a
-    accepted-reads (draw v) i a = still (draw v) refl i a
     accepted-reads (port x) i a = subst (λ (d : Engine). ReadsOf g d (asked_of e g x l)) (sym (accepted-new e (port x) a)) (asked-reads x i (port-passed state table x a))
-    accepted-reads (aside x) i a = still (aside x) refl i a
+    accepted-reads c i a = still c refl i a
 
     pub call-reads : (c : Call) → InRange c → ReadsOf g (after e c) (bytes_after e g c l)
     unfolding bytes_after
@@ -177,8 +169,8 @@ module _ (g : ℕ) (guest : g < 8) where
       go d k b r none j = r
       go d k b r (some s) j = rw (leaves_as_its_calls d s) (calls-read d (intact k) b r (calls_of d s) j).1
 
--- the claim
-pub reads_a_prefix : ReadsAPrefix
+-- from an accepted open on, however commits and accesses alternate, whoever signed
+pub reads_a_prefix : (x : Opening) (l : List Request) → AskedInRange (after_opening x) l → (g : ℕ) → g < 8 → Served (after_requests (after_opening x) l) g (received (after_opening x) g l)
 unfolding register values_at
 reads_a_prefix x l i g guest =
     let r = (requests_read g guest x l i).1 in

@@ -1,17 +1,15 @@
 -- The listing bytes that a guest has read from its serial port since it was reset, over lists of requests (docs/RULES.md, "Serial ports").
-use Rattle.std.specs.Prelude.{◌≡◌, cond, not, ◌&&◌, List, [], ◌∷◌, ◌++◌, ◌≢◌, ℕ, ◌<◌, eqb, leb, ltb, length, get_or}
+use Rattle.std.specs.Prelude.{◌≡◌, cond, not, ◌&&◌, List, [], ◌∷◌, ◌++◌, ℕ, eqb, leb, ltb, length}
 use Rattle.base.specs.Options.{if_there}
-use Rattle.ports.specs.Uart.{Port, values_at, reset_port}
+use Rattle.ports.specs.Uart.{Port}
 use Rattle.state.specs.Answers.{if_accepted}
-use Rattle.serial.specs.Calls.{read, write, PortCall, access, reset, port_of}
+use Rattle.serial.specs.Calls.{read, write, PortCall, access, reset}
 use Rattle.serial.specs.Serial.{listing, port_at, register}
-use Rattle.engine.specs.Calls.{Call, opens, propose, endorse, certify, accept, advance, commit, enqueue, draw, port, aside, InRange}
-use Rattle.engine.specs.Engine.{Engine, refusal_for, after}
-use Rattle.engine.specs.Values.{number, value_of}
-use Rattle.engine.specs.Sequences.{after_calls, NoOpen, Opening, after_opening}
-use Rattle.engine.specs.Reached.{Reached}
+use Rattle.engine.specs.Calls.{Call, opens, port}
+use Rattle.engine.specs.Engine.{Engine, refusal_for}
+use Rattle.engine.specs.Sequences.{after_calls}
 use Rattle.submissions.specs.Submissions.{calls_of}
-use Rattle.submissions.specs.Requests.{Asked, Request, guest, result_of, submission_of, InRangeThen, after_requests}
+use Rattle.submissions.specs.Requests.{Request, submission_of, InRangeThen, after_requests}
 
 -- the listing of an engine's chain, without a closing ok; port g; and what it shows at offset o
 abbrev pub listing_in : Engine → List ℕ
@@ -35,16 +33,8 @@ module _ (e : Engine) (g : ℕ) where
   -- an accepted call: an opening resets every port
   abbrev pub accepted_bytes : Call → List ℕ → List ℕ
   accepted_bytes (opens own sheet) l = []
-  accepted_bytes (propose b) l = l
-  accepted_bytes (endorse p) l = l
-  accepted_bytes (certify d) l = l
-  accepted_bytes (accept c) l = l
-  accepted_bytes advance l = l
-  accepted_bytes commit l = l
-  accepted_bytes (enqueue h x) l = l
-  accepted_bytes (draw v) l = l
   accepted_bytes (port x) l = asked_of x l
-  accepted_bytes (aside x) l = l
+  accepted_bytes c l = l
 
   -- a refused one reads nothing
   unfoldable pub bytes_after : Call → List ℕ → List ℕ
@@ -72,28 +62,3 @@ pub record Served (e : Engine) (g : ℕ) (l : List ℕ) : Type 0 where
   pub prefix : (more : List ℕ) × (listing_in e ≡ l ++ more)
   pub counted : (port_on e g).read ≡ length l
   pub waiting : shown e g 5 ≡ cond (ltb (length l) (length (listing_in e))) 97 96
-
--- from an accepted open on, however commits and accesses alternate, whoever signed
-abbrev pub ReadsAPrefix : Type 0
-ReadsAPrefix = (x : Opening) (l : List Request) → AskedInRange (after_opening x) l → (g : ℕ) → g < 8 → Served (after_requests (after_opening x) l) g (received (after_opening x) g l)
-
--- an accepted read answers what the offset shows
-abbrev pub AnswersShown : Type 0
-AnswersShown = (e : Engine) (g o : ℕ) → refusal_for e (port (access g (read o))) ≡ 0 → value_of e (port (access g (read o))) ≡ number (get_or (values_at (listing_in e) (port_on e g)) o 0)
-
--- an accepted reset leaves the port with all registers 0 and nothing read, and so does an opening every port
-abbrev pub Resets : Type 0
-Resets = (e : Engine) (g : ℕ) → refusal_for e (port (reset g)) ≡ 0 → port_on (after e (port (reset g))) g ≡ reset_port
-
-abbrev pub OpeningResets : Type 0
-OpeningResets = (x : Opening) (g : ℕ) → g < 8 → port_on (after_opening x) g ≡ reset_port
-
--- no call but an accepted open and what is asked of that port changes it
-abbrev pub LeavesPorts : Type 0
-LeavesPorts = (e : Engine) → Reached e → (c : Call) → InRange c → NoOpen e c → (h : ℕ) → h < 8 → ((x : PortCall) → c ≡ port x → port_of x ≢ h) → port_on (after e c) h ≡ port_on e h
-
--- so what a caller asks leaves every other guest's port
-abbrev pub LeavesOtherPorts : Type 0
-LeavesOtherPorts =
-    (e : Engine) → Reached e → (c : ℕ) (a : Asked) → InRangeThen e (submission_of e (guest c a)) → (h : ℕ) → h < 8 → h ≢ c
-    → port_on (result_of e (guest c a)).engine h ≡ port_on e h

@@ -1,5 +1,5 @@
 -- A record that holds a quote mark, a CR or an LF is unreadable by its fields alone: no field that is read holds one.
-use Rattle.std.proofs.Common.{◌≡◌, refl, sym, ap, ◌∙◌, ℕ, zero, suc, Bool, true, false, cond, ◌||◌, ◌+◌, ◌*◌, ◌-◌, eqb, List, [], ◌∷◌, take, drop, codes, Option, None, Some, ◌⊎◌, inl, inr}
+use Rattle.std.proofs.Common.{◌≡◌, refl, sym, ◌∙◌, ℕ, zero, suc, Bool, true, false, cond, ◌||◌, ◌+◌, ◌*◌, ◌-◌, eqb, List, [], ◌∷◌, drop, codes, Option, None, Some, ◌⊎◌, inl, inr}
 use Rattle.std.specs.Prelude.{if◌then◌else◌}
 use Rattle.std.specs.Option.{option_map, option_and_then}
 use Rattle.std.specs.List.{list_any, onto_first}

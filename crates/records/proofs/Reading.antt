@@ -62,19 +62,19 @@ reads_fewer {old = []} x h e = let v = h.value in cc
 reads_fewer {old = f ∷ fs} x h e = rw h.left (record { bytes = omega arith; fields = omega arith })
 
 -- one transaction more is counted
-pub count-push : (b : Body) (x : Transaction) → (push b x).count ≡ b.count + 1
+pub count_push : (b : Body) (x : Transaction) → (push b x).count ≡ b.count + 1
 unfolding push
-count-push b x = refl
+count_push b x = refl
 
 -- transactions pushed one by one make the body of them all
 push_all-body_of : (p : ℕ) (l m : List Transaction) → push_all (body_of p l) m ≡ body_of p (l ++ m)
 push_all-body_of p l [] = ap (body_of p) (sym (append-nil l))
 push_all-body_of p l (x ∷ m) = rw (push-body p l x) (push_all-body_of p (l ++ (x ∷ [])) m ∙ ap (body_of p) (append_assoc l (x ∷ []) m))
 
-pub map-push_all : (p : ℕ) (o : Option (List Transaction)) → option_map (push_all (bare_body p)) o ≡ option_map (body_of p) o
+pub map_push_all : (p : ℕ) (o : Option (List Transaction)) → option_map (push_all (bare_body p)) o ≡ option_map (body_of p) o
 unfolding body_of
-map-push_all p None = refl
-map-push_all p (Some l) = ap Some (push_all-body_of p [] l)
+map_push_all p None = refl
+map_push_all p (Some l) = ap Some (push_all-body_of p [] l)
 
 -- weights are read one by one: those before the i-th are in `weights`, and the fields fs are left
 abbrev pub all_weights : List Setting → ℕ → List (List ℕ) → Option (List Setting)

@@ -1,4 +1,5 @@
-// Fields: the stretches of a record between its commas.
+//! Fields: the stretches of a record between its commas.
+
 ghost use Rattle.std.specs.Prelude.{◌≡◌, List, [], ◌∷◌, ℕ, eqb, MatchOption};
 ghost use Rattle.std.specs.List.{position};
 ghost use Rattle.records.specs.Fields.{fields_of, fields_left, is_comma, Reads};
@@ -7,7 +8,7 @@ ghost use Rattle.records.specs.Numbers.{number_in, set_in};
 use crate::number;
 use std::marker::Model;
 
-// The fields of a record that are not read yet. Contracts see the list of them.
+/// The fields of a record that are not read yet. Contracts see the list of them, each a list of bytes.
 #[derive(Drop)]
 pub struct Fields<'a> {
     rest: Option<&'a [u8]>,
@@ -26,13 +27,14 @@ fn comma_in(bytes: &[u8]) -> Option<usize>
 }
 
 impl<'a> Fields<'a> {
+    /// All fields of the record with these bytes, given without its CRLF: one at least, and any may be empty.
     pub fn new(bytes: &'a [u8]) -> Self
         ensures { result ≡ fields_of bytes.now }
     {
         Fields { rest: Some(bytes) }
     }
 
-    // The next field, as the stretch of the record that it stands in.
+    /// The next field, as the stretch of the record that it stands in. None where no field is left.
     #[tactic(auto, using(crate::proofs::Reading::fields_none, crate::proofs::Reading::fields_some))]
     pub fn next(&mut self) -> Option<&'a [u8]>
         ensures { MatchOption result ((self.old ≡ []) × (self.new ≡ [])) (λ field. self.old ≡ field.now ∷ self.new) }
@@ -46,14 +48,14 @@ impl<'a> Fields<'a> {
         Some(&rest[..comma])
     }
 
-    // The number in the next field.
+    /// The number of at most 32 bits in the next field. None where the field holds no such number, or no field is left.
     pub fn number(&mut self) -> Option<u32>
         ensures { Reads number_in self.old result self.new }
     {
         number::number_in(self.next()?)
     }
 
-    // The set of members in the next field.
+    /// The set of members in the next field, a number up to 65,535. None where the field holds none, or no field is left.
     pub fn set(&mut self) -> Option<u16>
         ensures { Reads set_in self.old result self.new }
     {

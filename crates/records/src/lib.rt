@@ -19,23 +19,31 @@ use fields::Fields;
 use terms::sheet::{Rights, Sheet};
 use terms::{Body, Certificate, Member, Proposal, Round};
 
-// What a record asks for.
+/// What a record asks for.
 #[derive(Clone, Copy)]
 pub enum Record {
+    /// Open as this member, with this sheet. It fixes no rights.
     Open(Member, Sheet),
+    /// Propose this body.
     Propose(Body),
+    /// Endorse this proposal.
     Endorse(Proposal),
+    /// Certify the proposal of the present round, with this set of endorsers.
     Certify(u16),
+    /// Accept this certificate.
     Accept(Certificate),
+    /// Go on to the next round.
     Advance,
+    /// Commit.
     Commit,
+    /// List the chain.
     Chain,
 }
 
-// The longest record, without its CRLF.
+/// The bytes of the longest record, without its CRLF.
 pub const LONGEST: usize = 1022;
 
-// What the bytes of a record, without its CRLF, ask for; none is unreadable. No field that is read holds a quote mark, a CR or an LF, so these are not looked for.
+/// What the bytes of a record, without its CRLF, ask for. None is an unreadable record, one that is too long or holds a quote mark, a CR or an LF included. No field that is read holds any of the three, so they are not looked for.
 #[tactic(auto, using(crate::proofs::Marks::damaged_or_not))]
 pub fn record_in(bytes: &[u8]) -> Option<Record>
     ensures { result ≡ record_in bytes.now }
@@ -48,6 +56,7 @@ pub fn record_in(bytes: &[u8]) -> Option<Record>
     named(word, &mut fields)
 }
 
+// Is the field this word?
 fn is_word(field: &[u8], word: &[u8]) -> bool
     ensures { result ≡ bytes_eq field.now word.now }
 {
@@ -81,7 +90,7 @@ fn named(word: &[u8], fields: &mut Fields) -> Option<Record>
     }
 }
 
-// own, lookback, ceiling, allowance, sixteen weights, and perhaps margin
+// The fields of an open: own, lookback, ceiling, allowance, sixteen weights, and perhaps margin.
 #[inline(never)]
 #[tactic(auto, unfolding(crate::specs::Records::open_of))]
 fn open(fields: &mut Fields) -> Option<Record>
@@ -104,7 +113,7 @@ fn open(fields: &mut Fields) -> Option<Record>
     Some(Record::Open(own, sheet))
 }
 
-// previous, triples
+// The fields of a propose: previous, triples.
 #[tactic(auto, unfolding(crate::specs::Records::propose_of))]
 fn propose(fields: &mut Fields) -> Option<Record>
     requires { length fields.old < 2 ^ 32 }
@@ -115,7 +124,7 @@ fn propose(fields: &mut Fields) -> Option<Record>
     Some(Record::Propose(body))
 }
 
-// author, round, previous, triples
+// The fields of an endorse: author, round, previous, triples.
 #[tactic(auto, unfolding(crate::specs::Records::endorse_of))]
 fn endorse(fields: &mut Fields) -> Option<Record>
     requires { length fields.old < 2 ^ 32 }
@@ -132,7 +141,7 @@ fn endorse(fields: &mut Fields) -> Option<Record>
     }))
 }
 
-// endorsers
+// The field of a certify: endorsers.
 #[tactic(auto, unfolding(crate::specs::Records::certify_of))]
 fn certify(fields: &mut Fields) -> Option<Record>
     ensures { result ≡ certify_of fields.old }
@@ -141,7 +150,7 @@ fn certify(fields: &mut Fields) -> Option<Record>
     ended_as(fields, Record::Certify(endorsers))
 }
 
-// author, round, previous, endorsers, triples
+// The fields of an accept: author, round, previous, endorsers, triples.
 #[tactic(auto, unfolding(crate::specs::Records::accept_of))]
 fn accept(fields: &mut Fields) -> Option<Record>
     requires { length fields.old < 2 ^ 32 }
@@ -163,7 +172,8 @@ fn accept(fields: &mut Fields) -> Option<Record>
     }))
 }
 
-// The triples that are left, with a previous set.
+// The body of the triples that are left, with a previous set.
+#[tactic(auto, using(crate::proofs::Reading::map_push_all))]
 fn body(fields: &mut Fields, previous: u16) -> Option<Body>
     requires { length fields.old < 2 ^ 32 }
     ensures { result ≡ option_map (body_of previous) (from_kind fields.old) }

@@ -1,4 +1,5 @@
-// Settings in fields.
+//! Settings in fields, as an open has them.
+
 ghost use Rattle.std.specs.Prelude.{◌≡◌, OnSome, drop};
 ghost use Rattle.std.specs.Option.{option_map};
 ghost use Rattle.records.specs.Fields.{Reads};
@@ -13,20 +14,21 @@ fn setting_in(field: &[u8]) -> Option<Setting>
     ensures { result ≡ setting_in field.now }
 {
     if field.is_empty() {
-        return Some(Setting::Blank);
+        Some(Setting::Blank)
+    } else {
+        number::number_in(field).map(Setting::Written)
     }
-    Some(Setting::Written(number::number_in(field)?))
 }
 
 impl Fields<'_> {
-    // The setting in the next field.
+    /// The setting in the next field: blank where the field is empty, and otherwise the number that it holds. None where it holds no number, or no field is left.
     pub fn setting(&mut self) -> Option<Setting>
         ensures { Reads setting_in self.old result self.new }
     {
         setting_in(self.next()?)
     }
 
-    // Sixteen weights in the next fields.
+    /// Sixteen weights in the next sixteen fields, that of member 0 first. None where one of them cannot be read or is missing.
     pub fn weights(&mut self) -> Option<[Setting; 16]>
         ensures value { result ≡ weights_in 16 self.old }
         ensures left { OnSome result (self.new ≡ drop 16 self.old) }
@@ -38,7 +40,7 @@ impl Fields<'_> {
         Some(weights)
     }
 
-    // The margin in the last field; blank where no field is left.
+    /// The margin in the last field, blank where no field is left. None where the field cannot be read, or more than one is left.
     pub fn last_setting(&mut self) -> Option<Setting>
         ensures { result ≡ last_setting self.old }
     {

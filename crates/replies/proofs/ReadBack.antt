@@ -5,7 +5,7 @@ use Rattle.std.specs.Option.{option_and_then}
 use Rattle.std.specs.Char.{is_ascii_digit}
 use native.Mathlib.Decide.{dec_lt}
 use borrow.Author.Tests.{le-leb, ne_eqb}
-use Rattle.records.specs.Numbers.{at_most, digits_after, number_in, set_in}
+use Rattle.records.specs.Numbers.{at_most, digits_after, number_in}
 use Rattle.listing.specs.Lines.{decimal}
 use Rattle.listing.proofs.LineLaws.{decimal-small, decimal-more}
 
@@ -92,7 +92,3 @@ read_back n m =
     go : Dec (n < 10) → (get_or (decimal n) 0 0 ≡ 48 → ⊥) ⊎ (length (decimal n) ≡ 1)
     go (yes s) = inr ((reads n n (omega arith) m).single s)
     go (no s) = inl ((reads n n (omega arith) m).first (omega arith))
-
--- as a set too
-pub set_read_back : (n : ℕ) → n ≤ 65535 → set_in (decimal n) ≡ Some n
-set_read_back n h = rw (read_back n (omega arith), le-leb n 65535 h) refl

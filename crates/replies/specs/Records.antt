@@ -4,7 +4,7 @@ use Rattle.terms.specs.declared.sheet.Settings.{Settings}
 use Rattle.state.specs.declared.State.{State}
 use Rattle.engine.specs.Calls.{Call}
 use Rattle.engine.specs.Engine.{Engine, refusal_for, after}
-use Rattle.engine.specs.Values.{Value, nothing, number, weights, shares, held, entries, places, chain, accepted_value}
+use Rattle.engine.specs.Values.{Value, number, chain, accepted_value}
 use Rattle.listing.specs.Lines.{ok_line, count_line, refused_line}
 use Rattle.base.specs.Puts.{Puts}
 use Rattle.listing.specs.Listing.{chain_lines}
@@ -17,14 +17,9 @@ engine_of s t = record { state = s; table = t }
 
 -- of a value that a call gives: a commit's count, the lines of a chain; no record asks for the other reads, nor for a preview or critical certificates
 abbrev pub value_lines : Settings → Value → List ℕ
-value_lines S nothing = ok_line
 value_lines S (number n) = count_line n
-value_lines S (weights x) = ok_line
-value_lines S (shares x) = ok_line
-value_lines S (held p e k) = ok_line
-value_lines S (entries l) = ok_line
-value_lines S (places l) = ok_line
 value_lines S (chain c) = chain_lines S c ++ ok_line
+value_lines S c = ok_line
 
 -- of a call: its value, or the number that refuses it
 unfoldable pub lines_for : Engine → Call → List ℕ

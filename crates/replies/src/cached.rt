@@ -1,4 +1,5 @@
-// What is cached beside the state, after the calls that change it.
+//! What is cached beside the state, after the calls that change it.
+
 ghost use Rattle.std.specs.Prelude.{◌≡◌, ◌<◌};
 ghost use Rattle.std.specs.Option.{unwrap_or};
 ghost use Rattle.state.specs.States.{no_body};
@@ -9,7 +10,7 @@ use running::cache;
 use state::State;
 use terms::{Body, Round};
 
-/// Committees cached anew, where the state is well formed.
+/// Caches committees anew from round 0 on, as far as there is room, where the state is well formed.
 pub fn renew(formed: bool, s: &State, t: &[u32], cache: &mut [u64])
     requires { formed ≡ well_formed s.now t.now }
     ensures { Cached s.now t.now formed cache.new }
@@ -19,6 +20,7 @@ pub fn renew(formed: bool, s: &State, t: &[u32], cache: &mut [u64])
     }
 }
 
+// A set of members is below 65536: this says what the type says.
 fn set_fits(set: u16)
     ensures { set < 65536 }
 {}
@@ -27,8 +29,7 @@ fn set_fits(set: u16)
 pub fn previous_fits(proposal: Option<Body>)
     ensures { (unwrap_or proposal no_body).previous < 65536 }
 {
-    match proposal {
-        None => {}
-        Some(body) => set_fits(body.previous),
+    if let Some(body) = proposal {
+        set_fits(body.previous);
     }
 }

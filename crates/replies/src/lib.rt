@@ -25,14 +25,16 @@ use state::State;
 use terms::Member;
 use terms::sheet::Sheet;
 
-/// Whether the state is well formed after a record, and the length of the answer.
+/// The reply to a record.
 #[derive(Clone, Copy)]
 pub struct Reply {
+    /// Whether the state is well formed after it.
     pub formed: bool,
+    /// How many bytes its answer has, at the front of the buffer.
     pub next: usize,
 }
 
-/// What a call of a member answers. An accepted one leaves a well-formed state, a refused one the state as it was.
+/// Replies to a member's call with the line of its answer. An accepted call leaves a well-formed state, a refused one the state as it was. `formed` tells whether that was well formed.
 #[tactic(auto, unfolding(state::specs::Answers::if_accepted))]
 pub fn replied(formed: bool, answer: Result<(), Refusal>, out: &mut [u8]) -> Reply
     requires { 20 ≤ length out.old }
@@ -43,7 +45,7 @@ pub fn replied(formed: bool, answer: Result<(), Refusal>, out: &mut [u8]) -> Rep
     Reply { formed: then, next }
 }
 
-/// Open; the committees are cached anew.
+/// Opens the member by its number and a sheet, and puts the line that answers. The committees are cached anew where the state is well formed then.
 #[inline(never)]
 pub fn opened(
     formed: bool,
@@ -64,7 +66,7 @@ pub fn opened(
     reply
 }
 
-/// Commit; where it is accepted, the committees are cached anew.
+/// Commits, and puts the line that answers. Where it is accepted the committees are cached anew, and otherwise those that were cached stay.
 pub fn committed(
     formed: bool,
     cache: &mut [u64],
@@ -85,7 +87,7 @@ pub fn committed(
     Reply { formed, next }
 }
 
-/// The lines of a chain, and the answer after them.
+/// Puts the lines of the chain, one for each certificate of each block in their order, and `ok` after them; or `refused` and 1, where the state is not well formed. Gives how many bytes they have.
 pub fn listed(formed: bool, s: &State, t: &[u32], out: &mut [u8]) -> usize
     requires { (length t.now * 9 + 20 ≤ length out.old) × (formed ≡ well_formed s.now t.now) }
     ensures { Puts out.old out.new 0 result (lines_for (engine_of s.now t.now) (aside listing)) (length t.now * 9 + 20) }

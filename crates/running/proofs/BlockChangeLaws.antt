@@ -31,9 +31,9 @@ record_fold t m r w = rw (content-transactions t m r) (changes-tab (transaction_
 
 module _ (t : List ℕ) (m r : ℕ) (w : List Weight) where
   -- the three words of a slot
-  pub slot-words : (k : ℕ) → slot_change t m r k w ≡ cond (ltb k (count_at t m r)) (change (read_transaction (kind_at t m r k) (number_at t m r k) (amount_at t m r k)) w) w
+  pub slot_words : (k : ℕ) → slot_change t m r k w ≡ cond (ltb k (count_at t m r)) (change (read_transaction (kind_at t m r k) (number_at t m r k) (amount_at t m r k)) w) w
   unfolding slot_change
-  slot-words k = rw (transaction-words t m r k) refl
+  slot_words k = rw (transaction-words t m r k) refl
 
   -- a record's transactions are those of its four slots that are there
   pub record_slots : changes (content_at t m r).transactions w ≡ fold_to (slot_change t m r) 4 w

@@ -135,35 +135,35 @@ module _ (t : List ℕ) (words : (i : ℕ) → get_or t i 0 < 4294967296) where
   unfolding record_change
   record_total p w = rw (record_slots t (p % 16) (p / 16) w) (slots_total (p % 16) (p / 16) 4 w (omega arith))
 
-  pub from-total : (y p : ℕ) (w : List Weight) → total_in (cond (leb y p) (record_change t p w) w) ≤ total_in w + 17179869180
-  from-total y p w = go (leb y p)
+  pub from_total : (y p : ℕ) (w : List Weight) → total_in (cond (leb y p) (record_change t p w) w) ≤ total_in w + 17179869180
+  from_total y p w = go (leb y p)
     where
       go : (b : Bool) → total_in (cond b (record_change t p w) w) ≤ total_in w + 17179869180
       go true = record_total p w
       go false = omega arith
 
   -- a run of at most n places
-  pub run-total : (next : List ℕ) (y z n q : ℕ) (w : List Weight) → total_in (run_over (record_change t) next y z n q w) ≤ total_in w + n * 17179869180
+  pub run_total : (next : List ℕ) (y z n q : ℕ) (w : List Weight) → total_in (run_over (record_change t) next y z n q w) ≤ total_in w + n * 17179869180
   unfolding run_over
-  run-total next y z zero q w = omega arith
-  run-total next y z (suc n) q w = go (ltb q z) (run-total next y z n (get_or next q 0) (cond (leb y q) (record_change t q w) w))
+  run_total next y z zero q w = omega arith
+  run_total next y z (suc n) q w = go (ltb q z) (run_total next y z n (get_or next q 0) (cond (leb y q) (record_change t q w) w))
     where
       v : List Weight
       v = cond (leb y q) (record_change t q w) w
 
       go : (b : Bool) → total_in (run_over (record_change t) next y z n (get_or next q 0) v) ≤ total_in v + n * 17179869180
           → total_in (cond b (run_over (record_change t) next y z n (get_or next q 0) v) w) ≤ total_in w + suc n * 17179869180
-      go true i = let j = from-total y q w in omega arith
+      go true i = let j = from_total y q w in omega arith
       go false i = omega arith
 
   -- the rows of a block up to m
-  pub rows-total : (k s m : ℕ) (w : List Weight) → m ≤ 1024 → total_in (rows_over (place_change t k) s m w) ≤ total_in w + 281474976645120
-  rows-total k s m w h =
+  pub rows_total : (k s m : ℕ) (w : List Weight) → m ≤ 1024 → total_in (rows_over (place_change t k) s m w) ≤ total_in w + 281474976645120
+  rows_total k s m w h =
       let r = raised (rows_over (place_change t k) s m) (m * (16 * (4 * 4294967295))) (rows-most t 1024 4294967295 (weights-bounded 1024) k s m h) w in
       omega arith
 
-  pub after-total : (S : Settings) (k : ℕ) (w : List Weight) → S.ceiling.0 ≤ 1024 → total_in (after_blocks S t k w) ≤ total_in w + 281474976645120
-  after-total S k w h = let p = after_raises t S 4294967295 (weights-bounded S.ceiling.0) k w in omega arith
+  pub after_total : (S : Settings) (k : ℕ) (w : List Weight) → S.ceiling.0 ≤ 1024 → total_in (after_blocks S t k w) ≤ total_in w + 281474976645120
+  after_total S k w h = let p = after_raises t S 4294967295 (weights-bounded S.ceiling.0) k w in omega arith
 
   pub bonded-total : (S : Settings) (k s : ℕ) → S.ceiling.0 ≤ 1024 → total_in (bonded_from S (chain_of S.ceiling.0 t k) s) ≤ total_in S.weights + 281474976645120
   bonded-total S k s h = let p = bonded_raises t S 4294967295 (weights-bounded S.ceiling.0) s k in omega arith

@@ -1,13 +1,11 @@
 -- Laws of cached committees: one round more, and all of them.
-use mathlib.Core.Path.{◌≡◌, refl, sym, ap, ◌∙◌}
+use mathlib.Core.Path.{◌≡◌, sym, ap, ◌∙◌}
 use mathlib.Core.List.{List}
 use Prim.Native.Nat.{ℕ, ◌+◌, ◌<◌, ◌≤◌}
 use native.Mathlib.Omega.{arith}
 use native.Mathlib.Decide.{ℕ_discrete}
 use lib.ListN.{length, get_or, get_or-map, length-map}
-use mathlib.Core.List.{map}
-use lib.Seq.{paste, take_all, length-paste}
-use Rattle.base.specs.Folds.{tab}
+use lib.Seq.{paste, length-paste}
 use Rattle.base.proofs.FoldLaws.{tab-same, tab_get}
 use Rattle.base.proofs.PasteLaws.{paste-below, paste-inside}
 use Rattle.terms.specs.declared.sheet.Weight.{Weight}
@@ -19,12 +17,8 @@ use Rattle.committee.specs.Committees.{committee_of}
 use Rattle.running.specs.Caches.{first_round, words_at, weights_at, numbers, Caches}
 
 -- a weight as a word
-pub number-at : (w : List Weight) (i : ℕ) → get_or (numbers w) i 0 ≡ (get_or w i (weight 0)).0
-number-at w i = get_or-map (λ (x : Weight). x.0) w i (weight 0)
-
--- a cache without room for a round
-pub caches-short : (S : Settings) (c : Chain Content) (cache : List ℕ) → length cache < 17 → Caches S c cache
-caches-short S c cache h = record { committee = λ r u l. absurd (omega (arith, l.room)) }
+pub numbers_at : (w : List Weight) (i : ℕ) → get_or (numbers w) i 0 ≡ (get_or w i (weight 0)).0
+numbers_at w i = get_or-map (λ (x : Weight). x.0) w i (weight 0)
 
 -- a window that begins above the ceiling
 pub caches-far : (S : Settings) (c : Chain Content) (cache : List ℕ) → S.ceiling.0 < first_round cache → Caches S c cache
@@ -36,14 +30,14 @@ module _ (S : Settings) (c : Chain Content) (first : ℕ) where
     pub begins : first_round cache ≡ first
     pub committee : (r : ℕ) → first ≤ r → r < q → words_at first r + 16 ≤ length cache → weights_at cache (words_at first r) ≡ committee_of S c r
 
-  pub caches-none : (cache : List ℕ) → first_round cache ≡ first → CachesTo first cache
-  caches-none cache e = record { begins = e; committee = λ r l h k. absurd (omega arith) }
+  pub caches_none : (cache : List ℕ) → first_round cache ≡ first → CachesTo first cache
+  caches_none cache e = record { begins = e; committee = λ r l h k. absurd (omega arith) }
 
   -- round q, where there is room for it
-  pub caches-more : {q : ℕ} {cache : List ℕ} (w : List Weight) → first ≤ q → words_at first q + 16 ≤ length cache → length w ≡ 16 → w ≡ committee_of S c q → CachesTo q cache
+  pub caches_more : {q : ℕ} {cache : List ℕ} (w : List Weight) → first ≤ q → words_at first q + 16 ≤ length cache → length w ≡ 16 → w ≡ committee_of S c q → CachesTo q cache
       → CachesTo (q + 1) (paste cache (words_at first q) (numbers w) 16)
   unfolding weights_at
-  caches-more {q} {cache} w from room h e k =
+  caches_more {q} {cache} w from room h e k =
       record { begins = paste-below cache (words_at first q) (numbers w) 16 room long 0 (omega arith) ∙ k.begins; committee = λ r f u l. go r f u l (ℕ_discrete r q) }
     where
       put : List ℕ
@@ -58,15 +52,8 @@ module _ (S : Settings) (c : Chain Content) (first : ℕ) where
       go : (r : ℕ) → first ≤ r → r < q + 1 → words_at first r + 16 ≤ length put → Dec (r ≡ q) → weights_at put (words_at first r) ≡ committee_of S c r
       go r f u l (yes d) =
           rw d (tab-same (λ i. weight (get_or put (words_at first q + i) 0)) (λ i. get_or w i (weight 0)) 16
-          (λ i lt. ap weight (paste-inside cache (words_at first q) (numbers w) 16 room long i lt ∙ number-at w i)) ∙ sym (tab_get w 16 (weight 0) h) ∙ e)
+          (λ i lt. ap weight (paste-inside cache (words_at first q) (numbers w) 16 room long i lt ∙ numbers_at w i)) ∙ sym (tab_get w 16 (weight 0) h) ∙ e)
       go r f u l (no d) =
           tab-same (λ i. weight (get_or put (words_at first r + i) 0)) (λ i. weight (get_or cache (words_at first r + i) 0)) 16
           (λ i lt. ap weight (paste-below cache (words_at first q) (numbers w) 16 room long (words_at first r + i) (omega arith)))
           ∙ k.committee r f (omega arith) (omega (arith, size))
-
-  -- all of them, or no room for more
-  pub caches-all : {q : ℕ} {cache : List ℕ} → CachesTo q cache → ((r : ℕ) → r ≤ S.ceiling.0 → first ≤ r → words_at first r + 16 ≤ length cache → r < q) → Caches S c cache
-  caches-all {q} {cache} k h = record { committee = λ r u l. go r u (rw k.begins at l.from) (rw k.begins at l.room) }
-    where
-      go : (r : ℕ) → r ≤ S.ceiling.0 → first ≤ r → words_at first r + 16 ≤ length cache → weights_at cache (words_at (first_round cache) r) ≡ committee_of S c r
-      go r u f l = rw k.begins (k.committee r f (h r u f l) l)

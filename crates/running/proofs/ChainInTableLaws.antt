@@ -16,7 +16,7 @@ use Rattle.committee.proofs.CommitteeLaws.{committee-start, committee-bonded}
 use Rattle.committee.specs.Totals.{TotalBounded}
 use Rattle.running.specs.BlockChanges.{block_change, last_round, blocks_fit}
 use Rattle.running.proofs.ChainLaws.{last_none, last_some, fits-at, last-from, bonded-split, after_none, after_more}
-use Rattle.running.proofs.BoundLaws.{after-total, bonded-total}
+use Rattle.running.proofs.BoundLaws.{after_total, bonded-total}
 use Rattle.running.specs.ChainInTable.{ChainInTable, AfterBlocks}
 use Rattle.terms.specs.declared.sheet.Weight.{Weight}
 
@@ -45,9 +45,6 @@ module _ {S : Settings} {t : List ℕ} {blocks : ℕ} where
   pub after-start : (q : ℕ) → AfterBlocks S t blocks q 0 S.weights
   after-start q = record { within = omega arith; passed = omega (arith, last_none t); weights = sym (after_none S t S.weights) }
 
-  pub after-up : {q k : ℕ} {w : List Weight} (q' : ℕ) → q ≤ q' → AfterBlocks S t blocks q k w → AfterBlocks S t blocks q' k w
-  after-up q' h s = record { within = s.within; passed = let p = s.passed in omega arith; weights = s.weights }
-
   -- with another bound
   pub after-at : {q k : ℕ} {w : List Weight} (q' : ℕ) → last_round t k ≤ q' → AfterBlocks S t blocks q k w → AfterBlocks S t blocks q' k w
   after-at q' h s = record { within = s.within; passed = h; weights = s.weights }
@@ -75,20 +72,20 @@ module _ {S : Settings} {t : List ℕ} {blocks : ℕ} where
       }
 
   -- where no block of a round below s is left, it is the bonded committee of that round
-  pub after-bonded : {k : ℕ} {w : List Weight} (s : ℕ) → 1 ≤ s → ChainInTable S t blocks → (k < blocks → s ≤ block_round t (k + 1)) → AfterBlocks S t blocks (s - 1) k w
+  pub after_bonded : {k : ℕ} {w : List Weight} (s : ℕ) → 1 ≤ s → ChainInTable S t blocks → (k < blocks → s ≤ block_round t (k + 1)) → AfterBlocks S t blocks (s - 1) k w
       → w ≡ bonded_from S (chain_of S.ceiling.0 t blocks) s
-  after-bonded {k} {w} s h a f x =
+  after_bonded {k} {w} s h a f x =
       let p = x.passed in
       x.weights ∙ sym (bonded-split S t blocks a.rounds s k blocks x.within (omega arith) (omega arith) f)
 
   -- where the first block's round is not below that of round r, no block changes the committees up to r
-  pub committee-starts : ChainInTable S t blocks → (r q : ℕ) → q ≤ r → (0 < blocks → r - S.lookback ≤ block_round t 1) → committee_of S (chain_of S.ceiling.0 t blocks) q ≡ S.weights
-  committee-starts a r q h f = go (dec_lt S.lookback q)
+  pub committee_starts : ChainInTable S t blocks → (r q : ℕ) → q ≤ r → (0 < blocks → r - S.lookback ≤ block_round t 1) → committee_of S (chain_of S.ceiling.0 t blocks) q ≡ S.weights
+  committee_starts a r q h f = go (dec_lt S.lookback q)
     where
       go : Dec (S.lookback < q) → committee_of S (chain_of S.ceiling.0 t blocks) q ≡ S.weights
       go (yes l) =
           committee-bonded S (chain_of S.ceiling.0 t blocks) q l
-          ∙ sym (after-bonded (q - S.lookback) (omega arith) a (λ k. omega (arith, f k)) (after-start (q - S.lookback - 1)))
+          ∙ sym (after_bonded (q - S.lookback) (omega arith) a (λ k. omega (arith, f k)) (after-start (q - S.lookback - 1)))
       go (no l) = committee-start S (chain_of S.ceiling.0 t blocks) q (omega arith)
 
   -- before the first block's round it is the starting one
@@ -100,15 +97,15 @@ module _ {S : Settings} {t : List ℕ} {blocks : ℕ} where
       s.weights ∙ rw e (after_none S t S.weights)
 
   -- its total is bounded, where each word of the table is a 32-bit number
-  pub after-bounded : {q k : ℕ} {w : List Weight} → ((i : ℕ) → get_or t i 0 < 4294967296) → ChainInTable S t blocks → AfterBlocks S t blocks q k w → TotalBounded w
-  after-bounded {q} {k} {w} words a s =
-      let l = after-total t words S k S.weights a.ceiling in
+  pub after_bounded : {q k : ℕ} {w : List Weight} → ((i : ℕ) → get_or t i 0 < 4294967296) → ChainInTable S t blocks → AfterBlocks S t blocks q k w → TotalBounded w
+  after_bounded {q} {k} {w} words a s =
+      let l = after_total t words S k S.weights a.ceiling in
       let h = a.total in
       record { total = rw s.weights (omega arith) }
 
 -- and so is every committee
-pub committee-bounded : (S : Settings) (t : List ℕ) (blocks r : ℕ) → ((i : ℕ) → get_or t i 0 < 4294967296) → ChainInTable S t blocks → TotalBounded (committee_of S (chain_of S.ceiling.0 t blocks) r)
-committee-bounded S t blocks r words a = go (dec_lt S.lookback r)
+pub committee_bounded : (S : Settings) (t : List ℕ) (blocks r : ℕ) → ((i : ℕ) → get_or t i 0 < 4294967296) → ChainInTable S t blocks → TotalBounded (committee_of S (chain_of S.ceiling.0 t blocks) r)
+committee_bounded S t blocks r words a = go (dec_lt S.lookback r)
   where
     go : Dec (S.lookback < r) → TotalBounded (committee_of S (chain_of S.ceiling.0 t blocks) r)
     go (yes h) =
@@ -116,3 +113,6 @@ committee-bounded S t blocks r words a = go (dec_lt S.lookback r)
         let s = a.total in
         record { total = rw (committee-bonded S (chain_of S.ceiling.0 t blocks) r h) (omega arith) }
     go (no h) = let s = a.total in record { total = rw (committee-start S (chain_of S.ceiling.0 t blocks) r (omega arith)) (omega arith) }
+
+-- what a committee is that a walk has reached
+pub ruleset committee_reached = (committee-start, committee-bonded, after_first)

@@ -13,10 +13,11 @@ use Rattle.committee.proofs.LeaderLaws.{leader-le}
 use Rattle.running.specs.declared.Applied.{Applied}
 use Rattle.running.specs.BlockChanges.{place_change, start_at}
 use Rattle.running.proofs.BlockChangeLaws.{block-rows}
+use Rattle.running.proofs.BoundLaws.{after_total}
 use Rattle.running.specs.LinkRuns.{rows_over}
 use Rattle.running.proofs.ChainLaws.{last_some, fits-at, start-now}
 use Rattle.running.specs.ChainInTable.{ChainInTable, AfterBlocks}
-use Rattle.running.proofs.ChainInTableLaws.{after-start, after-up, after-at, after_next}
+use Rattle.running.proofs.ChainInTableLaws.{after-start, after-at, after_next}
 use Rattle.running.specs.Starts.{Started, Running, StartsAhead}
 use Rattle.terms.specs.declared.sheet.Weight.{Weight}
 
@@ -25,22 +26,14 @@ pub start-le : (S : Settings) (t : List ℕ) (k : ℕ) → start_at S t k ≤ 16
 unfolding start_at start_of leader_by
 start-le S t k = leader-le _ _
 
--- a block that lies more than some rounds after another is a later one
-pub later-block : (t : List ℕ) (k i n : ℕ) → k ≤ i → n < block_round t (i + 1) - block_round t (k + 1) → k < i
-later-block t k i n h l = go (ℕ_discrete k i)
-  where
-    go : Dec (k ≡ i) → k < i
-    go (yes e) = let z : n < block_round t (i + 1) - block_round t (i + 1) = rw e at l in absurd (omega arith)
-    go (no e) = omega arith
-
 module _ {S : Settings} {t : List ℕ} {blocks : ℕ} where
   -- the rounds of blocks rise
   round-next : ChainInTable S t blocks → (i : ℕ) → i + 1 < blocks → block_round t (i + 1) < block_round t (i + 1 + 1)
   round-next a i h = let p = (fits-at S.ceiling.0 t blocks a.rounds (i + 1) h).rises in let q = last_some t (i + 1) (λ z. omega arith) in omega arith
 
-  pub round-after : ChainInTable S t blocks → (k i : ℕ) → i < blocks → k ≤ i → block_round t (k + 1) ≤ block_round t (i + 1)
-  round-after a k zero h l = let e : k ≡ 0 = omega arith in rw e (omega arith)
-  round-after a k (suc i) h l = go (ℕ_discrete k (suc i)) (λ q. round-after a k i (omega arith) q)
+  pub round_after : ChainInTable S t blocks → (k i : ℕ) → i < blocks → k ≤ i → block_round t (k + 1) ≤ block_round t (i + 1)
+  round_after a k zero h l = let e : k ≡ 0 = omega arith in rw e (omega arith)
+  round_after a k (suc i) h l = go (ℕ_discrete k (suc i)) (λ q. round_after a k i (omega arith) q)
     where
       go : Dec (k ≡ suc i) → (k ≤ i → block_round t (k + 1) ≤ block_round t (i + 1)) → block_round t (k + 1) ≤ block_round t (suc i + 1)
       go (yes e) f = rw e (omega arith)
@@ -56,9 +49,9 @@ module _ {S : Settings} {t : List ℕ} {blocks : ℕ} where
   started_none n = record { size = length-replicate 512 n; from = omega arith; to = omega arith; written = λ i h. absurd (omega arith); ahead = λ h. absurd (omega arith) }
 
   -- one start more: that of a block within lookback rounds of the one to be applied next
-  pub started-next : {k i : ℕ} {q : ℕ} {w : List Weight} {starts : List ℕ} {v : ℕ} → ChainInTable S t blocks → i < blocks → block_round t (i + 1) ≤ block_round t (k + 1) + S.lookback → v ≡ leader_by w (block_round t (i + 1))
+  pub started_next : {k i : ℕ} {q : ℕ} {w : List Weight} {starts : List ℕ} {v : ℕ} → ChainInTable S t blocks → i < blocks → block_round t (i + 1) ≤ block_round t (k + 1) + S.lookback → v ≡ leader_by w (block_round t (i + 1))
       → AfterBlocks S t blocks q k w → Started S t blocks k i starts → Started S t blocks k (i + 1) (set starts i v)
-  started-next {k} {i} {q} {w} {starts} {v} a h near e x s =
+  started_next {k} {i} {q} {w} {starts} {v} a h near e x s =
       record {
         size = length-set starts i v ∙ s.size;
         from = let l = s.from in omega arith;
@@ -91,10 +84,10 @@ module _ {S : Settings} {t : List ℕ} {blocks : ℕ} where
       }
 
   -- one block more, in its own order
-  pub running-next : {k f : ℕ} {w v : List Weight} {starts : List ℕ} → ChainInTable S t blocks → k < blocks → AfterBlocks S t blocks 1024 k w → StartsAhead S t blocks k f starts
+  pub running_next : {k f : ℕ} {w v : List Weight} {starts : List ℕ} → ChainInTable S t blocks → k < blocks → AfterBlocks S t blocks 1024 k w → StartsAhead S t blocks k f starts
       → v ≡ rows_over (place_change t (k + 1)) (get_or starts k 0) S.ceiling.0 w
       → Running S t blocks 1024 (record { blocks = k + 1; starts = f }) v starts
-  running-next {k} {f} {w} {v} {starts} a h x s e =
+  running_next {k} {f} {w} {v} {starts} a h x s e =
       let b = (fits-at S.ceiling.0 t blocks a.rounds k h).below in
       let c = a.ceiling in
       record {
@@ -103,12 +96,12 @@ module _ {S : Settings} {t : List ℕ} {blocks : ℕ} where
       }
 
   -- where the last block's round is below q
-  pub running-below : (k q : ℕ) {y : Applied} {w : List Weight} {starts : List ℕ} → y.blocks ≡ k + 1 → block_round t (k + 1) < q → Running S t blocks 1024 y w starts → Running S t blocks (q - 1) y w starts
-  running-below k q e h r = record { after = after-at (q - 1) (rw (e, last_some t (k + 1) (λ z. omega arith)) (omega arith)) r.after; started = r.started }
+  pub running_below : (k q : ℕ) {y : Applied} {w : List Weight} {starts : List ℕ} → y.blocks ≡ k + 1 → block_round t (k + 1) < q → Running S t blocks 1024 y w starts → Running S t blocks (q - 1) y w starts
+  running_below k q e h r = record { after = after-at (q - 1) (rw (e, last_some t (k + 1) (λ z. omega arith)) (omega arith)) r.after; started = r.started }
 
   -- at the start
   pub running_none : {x : Applied} {w : List Weight} {starts : List ℕ} (q : ℕ) → (x.blocks ≡ 0) × (x.starts ≡ 0) → w ≡ S.weights → Started S t blocks 0 0 starts → Running S t blocks q x w starts
   running_none q z e s = record { after = rw (z.0, e) (after-start q); started = rw (z.0, z.1) s }
 
-  pub running-up : {q : ℕ} {x : Applied} {w : List Weight} {starts : List ℕ} (q' : ℕ) → q ≤ q' → Running S t blocks q x w starts → Running S t blocks q' x w starts
-  running-up q' h r = record { after = after-up q' h r.after; started = r.started }
+-- how far the next block may start, and how heavy the committee before it is
+pub ruleset next_bounds = (start-le, after_total)

@@ -17,7 +17,7 @@ use committee::positions;
 use terms::Round;
 use terms::sheet::{Settings, Weight};
 
-// The first round of a window that has none: no ceiling is as high.
+/// The first word of a cache that has no rounds: no ceiling is as high.
 pub const NO_ROUND: u64 = 4294967296;
 
 // The sixteen weights from `at` on.
@@ -38,24 +38,15 @@ fn put_weights(w: &[Weight; 16], at: usize, cache: &mut [u64])
     }
 }
 
-// Is round r, up to the ceiling n, in the window?
+/// Is round `r` in the window, with room for its weights, and not above the ceiling `n`?
 pub fn is_cached(cache: &[u64], n: Round, r: Round) -> bool
     ensures { result ≡ true → (r.0 ≤ n.0) × InWindow cache.now r.0 }
 {
-    if n.0 < r.0 {
-        return false;
-    }
-    if cache.len() < 17 {
-        return false;
-    }
     let q = r.0 as u64;
-    if q < cache[0] {
-        return false;
-    }
-    if cache.len() < (q - cache[0]) as usize * 16 + 17 {
-        return false;
-    }
-    true
+    r.0 <= n.0
+        && 17 <= cache.len()
+        && cache[0] <= q
+        && (q - cache[0]) as usize * 16 + 17 <= cache.len()
 }
 
 // The committee of round r.
@@ -67,39 +58,40 @@ fn cached_at(cache: &[u64], r: Round) -> [Weight; 16]
     weights_at(cache, at)
 }
 
-// The committees of round r and of the one before it: those cached, or else by a walk.
+/// The committees of round `r` and of the one before it: those cached, or else by a walk over the blocks.
+#[tactic(auto, using(crate::proofs::ChainInTableLaws::committee_bounded))]
 pub fn committees(cache: &[u64], t: &[u32], s: Settings, blocks: u32, r: Round) -> Pair
     requires { ChainInTable s t.now blocks × Caches s (chain_of s.ceiling.0 t.now blocks) cache.now }
     ensures { PairOf s (chain_of s.ceiling.0 t.now blocks) r.0 result }
 {
-    if !is_cached(cache, s.ceiling, r) {
-        return bonded::committees_of(t, s, blocks, r);
-    }
     let q = bonded::round_before(r);
-    if !is_cached(cache, s.ceiling, q) {
-        return bonded::committees_of(t, s, blocks, r);
-    }
-    Pair {
-        before: cached_at(cache, q),
-        at: cached_at(cache, r),
+    if is_cached(cache, s.ceiling, r) && is_cached(cache, s.ceiling, q) {
+        Pair {
+            before: cached_at(cache, q),
+            at: cached_at(cache, r),
+        }
+    } else {
+        bonded::committees_of(t, s, blocks, r)
     }
 }
 
-// The committee of round r: the one cached, the starting one, or else by a walk.
+/// The committee of round `r`: the one cached, the starting one, or else by a walk over the blocks.
+#[tactic(auto, using(crate::proofs::ChainInTableLaws::committee_bounded))]
 pub fn committee(cache: &[u64], t: &[u32], s: Settings, blocks: u32, r: Round) -> [Weight; 16]
     requires { ChainInTable s t.now blocks × Caches s (chain_of s.ceiling.0 t.now blocks) cache.now }
     ensures { (result ≡ committee_of s (chain_of s.ceiling.0 t.now blocks) r.0) × TotalBounded result }
 {
     if is_cached(cache, s.ceiling, r) {
-        return cached_at(cache, r);
+        cached_at(cache, r)
+    } else if bonded::is_starting(t, s, blocks, r) {
+        s.weights
+    } else {
+        bonded::committee_of(t, s, blocks, r)
     }
-    if bonded::is_starting(t, s, blocks, r) {
-        return s.weights;
-    }
-    bonded::committee_of(t, s, blocks, r)
 }
 
 // The rounds from the first up to the ceiling, going up with one running committee; w is the starting one.
+#[tactic(auto, using(crate::proofs::CacheLaws::caches_more))]
 fn cache_rounds(
     t: &[u32],
     head: &[u32; 512],
@@ -139,12 +131,10 @@ fn fill_cache_with(
     requires { WalkRoom s t.now blocks next.old × (first.0 ≤ s.ceiling.0) × (17 ≤ length cache.old) }
     ensures { Caches s (chain_of s.ceiling.0 t.now blocks) cache.new }
 {
-    let mut w = s.weights;
-    let end = s.ceiling.0 * 16 + 16;
-    let mut head = [end; 512];
-    changes::links::link_rows(t, &mut head, next, s.ceiling);
-    let mut starts = [16u32; 512];
+    let head = changes::links::linked(t, next, s.ceiling);
     let places = positions::places();
+    let mut w = s.weights;
+    let mut starts = [16; 512];
     cache_rounds(
         t,
         &head,
@@ -159,7 +149,8 @@ fn fill_cache_with(
     );
 }
 
-// Caches the committees of the rounds from the first on, for as many as there is room.
+/// Caches the committees of the rounds from `first` on, up to the ceiling, for as many as there is room: a word for the first round, and sixteen for each.
+/// A cache of less than 17 words stays, and has no round.
 pub fn fill_cache(t: &[u32], s: Settings, blocks: u32, first: Round, cache: &mut [u64])
     requires { ChainInTable s t.now blocks × (first.0 ≤ s.ceiling.0) }
     ensures { Caches s (chain_of s.ceiling.0 t.now blocks) cache.new }
@@ -168,10 +159,10 @@ pub fn fill_cache(t: &[u32], s: Settings, blocks: u32, first: Round, cache: &mut
         return;
     }
     if s.ceiling.0 <= changes::links::FEW_ROUNDS {
-        let mut few = [0u32; changes::links::FEW];
+        let mut few = [0; changes::links::FEW];
         fill_cache_with(t, s, blocks, first, &mut few, cache);
-        return;
+    } else {
+        let mut many = [0; changes::links::MANY];
+        fill_cache_with(t, s, blocks, first, &mut many, cache);
     }
-    let mut many = [0u32; changes::links::MANY];
-    fill_cache_with(t, s, blocks, first, &mut many, cache);
 }

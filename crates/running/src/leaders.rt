@@ -11,6 +11,7 @@ use terms::Round;
 use terms::sheet::{Settings, Weight};
 
 // The leaders of the rounds above m up to top, where the places of each block are linked; w is the starting committee, and then that of the round above top.
+#[tactic(auto, using(crate::proofs::FillLaws::fill_more), unfolding(crate::specs::Fill::leader_at, committee::specs::Committees::leader_by))]
 fn fill_rounds(
     t: &[u32],
     head: &[u32; 512],
@@ -31,21 +32,10 @@ fn fill_rounds(
     for q in m.0..top.0 {
         let r = Round(q + 1);
         x = crate::reach_round(t, head, next, s, blocks, x, r, places, w, starts);
-        let a = weighing::leader::leader(places, w, r);
-        l[q as usize + 1] = a.0;
+        l[q as usize + 1] = weighing::leader::leader(places, w, r).0;
     }
-    crate::reach_round(
-        t,
-        head,
-        next,
-        s,
-        blocks,
-        x,
-        Round(top.0 + 1),
-        places,
-        w,
-        starts,
-    );
+    let above = Round(top.0 + 1);
+    crate::reach_round(t, head, next, s, blocks, x, above, places, w, starts);
 }
 
 // The same, where next has a word for each place; gives that committee.
@@ -61,12 +51,10 @@ fn filled_by(
     requires { WalkRoom s t.now blocks next.old × RoundSpan m.0 top.0 }
     ensures { LeadersFilled s (chain_of s.ceiling.0 t.now blocks) m.0 top.0 l.old l.new result }
 {
-    let mut w = s.weights;
-    let end = s.ceiling.0 * 16 + 16;
-    let mut head = [end; 512];
-    changes::links::link_rows(t, &mut head, next, s.ceiling);
-    let mut starts = [16u32; 512];
+    let head = changes::links::linked(t, next, s.ceiling);
     let places = positions::places();
+    let mut w = s.weights;
+    let mut starts = [16; 512];
     fill_rounds(
         t,
         &head,
@@ -83,7 +71,8 @@ fn filled_by(
     w
 }
 
-// Writes the number of the leader of each round above m up to top, 16 for none; gives the committee of the round above top.
+/// Writes the number of the leader of each round above `m` up to `top` into `l`, by round, 16 for none; gives the committee of the round above `top`.
+/// The span may be empty, and goes up to 1,024; the ceiling is no bound of it. All else of `l` stays.
 pub fn fill_leaders(
     t: &[u32],
     s: Settings,
@@ -96,9 +85,10 @@ pub fn fill_leaders(
     ensures { LeadersFilled s (chain_of s.ceiling.0 t.now blocks) m.0 top.0 l.old l.new result }
 {
     if s.ceiling.0 <= changes::links::FEW_ROUNDS {
-        let mut few = [0u32; changes::links::FEW];
-        return filled_by(t, s, blocks, m, top, &mut few, l);
+        let mut few = [0; changes::links::FEW];
+        filled_by(t, s, blocks, m, top, &mut few, l)
+    } else {
+        let mut many = [0; changes::links::MANY];
+        filled_by(t, s, blocks, m, top, &mut many, l)
     }
-    let mut many = [0u32; changes::links::MANY];
-    filled_by(t, s, blocks, m, top, &mut many, l)
 }

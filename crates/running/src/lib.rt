@@ -20,14 +20,16 @@ use committee::weighing;
 use terms::sheet::{Settings, Weight};
 use terms::{Member, Round};
 
-// How many blocks are applied, and of how many the starts are written.
+/// How far a walk over the blocks is, oldest first.
 #[derive(Clone, Copy)]
 pub struct Applied {
+    /// How many blocks are applied to the committee.
     pub blocks: u32,
+    /// Of how many blocks the starts are written: of those that are applied, and of some after them.
     pub starts: u32,
 }
 
-// None yet.
+/// No block is applied yet, and no start is written.
 pub fn none() -> Applied
     ensures { (result.blocks ≡ 0) × (result.starts ≡ 0) }
 {
@@ -52,20 +54,19 @@ fn fill_starts(
     ensures { StartsAhead s t.now blocks k result starts.new }
 {
     let at = store::block_round(t, k + 1);
-    let mut i = f;
-    while i < blocks {
+    for i in f..blocks {
         let r = store::block_round(t, i + 1);
         if s.lookback < r.0 - at.0 {
             return i;
         }
-        let a = weighing::leader::leader(places, w, r);
-        starts[i as usize] = a.0;
-        i += 1;
+        starts[i as usize] = weighing::leader::leader(places, w, r).0;
     }
-    i
+    blocks
 }
 
-// The block after the first ones of x.
+/// Applies the block after the first ones of `x` to the committee `w`, and writes the starts up to lookback rounds after it.
+/// There has to be such a block. `head` and `next` link the places of each block, `places` is the table of members by position, and `starts` has the starts of the blocks, 16 for one without a leader.
+#[tactic(auto, using(crate::proofs::StartLaws::next_bounds))]
 pub fn apply_next(
     t: &[u32],
     head: &[u32; 512],
@@ -107,17 +108,15 @@ fn apply_below(
     ensures { Running s t.now blocks (q.0 - 1) result w.new starts.new × (w.new ≡ bonded_from s (chain_of s.ceiling.0 t.now blocks) q.0) }
 {
     let mut y = x;
-    while y.blocks < blocks {
-        let r = store::block_round(t, y.blocks + 1);
-        if q.0 <= r.0 {
-            return y;
-        }
+    while y.blocks < blocks && store::block_round(t, y.blocks + 1).0 < q.0 {
         y = apply_next(t, head, next, s, blocks, y, places, w, starts);
     }
     y
 }
 
-// The committee of round r, from that of an earlier round, which has the first blocks of x.
+/// The committee of round `r`, put into `w` in place of that of an earlier round, which has the first blocks of `x`; gives the blocks that it has.
+/// Blocks count whose rounds lie more than lookback rounds before `r`. None of the blocks of `x` may be of a later round.
+#[tactic(auto, using(crate::proofs::ChainInTableLaws::committee_reached))]
 pub fn reach_round(
     t: &[u32],
     head: &[u32; 512],
@@ -136,16 +135,6 @@ pub fn reach_round(
     if r.0 <= s.lookback {
         return x;
     }
-    apply_below(
-        t,
-        head,
-        next,
-        s,
-        blocks,
-        x,
-        Round(r.0 - s.lookback),
-        places,
-        w,
-        starts,
-    )
+    let q = Round(r.0 - s.lookback);
+    apply_below(t, head, next, s, blocks, x, q, places, w, starts)
 }

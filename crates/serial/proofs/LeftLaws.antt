@@ -1,10 +1,10 @@
 -- What an accepted access or reset leaves: a port that fits, and all else as it was.
-use mathlib.Core.Path.{◌≡◌, refl, sym, ap, ◌∙◌}
+use mathlib.Core.Path.{◌≡◌, refl}
 use mathlib.Core.Bool.{Bool, true, false, cond, not, ◌&&◌}
 use mathlib.Core.List.{List}
 use Prim.Native.Nat.{ℕ, zero, suc, ◌%◌, ◌<◌, ◌≤◌}
 use native.Mathlib.Omega.{arith}
-use lib.Dec.{eqb, leb, ltb}
+use lib.Dec.{eqb, leb}
 use lib.ListN.{length, get_or}
 use borrow.Author.Tests.{leb-true, le-leb, ltb-true}
 use Rattle.base.specs.Folds.{all_to}
@@ -14,7 +14,7 @@ use Rattle.store.specs.Table.{Row}
 use Rattle.store.proofs.FirstRow.{OnlyFirst}
 use Rattle.queues.proofs.WordLaws.{SameQueues}
 use Rattle.ports.specs.Uart.{Port, divisor, takes, waits, after_read, after_write, reset_port, registers_of, limits, registers_fit}
-use Rattle.ports.specs.Ports.{listing_of, port_in, port_fits, ports_fit, FormedPort}
+use Rattle.ports.specs.Ports.{port_fits, ports_fit, FormedPort}
 use Rattle.state.specs.declared.State.{State}
 use Rattle.state.specs.WellFormed.{well_formed}
 use Rattle.state.proofs.FormedLaws.{formed-ports}

@@ -1,24 +1,24 @@
 -- What an accepted access or reset has passed; and check 1 after the checks before it.
 use mathlib.Core.Path.{◌≡◌, refl, sym, ◌∙◌}
-use mathlib.Core.Bool.{true, false, not, true≢false}
+use mathlib.Core.Bool.{true, not, true≢false}
 use mathlib.Core.List.{List, [], ◌∷◌, ◌++◌}
 use mathlib.Core.Logic.{◌≢◌}
 use Prim.Native.Nat.{ℕ, ◌<◌}
 use native.Mathlib.Omega.{arith}
 use borrow.Author.Tests.{not-false, ltb-false}
 use Rattle.base.specs.Checks.{Checks, refusal}
-use Rattle.base.proofs.CheckLaws.{numbered, refuses, passes, passes-all, first-refuses, first_passes}
+use Rattle.base.proofs.CheckLaws.{numbered, passes, passes-all, first-refuses, first_passes}
 use Rattle.base.proofs.Passed.{passed}
 use Rattle.base.proofs.TestLaws.{all-at}
 use Rattle.store.specs.Table.{Row}
 use Rattle.ports.specs.Ports.{FormedPort, port_fits, ports_fit}
+use Rattle.ports.proofs.WriteLaws.{put-reset}
 use Rattle.state.specs.declared.State.{State}
 use Rattle.state.specs.WellFormed.{well_formed}
-use Rattle.state.specs.Formed.{Formed}
 use Rattle.state.proofs.FormedLaws.{formed, formed-ports}
 use Rattle.state.proofs.Walkable.{readable}
 use Rattle.serial.specs.Calls.{PortCall, access, reset}
-use Rattle.serial.specs.Serial.{access_checks, reset_checks, early_checks, port_refusal}
+use Rattle.serial.specs.Serial.{access_checks, reset_checks, early_checks}
 
 -- 26, 31 or 1, where the words of a state cannot be read
 pub early-some : (x : PortCall) → refusal (early_checks x ++ ((true, 1) ∷ [])) ≢ 0
@@ -46,6 +46,10 @@ module _ (s : State) (t : List ℕ) where
   pub port-opened : well_formed s t ≡ true → (g : ℕ) → g < 8 → FormedPort s.settings t s.blocks g
   unfolding ports_fit
   port-opened w g h = record { chain = readable s t (formed s t w); guest = h; fits = all-at (port_fits s.settings t s.blocks) 8 g h (formed-ports s t w) }
+
+  -- row 0 is there
+  pub port_row : well_formed s t ≡ true → Row t 0
+  port_row w = let l = (formed s t w).long in omega arith
 
   pub record AccessPassed (g o : ℕ) : Type 0 where
     pub whole : well_formed s t ≡ true
@@ -77,18 +81,12 @@ module _ (s : State) (t : List ℕ) where
       let l = (formed s t w).long in
       record { whole = w; opened = port-opened w g (omega arith); row = omega arith }
 
-  -- ---- so where the checks of the port let it pass, in a well-formed state
+  -- ---- so where the checks of the port let an access pass, in a well-formed state
 
   module _ (w : well_formed s t ≡ true) where
-    pub access-none : (x : PortCall) → 0 ≡ refusal (early_checks x) → port_refusal s t x ≡ 0
-    unfolding port_refusal numbered
-    access-none (access g a) e = sym (none-refused (early_checks (access g a)) e refl refl w)
-    access-none (reset g) e = sym (none-refused (early_checks (reset g)) e refl refl w)
-
     pub access-let : (g o : ℕ) → 0 ≡ refusal (access_checks g o) → AccessPassed g o
     unfolding numbered
     access-let g o e = access-passed g o (sym (none-refused (access_checks g o) e refl refl w))
 
-    pub reset-let : (g : ℕ) → 0 ≡ refusal (reset_checks g) → ResetPassed g
-    unfolding numbered
-    reset-let g e = reset-passed g (sym (none-refused (reset_checks g) e refl refl w))
+-- for the calls: a port may be read and written, and what a reset leaves
+pub ruleset ported = (port-opened, port_row, put-reset)

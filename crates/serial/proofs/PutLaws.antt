@@ -1,6 +1,6 @@
 -- What a table tells of ports and queues after the words of a port are put: the port is that one, all others and all queues are as they were.
-use mathlib.Core.Path.{◌≡◌, refl, sym, ap, ◌∙◌}
-use mathlib.Core.Bool.{Bool, true, ◌&&◌}
+use mathlib.Core.Path.{◌≡◌, refl, ap}
+use mathlib.Core.Bool.{true, ◌&&◌}
 use mathlib.Core.List.{List}
 use mathlib.Core.Logic.{◌≢◌}
 use Prim.Native.Nat.{ℕ, ◌+◌, ◌*◌, ◌<◌, ◌≤◌}
@@ -14,13 +14,10 @@ use Rattle.base.proofs.TestLaws.{all-at, all_hold}
 use Rattle.terms.specs.declared.sheet.Settings.{Settings}
 use Rattle.store.specs.Table.{Row}
 use Rattle.store.proofs.FirstRow.{OnlyFirst, only-paste}
-use Rattle.agreement.specs.Rules.{Chain}
-use Rattle.terms.specs.Proposals.{Content}
 use Rattle.committee.specs.Chain.{chain_of}
 use Rattle.queues.specs.Words.{served_word, waiting_count, place_start}
-use Rattle.queues.proofs.WordLaws.{SameQueue, SameQueues}
+use Rattle.queues.proofs.WordLaws.{SameQueues}
 use Rattle.listing.specs.Listing.{chain_lines}
-use Rattle.ports.specs.Cursors.{Lines, text, bytes_read}
 use Rattle.ports.specs.Places.{lines_of}
 use Rattle.ports.proofs.PlaceLaws.{text-lines}
 use Rattle.ports.proofs.OnceLaws.{once-chain}

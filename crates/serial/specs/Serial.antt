@@ -47,9 +47,10 @@ module _ (s : State) (t : List ℕ) where
   port_then (access g a) = accessed (port_at g) a
   port_then (reset g) = reset_port
 
+  -- the table with its words
   unfoldable pub ported_table : PortCall → List ℕ
   ported_table x = put_port s.settings t s.blocks (port_of x) (port_then x)
 
-  -- the state stays
+  -- the table after it: with that port's words where it is accepted, else as it was
   unfoldable pub port_table : PortCall → List ℕ
   port_table x = if_accepted (port_refusal x) (ported_table x) t

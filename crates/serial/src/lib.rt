@@ -53,7 +53,7 @@ pub fn read(s: &State, t: &mut [u32], port: u32, offset: u32) -> Result<u32, Ref
 }
 
 /// A write of a byte there.
-#[tactic(auto, unfolding(base::specs::Checks::refusal, state::specs::Answers::if_accepted, crate::specs::Serial::port_refusal, crate::specs::Serial::ported_table, crate::specs::Serial::port_table))]
+#[tactic(auto, using(crate::proofs::PassedLaws::ported), unfolding(base::specs::Checks::refusal, state::specs::Answers::if_accepted, crate::specs::Serial::port_refusal, crate::specs::Serial::ported_table, crate::specs::Serial::port_table))]
 pub fn write(s: &State, t: &mut [u32], port: u32, offset: u32, byte: u8) -> Result<(), Refusal>
     ensures refusal { refusal_in result ≡ port_refusal s.now t.old (access port (write offset byte)) }
     ensures table { t.new ≡ port_table s.now t.old (access port (write offset byte)) }
@@ -67,7 +67,7 @@ pub fn write(s: &State, t: &mut [u32], port: u32, offset: u32, byte: u8) -> Resu
 }
 
 /// A reset: every held register is 0, and reading resumes at the listing's start.
-#[tactic(auto, unfolding(base::specs::Checks::refusal, state::specs::Answers::if_accepted, crate::specs::Serial::port_refusal, crate::specs::Serial::ported_table, crate::specs::Serial::port_table))]
+#[tactic(auto, using(crate::proofs::PassedLaws::ported), unfolding(base::specs::Checks::refusal, state::specs::Answers::if_accepted, crate::specs::Serial::port_refusal, crate::specs::Serial::ported_table, crate::specs::Serial::port_table))]
 pub fn reset(s: &State, t: &mut [u32], port: u32) -> Result<(), Refusal>
     ensures refusal { refusal_in result ≡ port_refusal s.now t.old (reset port) }
     ensures table { t.new ≡ port_table s.now t.old (reset port) }

@@ -1,4 +1,4 @@
-// Records served: the call that a record asks for, and the lines that answer it.
+//! Records served: the call that a record asks for, and the lines that answer it.
 
 ghost use Rattle.std.specs.Prelude.{◌+◌, ◌*◌, ◌≤◌, length, Some};
 ghost use Rattle.std.specs.Option.{option_map};
@@ -16,7 +16,7 @@ use records::Record;
 use replies::{Reply, cached, committed, listed, opened, replied};
 use state::State;
 
-/// Serves a record, none an unreadable one: its call, and the lines that answer it. `formed` tells whether the state is well formed, and committees are cached.
+/// Serves a record, none an unreadable one: makes its call, and puts the lines that answer it at the front of the buffer. An unreadable one is answered with 24 and changes nothing. `formed` tells whether the state is well formed, and committees are cached.
 pub fn serve(
     formed: bool,
     cache: &mut [u64],

@@ -1,4 +1,5 @@
-// What is kept of a member between the records of a stream.
+//! What is kept of a member between the records of a stream.
+
 ghost use Rattle.std.specs.Prelude.{◌≡◌, length};
 ghost use Rattle.open.specs.Open.{closed_state};
 ghost use Rattle.replies.specs.Records.{engine_of};
@@ -32,7 +33,7 @@ impl<'a> Model for Keeper<'a> {
 }
 
 impl<'a> Keeper<'a> {
-    /// Before the first record there is no open member.
+    /// Keeps these committees and this table, of ceiling 64, for a member that is not open yet.
     pub fn new(cache: &'a mut [u64], table: &'a mut [u32]) -> Self
         requires { length table.old ≡ table_length }
         ensures engine { result ≡ engine_of closed_state table.old }
@@ -57,10 +58,12 @@ impl Engine for Keeper<'_> {
 
     ghost most = { λ e. length e.table * 9 + 20 };
 
+    // A chain has the longest answer.
     fn most(&self) -> usize {
         self.table.len() * 9 + 20
     }
 
+    // The record that the bytes hold, served on what is kept.
     fn serve(&mut self, bytes: Option<&[u8]>, out: &mut [u8]) -> usize {
         let asked = bytes.and_then(record_in);
         let reply = answering::serve(

@@ -1,8 +1,8 @@
 //! The runner's memory, in one place.
 
-/// The committees of the rounds from 0 up to 64, sixteen weights each, after a word for the first round.
+/// The words of the cache: the committees of the rounds from 0 up to 64, sixteen weights each, after a word for the first round.
 pub const CACHE: usize = 1 + 16 * (64 + 1);
-/// The words of a table of ceiling 64.
+/// The words of the table, of ceiling 64.
 pub const TABLE: usize = 17680;
 /// The bytes of the input buffer.
 pub const INPUT: usize = 65536;

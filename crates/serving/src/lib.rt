@@ -1,6 +1,6 @@
 //! A run of the engine: records served as a peer sends them, and their answers handed out.
 //!
-//! What goes out is what is answered to what was read (`output`, specs/Streams), whoever the peer is.
+//! What goes out is what is answered to what was read (`output`, specs/Streams), whoever the peer is. docs/RULES.md, "Records".
 #![tactic(auto)]
 
 pub mod answering;
@@ -17,7 +17,7 @@ use crate::keeper::Keeper;
 use stream::ended::Ended;
 use stream::peer::Peer;
 
-/// All of a run, and the state and the table that it leaves. Where the input came to its end, the lines for all of it were handed out.
+/// Serves all records that a peer sends, and hands out the lines that answer them before it reads more. `buf` is for bytes that came, `out` for lines that go out: 9 bytes for each word of the table, and 20 more. Gives how the run ended; where the input came to its end, the lines for all of it were handed out, and otherwise a first part of those that were due.
 pub fn run<P: Peer>(peer: &mut P, keeper: &mut Keeper, buf: &mut [u8], out: &mut [u8]) -> Ended
     requires buffer { 1024 ≤ length buf.old }
     requires room { length keeper.old.table * 9 + 20 ≤ length out.old }

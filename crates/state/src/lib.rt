@@ -1,6 +1,6 @@
 //! A member's state, and the view that it shows.
 //!
-//! What a state is (specs/States), the view that the rules see of it and its table (specs/View), and when the two are well formed (specs/WellFormed): `well_formed` answers that for any words. The checks that several calls share, and what a call answers and leaves, stand here too (specs/SharedChecks, specs/Answers). docs/RULES.md, "A member's state".
+//! What a state is (specs/States), the view that the rules see of it and its table (specs/View), and when the two are well formed (specs/WellFormed): `well_formed` answers that for any words. What the calls use of such a state is specs/Formed, and what is cached beside it specs/Cached. The number that refuses a call (specs/Refusals), the checks of a proposal's form (specs/SharedChecks), the states that accepted calls leave (specs/States) and that a refused one leaves everything as it was (specs/Answers) stand here too. docs/RULES.md, "A member's state".
 #![tactic(auto)]
 
 ghost use Rattle.std.specs.Prelude.{◌≡◌, ◌<◌, ◌≤◌};
@@ -11,20 +11,26 @@ use store::lengths::ROW;
 use terms::sheet::{Rights, Settings};
 use terms::{Body, Member, Round, sheet};
 
-// The table holds certificates, endorsed places and blocks; the rest is here.
+/// A member's state, but for what its table holds: certificates, endorsed places, block rounds, guests' queues and ports.
+///
+/// Any values may stand here: `well_formed` answers whether they mean a state.
 #[derive(Clone, Copy)]
 pub struct State {
+    /// The member's own number, 0 to 15.
     pub own: Member,
+    /// The filled settings of the sheet. They stay for the whole run.
     pub settings: Settings,
+    /// The present round, 1 to the ceiling.
     pub round: Round,
-    // The proposal for the present round, if there is one: its author and round are the member's own.
+    /// The proposal for the present round, if there is one: its author is the member itself.
     pub proposal: Option<Body>,
-    // The number of blocks.
+    /// The number of blocks, at most the ceiling.
     pub blocks: u32,
-    // What guests may do, fixed at opening.
+    /// What guests may do, fixed at opening.
     pub rights: Rights,
 }
 
+// Are own number, present round and number of blocks in range?
 #[tactic(auto, unfolding(crate::specs::WellFormed::numbers_fit))]
 fn numbers_fit(own: Member, round: Round, blocks: u32, ceiling: Round) -> bool
     ensures { result ≡ numbers_fit own.0 round.0 blocks ceiling.0 }
@@ -32,6 +38,7 @@ fn numbers_fit(own: Member, round: Round, blocks: u32, ceiling: Round) -> bool
     own.0 < 16 && 1 <= round.0 && round.0 <= ceiling.0 && blocks <= ceiling.0
 }
 
+// Are the transactions in range and within the allowance, and is the previous set empty exactly in round 1?
 #[tactic(auto, unfolding(crate::specs::WellFormed::body_fits))]
 fn body_fits(allowance: u32, r: Round, b: Body) -> bool
     requires { allowance ≤ 4 }
@@ -40,6 +47,7 @@ fn body_fits(allowance: u32, r: Round, b: Body) -> bool
     !terms::has_bad_transactions(allowance, b) && !terms::is_bad_previous_set(r, b.previous as u32)
 }
 
+// So for the proposal, if there is one?
 #[tactic(auto, unfolding(crate::specs::WellFormed::proposal_fits))]
 fn proposal_fits(s: State) -> bool
     requires { s.settings.allowance ≤ 4 }
@@ -61,7 +69,9 @@ fn head_fits(s: State) -> bool
         && !sheet::is_weightless(s.settings)
 }
 
-// Are the state and the table what docs/RULES.md asks of them?
+/// Are the state and the table well formed, by the conditions of docs/RULES.md, "A member's state"?
+///
+/// It answers for any words, of a table of any length. Every call but open refuses with 1 where it says no.
 pub fn well_formed(s: State, t: &[u32]) -> bool
     ensures { result ≡ well_formed s t.now }
 {

@@ -8,9 +8,9 @@ use Prim.Native.Nat.{ℕ, ◌+◌, ◌*◌, ◌%◌, ◌<◌, ◌≤◌}
 use native.Mathlib.Omega.{arith}
 use lib.ListN.{length, get_or, set, drop, length-set}
 use lib.Seq.{get_or-set_same, get_or-set_other}
-use Rattle.store.specs.Table.{row_length, record_length, record_start, used_length, Within, Row, held_set, endorsed_set, block_round, held_at, endorsed_at, record_word, previous_at, count_at, mark_at, transaction_at, content_at, certificate_at}
+use Rattle.store.specs.Table.{row_length, record_length, record_start, used_length, Within, Row, held_set, endorsed_set, block_round, held_at, endorsed_at, record_word, previous_at, mark_at, content_at, certificate_at}
 use Rattle.store.specs.Writes.{set_mark, set_block}
-use Rattle.store.proofs.WriteLaws.{same_place, same_place_parts, other_place, count_same, previous-same, transaction-same, content-same, certificate-same, same-beyond}
+use Rattle.store.proofs.WriteLaws.{same_place, other_place, previous-same, content-same, certificate-same, same-beyond}
 
 -- u is t but for marks and block rounds among the first n words
 pub record OnlyMarks (n : ℕ) (t u : List ℕ) : Type 0 where
@@ -102,14 +102,6 @@ pub mark-other : (t : List ℕ) (a q b m r : ℕ) → a < 16 → m < 16 → same
 unfolding mark_at record_word set_mark
 mark-other t a q b m r k h n =
     get_or-set_other t (record_start a q + 2) (record_start m r + 2) b 0 (λ e. let z = one_place m r a q h k e in other_place m r a q n z.0 z.1)
-
--- the marks after one is set
-pub mark_set : (t : List ℕ) (a q b : ℕ) → Within t a q → (m r : ℕ) → m < 16 → mark_at (set_mark t a q b) m r ≡ cond (same_place m r a q) b (mark_at t m r)
-mark_set t a q b at m r h = go (same_place m r a q) refl
-  where
-    go : (z : Bool) → same_place m r a q ≡ z → mark_at (set_mark t a q b) m r ≡ cond z b (mark_at t m r)
-    go true e = let z = same_place_parts m r a q e in rw (z.0, z.1) (mark-same t a q b at)
-    go false e = mark-other t a q b m r at.member h e
 
 pub mark-block : (t : List ℕ) (k q m r : ℕ) → m < 16 → mark_at (set_block t k q) m r ≡ mark_at t m r
 unfolding mark_at record_word set_block

@@ -1,10 +1,9 @@
 -- What one record more does to a stream that is being served.
-use Rattle.std.proofs.Common.{◌≡◌, ℕ, ◌+◌, ◌<◌, List, [], ◌∷◌, ◌++◌, refl, sym, ◌∙◌, ap, append_assoc, append-nil, length, drop, Option, None, Some}
+use Rattle.std.proofs.Common.{◌≡◌, ℕ, ◌+◌, List, [], ◌∷◌, ◌++◌, refl, sym, ◌∙◌, ap, append_assoc, append-nil, drop, Option, Some}
 use Rattle.std.proofs.lemmas.List.{drop-drop}
 use Rattle.framing.specs.AtHand.{AtHand, left, Tells}
 use Rattle.stream.specs.Lines.{Put}
-use Rattle.stream.specs.Answers.{after_all, answers, Served, Found, Answered}
-use Rattle.stream.specs.declared.Wanted.TheVariants.{Bytes, Room}
+use Rattle.stream.specs.Answers.{after_all, answers, Served, Found}
 
 module _ {E : Type 0} (after : E → Option (List ℕ) → E) (answer : E → Option (List ℕ) → List ℕ) where
   pub after_all-append : (e : E) (l m : List (Option (List ℕ))) → after_all after answer e (l ++ m) ≡ after_all after answer (after_all after answer e l) m
@@ -24,15 +23,6 @@ module _ {E : Type 0} (after : E → Option (List ℕ) → E) (answer : E → Op
     pub steady : most e' ≡ most e
 
   module _ (most : E → ℕ) where
-    pub answering_nothing : (e : E) (h : AtHand) (x : Put) → Answering most e h e h x x
-    answering_nothing e h x = record {
-      found = [];
-      finds = record { whole = λ over more. refl; state = refl; taken = 0; rest = refl };
-      bytes = sym (append-nil x.bytes);
-      room = refl;
-      steady = refl;
-    }
-
     pub answering_more : {e e₁ e₂ : E} {h h₁ h₂ : AtHand} {x y z : Put} (r : Option (List ℕ)) → Answering most e h e₁ h₁ x y → Tells h₁ (Some r) h₂ → Served after answer e₁ e₂ r y z
         → z.room ≡ y.room → most e₂ ≡ most e₁ → Answering most e h e₂ h₂ x z
     answering_more {e} {e₁} {e₂} {h} {h₁} {h₂} {x} {y} {z} r s t v k m =
@@ -54,31 +44,3 @@ module _ {E : Type 0} (after : E → Option (List ℕ) → E) (answer : E → Op
           room = k ∙ s.room;
           steady = m ∙ s.steady;
         }
-
-    pub answered-bytes : {e e₁ : E} {h h₁ h₂ : AtHand} {x y : Put} → Answering most e h e₁ h₁ x y → Tells h₁ None h₂ → Answered after answer most Bytes e h e₁ h₂ x y
-    answered-bytes {h = h} s t = record {
-      found = s.found;
-      finds =
-          record {
-            whole = λ over more. s.finds.whole over more ∙ ap (λ (l : List (Option (List ℕ))). s.found ++ l) (t.whole over more);
-            state = s.finds.state;
-            taken = s.finds.taken + t.taken;
-            rest = t.rest ∙ ap (drop t.taken) s.finds.rest ∙ drop-drop t.taken s.finds.taken h.hand;
-          };
-      bytes = s.bytes;
-      room = s.room;
-      steady = s.steady;
-      waits = λ _. t.waits refl;
-      full = λ n. cc;
-    }
-
-    pub answered-room : {e e₁ : E} {h h₁ : AtHand} {x y : Put} → Answering most e h e₁ h₁ x y → y.room < length y.bytes + most e → Answered after answer most Room e h e₁ h₁ x y
-    answered-room s f = record {
-      found = s.found;
-      finds = s.finds;
-      bytes = s.bytes;
-      room = s.room;
-      steady = s.steady;
-      waits = λ n. cc;
-      full = λ _. f;
-    }

@@ -24,6 +24,7 @@ impl<'a> Model for Hand<'a> {
 }
 
 impl<'a> Hand<'a> {
+    /// No byte is at hand yet, in this memory.
     pub fn new(memory: &'a mut [u8]) -> Self
         ensures empty { result.here ≡ record { hand = []; skipping = false } }
         ensures size { result.size ≡ length memory.old }
@@ -35,6 +36,7 @@ impl<'a> Hand<'a> {
         }
     }
 
+    /// The records in the bytes at hand.
     pub fn records(&self) -> Records<'_>
         ensures { result ≡ self.now.here }
     {
@@ -48,7 +50,7 @@ impl<'a> Hand<'a> {
         !self.skipping && self.count > 0
     }
 
-    /// Keeps the last bytes, so many.
+    /// Keeps the last bytes, so many, at the front of the memory. `skipping` tells whether a record that was answered goes on in them.
     pub fn keep(&mut self, count: usize, skipping: bool)
         requires { count ≤ length self.old.here.hand }
         ensures hand { self.new.here.hand ≡ drop (length self.old.here.hand - count) self.old.here.hand }
@@ -60,7 +62,7 @@ impl<'a> Hand<'a> {
         self.skipping = skipping;
     }
 
-    /// Reads more behind them.
+    /// Reads more bytes behind those at hand, by one read. Gives how many came, none, 0, at the end of the input; nothing where the read failed.
     pub fn more<P: Peer>(&mut self, peer: &mut P) -> Option<usize>
         requires { length self.old.here.hand < self.old.size }
         ensures { MoreCame P.talk self.old result self.new peer.old peer.new }

@@ -20,18 +20,18 @@ use framing::records::Records;
 
 /// What serves records.
 pub trait Engine {
-    // What a record makes of it, none an unreadable one, and the bytes that answer it: so many at most.
+    // The engine after a record, none an unreadable one, the bytes that answer it, and how many they are at most.
     ghost after: { Self → Option (List ℕ) → Self };
 
     ghost answer: { Self → Option (List ℕ) → List ℕ };
 
     ghost most: { Self → ℕ };
 
-    /// The bytes of its longest answer.
+    /// How many bytes its longest answer has.
     fn most(&self) -> usize
         ensures { result ≡ most self.now };
 
-    /// Serves a record, and puts its answer at the front of the memory. Gives how long it is.
+    /// Serves a record, none an unreadable one, and puts its answer at the front of the memory. Gives how many bytes it has.
     fn serve(&mut self, bytes: Option<&[u8]>, out: &mut [u8]) -> usize
         requires { most self.old ≤ length out.old }
         ensures engine { self.new ≡ after self.old (record_now bytes.entry) }
@@ -43,7 +43,9 @@ pub trait Engine {
 /// What it takes to go on.
 #[derive(Clone, Copy)]
 pub enum Wanted {
+    /// More bytes: nothing at hand can be answered.
     Bytes,
+    /// More room: the longest answer would not fit.
     Room,
 }
 

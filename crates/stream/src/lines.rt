@@ -23,6 +23,7 @@ impl<'a> Model for Lines<'a> {
 }
 
 impl<'a> Lines<'a> {
+    /// No line yet, in this memory.
     pub fn new(memory: &'a mut [u8]) -> Self
         ensures bytes { result.bytes ≡ [] }
         ensures room { result.room ≡ length memory.old }
@@ -30,13 +31,14 @@ impl<'a> Lines<'a> {
         Lines { memory, count: 0 }
     }
 
-    /// How many bytes there is room for.
+    /// How many more bytes there is room for.
     pub fn free(&self) -> usize
         ensures { result + length self.now.bytes ≡ self.now.room }
     {
         self.memory.len() - self.count
     }
 
+    /// The bytes that were put, in their order.
     pub fn bytes(&self) -> &[u8]
         ensures { result.now ≡ self.now.bytes }
     {

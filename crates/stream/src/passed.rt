@@ -1,3 +1,5 @@
+// What a pass came to.
+
 /// What a pass came to.
 #[derive(Clone, Copy)]
 pub enum Passed {

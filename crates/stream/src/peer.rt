@@ -4,7 +4,7 @@ ghost use Rattle.stream.specs.Talk.{Event};
 ghost use Rattle.stream.specs.Peer.{read_gave, write_took, flush_did, HandedOut};
 ghost use Rattle.stream.specs.Known.{Moved};
 
-/// Someone who sends records and gets their answers.
+/// Someone who sends records and gets their answers. What goes on is told as steps in their order.
 pub trait Peer {
     // These steps, in this order, led from one to the other.
     ghost talk: { Self → List Event → Self → Type 0 };
@@ -14,19 +14,19 @@ pub trait Peer {
 
     ghost contents: { Self → Option (List ℕ) };
 
-    /// How many bytes came, none at the end of the input; nothing where the read failed.
+    /// Reads bytes to the front of the buffer. Gives how many came, 0 at the end of the input; nothing where the read failed.
     fn read(&mut self, buf: &mut [u8]) -> Option<usize>
         requires { 0 < length buf.old }
         ensures count { IfSome result (λ n. n ≤ length buf.new) }
         ensures talks { talk self.old (read_gave result buf.new ∷ []) self.new };
 
-    /// How many of the bytes went out, some; nothing where the write failed.
+    /// Writes a first part of the bytes. Gives how many went out, one at least; nothing where the write failed.
     fn write(&mut self, bytes: &[u8]) -> Option<usize>
         requires { 0 < length bytes.now }
         ensures count { IfSome result (λ n. (0 < n) × (n ≤ length bytes.now)) }
         ensures talks { talk self.old (write_took result bytes.now ∷ []) self.new };
 
-    /// Did what went out reach the other side of any buffer?
+    /// Sends on what waits in a buffer. False where that failed.
     fn flush(&mut self) -> bool
         ensures talks { talk self.old (flush_did result ∷ []) self.new };
 
@@ -37,7 +37,7 @@ pub trait Peer {
     ghost moves: { (p q : Self) (l : List Event) → talk p l q → Moved (remaining p) (remaining q) (contents p) (contents q) l };
 }
 
-/// Writes all of the bytes, as many writes as it takes, and flushes. Where one fails, that is all.
+/// Writes all of the bytes, in as many writes as it takes, and flushes. False where one of these failed, and then no other follows.
 pub fn hand_out<P: Peer>(peer: &mut P, bytes: &[u8]) -> bool
     ensures { HandedOut P.talk peer.old bytes.now result peer.new }
 {

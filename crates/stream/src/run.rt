@@ -2,7 +2,7 @@
 ghost use Rattle.std.specs.Prelude.{◌≡◌, ◌≤◌, length, IfSome};
 ghost use Rattle.std.specs.Io.KnownBytes.{Appends};
 ghost use Rattle.framing.specs.Streams.{readables};
-ghost use Rattle.stream.specs.Answers.{after_all, answers};
+ghost use Rattle.stream.specs.Answers.{Answered, after_all, answers};
 ghost use Rattle.stream.specs.Known.{AddsPart};
 ghost use Rattle.stream.specs.Passes.{PassDone, FinishDone};
 ghost use Rattle.stream.specs.Talk.{Ran};
@@ -14,6 +14,19 @@ use crate::passed::Passed;
 use crate::peer::{Peer, hand_out};
 use crate::{Engine, Wanted, answer_all};
 
+// Answers the records at hand, and keeps the bytes that are left.
+fn answer_hand<E: Engine>(engine: &mut E, hand: &mut Hand, lines: &mut Lines) -> Wanted
+    ensures answers { Answered E.after E.answer E.most result engine.old hand.old.here engine.new hand.new.here lines.old lines.new }
+    ensures size { hand.new.size ≡ hand.old.size }
+{
+    let mut records = hand.records();
+    let wanted = answer_all(engine, &mut records, lines);
+    let left = records.hand().len();
+    let skipping = records.is_skipping();
+    hand.keep(left, skipping);
+    wanted
+}
+
 // Answers the records at hand and hands the answers out; only then reads more.
 fn pass<P: Peer, E: Engine>(peer: &mut P, engine: &mut E, hand: &mut Hand, out: &mut [u8]) -> Passed
     requires buffer { 1024 ≤ hand.old.size }
@@ -21,11 +34,7 @@ fn pass<P: Peer, E: Engine>(peer: &mut P, engine: &mut E, hand: &mut Hand, out: 
     ensures { PassDone E.after E.answer E.most P.talk engine.old hand.old peer.old engine.new hand.new peer.new result }
 {
     let mut lines = Lines::new(out);
-    let mut records = hand.records();
-    let wanted = answer_all(engine, &mut records, &mut lines);
-    let left = records.hand().len();
-    let skipping = records.is_skipping();
-    hand.keep(left, skipping);
+    let wanted = answer_hand(engine, hand, &mut lines);
     if !hand_out(peer, lines.bytes()) {
         return Passed::Lost;
     }
@@ -84,7 +93,7 @@ fn run_passes<P: Peer, E: Engine>(
     Ended::TooLong
 }
 
-/// Serves all records of the input, and hands the answers out.
+/// Serves all records of the input, and hands the answers out before it reads more. `buf` is for bytes that came, `out` for answers that go out: each answer has room there. Gives how the run ended; what is out by then is a first part of the answers to what came, and all of it where the input came to its end.
 pub fn run<P: Peer, E: Engine>(
     peer: &mut P,
     engine: &mut E,

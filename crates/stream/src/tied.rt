@@ -4,10 +4,12 @@ ghost use Rattle.stream.specs.Known.{Moved, nothing_moved, joined};
 use crate::peer::Peer;
 use std::io::{ErrorKind, Read, Write};
 
-/// A reader and a writer.
+/// A reader and a writer, as one peer.
 #[derive(Drop)]
 pub struct Tied<R, W> {
+    /// Where records come from.
     pub input: R,
+    /// Where their answers go.
     pub output: W,
 }
 

@@ -18,7 +18,7 @@ use Rattle.engine.specs.Guests.{as_host}
 use Rattle.nonforking.specs.Statement.{Members, engine_behaviour}
 use Rattle.nonforking.proofs.Theorem.{chains_never_fork}
 use Rattle.submissions.specs.Submissions.{Submission, one, batch, after_submission, engine_then, unrolled}
-use Rattle.submissions.specs.Requests.{Asked, asks, asks_batch, needed_for, submitted_by, Request, host, guest, refused_with, host_result, caller_number, result_of, AllowedAsHost, Noninterference, submission_of, NoOpenAsked, after_requests, RightsStayThen, InRangeThen, RequestsLeadTo, engine_asked, submitted, ChainsNeverForkWithGuests}
+use Rattle.submissions.specs.Requests.{Asked, asks, asks_batch, needed_for, submitted_by, Request, host, guest, refused_with, host_result, caller_number, result_of, submission_of, NoOpenAsked, after_requests, InRangeThen, engine_asked, submitted, ChainsNeverForkWithGuests, Allowed, Lacks, AlikeAndUnchanged, NoOpensAsked}
 use Rattle.submissions.proofs.SubmissionLaws.{batches_lead_to, then-unrolled}
 
 -- ---- one request
@@ -33,12 +33,13 @@ module _ (e : Engine) (c : ℕ) (a : Asked) where
   unfolding result_of
   result-allowed h = rw (eq-eqb (caller_number e c a) 0 h) refl
 
--- the claims
-pub allowed_as_host : AllowedAsHost
+-- with the right a caller does and answers what the host's own would
+pub allowed_as_host : (e : Engine) (c : ℕ) (a : Asked) → Allowed e c a → result_of e (guest c a) ≡ result_of e (host (submitted_by c a))
 unfolding result_of
 allowed_as_host e c a h = result-allowed e c a (allowed e.state.rights (needed_for a) c h)
 
-pub noninterference : Noninterference
+-- noninterference: of two engines with the same rights, whatever else they hold, a caller lacking a right learns nothing by what needs it, and changes nothing
+pub noninterference : (e d : Engine) → e.state.rights ≡ d.state.rights → (c : ℕ) (a : Asked) → Lacks e c a → AlikeAndUnchanged e d (guest c a)
 noninterference e d q c a h =
     let n = barred e.state.rights (needed_for a) c h in
     let x = result-barred e c a n in
@@ -69,7 +70,8 @@ left_by e (guest c a) = go (eqb (caller_number e c a) 0)
     go true = host-left e (submitted_by c a)
     go false = refl
 
-pub requests_lead_to : RequestsLeadTo
+-- what is so of every engine that calls lead to is so of those that requests lead to
+pub requests_lead_to : (e : Engine) → Reached e → (x : Request) → InRangeThen e (submission_of e x) → Reached (result_of e x).engine
 requests_lead_to e r x i = rw (left_by e x) (go (submission_of e x) i)
   where
     go : (o : Option Submission) → InRangeThen e o → Reached (if_there o e (after_submission e))
@@ -92,7 +94,8 @@ request-rights e (guest c a) n = go (eqb (caller_number e c a) 0)
     go true = ap (λ (d : Engine). d.state.rights) (host-left e (submitted_by c a)) ∙ submission_rights e c a
     go false = refl
 
-pub rights_stay_then : RightsStayThen
+-- rights stay as the open fixed them, whatever hosts and guests ask
+pub rights_stay_then : (e : Engine) (l : List Request) → NoOpensAsked e l → (after_requests e l).state.rights ≡ e.state.rights
 unfolding after_requests
 rights_stay_then e [] n = refl
 rights_stay_then e (x ∷ l) n = request-rights (after_requests e l) x n.0 ∙ rights_stay_then e l n.1

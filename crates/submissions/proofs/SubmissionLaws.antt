@@ -20,9 +20,9 @@ use Rattle.engine.specs.Sequences.{after_calls, AllInRange}
 use Rattle.engine.specs.Reached.{Reached, by_call}
 use Rattle.batch.specs.Batch.{Row, turns_of, table_after, batch_refusal}
 use Rattle.batch.proofs.BatchLaws.{after-accepts, batch-refused, batch-table}
-use Rattle.nonforking.specs.Statement.{Members, Entry, engine_after, engine_behaviour}
+use Rattle.nonforking.specs.Statement.{Members, Entry, engine_after, engine_behaviour, Run}
 use Rattle.nonforking.proofs.Theorem.{chains_never_fork}
-use Rattle.submissions.specs.Submissions.{Submission, one, batch, after_submission, accepts_of, calls_of, entries_of, engine_then, unrolled, LeavesAsItsCalls, BatchesLeadTo, ChainsNeverForkWithBatches}
+use Rattle.submissions.specs.Submissions.{Submission, one, batch, after_submission, accepts_of, calls_of, entries_of, engine_then, unrolled, AgreedThen}
 
 -- ---- one submission
 
@@ -45,8 +45,8 @@ after-turns row (p ∷ l) e =
     go none = refl
     go (some c) = after-accepts e c
 
--- the claim
-pub leaves_as_its_calls : LeavesAsItsCalls
+-- a submission leaves what its calls leave, one by one
+pub leaves_as_its_calls : (e : Engine) (x : Submission) → after_submission e x ≡ after_calls e (calls_of e x)
 unfolding after_calls
 leaves_as_its_calls e (one c) = refl
 leaves_as_its_calls e (batch row answers) = go (ℕ_discrete (batch_refusal e.state e.table row.count (length answers)) 0)
@@ -63,7 +63,8 @@ unfolding after_calls
 calls-lead-to e r [] i = r
 calls-lead-to e r (c ∷ l) i = by_call (after_calls e l) (calls-lead-to e r l i.1) c i.0
 
-pub batches_lead_to : BatchesLeadTo
+-- so what is so of every engine that calls lead to is so of those that batches lead to
+pub batches_lead_to : (e : Engine) → Reached e → (x : Submission) → AllInRange (calls_of e x) → Reached (after_submission e x)
 batches_lead_to e r x i = rw (leaves_as_its_calls e x) (calls-lead-to e r (calls_of e x) i)
 
 -- ---- a list of submissions
@@ -99,6 +100,6 @@ module _ (X : Members engine_behaviour) where
           ∙ ap (λ (d : Engine). after_calls d (calls_of (engine_then X l x.who) x.call)) h
       go false e h = h
 
--- the claim
-pub chains_never_fork_with_batches : ChainsNeverForkWithBatches
+-- chains never fork with batches as entries
+pub chains_never_fork_with_batches : (X : Members engine_behaviour) (l : List (entries.Entry Submission)) → Run X (unrolled X l) → AgreedThen X l
 chains_never_fork_with_batches X l r = record { agreed = chains_never_fork X (unrolled X l) r; engines = then-unrolled X l }

@@ -10,7 +10,6 @@ use Rattle.engine.specs.Calls.{opens}
 use Rattle.engine.specs.Engine.{Engine, refusal_for, after}
 use Rattle.engine.specs.Values.{Value, nothing, value_of}
 use Rattle.engine.specs.Sequences.{AllInRange, NoOpen}
-use Rattle.engine.specs.Reached.{Reached}
 use Rattle.engine.specs.Guests.{GuestCall, needs, batch_needs, as_host}
 use Rattle.batch.specs.Batch.{Row, batch_refusal, batch_answers}
 use Rattle.nonforking.specs.Statement.{Members, engine_after, engine_behaviour, Run, Agreed}
@@ -85,10 +84,6 @@ Allowed e c a = may e.state.rights (needed_for a) c ≡ true
 abbrev pub Lacks : Engine → ℕ → Asked → Type 0
 Lacks e c a = may e.state.rights (needed_for a) c ≡ false
 
--- with the right it does and answers what the host's own would
-abbrev pub AllowedAsHost : Type 0
-AllowedAsHost = (e : Engine) (c : ℕ) (a : Asked) → Allowed e c a → result_of e (guest c a) ≡ result_of e (host (submitted_by c a))
-
 -- the answers lent for a request
 abbrev pub lent_by : Request → List ℕ
 lent_by (host x) = lent_answers x
@@ -102,10 +97,6 @@ pub record AlikeAndUnchanged (e d : Engine) (x : Request) : Type 0 where
   pub second-answers : (result_of d x).answers ≡ lent_by x
   pub first-unchanged : (result_of e x).engine ≡ e
   pub second-unchanged : (result_of d x).engine ≡ d
-
--- noninterference: of two engines with the same rights, whatever else they hold, a caller lacking a right learns nothing by what needs it, and changes nothing
-abbrev pub Noninterference : Type 0
-Noninterference = (e d : Engine) → e.state.rights ≡ d.state.rights → (c : ℕ) (a : Asked) → Lacks e c a → AlikeAndUnchanged e d (guest c a)
 
 -- ---- claims of lists of requests
 
@@ -130,18 +121,10 @@ abbrev pub NoOpensAsked : Engine → List Request → Type 0
 NoOpensAsked e [] = Unit {0}
 NoOpensAsked e (x ∷ l) = NoOpenAsked (after_requests e l) x × NoOpensAsked e l
 
--- rights stay as the open fixed them, whatever hosts and guests ask
-abbrev pub RightsStayThen : Type 0
-RightsStayThen = (e : Engine) (l : List Request) → NoOpensAsked e l → (after_requests e l).state.rights ≡ e.state.rights
-
 -- what is submitted, if anything, has values of their types
 abbrev pub InRangeThen : Engine → Option Submission → Type 0
 InRangeThen e none = Unit {0}
 InRangeThen e (some s) = AllInRange (calls_of e s)
-
--- what is so of every engine that calls lead to is so of those that requests lead to
-abbrev pub RequestsLeadTo : Type 0
-RequestsLeadTo = (e : Engine) → Reached e → (x : Request) → InRangeThen e (submission_of e x) → Reached (result_of e x).engine
 
 module _ (X : Members engine_behaviour) where
   open X use {before, sheet}

@@ -5,10 +5,8 @@ use Rattle.agreement.specs.Entries as entries
 use Rattle.agreement.specs.Entries.{states}
 use Rattle.engine.specs.Calls.{Call, opens, accept}
 use Rattle.engine.specs.Engine.{Engine, after}
-use Rattle.engine.specs.Sequences.{after_calls, AllInRange}
-use Rattle.engine.specs.Reached.{Reached}
 use Rattle.batch.specs.Batch.{Row, turns_of, batch_refusal, batch_table}
-use Rattle.nonforking.specs.Statement.{Members, Entry, engine_after, engine_behaviour, Run, Agreed}
+use Rattle.nonforking.specs.Statement.{Members, Entry, engine_after, engine_behaviour, Agreed}
 
 -- what a host hands to its engine at once: a call, or a row of certificates with the answers lent for it
 pub data Submission : Type 0 where
@@ -47,18 +45,7 @@ module _ (X : Members engine_behaviour) where
   unrolled [] = []
   unrolled (x ∷ l) = entries_of x.who (calls_of (engine_then l x.who) x.call) ++ unrolled l
 
--- a submission leaves what its calls leave, one by one
-abbrev pub LeavesAsItsCalls : Type 0
-LeavesAsItsCalls = (e : Engine) (x : Submission) → after_submission e x ≡ after_calls e (calls_of e x)
-
--- so what is so of every engine that calls lead to is so of those that batches lead to
-abbrev pub BatchesLeadTo : Type 0
-BatchesLeadTo = (e : Engine) → Reached e → (x : Submission) → AllInRange (calls_of e x) → Reached (after_submission e x)
-
 -- chains never fork with batches as entries: premises and claim are those of the unrolled list, and each member's engine is the one after it
 pub record AgreedThen (X : Members engine_behaviour) (l : List (entries.Entry Submission)) : Type 0 where
   pub agreed : Agreed X (unrolled X l)
   pub engines : (i : ℕ) → engine_then X l i ≡ engine_after X (unrolled X l) i
-
-abbrev pub ChainsNeverForkWithBatches : Type 0
-ChainsNeverForkWithBatches = (X : Members engine_behaviour) (l : List (entries.Entry Submission)) → Run X (unrolled X l) → AgreedThen X l

@@ -7,7 +7,7 @@ use Prim.Native.Nat.{ℕ, zero, suc, ◌≤◌, ◌<◌}
 use native.Mathlib.Omega.{arith}
 use lib.ListN.{length}
 use lib.Dec.{eqb, ltb, leb}
-use borrow.Author.Tests.{eq-eqb, ne_eqb, eqb-true, leb-true, lt-ltb, not-false}
+use borrow.Author.Tests.{eq-eqb, ne_eqb, eqb-true, leb-true, not-false}
 use Rattle.base.proofs.Bools.{both}
 use Rattle.base.specs.Folds.{all_to, any_to, tab}
 use Rattle.base.proofs.Ranges.{tab_next, all_next}
@@ -66,11 +66,6 @@ same-transaction x y e =
     let q = both (eqb (number_of x) (number_of y)) (eqb (amount_of x) (amount_of y)) p.1 in
     sym (read_back x)
     ∙ rw (eqb-true (kind_of x) (kind_of y) p.0, eqb-true (number_of x) (number_of y) q.0, eqb-true (amount_of x) (amount_of y) q.1) (read_back y)
-
--- of one kind and number, the amounts decide
-pub same_amounts : (x y : Transaction) (a b : ℕ) → kind_of x ≡ kind_of y → number_of x ≡ number_of y → a ≡ amount_of x → b ≡ amount_of y → eqb a b ≡ same_transaction x y
-unfolding same_transaction
-same_amounts x y a b k n ea eb = rw (ea, eb, eq-eqb (kind_of x) (kind_of y) k, eq-eqb (number_of x) (number_of y) n) refl
 
 pub transaction_self : (x : Transaction) → same_transaction x x ≡ true
 unfolding same_transaction
@@ -173,11 +168,6 @@ range-tab f (suc n) = ap all_in_range (tab_next f n) ∙ range-append (tab f n) 
 pub bad_transactions_tab : (a : ℕ) (f : ℕ → Transaction) (n : ℕ) → bad_transactions a (tab f n) ≡ (ltb a n || not (all_to (λ k. in_range (f k)) n))
 unfolding bad_transactions
 bad_transactions_tab a f n = rw (length-tab f n, range-tab f n) refl
-
--- over the allowance
-pub bad_transactions-over : (a : ℕ) (l : List Transaction) → a < length l → bad_transactions a l ≡ true
-unfolding bad_transactions
-bad_transactions-over a l h = rw (lt-ltb a (length l) h) refl
 
 -- ---- check 7
 

@@ -1,25 +1,22 @@
 -- Laws of sheets: what settings in range give, and that opening sees only the filled settings.
-use mathlib.Core.Path.{◌≡◌, refl, ap, ◌∙◌}
-use mathlib.Core.Bool.{Bool, true, false, not, ◌||◌, true≢false}
-use mathlib.Core.List.{List, [], ◌∷◌}
+use mathlib.Core.Path.{◌≡◌, refl, ap}
+use mathlib.Core.Bool.{false, ◌||◌}
+use mathlib.Core.List.{List}
 use Prim.Native.Nat.{ℕ, ◌≤◌, ◌<◌}
 use lib.Dec.{ltb}
 use lib.ListN.{set, length}
 use lib.Seq.{get_or-set_same, get_or-set_other}
-use borrow.Author.Tests.{ltb-true, ltb-false}
+use borrow.Author.Tests.{ltb-false}
 use Rattle.base.proofs.Bools.{neither}
-use Rattle.base.specs.Checks.{Checks}
 use Rattle.base.specs.Folds.{any_to, tab}
-use Rattle.base.proofs.FoldLaws.{get_d_tab, tab-same}
-use Rattle.base.proofs.TestLaws.{any_true, any_false}
-use Rattle.terms.specs.declared.sheet.Setting.TheVariants.{Blank, Written}
-use Rattle.terms.specs.declared.sheet.Setting.{Setting}
+use Rattle.base.proofs.TestLaws.{any_false}
+use Rattle.terms.specs.declared.sheet.Setting.TheVariants.{Written}
 use Rattle.terms.specs.declared.sheet.Weight.{Weight}
 use Rattle.terms.specs.declared.sheet.Rights.{Rights}
 use Rattle.terms.specs.declared.sheet.Sheet.{Sheet}
 use Rattle.terms.specs.declared.sheet.Settings.{Settings}
-use Rattle.terms.specs.Sheets.{weight_at, starting_weights, filled}
-use Rattle.terms.specs.Ranges.{weight, weight_in, not_within, out_of_range, weightless, SettingsFit}
+use Rattle.terms.specs.Sheets.{starting_weights, filled}
+use Rattle.terms.specs.Ranges.{weight, weight_in, not_within, out_of_range, SettingsFit}
 
 inside : (x a b : ℕ) → not_within x a b ≡ false → (a ≤ x) × (x ≤ b)
 unfolding not_within

@@ -13,30 +13,37 @@ ghost use Rattle.terms.specs.Transactions.{kind_of, number_of, amount_of, read_t
 ghost use Rattle.terms.specs.Bodies.{push};
 ghost use Rattle.terms.specs.Proposals.{bare_body, slot_of, transactions_of, bad_transactions, bad_previous_set};
 
-// A member's number: 0 to 15.
+/// A member by its number: 0 to 15 where it is in range.
 #[derive(Clone, Copy, PartialEq, Eq)]
 pub struct Member(pub u32);
 
-// A round: 1 to 1,024.
+/// A round by its number: 1 to 1,024 where it is in range.
 #[derive(Clone, Copy, PartialEq, Eq)]
 pub struct Round(pub u32);
 
-// Bond (member, amount), unbond (member), or an entry, which is any number.
+/// What a proposal may ask for. Two are equal where kind, member and amount or number are.
 #[derive(Clone, Copy, PartialEq, Eq)]
 pub enum Transaction {
+    /// A member bonds an amount, 1 to 1,000 where it is in range.
     Bond(Member, u32),
+    /// A member unbonds.
     Unbond(Member),
+    /// An entry, which is any number.
     Entry(u32),
 }
 
-// What a proposal has beside author and round. The first count slots are its transactions; a count above four is over every allowance.
+/// What a proposal has beside author and round.
 #[derive(Clone, Copy)]
 pub struct Body {
+    /// The previous set: authors of certificates one round earlier, a bit each.
     pub previous: u16,
+    /// How many transactions there are. A count above four is over every allowance.
     pub count: u32,
+    /// The first `count` of these are the transactions, in order; the others mean nothing.
     pub slots: [Transaction; 4],
 }
 
+/// What an author proposes for a round.
 #[derive(Clone, Copy)]
 pub struct Proposal {
     pub author: Member,
@@ -44,14 +51,14 @@ pub struct Proposal {
     pub body: Body,
 }
 
-// A proposal with its endorsers; author and endorsers are the signers.
+/// A proposal with its endorsers, a bit each. Author and endorsers are the signers.
 #[derive(Clone, Copy)]
 pub struct Certificate {
     pub proposal: Proposal,
     pub endorsers: u16,
 }
 
-// A body with a previous set and no transactions.
+/// The body with a previous set and no transactions.
 pub fn bare_body(previous: u16) -> Body
     ensures { result ≡ bare_body previous }
 {
@@ -62,7 +69,7 @@ pub fn bare_body(previous: u16) -> Body
     }
 }
 
-// A body with one transaction more.
+/// A body with one transaction more, behind the others. A fifth one is counted and not kept.
 #[tactic(auto, unfolding(crate::specs::Bodies::push))]
 pub fn pushed(b: Body, x: Transaction) -> Body
     requires { b.count < 4294967295 }
@@ -76,7 +83,7 @@ pub fn pushed(b: Body, x: Transaction) -> Body
     next
 }
 
-// A transaction's kind as a number: 0 bond, 1 unbond, 2 entry.
+/// A transaction's kind as a number: 0 bond, 1 unbond, 2 entry.
 #[tactic(auto, unfolding(crate::specs::Transactions::kind_of))]
 pub fn kind(x: Transaction) -> u32
     ensures { result ≡ kind_of x }
@@ -88,7 +95,7 @@ pub fn kind(x: Transaction) -> u32
     }
 }
 
-// The member of a bond or unbond, or the number of an entry.
+/// The member of a bond or unbond, or the number of an entry.
 #[tactic(auto, unfolding(crate::specs::Transactions::number_of))]
 pub fn number(x: Transaction) -> u32
     ensures { result ≡ number_of x }
@@ -100,7 +107,7 @@ pub fn number(x: Transaction) -> u32
     }
 }
 
-// The amount of a bond, 0 of another.
+/// The amount of a bond, 0 of another.
 #[tactic(auto, unfolding(crate::specs::Transactions::amount_of))]
 pub fn amount(x: Transaction) -> u32
     ensures { result ≡ amount_of x }
@@ -112,7 +119,7 @@ pub fn amount(x: Transaction) -> u32
     }
 }
 
-// The transaction that three numbers tell; an unknown kind is read as an entry.
+/// The transaction that three numbers tell. An unknown kind is read as an entry; only a bond has an amount.
 #[tactic(auto, unfolding(crate::specs::Transactions::read_transaction))]
 pub fn read_transaction(kind: u32, number: u32, amount: u32) -> Transaction
     ensures { result ≡ read_transaction kind number amount }
@@ -124,7 +131,7 @@ pub fn read_transaction(kind: u32, number: u32, amount: u32) -> Transaction
     }
 }
 
-// Is a bond's amount in range?
+/// Is a bond's amount in range: 1 to 1,000?
 #[tactic(auto, unfolding(crate::specs::Transactions::amount_in_range))]
 pub fn amount_in_range(a: u32) -> bool
     ensures { result ≡ amount_in_range a }
@@ -132,7 +139,7 @@ pub fn amount_in_range(a: u32) -> bool
     1 <= a && a <= 1000
 }
 
-// Are a bond's member and amount in range?
+/// Are a bond's member and amount in range: 0 to 15, and 1 to 1,000?
 #[tactic(auto, unfolding(crate::specs::Transactions::bond_in_range))]
 pub fn bond_in_range(m: Member, a: u32) -> bool
     ensures { result ≡ bond_in_range m.0 a }
@@ -140,7 +147,7 @@ pub fn bond_in_range(m: Member, a: u32) -> bool
     m.0 < 16 && amount_in_range(a)
 }
 
-// Is the transaction in range?
+/// Is the transaction in range: its member 0 to 15, the amount of a bond 1 to 1,000? An entry always is.
 #[tactic(auto, unfolding(crate::specs::Transactions::in_range))]
 pub fn in_range(x: Transaction) -> bool
     ensures { result ≡ in_range x }
@@ -161,24 +168,19 @@ fn slots_in_range(b: Body, n: u32) -> bool
     (0..n).all(|k| in_range(b.slots[k as usize]))
 }
 
-// Check 6: is a transaction out of range, or are there more than the allowance?
+/// Check 6: is a transaction out of range, or are there more than the allowance, 0 to 4?
 #[tactic(auto, using(crate::proofs::ProposalLaws::bad_transactions_tab, crate::proofs::ProposalLaws::transactions_tab))]
 pub fn has_bad_transactions(allowance: u32, b: Body) -> bool
     requires { allowance ≤ 4 }
     ensures { result ≡ bad_transactions allowance (transactions_of b) }
 {
-    let n = b.count;
-    allowance < n || !slots_in_range(b, n)
+    allowance < b.count || !slots_in_range(b, b.count)
 }
 
-// Check 7: is the previous set of a proposal of round r empty above round 1, or not empty in it?
+/// Check 7: is the previous set of a proposal of round r empty above round 1, or not empty in it?
 #[tactic(auto, unfolding(crate::specs::Proposals::bad_previous_set))]
 pub fn is_bad_previous_set(r: Round, set: u32) -> bool
     ensures { result ≡ bad_previous_set r.0 set }
 {
-    if r.0 == 1 {
-        !base::is_empty(set)
-    } else {
-        base::is_empty(set)
-    }
+    (r.0 == 1) != base::is_empty(set)
 }

@@ -1,16 +1,20 @@
 // What guests may do: four rights of callers 0 to 7, fixed at opening (docs/RULES.md, "Rights").
 
 ghost use Rattle.std.specs.Prelude.{◌≡◌, ◌<◌};
-ghost use Rattle.terms.specs.Rights.{right_number, may, caller_refusal};
+ghost use Rattle.terms.specs.Rights.{right_number, may};
 
 use crate::sheet::Rights;
 
-// Propose, with drawing and adding to one's own queue; sign: endorse, certify, accept, batches; drive: advance, commit; read: reads, previews and lists.
+/// What a caller may do, by the kinds of calls.
 #[derive(Clone, Copy)]
 pub enum Right {
+    /// Propose, draw, and add to one's own queue.
     Propose,
+    /// Endorse, certify, accept, and hand in batches.
     Sign,
+    /// Advance and commit.
     Drive,
+    /// Reads, previews and lists.
     Read,
 }
 
@@ -26,23 +30,11 @@ fn right_number(r: Right) -> u32
     }
 }
 
-// Has the caller the right?
-fn has_right(rights: Rights, r: Right, caller: u32) -> bool
+/// Has the caller, 0 to 7, the right?
+#[tactic(auto, using(crate::proofs::RightLaws::four), unfolding(crate::specs::Rights::may, base::specs::Sets::mem))]
+pub fn has_right(rights: Rights, r: Right, caller: u32) -> bool
     requires { caller < 8 }
     ensures { result ≡ may rights r caller }
 {
     (rights.0 >> (8 * right_number(r) + caller)) % 2 == 1
-}
-
-// The number that refuses a guest's call before anything else is looked at, 0 for none: 26 caller above 7; 29 missing right.
-pub fn caller_refusal(rights: Rights, r: Right, caller: u32) -> u32
-    ensures { result ≡ caller_refusal rights r caller }
-{
-    if 7 < caller {
-        return 26;
-    }
-    if !has_right(rights, r, caller) {
-        return 29;
-    }
-    0
 }

@@ -7,80 +7,102 @@ ghost use Rattle.terms.specs.Ranges.{weight_in, not_within, out_of_range, weight
 
 use crate::{Member, Round};
 
-// Each setting is blank or written with a number.
+/// What the sheet says of a setting: nothing, or a number.
 #[derive(Clone, Copy, PartialEq, Eq)]
 pub enum Setting {
+    /// The default is taken.
     Blank,
+    /// This number is taken, also where it is 0.
     Written(u32),
 }
 
-// What callers 0 to 7 may do, a bit each: bit 8 r + c is caller c's right r, where 0 is propose, 1 sign, 2 drive and 3 read (docs/RULES.md, "Rights").
+/// What callers 0 to 7 may do, a bit each: bit 8 r + c is caller c's right r, where 0 is propose, 1 sign, 2 drive and 3 read (docs/RULES.md, "Rights").
 #[derive(Clone, Copy)]
 pub struct Rights(pub u32);
 
-// The settings, and the rights that the host fixes beside them.
+/// The settings as an integrator writes them, and the rights that the host fixes beside them.
 #[derive(Clone, Copy)]
 pub struct Sheet {
     pub lookback: Setting,
     pub ceiling: Setting,
     pub allowance: Setting,
+    /// By member.
     pub weights: [Setting; 16],
     pub margin: Setting,
     pub rights: Rights,
 }
 
-// A member's weight.
+/// A member's weight, 0 for one that is not in the committee.
 #[derive(Clone, Copy, PartialEq, Eq, PartialOrd, Ord)]
 pub struct Weight(pub u64);
 
-// The filled settings: the ceiling is the last round, the weights are the starting ones, and the margin is what a total less 1 is divided by for its fault bound.
+/// The filled settings: each as it is written, or its default.
 #[derive(Clone, Copy)]
 pub struct Settings {
     pub lookback: u32,
+    /// The last round.
     pub ceiling: Round,
+    /// The most transactions of a proposal.
     pub allowance: u32,
+    /// The starting weights, by member.
     pub weights: [Weight; 16],
+    /// What a total less 1 is divided by for its fault bound.
     pub margin: u32,
 }
 
 impl Sheet {
-    // The default of each setting and its range.
+    /// The lookback where it is blank.
     pub const LOOKBACK: u32 = 20;
 
+    /// The least lookback.
     pub const LOOKBACK_MIN: u32 = 1;
 
+    /// The greatest lookback.
     pub const LOOKBACK_MAX: u32 = 1000;
 
+    /// The ceiling where it is blank.
     pub const CEILING: u32 = 1024;
 
+    /// The least ceiling.
     pub const CEILING_MIN: u32 = 3;
 
+    /// The greatest ceiling.
     pub const CEILING_MAX: u32 = 1024;
 
+    /// The allowance where it is blank.
     pub const ALLOWANCE: u32 = 4;
 
+    /// The least allowance.
     pub const ALLOWANCE_MIN: u32 = 0;
 
+    /// The greatest allowance.
     pub const ALLOWANCE_MAX: u32 = 4;
 
-    // A blank weight is the first of these for the members below FIRST_MEMBERS, the second for the others.
+    /// The weight, where it is blank, of each member below `FIRST_MEMBERS`.
     pub const WEIGHT_FIRST: u32 = 1;
 
+    /// The weight, where it is blank, of the other members.
     pub const WEIGHT_OTHER: u32 = 0;
 
+    /// How many members weigh something where nothing is written: 0 to 3.
     pub const FIRST_MEMBERS: u32 = 4;
 
+    /// The least weight.
     pub const WEIGHT_MIN: u32 = 0;
 
+    /// The greatest weight.
     pub const WEIGHT_MAX: u32 = 1000000;
 
+    /// The margin where it is blank.
     pub const MARGIN: u32 = 3;
 
+    /// The least margin.
     pub const MARGIN_MIN: u32 = 3;
 
+    /// The greatest margin.
     pub const MARGIN_MAX: u32 = 5;
 
-    // The sheet with nothing written, and no rights.
+    /// The sheet with nothing written, and no rights.
     pub fn blank() -> Sheet
         ensures { result ≡ blank_sheet }
     {
@@ -134,7 +156,7 @@ fn weights(sheet: &[Setting; 16]) -> [Weight; 16]
     std::array::from_fn(|i| weight_at(sheet, Member(i as u32)))
 }
 
-// The filled settings of a sheet.
+/// The settings that a sheet is filled to: each blank by its default.
 #[tactic(auto, unfolding(crate::specs::Sheets::filled))]
 pub fn fill(s: Sheet) -> Settings
     ensures { result ≡ filled s }
@@ -164,7 +186,7 @@ fn has_outside(weights: &[Weight; 16]) -> bool
     (0..16usize).any(|i| is_outside(weights[i].0, Sheet::WEIGHT_MIN, Sheet::WEIGHT_MAX))
 }
 
-// Check 2: is a setting out of range?
+/// Check 2: is a setting out of range?
 #[tactic(auto, unfolding(crate::specs::Ranges::out_of_range))]
 pub fn is_out_of_range(s: Settings) -> bool
     ensures { result ≡ out_of_range s }
@@ -188,7 +210,7 @@ fn has_weight(weights: &[Weight; 16]) -> bool
     (0..16usize).any(|i| 0 < weights[i].0)
 }
 
-// Check 3: is no starting weight positive?
+/// Check 3: is no starting weight positive?
 #[tactic(auto, unfolding(crate::specs::Ranges::weightless))]
 pub fn is_weightless(s: Settings) -> bool
     ensures { result ≡ weightless s }

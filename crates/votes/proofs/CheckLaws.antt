@@ -1,17 +1,18 @@
 -- The checks of a commit, one by one, and what they let pass.
 use mathlib.Core.Path.{◌≡◌, refl, sym, ap, ◌∙◌}
-use mathlib.Core.Bool.{Bool, true, false, not, cond, ◌||◌}
+use mathlib.Core.Bool.{Bool, true, false, not, cond}
 use mathlib.Core.List.{List, [], ◌∷◌}
 use mathlib.Core.Logic.{◌≢◌}
 use mathlib.Core.Option.{none, some}
 use Prim.Native.Nat.{ℕ, suc, ◌-◌, ◌%◌, ◌<◌, ◌≤◌}
+use native.Mathlib.Decide.{dec_lt}
 use native.Mathlib.Omega.{arith}
 use lib.Dec.{eqb, ltb}
 use lib.ListN.{get_or}
-use borrow.Author.Tests.{eq-eqb, ne_eqb, eqb-false, le-leb, lt-leb, leb-false, lt-ltb, le-ltb}
+use borrow.Author.Tests.{eqb-false, leb-false, lt-ltb, le-ltb}
 use Rattle.base.proofs.Bools.{neither}
 use Rattle.base.specs.Checks.{refusal}
-use Rattle.base.proofs.CheckLaws.{refuses, passes, passes-all, cleared}
+use Rattle.base.proofs.CheckLaws.{refuses, passes, passes-all, cleared, first-refuses, first_passes, numbered}
 use Rattle.base.specs.Sets.{is_in}
 use Rattle.agreement.specs.Rules.{Chain, last}
 use Rattle.agreement.specs.Weights.{total}
@@ -20,16 +21,19 @@ use Rattle.terms.specs.Proposals.{Content}
 use Rattle.store.specs.Table.{held_set, content_at}
 use Rattle.terms.specs.Ranges.{weight_in}
 use Rattle.committee.specs.Chain.{chain_of}
-use Rattle.committee.specs.Committees.{known_by, bound_of}
+use Rattle.committee.specs.Committees.{bound_of}
 use Rattle.running.specs.BlockChanges.{last_round}
 use Rattle.running.proofs.ChainLaws.{last-chain, last-from}
-use Rattle.rules.specs.Tests.{unknown}
-use Rattle.rules.proofs.TestLaws.{unknown_not}
+use Rattle.refusals.specs.declared.Refusal.{Refusal}
+use Rattle.refusals.specs.Refusals.{number_of}
+use Rattle.refusals.proofs.RefusalLaws.{some-number}
+use Rattle.rules.specs.Calls as rules
 use Rattle.state.specs.declared.State.{State}
 use Rattle.state.specs.View.{view}
 use Rattle.state.specs.Formed.{Formed}
 use Rattle.votes.specs.Votes.{votes_for}
 use Rattle.votes.specs.Checks.{time_checks, vote_checks, committee_on, leaders_for}
+use Rattle.votes.specs.Ready.{AnchorReady}
 use Rattle.votes.proofs.AnchorLaws.{leader_on, anchor-on, unvoted-on, leaders-on}
 use Rattle.terms.specs.declared.sheet.Weight.{Weight}
 
@@ -47,7 +51,15 @@ module _ (s : State) (t : List ℕ) where
   pub last_told : last chain ≡ m
   last_told = last-chain s.settings.ceiling.0 t s.blocks
 
-  -- what they let pass
+  -- the checks of a commit are those of time, and then those of the votes
+  pub refused_in_time : (e : Refusal) → number_of e ≡ refusal (time_checks s t) → refusal (rules.checks s.settings s.own.0 (view s t) rules.commit) ≡ number_of e
+  refused_in_time e h = first-refuses (time_checks s t) (vote_checks s t) (omega (arith, some-number e)) ∙ sym h
+
+  pub refused_by_votes : refusal (time_checks s t) ≡ 0 → refusal (rules.checks s.settings s.own.0 (view s t) rules.commit) ≡ refusal (vote_checks s t)
+  unfolding numbered
+  refused_by_votes = first_passes (time_checks s t) (vote_checks s t) refl
+
+  -- what those of time let pass
   pub record Timely : Type 0 where
     pub odd : r % 2 ≢ 0
     pub from : 1 < r
@@ -108,3 +120,22 @@ module _ (s : State) (t : List ℕ) where
         go : (b : Bool) → is_in (held_set t (r - 1)) a ≡ b → b ≡ true
         go true h = refl
         go false h = absurd (omega (arith, anchor-none h))
+
+-- the checks of the votes, by the leaders and the committee at hand
+pub votes_told : {s : State} {t l : List ℕ} {w : List Weight} → AnchorReady s t l w
+    → refusal (vote_checks s t) ≡ cond (is_in (held_set t (s.round.0 - 1)) (get_or l (s.round.0 - 1) 0)) (cond (ltb (bound_of s.settings.margin (total 16 (weight_in w))) (votes_for t w s.round.0 (get_or l (s.round.0 - 1) 0))) 0 22) 21
+votes_told {s} {t} {l} {w} p = rw (led_on s t p.formed p.from l p.leaders p.above, p.committee) (go (is_in (held_set t (s.round.0 - 1)) (leader_on s t (s.round.0 - 1))) refl)
+  where
+    v : ℕ
+    v = votes_for t (committee_on s t s.round.0) s.round.0 (leader_on s t (s.round.0 - 1))
+
+    b : ℕ
+    b = bound_of s.settings.margin (total 16 (weight_in (committee_on s t s.round.0)))
+
+    go : (h : Bool) → is_in (held_set t (s.round.0 - 1)) (leader_on s t (s.round.0 - 1)) ≡ h → refusal (vote_checks s t) ≡ cond h (cond (ltb b v) 0 22) 21
+    go false h = sym (anchor-none s t p.formed p.from h)
+    go true h = by (dec_lt b v)
+      where
+        by : Dec (b < v) → refusal (vote_checks s t) ≡ cond (ltb b v) 0 22
+        by (yes k) = rw (lt-ltb b v k) (sym (votes-enough s t p.formed p.from h k))
+        by (no k) = rw (le-ltb b v (omega arith)) (sym (votes-few s t p.formed p.from h (omega arith)))

@@ -9,7 +9,7 @@ use borrow.Author.Tests.{le-leb}
 use Rattle.terms.specs.Proposals.{Content}
 use Rattle.state.specs.declared.State.{State}
 use Rattle.reads.specs.Reads.{certificate_refusal}
-use Rattle.engine.specs.Calls.{certificate, aside}
+use Rattle.engine.specs.Calls.{certificate, aside, commit}
 use Rattle.engine.specs.Engine.{Engine, refusal_for}
 use Rattle.words.specs.Lengths.{held_length}
 use Rattle.words.specs.States.{state_reads, state_in}
@@ -20,7 +20,7 @@ use Rattle.base.specs.Options.{if_there}
 use Rattle.engine.specs.Sequences.{AllInRange}
 use Rattle.submissions.specs.Submissions.{Submission, calls_of}
 use Rattle.submissions.specs.Requests.{Request, submission_of, InRangeThen, after_requests}
-use Rattle.kept.specs.Kept.{calls_asked, AskedInRange}
+use Rattle.kept.specs.Kept.{calls_asked, AskedInRange, StoredThen}
 use Rattle.kept.proofs.KeptLaws.{stored_held_then, stored_shown_then}
 use Rattle.balance.proofs.BalanceLaws.{weights_add_up}
 use Rattle.pivotal.proofs.PivotLaws.{commits_hang_on_pivots}
@@ -28,7 +28,9 @@ use Rattle.library.specs.Calls.{LibraryCall, request_in}
 use Rattle.library.specs.Lists.{engine_of, requests_in, Opening, engine_opened, AllTyped}
 use Rattle.library.proofs.ListLaws.{words_give_engines}
 use Rattle.library.proofs.ReachLaws.{words_reach, engine-opening, RequestInRange, in_join, request_in_range}
-use Rattle.wordclaims.specs.Claims.{left_after, StoredPassesOn, WeightsAddUpOverWords, CommitsHangOverWords}
+use Rattle.wordclaims.specs.Claims.{left_after, PassesOn}
+use Rattle.balance.specs.Balance.{AddsUp}
+use Rattle.pivotal.specs.Pivotal.{HangsOnPivots}
 
 -- what can be read has values of its types
 asked_in_range : (x : Opening) (l : List LibraryCall) → AllTyped l → AskedInRange (engine_opened x) (requests_in l)
@@ -48,10 +50,12 @@ asked_in_range x (c ∷ l) i = go (request_in c) (request_in_range (after_reques
     go none p h = h
     go (some q) p h = in_join (if_there (submission_of e q) [] (calls_of e)) (calls_asked (engine_opened x) (requests_in l)) (calls (submission_of e q) p) h
 
-pub weights_add_up_over_words : WeightsAddUpOverWords
+-- weights add up in all words
+pub weights_add_up_over_words : (x : Opening) (l : List LibraryCall) → AllTyped l → AddsUp (engine_of (left_after x l))
 weights_add_up_over_words x l i = weights_add_up (engine_of (left_after x l)) (words_reach x l i)
 
-pub commits_hang_over_words : CommitsHangOverWords
+-- and where a commit would be accepted, it hangs on its pivots
+pub commits_hang_over_words : (x : Opening) (l : List LibraryCall) → AllTyped l → refusal_for (engine_of (left_after x l)) commit ≡ 0 → HangsOnPivots (engine_of (left_after x l))
 commits_hang_over_words x l i = commits_hang_on_pivots (engine_of (left_after x l)) (words_reach x l i)
 
 -- the engine refuses the read as its checks do
@@ -65,7 +69,8 @@ read-accepted : (w t o : List ℕ) (p : Content) (d : ℕ) → state_reads w ≡
 unfolding result_of
 read-accepted w t o p d r m s = rw (r, le-leb held_length (length o) m) (read-refusal (state_in w) t p.author p.round ∙ s.accepted)
 
-pub stored_passes_on : StoredPassesOn
+-- what an accepted certify or accept took, alone, for a guest or in a batch, can be passed on ever after with the endorsers that it was taken with, until the next accepted open
+pub stored_passes_on : (x : Opening) (l : List LibraryCall) → AllTyped l → (p : Content) (d : ℕ) → StoredThen (engine_opened x) (requests_in l) p d → (o : List ℕ) → held_length ≤ length o → PassesOn (left_after x l) p d o
 stored_passes_on x l i p d k o m =
     let v = left_after x l in
     let g = words_give_engines x l i in

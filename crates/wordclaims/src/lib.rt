@@ -15,7 +15,7 @@ ghost use Rattle.library.specs.Calls.{LibraryCall};
 ghost use Rattle.library.specs.Lists.{engine_of, requests_in, Opening, engine_opened, AllTyped};
 ghost use Rattle.wordclaims.specs.Claims.{left_after, PassesOn};
 
-/// What an accepted certify or accept took, alone, for a guest or in a batch, can be passed on with the endorsers that it was taken with.
+/// What an accepted certify or accept took, alone, for a guest or in a batch, can be passed on ever after with the endorsers that it was taken with, until the next accepted open.
 pub fn stored_passes_on()
     ensures { (x : Opening) (l : List LibraryCall) → AllTyped l → (p : Content) (d : ℕ) → StoredThen (engine_opened x) (requests_in l) p d → (o : List ℕ) → held_length ≤ length o → PassesOn (left_after x l) p d o }
 {}

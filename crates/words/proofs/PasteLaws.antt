@@ -5,7 +5,7 @@ use Prim.Native.Nat.{ℕ, ◌+◌, ◌<◌, ◌≤◌}
 use native.Mathlib.Omega.{arith}
 use lib.ListN.{length, get_or, take, drop}
 use lib.Seq.{paste, take_all, take-append-add, take-paste, drop-paste, drop-drop}
-use Rattle.base.proofs.FoldLaws.{length-tab, get_d_tab}
+use Rattle.base.proofs.FoldLaws.{length-tab, get_d_tab, tab_get}
 use Rattle.terms.specs.declared.sheet.Weight.{Weight}
 use Rattle.terms.specs.Ranges.{weight_in}
 use Rattle.words.specs.Words.{word, sixteen, weight_words}
@@ -18,13 +18,13 @@ pub in_sixteen : (x : List ℕ) (i : ℕ) → i < 16 → get_or (sixteen x) i 0 
 unfolding sixteen
 in_sixteen x i h = get_d_tab (word x) 16 i 0 h
 
+pub sixteen_all : (x : List ℕ) → length x ≡ 16 → sixteen x ≡ x
+unfolding sixteen
+sixteen_all x h = sym (tab_get x 16 0 h)
+
 pub length-weights : (x : List Weight) → length (weight_words x) ≡ 16
 unfolding weight_words
 length-weights x = length-tab (weight_in x) 16
-
-pub in_weights : (x : List Weight) (i : ℕ) → i < 16 → get_or (weight_words x) i 0 ≡ weight_in x i
-unfolding weight_words
-in_weights x i h = get_d_tab (weight_in x) 16 i 0 h
 
 -- x of n words from b on, and then y of m words behind it, are the two at once
 pub paste-append : (t : List ℕ) (b : ℕ) (x y : List ℕ) (n m : ℕ) → length x ≡ n → b + n ≤ length t → paste (paste t b x n) (b + n) y m ≡ paste t b (x ++ y) (n + m)

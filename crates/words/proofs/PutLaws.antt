@@ -19,26 +19,26 @@ use Rattle.words.specs.Proposals.{held_words}
 use Rattle.words.specs.Effects.{effect_words}
 use Rattle.words.specs.States.{state_words}
 
-pub held-put : (p : Proposal) (d k : ℕ) (t : List ℕ) → held_length ≤ length t
+pub held_put : (p : Proposal) (d k : ℕ) (t : List ℕ) → held_length ≤ length t
     → paste (paste (paste t 0 (p.author.0 ∷ p.round.0 ∷ []) 2) 2 (body_words p.body) body_length) proposal_length (d ∷ k ∷ []) 2 ≡ paste t 0 (held_words p d k) held_length
 unfolding held_words
-held-put p d k t h =
+held_put p d k t h =
     let head = p.author.0 ∷ p.round.0 ∷ [] in
     let l = length-body p.body in
     ap (λ (z : List ℕ). paste z proposal_length (d ∷ k ∷ []) 2) (paste-append t 0 head (body_words p.body) 2 body_length refl (omega arith))
     ∙ paste-append t 0 (head ++ body_words p.body) (d ∷ k ∷ []) proposal_length 2 (length-append head (body_words p.body) ∙ ap (λ (z : ℕ). 2 + z) l) (omega arith)
 
-pub effect-put : (x : Effect) (t : List ℕ) → effect_length ≤ length t
+pub effect_put : (x : Effect) (t : List ℕ) → effect_length ≤ length t
     → paste (paste (paste t 0 (sixteen x.before) 16) 16 (sixteen x.after) 16) 32 (x.largest ∷ []) 1 ≡ paste t 0 (effect_words x) effect_length
 unfolding effect_words
-effect-put x t h =
+effect_put x t h =
     let b = sixteen x.before in
     let a = sixteen x.after in
     ap (λ (z : List ℕ). paste z 32 (x.largest ∷ []) 1) (paste-append t 0 b a 16 16 (length-sixteen x.before) (omega arith))
     ∙ paste-append t 0 (b ++ a) (x.largest ∷ []) 32 1 (length-append b a ∙ ap₂ (λ (y z : ℕ). y + z) (length-sixteen x.before) (length-sixteen x.after)) (omega arith)
 
 -- the pieces of a state's words, one after the other
-pub state-put : (s : State) (t : List ℕ) → state_length ≤ length t
+pub state_put : (s : State) (t : List ℕ) → state_length ≤ length t
     → paste
     (paste
     (paste
@@ -54,7 +54,7 @@ pub state-put : (s : State) (t : List ℕ) → state_length ≤ length t
     2
     ≡ paste t 0 (state_words s) state_length
 unfolding state_words
-state-put s t h =
+state_put s t h =
     let head = s.own.0 ∷ s.settings.lookback ∷ s.settings.ceiling.0 ∷ s.settings.allowance ∷ [] in
     let middle = s.round.0 ∷ cond (is_proposing s) 1 0 ∷ s.blocks ∷ [] in
     let w = weight_words s.settings.weights in

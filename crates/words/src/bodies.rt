@@ -54,14 +54,20 @@ fn slot_in(w: &[u32], at: usize, k: u32) -> Transaction
 }
 
 // The four slots of the body from `at` on.
+#[tactic(auto, unfolding(base::specs::Folds::tab))]
 fn slots_in(w: &[u32], at: usize) -> [Transaction; 4]
     requires { at + body_length ≤ length w.now }
     ensures { result ≡ slots_in w.now at }
 {
-    std::array::from_fn(|k| slot_in(w, at, k as u32))
+    [
+        slot_in(w, at, 0),
+        slot_in(w, at, 1),
+        slot_in(w, at, 2),
+        slot_in(w, at, 3),
+    ]
 }
 
-/// The body from `at` on.
+/// The body from `at` on, whose fourteen words must be there; `None` where the previous set is beyond sixteen bits, or where three words within the count are no transaction.
 #[tactic(auto, unfolding(crate::specs::Bodies::body_reads, crate::specs::Bodies::body_in))]
 pub fn body_at(w: &[u32], at: usize) -> Option<Body>
     requires { at + body_length ≤ length w.now }
@@ -77,7 +83,7 @@ pub fn body_at(w: &[u32], at: usize) -> Option<Body>
     })
 }
 
-/// A body by itself.
+/// A body by itself: words beyond the fourteen are not looked at, fewer are none.
 #[tactic(auto, unfolding(crate::specs::Bodies::lone_body_reads))]
 pub fn body(w: &[u32]) -> Option<Body>
     ensures { Given (lone_body_reads w.now) (body_in w.now 0) result }
@@ -88,7 +94,7 @@ pub fn body(w: &[u32]) -> Option<Body>
     body_at(w, 0)
 }
 
-/// A transaction by itself.
+/// A transaction by itself, three words: kind 0 bond, 1 unbond, 2 entry; number; amount. `None` where there are fewer, the kind is another, or one that is no bond has an amount.
 #[tactic(auto, unfolding(crate::specs::Bodies::lone_triple_reads, crate::specs::Bodies::triple_in))]
 pub fn transaction(w: &[u32]) -> Option<Transaction>
     ensures { Given (lone_triple_reads w.now) (triple_in w.now) result }
@@ -112,24 +118,28 @@ fn used_at(b: Body, k: u32) -> Transaction
     }
 }
 
-// Puts a transaction from `at` on.
-fn put_triple(w: &mut [u32], at: usize, x: Transaction)
-    requires { at + transaction_length ≤ length w.old }
-    ensures { w.new ≡ paste w.old at (triple_words x) transaction_length }
-{
-    let words = [terms::kind(x), terms::number(x), terms::amount(x)];
-    crate::bodies::stretch::put(w, at, &words);
-}
-
-// Puts a body from `at` on.
+/// Puts a body from `at` on, fourteen words: what lies beyond its count is put as zeros.
+#[tactic(auto, unfolding(crate::specs::Bodies::body_words, crate::specs::Bodies::used_words))]
 pub fn put_body(w: &mut [u32], at: usize, b: Body)
     requires { at + body_length ≤ length w.old }
     ensures { w.new ≡ paste w.old at (body_words b) body_length }
 {
-    let head = [b.previous as u32, b.count];
-    crate::bodies::stretch::put(w, at, &head);
-    for k in 0..4u32 {
-        let x = used_at(b, k);
-        put_triple(w, at + 2 + k as usize * TRANSACTION, x);
-    }
+    let x = [used_at(b, 0), used_at(b, 1), used_at(b, 2), used_at(b, 3)];
+    let words = [
+        b.previous as u32,
+        b.count,
+        terms::kind(x[0]),
+        terms::number(x[0]),
+        terms::amount(x[0]),
+        terms::kind(x[1]),
+        terms::number(x[1]),
+        terms::amount(x[1]),
+        terms::kind(x[2]),
+        terms::number(x[2]),
+        terms::amount(x[2]),
+        terms::kind(x[3]),
+        terms::number(x[3]),
+        terms::amount(x[3]),
+    ];
+    stretch::put(w, at, &words);
 }

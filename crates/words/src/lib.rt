@@ -17,35 +17,31 @@ ghost use Rattle.words.specs.Effects.{effect_words};
 use committee::effects::Effect;
 use terms::sheet::Weight;
 
-// Puts sixteen weights from `at` on, a word each.
+/// Puts sixteen weights from `at` on, a word each: each must fit 32 bits.
 pub fn put_weights(w: &mut [u32], at: usize, x: [Weight; 16])
     requires { (at + 16 ≤ length w.old) × Narrow x }
     ensures { w.new ≡ paste w.old at (weight_words x) 16 }
 {
-    for i in 0..16usize {
-        w[at + i] = x[i].0 as u32;
-    }
+    let words: [u32; 16] = std::array::from_fn(|i| x[i].0 as u32);
+    bodies::stretch::put(w, at, &words);
 }
 
 // Puts sixteen shares from `at` on.
+#[tactic(auto, using(crate::proofs::PasteLaws::sixteen_all, std::proofs::lemmas::Grind::common_steps))]
 fn put_shares(w: &mut [u32], at: usize, x: [u32; 16])
     requires { at + 16 ≤ length w.old }
     ensures { w.new ≡ paste w.old at (sixteen x) 16 }
 {
-    for i in 0..16usize {
-        w[at + i] = x[i];
-    }
+    w[at..at + 16].copy_from_slice(&x);
 }
 
-// Puts a bond's effect.
+/// Puts a bond's effect, thirty-three words: sixteen shares before, sixteen after, the largest difference.
+#[tactic(auto, using(crate::proofs::PutLaws::effect_put))]
 pub fn put_effect(w: &mut [u32], x: Effect)
     requires { effect_length ≤ length w.old }
     ensures { w.new ≡ paste w.old 0 (effect_words x) effect_length }
 {
-    let before = x.before;
-    let after = x.after;
-    let last = [x.largest];
-    put_shares(w, 0, before);
-    put_shares(w, 16, after);
-    bodies::stretch::put(w, 32, &last);
+    put_shares(w, 0, x.before);
+    put_shares(w, 16, x.after);
+    bodies::stretch::put(w, 32, &[x.largest]);
 }

@@ -1,4 +1,5 @@
 // A sheet as words: read.
+
 ghost use Rattle.std.specs.Prelude.{◌≡◌, ◌+◌, ◌*◌, ◌<◌, ◌≤◌, length, leb};
 ghost use Rattle.base.specs.Folds.{all_to, tab};
 ghost use Rattle.words.specs.Lengths.{sheet_length};
@@ -39,7 +40,7 @@ fn weights_in(w: &[u32]) -> [Setting; 16]
     std::array::from_fn(|i| setting_in(w, 3 + i))
 }
 
-/// A sheet, with the rights beside it.
+/// A sheet, forty words, with the rights beside it: two words for each setting, 0 for blank or 1 for written, then its value. `None` where there are fewer, or a first word is another.
 #[tactic(auto, unfolding(crate::specs::Sheets::sheet_reads, crate::specs::Sheets::sheet_in))]
 pub fn sheet(w: &[u32], rights: Rights) -> Option<Sheet>
     ensures { Given (sheet_reads w.now) (sheet_in w.now rights) result }

@@ -1,4 +1,5 @@
 // A member's state as words: read, and put.
+
 ghost use Rattle.std.specs.Prelude.{◌≡◌, cond, ◌≤◌, length};
 ghost use Rattle.std.proofs.Math.Seq.{paste};
 ghost use Rattle.words.specs.Lengths.{state_length};
@@ -36,18 +37,18 @@ fn settings_in(w: &[u32]) -> Settings
     }
 }
 
-/// A state.
+/// A state, thirty-nine words. `None` where there are fewer, where word 21 is neither 0 nor 1, or where it says that there is a proposal and the body means none; without a proposal the body's words are not looked at.
 #[tactic(auto, unfolding(crate::specs::States::state_reads, crate::specs::States::state_in, crate::specs::States::own_proposal_in))]
 pub fn state(w: &[u32]) -> Option<State>
     ensures { Given (state_reads w.now) (state_in w.now) result }
 {
-    if w.len() < STATE || 1 < w[21] {
+    if w.len() < STATE {
         return None;
     }
-    let proposal = if w[21] == 0 {
-        None
-    } else {
-        Some(bodies::body_at(w, 23)?)
+    let proposal = match w[21] {
+        0 => None,
+        1 => Some(bodies::body_at(w, 23)?),
+        _ => return None,
     };
     Some(State {
         own: Member(w[0]),
@@ -70,28 +71,24 @@ fn own_body(s: State) -> Body
 fn flag(p: bool) -> u32
     ensures { result ≡ cond p 1 0 }
 {
-    if p { 1 } else { 0 }
+    p as u32
 }
 
-// Puts a state.
+/// Puts a state, thirty-nine words, the body's as zeros where there is no proposal: each weight must fit 32 bits.
 pub fn put_state(w: &mut [u32], s: State)
     requires { (state_length ≤ length w.old) × Narrow s.settings.weights }
     ensures { w.new ≡ paste w.old 0 (state_words s) state_length }
 {
     let settings = s.settings;
-    let weights = settings.weights;
-    let b = own_body(s);
     let head = [
         s.own.0,
         settings.lookback,
         settings.ceiling.0,
         settings.allowance,
     ];
-    let middle = [s.round.0, flag(s.proposal.is_some()), s.blocks];
-    let last = [settings.margin, s.rights.0];
     bodies::stretch::put(w, 0, &head);
-    crate::put_weights(w, 4, weights);
-    bodies::stretch::put(w, 20, &middle);
-    bodies::put_body(w, 23, b);
-    bodies::stretch::put(w, 37, &last);
+    crate::put_weights(w, 4, settings.weights);
+    bodies::stretch::put(w, 20, &[s.round.0, flag(s.proposal.is_some()), s.blocks]);
+    bodies::put_body(w, 23, own_body(s));
+    bodies::stretch::put(w, 37, &[settings.margin, s.rights.0]);
 }

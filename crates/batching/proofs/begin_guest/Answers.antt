@@ -14,7 +14,7 @@ returns-then-is_err c = let n = c.check-checked in
     record {
       refusal = rw (← n.ensures, ne_eqb (refusal_in n.result) 0 h) refl;
       turns = rw (ne_eqb (refusal_in n.result) 0 h) refl;
-      stage = c.fresh-progress.ensures.0;
+      stage = c.fresh.ensures.0;
       state = λ z. absurd (h z);
       few = λ z. absurd (h z);
       ready = λ z. absurd (omega arith);

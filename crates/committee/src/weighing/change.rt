@@ -1,4 +1,4 @@
-// What transactions do to the weights of a committee. Sums and products and no branches: kinds come in any order.
+//! What transactions do to the weights of a committee. Sums and products and no branches: kinds come in any order.
 ghost use Rattle.std.specs.Prelude.{◌≡◌, cond, ◌*◌, ◌≤◌};
 ghost use Rattle.terms.specs.Transactions.{read_transaction};
 ghost use Rattle.committee.specs.Changes.{change};
@@ -8,19 +8,11 @@ ghost use Rattle.committee.specs.Totals.{total_in};
 use terms::sheet::Weight;
 
 // The effect of three words on a weight: 0 a bond's, 1 an unbond's, 2 none.
+#[tactic(auto, unfolding(crate::specs::WeightEffects::effect_of))]
 fn effect(there: bool, kind: u32, number: u32) -> u32
     ensures { result ≡ effect_of there kind number }
 {
-    if !there {
-        return 2;
-    }
-    if 15 < number {
-        return 2;
-    }
-    if 2 < kind {
-        return 2;
-    }
-    kind
+    if there && number < 16 { kind.min(2) } else { 2 }
 }
 
 // All of x, or nothing.
@@ -41,7 +33,10 @@ fn weight_after(e: u32, amount: u32, x: Weight) -> Weight
     Weight(kept.0 + added.0)
 }
 
-// The transaction that three words tell, applied to the weights, if it is there.
+/// Applies to the weights the transaction that three words tell, if it is there: a bond adds its amount, an unbond leaves 0, an entry changes nothing.
+///
+/// A number above 15 is no member's and changes nothing either. The weights are light enough for no sum to overflow.
+#[tactic(auto, using(crate::proofs::EffectLaws::effect_changes))]
 pub fn apply(w: &mut [Weight; 16], there: bool, kind: u32, number: u32, amount: u32)
     requires { total_in w.old ≤ 4611686018427387904 }
     ensures { w.new ≡ cond there (change (read_transaction kind number amount) w.old) w.old }

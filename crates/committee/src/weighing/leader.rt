@@ -1,4 +1,4 @@
-// The leader of a round.
+//! The leader of a round.
 ghost use Rattle.std.specs.Prelude.{◌≡◌, ◌<◌};
 ghost use Rattle.base.specs.Sets.{is_in};
 ghost use Rattle.terms.specs.Ranges.{weight_in};
@@ -32,13 +32,15 @@ fn member_set(w: &[Weight; 16]) -> u32
 }
 
 // How many are in the set.
+#[tactic(auto, using(crate::proofs::HalfLaws::set_ones))]
 fn size(set: u32) -> u32
     ensures { result ≡ count_below (is_in set) 16 }
 {
     u32::count_ones(set % 65536)
 }
 
-// The member at position k of the set, counted from 0 by rising number; 16 for none. The upper half uses the same table as the lower one.
+/// The member at position k of the set, counted from 0 by rising number; 16 for none. The upper half uses the same table as the lower one.
+#[tactic(auto, using(crate::proofs::HalfLaws::at_low, crate::proofs::HalfLaws::at_high, crate::proofs::HalfLaws::at_beyond))]
 pub fn member_at(places: &[u8; 2048], set: u32, k: u32) -> Member
     requires { places.now ≡ place_table }
     ensures { result.0 ≡ leader_number (member_at (is_in set) k) }
@@ -46,29 +48,30 @@ pub fn member_at(places: &[u8; 2048], set: u32, k: u32) -> Member
     let low = set % 256;
     let n = u32::count_ones(low);
     if k < n {
-        return Member(positions::member_in(places, low, k));
+        Member(positions::member_in(places, low, k))
+    } else if k < n + 8 {
+        Member(8 + positions::member_in(places, set / 256 % 256, k - n))
+    } else {
+        Member(16)
     }
-    if n + 8 <= k {
-        return Member(16);
-    }
-    Member(8 + positions::member_in(places, set / 256 % 256, k - n))
 }
 
-// The leader of round r, 16 for none.
+/// The leader of round r in the committee w, 16 for none: the member at position (r / 2) mod their count, counted from 0 by rising number.
+///
+/// Round 0, an odd round and an empty committee have none. What the members weigh does not matter. It reads the table of places.
+#[tactic(auto, using(crate::proofs::LeaderLaws::leader_cases))]
 pub fn leader(places: &[u8; 2048], w: &[Weight; 16], r: Round) -> Member
     requires { places.now ≡ place_table }
     ensures { result.0 ≡ leader_number (leader_of (weight_in w.now) r.0) }
 {
-    if r.0 % 2 != 0 {
-        return Member(16);
-    }
-    if r.0 < 2 {
+    if r.0 % 2 != 0 || r.0 < 2 {
         return Member(16);
     }
     let set = member_set(w);
     let n = size(set);
     if n == 0 {
-        return Member(16);
+        Member(16)
+    } else {
+        member_at(places, set, r.0 / 2 % n)
     }
-    member_at(places, set, r.0 / 2 % n)
 }

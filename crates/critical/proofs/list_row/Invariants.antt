@@ -1,13 +1,7 @@
-use mathlib.Core.Path.{◌≡◌, refl, sym, ap, ◌∙◌, subst}
-use mathlib.Core.List.{List}
-use Prim.Native.Nat.{ℕ, ◌-◌, ◌*◌}
-use native.Mathlib.Omega.{arith}
-use lib.ListN.{length}
+use Rattle.std.proofs.Common.{◌≡◌, List, ℕ, ◌*◌}
 use Rattle.state.specs.declared.State.{State}
-use Rattle.base.proofs.PutLaws.{Putting, puts_then, puts_none, puts_as}
+use Rattle.base.proofs.PutLaws.{Putting}
 use Rattle.critical.specs.Critical.{place_words, critical_in}
-use Rattle.critical.specs.Answers.{Weighs}
-use Rattle.critical.proofs.PlaceLaws.{row-none, row_more}
 use Rattle.critical.proofs.list_row.Given as goal
 
 -- the members before i are listed, and the table is as it was

@@ -1,5 +1,6 @@
 // What the certificates of a block do to a committee: rounds rise, and within a round numbers rise from that of a member on, with 0 after 15.
 // The place of member m and round r is number 16 r + m.
+
 ghost use Rattle.std.specs.Prelude.{◌≡◌, cond, ◌+◌, ◌*◌, ◌/◌, ◌%◌, leb};
 ghost use Rattle.store.specs.Table.{content_at};
 ghost use Rattle.committee.specs.Changes.{changes};
@@ -12,6 +13,7 @@ use terms::sheet::Weight;
 use terms::{Member, Round};
 
 // Slot k of a record that has n transactions.
+#[tactic(auto, using(crate::proofs::BlockChangeLaws::slot_words))]
 fn apply_slot(t: &[u32], m: Member, r: Round, n: u32, k: u32, w: &mut [Weight; 16])
     requires { SlotReady t.now m.0 r.0 n k w.old }
     ensures { w.new ≡ slot_change t.now m.0 r.0 k w.old }
@@ -23,6 +25,7 @@ fn apply_slot(t: &[u32], m: Member, r: Round, n: u32, k: u32, w: &mut [Weight; 1
 }
 
 // The transactions of a record, in order. All four slots are looked at, however many there are.
+#[tactic(auto, using(base::proofs::FoldLaws::fold_to_none, base::proofs::FoldLaws::fold_more, crate::proofs::BlockChangeLaws::record_slots, crate::proofs::BlockChangeLaws::record_empty, crate::proofs::BoundLaws::slots_total))]
 fn apply_record(t: &[u32], m: Member, r: Round, w: &mut [Weight; 16])
     requires { RecordReady t.now m.0 r.0 w.old }
     ensures { w.new ≡ changes (content_at t.now m.0 r.0).transactions w.old }
@@ -31,23 +34,24 @@ fn apply_record(t: &[u32], m: Member, r: Round, w: &mut [Weight; 16])
     if n == 0 {
         return;
     }
-    for k in 0..4u32 {
+    for k in 0..4 {
         apply_slot(t, m, r, n, k, w);
     }
 }
 
 // A place that comes while a run goes on: it counts from y on.
+#[tactic(auto, unfolding(crate::specs::BlockChanges::record_change))]
 fn apply_from(t: &[u32], y: u32, p: u32, w: &mut [Weight; 16])
     requires { RecordReady t.now (p % 16) (p / 16) w.old }
     ensures { w.new ≡ cond (leb y p) (record_change t.now p w.old) w.old }
 {
-    if p < y {
-        return;
+    if y <= p {
+        apply_record(t, Member(p % 16), Round(p / 16), w);
     }
-    apply_record(t, Member(p % 16), Round(p / 16), w);
 }
 
 // The places of a row from p on, one after the other: those below z and not below y. Gives the first one from z on.
+#[tactic(auto, using(crate::proofs::RunLaws::run_stop, crate::proofs::RunLaws::end_stop))]
 fn apply_run(t: &[u32], next: &[u32], y: u32, z: u32, p: u32, w: &mut [Weight; 16]) -> u32
     requires { RunReady t.now next.now z w.old }
     ensures { (w.new ≡ run_over (record_change t.now) next.now y z 16 p w.old) × (result ≡ run_end next.now z 16 p) }
@@ -64,6 +68,7 @@ fn apply_run(t: &[u32], next: &[u32], y: u32, z: u32, p: u32, w: &mut [Weight; 1
 }
 
 // The places of the row of place p: from member a on, then those below it. Gives the first one after the row.
+#[tactic(auto, using(crate::proofs::BoundLaws::run_total), unfolding(crate::specs::LinkRuns::row_over))]
 fn apply_row(t: &[u32], next: &[u32], a: Member, p: u32, w: &mut [Weight; 16]) -> u32
     requires { RowReady t.now next.now a.0 (p / 16) w.old }
     ensures { (w.new ≡ row_over (record_change t.now) next.now a.0 p w.old) × (result ≡ run_end next.now (p / 16 * 16 + 16) 16 p) }
@@ -74,7 +79,9 @@ fn apply_row(t: &[u32], next: &[u32], a: Member, p: u32, w: &mut [Weight; 16]) -
     after
 }
 
-// Block b, where the ceiling is n and its rows start with member a.
+/// Applies block `b` to the committee `w`, where the ceiling is `n` and its rows start with member `a`, 16 for none.
+/// Blocks count from 1, 511 at most. `head` and `next` link the places of each block.
+#[tactic(auto, using(crate::proofs::BoundLaws::rows_total))]
 pub fn apply_block(
     t: &[u32],
     head: &[u32; 512],

@@ -1,20 +1,20 @@
-// Lengths in words of what a host lends, in one place.
+//! Lengths in words of what a host lends, in one place.
 
-// A state.
+/// A state.
 pub const STATE: usize = 39;
-// A transaction.
+/// A transaction: kind, number, amount.
 pub const TRANSACTION: usize = 3;
-// A body.
+/// A body: previous set, count, four transactions.
 pub const BODY: usize = 14;
-// A proposal.
+/// A proposal: author, round, body.
 pub const PROPOSAL: usize = 16;
-// A certificate.
+/// A certificate: its proposal, then its endorsers.
 pub const CERTIFICATE: usize = 17;
-// A held certificate as it is read.
+/// A held certificate as it is read: the certificate, then the number of its block.
 pub const HELD: usize = 18;
-// A sheet.
+/// A sheet: twenty settings of two words.
 pub const SHEET: usize = 40;
-// A committee.
+/// A committee: sixteen weights.
 pub const COMMITTEE: usize = 16;
-// A bond's effect.
+/// A bond's effect: sixteen shares before, sixteen after, the largest difference.
 pub const EFFECT: usize = 33;

@@ -13,7 +13,7 @@ pub record Left (row : List CertificateRecord) (s : State) (k : ℕ) (w : Progre
   pub table : ran_table row s k w.stage t ≡ ran_table row s turns start.stage t₀
 
 abbrev pub invariant-loop-k : goal.invariant-loop-k
-invariant-loop-k l = Left l.row l.s l.k l.w l.t l.turns l.initial.w l.initial.t
+invariant-loop-k l = Left l.row l.s l.k l.w l.t l.turns l.fn.w l.fn.t
 
 abbrev pub decreases-loop-k : goal.decreases-loop-k
 decreases-loop-k l = l.k

@@ -1,6 +1,5 @@
 use native.Mathlib.Omega.{arith}
 use Rattle.blocks.proofs.SeenLaws.{seen_none}
-use Rattle.blocks.specs.Blocks.{commit_table, commit_count}
 use Rattle.blocks.proofs.making.commit_blocks.Goals as goal
 
 pub add_blocks-requires : goal.add_blocks-requires
@@ -11,9 +10,3 @@ add_blocks-requires c = let p = c.requires in
       listed = omega (arith, p.anchors.listed);
       history = record { row = omega (arith, p.anchors.row); round = p.round; seen = seen_none 1025 _ (omega arith) };
     }
-
-pub returns : goal.returns
-unfolding commit_table commit_count
-returns c = let l = c.take_leaders.ensures in
-    let b = c.add_blocks.ensures in
-    record { count = rw (← l) b.0; table = rw (← l) b.1; leaders = l }

@@ -1,17 +1,12 @@
-use Rattle.blocks.proofs.SeenLaws.{see-is, seen-begin, seen_step, seen_end}
+use Rattle.blocks.proofs.SeenLaws.{see_is, seen_begin, seen_step}
 use mathlib.Core.Path.{refl, sym, ◌∙◌}
 use native.Mathlib.Omega.{arith}
-use Rattle.blocks.proofs.BlockLaws.{history-step}
+use Rattle.blocks.proofs.BlockLaws.{history_step}
 use Rattle.blocks.proofs.marks.mark_history.Goals as goal
 
 pub loop-r-init : goal.loop-r-init
 loop-r-init c = let h = c.requires.0 in
-    record { to = omega arith; size = refl; rest = refl; seen = seen-begin _ _ _ _ h.round h.seen }
-
-pub returns-then-shared-here : goal.returns-then-shared-here
-returns-then-shared-here c = let i = c.loop-r in
-    let z = seen_end c.args.b i.r i.here i.t i.seen (omega arith) i.invariant.seen (λ _. sym c.shared.ensures ∙ c.if-shared-here.true) in
-    (sym z.0 ∙ i.invariant.rest, z.1)
+    record { to = omega arith; size = refl; rest = refl; seen = seen_begin _ _ _ _ h.round h.seen }
 
 pub loop-r-preserved : goal.loop-r-preserved
 loop-r-preserved c = let z = c.loop-r-test.true in
@@ -21,13 +16,8 @@ loop-r-preserved c = let z = c.loop-r-test.true in
     record {
       to = omega arith;
       size = m.auto.t ∙ i.invariant.size;
-      rest = rw (d, m.ensures) (sym (history-step c.args.b i.r i.here i.t (omega arith)) ∙ i.invariant.rest);
+      rest = rw (d, m.ensures) (sym (history_step c.args.b i.r i.here i.t (omega arith)) ∙ i.invariant.rest);
       seen =
-          rw (d, m.ensures, see-is i.seen i.r i.here _ c.joined.ensures)
+          rw (d, m.ensures, see_is i.seen i.r i.here _ c.joined.ensures)
           (seen_step c.args.b i.r i.here i.t i.seen c.requires.1 (omega arith) (omega arith) (omega arith) i.invariant.seen);
     }
-
-pub returns : goal.returns
-returns c = let i = c.loop-r in
-    let z = seen_end c.args.b i.r i.here i.t i.seen (omega arith) i.invariant.seen (λ h. absurd (omega arith)) in
-    (sym z.0 ∙ i.invariant.rest, z.1)

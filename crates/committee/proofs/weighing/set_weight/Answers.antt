@@ -1,23 +1,19 @@
-use mathlib.Core.Path.{◌≡◌, refl}
-use native.Mathlib.Omega.{arith}
-use Prim.Native.Nat.{◌+◌}
-use Rattle.terms.specs.Ranges.{weight_in}
+use Rattle.std.proofs.Common.{arith, refl, rules, cond, ℕ}
+use Rattle.std.proofs.lemmas.Iterator.{YieldsList-from_map, YieldsList-from_range}
+use Rattle.std.proofs.lemmas.Iterator.Consumers.{fits_by_from_yields_list}
+use Rattle.std.specs.List.{range_with_len}
 use Rattle.base.specs.Folds.{sum_to}
-use Rattle.base.proofs.SumLaws.{sum_more}
-use mathlib.Core.Bool.{cond}
 use Rattle.base.specs.Sets.{is_in}
+use Rattle.terms.specs.Ranges.{weight_in}
 use Rattle.committee.proofs.CommitteeLaws.{weigh-le}
 use Rattle.committee.proofs.weighing.set_weight.Goals as goal
 
-pub loop-i-init : goal.loop-i-init
+pub sum-requires-clause-fits : goal.sum-requires-clause-fits
 unfolding sum_to
-loop-i-init c = (omega arith, refl)
-
-pub overflow_add-sum : goal.overflow_add-sum
-overflow_add-sum c = let a = c.args in let i = c.loop-i.i in let h = weigh-le (weight_in a.w.now) (is_in a.set) (i + 1) 16 (omega arith) in let s = sum_more (λ j. cond (is_in a.set j) (weight_in a.w.now j) 0) i in omega (arith, c.part-x.ensures)
-
-pub loop-i-preserved : goal.loop-i-preserved
-loop-i-preserved c = (omega arith, rw (c.part-x.ensures, sum_more, c.loop-i.invariant.1) refl)
-
-pub returns : goal.returns
-returns c = let e : c.loop-i.i ≡ 16 = omega arith in rw e at c.loop-i.invariant.1
+sum-requires-clause-fits c =
+    let a = c.args in
+    let w = weight_in a.w.now in
+    let part : ℕ → ℕ = λ m. cond (is_in a.set m) (w m) 0 in
+    fits_by_from_yields_list part (range_with_len 0 16) c.map.result _
+    (YieldsList-from_map _ part (YieldsList-from_range 0 16 16 c.map.ensures.source refl) c.map.ensures.closure (λ x r q k. search rules))
+    (omega (arith, c.requires.total, weigh-le w (is_in a.set) 16 16 (omega arith)))

@@ -1,25 +1,15 @@
-use mathlib.Core.Path.{◌≡◌, refl}
-use native.Mathlib.Omega.{arith}
-use Prim.Native.Nat.{◌+◌}
-use Rattle.terms.specs.Ranges.{weight_in}
+use Rattle.std.proofs.Common.{arith, refl, rules}
+use Rattle.std.proofs.lemmas.Iterator.{YieldsList-from_map, YieldsList-from_range}
+use Rattle.std.proofs.lemmas.Iterator.Consumers.{fits_by_from_yields_list}
+use Rattle.std.specs.List.{range_with_len}
 use Rattle.base.specs.Folds.{sum_to}
-use Rattle.base.proofs.SumLaws.{sum_more, sum_up}
+use Rattle.terms.specs.Ranges.{weight_in}
 use Rattle.committee.proofs.weighing.total_weight.Goals as goal
 
-pub loop-i-init : goal.loop-i-init
+pub sum-requires-clause-fits : goal.sum-requires-clause-fits
 unfolding sum_to
-loop-i-init c = (omega arith, refl)
-
-pub loop-i-preserved : goal.loop-i-preserved
-loop-i-preserved c = (omega arith, rw (sum_more, c.loop-i.invariant.1) refl)
-
-pub returns : goal.returns
-returns c = let e : c.loop-i.i ≡ 16 = omega arith in rw e at c.loop-i.invariant.1
-
-pub overflow_add-sum : goal.overflow_add-sum
-overflow_add-sum c =
+sum-requires-clause-fits c =
     let w = weight_in c.args.w.now in
-    let i = c.loop-i.i in
-    let h = sum_up w (i + 1) 16 (omega arith) in
-    let s = sum_more w i in
-    omega arith
+    fits_by_from_yields_list w (range_with_len 0 16) c.map.result _
+    (YieldsList-from_map _ w (YieldsList-from_range 0 16 16 c.map.ensures.source refl) c.map.ensures.closure (λ x r q k. search rules))
+    (omega (arith, c.requires.total))

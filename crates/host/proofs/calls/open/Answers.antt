@@ -1,28 +1,13 @@
 use mathlib.Core.Path.{◌≡◌, refl, sym}
 use borrow.Author.Rules.{rules}
 use native.Mathlib.Omega.{arith}
-use borrow.Author.Tests.{lt-leb}
-use Rattle.std.specs.Prelude.{Ok, Err}
+use Rattle.std.specs.Prelude.{Err}
 use Rattle.refusals.specs.Refusals.{number_of, refusal_in}
 use Rattle.open.specs.Open.{closed_state}
 use Rattle.engine.specs.Calls.{opens}
-use Rattle.words.specs.Lengths.{state_length}
 use Rattle.words.specs.Sheets.{sheet_in}
-use Rattle.hosting.proofs.CallLaws.{done-unserved, done-unread}
 use Rattle.hosting.proofs.SettledLaws.{freshly-written, narrow-left}
 use Rattle.host.proofs.calls.open.Goals as goal
-
-pub returns-then-state-lt-STATE : goal.returns-then-state-lt-STATE
-returns-then-state-lt-STATE c = done-unserved _ _ _ _ _ (lt-leb state_length _ c.if-state-lt-STATE.true) refl
-
-pub returns-in_default : goal.returns-in_default
-returns-in_default c = done-unread _ _ _ _ _ c.in_default.ensures refl
-
-pub returns-in_err-open : goal.returns-in_err-open
-returns-in_err-open c = let b = c.in-Some.ensures in
-    let x = rw (c.closed-s.ensures, b.1) at c.in_err-open.ensures in
-    let n : refusal_in c.from_residual.result ≡ number_of c.in_err-open.field-0.0 = search rules in
-    rw n (freshly-written _ _ _ _ (Err c.in_err-open.field-0.0) _ refl c.if-state-lt-STATE.false b.0 refl x.refusal x.state x.table refl)
 
 pub put_state-requires : goal.put_state-requires
 put_state-requires c = let b = c.in-Some.ensures in
@@ -30,7 +15,8 @@ put_state-requires c = let b = c.in-Some.ensures in
     let a = c.args in
     (c.if-state-lt-STATE.false, narrow-left (record { state = closed_state; table = a.table.now }) (omega arith) (opens (record { 0 = a.own }) (sheet_in a.sheet.now (record { 0 = a.rights }))) tt (sym x.refusal) x.state)
 
-pub returns : goal.returns
-returns c = let b = c.in-Some.ensures in
-    let x = rw (c.closed-s.ensures, b.1) at c.in_ok-open.ensures in
-    freshly-written _ _ _ _ (Ok tt) _ refl c.if-state-lt-STATE.false b.0 refl x.refusal x.state x.table c.put_state.ensures
+pub returns-in_err-open : goal.returns-in_err-open
+returns-in_err-open c = let b = c.in-Some.ensures in
+    let x = rw (c.closed-s.ensures, b.1) at c.in_err-open.ensures in
+    let n : refusal_in c.from_residual.result ≡ number_of c.in_err-open.field-0.0 = search rules in
+    rw n (freshly-written _ _ _ _ (Err c.in_err-open.field-0.0) _ refl c.if-state-lt-STATE.false b.0 refl x.refusal x.state x.table refl)

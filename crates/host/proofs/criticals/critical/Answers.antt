@@ -1,10 +1,7 @@
 use mathlib.Core.Path.{refl}
 use Rattle.critical.specs.Critical.{critical_refusal, critical_list}
-use Rattle.hosting.proofs.SettledLaws.{by-reading, state-unread, listed}
+use Rattle.hosting.proofs.SettledLaws.{listed}
 use Rattle.host.proofs.criticals.critical.Goals as goal
-
-pub returns-in_default : goal.returns-in_default
-returns-in_default c = state-unread _ _ _ _ _ (by-reading refl) refl c.in_default.ensures
 
 pub returns : goal.returns
 unfolding critical_refusal critical_list

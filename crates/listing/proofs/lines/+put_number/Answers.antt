@@ -1,18 +1,12 @@
 use Rattle.std.proofs.Common.{◌≤◌, refl, arith}
 use Rattle.base.proofs.PutLaws.{puts-more}
-use Rattle.listing.proofs.LineLaws.{decimal-small, decimal-more, decimal-fits, decimal_tenth}
+use Rattle.listing.proofs.LineLaws.{decimal-small, decimal-more, decimal_fits}
 use Rattle.listing.proofs.lines.+put_number.Goals as goal
 
 pub returns-then-n-lt10 : goal.returns-then-n-lt10
 returns-then-n-lt10 t c = rw (decimal-small c.args.n c.if-n-lt10.true) (record { bytes = refl; past = refl; room = omega arith })
 
-pub bounds-buf-next : goal.bounds-buf-next
-bounds-buf-next t c =
-    let h : 10 ≤ c.args.n = omega arith in
-    let l = decimal_tenth c.args.n h (omega arith) in
-    omega (arith, c.put_number-next.ensures.past)
-
 pub returns : goal.returns
 returns t c =
     let h : 10 ≤ c.args.n = omega arith in
-    rw (decimal-more c.args.n h) (puts-more _ c.put_number-next.ensures 10 (rw (← decimal-more c.args.n h) (decimal-fits c.args.n (omega arith))))
+    rw (decimal-more c.args.n h) (puts-more _ c.put_number-next.ensures 10 (rw (← decimal-more c.args.n h) (decimal_fits c.args.n (omega arith))))

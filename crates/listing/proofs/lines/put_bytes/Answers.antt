@@ -1,21 +1,12 @@
-use mathlib.Core.Path.{refl}
-use native.Mathlib.Omega.{arith}
-use lib.ListN.{length-set}
-use Rattle.base.proofs.PutLaws.{puts_copy, puts-all}
+use Rattle.std.proofs.Common.{◌≡◌, refl, sym, arith, ℕ, ◌+◌, ◌-◌, ◌≤◌, List, length, take, drop, ◌∙◌, append_assoc}
+use Rattle.std.proofs.lemmas.List.{drop-drop}
+use Rattle.std.proofs.lemmas.List.Edits.{sets, sets-eq}
+use borrow.Rule.Slice.PartMut.{put_mid}
 use Rattle.listing.proofs.lines.put_bytes.Goals as goal
 
-pub loop-i-init : goal.loop-i-init
-loop-i-init c = record { so_far = omega arith; kept = refl; puts = record { bytes = refl; past = refl; room = omega arith } }
-
-pub bounds-buf-at : goal.bounds-buf-at
-bounds-buf-at c = omega (arith, c.loop-i.invariant.kept)
-
-pub loop-i-preserved : goal.loop-i-preserved
-loop-i-preserved c = let a = c.args in
-    let l = c.loop-i in
-    record { so_far = omega arith; kept = simp length-set l.invariant.kept; puts = puts_copy a.w.now l.i (omega arith) l.invariant.puts }
+-- bytes copied over those from a place on are put there one by one
+copied : (w t : List ℕ) (at : ℕ) → at + length w ≤ length t → put_mid at (at + length w - at) t w ≡ sets t at w
+copied w t at h = let n : at + length w - at ≡ length w = omega arith in rw (n, drop-drop (length w) at t) (sym (sets-eq w t at h ∙ append_assoc (take at t) w (drop (at + length w) t)))
 
 pub returns : goal.returns
-returns c = let a = c.args in
-    let l = c.loop-i in
-    puts-all a.w.now l.i (omega arith) l.invariant.puts
+returns c = record { bytes = rw c.copy_from_slice.ensures.after (copied c.args.w.now c.args.buf.now c.args.at c.requires); past = refl; room = omega arith }

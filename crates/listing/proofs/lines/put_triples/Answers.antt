@@ -4,7 +4,7 @@ use Prim.Native.Nat.{◌+◌, ◌*◌, ◌≤◌}
 use Rattle.terms.specs.Proposals.{slot_of}
 use Rattle.terms.proofs.ProposalLaws.{transactions_tab}
 use Rattle.base.proofs.PutLaws.{puts_then, puts-within}
-use Rattle.listing.proofs.LineLaws.{triples_none, triples-next}
+use Rattle.listing.proofs.LineLaws.{triples_none, triples_next}
 use Rattle.listing.proofs.lines.put_triples.Goals as goal
 
 pub loop-k-init : goal.loop-k-init
@@ -26,7 +26,7 @@ loop-k-preserved c = let a = c.args in
     record {
       so_far = omega arith;
       kept = c.put_triple-next.auto.buf ∙ l.invariant.kept;
-      puts = rw (triples-next (slot_of a.body) l.k) (puts-within ((l.k + 1) * 24) (omega arith) (puts_then l.invariant.puts p));
+      puts = rw (triples_next (slot_of a.body) l.k) (puts-within ((l.k + 1) * 24) (omega arith) (puts_then l.invariant.puts p));
     }
 
 pub returns : goal.returns

@@ -1,5 +1,4 @@
-use mathlib.Core.Path.{◌≡◌, refl, ◌∙◌}
-use native.Mathlib.Omega.{arith}
+use Rattle.std.proofs.Common.{refl, ◌∙◌, arith}
 use Rattle.base.proofs.PutLaws.{puts_then, puts_none, puts_as}
 use Rattle.base.specs.Sets.{is_in}
 use Rattle.prospects.proofs.EntryLaws.{row-none, row_more, row-length, row_room}
@@ -9,10 +8,9 @@ pub loop-i-init : goal.loop-i-init
 loop-i-init c = record { so_far = omega arith; kept = refl; puts = puts_none (row-none _ _ _ _) }
 
 pub put_member-to-requires : goal.put_member-to-requires
-put_member-to-requires c = let s = c.before.before.before.before.before in
+put_member-to-requires c = let a = c.args in
     let x = c.loop-i in
-    let u = row_room (is_in s.args.x) s.args.k s.args.r.0 s.args.a.0 x.i (omega arith) in
-    (omega arith, omega (arith, u, s.requires.1, x.invariant.kept, x.invariant.puts.past))
+    (omega arith, omega (arith, row_room (is_in a.x) a.k a.r.0 a.a.0 x.i (omega arith), c.requires.1, x.invariant.kept, x.invariant.puts.past))
 
 pub loop-i-preserved : goal.loop-i-preserved
 loop-i-preserved c = let x = c.loop-i in
@@ -22,6 +20,3 @@ loop-i-preserved c = let x = c.loop-i in
       kept = c.put_member-to.auto.list ∙ x.invariant.kept;
       puts = puts_as (row_more _ _ _ _ x.i) (omega (arith, row-length (is_in a.x) a.k a.r.0 a.a.0 x.i)) (puts_then x.invariant.puts c.put_member-to.ensures);
     }
-
-pub returns : goal.returns
-returns c = let i : c.loop-i.i ≡ 16 = omega arith in rw i at c.loop-i.invariant.puts

@@ -1,6 +1,4 @@
-use mathlib.Core.Path.{◌≡◌, refl, ◌∙◌}
-use Prim.Native.Nat.{◌-◌}
-use native.Mathlib.Omega.{arith}
+use Rattle.std.proofs.Common.{refl, ◌-◌, ◌∙◌, arith}
 use Rattle.base.proofs.PutLaws.{puts_then, puts_none, puts_as}
 use Rattle.prospects.specs.Entries.{in_sets}
 use Rattle.prospects.proofs.EntryLaws.{rows_none, rows_more, rows-length, rows-room}
@@ -10,11 +8,10 @@ pub loop-i-init : goal.loop-i-init
 loop-i-init c = record { so_far = omega arith; kept = refl; puts = puts_none (rows_none _ _ _ _) }
 
 pub put_row-to-requires : goal.put_row-to-requires
-put_row-to-requires c = let s = c.before.before.before.before.before.before in
-    let a = s.args in
+put_row-to-requires c = let a = c.args in
     let x = c.loop-i in
-    let u = rows-room (in_sets a.sets.now) a.k a.a.0 a.low.0 x.i (a.top.0 - a.low.0) (omega arith) in
-    (s.requires.start, omega (arith, u, s.requires.room, x.invariant.kept, x.invariant.puts.past))
+    let k = c.requires in
+    (k.start, omega (arith, rows-room (in_sets a.sets.now) a.k a.a.0 a.low.0 x.i (a.top.0 - a.low.0) (omega arith), k.room, x.invariant.kept, x.invariant.puts.past))
 
 pub loop-i-preserved : goal.loop-i-preserved
 loop-i-preserved c = let x = c.loop-i in
@@ -24,9 +21,3 @@ loop-i-preserved c = let x = c.loop-i in
       kept = c.put_row-to.auto.list ∙ x.invariant.kept;
       puts = puts_as (rows_more _ _ _ _ x.i) (omega (arith, rows-length (in_sets a.sets.now) a.k a.a.0 a.low.0 x.i)) (puts_then x.invariant.puts c.put_row-to.ensures);
     }
-
-pub returns : goal.returns
-returns c = let x = c.loop-i in
-    let a = c.args in
-    let i : x.i ≡ a.top.0 - a.low.0 = omega arith in
-    rw i at x.invariant.puts

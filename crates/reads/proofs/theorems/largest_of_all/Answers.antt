@@ -1,8 +1,8 @@
-use Rattle.reads.proofs.BoundLaws.{largest_of_all}
+use Rattle.reads.proofs.BoundLaws.{none_moves_further, one_moves_as_far}
 use Rattle.reads.proofs.theorems.largest_of_all.Goals as goal
 
 pub returns-clause-bound : goal.returns-clause-bound
-returns-clause-bound c = (λ s t m r a k. (largest_of_all s t m r a k).0)
+returns-clause-bound c = none_moves_further
 
 pub returns-clause-reached : goal.returns-clause-reached
-returns-clause-reached c = (λ s t m r a k. (largest_of_all s t m r a k).1)
+returns-clause-reached c = one_moves_as_far

@@ -2,14 +2,7 @@ use mathlib.Core.Path.{sym, ◌∙◌}
 use native.Mathlib.Omega.{arith}
 use Rattle.state.proofs.FormedLaws.{formed}
 use Rattle.state.proofs.Walkable.{readable}
-use Rattle.replies.proofs.CachedLaws.{cached-unformed}
 use Rattle.replies.proofs.cached.renew.Goals as goal
 
 pub fill_cache-requires : goal.fill_cache-requires
 fill_cache-requires c = (readable _ _ (formed _ _ (sym c.requires ∙ c.if-formed.true)), omega arith)
-
-pub returns-then-formed : goal.returns-then-formed
-returns-then-formed c = record { form = c.requires; committees = λ _. c.fill_cache.ensures }
-
-pub returns-else-formed : goal.returns-else-formed
-returns-else-formed c = cached-unformed _ c.requires c.if-formed.false

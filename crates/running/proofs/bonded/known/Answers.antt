@@ -5,4 +5,4 @@ use Rattle.running.proofs.bonded.known.Goals as goal
 
 pub returns : goal.returns
 unfolding known_by
-returns c = let a = c.args in rw (last-chain a.s.ceiling.0 a.t.now a.blocks, ← c.last_round-last.ensures) refl
+returns c = let a = c.args in rw (last-chain a.s.ceiling.0 a.t.now a.blocks, ← c.last_round.ensures) refl

@@ -1,18 +1,13 @@
-use mathlib.Core.Path.{◌≡◌, refl}
+use mathlib.Core.Path.{◌≡◌}
 use native.Mathlib.Omega.{arith}
 use native.Mathlib.Numerals.{add-one}
-use lib.ListN.{length, length-set}
-use lib.Seq.{paste-zero, paste-suc}
+use lib.ListN.{length, length-set, length-map}
+use lib.Seq.{paste-suc}
 use borrow.Author.Rules.{rules}
-use lib.ListN.{length-map}
 use Rattle.terms.specs.declared.sheet.Weight.{Weight}
 use Rattle.running.specs.Caches.{numbers}
-use Rattle.running.proofs.CacheLaws.{number-at}
+use Rattle.running.proofs.CacheLaws.{numbers_at}
 use Rattle.running.proofs.cache.put_weights.Goals as goal
-
-pub loop-i-init : goal.loop-i-init
-loop-i-init c = let a = c.args in
-    record { count = omega arith; words = paste-zero a.cache.now a.at (numbers a.w.now); size = refl; whole = λ h. absurd (omega arith) }
 
 pub loop-i-preserved : goal.loop-i-preserved
 loop-i-preserved c = let a = c.args in
@@ -20,10 +15,7 @@ loop-i-preserved c = let a = c.args in
     let l : length a.w.now ≡ 16 = search rules in
     record {
       count = omega arith;
-      words = rw (add-one, x.invariant.words, ← number-at a.w.now x.i) (paste-suc a.cache.now a.at (numbers a.w.now) x.i 0 (omega arith) (let m = length-map a.w.now (λ (y : Weight). y.0) in omega arith));
+      words = rw (add-one, x.invariant.words, ← numbers_at a.w.now x.i) (paste-suc a.cache.now a.at (numbers a.w.now) x.i 0 (omega arith) (let m = length-map a.w.now (λ (y : Weight). y.0) in omega arith));
       size = simp length-set x.invariant.size;
       whole = λ _. l;
     }
-
-pub returns : goal.returns
-returns c = let x = c.loop-i in let e : x.i ≡ 16 = omega arith in (x.invariant.whole (omega arith), rw e at x.invariant.words)

@@ -3,6 +3,3 @@ use Rattle.serving.proofs.answering.serve.Goals as goal
 
 pub returns-in-None : goal.returns-in-None
 returns-in-None c = (rw c.in-None.is (unreadable-answered c.put_refused.ensures), c.requires.1)
-
-pub returns-in-Some : goal.returns-in-Some
-returns-in-Some c = rw c.in-Some.is c.serve_call.ensures

@@ -1,4 +1,4 @@
-use Rattle.std.proofs.Common.{rules, refl}
+use Rattle.std.proofs.Common.{rules}
 use Rattle.base.proofs.FromFn.{tab_from_fn}
 use Rattle.terms.specs.Sheets.{weight_at}
 use Rattle.terms.proofs.sheet.weights.Goals as goal

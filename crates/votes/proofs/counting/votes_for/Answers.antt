@@ -1,29 +1,19 @@
-use mathlib.Core.Path.{◌≡◌, refl}
-use mathlib.Core.Bool.{cond}
-use native.Mathlib.Omega.{arith}
-use Prim.Native.Nat.{◌+◌}
+use Rattle.std.proofs.Common.{rules, arith, refl, cond, ◌<◌, ◌^◌, ℕ, sum_by}
+use Rattle.std.specs.List.{range_with_len}
+use Rattle.std.proofs.lemmas.Iterator.{YieldsList-from_range, YieldsList-from_map}
+use Rattle.std.proofs.lemmas.Iterator.Consumers.{fits_by_from_yields_list}
 use Rattle.base.specs.Folds.{sum_to}
-use Rattle.base.proofs.SumLaws.{sum_more}
 use Rattle.terms.specs.Ranges.{weight_in}
 use Rattle.committee.proofs.CommitteeLaws.{weigh-le}
-use Rattle.votes.specs.Votes.{votes_at, votes_for}
+use Rattle.votes.specs.Votes.{votes_at}
 use Rattle.votes.proofs.counting.votes_for.Goals as goal
 
-pub loop-i-init : goal.loop-i-init
+-- votes weigh no more than all
+pub sum-requires-clause-fits : goal.sum-requires-clause-fits
 unfolding sum_to
-loop-i-init c = (omega arith, refl)
-
-pub overflow_add-sum : goal.overflow_add-sum
-overflow_add-sum c = let a = c.args in
-    let i = c.loop-i.i in
+sum-requires-clause-fits c = let a = c.args in
     let f = votes_at a.t.now a.r.0 a.a.0 in
-    let h = weigh-le (weight_in a.w.now) f (i + 1) 16 (omega arith) in
-    let s = sum_more (λ j. cond (f j) (weight_in a.w.now j) 0) i in
-    omega (arith, c.vote_of-x.ensures)
-
-pub loop-i-preserved : goal.loop-i-preserved
-loop-i-preserved c = (omega arith, rw (c.vote_of-x.ensures, sum_more, c.loop-i.invariant.1) refl)
-
-pub returns : goal.returns
-unfolding votes_for
-returns c = let e : c.loop-i.i ≡ 16 = omega arith in rw e at c.loop-i.invariant.1
+    let w = weight_in a.w.now in
+    let g : ℕ → ℕ = λ i. cond (f i) (w i) 0 in
+    let few : sum_by g (range_with_len 0 16) < 2 ^ 64 = omega (arith, weigh-le w f 16 16 (omega arith), c.requires.bounded.total) in
+    fits_by_from_yields_list g (range_with_len 0 16) c.map.result (2 ^ 64) (YieldsList-from_map _ g (YieldsList-from_range 0 16 16 c.map.ensures.source refl) c.map.ensures.closure (λ x r q k. search rules)) few

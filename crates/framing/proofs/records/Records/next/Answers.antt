@@ -1,31 +1,21 @@
-use Rattle.std.proofs.Common.{refl, sym, arith, length-take-le}
+use Rattle.std.proofs.Common.{refl, arith}
 use Rattle.framing.proofs.AtHandLaws.{tail_all, step_skips, step_record, step-unreadable, step-waits, step_shortens, skipped-after, tells_after}
-use Rattle.framing.proofs.FramingLaws.{step-within}
 use Rattle.framing.proofs.records.Records.next.Goals as goal
 
 pub loop-init : goal.loop-init
 loop-init c = record { same = λ over more. refl; taken = 0; rest = refl; fewer = omega arith }
 
-pub slice_bounds-bytes-end : goal.slice_bounds-bytes-end
-slice_bounds-bytes-end c = rw c.next_step-step.ensures (sym (length-take-le _ _ (step-within _ _).length_to))
-
-pub slice_bounds-self-count : goal.slice_bounds-self-count
-slice_bounds-self-count c = rw c.next_step-step.ensures (step-within _ _).next-to
-
-pub slice_bounds-self-start : goal.slice_bounds-self-start
-slice_bounds-self-start c = rw c.next_step-step.ensures (step-within _ _).next-to
-
 pub returns-in-Record : goal.returns-in-Record
-returns-in-Record c = rw (← c.self.view_is) (tells_after c.loop.invariant (step_record _ _ c.next_step-step.ensures _ (tail_all c.next_step-step.result.next c.loop.self-inside.hand.now) c.in-Record.is))
+returns-in-Record c = rw (← c.self.view_is) (tells_after c.loop.invariant (step_record _ _ c.next_step-step.ensures.step _ (tail_all c.next_step-step.result.next c.loop.self-inside.hand.now) c.in-Record.is))
 
 pub returns-in-Unreadable : goal.returns-in-Unreadable
-returns-in-Unreadable c = rw (← c.self.view_is) (tells_after c.loop.invariant (step-unreadable _ _ c.next_step-step.ensures _ (tail_all c.next_step-step.result.next c.loop.self-inside.hand.now) c.in-Unreadable.is))
+returns-in-Unreadable c = rw (← c.self.view_is) (tells_after c.loop.invariant (step-unreadable _ _ c.next_step-step.ensures.step _ (tail_all c.next_step-step.result.next c.loop.self-inside.hand.now) c.in-Unreadable.is))
 
-pub returns-then-step-eq0 : goal.returns-then-step-eq0
-returns-then-step-eq0 c = rw (← c.self.view_is) (tells_after c.loop.invariant (step-waits _ _ c.next_step-step.ensures _ (tail_all c.next_step-step.result.next c.loop.self-inside.hand.now) c.if-step-eq0.true))
+pub returns-in-Nothing : goal.returns-in-Nothing
+returns-in-Nothing c = rw (← c.self.view_is) (tells_after c.loop.invariant (step-waits _ _ c.next_step-step.ensures.step _ (tail_all c.next_step-step.result.next c.loop.self-inside.hand.now) (omega arith)))
 
 pub loop-smaller : goal.loop-smaller
-loop-smaller c = step_shortens (record { hand = c.loop.self-inside.hand.now; skipping = c.loop.self-inside.skipping }) _ c.next_step-step.ensures c.if-step-eq0.false
+loop-smaller c = step_shortens (record { hand = c.loop.self-inside.hand.now; skipping = c.loop.self-inside.skipping }) _ c.next_step-step.ensures.step (λ z. omega arith)
 
 pub loop-preserved : goal.loop-preserved
-loop-preserved c = skipped-after c.loop.invariant (step_skips _ _ c.next_step-step.ensures _ (tail_all c.next_step-step.result.next c.loop.self-inside.hand.now) c.in-Nothing.is)
+loop-preserved c = skipped-after c.loop.invariant (step_skips _ _ c.next_step-step.ensures.step _ (tail_all c.next_step-step.result.next c.loop.self-inside.hand.now) c.in-Nothing.is)

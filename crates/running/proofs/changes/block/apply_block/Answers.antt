@@ -1,9 +1,8 @@
-use mathlib.Core.Path.{◌≡◌, sym}
-use Prim.Native.Nat.{◌+◌, ◌-◌, ◌*◌, ◌/◌}
+use mathlib.Core.Path.{sym}
+use Prim.Native.Nat.{◌+◌, ◌*◌, ◌/◌}
 use native.Mathlib.Omega.{arith}
 use Rattle.running.proofs.BlockChangeLaws.{same_at}
 use Rattle.running.proofs.RunLaws.{linked-head, linked_up, rows-first, rows_next, end-linked}
-use Rattle.running.proofs.BoundLaws.{rows-total}
 use Rattle.running.proofs.changes.block.apply_block.Goals as goal
 
 pub loop-p-init : goal.loop-p-init
@@ -13,17 +12,6 @@ loop-p-init c = let l = linked-head c.requires.block c.requires.links in
       low = h;
       linked = linked_up _ (omega arith) (omega arith) l;
       weights = sym (rows-first (same_at c.args.t.now c.args.b) c.args.a.0 _ c.args.w.now l);
-    }
-
-pub apply_row-p-requires : goal.apply_row-p-requires
-apply_row-p-requires c = let x = c.loop-p in
-    let words = c.type_inv.t in
-    let l = rows-total c.args.t.now (λ j. (words j).fits) c.args.b c.args.a.0 (x.p / 16 - 1) c.args.w.now (omega arith) in
-    let z = x.invariant.linked.size in
-    record {
-      start = c.requires.start;
-      room = record { rows = record { long = omega (arith, c.requires.rows.long); round = omega arith }; places = omega arith };
-      total = rw x.invariant.weights (omega (arith, l));
     }
 
 pub loop-p-smaller : goal.loop-p-smaller
@@ -38,9 +26,3 @@ loop-p-preserved c = let x = c.loop-p in
     let h = d.first.from in
     let e = rows_next (same_at c.args.t.now c.args.b) c.args.a.0 x.p c.apply_row-p.result c.args.w.now c.requires.start x.invariant.low (omega arith) x.invariant.linked d in
     record { low = omega arith; linked = linked_up _ (omega arith) (omega arith) d; weights = rw (c.apply_row-p.ensures.0, x.invariant.weights) (sym e) }
-
-pub returns : goal.returns
-returns c = let x = c.loop-p in
-    let h = x.invariant.linked.first.to in
-    let e : x.p / 16 - 1 ≡ c.args.n.0 = omega arith in
-    rw e at x.invariant.weights

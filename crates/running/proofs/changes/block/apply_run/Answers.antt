@@ -2,23 +2,12 @@ use mathlib.Core.Path.{◌≡◌, refl, sym, ◌∙◌}
 use Prim.Native.Nat.{suc, ◌+◌, ◌-◌}
 use native.Mathlib.Omega.{arith}
 use Rattle.running.specs.BlockChanges.{record_change}
-use Rattle.running.proofs.RunLaws.{run_step, run_stop, run_none, end_step, end_stop, end_none}
-use Rattle.running.proofs.BoundLaws.{from-total}
+use Rattle.running.proofs.RunLaws.{run_step, run_none, end_step, end_none}
+use Rattle.running.proofs.BoundLaws.{from_total}
 use Rattle.running.proofs.changes.block.apply_run.Goals as goal
 
 pub loop-i-init : goal.loop-i-init
 loop-i-init c = record { count = omega arith; rest = refl; last = refl; total = omega arith }
-
-pub returns-then-z-q : goal.returns-then-z-q
-returns-then-z-q c = let x = c.loop-i in
-    let a = c.args in
-    (sym (run_stop (record_change a.t.now) a.next.now a.y a.z (16 - x.i) x.q x.w c.if-z-q.true) ∙ x.invariant.rest, sym (end_stop a.next.now a.z (16 - x.i) x.q c.if-z-q.true) ∙ x.invariant.last)
-
-pub apply_from-requires : goal.apply_from-requires
-apply_from-requires c = let x = c.loop-i in record { place = record { member = omega arith; row = omega arith }; total = omega (arith, x.invariant.total) }
-
-pub bounds-next-q : goal.bounds-next-q
-bounds-next-q c = omega arith
 
 pub loop-i-preserved : goal.loop-i-preserved
 loop-i-preserved c = let x = c.loop-i in
@@ -27,7 +16,7 @@ loop-i-preserved c = let x = c.loop-i in
     let e : 16 - x.i ≡ suc (16 - (x.i + 1)) = omega arith in
     let h = rw (← e) at (run_step (record_change a.t.now) a.next.now a.y a.z (16 - (x.i + 1)) x.q x.w (omega arith)) in
     let k = rw (← e) at (end_step a.next.now a.z (16 - (x.i + 1)) x.q (omega arith)) in
-    let l = from-total a.t.now (λ j. (words j).fits) a.y x.q x.w in
+    let l = from_total a.t.now (λ j. (words j).fits) a.y x.q x.w in
     record {
       count = omega arith;
       rest = rw c.apply_from.ensures (sym h ∙ x.invariant.rest);

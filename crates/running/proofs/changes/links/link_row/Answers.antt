@@ -1,20 +1,11 @@
-use mathlib.Core.Path.{◌≡◌, refl, sym, ◌∙◌}
+use mathlib.Core.Path.{◌≡◌, sym, ◌∙◌}
 use native.Mathlib.Omega.{arith}
 use Prim.Native.Nat.{◌+◌, ◌-◌, ◌*◌}
-use Rattle.running.proofs.LinkLaws.{links-empty}
+use Rattle.running.proofs.LinkLaws.{links_empty}
 use Rattle.running.proofs.changes.links.link_row.Goals as goal
 
 pub returns-then-held_set-eq0 : goal.returns-then-held_set-eq0
-returns-then-held_set-eq0 c = λ e s. links-empty _ (sym c.held_set.ensures ∙ c.if-held_set-eq0.true) s
-
-pub loop-i-init : goal.loop-i-init
-loop-i-init c = let a = c.args in
-    let q : a.r.0 * 16 + 16 - 0 ≡ a.r.0 * 16 + 16 = omega arith in
-    record { count = omega arith; size = refl; links = λ e s. rw q s }
-
-pub link_place-requires : goal.link_place-requires
-link_place-requires c = let p = c.requires in
-    (record { rows = p.rows; places = omega (arith, p.places, c.loop-i.invariant.size) }, omega arith)
+returns-then-held_set-eq0 c = λ e s. links_empty _ (sym c.held_set.ensures ∙ c.if-held_set-eq0.true) s
 
 pub loop-i-preserved : goal.loop-i-preserved
 loop-i-preserved c = let x = c.loop-i in

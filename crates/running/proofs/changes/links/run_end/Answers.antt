@@ -1,17 +1,11 @@
 use mathlib.Core.Path.{◌≡◌, refl, sym, ◌∙◌}
 use Prim.Native.Nat.{suc, ◌+◌, ◌-◌}
 use native.Mathlib.Omega.{arith}
-use Rattle.running.proofs.RunLaws.{end_step, end_stop, end_none}
+use Rattle.running.proofs.RunLaws.{end_step, end_none}
 use Rattle.running.proofs.changes.links.run_end.Goals as goal
 
 pub loop-i-init : goal.loop-i-init
 loop-i-init c = (omega arith, refl)
-
-pub returns-then-z-q : goal.returns-then-z-q
-returns-then-z-q c = let x = c.loop-i in let a = c.args in sym (end_stop a.next.now a.z (16 - x.i) x.q c.if-z-q.true) ∙ x.invariant.1
-
-pub bounds-next-q : goal.bounds-next-q
-bounds-next-q c = omega arith
 
 pub loop-i-preserved : goal.loop-i-preserved
 loop-i-preserved c = let x = c.loop-i in
@@ -22,6 +16,5 @@ loop-i-preserved c = let x = c.loop-i in
 
 pub returns : goal.returns
 returns c = let x = c.loop-i in
-    let a = c.args in
     let e : 16 - x.i ≡ 0 = omega arith in
-    sym (end_none a.next.now a.z x.q) ∙ rw e at x.invariant.1
+    sym (end_none c.args.next.now c.args.z x.q) ∙ rw e at x.invariant.1
