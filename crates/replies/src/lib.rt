@@ -93,7 +93,7 @@ pub fn listed(formed: bool, s: &State, t: &[u32], out: &mut [u8]) -> usize
     ensures { Puts out.old out.new 0 result (lines_for (engine_of s.now t.now) (aside listing)) (length t.now * 9 + 20) }
 {
     if !formed {
-        return lines::put_refused(out, 0, 1);
+        return lines::put_refused(out, 0, Refusal::Malformed.number());
     }
     let next = listing::list_chain(t, s.settings, s.blocks, out, 0);
     lines::put_ok(out, next)

@@ -13,6 +13,7 @@ use endorse::endorse_cached;
 use listing::lines;
 use propose::propose_cached;
 use records::Record;
+use refusals::Refusal;
 use replies::{Reply, cached, committed, listed, opened, replied};
 use state::State;
 
@@ -31,7 +32,7 @@ pub fn serve(
     match asked {
         None => Reply {
             formed,
-            next: lines::put_refused(out, 0, 24),
+            next: lines::put_refused(out, 0, Refusal::Unreadable.number()),
         },
         Some(call) => serve_call(formed, cache, s, t, call, out),
     }

@@ -12,7 +12,7 @@ use Rattle.replies.proofs.listed.Goals as goal
 
 pub returns-then-not-formed : goal.returns-then-not-formed
 returns-then-not-formed c = let engine = engine_of c.args.s.now c.args.t.now in
-    puts_as (listing-refused (engine) (sym c.requires.1 ∙ c.if-not-formed.true)) (omega arith) c.put_refused.ensures
+    puts_as (listing-refused (engine) (sym c.requires.1 ∙ c.if-not-formed.true)) (omega arith) (rw c.number.ensures at c.put_refused.ensures)
 
 pub list_chain-next-requires : goal.list_chain-next-requires
 list_chain-next-requires c = let shown : well_formed c.args.s.now c.args.t.now ≡ true = sym c.requires.1 ∙ c.if-not-formed.false in
