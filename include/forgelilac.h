@@ -38,7 +38,7 @@ extern "C" {
 /* ---- versions */
 
 /* Of the header, and of the archive that belongs to it. */
-#define FORGELILAC_VERSION "0.12.0"
+#define FORGELILAC_VERSION "0.13.0"
 #define FORGELILAC_VERSION_MAJOR 0
 #define FORGELILAC_VERSION_MINOR 12
 #define FORGELILAC_VERSION_PATCH 0
@@ -71,6 +71,8 @@ extern "C" {
 #define FORGELILAC_CRITICAL_WORDS 64    /* the list that forgelilac_critical asks for: 32 places */
 #define FORGELILAC_BATCH_RECORDS 64     /* the most certificates of a batch, in records */
 #define FORGELILAC_PORT_WORDS 8         /* the words of a port, in row 0 of a table */
+/* A list in which there is room for the rows of all blocks of a state of this ceiling. */
+#define FORGELILAC_ROWS_WORDS(ceiling) (288u * (ceiling) + 288u)
 /* A table for a state of this ceiling; forgelilac_table_words as a constant. */
 #define FORGELILAC_TABLE_WORDS(ceiling) (272u * (ceiling) + 272u)
 /* Room for every chain of a state of this ceiling. */
@@ -246,7 +248,7 @@ enum forgelilac_refusal {
     FORGELILAC_NO_ANCHOR = 21,         /* no anchor in the round before */
     FORGELILAC_VOTES_SHORT = 22,       /* votes weigh not more than the fault bound */
     FORGELILAC_NONE_THERE = 23,        /* no such certificate or block */
-    FORGELILAC_LENGTH_RANGE = 25,      /* batch: a row over 64, or answers shorter than the row; preview: a list with fewer than 16 places per round of the ceiling; critical: a list with fewer than 32 places */
+    FORGELILAC_LENGTH_RANGE = 25,      /* batch: a row over 64, or answers shorter than the row; preview: a list with fewer than 16 places per round of the ceiling; critical: a list with fewer than 32 places; block rows: a list without room for the blocks' certificates */
     FORGELILAC_GUEST_RANGE = 26,       /* guest, caller or port above 7 */
     FORGELILAC_QUEUE_FULL = 27,        /* the queue holds eight transactions */
     FORGELILAC_THIN_ROUND = 28,        /* the authors of the certificates held in the present round form no quorum of its committee */
@@ -323,7 +325,7 @@ uint64_t forgelilac_commit(uint32_t *state, size_t state_words,
  * does, and no guest has it. Only the table changes. 26 comes before everything else, also where the
  * words of the state cannot be read. 26, 1. */
 uint32_t forgelilac_port_reset(const uint32_t *state, size_t state_words,
-                               uint32_t *table, size_t table_words, uint32_t port);
+                               uint32_t *table, size_t table_words, uint32_t guest);
 
 /* ---- reads */
 
@@ -394,6 +396,19 @@ uint32_t forgelilac_certificate(const uint32_t *state, size_t state_words,
  * certificates are those with its number; forgelilac_chain lists them in order. 1, 23. */
 uint64_t forgelilac_block(const uint32_t *state, size_t state_words,
                           const uint32_t *table, size_t table_words, uint32_t number);
+/* What blocks hold: of `number` blocks after the first `known` all certificates into list, oldest block
+ * first, FORGELILAC_HELD_WORDS (18) each, as forgelilac_certificate gives them: the certificate with the
+ * endorsers that it was first stored with, then the number of its block. In a block rounds rise, and
+ * within a round numbers rise from that of the leader of the block's round, with 0 after 15. 0 and
+ * state[FORGELILAC_STATE_BLOCKS] give the whole chain; after a commit that added n, what is new are the
+ * n after the first state[FORGELILAC_STATE_BLOCKS] - n. Low half: how many certificates. High half:
+ * refusal number: 23 where there are fewer blocks, 25 where list has no room for these certificates;
+ * FORGELILAC_ROWS_WORDS(ceiling) always serve. What lies beyond them stays; refused, all does.
+ * 1, 23, 25. */
+uint64_t forgelilac_block_rows(const uint32_t *state, size_t state_words,
+                               const uint32_t *table, size_t table_words,
+                               uint32_t known, uint32_t number,
+                               uint32_t *list, size_t list_words);
 /* The words that a table for this ceiling needs. No refusal. */
 uint64_t forgelilac_table_words(uint32_t ceiling);
 
@@ -492,6 +507,12 @@ uint32_t forgelilac_guest_certificate(uint32_t caller,
 uint64_t forgelilac_guest_block(uint32_t caller,
                                 const uint32_t *state, size_t state_words,
                                 const uint32_t *table, size_t table_words, uint32_t number);
+/* Right: read. */
+uint64_t forgelilac_guest_block_rows(uint32_t caller,
+                                     const uint32_t *state, size_t state_words,
+                                     const uint32_t *table, size_t table_words,
+                                     uint32_t known, uint32_t number,
+                                     uint32_t *list, size_t list_words);
 /* Right: read. Reads an offset of the caller's own port (FORGELILAC_OFFSET_DATA and so on), so no port
  * is named. Low half: the byte, 0 to 255. High half: refusal number. The listing that it receives is the
  * runner's answer to a chain record without the closing ok: a line for each certificate in a block, in
@@ -550,7 +571,7 @@ static inline const char *forgelilac_refusal_text(uint32_t number) {
         "votes weigh not more than the fault bound",
         "no such certificate or block",
         "record unreadable",
-        "batch: a row over 64, or answers shorter than the row; preview: a list with fewer than 16 places per round of the ceiling; critical: a list with fewer than 32 places",
+        "batch: a row over 64, or answers shorter than the row; preview: a list with fewer than 16 places per round of the ceiling; critical: a list with fewer than 32 places; block rows: a list without room for the blocks' certificates",
         "guest, caller or port above 7",
         "the queue holds eight transactions",
         "the authors of the certificates held in the present round form no quorum of its committee",

@@ -1,7 +1,9 @@
 #!/bin/sh
 # pages.sh [PAGE...]: runs every marked example of the pages (docs/*.md where none is given)
-# and compares what it says with what the page shows; first, that docs/TRUST.md and docs/map.svg are current
-# and that pages name only crates, files, definitions, laws, functions and edits that are there.
+# and compares what it says with what the page shows; first, that docs/TRUST.md and docs/map.svg are current,
+# that pages name only crates, files, definitions, laws, functions and edits that are there, and that the engine,
+# the header and the Rust package have the same functions and the same record, and that the engine's runner ends
+# as docs/SECOND-SUPPLIER.md has it.
 #   RUNNER   the runner (crates/runner/out/runner, else reference/bin/runner_ref, built where missing)
 #   ARCHIVE  the static library (crates/host/out/libhost.a); without it C and Rust are only compiled
 set -eu
@@ -9,9 +11,11 @@ cd "$(dirname "$0")/.."
 [ -x reference/bin/runner_ref ] || sh reference/build.sh
 python3 tools/trust/trust.py --check
 python3 tools/map/map.py --check
+python3 scripts/signatures.py
 if [ -z "${RUNNER:-}" ]; then
     RUNNER=crates/runner/out/runner
     [ -x "$RUNNER" ] || RUNNER=reference/bin/runner_ref
 fi
+[ "$RUNNER" = reference/bin/runner_ref ] || python3 reference/ends.py "$RUNNER"
 [ $# -gt 0 ] || set -- docs/*.md
 exec python3 scripts/pages.py "$(realpath "$RUNNER")" "$(realpath -m "${ARCHIVE:-crates/host/out/libhost.a}")" "$@"

@@ -3,8 +3,7 @@
 They are what these unfold to, types as well as bodies:
   - the contracts of the functions that hosts link (marked #[unsafe(no_mangle)]),
   - the contracts of the runner that say which bytes are read, and which are written for them (RUNNER),
-  - the contracts of the theorems: the functions that take nothing and do nothing, and those of RUNS,
-  - the types of the laws that no clause can say (LAWS).
+  - the contracts of the theorems: the functions that take nothing and do nothing, and those of RUNS.
 A law is never followed: whatever it says is proved. How laws are told from definitions stands in tree.py.
 
 The list is in reading order, bottom up: files in the order in which they use one another, each file from top to bottom,
@@ -13,13 +12,15 @@ so that whatever a definition uses stands above it.
   trust.py               the list, with files, lines and first lines
   trust.py --page        writes docs/TRUST.md
   trust.py --check       exits 1 where docs/TRUST.md is not what --page would write, README.md has other sizes of specs/,
-                         a law stands in specs/ or a definition of the list in proofs/
+                         a law stands in specs/ or a definition of the list in proofs/, or a page claims what only a law says (claims.py)
   trust.py --where       definitions of the list that stand in a file named ..Laws or in proofs/
   trust.py --mixed       for each file of specs/: definitions of the list, other definitions, laws
   trust.py --items CRATE for each file of specs/ of a crate, its items: a row each, with tabs between
                          file, kind, first line (with its comment), last line, where it is needed (listed; cited by another contract; -),
                          names, names used of this file, lines of the sections and opens around it
   trust.py --why NAME    a chain of uses from a root to a definition of the list
+  trust.py --for NAME    the list for one function alone, a theorem or one that hosts link, and about how long it takes to read;
+                         NAME may be CRATE::NAME
 """
 import os
 import re
@@ -29,30 +30,31 @@ from pathlib import Path
 sys.dont_write_bytecode = True
 sys.path.insert(0, str(Path(__file__).resolve().parent))
 import antt
+import claims
 import rt as source
 import tree
 
 HOST = "unsafe(no_mangle)"
-RUNNER = ["serving::run", "stream::run::run", "stream::ended::told", "serving::keeper::new"]
-RUNS = ["runs::make", "runs::run"]  # theorems on code: their contracts are read with those of the theorems
-LAWS = ["earlier.RefusingLaws.carries_over", "kept.RunLaws.carries_to_requests"]  # over every property of engines: a clause is of the lowest universe, and these are not
+RUNNER = ["serving::serve_streams", "serving::run"]
+RUNS = ["runs::make", "runs::run", "host::runs::make", "host::runs::run"]  # theorems on code: their contracts are read with those of the theorems
 PAGE = "docs/TRUST.md"
 README = "README.md"
+PACE = 12   # lines of definitions that a reader takes in a minute, as readers who were new to them did
 KIT = "rattle-kit-13f, whose logic has the sum dac8208d650f15bf"
 
 HEAD = """# What to believe
 
 Made by `tools/trust/trust.py --page`; `scripts/pages.sh` checks that it is current.
 
-A proof says that code does what a definition says. Whether the definition says what is wanted, only a reader can tell. This page lists every definition that must be read for that, and no other: what the contracts of the library, of the runner and of the theorems unfold to. A theorem is a function that takes nothing and does nothing: its clauses are all that it is. They stand in src/theorems.rt of the crates that they speak of, and in `kept`, `library` and `wordclaims`.
+A proof says that code does what a definition says. Whether the definition says what is wanted, only a reader can tell. This page lists every definition that must be read for that, and no other: what the contracts of the library, of the runner and of the theorems unfold to. A theorem is a function that takes nothing and does nothing: its clauses are all that it is. They stand in src/theorems.rt of the crates that they speak of, and in `kept`, `library`, `span_claims` and `wordclaims`.
 
 {specs}
 
 | | |
 |---|---|
-| proved | each function that a host links: on any words and lengths, its answer and every word that it leaves are those of its contract (`Done`). The runner, of every peer: each step of a run is one that may come there (`Follows`): more is read only where all that can be answered is written and flushed (`MayRead`), nothing but answers ever goes out (`Partly`), and nothing comes after a write that failed; and how it ended fits its last step, and the engine that it left (`Ends`): at the end of the input it is the engine after every record that was read (`Done`), else after the first ones of them (`Reached`). For a reader and a writer whose bytes are known, however a run ended, what it added to the one is a first part of the answers to what it took from the other (`AddsPart`), and where the input came to its end it is the output for the whole input (`output`; `run` of serving, its clause `whole`). The theorems, each in its own words at its function: over every list of calls, of calls and batches, of requests of hosts and guests, and of the library's calls over words, chains never fork (`chains_never_fork`, `chains_never_fork_with_batches`, `chains_never_fork_with_guests`, `chains_never_fork_over_words`), and so on for the others; the list of them is under "Roots". `run` of crate `runs` makes a list of calls on several members' engines, and its contract says that their chains never fork. Two claims are of every property of engines, which no clause can say, and are laws alone: `carries_over`, and `carries_to_requests` |
+| proved | each function that a host links: on any words and lengths, its answer and every word that it leaves are those of its contract (`Done`); the length of a table is a number alone. Owner's functions (`owned`), which no header offers yet, have one premise, that their words are as calls left them (`Owned`), and promise the same and that premise again; `forgelilac_owned_resume` promises the premise where it answers 0, and nothing where it does not. The runner, of every peer: each step of a run is one that may come there (`Follows`): more is read only where all that can be answered is written and flushed (`MayRead`), nothing but answers ever goes out (`Partly`), and nothing comes after a write that failed; and how it ended fits its last step, and the engine that it left (`Ends`): at the end of the input it is the engine after every record that was read (`Done`), else after the first ones of them (`Reached`). For a reader and a writer whose bytes are known, however a run ended, what it added to the one is a first part of the answers to what it took from the other (`AddsPart`), and where the input came to its end it is the output for the whole input (`output`; `run` of serving, its clause `whole`). `serve_streams` of serving is all of it in one function, from a member that is not open on: over any reader and any writer of std, in their own bytes, and with what the program ends with: where all is well the input came to its end. That a run ends well wherever the input did, and that a read or a write that failed is told as it failed, is promised of `run` and `told` over any peer (`Ran`, `Tells`). The theorems, each in its own words at its function: over every list of calls, of calls and batches, of requests of hosts and guests, and of the library's calls over words, chains never fork (`chains_never_fork`, `chains_never_fork_with_batches`, `chains_never_fork_with_guests`, `chains_never_fork_over_words`), and so on for the others; the list of them is under "Roots". `run` of crate `runs` makes a list of calls on several members' engines, and its contract says that their chains never fork; `run` of `host::runs` does and says so of the library's calls on several members' words. |
 | assumed by the proofs | the prover (of {kit}); the compilers' back ends; Rattle's standard library where it calls the C library, which it does in `Stdin` and `Stdout` of `std::io` (a read answers an error or at most as many bytes as it was lent, and so does a write), and that the operating system delivers what they pass on. The library for hosts calls neither |
-| on trust in the runner | what no contract of this language can say, since it says nothing of the world outside: that std's `Stdin` gives the bytes of standard input, and its `Stdout` writes bytes to standard output, in their order and once each; that `main` hands these two, as a `Tied`, and a `Keeper` of no open member (`Keeper::new`), to `run` of serving, and ends with what `told` makes of how that ended (`stream::ended`, where its contract says that all is well only at the end of the input). What they have left and what they hold is not known to a contract, so the clauses on known bytes say nothing of them. But `run` is one function for every peer, and can do with it only what a `Peer` offers (stream): what is proved of it is so of the code that runs. A step of a talk, `came`, `went`, `flushed` or one that failed, is had only by the call that made it, since what a talk is is not known to `run`: neither bytes, nor a flush, nor a failure can be made up there. **What cannot be refused** are three short functions, `read`, `write` and `flush` of `Tied`, which ask std's reader and writer: each may tell a failure that did not happen, and a `flush` may tell of one that was not made, for std promises of a flush only that no byte is lost by it. These three are to be read |
+| on trust in the runner | what no contract of this language can say, since it says nothing of the world outside: that std's `Stdin` gives the bytes of standard input, and its `Stdout` writes bytes to standard output, in their order and once each; that `main` hands these two, as a `Tied`, to `serve_streams` of serving, ends with what that gives, and does nothing else: besides the memory that it lends it is that one call. What they have left and what they hold is not known to a contract, so the clauses on known bytes say nothing of them. But `serve_streams` is one function for every reader and writer, and can do with them only what std's `Read` and `Write` offer: what is proved of it is so of the code that runs. Neither can bytes be made up there, nor lost, nor told as written where they were not; and the three lines of `Tied` that say what a talk is need not be believed, since `run_tied` (stream::tied) and `serve_streams` speak of the bytes of reader and writer in std's own words (stream/nothing_written_and_nothing_known). Inside, `run` of stream can do with its peer only what a `Peer` offers: a step of a talk, `came`, `went`, `flushed` or one that failed, is had only by the call that made it, so no failure and no flush can be made up there. **What cannot be refused** is in five short functions: `read`, `write` and `flush` of `Tied`, which ask std's reader and writer, and `run_tied` and `serve_streams`, of one line and two, which might also end at once and tell of a failure that was none. After an error std says of these only that their bytes are as before. So each may tell a failure that did not happen, or another than the one that did; `read` and `write` may keep a failure back, which is to ask again after it, without end, as they do where a signal broke in (that they never tell of a signal is proved, their clause `retried`), and `write` may so ask a writer that takes nothing: on a full disk such a runner would not end; and a `flush` may tell of one that was not made, or that one was made which failed, for std promises of a flush only that no byte is lost by it. These five are to be read. `reference/ends.py` has the runner end by a full disk, a closed input and output, a directory, and a reader that goes |
 | assumed where chains never fork | signatures are genuine (`Signed` in `Fair`); in every committee that a correct member knows, faulty members weigh at most the fault bound (`WithinBound`) |
 | not listed | laws: whatever they say is proved. Definitions that only proofs use. Rattle's libraries, of which the last section lists the names used |
 
@@ -106,27 +108,11 @@ class List:
             roots += [(f"{file.crate}::{function.name}", item) for item in here if item is not None]
         return roots
 
-    def module_named(self, path):
-        crate, *parts = path.split(".")
-        for folder in ("specs", "proofs"):
-            module = self.tree.module(crate, folder, tuple(parts))
-            if module:
-                return module
-        return None
-
     def theorem_roots(self, crate):
-        """Of the theorems of a crate, those on code among them, and of the laws of it that no clause can say."""
+        """Of the theorems of a crate, those on code among them."""
         functions = [(file, function) for (owner, _), file in self.tree.codes.items() if owner == crate for function in file.functions if function.is_theorem]
         roots = self.contracts(functions, "") if functions else []
         roots += self.roots_named([root for root in RUNS if root.split("::")[0] == crate])
-        for name in LAWS:
-            path, _, law = name.rpartition(".")
-            if path.split(".")[0] == crate:
-                module = self.module_named(path)
-                found = module and module.table.get(law)
-                if not found:
-                    sys.exit(f"trust.py: {name} is not there: mend the roots at the top")
-                roots += [(name, self.tree.lookup(module, parts)) for parts in self.tree.used(found).type]
         return roots
 
     def walked(self, roots):
@@ -168,12 +154,12 @@ class List:
 
     # ---- reading order
 
-    def files(self):
-        """(path, file, items) in reading order."""
-        by_file = {}
-        for item in self.items.values():
+    def files(self, chosen=None):
+        """(path, file, items) in reading order, of all items or of those chosen."""
+        by_file, chosen = {}, self.items if chosen is None else chosen
+        for item in chosen.values():
             by_file.setdefault(self.path(item), []).append(item)
-        needs = {path: {self.path(found) for item in items for found in self.below(item) if id(found) in self.items} - {path}
+        needs = {path: {self.path(found) for item in items for found in self.below(item) if id(found) in chosen} - {path}
                  for path, items in by_file.items()}
         waiting, done, ordered = sorted(by_file, key=self.rank), set(), []
         while waiting:
@@ -322,7 +308,7 @@ def page(listing):
 
 def misplaced(listing):
     return [(path, item) for path, _, items in listing.files() for item in items
-            if Path(path).stem.endswith("Laws") or path.split("/")[2] == "proofs"]
+            if re.search(r"\wLaws$", Path(path).stem) or path.split("/")[2] == "proofs"]
 
 
 def wrong(listing):
@@ -336,6 +322,7 @@ def wrong(listing):
         yield f"{path}:{item.start}: {' '.join(item.names)} is a definition of the list, and belongs in specs/"
     for item in listing.laws_in_specs():
         yield f"{listing.path(item)}:{item.start}: {' '.join(item.names)} is a law, and belongs in proofs/"
+    yield from claims.wrong(listing.tree)
 
 
 def mixed(listing):
@@ -375,6 +362,20 @@ def why(listing, name):
             print(" < ".join(chain + [item]))
 
 
+def told_for(listing, name):
+    *crate, function = name.split("::")
+    roots = listing.contracts([(file, one) for file in listing.tree.codes.values() for one in file.functions
+                               if one.name == function and crate[:1] in ([], [file.crate])], f"there is no function {name} with a contract")
+    chosen = {id(item): item for item in listing.walked(roots)}
+    for path, _, items in listing.files(chosen):
+        print(path)
+        for item in items:
+            print(f"  {item.start:4} {listing.lines(item):3}  {', '.join(item.names)}{described(item)}")
+    lines = sum(listing.lines(item) for item in chosen.values())
+    print(f"\n{sum(len(item.names) for item in chosen.values() if isinstance(item, antt.Item))} definitions and "
+          f"{sum(isinstance(item, source.Declared) for item in chosen.values())} types of the code, {lines} lines: about {max(1, round(lines / PACE / 10) * 10)} minutes to read")
+
+
 def main(arguments):
     root = Path(__file__).resolve().parents[2]
     os.chdir(root)
@@ -396,6 +397,8 @@ def main(arguments):
         items_of(listing, arguments[1])
     elif option == "--why" and len(arguments) == 2:
         why(listing, arguments[1])
+    elif option == "--for" and len(arguments) == 2:
+        told_for(listing, arguments[1])
     elif option:
         print(__doc__.strip())
         return 2

@@ -2,7 +2,7 @@
 
 use crate::chain::Listing;
 use crate::layout::{
-    preview_words, CRITICAL_WORDS, STATE_BLOCKS, STATE_CEILING, STATE_OWN, STATE_ROUND, STATE_WORDS,
+    preview_words, rows_words, CRITICAL_WORDS, STATE_BLOCKS, STATE_CEILING, STATE_OWN, STATE_ROUND, STATE_WORDS,
 };
 use crate::lent::{self, CertificateRecord, Entry, Place};
 use crate::{body_words, table_words, CEILING, MEMBERS};
@@ -318,6 +318,44 @@ impl Engine {
         lent::block(&self.state, &self.table, number)
     }
 
+    /// What blocks hold: of `number` blocks after the first `known` every certificate, oldest block first, as
+    /// [`Engine::certificate`] gives it. Inside a block they stand in the order of [`Engine::chain`]. What a
+    /// commit that answered n has added are the n blocks after those there were.
+    ///
+    /// ```
+    /// use forgelilac::{Certificate, Engine, Proposal, Refusal, Sheet};
+    ///
+    /// let mut engine = Engine::open(0, &Sheet { ceiling: Some(64), ..Sheet::default() })?;
+    /// for (round, previous) in [(1, 0), (2, 0b1111), (3, 0b1111)] {
+    ///     for author in 0..4 {
+    ///         let proposal = Proposal { author, round, previous, transactions: Vec::new() };
+    ///         engine.accept(&Certificate { proposal, endorsers: 0b1111 & !(1 << author) })?;
+    ///     }
+    ///     if round < 3 {
+    ///         engine.advance()?;
+    ///     }
+    /// }
+    /// let known = engine.blocks();
+    /// let added = engine.commit()?;
+    /// let held = engine.block_rows(known, added)?;
+    /// let places: Vec<_> = held.iter().map(|one| (one.proposal.round, one.proposal.author)).collect();
+    /// assert_eq!(places, engine.chain()?[0].certificates);
+    /// assert_eq!(held[0], engine.certificate(places[0].1, places[0].0)?);
+    /// assert_eq!(engine.block_rows(1, 1), Err(Refusal::NoneThere));
+    /// # Ok::<(), Refusal>(())
+    /// ```
+    ///
+    /// # Errors
+    /// 1, 23 where there are fewer blocks.
+    pub fn block_rows(&self, known: u32, number: u32) -> Result<Vec<Held>, Refusal> {
+        by_rows(self.rows_room(), |list| lent::block_rows(&self.state, &self.table, known, number, list))
+    }
+
+    /// The words of a list in which all blocks have room.
+    pub(crate) fn rows_room(&self) -> usize {
+        rows_words(self.state[STATE_CEILING].min(CEILING))
+    }
+
     /// How many transactions wait in the queue of a guest, 0 to 8: a word of the table, once a read of
     /// block 0 has told that the state is well formed.
     ///
@@ -384,6 +422,15 @@ pub(crate) fn by_preview(
     let mut list = vec![0; room];
     let count = call(&mut list)?;
     Ok(lent::entries(&list, count).collect())
+}
+
+/// The certificates of blocks, by a call that is lent a list of so many words.
+pub(crate) fn by_rows(
+    room: usize, call: impl FnOnce(&mut [u32]) -> Result<u32, Refusal>,
+) -> Result<Vec<Held>, Refusal> {
+    let mut list = vec![0; room];
+    let count = call(&mut list)?;
+    lent::rows(&list, count).map(|words| Held::from_words(&words)).collect()
 }
 
 /// What a commit hangs on, by a call that is lent its list.

@@ -1,7 +1,7 @@
 //! A guest of an engine: its calls, by its rights.
 
 use crate::chain::Listing;
-use crate::engine::{blocks_of, by_batch, by_critical, by_preview};
+use crate::engine::{blocks_of, by_batch, by_critical, by_preview, by_rows};
 use crate::lent::{self, Entry};
 use crate::{body_words, MEMBERS};
 use crate::{Block, Certificate, Critical, Effect, Engine, Held, Proposal, Refusal, Right, Set, Transaction};
@@ -254,6 +254,17 @@ impl<E: Deref<Target = Engine>> Guest<E> {
     /// 26, 29, then those of [`Engine::block`].
     pub fn block(&self, number: u32) -> Result<u32, Refusal> {
         lent::guest_block(self.caller, &self.engine.state, &self.engine.table, number)
+    }
+
+    /// As [`Engine::block_rows`].
+    ///
+    /// # Errors
+    /// 26, 29, then those of [`Engine::block_rows`].
+    pub fn block_rows(&self, known: u32, number: u32) -> Result<Vec<Held>, Refusal> {
+        let engine = &*self.engine;
+        // A caller without the right costs no list.
+        let room = if engine.rights().may(self.caller, Right::Read) { engine.rows_room() } else { 0 };
+        by_rows(room, |list| lent::guest_block_rows(self.caller, &engine.state, &engine.table, known, number, list))
     }
 
     /// As [`Engine::chain`].

@@ -200,6 +200,12 @@ pub const fn preview_words(ceiling: u32) -> usize {
     ENTRY_WORDS * MEMBERS * ceiling as usize
 }
 
+/// The words of a list in which there is room for the rows of all blocks of a state of this ceiling.
+#[must_use]
+pub const fn rows_words(ceiling: u32) -> usize {
+    HELD_WORDS * MEMBERS * (ceiling as usize + 1)
+}
+
 /// Where the queue of a guest begins in a table: eight places of a transaction's three words, the
 /// oldest first.
 #[must_use]

@@ -100,8 +100,12 @@ mod abi {
             state: *const u32, state_words: usize, table: *const u32, table_words: usize,
             number: u32,
         ) -> u64;
+        pub fn forgelilac_block_rows(
+            state: *const u32, state_words: usize, table: *const u32, table_words: usize,
+            known: u32, number: u32, list: *mut u32, list_words: usize,
+        ) -> u64;
         pub fn forgelilac_port_reset(
-            state: *const u32, state_words: usize, table: *mut u32, table_words: usize, port: u32,
+            state: *const u32, state_words: usize, table: *mut u32, table_words: usize, guest: u32,
         ) -> u32;
 
         // Guests' forms.
@@ -165,6 +169,10 @@ mod abi {
         pub fn forgelilac_guest_block(
             caller: u32, state: *const u32, state_words: usize, table: *const u32, table_words: usize,
             number: u32,
+        ) -> u64;
+        pub fn forgelilac_guest_block_rows(
+            caller: u32, state: *const u32, state_words: usize, table: *const u32, table_words: usize,
+            known: u32, number: u32, list: *mut u32, list_words: usize,
         ) -> u64;
         pub fn forgelilac_guest_port_read(
             caller: u32, state: *const u32, state_words: usize, table: *mut u32, table_words: usize, offset: u32,
@@ -566,6 +574,56 @@ pub fn block(state: &[u32], table: &[u32], number: u32) -> Result<u32, Refusal> 
     value(call!(forgelilac_block, read(state), read(table), number))
 }
 
+/// What blocks hold: of `number` blocks after the first `known`, the words of every certificate, oldest
+/// block first, each as [`certificate`] gives them. Inside a block rounds rise; within a round numbers
+/// rise from that of the leader of the block's round, with 0 after 15. 0 and the number of blocks give the
+/// whole chain; after a commit that added n, what is new are the n after those there were. How many
+/// certificates there are; what the list has beyond their words stays. [`rows`] reads the list.
+///
+/// Any list with room for these certificates serves, and one of [`crate::layout::rows_words`] always does.
+///
+/// One member alone, after its first block:
+///
+/// ```
+/// use forgelilac::{body_words, layout, lent, table_words, Refusal, Sheet, STATE_WORDS};
+///
+/// let (mut state, mut table) = ([0; STATE_WORDS], [0; table_words(64) as usize]);
+/// let mut sheet = Sheet { ceiling: Some(64), ..Sheet::default() };
+/// sheet.weights[1..4].fill(Some(0));
+/// lent::open(&mut state, &mut table, 0, &sheet.to_words(), 0)?;
+/// for round in 1..=3 {
+///     lent::propose(&mut state, &table, &body_words((round > 1).into(), &[]))?;
+///     lent::certify(&state, &mut table, 0)?;
+///     if round < 3 {
+///         lent::advance(&mut state, &table)?;
+///     }
+/// }
+/// let mut list = vec![77; layout::rows_words(64)];
+/// assert_eq!(lent::block_rows(&state, &table, 0, 1, &mut list), Err(Refusal::NoneThere));
+/// lent::commit(&mut state, &mut table)?;
+/// assert_eq!(lent::block_rows(&state, &table, 0, 1, &mut list), Ok(2));
+/// assert_eq!(list[2 * layout::HELD_WORDS], 77);
+/// let held = [1, 2].map(|round| lent::certificate(&state, &table, 0, round).unwrap());
+/// assert!(lent::rows(&list, 2).eq(held));
+/// assert_eq!(lent::block_rows(&state, &table, 0, 1, &mut list[..35]), Err(Refusal::LengthRange));
+/// # Ok::<(), Refusal>(())
+/// ```
+///
+/// # Errors
+/// 1, 23 where there are fewer blocks, 25 where the list has no room. Nothing is written then.
+pub fn block_rows(state: &[u32], table: &[u32], known: u32, number: u32, list: &mut [u32]) -> Result<u32, Refusal> {
+    value(call!(forgelilac_block_rows, read(state), read(table), known, number; write(list)))
+}
+
+/// The words of each certificate of a list that [`block_rows`] has written, as many as it has told.
+pub fn rows(list: &[u32], count: u32) -> impl Iterator<Item = [u32; HELD_WORDS]> + '_ {
+    list.chunks_exact(HELD_WORDS).take(count as usize).map(|at| {
+        let mut words = [0; HELD_WORDS];
+        words.copy_from_slice(at);
+        words
+    })
+}
+
 /// How many transactions wait in the queue of a guest: a word of the table, once a read of block 0 has
 /// told that the state is well formed.
 ///
@@ -766,6 +824,17 @@ pub fn guest_certificate(
 /// 26, 29, then those of [`block`].
 pub fn guest_block(caller: u32, state: &[u32], table: &[u32], number: u32) -> Result<u32, Refusal> {
     value(call!(forgelilac_guest_block(caller), read(state), read(table), number))
+}
+
+/// A guest's [`block_rows`]. It needs the right to read.
+///
+/// # Errors
+/// 26, 29, then those of [`block_rows`]. Nothing is written then.
+pub fn guest_block_rows(
+    caller: u32, state: &[u32], table: &[u32], known: u32, number: u32, list: &mut [u32],
+) -> Result<u32, Refusal> {
+    let (state, table) = (read(state), read(table));
+    value(call!(forgelilac_guest_block_rows(caller), state, table, known, number; write(list)))
 }
 
 // ---- a guest's serial port

@@ -50,7 +50,7 @@ refusals! {
     NoAnchor = 21, "no anchor in the round before";
     VotesShort = 22, "votes weigh not more than the fault bound";
     NoneThere = 23, "no such certificate or block";
-    LengthRange = 25, "batch: a row over 64, or answers shorter than the row; preview: a list with fewer than 16 places per round of the ceiling; critical: a list with fewer than 32 places";
+    LengthRange = 25, "batch: a row over 64, or answers shorter than the row; preview: a list with fewer than 16 places per round of the ceiling; critical: a list with fewer than 32 places; block rows: a list without room for the blocks' certificates";
     GuestRange = 26, "guest, caller or port above 7";
     QueueFull = 27, "the queue holds eight transactions";
     ThinRound = 28, "the authors of the certificates held in the present round form no quorum of its committee";

@@ -4,8 +4,8 @@ extern crate std;
 
 use crate::layout::{
     brought_along, preview_words, queue, record, row, BATCH_RECORDS, CERTIFICATE_WORDS, CRITICAL_WORDS, EFFECT_WORDS,
-    ENTRY_WORDS, GUESTS, PLACE_WORDS, QUEUE_PLACES, RECORD_BLOCK, RECORD_ENDORSERS, ROW_BLOCK, ROW_HELD, SERVED,
-    STATE_BLOCKS, STATE_CEILING, STATE_MARGIN, STATE_ROUND, TRANSACTIONS, TRANSACTION_WORDS, WAITING,
+    ENTRY_WORDS, GUESTS, HELD_WORDS, PLACE_WORDS, QUEUE_PLACES, RECORD_BLOCK, RECORD_ENDORSERS, ROW_BLOCK, ROW_HELD,
+    SERVED, STATE_BLOCKS, STATE_CEILING, STATE_MARGIN, STATE_ROUND, TRANSACTIONS, TRANSACTION_WORDS, WAITING,
 };
 use crate::lent::{self, CertificateRecord};
 use crate::*;
@@ -670,6 +670,72 @@ fn advance_is_refused_in_its_order() {
         engine.state[0] = 16;
         refuses(&mut engine, 1, Engine::advance);
     }
+}
+
+// ---- block rows
+
+/// What blocks hold, once it is the chain's, each as the certificate read gives it.
+fn block_rows(engine: &Engine, known: u32, number: u32) -> Result<Vec<Held>, Refusal> {
+    let found = engine.block_rows(known, number)?;
+    let blocks = engine.chain().unwrap();
+    let blocks = &blocks[known as usize..(known + number) as usize];
+    let place = |(at, block): (u32, &Block)| block.certificates.iter().map(move |&place| (at, place)).collect::<Vec<_>>();
+    let places = (known + 1..).zip(blocks).flat_map(place);
+    assert!(found.iter().map(|held| (held.block.unwrap(), (held.proposal.round, held.proposal.author))).eq(places));
+    for held in &found {
+        assert_eq!(engine.certificate(held.proposal.author, held.proposal.round).as_ref(), Ok(held));
+    }
+    Ok(found)
+}
+
+/// Two blocks of one commit, and one after them: what is new, the whole chain, and pieces of it.
+#[test]
+fn block_rows_are_certificates_of_the_chain() {
+    let mut engine = of_four(0);
+    for round in 1..=7 {
+        let previous = if round == 1 { 0 } else { 0b1111 };
+        for author in 0..4 {
+            let one = of_all_four(author, round, previous, &[entry(10 * round + author)]);
+            engine.accept(&one).unwrap();
+        }
+        if round == 5 {
+            assert_eq!(engine.block_rows(0, 1), Err(Refusal::NoneThere));
+            assert_eq!(engine.block_rows(0, 0), Ok(Vec::new()));
+            assert_eq!(engine.commit(), Ok(2));
+        }
+        if round < 7 {
+            engine.advance().unwrap();
+        }
+    }
+    assert_eq!(engine.commit(), Ok(1));
+    let pieces: Vec<Held> = (0..3).flat_map(|known| block_rows(&engine, known, 1).unwrap()).collect();
+    let whole = block_rows(&engine, 0, 3).unwrap();
+    assert_eq!((&whole, whole.len()), (&pieces, 21));
+    assert_eq!(block_rows(&engine, 1, 2).unwrap(), whole[5..]);
+    for (known, number) in [(0, 4), (3, 1), (4, 0), (u32::MAX, u32::MAX)] {
+        assert_eq!(engine.block_rows(known, number), Err(Refusal::NoneThere));
+    }
+}
+
+/// 1, 23, 25: a list with just enough room serves, and keeps what lies beyond; one word less does not.
+#[test]
+fn a_list_of_rows_is_lent() {
+    let mut engine = of_four(0);
+    engine.batch(&newest_first(3)).unwrap();
+    (0..2).for_each(|_| engine.advance().unwrap());
+    assert_eq!(engine.commit(), Ok(1));
+    let mut list = vec![77; 5 * HELD_WORDS + 1];
+    for length in 0..5 * HELD_WORDS {
+        let found = lent::block_rows(&engine.state, &engine.table, 0, 1, &mut list[..length]);
+        assert_eq!(found, Err(Refusal::LengthRange));
+        assert_eq!(lent::block_rows(&engine.state, &engine.table, 0, 2, &mut list[..length]), Err(Refusal::NoneThere));
+        assert_eq!(lent::block_rows(&[0; STATE_WORDS], &engine.table, 0, 2, &mut list), Err(Refusal::Malformed));
+    }
+    assert!(list.iter().all(|&word| word == 77));
+    assert_eq!(lent::block_rows(&engine.state, &engine.table, 0, 1, &mut list), Ok(5));
+    assert_eq!(list[5 * HELD_WORDS], 77);
+    let held: Result<Vec<_>, _> = lent::rows(&list, 5).map(|words| Held::from_words(&words)).collect();
+    assert_eq!(held, block_rows(&engine, 0, 1));
 }
 
 // ---- previews

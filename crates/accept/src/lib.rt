@@ -4,6 +4,7 @@
 #![tactic(auto)]
 
 pub mod admission;
+pub mod theorems;
 
 ghost use Rattle.std.specs.Prelude.{◌≡◌};
 ghost use Rattle.refusals.specs.Refusals.{refusal_in};

@@ -5,12 +5,13 @@ use mathlib.Core.Option.{some}
 use mathlib.Core.Logic.{◌⊎◌, inl, inr}
 use Prim.Native.Nat.{ℕ, zero, suc, ◌+◌, ◌-◌, ◌≤◌}
 use native.Mathlib.Omega.{arith}
+use Rattle.agreement.specs.Quorum.{Common}
 use Rattle.agreement.specs.Rules.{Rules}
 use Rattle.agreement.specs.View.{World, Log}
 use Rattle.agreement.specs.Dag.{Held, Reach, here, back}
 use Rattle.agreement.specs.Anchors.{votes, Elected}
 use Rattle.agreement.specs.Invariants.{PreviousQuorum, Storing, Sound}
-use Rattle.agreement.proofs.WeightLaws.{everyone, Common}
+use Rattle.agreement.proofs.WeightLaws.{everyone}
 use Rattle.agreement.proofs.QuorumIntersection.{voters-meet}
 use Rattle.agreement.proofs.DagLaws.{vote-by, at_place}
 use Rattle.agreement.proofs.NonEquivocation.{committee_agreement, dag-nonequivocation, Signer, signer}

@@ -6,9 +6,8 @@ use Prim.Native.Nat.{ℕ}
 use Rattle.agreement.specs.Rules.{Rules}
 use Rattle.agreement.specs.View.{Knows, World, Log, Among}
 use Rattle.agreement.specs.Dag.{Held}
-use Rattle.agreement.specs.Quorum.{Tolerant}
+use Rattle.agreement.specs.Quorum.{Common, Tolerant}
 use Rattle.agreement.specs.Invariants.{Certified, Sound}
-use Rattle.agreement.proofs.WeightLaws.{Common}
 use Rattle.agreement.proofs.QuorumIntersection.{quorum_pos, quorums_meet, quorum-correct}
 use Rattle.agreement.proofs.KnownCommittees.{comparable-committee}
 use Rattle.agreement.proofs.DagLaws.{at_place}

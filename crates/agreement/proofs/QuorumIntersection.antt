@@ -6,8 +6,8 @@ use native.Mathlib.Omega.{arith}
 use Rattle.agreement.specs.Weights.{total}
 use Rattle.agreement.specs.Rules.{Rules}
 use Rattle.agreement.specs.Laws.{Lawful}
-use Rattle.agreement.specs.Quorum.{Quorum, Outweighs, Tolerant}
-use Rattle.agreement.proofs.WeightLaws.{weigh-split, total_pos, everyone, Common, meet}
+use Rattle.agreement.specs.Quorum.{Common, Quorum, Outweighs, Tolerant}
+use Rattle.agreement.proofs.WeightLaws.{weigh-split, total_pos, everyone, meet}
 
 module _ (R : Rules) where
   open R use {size}

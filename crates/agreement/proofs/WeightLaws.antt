@@ -5,6 +5,7 @@ use Prim.Native.Nat.{ℕ, ◌+◌, ◌*◌, ◌≤◌, ◌<◌}
 use native.Mathlib.Omega.{arith}
 use Rattle.base.proofs.SumLaws.{sum_same, sum_add, sum_at, sum_less, sum_mono}
 use Rattle.agreement.specs.Weights.{weigh, total, outside}
+use Rattle.agreement.specs.Quorum.{Common}
 
 -- a set and its outside weigh the total together
 pub weigh-split : (n : ℕ) (w : ℕ → ℕ) (S : ℕ → Bool) → weigh n w S + weigh n w (outside S) ≡ total n w
@@ -32,14 +33,6 @@ total_pos n w {i} h p = omega (arith, sum_at w n i h)
 -- the set of all members
 abbrev pub everyone : ℕ → Bool
 everyone i = true
-
--- someone who is in three sets at once
-pub record Common (n : ℕ) (S T C : ℕ → Bool) : Type 0 where
-  pub who : ℕ
-  pub below : who < n
-  pub first : S who ≡ true
-  pub second : T who ≡ true
-  pub third : C who ≡ true
 
 -- three sets that weigh more than twice the total have a common member
 pub meet : (n : ℕ) (w : ℕ → ℕ) (S T C : ℕ → Bool) → 2 * total n w < weigh n w S + weigh n w T + weigh n w C → Common n S T C

@@ -3,6 +3,14 @@ use Rattle.std.specs.Prelude.{◌≡◌, Bool, true, ℕ, ◌+◌, ◌≤◌, �
 use Rattle.agreement.specs.Weights.{weigh, total, outside}
 use Rattle.agreement.specs.Rules.{Rules}
 
+-- a member who is in three sets at once
+pub record Common (n : ℕ) (S T C : ℕ → Bool) : Type 0 where
+  pub who : ℕ
+  pub below : who < n
+  pub first : S who ≡ true
+  pub second : T who ≡ true
+  pub third : C who ≡ true
+
 module _ (R : Rules) where
   open R use {size, bound}
 

@@ -22,15 +22,6 @@ use Rattle.batching.specs.TakenTurns.{Ready}
 use Rattle.batching.specs.Begun.{fresh_stage}
 use Rattle.state.specs.States.{own_body}
 
--- an answer that is an error has a number, and any other has none
-pub err-some : {A : Type 0} (r : Result A Refusal) → is_err r ≡ true → refusal_in r ≢ 0
-err-some (Ok x) h = absurd (false≢true h)
-err-some (Err e) h = some-number e
-
-pub ok-none : {A : Type 0} (r : Result A Refusal) → is_err r ≡ false → refusal_in r ≡ 0
-ok-none (Ok x) h = refl
-ok-none (Err e) h = absurd (true≢false h)
-
 -- where turns are taken the batch is not refused, and it has a record
 pub some-turns : {r n k : ℕ} → k ≡ cond (eqb r 0) (n + n) 0 → 0 < k → (r ≡ 0) × (0 < n)
 some-turns {r} {n} {k} e h = go (eqb r 0) refl e

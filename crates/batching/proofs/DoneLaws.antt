@@ -37,7 +37,7 @@ use Rattle.batching.proofs.TurnLaws.{all-turns}
 put_same : (d x y : List ℕ) (n : ℕ) → n ≤ length x → n ≤ length y → ((i : ℕ) → i < n → get_or x i 0 ≡ get_or y i 0) → paste d 0 x n ≡ paste d 0 y n
 put_same d x y n h k e = ap (λ (z : List ℕ). take 0 d ++ z ++ drop (0 + n) d) (same-part x y 0 0 n (omega arith) (omega arith) (λ i l. let z : 0 + i ≡ i = omega arith in rw z (e i l)))
 
-module _ (k : ℕ) (w t : List ℕ) (row : List CertificateRecord) (answers : List ℕ) (x : Start) (r : Progress) (u : List ℕ) (b : Begun k w t (length row) (length answers) x) (ran : Ran row x.state x.turns t x.progress r u) where
+module _ (w t : List ℕ) (row : List CertificateRecord) (answers : List ℕ) (x : Start) (r : Progress) (u : List ℕ) (b : Begun w t (length row) (length answers) x) (ran : Ran row x.state x.turns t x.progress r u) where
   room : SameRoom row x.state (fresh_stage (length row)) r.stage
   room = rw (ran.stage, b.stage) (ran_room row x.state x.turns (fresh_stage (length row)) t)
 
@@ -51,15 +51,8 @@ module _ (k : ℕ) (w t : List ℕ) (row : List CertificateRecord) (answers : Li
   -- ---- accepted
 
   module _ (z : refusal_in x.checked ≡ 0) where
-    caller : k ≡ 0
-    caller = go (eqb k 0) refl (sym b.refusal ∙ z)
-      where
-        go : (c : Bool) → eqb k 0 ≡ c → cond c (cond (state_reads w) (batch_refusal (state_in w) t (length row) (length answers)) 1) k ≡ 0 → k ≡ 0
-        go true e f = eqb-true k 0 e
-        go false e f = f
-
     number : refusal_in x.checked ≡ cond (state_reads w) (batch_refusal (state_in w) t (length row) (length answers)) 1
-    number = rw (eq-eqb k 0 caller) at b.refusal
+    number = b.refusal
 
     can_read : state_reads w ≡ true
     can_read = go (state_reads w) refl (sym number ∙ z)
@@ -92,7 +85,7 @@ module _ (k : ℕ) (w t : List ℕ) (row : List CertificateRecord) (answers : Li
 
   -- ---- the whole
 
-  pub batch-done : (m : ℕ) (out : List ℕ) → m ≡ refusal_in x.checked → out ≡ if_accepted (refusal_in x.checked) (paste answers 0 r.stage.answers r.stage.count) answers → Done plain (cond (eqb k 0) (batch_result w t row answers) (refused w t answers k)) m w u out
+  pub batch-done : (m : ℕ) (out : List ℕ) → m ≡ refusal_in x.checked → out ≡ if_accepted (refusal_in x.checked) (paste answers 0 r.stage.answers r.stage.count) answers → Done plain (batch_result w t row answers) m w u out
   unfolding batch_result
   batch-done m out e o = go (ℕ_discrete (refusal_in x.checked) 0)
     where
@@ -106,16 +99,6 @@ module _ (k : ℕ) (w t : List ℕ) (row : List CertificateRecord) (answers : Li
           record { its-answer = e ∙ y; its-state = refl; its-table = still z ∙ sym k.0; its_out = o ∙ if_accepted-old (refusal_in x.checked) _ answers z ∙ sym k.1 }
       not_taken z false y = record { its-answer = e ∙ y; its-state = refl; its-table = still z; its_out = o ∙ if_accepted-old (refusal_in x.checked) _ answers z }
 
-      by-caller : refusal_in x.checked ≢ 0 → (c : Bool) → refusal_in x.checked ≡ cond c (cond (state_reads w) (batch_refusal (state_in w) t (length row) (length answers)) 1) k → Done plain (cond c (batch_result w t row answers) (refused w t answers k)) m w u out
-      by-caller z true y = not_taken z (state_reads w) y
-      by-caller z false y = record { its-answer = e ∙ y; its-state = refl; its-table = still z; its_out = o ∙ if_accepted-old (refusal_in x.checked) _ answers z }
-
-      go : Dec (refusal_in x.checked ≡ 0) → Done plain (cond (eqb k 0) (batch_result w t row answers) (refused w t answers k)) m w u out
-      go (yes z) = rw (eq-eqb k 0 (caller z), can_read z) (taken z e o)
-      go (no z) = by-caller z (eqb k 0) b.refusal
-
--- a guest's, where c is the caller's number
-pub guest-batch-done : (c : ℕ) (w t : List ℕ) (row : List CertificateRecord) (answers : List ℕ) (x : Start) (r : Progress) (u : List ℕ) → Begun (caller_number w c batch_needs) w t (length row) (length answers) x → Ran row x.state x.turns t x.progress r u
-    → (m : ℕ) (out : List ℕ) → m ≡ refusal_in x.checked → out ≡ if_accepted (refusal_in x.checked) (paste answers 0 r.stage.answers r.stage.count) answers → Done plain (as_guest w t answers c batch_needs (batch_result w t row answers)) m w u out
-unfolding as_guest
-guest-batch-done c w t row answers x r u b ran m out e o = batch-done (caller_number w c batch_needs) w t row answers x r u b ran m out e o
+      go : Dec (refusal_in x.checked ≡ 0) → Done plain (batch_result w t row answers) m w u out
+      go (yes z) = rw (can_read z) (taken z e o)
+      go (no z) = not_taken z (state_reads w) b.refusal

@@ -11,9 +11,9 @@ use Rattle.batching.specs.declared.Start.{Start}
 abbrev pub fresh_stage : ℕ → Stage
 fresh_stage n = record { count = n; seen = 0; place = 0; rounds = replicate 64 0; authors = replicate 64 0; left = replicate 64 false; answers = replicate 64 0 }
 
--- a batch of n records, with room for so many answers, has begun with x; k is the number that refuses its caller, 0 for none and for the host
-pub record Begun (k : ℕ) (w t : List ℕ) (n room : ℕ) (x : Start) : Type 0 where
-  pub refusal : refusal_in x.checked ≡ cond (eqb k 0) (cond (state_reads w) (batch_refusal (state_in w) t n room) 1) k
+-- a batch of n records, with room for so many answers, has begun with x
+pub record Begun (w t : List ℕ) (n room : ℕ) (x : Start) : Type 0 where
+  pub refusal : refusal_in x.checked ≡ cond (state_reads w) (batch_refusal (state_in w) t n room) 1
   -- two turns for each record, none where it is refused
   pub turns : x.turns ≡ cond (eqb (refusal_in x.checked) 0) (n + n) 0
   pub stage : x.progress.stage ≡ fresh_stage n

@@ -14,17 +14,12 @@ ghost use Rattle.running.specs.Caches.{first_round};
 ghost use Rattle.state.specs.Answers.{if_accepted};
 ghost use Rattle.refusals.specs.Refusals.{refusal_in};
 ghost use Rattle.batch.specs.Batch.{batch_refusal};
-ghost use Rattle.terms.specs.Rights.{caller_refusal};
-ghost use Rattle.engine.specs.Guests.{batch_needs};
-ghost use Rattle.hosting.specs.Guested.{rights_in};
 ghost use Rattle.batching.specs.Begun.{fresh_stage, Begun};
 
 use crate::offering::{Progress, Stage};
-use hosting::guesting;
 use refusals::Refusal;
 use running::cache;
 use state::State;
-use terms::rights::Right;
 
 /// What a batch starts from: what the checks give, the state, how many turns are to be taken, and the progress before the first.
 #[derive(Clone, Copy)]
@@ -83,7 +78,7 @@ fn turns_for(checked: Result<(), Refusal>, n: usize) -> usize
 
 /// The checks of a batch of n records with room for so many answers, and its start: 1 where the state's words mean none or the state is not well formed, then 25 for more than 64 records or for too little room.
 pub fn begin(state: &[u32], t: &[u32], n: usize, room: usize) -> Start
-    ensures { Begun 0 state.now t.now n room result }
+    ensures { Begun state.now t.now n room result }
 {
     let progress = fresh(n);
     let Some(s) = words::states::state(state) else {
@@ -101,22 +96,6 @@ pub fn begin(state: &[u32], t: &[u32], n: usize, room: usize) -> Start
         turns: turns_for(checked, n),
         progress,
     }
-}
-
-/// The same for a guest: where its caller is refused no turn is to be taken.
-pub fn begin_guest(caller: u32, state: &[u32], t: &[u32], n: usize, room: usize) -> Start
-    ensures { Begun (caller_refusal (rights_in state.now) batch_needs caller) state.now t.now n room result }
-{
-    let checked = guesting::check(state, Right::Sign, caller);
-    if checked.is_err() {
-        return Start {
-            checked,
-            state: open::closed(),
-            turns: 0,
-            progress: fresh(n),
-        };
-    }
-    begin(state, t, n, room)
 }
 
 /// Puts the answers, each at its place, where the batch is not refused; gives the refusal's number, 0 for none.

@@ -34,7 +34,7 @@ fn mark_row(t: &mut [u32], b: u32, s: u32, r: Round)
 
 // Puts what is in no block yet, of the history of the set s of round top, into block b.
 // seen has what earlier walks reached, by round: where a walk reaches nothing else it ends.
-#[tactic(auto, using(crate::proofs::SeenLaws::seen_end))]
+#[tactic(auto, using(crate::proofs::SeenLaws::seen_end), unfolding(base::specs::Sets::is_subset))]
 fn mark_history(t: &mut [u32], seen: &mut [u32; 1025], b: u32, s: u32, top: Round)
     requires { HistoryReady t.old seen.old top.0 × (0 < b) }
     ensures { (t.new ≡ mark_history b top.0 s t.old) × Seen t.new seen.new seen.new }
@@ -44,7 +44,7 @@ fn mark_history(t: &mut [u32], seen: &mut [u32; 1025], b: u32, s: u32, top: Roun
     while 0 < r {
         let q = r - 1;
         let old = seen[r as usize];
-        if base::shared(here, old) == here {
+        if base::is_subset(here, old) {
             return;
         }
         let next = histories::step_down(t, here, Round(r));

@@ -9,7 +9,7 @@ use borrow.Author.Tests.{eqb-true}
 use Rattle.base.specs.Folds.{sum_to}
 use Rattle.base.specs.Sets.{mem}
 use Rattle.committee.specs.Positions.{count_below, member_below, place_in}
-use Rattle.committee.specs.Places.{place_table}
+use Rattle.committee.specs.declared.positions.TheConstants.{PLACES}
 use Rattle.committee.proofs.Table.{every, at}
 
 -- x is what the rule says of entry i: of the position i % 8 of the set i / 8
@@ -17,20 +17,19 @@ is_entry : ℕ → ℕ → Bool
 is_entry i x = eqb x (place_in (i / 8) (i % 8))
 
 -- the test, computed
-test : every is_entry 0 place_table ≡ true
-unfolding is_entry place_table place_in member_below count_below sum_to mem
+test : every is_entry 0 PLACES ≡ true
+unfolding is_entry place_in member_below count_below sum_to mem
 test = refl
 
-size : length place_table ≡ 2048
-unfolding place_table
+size : length PLACES ≡ 2048
 size = refl
 
 -- the rule, at each entry
-pub place_rule : (s p : ℕ) → s < 256 → p < 8 → get_or place_table (s * 8 + p) 0 ≡ place_in s p
+pub place_rule : (s p : ℕ) → s < 256 → p < 8 → get_or PLACES (s * 8 + p) 0 ≡ place_in s p
 unfolding is_entry
 place_rule s p h l =
     let e : (s * 8 + p) / 8 ≡ s = omega arith in
     let f : (s * 8 + p) % 8 ≡ p = omega arith in
     let n = size in
-    let t = at is_entry place_table test (s * 8 + p) (omega arith) in
-    eqb-true (get_or place_table (s * 8 + p) 0) (place_in ((s * 8 + p) / 8) ((s * 8 + p) % 8)) t ∙ rw (e, f) refl
+    let t = at is_entry PLACES test (s * 8 + p) (omega arith) in
+    eqb-true (get_or PLACES (s * 8 + p) 0) (place_in ((s * 8 + p) / 8) ((s * 8 + p) % 8)) t ∙ rw (e, f) refl

@@ -1,11 +1,10 @@
 //! Members of a set of eight by position, from a table (docs/RULES.md, "Weights" to "Leader and anchor").
 
-ghost use Rattle.std.specs.Prelude.{◌≡◌, ◌≤◌};
-ghost use Rattle.committee.specs.Places.{place_table, HasEntry};
+ghost use Rattle.std.specs.Prelude.{◌≡◌, ◌<◌, ◌≤◌};
 ghost use Rattle.committee.specs.Positions.{place_in};
 
 // Entry 8 × set + position is the number of the member at that position of the set, counted from 0 by rising number; 8 for none. A line has the eight positions of a set.
-const PLACES: [u8; 2048] = *b"\
+static PLACES: [u8; 2048] = *b"\
     \x08\x08\x08\x08\x08\x08\x08\x08\
     \x00\x08\x08\x08\x08\x08\x08\x08\
     \x01\x08\x08\x08\x08\x08\x08\x08\
@@ -263,21 +262,13 @@ const PLACES: [u8; 2048] = *b"\
     \x01\x02\x03\x04\x05\x06\x07\x08\
     \x00\x01\x02\x03\x04\x05\x06\x07";
 
-/// The table, for whoever looks up many to lend: a constant is written out anew wherever it is used.
-#[tactic(auto, unfolding(crate::specs::Places::place_table))]
-pub fn places() -> [u8; 2048]
-    ensures { result ≡ place_table }
-{
-    PLACES
-}
-
 /// The number of the member at position p of the set s, 8 for none.
 ///
-/// It is for sets of members 0 to 7 and positions 0 to 7, and reads the table l.
+/// It is for sets of members 0 to 7 and positions 0 to 7.
 #[tactic(auto, using(crate::proofs::Rule::place_rule, crate::proofs::PositionLaws::place_le))]
-pub fn member_in(l: &[u8; 2048], s: u32, p: u32) -> u32
-    requires { HasEntry l.now s p }
+pub fn member_in(s: u32, p: u32) -> u32
+    requires { (s < 256) × (p < 8) }
     ensures { (result ≡ place_in s p) × (result ≤ 8) }
 {
-    l[s as usize * 8 + p as usize] as u32
+    PLACES[s as usize * 8 + p as usize] as u32
 }

@@ -13,7 +13,7 @@ use Rattle.committee.specs.Committees.{bound_of}
 use Rattle.engine.specs.Calls.{Call}
 use Rattle.engine.specs.Engine.{Engine}
 use Rattle.nonforking.specs.Statement.{Behaviour, Members, Entry, engine_after, Knows, weights, Takes, Proposes, Endorses, Made, Signed, Fair, WithinBound, Run}
-use Rattle.earlier.specs.Refusing.{AllAccepted, accepted_only, RefusesMore, answering_as, CarriesOver, WasAllowed}
+use Rattle.earlier.specs.Refusing.{AllAccepted, accepted_only, RefusesMore, answering_as, WasAllowed}
 
 module _ {E D : Behaviour} (R : RefusesMore E D) (X : Members E) where
   open X use {correct, before, sheet, settings}
@@ -96,5 +96,7 @@ same_engines E D R X l i = same-engine R X l i
 pub runs_were_allowed : (E D : Behaviour) (R : RefusesMore E D) (X : Members E) (l : List Entry) → Run X l → WasAllowed R X l
 runs_were_allowed E D R X l r = let p = parts R X l r in record { run = p.0; all-accepted = p.1 }
 
-pub carries_over : CarriesOver
+-- so what holds of the engines after every run of D holds of them after every run of E
+pub carries_over : (E D : Behaviour) (R : RefusesMore E D) (X : Members E) (Q : (ℕ → Engine) → Type 0)
+    → ((l : List Entry) → Run (answering_as R X) l → Q (engine_after (answering_as R X) l)) → (l : List Entry) → Run X l → Q (engine_after X l)
 carries_over E D R X Q f l r = subst Q (fun_ext (same-engine R X l)) (f (accepted_only X l) (parts R X l r).0)

@@ -49,10 +49,3 @@ module _ {E D : Behaviour} (R : RefusesMore E D) (X : Members E) where
     pub run : Run answering_as (accepted_only X l)
     -- D accepts every call of it
     pub all-accepted : AllAccepted answering_as (accepted_only X l)
-
--- ---- what is claimed
-
--- what holds of the engines after every run of D holds of them after every run of E
-abbrev pub CarriesOver : Type 1
-CarriesOver = (E D : Behaviour) (R : RefusesMore E D) (X : Members E) (Q : (ℕ → Engine) → Type 0)
-    → ((l : List Entry) → Run (answering_as R X) l → Q (engine_after (answering_as R X) l)) → (l : List Entry) → Run X l → Q (engine_after X l)

@@ -8,6 +8,11 @@ ghost use Rattle.engine.specs.Engine.{Engine, refusal_for};
 ghost use Rattle.engine.specs.Sequences.{Opening, after_opening};
 ghost use Rattle.nonforking.specs.Statement.{Agreed, Behaviour, ChainsNeverFork, Entry, Members, Run, engine_after, engine_behaviour};
 
+/// What may hold of the members' engines at one moment, member by number: any property at all.
+pub trait Property {
+    ghost holds: { (ℕ → Engine) → Type 0 };
+}
+
 /// A list with its refused calls left out leads each member to the same engine by the rules that refuse less as the whole list by those that refuse more.
 #[tactic(auto, using(crate::proofs::RefusingLaws::same_engines))]
 pub fn same_engines()
@@ -17,6 +22,12 @@ pub fn same_engines()
 /// Every run by the rules that refuse more, its refused calls left out, was allowed by those that refuse less.
 pub fn runs_were_allowed()
     ensures { (E D : Behaviour) (R : RefusesMore E D) (X : Members E) (l : List Entry) → Run X l → WasAllowed R X l }
+{}
+
+/// Whatever property the members' engines have after every run by the rules that refuse less, they have after every run by those that refuse more.
+pub fn carries_over<P: Property>()
+    ensures { (E D : Behaviour) (R : RefusesMore E D) (X : Members E) → ((l : List Entry) → Run (answering_as R X) l → P.holds (engine_after (answering_as R X) l))
+        → (l : List Entry) → Run X l → P.holds (engine_after X l) }
 {}
 
 /// Members refuse more than by the earlier rules.

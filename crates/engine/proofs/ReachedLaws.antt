@@ -1,17 +1,29 @@
 -- Every engine that calls from an accepted open lead to is well formed, with the settings of a sheet; and what calls keep holds of it.
-use mathlib.Core.Path.{◌≡◌, sym, ap, ◌∙◌, subst}
-use mathlib.Core.List.{List, [], ◌∷◌}
+use mathlib.Core.Path.{◌≡◌, refl, sym, ap, ◌∙◌, subst}
+use mathlib.Core.Bool.{Bool, true, false, cond}
+use mathlib.Core.List.{List, [], ◌∷◌, ◌++◌, append_assoc}
+use mathlib.Core.Option.{some, none-ne-some}
+use Prim.Native.Nat.{ℕ, suc, ◌≤◌}
+use native.Mathlib.Omega.{arith}
+use lib.Dec.{eqb}
+use lib.ListN.{length}
+use borrow.Author.Tests.{eqb-true, ne_eqb}
+use Rattle.agreement.specs.Rules.{Block, Chain}
+use Rattle.agreement.specs.Prefixes.{block_numbered}
 use Rattle.terms.specs.declared.Member.{Member}
 use Rattle.terms.specs.declared.sheet.Sheet.{Sheet}
+use Rattle.terms.specs.Proposals.{Content}
 use Rattle.terms.specs.Sheets.{filled}
+use Rattle.state.specs.WellFormed.{well_formed}
 use Rattle.engine.specs.Calls.{Call, opens, InRange}
 use Rattle.engine.specs.Engine.{Engine, refusal_for, after}
 use Rattle.engine.specs.Steps.{FreshlyOpened, Step, refused, opened, moved}
-use Rattle.engine.specs.Sequences.{after_calls, AllInRange, Opening, after_opening}
+use Rattle.engine.specs.Sequences.{after_calls, AllInRange, NoOpens, Opening, after_opening}
 use Rattle.engine.specs.Reached.{Reached, by_open, by_call, Good, Intact}
 use Rattle.engine.proofs.AfterLaws.{accepted-new}
 use Rattle.engine.proofs.NextLaws.{open_fresh}
 use Rattle.engine.proofs.StepLaws.{every_step}
+use Rattle.engine.proofs.GrowthLaws.{Newer, chain_in, chain-newer}
 
 -- an accepted open
 pub opened-fresh : (e : Engine) (own : Member) (sheet : Sheet) → refusal_for e (opens own sheet) ≡ 0 → FreshlyOpened own sheet e (after e (opens own sheet))
@@ -39,6 +51,9 @@ pub intact : {e : Engine} → Reached e → Intact e
 intact (by_open x) = record { sheet = x.sheet; own = x.own.0; good = fresh-good (opened-fresh x.before x.own x.sheet x.accepted) }
 intact (by_call e r c i) = intact-after e (intact r) c i
 
+pub reached_formed : (e : Engine) → Reached e → well_formed e.state e.table ≡ true
+reached_formed e r = (intact r).good.formed
+
 -- what every opening leaves and every call keeps
 pub always : (P : Engine → Type 0) → ((x : Opening) → P (after_opening x)) → ((e : Engine) → Intact e → (c : Call) → InRange c → P e → P (after e c))
     → {e : Engine} → Reached e → P e
@@ -46,7 +61,47 @@ always P a f (by_open x) = a x
 always P a f (by_call e r c i) = f e (intact r) c i (always P a f r)
 
 -- lists of calls lead to such engines
-pub reached : (x : Opening) (l : List Call) → AllInRange l → Reached (after_calls (after_opening x) l)
+pub calls-lead-to : (e : Engine) → Reached e → (l : List Call) → AllInRange l → Reached (after_calls e l)
 unfolding after_calls
-reached x [] i = by_open x
-reached x (c ∷ l) i = by_call _ (reached x l i.1) c i.0
+calls-lead-to e r [] i = r
+calls-lead-to e r (c ∷ l) i = by_call _ (calls-lead-to e r l i.1) c i.0
+
+pub reached : (x : Opening) (l : List Call) → AllInRange l → Reached (after_calls (after_opening x) l)
+reached x = calls-lead-to (after_opening x) (by_open x)
+
+-- ---- a block once made stays
+
+newer-append : {P : Type 0} {c d x : Chain P} → Newer c d → Newer d x → Newer c x
+newer-append {P} {c} m n = (n.0 ++ m.0, n.1 ∙ ap (λ (l : Chain P). n.0 ++ l) m.1 ∙ sym (append_assoc n.0 m.0 c))
+
+-- the chain after any calls but accepted opens is the one before them with newer blocks, or none
+pub blocks_stay : (e : Engine) → Reached e → (l : List Call) → AllInRange l → NoOpens e l → Newer (chain_in e) (chain_in (after_calls e l))
+unfolding after_calls
+blocks_stay e r [] i n = ([], refl)
+blocks_stay e r (c ∷ l) i n = newer-append (blocks_stay e r l i.1 n.1) (chain-newer (after_calls e l) (intact (calls-lead-to e r l i.1)).good.small c i.0 n.0)
+
+block-number : {P : Type 0} (c : Chain P) (n : ℕ) {b : Block P} → block_numbered c n ≡ some b → n ≤ length c
+unfolding block_numbered
+block-number [] n {b} h = absurd (none-ne-some b h)
+block-number (a ∷ c) n {b} h = go (eqb n (suc (length c))) refl h (λ k. block-number c n k)
+  where
+    go : (t : Bool) → eqb n (suc (length c)) ≡ t → cond t (some a) (block_numbered c n) ≡ some b → (block_numbered c n ≡ some b → n ≤ length c) → n ≤ suc (length c)
+    go true e k f = omega (arith, eqb-true n (suc (length c)) e)
+    go false e k f = omega (arith, f k)
+
+no-shorter : {P : Type 0} (newer c : Chain P) → length c ≤ length (newer ++ c)
+no-shorter [] c = omega arith
+no-shorter (a ∷ l) c = omega (arith, no-shorter l c)
+
+-- so each block keeps its number, its round and its certificates
+numbered-under : {P : Type 0} (newer c : Chain P) (n : ℕ) {b : Block P} → block_numbered c n ≡ some b → block_numbered (newer ++ c) n ≡ some b
+unfolding block_numbered
+numbered-under [] c n h = h
+numbered-under (a ∷ l) c n h =
+    let low = block-number c n h in
+    let long = no-shorter l c in
+    rw (ne_eqb n (suc (length (l ++ c))) (λ e. absurd (omega arith))) (numbered-under l c n h)
+
+pub numbers_stay : (e : Engine) → Reached e → (l : List Call) → AllInRange l → NoOpens e l
+    → (n : ℕ) (b : Block Content) → block_numbered (chain_in e) n ≡ some b → block_numbered (chain_in (after_calls e l)) n ≡ some b
+numbers_stay e r l i o n b h = let m = blocks_stay e r l i o in rw m.1 (numbered-under m.0 (chain_in e) n h)

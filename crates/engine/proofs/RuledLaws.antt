@@ -3,9 +3,13 @@ use mathlib.Core.Path.{◌≡◌, refl, sym, ap, ◌∙◌, subst, subst₂}
 use mathlib.Core.Bool.{true}
 use mathlib.Core.Logic.{◌⊎◌, inl, inr, ◌≢◌}
 use Prim.Native.Nat.{ℕ}
+use Rattle.agreement.specs.Moves.{after_accept}
 use Rattle.base.specs.Checks.{refusal}
 use Rattle.base.proofs.CheckLaws.{passes-all}
 use Rattle.terms.specs.declared.Member.{Member}
+use Rattle.terms.specs.declared.Proposal.{Proposal}
+use Rattle.terms.specs.declared.Certificate.{Certificate}
+use Rattle.terms.specs.Proposals.{content_of}
 use Rattle.terms.specs.declared.sheet.Settings.{Settings}
 use Rattle.rules.specs.Tests.{MemberView}
 use Rattle.rules.specs.Calls as rules
@@ -21,9 +25,9 @@ use Rattle.accept.specs.Accept.{accept_refusal}
 use Rattle.advance.specs.Advance.{advance_refusal}
 use Rattle.commit.specs.Commit.{commit_refusal}
 use Rattle.draw.specs.Draw.{draw_refusal}
-use Rattle.engine.specs.Calls.{Call, opens, advance, commit, enqueue, port, aside, InRange}
+use Rattle.engine.specs.Calls.{Call, opens, certify, accept, advance, commit, enqueue, port, aside, InRange}
 use Rattle.engine.specs.Engine.{Engine, refusal_for, after}
-use Rattle.engine.specs.Steps.{view_at, ruled, Step, refused, opened, moved}
+use Rattle.engine.specs.Steps.{view_at, ruled, SetInRange, Step, refused, opened, moved}
 use Rattle.engine.specs.Sequences.{NoOpen}
 use Rattle.engine.specs.Reached.{Good}
 use Rattle.engine.proofs.StepLaws.{every_step}
@@ -72,6 +76,15 @@ module _ (e : Engine) (w : well_formed e.state e.table ≡ true) where
       go (inl h) = result-refused state.settings state.own.0 (view state table) (ruled e c) (rw h at n)
       go (inr h) = rw h (read-leaves state.settings state.own.0 (view state table))
 
+-- the number that refuses a call on a well-formed engine is the rules'; a call that the rules have for a read is refused with a number of its own
+pub refused_as_ruled : (e : Engine) → well_formed e.state e.table ≡ true → (c : Call)
+    → (refusal_for e c ≡ ruled_refusal e.state.settings e.state.own.0 (view_at e.state.settings e) (ruled e c)) ⊎ (ruled e c ≡ rules.read)
+refused_as_ruled e w c = ruling e w c
+
+-- a well-formed engine, by its own settings and number
+own-good : (e : Engine) → well_formed e.state e.table ≡ true → SetInRange e → Good e.state.settings e.state.own.0 e
+own-good e w s = record { own = refl; settings = refl; formed = w; small = s }
+
 -- ---- engines with the settings S and the own number k
 
 module _ {S : Settings} {k : ℕ} {e : Engine} (g : Good S k e) where
@@ -116,3 +129,26 @@ module _ {S : Settings} {k : ℕ} {e : Engine} (g : Good S k e) where
             ∙ as_given (λ T i. view_at T e ≡ result T i (view_at T e) (ruled e c)) (sym (refused-leaves e g.formed c n))
         go (opened own sheet q b f) = absurd (o own sheet q b)
         go (moved b w n) = accepted-view b ∙ sym (result-accepted S k (view_at S e) (ruled e c) (accepted-ruled c b))
+
+-- the same of a well-formed engine, by its own settings and number
+pub leaves_as_ruled : (e : Engine) → well_formed e.state e.table ≡ true → SetInRange e → (c : Call) → InRange c → NoOpen e c
+    → view_at e.state.settings (after e c) ≡ result e.state.settings e.state.own.0 (view_at e.state.settings e) (ruled e c)
+leaves_as_ruled e w s c r o = view-after (own-good e w s) c r o
+
+-- whatever endorsers a certificate is stored with, the same is shown afterwards
+module _ (e : Engine) (w : well_formed e.state e.table ≡ true) (s : SetInRange e) where
+  pub certified_alike : (d f : ℕ) → InRange (certify d) → InRange (certify f) → refusal_for e (certify d) ≡ 0 → refusal_for e (certify f) ≡ 0
+      → view_at e.state.settings (after e (certify d)) ≡ view_at e.state.settings (after e (certify f))
+  unfolding rules.after
+  certified_alike d f i j a b =
+      let g = own-good e w s in
+      accepted-view g (certify d) i (λ own sheet q. absurd (cc q)) a ∙ sym (accepted-view g (certify f) j (λ own sheet q. absurd (cc q)) b)
+
+  pub accepted_alike : (c d : Certificate) → c.proposal ≡ d.proposal → InRange (accept c) → InRange (accept d) → refusal_for e (accept c) ≡ 0 → refusal_for e (accept d) ≡ 0
+      → view_at e.state.settings (after e (accept c)) ≡ view_at e.state.settings (after e (accept d))
+  unfolding rules.after
+  accepted_alike c d q i j a b =
+      let g = own-good e w s in
+      accepted-view g (accept c) i (λ own sheet q. absurd (cc q)) a
+      ∙ ap (λ (p : Proposal). after_accept (view_at e.state.settings e) (content_of p)) q
+      ∙ sym (accepted-view g (accept d) j (λ own sheet q. absurd (cc q)) b)

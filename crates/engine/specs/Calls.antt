@@ -9,7 +9,7 @@ use Rattle.terms.specs.declared.Certificate.{Certificate}
 use Rattle.terms.specs.declared.sheet.Sheet.{Sheet}
 use Rattle.serial.specs.Calls.{PortCall, PortInRange}
 
--- the calls that leave state and table as they are: the reads, the preview of a commit, the certificates that it hangs on, and the listing of the chain
+-- the calls that leave state and table as they are: the reads, the preview of a commit, the certificates that it hangs on, what blocks in a row hold, and the listing of the chain
 pub data Aside : Type 0 where
   committee : Round → Aside
   share : Member → Round → Aside
@@ -22,6 +22,8 @@ pub data Aside : Type 0 where
   preview : ℕ → Aside
   -- the certificates that a commit hangs on; the number of words of the lent list
   critical : ℕ → Aside
+  -- what blocks hold: of the n after the first m, m and n; the number of words of the lent list
+  blocks : ℕ → ℕ → ℕ → Aside
   listing : Aside
 
 pub data Call : Type 0 where

@@ -15,10 +15,11 @@ use Rattle.advance.specs.Advance.{advance_refusal, advance_state}
 use Rattle.commit.specs.Commit.{commit_refusal, commit_state, commit_table_after}
 use Rattle.preview.specs.Preview.{previewing}
 use Rattle.critical.specs.Critical.{reading_critical}
+use Rattle.spans.specs.Listed.{reading_blocks}
 use Rattle.enqueue.specs.Enqueue.{enqueue_refusal, enqueue_table}
 use Rattle.draw.specs.Draw.{draw_refusal, draw_state, draw_table}
 use Rattle.serial.specs.Serial.{port_refusal, port_table}
-use Rattle.engine.specs.Calls.{Aside, committee, share, effect, certificate, block, preview, critical, listing, Call, opens, propose, endorse, certify, accept, advance, commit, enqueue, draw, port, aside}
+use Rattle.engine.specs.Calls.{Aside, committee, share, effect, certificate, block, preview, critical, blocks, listing, Call, opens, propose, endorse, certify, accept, advance, commit, enqueue, draw, port, aside}
 
 -- what a member's host keeps between calls
 pub record Engine : Type 0 where
@@ -34,6 +35,7 @@ aside_checks e (certificate m r) = reading_certificate e.state.settings (view e.
 aside_checks e (block n) = reading_block e.state.settings (view e.state e.table) n
 aside_checks e (preview n) = previewing e.state e.table n
 aside_checks e (critical n) = reading_critical e.state e.table n
+aside_checks e (blocks m n w) = reading_blocks e.state e.table m n w
 aside_checks e listing = []
 
 -- the number of the first check that refuses the call, 0 for none: then it is accepted

@@ -12,10 +12,12 @@ use Rattle.commit.specs.Commit.{blocks_then}
 use Rattle.preview.specs.Entries.{Entry}
 use Rattle.preview.specs.Preview.{preview_entries}
 use Rattle.critical.specs.Critical.{Place, critical_places}
+use Rattle.spans.specs.Listed.{blocks_held}
+use Rattle.reads.specs.declared.Held.{Held}
 use Rattle.reads.specs.Held as reads
 use Rattle.serial.specs.Calls.{read, write, PortCall, access, reset}
 use Rattle.serial.specs.Serial.{register}
-use Rattle.engine.specs.Calls.{Aside, committee, share, effect, certificate, block, preview, critical, listing, Call, commit, port, aside}
+use Rattle.engine.specs.Calls.{Aside, committee, share, effect, certificate, block, preview, critical, blocks, listing, Call, commit, port, aside}
 use Rattle.engine.specs.Engine.{Engine, refusal_for}
 
 pub data Value : Type 0 where
@@ -32,6 +34,8 @@ pub data Value : Type 0 where
   entries : List Entry → Value
   -- those that a commit hangs on
   places : List Place → Value
+  -- those of blocks in a row, each as the read of a certificate gives it
+  rows : List Held → Value
   -- the chain, newest block first
   chain : Chain Content → Value
 
@@ -44,6 +48,7 @@ aside_value e (certificate m r) = held (reads.proposal_shown ((view e.state e.ta
 aside_value e (block n) = number (block_read e.state.settings (view e.state e.table) n)
 aside_value e (preview n) = entries (preview_entries e.state e.table)
 aside_value e (critical n) = places (critical_places e.state e.table)
+aside_value e (blocks m n w) = rows (blocks_held e.state e.table m n)
 aside_value e listing = chain (view e.state e.table).chain
 
 -- of what is asked of a port: a read gives what the offset shows

@@ -1,11 +1,6 @@
 -- Batches leave guests' queues, and draws are fair with batches among the calls.
-use mathlib.Core.Path.{◌≡◌, refl, sym, ap, ◌∙◌, subst}
-use mathlib.Core.Bool.{Bool, true, false, cond}
-use mathlib.Core.List.{List, [], ◌∷◌, ◌++◌}
+use Rattle.std.proofs.Common.{◌≡◌, refl, sym, ap, ◌∙◌, subst, Bool, true, false, cond, List, [], ◌∷◌, ◌++◌, ℕ, length, eqb}
 use mathlib.Core.Option.{Option, none, some}
-use Prim.Native.Nat.{ℕ}
-use lib.ListN.{length}
-use lib.Dec.{eqb}
 use Rattle.base.specs.Options.{if_there}
 use Rattle.terms.specs.declared.Certificate.{Certificate}
 use Rattle.state.proofs.AnswerLaws.{if_accepted-same}

@@ -1,8 +1,6 @@
 -- The moments of a call follow one another, after what was waiting before it.
-use mathlib.Core.Path.{◌≡◌, refl, sym, ap}
-use mathlib.Core.List.{List, [], ◌∷◌, ◌++◌}
+use Rattle.std.proofs.Common.{◌≡◌, refl, sym, ap, List, [], ◌∷◌, ◌++◌, ℕ}
 use mathlib.Core.Option.{none}
-use Prim.Native.Nat.{ℕ}
 use native.Mathlib.Decide.{ℕ_discrete}
 use Rattle.state.proofs.AnswerLaws.{if_accepted-new, if_accepted-old}
 use Rattle.state.specs.Answers.{if_accepted}

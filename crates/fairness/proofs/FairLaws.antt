@@ -1,10 +1,6 @@
 -- Between two transactions drawn from one guest every other guest that is waiting all that time has one drawn.
-use mathlib.Core.Path.{◌≡◌, sym, ap, ◌∙◌, subst}
-use mathlib.Core.Bool.{true, true≢false}
-use mathlib.Core.List.{List, [], ◌∷◌, ◌++◌, append_assoc}
+use Rattle.std.proofs.Common.{◌≡◌, sym, ap, ◌∙◌, subst, true, true≢false, List, [], ◌∷◌, ◌++◌, append_assoc, ◌⊎◌, inl, inr, ◌≢◌, ℕ, ◌<◌}
 use mathlib.Core.Option.{some, some-injective, none-ne-some}
-use mathlib.Core.Logic.{◌⊎◌, inl, inr, ◌≢◌}
-use Prim.Native.Nat.{ℕ, ◌<◌}
 use native.Mathlib.Decide.{ℕ_discrete}
 use lib.Seq.{append_snoc}
 use Rattle.queues.specs.Queues.{Queues, is_waiting, served}

@@ -1,13 +1,7 @@
 -- A guest adds to no queue but its own, and draws are fair with guests' requests among the calls.
-use mathlib.Core.Path.{◌≡◌, refl, sym, ap, ◌∙◌, subst}
-use mathlib.Core.Bool.{Bool, true, false, cond}
-use mathlib.Core.List.{List, [], ◌∷◌, ◌++◌, append_assoc}
-use mathlib.Core.Logic.{◌≢◌}
+use Rattle.std.proofs.Common.{◌≡◌, refl, sym, ap, ◌∙◌, subst, Bool, true, false, cond, List, [], ◌∷◌, ◌++◌, append_assoc, ◌≢◌, ℕ, eqb, ne_eqb, eqb-true}
 use mathlib.Core.Option.{Option, none, some}
-use Prim.Native.Nat.{ℕ}
 use native.Mathlib.Decide.{ℕ_discrete}
-use lib.Dec.{eqb}
-use borrow.Author.Tests.{ne_eqb, eqb-true}
 use Rattle.base.specs.Options.{if_there}
 use Rattle.terms.specs.declared.Transaction.{Transaction}
 use Rattle.state.specs.Answers.{if_accepted}

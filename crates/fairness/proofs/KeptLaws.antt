@@ -1,7 +1,6 @@
 -- What every call leaves in guests' queues.
-use mathlib.Core.Path.{◌≡◌, refl, ap, ◌∙◌}
+use Rattle.std.proofs.Common.{◌≡◌, refl, ap, ◌∙◌, eq-eqb, ne_eqb}
 use native.Mathlib.Decide.{ℕ_discrete}
-use borrow.Author.Tests.{eq-eqb, ne_eqb}
 use Rattle.store.proofs.FirstRow.{same_then, put_first, set-endorsed-first, clear-endorsed-first, cleared-first}
 use Rattle.terms.specs.Proposals.{content_with, content_of}
 use Rattle.store.specs.Writes.{put_certificate, clear_endorsed}

@@ -1,9 +1,6 @@
 -- What moments may follow one another: each draws from the next guest, or leaves the guest served last, or finds all queues empty.
-use mathlib.Core.Path.{◌≡◌, refl}
-use mathlib.Core.Bool.{false}
-use mathlib.Core.List.{List, [], ◌∷◌, ◌++◌}
+use Rattle.std.proofs.Common.{◌≡◌, refl, false, List, [], ◌∷◌, ◌++◌, ℕ, zero, suc}
 use mathlib.Core.Option.{Option, none, some}
-use Prim.Native.Nat.{ℕ, zero, suc}
 use Rattle.queues.specs.Queues.{Queues, Draw, is_waiting, next_guest, served, drawn, after_draws}
 use Rattle.queues.proofs.DrawLaws.{drawn-none, drawn-more}
 use Rattle.fairness.specs.Fairness.{Moment, draw_moments}

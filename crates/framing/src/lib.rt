@@ -4,6 +4,7 @@
 #![tactic(auto)]
 
 pub mod records;
+pub mod theorems;
 
 ghost use Rattle.std.specs.Prelude.{◌≡◌, ◌≤◌, length};
 ghost use Rattle.framing.specs.Streams.{until_end};

@@ -6,6 +6,8 @@ ghost use Rattle.batching.specs.Batched.{batch_result};
 
 use batching::rows::CertificateRecord;
 use batching::trying;
+use hosting::guesting;
+use terms::rights::Right;
 
 /// Takes a row of up to 64 certificates of 17 words each. They are tried by rising round, then author, then place; the answer that accept gives at its turn is put at each one's place in `answers`, which is as long as the row at least. The state is only read. Answers 0, or the number that refuses, and then nothing is tried: 1, 25. docs/RULES.md, "Batches".
 #[unsafe(no_mangle)]
@@ -25,6 +27,7 @@ pub extern "C" fn forgelilac_batch(
 
 /// A guest has a row of certificates tried. It answers 26 for a caller above 7 and 29 for one without the right, and then nothing is tried and no word changes. Else it does and answers what `forgelilac_batch` does. Right: sign. docs/RULES.md, "Rights" and "Batches".
 #[unsafe(no_mangle)]
+#[tactic(auto, using(crate::proofs::Guests::guest_refused, crate::proofs::Guests::guest_allowed, crate::proofs::Guests::some_number))]
 pub extern "C" fn forgelilac_guest_batch(
     caller: u32,
     state: &[u32],
@@ -34,8 +37,8 @@ pub extern "C" fn forgelilac_guest_batch(
 ) -> u32
     ensures { Done plain (as_guest state.now table.old answers.old caller batch_needs (batch_result state.now table.old row.now answers.old)) result state.now table.new answers.new }
 {
-    let start = batching::begin_guest(caller, state, table, row.len(), answers.len());
-    let mut progress = start.progress;
-    trying::run(table, row, &start.state, &mut progress, start.turns);
-    batching::put_answers(start.checked, &progress, answers)
+    match guesting::check(state, Right::Sign, caller) {
+        Ok(()) => forgelilac_batch(state, table, row, answers),
+        Err(refusal) => hosting::plain(Err(refusal)),
+    }
 }

@@ -1,12 +1,9 @@
 //! The calls of guests: the caller's right, and then the host's own call.
 #![tactic(auto, using(crate::proofs::Guests::guest_refused, crate::proofs::Guests::guest_allowed, crate::proofs::Guests::some_number))]
 
-ghost use Rattle.std.specs.Prelude.{true, [], ltb};
-ghost use Rattle.engine.specs.Guests.{propose, draw, enqueue, endorse, certify, accept, advance, commit};
-ghost use Rattle.words.specs.Bodies.{lone_body_reads, body_in, lone_triple_reads, triple_in};
-ghost use Rattle.words.specs.Proposals.{proposal_reads, proposal_in, certificate_reads, certificate_in};
+ghost use Rattle.std.specs.Prelude.{[]};
 ghost use Rattle.hosting.specs.Calls.{plain, packed, Done};
-ghost use Rattle.hosting.specs.Guested.{guest_result};
+ghost use Rattle.hosting.specs.GuestForms.{comes_to_guest, propose, draw, enqueue, endorse, certify, accept, advance, commit};
 
 use hosting::guesting;
 use terms::rights::Right;
@@ -19,7 +16,7 @@ pub extern "C" fn forgelilac_guest_propose(
     table: &[u32],
     body: &[u32],
 ) -> u32
-    ensures { Done plain (guest_result state.old table.now [] caller (lone_body_reads body.now) (propose (body_in body.now 0))) result state.new table.now [] }
+    ensures { Done plain (comes_to_guest state.old table.now caller (propose body.now)) result state.new table.now [] }
 {
     match guesting::check(state, Right::Propose, caller) {
         Ok(()) => crate::calls::forgelilac_propose(state, table, body),
@@ -35,7 +32,7 @@ pub extern "C" fn forgelilac_guest_draw(
     table: &mut [u32],
     previous: u32,
 ) -> u32
-    ensures { Done plain (guest_result state.old table.old [] caller (ltb previous 65536) (draw previous)) result state.new table.new [] }
+    ensures { Done plain (comes_to_guest state.old table.old caller (draw previous)) result state.new table.new [] }
 {
     match guesting::check(state, Right::Propose, caller) {
         Ok(()) => crate::queue_calls::forgelilac_draw(state, table, previous),
@@ -51,7 +48,7 @@ pub extern "C" fn forgelilac_guest_enqueue(
     table: &mut [u32],
     transaction: &[u32],
 ) -> u32
-    ensures { Done plain (guest_result state.now table.old [] caller (lone_triple_reads transaction.now) (enqueue (triple_in transaction.now))) result state.now table.new [] }
+    ensures { Done plain (comes_to_guest state.now table.old caller (enqueue transaction.now)) result state.now table.new [] }
 {
     match guesting::check(state, Right::Propose, caller) {
         Ok(()) => crate::queue_calls::forgelilac_enqueue(state, table, caller, transaction),
@@ -67,7 +64,7 @@ pub extern "C" fn forgelilac_guest_endorse(
     table: &mut [u32],
     proposal: &[u32],
 ) -> u32
-    ensures { Done plain (guest_result state.now table.old [] caller (proposal_reads proposal.now) (endorse (proposal_in proposal.now))) result state.now table.new [] }
+    ensures { Done plain (comes_to_guest state.now table.old caller (endorse proposal.now)) result state.now table.new [] }
 {
     match guesting::check(state, Right::Sign, caller) {
         Ok(()) => crate::calls::forgelilac_endorse(state, table, proposal),
@@ -83,7 +80,7 @@ pub extern "C" fn forgelilac_guest_certify(
     table: &mut [u32],
     endorsers: u32,
 ) -> u32
-    ensures { Done plain (guest_result state.now table.old [] caller (ltb endorsers 65536) (certify endorsers)) result state.now table.new [] }
+    ensures { Done plain (comes_to_guest state.now table.old caller (certify endorsers)) result state.now table.new [] }
 {
     match guesting::check(state, Right::Sign, caller) {
         Ok(()) => crate::calls::forgelilac_certify(state, table, endorsers),
@@ -99,7 +96,7 @@ pub extern "C" fn forgelilac_guest_accept(
     table: &mut [u32],
     certificate: &[u32],
 ) -> u32
-    ensures { Done plain (guest_result state.now table.old [] caller (certificate_reads certificate.now) (accept (certificate_in certificate.now))) result state.now table.new [] }
+    ensures { Done plain (comes_to_guest state.now table.old caller (accept certificate.now)) result state.now table.new [] }
 {
     match guesting::check(state, Right::Sign, caller) {
         Ok(()) => crate::calls::forgelilac_accept(state, table, certificate),
@@ -110,7 +107,7 @@ pub extern "C" fn forgelilac_guest_accept(
 /// A guest has the member go on to the next round. It answers 26 for a caller above 7 and 29 for one without the right, and then no word changes. Else it does and answers what `forgelilac_advance` does. Right: drive. docs/RULES.md, "Rights".
 #[unsafe(no_mangle)]
 pub extern "C" fn forgelilac_guest_advance(caller: u32, state: &mut [u32], table: &[u32]) -> u32
-    ensures { Done plain (guest_result state.old table.now [] caller true advance) result state.new table.now [] }
+    ensures { Done plain (comes_to_guest state.old table.now caller advance) result state.new table.now [] }
 {
     match guesting::check(state, Right::Drive, caller) {
         Ok(()) => crate::calls::forgelilac_advance(state, table),
@@ -121,7 +118,7 @@ pub extern "C" fn forgelilac_guest_advance(caller: u32, state: &mut [u32], table
 /// A guest has blocks made. It refuses with 26 a caller above 7 and with 29 one without the right, in the high half of the answer; then no word changes, and the low half is 0. Else it does and answers what `forgelilac_commit` does. Right: drive. docs/RULES.md, "Rights".
 #[unsafe(no_mangle)]
 pub extern "C" fn forgelilac_guest_commit(caller: u32, state: &mut [u32], table: &mut [u32]) -> u64
-    ensures { Done packed (guest_result state.old table.old [] caller true commit) result state.new table.new [] }
+    ensures { Done packed (comes_to_guest state.old table.old caller commit) result state.new table.new [] }
 {
     match guesting::check(state, Right::Drive, caller) {
         Ok(()) => crate::calls::forgelilac_commit(state, table),

@@ -1,11 +1,10 @@
 //! Guests' accesses to their serial ports: the caller's right to read, and then the access.
 #![tactic(auto, using(crate::proofs::Guests::guest_refused, crate::proofs::Guests::guest_allowed, crate::proofs::Guests::some_number))]
 
-ghost use Rattle.std.specs.Prelude.{true, []};
+ghost use Rattle.std.specs.Prelude.{[]};
 ghost use Rattle.serial.specs.Calls.{read, write};
-ghost use Rattle.engine.specs.Guests.{access};
 ghost use Rattle.hosting.specs.Calls.{plain, packed, Done};
-ghost use Rattle.hosting.specs.Guested.{guest_result};
+ghost use Rattle.hosting.specs.GuestForms.{comes_to_guest, access};
 
 use hosting::guesting;
 use terms::rights::Right;
@@ -18,7 +17,7 @@ pub extern "C" fn forgelilac_guest_port_read(
     table: &mut [u32],
     offset: u32,
 ) -> u64
-    ensures { Done packed (guest_result state.now table.old [] caller true (access (read offset))) result state.now table.new [] }
+    ensures { Done packed (comes_to_guest state.now table.old caller (access (read offset))) result state.now table.new [] }
 {
     match guesting::check(state, Right::Read, caller) {
         Ok(()) => hosting::packed(crate::port_calls::port_read(state, table, caller, offset)),
@@ -35,7 +34,7 @@ pub extern "C" fn forgelilac_guest_port_write(
     offset: u32,
     value: u8,
 ) -> u32
-    ensures { Done plain (guest_result state.now table.old [] caller true (access (write offset value))) result state.now table.new [] }
+    ensures { Done plain (comes_to_guest state.now table.old caller (access (write offset value))) result state.now table.new [] }
 {
     match guesting::check(state, Right::Read, caller) {
         Ok(()) => hosting::plain(crate::port_calls::port_write(

@@ -1,11 +1,10 @@
 //! What guests read, each with the right to read: the caller's right, and then the host's own read.
 #![tactic(auto, using(crate::proofs::Guests::guest_refused, crate::proofs::Guests::guest_allowed, crate::proofs::Guests::some_number))]
 
-ghost use Rattle.std.specs.Prelude.{true, [], length};
-ghost use Rattle.engine.specs.Calls.{committee, share, effect, certificate, block, preview, critical};
-ghost use Rattle.engine.specs.Guests.{aside};
+ghost use Rattle.std.specs.Prelude.{[], length};
+ghost use Rattle.engine.specs.Calls.{committee, share, effect, certificate, block, preview, critical, blocks};
 ghost use Rattle.hosting.specs.Calls.{plain, packed, Done};
-ghost use Rattle.hosting.specs.Guested.{guest_result};
+ghost use Rattle.hosting.specs.GuestForms.{comes_to_guest, aside};
 
 use hosting::guesting;
 use terms::rights::Right;
@@ -19,7 +18,7 @@ pub extern "C" fn forgelilac_guest_committee(
     round: u32,
     out: &mut [u32],
 ) -> u32
-    ensures { Done plain (guest_result state.now table.now out.old caller true (aside (committee (record { 0 = round })))) result state.now table.now out.new }
+    ensures { Done plain (comes_to_guest state.now table.now caller (aside (committee (record { 0 = round })) out.old)) result state.now table.now out.new }
 {
     match guesting::check(state, Right::Read, caller) {
         Ok(()) => crate::views::forgelilac_committee(state, table, round, out),
@@ -36,7 +35,7 @@ pub extern "C" fn forgelilac_guest_share(
     member: u32,
     round: u32,
 ) -> u64
-    ensures { Done packed (guest_result state.now table.now [] caller true (aside (share (record { 0 = member }) (record { 0 = round })))) result state.now table.now [] }
+    ensures { Done packed (comes_to_guest state.now table.now caller (aside (share (record { 0 = member }) (record { 0 = round })) [])) result state.now table.now [] }
 {
     match guesting::check(state, Right::Read, caller) {
         Ok(()) => crate::views::forgelilac_share(state, table, member, round),
@@ -55,7 +54,7 @@ pub extern "C" fn forgelilac_guest_bond_effect(
     amount: u32,
     out: &mut [u32],
 ) -> u32
-    ensures { Done plain (guest_result state.now table.now out.old caller true (aside (effect (record { 0 = member }) (record { 0 = round }) amount))) result state.now table.now out.new }
+    ensures { Done plain (comes_to_guest state.now table.now caller (aside (effect (record { 0 = member }) (record { 0 = round }) amount) out.old)) result state.now table.now out.new }
 {
     match guesting::check(state, Right::Read, caller) {
         Ok(()) => crate::views::forgelilac_bond_effect(state, table, member, round, amount, out),
@@ -73,7 +72,7 @@ pub extern "C" fn forgelilac_guest_certificate(
     round: u32,
     out: &mut [u32],
 ) -> u32
-    ensures { Done plain (guest_result state.now table.now out.old caller true (aside (certificate (record { 0 = author }) (record { 0 = round })))) result state.now table.now out.new }
+    ensures { Done plain (comes_to_guest state.now table.now caller (aside (certificate (record { 0 = author }) (record { 0 = round })) out.old)) result state.now table.now out.new }
 {
     match guesting::check(state, Right::Read, caller) {
         Ok(()) => crate::views::forgelilac_certificate(state, table, author, round, out),
@@ -89,7 +88,7 @@ pub extern "C" fn forgelilac_guest_block(
     table: &[u32],
     number: u32,
 ) -> u64
-    ensures { Done packed (guest_result state.now table.now [] caller true (aside (block number))) result state.now table.now [] }
+    ensures { Done packed (comes_to_guest state.now table.now caller (aside (block number) [])) result state.now table.now [] }
 {
     match guesting::check(state, Right::Read, caller) {
         Ok(()) => crate::views::forgelilac_block(state, table, number),
@@ -105,7 +104,7 @@ pub extern "C" fn forgelilac_guest_preview(
     table: &[u32],
     list: &mut [u32],
 ) -> u64
-    ensures { Done packed (guest_result state.now table.now list.old caller true (aside (preview (length list.old)))) result state.now table.now list.new }
+    ensures { Done packed (comes_to_guest state.now table.now caller (aside (preview (length list.old)) list.old)) result state.now table.now list.new }
 {
     match guesting::check(state, Right::Read, caller) {
         Ok(()) => crate::previews::forgelilac_preview(state, table, list),
@@ -121,10 +120,28 @@ pub extern "C" fn forgelilac_guest_critical(
     table: &mut [u32],
     list: &mut [u32],
 ) -> u64
-    ensures { Done packed (guest_result state.now table.old list.old caller true (aside (critical (length list.old)))) result state.now table.new list.new }
+    ensures { Done packed (comes_to_guest state.now table.old caller (aside (critical (length list.old)) list.old)) result state.now table.new list.new }
 {
     match guesting::check(state, Right::Read, caller) {
         Ok(()) => crate::criticals::forgelilac_critical(state, table, list),
+        Err(refusal) => hosting::packed(Err(refusal)),
+    }
+}
+
+/// A guest reads what blocks in a row hold, eighteen words for each certificate into `list`. It refuses with 26 a caller above 7 and with 29 one without the right, in the high half of the answer; then no word changes, and the low half is 0. Else it does and answers what `forgelilac_block_rows` does. Right: read. docs/RULES.md, "Rights".
+#[unsafe(no_mangle)]
+pub extern "C" fn forgelilac_guest_block_rows(
+    caller: u32,
+    state: &[u32],
+    table: &[u32],
+    known: u32,
+    number: u32,
+    list: &mut [u32],
+) -> u64
+    ensures { Done packed (comes_to_guest state.now table.now caller (aside (blocks known number (length list.old)) list.old)) result state.now table.now list.new }
+{
+    match guesting::check(state, Right::Read, caller) {
+        Ok(()) => crate::block_rows::forgelilac_block_rows(state, table, known, number, list),
         Err(refusal) => hosting::packed(Err(refusal)),
     }
 }

@@ -4,6 +4,7 @@
 #![tactic(auto)]
 
 mod batches;
+mod block_rows;
 mod calls;
 mod criticals;
 mod guest_calls;
@@ -12,4 +13,5 @@ mod guest_views;
 mod port_calls;
 mod previews;
 mod queue_calls;
+pub mod runs;
 mod views;

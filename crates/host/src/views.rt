@@ -1,11 +1,12 @@
 //! The reads that a host makes: committee, share, bond effect, certificate, block, and the length of a table.
 #![tactic(auto, using(crate::proofs::Answered::result_read, crate::proofs::Answered::result_unread, crate::proofs::Guests::some_number), unfolding(engine::specs::Values::value_of, reads::specs::Reads::committee_refusal, reads::specs::Reads::share_refusal, reads::specs::Reads::effect_refusal, reads::specs::Reads::certificate_refusal, reads::specs::Reads::block_refusal, reads::specs::Held::certificate_read))]
 
-ghost use Rattle.std.specs.Prelude.{◌≡◌, true, []};
+ghost use Rattle.std.specs.Prelude.{◌≡◌, []};
 ghost use Rattle.store.specs.Table.{used_length};
-ghost use Rattle.engine.specs.Calls.{aside, committee, share, effect, certificate, block};
+ghost use Rattle.engine.specs.Calls.{committee, share, effect, certificate, block};
 ghost use Rattle.refusals.specs.Refusals.{refusal_in, packed_in};
-ghost use Rattle.hosting.specs.Calls.{plain, packed, Done, result_of};
+ghost use Rattle.hosting.specs.Calls.{plain, packed, Done};
+ghost use Rattle.hosting.specs.HostCalls.{comes_to, aside};
 
 use reads::{bonding, standing};
 use refusals::Refusal;
@@ -21,14 +22,14 @@ pub extern "C" fn forgelilac_committee(
     round: u32,
     out: &mut [u32],
 ) -> u32
-    ensures { Done plain (result_of state.now table.now out.old true (aside (committee (record { 0 = round })))) result state.now table.now out.new }
+    ensures { Done plain (comes_to state.now table.now (aside (committee (record { 0 = round })) out.old)) result state.now table.now out.new }
 {
     hosting::plain(committee(state, table, round, out))
 }
 
 // The call, told as a result.
 fn committee(state: &[u32], table: &[u32], round: u32, out: &mut [u32]) -> Result<(), Refusal>
-    ensures { Done plain (result_of state.now table.now out.old true (aside (committee (record { 0 = round })))) (refusal_in result) state.now table.now out.new }
+    ensures { Done plain (comes_to state.now table.now (aside (committee (record { 0 = round })) out.old)) (refusal_in result) state.now table.now out.new }
 {
     let Some(s) = words::states::state(state) else {
         return Err(Refusal::Malformed);
@@ -44,18 +45,16 @@ fn committee(state: &[u32], table: &[u32], round: u32, out: &mut [u32]) -> Resul
 /// Gives the share of a member in a round's committee, in thousandths. State and table are only read. The low half of the answer is the share, the high half the number that refuses, 0 for none: 1, 4, 5, 8, 9. docs/RULES.md, "Shares".
 #[unsafe(no_mangle)]
 pub extern "C" fn forgelilac_share(state: &[u32], table: &[u32], member: u32, round: u32) -> u64
-    ensures { Done packed (result_of state.now table.now [] true (aside (share (record { 0 = member }) (record { 0 = round })))) result state.now table.now [] }
+    ensures { Done packed (comes_to state.now table.now (aside (share (record { 0 = member }) (record { 0 = round })) [])) result state.now table.now [] }
 {
     hosting::packed(share(state, table, member, round))
 }
 
 // The call, told as a result.
 fn share(state: &[u32], table: &[u32], member: u32, round: u32) -> Result<u32, Refusal>
-    ensures { Done packed (result_of state.now table.now [] true (aside (share (record { 0 = member }) (record { 0 = round })))) (packed_in result) state.now table.now [] }
+    ensures { Done packed (comes_to state.now table.now (aside (share (record { 0 = member }) (record { 0 = round })) [])) (packed_in result) state.now table.now [] }
 {
-    let Some(s) = words::states::state(state) else {
-        return Err(Refusal::Malformed);
-    };
+    let s = words::states::state(state).ok_or(Refusal::Malformed)?;
     standing::share(&s, table, Member(member), Round(round))
 }
 
@@ -69,7 +68,7 @@ pub extern "C" fn forgelilac_bond_effect(
     amount: u32,
     out: &mut [u32],
 ) -> u32
-    ensures { Done plain (result_of state.now table.now out.old true (aside (effect (record { 0 = member }) (record { 0 = round }) amount))) result state.now table.now out.new }
+    ensures { Done plain (comes_to state.now table.now (aside (effect (record { 0 = member }) (record { 0 = round }) amount) out.old)) result state.now table.now out.new }
 {
     hosting::plain(bond_effect(state, table, member, round, amount, out))
 }
@@ -83,7 +82,7 @@ fn bond_effect(
     amount: u32,
     out: &mut [u32],
 ) -> Result<(), Refusal>
-    ensures { Done plain (result_of state.now table.now out.old true (aside (effect (record { 0 = member }) (record { 0 = round }) amount))) (refusal_in result) state.now table.now out.new }
+    ensures { Done plain (comes_to state.now table.now (aside (effect (record { 0 = member }) (record { 0 = round }) amount) out.old)) (refusal_in result) state.now table.now out.new }
 {
     let Some(s) = words::states::state(state) else {
         return Err(Refusal::Malformed);
@@ -105,7 +104,7 @@ pub extern "C" fn forgelilac_certificate(
     round: u32,
     out: &mut [u32],
 ) -> u32
-    ensures { Done plain (result_of state.now table.now out.old true (aside (certificate (record { 0 = author }) (record { 0 = round })))) result state.now table.now out.new }
+    ensures { Done plain (comes_to state.now table.now (aside (certificate (record { 0 = author }) (record { 0 = round })) out.old)) result state.now table.now out.new }
 {
     hosting::plain(certificate(state, table, author, round, out))
 }
@@ -118,7 +117,7 @@ fn certificate(
     round: u32,
     out: &mut [u32],
 ) -> Result<(), Refusal>
-    ensures { Done plain (result_of state.now table.now out.old true (aside (certificate (record { 0 = author }) (record { 0 = round })))) (refusal_in result) state.now table.now out.new }
+    ensures { Done plain (comes_to state.now table.now (aside (certificate (record { 0 = author }) (record { 0 = round })) out.old)) (refusal_in result) state.now table.now out.new }
 {
     let Some(s) = words::states::state(state) else {
         return Err(Refusal::Malformed);
@@ -134,18 +133,16 @@ fn certificate(
 /// Gives the round of a block by its number, from 1 on. State and table are only read. The low half of the answer is the round, the high half the number that refuses, 0 for none: 1, 23. docs/RULES.md, "Reads".
 #[unsafe(no_mangle)]
 pub extern "C" fn forgelilac_block(state: &[u32], table: &[u32], number: u32) -> u64
-    ensures { Done packed (result_of state.now table.now [] true (aside (block number))) result state.now table.now [] }
+    ensures { Done packed (comes_to state.now table.now (aside (block number) [])) result state.now table.now [] }
 {
     hosting::packed(block(state, table, number))
 }
 
 // The call, told as a result.
 fn block(state: &[u32], table: &[u32], number: u32) -> Result<u32, Refusal>
-    ensures { Done packed (result_of state.now table.now [] true (aside (block number))) (packed_in result) state.now table.now [] }
+    ensures { Done packed (comes_to state.now table.now (aside (block number) [])) (packed_in result) state.now table.now [] }
 {
-    let Some(s) = words::states::state(state) else {
-        return Err(Refusal::Malformed);
-    };
+    let s = words::states::state(state).ok_or(Refusal::Malformed)?;
     let round = reads::block(&s, table, number)?;
     Ok(round.0)
 }

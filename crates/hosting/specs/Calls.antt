@@ -7,11 +7,12 @@ use Rattle.state.specs.declared.State.{State}
 use Rattle.open.specs.Open.{closed_state}
 use Rattle.preview.specs.Entries.{words_of}
 use Rattle.critical.specs.Critical.{place_words}
+use Rattle.spans.specs.Spans.{words_of as row_words}
 use Rattle.serial.specs.Calls.{PortCall}
 use Rattle.serial.specs.Serial.{early_checks}
 use Rattle.engine.specs.Calls.{Aside, committee, effect, certificate, Call, opens, propose, endorse, certify, accept, advance, commit, enqueue, draw, port, aside}
 use Rattle.engine.specs.Engine.{Engine, refusal_for, after}
-use Rattle.engine.specs.Values.{Value, number, weights, shares, held, entries, places, value_of}
+use Rattle.engine.specs.Values.{Value, number, weights, shares, held, entries, places, rows, value_of}
 use Rattle.words.specs.Lengths.{state_length, held_length, committee_length, effect_length}
 use Rattle.words.specs.Words.{weight_words}
 use Rattle.words.specs.Proposals.{held_words}
@@ -49,7 +50,7 @@ pub data Use : Type 0 where
   accesses : PortCall → Use
   reads : ℕ → Use
 
--- how many words of the out stretch a read needs; a preview and the list of critical certificates test by themselves whether there are enough, and hosts are offered no listing of the chain
+-- how many words of the out stretch a read needs; a preview, the list of critical certificates and that of blocks test by themselves whether there are enough, and hosts are offered no listing of the chain
 abbrev pub room_for : Aside → ℕ
 room_for (committee r) = committee_length
 room_for (effect m r a) = effect_length
@@ -81,6 +82,7 @@ abbrev pub value_word : Value → ℕ
 value_word (number n) = n
 value_word (entries l) = length l
 value_word (places l) = length l
+value_word (rows l) = length l
 value_word c = 0
 
 -- the engine that the state's words and the table give
@@ -114,13 +116,14 @@ module _ (w t o : List ℕ) where
   state_over (accesses x) s = w
   state_over (reads n) s = w
 
-  -- the out stretch; entries have three words each, places two, and its rest stays
+  -- the out stretch; entries have three words each, places two, certificates of blocks eighteen, and its rest stays
   abbrev pub out_over : Value → List ℕ
   out_over (weights x) = paste o 0 (weight_words x) committee_length
   out_over (shares x) = paste o 0 (effect_words x) effect_length
   out_over (held p endorsers k) = paste o 0 (held_words p endorsers k) held_length
   out_over (entries l) = sets o 0 (words_of l)
   out_over (places l) = sets o 0 (place_words l)
+  out_over (rows l) = sets o 0 (row_words l)
   out_over c = o
 
   -- ---- a call

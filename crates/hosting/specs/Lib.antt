@@ -4,3 +4,5 @@ pub mod Handed
 pub mod Held
 pub mod Bounds
 pub mod Guested
+pub mod HostCalls
+pub mod GuestForms

@@ -1,14 +1,16 @@
-//! What holds over words: of bonds' effects, of serial ports, of opening, and of guests' rights.
+//! What holds over words: of refused calls and of accepted ones, of what is passed on, of bonds' effects, of serial ports, of opening, and of guests' rights.
 
-ghost use Rattle.std.specs.Prelude.{Bool, List, [], false, true, ℕ, ◌<◌, ◌≡◌, ◌≤◌};
+ghost use Rattle.std.specs.Prelude.{Bool, List, [], false, true, ℕ, ◌<◌, ◌≡◌, ◌≢◌, ◌≤◌};
 ghost use Rattle.committee.specs.BondEffects.{most_moved};
-ghost use Rattle.engine.specs.Calls.{Call, aside, opens, port, share};
+ghost use Rattle.engine.specs.Calls.{Call, aside, certificate, opens, port, share};
 ghost use Rattle.hosting.specs.Bounds.{effect_result, moved_in};
-ghost use Rattle.hosting.specs.Calls.{Result, result_of};
+ghost use Rattle.hosting.specs.Calls.{Result, refused, result_of};
 ghost use Rattle.hosting.specs.Guested.{NoOpening, RefusedAlike, as_guest, rights_in};
 ghost use Rattle.hosting.specs.Handed.{Handed};
+ghost use Rattle.hosting.specs.Held.{PassesOn};
 ghost use Rattle.reads.specs.Bounds.{total_at};
 ghost use Rattle.serial.specs.Calls.{Access, access, offset_of, reset};
+ghost use Rattle.state.specs.WellFormed.{well_formed};
 ghost use Rattle.terms.specs.Rights.{may};
 ghost use Rattle.terms.specs.Sheets.{filled};
 ghost use Rattle.terms.specs.declared.Member.{Member};
@@ -18,6 +20,21 @@ ghost use Rattle.terms.specs.declared.sheet.Rights.{Rights};
 ghost use Rattle.words.specs.Sheets.{sheet_in, sheet_reads};
 ghost use Rattle.words.specs.States.{state_in};
 ghost use Rattle.words.specs.Words.{word};
+
+/// A refused call gives no value and changes no word of state, table and out.
+pub fn refused_same()
+    ensures { (w t o : List ℕ) (b : Bool) (c : Call) → (result_of w t o b c).refusal ≢ 0 → result_of w t o b c ≡ refused w t o (result_of w t o b c).refusal }
+{}
+
+/// The words that an accepted call leaves are a well-formed state, with its table: the next call does not answer 1.
+pub fn accepted_formed()
+    ensures { (w t o : List ℕ) (b : Bool) (c : Call) → Handed b c → (result_of w t o b c).refusal ≡ 0 → well_formed (state_in (result_of w t o b c).state) (result_of w t o b c).table ≡ true }
+{}
+
+/// What an accepted read of a certificate writes can be handed to accept, and is the held certificate with the endorsers that it keeps.
+pub fn passes_on()
+    ensures { (w t o : List ℕ) (m : Member) (r : Round) → (result_of w t o true (aside (certificate m r))).refusal ≡ 0 → PassesOn t m.0 r.0 (result_of w t o true (aside (certificate m r))).out }
+{}
 
 /// The largest difference that an accepted read of a bond's effect writes, word 32, is within the bound.
 #[tactic(auto, using(crate::proofs::BoundLaws::bounded_over_words))]

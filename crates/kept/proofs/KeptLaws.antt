@@ -7,12 +7,19 @@ use Prim.Native.Nat.{ℕ, ◌≤◌}
 use lib.Dec.{eqb}
 use lib.ListN.{length}
 use Rattle.base.specs.Options.{if_there}
+use Rattle.agreement.specs.Prefixes.{block_numbered}
+use Rattle.agreement.specs.Rules.{Block}
 use Rattle.terms.specs.declared.Certificate.{Certificate}
 use Rattle.engine.specs.Calls.{Call, accept}
 use Rattle.engine.specs.Engine.{Engine, after}
 use Rattle.engine.specs.Sequences.{after_calls, NoOpen, NoOpens, after_opening, Opening}
+use Rattle.engine.specs.Reached.{Reached}
 use Rattle.engine.proofs.GuestLaws.{guest-opens-none}
+use Rattle.engine.proofs.GrowthLaws.{Newer}
+use Rattle.engine.proofs.ReachedLaws.{calls-lead-to, reached_formed, blocks_stay, numbers_stay}
+use Rattle.state.specs.WellFormed.{well_formed}
 use Rattle.batch.specs.Batch.{Row, turns_of, batch_refusal}
+use Rattle.nonforking.specs.Statement.{chain}
 use Rattle.nonforking.specs.Stored.{Holds, Shows}
 use Rattle.nonforking.proofs.StoredLaws.{certificate_stays, stored_held, held_stored}
 use Rattle.nonforking.proofs.ShownLaws.{stored_shown}
@@ -26,7 +33,7 @@ use Rattle.terms.specs.Proposals.{Content}
 -- ---- what requests leave
 
 -- the calls m, then the calls l
-after-join : (e : Engine) (l m : List Call) → after_calls e (l ++ m) ≡ after_calls (after_calls e m) l
+pub after-join : (e : Engine) (l m : List Call) → after_calls e (l ++ m) ≡ after_calls (after_calls e m) l
 unfolding after_calls
 after-join e [] m = refl
 after-join e (c ∷ l) m = ap (λ (x : Engine). after x c) (after-join e l m)
@@ -47,13 +54,13 @@ leaves_as_calls e (x ∷ l) = left_by (after_requests e l) x ∙ go (submission_
 
 -- ---- no opens
 
-no_opens-join : (e : Engine) (l m : List Call) → NoOpens (after_calls e m) l → NoOpens e m → NoOpens e (l ++ m)
+pub no_opens-join : (e : Engine) (l m : List Call) → NoOpens (after_calls e m) l → NoOpens e m → NoOpens e (l ++ m)
 unfolding after_calls
 no_opens-join e [] m p q = q
 no_opens-join e (c ∷ l) m p q = (subst (λ (x : Engine). NoOpen x c) (sym (after-join e l m)) p.0, no_opens-join e l m p.1 q)
 
 -- a batch opens nothing
-accepts_open_none : (row : Row) (l : List ℕ) (e : Engine) → NoOpens e (accepts_of row l)
+pub accepts_open_none : (row : Row) (l : List ℕ) (e : Engine) → NoOpens e (accepts_of row l)
 unfolding accepts_of after_calls
 accepts_open_none row [] e = tt
 accepts_open_none row (p ∷ l) e =
@@ -76,7 +83,7 @@ unfolding after_calls
 guest-calls_open_none e c (asks k) = (guest-opens-none e c k, tt)
 guest-calls_open_none e c (asks_batch row answers) = batch-opens-none e row answers
 
-asked-opens-none : (e : Engine) (x : Request) → NoOpenAsked e x → NoOpens e (if_there (submission_of e x) [] (calls_of e))
+pub asked-opens-none : (e : Engine) (x : Request) → NoOpenAsked e x → NoOpens e (if_there (submission_of e x) [] (calls_of e))
 unfolding after_calls
 asked-opens-none e (host (one c)) n = (n, tt)
 asked-opens-none e (host (batch row answers)) n = batch-opens-none e row answers
@@ -95,6 +102,19 @@ no_opens e (x ∷ l) n =
     (no_opens e l n.1)
 
 -- ---- the claims
+
+-- every engine that requests lead to is well formed
+pub reached_formed_then : (e : Engine) → Reached e → (l : List Request) → AskedInRange e l → well_formed (after_requests e l).state (after_requests e l).table ≡ true
+reached_formed_then e r l i = subst (λ (d : Engine). well_formed d.state d.table ≡ true) (sym (leaves_as_calls e l)) (reached_formed (after_calls e (calls_asked e l)) (calls-lead-to e r (calls_asked e l) i))
+
+-- a block once made stays
+pub blocks_stay_then : (e : Engine) → Reached e → (l : List Request) → AskedInRange e l → NoOpensAsked e l → Newer (chain e) (chain (after_requests e l))
+blocks_stay_then e r l i n = subst (λ (d : Engine). Newer (chain e) (chain d)) (sym (leaves_as_calls e l)) (blocks_stay e r (calls_asked e l) i (no_opens e l n))
+
+pub numbers_stay_then : (e : Engine) → Reached e → (l : List Request) → AskedInRange e l → NoOpensAsked e l → (n : ℕ) (b : Block Content)
+    → block_numbered (chain e) n ≡ some b → block_numbered (chain (after_requests e l)) n ≡ some b
+numbers_stay_then e r l i o n b h =
+    subst (λ (d : Engine). block_numbered (chain d) n ≡ some b) (sym (leaves_as_calls e l)) (numbers_stay e r (calls_asked e l) i (no_opens e l o) n b h)
 
 -- a held certificate stays held, with its proposal and its endorsers, as long as no open is accepted
 pub certificate_stays_then : (e : Engine) (l : List Request) → NoOpensAsked e l → (a r : ℕ) (p : Content) (d : ℕ) → Holds e.table a r p d → Holds (after_requests e l).table a r p d

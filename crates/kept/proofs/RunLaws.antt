@@ -6,18 +6,19 @@ use Rattle.agreement.specs.Rules.{Block, Chain}
 use Rattle.terms.specs.Proposals.{Content}
 use Rattle.rules.specs.AnchorStarts.{StartsWithAnchor}
 use Rattle.engine.specs.Engine.{Engine}
-use Rattle.nonforking.specs.Statement.{chain, engine_behaviour, Members, Run, Entry, Agreed}
+use Rattle.nonforking.specs.Statement.{chain, engine_after, engine_behaviour, Members, Run, Entry, Agreed}
 use Rattle.nonforking.proofs.AnchorStarts.{starts_with_anchor}
 use Rattle.submissions.proofs.RequestLaws.{chains_never_fork_with_guests}
 use Rattle.earlier.specs.Earlier.{earlier_behaviour, MembersRefuseMore}
 use Rattle.earlier.proofs.RefusingLaws.{same_engines}
 use Rattle.earlier.proofs.EarlierLaws.{was_allowed_earlier, agreement_carries_over}
-use Rattle.kept.specs.Runs.{counted, CarriesToRequests, AllowedThen}
+use Rattle.kept.specs.Runs.{counted, AllowedThen}
 use Rattle.std.specs.Prelude.{List, true}
 use Rattle.agreement.specs.Entries as entries
 use Rattle.submissions.specs.Requests.{Request, engine_asked, ChainsNeverForkWithGuests}
 
-pub carries_to_requests : CarriesToRequests
+-- what holds of the engines after every run holds of those after every list of requests that counts as a run
+pub carries_to_requests : (X : Members engine_behaviour) (Q : (ℕ → Engine) → Type 0) → ((l : List Entry) → Run X l → Q (engine_after X l)) → (l : List (entries.Entry Request)) → Run X (counted X l) → Q (engine_asked X l)
 carries_to_requests X Q f l r = subst Q (fun_ext (λ i. sym ((chains_never_fork_with_guests X l r).engines i))) (f (counted X l) r)
 
 -- the order inside a block starts with the author of its anchor, for each block of each correct member

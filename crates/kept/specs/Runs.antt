@@ -1,8 +1,7 @@
 -- What is claimed of runs, where members ask by batches and guests' requests too.
 use Rattle.std.specs.Prelude.{◌≡◌, List, ℕ}
 use Rattle.agreement.specs.Entries as entries
-use Rattle.engine.specs.Engine.{Engine}
-use Rattle.nonforking.specs.Statement.{Members, Entry, engine_after, engine_behaviour, Run}
+use Rattle.nonforking.specs.Statement.{Members, Entry, engine_after, engine_behaviour}
 use Rattle.submissions.specs.Submissions.{unrolled}
 use Rattle.submissions.specs.Requests.{Request, engine_asked, submitted}
 use Rattle.earlier.specs.Refusing.{accepted_only, answering_as, WasAllowed}
@@ -11,10 +10,6 @@ use Rattle.earlier.specs.Earlier.{MembersRefuseMore}
 -- the calls that members' requests count as
 abbrev pub counted : Members engine_behaviour → List (entries.Entry Request) → List Entry
 counted X l = unrolled X (submitted X l)
-
--- what holds of the engines after every run holds of those after every list of requests that counts as a run
-abbrev pub CarriesToRequests : Type 1
-CarriesToRequests = (X : Members engine_behaviour) (Q : (ℕ → Engine) → Type 0) → ((l : List Entry) → Run X l → Q (engine_after X l)) → (l : List (entries.Entry Request)) → Run X (counted X l) → Q (engine_asked X l)
 
 -- the calls that the requests l count as, the refused ones left out, were allowed before an advance asked for a quorum, and led to the same engines
 pub record AllowedThen (R : MembersRefuseMore) (X : Members engine_behaviour) (l : List (entries.Entry Request)) : Type 0 where

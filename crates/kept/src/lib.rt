@@ -1,21 +1,44 @@
 //! Claims of calls, with batches and guests' requests.
 //!
-//! Theorems, no code. What a held certificate keeps, how blocks start, and that runs were allowed by the earlier rules, carried to lists in which hosts submit batches and guests ask.
+//! Theorems, no code. That states stay well formed and blocks stay, what a held certificate keeps, how blocks start, and that runs were allowed by the earlier rules, carried to lists in which hosts submit batches and guests ask; and whatever else holds of the engines after every run of calls (`carries_to_requests`).
 #![tactic(auto)]
 
+ghost use Rattle.std.proofs.Math.Option.{some};
 ghost use Rattle.std.specs.Prelude.{◌≡◌, true, List, ◌∷◌, ◌++◌, ℕ, ◌≤◌};
 ghost use Rattle.agreement.specs.Entries as entries;
+ghost use Rattle.agreement.specs.Prefixes.{block_numbered};
 ghost use Rattle.agreement.specs.Rules.{Block, Chain};
 ghost use Rattle.terms.specs.Proposals.{Content};
 ghost use Rattle.rules.specs.AnchorStarts.{StartsWithAnchor};
 ghost use Rattle.engine.specs.Engine.{Engine};
-ghost use Rattle.engine.specs.Sequences.{Opening, after_opening};
-ghost use Rattle.nonforking.specs.Statement.{chain, Members, engine_behaviour, Entry, Run, Agreed};
+ghost use Rattle.state.specs.WellFormed.{well_formed};
+ghost use Rattle.engine.specs.Reached.{Reached};
+ghost use Rattle.engine.specs.Sequences.{Opening, after_calls, after_opening};
+ghost use Rattle.nonforking.specs.Statement.{chain, engine_after, Members, engine_behaviour, Entry, Run, Agreed};
 ghost use Rattle.nonforking.specs.Stored.{Holds, Shows};
 ghost use Rattle.submissions.specs.Requests.{Request, after_requests, engine_asked, NoOpensAsked, ChainsNeverForkWithGuests};
 ghost use Rattle.earlier.specs.Earlier.{MembersRefuseMore, earlier_behaviour};
-ghost use Rattle.kept.specs.Kept.{AskedInRange, StoredThen};
+ghost use Rattle.kept.specs.Kept.{calls_asked, AskedInRange, StoredThen};
 ghost use Rattle.kept.specs.Runs.{counted, AllowedThen};
+
+use earlier::theorems::Property;
+
+/// Requests leave what the calls leave that they count as, made one by one.
+pub fn leaves_as_calls()
+    ensures { (e : Engine) (l : List Request) → after_requests e l ≡ after_calls e (calls_asked e l) }
+{}
+
+/// Every engine that requests lead to is well formed, whoever signed.
+pub fn reached_formed()
+    ensures { (e : Engine) → Reached e → (l : List Request) → AskedInRange e l → well_formed (after_requests e l).state (after_requests e l).table ≡ true }
+{}
+
+/// A block once made stays, whoever signed: whatever hosts and guests ask, batches among it, as long as no open is accepted, the chain is the one of before with newer blocks, or none, and each block keeps its number, its round and its certificates.
+pub fn blocks_stay()
+    ensures grown { (e : Engine) → Reached e → (l : List Request) → AskedInRange e l → NoOpensAsked e l → (newer : Chain Content) × (chain (after_requests e l) ≡ newer ++ chain e) }
+    ensures kept { (e : Engine) → Reached e → (l : List Request) → AskedInRange e l → NoOpensAsked e l → (n : ℕ) (b : Block Content)
+        → block_numbered (chain e) n ≡ some b → block_numbered (chain (after_requests e l)) n ≡ some b }
+{}
 
 /// Whatever hosts and guests ask, batches among it: a held certificate stays held, with its proposal and its endorsers, as long as no open is accepted.
 pub fn certificate_stays()
@@ -38,6 +61,11 @@ pub fn held_stored()
 #[tactic(auto, using(crate::proofs::KeptLaws::stored_shown_then))]
 pub fn stored_shown()
     ensures { (x : Opening) (l : List Request) → AskedInRange (after_opening x) l → (p : Content) (d : ℕ) → StoredThen (after_opening x) l p d → Shows (after_requests (after_opening x) l) p.author p.round p d }
+{}
+
+/// Whatever property the members' engines have after every run of calls, they have after every list of requests that counts as one.
+pub fn carries_to_requests<P: Property>()
+    ensures { (X : Members engine_behaviour) → ((l : List Entry) → Run X l → P.holds (engine_after X l)) → (l : List (entries.Entry Request)) → Run X (counted X l) → P.holds (engine_asked X l) }
 {}
 
 /// The order inside a block starts with the author of its anchor, for each block of each correct member.

@@ -1,11 +1,6 @@
 -- Laws of several members' hosts: each one's words give its engine, and chains never fork.
-use mathlib.Core.Path.{◌≡◌, refl, sym, ◌∙◌, subst₂}
-use mathlib.Core.Bool.{Bool, true, false, cond}
-use mathlib.Core.List.{List, [], ◌∷◌}
-use mathlib.Core.Logic.{◌⊎◌}
+use Rattle.std.proofs.Common.{◌≡◌, refl, sym, ◌∙◌, subst₂, Bool, true, false, cond, List, [], ◌∷◌, ◌⊎◌, ℕ, eqb}
 use mathlib.Core.Option.{Option, none, some}
-use Prim.Native.Nat.{ℕ}
-use lib.Dec.{eqb}
 use Rattle.base.specs.Options.{if_there}
 use Rattle.agreement.specs.Entries.{states}
 use Rattle.engine.specs.Engine.{Engine}

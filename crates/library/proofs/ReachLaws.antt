@@ -1,11 +1,6 @@
 -- The words that the library leaves give engines that calls from an opening lead to: what can be read has values of its types.
-use mathlib.Core.Path.{◌≡◌, refl, sym, subst}
-use mathlib.Core.Bool.{Bool, true, false, cond, ◌&&◌}
-use mathlib.Core.List.{List, [], ◌∷◌, ◌++◌}
+use Rattle.std.proofs.Common.{◌≡◌, refl, sym, subst, Bool, true, false, cond, ◌&&◌, List, [], ◌∷◌, ◌++◌, ℕ, length, get_or, eqb}
 use mathlib.Core.Option.{Option, none, some}
-use Prim.Native.Nat.{ℕ}
-use lib.ListN.{length, get_or}
-use lib.Dec.{eqb}
 use Rattle.base.specs.Options.{if_there}
 use Rattle.open.specs.Open.{closed_state}
 use Rattle.engine.specs.Calls.{Call, accept}
@@ -25,7 +20,9 @@ use Rattle.hosting.proofs.CallLaws.{accepted-call}
 use Rattle.hosting.proofs.HandedLaws.{accept-handed}
 use Rattle.batching.specs.declared.rows.CertificateRecord.{CertificateRecord}
 use Rattle.batching.specs.Rows.{no_record, record_words, certificate_of, row_of}
-use Rattle.library.specs.Calls.{LibraryCall, by_host, by_guest, batch_by_host, batch_by_guest, opens, Typed, host_reads, host_in, host_out, guest_reads, guest_in, guest_out, has_room, request_in}
+use Rattle.hosting.specs.HostCalls.{opens, host_reads, host_in, host_out}
+use Rattle.hosting.specs.GuestForms.{guest_reads, guest_in, guest_out}
+use Rattle.library.specs.Calls.{LibraryCall, by_host, by_guest, batch_by_host, batch_by_guest, Typed, has_room, request_in}
 use Rattle.library.specs.Lists.{requests_in, Opening, engine_opened, AllTyped, engine_of, after_list, after_opening}
 use Rattle.library.proofs.StepLaws.{host-handed, guest-handed}
 use Rattle.library.proofs.ListLaws.{words_give_engines}
@@ -100,19 +97,16 @@ engine-opening x =
       accepted = (accepted-call x.before.state x.before.table [] (sheet_reads x.sheet) (host_in (opens x.own x.sheet x.rights)) x.accepted).accepted;
     }
 
-opening-reached : (x : Opening) → Reached (engine_opened x)
-opening-reached x = by_open (engine-opening x)
-
-requests_reach : (x : Opening) (l : List LibraryCall) → AllTyped l → Reached (after_requests (engine_opened x) (requests_in l))
+-- what requests lead to that calls can be read as
+pub requests_reach : (e : Engine) → Reached e → (l : List LibraryCall) → AllTyped l → Reached (after_requests e (requests_in l))
 unfolding after_requests requests_in
-requests_reach x [] i = opening-reached x
-requests_reach x (c ∷ l) i = let e = after_requests (engine_opened x) (requests_in l) in go (request_in c) (request_in_range e c i.0) (requests_reach x l i.1)
+requests_reach e h [] i = h
+requests_reach e h (c ∷ l) i = go (request_in c) (request_in_range (after_requests e (requests_in l)) c i.0) (requests_reach e h l i.1)
   where
-    go : (q : Option Request) → RequestInRange (after_requests (engine_opened x) (requests_in l)) q → Reached (after_requests (engine_opened x) (requests_in l))
-        → Reached (after_requests (engine_opened x) (if_there q (requests_in l) (λ q. q ∷ requests_in l)))
+    go : (q : Option Request) → RequestInRange (after_requests e (requests_in l)) q → Reached (after_requests e (requests_in l)) → Reached (after_requests e (if_there q (requests_in l) (λ q. q ∷ requests_in l)))
     go none p h = h
-    go (some q) p h = requests_lead_to (after_requests (engine_opened x) (requests_in l)) h q p
+    go (some q) p h = requests_lead_to (after_requests e (requests_in l)) h q p
 
 -- so what is claimed of every engine that calls from an opening lead to is so of every engine that the library's words give, with no premise but that they were opened
 pub words_reach : (x : Opening) (l : List LibraryCall) → AllTyped l → Reached (engine_of (after_list (after_opening x) l))
-words_reach x l i = subst Reached (sym (words_give_engines x l i).gives) (requests_reach x l i)
+words_reach x l i = subst Reached (sym (words_give_engines x l i).gives) (requests_reach (engine_opened x) (by_open (engine-opening x)) l i)

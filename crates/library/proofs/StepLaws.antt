@@ -1,14 +1,7 @@
 -- Laws of one call of the library: its words give the engine that the request leaves.
-use mathlib.Core.Path.{◌≡◌, refl, sym, ap, ap₂, ◌∙◌}
-use mathlib.Core.Bool.{Bool, true, false, cond, ◌&&◌}
-use mathlib.Core.List.{List}
-use mathlib.Core.Logic.{◌≢◌}
+use Rattle.std.proofs.Common.{◌≡◌, refl, sym, ap, ap₂, ◌∙◌, Bool, true, false, cond, ◌&&◌, List, ◌≢◌, ℕ, length, leb, le-leb, eq-eqb, ne_eqb}
 use mathlib.Core.Option.{Option, none, some}
-use Prim.Native.Nat.{ℕ}
 use native.Mathlib.Decide.{ℕ_discrete}
-use lib.ListN.{length}
-use lib.Dec.{leb}
-use borrow.Author.Tests.{le-leb, eq-eqb, ne_eqb}
 use Rattle.base.specs.Options.{if_there}
 use Rattle.base.proofs.Bools.{both}
 use Rattle.engine.specs.Calls.{Call, opens, propose, endorse, certify, accept, advance, commit, enqueue, draw, port, aside}
@@ -34,8 +27,11 @@ use Rattle.hosting.proofs.GuestedLaws.{guest-barred, guest-allowed}
 use Rattle.batching.specs.declared.rows.CertificateRecord.{CertificateRecord}
 use Rattle.batching.specs.Rows.{row_of}
 use Rattle.batching.specs.Batched.{batch_result}
-use Rattle.library.specs.Calls as library
-use Rattle.library.specs.Calls.{HostCall, GuestForm, LibraryCall, by_host, by_guest, batch_by_host, batch_by_guest, HostTyped, GuestTyped, Typed, host_reads, host_in, host_out, guest_reads, guest_in, guest_out, has_room, request_in, comes_to}
+use Rattle.hosting.specs.HostCalls as hosts
+use Rattle.hosting.specs.GuestForms as forms
+use Rattle.hosting.specs.HostCalls.{HostCall, host_reads, host_in, host_out}
+use Rattle.hosting.specs.GuestForms.{GuestForm, guest_reads, guest_in, guest_out}
+use Rattle.library.specs.Calls.{LibraryCall, by_host, by_guest, batch_by_host, batch_by_guest, HostTyped, GuestTyped, Typed, has_room, request_in, comes_to}
 
 -- what a request, or none, leaves of an engine
 abbrev pub left : Engine → Option Request → Engine
@@ -67,7 +63,7 @@ module _ (w t o : List ℕ) where
   after-same c a = refl
 
   -- where a state's words can be read, they serve if there is room
-  room-served : (u : Use) → serves w t o u ≡ true → has_room u o ≡ true
+  pub room-served : (u : Use) → serves w t o u ≡ true → has_room u o ≡ true
   room-served writes s = refl
   room-served rewrites s = refl
   room-served (accesses x) s = refl
@@ -155,29 +151,29 @@ batch-leaves w t row answers r = rw r (record { can_read = r; gives = refl })
 -- ---- every call
 
 pub host-handed : (x : HostCall) → HostTyped x → Handed (host_reads x) (host_in x)
-host-handed (library.HostCall.opens own sheet rights) i = open_handed (record { 0 = own }) sheet (record { 0 = rights })
-host-handed (library.HostCall.propose b) i = propose-handed b
-host-handed (library.HostCall.endorse p) i = endorse-handed p
-host-handed (library.HostCall.certify d) i = certify-handed d
-host-handed (library.HostCall.accept c) i = accept-handed c
-host-handed library.HostCall.advance i = advance-handed
-host-handed library.HostCall.commit i = commit-handed
-host-handed (library.HostCall.enqueue g x) i = enqueue-handed g x
-host-handed (library.HostCall.draw v) i = draw-handed v
-host-handed (library.HostCall.port x) i = port-handed x i
-host-handed (library.HostCall.aside x o) i = aside-handed x
+host-handed (hosts.HostCall.opens own sheet rights) i = open_handed (record { 0 = own }) sheet (record { 0 = rights })
+host-handed (hosts.HostCall.propose b) i = propose-handed b
+host-handed (hosts.HostCall.endorse p) i = endorse-handed p
+host-handed (hosts.HostCall.certify d) i = certify-handed d
+host-handed (hosts.HostCall.accept c) i = accept-handed c
+host-handed hosts.HostCall.advance i = advance-handed
+host-handed hosts.HostCall.commit i = commit-handed
+host-handed (hosts.HostCall.enqueue g x) i = enqueue-handed g x
+host-handed (hosts.HostCall.draw v) i = draw-handed v
+host-handed (hosts.HostCall.port x) i = port-handed x i
+host-handed (hosts.HostCall.aside x o) i = aside-handed x
 
 pub guest-handed : (c : ℕ) (x : GuestForm) → GuestTyped x → Handed (guest_reads x) (as_host c (guest_in x))
-guest-handed c (library.GuestForm.propose b) i = propose-handed b
-guest-handed c (library.GuestForm.draw v) i = draw-handed v
-guest-handed c (library.GuestForm.enqueue x) i = enqueue-handed c x
-guest-handed c (library.GuestForm.endorse p) i = endorse-handed p
-guest-handed c (library.GuestForm.certify d) i = certify-handed d
-guest-handed c (library.GuestForm.accept x) i = accept-handed x
-guest-handed c library.GuestForm.advance i = advance-handed
-guest-handed c library.GuestForm.commit i = commit-handed
-guest-handed c (library.GuestForm.access a) i = port-handed (access c a) i
-guest-handed c (library.GuestForm.aside x o) i = aside-handed x
+guest-handed c (forms.GuestForm.propose b) i = propose-handed b
+guest-handed c (forms.GuestForm.draw v) i = draw-handed v
+guest-handed c (forms.GuestForm.enqueue x) i = enqueue-handed c x
+guest-handed c (forms.GuestForm.endorse p) i = endorse-handed p
+guest-handed c (forms.GuestForm.certify d) i = certify-handed d
+guest-handed c (forms.GuestForm.accept x) i = accept-handed x
+guest-handed c forms.GuestForm.advance i = advance-handed
+guest-handed c forms.GuestForm.commit i = commit-handed
+guest-handed c (forms.GuestForm.access a) i = port-handed (access c a) i
+guest-handed c (forms.GuestForm.aside x o) i = aside-handed x
 
 pub call-leaves : (w t : List ℕ) → state_reads w ≡ true → (x : LibraryCall) → Typed x → Leaves w t (comes_to w t x) (request_in x)
 unfolding request_in

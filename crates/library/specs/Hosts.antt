@@ -12,7 +12,8 @@ use Rattle.engine.specs.Calls.{Call}
 use Rattle.nonforking.specs.Statement.{Members, engine_behaviour, Prefix, Knows, weights}
 use Rattle.submissions.specs.Submissions.{unrolled}
 use Rattle.submissions.specs.Requests.{Request, engine_asked, submitted}
-use Rattle.library.specs.Calls.{LibraryCall, by_host, opens, host_in, Typed, request_in, comes_to}
+use Rattle.hosting.specs.HostCalls.{opens, host_in}
+use Rattle.library.specs.Calls.{LibraryCall, by_host, Typed, request_in, comes_to}
 use Rattle.library.specs.Lists.{Words, engine_of, after_call, Gives}
 
 -- the members' hosts at the start

@@ -1,5 +1,5 @@
 -- Lists of the library's calls: each gets the words that the last one left. From an accepted open they give the engine that the requests lead to.
-use Rattle.std.specs.Prelude.{◌≡◌, true, List, [], ◌∷◌, ℕ}
+use Rattle.std.specs.Prelude.{◌≡◌, ◌≢◌, true, List, [], ◌∷◌, ℕ}
 use Rattle.std.proofs.Math.Option.{Option, none, some}
 use Rattle.base.specs.Options.{if_there}
 use Rattle.open.specs.Open.{closed_state}
@@ -7,8 +7,10 @@ use Rattle.engine.specs.Engine.{Engine, after}
 use Rattle.submissions.specs.Requests as requests
 use Rattle.submissions.specs.Requests.{Request}
 use Rattle.words.specs.States.{state_reads}
-use Rattle.hosting.specs.Calls.{engine_in}
-use Rattle.library.specs.Calls.{LibraryCall, by_host, opens, host_in, Typed, request_in, comes_to}
+use Rattle.hosting.specs.Calls.{Result, engine_in, value_word, out_over, refused}
+use Rattle.hosting.specs.HostCalls.{opens, host_in, host_out}
+use Rattle.hosting.specs.GuestForms.{guest_out}
+use Rattle.library.specs.Calls.{LibraryCall, by_host, by_guest, batch_by_host, batch_by_guest, Typed, request_in, comes_to}
 
 -- what a host keeps between calls
 pub record Words : Type 0 where
@@ -57,7 +59,34 @@ pub record Gives (x : Words) (e : Engine) : Type 0 where
   pub can_read : state_reads x.state ≡ true
   pub gives : engine_of x ≡ e
 
--- the number n answers the request as the engine e does; of what cannot be read nothing is said here
-abbrev pub AnsweredAs : Engine → ℕ → Option Request → Type 0
-AnsweredAs e n none = Unit {0}
-AnsweredAs e n (some q) = n ≡ (requests.result_of e q).refusal
+-- ---- answers
+
+-- the out stretch that is lent; for a batch its answers
+abbrev pub lent_out : LibraryCall → List ℕ
+lent_out (by_host c) = host_out c
+lent_out (by_guest caller c) = guest_out c
+lent_out (batch_by_host row answers) = answers
+lent_out (batch_by_guest caller row answers) = answers
+
+-- and afterwards, where the engine's answer is a: what its value writes, or the batch's answers
+abbrev pub out_given : Words → LibraryCall → requests.Result → List ℕ
+out_given x (by_host c) a = out_over x.state x.table (host_out c) a.value
+out_given x (by_guest caller c) a = out_over x.state x.table (guest_out c) a.value
+out_given x (batch_by_host row answers) a = a.answers
+out_given x (batch_by_guest caller row answers) a = a.answers
+
+-- what a call comes to is the engine's whole answer a, with the out stretch o: the number that refuses it, the value, every word that is lent for it
+pub record AnsweredAs (r : Result) (a : requests.Result) (o : List ℕ) : Type 0 where
+  pub number : r.refusal ≡ a.refusal
+  pub word : r.value ≡ value_word a.value
+  pub lent : r.out ≡ o
+
+-- it is refused, with no value, and no word changes
+pub record RefusedUnread (r : Result) (x : Words) (o : List ℕ) : Type 0 where
+  pub number : r.refusal ≢ 0
+  pub unchanged : r ≡ refused x.state x.table o r.refusal
+
+-- on the words x, a call that is read as the request q is answered as the engine answers that; what cannot be read is refused
+abbrev pub Answered : Words → LibraryCall → Option Request → Type 0
+Answered x c none = RefusedUnread (comes_to x.state x.table c) x (lent_out c)
+Answered x c (some q) = AnsweredAs (comes_to x.state x.table c) (requests.result_of (engine_of x) q) (out_given x c (requests.result_of (engine_of x) q))

@@ -5,9 +5,8 @@
 
 ghost use Rattle.std.specs.Prelude.{◌≡◌, ◌<◌, [], ◌∷◌, ◌++◌, OnOk, decimal};
 ghost use Rattle.std.specs.Io.KnownBytes.{Appends};
-ghost use Rattle.committee.specs.Places.{place_table};
 
-use committee::{positions, weighing};
+use committee::weighing;
 use std::io;
 use std::io::Write;
 
@@ -17,24 +16,22 @@ fn join(sum: u32, n: u32) -> u32 {
 }
 
 // With the members of a set, positions rising.
-fn join_set(places: &[u8; 2048], set: u32, sum: u32) -> u32
-    requires { places.now ≡ place_table }
-{
+fn join_set(set: u32, sum: u32) -> u32 {
     let mut all = sum;
     for k in 0..17u32 {
-        let m = weighing::leader::member_at(places, set, k);
+        let m = weighing::leader::member_at(set, k);
         all = join(all, m.0);
     }
     all
 }
 
 // Of all sets with this upper half, lower halves rising.
-fn half_sum(places: &[u8; 2048], upper: u32) -> u32
-    requires { (places.now ≡ place_table) × (upper < 256) }
+fn half_sum(upper: u32) -> u32
+    requires { upper < 256 }
 {
     let mut all = 0;
     for lower in 0..256u32 {
-        all = join_set(places, upper * 256 + lower, all);
+        all = join_set(upper * 256 + lower, all);
     }
     all
 }
@@ -47,10 +44,9 @@ fn print_line<W: Write>(output: &mut W, n: u32) -> io::Result<()>
 }
 
 fn main(rt: HostRuntime) -> io::Result<()> {
-    let places = positions::places();
     let mut output = rt.stdout();
     for upper in 0..256u32 {
-        print_line(&mut output, half_sum(&places, upper))?;
+        print_line(&mut output, half_sum(upper))?;
     }
     Ok(())
 }

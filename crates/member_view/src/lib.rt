@@ -18,7 +18,7 @@ use terms::{Body, Member, Proposal, Round};
 
 /// A state and its table, and what is cached beside them: committees of theirs.
 ///
-/// State and table are well formed but for the serial ports, of which no test here speaks (`Formed`, state/specs/Formed). `known` makes one, of a state that is well formed as a whole.
+/// State and table are well formed: `known` tells. The tests here rely on less, that all but the serial ports is (`Formed`, state/specs/Formed).
 #[derive(Clone, Copy)]
 pub struct View<'a> {
     /// The member's state.
@@ -27,6 +27,7 @@ pub struct View<'a> {
     pub table: &'a [u32],
     /// Committees that were worked out before, or nothing.
     pub cache: &'a [u64],
+    ghost known: { well_formed state.now table.now ≡ true },
     ghost formed: { Formed state.now table.now },
     ghost caches: { CachesFor state.now table.now cache.now },
 }
@@ -39,7 +40,7 @@ impl<'a> View<'a> {
     ghost use Rattle.terms.specs.Ranges.{weight_in};
     ghost use Rattle.terms.specs.Proposals.{content_of, content_with, bad_transactions, bad_previous_set, transactions_of};
     ghost use Rattle.committee.specs.Committees.{quorum, committee_of};
-    ghost use Rattle.rules.specs.Tests.{bad_round, above, missing, unknown, committee_in, authors_in};
+    ghost use Rattle.rules.specs.Tests.{bad_round, above, missing, too_few_previous, unknown, committee_in, authors_in};
     ghost use Rattle.state.specs.Cached.{Cached};
     ghost use Rattle.state.specs.SharedChecks.{FormFits, form_checks};
     ghost use Rattle.refusals.specs.Refusals.{refusal_in};
@@ -181,7 +182,7 @@ impl<'a> View<'a> {
     #[tactic(auto, unfolding(rules::specs::Tests::above))]
     pub fn lacks_quorum(&self, p: Proposal) -> bool
         requires { 0 < p.round.0 }
-        ensures { result ≡ above p.round.0 (not (quorum (settings_of self.now).margin (committee_in (settings_of self.now) (shown self.now) (p.round.0 - 1)) (is_in p.body.previous))) }
+        ensures { result ≡ too_few_previous (settings_of self.now) (shown self.now) (content_of p) }
     {
         p.round.0 != 1
             && !self

@@ -20,7 +20,8 @@ use Rattle.rules.specs.Reads.{reading_committee, reading_share, reading_effect, 
 use Rattle.rules.proofs.Runs.{view_after}
 use Rattle.enqueue.proofs.PassedLaws.{enqueue-refused}
 use Rattle.serial.specs.Calls.{PortCall}
-use Rattle.engine.specs.Calls.{Aside, committee, share, effect, certificate, block, preview, critical, listing, Call, opens, enqueue, port, aside}
+use Rattle.spans.specs.Listed.{blocks_checks}
+use Rattle.engine.specs.Calls.{Aside, committee, share, effect, certificate, block, preview, critical, blocks, listing, Call, opens, enqueue, port, aside}
 use Rattle.engine.specs.Engine.{Engine, aside_checks, refusal_for}
 use Rattle.engine.specs.Steps.{view_at, ruled}
 use Rattle.engine.specs.Reached.{Good}
@@ -58,6 +59,7 @@ module _ (S : Settings) where
   aside_by k s (block n) = reading_block S s n
   aside_by k s (preview n) = (ltb (n / 3) (16 * S.ceiling.0), 25) ∷ rules.checks S k s rules.commit
   aside_by k s (critical n) = (ltb (n / 2) 32, 25) ∷ rules.checks S k s rules.commit
+  aside_by k s (blocks m n w) = blocks_checks S s.chain m n w
   aside_by k s listing = []
 
   -- what a view tells of it; an open is one of a number above 15, an enqueue one of a guest above 7, and none is of a port

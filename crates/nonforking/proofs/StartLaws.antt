@@ -1,8 +1,10 @@
 -- The start: each correct member's engine is good and shows round 1 and nothing else. So the members are a group of the rules.
 use mathlib.Core.Path.{◌≡◌, ap, subst}
 use mathlib.Core.Bool.{true}
+use mathlib.Core.List.{[]}
 use Prim.Native.Nat.{ℕ, ◌<◌}
 use native.Mathlib.Omega.{arith}
+use Rattle.agreement.specs.Entries.{states}
 use Rattle.agreement.specs.Runs.{Initial}
 use Rattle.terms.specs.declared.sheet.Settings.{Settings}
 use Rattle.terms.specs.Ranges.{SettingsFit}
@@ -16,7 +18,7 @@ use Rattle.engine.specs.Engine.{Engine, after}
 use Rattle.engine.specs.Steps.{view_at, FreshlyOpened}
 use Rattle.engine.specs.Reached.{Good}
 use Rattle.engine.proofs.ReachedLaws.{opened-fresh, fresh-good}
-use Rattle.nonforking.specs.Statement.{Members, engine_behaviour}
+use Rattle.nonforking.specs.Statement.{Members, engine_after, engine_behaviour}
 use Rattle.nonforking.proofs.Implemented.{implementation}
 
 module _ (X : Members engine_behaviour) where
@@ -52,3 +54,8 @@ module _ (X : Members engine_behaviour) where
 
   abbrev pub group : Group settings (implementation settings)
   group = record { correct = correct; below = correct-below; fits = λ k c. margin_fits (start_fits k c); start = starts; good = start-good; fresh = start_initial }
+
+-- and as the claim has them, before the first entry
+pub start_fresh : (X : Members engine_behaviour) (k : ℕ) → X.correct k ≡ true → view_at X.settings (engine_after X [] k) ≡ fresh_view X.settings
+unfolding states
+start_fresh X k c = start-view X k c

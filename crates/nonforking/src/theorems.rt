@@ -1,16 +1,18 @@
 //! Chains never fork, and what holds of held certificates and blocks, over every list of calls.
 
 ghost use Rattle.std.proofs.Math.Option.{some};
-ghost use Rattle.std.specs.Prelude.{List, true, ℕ, ◌++◌, ◌∷◌, ◌≡◌, ◌≤◌};
+ghost use Rattle.std.specs.Prelude.{List, [], true, ℕ, ◌++◌, ◌<◌, ◌∷◌, ◌≡◌, ◌≤◌};
 ghost use Rattle.agreement.specs.Prefixes.{block_numbered};
 ghost use Rattle.agreement.specs.Rules.{Block, Chain};
 ghost use Rattle.engine.specs.Calls.{Call};
 ghost use Rattle.engine.specs.Engine.{Engine};
 ghost use Rattle.engine.specs.Sequences.{AllInRange, NoOpens, Opening, after_calls, after_opening};
+ghost use Rattle.engine.specs.Steps.{view_at};
 ghost use Rattle.nonforking.specs.Statement.{Agreed, Entry, Members, Prefix, Run, chain, engine_after, engine_behaviour};
 ghost use Rattle.nonforking.specs.Stored.{Holds, Shows, Stored};
 ghost use Rattle.nonforking.specs.Witness.{Met};
 ghost use Rattle.rules.specs.AnchorStarts.{StartsWithAnchor};
+ghost use Rattle.rules.specs.Calls.{fresh_view};
 ghost use Rattle.state.specs.WellFormed.{well_formed};
 ghost use Rattle.terms.specs.Proposals.{Content};
 
@@ -23,6 +25,16 @@ pub fn chains_never_fork()
 /// The premises can be met: there is a run of four members, one of them faulty, in which two make a block, and a bond changes the committee that signs after it.
 pub fn premises_can_be_met()
     ensures { (X : Members engine_behaviour) × Met X }
+{}
+
+/// A correct member's number is 0 to 15: an open refuses any other.
+pub fn correct_below_16()
+    ensures { (X : Members engine_behaviour) (k : ℕ) → X.correct k ≡ true → k < 16 }
+{}
+
+/// Each correct member starts from the fresh state: round 1 and nothing else.
+pub fn members_start_fresh()
+    ensures { (X : Members engine_behaviour) (k : ℕ) → X.correct k ≡ true → view_at X.settings (engine_after X [] k) ≡ fresh_view X.settings }
 {}
 
 /// A held certificate stays held, with its proposal and its endorsers, whatever calls follow, as long as no open is accepted.

@@ -15,8 +15,12 @@ use Rattle.running.specs.BlockChanges.{last_round}
 use Rattle.running.proofs.ChainLaws.{last_some, last_up}
 use Rattle.state.specs.declared.State.{State}
 use Rattle.state.specs.Formed.{Formed}
+use Rattle.state.proofs.FormedLaws.{formed}
 use Rattle.reads.proofs.BlockLaws.{block_held}
-use Rattle.pivotal.proofs.BelowLaws.{Below}
+use Rattle.engine.specs.Engine.{Engine}
+use Rattle.engine.specs.Reached.{Reached}
+use Rattle.engine.proofs.ReachedLaws.{reached_formed}
+use Rattle.pivotal.proofs.BelowLaws.{Below, reached-below}
 
 -- block j of a chain
 block-at : (n : ℕ) (t : List ℕ) (k : ℕ) → Below (chain_of n t k) → (j : ℕ) → 0 < j → j ≤ k → (a q : ℕ) → is_held ((block_at n t j).holds a q) ≡ true → q ≤ block_round t j
@@ -51,3 +55,7 @@ module _ (s : State) (t : List ℕ) (f : Formed s t) (b : Below (chain_of s.sett
       go : Dec (mark_at t a q ≡ 0) → mark_at t a q ≡ 0
       go (yes e) = e
       go (no h) = absurd (omega (arith, marked h))
+
+-- so it is in every engine that calls lead to
+pub none_above : (e : Engine) → Reached e → (a q : ℕ) → held_at e.table a q ≡ true → last_round e.table e.state.blocks < q → q ≤ e.state.settings.ceiling.0 → mark_at e.table a q ≡ 0
+none_above e r a q h above to = free-above e.state e.table (formed e.state e.table (reached_formed e r)) (reached-below r) a q h above to

@@ -8,14 +8,20 @@ ghost use Rattle.engine.specs.Engine.{Engine, refusal_for};
 ghost use Rattle.engine.specs.Reached.{Reached};
 ghost use Rattle.pivotal.specs.Pivotal.{HangsOnPivots};
 ghost use Rattle.ports.specs.Ports.{port_count, port_length, port_start, ports_fit};
+ghost use Rattle.running.specs.BlockChanges.{last_round};
 ghost use Rattle.state.specs.WellFormed.{well_formed};
-ghost use Rattle.store.specs.Table.{Row};
+ghost use Rattle.store.specs.Table.{Row, held_at, mark_at};
 ghost use Rattle.store.specs.Writes.{clear_held};
 
 /// In every engine that calls lead to, where a commit would be accepted, it hangs on exactly its pivots.
 #[tactic(auto, using(crate::proofs::PivotLaws::commits_hang_on_pivots))]
 pub fn commits_hang_on_pivots()
     ensures { (e : Engine) → Reached e → refusal_for e commit ≡ 0 → HangsOnPivots e }
+{}
+
+/// In every engine that calls lead to no held certificate of a round above the last block's is in a block.
+pub fn none_above()
+    ensures { (e : Engine) → Reached e → (a q : ℕ) → held_at e.table a q ≡ true → last_round e.table e.state.blocks < q → q ≤ e.state.settings.ceiling.0 → mark_at e.table a q ≡ 0 }
 {}
 
 /// On a well-formed state without a certificate a commit is refused with the number that the list goes by; and with 1 where a serial port stands at what is absent, which the list does not count.

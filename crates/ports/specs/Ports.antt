@@ -1,5 +1,5 @@
 -- Guests' serial ports in row 0 of the table: where they stand, what their words tell, and when they are well formed.
-use Rattle.std.specs.Prelude.{◌≡◌, Bool, true, cond, ◌&&◌, List, ◌∷◌, ℕ, ◌+◌, ◌*◌, ◌/◌, ◌%◌, ◌<◌, length, get_or, eqb, leb, ltb}
+use Rattle.std.specs.Prelude.{◌≡◌, Bool, true, cond, not, ◌&&◌, List, [], ◌∷◌, ℕ, ◌+◌, ◌*◌, ◌/◌, ◌%◌, ◌<◌, length, get_or, eqb, leb, ltb}
 use Rattle.std.proofs.Math.Seq.{paste}
 use Rattle.base.specs.Folds.{all_to}
 use Rattle.terms.specs.declared.sheet.Settings.{Settings}
@@ -71,6 +71,18 @@ pub record FormedPort (S : Settings) (t : List ℕ) (blocks g : ℕ) : Type 0 wh
   pub fits : port_fits S t blocks g ≡ true
 
 -- ---- what is written
+
+-- the words w of a port when byte b was written at offset o: offset 3 keeps it, 4 its low five bits, 7 keeps it in word 5; while bit 7 of offset 3 is set, 0 and 1 keep it in words 6 and 7, else 1 keeps bit 0 in word 2
+unfoldable pub words_written : (ℕ → ℕ) → ℕ → ℕ → List ℕ
+words_written w o b =
+    let divisor = leb 128 (w 3) in
+    w 0 ∷ w 1
+    ∷ cond (eqb o 1 && not divisor) (b % 2) (w 2)
+    ∷ cond (eqb o 3) b (w 3)
+    ∷ cond (eqb o 4) (b % 32) (w 4)
+    ∷ cond (eqb o 7) b (w 5)
+    ∷ cond (eqb o 0 && divisor) b (w 6)
+    ∷ cond (eqb o 1 && divisor) b (w 7) ∷ []
 
 -- the words of a port
 unfoldable pub port_words : Lines → Port → List ℕ

@@ -11,7 +11,6 @@ ghost use Rattle.running.specs.Rows.{RowsTo};
 ghost use Rattle.ports.specs.Places.{line_at, HasLine, LineRoom};
 ghost use Rattle.ports.specs.Next.{first_place, lines_from, lines_beyond, key_place, key_of, KeyFound, BlockFound, Heads, LinePlace, Starts, NextInBlock, Walked};
 
-use committee::positions;
 use running::changes;
 use terms::sheet::Settings;
 use terms::{Member, Round};
@@ -164,12 +163,9 @@ fn searched(t: &[u32], s: Settings, blocks: u32, p: u32, next: &mut [u32]) -> u3
     requires { ChainInTable s t.now blocks × (p ≢ 0 → LinePlace t.now s.ceiling.0 blocks p) × (s.ceiling.0 * 16 + 16 ≤ length next.old) }
     ensures { result ≡ first_place (lines_from s t.now blocks p) }
 {
-    let end = s.ceiling.0 * 16 + 16;
-    let mut head = [end; 512];
-    changes::links::link_rows(t, &mut head, next, s.ceiling);
+    let head = changes::links::linked(t, next, s.ceiling);
     let mut starts = [16u32; 512];
-    let places = positions::places();
-    running::starts::all_starts(t, &head, next, s, blocks, &places, &mut starts);
+    running::starts::all_starts(t, &head, next, s, blocks, &mut starts);
     place_after(t, s, blocks, &head, &starts, p)
 }
 

@@ -6,7 +6,7 @@ ghost use Rattle.store.specs.Table.{Row};
 ghost use Rattle.ports.specs.Places.{line_at, HasLine};
 ghost use Rattle.terms.specs.declared.sheet.Settings.{Settings};
 ghost use Rattle.ports.specs.Uart.{values_at, after_read, after_write};
-ghost use Rattle.ports.specs.Ports.{port_word, port_start, listing_of, port_in, FormedPort, put_port};
+ghost use Rattle.ports.specs.Ports.{port_word, port_start, words_written, listing_of, port_in, FormedPort, put_port};
 ghost use Rattle.ports.specs.Bytes.{NextByte, looks_at_next};
 
 use crate::cursors;
@@ -178,13 +178,12 @@ pub fn read(t: &mut [u32], s: Settings, blocks: u32, g: u32, o: u32) -> u32
     v
 }
 
-/// A write of the byte b to port g, 0 to 7, at offset o, 0 to 7. While bit 7 of offset 3 is set, offsets 0 and 1 keep the divisor's bytes; else offset 0 drops it and offset 1 keeps bit 0. Offset 3 keeps it, 4 its low five bits, 7 keeps it; 2, 5 and 6 drop it.
+// A write, by the words of the port.
 #[tactic(auto, using(crate::proofs::WriteLaws::low_written, crate::proofs::WriteLaws::high_written, crate::proofs::WriteLaws::byte_dropped, crate::proofs::WriteLaws::enable_written, crate::proofs::WriteLaws::line_written, crate::proofs::WriteLaws::modem_written, crate::proofs::WriteLaws::scratch_written, crate::proofs::WriteLaws::nothing_written))]
-pub fn write(t: &mut [u32], g: u32, o: u32, b: u8)
-    requires { Row t.old 0 × (g < 8) × (o < 8) }
-    ensures { (S : Settings) (blocks : ℕ) → FormedPort S t.old blocks g → t.new ≡ put_port S t.old blocks g (after_write (port_in S t.old blocks g) o b) }
+fn put(t: &mut [u32], g: u32, o: u32, b: u32)
+    requires { Row t.old 0 × (g < 8) × (b < 256) }
+    ensures { t.new ≡ paste t.old (port_start g) (words_written (port_word t.old g) o b) 8 }
 {
-    let b = b as u32;
     match o {
         0 if shows_divisor(t, g) => put_word(t, g, 6, b),
         1 if shows_divisor(t, g) => put_word(t, g, 7, b),
@@ -194,6 +193,16 @@ pub fn write(t: &mut [u32], g: u32, o: u32, b: u8)
         7 => put_word(t, g, 5, b),
         _ => {}
     }
+}
+
+/// A write of the byte b to port g, 0 to 7, at offset o, 0 to 7. While bit 7 of offset 3 is set, offsets 0 and 1 keep the divisor's bytes; else offset 0 drops it and offset 1 keeps bit 0. Offset 3 keeps it, 4 its low five bits, 7 keeps it; 2, 5 and 6 drop it.
+#[tactic(auto, using(crate::proofs::WriteLaws::port_written))]
+pub fn write(t: &mut [u32], g: u32, o: u32, b: u8)
+    requires { Row t.old 0 × (g < 8) × (o < 8) }
+    ensures words { t.new ≡ paste t.old (port_start g) (words_written (port_word t.old g) o b) 8 }
+    ensures port { (S : Settings) (blocks : ℕ) → FormedPort S t.old blocks g → t.new ≡ put_port S t.old blocks g (after_write (port_in S t.old blocks g) o b) }
+{
+    put(t, g, o, b as u32);
 }
 
 /// Resets port g, 0 to 7: its words are 0, so all held registers are, and no byte counts as read.

@@ -1,6 +1,6 @@
 //! Guests' queues, in row 0 of the table.
 //!
-//! Row 0: the guest served last plus 1, 0 for none; how many wait of each of eight guests; 15 words kept for later; then for each guest eight places of three words, oldest first, and eight words kept for later behind all but the last.
+//! Row 0: the guest served last plus 1, 0 for none; how many wait of each of eight guests; seven words kept for later; then for each guest eight words of its serial port, which no function here touches, and eight places of three words, oldest first.
 //! What waits, what is drawn and what is left (specs/Queues) is told of these words (specs/Words): a draw takes the oldest of each guest that waits, going round from the one behind the guest served last. docs/RULES.md, "Guests' queues".
 #![tactic(auto)]
 

@@ -1,5 +1,5 @@
 -- Blocks by their numbers: the round of each, and which of them holds a certificate.
-use mathlib.Core.Path.{◌≡◌, refl, sym, ap}
+use mathlib.Core.Path.{◌≡◌, refl, sym, ap, ◌∙◌}
 use mathlib.Core.Bool.{Bool, true, false, cond}
 use mathlib.Core.List.{List}
 use mathlib.Core.Option.{Option, none, some}
@@ -44,6 +44,10 @@ module _ (n : ℕ) (t : List ℕ) where
         go : (b : Bool) → is_held (cond b (some (content_at t a r)) none) ≡ b
         go true = refl
         go false = refl
+
+    -- so it is in at most one block
+    pub in_one_block : (i j : ℕ) → is_held ((block_at n t i).holds a r) ≡ true → is_held ((block_at n t j).holds a r) ≡ true → i ≡ j
+    in_one_block i j h k = sym (eqb-true (mark_at t a r) i (sym (block_held i) ∙ h)) ∙ eqb-true (mark_at t a r) j (sym (block_held j) ∙ k)
 
     -- so the mark of a held certificate is the number of its block, 0 for none
     pub mark-number : (k : ℕ) → mark_at t a r ≤ k → block_number (chain_of n t k) a r ≡ mark_at t a r

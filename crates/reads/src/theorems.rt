@@ -1,13 +1,16 @@
-//! What the read of a bond's effect says of the shares.
+//! What the read of a bond's effect says of the shares, and that a held certificate is in at most one block.
 
-ghost use Rattle.std.specs.Prelude.{List, get_or, length, ℕ, ◌<◌, ◌≡◌, ◌≢◌, ◌≤◌};
+ghost use Rattle.std.specs.Prelude.{List, get_or, length, true, ℕ, ◌<◌, ◌≡◌, ◌≢◌, ◌≤◌};
+ghost use Rattle.agreement.specs.Dag.{is_held};
 ghost use Rattle.committee.specs.BondEffects.{most_moved};
+ghost use Rattle.committee.specs.Chain.{block_at, chain_of};
 ghost use Rattle.reads.specs.Bounds.{moved_at, total_at};
 ghost use Rattle.reads.specs.Reads.{effect_refusal, share_refusal};
-ghost use Rattle.rules.specs.Reads.{effect_read, share_read};
+ghost use Rattle.rules.specs.Reads.{block_number, effect_read, share_read};
 ghost use Rattle.rules.specs.Tests.{committee_in};
 ghost use Rattle.state.specs.View.{view};
 ghost use Rattle.state.specs.declared.State.{State};
+ghost use Rattle.store.specs.Table.{held_at, mark_at};
 
 /// No accepted read of a bond's effect tells a larger difference than the bound: of states with sixteen starting weights, as every state has that is read from words or opened.
 #[tactic(auto, using(crate::proofs::BoundLaws::effect_bounded))]
@@ -37,4 +40,11 @@ pub fn none_without_weight()
         → get_or (effect_read s.settings (view s t) m r a).before i 0 ≡ 0 }
     ensures after { (s : State) (t : List ℕ) → length s.settings.weights ≡ 16 → (m r a i : ℕ) → effect_refusal s t m r a ≡ 0 → i < 16 → committee_in s.settings (view s t) r i ≡ 0 → i ≢ m
         → get_or (effect_read s.settings (view s t) m r a).after i 0 ≡ 0 }
+{}
+
+/// A held certificate is in at most one block, and its mark is the number of that block, 0 for none.
+pub fn in_one_block()
+    ensures once { (n : ℕ) (t : List ℕ) (a r : ℕ) → 0 < r → r ≤ n → held_at t a r ≡ true
+        → (i j : ℕ) → is_held ((block_at n t i).holds a r) ≡ true → is_held ((block_at n t j).holds a r) ≡ true → i ≡ j }
+    ensures marked { (n : ℕ) (t : List ℕ) (a r : ℕ) → 0 < r → r ≤ n → held_at t a r ≡ true → (k : ℕ) → mark_at t a r ≤ k → block_number (chain_of n t k) a r ≡ mark_at t a r }
 {}

@@ -99,7 +99,7 @@ module _ (h : ℕ) (low : h < 8) where
     asked-leaves (guest.access a) = inr (a, refl)
     asked-leaves c = inl refl
 
-    submitted-leaves : (x : Asked) → AllInRange (calls_of e (submitted_by c x)) → port_on (after_submission e (submitted_by c x)) h ≡ port_on e h
+    pub submitted-leaves : (x : Asked) → AllInRange (calls_of e (submitted_by c x)) → port_on (after_submission e (submitted_by c x)) h ≡ port_on e h
     submitted-leaves (asks x) i = go (asked-leaves x)
       where
         go : (keeps_ports (as_host c x) ≡ true) ⊎ ((a : Access) × (as_host c x ≡ port (access c a))) → port_on (after e (as_host c x)) h ≡ port_on e h

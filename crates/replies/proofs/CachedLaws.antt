@@ -21,7 +21,7 @@ pub cached-unformed : {s : State} {t : List ℕ} {b : Bool} (cache : List ℕ) �
 cached-unformed cache w n = record { form = w; committees = λ e. absurd (false≢true (sym n ∙ w ∙ e)) }
 
 -- such is the state before an open
-closed-unformed : (t : List ℕ) → well_formed closed_state t ≡ false
+pub closed-unformed : (t : List ℕ) → well_formed closed_state t ≡ false
 closed-unformed t = go (well_formed closed_state t) refl
   where
     go : (b : Bool) → well_formed closed_state t ≡ b → b ≡ false

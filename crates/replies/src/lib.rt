@@ -5,6 +5,7 @@
 
 pub mod answer;
 pub mod cached;
+pub mod theorems;
 
 ghost use Rattle.std.specs.Prelude.{◌≡◌, ◌+◌, ◌*◌, ◌≤◌, true, length};
 ghost use Rattle.state.specs.Cached.{Cached};

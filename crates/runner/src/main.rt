@@ -1,9 +1,8 @@
 //! The runner on standard input and output.
 //!
-//! Records come in, and the lines that answer them go out. `run` of serving is handed standard input and output, and its contract says what comes of them. The memory is fixed: a table for ceilings up to 64, the committees of its rounds, and a buffer each for input and output. docs/SECOND-SUPPLIER.md.
+//! Records come in, and the lines that answer them go out. `serve_streams` of serving is handed standard input and output, and its contract says what comes of them. The memory is fixed: a table for ceilings up to 64, the committees of its rounds, and a buffer each for input and output. docs/SECOND-SUPPLIER.md.
 #![tactic(auto)]
 
-use serving::keeper::Keeper;
 use serving::lengths::{CACHE, INPUT, OUTPUT, TABLE};
 use std::io;
 use stream::tied::Tied;
@@ -18,6 +17,5 @@ fn main(rt: HostRuntime) -> io::Result<()> {
         input: rt.stdin(),
         output: rt.stdout(),
     };
-    let mut keeper = Keeper::new(&mut cache, &mut table);
-    serving::run(&mut streams, &mut keeper, &mut buf, &mut out).told()
+    serving::serve_streams(&mut streams, &mut cache, &mut table, &mut buf, &mut out)
 }

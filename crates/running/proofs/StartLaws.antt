@@ -84,10 +84,12 @@ module _ {S : Settings} {t : List ℕ} {blocks : ℕ} where
       }
 
   -- one block more, in its own order
-  pub running_next : {k f : ℕ} {w v : List Weight} {starts : List ℕ} → ChainInTable S t blocks → k < blocks → AfterBlocks S t blocks 1024 k w → StartsAhead S t blocks k f starts
-      → v ≡ rows_over (place_change t (k + 1)) (get_or starts k 0) S.ceiling.0 w
+  pub running_next : {k f : ℕ} {w v : List Weight} {starts : List ℕ} (n : ℕ) → ChainInTable S t blocks → k < blocks → AfterBlocks S t blocks 1024 k w → StartsAhead S t blocks k f starts
+      → n ≡ k + 1
+      → v ≡ rows_over (place_change t n) (get_or starts k 0) S.ceiling.0 w
       → Running S t blocks 1024 (record { blocks = k + 1; starts = f }) v starts
-  running_next {k} {f} {w} {v} {starts} a h x s e =
+  running_next {k} {f} {w} {v} {starts} n a h x s i e' =
+      let e = rw i at e' in
       let b = (fits-at S.ceiling.0 t blocks a.rounds k h).below in
       let c = a.ceiling in
       record {

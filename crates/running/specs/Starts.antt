@@ -1,7 +1,6 @@
 -- Where the order of each block starts, as far as it is written while blocks are applied one by one.
 use Rattle.std.specs.Prelude.{◌≡◌, List, ℕ, ◌+◌, ◌<◌, ◌≤◌, get_or, length}
 use Rattle.store.specs.Table.{block_round}
-use Rattle.committee.specs.Places.{place_table}
 use Rattle.terms.specs.declared.sheet.Settings.{Settings}
 use Rattle.running.specs.BlockChanges.{start_at, last_round}
 use Rattle.running.specs.ChainInTable.{ChainInTable, AfterBlocks}
@@ -21,10 +20,9 @@ pub record Running (S : Settings) (t : List ℕ) (blocks q : ℕ) (x : Applied) 
   pub after : AfterBlocks S t blocks q x.blocks w
   pub started : Started S t blocks x.blocks x.starts starts
 
--- a block comes after the first k, w is the running committee before it, and places is the table of members by position
-pub record BeforeBlock (S : Settings) (t : List ℕ) (blocks k f : ℕ) (places : List ℕ) (w : List Weight) (starts : List ℕ) : Type 0 where
+-- a block comes after the first k, and w is the running committee before it
+pub record BeforeBlock (S : Settings) (t : List ℕ) (blocks k f : ℕ) (w : List Weight) (starts : List ℕ) : Type 0 where
   pub chain : ChainInTable S t blocks
-  pub positions : places ≡ place_table
   pub more : k < blocks
   pub after : AfterBlocks S t blocks 1024 k w
   pub started : Started S t blocks k f starts

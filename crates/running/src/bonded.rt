@@ -13,7 +13,6 @@ ghost use Rattle.running.specs.Rows.{RowsTo};
 ghost use Rattle.running.specs.Walks.{WalkRoom};
 
 use crate::changes;
-use committee::positions;
 use terms::Round;
 use terms::sheet::{Settings, Weight};
 
@@ -81,36 +80,13 @@ fn walked(t: &[u32], s: Settings, blocks: u32, r: Round, next: &mut [u32]) -> Pa
     ensures { PairOf s (chain_of s.ceiling.0 t.now blocks) r.0 result }
 {
     let head = changes::links::linked(t, next, s.ceiling);
-    let places = positions::places();
     let mut w = s.weights;
     let mut starts = [16; 512];
     let q = round_before(r);
     let none = crate::none();
-    let x = crate::reach_round(
-        t,
-        &head,
-        next,
-        s,
-        blocks,
-        none,
-        q,
-        &places,
-        &mut w,
-        &mut starts,
-    );
+    let x = crate::reach_round(t, &head, next, s, blocks, none, q, &mut w, &mut starts);
     let before = w;
-    crate::reach_round(
-        t,
-        &head,
-        next,
-        s,
-        blocks,
-        x,
-        r,
-        &places,
-        &mut w,
-        &mut starts,
-    );
+    crate::reach_round(t, &head, next, s, blocks, x, r, &mut w, &mut starts);
     Pair { before, at: w }
 }
 

@@ -13,7 +13,6 @@ ghost use Rattle.running.specs.Walks.{WalkRoom, WalkStart};
 
 use crate::bonded::Pair;
 use crate::{bonded, changes};
-use committee::positions;
 use terms::Round;
 use terms::sheet::{Settings, Weight};
 
@@ -99,12 +98,11 @@ fn cache_rounds(
     s: Settings,
     blocks: u32,
     first: Round,
-    places: &[u8; 2048],
     w: &mut [Weight; 16],
     starts: &mut [u32; 512],
     cache: &mut [u64],
 )
-    requires { WalkStart s t.now blocks head.now next.now places.now w.old starts.old × (first.0 ≤ s.ceiling.0) × (17 ≤ length cache.old) }
+    requires { WalkStart s t.now blocks head.now next.now w.old starts.old × (first.0 ≤ s.ceiling.0) × (17 ≤ length cache.old) }
     ensures { Caches s (chain_of s.ceiling.0 t.now blocks) cache.new }
 {
     cache[0] = first.0 as u64;
@@ -114,7 +112,7 @@ fn cache_rounds(
         if cache.len() < at + 16 {
             return;
         }
-        x = crate::reach_round(t, head, next, s, blocks, x, Round(q), places, w, starts);
+        x = crate::reach_round(t, head, next, s, blocks, x, Round(q), w, starts);
         put_weights(w, at, cache);
     }
 }
@@ -132,21 +130,9 @@ fn fill_cache_with(
     ensures { Caches s (chain_of s.ceiling.0 t.now blocks) cache.new }
 {
     let head = changes::links::linked(t, next, s.ceiling);
-    let places = positions::places();
     let mut w = s.weights;
     let mut starts = [16; 512];
-    cache_rounds(
-        t,
-        &head,
-        next,
-        s,
-        blocks,
-        first,
-        &places,
-        &mut w,
-        &mut starts,
-        cache,
-    );
+    cache_rounds(t, &head, next, s, blocks, first, &mut w, &mut starts, cache);
 }
 
 /// Caches the committees of the rounds from `first` on, up to the ceiling, for as many as there is room: a word for the first round, and sixteen for each.

@@ -6,7 +6,7 @@ ghost use Rattle.running.specs.ChainInTable.{ChainInTable};
 ghost use Rattle.running.specs.Walks.{WalkRoom, WalkStart};
 
 use crate::changes;
-use committee::{positions, weighing};
+use committee::weighing;
 use terms::Round;
 use terms::sheet::{Settings, Weight};
 
@@ -20,22 +20,21 @@ fn fill_rounds(
     blocks: u32,
     m: Round,
     top: Round,
-    places: &[u8; 2048],
     w: &mut [Weight; 16],
     starts: &mut [u32; 512],
     l: &mut [u32; 1025],
 )
-    requires { WalkStart s t.now blocks head.now next.now places.now w.old starts.old × RoundSpan m.0 top.0 }
+    requires { WalkStart s t.now blocks head.now next.now w.old starts.old × RoundSpan m.0 top.0 }
     ensures { LeadersFilled s (chain_of s.ceiling.0 t.now blocks) m.0 top.0 l.old l.new w.new }
 {
     let mut x = crate::none();
     for q in m.0..top.0 {
         let r = Round(q + 1);
-        x = crate::reach_round(t, head, next, s, blocks, x, r, places, w, starts);
-        l[q as usize + 1] = weighing::leader::leader(places, w, r).0;
+        x = crate::reach_round(t, head, next, s, blocks, x, r, w, starts);
+        l[q as usize + 1] = weighing::leader::leader(w, r).0;
     }
     let above = Round(top.0 + 1);
-    crate::reach_round(t, head, next, s, blocks, x, above, places, w, starts);
+    crate::reach_round(t, head, next, s, blocks, x, above, w, starts);
 }
 
 // The same, where next has a word for each place; gives that committee.
@@ -52,22 +51,9 @@ fn filled_by(
     ensures { LeadersFilled s (chain_of s.ceiling.0 t.now blocks) m.0 top.0 l.old l.new result }
 {
     let head = changes::links::linked(t, next, s.ceiling);
-    let places = positions::places();
     let mut w = s.weights;
     let mut starts = [16; 512];
-    fill_rounds(
-        t,
-        &head,
-        next,
-        s,
-        blocks,
-        m,
-        top,
-        &places,
-        &mut w,
-        &mut starts,
-        l,
-    );
+    fill_rounds(t, &head, next, s, blocks, m, top, &mut w, &mut starts, l);
     w
 }
 

@@ -46,11 +46,10 @@ fn fill_starts(
     blocks: u32,
     k: u32,
     f: u32,
-    places: &[u8; 2048],
     w: &[Weight; 16],
     starts: &mut [u32; 512],
 ) -> u32
-    requires { BeforeBlock s t.now blocks k f places.now w.now starts.old }
+    requires { BeforeBlock s t.now blocks k f w.now starts.old }
     ensures { StartsAhead s t.now blocks k result starts.new }
 {
     let at = store::block_round(t, k + 1);
@@ -59,13 +58,13 @@ fn fill_starts(
         if s.lookback < r.0 - at.0 {
             return i;
         }
-        starts[i as usize] = weighing::leader::leader(places, w, r).0;
+        starts[i as usize] = weighing::leader::leader(w, r).0;
     }
     blocks
 }
 
 /// Applies the block after the first ones of `x` to the committee `w`, and writes the starts up to lookback rounds after it.
-/// There has to be such a block. `head` and `next` link the places of each block, `places` is the table of members by position, and `starts` has the starts of the blocks, 16 for one without a leader.
+/// There has to be such a block. `head` and `next` link the places of each block and `starts` has the starts of the blocks, 16 for one without a leader.
 #[tactic(auto, using(crate::proofs::StartLaws::next_bounds))]
 pub fn apply_next(
     t: &[u32],
@@ -74,15 +73,14 @@ pub fn apply_next(
     s: Settings,
     blocks: u32,
     x: Applied,
-    places: &[u8; 2048],
     w: &mut [Weight; 16],
     starts: &mut [u32; 512],
 ) -> Applied
-    requires { Walking s t.now blocks 1024 x head.now next.now places.now w.old starts.old × (x.blocks < blocks) }
+    requires { Walking s t.now blocks 1024 x head.now next.now w.old starts.old × (x.blocks < blocks) }
     ensures { (result.blocks ≡ x.blocks + 1) × Running s t.now blocks 1024 result w.new starts.new }
 {
     let k = x.blocks;
-    let f = fill_starts(t, s, blocks, k, x.starts, places, w, starts);
+    let f = fill_starts(t, s, blocks, k, x.starts, w, starts);
     let a = Member(starts[k as usize]);
     changes::block::apply_block(t, head, next, k + 1, a, s.ceiling, w);
     Applied {
@@ -100,16 +98,15 @@ fn apply_below(
     blocks: u32,
     x: Applied,
     q: Round,
-    places: &[u8; 2048],
     w: &mut [Weight; 16],
     starts: &mut [u32; 512],
 ) -> Applied
-    requires { Walking s t.now blocks (q.0 - 1) x head.now next.now places.now w.old starts.old × (1 ≤ q.0) }
+    requires { Walking s t.now blocks (q.0 - 1) x head.now next.now w.old starts.old × (1 ≤ q.0) }
     ensures { Running s t.now blocks (q.0 - 1) result w.new starts.new × (w.new ≡ bonded_from s (chain_of s.ceiling.0 t.now blocks) q.0) }
 {
     let mut y = x;
     while y.blocks < blocks && store::block_round(t, y.blocks + 1).0 < q.0 {
-        y = apply_next(t, head, next, s, blocks, y, places, w, starts);
+        y = apply_next(t, head, next, s, blocks, y, w, starts);
     }
     y
 }
@@ -125,16 +122,15 @@ pub fn reach_round(
     blocks: u32,
     x: Applied,
     r: Round,
-    places: &[u8; 2048],
     w: &mut [Weight; 16],
     starts: &mut [u32; 512],
 ) -> Applied
-    requires { Walking s t.now blocks (r.0 - s.lookback - 1) x head.now next.now places.now w.old starts.old }
+    requires { Walking s t.now blocks (r.0 - s.lookback - 1) x head.now next.now w.old starts.old }
     ensures { Running s t.now blocks (r.0 - s.lookback - 1) result w.new starts.new × (w.new ≡ committee_of s (chain_of s.ceiling.0 t.now blocks) r.0) }
 {
     if r.0 <= s.lookback {
         return x;
     }
     let q = Round(r.0 - s.lookback);
-    apply_below(t, head, next, s, blocks, x, q, places, w, starts)
+    apply_below(t, head, next, s, blocks, x, q, w, starts)
 }

@@ -36,6 +36,7 @@ pub enum Call {
     Block(u32),
     Preview,
     Critical,
+    Blocks(u32, u32),
 }
 
 /// One call of one member.
@@ -113,6 +114,9 @@ pub fn make(e: &mut Engine, call: Call)
         }
         Call::Critical => {
             let _ = critical::critical(&e.state, &mut e.table, &mut [0; 64]);
+        }
+        Call::Blocks(m, n) => {
+            let _ = spans::blocks(&e.state, &e.table, m, n, &mut [0; 576]);
         }
     }
 }

@@ -6,16 +6,25 @@
 pub mod answering;
 pub mod keeper;
 pub mod lengths;
+pub mod theorems;
 
-ghost use Rattle.std.specs.Prelude.{◌≡◌, ◌+◌, ◌*◌, ◌≤◌, length, IfSome};
+ghost use Rattle.std.specs.Prelude.{◌≡◌, ◌+◌, ◌*◌, ◌≤◌, length, IfSome, IsOk};
 ghost use Rattle.std.specs.Io.KnownBytes.{Appends};
+ghost use Rattle.engine.specs.Engine.{Engine};
+ghost use Rattle.open.specs.Open.{closed_state};
+ghost use Rattle.replies.specs.Records.{engine_of};
+ghost use Rattle.serving.specs.Lengths.{table_length};
 ghost use Rattle.serving.specs.Streams.{engine_after, lines_after, output};
+ghost use Rattle.stream.specs.Ended.{Tells};
 ghost use Rattle.stream.specs.Talk.{Ran};
-ghost use Rattle.stream.specs.Known.{AddsPart};
+ghost use Rattle.stream.specs.Known.{Moved, AddsPart};
 
 use crate::keeper::Keeper;
+use std::io;
+use std::io::{Read, Write};
 use stream::ended::Ended;
 use stream::peer::Peer;
+use stream::tied::Tied;
 
 /// Serves all records that a peer sends, and hands out the lines that answer them before it reads more. `buf` is for bytes that came, `out` for lines that go out: 9 bytes for each word of the table, and 20 more. Gives how the run ended; where the input came to its end, the lines for all of it were handed out, and otherwise a first part of those that were due.
 pub fn run<P: Peer>(peer: &mut P, keeper: &mut Keeper, buf: &mut [u8], out: &mut [u8]) -> Ended
@@ -28,4 +37,27 @@ pub fn run<P: Peer>(peer: &mut P, keeper: &mut Keeper, buf: &mut [u8], out: &mut
         (P.contents peer.old) (P.contents peer.new) }
 {
     stream::run::run(peer, keeper, buf, out)
+}
+
+/// A member that is not open yet, served to the end of the input, over any reader and any writer: what the runner is. The memory is lent: the committees that are cached and the table of the member, and a buffer each for bytes that came and for lines that go out. Gives what a program ends with: all is well where the input came to its end, and then the lines for all of it were handed out; a read or a write that failed is told as it failed.
+pub fn serve_streams<R: Read, W: Write>(
+    streams: &mut Tied<R, W>,
+    cache: &mut [u64],
+    table: &mut [u32],
+    buf: &mut [u8],
+    out: &mut [u8],
+) -> io::Result<()>
+    requires table { length table.old ≡ table_length }
+    requires buffer { 1024 ≤ length buf.old }
+    requires room { table_length * 9 + 20 ≤ length out.old }
+    ensures ran { (left : Engine) × (ended : Ended) × Ran engine_after lines_after (engine_of closed_state table.old)
+        (λ p l q. Moved (R.remaining p.input) (R.remaining q.input) (W.contents p.output) (W.contents q.output) l)
+        left streams.old streams.new ended × Tells ended result }
+    ensures whole { IsOk result → IfSome (R.remaining streams.old.input)
+        (λ bytes. Appends (W.contents streams.old.output) (W.contents streams.new.output) (output (engine_of closed_state table.old) bytes)) }
+    ensures part { AddsPart engine_after lines_after (engine_of closed_state table.old) (R.remaining streams.old.input) (R.remaining streams.new.input)
+        (W.contents streams.old.output) (W.contents streams.new.output) }
+{
+    let mut keeper = Keeper::new(cache, table);
+    run(streams, &mut keeper, buf, out).told()
 }

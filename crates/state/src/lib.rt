@@ -3,6 +3,8 @@
 //! What a state is (specs/States), the view that the rules see of it and its table (specs/View), and when the two are well formed (specs/WellFormed): `well_formed` answers that for any words. What the calls use of such a state is specs/Formed, and what is cached beside it specs/Cached. The number that refuses a call (specs/Refusals), the checks of a proposal's form (specs/SharedChecks), the states that accepted calls leave (specs/States) and that a refused one leaves everything as it was (specs/Answers) stand here too. docs/RULES.md, "A member's state".
 #![tactic(auto)]
 
+pub mod theorems;
+
 ghost use Rattle.std.specs.Prelude.{◌≡◌, ◌<◌, ◌≤◌};
 ghost use Rattle.state.specs.WellFormed.{numbers_fit, head_fits, body_fits, proposal_fits, well_formed};
 

@@ -1,5 +1,5 @@
 -- One pass, put together.
-use Rattle.std.proofs.Common.{◌≡◌, ℕ, ◌-◌, ◌≤◌, Bool, true, List, [], ◌∷◌, ◌++◌, refl, ◌∙◌, ap, subst, append-nil, length, drop, Option, None, Some, arith}
+use Rattle.std.proofs.Common.{◌≡◌, ℕ, ◌-◌, ◌≤◌, Bool, List, [], ◌∷◌, ◌++◌, refl, ◌∙◌, ap, subst, append-nil, length, drop, Option, None, Ok, Err, arith}
 use Rattle.std.proofs.lemmas.List.{nil_from_length}
 use Rattle.framing.specs.Framing.{Waits}
 use Rattle.framing.specs.AtHand.{AtHand}
@@ -9,6 +9,7 @@ use Rattle.stream.specs.Held.{Held}
 use Rattle.stream.specs.Talk.{Event, came}
 use Rattle.stream.specs.Peer.{HandedOut}
 use Rattle.stream.specs.Passes.{behind, MoreCame, Next, full, read_on, at_end, cut_off, PassDone}
+use Rattle.std_io.specs.declared.io.error.Error.{Error}
 use Rattle.stream.specs.declared.Wanted.{Wanted}
 use Rattle.stream.specs.declared.Wanted.TheVariants.{Room}
 use Rattle.stream.specs.declared.passed.Passed.{Passed}
@@ -25,32 +26,32 @@ kept-left h l k taken count skipping r n b x y =
 behind-none : (h : AtHand) (b : List ℕ) → length b ≡ 0 → behind h b ≡ h
 behind-none h b z = rw (nil_from_length b z) (ap (λ (l : List ℕ). record { hand = l; skipping = h.skipping }) (append-nil h.hand))
 
-module _ {P : Type 0} (talk : P → List Event → P → Type 0) (put : List ℕ) (whole : Bool) (l : AtHand) (k h : Held) (p q : P) (w : whole ≡ true) (z : Waits l.hand) (e : k.here ≡ l) where
-  pub next-over : (n : ℕ) → n ≡ 0 → MoreCame talk k (Some n) h p q → Next talk put whole l p h.here q Over
+module _ {P : Type 0} (talk : P → List Event → P → Type 0) (put : List ℕ) (failed : Option Error) (l : AtHand) (k h : Held) (p q : P) (w : failed ≡ None) (z : Waits l.hand) (e : k.here ≡ l) where
+  pub next-over : (n : ℕ) → n ≡ 0 → MoreCame talk k (Ok n) h p q → Next talk put failed l p h.here q Over
   next-over n i m =
       let b : m.bytes ≡ [] = nil_from_length m.bytes (m.counted ∙ i) in
       at_end w z (m.hand ∙ behind-none k.here m.bytes (m.counted ∙ i) ∙ e) (subst (λ (b : List ℕ). talk p (came b ∷ []) q) b m.talked)
 
-  pub next-on : (n : ℕ) → (n ≡ 0 → ⊥) → MoreCame talk k (Some n) h p q → Next talk put whole l p h.here q On
+  pub next-on : (n : ℕ) → (n ≡ 0 → ⊥) → MoreCame talk k (Ok n) h p q → Next talk put failed l p h.here q On
   next-on n i m = read_on w z m.bytes (omega (arith, i, m.counted)) (m.hand ∙ ap (λ (a : AtHand). behind a m.bytes) e) m.talked
 
-  pub next-cut : MoreCame talk k None h p q → Next talk put whole l p h.here q Cut
-  next-cut m = cut_off w z (m.hand ∙ behind-none k.here m.bytes m.counted ∙ e) m.talked
+  pub next-cut : (why : Error) → MoreCame talk k (Err why) h p q → Next talk put failed l p h.here q (Cut why)
+  next-cut why m = cut_off w z (m.hand ∙ behind-none k.here m.bytes m.counted ∙ e) why m.talked
 
 module _ {E P : Type 0} (after : E → Option (List ℕ) → E) (answer : E → Option (List ℕ) → List ℕ) (most : E → ℕ) (talk : P → List Event → P → Type 0) where
-  pub next-full : {whole : Bool} {l : AtHand} (k : Held) (p : P) {e e₁ : E} {h : AtHand} {x y : Put} (a : Answered after answer most Room e h e₁ l x y) → x.bytes ≡ [] → most e ≤ x.room → whole ≡ true → k.here ≡ l
-      → Next talk (answers after answer e a.found) whole l p k.here p On
+  pub next-full : {failed : Option Error} {l : AtHand} (k : Held) (p : P) {e e₁ : E} {h : AtHand} {x y : Put} (a : Answered after answer most Room e h e₁ l x y) → x.bytes ≡ [] → most e ≤ x.room → failed ≡ None → k.here ≡ l
+      → Next talk (answers after answer e a.found) failed l p k.here p On
   next-full k p {e = e} {x = x} {y = y} a b r w i = full w i refl (let f = a.full refl in let n : y.bytes ≡ answers after answer e a.found = a.bytes ∙ ap (λ (z : List ℕ). z ++ answers after answer e a.found) b in omega (arith, f, a.room, r, ap length n))
 
-  pub pass-done : {wanted : Wanted} {e e₁ : E} (h k : Held) {l : AtHand} {p p₁ q : P} {x y : Put} {put : List ℕ} {whole : Bool} {passed : Passed} (a : Answered after answer most wanted e h.here e₁ l x y) → x.bytes ≡ [] → put ≡ y.bytes
-      → HandedOut talk p put whole p₁ → k.size ≡ h.size → Next talk (answers after answer e a.found) whole l p₁ k.here q passed → PassDone after answer most talk e h p e₁ k q passed
-  pass-done {e = e} h k {l = l} {p = p} {p₁ = p₁} {whole = whole} a b c g n z = record {
+  pub pass-done : {wanted : Wanted} {e e₁ : E} (h k : Held) {l : AtHand} {p p₁ q : P} {x y : Put} {put : List ℕ} {failed : Option Error} {passed : Passed} (a : Answered after answer most wanted e h.here e₁ l x y) → x.bytes ≡ [] → put ≡ y.bytes
+      → HandedOut talk p put failed p₁ → k.size ≡ h.size → Next talk (answers after answer e a.found) failed l p₁ k.here q passed → PassDone after answer most talk e h p e₁ k q passed
+  pass-done {e = e} h k {l = l} {p = p} {p₁ = p₁} {failed = failed} a b c g n z = record {
     found = a.found;
     left = l;
     finds = a.finds;
-    whole = whole;
+    failed = failed;
     between = p₁;
-    handed = subst (λ (m : List ℕ). HandedOut talk p m whole p₁) (c ∙ a.bytes ∙ ap (λ (m : List ℕ). m ++ answers after answer e a.found) b) g;
+    handed = subst (λ (m : List ℕ). HandedOut talk p m failed p₁) (c ∙ a.bytes ∙ ap (λ (m : List ℕ). m ++ answers after answer e a.found) b) g;
     next = z;
     steady = a.steady;
     size = n;

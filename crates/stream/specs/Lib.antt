@@ -2,6 +2,8 @@ pub mod Lines
 pub mod Answers
 pub mod Talk
 pub mod Peer
+pub mod Ended
 pub mod Held
 pub mod Passes
 pub mod Known
+pub mod Joining

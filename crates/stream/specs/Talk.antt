@@ -1,5 +1,6 @@
 -- What goes between a peer and who serves it, in its order.
-use Rattle.std.specs.Prelude.{◌≡◌, Bool, true, false, List, [], ◌∷◌, ◌++◌, ℕ, ◌+◌, ◌≤◌, length, Option}
+use Rattle.std.specs.Prelude.{◌≡◌, Bool, true, false, List, [], ◌∷◌, ◌++◌, ℕ, ◌+◌, ◌≤◌, length, Option, None, Some}
+use Rattle.std_io.specs.declared.io.error.Error.{Error}
 use Rattle.framing.specs.Streams.{due}
 use Rattle.stream.specs.Answers.{after_all, answers}
 use Rattle.stream.specs.declared.ended.Ended.{Ended}
@@ -8,12 +9,13 @@ use Rattle.stream.specs.declared.ended.Ended.TheVariants.{Input, ReadFailed, Wri
 pub data Event : Type 0 where
   -- a read that gave these bytes, none at the end of the input
   came : List ℕ → Event
-  read_failed : Event
+  -- a read that failed, and why
+  read_failed : Error → Event
   -- a write that took these bytes
   went : List ℕ → Event
   flushed : Event
-  -- a write or a flush that failed
-  write_failed : Event
+  -- a write or a flush that failed, and why
+  write_failed : Error → Event
 
 -- what a talk came to
 pub record SoFar : Type 0 where
@@ -22,25 +24,25 @@ pub record SoFar : Type 0 where
   pub written : List ℕ
   -- a flush came after the last bytes that went out
   pub flushed : Bool
-  -- no more bytes come: at the end of the input, or since a read failed
+  -- no more bytes come: at the end of the input, or since a read failed, and then why
   pub over : Bool
-  pub cut : Bool
-  -- a write failed
-  pub lost : Bool
+  pub cut : Option Error
+  -- why a write failed, where one did
+  pub lost : Option Error
 
 abbrev pub start : SoFar
-start = record { read = []; written = []; flushed = true; over = false; cut = false; lost = false }
+start = record { read = []; written = []; flushed = true; over = false; cut = None; lost = None }
 
 abbrev pub is_none : List ℕ → Bool
 is_none [] = true
 is_none (x ∷ l) = false
 
 abbrev pub then : SoFar → Event → SoFar
-then s (came b) = record { read = s.read ++ b; written = s.written; flushed = s.flushed; over = is_none b; cut = false; lost = s.lost }
-then s read_failed = record { read = s.read; written = s.written; flushed = s.flushed; over = true; cut = true; lost = s.lost }
+then s (came b) = record { read = s.read ++ b; written = s.written; flushed = s.flushed; over = is_none b; cut = None; lost = s.lost }
+then s (read_failed why) = record { read = s.read; written = s.written; flushed = s.flushed; over = true; cut = Some why; lost = s.lost }
 then s (went b) = record { read = s.read; written = s.written ++ b; flushed = false; over = s.over; cut = s.cut; lost = s.lost }
 then s flushed = record { read = s.read; written = s.written; flushed = true; over = s.over; cut = s.cut; lost = s.lost }
-then s write_failed = record { read = s.read; written = s.written; flushed = s.flushed; over = s.over; cut = s.cut; lost = true }
+then s (write_failed why) = record { read = s.read; written = s.written; flushed = s.flushed; over = s.over; cut = s.cut; lost = Some why }
 
 abbrev pub since : SoFar → List Event → SoFar
 since s [] = s
@@ -67,15 +69,15 @@ module _ {E : Type 0} (after : E → Option (List ℕ) → E) (answer : E → Op
 
   abbrev pub May : SoFar → Event → Type 0
   May s (came b) = MayRead s
-  May s read_failed = MayRead s
+  May s (read_failed why) = MayRead s
   May s (went b) = Partly (then s (went b))
   May s flushed = Partly s
-  May s write_failed = Partly s
+  May s (write_failed why) = Partly s
 
   -- each step of the talk is one that may come there, and nothing comes after a write that failed
   abbrev pub Follows : SoFar → List Event → Type 0
   Follows s [] = Unit {0}
-  Follows s (x ∷ l) = (s.lost ≡ false) × (May s x × Follows (then s x) l)
+  Follows s (x ∷ l) = (s.lost ≡ None) × (May s x × Follows (then s x) l)
 
   -- the engine left where all that came was answered
   abbrev pub Done : SoFar → E → Type 0
@@ -91,16 +93,16 @@ module _ {E : Type 0} (after : E → Option (List ℕ) → E) (answer : E → Op
     pub sent : s.written ++ unsent ≡ answers after answer e served
 
   -- how a talk ended, and the engine that it left
-  pub record EndsAt (failed : Bool) (s : SoFar) (left : E) : Type 0 where
+  pub record EndsAt (cut : Option Error) (s : SoFar) (left : E) : Type 0 where
     pub delivered : Delivered s
     pub over : s.over ≡ true
-    pub cut : s.cut ≡ failed
-    pub whole : s.lost ≡ false
+    pub read : s.cut ≡ cut
+    pub whole : s.lost ≡ None
     pub done : Done s left
 
-  pub record EndsLost (s : SoFar) (left : E) : Type 0 where
+  pub record EndsLost (why : Error) (s : SoFar) (left : E) : Type 0 where
     pub partly : Partly s
-    pub lost : s.lost ≡ true
+    pub lost : s.lost ≡ Some why
     pub reached : Reached s left
 
   -- so many bytes came and went that a count of them would not fit
@@ -108,13 +110,13 @@ module _ {E : Type 0} (after : E → Option (List ℕ) → E) (answer : E → Op
     pub partly : Partly s
     pub many : 18446744073709551615 ≤ length s.read + length s.written
     pub reading : s.over ≡ false
-    pub whole : s.lost ≡ false
+    pub whole : s.lost ≡ None
     pub reached : Reached s left
 
   abbrev pub Ends : Ended → SoFar → E → Type 0
-  Ends Input s left = EndsAt false s left
-  Ends ReadFailed s left = EndsAt true s left
-  Ends WriteFailed s left = EndsLost s left
+  Ends Input s left = EndsAt None s left
+  Ends (ReadFailed why) s left = EndsAt (Some why) s left
+  Ends (WriteFailed why) s left = EndsLost why s left
   Ends TooLong s left = EndsOpen s left
 
   -- a whole run, and the engine that it left

@@ -1,10 +1,11 @@
 // The bytes at hand of a stream, in lent memory: at its front, with room behind them.
-ghost use Rattle.std.specs.Prelude.{◌≡◌, false, [], ◌++◌, ◌-◌, ◌<◌, ◌≤◌, length, take, drop, OnSome};
+ghost use Rattle.std.specs.Prelude.{◌≡◌, false, [], ◌++◌, ◌-◌, ◌<◌, ◌≤◌, length, take, drop};
 ghost use Rattle.stream.specs.Held.{Held};
 ghost use Rattle.stream.specs.Passes.{in_record, MoreCame};
 
 use crate::peer::Peer;
 use framing::records::Records;
+use std::io;
 use std::marker::Model;
 
 /// The bytes at hand, and the memory that they lie in.
@@ -62,15 +63,13 @@ impl<'a> Hand<'a> {
         self.skipping = skipping;
     }
 
-    /// Reads more bytes behind those at hand, by one read. Gives how many came, none, 0, at the end of the input; nothing where the read failed.
-    pub fn more<P: Peer>(&mut self, peer: &mut P) -> Option<usize>
+    /// Reads more bytes behind those at hand, by one read. Gives how many came, none, 0, at the end of the input; or why the read failed.
+    pub fn more<P: Peer>(&mut self, peer: &mut P) -> io::Result<usize>
         requires { length self.old.here.hand < self.old.size }
         ensures { MoreCame P.talk self.old result self.new peer.old peer.new }
     {
-        let came = peer.read(&mut self.memory[self.count..]);
-        if let Some(n) = came {
-            self.count += n;
-        }
-        came
+        let count = peer.read(&mut self.memory[self.count..])?;
+        self.count += count;
+        Ok(count)
     }
 }

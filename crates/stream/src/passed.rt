@@ -1,5 +1,7 @@
 // What a pass came to.
 
+use std::io;
+
 /// What a pass came to.
 #[derive(Clone, Copy)]
 pub enum Passed {
@@ -7,8 +9,8 @@ pub enum Passed {
     On,
     /// No more bytes come: at the end of the input.
     Over,
-    /// No more bytes come, since a read failed.
-    Cut,
-    /// A write failed.
-    Lost,
+    /// No more bytes come, since a read failed, for this reason.
+    Cut(io::Error),
+    /// A write failed, for this reason.
+    Lost(io::Error),
 }

@@ -1,8 +1,13 @@
 // Someone who sends records and gets their answers.
-ghost use Rattle.std.specs.Prelude.{◌≡◌, List, [], ◌∷◌, ◌++◌, ℕ, Option, ◌≤◌, ◌<◌, length, IfSome};
+ghost use Rattle.std.specs.Prelude.{◌≡◌, ◌≢◌, List, [], ◌∷◌, ◌++◌, ℕ, Option, ◌≤◌, ◌<◌, length, IfOk, IfErr};
+ghost use Rattle.std.specs.Result.{result_err};
+ghost use Rattle.std.specs.IoError.{error_kind};
 ghost use Rattle.stream.specs.Talk.{Event};
 ghost use Rattle.stream.specs.Peer.{read_gave, write_took, flush_did, HandedOut};
 ghost use Rattle.stream.specs.Known.{Moved};
+
+use std::io;
+use std::io::ErrorKind;
 
 /// Someone who sends records and gets their answers. What goes on is told as steps in their order.
 pub trait Peer {
@@ -14,21 +19,23 @@ pub trait Peer {
 
     ghost contents: { Self → Option (List ℕ) };
 
-    /// Reads bytes to the front of the buffer. Gives how many came, 0 at the end of the input; nothing where the read failed.
-    fn read(&mut self, buf: &mut [u8]) -> Option<usize>
+    /// Reads bytes to the front of the buffer. Gives how many came, 0 at the end of the input; or why the read failed, which is never that a signal broke in.
+    fn read(&mut self, buf: &mut [u8]) -> io::Result<usize>
         requires { 0 < length buf.old }
-        ensures count { IfSome result (λ n. n ≤ length buf.new) }
+        ensures count { IfOk result (λ n. n ≤ length buf.new) }
+        ensures retried { IfErr result (λ why. error_kind why ≢ ErrorKind.Interrupted) }
         ensures talks { talk self.old (read_gave result buf.new ∷ []) self.new };
 
-    /// Writes a first part of the bytes. Gives how many went out, one at least; nothing where the write failed.
-    fn write(&mut self, bytes: &[u8]) -> Option<usize>
+    /// Writes a first part of the bytes. Gives how many went out, one at least; or why the write failed, which is never that a signal broke in.
+    fn write(&mut self, bytes: &[u8]) -> io::Result<usize>
         requires { 0 < length bytes.now }
-        ensures count { IfSome result (λ n. (0 < n) × (n ≤ length bytes.now)) }
+        ensures count { IfOk result (λ n. (0 < n) × (n ≤ length bytes.now)) }
+        ensures retried { IfErr result (λ why. error_kind why ≢ ErrorKind.Interrupted) }
         ensures talks { talk self.old (write_took result bytes.now ∷ []) self.new };
 
-    /// Sends on what waits in a buffer. False where that failed.
-    fn flush(&mut self) -> bool
-        ensures talks { talk self.old (flush_did result ∷ []) self.new };
+    /// Sends on what waits in a buffer. Gives why that failed, where it did.
+    fn flush(&mut self) -> io::Result<()>
+        ensures talks { talk self.old (flush_did (result_err result) ∷ []) self.new };
 
     ghost silent: { (p : Self) → talk p [] p };
 
@@ -37,15 +44,15 @@ pub trait Peer {
     ghost moves: { (p q : Self) (l : List Event) → talk p l q → Moved (remaining p) (remaining q) (contents p) (contents q) l };
 }
 
-/// Writes all of the bytes, in as many writes as it takes, and flushes. False where one of these failed, and then no other follows.
-pub fn hand_out<P: Peer>(peer: &mut P, bytes: &[u8]) -> bool
-    ensures { HandedOut P.talk peer.old bytes.now result peer.new }
+/// Writes all of the bytes, in as many writes as it takes, and flushes. Gives why one of these failed, where one did, and then no other follows.
+pub fn hand_out<P: Peer>(peer: &mut P, bytes: &[u8]) -> io::Result<()>
+    ensures { HandedOut P.talk peer.old bytes.now (result_err result) peer.new }
 {
     let mut at = 0;
     while at < bytes.len() {
         match peer.write(&bytes[at..]) {
-            Some(n) => at += n,
-            None => return false,
+            Ok(n) => at += n,
+            Err(why) => return Err(why),
         }
     }
     peer.flush()

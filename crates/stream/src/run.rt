@@ -35,15 +35,15 @@ fn pass<P: Peer, E: Engine>(peer: &mut P, engine: &mut E, hand: &mut Hand, out: 
 {
     let mut lines = Lines::new(out);
     let wanted = answer_hand(engine, hand, &mut lines);
-    if !hand_out(peer, lines.bytes()) {
-        return Passed::Lost;
+    if let Err(why) = hand_out(peer, lines.bytes()) {
+        return Passed::Lost(why);
     }
     match wanted {
         Wanted::Room => Passed::On,
         Wanted::Bytes => match hand.more(peer) {
-            Some(0) => Passed::Over,
-            Some(_) => Passed::On,
-            None => Passed::Cut,
+            Ok(0) => Passed::Over,
+            Ok(_) => Passed::On,
+            Err(why) => Passed::Cut(why),
         },
     }
 }
@@ -63,10 +63,9 @@ fn finish<P: Peer, E: Engine>(
     if hand.is_in_record() {
         lines.put_answer(engine, None);
     }
-    if hand_out(peer, lines.bytes()) {
-        ended
-    } else {
-        Ended::WriteFailed
+    match hand_out(peer, lines.bytes()) {
+        Ok(()) => ended,
+        Err(why) => Ended::WriteFailed(why),
     }
 }
 
@@ -86,8 +85,8 @@ fn run_passes<P: Peer, E: Engine>(
         match pass(peer, engine, &mut hand, out) {
             Passed::On => {}
             Passed::Over => return finish(peer, engine, &hand, out, Ended::Input),
-            Passed::Cut => return finish(peer, engine, &hand, out, Ended::ReadFailed),
-            Passed::Lost => return Ended::WriteFailed,
+            Passed::Cut(why) => return finish(peer, engine, &hand, out, Ended::ReadFailed(why)),
+            Passed::Lost(why) => return Ended::WriteFailed(why),
         }
     }
     Ended::TooLong

@@ -1,7 +1,18 @@
 // Any reader with any writer.
-ghost use Rattle.stream.specs.Known.{Moved, nothing_moved, joined};
+ghost use Rattle.std.specs.Prelude.{◌≤◌, length, IfSome, IsOk};
+ghost use Rattle.std.specs.Io.KnownBytes.{Appends};
+ghost use Rattle.framing.specs.Streams.{readables};
+ghost use Rattle.stream.specs.Answers.{answers};
+ghost use Rattle.stream.specs.Ended.{Tells};
+ghost use Rattle.stream.specs.Known.{Moved, AddsPart};
+ghost use Rattle.stream.specs.Joining.{nothing_moved, joined};
+ghost use Rattle.stream.specs.Talk.{Ran};
 
+use crate::Engine;
+use crate::ended::Ended;
 use crate::peer::Peer;
+use crate::run::run;
+use std::io;
 use std::io::{ErrorKind, Read, Write};
 
 /// A reader and a writer, as one peer.
@@ -27,37 +38,57 @@ impl<R: Read, W: Write> Peer for Tied<R, W> {
     ghost moves = { λ p q l h. h };
 
     // Tries again where a signal broke in.
-    fn read(&mut self, buf: &mut [u8]) -> Option<usize> {
+    fn read(&mut self, buf: &mut [u8]) -> io::Result<usize> {
         for _ in 0..u64::MAX {
             match self.input.read(buf) {
-                Ok(n) => return Some(n),
-                Err(e) => {
-                    if e.kind() != ErrorKind::Interrupted {
-                        return None;
+                Ok(n) => return Ok(n),
+                Err(why) => {
+                    if why.kind() != ErrorKind::Interrupted {
+                        return Err(why);
                     }
                 }
             }
         }
-        None
+        Err(io::Error::from(ErrorKind::Other))
     }
 
-    // Tries again where a signal broke in.
-    fn write(&mut self, bytes: &[u8]) -> Option<usize> {
+    // Tries again where a signal broke in. A writer that takes nothing has failed.
+    fn write(&mut self, bytes: &[u8]) -> io::Result<usize> {
         for _ in 0..u64::MAX {
             match self.output.write(bytes) {
-                Ok(0) => return None,
-                Ok(n) => return Some(n),
-                Err(e) => {
-                    if e.kind() != ErrorKind::Interrupted {
-                        return None;
+                Ok(0) => return Err(io::Error::from(ErrorKind::WriteZero)),
+                Ok(n) => return Ok(n),
+                Err(why) => {
+                    if why.kind() != ErrorKind::Interrupted {
+                        return Err(why);
                     }
                 }
             }
         }
-        None
+        Err(io::Error::from(ErrorKind::Other))
     }
 
-    fn flush(&mut self) -> bool {
-        self.output.flush().is_ok()
+    fn flush(&mut self) -> io::Result<()> {
+        self.output.flush()
     }
+}
+
+/// Serves all records that a reader gives, on an engine, and hands the answers to a writer before it reads more. Gives what a program ends with: all is well where the input came to its end, and then the writer got the answers to the whole of it. Its contract is in the bytes of reader and writer themselves, so that what a peer's talk is, above, need not be believed.
+pub fn run_tied<R: Read, W: Write, E: Engine>(
+    streams: &mut Tied<R, W>,
+    engine: &mut E,
+    buf: &mut [u8],
+    out: &mut [u8],
+) -> io::Result<()>
+    requires buffer { 1024 ≤ length buf.old }
+    requires room { E.most engine.old ≤ length out.old }
+    ensures ran { (ended : Ended) × Ran E.after E.answer engine.old
+        (λ p l q. Moved (R.remaining p.input) (R.remaining q.input) (W.contents p.output) (W.contents q.output) l)
+        engine.new streams.old streams.new ended × Tells ended result }
+    ensures whole { IsOk result → IfSome (R.remaining streams.old.input)
+        (λ bytes. Appends (W.contents streams.old.output) (W.contents streams.new.output) (answers E.after E.answer engine.old (readables bytes))) }
+    ensures part { AddsPart E.after E.answer engine.old (R.remaining streams.old.input) (R.remaining streams.new.input)
+        (W.contents streams.old.output) (W.contents streams.new.output) }
+{
+    run(streams, engine, buf, out).told()
 }

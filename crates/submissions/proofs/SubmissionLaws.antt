@@ -17,7 +17,8 @@ use Rattle.batch.specs.Turns.{leaves}
 use Rattle.engine.specs.Calls.{Call, accept}
 use Rattle.engine.specs.Engine.{Engine, after}
 use Rattle.engine.specs.Sequences.{after_calls, AllInRange}
-use Rattle.engine.specs.Reached.{Reached, by_call}
+use Rattle.engine.specs.Reached.{Reached}
+use Rattle.engine.proofs.ReachedLaws.{calls-lead-to}
 use Rattle.batch.specs.Batch.{Row, turns_of, table_after, batch_refusal}
 use Rattle.batch.proofs.BatchLaws.{after-accepts, batch-refused, batch-table}
 use Rattle.nonforking.specs.Statement.{Members, Entry, engine_after, engine_behaviour, Run}
@@ -57,11 +58,6 @@ leaves_as_its_calls e (batch row answers) = go (ℕ_discrete (batch_refusal e.st
     go : Dec (batch_refusal e.state e.table row.count (length answers) ≡ 0) → after_submission e (batch row answers) ≡ after_calls e (calls_of e (batch row answers))
     go (yes h) = rw (eq-eqb (batch_refusal e.state e.table row.count (length answers)) 0 h) (with-table (batch-table e.state e.table row answers h) ∙ sym (after-turns row (turns_of row) e))
     go (no n) = rw (ne_eqb (batch_refusal e.state e.table row.count (length answers)) 0 n) (with-table (batch-refused e.state e.table row answers n).0)
-
-calls-lead-to : (e : Engine) → Reached e → (l : List Call) → AllInRange l → Reached (after_calls e l)
-unfolding after_calls
-calls-lead-to e r [] i = r
-calls-lead-to e r (c ∷ l) i = by_call (after_calls e l) (calls-lead-to e r l i.1) c i.0
 
 -- so what is so of every engine that calls lead to is so of those that batches lead to
 pub batches_lead_to : (e : Engine) → Reached e → (x : Submission) → AllInRange (calls_of e x) → Reached (after_submission e x)

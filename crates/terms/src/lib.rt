@@ -6,6 +6,7 @@
 
 pub mod rights;
 pub mod sheet;
+pub mod theorems;
 
 ghost use Rattle.std.specs.Prelude.{◌≡◌, ◌<◌, ◌≤◌};
 ghost use Rattle.base.specs.Folds.{all_to};

@@ -14,7 +14,7 @@ pub enum Right {
     Sign,
     /// Advance and commit.
     Drive,
-    /// Reads, previews and lists.
+    /// Reads, previews, lists, and accesses to one's own serial port.
     Read,
 }
 

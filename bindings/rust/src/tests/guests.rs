@@ -47,6 +47,7 @@ fn all_calls() -> Vec<Asked> {
         Read: bond_effect(5, 3, 2);
         Read: certificate(1, 1);
         Read: block(1);
+        Read: block_rows(0, 1);
         Read: preview();
         Read: critical();
         Read: chain();
@@ -289,6 +290,7 @@ fn stretches_without_the_word_of_rights() {
                 lent::guest_bond_effect(caller, &state, &table, 0, 1, 1).map(|_| ()),
                 lent::guest_certificate(caller, &state, &table, 0, 1).map(|_| ()),
                 lent::guest_block(caller, &state, &table, 1).map(|_| ()),
+                lent::guest_block_rows(caller, &state, &table, 0, 1, &mut list).map(|_| ()),
                 lent::guest_chain(caller, &state, &table, &mut places).map(|_| ()),
                 lent::guest_port_read(caller, &state, &mut table, 0).map(|_| ()),
                 lent::guest_port_write(caller, &state, &mut table, 0, 0),

@@ -1,4 +1,4 @@
-//! What transactions do to the weights of a committee. Sums and products and no branches: kinds come in any order.
+//! What transactions do to the weights of a committee: each weight by sums and products, since kinds come in any order and a branch would be guessed wrong.
 ghost use Rattle.std.specs.Prelude.{◌≡◌, cond, ◌*◌, ◌≤◌};
 ghost use Rattle.terms.specs.Transactions.{read_transaction};
 ghost use Rattle.committee.specs.Changes.{change};

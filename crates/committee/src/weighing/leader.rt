@@ -3,7 +3,6 @@ ghost use Rattle.std.specs.Prelude.{◌≡◌, ◌<◌};
 ghost use Rattle.base.specs.Sets.{is_in};
 ghost use Rattle.terms.specs.Ranges.{weight_in};
 ghost use Rattle.committee.specs.Positions.{count_below};
-ghost use Rattle.committee.specs.Places.{place_table};
 ghost use Rattle.committee.specs.Leaders.{member_at, joined, member_set, leader_of, leader_number};
 
 use crate::positions;
@@ -41,16 +40,15 @@ fn size(set: u32) -> u32
 
 /// The member at position k of the set, counted from 0 by rising number; 16 for none. The upper half uses the same table as the lower one.
 #[tactic(auto, using(crate::proofs::HalfLaws::at_low, crate::proofs::HalfLaws::at_high, crate::proofs::HalfLaws::at_beyond))]
-pub fn member_at(places: &[u8; 2048], set: u32, k: u32) -> Member
-    requires { places.now ≡ place_table }
+pub fn member_at(set: u32, k: u32) -> Member
     ensures { result.0 ≡ leader_number (member_at (is_in set) k) }
 {
     let low = set % 256;
     let n = u32::count_ones(low);
     if k < n {
-        Member(positions::member_in(places, low, k))
+        Member(positions::member_in(low, k))
     } else if k < n + 8 {
-        Member(8 + positions::member_in(places, set / 256 % 256, k - n))
+        Member(8 + positions::member_in(set / 256 % 256, k - n))
     } else {
         Member(16)
     }
@@ -58,10 +56,9 @@ pub fn member_at(places: &[u8; 2048], set: u32, k: u32) -> Member
 
 /// The leader of round r in the committee w, 16 for none: the member at position (r / 2) mod their count, counted from 0 by rising number.
 ///
-/// Round 0, an odd round and an empty committee have none. What the members weigh does not matter. It reads the table of places.
+/// Round 0, an odd round and an empty committee have none. What the members weigh does not matter.
 #[tactic(auto, using(crate::proofs::LeaderLaws::leader_cases))]
-pub fn leader(places: &[u8; 2048], w: &[Weight; 16], r: Round) -> Member
-    requires { places.now ≡ place_table }
+pub fn leader(w: &[Weight; 16], r: Round) -> Member
     ensures { result.0 ≡ leader_number (leader_of (weight_in w.now) r.0) }
 {
     if r.0 % 2 != 0 || r.0 < 2 {
@@ -72,6 +69,6 @@ pub fn leader(places: &[u8; 2048], w: &[Weight; 16], r: Round) -> Member
     if n == 0 {
         Member(16)
     } else {
-        member_at(places, set, r.0 / 2 % n)
+        member_at(set, r.0 / 2 % n)
     }
 }

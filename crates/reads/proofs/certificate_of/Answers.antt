@@ -1,4 +1,5 @@
-use mathlib.Core.Path.{sym, ◌∙◌}
+use mathlib.Core.Bool.{true}
+use mathlib.Core.Path.{◌≡◌, sym, ◌∙◌}
 use native.Mathlib.Omega.{arith}
 use Rattle.rules.proofs.TestLaws.{round-fits}
 use Rattle.state.proofs.ViewLaws.{held-dag}
@@ -26,4 +27,5 @@ mark-requires c = let v = c.args.v.now in
 pub returns-clause-value : goal.returns-clause-value
 returns-clause-value c = let v = c.args.v.now in
     let k = round-fits _ _ (sym c.is_bad_round.ensures ∙ c.if-is_bad_round.false) in
-    held-told v.state.now v.table.now _ _ v.formed k.0 k.1 (sym (held-dag _ _ _ _ k.0 k.1) ∙ sym c.is_held.ensures ∙ c.if-not-is_held.false) c.proposal_at.ensures c.endorsers.ensures c.mark.ensures
+    let held : c.is_held.result ≡ true = grind arith in
+    held-told v.state.now v.table.now _ _ v.formed k.0 k.1 (sym (held-dag _ _ _ _ k.0 k.1) ∙ sym c.is_held.ensures ∙ held) c.proposal_at.ensures c.endorsers.ensures c.mark.ensures

@@ -5,7 +5,7 @@ use Rattle.running.proofs.bonded.walked.Goals as goal
 
 pub reach_round-x-requires : goal.reach_round-x-requires
 reach_round-x-requires c = record {
-  linked = record { chain = c.requires.chain; links = c.linked-head.ensures; positions = c.places-places.ensures };
+  linked = record { chain = c.requires.chain; links = c.linked-head.ensures };
   running = running_none _ c.none-none.ensures refl (started_none 16);
 }
 

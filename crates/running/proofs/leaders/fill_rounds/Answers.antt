@@ -1,9 +1,20 @@
 use mathlib.Core.Path.{◌≡◌}
+use mathlib.Core.List.{List}
+use Prim.Native.Nat.{ℕ}
 use native.Mathlib.Omega.{arith}
+use Rattle.agreement.specs.Rules.{Chain}
+use Rattle.terms.specs.Proposals.{Content}
+use Rattle.terms.specs.declared.sheet.Settings.{Settings}
+use Rattle.terms.specs.declared.sheet.Weight.{Weight}
+use Rattle.committee.specs.Committees.{committee_of}
 use Rattle.running.proofs.FillLaws.{fill_none}
 use Rattle.running.proofs.StartLaws.{running_none}
 use Rattle.running.proofs.ChainInTableLaws.{after_bounded}
 use Rattle.running.proofs.leaders.fill_rounds.Goals as goal
+
+-- the committee of a round, by any number that it has
+committee_at : {w : List Weight} (s : Settings) (b : Chain Content) (q r : ℕ) → w ≡ committee_of s b q → q ≡ r → w ≡ committee_of s b r
+committee_at s b q r h e = rw e at h
 
 pub loop-q-init : goal.loop-q-init
 loop-q-init c = let p = c.requires in
@@ -15,6 +26,6 @@ returns c = let q = c.loop-q in
     let r = c.reach_round.ensures in
     record {
       leaders = rw e at q.invariant.leaders;
-      committee = r.1;
+      committee = committee_at _ _ _ _ r.1 (omega arith);
       bounded = after_bounded (λ j. (c.type_inv.t j).fits) c.requires.0.linked.chain r.0.after;
     }

@@ -11,17 +11,17 @@ pub loop-at-preserved : goal.loop-at-preserved
 loop-at-preserved g c =
     let i = c.loop-at.invariant in
     let at = c.loop-at.at in
-    let n = c.in-Some.n in
+    let n = c.in-Ok.n in
     let part = take n (drop at c.args.bytes.now) in
     record {
       steps = i.steps ++ went part ∷ [];
       writes = subst (Writes (i.steps ++ went part ∷ [])) (sym (take-add at n c.args.bytes.now)) (then_write i.writes part);
-      talked = g.met.P.Peer.joined _ _ _ i.steps (went part ∷ []) i.talked (rw (tail_all at c.args.bytes.now) at c.in-Some.ensures.talks);
-      within = omega (arith, c.in-Some.ensures.count, i.within);
+      talked = g.met.P.Peer.joined _ _ _ i.steps (went part ∷ []) i.talked (rw (tail_all at c.args.bytes.now) at c.in-Ok.ensures.talks);
+      within = omega (arith, c.in-Ok.ensures.count, i.within);
     }
 
-pub returns-in-None : goal.returns-in-None
-returns-in-None g c =
+pub returns-in-Err : goal.returns-in-Err
+returns-in-Err g c =
     let i = c.loop-at.invariant in
     record {
       steps = i.steps;
@@ -30,5 +30,5 @@ returns-in-None g c =
       rest = drop c.loop-at.at c.args.bytes.now;
       parts = take-append-drop c.loop-at.at c.args.bytes.now;
       all = λ e. cc;
-      talked = g.met.P.Peer.joined _ _ _ i.steps (write_failed ∷ []) i.talked c.in-None.ensures.talks;
+      talked = g.met.P.Peer.joined _ _ _ i.steps (write_failed c.in-Err.why ∷ []) i.talked c.in-Err.ensures.talks;
     }

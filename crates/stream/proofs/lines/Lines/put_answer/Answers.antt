@@ -11,5 +11,5 @@ returns-clause-served g c =
     rw (← c.self.view_is)
     (record {
       state = c.serve-n.ensures.engine;
-      bytes = behind m y i c.serve-n.result c.self.invariant size c.serve-n.ensures.within ∙ ap (λ (l : List ℕ). take i m ++ l) c.serve-n.ensures.answer;
+      bytes = behind m y i c.serve-n.result _ c.self.invariant size c.serve-n.ensures.within (omega arith) ∙ ap (λ (l : List ℕ). take i m ++ l) c.serve-n.ensures.answer;
     })

@@ -1,0 +1,5 @@
+pub mod WalkLaws
+pub mod WordLaws
+pub mod StartLaws
+pub mod RefusalLaws
+pub mod ClaimLaws

@@ -1,0 +1,16 @@
+use mathlib.Core.Path.{◌≡◌}
+use mathlib.Core.List.{List}
+use Prim.Native.Nat.{ℕ, ◌*◌, ◌≤◌}
+use lib.ListN.{length}
+use Rattle.committee.specs.Changes.{rows}
+use Rattle.committee.specs.Chain.{block_at}
+use Rattle.contents.proofs.rows.count_rows.Given as goal
+
+-- those of the first i rounds are counted
+pub record Counted (t : List ℕ) (n k a i c : ℕ) : Type 0 where
+  pub so_far : i ≤ n
+  pub count : c ≡ length (rows (block_at n t k) a i)
+  pub most : c ≤ 16 * i
+
+abbrev pub invariant-loop-i : goal.invariant-loop-i
+invariant-loop-i l = Counted l.t l.n.0 l.k l.a.0 l.i l.c

@@ -1,0 +1,4 @@
+pub mod Contents
+pub mod Words
+pub mod Ready
+pub mod Claims

@@ -1,0 +1,44 @@
+-- Members' words in memory, and what a list of the library's calls makes of them.
+use Rattle.std.specs.Prelude.{◌≡◌, ◌<◌, ◌⊎◌, true, List, [], ◌∷◌, ℕ, cond, eqb, length, slice_index_or}
+use Rattle.agreement.specs.Entries as entries
+use Rattle.nonforking.specs.Statement.{Prefix, Knows, weights}
+use Rattle.library.specs.Lists as library
+use Rattle.library.specs.Lists.{engine_of, after_call}
+use Rattle.library.specs.Hosts as hosts
+use Rattle.library.specs.Hosts.{Hosts}
+use Rattle.host.specs.declared.runs.Words.{Words}
+use Rattle.host.specs.declared.runs.Entry.{Entry}
+use Rattle.host.specs.Told.{told}
+
+abbrev pub words_of : Words → library.Words
+words_of x = record { state = x.state.items; table = x.table.items }
+
+-- the members' words are those that at says of each
+abbrev pub Stand : List Words → (ℕ → library.Words) → Type 0
+Stand l at = (k : ℕ) (d : Words) → k < length l → words_of (slice_index_or l k d) ≡ at k
+
+-- after a call of one member's host
+abbrev pub stepped : (ℕ → library.Words) → Entry → ℕ → library.Words
+stepped at e k = cond (eqb k e.who) (after_call (at k) (told e.call)) (at k)
+
+abbrev pub after_run : (ℕ → library.Words) → List Entry → ℕ → library.Words
+after_run at [] = at
+after_run at (e ∷ l) = after_run (stepped at e) l
+
+-- the entries of the claim, newest first, onto l
+abbrev pub newest : List Entry → List hosts.Entry → List hosts.Entry
+newest [] l = l
+newest (e ∷ es) l = newest es (record { who = e.who; call = told e.call } ∷ l)
+
+-- of the chains that two correct members' words tell one is a prefix of the other
+abbrev pub NeverFork : Hosts → List Words → Type 0
+NeverFork X l =
+    (i j : ℕ) (d : Words) → i < length l → j < length l → X.correct i ≡ true → X.correct j ≡ true
+    → Prefix (engine_of (words_of (slice_index_or l i d))) (engine_of (words_of (slice_index_or l j d))) ⊎ Prefix (engine_of (words_of (slice_index_or l j d))) (engine_of (words_of (slice_index_or l i d)))
+
+-- in the committee of every round that both know, every member has the same weight
+abbrev pub SameCommittees : Hosts → List Words → Type 0
+SameCommittees X l =
+    (i j r : ℕ) (d : Words) → i < length l → j < length l → X.correct i ≡ true → X.correct j ≡ true
+    → Knows (engine_of (words_of (slice_index_or l i d))) r → Knows (engine_of (words_of (slice_index_or l j d))) r
+    → (m : ℕ) → weights (engine_of (words_of (slice_index_or l i d))) r m ≡ weights (engine_of (words_of (slice_index_or l j d))) r m

@@ -1,0 +1,15 @@
+use mathlib.Core.Path.{◌≡◌}
+use Prim.Native.Nat.{ℕ, ◌≤◌}
+use mathlib.Core.List.{List}
+use Rattle.running.specs.BlockChanges.{place_change}
+use Rattle.running.specs.LinkRuns.{rows_over}
+use Rattle.terms.specs.declared.sheet.Weight.{Weight}
+use Rattle.owned.proofs.applied.apply_block.Given as goal
+
+-- the rows up to that of round q are applied
+pub record RowsDone (t : List ℕ) (b a r : ℕ) (w₀ w : List Weight) (q : ℕ) : Type 0 where
+  pub to : q ≤ r
+  pub weights : w ≡ rows_over (place_change t b) a q w₀
+
+abbrev pub invariant-loop-q : goal.invariant-loop-q
+invariant-loop-q l = RowsDone l.t l.b l.a.0 l.fn.r.0 l.initial.w l.w l.q

@@ -1,0 +1,2 @@
+pub mod SpanLaws
+pub mod ReadLaws

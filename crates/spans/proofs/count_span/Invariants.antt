@@ -1,0 +1,16 @@
+use mathlib.Core.Path.{◌≡◌}
+use mathlib.Core.List.{List}
+use Prim.Native.Nat.{ℕ, ◌*◌, ◌≤◌}
+use Rattle.committee.specs.Chain.{chain_of}
+use Rattle.terms.specs.declared.sheet.Settings.{Settings}
+use Rattle.spans.specs.Spans.{count_after}
+use Rattle.spans.proofs.count_span.Given as goal
+
+-- the first i of n blocks are counted
+pub record Counted (S : Settings) (t : List ℕ) (blocks m n i c : ℕ) : Type 0 where
+  pub so_far : i ≤ n
+  pub count : c ≡ count_after S (chain_of S.ceiling.0 t blocks) m i
+  pub most : c ≤ 16384 * i
+
+abbrev pub invariant-loop-i : goal.invariant-loop-i
+invariant-loop-i l = Counted l.s l.t l.fn.blocks l.m l.n l.i l.c

@@ -1,0 +1,62 @@
+use mathlib.Core.Path.{◌≡◌, refl, ap, ◌∙◌}
+use Prim.Native.Nat.{◌+◌, ◌-◌, ◌*◌, ◌/◌}
+use native.Mathlib.Omega.{arith}
+use lib.ListN.{length, length-append}
+use Rattle.base.proofs.PutLaws.{puts_then, puts_none, puts_as}
+use Rattle.committee.specs.Changes.{row, rows}
+use Rattle.committee.specs.Chain.{block_at}
+use Rattle.running.proofs.RunLaws.{linked-head, linked_up, end-linked}
+use Rattle.spans.specs.Spans.{block_words}
+use Rattle.spans.proofs.SpanLaws.{words-none, words-append, rows-room, none-before, rows-after}
+use Rattle.spans.proofs.put_block.Goals as goal
+
+pub loop-p-init : goal.loop-p-init
+loop-p-init c = let a = c.args in
+    let l = linked-head {k = a.k} c.requires.few c.requires.links in
+    let h = l.first.from in
+    record {
+      from = h;
+      linked = linked_up _ (omega arith) (omega arith) l;
+      kept = refl;
+      puts = rw (none-before a.t.now a.k a.n.0 a.a.0 _ l) (puts_none (words-none a.t.now a.k));
+    }
+
+pub put_row-to-requires : goal.put_row-to-requires
+put_row-to-requires c = let a = c.args in
+    let x = c.loop-p in
+    let r = rows-room a.n.0 a.t.now a.k a.a.0 (x.p / 16) (omega (arith, x.invariant.from)) (omega arith) in
+    record {
+      long = c.requires.long;
+      ceiling = c.requires.ceiling;
+      from = omega (arith, x.invariant.from);
+      to = omega arith;
+      start = c.requires.start;
+      room = omega (arith, r, c.requires.room, x.invariant.kept, x.invariant.puts.past, x.invariant.puts.room);
+    }
+
+pub loop-p-smaller : goal.loop-p-smaller
+loop-p-smaller c = let x = c.loop-p in
+    let d = end-linked (x.p / 16 * 16 + 16) 16 (x.p / 16 * 16) x.p (omega arith) (omega arith) (omega arith) x.invariant.linked in
+    let h = d.first.from in
+    omega (arith, c.run_end-p.ensures)
+
+pub loop-p-preserved : goal.loop-p-preserved
+loop-p-preserved c = let a = c.args in
+    let x = c.loop-p in
+    let t = a.t.now in
+    let d = rw (← c.run_end-p.ensures) at (end-linked (x.p / 16 * 16 + 16) 16 (x.p / 16 * 16) x.p (omega arith) (omega arith) (omega arith) x.invariant.linked) in
+    let h = d.first.from in
+    let e = rows-after t a.k a.n.0 a.a.0 x.p c.run_end-p.result x.invariant.from (omega arith) d in
+    let l = ap length e ∙ length-append (rows (block_at a.n.0 t a.k) a.a.0 (x.p / 16 - 1)) (row (block_at a.n.0 t a.k) a.a.0 (x.p / 16) 16) in
+    record {
+      from = omega arith;
+      linked = linked_up _ (omega arith) (omega arith) d;
+      kept = c.put_row-to.auto.list ∙ x.invariant.kept;
+      puts = puts_as (ap (block_words t a.k) e ∙ words-append t a.k _ _) (omega (arith, l)) (puts_then x.invariant.puts c.put_row-to.ensures);
+    }
+
+pub returns : goal.returns
+returns c = let x = c.loop-p in
+    let h = x.invariant.linked.first.to in
+    let i : x.p / 16 - 1 ≡ c.args.n.0 = omega arith in
+    rw i at x.invariant.puts

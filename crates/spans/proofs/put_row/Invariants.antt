@@ -1,0 +1,11 @@
+use Prim.Native.Nat.{◌*◌}
+use lib.ListN.{length}
+use Rattle.base.proofs.PutLaws.{Putting}
+use Rattle.committee.specs.Changes.{row}
+use Rattle.committee.specs.Chain.{block_at}
+use Rattle.words.specs.Lengths.{held_length}
+use Rattle.spans.specs.Spans.{block_words}
+use Rattle.spans.proofs.put_row.Given as goal
+
+abbrev pub invariant-loop-i : goal.invariant-loop-i
+invariant-loop-i l = Putting l.initial.list l.list l.fn.at l.to (block_words l.t l.k (row (block_at l.fn.n.0 l.t l.k) l.a.0 l.r.0 l.i)) (held_length * length (row (block_at l.fn.n.0 l.t l.k) l.a.0 l.r.0 l.i)) 16 l.i

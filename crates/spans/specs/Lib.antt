@@ -1,0 +1,3 @@
+pub mod Spans
+pub mod Listed
+pub mod Ready

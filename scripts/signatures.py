@@ -1,0 +1,235 @@
+"""signatures.py: the functions that hosts link and the record that they lend, compared in the three places that write them out.
+
+A contract speaks of a function's parameters by their names; that a host hands them in the same order, and lays a record out
+in the same way, no contract says. So this compares
+  - the exported functions of CRATES, `#[unsafe(no_mangle)] pub extern "C" fn`,
+  - the header, include/forgelilac.h,
+  - the Rust package, the module `abi` of bindings/rust/src/lent.rs:
+the same names, of each the same parameters in the same order by name and type, and the same result. A stretch is two
+parameters for a host: `x: &[u32]` is `const uint32_t *x, size_t x_words`, `&mut` not const, and a row of records
+`row: &[CertificateRecord]` is `const struct forgelilac_certificate *row, size_t row_count`. The record has the same fields in
+the same order, of the same type and at the same offset, and is laid out as C does (`repr(C)`).
+
+It exits 1 at the first difference, in words; else it says how many functions agree.
+"""
+import os
+import re
+import sys
+from pathlib import Path
+
+CRATES = ["host"]       # owned has functions too, which the header does not offer yet
+HEADER = "include/forgelilac.h"
+PACKAGE = "bindings/rust/src/lent.rs"
+LAYOUT = "bindings/rust/src/layout.rs"
+RECORD = "crates/batching/src/rows.rt"
+RECORDS = {"CertificateRecord": "struct forgelilac_certificate"}       # the types of Rattle and of Rust, and C's name of each
+COMPUTED = {"forgelilac_table_words"}       # the package has it as a constant function, and does not link it
+SIZES = {"uint8_t": 1, "uint16_t": 2, "uint32_t": 4, "uint64_t": 8}
+WORDS = {"u8": "uint8_t", "u16": "uint16_t", "u32": "uint32_t", "u64": "uint64_t", "usize": "size_t"}
+
+
+class Different(Exception):
+    pass
+
+
+def text_of(path):
+    return Path(path).read_text(encoding="utf-8")
+
+
+def bare(text):
+    """C or Rust without its comments, each line where it was."""
+    text = re.sub(r"/\*.*?\*/", lambda found: "\n" * found[0].count("\n"), text, flags=re.S)
+    return re.sub(r"//[^\n]*", "", text)
+
+
+def line_of(text, place):
+    return text.count("\n", 0, place) + 1
+
+
+def parts(text):
+    """What commas part."""
+    return [part for part in (" ".join(one.split()) for one in text.split(",")) if part]
+
+
+def shown(parameter):
+    kind, name = parameter
+    return f"`{kind}{'' if kind.endswith('*') else ' '}{name}`"
+
+
+class Function:
+    """A function as C sees it: its parameters, each a type and a name, and its result."""
+
+    def __init__(self, name, parameters, result, place):
+        self.name, self.parameters, self.result, self.place = name, parameters, result, place
+
+
+def in_words(kind, place):
+    """A type of Rust's that holds no pointer, as C's."""
+    if kind in WORDS:
+        return WORDS[kind]
+    if kind in RECORDS:
+        return RECORDS[kind]
+    raise Different(f"{place}: no type of C is known for {kind}")
+
+
+def of_rattle(parameter, place):
+    """The parameters that a host hands for one of Rattle's."""
+    name, kind = (part.strip() for part in parameter.split(":", 1))
+    stretch = re.fullmatch(r"&(mut )?\[(\w+)\]", kind)
+    if not stretch:
+        return [(in_words(kind, place), name)]
+    length = f"{name}_count" if stretch[2] in RECORDS else f"{name}_words"
+    return [(f"{'' if stretch[1] else 'const '}{in_words(stretch[2], place)} *", name), ("size_t", length)]
+
+
+def of_rust(parameter, place):
+    name, kind = (part.strip() for part in parameter.split(":", 1))
+    pointer = re.fullmatch(r"\*(const|mut) (\w+)", kind)
+    if not pointer:
+        return in_words(kind, place), name
+    return f"{'const ' if pointer[1] == 'const' else ''}{in_words(pointer[2], place)} *", name
+
+
+def of_c(parameter, place):
+    kind, name = re.fullmatch(r"(.*?)\s*(\w+)", parameter).groups()
+    return re.sub(r"\s*\*\s*", " *", kind), name
+
+
+EXPORT = re.compile(r'#\[unsafe\(no_mangle\)\]\s*(?:#\[.*\]\s*)*pub extern "C" fn (\w+)\(([^)]*)\)(?:\s*->\s*(\w+))?')
+DECLARED = re.compile(r"^\s*(?!static\b)(\w+(?:\s+\w+)*?)\s+(forgelilac_\w+)\(([^)]*)\);", re.M)
+LINKED = re.compile(r"pub fn (\w+)\(([^)]*)\)(?:\s*->\s*(\w+))?;")
+
+
+def exported(crates):
+    functions = {}
+    for crate in crates:
+        for path in sorted(Path("crates", crate, "src").rglob("*.rt")):
+            text = bare(text_of(path))
+            found = list(EXPORT.finditer(text))
+            if len(found) != text.count("no_mangle"):
+                raise Different(f"{path}: {text.count('no_mangle')} functions are marked no_mangle, and {len(found)} can be read")
+            for one in found:
+                place = f"{path}:{line_of(text, one.start(1))}"
+                parameters = [made for parameter in parts(one[2]) for made in of_rattle(parameter, place)]
+                functions[one[1]] = Function(one[1], parameters, in_words(one[3], place) if one[3] else "void", place)
+    return functions
+
+
+def offered():
+    """By the header: a function without a body."""
+    text = re.sub(r"^#[^\n]*(?:\\\n[^\n]*)*", lambda found: "\n" * found[0].count("\n"), bare(text_of(HEADER)), flags=re.M)
+    functions = {}
+    for one in DECLARED.finditer(text):
+        place = f"{HEADER}:{line_of(text, one.start(2))}"
+        functions[one[2]] = Function(one[2], [of_c(parameter, place) for parameter in parts(one[3]) if parameter != "void"], one[1], place)
+    return functions
+
+
+def linked():
+    """By the Rust package."""
+    text = bare(text_of(PACKAGE))
+    block = re.search(r'unsafe extern "C" \{(.*?)\n    \}', text, re.S)
+    functions = {}
+    for one in LINKED.finditer(text, block.start(1), block.end(1)):
+        place = f"{PACKAGE}:{line_of(text, one.start(1))}"
+        functions[one[1]] = Function(one[1], [of_rust(parameter, place) for parameter in parts(one[2])], in_words(one[3], place) if one[3] else "void", place)
+    return functions
+
+
+def same_functions(engine, other, where, left_out=frozenset()):
+    """The first difference between the engine's functions and those of another place."""
+    for name in engine:
+        if name not in other and name not in left_out:
+            raise Different(f"{engine[name].place}: {name} is exported, and {where} has none of that name")
+    for name, function in other.items():
+        if name not in engine:
+            raise Different(f"{function.place}: there is no exported function {name}")
+        same_function(engine[name], function)
+
+
+def same_function(one, other):
+    for number, pair in enumerate(zip(one.parameters, other.parameters), 1):
+        if pair[0] != pair[1]:
+            raise Different(f"{one.name}: parameter {number} is {shown(pair[0])} by {one.place}, and {shown(pair[1])} at {other.place}")
+    if len(one.parameters) != len(other.parameters):
+        raise Different(f"{one.name}: {len(one.parameters)} parameters by {one.place}, and {len(other.parameters)} at {other.place}")
+    if one.result != other.result:
+        raise Different(f"{one.name}: its result is {one.result} by {one.place}, and {other.result} at {other.place}")
+
+
+# ---- the record
+
+
+def number_in(word, constants, place):
+    if word.isdigit():
+        return int(word)
+    if word not in constants:
+        raise Different(f"{place}: {word} is no number that is known")
+    return constants[word]
+
+
+def laid_out(fields):
+    """Each field with its offset, as C lays them out."""
+    at, found = 0, []
+    for name, kind, count in fields:
+        at = -(-at // SIZES[kind]) * SIZES[kind]
+        found.append((name, kind, count, at))
+        at += SIZES[kind] * count
+    return found
+
+
+def of_struct(path, constants):
+    """The record of Rattle or of Rust."""
+    text = bare(text_of(path))
+    found = re.search(r"((?:#\[[^\n]*\]\s*)*)pub struct CertificateRecord \{(.*?)\n\}", text, re.S)
+    place = f"{path}:{line_of(text, found.start(2))}"
+    if "#[repr(C)]" not in found[1]:
+        raise Different(f"{place}: CertificateRecord is not laid out as C does: repr(C) is not there")
+    fields = []
+    for name, array, count, plain in re.findall(r"(?:pub )?(\w+): (?:\[(\w+); (\w+)\]|(\w+)),", found[2]):
+        fields.append((name, in_words(array or plain, place), number_in(count, constants, place) if array else 1))
+    return laid_out(fields), place
+
+
+def of_header():
+    text = bare(text_of(HEADER))
+    constants = {name: int(value) for name, value in re.findall(r"^#define (FORGELILAC_\w+) (\d+)\s*$", text, re.M)}
+    found = re.search(RECORDS["CertificateRecord"] + r" \{(.*?)\n\};", text, re.S)
+    place = f"{HEADER}:{line_of(text, found.start(1))}"
+    fields = []
+    for kind, names in re.findall(r"(\w+) ([^;]*);", found[1]):
+        for name, count in re.findall(r"(\w+)(?:\[(\w+)\])?", re.sub(r"\s", "", names)):
+            fields.append((name, kind, number_in(count, constants, place) if count else 1))
+    return laid_out(fields), place
+
+
+def same_record(one, other):
+    (fields, place), (others, there) = one, other
+    for number, pair in enumerate(zip(fields, others), 1):
+        if pair[0] != pair[1]:
+            told = ["{0}: {1}, {2} of them, at byte {3}".format(*field) for field in pair]
+            raise Different(f"CertificateRecord: field {number} is {told[0]} by {place}, and {told[1]} at {there}")
+    if len(fields) != len(others):
+        raise Different(f"CertificateRecord: {len(fields)} fields by {place}, and {len(others)} at {there}")
+
+
+def main():
+    os.chdir(Path(__file__).resolve().parents[1])
+    try:
+        engine = exported(CRATES)
+        same_functions(engine, offered(), HEADER)
+        same_functions(engine, linked(), PACKAGE, COMPUTED)
+        constants = {name: int(value.replace("_", "")) for name, value in re.findall(r"^pub const (\w+): usize = ([\d_]+);", text_of(LAYOUT), re.M)}
+        record = of_struct(RECORD, {})
+        same_record(record, of_header())
+        same_record(record, of_struct(PACKAGE, constants))
+    except Different as found:
+        print(f"signatures.py: {found}", file=sys.stderr)
+        return 1
+    print(f"signatures: {len(engine)} functions are the same in {', '.join(f'crates/{crate}' for crate in CRATES)}, the header and the Rust package, "
+          f"and so is the record, {len(record[0])} fields in {sum(count for _, _, count, _ in record[0])} words")
+    return 0
+
+
+if __name__ == "__main__":
+    sys.exit(main())
