@@ -1,5 +1,5 @@
 -- Machines: members that keep their view in a state of their own, and whose calls are moves; and what a list of their calls leads to.
-use Rattle.std.specs.Prelude.{◌≡◌, Bool, true, cond, List, [], ◌∷◌, ◌++◌, ◌⊎◌, ℕ, eqb}
+use Rattle.std.specs.Prelude.{◌≡◌, Bool, true, if◌then◌else◌, List, [], ◌∷◌, ◌++◌, ◌⊎◌, ℕ, ◌==◌}
 use Rattle.agreement.specs.Rules.{Rules}
 use Rattle.agreement.specs.View.{View, World, Log, Among}
 use Rattle.agreement.specs.Invariants.{Invariant, FaultTolerant}
@@ -32,7 +32,7 @@ module _ {R : Rules} {correct : ℕ → Bool} (E : Machine R correct) (start : �
   -- what each member signed in a list of entries, newest first
   unfoldable pub log : List (Entry Call) → Log R
   log [] i = []
-  log (e ∷ l) i = cond (eqb i e.who) (signs i (states after start l i) e.call ++ log l i) (log l i)
+  log (e ∷ l) i = if i == e.who then signs i (states after start l i) e.call ++ log l i else log l i
 
   -- what the states show
   abbrev pub views : List (Entry Call) → World R

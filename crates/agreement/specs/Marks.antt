@@ -1,5 +1,5 @@
 -- Chains as an engine keeps them: the rounds of the blocks, newest first, and for each place the number of its block, 0 for none.
-use Rattle.std.specs.Prelude.{◌≡◌, false, ◌&&◌, cond, List, [], ◌∷◌, ℕ, suc, ◌≤◌, eqb, length}
+use Rattle.std.specs.Prelude.{◌≡◌, false, ◌&&◌, if◌then◌else◌, List, [], ◌∷◌, ℕ, suc, ◌≤◌, ◌==◌, length}
 use Rattle.std.proofs.Math.Option.{Option, none}
 use Rattle.agreement.specs.Rules.{Block, Chain, Rules}
 use Rattle.agreement.specs.View.{View}
@@ -9,7 +9,7 @@ use Rattle.agreement.specs.Histories.{in_history}
 module _ {P : Type 0} (d : ℕ → ℕ → Option P) where
   -- the block of number n
   abbrev pub marked : (ℕ → ℕ → ℕ) → ℕ → ℕ → Block P
-  marked m n r = record { round = r; holds = λ a q. cond (eqb (m a q) n) (d a q) none }
+  marked m n r = record { round = r; holds = λ a q. if m a q == n then d a q else none }
 
   -- the chain that rounds and marks stand for
   unfoldable pub marked_chain : (ℕ → ℕ → ℕ) → List ℕ → Chain P
@@ -26,7 +26,7 @@ module _ {R : Rules} (s : View R) where
 
   -- the marks of one more block: those of the history of x that have none
   unfoldable pub mark_block : P → ℕ → (ℕ → ℕ → ℕ) → ℕ → ℕ → ℕ
-  mark_block x n m a q = cond (eqb (m a q) 0 && in_history s x q a) n (m a q)
+  mark_block x n m a q = if m a q == 0 && in_history s x q a then n else m a q
 
   -- the marks after a commit of the anchors, the first of them newest
   unfoldable pub marks_of : (ℕ → ℕ → ℕ) → List ℕ → List P → ℕ → ℕ → ℕ

@@ -1,10 +1,10 @@
 -- Weights of sets of members: a weighing is ℕ → ℕ, a set is ℕ → Bool, and only the members below n count.
-use Rattle.std.specs.Prelude.{Bool, not, cond, ℕ}
+use Rattle.std.specs.Prelude.{Bool, not, if◌then◌else◌, ℕ}
 use Rattle.base.specs.Folds.{sum_to}
 
 -- the weight of the set S
 abbrev pub weigh : ℕ → (ℕ → ℕ) → (ℕ → Bool) → ℕ
-weigh n w S = sum_to (λ i. cond (S i) (w i) 0) n
+weigh n w S = sum_to (λ i. if S i then w i else 0) n
 
 -- the weight of all members
 abbrev pub total : ℕ → (ℕ → ℕ) → ℕ

@@ -1,5 +1,5 @@
 -- The ledger of a chain: what its transactions, in the chain's order, bond and release (docs/RULES.md, "Weights that add up").
-use Rattle.std.specs.Prelude.{Bool, false, cond, List, [], ◌∷◌, ◌++◌, ℕ, ◌+◌, eqb}
+use Rattle.std.specs.Prelude.{Bool, false, if◌then◌else◌, List, [], ◌∷◌, ◌++◌, ℕ, ◌+◌, ◌==◌}
 use Rattle.agreement.specs.Rules.{Chain}
 use Rattle.terms.specs.declared.Transaction.{Transaction}
 use Rattle.terms.specs.declared.Transaction.TheVariants.{Bond, Unbond, Entry}
@@ -41,20 +41,20 @@ listed_transactions (x ∷ l) = transactions_of_all x.1 ++ listed_transactions l
 
 -- what a transaction bonds to member m
 abbrev pub bond_of : ℕ → Transaction → ℕ
-bond_of m (Bond i a) = cond (eqb i.0 m) a 0
+bond_of m (Bond i a) = if i.0 == m then a else 0
 bond_of m (Unbond i) = 0
 bond_of m (Entry n) = 0
 
 -- it is an unbond of m
 abbrev pub unbonds : ℕ → Transaction → Bool
 unbonds m (Bond i a) = false
-unbonds m (Unbond i) = eqb i.0 m
+unbonds m (Unbond i) = i.0 == m
 unbonds m (Entry n) = false
 
 -- what an unbond of m releases after the transactions e: the member's bonds since its previous unbond, plus its starting weight if there was no previous one
 unfoldable pub releases : (ℕ → ℕ) → ℕ → List Transaction → ℕ
 releases w m [] = w m
-releases w m (x ∷ e) = cond (unbonds m x) 0 (bond_of m x + releases w m e)
+releases w m (x ∷ e) = if unbonds m x then 0 else bond_of m x + releases w m e
 
 -- all that is bonded to m
 unfoldable pub bonded_to : ℕ → List Transaction → ℕ
@@ -64,7 +64,7 @@ bonded_to m (x ∷ e) = bond_of m x + bonded_to m e
 -- all that the unbonds of m release
 unfoldable pub released_from : (ℕ → ℕ) → ℕ → List Transaction → ℕ
 released_from w m [] = 0
-released_from w m (x ∷ e) = cond (unbonds m x) (releases w m e) 0 + released_from w m e
+released_from w m (x ∷ e) = (if unbonds m x then releases w m e else 0) + released_from w m e
 
 -- ---- all members
 

@@ -1,5 +1,5 @@
 -- Straight after a batch: a certificate that got 11 gets 11 again, or 17 where the row has since filled its place with another.
-use Rattle.std.specs.Prelude.{◌≡◌, true, false, cond, List, ℕ, ◌<◌}
+use Rattle.std.specs.Prelude.{◌≡◌, true, false, if◌then◌else◌, List, ℕ, ◌<◌}
 use Rattle.std.proofs.Math.Option.{some}
 use Rattle.terms.specs.declared.Certificate.{Certificate}
 use Rattle.terms.specs.Proposals.{content_of, same_proposal}
@@ -29,5 +29,5 @@ module _ (s : State) (row : Row) (t : List ℕ) where
 
   -- c, offered again on the table that the batch left, gets 17 exactly where its place is held then, by another of the row, and 11 else
   pub record AgainAs (q : ℕ) (c : Certificate) : Type 0 where
-    pub number : accept_refusal s (tried_table s row t) c ≡ cond (held_at (tried_table s row t) c.proposal.author.0 c.proposal.round.0) 17 11
+    pub number : accept_refusal s (tried_table s row t) c ≡ (if held_at (tried_table s row t) c.proposal.author.0 c.proposal.round.0 then 17 else 11)
     pub filled : held_at (tried_table s row t) c.proposal.author.0 c.proposal.round.0 ≡ true → (i : ℕ) × (d : Certificate) × FilledBy q c i d

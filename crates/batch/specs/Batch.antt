@@ -1,5 +1,5 @@
 -- A batch on a state and its table: each certificate of a row gets what accept answers at its turn. The number that refuses the batch, the table and the answers.
-use Rattle.std.specs.Prelude.{◌||◌, List, [], ◌∷◌, ℕ, length, ltb}
+use Rattle.std.specs.Prelude.{◌||◌, List, [], ◌∷◌, ℕ, length, nat_lt}
 use Rattle.std.proofs.Math.Option.{Option}
 use Rattle.std.proofs.Math.Seq.{paste}
 use Rattle.base.specs.Options.{if_there}
@@ -48,7 +48,7 @@ module _ (s : State) (row : Row) where
 
 -- 25: the row is over 64, or the answers are shorter than the row
 abbrev pub batch_checks : ℕ → ℕ → Checks
-batch_checks n room = (ltb 64 n || ltb room n, 25) ∷ []
+batch_checks n room = (nat_lt 64 n || nat_lt room n, 25) ∷ []
 
 -- the number of the first check that refuses the batch, 0 for none
 unfoldable pub batch_refusal : State → List ℕ → ℕ → ℕ → ℕ

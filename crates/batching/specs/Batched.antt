@@ -1,5 +1,5 @@
 -- A host's batch: the complete answer, and what the stretches that it lends hold afterwards, refusals included.
-use Rattle.std.specs.Prelude.{cond, List, ℕ, length}
+use Rattle.std.specs.Prelude.{if◌then◌else◌, List, ℕ, length}
 use Rattle.batch.specs.Batch.{batch_refusal, batch_table, batch_answers}
 use Rattle.words.specs.States.{state_reads, state_in}
 use Rattle.hosting.specs.Calls.{Result, refused}
@@ -19,4 +19,4 @@ module _ (w t : List ℕ) (row : List CertificateRecord) (answers : List ℕ) wh
       }
 
   unfoldable pub batch_result : Result
-  batch_result = cond (state_reads w) answered (refused w t answers 1)
+  batch_result = if state_reads w then answered else refused w t answers 1

@@ -1,5 +1,5 @@
 -- How a batch begins: the checks, and the stage before the first turn.
-use Rattle.std.specs.Prelude.{◌≡◌, false, cond, List, ℕ, ◌+◌, ◌<◌, ◌≤◌, replicate, eqb}
+use Rattle.std.specs.Prelude.{◌≡◌, false, if◌then◌else◌, List, ℕ, ◌+◌, ◌<◌, ◌≤◌, replicate, ◌==◌}
 use Rattle.words.specs.States.{state_reads, state_in}
 use Rattle.refusals.specs.Refusals.{refusal_in}
 use Rattle.batch.specs.Batch.{batch_refusal}
@@ -13,9 +13,9 @@ fresh_stage n = record { count = n; seen = 0; place = 0; rounds = replicate 64 0
 
 -- a batch of n records, with room for so many answers, has begun with x
 pub record Begun (w t : List ℕ) (n room : ℕ) (x : Start) : Type 0 where
-  pub refusal : refusal_in x.checked ≡ cond (state_reads w) (batch_refusal (state_in w) t n room) 1
+  pub refusal : refusal_in x.checked ≡ (if state_reads w then batch_refusal (state_in w) t n room else 1)
   -- two turns for each record, none where it is refused
-  pub turns : x.turns ≡ cond (eqb (refusal_in x.checked) 0) (n + n) 0
+  pub turns : x.turns ≡ (if refusal_in x.checked == 0 then n + n else 0)
   pub stage : x.progress.stage ≡ fresh_stage n
   pub state : refusal_in x.checked ≡ 0 → x.state ≡ state_in w
   pub few : refusal_in x.checked ≡ 0 → (n ≤ 64) × (n ≤ room)

@@ -1,5 +1,5 @@
 -- A row of certificate records: the words of each, and what it offers.
-use Rattle.std.specs.Prelude.{cond, List, [], ◌∷◌, ◌++◌, ℕ, length, get_or}
+use Rattle.std.specs.Prelude.{if◌then◌else◌, List, [], ◌∷◌, ◌++◌, ℕ, length, get_or}
 use Rattle.std.proofs.Math.Option.{Option, none, some}
 use Rattle.terms.specs.declared.Certificate.{Certificate}
 use Rattle.words.specs.Proposals.{certificate_reads, certificate_in}
@@ -12,7 +12,9 @@ record_words e = (e.author ∷ e.round ∷ []) ++ e.body ++ (e.endorsers ∷ [])
 
 -- the certificate that they give, none where they cannot be read
 unfoldable pub certificate_of : CertificateRecord → Option Certificate
-certificate_of e = cond (certificate_reads (record_words e)) (some (certificate_in (record_words e))) none
+certificate_of e =
+    if certificate_reads (record_words e) then some (certificate_in (record_words e))
+    else none
 
 -- what stands there in a row that is too short
 abbrev pub no_record : CertificateRecord

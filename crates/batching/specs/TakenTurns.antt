@@ -1,5 +1,5 @@
 -- A turn of a batch: what it needs, and the stage and the table that it leaves.
-use Rattle.std.specs.Prelude.{◌≡◌, true, cond, List, ℕ, ◌<◌, ◌≤◌, ltb}
+use Rattle.std.specs.Prelude.{◌≡◌, true, if◌then◌else◌, List, ℕ, ◌<◌, ◌≤◌, nat_lt}
 use Rattle.std.proofs.Math.Option.{Option}
 use Rattle.base.specs.Options.{if_there}
 use Rattle.terms.specs.declared.Certificate.{Certificate}
@@ -38,11 +38,13 @@ module _ (s : State) (t : List ℕ) where
 
   -- the stage after a turn: a look, or the answer noted
   unfoldable pub stage_next : Stage → CertificateRecord → Stage
-  stage_next g e = cond (ltb g.seen g.count) (looked g e) (noted g (number_of (certificate_of e)))
+  stage_next g e =
+      if nat_lt g.seen g.count then looked g e
+      else noted g (number_of (certificate_of e))
 
   -- the table after it
   unfoldable pub table_next : Stage → CertificateRecord → List ℕ
-  table_next g e = cond (ltb g.seen g.count) t (table_of (certificate_of e))
+  table_next g e = if nat_lt g.seen g.count then t else table_of (certificate_of e)
 
 -- a certificate, if there is one to be read, was offered: this has left r and the table u, and the next turn can be taken
 pub record Offered (s : State) (t : List ℕ) (w : Progress) (o : Option Certificate) (r : Progress) (u : List ℕ) : Type 0 where

@@ -8,7 +8,7 @@ pub mod rows;
 pub mod theorems;
 pub mod trying;
 
-ghost use Rattle.std.specs.Prelude.{◌≡◌, cond, ◌+◌, ◌≤◌, eqb, length};
+ghost use Rattle.std.specs.Prelude.{◌≡◌, if◌then◌else◌, ◌+◌, ◌≤◌, ◌==◌, length};
 ghost use Rattle.std.proofs.Math.Seq.{paste};
 ghost use Rattle.running.specs.Caches.{first_round};
 ghost use Rattle.state.specs.Answers.{if_accepted};
@@ -68,7 +68,7 @@ fn check(s: State, t: &[u32], n: usize, room: usize) -> Result<(), Refusal>
 // Two turns for each record, none where the batch is refused.
 fn turns_for(checked: Result<(), Refusal>, n: usize) -> usize
     requires { refusal_in checked ≡ 0 → n ≤ 64 }
-    ensures { result ≡ cond (eqb (refusal_in checked) 0) (n + n) 0 }
+    ensures { result ≡ (if refusal_in checked == 0 then n + n else 0) }
 {
     match checked {
         Ok(()) => n + n,

@@ -1,5 +1,5 @@
 -- Bonds by numbers, as one table: one that moves a share as far as it can, a sole member, exact halves on both sides, one whose largest difference is a fall.
-use Rattle.std.specs.Prelude.{cond, List, [], ◌∷◌, ℕ, get_or, eqb, ltb}
+use Rattle.std.specs.Prelude.{if◌then◌else◌, List, [], ◌∷◌, ℕ, get_or, ◌==◌, nat_lt}
 use Rattle.base.specs.Folds.{tab}
 use Rattle.terms.specs.declared.sheet.Weight.{Weight}
 use Rattle.terms.specs.Ranges.{weight}
@@ -8,7 +8,7 @@ use Rattle.committee.specs.BondEffects.{bond_effect, most_moved}
 
 -- member 0 alone, with weight 1
 unfoldable pub sole : List Weight
-sole = tab (λ i. weight (cond (eqb i 0) 1 0)) 16
+sole = tab (λ i. weight (if i == 0 then 1 else 0)) 16
 
 -- sixteen members of weight 1
 unfoldable pub alike : List Weight
@@ -16,7 +16,7 @@ alike = tab (λ i. weight 1) 16
 
 -- members 0 and 1 of weight 1, and member 15 of weight 42
 unfoldable pub heavy : List Weight
-heavy = tab (λ i. weight (cond (eqb i 15) 42 (cond (ltb i 2) 1 0))) 16
+heavy = tab (λ i. weight (if i == 15 then 42 else if nat_lt i 2 then 1 else 0)) 16
 
 unfoldable pub before : ℕ → ℕ → List Weight → ℕ → ℕ
 before m a w i = get_or (bond_effect m a w).before i 0

@@ -1,5 +1,5 @@
 -- What transactions, certificates and blocks do to the sixteen weights of a committee.
-use Rattle.std.specs.Prelude.{List, [], ◌∷◌, ◌++◌, cond, ℕ, zero, suc, ◌+◌, ◌%◌, set, ltb}
+use Rattle.std.specs.Prelude.{List, [], ◌∷◌, ◌++◌, if◌then◌else◌, ℕ, zero, suc, ◌+◌, ◌%◌, set, nat_lt}
 use Rattle.std.proofs.Math.Option.{Option, none, some}
 use Rattle.agreement.specs.Rules.{Block}
 use Rattle.terms.specs.declared.Transaction.{Transaction}
@@ -10,8 +10,8 @@ use Rattle.terms.specs.Ranges.{weight, weight_in}
 
 -- bond adds, joining if there was no weight; unbond removes; an entry does nothing, and neither does a number that is no member's
 abbrev pub change : Transaction → List Weight → List Weight
-change (Bond m a) w = cond (ltb m.0 16) (set w m.0 (weight (weight_in w m.0 + a))) w
-change (Unbond m) w = cond (ltb m.0 16) (set w m.0 (weight 0)) w
+change (Bond m a) w = if nat_lt m.0 16 then set w m.0 (weight (weight_in w m.0 + a)) else w
+change (Unbond m) w = if nat_lt m.0 16 then set w m.0 (weight 0) else w
 change (Entry n) w = w
 
 -- transactions in order

@@ -1,5 +1,5 @@
 -- Committees, fault bounds and quorums. A committee is sixteen weights, 0 for a non-member.
-use Rattle.std.specs.Prelude.{Bool, cond, not, ◌&&◌, ◌||◌, List, [], ◌∷◌, ℕ, ◌+◌, ◌-◌, ◌/◌, ◌≤◌, leb, ltb}
+use Rattle.std.specs.Prelude.{Bool, if◌then◌else◌, not, ◌&&◌, ◌||◌, List, [], ◌∷◌, ℕ, ◌+◌, ◌-◌, ◌/◌, ◌≤◌, nat_le, nat_lt}
 use Rattle.base.specs.Folds.{any_to}
 use Rattle.agreement.specs.Weights.{weigh, total}
 use Rattle.agreement.specs.Rules.{Block, Chain, last}
@@ -12,7 +12,7 @@ use Rattle.committee.specs.Leaders.{leader_of, leader_number}
 
 -- the committee of round r, where v is the bonded one of r minus lookback
 unfoldable pub committee_by : Settings → ℕ → List Weight → List Weight
-committee_by S r v = cond (leb r S.lookback) S.weights v
+committee_by S r v = if nat_le r S.lookback then S.weights else v
 
 -- the number of the leader of round r by its committee w, 16 for none
 unfoldable pub leader_by : List Weight → ℕ → ℕ
@@ -20,7 +20,7 @@ leader_by w r = leader_number (leader_of (weight_in w) r)
 
 -- what the block b, whose rows start with member a, does to the bonded committee of round s
 unfoldable pub step_from : Settings → ℕ → Block Content → ℕ → List Weight → List Weight
-step_from S s b a w = cond (ltb b.round s) (changes_of (rows b a S.ceiling.0) w) w
+step_from S s b a w = if nat_lt b.round s then changes_of (rows b a S.ceiling.0) w else w
 
 -- the bonded committee of round s: the starting one changed by all blocks of rounds below s, in order; the rows of each start with the leader of its round
 unfoldable pub bonded_from : Settings → Chain Content → ℕ → List Weight
@@ -41,7 +41,7 @@ ordered S b c = rows b (start_of S b c) S.ceiling.0
 
 -- the chain tells the committee of round r: the bonded one of r minus lookback is known
 unfoldable pub known_by : Settings → Chain Content → ℕ → Bool
-known_by S c r = leb r (S.lookback + (last c + 2))
+known_by S c r = nat_le r (S.lookback + (last c + 2))
 
 -- a margin in its range
 pub record MarginFits (d : ℕ) : Type 0 where
@@ -58,11 +58,11 @@ quorum_weight d n = n - bound_of d n
 
 -- somebody of the set is outside the committee
 unfoldable pub outsider : (ℕ → ℕ) → (ℕ → Bool) → Bool
-outsider w set = any_to (λ i. set i && not (ltb 0 (w i))) 16
+outsider w set = any_to (λ i. set i && not (nat_lt 0 (w i))) 16
 
 -- the set weighs less than a quorum
 unfoldable pub short : ℕ → (ℕ → ℕ) → (ℕ → Bool) → Bool
-short d w set = ltb (weigh 16 w set) (quorum_weight d (total 16 w))
+short d w set = nat_lt (weigh 16 w set) (quorum_weight d (total 16 w))
 
 -- the set is a quorum: inside the committee, and of enough weight
 unfoldable pub quorum : ℕ → (ℕ → ℕ) → (ℕ → Bool) → Bool

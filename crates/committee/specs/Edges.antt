@@ -1,5 +1,5 @@
 -- The cases by numbers of docs/RULES.md, "Edges", as one table.
-use Rattle.std.specs.Prelude.{Bool, true, false, cond, ◌&&◌, ◌||◌, List, [], ◌∷◌, ℕ, zero, suc, set, eqb, ltb}
+use Rattle.std.specs.Prelude.{Bool, true, false, if◌then◌else◌, ◌&&◌, ◌||◌, List, [], ◌∷◌, ℕ, zero, suc, set, ◌==◌, nat_lt}
 use Rattle.std.proofs.Math.Option.{none, some}
 use Rattle.base.specs.Folds.{tab}
 use Rattle.agreement.specs.Rules.{Block, Chain}
@@ -32,7 +32,7 @@ unbond m = Unbond (record { 0 = m })
 
 -- member 0's certificate of round 1 with a bond of member 5 by 7, in the block of round 2
 unfoldable pub bonding : Chain Content
-bonding = record { round = 2; holds = λ a r. cond (eqb a 0 && eqb r 1) (some (record { author = 0; round = 1; previous = 0; transactions = bond 5 7 ∷ [] })) none } ∷ []
+bonding = record { round = 2; holds = λ a r. if a == 0 && r == 1 then some (record { author = 0; round = 1; previous = 0; transactions = bond 5 7 ∷ [] }) else none } ∷ []
 
 -- four members of weight 1, rounds up to 6
 unfoldable pub four : Settings
@@ -40,7 +40,7 @@ four = record { lookback = blank.lookback; ceiling = record { 0 = 6 }; allowance
 
 -- the block of round 4, whose anchor is member 2's: a full round of members 0 to 3, and the anchor
 unfoldable pub full : Block Content
-full = record { round = 4; holds = λ a r. cond ((ltb a 4 && eqb r 3) || (eqb a 2 && eqb r 4)) (some (record { author = a; round = r; previous = 15; transactions = [] })) none }
+full = record { round = 4; holds = λ a r. if (nat_lt a 4 && r == 3) || (a == 2 && r == 4) then some (record { author = a; round = r; previous = 15; transactions = [] }) else none }
 
 -- nobody has a weight: the committee is empty
 unfoldable pub nobody : Settings
@@ -76,4 +76,4 @@ cases =
 -- both numbers of each row are equal
 unfoldable pub agree : List (ℕ × ℕ) → Bool
 agree [] = true
-agree (x ∷ l) = eqb x.0 x.1 && agree l
+agree (x ∷ l) = x.0 == x.1 && agree l

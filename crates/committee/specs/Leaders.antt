@@ -1,5 +1,5 @@
 -- Leaders: of the members of a committee by rising number, the one at position (r / 2) mod their count, for even r.
-use Rattle.std.specs.Prelude.{Bool, ◌&&◌, cond, List, ℕ, ◌/◌, ◌%◌, eqb, leb, ltb}
+use Rattle.std.specs.Prelude.{Bool, ◌&&◌, if◌then◌else◌, List, ℕ, ◌/◌, ◌%◌, ◌==◌, nat_le, nat_lt}
 use Rattle.std.proofs.Math.Option.{Option, none, some}
 use Rattle.base.specs.Folds.{fold_to}
 use Rattle.base.specs.Sets.{add}
@@ -13,11 +13,13 @@ member_at set k = member_below set 16 k
 
 -- those with a weight
 abbrev pub members : (ℕ → ℕ) → ℕ → Bool
-members w i = ltb 0 (w i)
+members w i = nat_lt 0 (w i)
 
 -- the leader of an even round; none for an empty committee
 unfoldable pub leader_of : (ℕ → ℕ) → ℕ → Option ℕ
-leader_of w r = cond (eqb (r % 2) 0 && leb 2 r) (member_at (members w) (r / 2 % count_below (members w) 16)) none
+leader_of w r =
+    if r % 2 == 0 && nat_le 2 r then member_at (members w) (r / 2 % count_below (members w) 16)
+    else none
 
 -- a leader's number, 16 for none
 abbrev pub leader_number : Option ℕ → ℕ
@@ -26,7 +28,7 @@ leader_number (some a) = a
 
 -- the members as a set: s, with member i if it has a weight
 unfoldable pub joined : List Weight → ℕ → ℕ → ℕ
-joined w i s = cond (members (weight_in w) i) (add s i) s
+joined w i s = if members (weight_in w) i then add s i else s
 
 unfoldable pub member_set : List Weight → ℕ
 member_set w = fold_to (joined w) 16 0

@@ -1,17 +1,19 @@
 -- Members of a set by position, counted from 0 by rising number.
-use Rattle.std.specs.Prelude.{Bool, ◌&&◌, cond, ℕ, zero, suc, eqb}
+use Rattle.std.specs.Prelude.{Bool, ◌&&◌, if◌then◌else◌, ℕ, zero, suc, ◌==◌}
 use Rattle.std.proofs.Math.Option.{Option, none, some}
 use Rattle.base.specs.Folds.{sum_to}
 use Rattle.base.specs.Sets.{mem}
 
 -- how many of the set are below n
 unfoldable pub count_below : (ℕ → Bool) → ℕ → ℕ
-count_below set n = sum_to (λ i. cond (set i) 1 0) n
+count_below set n = sum_to (λ i. if set i then 1 else 0) n
 
 -- the one below n of the set at position k, counted from 0 by rising number
 unfoldable pub member_below : (ℕ → Bool) → ℕ → ℕ → Option ℕ
 member_below set zero k = none
-member_below set (suc n) k = cond (set n && eqb (count_below set n) k) (some n) (member_below set n k)
+member_below set (suc n) k =
+    if set n && count_below set n == k then some n
+    else member_below set n k
 
 -- a member's number, n for none
 abbrev pub or_else : ℕ → Option ℕ → ℕ

@@ -1,5 +1,5 @@
 -- Shares: weights in thousandths of a total, to the nearest, an exact half to the even neighbour.
-use Rattle.std.specs.Prelude.{cond, ℕ, ◌+◌, ◌-◌, ◌*◌, ◌/◌, ◌%◌, ◌<◌, ◌≤◌, ltb}
+use Rattle.std.specs.Prelude.{if◌then◌else◌, ℕ, ◌+◌, ◌-◌, ◌*◌, ◌/◌, ◌%◌, ◌<◌, ◌≤◌, nat_lt}
 
 -- the even one of q and q + 1
 unfoldable pub even_neighbour : ℕ → ℕ
@@ -7,7 +7,7 @@ even_neighbour q = q + q % 2
 
 -- a division by n that gave the whole part q and the rest r: a rest below half of n is dropped, one above it makes one more, an exact half gives the even neighbour
 unfoldable pub rounded : ℕ → ℕ → ℕ → ℕ
-rounded q r n = cond (ltb (2 * r) n) q (cond (ltb n (2 * r)) (q + 1) (even_neighbour q))
+rounded q r n = if nat_lt (2 * r) n then q else if nat_lt n (2 * r) then q + 1 else even_neighbour q
 
 -- a / n to the nearest whole number
 unfoldable pub nearest : ℕ → ℕ → ℕ

@@ -3,7 +3,7 @@
 pub mod change;
 pub mod leader;
 
-ghost use Rattle.std.specs.Prelude.{◌≡◌, cond, not, ◌&&◌, ◌<◌, ltb};
+ghost use Rattle.std.specs.Prelude.{◌≡◌, if◌then◌else◌, not, ◌&&◌, ◌<◌, nat_lt};
 ghost use Rattle.base.specs.Sets.{is_in};
 ghost use Rattle.agreement.specs.Weights.{weigh, total};
 ghost use Rattle.terms.specs.Ranges.{weight_in};
@@ -36,7 +36,7 @@ pub fn total_weight(w: &[Weight; 16]) -> Weight
 // What a member adds to the weight of a set.
 fn part(w: &[Weight; 16], set: u32, m: Member) -> Weight
     requires { m.0 < 16 }
-    ensures { result.0 ≡ cond (is_in set m.0) (weight_in w.now m.0) 0 }
+    ensures { result.0 ≡ (if is_in set m.0 then weight_in w.now m.0 else 0) }
 {
     if base::has(set, m.0) {
         w[m.0 as usize]
@@ -66,7 +66,7 @@ pub fn fault_bound(d: u32, n: Weight) -> Weight
 // Is the member in the set, and outside the committee?
 fn is_outsider(w: &[Weight; 16], set: u32, m: Member) -> bool
     requires { m.0 < 16 }
-    ensures { result ≡ (is_in set m.0 && not (ltb 0 (weight_in w.now m.0))) }
+    ensures { result ≡ (is_in set m.0 && not (nat_lt 0 (weight_in w.now m.0))) }
 {
     base::has(set, m.0) && !is_member(w, m)
 }

@@ -1,5 +1,5 @@
 -- What a block holds: its certificates in its order, the number that refuses the read of them, and what the lent list holds then.
-use Rattle.std.specs.Prelude.{cond, ◌||◌, List, [], ◌∷◌, ℕ, suc, ◌/◌, eqb, ltb, length, map}
+use Rattle.std.specs.Prelude.{if◌then◌else◌, ◌||◌, List, [], ◌∷◌, ℕ, suc, ◌/◌, ◌==◌, nat_lt, length, map}
 use Rattle.std.proofs.lemmas.List.Edits.{sets}
 use Rattle.base.specs.Checks.{Checks, refusal}
 use Rattle.agreement.specs.Rules.{Chain}
@@ -17,11 +17,11 @@ use Rattle.contents.specs.Words.{stored, words_of}
 -- the certificates of block k of a chain, the oldest being block 1, in the block's order; none where there is no such block
 unfoldable pub contents_of : Settings → Chain Content → ℕ → List Content
 contents_of S [] k = []
-contents_of S (b ∷ c) k = cond (eqb k (suc (length c))) (ordered S b c) (contents_of S c k)
+contents_of S (b ∷ c) k = if k == suc (length c) then ordered S b c else contents_of S c k
 
 -- 23 there is no such block, 25 a list of so many words has no room for its certificates, of seventeen words each
 abbrev pub contents_checks : Settings → Chain Content → ℕ → ℕ → Checks
-contents_checks S c k words = (eqb k 0 || ltb (length c) k, 23) ∷ (ltb (words / certificate_length) (length (contents_of S c k)), 25) ∷ []
+contents_checks S c k words = (k == 0 || nat_lt (length c) k, 23) ∷ (nat_lt (words / certificate_length) (length (contents_of S c k)), 25) ∷ []
 
 module _ (s : State) (t : List ℕ) where
   abbrev pub reading_contents : ℕ → ℕ → Checks

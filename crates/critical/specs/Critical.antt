@@ -1,5 +1,5 @@
 -- The certificates that a commit hangs on: the number that refuses, the places listed, and what the lent list holds.
-use Rattle.std.specs.Prelude.{Bool, not, cond, ◌&&◌, List, [], ◌∷◌, ◌++◌, ℕ, zero, suc, ◌-◌, ◌/◌, eqb, ltb, length}
+use Rattle.std.specs.Prelude.{Bool, not, if◌then◌else◌, ◌&&◌, List, [], ◌∷◌, ◌++◌, ℕ, zero, suc, ◌-◌, ◌/◌, ◌==◌, nat_lt, length}
 use Rattle.std.proofs.lemmas.List.Edits.{sets}
 use Rattle.base.specs.Checks.{Checks, refusal}
 use Rattle.store.specs.Table.{held_at}
@@ -28,11 +28,11 @@ module _ (s : State) (t : List ℕ) where
 
   -- it is held, and its absence alone turns the commit into a refusal
   unfoldable pub is_critical : ℕ → ℕ → Bool
-  is_critical a q = held_at t a q && not (eqb (refusal_without a q) 0)
+  is_critical a q = held_at t a q && not (refusal_without a q == 0)
 
   -- that of author a and round q, if it is
   unfoldable pub critical_at : ℕ → ℕ → List Place
-  critical_at a q = cond (is_critical a q) (record { round = q; author = a } ∷ []) []
+  critical_at a q = if is_critical a q then record { round = q; author = a } ∷ [] else []
 
   -- those of round q whose authors are below n, by rising author
   unfoldable pub critical_in : ℕ → ℕ → List Place
@@ -45,11 +45,11 @@ module _ (s : State) (t : List ℕ) where
 
   -- 25 a list of so many words has fewer than 32 places, of two words each; then the checks of commit
   abbrev pub reading_critical : ℕ → Checks
-  reading_critical words = (ltb (words / 2) 32, 25) ∷ rules.checks s.settings s.own.0 (view s t) rules.commit
+  reading_critical words = (nat_lt (words / 2) 32, 25) ∷ rules.checks s.settings s.own.0 (view s t) rules.commit
 
   -- those of a well-formed state before the votes: 25, 19, 20, 8
   abbrev pub late_checks : ℕ → Checks
-  late_checks words = (ltb (words / 2) 32, 25) ∷ time_checks s t
+  late_checks words = (nat_lt (words / 2) 32, 25) ∷ time_checks s t
 
   unfoldable pub critical_refusal : ℕ → ℕ
   critical_refusal words = refusal (guarded s t (reading_critical words))

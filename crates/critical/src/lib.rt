@@ -3,7 +3,7 @@
 //! Held ones whose absence alone would turn the commit into a refusal, by round, then author (specs/Critical). The table is lent for writing and is afterwards as it was. docs/RULES.md, "What a commit hangs on".
 #![tactic(auto)]
 
-ghost use Rattle.std.specs.Prelude.{◌≡◌, ◌+◌, ◌≤◌, [], ◌∷◌, length, IfOk, not, eqb};
+ghost use Rattle.std.specs.Prelude.{◌≡◌, ◌+◌, ◌≤◌, [], ◌∷◌, length, IfOk, not, ◌==◌};
 ghost use Rattle.base.specs.Puts.{Puts};
 ghost use Rattle.base.specs.Checks.{refusal};
 ghost use Rattle.refusals.specs.Refusals.{refusal_in};
@@ -81,7 +81,7 @@ fn is_pivotal(s: State, t: &[u32], x: Weighed, a: Member, q: Round) -> bool
 // Is the certificate of a place in a block?
 fn is_in_block(t: &[u32], a: Member, q: Round) -> bool
     requires { Within t.now a.0 q.0 }
-    ensures { result ≡ not (eqb (mark_at t.now a.0 q.0) 0) }
+    ensures { result ≡ not (mark_at t.now a.0 q.0 == 0) }
 {
     store::record::mark(t, a, q) != 0
 }

@@ -1,5 +1,5 @@
 -- The rules before an advance asked for a quorum: an advance is refused at the ceiling and nowhere else. Every other call is as it is now.
-use Rattle.std.specs.Prelude.{cond, ◌||◌, [], ◌∷◌, ℕ, eqb, leb}
+use Rattle.std.specs.Prelude.{if◌then◌else◌, ◌||◌, [], ◌∷◌, ℕ, ◌==◌, nat_le}
 use Rattle.base.specs.Checks.{Checks, refusal}
 use Rattle.terms.specs.declared.sheet.Settings.{Settings}
 use Rattle.rules.specs.Tests.{MemberView}
@@ -14,7 +14,7 @@ use Rattle.earlier.specs.Refusing.{RefusesMore}
 
 -- 18 at the ceiling
 abbrev pub earlier_advancing : (S : Settings) → MemberView S → Checks
-earlier_advancing S s = (leb S.ceiling.0 s.round, 18) ∷ []
+earlier_advancing S s = (nat_le S.ceiling.0 s.round, 18) ∷ []
 
 -- x for an advance, y for any other call
 abbrev pub of_advance : {A : Type 0} → A → A → Call → A
@@ -38,7 +38,7 @@ earlier_behaviour = record { refusal = earlier_refusal; after = earlier_after }
 
 -- what an advance answered earlier, by what it answers now: 8 and 28 were no refusals
 unfoldable pub answered_earlier : ℕ → ℕ
-answered_earlier n = cond (eqb n 8 || eqb n 28) 0 n
+answered_earlier n = if n == 8 || n == 28 then 0 else n
 
 -- members refuse more than before
 abbrev pub MembersRefuseMore : Type 0

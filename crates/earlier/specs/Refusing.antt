@@ -1,5 +1,5 @@
 -- Two ways in which engines answer, one of which refuses more: its runs, their refused calls left out, are runs of the other.
-use Rattle.std.specs.Prelude.{◌≡◌, cond, List, [], ◌∷◌, ◌≢◌, ℕ, eqb}
+use Rattle.std.specs.Prelude.{◌≡◌, if◌then◌else◌, List, [], ◌∷◌, ◌≢◌, ℕ, ◌==◌}
 use Rattle.terms.specs.declared.Member.{Member}
 use Rattle.terms.specs.declared.sheet.Sheet.{Sheet}
 use Rattle.engine.specs.Calls.{Call, opens}
@@ -17,7 +17,7 @@ module _ {B : Behaviour} (X : Members B) where
   -- the list, its refused calls left out
   unfoldable pub accepted_only : List Entry → List Entry
   accepted_only [] = []
-  accepted_only (e ∷ l) = cond (eqb (refusal (engine_after X l e.who) e.call) 0) (e ∷ accepted_only l) (accepted_only l)
+  accepted_only (e ∷ l) = if refusal (engine_after X l e.who) e.call == 0 then e ∷ accepted_only l else accepted_only l
 
 -- E refuses whatever D refuses, and perhaps more
 pub record RefusesMore (E D : Behaviour) : Type 0 where

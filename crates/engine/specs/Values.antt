@@ -1,5 +1,5 @@
 -- The value that a call answers with, where it is accepted.
-use Rattle.std.specs.Prelude.{cond, List, ℕ, ◌-◌, eqb}
+use Rattle.std.specs.Prelude.{if◌then◌else◌, List, ℕ, ◌-◌, ◌==◌}
 use Rattle.agreement.specs.Rules.{Chain}
 use Rattle.terms.specs.declared.Proposal.{Proposal}
 use Rattle.terms.specs.declared.sheet.Weight.{Weight}
@@ -66,4 +66,4 @@ accepted_value e c = nothing
 
 -- a refused call gives none
 unfoldable pub value_of : Engine → Call → Value
-value_of e c = cond (eqb (refusal_for e c) 0) (accepted_value e c) nothing
+value_of e c = if refusal_for e c == 0 then accepted_value e c else nothing

@@ -1,5 +1,5 @@
 -- One step through a stream of which only the first bytes are at hand.
-use Rattle.std.specs.Prelude.{Bool, true, false, cond, List, [], ◌∷◌, ℕ, ◌+◌, ◌<◌, length, eqb, leb, ltb, ◌≡◌}
+use Rattle.std.specs.Prelude.{Bool, true, false, if◌then◌else◌, List, [], ◌∷◌, ℕ, ◌+◌, ◌<◌, length, ◌==◌, nat_le, nat_lt, ◌≡◌}
 use Rattle.std.specs.Prelude.{Option, None, Some}
 use Rattle.framing.specs.declared.Event.{Event}
 use Rattle.framing.specs.declared.Event.TheVariants.{Nothing, Record, Unreadable}
@@ -20,13 +20,13 @@ telling Unreadable b l = None ∷ l
 -- how many bytes to let go of where there is no CRLF: all but a CR at the end, whose LF may come next
 unfoldable pub passed : List ℕ → ℕ
 passed [] = 0
-passed (x ∷ []) = cond (eqb x 13) 0 1
+passed (x ∷ []) = if x == 13 then 0 else 1
 passed (x ∷ y ∷ s) = passed (y ∷ s) + 1
 
 -- a record whose CRLF is n bytes from here
 abbrev pub ended_event : Bool → ℕ → Event
 ended_event true n = Nothing
-ended_event false n = cond (leb n 1022) Record Unreadable
+ended_event false n = if nat_le n 1022 then Record else Unreadable
 
 abbrev pub ended_step : Bool → ℕ → Step
 ended_step skipping n = record { event = ended_event skipping n; length = n; next = n + 2; skipping = false }
@@ -34,11 +34,16 @@ ended_step skipping n = record { event = ended_event skipping n; length = n; nex
 -- no CRLF at hand: a record that is too long is answered at once, for another more bytes are wanted
 abbrev pub open_step : Bool → List ℕ → Step
 open_step true s = record { event = Nothing; length = 0; next = passed s; skipping = true }
-open_step false s = cond (ltb (length s) 1024) (record { event = Nothing; length = 0; next = 0; skipping = false }) (record { event = Unreadable; length = 0; next = passed s; skipping = true })
+open_step false s =
+    if nat_lt (length s) 1024
+    then record { event = Nothing; length = 0; next = 0; skipping = false }
+    else record { event = Unreadable; length = 0; next = passed s; skipping = true }
 
 -- the step from the bytes at hand
 unfoldable pub step_of : Bool → List ℕ → Step
-step_of skipping s = cond (has_end s) (ended_step skipping (length (until_end s))) (open_step skipping s)
+step_of skipping s =
+    if has_end s then ended_step skipping (length (until_end s))
+    else open_step skipping s
 
 -- a record is begun that was not answered
 abbrev pub is_begun : Bool → List ℕ → Bool

@@ -1,5 +1,5 @@
 -- Members' words in memory, and what a list of the library's calls makes of them.
-use Rattle.std.specs.Prelude.{◌≡◌, ◌<◌, ◌⊎◌, true, List, [], ◌∷◌, ℕ, cond, eqb, length, slice_index_or}
+use Rattle.std.specs.Prelude.{◌≡◌, ◌<◌, ◌⊎◌, true, List, [], ◌∷◌, ℕ, if◌then◌else◌, ◌==◌, length, slice_index_or}
 use Rattle.agreement.specs.Entries as entries
 use Rattle.nonforking.specs.Statement.{Prefix, Knows, weights}
 use Rattle.library.specs.Lists as library
@@ -19,7 +19,7 @@ Stand l at = (k : ℕ) (d : Words) → k < length l → words_of (slice_index_or
 
 -- after a call of one member's host
 abbrev pub stepped : (ℕ → library.Words) → Entry → ℕ → library.Words
-stepped at e k = cond (eqb k e.who) (after_call (at k) (told e.call)) (at k)
+stepped at e k = if k == e.who then after_call (at k) (told e.call) else at k
 
 abbrev pub after_run : (ℕ → library.Words) → List Entry → ℕ → library.Words
 after_run at [] = at

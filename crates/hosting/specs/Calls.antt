@@ -1,5 +1,5 @@
 -- The calls and reads of a host, as words are read, the engine answers and words are written: the complete answer, and what the stretches that it lends hold afterwards, refusals included.
-use Rattle.std.specs.Prelude.{◌≡◌, Bool, true, cond, ◌&&◌, List, [], ◌∷◌, ◌++◌, ℕ, ◌+◌, ◌*◌, length, eqb, leb}
+use Rattle.std.specs.Prelude.{◌≡◌, Bool, true, if◌then◌else◌, ◌&&◌, List, [], ◌∷◌, ◌++◌, ℕ, ◌+◌, ◌*◌, length, ◌==◌, nat_le}
 use Rattle.std.proofs.Math.Seq.{paste}
 use Rattle.std.proofs.lemmas.List.Edits.{sets}
 use Rattle.base.specs.Checks as checks
@@ -95,10 +95,10 @@ module _ (w t o : List ℕ) where
 
   -- the state's words serve the call, and there is room in the out stretch
   abbrev pub serves : Use → Bool
-  serves writes = leb state_length (length w)
+  serves writes = nat_le state_length (length w)
   serves rewrites = state_reads w
   serves (accesses x) = state_reads w
-  serves (reads n) = state_reads w && leb n (length o)
+  serves (reads n) = state_reads w && nat_le n (length o)
 
   -- the engine that the call is made on
   abbrev pub engine_for : Use → Engine
@@ -138,11 +138,13 @@ module _ (w t o : List ℕ) where
       record {
         refusal = refusal_for e c;
         value = value_word (value_of e c);
-        state = cond (eqb (refusal_for e c) 0) (state_over (use_of c) (after e c).state) w;
+        state = if refusal_for e c == 0 then state_over (use_of c) (after e c).state else w;
         table = (after e c).table;
         out = out_over (value_of e c);
       }
 
   -- every call and read; b tells whether the words that are handed in can be read: where they or those of the state cannot, it is refused
   unfoldable pub result_of : Bool → Call → Result
-  result_of b c = cond (serves (use_of c) && b) (answered (engine_for (use_of c)) c) (refused (unread (use_of c)))
+  result_of b c =
+      if serves (use_of c) && b then answered (engine_for (use_of c)) c
+      else refused (unread (use_of c))

@@ -1,5 +1,5 @@
 -- The guests' forms of the functions that hosts call: what each is handed beside the caller and the words of state and table, and what comes of it.
-use Rattle.std.specs.Prelude.{Bool, true, List, [], ℕ, ltb}
+use Rattle.std.specs.Prelude.{Bool, true, List, [], ℕ, nat_lt}
 use Rattle.serial.specs.Calls.{Access}
 use Rattle.engine.specs.Calls.{Aside}
 use Rattle.engine.specs.Guests as guests
@@ -23,10 +23,10 @@ pub data GuestForm : Type 0 where
 
 abbrev pub guest_reads : GuestForm → Bool
 guest_reads (propose b) = lone_body_reads b
-guest_reads (draw v) = ltb v 65536
+guest_reads (draw v) = nat_lt v 65536
 guest_reads (enqueue x) = lone_triple_reads x
 guest_reads (endorse p) = proposal_reads p
-guest_reads (certify d) = ltb d 65536
+guest_reads (certify d) = nat_lt d 65536
 guest_reads (accept c) = certificate_reads c
 guest_reads c = true
 

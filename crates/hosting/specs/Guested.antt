@@ -1,5 +1,5 @@
 -- Guests' calls over the words that a host lends: the complete answer, and what the stretches hold afterwards, refusals included (docs/RULES.md, "Rights").
-use Rattle.std.specs.Prelude.{◌≡◌, Bool, cond, List, ◌≢◌, ℕ, eqb}
+use Rattle.std.specs.Prelude.{◌≡◌, Bool, if◌then◌else◌, List, ◌≢◌, ℕ, ◌==◌}
 use Rattle.terms.specs.declared.Member.{Member}
 use Rattle.terms.specs.declared.sheet.Rights.{Rights}
 use Rattle.terms.specs.declared.sheet.Sheet.{Sheet}
@@ -22,7 +22,7 @@ caller_number w c r = caller_refusal (rights_in w) r c
 module _ (w t o : List ℕ) (c : ℕ) where
   -- 26 and 29, before anything else; then x, what the host's own call comes to
   unfoldable pub as_guest : Right → Result → Result
-  as_guest r x = cond (eqb (caller_number w c r) 0) x (refused w t o (caller_number w c r))
+  as_guest r x = if caller_number w c r == 0 then x else refused w t o (caller_number w c r)
 
   -- every call and read of a guest; b tells whether the words that are handed in can be read
   abbrev pub guest_result : Bool → GuestCall → Result

@@ -1,5 +1,5 @@
 -- The functions that hosts call: what each is handed beside the words of state and table, and what comes of it.
-use Rattle.std.specs.Prelude.{Bool, true, List, [], ℕ, ltb}
+use Rattle.std.specs.Prelude.{Bool, true, List, [], ℕ, nat_lt}
 use Rattle.serial.specs.Calls.{PortCall}
 use Rattle.engine.specs.Calls as engine
 use Rattle.engine.specs.Calls.{Aside, Call}
@@ -30,10 +30,10 @@ abbrev pub host_reads : HostCall → Bool
 host_reads (opens own sheet rights) = sheet_reads sheet
 host_reads (propose b) = lone_body_reads b
 host_reads (endorse p) = proposal_reads p
-host_reads (certify d) = ltb d 65536
+host_reads (certify d) = nat_lt d 65536
 host_reads (accept c) = certificate_reads c
 host_reads (enqueue g x) = lone_triple_reads x
-host_reads (draw v) = ltb v 65536
+host_reads (draw v) = nat_lt v 65536
 host_reads c = true
 
 -- the call that they give

@@ -1,5 +1,5 @@
 -- The library's functions as hosts call them: the request that its words are read as, and what comes of it.
-use Rattle.std.specs.Prelude.{Bool, true, cond, ◌&&◌, List, ℕ, length, leb}
+use Rattle.std.specs.Prelude.{Bool, true, if◌then◌else◌, ◌&&◌, List, ℕ, length, nat_le}
 use Rattle.std.proofs.Math.Option.{Option, none, some}
 use Rattle.serial.specs.Calls.{PortInRange, AccessInRange}
 use Rattle.engine.specs.Guests.{batch_needs, as_host}
@@ -45,12 +45,17 @@ abbrev pub has_room : Use → List ℕ → Bool
 has_room writes o = true
 has_room rewrites o = true
 has_room (accesses x) o = true
-has_room (reads n) o = leb n (length o)
+has_room (reads n) o = nat_le n (length o)
 
 -- the request that it is read as, none where its words cannot be read or the out stretch is too short
 unfoldable pub request_in : LibraryCall → Option Request
-request_in (by_host x) = cond (has_room (use_of (host_in x)) (host_out x) && host_reads x) (some (host (one (host_in x)))) none
-request_in (by_guest c x) = cond (has_room (use_of (as_host c (guest_in x))) (guest_out x) && guest_reads x) (some (guest c (asks (guest_in x)))) none
+request_in (by_host x) =
+    if has_room (use_of (host_in x)) (host_out x) && host_reads x then some (host (one (host_in x)))
+    else none
+request_in (by_guest c x) =
+    if has_room (use_of (as_host c (guest_in x))) (guest_out x) && guest_reads x
+    then some (guest c (asks (guest_in x)))
+    else none
 request_in (batch_by_host row answers) = some (host (batch (row_of row) answers))
 request_in (batch_by_guest c row answers) = some (guest c (asks_batch (row_of row) answers))
 

@@ -1,5 +1,5 @@
 -- The bytes of answers and of the lines of a listing.
-use Rattle.std.specs.Prelude.{cond, List, [], ◌∷◌, ◌++◌, ℕ, zero, suc, ◌+◌, ◌/◌, ◌%◌, ltb}
+use Rattle.std.specs.Prelude.{if◌then◌else◌, List, [], ◌∷◌, ◌++◌, ℕ, zero, suc, ◌+◌, ◌/◌, ◌%◌, nat_lt}
 use Rattle.terms.specs.declared.Transaction.{Transaction}
 use Rattle.terms.specs.declared.Transaction.TheVariants.{Bond, Unbond, Entry}
 use Rattle.terms.specs.Transactions.{number_of, amount_of}
@@ -7,7 +7,9 @@ use Rattle.terms.specs.Transactions.{number_of, amount_of}
 -- the digits of n; k is at least as many as there are beside the last
 unfoldable pub digits_to : ℕ → ℕ → List ℕ
 digits_to zero n = (48 + n) ∷ []
-digits_to (suc k) n = cond (ltb n 10) ((48 + n) ∷ []) (digits_to k (n / 10) ++ ((48 + n % 10) ∷ []))
+digits_to (suc k) n =
+    if nat_lt n 10 then (48 + n) ∷ []
+    else digits_to k (n / 10) ++ ((48 + n % 10) ∷ [])
 
 -- a number in decimal, without leading zeros
 unfoldable pub decimal : ℕ → List ℕ

@@ -1,7 +1,7 @@
 -- The premises can be met: a run of engines in which members 0, 1 and 2 are correct and 3 is faulty.
 -- Members 0 and 1 make a block, whose bond changes a committee, and then a certificate whose signers are a quorum of that committee and were none of the starting one; member 2 has no block.
 -- Reads and refused calls are among the entries.
-use Rattle.std.specs.Prelude.{◌≡◌, true, false, List, [], ◌∷◌, ℕ, ltb, replicate}
+use Rattle.std.specs.Prelude.{◌≡◌, true, false, List, [], ◌∷◌, ℕ, nat_lt, replicate}
 use Rattle.base.specs.Sets.{is_in}
 use Rattle.terms.specs.declared.Transaction.{Transaction}
 use Rattle.terms.specs.declared.Transaction.TheVariants.{Bond}
@@ -122,7 +122,7 @@ made = (2, listed_at 1 1 0 [] ∷ listed_at 3 1 0 [] ∷ listed_at 0 1 0 (Bond (
 
 -- what is so of these members and calls
 pub record Met (X : Members engine_behaviour) : Type 0 where
-  pub correct : (i : ℕ) → X.correct i ≡ ltb i 3
+  pub correct : (i : ℕ) → X.correct i ≡ nat_lt i 3
   pub opened : (i : ℕ) → X.sheet i ≡ sheet
   pub premises : Run X calls
   -- each entry is answered with the number that stands at it

@@ -1,5 +1,5 @@
 -- Open: its checks, and the fresh state and the cleared table of an accepted one.
-use Rattle.std.specs.Prelude.{None, List, [], ◌∷◌, ℕ, length, replicate, ltb}
+use Rattle.std.specs.Prelude.{None, List, [], ◌∷◌, ℕ, length, replicate, nat_lt}
 use Rattle.base.specs.Checks.{Checks, refusal}
 use Rattle.terms.specs.declared.Member.{Member}
 use Rattle.store.specs.Table.{used_length}
@@ -31,7 +31,7 @@ fresh_state own S R = fresh own S R
 
 -- 4 member above 15; 2 setting out of range; 3 no positive weight; 1 lent table too short
 abbrev pub opening : List ℕ → Member → Settings → Checks
-opening t own S = (ltb 15 own.0, 4) ∷ (out_of_range S, 2) ∷ (weightless S, 3) ∷ (ltb (length t) (used_length S.ceiling.0), 1) ∷ []
+opening t own S = (nat_lt 15 own.0, 4) ∷ (out_of_range S, 2) ∷ (weightless S, 3) ∷ (nat_lt (length t) (used_length S.ceiling.0), 1) ∷ []
 
 unfoldable pub open_refusal : List ℕ → Member → Settings → ℕ
 open_refusal t own S = refusal (opening t own S)

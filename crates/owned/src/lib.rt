@@ -13,7 +13,7 @@ pub mod marks;
 pub mod renewal;
 pub mod rooted;
 
-ghost use Rattle.std.specs.Prelude.{◌≡◌, true, [], ltb};
+ghost use Rattle.std.specs.Prelude.{◌≡◌, true, []};
 ghost use Rattle.engine.specs.Calls.{accept, advance, commit};
 ghost use Rattle.refusals.specs.Refusals.{refusal_in, packed_in};
 ghost use Rattle.words.specs.Proposals.{certificate_reads, certificate_in};

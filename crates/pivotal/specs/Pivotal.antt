@@ -1,5 +1,5 @@
 -- What a commit hangs on: its anchor, and each vote without which the others weigh not more than the bound; and what the claims of the list speak of (pivotal::theorems).
-use Rattle.std.specs.Prelude.{◌≡◌, Bool, not, cond, ◌&&◌, List, [], ◌∷◌, ◌++◌, ℕ, zero, suc, ◌-◌, eqb, ltb}
+use Rattle.std.specs.Prelude.{◌≡◌, Bool, not, if◌then◌else◌, ◌&&◌, List, [], ◌∷◌, ◌++◌, ℕ, zero, suc, ◌-◌, ◌==◌, nat_lt}
 use Rattle.std.proofs.Math.Option.{some}
 use Rattle.agreement.specs.Weights.{weigh, total}
 use Rattle.agreement.specs.Anchors.{votes}
@@ -20,12 +20,12 @@ module _ (S : Settings) (s : MemberView S) (x : Content) where
 
   -- the votes for x but a's weigh not more than the fault bound
   unfoldable pub unvoted_without : ℕ → Bool
-  unvoted_without a = not (ltb (bound_of S.margin (total 16 voters)) (weigh 16 voters (λ i. votes s x i && not (eqb i a))))
+  unvoted_without a = not (nat_lt (bound_of S.margin (total 16 voters)) (weigh 16 voters (λ i. votes s x i && not (i == a))))
 
   -- the votes for x without which the others weigh not more than the fault bound, of authors below n, by rising author
   unfoldable pub pivotal_votes : ℕ → List Place
   pivotal_votes zero = []
-  pivotal_votes (suc n) = pivotal_votes n ++ cond (votes s x n && unvoted_without n) (record { round = suc x.round; author = n } ∷ []) []
+  pivotal_votes (suc n) = pivotal_votes n ++ (if votes s x n && unvoted_without n then record { round = suc x.round; author = n } ∷ [] else [])
 
   -- the anchor, then they
   abbrev pub pivots : List Place

@@ -1,7 +1,7 @@
 //! What commits hang on, and that the list of critical certificates tells it.
 
 ghost use Rattle.std.proofs.Math.Seq.{paste};
-ghost use Rattle.std.specs.Prelude.{List, cond, length, true, ℕ, ◌/◌, ◌<◌, ◌≡◌, ◌≤◌};
+ghost use Rattle.std.specs.Prelude.{List, if◌then◌else◌, length, true, ℕ, ◌/◌, ◌<◌, ◌≡◌, ◌≤◌};
 ghost use Rattle.critical.specs.Critical.{critical_places, refusal_without};
 ghost use Rattle.engine.specs.Calls.{aside, commit, critical};
 ghost use Rattle.engine.specs.Engine.{Engine, refusal_for};
@@ -28,7 +28,7 @@ pub fn none_above()
 #[tactic(auto, using(crate::proofs::RefusalLaws::absent_as_commit))]
 pub fn absent_as_commit()
     ensures { (e : Engine) → well_formed e.state e.table ≡ true → (a q : ℕ) → a < 16 → 0 < q → q ≤ e.state.settings.ceiling.0
-        → refusal_for (record { state = e.state; table = clear_held e.table a q }) commit ≡ cond (ports_fit e.state.settings (clear_held e.table a q) e.state.blocks) (refusal_without e.state e.table a q) 1 }
+        → refusal_for (record { state = e.state; table = clear_held e.table a q }) commit ≡ (if ports_fit e.state.settings (clear_held e.table a q) e.state.blocks then refusal_without e.state e.table a q else 1) }
 {}
 
 /// The list is the same whatever the words of a port are.

@@ -1,5 +1,5 @@
 -- The line after a place's, in the table: what the search for it has found.
-use Rattle.std.specs.Prelude.{◌≡◌, true, cond, List, [], ◌∷◌, ◌≢◌, ℕ, ◌+◌, ◌-◌, ◌*◌, ◌/◌, ◌%◌, ◌<◌, ◌≤◌, length, get_or, drop, eqb}
+use Rattle.std.specs.Prelude.{◌≡◌, true, if◌then◌else◌, List, [], ◌∷◌, ◌≢◌, ℕ, ◌+◌, ◌-◌, ◌*◌, ◌/◌, ◌%◌, ◌<◌, ◌≤◌, length, get_or, drop, ◌==◌}
 use Rattle.terms.specs.declared.sheet.Settings.{Settings}
 use Rattle.store.specs.Table.{held_at, mark_at}
 use Rattle.committee.specs.Chain.{chain_of}
@@ -16,7 +16,9 @@ first_place (e ∷ l) = e.0
 
 -- the lines after a place's; all of them after 0, which is no certificate's
 unfoldable pub lines_from : Settings → List ℕ → ℕ → ℕ → Lines
-lines_from S t blocks p = cond (eqb p 0) (lines_of S (chain_of S.ceiling.0 t blocks)) (lines_after (lines_of S (chain_of S.ceiling.0 t blocks)) p)
+lines_from S t blocks p =
+    if p == 0 then lines_of S (chain_of S.ceiling.0 t blocks)
+    else lines_after (lines_of S (chain_of S.ceiling.0 t blocks)) p
 
 -- the lines of the blocks after the first k
 unfoldable pub lines_beyond : Settings → List ℕ → ℕ → ℕ → Lines

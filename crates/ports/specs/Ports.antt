@@ -1,5 +1,5 @@
 -- Guests' serial ports in row 0 of the table: where they stand, what their words tell, and when they are well formed.
-use Rattle.std.specs.Prelude.{◌≡◌, Bool, true, cond, not, ◌&&◌, List, [], ◌∷◌, ℕ, ◌+◌, ◌*◌, ◌/◌, ◌%◌, ◌<◌, length, get_or, eqb, leb, ltb}
+use Rattle.std.specs.Prelude.{◌≡◌, Bool, true, if◌then◌else◌, not, ◌&&◌, List, [], ◌∷◌, ℕ, ◌+◌, ◌*◌, ◌/◌, ◌%◌, ◌<◌, length, get_or, ◌==◌, nat_le, nat_lt}
 use Rattle.std.proofs.Math.Seq.{paste}
 use Rattle.base.specs.Folds.{all_to}
 use Rattle.terms.specs.declared.sheet.Settings.{Settings}
@@ -50,7 +50,7 @@ module _ (S : Settings) (t : List ℕ) (blocks : ℕ) where
 
   -- it has not read past the listing's end, and its registers hold what they can
   unfoldable pub port_fits : ℕ → Bool
-  port_fits g = leb (port_in g).read (length listing_of) && registers_fit (port_in g)
+  port_fits g = nat_le (port_in g).read (length listing_of) && registers_fit (port_in g)
 
   unfoldable pub ports_fit : Bool
   ports_fit = all_to port_fits port_count
@@ -59,10 +59,12 @@ module _ (S : Settings) (t : List ℕ) (blocks : ℕ) where
 
 -- place p is of a certificate in one of the first blocks, in a table of ceiling n
 unfoldable pub is_listed : List ℕ → ℕ → ℕ → ℕ → Bool
-is_listed t n blocks p = leb 16 p && (ltb p (n * 16 + 16) && (held_at t (p % 16) (p / 16) && (leb 1 (mark_at t (p % 16) (p / 16)) && leb (mark_at t (p % 16) (p / 16)) blocks)))
+is_listed t n blocks p = nat_le 16 p && (nat_lt p (n * 16 + 16) && (held_at t (p % 16) (p / 16) && (nat_le 1 (mark_at t (p % 16) (p / 16)) && nat_le (mark_at t (p % 16) (p / 16)) blocks)))
 
 unfoldable pub cursor_fits : List ℕ → ℕ → ℕ → ℕ → ℕ → Bool
-cursor_fits t n blocks p j = cond (eqb p 0) (eqb j 0) (is_listed t n blocks p && in_line j (length (line_at t (p % 16) (p / 16))))
+cursor_fits t n blocks p j =
+    if p == 0 then j == 0
+    else is_listed t n blocks p && in_line j (length (line_at t (p % 16) (p / 16)))
 
 -- a port of a well-formed state
 pub record FormedPort (S : Settings) (t : List ℕ) (blocks g : ℕ) : Type 0 where
@@ -75,14 +77,14 @@ pub record FormedPort (S : Settings) (t : List ℕ) (blocks g : ℕ) : Type 0 wh
 -- the words w of a port when byte b was written at offset o: offset 3 keeps it, 4 its low five bits, 7 keeps it in word 5; while bit 7 of offset 3 is set, 0 and 1 keep it in words 6 and 7, else 1 keeps bit 0 in word 2
 unfoldable pub words_written : (ℕ → ℕ) → ℕ → ℕ → List ℕ
 words_written w o b =
-    let divisor = leb 128 (w 3) in
+    let divisor = nat_le 128 (w 3) in
     w 0 ∷ w 1
-    ∷ cond (eqb o 1 && not divisor) (b % 2) (w 2)
-    ∷ cond (eqb o 3) b (w 3)
-    ∷ cond (eqb o 4) (b % 32) (w 4)
-    ∷ cond (eqb o 7) b (w 5)
-    ∷ cond (eqb o 0 && divisor) b (w 6)
-    ∷ cond (eqb o 1 && divisor) b (w 7) ∷ []
+    ∷ (if o == 1 && not divisor then b % 2 else w 2)
+    ∷ (if o == 3 then b else w 3)
+    ∷ (if o == 4 then b % 32 else w 4)
+    ∷ (if o == 7 then b else w 5)
+    ∷ (if o == 0 && divisor then b else w 6)
+    ∷ (if o == 1 && divisor then b else w 7) ∷ []
 
 -- the words of a port
 unfoldable pub port_words : Lines → Port → List ℕ

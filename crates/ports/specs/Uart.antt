@@ -1,5 +1,5 @@
 -- The registers of a 16450 as a guest sees them, over a listing of bytes (docs/RULES.md, "Serial ports").
-use Rattle.std.specs.Prelude.{Bool, cond, not, ◌&&◌, List, [], ◌∷◌, ℕ, suc, ◌%◌, eqb, leb, ltb, length, get_or}
+use Rattle.std.specs.Prelude.{Bool, if◌then◌else◌, not, ◌&&◌, List, [], ◌∷◌, ℕ, suc, ◌%◌, ◌==◌, nat_le, nat_lt, length, get_or}
 use Rattle.base.specs.Folds.{all_to}
 
 -- how many bytes of the listing it has read since reset, and the registers that it holds
@@ -19,42 +19,42 @@ pub record Port : Type 0 where
 
 -- bit 7 of offset 3
 abbrev pub divisor : Port → Bool
-divisor p = leb 128 p.line
+divisor p = nat_le 128 p.line
 
 -- a byte waits: the listing has bytes that the port has not read
 abbrev pub waits : List ℕ → Port → Bool
-waits l p = ltb p.read (length l)
+waits l p = nat_lt p.read (length l)
 
 -- what each offset reads
 unfoldable pub values_at : List ℕ → Port → List ℕ
 values_at l p =
-    cond (divisor p) p.low (get_or l p.read 0)
-    ∷ cond (divisor p) p.high p.enable
-    ∷ cond (eqb p.enable 1 && waits l p) 4 1
+    (if divisor p then p.low else get_or l p.read 0)
+    ∷ (if divisor p then p.high else p.enable)
+    ∷ (if p.enable == 1 && waits l p then 4 else 1)
     ∷ p.line
     ∷ p.modem
-    ∷ cond (waits l p) 97 96
+    ∷ (if waits l p then 97 else 96)
     ∷ 0
     ∷ p.scratch ∷ []
 
 -- a read takes a byte at offset 0, while bit 7 of offset 3 is clear and one waits
 abbrev pub takes : List ℕ → Port → ℕ → Bool
-takes l p o = eqb o 0 && (not (divisor p) && waits l p)
+takes l p o = o == 0 && (not (divisor p) && waits l p)
 
 unfoldable pub after_read : List ℕ → Port → ℕ → Port
-after_read l p o = record { read = cond (takes l p o) (suc p.read) p.read; enable = p.enable; line = p.line; modem = p.modem; scratch = p.scratch; low = p.low; high = p.high }
+after_read l p o = record { read = if takes l p o then suc p.read else p.read; enable = p.enable; line = p.line; modem = p.modem; scratch = p.scratch; low = p.low; high = p.high }
 
 -- a write of the byte b: each register that is held, at its offset
 unfoldable pub after_write : Port → ℕ → ℕ → Port
 after_write p o b =
     record {
       read = p.read;
-      enable = cond (eqb o 1 && not (divisor p)) (b % 2) p.enable;
-      line = cond (eqb o 3) b p.line;
-      modem = cond (eqb o 4) (b % 32) p.modem;
-      scratch = cond (eqb o 7) b p.scratch;
-      low = cond (eqb o 0 && divisor p) b p.low;
-      high = cond (eqb o 1 && divisor p) b p.high;
+      enable = if o == 1 && not (divisor p) then b % 2 else p.enable;
+      line = if o == 3 then b else p.line;
+      modem = if o == 4 then b % 32 else p.modem;
+      scratch = if o == 7 then b else p.scratch;
+      low = if o == 0 && divisor p then b else p.low;
+      high = if o == 1 && divisor p then b else p.high;
     }
 
 -- all 0
@@ -69,4 +69,4 @@ abbrev pub limits : List ℕ
 limits = 1 ∷ 255 ∷ 31 ∷ 255 ∷ 255 ∷ 255 ∷ []
 
 unfoldable pub registers_fit : Port → Bool
-registers_fit p = all_to (λ i. leb (get_or (registers_of p) i 0) (get_or limits i 0)) 6
+registers_fit p = all_to (λ i. nat_le (get_or (registers_of p) i 0) (get_or limits i 0)) 6

@@ -7,7 +7,7 @@ pub mod cursors;
 pub mod registers;
 pub mod theorems;
 
-ghost use Rattle.std.specs.Prelude.{◌≡◌, true, not, ◌+◌, ◌/◌, ◌%◌, ◌<◌, ◌≤◌, leb, get_or};
+ghost use Rattle.std.specs.Prelude.{◌≡◌, true, not, ◌+◌, ◌/◌, ◌%◌, ◌<◌, ◌≤◌, nat_le, get_or};
 ghost use Rattle.base.specs.Folds.{all_to};
 ghost use Rattle.store.specs.Table.{Row};
 ghost use Rattle.running.specs.Rows.{RowsTo};
@@ -64,7 +64,7 @@ fn cursor_fits(t: &[u32], n: Round, blocks: u32, p: u32, j: u32) -> bool
 #[tactic(auto, unfolding(base::specs::Folds::all_to))]
 fn registers_fit(t: &[u32], g: u32) -> bool
     requires { Row t.now 0 × (g < 8) }
-    ensures { result ≡ all_to (λ i. leb (port_word t.now g (2 + i)) (get_or limits i 0)) 6 }
+    ensures { result ≡ all_to (λ i. nat_le (port_word t.now g (2 + i)) (get_or limits i 0)) 6 }
 {
     let most = [1u32, 255, 31, 255, 255, 255];
     (0..6).all(|i| word(t, g, 2 + i) <= most[i as usize])

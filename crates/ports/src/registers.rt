@@ -1,6 +1,6 @@
 //! The registers of guests' serial ports, eight bytes of the 16450 each, over the listing of the chain: reads, writes, resets (docs/RULES.md, "Serial ports").
 
-ghost use Rattle.std.specs.Prelude.{◌≡◌, true, cond, not, ◌&&◌, ◌≢◌, ℕ, ◌+◌, ◌/◌, ◌%◌, ◌<◌, eqb, leb, ltb, length, get_or, set, replicate};
+ghost use Rattle.std.specs.Prelude.{◌≡◌, true, if◌then◌else◌, not, ◌&&◌, ◌≢◌, ℕ, ◌+◌, ◌/◌, ◌%◌, ◌<◌, ◌==◌, nat_le, length, get_or, set, replicate};
 ghost use Rattle.std.proofs.Math.Seq.{paste};
 ghost use Rattle.store.specs.Table.{Row};
 ghost use Rattle.ports.specs.Places.{line_at, HasLine};
@@ -70,7 +70,7 @@ fn put_word(t: &mut [u32], g: u32, i: u32, v: u32)
 // Is bit 7 of offset 3 set?
 fn shows_divisor(t: &[u32], g: u32) -> bool
     requires { Row t.now 0 × (g < 8) }
-    ensures { result ≡ leb 128 (port_word t.now g 3) }
+    ensures { result ≡ nat_le 128 (port_word t.now g 3) }
 {
     128 <= crate::word(t, g, 3)
 }
@@ -78,7 +78,7 @@ fn shows_divisor(t: &[u32], g: u32) -> bool
 // Offset 0.
 fn data(t: &[u32], g: u32, n: Next) -> u32
     requires { Row t.now 0 × (g < 8) }
-    ensures { result ≡ cond (leb 128 (port_word t.now g 3)) (port_word t.now g 6) n.byte }
+    ensures { result ≡ (if nat_le 128 (port_word t.now g 3) then port_word t.now g 6 else n.byte) }
 {
     if shows_divisor(t, g) {
         crate::word(t, g, 6)
@@ -90,7 +90,7 @@ fn data(t: &[u32], g: u32, n: Next) -> u32
 // Offset 1.
 fn enable(t: &[u32], g: u32) -> u32
     requires { Row t.now 0 × (g < 8) }
-    ensures { result ≡ cond (leb 128 (port_word t.now g 3)) (port_word t.now g 7) (port_word t.now g 2) }
+    ensures { result ≡ (if nat_le 128 (port_word t.now g 3) then port_word t.now g 7 else port_word t.now g 2) }
 {
     crate::word(t, g, if shows_divisor(t, g) { 7 } else { 2 })
 }
@@ -98,7 +98,7 @@ fn enable(t: &[u32], g: u32) -> u32
 // Offset 2.
 fn interrupt(t: &[u32], g: u32, n: Next) -> u32
     requires { Row t.now 0 × (g < 8) }
-    ensures { result ≡ cond (eqb (port_word t.now g 2) 1 && not (eqb n.place 0)) 4 1 }
+    ensures { result ≡ (if port_word t.now g 2 == 1 && not (n.place == 0) then 4 else 1) }
 {
     if crate::word(t, g, 2) == 1 && n.place != 0 {
         4
@@ -109,7 +109,7 @@ fn interrupt(t: &[u32], g: u32, n: Next) -> u32
 
 // Offset 5.
 fn status(n: Next) -> u32
-    ensures { result ≡ cond (not (eqb n.place 0)) 97 96 }
+    ensures { result ≡ (if not (n.place == 0) then 97 else 96) }
 {
     if n.place != 0 { 97 } else { 96 }
 }
@@ -135,7 +135,7 @@ fn value(t: &[u32], g: u32, o: u32, n: Next) -> u32
 // The port stands behind the byte that it has read: at offset 0, if one was waiting and bit 7 of offset 3 is clear.
 fn take(t: &mut [u32], g: u32, o: u32, n: Next)
     requires { Row t.old 0 × (g < 8) }
-    ensures { t.new ≡ cond (eqb o 0 && (not (leb 128 (port_word t.old g 3)) && not (eqb n.place 0))) (set (set t.old (port_start g + 0) n.place) (port_start g + 1) n.bytes) t.old }
+    ensures { t.new ≡ (if o == 0 && (not (nat_le 128 (port_word t.old g 3)) && not (n.place == 0)) then set (set t.old (port_start g + 0) n.place) (port_start g + 1) n.bytes else t.old) }
 {
     if o == 0 && !shows_divisor(t, g) && n.place != 0 {
         put_word(t, g, 0, n.place);

@@ -1,5 +1,5 @@
 -- A preview of commit on a state and its table: the number that refuses, the entries, and what the lent list holds.
-use Rattle.std.specs.Prelude.{List, ◌∷◌, ℕ, ◌-◌, ◌*◌, ◌/◌, ltb, length}
+use Rattle.std.specs.Prelude.{List, ◌∷◌, ℕ, ◌-◌, ◌*◌, ◌/◌, nat_lt, length}
 use Rattle.std.proofs.lemmas.List.Edits.{sets}
 use Rattle.base.specs.Checks.{Checks, refusal}
 use Rattle.rules.specs.Calls as rules
@@ -13,7 +13,7 @@ use Rattle.preview.specs.Entries.{Entry, entries_after, words_of}
 module _ (s : State) (t : List ℕ) where
   -- 25 a list of so many words has fewer than 16 places per round of the ceiling, of three words each; then the checks of commit
   abbrev pub previewing : ℕ → Checks
-  previewing words = (ltb (words / 3) (16 * s.settings.ceiling.0), 25) ∷ rules.checks s.settings s.own.0 (view s t) rules.commit
+  previewing words = (nat_lt (words / 3) (16 * s.settings.ceiling.0), 25) ∷ rules.checks s.settings s.own.0 (view s t) rules.commit
 
   unfoldable pub preview_refusal : ℕ → ℕ
   preview_refusal words = refusal (guarded s t (previewing words))

@@ -1,5 +1,5 @@
 -- Entries of a preview as words: block number, certificate round, author.
-use Rattle.std.specs.Prelude.{Bool, cond, List, [], ◌∷◌, ◌++◌, ℕ, zero, suc, ◌+◌, ◌-◌, ◌%◌, ◌<◌, ◌≤◌, length, get_or}
+use Rattle.std.specs.Prelude.{Bool, if◌then◌else◌, List, [], ◌∷◌, ◌++◌, ℕ, zero, suc, ◌+◌, ◌-◌, ◌%◌, ◌<◌, ◌≤◌, length, get_or}
 use Rattle.base.specs.Sets.{is_in}
 
 -- the entry of author a and round r, in block k
@@ -8,7 +8,7 @@ entry_words k r a = k ∷ r ∷ a ∷ []
 
 -- if there is one
 unfoldable pub entry_if : Bool → ℕ → ℕ → ℕ → List ℕ
-entry_if b k r a = cond b (entry_words k r a) []
+entry_if b k r a = if b then entry_words k r a else []
 
 -- those of round r whose authors f tells, by n members: numbers rise from that of a, with 0 after 15
 unfoldable pub row_entries : (ℕ → Bool) → ℕ → ℕ → ℕ → ℕ → List ℕ

@@ -1,5 +1,5 @@
 -- What the blocks that a commit would make hold, told without making them: l has the authors of the anchors by round, 16 for none.
-use Rattle.std.specs.Prelude.{Bool, false, cond, not, ◌&&◌, ◌||◌, List, [], ◌++◌, ℕ, zero, suc, ◌+◌, eqb, ltb, get_or}
+use Rattle.std.specs.Prelude.{Bool, false, if◌then◌else◌, not, ◌&&◌, ◌||◌, List, [], ◌++◌, ℕ, zero, suc, ◌+◌, ◌==◌, nat_lt, get_or}
 use Rattle.base.specs.Sets.{only}
 use Rattle.store.specs.Table.{mark_at}
 use Rattle.blocks.specs.History.{in_history}
@@ -9,7 +9,7 @@ use Rattle.prospects.specs.Entries.{rows_entries}
 module _ (t : List ℕ) where
   -- the certificate of author i and round q comes into the block of the anchor of author a and round r, where f tells what earlier anchors have reached: it is in its history, in none of theirs and in no block
   abbrev pub is_new : (ℕ → ℕ → Bool) → ℕ → ℕ → ℕ → ℕ → Bool
-  is_new f a r i q = in_history t r (only a) i q && (not (f i q) && eqb (mark_at t i q) 0)
+  is_new f a r i q = in_history t r (only a) i q && (not (f i q) && mark_at t i q == 0)
 
   -- the words of the entries of that block, where it is block k
   abbrev pub block_words : (ℕ → ℕ → Bool) → ℕ → ℕ → ℕ → List ℕ
@@ -18,11 +18,13 @@ module _ (t : List ℕ) where
   module _ (l : List ℕ) where
     -- what the anchor of round r reaches, if there is one, beside what earlier ones have reached
     unfoldable pub reach_step : (ℕ → ℕ → Bool) → ℕ → ℕ → ℕ → Bool
-    reach_step f r i q = f i q || (ltb (get_or l r 0) 16 && in_history t r (only (get_or l r 0)) i q)
+    reach_step f r i q = f i q || (nat_lt (get_or l r 0) 16 && in_history t r (only (get_or l r 0)) i q)
 
     -- the words of its block, where there were k blocks
     unfoldable pub words_step : (ℕ → ℕ → Bool) → ℕ → ℕ → List ℕ
-    words_step f r k = cond (ltb (get_or l r 0) 16) (block_words f (k + 1) (get_or l r 0) r) []
+    words_step f r k =
+        if nat_lt (get_or l r 0) 16 then block_words f (k + 1) (get_or l r 0) r
+        else []
 
     module _ (m : ℕ) where
       -- what the anchors of the n rounds above m reach

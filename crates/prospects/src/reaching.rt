@@ -1,6 +1,6 @@
 // What a history has that is in no block yet, by round; nothing is written to the table (docs/RULES.md, "Preview").
 
-ghost use Rattle.std.specs.Prelude.{◌≡◌, cond, not, ◌&&◌, eqb};
+ghost use Rattle.std.specs.Prelude.{◌≡◌, if◌then◌else◌, not, ◌&&◌, ◌==◌};
 ghost use Rattle.base.specs.Sets.{is_in, add};
 ghost use Rattle.store.specs.Table.{Within, Row, mark_at};
 ghost use Rattle.prospects.specs.Reaching.{NewOf, WalkReady, WentDown};
@@ -11,7 +11,7 @@ use terms::{Member, Round};
 // The set u, and a, where it is in `here` and not in `old` and its certificate of round r is in no block.
 fn with_new(t: &[u32], here: u32, old: u32, r: Round, a: Member, u: u32) -> u32
     requires { Within t.now a.0 r.0 }
-    ensures { result ≡ cond (is_in here a.0 && (not (is_in old a.0) && eqb (mark_at t.now a.0 r.0) 0)) (add u a.0) u }
+    ensures { result ≡ (if is_in here a.0 && (not (is_in old a.0) && mark_at t.now a.0 r.0 == 0) then add u a.0 else u) }
 {
     if base::has(here, a.0) && !base::has(old, a.0) && store::record::mark(t, a, r) == 0 {
         base::with(u, a.0)

@@ -1,5 +1,5 @@
 -- The listing bytes that a guest has read from its serial port since it was reset, over lists of requests (docs/RULES.md, "Serial ports").
-use Rattle.std.specs.Prelude.{◌≡◌, cond, not, ◌&&◌, List, [], ◌∷◌, ◌++◌, ℕ, eqb, leb, ltb, length}
+use Rattle.std.specs.Prelude.{◌≡◌, if◌then◌else◌, not, ◌&&◌, List, [], ◌∷◌, ◌++◌, ℕ, ◌==◌, nat_le, nat_lt, length}
 use Rattle.base.specs.Options.{if_there}
 use Rattle.ports.specs.Uart.{Port}
 use Rattle.state.specs.Answers.{if_accepted}
@@ -26,9 +26,9 @@ shown e g o = register e.state e.table g o
 module _ (e : Engine) (g : ℕ) where
   -- port g, whose bytes were l: a reset empties them; a read of offset 0 adds what it answers, while bit 7 of offset 3 is clear and the listing has more bytes than l
   abbrev pub asked_of : PortCall → List ℕ → List ℕ
-  asked_of (access h (read o)) l = cond (eqb h g && (eqb o 0 && (not (leb 128 (shown e g 3)) && ltb (length l) (length (listing_in e))))) (l ++ (shown e g o ∷ [])) l
+  asked_of (access h (read o)) l = if h == g && (o == 0 && (not (nat_le 128 (shown e g 3)) && nat_lt (length l) (length (listing_in e)))) then l ++ (shown e g o ∷ []) else l
   asked_of (access h (write o b)) l = l
-  asked_of (reset h) l = cond (eqb h g) [] l
+  asked_of (reset h) l = if h == g then [] else l
 
   -- an accepted call: an opening resets every port
   abbrev pub accepted_bytes : Call → List ℕ → List ℕ
@@ -61,4 +61,4 @@ AskedInRange e (x ∷ l) = InRangeThen (after_requests e l) (submission_of (afte
 pub record Served (e : Engine) (g : ℕ) (l : List ℕ) : Type 0 where
   pub prefix : (more : List ℕ) × (listing_in e ≡ l ++ more)
   pub counted : (port_on e g).read ≡ length l
-  pub waiting : shown e g 5 ≡ cond (ltb (length l) (length (listing_in e))) 97 96
+  pub waiting : shown e g 5 ≡ (if nat_lt (length l) (length (listing_in e)) then 97 else 96)

@@ -1,5 +1,5 @@
 -- What a record asks for: how its bytes are read.
-use Rattle.std.specs.Prelude.{Bool, ◌||◌, if◌then◌else◌, List, [], ◌∷◌, ℕ, length, drop, codes, eqb, ltb, Option, None, Some}
+use Rattle.std.specs.Prelude.{Bool, ◌||◌, if◌then◌else◌, List, [], ◌∷◌, ℕ, length, drop, codes, ◌==◌, nat_lt, Option, None, Some}
 use Rattle.std.specs.Option.{option_map, option_and_then}
 use Rattle.std.specs.List.{list_any}
 use Rattle.std.specs.Str.{bytes_eq}
@@ -67,11 +67,11 @@ by_fields (w ∷ fs) = named w fs
 
 -- a quote mark, a CR or an LF, which in a record is a lone one
 abbrev pub is_mark : ℕ → Bool
-is_mark b = eqb b 34 || eqb b 13 || eqb b 10
+is_mark b = b == 34 || b == 13 || b == 10
 
 abbrev pub is_damaged : List ℕ → Bool
 is_damaged = list_any is_mark
 
 -- what the record s, without its CRLF, asks for; none is unreadable, as one of more than 1,024 bytes with the CRLF
 abbrev pub record_in : List ℕ → Option Record
-record_in s = if ltb 1022 (length s) || is_damaged s then None else by_fields (fields_of s)
+record_in s = if nat_lt 1022 (length s) || is_damaged s then None else by_fields (fields_of s)

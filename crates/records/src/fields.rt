@@ -1,6 +1,6 @@
 //! Fields: the stretches of a record between its commas.
 
-ghost use Rattle.std.specs.Prelude.{◌≡◌, List, [], ◌∷◌, ℕ, eqb, MatchOption};
+ghost use Rattle.std.specs.Prelude.{◌≡◌, List, [], ◌∷◌, ℕ, MatchOption};
 ghost use Rattle.std.specs.List.{position};
 ghost use Rattle.records.specs.Fields.{fields_of, fields_left, is_comma, Reads};
 ghost use Rattle.records.specs.Numbers.{number_in, set_in};

@@ -1,5 +1,5 @@
 -- What a record does: the engine after it, and the lines that answer it.
-use Rattle.std.specs.Prelude.{◌≡◌, cond, List, ◌++◌, ℕ, ◌+◌, ◌*◌, length, eqb, Option, None, Some}
+use Rattle.std.specs.Prelude.{◌≡◌, if◌then◌else◌, List, ◌++◌, ℕ, ◌+◌, ◌*◌, length, ◌==◌, Option, None, Some}
 use Rattle.terms.specs.declared.sheet.Settings.{Settings}
 use Rattle.state.specs.declared.State.{State}
 use Rattle.engine.specs.Calls.{Call}
@@ -23,7 +23,9 @@ value_lines S c = ok_line
 
 -- of a call: its value, or the number that refuses it
 unfoldable pub lines_for : Engine → Call → List ℕ
-lines_for e c = cond (eqb (refusal_for e c) 0) (value_lines e.state.settings (accepted_value e c)) (refused_line (refusal_for e c))
+lines_for e c =
+    if refusal_for e c == 0 then value_lines e.state.settings (accepted_value e c)
+    else refused_line (refusal_for e c)
 
 -- ---- a record
 

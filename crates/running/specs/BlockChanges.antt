@@ -1,5 +1,5 @@
 -- The walk over the table that finds a committee: what each level of it does, and when block rounds are in order.
-use Rattle.std.specs.Prelude.{Bool, cond, ◌&&◌, List, ℕ, ◌+◌, ◌/◌, ◌%◌, eqb, ltb}
+use Rattle.std.specs.Prelude.{Bool, if◌then◌else◌, ◌&&◌, List, ℕ, ◌+◌, ◌/◌, ◌%◌, ◌==◌, nat_lt}
 use Rattle.base.specs.Folds.{fold_to, all_to}
 use Rattle.store.specs.Table.{block_round, count_at, transaction_at, content_at}
 use Rattle.committee.specs.Chain.{holds_at, block_at, chain_of}
@@ -10,7 +10,7 @@ use Rattle.terms.specs.declared.sheet.Weight.{Weight}
 
 -- slot k of the record of a place, if a transaction is there
 unfoldable pub slot_change : List ℕ → ℕ → ℕ → ℕ → List Weight → List Weight
-slot_change t m r k w = cond (ltb k (count_at t m r)) (change (transaction_at t m r k) w) w
+slot_change t m r k w = if nat_lt k (count_at t m r) then change (transaction_at t m r k) w else w
 
 -- place p, if block k holds it; the place of member m and round r is number 16 r + m
 unfoldable pub place_change : List ℕ → ℕ → ℕ → List Weight → List Weight
@@ -34,11 +34,11 @@ after_blocks S t k w = fold_to (block_change S t) k w
 
 -- the round of the newest of the first k blocks, 0 for none
 unfoldable pub last_round : List ℕ → ℕ → ℕ
-last_round t k = cond (eqb k 0) 0 (block_round t k)
+last_round t k = if k == 0 then 0 else block_round t k
 
 -- the block after the first k has an even round, above that of the block before and below the ceiling n
 unfoldable pub block_fits : ℕ → List ℕ → ℕ → Bool
-block_fits n t k = eqb (block_round t (k + 1) % 2) 0 && (ltb (last_round t k) (block_round t (k + 1)) && ltb (block_round t (k + 1)) n)
+block_fits n t k = block_round t (k + 1) % 2 == 0 && (nat_lt (last_round t k) (block_round t (k + 1)) && nat_lt (block_round t (k + 1)) n)
 
 -- block rounds are even, rising and below the ceiling
 unfoldable pub blocks_fit : ℕ → List ℕ → ℕ → Bool

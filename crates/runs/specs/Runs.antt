@@ -1,5 +1,5 @@
 -- Engines in memory, and what a list of calls makes of them.
-use Rattle.std.specs.Prelude.{◌≡◌, ◌<◌, ◌⊎◌, true, List, [], ◌∷◌, ℕ, cond, eqb, length, slice_index_or}
+use Rattle.std.specs.Prelude.{◌≡◌, ◌<◌, ◌⊎◌, true, List, [], ◌∷◌, ℕ, if◌then◌else◌, ◌==◌, length, slice_index_or}
 use Rattle.runs.specs.declared.Engine.{Engine}
 use Rattle.runs.specs.declared.Entry.{Entry}
 use Rattle.engine.specs.Engine as engine
@@ -17,7 +17,7 @@ Stand es at = (k : ℕ) (d : Engine) → k < length es → engine_of (slice_inde
 
 -- after a call of one member
 abbrev pub stepped : (ℕ → engine.Engine) → Entry → ℕ → engine.Engine
-stepped at e k = cond (eqb k e.who) (after (at k) (told e.call)) (at k)
+stepped at e k = if k == e.who then after (at k) (told e.call) else at k
 
 abbrev pub after_run : (ℕ → engine.Engine) → List Entry → ℕ → engine.Engine
 after_run at [] = at

@@ -3,7 +3,7 @@
 //! It looks at what the store owns: each row's header and the certificates that are held, and at nothing else (`rows_fit`, specs/Scan). All four slots of a held record are tested by a table of limits (specs/Limits), so that no branch goes by what a transaction is. docs/RULES.md, "A member's state".
 #![tactic(auto)]
 
-ghost use Rattle.std.specs.Prelude.{◌≡◌, true, cond, ◌<◌, ◌≤◌, ltb};
+ghost use Rattle.std.specs.Prelude.{◌≡◌, true, if◌then◌else◌, ◌<◌, ◌≤◌, nat_lt};
 ghost use Rattle.base.specs.Folds.{all_to};
 ghost use Rattle.store.specs.Table.{Within, Row};
 ghost use Rattle.scan.specs.Scan.{transaction_fits, endorsers_fit, record_fits, place_fits, row_fits, rows_fit};
@@ -43,7 +43,7 @@ fn slot_fits(l: &[u32; 15], there: bool, kind: u32, number: u32, amount: u32) ->
 #[tactic(auto, unfolding(crate::specs::Scan::transaction_fits))]
 fn transaction_fits(t: &[u32], l: &[u32; 15], m: Member, r: Round, n: u32, k: u32) -> bool
     requires { Scannable t.now l.now m.0 r.0 k 3 }
-    ensures { result ≡ cond (ltb k n) (transaction_fits t.now m.0 r.0 k) true }
+    ensures { result ≡ (if nat_lt k n then transaction_fits t.now m.0 r.0 k else true) }
 {
     let kind = store::record::kind_at(t, m, r, k);
     let number = store::record::number_at(t, m, r, k);
@@ -55,7 +55,7 @@ fn transaction_fits(t: &[u32], l: &[u32; 15], m: Member, r: Round, n: u32, k: u3
 #[tactic(auto, unfolding(base::specs::Folds::all_to))]
 fn slots_fit(t: &[u32], l: &[u32; 15], m: Member, r: Round, n: u32) -> bool
     requires { Scannable t.now l.now m.0 r.0 n 4 }
-    ensures { result ≡ all_to (λ k. cond (ltb k n) (transaction_fits t.now m.0 r.0 k) true) 4 }
+    ensures { result ≡ all_to (λ k. if nat_lt k n then transaction_fits t.now m.0 r.0 k else true) 4 }
 {
     (0..4).all(|k| transaction_fits(t, l, m, r, n, k))
 }

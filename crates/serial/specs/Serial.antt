@@ -1,5 +1,5 @@
 -- Accesses to guests' serial ports and their resets, on a state and its table: the number that refuses, what is read, and the table.
-use Rattle.std.specs.Prelude.{not, List, [], ◌∷◌, ◌++◌, ℕ, ltb, get_or}
+use Rattle.std.specs.Prelude.{not, List, [], ◌∷◌, ◌++◌, ℕ, nat_lt, get_or}
 use Rattle.base.specs.Checks.{Checks, refusal}
 use Rattle.ports.specs.Uart.{Port, values_at, after_read, after_write, reset_port}
 use Rattle.ports.specs.Ports.{listing_of, port_in, put_port}
@@ -10,10 +10,10 @@ use Rattle.serial.specs.Calls.{Access, read, write, offset_of, PortCall, access,
 
 -- 26 port above 7; 31 offset above 7: both before 1
 abbrev pub access_checks : ℕ → ℕ → Checks
-access_checks g o = (ltb 7 g, 26) ∷ (ltb 7 o, 31) ∷ []
+access_checks g o = (nat_lt 7 g, 26) ∷ (nat_lt 7 o, 31) ∷ []
 
 abbrev pub reset_checks : ℕ → Checks
-reset_checks g = (ltb 7 g, 26) ∷ []
+reset_checks g = (nat_lt 7 g, 26) ∷ []
 
 abbrev pub early_checks : PortCall → Checks
 early_checks (access g a) = access_checks g (offset_of a)

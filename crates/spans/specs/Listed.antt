@@ -1,5 +1,5 @@
 -- The read of what blocks in a row hold: its checks, the number that refuses it, what it gives, and what the lent list holds then.
-use Rattle.std.specs.Prelude.{List, [], ◌∷◌, ℕ, ◌+◌, ◌/◌, ltb, length}
+use Rattle.std.specs.Prelude.{List, [], ◌∷◌, ℕ, ◌+◌, ◌/◌, nat_lt, length}
 use Rattle.std.proofs.lemmas.List.Edits.{sets}
 use Rattle.base.specs.Checks.{Checks, refusal}
 use Rattle.agreement.specs.Rules.{Chain}
@@ -15,7 +15,7 @@ use Rattle.spans.specs.Spans.{words_of, count_after, held_after}
 
 -- of the n blocks after the first m: 23 there are fewer, 25 a list of so many words has no room for their certificates, of eighteen words each
 abbrev pub blocks_checks : Settings → Chain Content → ℕ → ℕ → ℕ → Checks
-blocks_checks S c m n words = (ltb (length c) (m + n), 23) ∷ (ltb (words / held_length) (count_after S c m n), 25) ∷ []
+blocks_checks S c m n words = (nat_lt (length c) (m + n), 23) ∷ (nat_lt (words / held_length) (count_after S c m n), 25) ∷ []
 
 module _ (s : State) (t : List ℕ) where
   abbrev pub reading_blocks : ℕ → ℕ → ℕ → Checks

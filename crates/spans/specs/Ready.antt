@@ -1,5 +1,5 @@
 -- What putting blocks relies on.
-use Rattle.std.specs.Prelude.{◌≡◌, List, [], ◌∷◌, ℕ, ◌+◌, ◌*◌, ◌/◌, ◌<◌, ◌≤◌, get_or, length, ltb, Result, IfOk}
+use Rattle.std.specs.Prelude.{◌≡◌, List, [], ◌∷◌, ℕ, ◌+◌, ◌*◌, ◌/◌, ◌<◌, ◌≤◌, get_or, length, nat_lt, Result, IfOk}
 use Rattle.std.proofs.lemmas.List.Edits.{sets}
 use Rattle.base.specs.Checks.{refusal}
 use Rattle.refusals.specs.declared.Refusal.{Refusal}
@@ -60,6 +60,6 @@ pub record SpanInTable (S : Settings) (t : List ℕ) (blocks m n : ℕ) (next : 
 
 -- what is answered and what the list holds then: 25 where there is no room, else all is listed
 pub record Lists (S : Settings) (t : List ℕ) (blocks m n : ℕ) (list : List ℕ) (r : Result ℕ Refusal) (list' : List ℕ) : Type 0 where
-  pub its-refusal : refusal_in r ≡ refusal ((ltb (length list / held_length) (count_after S (chain_of S.ceiling.0 t blocks) m n), 25) ∷ [])
+  pub its-refusal : refusal_in r ≡ refusal ((nat_lt (length list / held_length) (count_after S (chain_of S.ceiling.0 t blocks) m n), 25) ∷ [])
   pub its-value : IfOk r (λ c. c ≡ count_after S (chain_of S.ceiling.0 t blocks) m n)
   pub its-list : list' ≡ if_accepted (refusal_in r) (sets list 0 (words_of (held_after S (chain_of S.ceiling.0 t blocks) t m n))) list

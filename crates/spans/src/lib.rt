@@ -1,7 +1,7 @@
 //! What blocks in a row hold, listed by one walk.
 #![tactic(auto)]
 
-ghost use Rattle.std.specs.Prelude.{◌≡◌, [], ◌∷◌, ◌+◌, ◌*◌, ◌≤◌, IfOk, OnOk, length, ltb};
+ghost use Rattle.std.specs.Prelude.{◌≡◌, [], ◌∷◌, ◌+◌, ◌*◌, ◌≤◌, IfOk, OnOk, length, nat_lt};
 ghost use Rattle.base.specs.Checks.{refusal};
 ghost use Rattle.running.specs.ChainInTable.{ChainInTable};
 ghost use Rattle.refusals.specs.Refusals.{refusal_in};
@@ -223,7 +223,7 @@ fn listed(
 // Check 23.
 #[tactic(auto, unfolding(base::specs::Checks::refusal))]
 fn check(v: &View, m: u32, n: u32) -> Result<(), Refusal>
-    ensures refusal { refusal_in result ≡ refusal ((ltb (length (shown v.now).chain) (m + n), 23) ∷ []) }
+    ensures refusal { refusal_in result ≡ refusal ((nat_lt (length (shown v.now).chain) (m + n), 23) ∷ []) }
     ensures there { OnOk result (ChainInTable (settings_of v.now) v.now.table.now v.now.state.now.blocks × (m + n ≤ v.now.state.now.blocks)) }
 {
     if (v.state.blocks as u64) < m as u64 + n as u64 {

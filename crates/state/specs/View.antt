@@ -1,5 +1,5 @@
 -- The view that a state and its table show: what the rules speak of.
-use Rattle.std.specs.Prelude.{Bool, cond, ◌&&◌, List, ℕ, Option, Some, None}
+use Rattle.std.specs.Prelude.{Bool, if◌then◌else◌, ◌&&◌, List, ℕ, Option, Some, None}
 use Rattle.std.proofs.Math.Option.{none, some}
 use Rattle.std.proofs.Math.Option as shown
 use Rattle.terms.specs.declared.Body.{Body}
@@ -11,7 +11,7 @@ use Rattle.state.specs.declared.State.{State}
 
 -- the certificates of a table with n rounds, by author and round; what lies beyond is no part of the state
 unfoldable pub dag_of : ℕ → List ℕ → ℕ → ℕ → shown.Option Content
-dag_of n t a r = cond (is_round n r) (certificate_at t a r) none
+dag_of n t a r = if is_round n r then certificate_at t a r else none
 
 -- the endorsed places
 unfoldable pub endorsed_of : ℕ → List ℕ → ℕ → ℕ → Bool

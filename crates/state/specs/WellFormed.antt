@@ -1,5 +1,5 @@
 -- When a state is well formed: docs/RULES.md, "A member's state", condition by condition.
-use Rattle.std.specs.Prelude.{Bool, true, not, Option, Some, None, ◌&&◌, List, ℕ, length, leb, ltb}
+use Rattle.std.specs.Prelude.{Bool, true, not, Option, Some, None, ◌&&◌, List, ℕ, length, nat_le, nat_lt}
 use Rattle.terms.specs.declared.Body.{Body}
 use Rattle.terms.specs.Proposals.{transactions_of, bad_transactions, bad_previous_set}
 use Rattle.store.specs.Table.{used_length}
@@ -12,7 +12,7 @@ use Rattle.state.specs.declared.State.{State}
 
 -- own number, present round and number of blocks are in range
 unfoldable pub numbers_fit : ℕ → ℕ → ℕ → ℕ → Bool
-numbers_fit own round blocks ceiling = ltb own 16 && (leb 1 round && (leb round ceiling && leb blocks ceiling))
+numbers_fit own round blocks ceiling = nat_lt own 16 && (nat_le 1 round && (nat_le round ceiling && nat_le blocks ceiling))
 
 -- settings and numbers are in range, some starting weight is positive
 unfoldable pub head_fits : State → Bool
@@ -33,7 +33,7 @@ proposal_fits s = fits_if_there s.settings.allowance s.round.0 s.proposal
 -- the lent table has at least the length for the ceiling, the conditions above hold, block rounds are even, rising and below the ceiling, guests' queues are well formed, and no guest's serial port has read past the listing's end
 unfoldable pub well_formed : State → List ℕ → Bool
 well_formed s t =
-    leb (used_length s.settings.ceiling.0) (length t)
+    nat_le (used_length s.settings.ceiling.0) (length t)
     && (head_fits s
     && (proposal_fits s
     && (rows_fit t s.settings.allowance s.blocks s.settings.ceiling.0

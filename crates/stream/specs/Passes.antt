@@ -1,5 +1,5 @@
 -- What one pass does.
-use Rattle.std.specs.Prelude.{◌≡◌, Bool, cond, List, [], ◌∷◌, ◌++◌, ℕ, ◌<◌, Option, None, Some, Result, Ok, Err, length}
+use Rattle.std.specs.Prelude.{◌≡◌, Bool, if◌then◌else◌, List, [], ◌∷◌, ◌++◌, ℕ, ◌<◌, Option, None, Some, Result, Ok, Err, length}
 use Rattle.std.specs.Result.{result_unwrap_or}
 use Rattle.std_io.specs.declared.io.error.Error.{Error}
 use Rattle.framing.specs.Framing.{Waits, is_begun}
@@ -62,6 +62,6 @@ module _ {E P : Type 0} (after : E → Option (List ℕ) → E) (answer : E → 
   -- the record that was begun was answered, as an unreadable one, and nothing else was served
   pub record FinishDone (e : E) (h : Held) (p : P) (left : E) (q : P) (ended result : Ended) : Type 0 where
     pub failed : Option Error
-    pub handed : HandedOut talk p (cond (in_record h.here) (answer e None) []) failed q
-    pub state : left ≡ cond (in_record h.here) (after e None) e
+    pub handed : HandedOut talk p (if in_record h.here then answer e None else []) failed q
+    pub state : left ≡ (if in_record h.here then after e None else e)
     pub told : result ≡ unless failed ended

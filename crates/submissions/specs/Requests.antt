@@ -1,5 +1,5 @@
 -- Requests of hosts and of guests: a guest's is refused by the rights that its caller lacks, or it does and answers what the host's own would (docs/RULES.md, "Rights").
-use Rattle.std.specs.Prelude.{◌≡◌, true, false, cond, List, [], ◌∷◌, ℕ, length, eqb}
+use Rattle.std.specs.Prelude.{◌≡◌, true, false, if◌then◌else◌, List, [], ◌∷◌, ℕ, length, ◌==◌}
 use Rattle.std.proofs.Math.Option.{Option, none, some}
 use Rattle.base.specs.Options.{if_there}
 use Rattle.agreement.specs.Entries as entries
@@ -72,7 +72,9 @@ caller_number e c a = caller_refusal e.state.rights (needed_for a) c
 -- a guest's: 26 and 29, then what the host's own comes to
 unfoldable pub result_of : Engine → Request → Result
 result_of e (host x) = host_result e x
-result_of e (guest c a) = cond (eqb (caller_number e c a) 0) (host_result e (submitted_by c a)) (refused_with e (submitted_by c a) (caller_number e c a))
+result_of e (guest c a) =
+    if caller_number e c a == 0 then host_result e (submitted_by c a)
+    else refused_with e (submitted_by c a) (caller_number e c a)
 
 -- ---- claims of one request
 
@@ -103,7 +105,7 @@ pub record AlikeAndUnchanged (e d : Engine) (x : Request) : Type 0 where
 -- what is submitted, where the caller is not refused
 abbrev pub submission_of : Engine → Request → Option Submission
 submission_of e (host x) = some x
-submission_of e (guest c a) = cond (eqb (caller_number e c a) 0) (some (submitted_by c a)) none
+submission_of e (guest c a) = if caller_number e c a == 0 then some (submitted_by c a) else none
 
 -- the request is no accepted open
 abbrev pub NoOpenAsked : Engine → Request → Type 0

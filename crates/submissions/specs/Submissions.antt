@@ -1,5 +1,5 @@
 -- Lists of calls and batches: for chains, a batch counts as that many single calls.
-use Rattle.std.specs.Prelude.{◌≡◌, cond, List, [], ◌∷◌, ◌++◌, ℕ, length, eqb}
+use Rattle.std.specs.Prelude.{◌≡◌, if◌then◌else◌, List, [], ◌∷◌, ◌++◌, ℕ, length, ◌==◌}
 use Rattle.base.specs.Options.{if_there}
 use Rattle.agreement.specs.Entries as entries
 use Rattle.agreement.specs.Entries.{states}
@@ -26,7 +26,7 @@ accepts_of row (p ∷ l) = accepts_of row l ++ if_there (row.at p).certificate [
 -- the calls that a submission counts as, newest first: of a refused batch none
 abbrev pub calls_of : Engine → Submission → List Call
 calls_of e (one c) = c ∷ []
-calls_of e (batch row answers) = cond (eqb (batch_refusal e.state e.table row.count (length answers)) 0) (accepts_of row (turns_of row)) []
+calls_of e (batch row answers) = if batch_refusal e.state e.table row.count (length answers) == 0 then accepts_of row (turns_of row) else []
 
 -- the calls of one member as entries of a list
 abbrev pub entries_of : ℕ → List Call → List Entry

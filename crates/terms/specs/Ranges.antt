@@ -1,5 +1,5 @@
 -- The ranges of the settings: checks 2 and 3 of open, which well-formed states pass as well.
-use Rattle.std.specs.Prelude.{Bool, not, ◌||◌, List, ℕ, ◌≤◌, ◌<◌, get_or, ltb}
+use Rattle.std.specs.Prelude.{Bool, not, ◌||◌, List, ℕ, ◌≤◌, ◌<◌, get_or, nat_lt}
 use Rattle.base.specs.Folds.{any_to}
 use Rattle.terms.specs.declared.sheet.Weight.{Weight}
 use Rattle.terms.specs.declared.sheet.Settings.{Settings}
@@ -14,7 +14,7 @@ weight_in w i = (get_or w i (weight 0)).0
 
 -- x is not from a to b
 unfoldable pub not_within : ℕ → ℕ → ℕ → Bool
-not_within x a b = ltb x a || ltb b x
+not_within x a b = nat_lt x a || nat_lt b x
 
 -- check 2: a setting out of range
 unfoldable pub out_of_range : Settings → Bool
@@ -27,7 +27,7 @@ out_of_range S =
 
 -- check 3: no positive weight
 unfoldable pub weightless : Settings → Bool
-weightless S = not (any_to (λ i. ltb 0 (weight_in S.weights i)) 16)
+weightless S = not (any_to (λ i. nat_lt 0 (weight_in S.weights i)) 16)
 
 -- the ranges that settings have which check 2 lets pass
 pub record SettingsFit (S : Settings) : Type 0 where

@@ -1,5 +1,5 @@
 -- The sheet, and the settings that it is filled to: each blank by its default.
-use Rattle.std.specs.Prelude.{cond, List, ℕ, replicate, get_or, ltb}
+use Rattle.std.specs.Prelude.{if◌then◌else◌, List, ℕ, replicate, get_or, nat_lt}
 use Rattle.base.specs.Folds.{tab}
 use Rattle.terms.specs.declared.sheet.Setting.{Setting}
 use Rattle.terms.specs.declared.sheet.Setting.TheVariants.{Blank, Written}
@@ -18,7 +18,7 @@ value_or (Written n) d = n
 
 -- the weight of member i where it is blank: 1 for members 0 to 3
 unfoldable pub blank_weight : ℕ → ℕ
-blank_weight i = cond (ltb i 4) 1 0
+blank_weight i = if nat_lt i 4 then 1 else 0
 
 -- the starting weight of member i; a written 0 is no blank
 unfoldable pub weight_at : List Setting → ℕ → ℕ

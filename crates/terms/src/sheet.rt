@@ -1,6 +1,6 @@
 // The sheet of settings: what an integrator fills in, its defaults and its ranges (docs/RULES.md, "Terms" and "The sheet").
 
-ghost use Rattle.std.specs.Prelude.{◌≡◌, ◌<◌, ltb};
+ghost use Rattle.std.specs.Prelude.{◌≡◌, ◌<◌, nat_lt};
 ghost use Rattle.base.specs.Folds.{any_to};
 ghost use Rattle.terms.specs.Sheets.{blank_sheet, value_or, blank_weight, weight_at, starting_weights, filled};
 ghost use Rattle.terms.specs.Ranges.{weight_in, not_within, out_of_range, weightless};
@@ -205,7 +205,7 @@ pub fn is_out_of_range(s: Settings) -> bool
 // Is one of the weights positive?
 #[tactic(auto, unfolding(base::specs::Folds::any_to))]
 fn has_weight(weights: &[Weight; 16]) -> bool
-    ensures { result ≡ any_to (λ i. ltb 0 (weight_in weights.now i)) 16 }
+    ensures { result ≡ any_to (λ i. nat_lt 0 (weight_in weights.now i)) 16 }
 {
     (0..16usize).any(|i| 0 < weights[i].0)
 }

@@ -1,5 +1,5 @@
 -- The checks of a commit in their order, and the leaders and committees that they go by.
-use Rattle.std.specs.Prelude.{◌||◌, List, [], ◌∷◌, ℕ, ◌-◌, ◌%◌, replicate, eqb, leb}
+use Rattle.std.specs.Prelude.{◌||◌, List, [], ◌∷◌, ℕ, ◌-◌, ◌%◌, replicate, ◌==◌, nat_le}
 use Rattle.base.specs.Checks.{Checks}
 use Rattle.agreement.specs.Rules.{last}
 use Rattle.agreement.specs.Commits.{anchor_at}
@@ -16,7 +16,7 @@ use Rattle.terms.specs.declared.sheet.Weight.{Weight}
 module _ (s : State) (t : List ℕ) where
   -- the checks 19, 20, 8, and then 21, 22
   abbrev pub time_checks : Checks
-  time_checks = (eqb (s.round.0 % 2) 0 || eqb s.round.0 1, 19) ∷ (leb (s.round.0 - 1) (last (view s t).chain), 20) ∷ (unknown s.settings (view s t) s.round.0, 8) ∷ []
+  time_checks = (s.round.0 % 2 == 0 || s.round.0 == 1, 19) ∷ (nat_le (s.round.0 - 1) (last (view s t).chain), 20) ∷ (unknown s.settings (view s t) s.round.0, 8) ∷ []
 
   abbrev pub vote_checks : Checks
   vote_checks = rules.voting s.settings (view s t) (anchor_at (view s t) (s.round.0 - 1))

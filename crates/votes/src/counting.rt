@@ -1,5 +1,5 @@
 // The votes for an anchor: held certificates of the round above that name its author as previous.
-ghost use Rattle.std.specs.Prelude.{◌≡◌, cond, ◌<◌};
+ghost use Rattle.std.specs.Prelude.{◌≡◌, if◌then◌else◌, ◌<◌};
 ghost use Rattle.store.specs.Table.{Within};
 ghost use Rattle.terms.specs.Ranges.{weight_in};
 ghost use Rattle.votes.specs.Votes.{votes_at, votes_for};
@@ -12,7 +12,7 @@ use terms::{Member, Round};
 #[tactic(auto, unfolding(crate::specs::Votes::votes_at))]
 pub fn vote_of(t: &[u32], w: &[Weight; 16], r: Round, a: Member, i: Member) -> Weight
     requires { Within t.now i.0 r.0 × (a.0 < 16) }
-    ensures { result.0 ≡ cond (votes_at t.now r.0 a.0 i.0) (weight_in w.now i.0) 0 }
+    ensures { result.0 ≡ (if votes_at t.now r.0 a.0 i.0 then weight_in w.now i.0 else 0) }
 {
     if store::held(t, i, r) && base::has(store::record::previous(t, i, r), a.0) {
         w[i.0 as usize]

@@ -1,6 +1,6 @@
 -- The premises of chains_never_fork can be met under the margins 4 and 5: a run of engines in which members 0, 1 and 2 are correct and 3 is faulty.
 -- Members 0, 1 and 3 sign three rounds and members 0 and 1 make a block, whose bond changes the committee of round 4. There 0 and 1 alone sign: they were no quorum of the starting committee.
-use Rattle.std.specs.Prelude.{◌≡◌, false, true, List, [], ◌∷◌, ℕ, ltb, replicate}
+use Rattle.std.specs.Prelude.{◌≡◌, false, true, List, [], ◌∷◌, ℕ, nat_lt, replicate}
 use Rattle.base.specs.Sets.{is_in}
 use Rattle.agreement.specs.Weights.{total}
 use Rattle.terms.specs.declared.Transaction.TheVariants.{Bond}
@@ -58,7 +58,7 @@ made = (2, listed_at 1 1 0 [] ∷ listed_at 3 1 0 [] ∷ listed_at 0 1 0 (Bond (
 
 -- what is so of these members and calls
 pub record Met (m : ℕ) (X : Members engine_behaviour) : Type 0 where
-  pub correct : (i : ℕ) → X.correct i ≡ ltb i 3
+  pub correct : (i : ℕ) → X.correct i ≡ nat_lt i 3
   pub opened : (i : ℕ) → X.sheet i ≡ sheet m
   pub filled_so : X.settings ≡ settings m
   pub premises : Run X calls

@@ -1,6 +1,6 @@
 -- The premises can be met with draws, batches and guests' requests, and over the library's words: members 0, 1 and 2 are correct and 3 is faulty, and a guest of member 0 may propose, another sign.
 -- What a guest fills into its queue member 0 draws, proposes, and has in the block that 0 and 1 make.
-use Rattle.std.specs.Prelude.{◌≡◌, cond, List, [], ◌∷◌, ℕ, ltb, eqb, replicate}
+use Rattle.std.specs.Prelude.{◌≡◌, if◌then◌else◌, List, [], ◌∷◌, ℕ, nat_lt, ◌==◌, replicate}
 use Rattle.terms.specs.declared.Transaction.{Transaction}
 use Rattle.terms.specs.declared.Transaction.TheVariants as transaction
 use Rattle.terms.specs.declared.Body.{Body}
@@ -24,7 +24,7 @@ sheet_words = 1 ∷ 1 ∷ 1 ∷ 4 ∷ 0 ∷ 0 ∷ 1 ∷ 3 ∷ 1 ∷ 3 ∷ replic
 
 -- of member 0 guest 0 may propose and guest 1 sign; no guest of another member may do anything
 abbrev pub rights : ℕ → ℕ
-rights i = cond (eqb i 0) 513 0
+rights i = if i == 0 then 513 else 0
 
 -- ---- bodies and certificates
 
@@ -107,7 +107,7 @@ OpenedSo X = (X.settings ≡ settings) × ((i : ℕ) → (X.sheet i).rights.0 �
 
 -- single calls, draws among them: guest 0 has filled in the transactions l
 pub record MetWithADraw (X : Members engine_behaviour) (l : List Transaction) : Type 0 where
-  pub correct : (i : ℕ) → X.correct i ≡ ltb i 3
+  pub correct : (i : ℕ) → X.correct i ≡ nat_lt i 3
   pub opened : OpenedSo X
   pub premises : Run X (calls run)
   -- each call is answered with the number that stands at it
@@ -123,7 +123,7 @@ pub record MetWithADraw (X : Members engine_behaviour) (l : List Transaction) : 
 
 -- batches among the submissions: one gets the answers l, each at its place in the row
 pub record MetWithBatches (X : Members engine_behaviour) (l : List ℕ) : Type 0 where
-  pub correct : (i : ℕ) → X.correct i ≡ ltb i 3
+  pub correct : (i : ℕ) → X.correct i ≡ nat_lt i 3
   pub opened : OpenedSo X
   pub premises : Run X (unrolled X (submissions run))
   -- it counts as three accepts, of which the last is refused, the other batch as two
@@ -133,7 +133,7 @@ pub record MetWithBatches (X : Members engine_behaviour) (l : List ℕ) : Type 0
 
 -- guests' requests among the hosts': who lacks the right is refused with n
 pub record MetWithGuests (X : Members engine_behaviour) (n : ℕ) : Type 0 where
-  pub correct : (i : ℕ) → X.correct i ≡ ltb i 3
+  pub correct : (i : ℕ) → X.correct i ≡ nat_lt i 3
   pub opened : OpenedSo X
   pub premises : Run X (unrolled X (submitted X (requests run)))
   -- all that others ask is submitted
@@ -145,7 +145,7 @@ pub record MetWithGuests (X : Members engine_behaviour) (n : ℕ) : Type 0 where
 
 -- over the words of hosts: they count as the calls l
 pub record MetOverWords (X : Hosts) (l : List Entry) : Type 0 where
-  pub correct : (i : ℕ) → X.correct i ≡ ltb i 3
+  pub correct : (i : ℕ) → X.correct i ≡ nat_lt i 3
   pub handed : (i : ℕ) → (X.sheet i ≡ sheet_words) × (X.rights i ≡ rights i)
   pub typed : AllTyped (library_calls run)
   pub premises : Run (members X) (calls_in X (library_calls run))

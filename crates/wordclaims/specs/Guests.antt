@@ -1,5 +1,5 @@
 -- What is claimed of guests over lists of the library's calls: the moments of draws, what a caller that lacks rights is answered, and the bytes that a port has given.
-use Rattle.std.specs.Prelude.{◌≡◌, false, cond, not, ◌&&◌, List, [], ◌∷◌, ◌++◌, ◌≢◌, ℕ, eqb, leb, ltb, length}
+use Rattle.std.specs.Prelude.{◌≡◌, false, if◌then◌else◌, not, ◌&&◌, List, [], ◌∷◌, ◌++◌, ◌≢◌, ℕ, ◌==◌, nat_le, nat_lt, length}
 use Rattle.base.specs.Options.{if_there}
 use Rattle.terms.specs.Rights.{may}
 use Rattle.state.specs.Answers.{if_accepted}
@@ -65,9 +65,12 @@ pub record SeesNothing (x y : Words) (l : List LibraryCall) : Type 0 where
 module _ (x : Words) (g : ℕ) where
   -- what has been read from port g, l before, after what is asked of a port was answered with the value v: a reset empties it; a read of offset 0 adds v, while bit 7 of offset 3 is clear and the listing has more bytes than l
   abbrev pub with_answer : PortCall → ℕ → List ℕ → List ℕ
-  with_answer (access h (read o)) v l = cond (eqb h g && (eqb o 0 && (not (leb 128 (shown (engine_of x) g 3)) && ltb (length l) (length (listing_in (engine_of x)))))) (l ++ (v ∷ [])) l
+  with_answer (access h (read o)) v l =
+      if h == g && (o == 0 && (not (nat_le 128 (shown (engine_of x) g 3)) && nat_lt (length l) (length (listing_in (engine_of x)))))
+      then l ++ (v ∷ [])
+      else l
   with_answer (access h (write o b)) v l = l
-  with_answer (reset h) v l = cond (eqb h g) [] l
+  with_answer (reset h) v l = if h == g then [] else l
 
   -- after an accepted call with the value v: an open resets every port, and of the others only those read that ask a port
   abbrev pub accepted_then : LibraryCall → ℕ → List ℕ → List ℕ

@@ -1,5 +1,5 @@
 -- A proposal as sixteen words: author, round, body. A certificate as seventeen: proposal, endorsers.
-use Rattle.std.specs.Prelude.{Bool, ◌&&◌, List, [], ◌∷◌, ◌++◌, ℕ, length, leb, ltb}
+use Rattle.std.specs.Prelude.{Bool, ◌&&◌, List, [], ◌∷◌, ◌++◌, ℕ, length, nat_le, nat_lt}
 use Rattle.terms.specs.declared.Proposal.{Proposal}
 use Rattle.terms.specs.declared.Certificate.{Certificate}
 use Rattle.words.specs.Lengths.{proposal_length, certificate_length}
@@ -7,13 +7,13 @@ use Rattle.words.specs.Words.{word}
 use Rattle.words.specs.Bodies.{body_reads, body_in, body_words}
 
 unfoldable pub proposal_reads : List ℕ → Bool
-proposal_reads w = leb proposal_length (length w) && body_reads w 2
+proposal_reads w = nat_le proposal_length (length w) && body_reads w 2
 
 unfoldable pub proposal_in : List ℕ → Proposal
 proposal_in w = record { author = record { 0 = word w 0 }; round = record { 0 = word w 1 }; body = body_in w 2 }
 
 unfoldable pub certificate_reads : List ℕ → Bool
-certificate_reads w = leb certificate_length (length w) && (ltb (word w proposal_length) 65536 && proposal_reads w)
+certificate_reads w = nat_le certificate_length (length w) && (nat_lt (word w proposal_length) 65536 && proposal_reads w)
 
 unfoldable pub certificate_in : List ℕ → Certificate
 certificate_in w = record { proposal = proposal_in w; endorsers = word w proposal_length }

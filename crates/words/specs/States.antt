@@ -1,5 +1,5 @@
 -- A member's state as words.
-use Rattle.std.specs.Prelude.{Bool, true, cond, ◌&&◌, List, [], ◌∷◌, ◌++◌, ℕ, ◌+◌, Option, Some, None, length, eqb, leb}
+use Rattle.std.specs.Prelude.{Bool, true, if◌then◌else◌, ◌&&◌, List, [], ◌∷◌, ◌++◌, ℕ, ◌+◌, Option, Some, None, length, ◌==◌, nat_le}
 use Rattle.base.specs.Folds.{tab}
 use Rattle.terms.specs.declared.Body.{Body}
 use Rattle.terms.specs.declared.sheet.Weight.{Weight}
@@ -13,7 +13,7 @@ use Rattle.words.specs.Bodies.{body_reads, body_in, body_words}
 
 -- word 21 tells whether there is a proposal; its body is words 23 to 36, which are not looked at where there is none
 unfoldable pub state_reads : List ℕ → Bool
-state_reads w = leb state_length (length w) && (leb (word w 21) 1 && cond (eqb (word w 21) 0) true (body_reads w 23))
+state_reads w = nat_le state_length (length w) && (nat_le (word w 21) 1 && (if word w 21 == 0 then true else body_reads w 23))
 
 abbrev pub weights_in : List ℕ → List Weight
 weights_in w = tab (λ i. weight (word w (4 + i))) 16
@@ -22,7 +22,7 @@ unfoldable pub settings_in : List ℕ → Settings
 settings_in w = record { lookback = word w 1; ceiling = record { 0 = word w 2 }; allowance = word w 3; weights = weights_in w; margin = word w 37 }
 
 unfoldable pub own_proposal_in : List ℕ → Option Body
-own_proposal_in w = cond (eqb (word w 21) 0) None (Some (body_in w 23))
+own_proposal_in w = if word w 21 == 0 then None else Some (body_in w 23)
 
 unfoldable pub state_in : List ℕ → State
 state_in w =
@@ -42,6 +42,6 @@ unfoldable pub state_words : State → List ℕ
 state_words s =
     (s.own.0 ∷ s.settings.lookback ∷ s.settings.ceiling.0 ∷ s.settings.allowance ∷ [])
     ++ weight_words s.settings.weights
-    ++ (s.round.0 ∷ cond (is_proposing s) 1 0 ∷ s.blocks ∷ [])
+    ++ (s.round.0 ∷ (if is_proposing s then 1 else 0) ∷ s.blocks ∷ [])
     ++ body_words (own_body s)
     ++ (s.settings.margin ∷ s.rights.0 ∷ [])

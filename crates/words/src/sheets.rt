@@ -1,6 +1,6 @@
 // A sheet as words: read.
 
-ghost use Rattle.std.specs.Prelude.{◌≡◌, ◌+◌, ◌*◌, ◌<◌, ◌≤◌, length, leb};
+ghost use Rattle.std.specs.Prelude.{◌≡◌, ◌+◌, ◌*◌, ◌<◌, ◌≤◌, length, nat_le};
 ghost use Rattle.base.specs.Folds.{all_to, tab};
 ghost use Rattle.words.specs.Lengths.{sheet_length};
 ghost use Rattle.words.specs.Words.{word};
@@ -14,7 +14,7 @@ use terms::sheet::{Rights, Setting, Sheet};
 #[tactic(auto, unfolding(base::specs::Folds::all_to))]
 fn has_flags(w: &[u32]) -> bool
     requires { sheet_length ≤ length w.now }
-    ensures { result ≡ all_to (λ k. leb (word w.now (k * 2)) 1) 20 }
+    ensures { result ≡ all_to (λ k. nat_le (word w.now (k * 2)) 1) 20 }
 {
     (0..20usize).all(|k| w[k * 2] <= 1)
 }

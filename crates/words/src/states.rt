@@ -1,6 +1,6 @@
 // A member's state as words: read, and put.
 
-ghost use Rattle.std.specs.Prelude.{◌≡◌, cond, ◌≤◌, length};
+ghost use Rattle.std.specs.Prelude.{◌≡◌, if◌then◌else◌, ◌≤◌, length};
 ghost use Rattle.std.proofs.Math.Seq.{paste};
 ghost use Rattle.words.specs.Lengths.{state_length};
 ghost use Rattle.words.specs.Words.{Narrow};
@@ -69,7 +69,7 @@ fn own_body(s: State) -> Body
 
 // 1 for yes, 0 for no.
 fn flag(p: bool) -> u32
-    ensures { result ≡ cond p 1 0 }
+    ensures { result ≡ (if p then 1 else 0) }
 {
     p as u32
 }

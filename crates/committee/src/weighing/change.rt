@@ -1,5 +1,5 @@
 //! What transactions do to the weights of a committee: each weight by sums and products, since kinds come in any order and a branch would be guessed wrong.
-ghost use Rattle.std.specs.Prelude.{◌≡◌, cond, ◌*◌, ◌≤◌};
+ghost use Rattle.std.specs.Prelude.{◌≡◌, if◌then◌else◌, ◌*◌, ◌≤◌};
 ghost use Rattle.terms.specs.Transactions.{read_transaction};
 ghost use Rattle.committee.specs.Changes.{change};
 ghost use Rattle.committee.specs.WeightEffects.{effect_of, weight_after};
@@ -39,7 +39,7 @@ fn weight_after(e: u32, amount: u32, x: Weight) -> Weight
 #[tactic(auto, using(crate::proofs::EffectLaws::effect_changes))]
 pub fn apply(w: &mut [Weight; 16], there: bool, kind: u32, number: u32, amount: u32)
     requires { total_in w.old ≤ 4611686018427387904 }
-    ensures { w.new ≡ cond there (change (read_transaction kind number amount) w.old) w.old }
+    ensures { w.new ≡ (if there then change (read_transaction kind number amount) w.old else w.old) }
 {
     let e = effect(there, kind, number);
     let i = (number % 16) as usize;

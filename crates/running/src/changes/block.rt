@@ -1,7 +1,7 @@
 // What the certificates of a block do to a committee: rounds rise, and within a round numbers rise from that of a member on, with 0 after 15.
 // The place of member m and round r is number 16 r + m.
 
-ghost use Rattle.std.specs.Prelude.{◌≡◌, cond, ◌+◌, ◌*◌, ◌/◌, ◌%◌, leb};
+ghost use Rattle.std.specs.Prelude.{◌≡◌, if◌then◌else◌, ◌+◌, ◌*◌, ◌/◌, ◌%◌, nat_le};
 ghost use Rattle.store.specs.Table.{content_at};
 ghost use Rattle.committee.specs.Changes.{changes};
 ghost use Rattle.running.specs.BlockChanges.{slot_change, place_change, record_change};
@@ -43,7 +43,7 @@ fn apply_record(t: &[u32], m: Member, r: Round, w: &mut [Weight; 16])
 #[tactic(auto, unfolding(crate::specs::BlockChanges::record_change))]
 fn apply_from(t: &[u32], y: u32, p: u32, w: &mut [Weight; 16])
     requires { RecordReady t.now (p % 16) (p / 16) w.old }
-    ensures { w.new ≡ cond (leb y p) (record_change t.now p w.old) w.old }
+    ensures { w.new ≡ (if nat_le y p then record_change t.now p w.old else w.old) }
 {
     if y <= p {
         apply_record(t, Member(p % 16), Round(p / 16), w);
