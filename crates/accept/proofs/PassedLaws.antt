@@ -1,10 +1,5 @@
 -- What an accepted accept has passed, as the state and the table show it.
-use mathlib.Core.Path.{◌≡◌, refl, sym, ◌∙◌}
-use mathlib.Core.Bool.{false}
-use mathlib.Core.List.{List}
-use Prim.Native.Nat.{ℕ}
-use native.Mathlib.Omega.{arith}
-use borrow.Author.Tests.{ltb-false}
+use Rattle.std.proofs.Common.{◌≡◌, refl, sym, ◌∙◌, false, List, ℕ, arith, ltb-false}
 use Rattle.base.proofs.CheckLaws.{numbered}
 use Rattle.base.specs.Sets.{is_in}
 use Rattle.terms.specs.declared.Certificate.{Certificate}

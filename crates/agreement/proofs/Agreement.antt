@@ -1,11 +1,7 @@
 -- Chains never fork: in every world of a run, the chains of correct members are prefixes of one another.
-use mathlib.Core.Path.{◌≡◌, sym, ◌∙◌, subst, subst₂}
-use mathlib.Core.Bool.{Bool, true}
+use Rattle.std.proofs.Common.{◌≡◌, sym, ◌∙◌, subst, subst₂, Bool, true, List, [], inl, ℕ}
 use mathlib.Core.Option.{some, none-ne-some}
 use mathlib.Core.List.Memᴰ
-use mathlib.Core.List.{List, []}
-use mathlib.Core.Logic.{inl}
-use Prim.Native.Nat.{ℕ}
 use native.Mathlib.Decide.{ℕ_discrete}
 use Rattle.agreement.specs.Rules.{Block, Chain, Rules}
 use Rattle.agreement.specs.Laws.{Lawful}

@@ -1,10 +1,7 @@
 -- A computed block holds what of its anchor's history is in no block before it.
-use mathlib.Core.Path.{◌≡◌, refl, sym, ap, ◌∙◌, subst}
-use mathlib.Core.Bool.{Bool, true, false, not, ◌&&◌, ◌||◌, cond, false≢true, true≢false, or-true}
+use Rattle.std.proofs.Common.{◌≡◌, refl, sym, ap, ◌∙◌, subst, Bool, true, false, not, ◌&&◌, ◌||◌, cond, true≢false, [], ◌∷◌, inl, inr, ℕ, ◌+◌, ◌≤◌, ◌<◌}
+use mathlib.Core.Bool.{false≢true, or-true}
 use mathlib.Core.Option.{Option, none, some, some-injective, none-ne-some}
-use mathlib.Core.List.{[], ◌∷◌}
-use mathlib.Core.Logic.{inl, inr}
-use Prim.Native.Nat.{ℕ, ◌+◌, ◌≤◌, ◌<◌}
 use Rattle.agreement.specs.Rules.{Chain, last, Rules}
 use Rattle.agreement.specs.View.{View}
 use Rattle.agreement.specs.Dag.{is_held, Held, Placed, Reach}

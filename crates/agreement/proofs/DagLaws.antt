@@ -1,8 +1,7 @@
 -- Histories stay among the held certificates, and two views that hold a certificate see one history of it.
-use mathlib.Core.Path.{◌≡◌, refl, sym, ap, ◌∙◌}
-use mathlib.Core.Bool.{Bool, true, false, false≢true, true≢false}
+use Rattle.std.proofs.Common.{◌≡◌, refl, sym, ap, ◌∙◌, Bool, true, false, true≢false, ℕ}
+use mathlib.Core.Bool.{false≢true}
 use mathlib.Core.Option.{Option, none, some}
-use Prim.Native.Nat.{ℕ}
 use Rattle.agreement.specs.Rules.{Rules}
 use Rattle.agreement.specs.View.{View, Log}
 use Rattle.agreement.specs.Dag.{is_held, vote, Held, Placed, Reach, here, back}

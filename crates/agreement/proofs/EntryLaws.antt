@@ -1,11 +1,5 @@
 -- What entries lead to: a call changes the state of the one who makes it, and what calls keep lasts.
-use mathlib.Core.Path.{◌≡◌, refl, sym, subst}
-use mathlib.Core.Bool.{Bool, true, false, cond}
-use mathlib.Core.List.{List, [], ◌∷◌}
-use mathlib.Core.Logic.{◌≢◌}
-use Prim.Native.Nat.{ℕ}
-use lib.Dec.{eqb}
-use borrow.Author.Tests.{eq-eqb, ne_eqb, eqb-true}
+use Rattle.std.proofs.Common.{◌≡◌, refl, sym, subst, Bool, true, false, cond, List, [], ◌∷◌, ◌≢◌, ℕ, eqb, eq-eqb, ne_eqb, eqb-true}
 use Rattle.agreement.specs.Entries.{Entry, states}
 
 module _ {State Call : Type 0} (after : ℕ → State → Call → State) (start : ℕ → State) where

@@ -1,11 +1,6 @@
 -- What a member knows stays when its certificates and its chain grow, and every move grows them.
-use mathlib.Core.Path.{◌≡◌, sym, ◌∙◌}
-use mathlib.Core.Bool.{Bool, true}
+use Rattle.std.proofs.Common.{◌≡◌, sym, ◌∙◌, Bool, true, List, [], ◌∷◌, ◌⊎◌, inl, inr, ℕ, suc, ◌≤◌, arith}
 use mathlib.Core.Option.{some, some-injective}
-use mathlib.Core.List.{List, [], ◌∷◌}
-use mathlib.Core.Logic.{◌⊎◌, inl, inr}
-use Prim.Native.Nat.{ℕ, suc, ◌≤◌}
-use native.Mathlib.Omega.{arith}
 use Rattle.agreement.specs.Weights.{weigh}
 use Rattle.agreement.specs.Rules.{Block, Chain, Rules}
 use Rattle.agreement.specs.Laws.{Lawful}

@@ -1,9 +1,5 @@
 -- A longer chain knows more rounds, and the committees of those that were known stay.
-use mathlib.Core.Path.{◌≡◌, refl, sym, ◌∙◌}
-use mathlib.Core.Bool.{true}
-use mathlib.Core.Logic.{inl, inr}
-use Prim.Native.Nat.{ℕ}
-use native.Mathlib.Omega.{arith}
+use Rattle.std.proofs.Common.{◌≡◌, refl, sym, ◌∙◌, true, inl, inr, ℕ, arith}
 use Rattle.agreement.specs.Rules.{Chain, Rules}
 use Rattle.agreement.specs.Laws.{Lawful}
 use Rattle.agreement.specs.Prefixes.{◌≼◌, same, grown, Comparable}

@@ -1,8 +1,5 @@
 -- Laws of chains as they are listed: oldest block first, each with its round and its certificates in order.
-use mathlib.Core.Path.{sym, ap, ◌∙◌}
-use mathlib.Core.List.{List, [], ◌∷◌, ◌++◌, append_assoc, append-nil}
-use mathlib.Core.Logic.{◌⊎◌, inl, inr}
-use Prim.Native.Nat.{ℕ}
+use Rattle.std.proofs.Common.{sym, ap, ◌∙◌, List, [], ◌∷◌, ◌++◌, append_assoc, append-nil, ◌⊎◌, inl, inr, ℕ}
 use Rattle.agreement.specs.Rules.{Block, Chain}
 use Rattle.agreement.specs.Prefixes.{◌≼◌, same, grown, Comparable}
 use Rattle.agreement.specs.Listing.{listing, Lists}

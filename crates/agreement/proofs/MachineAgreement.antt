@@ -1,12 +1,6 @@
 -- Over any list of calls of machines, the chains of correct members never fork, committees agree, and chains only grow.
-use mathlib.Core.Path.{◌≡◌, refl, sym, ap, subst₂}
-use mathlib.Core.Bool.{Bool, true, false, cond}
+use Rattle.std.proofs.Common.{◌≡◌, refl, sym, ap, subst₂, Bool, true, false, cond, List, [], ◌∷◌, ◌++◌, inl, inr, ◌≢◌, ℕ, eqb, eq-eqb, ne_eqb}
 use mathlib.Core.List.Memᴰ
-use mathlib.Core.List.{List, [], ◌∷◌, ◌++◌}
-use mathlib.Core.Logic.{inl, inr, ◌≢◌}
-use Prim.Native.Nat.{ℕ}
-use lib.Dec.{eqb}
-use borrow.Author.Tests.{eq-eqb, ne_eqb}
 use Rattle.agreement.specs.Rules.{Rules}
 use Rattle.agreement.specs.Laws.{Lawful}
 use Rattle.agreement.specs.View.{Knows, Among}

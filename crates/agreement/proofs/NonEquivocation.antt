@@ -1,8 +1,6 @@
 -- In a sound world no two correct members hold different certificates at one place.
-use mathlib.Core.Path.{◌≡◌, sym, ap, ◌∙◌}
-use mathlib.Core.Bool.{Bool, true}
+use Rattle.std.proofs.Common.{◌≡◌, sym, ap, ◌∙◌, Bool, true, ℕ}
 use mathlib.Core.Option.{some}
-use Prim.Native.Nat.{ℕ}
 use Rattle.agreement.specs.Rules.{Rules}
 use Rattle.agreement.specs.View.{Knows, World, Log, Among}
 use Rattle.agreement.specs.Dag.{Held}

@@ -1,13 +1,7 @@
 -- In a sound world, linked chains with an elected top are prefixes of one another, whichever correct members see them so.
-use mathlib.Core.Path.{◌≡◌, refl, sym, ap, ap₂, ◌∙◌, subst}
-use mathlib.Core.Bool.{Bool, true}
+use Rattle.std.proofs.Common.{◌≡◌, refl, sym, ap, ap₂, ◌∙◌, subst, Bool, true, [], ◌∷◌, inl, inr, ◌≢◌, ℕ, ◌≤◌, ◌<◌, le_antisymm, arith}
 use mathlib.Core.Option.{some, some-injective}
-use mathlib.Core.List.{[], ◌∷◌}
-use mathlib.Core.Logic.{inl, inr, ◌≢◌}
-use Prim.Native.Nat.{ℕ, ◌≤◌, ◌<◌}
-use native.Mathlib.Nat.{le_antisymm}
 use native.Mathlib.Decide.{ℕ_discrete, dec_le}
-use native.Mathlib.Omega.{arith}
 use Rattle.base.proofs.Options.{option_ext}
 use Rattle.agreement.specs.Rules.{Block, Chain, last, Rules}
 use Rattle.agreement.specs.View.{View, Knows, World, Log}

@@ -1,11 +1,6 @@
 -- What is found at each place after a certificate is put or a mark is set.
-use mathlib.Core.Path.{◌≡◌, refl, sym, ◌∙◌}
-use mathlib.Core.Bool.{Bool, true, false, cond}
+use Rattle.std.proofs.Common.{◌≡◌, refl, sym, ◌∙◌, Bool, true, false, cond, ◌⊎◌, inl, inr, ℕ, eqb, eqb-true, eq-eqb}
 use mathlib.Core.Option.{Option, none, some, some-injective, none-ne-some}
-use mathlib.Core.Logic.{◌⊎◌, inl, inr}
-use Prim.Native.Nat.{ℕ}
-use lib.Dec.{eqb}
-use borrow.Author.Tests.{eqb-true, eq-eqb}
 use Rattle.base.proofs.Bools.{both}
 use Rattle.agreement.specs.Rules.{Rules}
 use Rattle.agreement.specs.Places.{is_place, put, mark}

@@ -1,13 +1,6 @@
 -- Laws of prefixes of chains: what a chain was before it grew.
-use mathlib.Core.Path.{◌≡◌, refl}
-use mathlib.Core.Bool.{Bool, true, false, cond}
+use Rattle.std.proofs.Common.{◌≡◌, refl, Bool, true, false, cond, [], ◌∷◌, ℕ, suc, ◌≤◌, arith, eqb, length, eqb-true, ne_eqb}
 use mathlib.Core.Option.{some, none-ne-some}
-use mathlib.Core.List.{[], ◌∷◌}
-use Prim.Native.Nat.{ℕ, suc, ◌≤◌}
-use native.Mathlib.Omega.{arith}
-use lib.Dec.{eqb}
-use lib.ListN.{length}
-use borrow.Author.Tests.{eqb-true, ne_eqb}
 use Rattle.agreement.specs.Rules.{Block, Chain}
 use Rattle.agreement.specs.Prefixes.{◌≼◌, same, grown, block_numbered}
 

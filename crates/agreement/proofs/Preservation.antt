@@ -1,11 +1,6 @@
 -- Each move of a correct member in a sound world keeps what holds of that member.
-use mathlib.Core.Path.{◌≡◌, subst}
-use mathlib.Core.Bool.{Bool, true}
+use Rattle.std.proofs.Common.{◌≡◌, subst, Bool, true, List, [], ◌∷◌, ◌⊎◌, inl, inr, ℕ, arith}
 use mathlib.Core.Option.{some}
-use mathlib.Core.List.{List, [], ◌∷◌}
-use mathlib.Core.Logic.{◌⊎◌, inl, inr}
-use Prim.Native.Nat.{ℕ}
-use native.Mathlib.Omega.{arith}
 use Rattle.agreement.specs.Rules.{Block, Chain, Rules}
 use Rattle.agreement.specs.View.{View, World, Log}
 use Rattle.agreement.specs.Dag.{Closed}

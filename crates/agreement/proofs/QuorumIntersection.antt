@@ -1,8 +1,5 @@
 -- Quorums of one committee meet in a correct member, and votes above the bound meet every quorum.
-use mathlib.Core.Path.{◌≡◌}
-use mathlib.Core.Bool.{Bool, true}
-use Prim.Native.Nat.{ℕ, ◌<◌}
-use native.Mathlib.Omega.{arith}
+use Rattle.std.proofs.Common.{◌≡◌, Bool, true, ℕ, ◌<◌, arith}
 use Rattle.agreement.specs.Weights.{total}
 use Rattle.agreement.specs.Rules.{Rules}
 use Rattle.agreement.specs.Laws.{Lawful}

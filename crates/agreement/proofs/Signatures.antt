@@ -1,12 +1,8 @@
 -- Each move keeps what holds of a member's signatures.
-use mathlib.Core.Path.{◌≡◌, sym, ap, ◌∙◌, subst}
-use mathlib.Core.Bool.{Bool, true, false, false≢true}
+use Rattle.std.proofs.Common.{◌≡◌, sym, ap, ◌∙◌, subst, Bool, true, false, List, ◌∷◌, ◌⊎◌, inl, inr, ◌≢◌, ℕ, suc, ◌<◌, arith}
+use mathlib.Core.Bool.{false≢true}
 use mathlib.Core.Option.{none, some, some-injective, none-ne-some}
 use mathlib.Core.List.Memᴰ
-use mathlib.Core.List.{List, ◌∷◌}
-use mathlib.Core.Logic.{◌⊎◌, inl, inr, ◌≢◌}
-use Prim.Native.Nat.{ℕ, suc, ◌<◌}
-use native.Mathlib.Omega.{arith}
 use Rattle.agreement.specs.Rules.{Rules}
 use Rattle.agreement.specs.Laws.{Lawful}
 use Rattle.agreement.specs.View.{View, Log, Among}

@@ -1,10 +1,5 @@
 -- Weights add up: the committee after all blocks is the starting one changed by the journal.
-use mathlib.Core.Path.{◌≡◌, ◌∙◌}
-use mathlib.Core.List.{List}
-use Prim.Native.Nat.{ℕ, ◌+◌, ◌-◌, ◌<◌, ◌≤◌}
-use native.Mathlib.Omega.{arith}
-use lib.ListN.{length}
-use borrow.Author.Tests.{le-leb}
+use Rattle.std.proofs.Common.{◌≡◌, ◌∙◌, List, ℕ, ◌+◌, ◌-◌, ◌<◌, ◌≤◌, arith, length, le-leb}
 use Rattle.base.proofs.FoldLaws.{length-tab}
 use Rattle.agreement.specs.Rules.{last}
 use Rattle.store.specs.Table.{block_round}

@@ -1,11 +1,5 @@
 -- The total weight adds up.
-use mathlib.Core.Path.{◌≡◌, refl, sym, ◌∙◌}
-use mathlib.Core.Bool.{true, cond}
-use mathlib.Core.List.{List, [], ◌∷◌}
-use Prim.Native.Nat.{ℕ, ◌+◌}
-use lib.ListN.{length}
-use lib.Dec.{ltb}
-use borrow.Author.Tests.{ltb-true}
+use Rattle.std.proofs.Common.{◌≡◌, refl, sym, ◌∙◌, true, cond, List, [], ◌∷◌, ℕ, ◌+◌, length, ltb, ltb-true}
 use Rattle.base.proofs.Bools.{both}
 use Rattle.base.specs.Folds.{sum_to}
 use Rattle.base.proofs.SumLaws.{sum_same, sum_add, sum_to_none, sum_only}

@@ -1,11 +1,7 @@
 -- Laws of folds and lists over the numbers below a bound.
-use mathlib.Core.Path.{◌≡◌, refl, ap, sym, ◌∙◌}
-use mathlib.Core.List.{List, [], ◌∷◌, ◌++◌}
+use Rattle.std.proofs.Common.{◌≡◌, refl, ap, sym, ◌∙◌, List, [], ◌∷◌, ◌++◌, ℕ, zero, suc, ◌+◌, ◌<◌, ◌≤◌, arith, add-one, length, get_or, length-append}
 use native.Mathlib.Decide.{ℕ_discrete}
-use Prim.Native.Nat.{ℕ, zero, suc, ◌+◌, ◌<◌, ◌≤◌}
-use native.Mathlib.Omega.{arith}
-use native.Mathlib.Numerals.{add-one}
-use lib.ListN.{length, get_or, length-append, get_or-append}
+use lib.ListN.{get_or-append}
 use lib.Seq.{get_or-append_seam}
 use Rattle.base.specs.Folds.{fold_to, tab}
 use Rattle.std.proofs.lemmas.List.FromFn.{fill_by_all}

@@ -1,10 +1,7 @@
 -- Laws of tests over the numbers below a bound.
-use mathlib.Core.Path.{◌≡◌, refl, sym, ◌∙◌}
-use mathlib.Core.Bool.{Bool, true, false, not, ◌&&◌, ◌||◌, and_comm, or-true, false≢true, true≢false}
-use native.Mathlib.Nat.{le_refl}
+use Rattle.std.proofs.Common.{◌≡◌, refl, sym, ◌∙◌, Bool, true, false, not, ◌&&◌, ◌||◌, true≢false, le_refl, ℕ, zero, suc, ◌<◌, ◌≤◌, arith}
+use mathlib.Core.Bool.{and_comm, or-true, false≢true}
 use native.Mathlib.Decide.{ℕ_discrete}
-use Prim.Native.Nat.{ℕ, zero, suc, ◌<◌, ◌≤◌}
-use native.Mathlib.Omega.{arith}
 use Rattle.base.proofs.Bools.{both}
 use Rattle.base.specs.Folds.{all_to, any_to}
 use Rattle.base.proofs.Ranges.{all_none, all_next, any_none, any_next}

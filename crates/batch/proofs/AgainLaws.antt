@@ -1,11 +1,6 @@
 -- Straight after a batch, proved: a certificate that got 11 gets 11 again, or 17 where the row has since filled its place with another.
-use mathlib.Core.Path.{◌≡◌, refl, sym, ap, ◌∙◌, subst}
-use mathlib.Core.Bool.{Bool, true, false, cond, true≢false}
-use mathlib.Core.List.{List, ◌∷◌, ◌++◌, append_assoc}
+use Rattle.std.proofs.Common.{◌≡◌, refl, sym, ap, ◌∙◌, subst, Bool, true, false, cond, true≢false, List, ◌∷◌, ◌++◌, append_assoc, ◌⊎◌, inl, inr, ℕ, ◌<◌, ◌≤◌, arith}
 use mathlib.Core.Option.{Option, none, some}
-use mathlib.Core.Logic.{◌⊎◌, inl, inr}
-use Prim.Native.Nat.{ℕ, ◌<◌, ◌≤◌}
-use native.Mathlib.Omega.{arith}
 use Rattle.base.specs.Options.{if_there}
 use Rattle.agreement.specs.Dag.{is_held}
 use Rattle.terms.specs.declared.Certificate.{Certificate}

@@ -1,11 +1,6 @@
 -- The claims of a host's accepted batch.
-use mathlib.Core.Path.{◌≡◌, refl, sym, ap, ◌∙◌}
-use mathlib.Core.Bool.{Bool, true, false, cond, ◌&&◌}
-use mathlib.Core.List.{List, []}
+use Rattle.std.proofs.Common.{◌≡◌, refl, sym, ap, ◌∙◌, Bool, true, false, cond, ◌&&◌, List, [], ℕ, ◌+◌, ◌<◌, arith, length, get_or}
 use mathlib.Core.Option.{Option, none, some}
-use Prim.Native.Nat.{ℕ, ◌+◌, ◌<◌}
-use native.Mathlib.Omega.{arith}
-use lib.ListN.{length, get_or}
 use Rattle.base.specs.Options.{if_there}
 use Rattle.base.specs.Folds.{tab}
 use Rattle.base.proofs.FoldLaws.{length-tab, get_d_tab}

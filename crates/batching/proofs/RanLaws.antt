@@ -1,12 +1,5 @@
 -- Laws of turns: so many turns are one and the rest, and the count and the room for answers stay.
-use mathlib.Core.Path.{◌≡◌, refl, ◌∙◌}
-use mathlib.Core.Bool.{Bool, true, false, cond}
-use mathlib.Core.List.{List}
-use Prim.Native.Nat.{ℕ, zero, suc, ◌+◌, ◌-◌, ◌<◌}
-use native.Mathlib.Omega.{arith}
-use native.Mathlib.Numerals.{sub-one}
-use lib.Dec.{ltb}
-use lib.ListN.{length, length-set}
+use Rattle.std.proofs.Common.{◌≡◌, refl, ◌∙◌, Bool, true, false, cond, List, ℕ, zero, suc, ◌+◌, ◌-◌, ◌<◌, arith, sub-one, ltb, length, length-set}
 use Rattle.state.specs.declared.State.{State}
 use Rattle.batching.specs.declared.rows.CertificateRecord.{CertificateRecord}
 use Rattle.batching.specs.declared.offering.Stage.{Stage}

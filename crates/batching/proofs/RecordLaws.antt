@@ -1,11 +1,6 @@
 -- Laws of a record's words: put piece by piece, and what they give of a row.
-use mathlib.Core.Path.{◌≡◌, refl, sym, ap, ◌∙◌}
-use mathlib.Core.Bool.{Bool, true, false, cond}
-use mathlib.Core.List.{List, [], ◌∷◌, ◌++◌}
+use Rattle.std.proofs.Common.{◌≡◌, refl, sym, ap, ◌∙◌, Bool, true, false, cond, List, [], ◌∷◌, ◌++◌, ℕ, ◌+◌, arith, length, get_or, length-append}
 use mathlib.Core.Option.{none, some, some-injective, none-ne-some}
-use Prim.Native.Nat.{ℕ, ◌+◌}
-use native.Mathlib.Omega.{arith}
-use lib.ListN.{length, get_or, length-append}
 use lib.Seq.{paste}
 use Rattle.base.proofs.PasteLaws.{paste-whole}
 use Rattle.words.proofs.PasteLaws.{paste-append}

@@ -1,10 +1,5 @@
 -- A commit leaves row 0.
-use mathlib.Core.Bool.{Bool, true, false, cond}
-use mathlib.Core.List.{List}
-use Prim.Native.Nat.{ℕ, zero, suc, ◌<◌, ◌≤◌}
-use native.Mathlib.Omega.{arith}
-use lib.Dec.{eqb}
-use lib.ListN.{get_or}
+use Rattle.std.proofs.Common.{Bool, true, false, cond, List, ℕ, zero, suc, ◌<◌, ◌≤◌, arith, eqb, get_or}
 use Rattle.base.specs.Sets.{is_in, only}
 use Rattle.base.proofs.FoldLaws.{fold_kept}
 use Rattle.store.specs.Table.{mark_at}

@@ -1,12 +1,8 @@
 -- Laws of histories.
-use mathlib.Core.Path.{◌≡◌, refl, sym, ap, ap₂, ◌∙◌}
-use mathlib.Core.Bool.{Bool, true, false, cond, ◌&&◌, ◌||◌, or-false, and_comm}
-use mathlib.Core.List.{List}
-use Prim.Native.Nat.{ℕ, zero, suc, ◌-◌, ◌<◌, ◌≤◌}
-use native.Mathlib.Omega.{arith}
+use Rattle.std.proofs.Common.{◌≡◌, refl, sym, ap, ap₂, ◌∙◌, Bool, true, false, cond, ◌&&◌, ◌||◌, List, ℕ, zero, suc, ◌-◌, ◌<◌, ◌≤◌, arith, eqb, leb, le-leb, eq-eqb, ne_eqb}
+use mathlib.Core.Bool.{or-false, and_comm}
 use native.Mathlib.Decide.{dec_lt, ℕ_discrete}
-use lib.Dec.{eqb, leb}
-use borrow.Author.Tests.{le-leb, lt-leb, eq-eqb, ne_eqb}
+use borrow.Author.Tests.{lt-leb}
 use Rattle.base.specs.Folds.{fold_to, any_to}
 use Rattle.base.proofs.FoldLaws.{fold_same}
 use Rattle.base.proofs.Ranges.{fold_none, fold_next, any_none, any_next}

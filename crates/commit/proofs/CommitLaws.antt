@@ -1,13 +1,6 @@
 -- An accepted commit is the commit of the rules: the view that its state and table show.
-use mathlib.Core.Path.{◌≡◌, refl, sym, ap₂, ◌∙◌}
-use mathlib.Core.Bool.{Bool, true, false, cond}
-use mathlib.Core.List.{List}
+use Rattle.std.proofs.Common.{◌≡◌, refl, sym, ap₂, ◌∙◌, Bool, true, false, cond, List, ℕ, ◌-◌, ◌<◌, ◌≤◌, arith, ltb, get_or, lt-ltb}
 use mathlib.Core.Option.{Option, none, some}
-use Prim.Native.Nat.{ℕ, ◌-◌, ◌<◌, ◌≤◌}
-use native.Mathlib.Omega.{arith}
-use lib.Dec.{ltb}
-use lib.ListN.{get_or}
-use borrow.Author.Tests.{lt-ltb}
 use Rattle.base.proofs.Bools.{cond_same}
 use Rattle.base.specs.Sets.{is_in}
 use Rattle.base.proofs.SetLaws.{in_member}

@@ -1,7 +1,5 @@
 -- An accepted commit leaves row 0.
-use mathlib.Core.Path.{◌≡◌}
-use mathlib.Core.List.{List}
-use Prim.Native.Nat.{ℕ, ◌-◌}
+use Rattle.std.proofs.Common.{◌≡◌, List, ℕ, ◌-◌}
 use Rattle.store.proofs.FirstRow.{SameFirst}
 use Rattle.running.specs.BlockChanges.{last_round}
 use Rattle.blocks.proofs.FirstRow.{commit-first}

@@ -1,10 +1,5 @@
 -- What an accepted commit relies on and leaves.
-use mathlib.Core.Path.{◌≡◌, refl, sym, ap, ◌∙◌}
-use mathlib.Core.Bool.{true}
-use mathlib.Core.List.{List}
-use Prim.Native.Nat.{ℕ, ◌-◌, ◌<◌, ◌≤◌}
-use native.Mathlib.Omega.{arith}
-use lib.ListN.{length, get_or}
+use Rattle.std.proofs.Common.{◌≡◌, refl, sym, ap, ◌∙◌, true, List, ℕ, ◌-◌, ◌<◌, ◌≤◌, arith, length, get_or}
 use Rattle.base.specs.Checks.{refusal}
 use Rattle.running.specs.BlockChanges.{last_round}
 use Rattle.blocks.specs.Blocks.{commit_table, commit_count}

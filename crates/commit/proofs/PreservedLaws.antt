@@ -1,12 +1,6 @@
 -- After an accepted commit: the state stays well formed, at least one block is new, and nothing beyond the rounds of the state changes.
-use mathlib.Core.Path.{◌≡◌, refl, ap, ◌∙◌}
-use mathlib.Core.Bool.{true}
-use mathlib.Core.List.{List}
-use mathlib.Core.Logic.{⊎_elim}
-use Prim.Native.Nat.{ℕ, ◌+◌, ◌-◌, ◌/◌, ◌%◌, ◌<◌, ◌≤◌}
+use Rattle.std.proofs.Common.{◌≡◌, refl, ap, ◌∙◌, true, List, ⊎_elim, ℕ, ◌+◌, ◌-◌, ◌/◌, ◌%◌, ◌<◌, ◌≤◌, arith, get_or, length, drop}
 use native.Mathlib.Decide.{ℕ_discrete, dec_lt}
-use native.Mathlib.Omega.{arith}
-use lib.ListN.{get_or, length, drop}
 use Rattle.base.proofs.SetLaws.{in_member}
 use Rattle.store.specs.Table.{used_length, Row, block_round, held_at, mark_at}
 use Rattle.store.proofs.TableLaws.{held-member}

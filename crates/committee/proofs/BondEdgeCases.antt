@@ -1,6 +1,5 @@
 -- The table of bonds by numbers holds.
-use mathlib.Core.Path.{◌≡◌, refl}
-use mathlib.Core.Bool.{true}
+use Rattle.std.proofs.Common.{◌≡◌, refl, true}
 use Rattle.base.specs.Folds.{fold_to, sum_to, tab}
 use Rattle.committee.specs.Shares.{even_neighbour, rounded, nearest, share_of}
 use Rattle.committee.specs.Edges.{agree}

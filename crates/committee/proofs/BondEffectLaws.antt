@@ -1,12 +1,6 @@
 -- No share moves by more than 1 plus the whole part of 1,000 times the amount divided by the total after the bond.
-use mathlib.Core.Path.{◌≡◌, sym, ◌∙◌}
-use mathlib.Core.Bool.{Bool, true, false, cond}
-use mathlib.Core.List.{List}
-use Prim.Native.Nat.{ℕ, zero, suc, ◌+◌, ◌*◌, ◌<◌, ◌≤◌, max}
-use native.Mathlib.Omega.{arith}
+use Rattle.std.proofs.Common.{◌≡◌, sym, ◌∙◌, Bool, true, false, cond, List, ℕ, zero, suc, ◌+◌, ◌*◌, ◌<◌, ◌≤◌, max, arith, length, get_or, eqb}
 use native.Mathlib.Decide.{ℕ_discrete, dec_lt}
-use lib.ListN.{length, get_or}
-use lib.Dec.{eqb}
 use Rattle.base.proofs.Ranges.{fold_none, fold_next}
 use Rattle.base.proofs.FoldLaws.{get_d_tab}
 use Rattle.base.proofs.SumLaws.{sum_same, sum_add, sum_at, sum_only}

@@ -1,13 +1,6 @@
 -- Changes: what one does to each weight; and as folds, transaction by transaction, place by place, row by row.
-use mathlib.Core.Path.{◌≡◌, refl, sym, ap, ◌∙◌}
-use mathlib.Core.Bool.{Bool, true, false, cond}
-use mathlib.Core.List.{List, [], ◌∷◌, ◌++◌}
-use Prim.Native.Nat.{ℕ, zero, suc, ◌+◌, ◌%◌, ◌<◌}
-use native.Mathlib.Omega.{arith}
+use Rattle.std.proofs.Common.{◌≡◌, refl, sym, ap, ◌∙◌, Bool, true, false, cond, List, [], ◌∷◌, ◌++◌, ℕ, zero, suc, ◌+◌, ◌%◌, ◌<◌, arith, set, length, length-set, eqb, ltb, eq-eqb, ne_eqb, lt-ltb, le-ltb}
 use native.Mathlib.Decide.{ℕ_discrete, dec_lt}
-use lib.ListN.{set, length, length-set}
-use lib.Dec.{eqb, ltb}
-use borrow.Author.Tests.{eq-eqb, ne_eqb, lt-ltb, le-ltb}
 use Rattle.base.specs.Folds.{fold_to, tab}
 use Rattle.base.proofs.Ranges.{fold_none, fold_next, tab_none, tab_next}
 use Rattle.agreement.specs.Rules.{Block}

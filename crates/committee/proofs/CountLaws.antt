@@ -1,12 +1,7 @@
 -- A set as a number: the members of its lower and of its upper digits, and how many digits are 1.
-use mathlib.Core.Path.{◌≡◌, refl, sym}
-use mathlib.Core.Bool.{cond}
-use Prim.Native.Nat.{ℕ, zero, suc, ◌+◌, ◌-◌, ◌/◌, ◌%◌, ◌*◌, ◌^◌, ◌<◌}
-use native.Mathlib.Omega.{arith}
-use native.Mathlib.Nat.{pow-suc}
+use Rattle.std.proofs.Common.{◌≡◌, refl, sym, cond, ℕ, zero, suc, ◌+◌, ◌-◌, ◌/◌, ◌%◌, ◌*◌, ◌^◌, ◌<◌, arith, pow-suc, eqb, shr-shr}
 use lib.Count.{ones, ones_in, ones_step}
-use lib.Dec.{eqb}
-use lib.Pow.{field, mod-mod-pow, shr-shr}
+use lib.Pow.{field, mod-mod-pow}
 use Rattle.base.specs.Folds.{sum_to}
 use Rattle.base.specs.Sets.{mem}
 use Rattle.base.proofs.SetLaws.{mem-zero}

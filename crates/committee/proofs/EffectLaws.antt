@@ -1,14 +1,7 @@
 -- Laws of what a transaction does to one weight, in numbers alone.
-use mathlib.Core.Path.{◌≡◌, refl, ◌∙◌}
-use mathlib.Core.Bool.{Bool, true, false, cond}
-use mathlib.Core.List.{List}
-use Prim.Native.Nat.{ℕ, zero, suc, ◌+◌, ◌%◌, ◌<◌, ◌≤◌}
-use native.Mathlib.Omega.{arith}
+use Rattle.std.proofs.Common.{◌≡◌, refl, ◌∙◌, Bool, true, false, cond, List, ℕ, zero, suc, ◌+◌, ◌%◌, ◌<◌, ◌≤◌, arith, set, ltb, lt-ltb, le-ltb, ltb-false}
 use native.Mathlib.Decide.{dec_lt}
-use lib.ListN.{set}
 use lib.Seq.{set-get_or}
-use lib.Dec.{ltb}
-use borrow.Author.Tests.{lt-ltb, le-ltb, ltb-false}
 use Rattle.terms.specs.Transactions.{read_transaction}
 use Rattle.terms.proofs.ProposalLaws.{read-bond, read-unbond, read-entry}
 use Rattle.terms.specs.declared.sheet.Weight.{Weight}

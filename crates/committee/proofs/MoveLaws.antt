@@ -1,8 +1,7 @@
 -- How far a bond moves a share: at most 1 plus the whole part of 1,000 k / (n + k).
-use Prim.Native.Nat.{ℕ, ◌+◌, ◌*◌, ◌/◌, ◌≤◌, ◌<◌}
-use native.Mathlib.Omega.{arith}
+use Rattle.std.proofs.Common.{ℕ, ◌+◌, ◌*◌, ◌/◌, ◌≤◌, ◌<◌, arith, mul-le-mul_left}
 use native.Mathlib.Decide.{dec_lt}
-use native.Mathlib.Nat.{mul-le-mul_left, lt-div-mul-add}
+use native.Mathlib.Nat.{lt-div-mul-add}
 use Rattle.committee.specs.Shares.{share_of, apart, Near}
 use Rattle.committee.proofs.ShareLaws.{share-near, share-le}
 

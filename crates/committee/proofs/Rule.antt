@@ -1,11 +1,5 @@
 -- The rule of the table of places, for every entry together: one test that is computed, and the law that makes it the rule.
-use mathlib.Core.Path.{◌≡◌, refl, ◌∙◌}
-use mathlib.Core.Bool.{Bool, true}
-use Prim.Native.Nat.{ℕ, ◌+◌, ◌*◌, ◌/◌, ◌%◌, ◌<◌}
-use native.Mathlib.Omega.{arith}
-use lib.Dec.{eqb}
-use lib.ListN.{length, get_or}
-use borrow.Author.Tests.{eqb-true}
+use Rattle.std.proofs.Common.{◌≡◌, refl, ◌∙◌, Bool, true, ℕ, ◌+◌, ◌*◌, ◌/◌, ◌%◌, ◌<◌, arith, eqb, length, get_or, eqb-true}
 use Rattle.base.specs.Folds.{sum_to}
 use Rattle.base.specs.Sets.{mem}
 use Rattle.committee.specs.Positions.{count_below, member_below, place_in}

@@ -1,12 +1,7 @@
 -- Laws of shares: to the nearest thousandth, an exact half to the even one, at most a thousand.
-use mathlib.Core.Path.{◌≡◌, refl, sym}
-use mathlib.Core.Bool.{Bool, true, false, cond}
-use Prim.Native.Nat.{ℕ, zero, suc, ◌+◌, ◌*◌, ◌/◌, ◌%◌, ◌≤◌, ◌<◌}
+use Rattle.std.proofs.Common.{◌≡◌, refl, sym, Bool, true, false, cond, ℕ, zero, suc, ◌+◌, ◌*◌, ◌/◌, ◌%◌, ◌≤◌, ◌<◌, arith, mod-lt, mul-le-mul_left, ltb, ltb-true, ltb-false, le-ltb}
 use native.Mathlib.Decide.{dec_lt}
-use native.Mathlib.Omega.{arith}
-use native.Mathlib.Nat.{div-add-mod, mod-lt, mul-le-mul_left, lt_of_mul-lt-mul_left}
-use lib.Dec.{ltb}
-use borrow.Author.Tests.{ltb-true, ltb-false, le-ltb}
+use native.Mathlib.Nat.{div-add-mod, lt_of_mul-lt-mul_left}
 use Rattle.committee.specs.Shares.{even_neighbour, rounded, nearest, share_of, Near}
 
 even-near : (q r n : ℕ) → 2 * r ≡ n → (d : ℕ) → d < 2 → Near (n * q + r) n (q + d)

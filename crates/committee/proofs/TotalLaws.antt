@@ -1,15 +1,8 @@
 -- Laws of total weights: what a change, a fold and marked places raise them by.
-use mathlib.Core.Path.{◌≡◌, refl, sym}
-use mathlib.Core.Bool.{Bool, true, false, cond}
-use mathlib.Core.List.{List}
-use Prim.Native.Nat.{ℕ, zero, suc, ◌+◌, ◌*◌, ◌≤◌, ◌<◌}
-use native.Mathlib.Omega.{arith}
-use native.Mathlib.Numerals.{add-one}
+use Rattle.std.proofs.Common.{◌≡◌, refl, sym, Bool, true, false, cond, List, ℕ, zero, suc, ◌+◌, ◌*◌, ◌≤◌, ◌<◌, arith, add-one, set, length, eqb, ltb, eq-eqb}
 use native.Mathlib.Decide.{ℕ_discrete, dec_lt}
-use lib.ListN.{set, length}
 use lib.Seq.{set_out}
-use lib.Dec.{eqb, ltb, eqb-zero-suc, eqb-suc-suc}
-use borrow.Author.Tests.{eq-eqb}
+use lib.Dec.{eqb-zero-suc, eqb-suc-suc}
 use Rattle.base.specs.Folds.{fold_to, sum_to}
 use Rattle.base.proofs.Ranges.{fold_none, fold_next, sum_next}
 use Rattle.base.proofs.SumLaws.{sum_same, sum_le, sum_add, sum_mono, sum_one, sum_to_none, sum_swap}

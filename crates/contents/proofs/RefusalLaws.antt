@@ -1,13 +1,7 @@
 -- The checks of the read, one by one, and what is so of an accepted one.
-use mathlib.Core.Path.{◌≡◌, refl, sym, ◌∙◌}
-use mathlib.Core.Bool.{true, false, ◌||◌}
-use mathlib.Core.List.{List}
-use Prim.Native.Nat.{ℕ, ◌-◌, ◌/◌, ◌<◌, ◌≤◌}
-use native.Mathlib.Omega.{arith}
-use lib.Dec.{eqb, ltb}
-use lib.ListN.{length, length-map}
+use Rattle.std.proofs.Common.{◌≡◌, refl, sym, ◌∙◌, true, false, ◌||◌, List, ℕ, ◌-◌, ◌/◌, ◌<◌, ◌≤◌, arith, eqb, ltb, length, le-ltb, lt-ltb, eq-eqb, ne_eqb}
+use lib.ListN.{length-map}
 use lib.Seq.{sets}
-use borrow.Author.Tests.{le-ltb, lt-ltb, eq-eqb, ne_eqb}
 use Rattle.base.specs.Checks.{refusal}
 use Rattle.base.specs.Puts.{Puts}
 use Rattle.base.proofs.CheckLaws.{refuses, passes, passes-all}

@@ -1,12 +1,7 @@
 -- Laws of certificates as words.
-use mathlib.Core.Path.{◌≡◌, refl, ap, sym, ◌∙◌}
-use mathlib.Core.Bool.{Bool, true, false, true≢false}
-use mathlib.Core.List.{List, [], ◌∷◌, ◌++◌, append_assoc, append-nil}
+use Rattle.std.proofs.Common.{◌≡◌, refl, ap, sym, ◌∙◌, Bool, true, false, true≢false, List, [], ◌∷◌, ◌++◌, append_assoc, append-nil, ℕ, ◌+◌, ◌*◌, ◌≤◌, arith, length, length-append, take, drop, take_all, eqb, eqb-true}
 use mathlib.Core.Option.{Option, none, some}
-use Prim.Native.Nat.{ℕ, ◌+◌, ◌*◌, ◌≤◌}
-use native.Mathlib.Omega.{arith}
-use lib.ListN.{length, length-append, take, drop}
-use lib.Seq.{paste, sets, sets-eq, take_all}
+use lib.Seq.{paste, sets, sets-eq}
 use Rattle.base.specs.Puts.{Puts}
 use Rattle.terms.specs.declared.Certificate.{Certificate}
 use Rattle.terms.specs.Proposals.{Content}
@@ -17,8 +12,6 @@ use Rattle.committee.specs.Changes.{at_most_one}
 use Rattle.committee.specs.Chain.{holds_at}
 use Rattle.committee.proofs.ChainLaws.{holds-present}
 use Rattle.contents.proofs.WalkLaws.{marked_there}
-use lib.Dec.{eqb}
-use borrow.Author.Tests.{eqb-true}
 use Rattle.words.specs.Lengths.{body_length, proposal_length, certificate_length}
 use Rattle.words.specs.Bodies.{body_words}
 use Rattle.words.proofs.BodyLaws.{length-body}

@@ -1,8 +1,7 @@
 -- What an answer with a number tells, and which number refuses.
-use Rattle.std.proofs.Common.{◌≡◌, refl, sym, ap, ◌∙◌, eqb, not, true, List, ℕ}
+use Rattle.std.proofs.Common.{◌≡◌, refl, sym, ap, ◌∙◌, eqb, not, true, List, ℕ, ne_eqb}
 use Rattle.std.specs.Prelude.{Result, Ok, Err}
 use Rattle.std.specs.Result.{is_err}
-use borrow.Author.Tests.{ne_eqb}
 use Rattle.base.specs.Checks.{refusal}
 use Rattle.base.proofs.CheckLaws.{passes, first_passes, numbered}
 use Rattle.state.specs.declared.State.{State}

@@ -1,13 +1,8 @@
 -- The checks of a commit where a certificate is absent: what is left of them, and the table when it is held again.
-use mathlib.Core.Path.{◌≡◌, refl, sym, ◌∙◌}
-use mathlib.Core.Bool.{true, false, not, cond, and-false}
-use mathlib.Core.List.{List}
-use mathlib.Core.Logic.{◌⊎◌, inl, inr, ◌≢◌}
-use Prim.Native.Nat.{ℕ, ◌-◌, ◌<◌, ◌≤◌}
+use Rattle.std.proofs.Common.{◌≡◌, refl, sym, ◌∙◌, true, false, not, cond, List, ◌⊎◌, inl, inr, ◌≢◌, ℕ, ◌-◌, ◌<◌, ◌≤◌, arith, eqb, leb, eq-eqb, ne_eqb, le-leb}
+use mathlib.Core.Bool.{and-false}
 use native.Mathlib.Decide.{dec_lt, ℕ_discrete}
-use native.Mathlib.Omega.{arith}
-use lib.Dec.{eqb, leb}
-use borrow.Author.Tests.{eq-eqb, ne_eqb, lt-leb, le-leb}
+use borrow.Author.Tests.{lt-leb}
 use Rattle.base.specs.Checks.{refusal}
 use Rattle.base.specs.Sets.{is_in, del}
 use Rattle.base.proofs.CheckLaws.{first_passes, numbered}

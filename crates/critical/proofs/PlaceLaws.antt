@@ -1,10 +1,5 @@
 -- Laws of critical places as words.
-use mathlib.Core.Path.{◌≡◌, refl, ap}
-use mathlib.Core.Bool.{true, false}
-use mathlib.Core.List.{List, [], ◌∷◌, ◌++◌}
-use Prim.Native.Nat.{ℕ, suc, ◌+◌, ◌-◌, ◌*◌}
-use lib.ListN.{length, set}
-use native.Mathlib.Omega.{arith}
+use Rattle.std.proofs.Common.{◌≡◌, refl, ap, true, false, List, [], ◌∷◌, ◌++◌, ℕ, suc, ◌+◌, ◌-◌, ◌*◌, length, set, arith}
 use Rattle.base.specs.Puts.{Puts}
 use Rattle.state.specs.declared.State.{State}
 use Rattle.critical.specs.Critical.{Place, place_words, is_critical, critical_at, critical_in, critical_places}

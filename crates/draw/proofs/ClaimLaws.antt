@@ -1,10 +1,5 @@
 -- What is drawn is the transaction list that the rules see, and check 6 lets it pass.
-use mathlib.Core.Path.{◌≡◌, refl, sym, ◌∙◌}
-use mathlib.Core.Bool.{true, false}
-use mathlib.Core.List.{List}
-use Prim.Native.Nat.{ℕ}
-use native.Mathlib.Omega.{arith}
-use borrow.Author.Tests.{le-ltb}
+use Rattle.std.proofs.Common.{◌≡◌, refl, sym, ◌∙◌, true, false, List, ℕ, arith, le-ltb}
 use Rattle.base.proofs.CheckLaws.{passes, lacks, never}
 use Rattle.terms.specs.Proposals.{transactions_of, bad_transactions}
 use Rattle.terms.proofs.BodyLaws.{body-transactions}

@@ -1,8 +1,5 @@
 -- What an accepted draw has passed: a draw in a well-formed state is a propose that check 6 lets pass.
-use mathlib.Core.Path.{◌≡◌}
-use mathlib.Core.List.{List}
-use Prim.Native.Nat.{ℕ, ◌<◌}
-use native.Mathlib.Omega.{arith}
+use Rattle.std.proofs.Common.{◌≡◌, List, ℕ, ◌<◌, arith}
 use Rattle.terms.specs.Bodies.{body_of}
 use Rattle.store.specs.Table.{Row}
 use Rattle.state.specs.declared.State.{State}

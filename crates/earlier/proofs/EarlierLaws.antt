@@ -1,9 +1,6 @@
 -- Members refuse more than before an advance asked for a quorum, and runs of now were allowed then.
-use mathlib.Core.Path.{◌≡◌, refl, ◌∙◌, subst, fun_ext}
-use mathlib.Core.Bool.{Bool, true, false}
-use mathlib.Core.List.{[], ◌∷◌}
-use mathlib.Core.Logic.{◌⊎◌}
-use Prim.Native.Nat.{ℕ}
+use Rattle.std.proofs.Common.{◌≡◌, refl, ◌∙◌, subst, Bool, true, false, [], ◌∷◌, ◌⊎◌, ℕ}
+use mathlib.Core.Path.{fun_ext}
 use Rattle.base.specs.Checks.{refusal}
 use Rattle.base.proofs.CheckLaws.{numbered, passes, passes-all}
 use Rattle.base.proofs.Passed.{passed}

@@ -1,11 +1,7 @@
 -- Of two ways in which engines answer one refuses more: its runs, their refused calls left out, are runs of the other.
-use mathlib.Core.Path.{◌≡◌, refl, sym, ap, ◌∙◌, subst, fun_ext}
-use mathlib.Core.Bool.{Bool, true, false, cond}
-use mathlib.Core.List.{List, [], ◌∷◌}
-use mathlib.Core.Logic.{inl, inr, ◌≢◌}
-use Prim.Native.Nat.{ℕ, ◌≤◌}
-use lib.Dec.{eqb}
-use borrow.Author.Tests.{eqb-true, eqb-false}
+use Rattle.std.proofs.Common.{◌≡◌, refl, sym, ap, ◌∙◌, subst, Bool, true, false, cond, List, [], ◌∷◌, inl, inr, ◌≢◌, ℕ, ◌≤◌, eqb, eqb-true}
+use mathlib.Core.Path.{fun_ext}
+use borrow.Author.Tests.{eqb-false}
 use Rattle.agreement.specs.Weights.{weigh, total, outside}
 use Rattle.agreement.specs.Entries.{states}
 use Rattle.terms.specs.Proposals.{Content}

@@ -1,11 +1,7 @@
 -- An engine that has just opened holds nothing: its advance passed earlier, and is refused with 28 now.
-use mathlib.Core.Path.{◌≡◌, refl, sym, ◌∙◌, subst}
-use mathlib.Core.Bool.{false, or-true}
-use mathlib.Core.List.{[]}
-use Prim.Native.Nat.{ℕ, ◌+◌, ◌<◌}
-use native.Mathlib.Omega.{arith}
-use lib.Dec.{leb, ltb}
-use borrow.Author.Tests.{not-false, lt-leb, le-leb, lt-ltb, ltb-true}
+use Rattle.std.proofs.Common.{◌≡◌, refl, sym, ◌∙◌, subst, false, [], ℕ, ◌+◌, ◌<◌, arith, leb, ltb, le-leb, lt-ltb, ltb-true}
+use mathlib.Core.Bool.{or-true}
+use borrow.Author.Tests.{not-false, lt-leb}
 use Rattle.base.specs.Checks.{refusal}
 use Rattle.base.specs.Folds.{any_to, sum_to}
 use Rattle.base.proofs.Bools.{cond_same}

@@ -1,9 +1,5 @@
 -- What an accepted endorse has passed, as the state and the table show it.
-use mathlib.Core.Path.{◌≡◌, refl}
-use mathlib.Core.List.{List}
-use Prim.Native.Nat.{ℕ}
-use native.Mathlib.Omega.{arith}
-use borrow.Author.Tests.{ltb-false}
+use Rattle.std.proofs.Common.{◌≡◌, refl, List, ℕ, arith, ltb-false}
 use Rattle.base.proofs.CheckLaws.{numbered}
 use Rattle.terms.specs.declared.Proposal.{Proposal}
 use Rattle.terms.specs.Proposals.{content_of}

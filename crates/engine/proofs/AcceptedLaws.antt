@@ -1,6 +1,5 @@
 -- Every accepted call leaves a well-formed state, and its previous set is a 16-bit number.
-use mathlib.Core.Path.{◌≡◌}
-use mathlib.Core.Bool.{true}
+use Rattle.std.proofs.Common.{◌≡◌, true}
 use Rattle.state.specs.WellFormed.{well_formed}
 use Rattle.engine.specs.Calls.{Call, InRange}
 use Rattle.engine.specs.Engine.{Engine, refusal_for, after}

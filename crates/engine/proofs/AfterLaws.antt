@@ -1,11 +1,5 @@
 -- What a call leaves: the engine as it was where it is refused, a new one where it is accepted.
-use mathlib.Core.Path.{◌≡◌, refl, sym, ◌∙◌}
-use mathlib.Core.Bool.{Bool, true, false, cond}
-use mathlib.Core.List.{List}
-use mathlib.Core.Logic.{◌≢◌}
-use Prim.Native.Nat.{ℕ}
-use lib.Dec.{eqb}
-use borrow.Author.Tests.{eq-eqb, ne_eqb}
+use Rattle.std.proofs.Common.{◌≡◌, refl, sym, ◌∙◌, Bool, true, false, cond, List, ◌≢◌, ℕ, eqb, eq-eqb, ne_eqb}
 use Rattle.base.proofs.Bools.{cond_same}
 use Rattle.terms.specs.Proposals.{content_with, content_of}
 use Rattle.store.specs.Writes.{put_certificate, set_endorsed, clear_endorsed, clear_used}

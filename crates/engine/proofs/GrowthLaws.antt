@@ -1,8 +1,6 @@
 -- A call that is no accepted open leaves the chain, or adds newer blocks to it.
-use mathlib.Core.Path.{◌≡◌, refl, ap, ◌∙◌}
-use mathlib.Core.List.{List, [], ◌∷◌, ◌++◌}
+use Rattle.std.proofs.Common.{◌≡◌, refl, ap, ◌∙◌, List, [], ◌∷◌, ◌++◌, ℕ, ◌-◌}
 use mathlib.Core.Option.{Option, none, some}
-use Prim.Native.Nat.{ℕ, ◌-◌}
 use Rattle.agreement.specs.Rules.{Chain, Rules}
 use Rattle.agreement.specs.View.{View}
 use Rattle.agreement.specs.Commits.{anchor_at, block_of, blocks_of, committed}

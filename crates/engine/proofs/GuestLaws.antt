@@ -1,8 +1,5 @@
 -- A guest never opens, and rights stay as the open fixed them.
-use mathlib.Core.Path.{◌≡◌, refl, sym, ap, ◌∙◌}
-use mathlib.Core.Bool.{Bool, true, false, true≢false}
-use mathlib.Core.List.{List, [], ◌∷◌}
-use Prim.Native.Nat.{ℕ}
+use Rattle.std.proofs.Common.{◌≡◌, refl, sym, ap, ◌∙◌, Bool, true, false, true≢false, List, [], ◌∷◌, ℕ}
 use native.Mathlib.Decide.{ℕ_discrete}
 use Rattle.engine.specs.Calls.{Call, opens}
 use Rattle.engine.specs.Engine.{Engine, refusal_for, after}

@@ -1,8 +1,5 @@
 -- What each accepted call leaves: the rules' next view, a well-formed state, and nothing changed beyond the used part of the table.
-use mathlib.Core.Path.{◌≡◌, refl, sym, ◌∙◌}
-use mathlib.Core.Bool.{true}
-use Prim.Native.Nat.{ℕ, ◌<◌}
-use native.Mathlib.Omega.{arith}
+use Rattle.std.proofs.Common.{◌≡◌, refl, sym, ◌∙◌, true, ℕ, ◌<◌, arith}
 use Rattle.terms.specs.declared.Member.{Member}
 use Rattle.terms.specs.declared.Transaction.{Transaction}
 use Rattle.terms.specs.declared.Body.{Body}

@@ -1,7 +1,6 @@
 -- Every accepted call but an open and those of ports leaves the words of ports, and the lines of certificates in blocks.
-use mathlib.Core.Path.{◌≡◌}
-use mathlib.Core.Bool.{Bool, true, false, false≢true}
-use Prim.Native.Nat.{ℕ}
+use Rattle.std.proofs.Common.{◌≡◌, Bool, true, false, ℕ}
+use mathlib.Core.Bool.{false≢true}
 use Rattle.terms.specs.Proposals.{content_with, content_of}
 use Rattle.store.specs.Writes.{put_certificate}
 use Rattle.store.proofs.EndorseLaws.{set-endorsed, clear-endorsed}

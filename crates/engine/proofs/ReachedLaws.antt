@@ -1,13 +1,6 @@
 -- Every engine that calls from an accepted open lead to is well formed, with the settings of a sheet; and what calls keep holds of it.
-use mathlib.Core.Path.{◌≡◌, refl, sym, ap, ◌∙◌, subst}
-use mathlib.Core.Bool.{Bool, true, false, cond}
-use mathlib.Core.List.{List, [], ◌∷◌, ◌++◌, append_assoc}
+use Rattle.std.proofs.Common.{◌≡◌, refl, sym, ap, ◌∙◌, subst, Bool, true, false, cond, List, [], ◌∷◌, ◌++◌, append_assoc, ℕ, suc, ◌≤◌, arith, eqb, length, eqb-true, ne_eqb}
 use mathlib.Core.Option.{some, none-ne-some}
-use Prim.Native.Nat.{ℕ, suc, ◌≤◌}
-use native.Mathlib.Omega.{arith}
-use lib.Dec.{eqb}
-use lib.ListN.{length}
-use borrow.Author.Tests.{eqb-true, ne_eqb}
 use Rattle.agreement.specs.Rules.{Block, Chain}
 use Rattle.agreement.specs.Prefixes.{block_numbered}
 use Rattle.terms.specs.declared.Member.{Member}

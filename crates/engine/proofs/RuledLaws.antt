@@ -1,8 +1,5 @@
 -- On a well-formed state the number that refuses a call is the rules' number for the view, and what a call leaves is what the rules leave.
-use mathlib.Core.Path.{◌≡◌, refl, sym, ap, ◌∙◌, subst, subst₂}
-use mathlib.Core.Bool.{true}
-use mathlib.Core.Logic.{◌⊎◌, inl, inr, ◌≢◌}
-use Prim.Native.Nat.{ℕ}
+use Rattle.std.proofs.Common.{◌≡◌, refl, sym, ap, ◌∙◌, subst, subst₂, true, ◌⊎◌, inl, inr, ◌≢◌, ℕ}
 use Rattle.agreement.specs.Moves.{after_accept}
 use Rattle.base.specs.Checks.{refusal}
 use Rattle.base.proofs.CheckLaws.{passes-all}

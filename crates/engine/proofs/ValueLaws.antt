@@ -1,7 +1,5 @@
 -- The value of a call: what an accepted one gives, and none of a refused one; and the refusals of calls that list.
-use mathlib.Core.Path.{◌≡◌, refl}
-use mathlib.Core.Logic.{◌≢◌}
-use borrow.Author.Tests.{eq-eqb, ne_eqb}
+use Rattle.std.proofs.Common.{◌≡◌, refl, ◌≢◌, eq-eqb, ne_eqb}
 use Rattle.engine.specs.Calls.{Call}
 use Rattle.engine.specs.Engine.{Engine, refusal_for}
 use Rattle.engine.specs.Values.{nothing, accepted_value, value_of}

@@ -1,8 +1,5 @@
 -- The state of an accepted call is well formed: check 1 has let it pass.
-use mathlib.Core.Path.{◌≡◌}
-use mathlib.Core.Bool.{true, not}
-use Prim.Native.Nat.{ℕ}
-use native.Mathlib.Omega.{arith}
+use Rattle.std.proofs.Common.{◌≡◌, true, not, ℕ, arith}
 use borrow.Author.Tests.{not-false}
 use Rattle.base.specs.Checks.{Checks, refusal}
 use Rattle.base.proofs.CheckLaws.{cleared}

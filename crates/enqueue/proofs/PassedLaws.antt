@@ -1,12 +1,6 @@
 -- What an accepted enqueue has passed; one of a guest above 7 is refused.
-use mathlib.Core.Path.{◌≡◌, refl, ◌∙◌}
-use mathlib.Core.Bool.{true, not}
-use mathlib.Core.List.{List}
-use Prim.Native.Nat.{ℕ, ◌<◌}
-use native.Mathlib.Omega.{arith}
-use lib.ListN.{length}
-use lib.Dec.{ltb}
-use borrow.Author.Tests.{not-false, ltb-false, leb-false}
+use Rattle.std.proofs.Common.{◌≡◌, refl, ◌∙◌, true, not, List, ℕ, ◌<◌, arith, length, ltb, ltb-false, leb-false}
+use borrow.Author.Tests.{not-false}
 use Rattle.base.proofs.CheckLaws.{numbered, cleared, passes, refuses}
 use Rattle.base.proofs.Passed.{passed}
 use Rattle.terms.specs.declared.Transaction.{Transaction}

@@ -1,9 +1,8 @@
 -- What steps through the bytes at hand tell, and leave.
-use Rattle.std.proofs.Common.{◌≡◌, ℕ, ◌+◌, ◌-◌, ◌<◌, ◌≤◌, Bool, true, false, cond, List, length, take, drop, refl, sym, ◌∙◌, ap, arith, ltb, ⊎_elim, Option, None, Some, length-drop}
+use Rattle.std.proofs.Common.{◌≡◌, ℕ, ◌+◌, ◌-◌, ◌<◌, ◌≤◌, Bool, true, false, cond, List, length, take, drop, refl, sym, ◌∙◌, ap, arith, ltb, ⊎_elim, Option, None, Some, length-drop, ltb-false}
 use Rattle.std.proofs.Math.Seq.{take_all}
 use Rattle.std.proofs.lemmas.List.{drop-drop}
 use Rattle.std.proofs.str.Laws.{order}
-use borrow.Author.Tests.{ltb-false}
 use Rattle.framing.specs.declared.Event.TheVariants.{Nothing, Record, Unreadable}
 use Rattle.framing.specs.declared.Step.{Step}
 use Rattle.framing.specs.Streams.{has_end, until_end}

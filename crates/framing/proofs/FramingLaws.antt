@@ -1,14 +1,9 @@
 -- What a step tells of the whole stream, whatever comes later: steps read a stream as its definition does, wherever the pieces part.
-use mathlib.Core.Path.{◌≡◌, refl, ap, ◌∙◌}
-use mathlib.Core.Bool.{Bool, true, false, cond, ◌||◌, and-false, or-true}
-use mathlib.Core.List.{List, [], ◌∷◌, ◌++◌, map}
+use Rattle.std.proofs.Common.{◌≡◌, refl, ap, ◌∙◌, Bool, true, false, cond, ◌||◌, List, [], ◌∷◌, ◌++◌, map, ℕ, ◌+◌, ◌≤◌, ◌<◌, arith, drop, take, length, length-append, leb, ltb, lt-ltb, le-ltb, le-leb}
+use mathlib.Core.Bool.{and-false, or-true}
 use Rattle.std.specs.Prelude.{Option, None, Some}
-use Prim.Native.Nat.{ℕ, ◌+◌, ◌≤◌, ◌<◌}
-use native.Mathlib.Omega.{arith}
 use native.Mathlib.Decide.{dec_lt}
-use lib.ListN.{drop, take, length, length-append}
-use lib.Dec.{leb, ltb}
-use borrow.Author.Tests.{lt-ltb, le-ltb, lt-leb, le-leb}
+use borrow.Author.Tests.{lt-leb}
 use Rattle.framing.specs.declared.Event.TheVariants.{Record, Unreadable}
 use Rattle.framing.specs.declared.Step.{Step}
 use Rattle.framing.specs.Streams.{StreamRecord, records_of, fitting, readables, due_of, due, until_end, has_end, after_end}

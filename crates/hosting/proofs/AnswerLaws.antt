@@ -1,8 +1,5 @@
 -- The weights of a committee that is read fit a word each.
-use mathlib.Core.Path.{◌≡◌}
-use mathlib.Core.List.{List}
-use Prim.Native.Nat.{ℕ}
-use native.Mathlib.Omega.{arith}
+use Rattle.std.proofs.Common.{◌≡◌, List, ℕ, arith}
 use Rattle.base.proofs.SumLaws.{sum_at}
 use Rattle.terms.specs.Ranges.{weight_in}
 use Rattle.terms.specs.declared.sheet.Weight.{Weight}

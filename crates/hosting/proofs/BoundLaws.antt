@@ -1,13 +1,7 @@
 -- The claims of a bond's effect, over words.
-use mathlib.Core.Path.{◌≡◌, refl, sym, ap, ap₂, ◌∙◌}
-use mathlib.Core.Bool.{true}
-use mathlib.Core.List.{List, [], ◌∷◌, ◌++◌}
-use Prim.Native.Nat.{ℕ, ◌+◌, ◌<◌, ◌≤◌}
-use native.Mathlib.Omega.{arith}
-use lib.ListN.{length, length-append, get_or, get_or-append}
-use lib.Dec.{leb}
-use lib.Seq.{paste, get_or-append_seam, get_or-append-add}
-use borrow.Author.Tests.{leb-true}
+use Rattle.std.proofs.Common.{◌≡◌, refl, sym, ap, ap₂, ◌∙◌, true, List, [], ◌∷◌, ◌++◌, ℕ, ◌+◌, ◌<◌, ◌≤◌, arith, length, length-append, get_or, leb, get_or-append-add, leb-true}
+use lib.ListN.{get_or-append}
+use lib.Seq.{paste, get_or-append_seam}
 use Rattle.base.proofs.Bools.{both}
 use Rattle.base.proofs.FoldLaws.{length-tab}
 use Rattle.base.proofs.PasteLaws.{paste-inside}

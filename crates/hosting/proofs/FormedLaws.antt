@@ -1,8 +1,5 @@
 -- After an accepted call the state that the words give, with the table, is well formed: the next call does not refuse it with 1.
-use mathlib.Core.Path.{◌≡◌}
-use mathlib.Core.Bool.{Bool, true}
-use mathlib.Core.List.{List}
-use Prim.Native.Nat.{ℕ}
+use Rattle.std.proofs.Common.{◌≡◌, Bool, true, List, ℕ}
 use Rattle.state.specs.WellFormed.{well_formed}
 use Rattle.engine.specs.Calls.{Call}
 use Rattle.words.specs.States.{state_in}

@@ -1,10 +1,6 @@
 -- Laws of guests' calls over words: a caller lacking the right is refused and changes no word, one with it gets the host's answer, and the word of rights stays.
-use mathlib.Core.Path.{◌≡◌, refl, sym, ap, ◌∙◌}
-use mathlib.Core.List.{List}
-use mathlib.Core.Logic.{◌≢◌}
-use Prim.Native.Nat.{ℕ}
+use Rattle.std.proofs.Common.{◌≡◌, refl, sym, ap, ◌∙◌, List, ◌≢◌, ℕ, eq-eqb, ne_eqb}
 use native.Mathlib.Decide.{ℕ_discrete}
-use borrow.Author.Tests.{eq-eqb, ne_eqb}
 use Rattle.state.specs.declared.State.{State}
 use Rattle.terms.specs.declared.rights.Right.{Right}
 use Rattle.terms.proofs.RightLaws.{allowed, barred}

@@ -1,9 +1,5 @@
 -- What the words that each call is handed give.
-use mathlib.Core.Bool.{true}
-use mathlib.Core.List.{List}
-use Prim.Native.Nat.{ℕ}
-use lib.Dec.{ltb}
-use borrow.Author.Tests.{ltb-true}
+use Rattle.std.proofs.Common.{true, List, ℕ, ltb, ltb-true}
 use Rattle.terms.specs.declared.Member.{Member}
 use Rattle.engine.specs.Calls.{Aside, opens, propose, endorse, certify, accept, advance, commit, enqueue, draw, port, aside}
 use Rattle.serial.specs.Calls.{PortCall, PortInRange}

@@ -1,13 +1,6 @@
 -- What the certificate read shows is the held certificate as accept takes it: a host can pass it on as it is.
-use mathlib.Core.Path.{◌≡◌, refl, sym, ap, ◌∙◌}
-use mathlib.Core.Bool.{true}
-use mathlib.Core.List.{List, [], ◌∷◌, ◌++◌}
-use Prim.Native.Nat.{ℕ, zero, suc, ◌+◌, ◌<◌, ◌≤◌}
-use native.Mathlib.Omega.{arith}
-use lib.ListN.{length, length-append}
-use lib.Dec.{leb, ltb}
+use Rattle.std.proofs.Common.{◌≡◌, refl, sym, ap, ◌∙◌, true, List, [], ◌∷◌, ◌++◌, ℕ, zero, suc, ◌+◌, ◌<◌, ◌≤◌, arith, length, length-append, leb, ltb, lt-ltb, le-leb, leb-true}
 use lib.Seq.{paste, length-paste}
-use borrow.Author.Tests.{lt-ltb, le-leb, leb-true}
 use Rattle.base.proofs.Bools.{both}
 use Rattle.base.proofs.PasteLaws.{paste-inside}
 use Rattle.base.specs.Folds.{tab}

@@ -1,14 +1,7 @@
 -- After an accepted call the state's words can be read, and they give the state that the engine's call leaves: nothing is lost between two calls.
-use mathlib.Core.Path.{◌≡◌, refl, sym, ap, ◌∙◌}
+use Rattle.std.proofs.Common.{◌≡◌, refl, sym, ap, ◌∙◌, Bool, true, List, ℕ, ◌<◌, ◌≤◌, arith, length, leb, leb-true}
 use Rattle.std.specs.Prelude.{Some}
-use mathlib.Core.Bool.{Bool, true}
-use mathlib.Core.List.{List}
-use Prim.Native.Nat.{ℕ, ◌<◌, ◌≤◌}
-use native.Mathlib.Omega.{arith}
-use lib.ListN.{length}
-use lib.Dec.{leb}
 use lib.Seq.{paste}
-use borrow.Author.Tests.{leb-true}
 use Rattle.base.proofs.Bools.{both}
 use Rattle.terms.specs.declared.Body.{Body}
 use Rattle.terms.specs.Sheets.{filled}

@@ -1,8 +1,5 @@
 -- Of a sheet's words an open sees the filled settings only; the rights stand beside them.
-use mathlib.Core.Path.{◌≡◌, refl}
-use mathlib.Core.Bool.{true}
-use mathlib.Core.List.{List}
-use Prim.Native.Nat.{ℕ}
+use Rattle.std.proofs.Common.{◌≡◌, refl, true, List, ℕ}
 use Rattle.terms.specs.declared.Member.{Member}
 use Rattle.terms.specs.declared.sheet.Rights.{Rights}
 use Rattle.terms.specs.Sheets.{filled}

@@ -1,12 +1,6 @@
 -- What is asked of a port is refused by the checks before 1 whether the words of the state can be read or not.
-use mathlib.Core.Path.{◌≡◌, refl, sym, ◌∙◌}
-use mathlib.Core.Bool.{Bool, true, false, cond, ◌&&◌}
-use mathlib.Core.List.{List, [], ◌∷◌}
-use mathlib.Core.Logic.{◌≢◌}
-use Prim.Native.Nat.{ℕ, ◌<◌, ◌≤◌}
-use native.Mathlib.Omega.{arith}
+use Rattle.std.proofs.Common.{◌≡◌, refl, sym, ◌∙◌, Bool, true, false, cond, ◌&&◌, List, [], ◌∷◌, ◌≢◌, ℕ, ◌<◌, ◌≤◌, arith, lt-ltb, le-ltb}
 use Rattle.base.specs.Checks.{refusal}
-use borrow.Author.Tests.{lt-ltb, le-ltb}
 use Rattle.base.proofs.CheckLaws.{numbered, first-refuses, first_passes, passes, refuses}
 use Rattle.serial.specs.Calls.{PortCall, Access, offset_of, access, reset}
 use Rattle.serial.specs.Serial.{early_checks, port_refusal}

@@ -1,10 +1,5 @@
 -- A refused call, whichever it is, gives no value and changes no word of state, table or out.
-use mathlib.Core.Path.{◌≡◌, refl}
-use mathlib.Core.Bool.{Bool, true, false, cond, ◌&&◌}
-use mathlib.Core.List.{List}
-use mathlib.Core.Logic.{◌≢◌}
-use Prim.Native.Nat.{ℕ}
-use borrow.Author.Tests.{ne_eqb}
+use Rattle.std.proofs.Common.{◌≡◌, refl, Bool, true, false, cond, ◌&&◌, List, ◌≢◌, ℕ, ne_eqb}
 use Rattle.engine.specs.Calls.{Call}
 use Rattle.engine.specs.Engine.{refusal_for}
 use Rattle.engine.proofs.AfterLaws as engine

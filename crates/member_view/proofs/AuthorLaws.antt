@@ -1,8 +1,6 @@
 -- The authors of the certificates held in the present round, by the held set of the table.
-use mathlib.Core.Path.{◌≡◌, refl, ◌∙◌, fun_ext}
-use mathlib.Core.Bool.{Bool, not}
-use mathlib.Core.List.{List}
-use Prim.Native.Nat.{ℕ}
+use Rattle.std.proofs.Common.{◌≡◌, refl, ◌∙◌, Bool, not, List, ℕ}
+use mathlib.Core.Path.{fun_ext}
 use Rattle.base.specs.Sets.{is_in}
 use Rattle.store.specs.Table.{held_set}
 use Rattle.store.proofs.TableLaws.{held_in}

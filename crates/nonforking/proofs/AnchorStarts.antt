@@ -1,8 +1,5 @@
 -- The order inside a block starts with the author of its anchor: so in every state of a run, for each block of each correct member.
-use mathlib.Core.Path.{◌≡◌}
-use mathlib.Core.Bool.{true}
-use mathlib.Core.List.{List, ◌∷◌, ◌++◌}
-use Prim.Native.Nat.{ℕ}
+use Rattle.std.proofs.Common.{◌≡◌, true, List, ◌∷◌, ◌++◌, ℕ}
 use Rattle.agreement.specs.Rules.{Block, Chain}
 use Rattle.terms.specs.Proposals.{Content}
 use Rattle.rules.specs.AnchorStarts.{StartsWithAnchor}

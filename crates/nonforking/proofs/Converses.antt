@@ -1,9 +1,5 @@
 -- The converse: a list of calls is a run of engines where it is one on the views that they show.
-use mathlib.Core.Path.{◌≡◌, refl, sym, ap, ap₂, ◌∙◌, subst, subst₂}
-use mathlib.Core.Bool.{true, false}
-use mathlib.Core.List.{List, [], ◌∷◌}
-use mathlib.Core.Logic.{◌⊎◌, inl, inr}
-use Prim.Native.Nat.{ℕ, ◌≤◌}
+use Rattle.std.proofs.Common.{◌≡◌, refl, sym, ap, ap₂, ◌∙◌, subst, subst₂, true, false, List, [], ◌∷◌, ◌⊎◌, inl, inr, ℕ, ◌≤◌}
 use Rattle.agreement.specs.Weights.{weigh, total, outside}
 use Rattle.agreement.specs.Rules.{Chain}
 use Rattle.agreement.proofs.EntryLaws.{related}

@@ -1,8 +1,6 @@
 -- The engine is an implementation of the rules.
-use mathlib.Core.Path.{◌≡◌, ap, subst}
+use Rattle.std.proofs.Common.{◌≡◌, ap, subst, ℕ, ◌<◌, arith}
 use mathlib.Core.Option.{some}
-use Prim.Native.Nat.{ℕ, ◌<◌}
-use native.Mathlib.Omega.{arith}
 use Rattle.terms.specs.Proposals.{Content}
 use Rattle.terms.specs.declared.sheet.Settings.{Settings}
 use Rattle.rules.specs.Tests.{MemberView}

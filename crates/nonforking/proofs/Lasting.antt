@@ -1,9 +1,6 @@
 -- What lasts in a run: a block once made stays under every later call, and every state is well formed.
-use mathlib.Core.Path.{◌≡◌}
-use mathlib.Core.Bool.{true}
+use Rattle.std.proofs.Common.{◌≡◌, true, List, [], ◌∷◌, ◌++◌, ℕ}
 use mathlib.Core.Option.{some}
-use mathlib.Core.List.{List, [], ◌∷◌, ◌++◌}
-use Prim.Native.Nat.{ℕ}
 use Rattle.agreement.specs.Rules.{Block}
 use Rattle.agreement.proofs.ListingLaws.{lists-prefix}
 use Rattle.agreement.specs.Prefixes.{block_numbered}

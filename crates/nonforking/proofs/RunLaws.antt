@@ -1,10 +1,6 @@
 -- A run of engines is a run of the rules, on the same list of calls.
-use mathlib.Core.Path.{◌≡◌, sym, ◌∙◌, subst, subst₂}
-use mathlib.Core.Bool.{true}
+use Rattle.std.proofs.Common.{◌≡◌, sym, ◌∙◌, subst, subst₂, true, List, [], ◌∷◌, ◌++◌, inl, inr, ℕ, ◌≤◌}
 use mathlib.Core.Option.{some, some-injective}
-use mathlib.Core.List.{List, [], ◌∷◌, ◌++◌}
-use mathlib.Core.Logic.{inl, inr}
-use Prim.Native.Nat.{ℕ, ◌≤◌}
 use Rattle.agreement.specs.Weights.{weigh, total, outside}
 use Rattle.agreement.specs.Listing.{listing, Lists}
 use Rattle.agreement.proofs.EntryLaws.{Each, kept}

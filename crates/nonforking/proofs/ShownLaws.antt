@@ -1,8 +1,5 @@
 -- Over every list of calls the certificate read shows what an accepted certify or accept took: the proposal, and the endorsers that it was stored with.
-use mathlib.Core.Path.{refl, sym, ap, ◌∙◌, subst}
-use mathlib.Core.List.{List, [], ◌∷◌}
-use mathlib.Core.Logic.{inl, inr}
-use Prim.Native.Nat.{ℕ, ◌<◌, ◌≤◌}
+use Rattle.std.proofs.Common.{refl, sym, ap, ◌∙◌, subst, List, [], ◌∷◌, inl, inr, ℕ, ◌<◌, ◌≤◌}
 use Rattle.terms.specs.Proposals.{Content, content_of}
 use Rattle.store.proofs.TableLaws.{held-member}
 use Rattle.store.proofs.RecordLaws.{proposal-content}

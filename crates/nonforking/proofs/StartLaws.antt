@@ -1,9 +1,5 @@
 -- The start: each correct member's engine is good and shows round 1 and nothing else. So the members are a group of the rules.
-use mathlib.Core.Path.{◌≡◌, ap, subst}
-use mathlib.Core.Bool.{true}
-use mathlib.Core.List.{[]}
-use Prim.Native.Nat.{ℕ, ◌<◌}
-use native.Mathlib.Omega.{arith}
+use Rattle.std.proofs.Common.{◌≡◌, ap, subst, true, [], ℕ, ◌<◌, arith}
 use Rattle.agreement.specs.Entries.{states}
 use Rattle.agreement.specs.Runs.{Initial}
 use Rattle.terms.specs.declared.sheet.Settings.{Settings}

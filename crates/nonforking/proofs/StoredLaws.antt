@@ -1,11 +1,6 @@
 -- Over every list of calls a held certificate keeps the proposal and the endorsers that it was stored with: it is held with them exactly where a certify or an accept took it with them.
-use mathlib.Core.Path.{◌≡◌, refl, sym, ap₂, ◌∙◌, subst, subst₂}
-use mathlib.Core.Bool.{Bool, true, false, true≢false}
-use mathlib.Core.List.{List, [], ◌∷◌}
-use mathlib.Core.Logic.{◌≢◌, ◌⊎◌, inl, inr}
-use Prim.Native.Nat.{ℕ, ◌<◌, ◌≤◌}
+use Rattle.std.proofs.Common.{◌≡◌, refl, sym, ap₂, ◌∙◌, subst, subst₂, Bool, true, false, true≢false, List, [], ◌∷◌, ◌≢◌, ◌⊎◌, inl, inr, ℕ, ◌<◌, ◌≤◌, length}
 use native.Mathlib.Decide.{ℕ_discrete}
-use lib.ListN.{length}
 use Rattle.terms.specs.declared.Member.{Member}
 use Rattle.terms.specs.Proposals.{Content, content_of}
 use Rattle.store.specs.Table.{Within, held_at, endorsers_at, content_at, record_word}

@@ -1,9 +1,5 @@
 -- Proved: in every run the chains of correct members never fork, and committees are alike.
-use mathlib.Core.Path.{◌≡◌, sym, subst₂}
-use mathlib.Core.Bool.{true}
-use mathlib.Core.List.{List}
-use mathlib.Core.Logic.{◌⊎◌, inl, inr}
-use Prim.Native.Nat.{ℕ}
+use Rattle.std.proofs.Common.{◌≡◌, sym, subst₂, true, List, ◌⊎◌, inl, inr, ℕ}
 use Rattle.agreement.specs.Listing.{Lists}
 use Rattle.terms.specs.declared.sheet.Settings.{Settings}
 use Rattle.terms.specs.Ranges.{weight_in}

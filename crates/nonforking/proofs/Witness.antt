@@ -1,12 +1,5 @@
 -- The premises can be met: the run of specs/Witness is one.
-use mathlib.Core.Path.{◌≡◌, refl, ◌∙◌}
-use mathlib.Core.Bool.{true, false}
-use mathlib.Core.List.{[]}
-use Prim.Native.Nat.{ℕ}
-use native.Mathlib.Omega.{arith}
-use lib.ListN.{replicate}
-use lib.Dec.{ltb}
-use borrow.Author.Tests.{ltb-true, le-ltb}
+use Rattle.std.proofs.Common.{◌≡◌, refl, ◌∙◌, true, false, [], ℕ, arith, replicate, ltb, ltb-true, le-ltb}
 use Rattle.base.specs.Checks.{refusal}
 use Rattle.base.proofs.CheckLaws.{passes, passes-all}
 use Rattle.base.specs.Folds.{tab, any_to, all_to, sum_to}

@@ -1,11 +1,7 @@
 -- Every block holds certificates of rounds up to its own, in every engine that calls lead to.
-use mathlib.Core.Path.{◌≡◌, sym, ap, ◌∙◌, subst}
-use mathlib.Core.Bool.{Bool, true, not, cond, ◌&&◌, true≢false}
+use Rattle.std.proofs.Common.{◌≡◌, sym, ap, ◌∙◌, subst, Bool, true, not, cond, ◌&&◌, true≢false, List, [], ◌∷◌, ℕ, ◌-◌, suc, ◌<◌, ◌≤◌, arith}
 use mathlib.Core.Option.{Option, none, some}
-use mathlib.Core.List.{List, [], ◌∷◌}
-use Prim.Native.Nat.{ℕ, ◌-◌, suc, ◌<◌, ◌≤◌}
 use native.Mathlib.Decide.{dec_lt}
-use native.Mathlib.Omega.{arith}
 use Rattle.agreement.specs.Rules.{Chain, last, Rules}
 use Rattle.agreement.specs.View.{View}
 use Rattle.agreement.specs.Dag.{is_held}

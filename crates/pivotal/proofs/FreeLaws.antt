@@ -1,12 +1,6 @@
 -- Above the last block's round no held certificate has a mark.
-use mathlib.Core.Path.{◌≡◌, refl, ◌∙◌}
-use mathlib.Core.Bool.{true}
-use mathlib.Core.List.{List}
-use mathlib.Core.Logic.{◌≢◌}
-use Prim.Native.Nat.{ℕ, zero, suc, ◌<◌, ◌≤◌}
+use Rattle.std.proofs.Common.{◌≡◌, refl, ◌∙◌, true, List, ◌≢◌, ℕ, zero, suc, ◌<◌, ◌≤◌, arith, eq-eqb}
 use native.Mathlib.Decide.{ℕ_discrete}
-use native.Mathlib.Omega.{arith}
-use borrow.Author.Tests.{eq-eqb}
 use Rattle.agreement.specs.Dag.{is_held}
 use Rattle.store.specs.Table.{held_at, mark_at, block_round}
 use Rattle.scan.proofs.ScanLaws.{rows-held}

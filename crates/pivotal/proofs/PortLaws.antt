@@ -1,11 +1,8 @@
 -- The list of what a commit hangs on does not change with the words of ports.
-use mathlib.Core.Path.{◌≡◌, refl, sym, ap, ◌∙◌}
-use mathlib.Core.List.{List}
-use Prim.Native.Nat.{ℕ, zero, suc, ◌-◌, ◌*◌, ◌<◌, ◌≤◌}
-use native.Mathlib.Omega.{arith}
+use Rattle.std.proofs.Common.{◌≡◌, refl, sym, ap, ◌∙◌, List, ℕ, zero, suc, ◌-◌, ◌*◌, ◌<◌, ◌≤◌, arith, length, get_or, set, length-set, get_or-set_same, get_or-set_other}
 use native.Mathlib.Decide.{ℕ_discrete, dec_lt}
-use lib.ListN.{length, get_or, set, length-set, get_or-eq_default}
-use lib.Seq.{paste, get_or-set_same, get_or-set_other}
+use lib.ListN.{get_or-eq_default}
+use lib.Seq.{paste}
 use Rattle.base.specs.Checks.{refusal}
 use Rattle.base.specs.Sets.{del}
 use Rattle.base.proofs.PasteLaws.{paste-below}

@@ -1,11 +1,6 @@
 -- A commit without a certificate is refused as the list has it; the list is refused as a commit is; and 32 places are enough for it.
-use mathlib.Core.Path.{◌≡◌, refl, sym, ◌∙◌}
-use mathlib.Core.Bool.{Bool, true, false, false≢true, cond}
-use mathlib.Core.List.{List, [], ◌∷◌}
-use Prim.Native.Nat.{ℕ, zero, suc, ◌-◌, ◌/◌, ◌≤◌}
-use native.Mathlib.Omega.{arith}
-use lib.ListN.{length, length-append}
-use borrow.Author.Tests.{le-ltb}
+use Rattle.std.proofs.Common.{◌≡◌, refl, sym, ◌∙◌, Bool, true, false, cond, List, [], ◌∷◌, ℕ, zero, suc, ◌-◌, ◌/◌, ◌≤◌, arith, length, length-append, le-ltb}
+use mathlib.Core.Bool.{false≢true}
 use Rattle.base.proofs.CheckLaws.{refuses, passes}
 use Rattle.state.specs.declared.State.{State}
 use Rattle.store.specs.Writes.{clear_held}

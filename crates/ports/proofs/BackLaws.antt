@@ -1,15 +1,8 @@
 -- Where a reader stands after n bytes tells that it has read n.
-use mathlib.Core.Path.{◌≡◌, refl, sym, ap, ◌∙◌}
-use mathlib.Core.Bool.{Bool, true, false, cond, ◌&&◌}
-use mathlib.Core.List.{List, [], ◌∷◌}
+use Rattle.std.proofs.Common.{◌≡◌, refl, sym, ap, ◌∙◌, Bool, true, false, cond, ◌&&◌, List, [], ◌∷◌, ◌≢◌, ℕ, ◌-◌, ◌<◌, ◌≤◌, arith, length, length-append, eqb, eq-eqb, ne_eqb, le-leb}
 use mathlib.Core.Option.{none, some, none-ne-some}
-use mathlib.Core.Logic.{◌≢◌}
-use Prim.Native.Nat.{ℕ, ◌-◌, ◌<◌, ◌≤◌}
-use native.Mathlib.Omega.{arith}
 use native.Mathlib.Decide.{ℕ_discrete, dec_lt}
-use lib.ListN.{length, length-append}
-use lib.Dec.{eqb}
-use borrow.Author.Tests.{eq-eqb, ne_eqb, le-leb, lt-leb}
+use borrow.Author.Tests.{lt-leb}
 use Rattle.ports.specs.Cursors.{Lines, text, line_of, Once, read_to, bytes_read, cursor_of}
 use Rattle.ports.proofs.NextLaws.{line-here, line_else}
 

@@ -1,13 +1,6 @@
 -- The next byte of a port: the next one of its line, or the first of the next line, or none.
-use mathlib.Core.Path.{◌≡◌, refl, sym, ap, ◌∙◌}
-use mathlib.Core.Bool.{Bool, true, false, cond, ◌&&◌}
-use mathlib.Core.List.{List, [], ◌∷◌, ◌++◌}
-use mathlib.Core.Logic.{◌≢◌}
-use Prim.Native.Nat.{ℕ, suc, ◌+◌, ◌/◌, ◌%◌, ◌<◌, ◌≤◌}
-use native.Mathlib.Omega.{arith}
-use lib.ListN.{length, length-append, get_or, get_or-append}
-use lib.Dec.{eqb, leb}
-use borrow.Author.Tests.{eq-eqb, ne_eqb, leb-true, le-leb}
+use Rattle.std.proofs.Common.{◌≡◌, refl, sym, ap, ◌∙◌, Bool, true, false, cond, ◌&&◌, List, [], ◌∷◌, ◌++◌, ◌≢◌, ℕ, suc, ◌+◌, ◌/◌, ◌%◌, ◌<◌, ◌≤◌, arith, length, length-append, get_or, eqb, leb, eq-eqb, ne_eqb, leb-true, le-leb}
+use lib.ListN.{get_or-append}
 use Rattle.base.proofs.Bools.{both}
 use Rattle.terms.specs.declared.sheet.Settings.{Settings}
 use Rattle.committee.specs.Chain.{chain_of}

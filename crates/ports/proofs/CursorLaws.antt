@@ -1,14 +1,8 @@
 -- Laws of where a port stands: its two words alone tell whether it has read past the end, and the byte after those read is the next one of its line or the first of the next line.
-use mathlib.Core.Path.{◌≡◌, refl, sym, ap, ◌∙◌}
-use mathlib.Core.Bool.{Bool, true, false, cond, true≢false}
-use mathlib.Core.List.{List, [], ◌∷◌, ◌++◌}
+use Rattle.std.proofs.Common.{◌≡◌, refl, sym, ap, ◌∙◌, Bool, true, false, cond, true≢false, List, [], ◌∷◌, ◌++◌, ℕ, suc, ◌+◌, ◌<◌, ◌≤◌, arith, eqb, leb, length, get_or, length-append, get_or-append-add, le-leb, leb-true}
 use mathlib.Core.Option.{none, some, some-injective, none-ne-some}
-use Prim.Native.Nat.{ℕ, suc, ◌+◌, ◌<◌, ◌≤◌}
-use native.Mathlib.Omega.{arith}
-use lib.Dec.{eqb, leb}
-use lib.ListN.{length, get_or, length-append, get_or-append}
-use lib.Seq.{get_or-append-add}
-use borrow.Author.Tests.{le-leb, lt-leb, leb-true}
+use lib.ListN.{get_or-append}
+use borrow.Author.Tests.{lt-leb}
 use Rattle.base.proofs.Bools.{both}
 use Rattle.ports.specs.Cursors.{Lines, text, line_of, lines_after, in_line, read_to}
 

@@ -1,6 +1,5 @@
 -- The table of registers by numbers holds.
-use mathlib.Core.Path.{◌≡◌, refl}
-use mathlib.Core.Bool.{true}
+use Rattle.std.proofs.Common.{◌≡◌, refl, true}
 use Rattle.committee.specs.Edges.{agree}
 use Rattle.ports.specs.Uart.{values_at, after_read, after_write, reset_port}
 use Rattle.ports.specs.Edges.{two, clear, latched, shows, reads, writes, cases}

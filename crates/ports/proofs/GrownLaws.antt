@@ -1,13 +1,6 @@
 -- A port is as it was where its words are, and the listing has but more lines at its end.
-use mathlib.Core.Path.{◌≡◌, refl}
-use mathlib.Core.Bool.{true, cond, ◌&&◌}
-use mathlib.Core.List.{List, ◌++◌}
-use Prim.Native.Nat.{ℕ, ◌/◌, ◌%◌, ◌<◌}
-use native.Mathlib.Omega.{arith}
+use Rattle.std.proofs.Common.{◌≡◌, refl, true, cond, ◌&&◌, List, ◌++◌, ℕ, ◌/◌, ◌%◌, ◌<◌, arith, eqb, length, eq-eqb, ne_eqb}
 use native.Mathlib.Decide.{ℕ_discrete}
-use lib.Dec.{eqb}
-use lib.ListN.{length}
-use borrow.Author.Tests.{eq-eqb, ne_eqb}
 use Rattle.base.proofs.Bools.{both}
 use Rattle.terms.specs.declared.sheet.Settings.{Settings}
 use Rattle.ports.specs.Cursors.{Lines, in_line, read_to, bytes_read}

@@ -1,9 +1,6 @@
 -- A byte of a line that was put from the start of a buffer on.
-use mathlib.Core.Path.{◌≡◌, ap, ◌∙◌}
-use mathlib.Core.List.{List}
-use Prim.Native.Nat.{ℕ, ◌+◌, ◌<◌, ◌≤◌}
-use native.Mathlib.Omega.{arith}
-use lib.ListN.{length, get_or, drop, get_or-append}
+use Rattle.std.proofs.Common.{◌≡◌, ap, ◌∙◌, List, ℕ, ◌+◌, ◌<◌, ◌≤◌, arith, length, get_or, drop}
+use lib.ListN.{get_or-append}
 use lib.Seq.{sets-eq}
 use Rattle.base.specs.Puts.{Puts}
 

@@ -1,12 +1,7 @@
 -- The words of a port, put.
-use mathlib.Core.Path.{◌≡◌, refl, sym, ◌∙◌}
-use mathlib.Core.List.{List, [], ◌∷◌}
-use mathlib.Core.Logic.{◌≢◌}
-use Prim.Native.Nat.{ℕ, zero, suc, ◌+◌, ◌-◌, ◌<◌, ◌≤◌}
-use native.Mathlib.Omega.{arith}
+use Rattle.std.proofs.Common.{◌≡◌, refl, sym, ◌∙◌, List, [], ◌∷◌, ◌≢◌, ℕ, zero, suc, ◌+◌, ◌-◌, ◌<◌, ◌≤◌, arith, length, length-set, get_or, set, ext_get_or, get_or-set_same, get_or-set_other}
 use native.Mathlib.Decide.{ℕ_discrete, dec_lt}
-use lib.ListN.{length, length-set, get_or, set}
-use lib.Seq.{paste, length-paste, ext_get_or, get_or-set_same, get_or-set_other}
+use lib.Seq.{paste, length-paste}
 use Rattle.base.proofs.PasteLaws.{paste-below, paste-inside, paste-above}
 use Rattle.ports.specs.Ports.{port_start, port_word}
 

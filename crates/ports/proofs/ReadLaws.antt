@@ -1,13 +1,7 @@
 -- What a read leaves.
-use mathlib.Core.Path.{◌≡◌, refl, sym, ◌∙◌}
-use mathlib.Core.Bool.{Bool, true, false, cond, not, ◌&&◌}
-use mathlib.Core.List.{List}
-use Prim.Native.Nat.{ℕ, suc, ◌+◌, ◌/◌, ◌%◌, ◌≤◌}
-use native.Mathlib.Omega.{arith}
+use Rattle.std.proofs.Common.{◌≡◌, refl, sym, ◌∙◌, Bool, true, false, cond, not, ◌&&◌, List, ℕ, suc, ◌+◌, ◌/◌, ◌%◌, ◌≤◌, arith, length, set, eqb, leb, eq-eqb, ne_eqb, eqb-true, leb-true}
 use native.Mathlib.Decide.{ℕ_discrete}
-use lib.ListN.{length, set}
-use lib.Dec.{eqb, leb}
-use borrow.Author.Tests.{eq-eqb, ne_eqb, eqb-true, eqb-false, leb-true, not-true}
+use borrow.Author.Tests.{eqb-false, not-true}
 use Rattle.base.proofs.Bools.{both}
 use Rattle.terms.specs.declared.sheet.Settings.{Settings}
 use Rattle.ports.specs.Cursors.{Lines, in_line, read_to, bytes_read, cursor_of}

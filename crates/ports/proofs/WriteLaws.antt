@@ -1,13 +1,5 @@
 -- What a write leaves.
-use mathlib.Core.Path.{◌≡◌, refl, sym, ap, ◌∙◌}
-use mathlib.Core.Bool.{true, false, cond, not, ◌&&◌}
-use mathlib.Core.List.{List, [], ◌∷◌}
-use Prim.Native.Nat.{ℕ, ◌+◌, ◌%◌, ◌<◌, ◌≤◌}
-use native.Mathlib.Omega.{arith}
-use mathlib.Core.Logic.{◌≢◌}
-use borrow.Author.Tests.{ne_eqb}
-use lib.ListN.{length, set, replicate}
-use lib.Dec.{eqb, leb}
+use Rattle.std.proofs.Common.{◌≡◌, refl, sym, ap, ◌∙◌, true, false, cond, not, ◌&&◌, List, [], ◌∷◌, ℕ, ◌+◌, ◌%◌, ◌<◌, ◌≤◌, arith, ◌≢◌, ne_eqb, length, set, replicate, eqb, leb}
 use lib.Seq.{paste}
 use Rattle.terms.specs.declared.sheet.Settings.{Settings}
 use Rattle.ports.specs.Uart.{after_write, reset_port}

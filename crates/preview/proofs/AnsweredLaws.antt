@@ -1,10 +1,5 @@
 -- What an accepted preview answers and leaves in the list.
-use mathlib.Core.Path.{◌≡◌, sym, ap, ◌∙◌}
-use mathlib.Core.Bool.{true}
-use mathlib.Core.List.{List}
-use Prim.Native.Nat.{ℕ, ◌-◌, ◌*◌, ◌/◌, ◌≤◌}
-use native.Mathlib.Omega.{arith}
-use lib.ListN.{length}
+use Rattle.std.proofs.Common.{◌≡◌, sym, ap, ◌∙◌, true, List, ℕ, ◌-◌, ◌*◌, ◌/◌, ◌≤◌, arith, length}
 use Rattle.base.specs.Puts.{Puts}
 use Rattle.running.specs.BlockChanges.{last_round}
 use Rattle.blocks.specs.Anchors.{taken_leaders}

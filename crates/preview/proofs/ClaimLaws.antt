@@ -1,7 +1,5 @@
 -- The claims of a preview.
-use mathlib.Core.Path.{◌≡◌, refl, sym, ◌∙◌}
-use mathlib.Core.Bool.{Bool, true, false}
-use native.Mathlib.Omega.{arith}
+use Rattle.std.proofs.Common.{◌≡◌, refl, sym, ◌∙◌, Bool, true, false, arith}
 use Rattle.state.specs.WellFormed.{well_formed}
 use Rattle.commit.specs.Commit.{commit_refusal}
 use Rattle.commit.proofs.CheckLaws.{number-unread}

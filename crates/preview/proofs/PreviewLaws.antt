@@ -1,9 +1,5 @@
 -- The entries of a preview are what it tells without committing, and fit into a list of three words for each place.
-use mathlib.Core.Path.{◌≡◌, sym, ap, ap₂, ◌∙◌}
-use mathlib.Core.List.{List}
-use Prim.Native.Nat.{ℕ, ◌-◌, ◌*◌, ◌≤◌}
-use native.Mathlib.Omega.{arith}
-use lib.ListN.{length}
+use Rattle.std.proofs.Common.{◌≡◌, sym, ap, ap₂, ◌∙◌, List, ℕ, ◌-◌, ◌*◌, ◌≤◌, arith, length}
 use Rattle.committee.specs.Chain.{chain_of}
 use Rattle.running.specs.BlockChanges.{last_round}
 use Rattle.blocks.specs.Anchors.{taken_leaders}

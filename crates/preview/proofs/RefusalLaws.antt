@@ -1,13 +1,6 @@
 -- The checks of a preview, and what is so of an accepted one: its commit would be accepted, and the lent list has room for its words.
-use mathlib.Core.Path.{◌≡◌, refl, sym, ◌∙◌}
-use mathlib.Core.Bool.{true, false, not}
-use mathlib.Core.List.{List}
-use Prim.Native.Nat.{ℕ, ◌-◌, ◌*◌, ◌/◌, ◌≤◌}
-use native.Mathlib.Omega.{arith}
-use lib.Dec.{ltb}
-use lib.ListN.{length}
+use Rattle.std.proofs.Common.{◌≡◌, refl, sym, ◌∙◌, true, false, not, List, ℕ, ◌-◌, ◌*◌, ◌/◌, ◌≤◌, arith, ltb, length, le-ltb, ltb-false, eq-eqb}
 use lib.Seq.{sets}
-use borrow.Author.Tests.{le-ltb, ltb-false, eq-eqb}
 use Rattle.base.specs.Checks.{refusal}
 use Rattle.base.proofs.CheckLaws.{refuses, passes, cleared}
 use Rattle.running.specs.BlockChanges.{last_round}

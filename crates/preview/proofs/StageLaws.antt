@@ -1,12 +1,7 @@
 -- A commit, anchor by anchor: after each its table tells what a preview tells without it.
-use mathlib.Core.Path.{◌≡◌, refl, sym, ap, ap₂, ◌∙◌}
-use mathlib.Core.Bool.{Bool, true, false, cond, not, ◌&&◌, ◌||◌, and-true, and_comm}
-use mathlib.Core.List.{List, [], ◌++◌}
-use Prim.Native.Nat.{ℕ, suc, ◌+◌, ◌-◌, ◌<◌, ◌≤◌}
-use native.Mathlib.Omega.{arith}
-use native.Mathlib.Numerals.{add-one}
-use lib.Dec.{eqb, eqb-suc-zero}
-use lib.ListN.{get_or}
+use Rattle.std.proofs.Common.{◌≡◌, refl, sym, ap, ap₂, ◌∙◌, Bool, true, false, cond, not, ◌&&◌, ◌||◌, List, [], ◌++◌, ℕ, suc, ◌+◌, ◌-◌, ◌<◌, ◌≤◌, arith, add-one, eqb, get_or}
+use mathlib.Core.Bool.{and-true, and_comm}
+use lib.Dec.{eqb-suc-zero}
 use Rattle.base.specs.Sets.{only}
 use Rattle.agreement.specs.Rules.{Block, Chain}
 use Rattle.agreement.specs.Dag.{is_held}

@@ -1,10 +1,6 @@
 -- A round with an anchor and one without.
-use mathlib.Core.Path.{◌≡◌, refl, sym, ◌∙◌}
-use mathlib.Core.Bool.{Bool, ◌||◌, or-false}
-use mathlib.Core.List.{List, []}
-use Prim.Native.Nat.{ℕ, ◌+◌, ◌<◌, ◌≤◌}
-use lib.ListN.{get_or}
-use borrow.Author.Tests.{lt-ltb, le-ltb}
+use Rattle.std.proofs.Common.{◌≡◌, refl, sym, ◌∙◌, Bool, ◌||◌, List, [], ℕ, ◌+◌, ◌<◌, ◌≤◌, get_or, lt-ltb, le-ltb}
+use mathlib.Core.Bool.{or-false}
 use Rattle.base.specs.Sets.{only}
 use Rattle.blocks.specs.History.{in_history}
 use Rattle.blocks.specs.Blocks.{count_step}

@@ -1,12 +1,7 @@
 -- Round after round: what has been listed and reached, and one round more.
-use mathlib.Core.Path.{◌≡◌, refl, sym, ap, ◌∙◌}
-use mathlib.Core.Bool.{Bool, cond, false≢true}
-use mathlib.Core.List.{List, [], ◌++◌}
-use Prim.Native.Nat.{ℕ, zero, suc, ◌+◌, ◌-◌, ◌<◌, ◌≤◌}
-use native.Mathlib.Omega.{arith}
-use native.Mathlib.Numerals.{add-one}
-use lib.Dec.{ltb}
-use lib.ListN.{length, get_or, replicate, length-append, length-replicate}
+use Rattle.std.proofs.Common.{◌≡◌, refl, sym, ap, ◌∙◌, Bool, cond, List, [], ◌++◌, ℕ, zero, suc, ◌+◌, ◌-◌, ◌<◌, ◌≤◌, arith, add-one, ltb, length, get_or, replicate, length-append}
+use mathlib.Core.Bool.{false≢true}
+use lib.ListN.{length-replicate}
 use Rattle.base.proofs.UnionLaws.{in_none}
 use Rattle.base.specs.Puts.{Puts}
 use Rattle.base.proofs.PutLaws.{puts_then, puts_none, puts_as}

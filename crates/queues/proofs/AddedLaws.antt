@@ -1,16 +1,7 @@
 -- What guests' queues are after a transaction is added to one.
-use mathlib.Core.Path.{◌≡◌, refl, ap, ◌∙◌, fun_ext}
-use mathlib.Core.Bool.{true, cond}
-use mathlib.Core.List.{List, [], ◌∷◌, ◌++◌}
-use mathlib.Core.Logic.{◌≢◌}
+use Rattle.std.proofs.Common.{◌≡◌, refl, ap, ◌∙◌, true, cond, List, [], ◌∷◌, ◌++◌, ◌≢◌, ℕ, ◌+◌, ◌<◌, ◌*◌, arith, add-one, eqb, get_or, set, length-set, get_or-set_same, get_or-set_other, eq-eqb, ne_eqb}
+use mathlib.Core.Path.{fun_ext}
 use native.Mathlib.Decide.{dec_lt, ℕ_discrete}
-use Prim.Native.Nat.{ℕ, ◌+◌, ◌<◌, ◌*◌}
-use native.Mathlib.Omega.{arith}
-use native.Mathlib.Numerals.{add-one}
-use lib.Dec.{eqb}
-use lib.ListN.{get_or, set, length-set}
-use lib.Seq.{get_or-set_same, get_or-set_other}
-use borrow.Author.Tests.{eq-eqb, ne_eqb}
 use Rattle.base.proofs.Ranges.{tab_next}
 use Rattle.base.proofs.FoldLaws.{tab-same}
 use Rattle.terms.specs.declared.Transaction.{Transaction}

@@ -1,13 +1,6 @@
 -- Laws of the search for the next guest: those asked so far have nothing waiting.
-use mathlib.Core.Path.{◌≡◌, refl, sym, ap, ◌∙◌}
-use mathlib.Core.Bool.{true, false}
-use mathlib.Core.List.{List}
-use mathlib.Core.Logic.{◌≢◌}
+use Rattle.std.proofs.Common.{◌≡◌, refl, sym, ap, ◌∙◌, true, false, List, ◌≢◌, ℕ, suc, ◌+◌, ◌-◌, ◌%◌, ◌<◌, ◌≤◌, arith, add-one, eq-eqb, ne_eqb}
 use mathlib.Core.Option.{none, some}
-use Prim.Native.Nat.{ℕ, suc, ◌+◌, ◌-◌, ◌%◌, ◌<◌, ◌≤◌}
-use native.Mathlib.Omega.{arith}
-use native.Mathlib.Numerals.{add-one}
-use borrow.Author.Tests.{eq-eqb, ne_eqb}
 use Rattle.store.specs.Table.{Row}
 use Rattle.queues.specs.Queues.{Queues, is_waiting, guest_at, first_from, next_guest}
 use Rattle.queues.specs.Words.{Place, served_word, waiting_count, queues_of}

@@ -1,12 +1,7 @@
 -- Blocks by their numbers: the round of each, and which of them holds a certificate.
-use mathlib.Core.Path.{◌≡◌, refl, sym, ap, ◌∙◌}
-use mathlib.Core.Bool.{Bool, true, false, cond}
-use mathlib.Core.List.{List}
+use Rattle.std.proofs.Common.{◌≡◌, refl, sym, ap, ◌∙◌, Bool, true, false, cond, List, ℕ, zero, suc, ◌<◌, ◌≤◌, arith, eqb, eqb-true, length}
 use mathlib.Core.Option.{Option, none, some}
-use Prim.Native.Nat.{ℕ, zero, suc, ◌<◌, ◌≤◌}
-use native.Mathlib.Omega.{arith}
-use lib.Dec.{eqb}
-use borrow.Author.Tests.{eqb-true, eqb-false}
+use borrow.Author.Tests.{eqb-false}
 use Rattle.agreement.specs.Rules.{Block}
 use Rattle.agreement.specs.Dag.{is_held}
 use Rattle.agreement.specs.Prefixes as chains
@@ -18,7 +13,6 @@ use Rattle.committee.proofs.ChainLaws.{holds_at_lem, block-round, block_inside, 
 use Rattle.rules.specs.Reads.{block_number, round_of}
 use Rattle.state.specs.declared.State.{State}
 use Rattle.state.specs.View.{view}
-use lib.ListN.{length}
 
 module _ (n : ℕ) (t : List ℕ) where
   -- block j of the first k is the one that the table tells

@@ -1,10 +1,6 @@
 -- The claims of every read of a bond's effect that is accepted.
-use mathlib.Core.Path.{◌≡◌, refl, sym, ◌∙◌}
-use mathlib.Core.List.{List}
-use Prim.Native.Nat.{ℕ, ◌<◌}
-use native.Mathlib.Omega.{arith}
-use lib.ListN.{length}
-use borrow.Author.Tests.{ltb-false, eqb-false, ne_eqb}
+use Rattle.std.proofs.Common.{◌≡◌, refl, sym, ◌∙◌, List, ℕ, ◌<◌, arith, length, ltb-false, ne_eqb}
+use borrow.Author.Tests.{eqb-false}
 use Rattle.base.proofs.CheckLaws.{numbered}
 use Rattle.base.proofs.Passed.{passed}
 use Rattle.committee.specs.Totals.{total_in}

@@ -1,10 +1,6 @@
 -- What an accepted read of a certificate has passed, and what the table tells of a held one.
-use mathlib.Core.Path.{◌≡◌, refl, sym, ap, ◌∙◌}
-use mathlib.Core.Bool.{true, not}
-use mathlib.Core.List.{List}
-use Prim.Native.Nat.{ℕ, ◌<◌, ◌≤◌}
-use native.Mathlib.Omega.{arith}
-use borrow.Author.Tests.{ltb-false, le-ltb, not-false}
+use Rattle.std.proofs.Common.{◌≡◌, refl, sym, ap, ◌∙◌, true, not, List, ℕ, ◌<◌, ◌≤◌, arith, ltb-false, le-ltb}
+use borrow.Author.Tests.{not-false}
 use Rattle.base.proofs.CheckLaws.{numbered, passes, passes-all}
 use Rattle.terms.specs.declared.Proposal.{Proposal}
 use Rattle.store.specs.Table.{Within, held_at, mark_at, endorsers_at, content_at, proposal_of}

@@ -1,7 +1,5 @@
 -- What an accepted read of a committee has passed.
-use mathlib.Core.Path.{◌≡◌, refl}
-use mathlib.Core.List.{List}
-use Prim.Native.Nat.{ℕ}
+use Rattle.std.proofs.Common.{◌≡◌, refl, List, ℕ}
 use borrow.Author.Tests.{not-false}
 use Rattle.base.proofs.CheckLaws.{numbered}
 use Rattle.base.proofs.Passed.{passed}

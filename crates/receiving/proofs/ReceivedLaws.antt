@@ -1,15 +1,8 @@
 -- What was read from a port since it was reset is a prefix of the listing, over every list of requests.
-use mathlib.Core.Path.{◌≡◌, refl, sym, ap, ◌∙◌, subst}
-use mathlib.Core.Bool.{Bool, true, false, cond, not, ◌&&◌}
-use mathlib.Core.List.{List, [], ◌∷◌, ◌++◌}
-use mathlib.Core.Logic.{◌≢◌}
+use Rattle.std.proofs.Common.{◌≡◌, refl, sym, ap, ◌∙◌, subst, Bool, true, false, cond, not, ◌&&◌, List, [], ◌∷◌, ◌++◌, ◌≢◌, ℕ, ◌<◌, arith, eqb, leb, ltb, length, get_or, length-append, eq-eqb, ne_eqb, eqb-true, ltb-true}
 use mathlib.Core.Option.{Option, none, some}
-use Prim.Native.Nat.{ℕ, ◌<◌}
-use native.Mathlib.Omega.{arith}
 use native.Mathlib.Decide.{ℕ_discrete}
-use lib.Dec.{eqb, leb, ltb}
-use lib.ListN.{length, get_or, length-append}
-use borrow.Author.Tests.{eq-eqb, ne_eqb, eqb-true, ltb-true, not-true}
+use borrow.Author.Tests.{not-true}
 use Rattle.base.specs.Options.{if_there}
 use Rattle.base.proofs.Bools.{both}
 use Rattle.terms.specs.declared.Member.{Member}

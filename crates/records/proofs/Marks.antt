@@ -1,12 +1,11 @@
 -- A record that holds a quote mark, a CR or an LF is unreadable by its fields alone: no field that is read holds one.
-use Rattle.std.proofs.Common.{◌≡◌, refl, sym, ◌∙◌, ℕ, zero, suc, Bool, true, false, cond, ◌||◌, ◌+◌, ◌*◌, ◌-◌, eqb, List, [], ◌∷◌, drop, codes, Option, None, Some, ◌⊎◌, inl, inr}
+use Rattle.std.proofs.Common.{◌≡◌, refl, sym, ◌∙◌, ℕ, zero, suc, Bool, true, false, cond, ◌||◌, ◌+◌, ◌*◌, ◌-◌, eqb, List, [], ◌∷◌, drop, codes, Option, None, Some, ◌⊎◌, inl, inr, eqb-true}
 use Rattle.std.specs.Prelude.{if◌then◌else◌}
 use Rattle.std.specs.Option.{option_map, option_and_then}
 use Rattle.std.specs.List.{list_any, onto_first}
 use Rattle.std.specs.Str.{bytes_eq}
 use Rattle.std.specs.Char.{is_ascii_digit}
 use Rattle.std.proofs.lemmas.Slice.Eq.{bytes_eq-Decides}
-use borrow.Author.Tests.{eqb-true}
 use Rattle.terms.specs.declared.Body.{Body}
 use Rattle.terms.specs.declared.Transaction.{Transaction}
 use Rattle.terms.specs.declared.sheet.Setting.{Setting}

@@ -1,7 +1,6 @@
 -- What the loop, the cycle and the field reader rest on.
-use Rattle.std.proofs.Common.{◌≡◌, ℕ, zero, suc, ◌-◌, ◌++◌, sym, ap, set, append-nil, append_assoc, add-one, ◌+◌, ◌<◌, ◌≤◌, Bool, true, false, not, List, [], ◌∷◌, length, length-drop, take, drop, refl, ◌∙◌, arith, cond, ltb, Option, None, Some}
+use Rattle.std.proofs.Common.{◌≡◌, ℕ, zero, suc, ◌-◌, ◌++◌, sym, ap, set, append-nil, append_assoc, add-one, ◌+◌, ◌<◌, ◌≤◌, Bool, true, false, not, List, [], ◌∷◌, length, length-drop, take, drop, refl, ◌∙◌, arith, cond, ltb, Option, None, Some, ltb-true, ltb-false}
 use Rattle.std.proofs.Math.Seq.{take-suc-set, take_all}
-use borrow.Author.Tests.{ltb-true, ltb-false}
 use Rattle.std.specs.List.{position, position_or_len, prefix_len, onto_first}
 use Rattle.std.proofs.lemmas.List.Splits.{slice_split_first}
 use Rattle.terms.specs.declared.Transaction.{Transaction}

@@ -1,10 +1,6 @@
 -- Laws of what is cached beside a state: one that is not well formed, and one after a commit.
-use mathlib.Core.Path.{◌≡◌, refl, sym, ◌∙◌}
-use mathlib.Core.Bool.{Bool, true, false, false≢true}
-use mathlib.Core.List.{List}
-use mathlib.Core.Logic.{◌≢◌}
-use Prim.Native.Nat.{ℕ}
-use native.Mathlib.Omega.{arith}
+use Rattle.std.proofs.Common.{◌≡◌, refl, sym, ◌∙◌, Bool, true, false, List, ◌≢◌, ℕ, arith}
+use mathlib.Core.Bool.{false≢true}
 use Rattle.state.specs.declared.State.{State}
 use Rattle.state.specs.WellFormed.{well_formed}
 use Rattle.state.proofs.FormedLaws.{formed}

@@ -1,12 +1,6 @@
 -- Laws of what a record does: the lines that answer each call, and the record that asks for one.
-use mathlib.Core.Path.{◌≡◌, refl, sym, ap, ◌∙◌}
-use mathlib.Core.Bool.{true, false, not}
-use mathlib.Core.List.{List, [], ◌++◌}
+use Rattle.std.proofs.Common.{◌≡◌, refl, sym, ap, ◌∙◌, true, false, not, List, [], ◌++◌, eq-eqb, ne_eqb, ℕ, ◌+◌, ◌-◌, ◌*◌, ◌≤◌, length, arith}
 use Rattle.std.specs.Prelude.{None, Some, Result, Ok, Err, IfOk}
-use borrow.Author.Tests.{eq-eqb, ne_eqb}
-use Prim.Native.Nat.{ℕ, ◌+◌, ◌-◌, ◌*◌, ◌≤◌}
-use lib.ListN.{length}
-use native.Mathlib.Omega.{arith}
 use Rattle.base.proofs.CheckLaws.{refuses, passes, passes-all}
 use Rattle.state.specs.View.{view}
 use Rattle.state.specs.WellFormed.{well_formed}

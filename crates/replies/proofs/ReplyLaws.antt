@@ -1,10 +1,6 @@
 -- Laws of replies: what a call has come to, put as a line, answers the call, and the record that asked for it.
-use mathlib.Core.Path.{◌≡◌, refl, sym}
-use mathlib.Core.Bool.{Bool, true}
-use mathlib.Core.List.{List}
+use Rattle.std.proofs.Common.{◌≡◌, refl, sym, Bool, true, List, ℕ, ◌-◌, arith}
 use Rattle.std.specs.Prelude.{Option, Some, Result, IfOk}
-use Prim.Native.Nat.{ℕ, ◌-◌}
-use native.Mathlib.Omega.{arith}
 use Rattle.refusals.specs.declared.Refusal.{Refusal}
 use Rattle.refusals.specs.Refusals.{refusal_in}
 use Rattle.state.specs.declared.State.{State}

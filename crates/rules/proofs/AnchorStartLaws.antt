@@ -1,11 +1,6 @@
 -- In every state of a run, the order inside a block starts with the author of the block's anchor.
-use mathlib.Core.Path.{◌≡◌, refl, sym, ap, ◌∙◌, subst}
-use mathlib.Core.Bool.{Bool, true}
+use Rattle.std.proofs.Common.{◌≡◌, refl, sym, ap, ◌∙◌, subst, Bool, true, List, [], ◌∷◌, ◌++◌, inl, inr, ◌≢◌, ℕ, ◌≤◌, ◌<◌, arith}
 use mathlib.Core.Option.{Option, none, some}
-use mathlib.Core.List.{List, [], ◌∷◌, ◌++◌}
-use mathlib.Core.Logic.{inl, inr, ◌≢◌}
-use Prim.Native.Nat.{ℕ, ◌≤◌, ◌<◌}
-use native.Mathlib.Omega.{arith}
 use Rattle.agreement.specs.Rules.{Block, Chain, last}
 use Rattle.agreement.specs.View.{Log}
 use Rattle.agreement.specs.Dag.{Reach, here, back}

@@ -1,11 +1,5 @@
 -- Laws of the walk: records and places, and a block row by row.
-use mathlib.Core.Path.{◌≡◌, refl, sym, ◌∙◌}
-use mathlib.Core.Bool.{Bool, true, false, cond}
-use mathlib.Core.List.{List}
-use Prim.Native.Nat.{ℕ, suc, ◌+◌, ◌*◌, ◌/◌, ◌%◌}
-use native.Mathlib.Omega.{arith}
-use lib.Dec.{ltb}
-use borrow.Author.Tests.{lt-ltb, le-ltb}
+use Rattle.std.proofs.Common.{◌≡◌, refl, sym, ◌∙◌, Bool, true, false, cond, List, ℕ, suc, ◌+◌, ◌*◌, ◌/◌, ◌%◌, arith, ltb, lt-ltb, le-ltb}
 use Rattle.base.specs.Folds.{fold_to}
 use Rattle.base.proofs.FoldLaws.{fold_to_none, fold_same, fold_high}
 use Rattle.terms.specs.Transactions.{read_transaction}

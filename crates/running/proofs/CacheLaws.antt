@@ -1,10 +1,7 @@
 -- Laws of cached committees: one round more, and all of them.
-use mathlib.Core.Path.{◌≡◌, sym, ap, ◌∙◌}
-use mathlib.Core.List.{List}
-use Prim.Native.Nat.{ℕ, ◌+◌, ◌<◌, ◌≤◌}
-use native.Mathlib.Omega.{arith}
+use Rattle.std.proofs.Common.{◌≡◌, sym, ap, ◌∙◌, List, ℕ, ◌+◌, ◌<◌, ◌≤◌, arith, length, get_or}
 use native.Mathlib.Decide.{ℕ_discrete}
-use lib.ListN.{length, get_or, get_or-map, length-map}
+use lib.ListN.{get_or-map, length-map}
 use lib.Seq.{paste, length-paste}
 use Rattle.base.proofs.FoldLaws.{tab-same, tab_get}
 use Rattle.base.proofs.PasteLaws.{paste-below, paste-inside}

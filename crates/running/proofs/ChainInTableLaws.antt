@@ -1,11 +1,6 @@
 -- Laws of what the walk relies on, and of running committees.
-use mathlib.Core.Path.{◌≡◌, refl, sym, ◌∙◌}
-use mathlib.Core.Bool.{true}
-use mathlib.Core.List.{List}
-use Prim.Native.Nat.{ℕ, ◌+◌, ◌-◌, ◌*◌, ◌<◌, ◌≤◌}
-use native.Mathlib.Omega.{arith}
+use Rattle.std.proofs.Common.{◌≡◌, refl, sym, ◌∙◌, true, List, ℕ, ◌+◌, ◌-◌, ◌*◌, ◌<◌, ◌≤◌, arith, get_or}
 use native.Mathlib.Decide.{ℕ_discrete, dec_lt}
-use lib.ListN.{get_or}
 use Rattle.base.proofs.SumLaws.{sum_le}
 use Rattle.store.specs.Table.{Row, block_round}
 use Rattle.terms.specs.declared.sheet.Settings.{Settings}

@@ -1,11 +1,6 @@
 -- The greatest total weight of a committee, in every well-formed table: 81,536,000.
-use mathlib.Core.Path.{◌≡◌, sym, ap, ◌∙◌}
-use mathlib.Core.Bool.{true, not}
-use mathlib.Core.List.{List}
-use Prim.Native.Nat.{ℕ, ◌-◌, ◌<◌, ◌≤◌}
-use native.Mathlib.Omega.{arith}
+use Rattle.std.proofs.Common.{◌≡◌, sym, ap, ◌∙◌, true, not, List, ℕ, ◌-◌, ◌<◌, ◌≤◌, arith, ltb}
 use native.Mathlib.Decide.{dec_lt}
-use lib.Dec.{ltb}
 use borrow.Author.Tests.{not-false}
 use Rattle.base.proofs.Bools.{neither}
 use Rattle.base.specs.Folds.{all_to}

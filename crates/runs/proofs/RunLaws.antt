@@ -1,9 +1,7 @@
-use mathlib.Core.Path.{subst₂}
-use mathlib.Core.Logic.{◌⊎◌}
-use Rattle.std.proofs.Common.{◌≡◌, ◌<◌, ◌+◌, ℕ, Bool, true, false, eqb, List, [], ◌∷◌, ◌++◌, take, get_or, set, length, refl, sym, ap, ◌∙◌, cond}
+use Rattle.std.proofs.Common.{◌≡◌, ◌<◌, ◌+◌, ℕ, Bool, true, false, eqb, List, [], ◌∷◌, ◌++◌, take, get_or, set, length, refl, sym, ap, ◌∙◌, cond, subst₂, ◌⊎◌, eqb-true}
 use Rattle.std.proofs.lemmas.List.{take_more, get_or-set_other, length-set}
 use Rattle.std.proofs.lemmas.Grind.{get_or-set_at}
-use borrow.Author.Tests.{eqb-true, eqb-false}
+use borrow.Author.Tests.{eqb-false}
 use Rattle.runs.specs.declared.Engine.{Engine}
 use Rattle.runs.specs.declared.Entry.{Entry}
 use Rattle.engine.specs.Engine as engine

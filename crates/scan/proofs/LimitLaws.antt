@@ -1,13 +1,8 @@
 -- Laws of the limits for the words of a transaction.
-use mathlib.Core.Path.{◌≡◌, refl, sym, ◌∙◌}
-use mathlib.Core.Bool.{Bool, true, false, cond, ◌&&◌, and-false, and_comm, not}
-use mathlib.Core.List.{List}
-use Prim.Native.Nat.{ℕ, zero, suc, ◌+◌, ◌%◌, ◌<◌, ◌≤◌}
-use native.Mathlib.Omega.{arith}
+use Rattle.std.proofs.Common.{◌≡◌, refl, sym, ◌∙◌, Bool, true, false, cond, ◌&&◌, not, List, ℕ, zero, suc, ◌+◌, ◌%◌, ◌<◌, ◌≤◌, arith, get_or, eqb, leb, ltb, le-ltb, lt-ltb, le-leb, leb-true, leb-false, ne_eqb, eq-eqb, ltb-true, ltb-false}
+use mathlib.Core.Bool.{and-false, and_comm}
 use native.Mathlib.Decide.{ℕ_discrete}
-use lib.ListN.{get_or}
-use lib.Dec.{eqb, leb, ltb}
-use borrow.Author.Tests.{le-ltb, lt-ltb, le-leb, lt-leb, leb-true, leb-false, ne_eqb, eq-eqb, ltb-true, ltb-false}
+use borrow.Author.Tests.{lt-leb}
 use Rattle.base.specs.Folds.{all_to}
 use Rattle.base.specs.Sets.{is_in}
 use Rattle.base.proofs.TestLaws.{all-high, all_same}

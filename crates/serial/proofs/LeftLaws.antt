@@ -1,12 +1,5 @@
 -- What an accepted access or reset leaves: a port that fits, and all else as it was.
-use mathlib.Core.Path.{◌≡◌, refl}
-use mathlib.Core.Bool.{Bool, true, false, cond, not, ◌&&◌}
-use mathlib.Core.List.{List}
-use Prim.Native.Nat.{ℕ, zero, suc, ◌%◌, ◌<◌, ◌≤◌}
-use native.Mathlib.Omega.{arith}
-use lib.Dec.{eqb, leb}
-use lib.ListN.{length, get_or}
-use borrow.Author.Tests.{leb-true, le-leb, ltb-true}
+use Rattle.std.proofs.Common.{◌≡◌, refl, Bool, true, false, cond, not, ◌&&◌, List, ℕ, zero, suc, ◌%◌, ◌<◌, ◌≤◌, arith, eqb, leb, length, get_or, leb-true, le-leb, ltb-true}
 use Rattle.base.specs.Folds.{all_to}
 use Rattle.base.proofs.Bools.{both}
 use Rattle.base.proofs.TestLaws.{all-at, all_hold}

@@ -1,14 +1,6 @@
 -- What a table tells of ports and queues after the words of a port are put: the port is that one, all others and all queues are as they were.
-use mathlib.Core.Path.{◌≡◌, refl, ap}
-use mathlib.Core.Bool.{true, ◌&&◌}
-use mathlib.Core.List.{List}
-use mathlib.Core.Logic.{◌≢◌}
-use Prim.Native.Nat.{ℕ, ◌+◌, ◌*◌, ◌<◌, ◌≤◌}
-use native.Mathlib.Omega.{arith}
+use Rattle.std.proofs.Common.{◌≡◌, refl, ap, true, ◌&&◌, List, ◌≢◌, ℕ, ◌+◌, ◌*◌, ◌<◌, ◌≤◌, arith, leb, length, get_or, le-leb}
 use native.Mathlib.Decide.{ℕ_discrete, dec_lt}
-use lib.Dec.{leb}
-use lib.ListN.{length, get_or}
-use borrow.Author.Tests.{le-leb}
 use Rattle.base.proofs.PasteLaws.{paste-below, paste-inside, paste-above}
 use Rattle.base.proofs.TestLaws.{all-at, all_hold}
 use Rattle.terms.specs.declared.sheet.Settings.{Settings}

@@ -1,13 +1,7 @@
 -- Laws of the read: what is listed, by the checks that it passed.
-use mathlib.Core.Path.{◌≡◌, refl, sym, ◌∙◌}
-use mathlib.Core.List.{List, [], ◌∷◌, map}
-use Prim.Native.Nat.{ℕ, zero, suc, ◌+◌, ◌/◌, ◌<◌, ◌≤◌}
-use native.Mathlib.Omega.{arith}
-use lib.Dec.{ltb}
-use lib.ListN.{length, length-append, length-map}
-use borrow.Author.Tests.{le-ltb, lt-ltb}
+use lib.ListN.{length-map}
 use Rattle.std.specs.Prelude.{Result, IfOk}
-use Rattle.std.proofs.Common.{Ok, Err}
+use Rattle.std.proofs.Common.{Ok, Err, ◌≡◌, refl, sym, ◌∙◌, List, [], ◌∷◌, map, ℕ, zero, suc, ◌+◌, ◌/◌, ◌<◌, ◌≤◌, arith, ltb, length, length-append, le-ltb, lt-ltb}
 use Rattle.base.specs.Checks.{refusal}
 use Rattle.base.specs.Puts.{Puts}
 use Rattle.base.proofs.CheckLaws.{refuses, passes, passes-all}

@@ -1,9 +1,5 @@
 -- Laws of answers: what a call leaves where it is accepted and where it is refused.
-use mathlib.Core.Path.{◌≡◌, refl}
-use mathlib.Core.Logic.{◌≢◌}
-use Prim.Native.Nat.{ℕ}
-use lib.Dec.{eqb}
-use borrow.Author.Tests.{eq-eqb, ne_eqb}
+use Rattle.std.proofs.Common.{◌≡◌, refl, ◌≢◌, ℕ, eqb, eq-eqb, ne_eqb}
 use Rattle.base.proofs.Bools.{cond_same}
 use Rattle.state.specs.Answers.{if_accepted}
 

@@ -1,12 +1,7 @@
 -- A well-formed state has what the calls use of it, and a state that has it is well formed.
-use mathlib.Core.Path.{◌≡◌, refl}
-use mathlib.Core.Bool.{true, false, not, ◌&&◌, false≢true}
-use mathlib.Core.List.{List}
-use Prim.Native.Nat.{ℕ}
-use native.Mathlib.Omega.{arith}
-use lib.ListN.{length}
-use lib.Dec.{leb, ltb}
-use borrow.Author.Tests.{leb-true, le-leb, ltb-true, lt-ltb, ltb-false, not-true}
+use Rattle.std.proofs.Common.{◌≡◌, refl, true, false, not, ◌&&◌, List, ℕ, arith, length, leb, ltb, leb-true, le-leb, ltb-true, lt-ltb, ltb-false}
+use mathlib.Core.Bool.{false≢true}
+use borrow.Author.Tests.{not-true}
 use Rattle.base.proofs.Bools.{both, neither}
 use Rattle.base.specs.Folds.{all_to}
 use Rattle.terms.specs.declared.Body.{Body}

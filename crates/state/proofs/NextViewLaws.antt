@@ -1,10 +1,6 @@
 -- The view after what each accepted call does to the state and the table: the theory's next view.
-use mathlib.Core.Path.{◌≡◌, refl, ap, ◌∙◌}
-use mathlib.Core.Bool.{false}
-use mathlib.Core.List.{List, []}
+use Rattle.std.proofs.Common.{◌≡◌, refl, ap, ◌∙◌, false, List, [], ℕ, add-one}
 use mathlib.Core.Option.{none}
-use Prim.Native.Nat.{ℕ}
-use native.Mathlib.Numerals.{add-one}
 use Rattle.agreement.specs.Places.{mark}
 use Rattle.agreement.specs.Moves.{after_propose, after_endorse, after_certify, after_accept, after_advance}
 use Rattle.terms.specs.declared.Body.{Body}

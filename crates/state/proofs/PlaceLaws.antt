@@ -1,9 +1,5 @@
 -- The places that calls speak of: what a proposal of a fitting form has, and what can be stored.
-use mathlib.Core.Path.{◌≡◌}
-use mathlib.Core.Bool.{true}
-use mathlib.Core.List.{List}
-use Prim.Native.Nat.{ℕ, ◌<◌}
-use native.Mathlib.Omega.{arith}
+use Rattle.std.proofs.Common.{◌≡◌, true, List, ℕ, ◌<◌, arith}
 use Rattle.terms.specs.declared.Proposal.{Proposal}
 use Rattle.terms.specs.Proposals.{content_with, content_of}
 use Rattle.store.specs.Table.{Within}

@@ -1,10 +1,6 @@
 -- A well-formed state stays well formed: what each accepted call does to the state and the table.
-use mathlib.Core.Path.{◌≡◌, ◌∙◌}
-use mathlib.Core.Bool.{true, false, false≢true}
-use mathlib.Core.List.{List}
-use Prim.Native.Nat.{ℕ, ◌+◌, ◌<◌, ◌≤◌}
-use native.Mathlib.Omega.{arith}
-use lib.ListN.{length}
+use Rattle.std.proofs.Common.{◌≡◌, ◌∙◌, true, false, List, ℕ, ◌+◌, ◌<◌, ◌≤◌, arith, length}
+use mathlib.Core.Bool.{false≢true}
 use Rattle.base.specs.Sets.{is_in}
 use Rattle.terms.specs.declared.Body.{Body}
 use Rattle.terms.specs.declared.Member.{Member}

@@ -1,10 +1,8 @@
 -- What the view holds, by what the table says.
-use mathlib.Core.Path.{◌≡◌, refl, sym, ap, ◌∙◌, fun_ext}
-use mathlib.Core.Bool.{Bool, true, false, not, cond, ◌&&◌, and-true, not-not, true≢false, false≢true}
-use mathlib.Core.List.{List}
+use Rattle.std.proofs.Common.{◌≡◌, refl, sym, ap, ◌∙◌, Bool, true, false, not, cond, ◌&&◌, true≢false, List, ℕ, ◌-◌, ◌<◌, ◌≤◌, arith}
+use mathlib.Core.Path.{fun_ext}
+use mathlib.Core.Bool.{and-true, not-not, false≢true}
 use mathlib.Core.Option.{Option, none, some}
-use Prim.Native.Nat.{ℕ, ◌-◌, ◌<◌, ◌≤◌}
-use native.Mathlib.Omega.{arith}
 use Rattle.base.specs.Folds.{any_to}
 use Rattle.base.proofs.TestLaws.{any_same}
 use Rattle.base.specs.Sets.{is_in, is_subset}

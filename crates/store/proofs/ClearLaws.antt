@@ -1,12 +1,7 @@
 -- What the table says after its used part is cleared.
-use mathlib.Core.Path.{◌≡◌, ◌∙◌}
-use mathlib.Core.Bool.{false}
-use mathlib.Core.List.{List}
+use Rattle.std.proofs.Common.{◌≡◌, ◌∙◌, false, List, ℕ, ◌+◌, ◌*◌, ◌<◌, ◌≤◌, arith, length, get_or, take, drop, replicate, length-append, length-drop, take_at, drop_at}
 use mathlib.Core.Option.{none}
-use Prim.Native.Nat.{ℕ, ◌+◌, ◌*◌, ◌<◌, ◌≤◌}
-use native.Mathlib.Omega.{arith}
-use lib.ListN.{length, get_or, take, drop, replicate, length-append, length-drop, length-replicate, get_or-replicate, get_or-append}
-use lib.Seq.{take_at, drop_at}
+use lib.ListN.{length-replicate, get_or-replicate, get_or-append}
 use Rattle.base.proofs.UnionLaws.{in_none}
 use Rattle.store.specs.Table.{row_length, used_length, Row, held_set, endorsed_set, held_at, endorsed_at, certificate_at}
 use Rattle.store.proofs.TableLaws.{held_in, endorsed_in, certificate-absent}

@@ -1,13 +1,6 @@
 -- What the table says after an endorsed mark is set or cleared.
-use mathlib.Core.Path.{◌≡◌, refl}
-use mathlib.Core.Bool.{false, cond, ◌||◌}
-use mathlib.Core.List.{List}
-use mathlib.Core.Logic.{◌≢◌}
+use Rattle.std.proofs.Common.{◌≡◌, refl, false, cond, ◌||◌, List, ◌≢◌, ℕ, ◌+◌, ◌*◌, ◌<◌, ◌≤◌, arith, length, get_or, set, drop, length-set, get_or-set_same, get_or-set_other}
 use native.Mathlib.Decide.{ℕ_discrete}
-use Prim.Native.Nat.{ℕ, ◌+◌, ◌*◌, ◌<◌, ◌≤◌}
-use native.Mathlib.Omega.{arith}
-use lib.ListN.{length, get_or, set, drop, length-set}
-use lib.Seq.{get_or-set_same, get_or-set_other}
 use Rattle.base.specs.Sets.{add, del}
 use Rattle.base.proofs.SetLaws.{add_lt, del-le}
 use Rattle.store.specs.Table.{row_length, record_length, record_start, used_length, Row, Within, held_set, endorsed_set, block_round, held_at, endorsed_at, record_word, mark_at, content_at, certificate_at}

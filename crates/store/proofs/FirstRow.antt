@@ -1,10 +1,7 @@
 -- Row 0 of the table, which no rule speaks of: the store's writes leave it, and a write to it alone leaves all that the rules see.
-use mathlib.Core.Path.{◌≡◌, refl, sym, ap, ◌∙◌}
-use mathlib.Core.List.{List}
-use Prim.Native.Nat.{ℕ, ◌+◌, ◌*◌, ◌<◌, ◌≤◌}
-use native.Mathlib.Omega.{arith}
-use lib.ListN.{length, get_or, set, drop, length-set, get_or-replicate}
-use lib.Seq.{paste, length-paste, get_or-take, get_or-set_other}
+use Rattle.std.proofs.Common.{◌≡◌, refl, sym, ap, ◌∙◌, List, ℕ, ◌+◌, ◌*◌, ◌<◌, ◌≤◌, arith, length, get_or, set, drop, length-set, get_or-take, get_or-set_other}
+use lib.ListN.{get_or-replicate}
+use lib.Seq.{paste, length-paste}
 use Rattle.base.specs.Sets.{add, del}
 use Rattle.base.proofs.PasteLaws.{paste-below, paste-over}
 use Rattle.terms.specs.Proposals.{Content}

@@ -1,14 +1,7 @@
 -- What the table says after a certificate is held no more, and that it is as it was when the certificate is held again.
-use mathlib.Core.Path.{◌≡◌, refl, ◌∙◌}
-use mathlib.Core.Bool.{Bool, true, false, cond}
-use mathlib.Core.List.{List}
-use mathlib.Core.Logic.{◌≢◌}
+use Rattle.std.proofs.Common.{◌≡◌, refl, ◌∙◌, Bool, true, false, cond, List, ◌≢◌, ℕ, ◌+◌, ◌*◌, ◌<◌, arith, length, get_or, length-set, get_or-set_same, get_or-set_other, ext_get_or}
 use mathlib.Core.Option.{none, some}
 use native.Mathlib.Decide.{ℕ_discrete}
-use Prim.Native.Nat.{ℕ, ◌+◌, ◌*◌, ◌<◌}
-use native.Mathlib.Omega.{arith}
-use lib.ListN.{length, get_or, length-set}
-use lib.Seq.{get_or-set_same, get_or-set_other, ext_get_or}
 use Rattle.base.specs.Sets.{del}
 use Rattle.base.proofs.SetLaws.{del-le}
 use Rattle.store.specs.Table.{row_length, record_length, record_start, Row, held_set, endorsed_set, block_round, held_at, record_word, previous_at, mark_at, content_at, certificate_at}

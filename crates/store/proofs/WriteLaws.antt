@@ -1,16 +1,9 @@
 -- Which words the store's writes change, and which words a read looks at.
-use mathlib.Core.Path.{◌≡◌, refl, sym, ◌∙◌}
-use mathlib.Core.Bool.{Bool, true, false, not, cond, ◌&&◌, ◌||◌, and-true, and-false, true≢false}
-use mathlib.Core.List.{List}
-use mathlib.Core.Logic.{⊎_elim, ◌⊎◌, inl, inr, ◌≢◌}
+use Rattle.std.proofs.Common.{◌≡◌, refl, sym, ◌∙◌, Bool, true, false, not, cond, ◌&&◌, ◌||◌, true≢false, List, ⊎_elim, ◌⊎◌, inl, inr, ◌≢◌, ℕ, ◌+◌, ◌*◌, ◌%◌, ◌<◌, ◌≤◌, arith, eqb, length, get_or, drop, length-set, length-drop, get_or-set_same, get_or-set_other, ext_get_or, get_or-drop, eq-eqb, ne_eqb, eqb-true}
+use mathlib.Core.Bool.{and-true, and-false}
 use mathlib.Core.Option.{none, some}
 use native.Mathlib.Decide.{dec_lt, ℕ_discrete}
-use Prim.Native.Nat.{ℕ, ◌+◌, ◌*◌, ◌%◌, ◌<◌, ◌≤◌}
-use native.Mathlib.Omega.{arith}
-use lib.Dec.{eqb}
-use lib.ListN.{length, get_or, drop, length-set, length-drop}
-use lib.Seq.{paste, length-paste, get_or-set_same, get_or-set_other, ext_get_or, get_or-drop}
-use borrow.Author.Tests.{eq-eqb, ne_eqb, eqb-true}
+use lib.Seq.{paste, length-paste}
 use Rattle.base.proofs.Bools.{both, eqb_flip}
 use Rattle.base.specs.Folds.{tab}
 use Rattle.base.proofs.FoldLaws.{tab-same}

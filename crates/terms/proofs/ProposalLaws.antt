@@ -1,13 +1,7 @@
 -- Laws of transactions and proposals.
-use mathlib.Core.Path.{◌≡◌, refl, sym, ap, ◌∙◌, subst}
-use mathlib.Core.Bool.{Bool, true, false, not, cond, ◌&&◌, ◌||◌, and-true, and_assoc, false≢true, true≢false}
-use mathlib.Core.List.{List, [], ◌∷◌, ◌++◌}
-use mathlib.Core.Logic.{◌≢◌}
-use Prim.Native.Nat.{ℕ, zero, suc, ◌≤◌, ◌<◌}
-use native.Mathlib.Omega.{arith}
-use lib.ListN.{length}
-use lib.Dec.{eqb, ltb, leb}
-use borrow.Author.Tests.{eq-eqb, ne_eqb, eqb-true, leb-true, not-false}
+use Rattle.std.proofs.Common.{◌≡◌, refl, sym, ap, ◌∙◌, subst, Bool, true, false, not, cond, ◌&&◌, ◌||◌, true≢false, List, [], ◌∷◌, ◌++◌, ◌≢◌, ℕ, zero, suc, ◌≤◌, ◌<◌, arith, length, eqb, ltb, leb, eq-eqb, ne_eqb, eqb-true, leb-true}
+use mathlib.Core.Bool.{and-true, and_assoc, false≢true}
+use borrow.Author.Tests.{not-false}
 use Rattle.base.proofs.Bools.{both}
 use Rattle.base.specs.Folds.{all_to, any_to, tab}
 use Rattle.base.proofs.Ranges.{tab_next, all_next}

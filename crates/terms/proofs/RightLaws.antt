@@ -1,12 +1,5 @@
 -- Laws of rights: there are four; a caller with the right is refused by no number, one without it by 26 or 29.
-use mathlib.Core.Path.{◌≡◌, refl, sym, ◌∙◌}
-use mathlib.Core.Bool.{Bool, true, false, not, true≢false}
-use mathlib.Core.List.{[], ◌∷◌}
-use mathlib.Core.Logic.{◌≢◌}
-use Prim.Native.Nat.{ℕ, ◌<◌}
-use native.Mathlib.Omega.{arith}
-use lib.Dec.{ltb}
-use borrow.Author.Tests.{ltb-true, le-ltb}
+use Rattle.std.proofs.Common.{◌≡◌, refl, sym, ◌∙◌, Bool, true, false, not, true≢false, [], ◌∷◌, ◌≢◌, ℕ, ◌<◌, arith, ltb, ltb-true, le-ltb}
 use Rattle.base.specs.Checks.{refusal}
 use Rattle.base.proofs.Bools.{both}
 use Rattle.base.proofs.CheckLaws.{passes, passes-all}

@@ -1,12 +1,5 @@
 -- Laws of sheets: what settings in range give, and that opening sees only the filled settings.
-use mathlib.Core.Path.{◌≡◌, refl, ap}
-use mathlib.Core.Bool.{false, ◌||◌}
-use mathlib.Core.List.{List}
-use Prim.Native.Nat.{ℕ, ◌≤◌, ◌<◌}
-use lib.Dec.{ltb}
-use lib.ListN.{set, length}
-use lib.Seq.{get_or-set_same, get_or-set_other}
-use borrow.Author.Tests.{ltb-false}
+use Rattle.std.proofs.Common.{◌≡◌, refl, ap, false, ◌||◌, List, ℕ, ◌≤◌, ◌<◌, ltb, set, length, get_or-set_same, get_or-set_other, ltb-false}
 use Rattle.base.proofs.Bools.{neither}
 use Rattle.base.specs.Folds.{any_to, tab}
 use Rattle.base.proofs.TestLaws.{any_false}

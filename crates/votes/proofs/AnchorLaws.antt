@@ -1,13 +1,7 @@
 -- The anchors that a table tells, and the votes for them.
-use mathlib.Core.Path.{◌≡◌, refl, ap, ◌∙◌}
-use mathlib.Core.Bool.{Bool, not, cond}
-use mathlib.Core.List.{List}
+use Rattle.std.proofs.Common.{◌≡◌, refl, ap, ◌∙◌, Bool, not, cond, List, ℕ, suc, ◌-◌, ◌%◌, ◌<◌, ◌≤◌, arith, ltb, get_or, length, replicate}
 use mathlib.Core.Option.{Option, none, some}
-use Prim.Native.Nat.{ℕ, suc, ◌-◌, ◌%◌, ◌<◌, ◌≤◌}
 use native.Mathlib.Decide.{ℕ_discrete}
-use native.Mathlib.Omega.{arith}
-use lib.Dec.{ltb}
-use lib.ListN.{get_or, length, replicate}
 use Rattle.base.specs.Sets.{is_in}
 use Rattle.base.proofs.SetLaws.{not_in}
 use Rattle.base.proofs.SumLaws.{sum_same}

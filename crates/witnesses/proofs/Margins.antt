@@ -1,13 +1,6 @@
 -- The premises can be met under the margins 4 and 5: the run of specs/Margins is one.
-use mathlib.Core.Path.{◌≡◌, refl, sym, ◌∙◌, subst}
-use mathlib.Core.Bool.{true, false}
-use mathlib.Core.List.{[]}
-use Prim.Native.Nat.{ℕ, ◌≤◌}
+use Rattle.std.proofs.Common.{◌≡◌, refl, sym, ◌∙◌, subst, true, false, [], ℕ, ◌≤◌, arith, replicate, ltb, ltb-true, le-ltb}
 use native.Mathlib.Decide.{ℕ_discrete}
-use native.Mathlib.Omega.{arith}
-use lib.ListN.{replicate}
-use lib.Dec.{ltb}
-use borrow.Author.Tests.{ltb-true, le-ltb}
 use Rattle.base.specs.Checks.{refusal}
 use Rattle.base.proofs.CheckLaws.{passes, passes-all}
 use Rattle.base.specs.Folds.{tab, any_to, all_to, sum_to}

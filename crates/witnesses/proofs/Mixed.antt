@@ -1,14 +1,8 @@
 -- The premises can be met with draws, batches and guests' requests, and over words: the run of specs/Mixed is one.
-use mathlib.Core.Path.{◌≡◌, refl, sym, ap, ◌∙◌, subst}
-use mathlib.Core.Bool.{Bool, true, false, false≢true, ◌&&◌}
-use mathlib.Core.List.{List, [], ◌∷◌}
-use Prim.Native.Nat.{ℕ}
-use native.Mathlib.Omega.{arith}
+use Rattle.std.proofs.Common.{◌≡◌, refl, sym, ap, ◌∙◌, subst, Bool, true, false, ◌&&◌, List, [], ◌∷◌, ℕ, arith, replicate, eqb, ltb, ltb-true, le-ltb}
+use mathlib.Core.Bool.{false≢true}
 use Rattle.std.specs.Prelude.{map}
 use Rattle.std.proofs.Math.Seq.{paste}
-use lib.ListN.{replicate}
-use lib.Dec.{eqb, ltb}
-use borrow.Author.Tests.{ltb-true, le-ltb}
 use Rattle.base.specs.Checks.{refusal}
 use Rattle.base.proofs.Bools.{both}
 use Rattle.base.proofs.CheckLaws.{passes, passes-all}

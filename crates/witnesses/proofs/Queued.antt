@@ -1,13 +1,5 @@
 -- A run that is tested on views and guests' queues: beside each view stand the queues, so it is known what a draw proposes.
-use mathlib.Core.Path.{◌≡◌, refl, sym, ap, ap₂, ◌∙◌, subst, subst₂}
-use mathlib.Core.Bool.{Bool, true, false, cond, not, ◌&&◌}
-use mathlib.Core.List.{List, [], ◌∷◌}
-use mathlib.Core.Logic.{inl, inr}
-use Prim.Native.Nat.{ℕ, ◌<◌}
-use native.Mathlib.Omega.{arith}
-use lib.ListN.{length}
-use lib.Dec.{eqb, ltb, leb}
-use borrow.Author.Tests.{eqb-true, ltb-true}
+use Rattle.std.proofs.Common.{◌≡◌, refl, sym, ap, ap₂, ◌∙◌, subst, subst₂, Bool, true, false, cond, not, ◌&&◌, List, [], ◌∷◌, inl, inr, ℕ, ◌<◌, arith, length, eqb, ltb, leb, eqb-true, ltb-true}
 use Rattle.base.specs.Checks.{refusal}
 use Rattle.base.proofs.Bools.{both}
 use Rattle.base.proofs.CheckLaws.{passes}

@@ -1,14 +1,7 @@
 -- The words of a state give it back.
-use mathlib.Core.Path.{◌≡◌, refl, ap, ◌∙◌}
-use mathlib.Core.Bool.{Bool, true, false, cond, ◌&&◌}
+use Rattle.std.proofs.Common.{◌≡◌, refl, ap, ◌∙◌, Bool, true, false, cond, ◌&&◌, List, [], ◌∷◌, ◌++◌, ℕ, zero, suc, ◌+◌, ◌<◌, ◌≤◌, arith, length, length-append, eqb, leb, ltb, lt-ltb}
 use Rattle.std.specs.Prelude.{Option, Some, None, is_some, unwrap_or, option_map}
-use mathlib.Core.List.{List, [], ◌∷◌, ◌++◌}
-use Prim.Native.Nat.{ℕ, zero, suc, ◌+◌, ◌<◌, ◌≤◌}
-use native.Mathlib.Omega.{arith}
-use lib.ListN.{length, length-append}
-use lib.Dec.{eqb, leb, ltb}
 use lib.Seq.{paste, length-paste}
-use borrow.Author.Tests.{lt-ltb}
 use Rattle.base.proofs.Bools.{cond_same}
 use Rattle.base.proofs.PasteLaws.{paste-inside}
 use Rattle.base.specs.Folds.{tab}

@@ -1,9 +1,5 @@
 -- Laws of the words of a body, put piece by piece.
-use mathlib.Core.Path.{◌≡◌, refl, ap, ◌∙◌}
-use mathlib.Core.List.{[], ◌∷◌}
-use Prim.Native.Nat.{ℕ, zero, suc, ◌+◌, ◌*◌}
-use native.Mathlib.Omega.{arith}
-use lib.ListN.{length, length-append}
+use Rattle.std.proofs.Common.{◌≡◌, refl, ap, ◌∙◌, [], ◌∷◌, ℕ, zero, suc, ◌+◌, ◌*◌, arith, length, length-append}
 use Rattle.terms.specs.declared.Body.{Body}
 use Rattle.words.specs.Lengths.{transaction_length, body_length}
 use Rattle.words.specs.Bodies.{used_of, triple_words, used_words, body_words}

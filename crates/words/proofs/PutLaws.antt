@@ -1,10 +1,5 @@
 -- Laws of the words of a held certificate, of a bond's effect and of a state, put piece by piece.
-use mathlib.Core.Path.{◌≡◌, refl, ap, ap₂, ◌∙◌}
-use mathlib.Core.Bool.{cond}
-use mathlib.Core.List.{List, [], ◌∷◌, ◌++◌}
-use Prim.Native.Nat.{ℕ, ◌+◌, ◌≤◌}
-use native.Mathlib.Omega.{arith}
-use lib.ListN.{length, length-append}
+use Rattle.std.proofs.Common.{◌≡◌, refl, ap, ap₂, ◌∙◌, cond, List, [], ◌∷◌, ◌++◌, ℕ, ◌+◌, ◌≤◌, arith, length, length-append}
 use lib.Seq.{paste}
 use Rattle.terms.specs.declared.Proposal.{Proposal}
 use Rattle.committee.specs.declared.effects.Effect.{Effect}

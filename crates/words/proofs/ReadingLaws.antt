@@ -1,12 +1,5 @@
 -- What words that can be read give: they are long enough, and their sets are sets of members.
-use mathlib.Core.Path.{◌≡◌}
-use mathlib.Core.Bool.{Bool, true, false, cond}
-use mathlib.Core.List.{List}
-use Prim.Native.Nat.{ℕ, ◌<◌, ◌≤◌}
-use native.Mathlib.Omega.{arith}
-use lib.ListN.{length}
-use lib.Dec.{eqb, leb, ltb}
-use borrow.Author.Tests.{leb-true, ltb-true}
+use Rattle.std.proofs.Common.{◌≡◌, Bool, true, false, cond, List, ℕ, ◌<◌, ◌≤◌, arith, length, eqb, leb, ltb, leb-true, ltb-true}
 use Rattle.base.proofs.Bools.{both}
 use Rattle.std.specs.Prelude.{Some, None, unwrap_or}
 use Rattle.state.specs.States.{no_body, own_body}

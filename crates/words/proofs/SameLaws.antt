@@ -1,10 +1,5 @@
 -- Words that agree on a layout give the same: what lies beyond is no part of it.
-use mathlib.Core.Path.{◌≡◌, refl, ap}
-use mathlib.Core.List.{List}
-use Prim.Native.Nat.{ℕ, ◌+◌, ◌*◌, ◌<◌, ◌≤◌}
-use native.Mathlib.Omega.{arith}
-use lib.ListN.{length, get_or}
-use borrow.Author.Tests.{le-leb}
+use Rattle.std.proofs.Common.{◌≡◌, refl, ap, List, ℕ, ◌+◌, ◌*◌, ◌<◌, ◌≤◌, arith, length, get_or, le-leb}
 use Rattle.base.proofs.FoldLaws.{tab-same}
 use Rattle.base.proofs.TestLaws.{all_same}
 use Rattle.terms.specs.Ranges.{weight}

@@ -1,13 +1,6 @@
 -- What is read is tidy: it has no transactions beyond the count.
-use mathlib.Core.Path.{◌≡◌, refl, ap, ◌∙◌}
-use mathlib.Core.Bool.{Bool, true, false, cond}
+use Rattle.std.proofs.Common.{◌≡◌, refl, ap, ◌∙◌, Bool, true, false, cond, List, [], ◌∷◌, ℕ, suc, ◌+◌, ◌*◌, ◌<◌, arith, length, lt-ltb, eqb, ltb}
 use Rattle.std.specs.Prelude.{Some, None, option_map}
-use mathlib.Core.List.{List, [], ◌∷◌}
-use Prim.Native.Nat.{ℕ, suc, ◌+◌, ◌*◌, ◌<◌}
-use native.Mathlib.Omega.{arith}
-use lib.ListN.{length}
-use borrow.Author.Tests.{lt-ltb}
-use lib.Dec.{eqb, ltb}
 use Rattle.base.specs.Folds.{tab}
 use Rattle.base.proofs.FoldLaws.{get_d_tab, tab-same}
 use Rattle.terms.specs.declared.Transaction.{Transaction}

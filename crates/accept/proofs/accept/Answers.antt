@@ -1,4 +1,4 @@
-use native.Mathlib.Omega.{arith}
+use Rattle.std.proofs.Common.{arith}
 use Rattle.state.proofs.CachedLaws.{cached-far}
 use Rattle.accept.proofs.accept.Goals as goal
 

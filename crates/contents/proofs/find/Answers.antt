@@ -1,4 +1,4 @@
-use native.Mathlib.Omega.{arith}
+use Rattle.std.proofs.Common.{arith}
 use Rattle.state.proofs.Walkable.{readable}
 use Rattle.contents.proofs.StartLaws.{first_blocks}
 use Rattle.contents.proofs.RefusalLaws.{no-block, beyond-blocks, too-short, fits, counted, rows-ready}

@@ -1,4 +1,4 @@
-use native.Mathlib.Omega.{arith}
+use Rattle.std.proofs.Common.{arith}
 use Rattle.contents.proofs.StartLaws.{starts_by, first_blocks}
 use Rattle.contents.proofs.start_of.Goals as goal
 

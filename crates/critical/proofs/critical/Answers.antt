@@ -1,4 +1,4 @@
-use native.Mathlib.Omega.{arith}
+use Rattle.std.proofs.Common.{arith}
 use Rattle.critical.specs.Critical.{critical_places}
 use Rattle.critical.proofs.PlaceLaws.{words-length}
 use Rattle.critical.proofs.critical.Goals as goal

@@ -1,5 +1,5 @@
-use Rattle.std.proofs.Common.{refl, sym, ◌∙◌}
-use borrow.Author.Tests.{eqb-true, not-false}
+use Rattle.std.proofs.Common.{refl, sym, ◌∙◌, eqb-true}
+use borrow.Author.Tests.{not-false}
 use Rattle.critical.proofs.AnswerLaws.{err_number}
 use Rattle.critical.proofs.LackLaws.{may, place, absent-critical, held-critical}
 use Rattle.critical.proofs.is_critical.Goals as goal

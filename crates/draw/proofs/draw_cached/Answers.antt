@@ -1,4 +1,4 @@
-use mathlib.Core.Path.{sym, ◌∙◌}
+use Rattle.std.proofs.Common.{sym, ◌∙◌}
 use Rattle.state.proofs.FormedLaws.{formed}
 use Rattle.draw.proofs.PassedLaws.{first-row}
 use Rattle.draw.proofs.draw_cached.Goals as goal

@@ -1,4 +1,4 @@
-use Prim.Native.Nat.{◌≤◌}
+use Rattle.std.proofs.Common.{◌≤◌}
 use Rattle.lookups.proofs.half_sum.Given as goal
 
 abbrev pub invariant-loop-lower : goal.invariant-loop-lower

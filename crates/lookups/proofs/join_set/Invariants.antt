@@ -1,4 +1,4 @@
-use Prim.Native.Nat.{◌≤◌}
+use Rattle.std.proofs.Common.{◌≤◌}
 use Rattle.lookups.proofs.join_set.Given as goal
 
 abbrev pub invariant-loop-k : goal.invariant-loop-k

@@ -1,4 +1,4 @@
-use Prim.Native.Nat.{◌≤◌}
+use Rattle.std.proofs.Common.{◌≤◌}
 use Rattle.lookups.proofs.main.Given as goal
 
 abbrev pub invariant-loop-upper : goal.invariant-loop-upper

@@ -1,6 +1,4 @@
-use mathlib.Core.Bool.{true}
-use mathlib.Core.Path.{◌≡◌, sym, ◌∙◌}
-use native.Mathlib.Omega.{arith}
+use Rattle.std.proofs.Common.{true, ◌≡◌, sym, ◌∙◌, arith}
 use Rattle.rules.proofs.TestLaws.{round-fits}
 use Rattle.state.proofs.ViewLaws.{held-dag}
 use Rattle.reads.proofs.CertificateReadLaws.{place-in, held-told}

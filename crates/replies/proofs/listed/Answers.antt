@@ -1,6 +1,4 @@
-use mathlib.Core.Path.{◌≡◌, sym, ◌∙◌}
-use mathlib.Core.Bool.{true}
-use native.Mathlib.Omega.{arith}
+use Rattle.std.proofs.Common.{◌≡◌, sym, ◌∙◌, true, arith}
 use Rattle.state.specs.Formed.{Formed}
 use Rattle.state.specs.WellFormed.{well_formed}
 use Rattle.state.proofs.FormedLaws.{formed}

@@ -1,4 +1,4 @@
-use mathlib.Core.Path.{refl}
+use Rattle.std.proofs.Common.{refl}
 use Rattle.engine.specs.Calls.{opens}
 use Rattle.engine.specs.Steps.{SetInRange}
 use Rattle.replies.specs.Records.{engine_of}

@@ -1,4 +1,4 @@
-use mathlib.Core.Path.{sym, ◌∙◌}
+use Rattle.std.proofs.Common.{sym, ◌∙◌}
 use Rattle.serial.proofs.PassedLaws.{access-let}
 use Rattle.serial.proofs.read.Goals as goal
 

@@ -1,4 +1,4 @@
-use native.Mathlib.Omega.{arith}
+use Rattle.std.proofs.Common.{arith}
 use Rattle.state.proofs.Walkable.{readable}
 use Rattle.spans.proofs.ReadLaws.{beyond, there}
 use Rattle.spans.proofs.check.Goals as goal

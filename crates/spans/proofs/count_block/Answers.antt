@@ -1,7 +1,4 @@
-use mathlib.Core.Path.{◌≡◌, refl, ap, ◌∙◌}
-use Prim.Native.Nat.{◌+◌, ◌-◌, ◌*◌, ◌/◌}
-use native.Mathlib.Omega.{arith}
-use lib.ListN.{length, length-append}
+use Rattle.std.proofs.Common.{◌≡◌, refl, ap, ◌∙◌, ◌+◌, ◌-◌, ◌*◌, ◌/◌, arith, length, length-append}
 use Rattle.committee.specs.Changes.{row, rows}
 use Rattle.committee.specs.Chain.{block_at}
 use Rattle.running.proofs.RunLaws.{linked-head, linked_up, end-linked}

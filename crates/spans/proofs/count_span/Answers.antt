@@ -1,5 +1,4 @@
-use Prim.Native.Nat.{◌+◌}
-use native.Mathlib.Omega.{arith}
+use Rattle.std.proofs.Common.{◌+◌, arith}
 use Rattle.running.proofs.StartLaws.{start-le}
 use Rattle.spans.proofs.SpanLaws.{count-none, count-next}
 use Rattle.spans.proofs.count_span.Goals as goal

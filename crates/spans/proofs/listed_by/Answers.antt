@@ -1,4 +1,4 @@
-use native.Mathlib.Omega.{arith}
+use Rattle.std.proofs.Common.{arith}
 use Rattle.running.proofs.StartLaws.{started_none}
 use Rattle.contents.proofs.StartLaws.{first_blocks}
 use Rattle.spans.proofs.ReadLaws.{too_short, all_listed}

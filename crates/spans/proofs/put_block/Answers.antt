@@ -1,7 +1,4 @@
-use mathlib.Core.Path.{◌≡◌, refl, ap, ◌∙◌}
-use Prim.Native.Nat.{◌+◌, ◌-◌, ◌*◌, ◌/◌}
-use native.Mathlib.Omega.{arith}
-use lib.ListN.{length, length-append}
+use Rattle.std.proofs.Common.{◌≡◌, refl, ap, ◌∙◌, ◌+◌, ◌-◌, ◌*◌, ◌/◌, arith, length, length-append}
 use Rattle.base.proofs.PutLaws.{puts_then, puts_none, puts_as}
 use Rattle.committee.specs.Changes.{row, rows}
 use Rattle.committee.specs.Chain.{block_at}

@@ -1,4 +1,4 @@
-use mathlib.Core.Path.{refl}
+use Rattle.std.proofs.Common.{refl}
 use Rattle.base.proofs.PutLaws.{puts_none}
 use Rattle.contents.proofs.WordLaws.{place_none}
 use Rattle.spans.proofs.SpanLaws.{words-none, place_put}

@@ -1,6 +1,4 @@
-use mathlib.Core.Path.{refl, ◌∙◌}
-use Prim.Native.Nat.{◌+◌}
-use native.Mathlib.Omega.{arith}
+use Rattle.std.proofs.Common.{refl, ◌∙◌, ◌+◌, arith}
 use Rattle.base.proofs.PutLaws.{puts_then, puts_none, puts_as}
 use Rattle.running.proofs.StartLaws.{start-le}
 use Rattle.spans.proofs.SpanLaws.{held-none, held-next, count-next, span-room}

@@ -1,4 +1,4 @@
-use Prim.Native.Nat.{◌*◌}
+use Rattle.std.proofs.Common.{◌*◌}
 use Rattle.base.proofs.PutLaws.{Putting}
 use Rattle.committee.specs.Chain.{chain_of}
 use Rattle.words.specs.Lengths.{held_length}

@@ -1,4 +1,4 @@
-use mathlib.Core.Path.{refl}
+use Rattle.std.proofs.Common.{refl}
 use Rattle.terms.specs.Proposals.{content_of}
 use Rattle.state.proofs.ViewLaws.{same-dag}
 use Rattle.accept.proofs.admission.holds_same.Goals as goal

@@ -1,5 +1,4 @@
-use Prim.Native.Nat.{◌≤◌}
-use mathlib.Core.Path.{◌≡◌}
+use Rattle.std.proofs.Common.{◌≤◌, ◌≡◌}
 use Rattle.base.specs.Folds.{fold_to}
 use Rattle.blocks.specs.History.{named_by}
 use Rattle.blocks.proofs.histories.named_in.Given as goal

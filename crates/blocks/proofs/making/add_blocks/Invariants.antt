@@ -1,7 +1,4 @@
-use mathlib.Core.List.{List}
-use Prim.Native.Nat.{ℕ, ◌+◌, ◌≤◌}
-use mathlib.Core.Path.{◌≡◌}
-use lib.ListN.{length}
+use Rattle.std.proofs.Common.{List, ℕ, ◌+◌, ◌≤◌, ◌≡◌, length}
 use Rattle.blocks.specs.Blocks.{count_after, blocks_after}
 use Rattle.blocks.specs.Seen.{Seen}
 use Rattle.blocks.proofs.making.add_blocks.Given as goal

@@ -1,4 +1,4 @@
-use native.Mathlib.Omega.{arith}
+use Rattle.std.proofs.Common.{arith}
 use Rattle.blocks.proofs.SeenLaws.{seen_none}
 use Rattle.blocks.proofs.making.commit_blocks.Goals as goal
 

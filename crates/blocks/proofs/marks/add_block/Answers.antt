@@ -1,4 +1,4 @@
-use mathlib.Core.Path.{refl}
+use Rattle.std.proofs.Common.{refl}
 use Rattle.blocks.specs.Blocks.{add_block}
 use Rattle.blocks.proofs.SeenLaws.{seen_block}
 use Rattle.blocks.proofs.marks.add_block.Goals as goal

@@ -1,6 +1,5 @@
 use Rattle.blocks.proofs.SeenLaws.{see_is, seen_begin, seen_step}
-use mathlib.Core.Path.{refl, sym, ◌∙◌}
-use native.Mathlib.Omega.{arith}
+use Rattle.std.proofs.Common.{refl, sym, ◌∙◌, arith}
 use Rattle.blocks.proofs.BlockLaws.{history_step}
 use Rattle.blocks.proofs.marks.mark_history.Goals as goal
 

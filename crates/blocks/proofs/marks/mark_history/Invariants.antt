@@ -1,8 +1,5 @@
 use Rattle.blocks.proofs.SeenLaws.{see}
-use mathlib.Core.List.{List}
-use Prim.Native.Nat.{ℕ, ◌≤◌}
-use mathlib.Core.Path.{◌≡◌}
-use lib.ListN.{length}
+use Rattle.std.proofs.Common.{List, ℕ, ◌≤◌, ◌≡◌, length}
 use Rattle.blocks.specs.Blocks.{mark_history}
 use Rattle.blocks.specs.Seen.{Seen}
 use Rattle.blocks.proofs.marks.mark_history.Given as goal

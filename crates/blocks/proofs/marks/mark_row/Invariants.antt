@@ -1,7 +1,4 @@
-use mathlib.Core.List.{List}
-use Prim.Native.Nat.{ℕ, ◌≤◌}
-use mathlib.Core.Path.{◌≡◌}
-use lib.ListN.{length}
+use Rattle.std.proofs.Common.{List, ℕ, ◌≤◌, ◌≡◌, length}
 use Rattle.base.specs.Folds.{fold_to}
 use Rattle.blocks.specs.Blocks.{mark_place}
 use Rattle.blocks.proofs.marks.mark_row.Given as goal

@@ -1,4 +1,4 @@
-use native.Mathlib.Omega.{arith}
+use Rattle.std.proofs.Common.{arith}
 use Rattle.contents.proofs.WalkLaws.{row_none, row-counted, byte-most}
 use Rattle.contents.proofs.rows.count_row.Goals as goal
 

@@ -1,4 +1,4 @@
-use native.Mathlib.Omega.{arith}
+use Rattle.std.proofs.Common.{arith}
 use Rattle.contents.proofs.WalkLaws.{no_rows, rows-counted}
 use Rattle.contents.proofs.rows.count_rows.Goals as goal
 

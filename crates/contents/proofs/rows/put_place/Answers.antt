@@ -1,4 +1,4 @@
-use mathlib.Core.Path.{refl}
+use Rattle.std.proofs.Common.{refl}
 use Rattle.base.proofs.PutLaws.{puts_none}
 use Rattle.contents.proofs.WordLaws.{words-none, place_none, place_put}
 use Rattle.contents.proofs.rows.put_place.Goals as goal

@@ -1,5 +1,4 @@
-use mathlib.Core.Path.{refl, ap, ◌∙◌}
-use native.Mathlib.Omega.{arith}
+use Rattle.std.proofs.Common.{refl, ap, ◌∙◌, arith}
 use Rattle.base.proofs.PutLaws.{puts_then, puts_none, puts_as}
 use Rattle.contents.proofs.WalkLaws.{none_of_rows, rows-next, rows-longer, rows-room}
 use Rattle.contents.proofs.WordLaws.{words-none, words-append}

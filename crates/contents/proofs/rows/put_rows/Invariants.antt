@@ -1,5 +1,4 @@
-use Prim.Native.Nat.{◌*◌}
-use lib.ListN.{length}
+use Rattle.std.proofs.Common.{◌*◌, length}
 use Rattle.base.proofs.PutLaws.{Putting}
 use Rattle.committee.specs.Changes.{rows}
 use Rattle.committee.specs.Chain.{block_at}

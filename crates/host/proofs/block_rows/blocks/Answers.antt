@@ -1,4 +1,4 @@
-use mathlib.Core.Path.{refl}
+use Rattle.std.proofs.Common.{refl}
 use Rattle.spans.specs.Listed.{blocks_refusal, blocks_list}
 use Rattle.hosting.proofs.SettledLaws.{listed}
 use Rattle.host.proofs.block_rows.blocks.Goals as goal

@@ -1,4 +1,4 @@
-use mathlib.Core.Path.{sym}
+use Rattle.std.proofs.Common.{sym}
 use Rattle.engine.specs.Calls.{advance}
 use Rattle.hosting.proofs.SettledLaws.{fits-over}
 use Rattle.host.proofs.calls.advance.Goals as goal

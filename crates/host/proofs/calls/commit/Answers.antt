@@ -1,4 +1,4 @@
-use mathlib.Core.Path.{sym}
+use Rattle.std.proofs.Common.{sym}
 use Rattle.engine.specs.Calls.{commit}
 use Rattle.hosting.proofs.SettledLaws.{fits-over}
 use Rattle.host.proofs.calls.commit.Goals as goal

@@ -1,6 +1,4 @@
-use mathlib.Core.Path.{◌≡◌, refl, sym}
-use borrow.Author.Rules.{rules}
-use native.Mathlib.Omega.{arith}
+use Rattle.std.proofs.Common.{◌≡◌, refl, sym, rules, arith}
 use Rattle.std.specs.Prelude.{Err}
 use Rattle.refusals.specs.Refusals.{number_of, refusal_in}
 use Rattle.open.specs.Open.{closed_state}

@@ -1,4 +1,4 @@
-use mathlib.Core.Path.{sym}
+use Rattle.std.proofs.Common.{sym}
 use Rattle.words.specs.Bodies.{body_in}
 use Rattle.engine.specs.Calls.{propose}
 use Rattle.hosting.proofs.HandedLaws.{propose-handed}

@@ -1,4 +1,4 @@
-use mathlib.Core.Path.{refl}
+use Rattle.std.proofs.Common.{refl}
 use Rattle.critical.specs.Critical.{critical_refusal, critical_list}
 use Rattle.hosting.proofs.SettledLaws.{listed}
 use Rattle.host.proofs.criticals.critical.Goals as goal

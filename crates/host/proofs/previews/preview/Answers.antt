@@ -1,4 +1,4 @@
-use mathlib.Core.Path.{refl}
+use Rattle.std.proofs.Common.{refl}
 use Rattle.preview.specs.Preview.{preview_refusal, preview_list}
 use Rattle.hosting.proofs.SettledLaws.{listed}
 use Rattle.host.proofs.previews.preview.Goals as goal

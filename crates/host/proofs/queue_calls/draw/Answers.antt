@@ -1,6 +1,5 @@
-use Rattle.std.proofs.Common.{◌≡◌, ◌<◌, refl, sym, arith, rules}
+use Rattle.std.proofs.Common.{◌≡◌, ◌<◌, refl, sym, arith, rules, lt-ltb}
 use Rattle.std.specs.Prelude.{Err}
-use borrow.Author.Tests.{lt-ltb}
 use Rattle.refusals.specs.Refusals.{number_of, refusal_in}
 use Rattle.engine.specs.Calls.{draw}
 use Rattle.hosting.proofs.SettledLaws.{rewritten, fits-over}

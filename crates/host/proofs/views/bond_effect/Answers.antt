@@ -1,6 +1,4 @@
-use mathlib.Core.Path.{◌≡◌, refl}
-use borrow.Author.Rules.{rules}
-use mathlib.Core.List.{[]}
+use Rattle.std.proofs.Common.{◌≡◌, refl, rules, []}
 use Rattle.std.specs.Prelude.{Err}
 use Rattle.refusals.specs.Refusals.{number_of, refusal_in}
 use Rattle.committee.specs.declared.effects.Effect.{Effect}

@@ -1,7 +1,4 @@
-use mathlib.Core.Path.{◌≡◌, refl, sym}
-use borrow.Author.Rules.{rules}
-use native.Mathlib.Omega.{arith}
-use mathlib.Core.List.{List, []}
+use Rattle.std.proofs.Common.{◌≡◌, refl, sym, rules, arith, List, []}
 use Rattle.std.specs.Prelude.{Err}
 use Rattle.refusals.specs.Refusals.{number_of, refusal_in}
 use Rattle.terms.specs.declared.sheet.Weight.{Weight}

@@ -1,6 +1,4 @@
-use mathlib.Core.Path.{◌≡◌, refl, ◌∙◌}
-use native.Mathlib.Omega.{arith}
-use Prim.Native.Nat.{◌+◌, ◌*◌, ◌≤◌}
+use Rattle.std.proofs.Common.{◌≡◌, refl, ◌∙◌, arith, ◌+◌, ◌*◌, ◌≤◌}
 use Rattle.terms.specs.Proposals.{slot_of}
 use Rattle.terms.proofs.ProposalLaws.{transactions_tab}
 use Rattle.base.proofs.PutLaws.{puts_then, puts-within}

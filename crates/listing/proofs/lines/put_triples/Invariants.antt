@@ -1,4 +1,4 @@
-use Prim.Native.Nat.{◌*◌}
+use Rattle.std.proofs.Common.{◌*◌}
 use Rattle.base.specs.Folds.{tab}
 use Rattle.terms.specs.Proposals.{slot_of}
 use Rattle.listing.specs.Lines.{triples_fields}

@@ -1,5 +1,4 @@
-use native.Mathlib.Omega.{arith}
-use mathlib.Core.Path.{sym, ◌∙◌}
+use Rattle.std.proofs.Common.{arith, sym, ◌∙◌}
 use Rattle.rules.proofs.TestLaws.{round-fits}
 use Rattle.state.proofs.FormedLaws.{body-fits}
 use Rattle.member_view.proofs.View.check_form.Goals as goal

@@ -1,4 +1,4 @@
-use mathlib.Core.Path.{refl}
+use Rattle.std.proofs.Common.{refl}
 use Rattle.state.proofs.ViewLaws.{held-proposal}
 use Rattle.member_view.proofs.View.has_proposed.Goals as goal
 

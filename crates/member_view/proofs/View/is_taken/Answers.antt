@@ -1,4 +1,4 @@
-use mathlib.Core.Path.{sym, ◌∙◌}
+use Rattle.std.proofs.Common.{sym, ◌∙◌}
 use Rattle.state.proofs.ViewLaws.{endorsed-at}
 use Rattle.member_view.proofs.View.is_taken.Goals as goal
 

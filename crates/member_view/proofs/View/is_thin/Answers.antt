@@ -1,4 +1,4 @@
-use mathlib.Core.Path.{sym}
+use Rattle.std.proofs.Common.{sym}
 use Rattle.member_view.proofs.AuthorLaws.{thin_by}
 use Rattle.member_view.proofs.View.is_thin.Goals as goal
 

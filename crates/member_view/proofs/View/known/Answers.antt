@@ -1,4 +1,4 @@
-use mathlib.Core.Path.{sym, ◌∙◌}
+use Rattle.std.proofs.Common.{sym, ◌∙◌}
 use Rattle.state.proofs.CachedLaws.{cached-both}
 use Rattle.member_view.proofs.View.known.Goals as goal
 

@@ -1,5 +1,4 @@
-use mathlib.Core.Path.{sym, ◌∙◌, refl}
-use native.Mathlib.Omega.{arith}
+use Rattle.std.proofs.Common.{sym, ◌∙◌, refl, arith}
 use Rattle.rules.proofs.TestLaws.{above-first}
 use Rattle.member_view.proofs.PreviousLaws.{lacks-by}
 use Rattle.member_view.proofs.View.lacks_previous.Goals as goal

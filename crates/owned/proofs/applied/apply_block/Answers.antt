@@ -1,5 +1,4 @@
-use Rattle.std.proofs.Common.{◌≡◌}
-use native.Mathlib.Omega.{arith}
+use Rattle.std.proofs.Common.{◌≡◌, arith}
 use Rattle.running.proofs.BoundLaws.{rows_total}
 use Rattle.owned.proofs.SpanLaws.{rows-from, rows-next, rows-all}
 use Rattle.owned.proofs.applied.apply_block.Goals as goal

@@ -1,6 +1,4 @@
-use mathlib.Core.Path.{◌≡◌}
-use Prim.Native.Nat.{ℕ, ◌≤◌}
-use mathlib.Core.List.{List}
+use Rattle.std.proofs.Common.{◌≡◌, ℕ, ◌≤◌, List}
 use Rattle.running.specs.BlockChanges.{place_change}
 use Rattle.running.specs.LinkRuns.{rows_over}
 use Rattle.terms.specs.declared.sheet.Weight.{Weight}

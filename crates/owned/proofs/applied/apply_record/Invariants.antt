@@ -1,5 +1,4 @@
-use mathlib.Core.Path.{◌≡◌}
-use Prim.Native.Nat.{◌≤◌}
+use Rattle.std.proofs.Common.{◌≡◌, ◌≤◌}
 use Rattle.base.specs.Folds.{fold_to}
 use Rattle.running.specs.BlockChanges.{slot_change}
 use Rattle.owned.proofs.applied.apply_record.Given as goal

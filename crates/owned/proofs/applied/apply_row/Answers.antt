@@ -1,6 +1,4 @@
-use Prim.Native.Nat.{◌+◌, ◌*◌, ◌%◌, ◌≤◌}
-use mathlib.Core.Path.{◌≡◌}
-use native.Mathlib.Omega.{arith}
+use Rattle.std.proofs.Common.{◌+◌, ◌*◌, ◌%◌, ◌≤◌, ◌≡◌, arith}
 use Rattle.committee.specs.Totals.{total_in}
 use Rattle.owned.proofs.SpanLaws.{row-none, row-more, row-all, place-total}
 use Rattle.owned.proofs.applied.apply_row.Goals as goal

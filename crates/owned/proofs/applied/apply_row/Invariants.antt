@@ -1,6 +1,4 @@
-use mathlib.Core.Path.{◌≡◌}
-use Prim.Native.Nat.{ℕ, ◌+◌, ◌*◌, ◌%◌, ◌≤◌}
-use mathlib.Core.List.{List}
+use Rattle.std.proofs.Common.{◌≡◌, ℕ, ◌+◌, ◌*◌, ◌%◌, ◌≤◌, List}
 use Rattle.base.specs.Folds.{fold_to}
 use Rattle.committee.specs.Totals.{total_in}
 use Rattle.running.specs.BlockChanges.{place_change}

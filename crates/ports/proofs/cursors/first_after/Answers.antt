@@ -1,6 +1,4 @@
-use mathlib.Core.Path.{◌∙◌}
-use Prim.Native.Nat.{◌-◌}
-use native.Mathlib.Omega.{arith}
+use Rattle.std.proofs.Common.{◌∙◌, ◌-◌, arith}
 use Rattle.ports.proofs.SearchLaws.{none_beyond, first_beyond}
 use Rattle.ports.proofs.cursors.first_after.Goals as goal
 

@@ -1,9 +1,5 @@
-use Prim.Native.Nat.{◌+◌, ◌*◌, ◌<◌}
-use lib.ListN.{get_or}
-use native.Mathlib.Omega.{arith}
-use Rattle.std.proofs.Common.{rules}
+use Rattle.std.proofs.Common.{rules, ◌+◌, ◌*◌, ◌<◌, get_or, arith, tests}
 use Rattle.std.proofs.lemmas.Iterator.{first_from_Range}
-use borrow.Author.Tests.{tests}
 use Rattle.ports.proofs.FoundLaws.{block_found}
 use Rattle.ports.proofs.cursors.next_block.Goals as goal
 

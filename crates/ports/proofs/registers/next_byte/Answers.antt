@@ -1,4 +1,4 @@
-use native.Mathlib.Omega.{arith}
+use Rattle.std.proofs.Common.{arith}
 use Rattle.ports.proofs.RegisterNextLaws.{has_line, inside_at, next_line_at, search_told}
 use Rattle.ports.proofs.registers.next_byte.Goals as goal
 

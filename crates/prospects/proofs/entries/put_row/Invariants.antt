@@ -1,4 +1,4 @@
-use lib.ListN.{length}
+use Rattle.std.proofs.Common.{length}
 use Rattle.base.proofs.PutLaws.{Putting}
 use Rattle.base.specs.Sets.{is_in}
 use Rattle.prospects.specs.Entries.{row_entries}

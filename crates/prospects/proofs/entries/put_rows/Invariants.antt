@@ -1,4 +1,4 @@
-use lib.ListN.{length}
+use Rattle.std.proofs.Common.{length}
 use Rattle.base.proofs.PutLaws.{Putting}
 use Rattle.prospects.specs.Entries.{rows_entries, in_sets}
 use Rattle.prospects.proofs.entries.put_rows.Given as goal

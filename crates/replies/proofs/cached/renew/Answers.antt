@@ -1,5 +1,4 @@
-use mathlib.Core.Path.{sym, ◌∙◌}
-use native.Mathlib.Omega.{arith}
+use Rattle.std.proofs.Common.{sym, ◌∙◌, arith}
 use Rattle.state.proofs.FormedLaws.{formed}
 use Rattle.state.proofs.Walkable.{readable}
 use Rattle.replies.proofs.cached.renew.Goals as goal

@@ -1,4 +1,4 @@
-use mathlib.Core.Path.{refl}
+use Rattle.std.proofs.Common.{refl}
 use Rattle.committee.specs.Committees.{known_by}
 use Rattle.running.proofs.ChainLaws.{last-chain}
 use Rattle.running.proofs.bonded.known.Goals as goal

@@ -1,4 +1,4 @@
-use mathlib.Core.Path.{refl}
+use Rattle.std.proofs.Common.{refl}
 use Rattle.running.proofs.ChainInTableLaws.{after_bounded}
 use Rattle.running.proofs.StartLaws.{started_none, running_none}
 use Rattle.running.proofs.bonded.walked.Goals as goal

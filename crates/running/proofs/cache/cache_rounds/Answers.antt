@@ -1,6 +1,4 @@
-use mathlib.Core.Path.{refl}
-use native.Mathlib.Omega.{arith}
-use lib.Seq.{get_or-set_same}
+use Rattle.std.proofs.Common.{refl, arith, get_or-set_same}
 use Rattle.running.proofs.CacheLaws.{caches_none}
 use Rattle.running.proofs.StartLaws.{running_none}
 use Rattle.running.proofs.cache.cache_rounds.Goals as goal

@@ -1,7 +1,4 @@
-use mathlib.Core.Path.{◌≡◌}
-use mathlib.Core.List.{List}
-use Prim.Native.Nat.{ℕ, ◌-◌, ◌≤◌}
-use lib.ListN.{length}
+use Rattle.std.proofs.Common.{◌≡◌, List, ℕ, ◌-◌, ◌≤◌, length}
 use Rattle.terms.specs.declared.sheet.Settings.{Settings}
 use Rattle.committee.specs.Chain.{chain_of}
 use Rattle.running.proofs.CacheLaws.{CachesTo}

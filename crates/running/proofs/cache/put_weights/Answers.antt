@@ -1,9 +1,6 @@
-use mathlib.Core.Path.{◌≡◌}
-use native.Mathlib.Omega.{arith}
-use native.Mathlib.Numerals.{add-one}
-use lib.ListN.{length, length-set, length-map}
+use Rattle.std.proofs.Common.{◌≡◌, arith, add-one, length, length-set, rules}
+use lib.ListN.{length-map}
 use lib.Seq.{paste-suc}
-use borrow.Author.Rules.{rules}
 use Rattle.terms.specs.declared.sheet.Weight.{Weight}
 use Rattle.running.specs.Caches.{numbers}
 use Rattle.running.proofs.CacheLaws.{numbers_at}

@@ -1,7 +1,4 @@
-use mathlib.Core.Path.{◌≡◌}
-use mathlib.Core.List.{List}
-use Prim.Native.Nat.{ℕ, ◌<◌, ◌≤◌}
-use lib.ListN.{length}
+use Rattle.std.proofs.Common.{◌≡◌, List, ℕ, ◌<◌, ◌≤◌, length}
 use lib.Seq.{paste}
 use Rattle.terms.specs.declared.sheet.Weight.{Weight}
 use Rattle.running.specs.Caches.{numbers}

@@ -1,6 +1,4 @@
-use mathlib.Core.Path.{◌≡◌}
-use mathlib.Core.List.{List}
-use Prim.Native.Nat.{ℕ, ◌-◌, ◌≤◌}
+use Rattle.std.proofs.Common.{◌≡◌, List, ℕ, ◌-◌, ◌≤◌}
 use Rattle.terms.specs.declared.sheet.Settings.{Settings}
 use Rattle.committee.specs.Chain.{chain_of}
 use Rattle.running.specs.Fill.{leader_at, fill_to}

@@ -1,5 +1,4 @@
-use Rattle.std.proofs.Common.{refl, arith}
-use borrow.Author.Tests.{lt-ltb, le-ltb}
+use Rattle.std.proofs.Common.{refl, arith, lt-ltb, le-ltb}
 use Rattle.base.proofs.SetLaws.{in_member}
 use Rattle.votes.proofs.CheckLaws.{votes_told}
 use Rattle.votes.proofs.checks.check_votes.Goals as goal
