@@ -2,7 +2,7 @@
 use Rattle.std.proofs.Common.{◌≡◌, refl, ap, ap₂, ◌∙◌, true, false, List, ◌≢◌, ℕ, ◌<◌, ◌≤◌, arith, le-ltb}
 use Rattle.base.specs.Checks.{refusal}
 use Rattle.base.proofs.CheckLaws.{passes, refuses}
-use Rattle.base.specs.Sets.{is_in}
+use Rattle.base.specs.Sets.{contains}
 use Rattle.terms.specs.declared.Certificate.{Certificate}
 use Rattle.terms.specs.Proposals.{Content, content_of}
 use Rattle.terms.proofs.ProposalLaws.{content_self}
@@ -22,7 +22,7 @@ use Rattle.accept.specs.Accept.{accept_refusal, accept_table}
 use Rattle.state.proofs.AnswerLaws.{if_accepted-old}
 
 module _ (s : State) (t : List ℕ) (well : well_formed s t ≡ true) (c : Certificate) (a r : ℕ) (from : 0 < r) (to : r ≤ s.settings.ceiling.0)
-    (held : held_at t a r ≡ true) (e : content_of c.proposal ≡ content_at t a r) (other : is_in c.endorsers a ≡ false) where
+    (held : held_at t a r ≡ true) (e : content_of c.proposal ≡ content_at t a r) (other : contains c.endorsers a ≡ false) where
   by-rules : refusal (rules.accepting s.settings (view s t) (content_at t a r) c.endorsers) ≡ 16
   by-rules =
       let f = formed s t well in

@@ -1,7 +1,7 @@
 -- What an accepted accept has passed, as the state and the table show it.
 use Rattle.std.proofs.Common.{◌≡◌, refl, sym, ◌∙◌, false, List, ℕ, arith, ltb-false}
 use Rattle.base.proofs.CheckLaws.{numbered}
-use Rattle.base.specs.Sets.{is_in}
+use Rattle.base.specs.Sets.{contains}
 use Rattle.terms.specs.declared.Certificate.{Certificate}
 use Rattle.terms.specs.Proposals.{content_of}
 use Rattle.store.specs.Table.{held_at}
@@ -21,7 +21,7 @@ module _ (s : State) (t : List ℕ) where
     pub formed : Formed s t
     pub fits : FormFits s c.proposal
     pub free : held_at t c.proposal.author.0 c.proposal.round.0 ≡ false
-    pub not_among : is_in c.endorsers c.proposal.author.0 ≡ false
+    pub not_among : contains c.endorsers c.proposal.author.0 ≡ false
 
   pub accept-passed : (c : Certificate) → accept_refusal s t c ≡ 0 → AcceptPassed c
   unfolding accept_refusal numbered

@@ -13,4 +13,7 @@ module _ (s : State) (t : List ℕ) where
   accept_refusal c = refusal_of s t (rules.accept (content_of c.proposal) c.endorsers)
 
   unfoldable pub accept_table : Certificate → List ℕ
-  accept_table c = if_accepted (accept_refusal c) (clear_endorsed (put_certificate t (content_of c.proposal) c.endorsers) c.proposal.author.0 c.proposal.round.0) t
+  accept_table c =
+      if_accepted (accept_refusal c)
+      (clear_endorsed (put_certificate t (content_of c.proposal) c.endorsers)
+      c.proposal.author.0 c.proposal.round.0) t

@@ -10,81 +10,99 @@ ghost use Rattle.state.specs.Cached.{Cached};
 ghost use Rattle.state.specs.SharedChecks.{FormFits};
 ghost use Rattle.member_view.specs.Views.{settings_of, shown};
 
+use chain_committees::{bonded, cache};
 use member_view::View;
 use refusals::Refusal;
-use running::{bonded, cache};
 use state::State;
 use terms::{Certificate, Proposal};
 
 // Check 16: is the same certificate held?
-fn holds_same(v: &View, p: Proposal) -> bool
-    requires place { p.author.0 < 16 }
-    requires from { 0 < p.round.0 }
-    requires to { p.round.0 ≤ (settings_of v.now).ceiling.0 }
-    ensures { result ≡ is_same (content_of p) ((shown v.now).dag p.author.0 p.round.0) }
+fn holds_same(view: &View, proposal: Proposal) -> bool
+    requires place { proposal.author.0 < 16 }
+    requires from { 0 < proposal.round.0 }
+    requires to { proposal.round.0 ≤ (settings_of view.now).ceiling.0 }
+    ensures { result
+        ≡ is_same (content_of proposal) ((shown view.now).dag proposal.author.0 proposal.round.0) }
 {
-    store::held(v.table, p.author, p.round) && store::record::is_same(v.table, p)
+    store::held(view.table, proposal.author, proposal.round)
+        && store::record::is_same(view.table, proposal)
 }
 
 /// The checks of a well-formed state, in this order: 4, 5, 6, 7, 14, 16, 17, 8, 9, 13, 11.
 #[tactic(auto, unfolding(base::specs::Checks::refusal, rules::specs::Tests::signers_of))]
-pub fn check(v: &View, c: Certificate) -> Result<(), Refusal>
-    ensures refusal { refusal_in result ≡ refusal (accepting (settings_of v.now) (shown v.now) (content_of c.proposal) c.endorsers) }
-    ensures fits { OnOk result (FormFits v.now.state.now c.proposal) }
+pub(crate) fn check(view: &View, certificate: Certificate) -> Result<(), Refusal>
+    ensures refusal { refusal_in result
+        ≡ refusal (accepting (settings_of view.now) (shown view.now)
+        (content_of certificate.proposal) certificate.endorsers) }
+    ensures fits { OnOk result (FormFits view.now.state.now certificate.proposal) }
 {
-    let p = c.proposal;
-    let endorsers = c.endorsers as u32;
-    v.check_form(p)?;
-    if base::has(endorsers, p.author.0) {
-        return Err(Refusal::OwnEndorsement);
+    let proposal = certificate.proposal;
+    let endorsers = certificate.endorsers as u32;
+    view.check_form(proposal)?;
+    if base::contains(endorsers, proposal.author.0) {
+        return Err(Refusal::SignedTwice);
     }
-    if holds_same(v, p) {
-        return Err(Refusal::HeldAlready);
+    if holds_same(view, proposal) {
+        return Err(Refusal::SameHeld);
     }
-    if v.is_held(p.author, p.round) {
+    if view.is_held(proposal.author, proposal.round) {
         return Err(Refusal::OtherHeld);
     }
-    if v.is_unknown(p.round) {
+    if view.is_unknown(proposal.round) {
         return Err(Refusal::CommitteeUnknown);
     }
-    let signers = base::with(endorsers, p.author.0);
-    let committee = v.committee(p.round);
+    let signers = base::insert(endorsers, proposal.author.0);
+    let committee = view.committee(proposal.round);
     if committee.has_outsider(signers) {
-        return Err(Refusal::Outsider);
+        return Err(Refusal::Outside);
     }
     if committee.is_short(signers) {
-        return Err(Refusal::SignersThin);
+        return Err(Refusal::SignersShort);
     }
-    if v.lacks_previous(p) {
+    if view.lacks_previous(proposal) {
         return Err(Refusal::PreviousMissing);
     }
     Ok(())
 }
 
 // Will the checks ask for a committee that is not cached, and that some block changes?
-fn asks_committee(v: &View, c: Certificate) -> bool
-    ensures { result ≡ true → c.proposal.round.0 ≤ (settings_of v.now).ceiling.0 }
+fn asks_committee(view: &View, certificate: Certificate) -> bool
+    ensures { result ≡ true → certificate.proposal.round.0 ≤ (settings_of view.now).ceiling.0 }
 {
-    let p = c.proposal;
-    let settings = v.state.settings;
-    if cache::is_cached(v.cache, settings.ceiling, p.round) || v.check_form(p).is_err() {
+    let proposal = certificate.proposal;
+    let settings = view.state.settings;
+    if cache::is_cached(view.cache, settings.ceiling, proposal.round)
+        || view.check_form(proposal).is_err()
+    {
         return false;
     }
-    !base::has(c.endorsers as u32, p.author.0)
-        && !v.is_held(p.author, p.round)
-        && !v.is_unknown(p.round)
-        && !bonded::is_starting(v.table, settings, v.state.blocks, p.round)
+    !base::contains(certificate.endorsers as u32, proposal.author.0)
+        && !view.is_held(proposal.author, proposal.round)
+        && !view.is_unknown(proposal.round)
+        && !bonded::is_starting(view.table, settings, view.state.blocks, proposal.round)
 }
 
 /// Caches committees from the round of a certificate on, as far as there is room, where the checks will ask for one that is not there.
-pub fn cache_committees(formed: bool, s: &State, t: &[u32], c: Certificate, cache: &mut [u64])
-    requires { Cached s.now t.now formed cache.old }
-    ensures { Cached s.now t.now formed cache.new }
+pub fn cache_committees(
+    formed: bool,
+    state: &State,
+    table: &[u32],
+    certificate: Certificate,
+    cache: &mut [u64],
+)
+    requires { Cached state.now table.now formed cache.old }
+    ensures { Cached state.now table.now formed cache.new }
 {
-    let Ok(v) = View::known(formed, cache, s, t) else {
+    let Ok(view) = View::known(formed, cache, state, table) else {
         return;
     };
-    if asks_committee(&v, c) {
-        cache::fill_cache(t, s.settings, s.blocks, c.proposal.round, cache);
+    if asks_committee(&view, certificate) {
+        cache::fill_cache(
+            table,
+            state.settings,
+            state.blocks,
+            certificate.proposal.round,
+            cache,
+        );
     }
 }

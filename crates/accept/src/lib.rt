@@ -11,9 +11,9 @@ ghost use Rattle.refusals.specs.Refusals.{refusal_in};
 ghost use Rattle.state.specs.Cached.{Cached};
 ghost use Rattle.accept.specs.Accept.{accept_refusal, accept_table};
 
+use chain_committees::cache;
 use member_view::View;
 use refusals::Refusal;
-use running::cache;
 use state::State;
 use store::{clearing, writes};
 use terms::Certificate;
@@ -23,28 +23,28 @@ use terms::Certificate;
 pub fn accept_cached(
     formed: bool,
     cache: &[u64],
-    s: &State,
-    t: &mut [u32],
-    c: Certificate,
+    state: &State,
+    table: &mut [u32],
+    certificate: Certificate,
 ) -> Result<(), Refusal>
-    requires { Cached s.now t.old formed cache.now }
-    ensures refusal { refusal_in result ≡ accept_refusal s.now t.old c }
-    ensures table { t.new ≡ accept_table s.now t.old c }
+    requires { Cached state.now table.old formed cache.now }
+    ensures refusal { refusal_in result ≡ accept_refusal state.now table.old certificate }
+    ensures table { table.new ≡ accept_table state.now table.old certificate }
 {
-    admission::check(&View::known(formed, cache, s, t)?, c)?;
-    let p = c.proposal;
-    writes::put_certificate(t, p, c.endorsers);
-    clearing::clear_endorsed(t, p.author, p.round);
+    admission::check(&View::known(formed, cache, state, table)?, certificate)?;
+    let proposal = certificate.proposal;
+    writes::put_certificate(table, proposal, certificate.endorsers);
+    clearing::clear_endorsed(table, proposal.author, proposal.round);
     Ok(())
 }
 
 /// Holds a certificate with its endorsers, and clears its endorsed mark.
-pub fn accept(s: &State, t: &mut [u32], c: Certificate) -> Result<(), Refusal>
-    ensures refusal { refusal_in result ≡ accept_refusal s.now t.old c }
-    ensures table { t.new ≡ accept_table s.now t.old c }
+pub fn accept(state: &State, table: &mut [u32], certificate: Certificate) -> Result<(), Refusal>
+    ensures refusal { refusal_in result ≡ accept_refusal state.now table.old certificate }
+    ensures table { table.new ≡ accept_table state.now table.old certificate }
 {
-    let formed = state::well_formed(*s, t);
+    let formed = state::well_formed(*state, table);
     let mut cache = [cache::NO_ROUND; 17];
-    admission::cache_committees(formed, s, t, c, &mut cache);
-    accept_cached(formed, &cache, s, t, c)
+    admission::cache_committees(formed, state, table, certificate, &mut cache);
+    accept_cached(formed, &cache, state, table, certificate)
 }

@@ -1,6 +1,6 @@
 -- Chains never fork: in every world of a run, the chains of correct members are prefixes of one another.
-use Rattle.std.proofs.Common.{◌≡◌, sym, ◌∙◌, subst, subst₂, Bool, true, List, [], inl, ℕ}
-use mathlib.Core.Option.{some, none-ne-some}
+use Rattle.std.proofs.Common.{◌≡◌, sym, ◌∙◌, subst, subst₂, Bool, true, List, [], inl, ℕ, Some}
+use Rattle.std.proofs.lemmas.Option.{none-some}
 use mathlib.Core.List.Memᴰ
 use native.Mathlib.Decide.{ℕ_discrete}
 use Rattle.agreement.specs.Rules.{Block, Chain, Rules}
@@ -10,7 +10,7 @@ use Rattle.agreement.specs.Links.{Linked, LastElected}
 use Rattle.agreement.specs.Prefixes.{◌≼◌, same, block_numbered}
 use Rattle.agreement.proofs.PrefixLaws.{≼_trans, block-stays}
 use Rattle.agreement.specs.Invariants.{Invariant, FaultTolerant, Agree, Sound}
-use Rattle.agreement.specs.Moves.{Move, other-call}
+use Rattle.agreement.specs.Moves.{Move, other_call}
 use Rattle.agreement.specs.Runs.{Initial, Start, Next, Run, begin, step}
 use Rattle.agreement.proofs.NonEquivocation.{committee_agreement}
 use Rattle.agreement.proofs.NonForking.{comparable}
@@ -31,7 +31,7 @@ module _ {R : Rules} (correct : ℕ → Bool) where
     where
       go : Dec (i ≡ n.who) → Move correct G i (w i) (G i) (v i) (H i)
       go (yes e) = subst (λ (x : ℕ). Move correct G x (w x) (G x) (v x) (H x)) (sym e) n.move
-      go (no e) = subst₂ (λ (t : View R) (m : List P). Move correct G i (w i) (G i) t m) (sym (n.rest i e)) (sym (n.silent i e)) other-call
+      go (no e) = subst₂ (λ (t : View R) (m : List P). Move correct G i (w i) (G i) t m) (sym (n.rest i e)) (sym (n.silent i e)) other_call
 
   module _ {w v : World R} {G H : Log R} (S : Sound correct w G) (n : Next correct w G v H) where
     -- what holds of a member holds where more is signed
@@ -48,7 +48,7 @@ module _ {R : Rules} (correct : ℕ → Bool) where
                   aware = b.aware;
                   signers = b.signers;
                   quorum = b.quorum;
-                  with-author = b.with-author;
+                  with_author = b.with_author;
                   signs = λ i c m. signed-stays (each n i) p (b.signs i c m);
                 };
           };
@@ -76,7 +76,7 @@ module _ {R : Rules} (correct : ℕ → Bool) where
           signable = λ p h. absurd (Memᴰ.not-nil h);
           own = λ p h. absurd (Memᴰ.not-nil h);
           other = λ p h. absurd (Memᴰ.not-nil h);
-          proposed = λ p h. absurd (none-ne-some p (sym x.without_proposal ∙ h));
+          proposed = λ p h. absurd (none-some p (sym x.without_proposal ∙ h));
         };
         storing = record {
           place = λ {a} {r} {p} h. absurd (nothing-held a r p h);
@@ -89,15 +89,15 @@ module _ {R : Rules} (correct : ℕ → Bool) where
         };
       }
     where
-      nothing-held : (a r : ℕ) (p : P) → s.dag a r ≡ some p → ⊥
-      nothing-held a r p h = none-ne-some p (sym (x.no_certificate a r) ∙ h)
+      nothing-held : (a r : ℕ) (p : P) → s.dag a r ≡ Some p → ⊥
+      nothing-held a r p h = none-some p (sym (x.no_certificate a r) ∙ h)
 
   pub sound-start : {w : World R} → Lawful R → Start correct w → Sound correct w (unsigned R)
   sound-start {w} Y x =
       record {
         laws = Y;
         members = λ j c. initial_invariant (w j) (x j c);
-        tolerant = λ j p c h k. absurd (none-ne-some p (sym ((x j c).no_certificate (R.author p) (R.round p)) ∙ h));
+        tolerant = λ j p c h k. absurd (none-some p (sym ((x j c).no_certificate (R.author p) (R.round p)) ∙ h));
         agree = λ i j ci cj. inl (subst (λ (c : Chain P). (w i).chain ≼ c) ((x i ci).no_block ∙ sym (x j cj).no_block) same);
       }
 
@@ -112,7 +112,7 @@ module _ {R : Rules} (correct : ℕ → Bool) where
   chains_grow (step r n b) i = ≼_trans (chains_grow r i) (move-grows (each n i)).chain
 
   -- so a block once made stays, with its number, its round and its certificates
-  pub blocks_stay : {w v : World R} {G H : Log R} → Run correct w G v H → (i n : ℕ) {b : Block P} → block_numbered (w i).chain n ≡ some b → block_numbered (v i).chain n ≡ some b
+  pub blocks_stay : {w v : World R} {G H : Log R} → Run correct w G v H → (i n : ℕ) {b : Block P} → block_numbered (w i).chain n ≡ Some b → block_numbered (v i).chain n ≡ Some b
   blocks_stay r i n = block-stays (chains_grow r i) n
 
   module _ {start w : World R} {G : Log R} (Y : Lawful R) (x : Start correct start) (r : Run correct start (unsigned R) w G) where

@@ -1,6 +1,5 @@
 -- An anchor that has the votes is in the history of every certificate held two or more rounds above it.
-use Rattle.std.proofs.Common.{◌≡◌, sym, ap, ◌∙◌, Bool, true, ◌⊎◌, inl, inr, ℕ, zero, suc, ◌+◌, ◌-◌, ◌≤◌, arith}
-use mathlib.Core.Option.{some}
+use Rattle.std.proofs.Common.{◌≡◌, sym, ap, ◌∙◌, Bool, true, ◌⊎◌, inl, inr, ℕ, zero, suc, ◌+◌, ◌-◌, ◌≤◌, arith, Some}
 use Rattle.agreement.specs.Quorum.{Common}
 use Rattle.agreement.specs.Rules.{Rules}
 use Rattle.agreement.specs.View.{World, Log}
@@ -33,8 +32,8 @@ module _ {R : Rules} {correct : ℕ → Bool} {w : World R} {G : Log R} (S : Sou
 
   module _ {i : ℕ} {c : P} (ci : correct i ≡ true) (hc : Held (w i) c) (vc : Elected (w i) c) {j : ℕ} (cj : correct j ≡ true) where
     -- what i holds at a place is what j holds there
-    settle : {a r : ℕ} {q : P} → (w i).dag a r ≡ some q → (q' : P) × ((w j).dag a r ≡ some q') → (w j).dag a r ≡ some q
-    settle h y = y.1 ∙ ap some (sym (dag-nonequivocation S ci cj h y.1))
+    settle : {a r : ℕ} {q : P} → (w i).dag a r ≡ Some q → (q' : P) × ((w j).dag a r ≡ Some q') → (w j).dag a r ≡ Some q
+    settle h y = y.1 ∙ ap Some (sym (dag-nonequivocation S ci cj h y.1))
 
     -- two rounds above: the previous quorum meets the voters
     path_two : {p : P} → Held (w j) p → round p ≡ suc (suc (round c)) → Reach (w j) p c
@@ -55,13 +54,13 @@ module _ {R : Rules} {correct : ℕ → Bool} {w : World R} {G : Log R} (S : Sou
         m : Common size (names p) (votes (w i) c) everyone
         m = voters-meet R (rw alike at u.previous.quorum) vc.more
 
-        x : (q : P) × ((w i).dag m.who (suc (round c)) ≡ some q) × (names q (author c) ≡ true)
+        x : (q : P) × ((w i).dag m.who (suc (round c)) ≡ Some q) × (names q (author c) ≡ true)
         x = vote-by R ((w i).dag m.who (suc (round c))) m.second
 
-        hq : (w j).dag m.who (suc (round c)) ≡ some x.0
+        hq : (w j).dag m.who (suc (round c)) ≡ Some x.0
         hq = settle x.1 (sj.closed h (suc (round c)) m.who e m.first)
 
-        hc' : (w j).dag (author c) (round c) ≡ some c
+        hc' : (w j).dag (author c) (round c) ≡ Some c
         hc' = settle hc (sj.closed hq (round c) (author c) (sj.place hq).1 x.2)
 
     path_up : (n : ℕ) {p : P} → Held (w j) p → round p ≡ n + suc (suc (round c)) → Reach (w j) p c

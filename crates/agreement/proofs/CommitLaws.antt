@@ -1,6 +1,6 @@
 -- The computed chain is one that a commit may make, so a computed commit is a move.
-use Rattle.std.proofs.Common.{◌≡◌, refl, sym, ◌∙◌, subst, Bool, true, false, cond, true≢false, List, [], ◌∷◌, ℕ, zero, suc, ◌+◌, ◌-◌, ◌≤◌, ◌<◌, arith}
-use mathlib.Core.Option.{Option, none, some, some-injective, none-ne-some}
+use Rattle.std.proofs.Common.{◌≡◌, refl, sym, ◌∙◌, subst, Bool, true, false, cond, true≢false, List, [], ◌∷◌, ℕ, zero, suc, ◌+◌, ◌-◌, ◌≤◌, ◌<◌, arith, Option, Some, None}
+use Rattle.std.proofs.lemmas.Option.{same_Some, none-some}
 use native.Mathlib.Decide.{ℕ_discrete}
 use Rattle.agreement.specs.Rules.{Chain, last, Rules}
 use Rattle.agreement.specs.Laws.{Lawful}
@@ -10,7 +10,7 @@ use Rattle.agreement.specs.Quorum.{Outweighs}
 use Rattle.agreement.specs.Anchors.{Anchor, votes}
 use Rattle.agreement.specs.Links.{Linked}
 use Rattle.agreement.specs.Invariants.{Invariant}
-use Rattle.agreement.specs.Moves.{after_commit, Extension, first_block, next-block, Move, commit}
+use Rattle.agreement.specs.Moves.{after_commit, Extension, first_block, next_block, Move, commit}
 use Rattle.agreement.proofs.DagLaws.{on-place, all_placed}
 use Rattle.agreement.specs.Histories.{in_history}
 use Rattle.agreement.proofs.HistoryLaws.{history_reach, reach_history}
@@ -21,15 +21,15 @@ module _ {R : Rules} (s : View R) where
   open R use {P, committee, leader}
 
   -- the computed anchor is the anchor
-  pub anchor-at : {r : ℕ} {q : P} → Knows s r → anchor_at s r ≡ some q → Anchor s r q
+  pub anchor-at : {r : ℕ} {q : P} → Knows s r → anchor_at s r ≡ Some q → Anchor s r q
   unfolding anchor_at
   anchor-at {r} {q} k h = go (leader (committee s.chain r) r) refl h
     where
-      go : (o : Option ℕ) → leader (committee s.chain r) r ≡ o → by_leader s r o ≡ some q → Anchor s r q
-      go none e l = absurd (none-ne-some q l)
-      go (some a) e l = record { aware = k; lead = a; leads = e; held = l }
+      go : (o : Option ℕ) → leader (committee s.chain r) r ≡ o → by_leader s r o ≡ Some q → Anchor s r q
+      go None e l = absurd (none-some q l)
+      go (Some a) e l = record { aware = k; lead = a; leads = e; held = l }
 
-  at-anchor : {r : ℕ} {q : P} → Anchor s r q → anchor_at s r ≡ some q
+  at-anchor : {r : ℕ} {q : P} → Anchor s r q → anchor_at s r ≡ Some q
   unfolding anchor_at
   at-anchor x = rw x.leads x.held
 
@@ -37,23 +37,23 @@ module _ {R : Rules} {s : View R} (X : Placed s) where
   open R use {P, round, committee, leader}
 
   -- the computed anchor is a certificate of its leader and round
-  anchor-by : (r : ℕ) {q : P} → anchor_at s r ≡ some q → (a : ℕ) × (s.dag a r ≡ some q)
+  anchor-by : (r : ℕ) {q : P} → anchor_at s r ≡ Some q → (a : ℕ) × (s.dag a r ≡ Some q)
   unfolding anchor_at
   anchor-by r {q} h = go (leader (committee s.chain r) r) h
     where
-      go : (o : Option ℕ) → by_leader s r o ≡ some q → (a : ℕ) × (s.dag a r ≡ some q)
-      go none e = absurd (none-ne-some q e)
-      go (some a) e = (a, e)
+      go : (o : Option ℕ) → by_leader s r o ≡ Some q → (a : ℕ) × (s.dag a r ≡ Some q)
+      go None e = absurd (none-some q e)
+      go (Some a) e = (a, e)
 
-  pub anchor-held : (r : ℕ) {q : P} → anchor_at s r ≡ some q → Held s q
+  pub anchor-held : (r : ℕ) {q : P} → anchor_at s r ≡ Some q → Held s q
   anchor-held r h = on-place X (anchor-by r h).1
 
-  pub anchor-round : (r : ℕ) {q : P} → anchor_at s r ≡ some q → round q ≡ r
+  pub anchor-round : (r : ℕ) {q : P} → anchor_at s r ≡ Some q → round q ≡ r
   anchor-round r h = (X.place (anchor-by r h).1).1
 
 module _ {R : Rules} (Y : Lawful R) {s : View R} (X : Placed s) (L : Linked s s.chain) where
   open R use {P, author, round, committee}
-  open Y use {known-down, apart, late}
+  open Y use {known_down, apart, late}
 
   blocks-from-dag : (l : List P) → FromDag s (blocks_of s l)
   unfolding blocks_of
@@ -93,7 +93,7 @@ module _ {R : Rules} (Y : Lawful R) {s : View R} (X : Placed s) (L : Linked s s.
         let e : round q ≡ last s.chain + suc n = (X.place b.held).1 in
         let two = apart (committee s.chain (last s.chain + suc n)) (committee s.chain (round x)) h b.leads a.leads in
         let c = blocks_of s (q ∷ taken s n q) in
-        next-block (link-made X x c (blocks-from-dag (q ∷ taken s n q)) (on-place X a.held) a (omega arith) (λ r p i j. g r p (omega arith) j))
+        next_block (link-made X x c (blocks-from-dag (q ∷ taken s n q)) (on-place X a.held) a (omega arith) (λ r p i j. g r p (omega arith) j))
         (q, subst (λ (z : ℕ). Anchor s z q) (sym e) b, l)
         (f q (subst (λ (z : ℕ). Anchor s z q) (sym e) b) (omega arith) (λ r p i j. absurd (omega arith)))
 
@@ -102,22 +102,22 @@ module _ {R : Rules} (Y : Lawful R) {s : View R} (X : Placed s) (L : Linked s s.
     extension_next = go (anchor_at s (last s.chain + suc n)) refl
       where
         aware : Knows s (last s.chain + suc n)
-        aware = known-down s.chain (last s.chain + suc n) (round x) (omega arith) a.aware
+        aware = known_down s.chain (last s.chain + suc n) (round x) (omega arith) a.aware
 
         test : (q : P) → Anchor s (last s.chain + suc n) q → (i : Bool) → in_history s x (round q) (author q) ≡ i
             → Extension s (blocks_of s (x ∷ cond i (q ∷ taken s n q) (taken s n x)))
         test q b true e =
             let p = history_reach X (on-place X a.held) (round q) (author q) e in
-            take b (subst (λ (z : P). Reach s x z) (some-injective p.0 q (sym p.1 ∙ on-place X b.held)) p.2)
+            take b (subst (λ (z : P). Reach s x z) (same_Some p.0 q (sym p.1 ∙ on-place X b.held)) p.2)
         test q b false e =
             skip λ p c l.
-            let same-anchor : p ≡ q = some-injective p q (sym (at-anchor s c) ∙ at-anchor s b) in
+            let same-anchor : p ≡ q = same_Some p q (sym (at-anchor s c) ∙ at-anchor s b) in
             let i : in_history s x (round q) (author q) ≡ true = subst (λ (z : P). in_history s x (round z) (author z) ≡ true) same-anchor (reach_history X (on-place X a.held) l) in
             true≢false (sym i ∙ e)
 
         go : (o : Option P) → anchor_at s (last s.chain + suc n) ≡ o → Extension s (blocks_of s (x ∷ choose s x (λ y. taken s n y) o))
-        go none e = skip λ p c l. none-ne-some p (sym e ∙ at-anchor s c)
-        go (some q) e = test q (anchor-at s aware e) (in_history s x (round q) (author q)) refl
+        go None e = skip λ p c l. none-some p (sym e ∙ at-anchor s c)
+        go (Some q) e = test q (anchor-at s aware e) (in_history s x (round q) (author q)) refl
 
   extension_made : (n : ℕ) → Extends n
   unfolding blocks_of taken
@@ -132,10 +132,10 @@ module _ {R : Rules} (Y : Lawful R) {s : View R} (X : Placed s) (L : Linked s s.
 
 module _ {R : Rules} (Y : Lawful R) {correct : ℕ → Bool} {G : Log R} {k : ℕ} {s : View R} {l : List R.P} (I : Invariant correct G k s l) where
   open R use {P, round, committee}
-  open Y use {known-down}
+  open Y use {known_down}
 
   -- the commit of the anchor q of a round above the last block, if the votes for it weigh more than the bound
-  pub commit-move : (r : ℕ) (q : P) → anchor_at s r ≡ some q → last s.chain < r → Knows s (suc r) → Outweighs R (committee s.chain (suc (round q))) (votes s q)
+  pub commit-move : (r : ℕ) (q : P) → anchor_at s r ≡ Some q → last s.chain < r → Knows s (suc r) → Outweighs R (committee s.chain (suc (round q))) (votes s q)
       → Move correct G k s l (after_commit s (committed s q)) l
   unfolding committed blocks_of block_of
   commit-move r q found later aware more =
@@ -148,4 +148,4 @@ module _ {R : Rules} (Y : Lawful R) {correct : ℕ → Bool} {G : Log R} {k : �
       level = anchor-round X r found
 
       own : Anchor s (round q) q
-      own = subst (λ (n : ℕ). Anchor s n q) (sym level) (anchor-at s (known-down s.chain r (suc r) (omega arith) aware) found)
+      own = subst (λ (n : ℕ). Anchor s n q) (sym level) (anchor-at s (known_down s.chain r (suc r) (omega arith) aware) found)

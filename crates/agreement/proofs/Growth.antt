@@ -1,6 +1,6 @@
 -- What a member knows stays when its certificates and its chain grow, and every move grows them.
-use Rattle.std.proofs.Common.{◌≡◌, sym, ◌∙◌, Bool, true, List, [], ◌∷◌, ◌⊎◌, inl, inr, ℕ, suc, ◌≤◌, arith}
-use mathlib.Core.Option.{some, some-injective}
+use Rattle.std.proofs.Common.{◌≡◌, sym, ◌∙◌, Bool, true, List, [], ◌∷◌, ◌⊎◌, inl, inr, ℕ, suc, ◌≤◌, arith, Some}
+use Rattle.std.proofs.lemmas.Option.{same_Some}
 use Rattle.agreement.specs.Weights.{weigh}
 use Rattle.agreement.specs.Rules.{Block, Chain, Rules}
 use Rattle.agreement.specs.Laws.{Lawful}
@@ -10,7 +10,7 @@ use Rattle.agreement.specs.Anchors.{Anchor, votes, Elected}
 use Rattle.agreement.specs.Links.{Link, ReachesLast, Linked, LastElected}
 use Rattle.agreement.specs.Prefixes.{◌≼◌, same, grown}
 use Rattle.agreement.specs.Invariants.{PreviousQuorum, Signable, Ordering, Certified, Storing}
-use Rattle.agreement.specs.Moves.{Extension, first_block, next-block, Move, other-call, propose, endorse, certify, accept, advance, commit}
+use Rattle.agreement.specs.Moves.{Extension, first_block, next_block, Move, other_call, propose, endorse, certify, accept, advance, commit}
 use Rattle.agreement.proofs.WeightLaws.{weigh_mono}
 use Rattle.agreement.proofs.KnownCommittees.{known-stays, committee-stays}
 use Rattle.agreement.proofs.DagLaws.{vote-by, Compatible, at_place, carry}
@@ -18,17 +18,17 @@ use Rattle.agreement.proofs.PlaceLaws.{put-old}
 
 -- t has all that s has
 pub record Grows {R : Rules} (s t : View R) : Type 0 where
-  pub dag : {a r : ℕ} {p : R.P} → s.dag a r ≡ some p → t.dag a r ≡ some p
+  pub dag : {a r : ℕ} {p : R.P} → s.dag a r ≡ Some p → t.dag a r ≡ Some p
   pub chain : s.chain ≼ t.chain
 
 module _ {R : Rules} (Y : Lawful R) {s t : View R} (g : Grows s t) where
   open R use {size, P, round, committee}
 
   alike : Compatible s t
-  alike = record { alike = λ {a} {r} {p} {q} h k. some-injective p q (sym (g.dag h) ∙ k) }
+  alike = record { alike = λ {a} {r} {p} {q} h k. same_Some p q (sym (g.dag h) ∙ k) }
 
   alike-back : Compatible t s
-  alike-back = record { alike = λ {a} {r} {p} {q} h k. some-injective p q (sym h ∙ g.dag k) }
+  alike-back = record { alike = λ {a} {r} {p} {q} h k. same_Some p q (sym h ∙ g.dag k) }
 
   knows_grows : {r : ℕ} → Knows s r → Knows t r
   knows_grows k = known-stays Y g.chain k
@@ -63,7 +63,7 @@ module _ {R : Rules} (Y : Lawful R) {s t : View R} (g : Grows s t) where
         aware = knows_grows x.aware;
         signers = x.signers;
         quorum = rw (stays x.aware) x.quorum;
-        with-author = x.with-author;
+        with_author = x.with_author;
         signs = x.signs;
       }
 
@@ -87,7 +87,7 @@ module _ {R : Rules} (Y : Lawful R) {s t : View R} (g : Grows s t) where
 
 module _ {R : Rules} (Y : Lawful R) {correct : ℕ → Bool} {G : Log R} {s t : View R} (g : Grows s t) (T : Storing correct G s) (U : Storing correct G t) where
   open R use {P}
-  open Y use {known-down}
+  open Y use {known_down}
 
   -- a held certificate has the history that it had
   forth : {p q : P} → Held s p → Reach s p q → Reach t p q
@@ -103,7 +103,7 @@ module _ {R : Rules} (Y : Lawful R) {correct : ℕ → Bool} {G : Log R} {s t : 
         spaced = l.spaced;
         gap = λ r q h k x m.
             let n = back-again held m in
-            let known : Knows s r = known-down s.chain r b.round (omega arith) l.sees.aware in
+            let known : Knows s r = known_down s.chain r b.round (omega arith) l.sees.aware in
             let e = U.place x.held in
             l.gap r q h k (record { aware = known; lead = x.lead; leads = rw (stays Y g known) at x.leads; held = rw (e.0, e.1) at n.1 }) n.0;
         content = λ a r p. (
@@ -129,11 +129,11 @@ module _ {R : Rules} (Y : Lawful R) {correct : ℕ → Bool} {G : Log R} {s t : 
 -- a commit's chain grows from the chain before
 extension_grows : {R : Rules} {s : View R} {c : Chain R.P} → Extension s c → s.chain ≼ c
 extension_grows (first_block {b = b} l) = grown b l.spaced same
-extension_grows (next-block {b = b} l p x) = grown b l.spaced (extension_grows x)
+extension_grows (next_block {b = b} l p x) = grown b l.spaced (extension_grows x)
 
 -- every move grows the view
 pub move-grows : {R : Rules} {correct : ℕ → Bool} {G : Log R} {k : ℕ} {s t : View R} {l m : List R.P} → Move correct G k s l t m → Grows s t
-move-grows other-call = record { dag = λ h. h; chain = same }
+move-grows other_call = record { dag = λ h. h; chain = same }
 move-grows (propose p ek er f g) = record { dag = λ h. h; chain = same }
 move-grows (endorse p n e f g) = record { dag = λ h. h; chain = same }
 move-grows {R} {s = s} (certify p e f b) = record { dag = λ h. put-old R p s.dag f h; chain = same }

@@ -1,6 +1,6 @@
 -- The computed history is the history.
-use Rattle.std.proofs.Common.{◌≡◌, refl, sym, ◌∙◌, subst, Bool, true, false, ◌&&◌, true≢false, ℕ, zero, suc, ◌+◌, ◌-◌, ◌≤◌, ◌<◌, arith, eqb, leb, eqb-true, eq-eqb, leb-true, le-leb}
-use mathlib.Core.Option.{some, some-injective}
+use Rattle.std.proofs.Common.{◌≡◌, refl, sym, ◌∙◌, subst, Bool, true, false, ◌&&◌, true≢false, ℕ, zero, suc, ◌+◌, ◌-◌, ◌≤◌, ◌<◌, arith, eqb, leb, eqb-true, eq-eqb, leb-true, le-leb, Some}
+use Rattle.std.proofs.lemmas.Option.{same_Some}
 use borrow.Author.Tests.{lt-leb}
 use Rattle.base.proofs.Bools.{both}
 use Rattle.base.specs.Folds.{any_to}
@@ -37,7 +37,7 @@ module _ {R : Rules} (s : View R) where
   history-above x r a h = rw (lt-leb r (round x) h) refl
 
   -- one more step back
-  reach_more : {p q t : P} (m a : ℕ) → Reach s p q → round q ≡ suc m → names q a ≡ true → s.dag a m ≡ some t → Reach s p t
+  reach_more : {p q t : P} (m a : ℕ) → Reach s p q → round q ≡ suc m → names q a ≡ true → s.dag a m ≡ Some t → Reach s p t
   reach_more m a here e n h = back m a e n h here
   reach_more m a (back m' a' e' n' h' l) e n h = back m' a' e' n' h' (reach_more m a l e n h)
 
@@ -45,8 +45,8 @@ module _ {R : Rules} {s : View R} (X : Placed s) where
   open R use {size, P, author, round, names}
 
   level-down : {x : P} (d a : ℕ) → suc d ≤ round x → level s x (suc d) a ≡ true
-      → ((i : ℕ) → level s x d i ≡ true → (q : P) × (s.dag i (round x - d) ≡ some q) × Reach s x q)
-      → (q : P) × (s.dag a (round x - suc d) ≡ some q) × Reach s x q
+      → ((i : ℕ) → level s x d i ≡ true → (q : P) × (s.dag i (round x - d) ≡ Some q) × Reach s x q)
+      → (q : P) × (s.dag a (round x - suc d) ≡ Some q) × Reach s x q
   unfolding level
   level-down {x} d a l h f =
       let k = both (is_held (s.dag a (round x - suc d))) (any_to (λ i. level s x d i && vote R a (s.dag i (round x - d))) size) h in
@@ -55,12 +55,12 @@ module _ {R : Rules} {s : View R} (X : Placed s) where
       let b = both (level s x d i.0) (vote R a (s.dag i.0 (round x - d))) i.2 in
       let v = vote-by R (s.dag i.0 (round x - d)) b.1 in
       let y = f i.0 b.0 in
-      let e : y.0 ≡ v.0 = some-injective y.0 v.0 (sym y.1 ∙ v.1) in
+      let e : y.0 ≡ v.0 = same_Some y.0 v.0 (sym y.1 ∙ v.1) in
       let r : round v.0 ≡ suc (round x - suc d) = omega (arith, (X.place v.1).1) in
       (q.0, q.1, reach_more s (round x - suc d) a (subst (λ (z : P). Reach s x z) e y.2) r v.2 q.1)
 
   -- what is at a level is held, and in the history
-  level_reach : {x : P} → Held s x → (d a : ℕ) → d ≤ round x → level s x d a ≡ true → (q : P) × (s.dag a (round x - d) ≡ some q) × Reach s x q
+  level_reach : {x : P} → Held s x → (d a : ℕ) → d ≤ round x → level s x d a ≡ true → (q : P) × (s.dag a (round x - d) ≡ Some q) × Reach s x q
   unfolding level
   level_reach {x} hx zero a l h =
       let e : a ≡ author x = eqb-true a (author x) h in
@@ -69,7 +69,7 @@ module _ {R : Rules} {s : View R} (X : Placed s) where
   level_reach {x} hx (suc d) a l h = level-down d a l h λ i k. level_reach hx d i (omega arith) k
 
   level-up : (x : P) {y q : P} (d m a : ℕ) → Held s y → round y + d ≡ round x → level s x d (author y) ≡ true
-      → round y ≡ suc m → names y a ≡ true → s.dag a m ≡ some q → level s x (suc d) a ≡ true
+      → round y ≡ suc m → names y a ≡ true → s.dag a m ≡ Some q → level s x (suc d) a ≡ true
   unfolding level
   level-up x {y} {q} d m a hy e h er n hq =
       let below : round x - suc d ≡ m = omega arith in
@@ -89,7 +89,7 @@ module _ {R : Rules} {s : View R} (X : Placed s) where
       reach_level (suc d) (on-place X hq) (omega (arith, p.1)) up l
 
   -- the computed history is the history
-  pub history_reach : {x : P} → Held s x → (r a : ℕ) → in_history s x r a ≡ true → (q : P) × (s.dag a r ≡ some q) × Reach s x q
+  pub history_reach : {x : P} → Held s x → (r a : ℕ) → in_history s x r a ≡ true → (q : P) × (s.dag a r ≡ Some q) × Reach s x q
   unfolding in_history
   history_reach {x} hx r a h =
       let k = both (leb r (round x)) (level s x (round x - r) a) h in

@@ -16,7 +16,7 @@ use Rattle.agreement.proofs.EntryLaws.{state-here, state-other, Each, kept}
 
 module _ {R : Rules} {correct : ℕ → Bool} (E : Machine R correct) (start : ℕ → E.State) where
   open R use {P, committee}
-  open E use {State, Call, view, after, signs, Handed, Good, good-after, move}
+  open E use {State, Call, view, after, signs, Handed, Good, good_after, move}
 
   -- a call changes the log of the one who makes it
   log-here : (e : Entry Call) (l : List (Entry Call)) → log E start (e ∷ l) e.who ≡ signs e.who (states after start l e.who) e.call ++ log E start l e.who
@@ -44,7 +44,7 @@ module _ {R : Rules} {correct : ℕ → Bool} (E : Machine R correct) (start : �
     all-handed (e ∷ l) h = (h.0.handed, all-handed l h.1)
 
     good : (l : List (Entry Call)) → Legal E start l → (i : ℕ) → correct i ≡ true → Good i (states after start l i)
-    good l h i c = kept after start Handed Good good-after i (g i c) l (all-handed l h)
+    good l h i c = kept after start Handed Good good_after i (g i c) l (all-handed l h)
 
     -- a call is a move of the one who makes it
     next : (e : Entry Call) (l : List (Entry Call)) → LegalNext E start e l → Legal E start l → Sound correct (views E start l) (log E start l)

@@ -1,6 +1,5 @@
 -- Marking the blocks of a commit makes the chain that the commit makes.
-use Rattle.std.proofs.Common.{◌≡◌, refl, sym, ap, ap₂, ◌∙◌, Bool, true, false, not, ◌&&◌, ◌||◌, cond, true≢false, List, [], ◌∷◌, ℕ, zero, suc, ◌+◌, ◌-◌, ◌≤◌, ◌<◌, arith, eqb, eqb-true, eq-eqb, ne_eqb, length}
-use mathlib.Core.Option.{Option, none, some}
+use Rattle.std.proofs.Common.{◌≡◌, refl, sym, ap, ap₂, ◌∙◌, Bool, true, false, not, ◌&&◌, ◌||◌, cond, true≢false, List, [], ◌∷◌, ℕ, zero, suc, ◌+◌, ◌-◌, ◌≤◌, ◌<◌, arith, eqb, eqb-true, eq-eqb, ne_eqb, length, Option, Some, None}
 use native.Mathlib.Decide.{ℕ_discrete}
 use Rattle.base.proofs.Bools.{cond_same}
 use Rattle.agreement.specs.Rules.{Chain, last, Rules}
@@ -15,7 +14,7 @@ use Rattle.agreement.specs.Marks.{marked, marked_chain, rounds_of, mark_block, m
 module _ {P : Type 0} (d : ℕ → ℕ → Option P) where
   -- chains with the same blocks
   same_blocks : (m n : ℕ → ℕ → ℕ) (l : List ℕ)
-      → ((j a q : ℕ) → 0 < j → j ≤ length l → cond (eqb (m a q) j) (d a q) none ≡ cond (eqb (n a q) j) (d a q) none)
+      → ((j a q : ℕ) → 0 < j → j ≤ length l → cond (eqb (m a q) j) (d a q) None ≡ cond (eqb (n a q) j) (d a q) None)
       → marked_chain d m l ≡ marked_chain d n l
   unfolding marked_chain
   same_blocks m n [] f = refl
@@ -39,7 +38,7 @@ module _ {R : Rules} (s : View R) where
   used_mark m (r ∷ l) a q h k = go (ℕ_discrete (m a q) (suc (length l))) (used_mark m l a q h)
     where
       go : Dec (m a q ≡ suc (length l)) → (m a q ≤ length l → in_chain (marked_chain s.dag m l) a q ≡ not (eqb (m a q) 0))
-          → (is_held (cond (eqb (m a q) (suc (length l))) (s.dag a q) none) || in_chain (marked_chain s.dag m l) a q) ≡ not (eqb (m a q) 0)
+          → (is_held (cond (eqb (m a q) (suc (length l))) (s.dag a q) None) || in_chain (marked_chain s.dag m l) a q) ≡ not (eqb (m a q) 0)
       go (yes e) f =
           let z : eqb (m a q) 0 ≡ false = ne_eqb (m a q) 0 (omega arith) in
           let y : eqb (m a q) (suc (length l)) ≡ true = eq-eqb (m a q) (suc (length l)) e in
@@ -52,7 +51,7 @@ module _ {R : Rules} (s : View R) where
     old-blocks = same_blocks s.dag (mark_block s x (suc (length l)) m) m l λ j a q p h. go j a q p h (eqb (m a q) 0) (in_history s x q a) refl
       where
         go : (j a q : ℕ) → 0 < j → j ≤ length l → (z i : Bool) → eqb (m a q) 0 ≡ z
-            → cond (eqb (cond (z && i) (suc (length l)) (m a q)) j) (s.dag a q) none ≡ cond (eqb (m a q) j) (s.dag a q) none
+            → cond (eqb (cond (z && i) (suc (length l)) (m a q)) j) (s.dag a q) None ≡ cond (eqb (m a q) j) (s.dag a q) None
         go j a q p h true true e =
             let k = eqb-true (m a q) 0 e in
             rw (ne_eqb (suc (length l)) j (omega arith), ne_eqb (m a q) j (omega arith)) refl
@@ -63,19 +62,19 @@ module _ {R : Rules} (s : View R) where
     unfolding mark_block block_of
     new-block a q = held (s.dag a q) refl
       where
-        cases : (z i : Bool) → eqb (m a q) 0 ≡ z → cond (eqb (cond (z && i) (suc (length l)) (m a q)) (suc (length l))) (s.dag a q) none ≡ cond (i && not (not z)) (s.dag a q) none
+        cases : (z i : Bool) → eqb (m a q) 0 ≡ z → cond (eqb (cond (z && i) (suc (length l)) (m a q)) (suc (length l))) (s.dag a q) None ≡ cond (i && not (not z)) (s.dag a q) None
         cases true true e = rw (eq-eqb (suc (length l)) (suc (length l)) refl) refl
         cases true false e = let k = eqb-true (m a q) 0 e in rw (ne_eqb (m a q) (suc (length l)) (omega arith)) refl
         cases false true e = rw (ne_eqb (m a q) (suc (length l)) (omega (arith, fits.range a q))) refl
         cases false false e = rw (ne_eqb (m a q) (suc (length l)) (omega (arith, fits.range a q))) refl
 
         held : (o : Option P) → s.dag a q ≡ o
-            → cond (eqb (cond (eqb (m a q) 0 && in_history s x q a) (suc (length l)) (m a q)) (suc (length l))) (s.dag a q) none
-            ≡ cond (in_history s x q a && not (in_chain (marked_chain s.dag m l) a q)) (s.dag a q) none
-        held none e =
-            rw e (cond_same (eqb (cond (eqb (m a q) 0 && in_history s x q a) (suc (length l)) (m a q)) (suc (length l))) none
-            ∙ sym (cond_same (in_history s x q a && not (in_chain (marked_chain s.dag m l) a q)) none))
-        held (some p) e = rw (used_mark m l a q (rw e refl) (fits.range a q)) (cases (eqb (m a q) 0) (in_history s x q a) refl)
+            → cond (eqb (cond (eqb (m a q) 0 && in_history s x q a) (suc (length l)) (m a q)) (suc (length l))) (s.dag a q) None
+            ≡ cond (in_history s x q a && not (in_chain (marked_chain s.dag m l) a q)) (s.dag a q) None
+        held None e =
+            rw e (cond_same (eqb (cond (eqb (m a q) 0 && in_history s x q a) (suc (length l)) (m a q)) (suc (length l))) None
+            ∙ sym (cond_same (in_history s x q a && not (in_chain (marked_chain s.dag m l) a q)) None))
+        held (Some p) e = rw (used_mark m l a q (rw e refl) (fits.range a q)) (cases (eqb (m a q) 0) (in_history s x q a) refl)
 
     -- marking one more block adds that block to the chain
     pub mark-block : marked_chain s.dag (mark_block s x (suc (length l)) m) (round x ∷ l) ≡ block_of s x (marked_chain s.dag m l) ∷ marked_chain s.dag m l
@@ -96,12 +95,12 @@ module _ {R : Rules} {s : View R} (X : Placed s) where
       test q h false f = f x
 
       go : (o : Option P) → anchor_at s (last s.chain + suc n) ≡ o → ((y : P) → AllHeld s (taken s n y)) → AllHeld s (choose s x (λ y. taken s n y) o)
-      go none e f = f x
-      go (some q) e f = test q (anchor-held X (last s.chain + suc n) e) (in_history s x (round q) (author q)) f
+      go None e f = f x
+      go (Some q) e f = test q (anchor-held X (last s.chain + suc n) e) (in_history s x (round q) (author q)) f
 
   fits_more : (x : P) (m : ℕ → ℕ → ℕ) (n : ℕ) → Held s x → MarksFit s m n → MarksFit s (mark_block s x (suc n) m) (suc n)
   unfolding mark_block
-  fits_more x m n hx f = record { range = λ a q. range a q (eqb (m a q) 0 && in_history s x q a); only-held = λ a q. only a q (eqb (m a q) 0) (in_history s x q a) refl }
+  fits_more x m n hx f = record { range = λ a q. range a q (eqb (m a q) 0 && in_history s x q a); only_held = λ a q. only a q (eqb (m a q) 0) (in_history s x q a) refl }
     where
       range : (a q : ℕ) (b : Bool) → cond b (suc n) (m a q) ≤ suc n
       range a q true = omega arith
@@ -109,8 +108,8 @@ module _ {R : Rules} {s : View R} (X : Placed s) where
 
       only : (a q : ℕ) (z i : Bool) → in_history s x q a ≡ i → is_held (s.dag a q) ≡ false → cond (z && i) (suc n) (m a q) ≡ 0
       only a q true true e h = absurd (true≢false (sym e ∙ history-held X hx q a h))
-      only a q true false e h = f.only-held a q h
-      only a q false i e h = f.only-held a q h
+      only a q true false e h = f.only_held a q h
+      only a q false i e h = f.only_held a q h
 
   module _ (m : ℕ → ℕ → ℕ) (rs : List ℕ) (fits : MarksFit s m (length rs)) where
     -- marks fit after a commit where they fitted before

@@ -1,6 +1,5 @@
 -- In a sound world no two correct members hold different certificates at one place.
-use Rattle.std.proofs.Common.{◌≡◌, sym, ap, ◌∙◌, Bool, true, ℕ}
-use mathlib.Core.Option.{some}
+use Rattle.std.proofs.Common.{◌≡◌, sym, ap, ◌∙◌, Bool, true, ℕ, Some}
 use Rattle.agreement.specs.Rules.{Rules}
 use Rattle.agreement.specs.View.{Knows, World, Log, Among}
 use Rattle.agreement.specs.Dag.{Held}
@@ -41,10 +40,10 @@ module _ {R : Rules} {correct : ℕ → Bool} {w : World R} {G : Log R} (S : Sou
       alike = ap (committee (w j).chain) (sym er) ∙ committee_agreement cj ci (rw (← er) at y.aware) x.aware
 
       m : Common size x.signers y.signers correct
-      m = quorums_meet S.laws (few_faults ci hp) (quorum_pos R x.quorum x.with-author) x.quorum (rw alike at y.quorum)
+      m = quorums_meet S.laws (few_faults ci hp) (quorum_pos R x.quorum x.with_author) x.quorum (rw alike at y.quorum)
 
   -- two certificates held at one place are the same
-  pub dag-nonequivocation : {i j a r : ℕ} {p q : P} → correct i ≡ true → correct j ≡ true → (w i).dag a r ≡ some p → (w j).dag a r ≡ some q → p ≡ q
+  pub dag-nonequivocation : {i j a r : ℕ} {p q : P} → correct i ≡ true → correct j ≡ true → (w i).dag a r ≡ Some p → (w j).dag a r ≡ Some q → p ≡ q
   dag-nonequivocation {i} {j} {a} {r} {p} {q} ci cj hp hq =
       let si = (S.members i ci).storing in
       let sj = (S.members j cj).storing in
@@ -60,5 +59,5 @@ module _ {R : Rules} {correct : ℕ → Bool} {w : World R} {G : Log R} (S : Sou
   pub signer : {i : ℕ} {p : P} → correct i ≡ true → Held (w i) p → Signer p
   signer {i} {p} ci h =
       let x = certified ci h in
-      let m = quorum-correct S.laws {C = correct} (few_faults ci h) (quorum_pos R x.quorum x.with-author) x.quorum in
+      let m = quorum-correct S.laws {C = correct} (few_faults ci h) (quorum_pos R x.quorum x.with_author) x.quorum in
       record { who = m.who; good = m.third; signed = x.signs m.who m.third m.first }

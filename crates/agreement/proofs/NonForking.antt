@@ -1,6 +1,6 @@
 -- In a sound world, linked chains with an elected top are prefixes of one another, whichever correct members see them so.
-use Rattle.std.proofs.Common.{◌≡◌, refl, sym, ap, ap₂, ◌∙◌, subst, Bool, true, [], ◌∷◌, inl, inr, ◌≢◌, ℕ, ◌≤◌, ◌<◌, le_antisymm, arith}
-use mathlib.Core.Option.{some, some-injective}
+use Rattle.std.proofs.Common.{◌≡◌, refl, sym, ap, ap₂, ◌∙◌, subst, Bool, true, [], ◌∷◌, inl, inr, ◌≢◌, ℕ, ◌≤◌, ◌<◌, le_antisymm, arith, Some}
+use Rattle.std.proofs.lemmas.Option.{same_Some}
 use native.Mathlib.Decide.{ℕ_discrete, dec_le}
 use Rattle.base.proofs.Options.{option_ext}
 use Rattle.agreement.specs.Rules.{Block, Chain, last, Rules}
@@ -25,7 +25,7 @@ from_nothing s (b ∷ c) l = grown b l.1.spaced (from_nothing s c l.3)
 
 module _ {R : Rules} {correct : ℕ → Bool} {w : World R} {G : Log R} (S : Sound correct w G) where
   open R use {P, committee, leader}
-  open S.laws use {known-down, apart}
+  open S.laws use {known_down, apart}
 
   module _ {i j : ℕ} (ci : correct i ≡ true) (cj : correct j ≡ true) where
     stored : Storing correct G (w j)
@@ -37,11 +37,11 @@ module _ {R : Rules} {correct : ℕ → Bool} {w : World R} {G : Log R} (S : Sou
 
     -- the anchor that i sees is the one that j sees
     anchor-once : {r : ℕ} {p q : P} → Anchor (w i) r p → Anchor (w j) r q → p ≡ q
-    anchor-once {r} {p} {q} x y = dag-nonequivocation S ci cj x.held (subst (λ (a : ℕ). (w j).dag a r ≡ some q) (sym leads) y.held)
+    anchor-once {r} {p} {q} x y = dag-nonequivocation S ci cj x.held (subst (λ (a : ℕ). (w j).dag a r ≡ Some q) (sym leads) y.held)
       where
         leads : x.lead ≡ y.lead
         leads =
-            some-injective x.lead y.lead
+            same_Some x.lead y.lead
             (sym x.leads ∙ ap (λ (v : ℕ → ℕ). leader v r) (committee_agreement S ci cj x.aware y.aware) ∙ y.leads)
 
     -- the anchor that i sees is j's, once j holds it and knows the round
@@ -64,7 +64,7 @@ module _ {R : Rules} {correct : ℕ → Bool} {w : World R} {G : Log R} (S : Sou
 
         go : Dec (r ≤ last e) → r ≤ last e
         go (yes k) = k
-        go (no k) = absurd (m.gap r q (omega arith) h (anchor-moves x (known-down (w j).chain r d.round (omega arith) m.sees.aware) held) l)
+        go (no k) = absurd (m.gap r q (omega arith) h (anchor-moves x (known_down (w j).chain r d.round (omega arith) m.sees.aware) held) l)
 
     -- blocks of one round have one anchor, whose history j sees as i does
     anchors-same : {b d : Block P} {c e : Chain P} {x y : P} → Link (w i) b c x → Link (w j) d e y → b.round ≡ d.round → x ≡ y
@@ -82,7 +82,7 @@ module _ {R : Rules} {correct : ℕ → Bool} {w : World R} {G : Log R} (S : Sou
     no_later (f ∷ c) e l p m er = no_gap m p.1 (reach_moves l m er p.2) (omega (arith, l.spaced))
 
     content-moves : {b d : Block P} {c : Chain P} {x y : P} → Link (w i) b c x → Link (w j) d c y → b.round ≡ d.round
-        → {a r : ℕ} {p : P} → b.holds a r ≡ some p → d.holds a r ≡ some p
+        → {a r : ℕ} {p : P} → b.holds a r ≡ Some p → d.holds a r ≡ Some p
     content-moves l m er {a} {r} {p} h =
         let f = (l.content a r p).0 h in
         (m.content a r p).1 (record { by = f.by; at = f.at; reached = reach_moves l m er f.reached; unused = f.unused })

@@ -1,13 +1,12 @@
 -- Each move of a correct member in a sound world keeps what holds of that member.
-use Rattle.std.proofs.Common.{◌≡◌, subst, Bool, true, List, [], ◌∷◌, ◌⊎◌, inl, inr, ℕ, arith}
-use mathlib.Core.Option.{some}
+use Rattle.std.proofs.Common.{◌≡◌, subst, Bool, true, List, [], ◌∷◌, ◌⊎◌, inl, inr, ℕ, arith, Some}
 use Rattle.agreement.specs.Rules.{Block, Chain, Rules}
 use Rattle.agreement.specs.View.{View, World, Log}
 use Rattle.agreement.specs.Dag.{Closed}
 use Rattle.agreement.specs.Places.{put}
 use Rattle.agreement.specs.Links.{Link, ReachesLast, Linked, LastElected}
 use Rattle.agreement.specs.Invariants.{Certified, Storing, Invariant, Sound}
-use Rattle.agreement.specs.Moves.{Extension, first_block, next-block, Move, certify, accept, commit}
+use Rattle.agreement.specs.Moves.{Extension, first_block, next_block, Move, certify, accept, commit}
 use Rattle.agreement.proofs.DagLaws.{at_place}
 use Rattle.agreement.proofs.AnchorPaths.{anchor_path}
 use Rattle.agreement.proofs.PlaceLaws.{put_only}
@@ -27,20 +26,20 @@ module _ {R : Rules} {correct : ℕ → Bool} {w : World R} {G : Log R} (S : Sou
   mine : Invariant correct G k (w k) (G k)
   mine = S.members k ck
 
-  held-admissible : {a r : ℕ} {p : P} → (w k).dag a r ≡ some p → Admissible correct G (w k) a r p
+  held-admissible : {a r : ℕ} {p : P} → (w k).dag a r ≡ Some p → Admissible correct G (w k) a r p
   held-admissible h =
       let x = mine.storing in
       record { by = (x.place h).0; at = (x.place h).1; closed = x.closed h; certified = x.certified h }
 
-  put-admissible : (p : P) → Closed (w k) p → Certified correct G (w k) p → (a r : ℕ) (q : P) → put R p (w k).dag a r ≡ some q → Admissible correct G (w k) a r q
+  put-admissible : (p : P) → Closed (w k) p → Certified correct G (w k) p → (a r : ℕ) (q : P) → put R p (w k).dag a r ≡ Some q → Admissible correct G (w k) a r q
   put-admissible p c b a r q h = go (put_only R p (w k).dag h)
     where
-      go : ((author p ≡ a) × (round p ≡ r) × (p ≡ q)) ⊎ ((w k).dag a r ≡ some q) → Admissible correct G (w k) a r q
+      go : ((author p ≡ a) × (round p ≡ r) × (p ≡ q)) ⊎ ((w k).dag a r ≡ Some q) → Admissible correct G (w k) a r q
       go (inl e) = subst (λ (z : P). Admissible correct G (w k) a r z) e.2 (record { by = e.0; at = e.1; closed = c; certified = b })
       go (inr k) = held-admissible k
 
   -- each certificate after a move is in order
-  admissible : {t : View R} {m : List P} → Move correct G k (w k) (G k) t m → (a r : ℕ) (p : P) → t.dag a r ≡ some p → Admissible correct G (w k) a r p
+  admissible : {t : View R} {m : List P} → Move correct G k (w k) (G k) t m → (a r : ℕ) (p : P) → t.dag a r ≡ Some p → Admissible correct G (w k) a r p
   admissible (certify p e f b) a r q h = put-admissible p (mine.signing.signable p (mine.signing.proposed p e).0).closed b a r q h
   admissible (accept p f c b) a r q h = put-admissible p c b a r q h
   admissible c a r q h = held-admissible h
@@ -64,7 +63,7 @@ module _ {R : Rules} {correct : ℕ → Bool} {w : World R} {G : Log R} (S : Sou
 
   extension_linked : {c : Chain P} → Extension (w k) c → Linked (w k) c
   extension_linked (first_block {x = x} l) = (x, l, reaches-elected (w k).chain mine.ordering.elected l, mine.ordering.linked)
-  extension_linked (next-block {x = x} l p e) = (x, l, p, extension_linked e)
+  extension_linked (next_block {x = x} l p e) = (x, l, p, extension_linked e)
 
   -- the chain after a move is linked, with an elected top, already in the world before it
   pub new-chain : {t : View R} {m : List P} → Move correct G k (w k) (G k) t m → Linked (w k) t.chain × LastElected (w k) t.chain

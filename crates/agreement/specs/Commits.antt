@@ -1,6 +1,5 @@
 -- A commit as an engine computes it: the anchors that are taken, newest first, and the blocks that they make.
-use Rattle.std.specs.Prelude.{Bool, false, not, ◌&&◌, ◌||◌, if◌then◌else◌, List, [], ◌∷◌, ℕ, zero, suc, ◌+◌, ◌-◌}
-use Rattle.std.proofs.Math.Option.{Option, none, some}
+use Rattle.std.specs.Prelude.{Bool, false, not, ◌&&◌, ◌||◌, if◌then◌else◌, List, [], ◌∷◌, ℕ, zero, suc, ◌+◌, ◌-◌, Option, Some, None}
 use Rattle.agreement.specs.Rules.{Block, Chain, last, Rules}
 use Rattle.agreement.specs.View.{View}
 use Rattle.agreement.specs.Dag.{is_held}
@@ -15,8 +14,8 @@ module _ {R : Rules} (s : View R) where
   open R use {P, author, round, committee, leader}
 
   abbrev pub by_leader : ℕ → Option ℕ → Option P
-  by_leader r none = none
-  by_leader r (some a) = s.dag a r
+  by_leader r None = None
+  by_leader r (Some a) = s.dag a r
 
   -- the anchor of round r
   unfoldable pub anchor_at : ℕ → Option P
@@ -24,7 +23,10 @@ module _ {R : Rules} (s : View R) where
 
   -- the block of the anchor x on the chain c
   unfoldable pub block_of : P → Chain P → Block P
-  block_of x c = record { round = round x; holds = λ a r. if in_history s x r a && not (in_chain c a r) then s.dag a r else none }
+  block_of x c = record {
+    round = round x;
+    holds = λ a r. if in_history s x r a && not (in_chain c a r) then s.dag a r else None;
+  }
 
   -- the blocks of the anchors, the first of them newest, on the chain
   unfoldable pub blocks_of : List P → Chain P
@@ -33,8 +35,8 @@ module _ {R : Rules} (s : View R) where
 
   -- the anchor q, if it is in the history of x, and what is taken below it; or what is taken below x
   abbrev pub choose : P → (P → List P) → Option P → List P
-  choose x f none = f x
-  choose x f (some q) = if in_history s x (round q) (author q) then q ∷ f q else f x
+  choose x f None = f x
+  choose x f (Some q) = if in_history s x (round q) (author q) then q ∷ f q else f x
 
   -- the anchors that are taken below x, from the n rounds above the last block
   unfoldable pub taken : ℕ → P → List P

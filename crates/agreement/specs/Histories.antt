@@ -11,7 +11,8 @@ module _ {R : Rules} (s : View R) where
   -- the authors whose certificates of d rounds below x are in the history of x
   unfoldable pub level : P → ℕ → ℕ → Bool
   level x zero a = a == author x
-  level x (suc d) a = is_held (s.dag a (round x - suc d)) && any_to (λ i. level x d i && vote R a (s.dag i (round x - d))) size
+  level x (suc d) a = is_held (s.dag a (round x - suc d))
+      && any_to (λ i. level x d i && vote R a (s.dag i (round x - d))) size
 
   -- the authors whose certificates of round r are in the history of x
   unfoldable pub in_history : P → ℕ → ℕ → Bool

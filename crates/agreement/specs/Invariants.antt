@@ -1,6 +1,5 @@
 -- What holds of each correct member in every world of a run.
-use Rattle.std.specs.Prelude.{◌≡◌, Bool, true, List, ◌⊎◌, ◌≢◌, ℕ, suc, ◌<◌}
-use Rattle.std.proofs.Math.Option.{some}
+use Rattle.std.specs.Prelude.{◌≡◌, Bool, true, List, ◌⊎◌, ◌≢◌, ℕ, suc, ◌<◌, Some}
 use Rattle.agreement.specs.Rules.{Rules}
 use Rattle.agreement.specs.Laws.{Lawful}
 use Rattle.agreement.specs.View.{View, Knows, World, Log, Among}
@@ -29,15 +28,17 @@ module _ {R : Rules} (s : View R) where
   -- what member k signed, all of the list l
   pub record Signing (k : ℕ) (l : List P) : Type 0 where
     -- at one place it signed one proposal
-    pub nonequivocation : (p q : P) → Among p l → Among q l → author p ≡ author q → round p ≡ round q → p ≡ q
+    pub nonequivocation : (p q : P) → Among p l → Among q l → author p ≡ author q
+        → round p ≡ round q → p ≡ q
     -- it checked what it signed
     pub signable : (p : P) → Among p l → Signable p
     -- it has a record of what it signed: of its own, the proposal of the present round; of others, the mark or the certificate
     pub own : (p : P) → Among p l → author p ≡ k
-        → (round p < s.round) ⊎ ((round p ≡ s.round) × (s.proposal ≡ some p))
+        → (round p < s.round) ⊎ ((round p ≡ s.round) × (s.proposal ≡ Some p))
     pub other : (p : P) → Among p l → author p ≢ k
-        → (s.endorsed (author p) (round p) ≡ true) ⊎ ((q : P) × (s.dag (author p) (round p) ≡ some q))
-    pub proposed : (p : P) → s.proposal ≡ some p → Among p l × (author p ≡ k) × (round p ≡ s.round)
+        → (s.endorsed (author p) (round p) ≡ true)
+        ⊎ ((q : P) × (s.dag (author p) (round p) ≡ Some q))
+    pub proposed : (p : P) → s.proposal ≡ Some p → Among p l × (author p ≡ k) × (round p ≡ s.round)
 
   -- the chain's blocks hang together, and the newest was elected
   pub record Ordering : Type 0 where
@@ -52,14 +53,14 @@ module _ {R : Rules} (correct : ℕ → Bool) (G : Log R) where
     pub aware : Knows s (round p)
     pub signers : ℕ → Bool
     pub quorum : Quorum R (committee s.chain (round p)) signers
-    pub with-author : signers (author p) ≡ true
+    pub with_author : signers (author p) ≡ true
     pub signs : (i : ℕ) → correct i ≡ true → signers i ≡ true → Among p (G i)
 
   -- the certificates that a member holds are at their places, closed and certified
   pub record Storing (s : View R) : Type 0 where
-    pub place : {a r : ℕ} {p : P} → s.dag a r ≡ some p → (author p ≡ a) × (round p ≡ r)
-    pub closed : {a r : ℕ} {p : P} → s.dag a r ≡ some p → Closed s p
-    pub certified : {a r : ℕ} {p : P} → s.dag a r ≡ some p → Certified s p
+    pub place : {a r : ℕ} {p : P} → s.dag a r ≡ Some p → (author p ≡ a) × (round p ≡ r)
+    pub closed : {a r : ℕ} {p : P} → s.dag a r ≡ Some p → Closed s p
+    pub certified : {a r : ℕ} {p : P} → s.dag a r ≡ Some p → Certified s p
 
   -- what holds of member k, who signed l
   pub record Invariant (k : ℕ) (s : View R) (l : List P) : Type 0 where
@@ -72,7 +73,8 @@ module _ {R : Rules} (correct : ℕ → Bool) (w : World R) where
 
   -- for each certificate that a correct member holds, the faulty members weigh at most the bound in the committee of its round
   abbrev pub FaultTolerant : Type 0
-  FaultTolerant = (j : ℕ) (p : P) → correct j ≡ true → Held (w j) p → Knows (w j) (round p) → Tolerant R correct (committee (w j).chain (round p))
+  FaultTolerant = (j : ℕ) (p : P) → correct j ≡ true → Held (w j) p → Knows (w j) (round p)
+      → Tolerant R correct (committee (w j).chain (round p))
 
   -- of two correct members' chains one is a prefix of the other
   abbrev pub Agree : Type 0

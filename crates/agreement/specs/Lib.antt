@@ -11,7 +11,7 @@
 --   `leader` of Rules              how a leader is chosen or looked up. Asked is only that rounds with a leader are two apart, from 2 on
 --   `P` of Rules                   what a proposal holds; transactions are not looked at
 --   `State`, `view` of Machines    storage: how a member keeps its view, and what else it keeps (endorsers, queues, rights, ports)
---   `other-call` of Moves          calls that leave the view: reads, previews, lists, and every refused call, so also calls that refuse more than before
+--   `other_call` of Moves          calls that leave the view: reads, previews, lists, and every refused call, so also calls that refuse more than before
 --   the list of Entries            a call that counts as several (a batch of certificates) is as many entries
 -- Shares, and the register of weights, are no part of the theory.
 

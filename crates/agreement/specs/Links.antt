@@ -1,6 +1,5 @@
 -- How the blocks of a chain hang together, as one member sees it.
-use Rattle.std.specs.Prelude.{◌≡◌, [], ◌∷◌, ◌⊎◌, ◌↔◌, ℕ, ◌+◌, ◌≤◌, ◌<◌}
-use Rattle.std.proofs.Math.Option.{some}
+use Rattle.std.specs.Prelude.{◌≡◌, [], ◌∷◌, ◌⊎◌, ◌↔◌, ℕ, ◌+◌, ◌≤◌, ◌<◌, Some}
 use Rattle.agreement.specs.Rules.{Block, Chain, last, Rules}
 use Rattle.agreement.specs.View.{View}
 use Rattle.agreement.specs.Dag.{Reach}
@@ -9,7 +8,7 @@ use Rattle.agreement.specs.Anchors.{Anchor, Elected}
 -- p is in a block of the chain
 abbrev pub InChain : (R : Rules) → Chain R.P → R.P → Type 0
 InChain R [] p = ⊥
-InChain R (b ∷ c) p = (b.holds (R.author p) (R.round p) ≡ some p) ⊎ InChain R c p
+InChain R (b ∷ c) p = (b.holds (R.author p) (R.round p) ≡ Some p) ⊎ InChain R c p
 
 module _ {R : Rules} (s : View R) where
   open R use {P, author, round}
@@ -26,7 +25,7 @@ module _ {R : Rules} (s : View R) where
     pub sees : Anchor s b.round x
     pub spaced : last c + 2 ≤ b.round
     pub gap : (r : ℕ) (q : P) → last c < r → r < b.round → Anchor s r q → ¬ Reach s x q
-    pub content : (a r : ℕ) (p : P) → (b.holds a r ≡ some p) ↔ Uncommitted c x a r p
+    pub content : (a r : ℕ) (p : P) → (b.holds a r ≡ Some p) ↔ Uncommitted c x a r p
 
   -- the anchor of the newest block of c, if any, is in the history of x
   abbrev pub ReachesLast : Chain P → P → Type 0

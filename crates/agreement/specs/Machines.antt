@@ -18,11 +18,12 @@ pub record Machine (R : Rules) (correct : ℕ → Bool) : Type 1 where
   pub Handed : ℕ → State → Call → Type 0
   -- what every such call keeps
   pub Good : ℕ → State → Type 0
-  pub good-after : (k : ℕ) (s : State) (c : Call) → Handed k s c → Good k s → Good k (after k s c)
+  pub good_after : (k : ℕ) (s : State) (c : Call) → Handed k s c → Good k s → Good k (after k s c)
   -- no signature of a correct member that the call takes in is forged: they are in the log
   pub Genuine : Log R → ℕ → State → Call → Type 0
   -- every call is a move
-  pub move : (G : Log R) (k : ℕ) (s : State) (c : Call) → correct k ≡ true → Good k s → Invariant correct G k (view s) (G k) → Handed k s c → Genuine G k s c
+  pub move : (G : Log R) (k : ℕ) (s : State) (c : Call) → correct k ≡ true → Good k s
+      → Invariant correct G k (view s) (G k) → Handed k s c → Genuine G k s c
       → Move correct G k (view s) (G k) (view (after k s c)) (signs k s c ++ G k)
 
 module _ {R : Rules} {correct : ℕ → Bool} (E : Machine R correct) (start : ℕ → E.State) where
@@ -52,4 +53,5 @@ module _ {R : Rules} {correct : ℕ → Bool} (E : Machine R correct) (start : �
   -- member i signed p in one of the calls
   abbrev pub SignedIn : P → ℕ → List (Entry Call) → Type 0
   SignedIn p i [] = ⊥
-  SignedIn p i (e ∷ l) = ((i ≡ e.who) × Among p (signs i (states after start l i) e.call)) ⊎ SignedIn p i l
+  SignedIn p i (e ∷ l) = ((i ≡ e.who) × Among p (signs i (states after start l i) e.call))
+      ⊎ SignedIn p i l

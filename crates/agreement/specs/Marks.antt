@@ -1,6 +1,5 @@
 -- Chains as an engine keeps them: the rounds of the blocks, newest first, and for each place the number of its block, 0 for none.
-use Rattle.std.specs.Prelude.{◌≡◌, false, ◌&&◌, if◌then◌else◌, List, [], ◌∷◌, ℕ, suc, ◌≤◌, ◌==◌, length}
-use Rattle.std.proofs.Math.Option.{Option, none}
+use Rattle.std.specs.Prelude.{◌≡◌, false, ◌&&◌, if◌then◌else◌, List, [], ◌∷◌, ℕ, suc, ◌≤◌, ◌==◌, length, Option, None}
 use Rattle.agreement.specs.Rules.{Block, Chain, Rules}
 use Rattle.agreement.specs.View.{View}
 use Rattle.agreement.specs.Dag.{is_held}
@@ -9,7 +8,7 @@ use Rattle.agreement.specs.Histories.{in_history}
 module _ {P : Type 0} (d : ℕ → ℕ → Option P) where
   -- the block of number n
   abbrev pub marked : (ℕ → ℕ → ℕ) → ℕ → ℕ → Block P
-  marked m n r = record { round = r; holds = λ a q. if m a q == n then d a q else none }
+  marked m n r = record { round = r; holds = λ a q. if m a q == n then d a q else None }
 
   -- the chain that rounds and marks stand for
   unfoldable pub marked_chain : (ℕ → ℕ → ℕ) → List ℕ → Chain P
@@ -36,4 +35,4 @@ module _ {R : Rules} (s : View R) where
   -- marks that fit a chain of n blocks: every mark names a block, and only held certificates have one
   pub record MarksFit (m : ℕ → ℕ → ℕ) (n : ℕ) : Type 0 where
     pub range : (a q : ℕ) → m a q ≤ n
-    pub only-held : (a q : ℕ) → is_held (s.dag a q) ≡ false → m a q ≡ 0
+    pub only_held : (a q : ℕ) → is_held (s.dag a q) ≡ false → m a q ≡ 0

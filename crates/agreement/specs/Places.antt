@@ -1,6 +1,5 @@
 -- Writing at the place of a proposal, which is its author and round: certificates put there, endorsed marks set there.
-use Rattle.std.specs.Prelude.{Bool, ◌&&◌, if◌then◌else◌, ℕ, ◌==◌}
-use Rattle.std.proofs.Math.Option.{Option, some}
+use Rattle.std.specs.Prelude.{Bool, ◌&&◌, if◌then◌else◌, ℕ, ◌==◌, Option, Some}
 use Rattle.agreement.specs.Rules.{Rules}
 
 module _ (R : Rules) where
@@ -12,7 +11,7 @@ module _ (R : Rules) where
 
   -- the certificates d, and p at its place
   unfoldable pub put : P → (ℕ → ℕ → Option P) → ℕ → ℕ → Option P
-  put p d a r = if is_place p a r then some p else d a r
+  put p d a r = if is_place p a r then Some p else d a r
 
   -- the marks e, and b at the place of p
   unfoldable pub mark : Bool → P → (ℕ → ℕ → Bool) → ℕ → ℕ → Bool

@@ -1,6 +1,5 @@
 -- Prefixes of chains: what a chain was before it grew.
-use Rattle.std.specs.Prelude.{if◌then◌else◌, [], ◌∷◌, ◌⊎◌, ℕ, suc, ◌+◌, ◌≤◌, ◌==◌, length}
-use Rattle.std.proofs.Math.Option.{Option, none, some}
+use Rattle.std.specs.Prelude.{if◌then◌else◌, [], ◌∷◌, ◌⊎◌, ℕ, suc, ◌+◌, ◌≤◌, ◌==◌, length, Option, Some, None}
 use Rattle.agreement.specs.Rules.{Block, Chain, last}
 
 infix 40 ◌≼◌
@@ -15,5 +14,5 @@ Comparable c d = (c ≼ d) ⊎ (d ≼ c)
 
 -- the block of number n, the oldest being number 1
 unfoldable pub block_numbered : {P : Type 0} → Chain P → ℕ → Option (Block P)
-block_numbered [] n = none
-block_numbered (b ∷ c) n = if n == suc (length c) then some b else block_numbered c n
+block_numbered [] n = None
+block_numbered (b ∷ c) n = if n == suc (length c) then Some b else block_numbered c n

@@ -1,6 +1,5 @@
 -- The rules as plain data: proposals, committees, leaders, fault bound. They mean something for any chain, so no law is asked here.
-use Rattle.std.specs.Prelude.{Bool, List, [], ◌∷◌, ℕ}
-use Rattle.std.proofs.Math.Option.{Option}
+use Rattle.std.specs.Prelude.{Bool, List, [], ◌∷◌, ℕ, Option}
 
 -- a block: the round of its anchor, and its certificates by author and round
 pub record Block (P : Type 0) : Type 0 where
@@ -27,7 +26,7 @@ pub record Rules : Type 1 where
   pub names : P → ℕ → Bool
   -- the fault bound of a committee, which is the weight of each member, 0 for a non-member
   pub bound : (ℕ → ℕ) → ℕ
-  -- the rounds whose committee a chain tells, and that committee (active committee in the report)
+  -- the rounds whose committee a chain tells, and that committee
   pub known : Chain P → ℕ → Bool
   pub committee : Chain P → ℕ → ℕ → ℕ
   -- the leader of a round, by its committee

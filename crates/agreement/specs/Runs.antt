@@ -1,6 +1,5 @@
 -- Runs: lists of moves of correct members, in which the faulty members stay within the bound.
-use Rattle.std.specs.Prelude.{◌≡◌, Bool, true, [], ◌≢◌, ℕ}
-use Rattle.std.proofs.Math.Option.{none}
+use Rattle.std.specs.Prelude.{◌≡◌, Bool, true, [], ◌≢◌, ℕ, None}
 use Rattle.agreement.specs.Rules.{Rules}
 use Rattle.agreement.specs.View.{View, World, Log}
 use Rattle.agreement.specs.Invariants.{FaultTolerant}
@@ -8,8 +7,8 @@ use Rattle.agreement.specs.Moves.{Move}
 
 -- a member that has done nothing
 pub record Initial {R : Rules} (s : View R) : Type 0 where
-  pub without_proposal : s.proposal ≡ none
-  pub no_certificate : (a r : ℕ) → s.dag a r ≡ none
+  pub without_proposal : s.proposal ≡ None
+  pub no_certificate : (a r : ℕ) → s.dag a r ≡ None
   pub no_block : s.chain ≡ []
 
 module _ {R : Rules} (correct : ℕ → Bool) where
@@ -28,4 +27,5 @@ module _ {R : Rules} (correct : ℕ → Bool) where
   -- any number of moves from one world and log to another, with the bound on the faulty members after each
   pub data Run (w : World R) (G : Log R) : World R → Log R → Type 0 where
     begin : Run w G w G
-    step : {v u : World R} {H K : Log R} → Run w G v H → Next v H u K → FaultTolerant correct u → Run w G u K
+    step : {v u : World R} {H K : Log R} → Run w G v H → Next v H u K
+        → FaultTolerant correct u → Run w G u K

@@ -1,10 +1,9 @@
 -- A member's view, the views of all members, and the log of what they signed.
-use Rattle.std.specs.Prelude.{◌≡◌, Bool, true, ℕ}
-use Rattle.std.proofs.Math.Option.{Option}
+use Rattle.std.specs.Prelude.{◌≡◌, Bool, true, ℕ, Option}
 use mathlib.Core.List.{List, Memᴰ}
 use Rattle.agreement.specs.Rules.{Chain, Rules}
 
--- a member's state as the rules see it (validator state in the report)
+-- a member's state as the rules see it
 pub record View (R : Rules) : Type 0 where
   pub round : ℕ
   -- its proposal for that round, if any

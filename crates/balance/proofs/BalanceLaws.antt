@@ -9,8 +9,8 @@ use Rattle.terms.specs.Sheets.{weight_at}
 use Rattle.terms.proofs.SheetLaws.{filled-weights}
 use Rattle.committee.specs.Committees.{committee_of, known_by}
 use Rattle.committee.proofs.CommitteeLaws.{committee-bonded}
-use Rattle.running.proofs.ChainLaws.{last-chain, fits-at, last_up, bonded-below}
-use Rattle.running.proofs.TotalBound.{committee-total}
+use Rattle.chain_committees.proofs.ChainLaws.{last-chain, fits-at, last_up, bonded-below}
+use Rattle.chain_committees.proofs.TotalBound.{committee-total}
 use Rattle.state.specs.Formed.{Formed}
 use Rattle.state.proofs.FormedLaws.{formed}
 use Rattle.engine.specs.Engine.{Engine}
@@ -71,8 +71,8 @@ module _ (e : Engine) (r : Intact e) where
   adds_up : AddsUp e
   adds_up =
       record {
-        after-all = adds_up-to blocks (omega arith);
-        after-each = adds_up-to;
+        after_all = adds_up-to blocks (omega arith);
+        after_each = adds_up-to;
         bounded = λ z. committee-total S t blocks z whole-state.settings whole-state.rows;
         shown = journal_listed S (chain_to e blocks);
       }

@@ -1,6 +1,6 @@
 -- The journal of a well-formed state: its blocks are of rounds that rise, and its transactions are in range.
-use Rattle.std.proofs.Common.{◌≡◌, refl, Bool, true, false, not, cond, List, [], ◌∷◌, ◌++◌, ℕ, zero, suc, ◌+◌, ◌%◌, ◌<◌, ◌≤◌, arith, add-one, length, eqb, ltb}
-use mathlib.Core.Option.{Option, none, some, none-ne-some}
+use Rattle.std.proofs.Common.{◌≡◌, refl, Bool, true, false, not, cond, List, [], ◌∷◌, ◌++◌, ℕ, zero, suc, ◌+◌, ◌%◌, ◌<◌, ◌≤◌, arith, add-one, length, eqb, ltb, Option, Some, None}
+use Rattle.std.proofs.lemmas.Option.{none-some}
 use borrow.Author.Tests.{not-false}
 use Rattle.base.proofs.Bools.{both, neither}
 use Rattle.agreement.specs.Rules.{Block, Chain}
@@ -17,8 +17,8 @@ use Rattle.terms.specs.declared.sheet.Settings.{Settings}
 use Rattle.committee.specs.Changes.{at_most_one, row, rows}
 use Rattle.committee.specs.Committees.{ordered, start_of}
 use Rattle.committee.proofs.OrderLaws.{row-none, row_more, rows_none, rows_more, ordered-rows}
-use Rattle.running.specs.BlockChanges.{last_round, blocks_fit}
-use Rattle.running.proofs.ChainLaws.{last_some, fits-at}
+use Rattle.chain_committees.specs.BlockChanges.{last_round, blocks_fit}
+use Rattle.chain_committees.proofs.ChainLaws.{last_some, fits-at}
 use Rattle.balance.specs.Ledger.{entered, entered_of, journal}
 use Rattle.balance.proofs.LedgerLaws.{AllBelow}
 
@@ -58,10 +58,10 @@ entered-of-fit [] e f g = g
 entered-of-fit (p ∷ l) e f g = entered-of-fit l (entered p.transactions e) f.1 (entered-fit p.transactions e f.0 g)
 
 -- every certificate that a block lists is one that it holds
-module _ (b : Block Content) (f : (a r : ℕ) (p : Content) → b.holds a r ≡ some p → all_in_range p.transactions ≡ true) where
-  one-fit : (o : Option Content) → ((p : Content) → o ≡ some p → all_in_range p.transactions ≡ true) → Fit (at_most_one o)
-  one-fit none g = tt
-  one-fit (some p) g = (g p refl, tt)
+module _ (b : Block Content) (f : (a r : ℕ) (p : Content) → b.holds a r ≡ Some p → all_in_range p.transactions ≡ true) where
+  one-fit : (o : Option Content) → ((p : Content) → o ≡ Some p → all_in_range p.transactions ≡ true) → Fit (at_most_one o)
+  one-fit None g = tt
+  one-fit (Some p) g = (g p refl, tt)
 
   row-fit : (a r m : ℕ) → Fit (row b a r m)
   row-fit a r zero = rw (row-none b a r) tt
@@ -76,20 +76,20 @@ module _ (b : Block Content) (f : (a r : ℕ) (p : Content) → b.holds a r ≡ 
 
 module _ (t : List ℕ) (allowance blocks n : ℕ) (fit : rows_fit t allowance blocks n ≡ true) where
   -- the transactions of a held record
-  record_fit : (a r : ℕ) (p : Content) → 0 < r → r ≤ n → certificate_at t a r ≡ some p → all_in_range p.transactions ≡ true
+  record_fit : (a r : ℕ) (p : Content) → 0 < r → r ≤ n → certificate_at t a r ≡ Some p → all_in_range p.transactions ≡ true
   unfolding bad_transactions
   record_fit a r p h l e =
       let c = held-certificate t a r p e in
       let w = (rows-held t allowance blocks n fit r h l).records a c.0 in
       rw c.1 (not-false (all_in_range (content_at t a r).transactions) (neither (ltb allowance (length (content_at t a r).transactions)) (not (all_in_range (content_at t a r).transactions)) (transactions-fit w)).1)
 
-  holds-fit : (k a r : ℕ) (p : Content) → (block_at n t k).holds a r ≡ some p → all_in_range p.transactions ≡ true
+  holds-fit : (k a r : ℕ) (p : Content) → (block_at n t k).holds a r ≡ Some p → all_in_range p.transactions ≡ true
   holds-fit k a r p e = go (is_round n r) refl (eqb (mark_at t a r) k) (rw (block-holds n t k a r, holds_at_lem t k a r) at e)
     where
-      go : (b : Bool) → is_round n r ≡ b → (m : Bool) → ◌≡◌ {A = Option Content} (cond b (cond m (certificate_at t a r) none) none) (some p) → all_in_range p.transactions ≡ true
+      go : (b : Bool) → is_round n r ≡ b → (m : Bool) → ◌≡◌ {A = Option Content} (cond b (cond m (certificate_at t a r) None) None) (Some p) → all_in_range p.transactions ≡ true
       go true q true h = let z = round-parts n r q in record_fit a r p z.0 z.1 h
-      go true q false h = absurd (none-ne-some p h)
-      go false q m h = absurd (none-ne-some p h)
+      go true q false h = absurd (none-some p h)
+      go false q m h = absurd (none-some p h)
 
   pub journal-fit : (S : Settings) (k : ℕ) → all_in_range (journal S (chain_of n t k)) ≡ true
   unfolding journal all_in_range

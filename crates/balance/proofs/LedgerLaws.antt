@@ -49,14 +49,14 @@ change-at (Unbond i) w m l h = unbond-at i.0 w m l h ∙ ap (cond (eqb i.0 m) 0)
 change-at (Entry n) w m l h = omega arith
 
 -- a member's weight is what an unbond would release
-pub weight-after : (w : List Weight) (e : List Transaction) (m : ℕ) → length w ≡ 16 → m < 16 → weight_in (weights_after w e) m ≡ releases (weight_in w) m e
+pub weight_after : (w : List Weight) (e : List Transaction) (m : ℕ) → length w ≡ 16 → m < 16 → weight_in (weights_after w e) m ≡ releases (weight_in w) m e
 unfolding weights_after releases
-weight-after w [] m l h = refl
-weight-after w (x ∷ e) m l h = change-at x (weights_after w e) m (length-after w e ∙ l) h ∙ rw (weight-after w e m l h) refl
+weight_after w [] m l h = refl
+weight_after w (x ∷ e) m l h = change-at x (weights_after w e) m (length-after w e ∙ l) h ∙ rw (weight_after w e m l h) refl
 
 pub member_adds : (w : List Weight) (e : List Transaction) (m : ℕ) → length w ≡ 16 → m < 16
     → weight_in (weights_after w e) m + released_from (weight_in w) m e ≡ weight_in w m + bonded_to m e
-member_adds w e m l h = rw (weight-after w e m l h) (account (weight_in w) m e)
+member_adds w e m l h = rw (weight_after w e m l h) (account (weight_in w) m e)
 
 -- ---- the bonded committee is the weights after the journal
 

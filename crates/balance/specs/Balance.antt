@@ -31,14 +31,17 @@ pub record AddsUpTo (e : Engine) (k : ℕ) : Type 0 where
   -- that round is known
   pub known : Knows e (round_after e k)
   -- each member alone
-  pub each : (m : ℕ) → m < 16 → weights e (round_after e k) m + released_from (start e) m (transactions_to e k) ≡ start e m + bonded_to m (transactions_to e k)
+  pub each : (m : ℕ) → m < 16
+      → weights e (round_after e k) m + released_from (start e) m (transactions_to e k)
+      ≡ start e m + bonded_to m (transactions_to e k)
   -- all together
-  pub whole : total 16 (weights e (round_after e k)) + released_all (start e) (transactions_to e k) ≡ total 16 (start e) + bonded_all (transactions_to e k)
+  pub whole : total 16 (weights e (round_after e k)) + released_all (start e) (transactions_to e k)
+      ≡ total 16 (start e) + bonded_all (transactions_to e k)
 
 pub record AddsUp (e : Engine) : Type 0 where
-  pub after-all : AddsUpTo e e.state.blocks
+  pub after_all : AddsUpTo e e.state.blocks
   -- and after each block before
-  pub after-each : (k : ℕ) → k ≤ e.state.blocks → AddsUpTo e k
+  pub after_each : (k : ℕ) → k ≤ e.state.blocks → AddsUpTo e k
   -- in the committee of every round
   pub bounded : (r : ℕ) → total 16 (weights e r) ≤ 81536000
   -- the transactions are those that the chain's listing shows

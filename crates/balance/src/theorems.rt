@@ -14,7 +14,8 @@ ghost use Rattle.terms.specs.declared.sheet.Settings.{Settings};
 /// The journal of a chain is what its listing shows, newest first.
 #[tactic(auto, using(crate::proofs::ListedLaws::journal_listed))]
 pub fn journal_listed()
-    ensures { (S : Settings) (c : Chain Content) → journal S c ≡ entered (listed_transactions (listing (ordered S) c)) [] }
+    ensures { (S : Settings) (c : Chain Content)
+        → journal S c ≡ entered (listed_transactions (listing (ordered S) c)) [] }
 {}
 
 /// In every engine that calls from an accepted open lead to, weights add up.

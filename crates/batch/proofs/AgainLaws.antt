@@ -1,6 +1,5 @@
 -- Straight after a batch, proved: a certificate that got 11 gets 11 again, or 17 where the row has since filled its place with another.
-use Rattle.std.proofs.Common.{◌≡◌, refl, sym, ap, ◌∙◌, subst, Bool, true, false, cond, true≢false, List, ◌∷◌, ◌++◌, append_assoc, ◌⊎◌, inl, inr, ℕ, ◌<◌, ◌≤◌, arith}
-use mathlib.Core.Option.{Option, none, some}
+use Rattle.std.proofs.Common.{◌≡◌, refl, sym, ap, ◌∙◌, subst, Bool, true, false, cond, true≢false, List, ◌∷◌, ◌++◌, append_assoc, ◌⊎◌, inl, inr, ℕ, ◌<◌, ◌≤◌, arith, Option, Some, None}
 use Rattle.base.specs.Options.{if_there}
 use Rattle.agreement.specs.Dag.{is_held}
 use Rattle.terms.specs.declared.Certificate.{Certificate}
@@ -28,12 +27,12 @@ record Later (s : State) (row : Row) (t : List ℕ) (q : ℕ) (x : Content) : Ty
   certificate : Certificate
   content : x ≡ content_of certificate.proposal
   low : place < row.count
-  offered : (row.at place).certificate ≡ some certificate
+  offered : (row.at place).certificate ≡ Some certificate
   later : earlier (λ p. (row.at p).key) q place ≡ true
   accepted : answer_at s row t place ≡ 0
 
 module _ (s : State) (low : (own_body s).previous < 65536) (row : Row) (reads : RowReads row) (t : List ℕ) (formed : well_formed s t ≡ true) (q : ℕ) (c : Certificate) (there : q < row.count)
-    (offered : (row.at q).certificate ≡ some c) (answer : answer_at s row t q ≡ 11) where
+    (offered : (row.at q).certificate ≡ Some c) (answer : answer_at s row t q ≡ 11) where
   abbrev keys : ℕ → Key
   keys p = (row.at p).key
 
@@ -80,7 +79,7 @@ module _ (s : State) (low : (own_body s).previous < 65536) (row : Row) (reads : 
 
   -- what each leaves is well formed, and shows what was there but for certificates of the round of c and later ones
   record Kept (u : List ℕ) : Type 0 where
-    its-formed : well_formed s u ≡ true
+    its_formed : well_formed s u ≡ true
     frozen : Frozen s.settings (Later s row t q) round (view s table_then) (view s u)
 
   module _ (m : List ℕ) (p : ℕ) (rest : List ℕ) (e : turn.latter ≡ m ++ (p ∷ rest)) where
@@ -101,12 +100,12 @@ module _ (s : State) (low : (own_body s).previous < 65536) (row : Row) (reads : 
     turn-kept k = go (row.at p).certificate refl
       where
         go : (o : Option Certificate) → (row.at p).certificate ≡ o → Kept (if_there o table_now (accept_table s table_now))
-        go none i = k
-        go (some d) i =
+        go None i = k
+        go (Some d) i =
             let r = row-range reads p d i in
             record {
-              its-formed = (accept-left s table_now k.its-formed d low r).formed;
-              frozen = subst (Frozen s.settings (Later s row t q) round (view s table_then)) (sym (accept-shows s table_now k.its-formed d low r))
+              its_formed = (accept-left s table_now k.its_formed d low r).formed;
+              frozen = subst (Frozen s.settings (Later s row t q) round (view s table_then)) (sym (accept-shows s table_now k.its_formed d low r))
                   (accept-frozen s.settings s.own.0 round then_eleven.from (view s table_then) (view s table_now) k.frozen (content_of d.proposal) d.endorsers not_before brought);
             }
           where
@@ -126,7 +125,7 @@ module _ (s : State) (low : (own_body s).previous < 65536) (row : Row) (reads : 
                   low = turn_low one_each (turn.former ++ (q ∷ m)) p rest split;
                   offered = i;
                   later = now-later;
-                  accepted = now-answer ∙ ap (λ (o : Option Certificate). if_there o 1 (accept_refusal s table_now)) i ∙ accept-ruled s table_now k.its-formed d ∙ h;
+                  accepted = now-answer ∙ ap (λ (o : Option Certificate). if_there o 1 (accept_refusal s table_now)) i ∙ accept-ruled s table_now k.its_formed d ∙ h;
                 }
 
   -- ---- the end
@@ -137,7 +136,7 @@ module _ (s : State) (low : (own_body s).previous < 65536) (row : Row) (reads : 
   left-kept : Kept table_left
   left-kept =
       subst Kept (sym (ap (λ (l : List ℕ). leaves (table_after s row) l t) turn.whole ∙ leaves_after turn.latter))
-      (turns_keep (table_after s row) Kept turn.latter table_then turn-kept (record { its-formed = then-formed; frozen = frozen_same s.settings (Later s row t q) round (view s table_then) }))
+      (turns_keep (table_after s row) Kept turn.latter table_then turn-kept (record { its_formed = then-formed; frozen = frozen_same s.settings (Later s row t q) round (view s table_then) }))
 
   left-held : is_held ((view s table_left).dag proposal.author round) ≡ held_at table_left proposal.author round
   left-held = held-dag s.settings.ceiling.0 table_left proposal.author round then_eleven.from then_eleven.to
@@ -155,8 +154,8 @@ module _ (s : State) (low : (own_body s).previous < 65536) (row : Row) (reads : 
           offered = y.offered;
           later = y.later;
           accepted = y.accepted;
-          same-author = sym (ap (λ (x : Content). x.author) y.content) ∙ d.author;
-          same-round = sym (ap (λ (x : Content). x.round) y.content) ∙ d.round;
+          same_author = sym (ap (λ (x : Content). x.author) y.content) ∙ d.author;
+          same_round = sym (ap (λ (x : Content). x.round) y.content) ∙ d.round;
           held = sym d.content ∙ y.content;
           another = subst (λ (x : Content). same_proposal proposal x ≡ false) y.content n;
         },
@@ -165,7 +164,7 @@ module _ (s : State) (low : (own_body s).previous < 65536) (row : Row) (reads : 
   again : AgainAs s row t q c
   again =
       record {
-        number = accept-ruled s table_left left-kept.its-formed c
+        number = accept-ruled s table_left left-kept.its_formed c
             ∙ again-frozen s.settings (Later s row t q) s.own.0 (view s table_then) (view s table_left) proposal c.endorsers then-ruled left-kept.frozen
             ∙ ap (λ (b : Bool). cond b 17 11) left-held;
         filled = λ h. go (left-held ∙ h) (left-kept.frozen.here proposal.author);
@@ -180,5 +179,5 @@ module _ (s : State) (low : (own_body s).previous < 65536) (row : Row) (reads : 
 
 -- of an accepted batch
 pub eleven_again_or_seventeen : (s : State) (t : List ℕ) (row : Row) (room : ℕ) → RowReads row → (own_body s).previous < 65536 → batch_refusal s t row.count room ≡ 0
-    → (q : ℕ) (c : Certificate) → q < row.count → (row.at q).certificate ≡ some c → answer_at s row t q ≡ 11 → AgainAs s row t q c
+    → (q : ℕ) (c : Certificate) → q < row.count → (row.at q).certificate ≡ Some c → answer_at s row t q ≡ 11 → AgainAs s row t q c
 eleven_again_or_seventeen s t row room reads low h q c there offered answer = again s low row reads t (batch-passed s t row.count room h).0 q c there offered answer

@@ -1,6 +1,5 @@
 -- Laws of a batch: what one turn leaves and all turns leave, what an accepted batch has passed, and rows of none and of one.
-use Rattle.std.proofs.Common.{◌≡◌, refl, sym, ap, ◌∙◌, subst, true, not, ◌||◌, List, [], ◌∷◌, ◌≢◌, ℕ, ◌<◌, ◌≤◌, arith, length, drop, ltb, ltb-false}
-use mathlib.Core.Option.{Option, none, some}
+use Rattle.std.proofs.Common.{◌≡◌, refl, sym, ap, ◌∙◌, subst, true, not, ◌||◌, List, [], ◌∷◌, ◌≢◌, ℕ, ◌<◌, ◌≤◌, arith, length, drop, ltb, ltb-false, Option, Some, None}
 use native.Mathlib.Decide.{ℕ_discrete}
 use lib.Seq.{paste, paste-zero}
 use borrow.Author.Tests.{not-false}
@@ -26,7 +25,7 @@ use Rattle.engine.specs.Engine.{Engine, after}
 use Rattle.engine.specs.Steps.{view_at}
 use Rattle.engine.specs.Sequences.{NoOpen}
 use Rattle.engine.specs.Reached.{Good}
-use Rattle.engine.proofs.RuledLaws.{good-after, view-after}
+use Rattle.engine.proofs.RuledLaws.{good_after, view-after}
 use Rattle.batch.specs.Turns.{turns, leaves, answer_to}
 use Rattle.batch.proofs.OrderLaws.{turns-none, turns-one}
 use Rattle.batch.proofs.AnswerLaws.{turns_keep}
@@ -86,13 +85,13 @@ module _ (s : State) (t : List ℕ) where
       pub accept-left : Still s t (accept_table s t c)
       accept-left =
           record {
-            formed = (subst (Good s.settings s.own.0) (after-accepts engine c) (good-after good (accept c) r no_open)).formed;
+            formed = (subst (Good s.settings s.own.0) (after-accepts engine c) (good_after good (accept c) r no_open)).formed;
             chain = ap (λ (v : MemberView s.settings). v.chain) accept-shows ∙ chain-result s.settings s.own.0 (view s t) c;
           }
 
 -- ---- turns
 
-pub row-range : {row : Row} → RowReads row → (p : ℕ) (c : Certificate) → (row.at p).certificate ≡ some c → InRange (accept c)
+pub row-range : {row : Row} → RowReads row → (p : ℕ) (c : Certificate) → (row.at p).certificate ≡ Some c → InRange (accept c)
 row-range reads p c e = (reads.previous p c e, reads.endorsers p c e)
 
 module _ (s : State) (low : (own_body s).previous < 65536) (row : Row) (reads : RowReads row) where
@@ -101,8 +100,8 @@ module _ (s : State) (low : (own_body s).previous < 65536) (row : Row) (reads : 
   accept-still t w p = go (row.at p).certificate refl
     where
       go : (o : Option Certificate) → (row.at p).certificate ≡ o → Still s t (if_there o t (accept_table s t))
-      go none e = record { formed = w; chain = refl }
-      go (some c) e = accept-left s t w c low (row-range reads p c e)
+      go None e = record { formed = w; chain = refl }
+      go (Some c) e = accept-left s t w c low (row-range reads p c e)
 
   -- and any turns
   pub leaves-formed : (t : List ℕ) → well_formed s t ≡ true → (l : List ℕ) → Still s t (leaves (table_after s row) l t)
@@ -116,8 +115,8 @@ pub refused-still : (s : State) (row : Row) (t : List ℕ) (p : ℕ) → number_
 refused-still s row t p = go (row.at p).certificate
   where
     go : (o : Option Certificate) → if_there o 1 (accept_refusal s t) ≢ 0 → if_there o t (accept_table s t) ≡ t
-    go none n = refl
-    go (some c) n = accept-refused s t c n
+    go None n = refl
+    go (Some c) n = accept-refused s t c n
 
 -- ---- the batch
 
@@ -158,19 +157,19 @@ module _ (s : State) (t : List ℕ) (row : Row) (answers : List ℕ) where
       go (yes h) = (batch-table h ∙ untouched, batch-answers h ∙ ap (λ (n : ℕ). paste answers 0 (tab (answer_at s row t) n) n) e ∙ sym (paste-zero answers 0 (tab (answer_at s row t) 0)))
 
   -- a row of one is one accept
-  pub batch-one : row.count ≡ 1 → (c : Certificate) → (row.at 0).certificate ≡ some c → batch_refusal s t row.count (length answers) ≡ 0
+  pub batch-one : row.count ≡ 1 → (c : Certificate) → (row.at 0).certificate ≡ Some c → batch_refusal s t row.count (length answers) ≡ 0
       → (batch_table s t row answers ≡ accept_table s t c) × (batch_answers s t row answers ≡ accept_refusal s t c ∷ drop 1 answers)
   unfolding leaves answer_to tab
-  batch-one e c k h = (batch-table h ∙ its-table, batch-answers h ∙ its-answers)
+  batch-one e c k h = (batch-table h ∙ its_table, batch-answers h ∙ its-answers)
     where
       alone : turns_of row ≡ 0 ∷ []
       alone = ap (turns (λ p. (row.at p).key)) e ∙ turns-one (λ p. (row.at p).key)
 
-      its-table : tried_table s row t ≡ accept_table s t c
-      its-table = ap (λ (l : List ℕ). leaves (table_after s row) l t) alone ∙ ap (λ (o : Option Certificate). if_there o t (accept_table s t)) k
+      its_table : tried_table s row t ≡ accept_table s t c
+      its_table = ap (λ (l : List ℕ). leaves (table_after s row) l t) alone ∙ ap (λ (o : Option Certificate). if_there o t (accept_table s t)) k
 
-      its-answer : answer_at s row t 0 ≡ accept_refusal s t c
-      its-answer = ap (λ (l : List ℕ). answer_to (table_after s row) (number_on s row) l t 0) alone ∙ ap (λ (o : Option Certificate). if_there o 1 (accept_refusal s t)) k
+      its_answer : answer_at s row t 0 ≡ accept_refusal s t c
+      its_answer = ap (λ (l : List ℕ). answer_to (table_after s row) (number_on s row) l t 0) alone ∙ ap (λ (o : Option Certificate). if_there o 1 (accept_refusal s t)) k
 
       its-answers : paste answers 0 (tab (answer_at s row t) row.count) row.count ≡ accept_refusal s t c ∷ drop 1 answers
-      its-answers = ap (λ (n : ℕ). paste answers 0 (tab (answer_at s row t) n) n) e ∙ ap (λ (n : ℕ). n ∷ drop 1 answers) its-answer
+      its-answers = ap (λ (n : ℕ). paste answers 0 (tab (answer_at s row t) n) n) e ∙ ap (λ (n : ℕ). n ∷ drop 1 answers) its_answer

@@ -1,6 +1,5 @@
 -- On views: what accepts of later rounds leave alone, and so a certificate that got 11 gets 11 again, or 17 where its place is filled.
-use Rattle.std.proofs.Common.{◌≡◌, refl, sym, ap, ◌∙◌, Bool, true, false, not, ◌&&◌, cond, true≢false, ◌⊎◌, inl, inr, [], ◌∷◌, ◌++◌, ℕ, ◌-◌, ◌<◌, ◌≤◌, arith, take, eqb, eq-eqb}
-use mathlib.Core.Option.{Option, none, some}
+use Rattle.std.proofs.Common.{◌≡◌, refl, sym, ap, ◌∙◌, Bool, true, false, not, ◌&&◌, cond, true≢false, ◌⊎◌, inl, inr, [], ◌∷◌, ◌++◌, ℕ, ◌-◌, ◌<◌, ◌≤◌, arith, take, eqb, eq-eqb, Option, Some, None}
 use native.Mathlib.Decide.{ℕ_discrete}
 use borrow.Author.Tests.{not-true}
 use Rattle.base.proofs.Bools.{both}
@@ -8,7 +7,7 @@ use Rattle.base.proofs.TestLaws.{any_same}
 use Rattle.base.specs.Checks.{Checks, refusal}
 use Rattle.base.proofs.CheckLaws.{refuses, passes, numbered}
 use Rattle.base.proofs.Passed.{Given, passed}
-use Rattle.base.specs.Sets.{is_in}
+use Rattle.base.specs.Sets.{contains}
 use Rattle.agreement.specs.Dag.{is_held}
 use Rattle.agreement.specs.Places.{is_place, put}
 use Rattle.agreement.proofs.PlaceLaws.{place_true}
@@ -70,7 +69,7 @@ module _ (S : Settings) where
   missing-below : (v w : MemberView S) (p : Content) → ((a : ℕ) → w.dag a (p.round - 1) ≡ v.dag a (p.round - 1)) → missing S w p ≡ missing S v p
   unfolding missing
   missing-below v w p e =
-      any_same (λ i. is_in p.previous i && not (is_held (w.dag i (p.round - 1)))) (λ i. is_in p.previous i && not (is_held (v.dag i (p.round - 1)))) 16 (λ i h. rw (e i) refl)
+      any_same (λ i. contains p.previous i && not (is_held (w.dag i (p.round - 1)))) (λ i. contains p.previous i && not (is_held (v.dag i (p.round - 1)))) 16 (λ i h. rw (e i) refl)
 
   -- of two certificates one misses a previous one and the other none: they are not the same
   pub not_same : (r : ℕ) (v : MemberView S) (p c : Content) → above r (missing S v p) ≡ true → above r (missing S v c) ≡ false → same_proposal p c ≡ false
@@ -84,7 +83,7 @@ module _ (S : Settings) where
     -- a place of round r is filled with a certificate that misses nothing; By tells who brought it
     pub record Filled (o : Option Content) : Type 0 where
       pub content : Content
-      pub held : o ≡ some content
+      pub held : o ≡ Some content
       pub whole : above r (missing S v content) ≡ false
       pub by : By content
 
@@ -106,12 +105,12 @@ module _ (S : Settings) where
         whole : above p.round (missing S w p) ≡ false → p.round ≡ r → above r (missing S v p) ≡ false
         whole h i = rw (← i, ← missing-below v w p (λ a. z.below a (p.round - 1) (omega arith))) h
 
-        old : (a q : ℕ) → q < r → (b : Bool) → is_place (rules S) p a q ≡ b → cond b (some p) (w.dag a q) ≡ v.dag a q
+        old : (a q : ℕ) → q < r → (b : Bool) → is_place (rules S) p a q ≡ b → cond b (Some p) (w.dag a q) ≡ v.dag a q
         old a q l true x = absurd (omega (arith, (place_true (rules S) p a q x).1))
         old a q l false x = z.below a q l
 
         here : By p → above p.round (missing S w p) ≡ false → (a : ℕ) (b : Bool) → is_place (rules S) p a r ≡ b
-            → (cond b (some p) (w.dag a r) ≡ v.dag a r) ⊎ Filled By r v (cond b (some p) (w.dag a r))
+            → (cond b (Some p) (w.dag a r) ≡ v.dag a r) ⊎ Filled By r v (cond b (Some p) (w.dag a r))
         here y h a true x = inr (record { content = p; held = refl; whole = whole h (place_true (rules S) p a r x).1; by = y })
         here y h a false x = z.here a
 
@@ -126,8 +125,8 @@ module _ (S : Settings) where
 
   -- nothing held there is no certificate that is the same
   none-same : (p : Content) (o : Option Content) → is_held o ≡ false → is_same p o ≡ false
-  none-same p none h = refl
-  none-same p (some q) h = absurd (true≢false h)
+  none-same p None h = refl
+  none-same p (Some q) h = absurd (true≢false h)
 
   -- offered on v it gets 11, and w is v but for certificates of its round and later ones
   pub again-frozen : (By : Content → Type 0) (k : ℕ) (v w : MemberView S) (p : Content) (e : ℕ) → ruled_refusal S k v (accept p e) ≡ 11 → Frozen By p.round v w
@@ -144,13 +143,13 @@ module _ (S : Settings) where
       other m n (inl x) = rw x (none-same p (v.dag p.author p.round) n)
       other m n (inr x) = rw x.held (not_same p.round v p x.content m x.whole)
 
-      place : (b : Bool) → is_held (w.dag p.author p.round) ≡ b → unknown S v p.round ≡ false → outsider (committee_in S v p.round) (is_in (signers_of p e)) ≡ false
-          → short S.margin (committee_in S v p.round) (is_in (signers_of p e)) ≡ false → above p.round (missing S v p) ≡ true → 0 < p.round
+      place : (b : Bool) → is_held (w.dag p.author p.round) ≡ b → unknown S v p.round ≡ false → outsider (committee_in S v p.round) (contains (signers_of p e)) ≡ false
+          → short S.margin (committee_in S v p.round) (contains (signers_of p e)) ≡ false → above p.round (missing S v p) ≡ true → 0 < p.round
           → refusal
           ((is_held (w.dag p.author p.round), 17)
           ∷ (unknown S w p.round, 8)
-          ∷ (outsider (committee_in S w p.round) (is_in (signers_of p e)), 9)
-          ∷ (short S.margin (committee_in S w p.round) (is_in (signers_of p e)), 13)
+          ∷ (outsider (committee_in S w p.round) (contains (signers_of p e)), 9)
+          ∷ (short S.margin (committee_in S w p.round) (contains (signers_of p e)), 13)
           ∷ (above p.round (missing S w p), 11) ∷ [])
           ≡ cond b 17 11
       place true x a8 a9 a13 a11 from = refuses 17 _ x

@@ -1,6 +1,5 @@
 -- A batch on a state and its table: each certificate of a row gets what accept answers at its turn. The number that refuses the batch, the table and the answers.
-use Rattle.std.specs.Prelude.{◌||◌, List, [], ◌∷◌, ℕ, length, nat_lt}
-use Rattle.std.proofs.Math.Option.{Option}
+use Rattle.std.specs.Prelude.{◌||◌, List, [], ◌∷◌, ℕ, length, nat_lt, Option}
 use Rattle.std.proofs.Math.Seq.{paste}
 use Rattle.base.specs.Options.{if_there}
 use Rattle.base.specs.Folds.{tab}
@@ -61,4 +60,6 @@ module _ (s : State) (t : List ℕ) (row : Row) (answers : List ℕ) where
 
   -- the answers after it: each at its place in the row, the rest as it was
   unfoldable pub batch_answers : List ℕ
-  batch_answers = if_accepted (batch_refusal s t row.count (length answers)) (paste answers 0 (tab (answer_at s row t) row.count) row.count) answers
+  batch_answers =
+      if_accepted (batch_refusal s t row.count (length answers))
+      (paste answers 0 (tab (answer_at s row t) row.count) row.count) answers

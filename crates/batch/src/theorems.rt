@@ -1,7 +1,6 @@
 //! The order of turns in a batch, rows of none and of one, a refused batch, and what certificates get when they are offered again.
 
-ghost use Rattle.std.proofs.Math.Option.{some};
-ghost use Rattle.std.specs.Prelude.{List, drop, length, ℕ, ◌<◌, ◌∷◌, ◌≡◌, ◌≢◌};
+ghost use Rattle.std.specs.Prelude.{List, drop, length, ℕ, ◌<◌, ◌∷◌, ◌≡◌, ◌≢◌, Some};
 ghost use Rattle.accept.specs.Accept.{accept_refusal, accept_table};
 ghost use Rattle.batch.specs.Again.{AgainAs, RowReads};
 ghost use Rattle.batch.specs.Batch.{Row, answer_at, batch_answers, batch_refusal, batch_table};
@@ -19,22 +18,31 @@ pub fn each_has_one_turn()
 
 /// A row of one is one accept: its table, and its number, the other answers as they were.
 pub fn batch_of_one()
-    ensures { (s : State) (t : List ℕ) (row : Row) (answers : List ℕ) → row.count ≡ 1 → (c : Certificate) → (row.at 0).certificate ≡ some c → batch_refusal s t row.count (length answers) ≡ 0
-        → (batch_table s t row answers ≡ accept_table s t c) × (batch_answers s t row answers ≡ accept_refusal s t c ∷ drop 1 answers) }
+    ensures { (s : State) (t : List ℕ) (row : Row) (answers : List ℕ) → row.count ≡ 1
+        → (c : Certificate) → (row.at 0).certificate ≡ Some c
+        → batch_refusal s t row.count (length answers) ≡ 0
+        → (batch_table s t row answers ≡ accept_table s t c)
+        × (batch_answers s t row answers ≡ accept_refusal s t c ∷ drop 1 answers) }
 {}
 
 /// A row of none leaves table and answers as they were.
 pub fn batch_of_none()
-    ensures { (s : State) (t : List ℕ) (row : Row) (answers : List ℕ) → row.count ≡ 0 → (batch_table s t row answers ≡ t) × (batch_answers s t row answers ≡ answers) }
+    ensures { (s : State) (t : List ℕ) (row : Row) (answers : List ℕ) → row.count ≡ 0
+        → (batch_table s t row answers ≡ t) × (batch_answers s t row answers ≡ answers) }
 {}
 
 /// A refused batch leaves table and answers as they were.
 pub fn batch_refused()
-    ensures { (s : State) (t : List ℕ) (row : Row) (answers : List ℕ) → batch_refusal s t row.count (length answers) ≢ 0 → (batch_table s t row answers ≡ t) × (batch_answers s t row answers ≡ answers) }
+    ensures { (s : State) (t : List ℕ) (row : Row) (answers : List ℕ)
+        → batch_refusal s t row.count (length answers) ≢ 0 → (batch_table s t row answers ≡ t)
+        × (batch_answers s t row answers ≡ answers) }
 {}
 
 /// After an accepted batch, a certificate that got 11 gets 11 again, or 17 where another of the row has since filled its place.
 pub fn eleven_again_or_seventeen()
-    ensures { (s : State) (t : List ℕ) (row : Row) (room : ℕ) → RowReads row → (own_body s).previous < 65536 → batch_refusal s t row.count room ≡ 0 → (q : ℕ) (c : Certificate)
-        → q < row.count → (row.at q).certificate ≡ some c → answer_at s row t q ≡ 11 → AgainAs s row t q c }
+    ensures { (s : State) (t : List ℕ) (row : Row) (room : ℕ) → RowReads row
+        → (own_body s).previous < 65536 → batch_refusal s t row.count room ≡ 0
+        → (q : ℕ) (c : Certificate)
+        → q < row.count → (row.at q).certificate ≡ Some c → answer_at s row t q ≡ 11
+        → AgainAs s row t q c }
 {}

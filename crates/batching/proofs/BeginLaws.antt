@@ -3,7 +3,7 @@ use Rattle.std.proofs.Common.{◌≡◌, refl, ◌≢◌, Bool, true, false, con
 use mathlib.Core.Bool.{false≢true}
 use Rattle.std.specs.Prelude.{Result, Ok, Err}
 use Rattle.std.specs.Result.{is_err}
-use Rattle.running.specs.Caches.{first_round}
+use Rattle.chain_committees.specs.Caches.{first_round}
 use Rattle.state.specs.declared.State.{State}
 use Rattle.state.proofs.FormedLaws.{formed}
 use Rattle.refusals.specs.declared.Refusal.{Refusal}
@@ -29,7 +29,7 @@ module _ (s : State) (t : List ℕ) (n room : ℕ) (w : Progress) (fresh : w.sta
   pub ready-begun : batch_refusal s t n room ≡ 0 → 0 < n → (own_body s).previous < 65536 → Ready n s t w
   ready-begun a h low =
       let p = batch-passed s t n room a in
-      let f = (formed s t p.0).settings.ceiling-to in
+      let f = (formed s t p.0).settings.ceiling_to in
       record {
         count = rw fresh refl;
         fits = rw fresh (record { few = p.1; place = h; seen = omega arith });

@@ -1,6 +1,5 @@
 -- The claims of a host's accepted batch.
-use Rattle.std.proofs.Common.{◌≡◌, refl, sym, ap, ◌∙◌, Bool, true, false, cond, ◌&&◌, List, [], ℕ, ◌+◌, ◌<◌, arith, length, get_or}
-use mathlib.Core.Option.{Option, none, some}
+use Rattle.std.proofs.Common.{◌≡◌, refl, sym, ap, ◌∙◌, Bool, true, false, cond, ◌&&◌, List, [], ℕ, ◌+◌, ◌<◌, arith, length, get_or, Option, Some, None}
 use Rattle.base.specs.Options.{if_there}
 use Rattle.base.specs.Folds.{tab}
 use Rattle.base.proofs.FoldLaws.{length-tab, get_d_tab}
@@ -39,7 +38,7 @@ accept-answer w t r e = ap (λ (z : Bool). (cond (z && certificate_reads (record
     unread : Result
     unread = refused w t [] 1
 
-    go : (b : Bool) → (cond b of-engine unread).refusal ≡ if_there (cond b (some (certificate_in (record_words e))) none) 1 (accept_refusal (state_in w) t)
+    go : (b : Bool) → (cond b of-engine unread).refusal ≡ if_there (cond b (Some (certificate_in (record_words e))) None) 1 (accept_refusal (state_in w) t)
     go true = refl
     go false = refl
 
@@ -103,11 +102,11 @@ offered_again w t row answers a q h e = rw (table-left w t row answers a) (go (c
     reads = can_read w t row answers a
 
     go : (o : Option Certificate) → certificate_of d ≡ o → accept_answer w left d ≡ cond (held_at left d.author d.round) 17 11
-    go none x =
+    go None x =
         let y = at-its-turn w t row answers a q h in
         let z = sym e ∙ y.answer ∙ accept-answer w (left_by w t row answers y.former) reads d ∙ ap (λ (o : Option Certificate). if_there o 1 (accept_refusal (state_in w) (left_by w t row answers y.former))) x in
         absurd (omega arith)
-    go (some c) x =
+    go (Some c) x =
         let r = row_reads row in
         let y = eleven_again_or_seventeen (state_in w) t (row_of row) (length answers) r (state-read w reads).set (accepted w t row answers a) q c h x (sym (answer-left w t row answers a q h) ∙ e) in
         accept-answer w left reads d ∙ ap (λ (o : Option Certificate). if_there o 1 (accept_refusal (state_in w) left)) x ∙ y.number ∙ ap (λ (k : Key). cond (held_at left k.author k.round) 17 11) (sym (r.keyed q c x))

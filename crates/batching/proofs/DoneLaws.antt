@@ -69,9 +69,9 @@ module _ (w t : List ℕ) (row : List CertificateRecord) (answers : List ℕ) (x
     taken : {m : ℕ} {out : List ℕ} → m ≡ refusal_in x.checked → out ≡ if_accepted (refusal_in x.checked) (paste answers 0 r.stage.answers r.stage.count) answers → Done plain (answered w t row answers) m w u out
     taken e o =
         record {
-          its-answer = e ∙ z ∙ sym accepted;
-          its-state = refl;
-          its-table = all.0 ∙ sym (batch-table (state_in w) t (row_of row) answers accepted);
+          its_answer = e ∙ z ∙ sym accepted;
+          its_state = refl;
+          its_table = all.0 ∙ sym (batch-table (state_in w) t (row_of row) answers accepted);
           its_out = o ∙ if_accepted-new (refusal_in x.checked) _ answers z ∙ rw counted (put_same answers r.stage.answers (tab (answer_at (state_in w) (row_of row) t) (length row)) (length row) (omega (arith, room.room, (b.few z).0, length-replicate {A = ℕ} 64 0)) (omega (arith, length-tab (answer_at (state_in w) (row_of row) t) (length row))) (λ i h. all.1 i h ∙ sym (get_d_tab (answer_at (state_in w) (row_of row) t) (length row) i 0 h)))
               ∙ sym (batch-answers (state_in w) t (row_of row) answers accepted);
         }
@@ -89,8 +89,8 @@ module _ (w t : List ℕ) (row : List CertificateRecord) (answers : List ℕ) (x
       not_taken : refusal_in x.checked ≢ 0 → (c : Bool) → refusal_in x.checked ≡ cond c (batch_refusal (state_in w) t (length row) (length answers)) 1 → Done plain (cond c (answered w t row answers) (refused w t answers 1)) m w u out
       not_taken z true y =
           let k = batch-refused (state_in w) t (row_of row) answers (λ q. z (y ∙ q)) in
-          record { its-answer = e ∙ y; its-state = refl; its-table = still z ∙ sym k.0; its_out = o ∙ if_accepted-old (refusal_in x.checked) _ answers z ∙ sym k.1 }
-      not_taken z false y = record { its-answer = e ∙ y; its-state = refl; its-table = still z; its_out = o ∙ if_accepted-old (refusal_in x.checked) _ answers z }
+          record { its_answer = e ∙ y; its_state = refl; its_table = still z ∙ sym k.0; its_out = o ∙ if_accepted-old (refusal_in x.checked) _ answers z ∙ sym k.1 }
+      not_taken z false y = record { its_answer = e ∙ y; its_state = refl; its_table = still z; its_out = o ∙ if_accepted-old (refusal_in x.checked) _ answers z }
 
       go : Dec (refusal_in x.checked ≡ 0) → Done plain (batch_result w t row answers) m w u out
       go (yes z) = rw (can_read z) (taken z e o)

@@ -1,6 +1,6 @@
 -- Laws of a record's words: put piece by piece, and what they give of a row.
-use Rattle.std.proofs.Common.{◌≡◌, refl, sym, ap, ◌∙◌, Bool, true, false, cond, List, [], ◌∷◌, ◌++◌, ℕ, ◌+◌, arith, length, get_or, length-append}
-use mathlib.Core.Option.{none, some, some-injective, none-ne-some}
+use Rattle.std.proofs.Common.{◌≡◌, refl, sym, ap, ◌∙◌, Bool, true, false, cond, List, [], ◌∷◌, ◌++◌, ℕ, ◌+◌, arith, length, get_or, length-append, Some, None}
+use Rattle.std.proofs.lemmas.Option.{same_Some, none-some}
 use lib.Seq.{paste}
 use Rattle.base.proofs.PasteLaws.{paste-whole}
 use Rattle.words.proofs.PasteLaws.{paste-append}
@@ -28,22 +28,22 @@ record_put e t h n =
     ∙ paste-whole t (head ++ e.body ++ (e.endorsers ∷ [])) 17 n (length_record e h))
 
 -- a record whose words cannot be read offers nothing, and one whose words can be read their certificate
-pub offers_nothing : (e : CertificateRecord) → certificate_reads (record_words e) ≡ false → certificate_of e ≡ none
+pub offers_nothing : (e : CertificateRecord) → certificate_reads (record_words e) ≡ false → certificate_of e ≡ None
 unfolding certificate_of
 offers_nothing e h = rw h refl
 
-pub offers_one : (e : CertificateRecord) → certificate_reads (record_words e) ≡ true → certificate_of e ≡ some (certificate_in (record_words e))
+pub offers_one : (e : CertificateRecord) → certificate_reads (record_words e) ≡ true → certificate_of e ≡ Some (certificate_in (record_words e))
 unfolding certificate_of
 offers_one e h = rw h refl
 
 -- what a record offers is the certificate of its words, which can be read
-pub offered-by : (e : CertificateRecord) (c : Certificate) → certificate_of e ≡ some c → (certificate_reads (record_words e) ≡ true) × (c ≡ certificate_in (record_words e))
+pub offered-by : (e : CertificateRecord) (c : Certificate) → certificate_of e ≡ Some c → (certificate_reads (record_words e) ≡ true) × (c ≡ certificate_in (record_words e))
 unfolding certificate_of
 offered-by e c h = go (certificate_reads (record_words e)) h
   where
-    go : (b : Bool) → cond b (some (certificate_in (record_words e))) none ≡ some c → (b ≡ true) × (c ≡ certificate_in (record_words e))
-    go true x = (refl, sym (some-injective (certificate_in (record_words e)) c x))
-    go false x = absurd (none-ne-some c x)
+    go : (b : Bool) → cond b (Some (certificate_in (record_words e))) None ≡ Some c → (b ≡ true) × (c ≡ certificate_in (record_words e))
+    go true x = (refl, sym (same_Some (certificate_in (record_words e)) c x))
+    go false x = absurd (none-some c x)
 
 -- its key is that of the certificate
 record_key : (e : CertificateRecord) → (offer_of e).key ≡ key_of (certificate_in (record_words e))
@@ -59,5 +59,5 @@ row_reads l =
       endorsers = λ p c h. (sets (get_or l p no_record) c h).1;
     }
   where
-    sets : (e : CertificateRecord) (c : Certificate) → certificate_of e ≡ some c → InRange (accept c)
+    sets : (e : CertificateRecord) (c : Certificate) → certificate_of e ≡ Some c → InRange (accept c)
     sets e c h = let o = offered-by e c h in rw o.1 ((accept-handed (record_words e)).is_in_range o.0)

@@ -1,7 +1,6 @@
 -- Laws of all turns of a batch: the looks tell the keys of the row, and then each record is tried at its turn.
-use Rattle.std.proofs.Common.{◌≡◌, refl, sym, ap, ap₂, ◌∙◌, subst₂, Bool, true, false, cond, List, [], ◌∷◌, ◌≢◌, ℕ, zero, suc, ◌+◌, ◌<◌, ◌≤◌, arith, eqb, ltb, length, get_or, set, replicate, length-set, get_or-set_same, get_or-set_other, lt-ltb, le-ltb, eq-eqb, ne_eqb}
+use Rattle.std.proofs.Common.{◌≡◌, refl, sym, ap, ap₂, ◌∙◌, subst₂, Bool, true, false, cond, List, [], ◌∷◌, ◌≢◌, ℕ, zero, suc, ◌+◌, ◌<◌, ◌≤◌, arith, eqb, ltb, length, get_or, set, replicate, length-set, get_or-set_same, get_or-set_other, lt-ltb, le-ltb, eq-eqb, ne_eqb, Option, Some, None}
 use mathlib.Core.List.{nil≢cons, head-eq_of_cons-eq, tail-eq_of_cons-eq}
-use mathlib.Core.Option.{Option, none, some}
 use native.Mathlib.Decide.{ℕ_discrete, dec_lt}
 use lib.ListN.{length-replicate}
 use Rattle.base.specs.Options.{if_there}
@@ -164,7 +163,7 @@ module _ (row : List CertificateRecord) (s : State) (few : length row ≤ 64) wh
   module _ (p : ℕ) (l : List ℕ) (g : Stage) (k : Trying (p ∷ l) g) where
     -- p is the first that is left, and the others come after it
     pub record Heads : Type 0 where
-      pub first : first_of key_at (left_in g.left) n ≡ some p
+      pub first : first_of key_at (left_in g.left) n ≡ Some p
       pub others : in_turn key_at n (length l) (but p (left_in g.left)) ≡ l
 
     heads : Heads
@@ -172,10 +171,10 @@ module _ (row : List CertificateRecord) (s : State) (few : length row ≤ 64) wh
     heads = go (first_of key_at (left_in g.left) n) refl k.to_come
       where
         go : (o : Option ℕ) → first_of key_at (left_in g.left) n ≡ o → if_there o [] (λ q. q ∷ in_turn key_at n (length l) (but q (left_in g.left))) ≡ p ∷ l → Heads
-        go none x y = absurd (nil≢cons y)
-        go (some q) x y =
+        go None x y = absurd (nil≢cons y)
+        go (Some q) x y =
             let e = head-eq_of_cons-eq y in
-            record { first = x ∙ ap some e; others = ap (λ (z : ℕ). in_turn key_at n (length l) (but z (left_in g.left))) (sym e) ∙ tail-eq_of_cons-eq y }
+            record { first = x ∙ ap Some e; others = ap (λ (z : ℕ). in_turn key_at n (length l) (but z (left_in g.left))) (sym e) ∙ tail-eq_of_cons-eq y }
 
     low : p < n
     low = (first-of key_at (left_in g.left) n p heads.first).low

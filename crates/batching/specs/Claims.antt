@@ -12,7 +12,9 @@ use Rattle.batching.specs.Batched.{batch_result}
 
 -- what forgelilac_accept answers to a record's words, on the state's words w and the table t
 abbrev pub accept_answer : List ℕ → List ℕ → CertificateRecord → ℕ
-accept_answer w t e = (result_of w t [] (certificate_reads (record_words e)) (accept (certificate_in (record_words e)))).refusal
+accept_answer w t e =
+    (result_of w t [] (certificate_reads (record_words e))
+    (accept (certificate_in (record_words e)))).refusal
 
 module _ (w t : List ℕ) (row : List CertificateRecord) (answers : List ℕ) where
   abbrev pub record_of : ℕ → CertificateRecord
@@ -27,4 +29,5 @@ module _ (w t : List ℕ) (row : List CertificateRecord) (answers : List ℕ) wh
     pub former : List ℕ
     pub latter : List ℕ
     pub turn : turns_of (row_of row) ≡ former ++ (q ∷ latter)
-    pub answer : get_or (batch_result w t row answers).out q 0 ≡ accept_answer w (left_by former) (record_of q)
+    pub answer : get_or (batch_result w t row answers).out q 0
+        ≡ accept_answer w (left_by former) (record_of q)

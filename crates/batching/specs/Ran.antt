@@ -15,13 +15,16 @@ module _ (row : List CertificateRecord) (s : State) where
   -- after so many turns
   unfoldable pub ran_stage : ℕ → Stage → List ℕ → Stage
   ran_stage zero g t = g
-  ran_stage (suc k) g t = ran_stage k (stage_next s t g (record_at row g)) (table_next s t g (record_at row g))
+  ran_stage (suc k) g t =
+      ran_stage k (stage_next s t g (record_at row g)) (table_next s t g (record_at row g))
 
   unfoldable pub ran_table : ℕ → Stage → List ℕ → List ℕ
   ran_table zero g t = t
-  ran_table (suc k) g t = ran_table k (stage_next s t g (record_at row g)) (table_next s t g (record_at row g))
+  ran_table (suc k) g t =
+      ran_table k (stage_next s t g (record_at row g)) (table_next s t g (record_at row g))
 
 -- k turns from w and the table t on have left r and the table u
-pub record Ran (row : List CertificateRecord) (s : State) (k : ℕ) (t : List ℕ) (w r : Progress) (u : List ℕ) : Type 0 where
+pub record Ran (row : List CertificateRecord) (s : State) (k : ℕ) (t : List ℕ) (w r : Progress)
+    (u : List ℕ) : Type 0 where
   pub stage : r.stage ≡ ran_stage row s k w.stage t
   pub table : u ≡ ran_table row s k w.stage t

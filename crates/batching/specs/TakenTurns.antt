@@ -1,6 +1,5 @@
 -- A turn of a batch: what it needs, and the stage and the table that it leaves.
-use Rattle.std.specs.Prelude.{◌≡◌, true, if◌then◌else◌, List, ℕ, ◌<◌, ◌≤◌, nat_lt}
-use Rattle.std.proofs.Math.Option.{Option}
+use Rattle.std.specs.Prelude.{◌≡◌, true, if◌then◌else◌, List, ℕ, ◌<◌, ◌≤◌, nat_lt, Option}
 use Rattle.base.specs.Options.{if_there}
 use Rattle.terms.specs.declared.Certificate.{Certificate}
 use Rattle.state.specs.declared.State.{State}
@@ -47,13 +46,15 @@ module _ (s : State) (t : List ℕ) where
   table_next g e = if nat_lt g.seen g.count then t else table_of (certificate_of e)
 
 -- a certificate, if there is one to be read, was offered: this has left r and the table u, and the next turn can be taken
-pub record Offered (s : State) (t : List ℕ) (w : Progress) (o : Option Certificate) (r : Progress) (u : List ℕ) : Type 0 where
+pub record Offered (s : State) (t : List ℕ) (w : Progress) (o : Option Certificate) (r : Progress)
+    (u : List ℕ) : Type 0 where
   pub stage : r.stage ≡ noted w.stage (number_of s t o)
   pub table : u ≡ table_of s t o
   pub ready : Ready w.stage.count s u r
 
 -- a turn of record e has left r and the table u, and the next one can be taken
-pub record Taken (s : State) (t : List ℕ) (w : Progress) (e : CertificateRecord) (r : Progress) (u : List ℕ) : Type 0 where
+pub record Taken (s : State) (t : List ℕ) (w : Progress) (e : CertificateRecord) (r : Progress)
+    (u : List ℕ) : Type 0 where
   pub stage : r.stage ≡ stage_next s t w.stage e
   pub table : u ≡ table_next s t w.stage e
   pub ready : Ready w.stage.count s u r

@@ -10,15 +10,15 @@ pub mod trying;
 
 ghost use Rattle.std.specs.Prelude.{◌≡◌, if◌then◌else◌, ◌+◌, ◌≤◌, ◌==◌, length};
 ghost use Rattle.std.proofs.Math.Seq.{paste};
-ghost use Rattle.running.specs.Caches.{first_round};
+ghost use Rattle.chain_committees.specs.Caches.{first_round};
 ghost use Rattle.state.specs.Answers.{if_accepted};
 ghost use Rattle.refusals.specs.Refusals.{refusal_in};
 ghost use Rattle.batch.specs.Batch.{batch_refusal};
 ghost use Rattle.batching.specs.Begun.{fresh_stage, Begun};
 
 use crate::offering::{Progress, Stage};
+use chain_committees::cache;
 use refusals::Refusal;
-use running::cache;
 use state::State;
 
 /// What a batch starts from: what the checks give, the state, how many turns are to be taken, and the progress before the first.
@@ -35,11 +35,11 @@ pub struct Start {
 }
 
 // Nothing looked at yet, and no committee cached.
-fn fresh(n: usize) -> Progress
-    ensures { (result.stage ≡ fresh_stage n) × (first_round result.cache ≡ 4294967296) }
+fn fresh(count: usize) -> Progress
+    ensures { (result.stage ≡ fresh_stage count) × (first_round result.cache ≡ 4294967296) }
 {
     let stage = Stage {
-        count: n,
+        count,
         seen: 0,
         place: 0,
         rounds: [0; 64],
@@ -53,34 +53,34 @@ fn fresh(n: usize) -> Progress
 
 // The checks of a batch in their order: the first that fails refuses it.
 #[tactic(auto, unfolding(base::specs::Checks::refusal, batch::specs::Batch::batch_refusal))]
-fn check(s: State, t: &[u32], n: usize, room: usize) -> Result<(), Refusal>
-    ensures { refusal_in result ≡ batch_refusal s t.now n room }
+fn check(state: State, table: &[u32], count: usize, room: usize) -> Result<(), Refusal>
+    ensures { refusal_in result ≡ batch_refusal state table.now count room }
 {
-    if !state::well_formed(s, t) {
+    if !state::well_formed(state, table) {
         return Err(Refusal::Malformed);
     }
-    if 64 < n || room < n {
-        return Err(Refusal::ListTooShort);
+    if 64 < count || room < count {
+        return Err(Refusal::LengthRange);
     }
     Ok(())
 }
 
 // Two turns for each record, none where the batch is refused.
-fn turns_for(checked: Result<(), Refusal>, n: usize) -> usize
-    requires { refusal_in checked ≡ 0 → n ≤ 64 }
-    ensures { result ≡ (if refusal_in checked == 0 then n + n else 0) }
+fn turns_for(checked: Result<(), Refusal>, count: usize) -> usize
+    requires { refusal_in checked ≡ 0 → count ≤ 64 }
+    ensures { result ≡ (if refusal_in checked == 0 then count + count else 0) }
 {
     match checked {
-        Ok(()) => n + n,
+        Ok(()) => count + count,
         Err(_) => 0,
     }
 }
 
-/// The checks of a batch of n records with room for so many answers, and its start: 1 where the state's words mean none or the state is not well formed, then 25 for more than 64 records or for too little room.
-pub fn begin(state: &[u32], t: &[u32], n: usize, room: usize) -> Start
-    ensures { Begun state.now t.now n room result }
+/// The checks of a batch of `count` records with room for so many answers, and its start: 1 where the state's words mean none or the state is not well formed, then 25 for more than 64 records or for too little room.
+pub fn begin(state: &[u32], table: &[u32], count: usize, room: usize) -> Start
+    ensures { Begun state.now table.now count room result }
 {
-    let progress = fresh(n);
+    let progress = fresh(count);
     let Some(s) = words::states::state(state) else {
         return Start {
             checked: Err(Refusal::Malformed),
@@ -89,25 +89,29 @@ pub fn begin(state: &[u32], t: &[u32], n: usize, room: usize) -> Start
             progress,
         };
     };
-    let checked = check(s, t, n, room);
+    let checked = check(s, table, count, room);
     Start {
         checked,
         state: s,
-        turns: turns_for(checked, n),
+        turns: turns_for(checked, count),
         progress,
     }
 }
 
 /// Puts the answers, each at its place, where the batch is not refused; gives the refusal's number, 0 for none.
 #[tactic(auto, unfolding(state::specs::Answers::if_accepted))]
-pub fn put_answers(checked: Result<(), Refusal>, w: &Progress, answers: &mut [u32]) -> u32
-    requires { refusal_in checked ≡ 0 → (w.now.stage.count ≤ 64) × (w.now.stage.count ≤ length answers.old) }
-    ensures { (result ≡ refusal_in checked) × (answers.new ≡ if_accepted (refusal_in checked) (paste answers.old 0 w.now.stage.answers w.now.stage.count) answers.old) }
+pub fn put_answers(checked: Result<(), Refusal>, progress: &Progress, answers: &mut [u32]) -> u32
+    requires { refusal_in checked ≡ 0 → (progress.now.stage.count ≤ 64)
+        × (progress.now.stage.count ≤ length answers.old) }
+    ensures { (result ≡ refusal_in checked)
+        × (answers.new
+        ≡ if_accepted (refusal_in checked) (paste answers.old 0 progress.now.stage.answers
+        progress.now.stage.count) answers.old) }
 {
     let refusal = hosting::plain(checked);
     if refusal == 0 {
-        let n = w.stage.count;
-        answers[..n].copy_from_slice(&w.stage.answers[..n]);
+        let count = progress.stage.count;
+        answers[..count].copy_from_slice(&progress.stage.answers[..count]);
     }
     refusal
 }

@@ -11,22 +11,29 @@ use crate::rows::CertificateRecord;
 use state::State;
 
 // The only function that reads the row: it copies an entry, and the entry takes its turn.
-fn try_at(t: &mut [u32], row: &[CertificateRecord], s: &State, w: &mut Progress)
-    requires { Ready (length row.now) s.now t.old w.old }
-    ensures { Taken s.now t.old w.old (get_or row.now w.old.stage.place no_record) w.new t.new }
+fn try_at(table: &mut [u32], row: &[CertificateRecord], state: &State, progress: &mut Progress)
+    requires { Ready (length row.now) state.now table.old progress.old }
+    ensures { Taken state.now table.old progress.old (get_or row.now progress.old.stage.place
+        no_record) progress.new table.new }
 {
-    let e = row[w.stage.place];
-    offering::take_turn(t, s, w, e)
+    let entry = row[progress.stage.place];
+    offering::take_turn(table, state, progress, entry)
 }
 
 /// So many turns over a row; where there are any, the first must be ready.
-pub fn run(t: &mut [u32], row: &[CertificateRecord], s: &State, w: &mut Progress, turns: usize)
-    requires { 0 < turns → Ready (length row.now) s.now t.old w.old }
-    ensures { Ran row.now s.now turns t.old w.old w.new t.new }
+pub fn run(
+    table: &mut [u32],
+    row: &[CertificateRecord],
+    state: &State,
+    progress: &mut Progress,
+    turns: usize,
+)
+    requires { 0 < turns → Ready (length row.now) state.now table.old progress.old }
+    ensures { Ran row.now state.now turns table.old progress.old progress.new table.new }
 {
-    let mut k = turns;
-    while 0 < k {
-        try_at(t, row, s, w);
-        k -= 1;
+    let mut left = turns;
+    while 0 < left {
+        try_at(table, row, state, progress);
+        left -= 1;
     }
 }

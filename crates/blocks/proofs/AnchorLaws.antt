@@ -2,7 +2,7 @@
 use Rattle.std.proofs.Common.{◌≡◌, refl, sym, ap, ◌∙◌, Bool, true, false, cond, List, ◌≢◌, ℕ, zero, suc, ◌+◌, ◌-◌, ◌<◌, ◌≤◌, arith, add-one, get_or, set, length, length-set, get_or-set_same, get_or-set_other}
 use native.Mathlib.Decide.{ℕ_discrete}
 use Rattle.base.proofs.Bools.{both}
-use Rattle.base.specs.Sets.{is_in}
+use Rattle.base.specs.Sets.{contains}
 use Rattle.store.specs.Table.{held_at}
 use Rattle.blocks.specs.History.{below}
 use Rattle.blocks.proofs.HistoryLaws.{in_below}
@@ -13,7 +13,7 @@ use Rattle.blocks.specs.Anchors.{take_set, take_row, take_from}
 module _ (l : List ℕ) (r u : ℕ) where
   row-length : length (take_row l r u) ≡ length l
   unfolding take_row
-  row-length = go (is_in u (get_or l r 0))
+  row-length = go (contains u (get_or l r 0))
     where
       go : (b : Bool) → length (cond b l (set l r 16)) ≡ length l
       go true = refl
@@ -22,25 +22,25 @@ module _ (l : List ℕ) (r u : ℕ) where
   -- the other rounds' leaders stay
   pub row_other : (j : ℕ) → j ≢ r → get_or (take_row l r u) j 0 ≡ get_or l j 0
   unfolding take_row
-  row_other j n = go (is_in u (get_or l r 0))
+  row_other j n = go (contains u (get_or l r 0))
     where
       go : (b : Bool) → get_or (cond b l (set l r 16)) j 0 ≡ get_or l j 0
       go true = refl
       go false = get_or-set_other l r j 16 0 n
 
   -- that of r stays if it is in u
-  pub row_same : r < length l → get_or (take_row l r u) r 0 ≡ cond (is_in u (get_or l r 0)) (get_or l r 0) 16
+  pub row_same : r < length l → get_or (take_row l r u) r 0 ≡ cond (contains u (get_or l r 0)) (get_or l r 0) 16
   unfolding take_row
-  row_same w = go (is_in u (get_or l r 0))
+  row_same w = go (contains u (get_or l r 0))
     where
       go : (b : Bool) → get_or (cond b l (set l r 16)) r 0 ≡ cond b (get_or l r 0) 16
       go true = refl
       go false = get_or-set_same l r 16 0 w
 
-  row-left : r < length l → get_or (take_row l r u) r 0 < 16 → (get_or (take_row l r u) r 0 ≡ get_or l r 0) × (is_in u (get_or l r 0) ≡ true)
-  row-left w h = go (is_in u (get_or l r 0)) refl (row_same w)
+  row-left : r < length l → get_or (take_row l r u) r 0 < 16 → (get_or (take_row l r u) r 0 ≡ get_or l r 0) × (contains u (get_or l r 0) ≡ true)
+  row-left w h = go (contains u (get_or l r 0)) refl (row_same w)
     where
-      go : (b : Bool) → is_in u (get_or l r 0) ≡ b → get_or (take_row l r u) r 0 ≡ cond b (get_or l r 0) 16 → (get_or (take_row l r u) r 0 ≡ get_or l r 0) × (is_in u (get_or l r 0) ≡ true)
+      go : (b : Bool) → contains u (get_or l r 0) ≡ b → get_or (take_row l r u) r 0 ≡ cond b (get_or l r 0) 16 → (get_or (take_row l r u) r 0 ≡ get_or l r 0) × (contains u (get_or l r 0) ≡ true)
       go true e k = (k, e)
       go false e k = absurd (omega arith)
 

@@ -1,6 +1,6 @@
 -- A commit leaves row 0.
 use Rattle.std.proofs.Common.{Bool, true, false, cond, List, ℕ, zero, suc, ◌<◌, ◌≤◌, arith, eqb, get_or}
-use Rattle.base.specs.Sets.{is_in, only}
+use Rattle.base.specs.Sets.{contains, only}
 use Rattle.base.proofs.FoldLaws.{fold_kept}
 use Rattle.store.specs.Table.{mark_at}
 use Rattle.store.specs.Writes.{set_mark}
@@ -12,7 +12,7 @@ use Rattle.blocks.proofs.CommitLaws.{commit-each}
 
 place-first : (b s r a : ℕ) (t : List ℕ) → 0 < r → SameFirst t (mark_place b s r a t)
 unfolding mark_place
-place-first b s r a t h = go (is_in s a) (eqb (mark_at t a r) 0)
+place-first b s r a t h = go (contains s a) (eqb (mark_at t a r) 0)
   where
     go : (x y : Bool) → SameFirst t (cond x (cond y (set_mark t a r b) t) t)
     go true true = set-mark-first t a r b h

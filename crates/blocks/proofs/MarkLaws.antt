@@ -6,7 +6,7 @@ use Rattle.base.proofs.Bools.{cond_same}
 use Rattle.base.specs.Folds.{fold_to}
 use Rattle.base.proofs.FoldLaws.{fold_kept}
 use Rattle.base.proofs.Ranges.{fold_none, fold_next}
-use Rattle.base.specs.Sets.{is_in, only}
+use Rattle.base.specs.Sets.{contains, only}
 use Rattle.base.proofs.SetLaws.{in_member}
 use Rattle.store.specs.Table.{used_length, Row, mark_at, block_round}
 use Rattle.store.specs.Writes.{set_mark}
@@ -21,9 +21,9 @@ use Rattle.blocks.specs.Blocks.{mark_place, mark_row, mark_history, add_block}
 
 only-place : (c b s r a : ℕ) (t : List ℕ) → r ≤ c → OnlyMarks (used_length c) t (mark_place b s r a t)
 unfolding mark_place
-only-place c b s r a t h = go (is_in s a) refl
+only-place c b s r a t h = go (contains s a) refl
   where
-    go : (i : Bool) → is_in s a ≡ i → OnlyMarks (used_length c) t (cond i (cond (eqb (mark_at t a r) 0) (set_mark t a r b) t) t)
+    go : (i : Bool) → contains s a ≡ i → OnlyMarks (used_length c) t (cond i (cond (eqb (mark_at t a r) 0) (set_mark t a r b) t) t)
     go true e = only_if (eqb (mark_at t a r) 0) (only-mark c t a r b (in_member s a e) h)
     go false e = only-all (used_length c) t
 
@@ -62,37 +62,37 @@ mark-twice b m x y = go (eqb m 0) refl x y
     go false e x y = rw e refl
 
 module _ (b s r : ℕ) where
-  place-mark : (a : ℕ) (t : List ℕ) → Row t r → (i q : ℕ) → i < 16 → mark_at (mark_place b s r a t) i q ≡ new_mark b (same_place i q a r && is_in s i) (mark_at t i q)
+  place-mark : (a : ℕ) (t : List ℕ) → Row t r → (i q : ℕ) → i < 16 → mark_at (mark_place b s r a t) i q ≡ new_mark b (same_place i q a r && contains s i) (mark_at t i q)
   unfolding mark_place
   place-mark a t w i q h = go (same_place i q a r) refl
     where
-      here : (x z : Bool) → is_in s a ≡ x → eqb (mark_at t a r) 0 ≡ z → mark_at (cond x (cond z (set_mark t a r b) t) t) a r ≡ cond (z && x) b (mark_at t a r)
+      here : (x z : Bool) → contains s a ≡ x → eqb (mark_at t a r) 0 ≡ z → mark_at (cond x (cond z (set_mark t a r b) t) t) a r ≡ cond (z && x) b (mark_at t a r)
       here true true e f = mark-same t a r b (record { member = in_member s a e; row = w })
       here true false e f = refl
       here false true e f = refl
       here false false e f = refl
 
-      other : same_place i q a r ≡ false → (x z : Bool) → is_in s a ≡ x → mark_at (cond x (cond z (set_mark t a r b) t) t) i q ≡ mark_at t i q
+      other : same_place i q a r ≡ false → (x z : Bool) → contains s a ≡ x → mark_at (cond x (cond z (set_mark t a r b) t) t) i q ≡ mark_at t i q
       other n true true e = mark-other t a r b i q (in_member s a e) h n
       other n true false e = refl
       other n false z e = refl
 
-      go : (p : Bool) → same_place i q a r ≡ p → mark_at (cond (is_in s a) (cond (eqb (mark_at t a r) 0) (set_mark t a r b) t) t) i q ≡ new_mark b (p && is_in s i) (mark_at t i q)
-      go true e = let z = same_place_parts i q a r e in rw (z.0, z.1) (here (is_in s a) (eqb (mark_at t a r) 0) refl refl)
-      go false e = rw (and-false (eqb (mark_at t i q) 0)) (other e (is_in s a) (eqb (mark_at t a r) 0) refl)
+      go : (p : Bool) → same_place i q a r ≡ p → mark_at (cond (contains s a) (cond (eqb (mark_at t a r) 0) (set_mark t a r b) t) t) i q ≡ new_mark b (p && contains s i) (mark_at t i q)
+      go true e = let z = same_place_parts i q a r e in rw (z.0, z.1) (here (contains s a) (eqb (mark_at t a r) 0) refl refl)
+      go false e = rw (and-false (eqb (mark_at t i q) 0)) (other e (contains s a) (eqb (mark_at t a r) 0) refl)
 
   -- the first k places of the row
   places-mark : (k : ℕ) (t : List ℕ) → Row t r → (i q : ℕ) → i < 16
-      → mark_at (fold_to (mark_place b s r) k t) i q ≡ new_mark b ((eqb q r && ltb i k) && is_in s i) (mark_at t i q)
+      → mark_at (fold_to (mark_place b s r) k t) i q ≡ new_mark b ((eqb q r && ltb i k) && contains s i) (mark_at t i q)
   places-mark zero t w i q h = rw (fold_none (mark_place b s r) t, le-ltb i 0 (omega arith), and-false (eqb q r), and-false (eqb (mark_at t i q) 0)) refl
   places-mark (suc k) t w i q h =
       let o = only-places r b s r k t (omega arith) in
       ap (λ (u : List ℕ). mark_at u i q) (fold_next (mark_place b s r) k t)
       ∙ place-mark k (fold_to (mark_place b s r) k t) (omega (arith, o.size)) i q h
-      ∙ ap (new_mark b (same_place i q k r && is_in s i)) (places-mark k t w i q h)
-      ∙ mark-twice b (mark_at t i q) (same_place i q k r && is_in s i) ((eqb q r && ltb i k) && is_in s i)
-      ∙ ap (λ (z : Bool). new_mark b z (mark_at t i q)) (joined (eqb q r) (ltb i k) (eqb i k) (is_in s i))
-      ∙ ap (λ (z : Bool). new_mark b ((eqb q r && z) && is_in s i) (mark_at t i q)) (more (dec_lt i k) (ℕ_discrete i k))
+      ∙ ap (new_mark b (same_place i q k r && contains s i)) (places-mark k t w i q h)
+      ∙ mark-twice b (mark_at t i q) (same_place i q k r && contains s i) ((eqb q r && ltb i k) && contains s i)
+      ∙ ap (λ (z : Bool). new_mark b z (mark_at t i q)) (joined (eqb q r) (ltb i k) (eqb i k) (contains s i))
+      ∙ ap (λ (z : Bool). new_mark b ((eqb q r && z) && contains s i) (mark_at t i q)) (more (dec_lt i k) (ℕ_discrete i k))
     where
       joined : (x y z w : Bool) → (((x && y) && w) || ((z && x) && w)) ≡ ((x && (y || z)) && w)
       joined true true z true = refl
@@ -108,7 +108,7 @@ module _ (b s r : ℕ) where
       more (no n) (yes e) = rw (le-ltb i k (omega arith), eq-eqb i k e, lt-ltb i (suc k) (omega arith)) refl
       more (no n) (no e) = rw (le-ltb i k (omega arith), ne_eqb i k e, le-ltb i (suc k) (omega arith)) refl
 
-  pub row-mark : (t : List ℕ) → Row t r → (i q : ℕ) → i < 16 → mark_at (mark_row b s r t) i q ≡ new_mark b (eqb q r && is_in s i) (mark_at t i q)
+  pub row-mark : (t : List ℕ) → Row t r → (i q : ℕ) → i < 16 → mark_at (mark_row b s r t) i q ≡ new_mark b (eqb q r && contains s i) (mark_at t i q)
   unfolding mark_row
   row-mark t w i q h = places-mark 16 t w i q h ∙ rw (lt-ltb i 16 h, and-true (eqb q r)) refl
 
@@ -120,7 +120,7 @@ history-mark b (suc r) s t w i q h z =
     history-mark b r (below t s (suc r)) (mark_row b s (suc r) t) (omega (arith, o.size)) i q h z
     ∙ ap (λ (x : Bool). new_mark b x (mark_at (mark_row b s (suc r) t) i q)) (history-marked o r (below t s (suc r)) i q)
     ∙ ap (new_mark b (in_history t r (below t s (suc r)) i q)) (row-mark b s (suc r) t w i q h)
-    ∙ mark-twice b (mark_at t i q) (in_history t r (below t s (suc r)) i q) (eqb q (suc r) && is_in s i)
+    ∙ mark-twice b (mark_at t i q) (in_history t r (below t s (suc r)) i q) (eqb q (suc r) && contains s i)
     ∙ ap (λ (x : Bool). new_mark b x (mark_at t i q)) (sym (history-split t r s i q))
 
 -- the marks after block b, of the anchor of author a and round r: it has what is in the anchor's history and was in no block
@@ -132,9 +132,9 @@ block-mark b a r t w i q h z = mark-block (mark_history b r (only a) t) b r i q 
 
 round-place : (b s r a j : ℕ) (t : List ℕ) → block_round (mark_place b s r a t) j ≡ block_round t j
 unfolding mark_place
-round-place b s r a j t = go (is_in s a) (eqb (mark_at t a r) 0) refl
+round-place b s r a j t = go (contains s a) (eqb (mark_at t a r) 0) refl
   where
-    go : (x z : Bool) → is_in s a ≡ x → block_round (cond x (cond z (set_mark t a r b) t) t) j ≡ block_round t j
+    go : (x z : Bool) → contains s a ≡ x → block_round (cond x (cond z (set_mark t a r b) t) t) j ≡ block_round t j
     go true true e = block-round-mark t a r b j (in_member s a e)
     go true false e = refl
     go false z e = refl

@@ -7,9 +7,9 @@ use Rattle.base.proofs.Bools.{both}
 use Rattle.base.specs.Folds.{fold_to, any_to}
 use Rattle.base.proofs.Ranges.{fold_none, fold_next}
 use Rattle.base.proofs.TestLaws.{any_true, true_any}
-use Rattle.base.specs.Sets.{is_in, union, common}
+use Rattle.base.specs.Sets.{contains, union, intersection}
 use Rattle.base.proofs.SetLaws.{in_member}
-use Rattle.base.proofs.UnionLaws.{in_none, in_union, in_common}
+use Rattle.base.proofs.UnionLaws.{in_none, in_union, in_intersection}
 use Rattle.store.specs.Table.{Row, mark_at, held_at, previous_at}
 use Rattle.store.specs.Writes.{set_mark, set_block}
 use Rattle.store.proofs.MarkLaws.{only-block, mark-block}
@@ -20,13 +20,13 @@ use Rattle.blocks.proofs.MarkLaws.{new_mark, only_row, row-mark}
 use Rattle.blocks.specs.Seen.{Inside, Seen}
 
 -- who is reached is reached by one, and so by any set with that one
-below_by : (t : List ℕ) (s r a : ℕ) → is_in (below t s (suc r)) a ≡ true
-    → (i : ℕ) × (is_in s i ≡ true) × ((u : ℕ) → is_in u i ≡ true → is_in (below t u (suc r)) a ≡ true)
+below_by : (t : List ℕ) (s r a : ℕ) → contains (below t s (suc r)) a ≡ true
+    → (i : ℕ) × (contains s i ≡ true) × ((u : ℕ) → contains u i ≡ true → contains (below t u (suc r)) a ≡ true)
 below_by t s r a h =
-    let z = both (held_at t a r) (any_to (λ i. is_in s i && is_in (previous_at t i (suc r)) a) 16) (sym (in_below t s r a) ∙ h) in
-    let x = any_true (λ i. is_in s i && is_in (previous_at t i (suc r)) a) 16 z.1 in
-    let y = both (is_in s x.0) (is_in (previous_at t x.0 (suc r)) a) x.2 in
-    (x.0, y.0, λ u k. in_below t u r a ∙ rw z.0 (true_any (λ i. is_in u i && is_in (previous_at t i (suc r)) a) 16 x.0 x.1 (rw (k, y.1) refl)))
+    let z = both (held_at t a r) (any_to (λ i. contains s i && contains (previous_at t i (suc r)) a) 16) (sym (in_below t s r a) ∙ h) in
+    let x = any_true (λ i. contains s i && contains (previous_at t i (suc r)) a) 16 z.1 in
+    let y = both (contains s x.0) (contains (previous_at t x.0 (suc r)) a) x.2 in
+    (x.0, y.0, λ u k. in_below t u r a ∙ rw z.0 (true_any (λ i. contains u i && contains (previous_at t i (suc r)) a) 16 x.0 x.1 (rw (k, y.1) refl)))
 
 -- ---- one set more
 
@@ -43,26 +43,26 @@ unfolding see
 length-see v r s = length-set v r (union (get_or v r 0) s)
 
 module _ (v : List ℕ) (r s : ℕ) (h : r < length v) (q a : ℕ) where
-  in_see : is_in (get_or (see v r s) q 0) a ≡ (is_in (get_or v q 0) a || (eqb q r && is_in s a))
+  in_see : contains (get_or (see v r s) q 0) a ≡ (contains (get_or v q 0) a || (eqb q r && contains s a))
   unfolding see
   in_see = by (ℕ_discrete q r)
     where
-      by : Dec (q ≡ r) → is_in (get_or (set v r (union (get_or v r 0) s)) q 0) a ≡ (is_in (get_or v q 0) a || (eqb q r && is_in s a))
+      by : Dec (q ≡ r) → contains (get_or (set v r (union (get_or v r 0) s)) q 0) a ≡ (contains (get_or v q 0) a || (eqb q r && contains s a))
       by (yes e) = rw (e, get_or-set_same v r (union (get_or v r 0) s) 0 h, eq-eqb r r refl) (in_union (get_or v r 0) s a)
-      by (no n) = rw (get_or-set_other v r q (union (get_or v r 0) s) 0 n, ne_eqb q r n) (sym (or-false (is_in (get_or v q 0) a)))
+      by (no n) = rw (get_or-set_other v r q (union (get_or v r 0) s) 0 n, ne_eqb q r n) (sym (or-false (contains (get_or v q 0) a)))
 
-  see-old : is_in (get_or v q 0) a ≡ true → is_in (get_or (see v r s) q 0) a ≡ true
+  see-old : contains (get_or v q 0) a ≡ true → contains (get_or (see v r s) q 0) a ≡ true
   see-old e = in_see ∙ rw e refl
 
-  see-new : q ≡ r → is_in s a ≡ true → is_in (get_or (see v r s) q 0) a ≡ true
-  see-new e i = in_see ∙ rw (eq-eqb q r e, i) (or-true (is_in (get_or v q 0) a))
+  see-new : q ≡ r → contains s a ≡ true → contains (get_or (see v r s) q 0) a ≡ true
+  see-new e i = in_see ∙ rw (eq-eqb q r e, i) (or-true (contains (get_or v q 0) a))
 
-  see-either : is_in (get_or (see v r s) q 0) a ≡ true → (is_in (get_or v q 0) a ≡ true) ⊎ ((q ≡ r) × (is_in s a ≡ true))
-  see-either e = go (is_in (get_or v q 0) a) refl (sym in_see ∙ e)
+  see-either : contains (get_or (see v r s) q 0) a ≡ true → (contains (get_or v q 0) a ≡ true) ⊎ ((q ≡ r) × (contains s a ≡ true))
+  see-either e = go (contains (get_or v q 0) a) refl (sym in_see ∙ e)
     where
-      go : (x : Bool) → is_in (get_or v q 0) a ≡ x → (x || (eqb q r && is_in s a)) ≡ true → (is_in (get_or v q 0) a ≡ true) ⊎ ((q ≡ r) × (is_in s a ≡ true))
+      go : (x : Bool) → contains (get_or v q 0) a ≡ x → (x || (eqb q r && contains s a)) ≡ true → (contains (get_or v q 0) a ≡ true) ⊎ ((q ≡ r) × (contains s a ≡ true))
       go true y _ = inl y
-      go false _ f = let z = both (eqb q r) (is_in s a) f in inr (eqb-true q r z.0, z.1)
+      go false _ f = let z = both (eqb q r) (contains s a) f in inr (eqb-true q r z.0, z.1)
 
 -- ---- where a walk ends
 
@@ -71,9 +71,9 @@ module _ (b : ℕ) {t v : List ℕ} (k : Seen t v v) where
   row_stays : (r s : ℕ) → Inside s (get_or v r 0) → (n : ℕ) → fold_to (mark_place b s r) n t ≡ t
   unfolding mark_place
   row_stays r s f zero = fold_none (mark_place b s r) t
-  row_stays r s f (suc n) = rw (fold_next (mark_place b s r) n t, row_stays r s f n) (go (is_in s n) refl)
+  row_stays r s f (suc n) = rw (fold_next (mark_place b s r) n t, row_stays r s f n) (go (contains s n) refl)
     where
-      go : (i : Bool) → is_in s n ≡ i → cond i (cond (eqb (mark_at t n r) 0) (set_mark t n r b) t) t ≡ t
+      go : (i : Bool) → contains s n ≡ i → cond i (cond (eqb (mark_at t n r) 0) (set_mark t n r b) t) t ≡ t
       go true e = rw (ne_eqb (mark_at t n r) 0 (k.marked r n (f n e))) refl
       go false e = refl
 
@@ -87,13 +87,13 @@ module _ (b : ℕ) {t v : List ℕ} (k : Seen t v v) where
       rest h a e = let x = below_by t s r a e in k.closed r h a (x.2 (get_or v (suc r) 0) (f (omega arith) x.0 x.1))
 
 -- at round 0, or where all of s is seen, nothing is left to do
-pub seen_end : (b r s : ℕ) (t v : List ℕ) → r ≤ 1024 → Seen t v (see v r s) → (0 < r → common s (get_or v r 0) ≡ s) → (mark_history b r s t ≡ t) × Seen t v v
+pub seen_end : (b r s : ℕ) (t v : List ℕ) → r ≤ 1024 → Seen t v (see v r s) → (0 < r → intersection s (get_or v r 0) ≡ s) → (mark_history b r s t ≡ t) × Seen t v v
 seen_end b r s t v l k f = (history-stays b all r s inside, all)
   where
     inside : 0 < r → Inside s (get_or v r 0)
-    inside h a e = (both (is_in s a) (is_in (get_or v r 0) a) (sym (in_common s (get_or v r 0) a) ∙ rw (f h) e)).1
+    inside h a e = (both (contains s a) (contains (get_or v r 0) a) (sym (in_intersection s (get_or v r 0) a) ∙ rw (f h) e)).1
 
-    old : (q a : ℕ) → 0 < q → (is_in (get_or v q 0) a ≡ true) ⊎ ((q ≡ r) × (is_in s a ≡ true)) → is_in (get_or v q 0) a ≡ true
+    old : (q a : ℕ) → 0 < q → (contains (get_or v q 0) a ≡ true) ⊎ ((q ≡ r) × (contains s a ≡ true)) → contains (get_or v q 0) a ≡ true
     old q a h (inl y) = y
     old q a h (inr y) = let e = y.0 in rw e (inside (omega arith) a y.1)
 
@@ -150,10 +150,10 @@ module _ (b r s : ℕ) (t v : List ℕ) (p : 0 < b) (l : r < 1024) (row : Row t 
   far : suc r < length v
   far = omega (arith, k.long)
 
-  put : (q a : ℕ) → is_in (get_or w q 0) a ≡ true → mark_at t a q ≡ 0 → (eqb q (suc r) && is_in s a) ≡ true
+  put : (q a : ℕ) → contains (get_or w q 0) a ≡ true → mark_at t a q ≡ 0 → (eqb q (suc r) && contains s a) ≡ true
   put q a e z = go (see-either v (suc r) s far q a e)
     where
-      go : (is_in (get_or v q 0) a ≡ true) ⊎ ((q ≡ suc r) × (is_in s a ≡ true)) → (eqb q (suc r) && is_in s a) ≡ true
+      go : (contains (get_or v q 0) a ≡ true) ⊎ ((q ≡ suc r) × (contains s a ≡ true)) → (eqb q (suc r) && contains s a) ≡ true
       go (inl y) = absurd (k.marked q a y z)
       go (inr y) = rw (eq-eqb q (suc r) y.0, y.1) refl
 
@@ -163,8 +163,8 @@ module _ (b r s : ℕ) (t v : List ℕ) (p : 0 < b) (l : r < 1024) (row : Row t 
       long : r < length w
       long = omega (arith, far, length-see v (suc r) s)
 
-      go : (i : ℕ) → ((u : ℕ) → is_in u i ≡ true → is_in (below t u (suc q)) a ≡ true) → (is_in (get_or v (suc q) 0) i ≡ true) ⊎ ((suc q ≡ suc r) × (is_in s i ≡ true))
-          → is_in (get_or (see w r (below t s (suc r))) q 0) a ≡ true
+      go : (i : ℕ) → ((u : ℕ) → contains u i ≡ true → contains (below t u (suc q)) a ≡ true) → (contains (get_or v (suc q) 0) i ≡ true) ⊎ ((suc q ≡ suc r) × (contains s i ≡ true))
+          → contains (get_or (see w r (below t s (suc r))) q 0) a ≡ true
       go i f (inl y) = see-old w r (below t s (suc r)) long q a (k.closed q h a (f (get_or v (suc q) 0) y))
       go i f (inr y) = let e = y.0 in see-new w r (below t s (suc r)) long q a (omega arith) (rw (← e) (f s y.1))
 
@@ -173,7 +173,7 @@ module _ (b r s : ℕ) (t v : List ℕ) (p : 0 < b) (l : r < 1024) (row : Row t 
       let o = only_row (suc r) b s (suc r) t (omega arith) in
       record {
         long = omega (arith, k.long, length-see v (suc r) s);
-        marked = λ q a e. rw (row-mark b s (suc r) t row a q (in_member (get_or w q 0) a e)) (new-mark b (mark_at t a q) (eqb q (suc r) && is_in s a) p (put q a e));
+        marked = λ q a e. rw (row-mark b s (suc r) t row a q (in_member (get_or w q 0) a e)) (new-mark b (mark_at t a q) (eqb q (suc r) && contains s a) p (put q a e));
         closed = λ q h a e. reaches q h a (rw (below-marked o (get_or w (suc q) 0) (suc q)) at e);
       }
 

@@ -1,7 +1,7 @@
 -- Which leaders a commit takes: those that are in the history of the latest one taken.
 use Rattle.std.proofs.Common.{◌≡◌, refl, sym, ap, ◌∙◌, Bool, true, false, cond, List, ℕ, zero, suc, ◌+◌, ◌-◌, ◌<◌, ◌≤◌, arith, add-one, get_or, set, length, length-set, get_or-set_same, get_or-set_other}
 use native.Mathlib.Decide.{ℕ_discrete, dec_lt}
-use Rattle.base.specs.Sets.{is_in, only}
+use Rattle.base.specs.Sets.{contains, only}
 use Rattle.base.proofs.SetLaws.{in_member}
 use Rattle.store.specs.Table.{held_at}
 use Rattle.blocks.specs.History.{below}
@@ -21,7 +21,7 @@ module _ (t : List ℕ) where
     long : p < length l
     led : get_or l p 0 < 16
     gone : (i : ℕ) → m + n < i → i < p → 16 ≤ get_or l i 0
-    reaches : (i : ℕ) → is_in s i ≡ in_history t p (only (get_or l p 0)) i (suc (m + n))
+    reaches : (i : ℕ) → contains s i ≡ in_history t p (only (get_or l p 0)) i (suc (m + n))
 
   abbrev Chosen : ℕ → ℕ → Type 0
   Chosen m n =
@@ -45,10 +45,10 @@ module _ (t : List ℕ) where
     abbrev p' : Bool → ℕ
     p' b = cond b r p
 
-    reaches-r : (i : ℕ) → is_in u i ≡ in_history t p (only (get_or l p 0)) i r
+    reaches-r : (i : ℕ) → contains u i ≡ in_history t p (only (get_or l p 0)) i r
     reaches-r i = rw (add-one r) (history-below t p (only (get_or l p 0)) i s r d.above d.reaches)
 
-    next : (b : Bool) → is_in u (get_or l r 0) ≡ b → Latest m n (cond b (only (get_or l r 0)) u) (p' b) (cond b l (set l r 16))
+    next : (b : Bool) → contains u (get_or l r 0) ≡ b → Latest m n (cond b (only (get_or l r 0)) u) (p' b) (cond b l (set l r 16))
     next true e =
         let z : suc (m + n) ≡ r = omega arith in
         record {
@@ -90,7 +90,7 @@ module _ (t : List ℕ) where
     unfolding take_set take_row
     chosen-next j q a b c e h g = go (ℕ_discrete j r)
       where
-        low : (b : Bool) → is_in u (get_or l r 0) ≡ b → j < r → q ≤ p' b
+        low : (b : Bool) → contains u (get_or l r 0) ≡ b → j < r → q ≤ p' b
         low true x y = by (dec_lt r q)
           where
             stays : get_or left r 0 ≡ get_or l r 0
@@ -104,7 +104,7 @@ module _ (t : List ℕ) where
         go : Dec (j ≡ r) → get_or left j 0 ≡ chosen l left q j
         go (yes x) = rw x (here q (omega arith) e h)
         go (no x) =
-            f (take_set l r u) (p' (is_in u (get_or l r 0))) k (next (is_in u (get_or l r 0)) refl) j q a (omega arith) c (low (is_in u (get_or l r 0)) refl (omega arith)) h g
+            f (take_set l r u) (p' (contains u (get_or l r 0))) k (next (contains u (get_or l r 0)) refl) j q a (omega arith) c (low (contains u (get_or l r 0)) refl (omega arith)) h g
             ∙ ap (λ (z : ℕ). cond (in_history t q (only (get_or left q 0)) z j) z 16) (row_other l r u j x)
 
   chosen-all : (m n : ℕ) → Chosen m n

@@ -45,7 +45,8 @@ pub record CommitReady (t l : List ℕ) (m top k : ℕ) : Type 0 where
   pub anchors : AnchorsReady t l m top
 
 -- how many blocks there are then, the table, and the leaders left
-pub record CommitMade (l₀ : List ℕ) (m top k : ℕ) (t₀ : List ℕ) (n : ℕ) (t l : List ℕ) : Type 0 where
+pub record CommitMade (l₀ : List ℕ) (m top k : ℕ) (t₀ : List ℕ) (n : ℕ)
+    (t l : List ℕ) : Type 0 where
   pub count : n ≡ commit_count m top k l₀ t₀
   pub table : t ≡ commit_table m top k l₀ t₀
   pub leaders : l ≡ taken_leaders t₀ m top l₀

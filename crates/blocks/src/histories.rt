@@ -8,40 +8,43 @@ ghost use Rattle.blocks.specs.History.{named_by, named, below};
 
 use terms::{Member, Round};
 
-// The set u, and whom the certificate of a and round r names, where a is in s.
+// The set `named`, and whom the certificate of `author` and `round` names, where `author` is in `authors`.
 #[tactic(auto, unfolding(crate::specs::History::named_by))]
-fn named_by(t: &[u32], s: u32, r: Round, a: Member, u: u32) -> u32
-    requires { Within t.now a.0 r.0 }
-    ensures { result ≡ named_by t.now s r.0 a.0 u }
+fn named_by(table: &[u32], authors: u32, author: Member, round: Round, named: u32) -> u32
+    requires { Within table.now author.0 round.0 }
+    ensures { result ≡ named_by table.now authors round.0 author.0 named }
 {
-    if base::has(s, a.0) {
-        base::joined(u, store::record::previous(t, a, r))
+    if base::contains(authors, author.0) {
+        base::union(named, store::record::previous(table, author, round))
     } else {
-        u
+        named
     }
 }
 
-// Whom the certificates of s in round r name.
+// Whom the certificates of `authors` in `round` name.
 #[tactic(auto, using(base::proofs::FoldLaws::fold_more, base::proofs::Ranges::fold_none), unfolding(crate::specs::History::named))]
-fn named_in(t: &[u32], s: u32, r: Round) -> u32
-    requires { Row t.now r.0 }
-    ensures { result ≡ named t.now s r.0 }
+fn named_in(table: &[u32], authors: u32, round: Round) -> u32
+    requires { Row table.now round.0 }
+    ensures { result ≡ named table.now authors round.0 }
 {
-    let mut u = 0;
+    let mut found = 0;
     for a in 0..16 {
-        u = named_by(t, s, r, Member(a), u);
+        found = named_by(table, authors, Member(a), round, found);
     }
-    u
+    found
 }
 
-/// What the set s of authors of round r, from 1 on, reaches one round below: those whom their certificates name, and whose own are held there.
+/// What `authors` of `round`, from 1 on, reach one round below: those whom their certificates name, and whose own are held there.
 #[tactic(auto, using(crate::proofs::HistoryLaws::below_none), unfolding(crate::specs::History::below))]
-pub fn step_down(t: &[u32], s: u32, r: Round) -> u32
-    requires { (0 < r.0) × Row t.now r.0 }
-    ensures { result ≡ below t.now s r.0 }
+pub fn step_down(table: &[u32], authors: u32, round: Round) -> u32
+    requires { (0 < round.0) × Row table.now round.0 }
+    ensures { result ≡ below table.now authors round.0 }
 {
-    if s == 0 {
+    if authors == 0 {
         return 0;
     }
-    base::shared(named_in(t, s, r), store::held_set(t, Round(r.0 - 1)))
+    base::intersection(
+        named_in(table, authors, round),
+        store::held_set(table, Round(round.0 - 1)),
+    )
 }

@@ -10,57 +10,65 @@ use crate::histories;
 use store::writes;
 use terms::{Member, Round};
 
-// Puts the certificate of a and round r into block b, if a is in s and it is in no block yet.
+// Puts the certificate of `author` and `round` into `block`, if `author` is in `authors` and it is in no block yet.
 #[tactic(auto, unfolding(crate::specs::Blocks::mark_place))]
-fn mark_place(t: &mut [u32], b: u32, s: u32, r: Round, a: Member)
-    requires { Within t.old a.0 r.0 }
-    ensures { t.new ≡ mark_place b s r.0 a.0 t.old }
+fn mark_place(table: &mut [u32], block: u32, authors: u32, author: Member, round: Round)
+    requires { Within table.old author.0 round.0 }
+    ensures { table.new ≡ mark_place block authors round.0 author.0 table.old }
 {
-    if base::has(s, a.0) && store::record::mark(t, a, r) == 0 {
-        writes::set_mark(t, a, r, b);
+    if base::contains(authors, author.0) && store::record::mark(table, author, round) == 0 {
+        writes::set_mark(table, author, round, block);
     }
 }
 
 // So for all sixteen.
 #[tactic(auto, using(base::proofs::FoldLaws::fold_more, base::proofs::Ranges::fold_none), unfolding(crate::specs::Blocks::mark_row))]
-fn mark_row(t: &mut [u32], b: u32, s: u32, r: Round)
-    requires { Row t.old r.0 }
-    ensures { t.new ≡ mark_row b s r.0 t.old }
+fn mark_row(table: &mut [u32], block: u32, authors: u32, round: Round)
+    requires { Row table.old round.0 }
+    ensures { table.new ≡ mark_row block authors round.0 table.old }
 {
     for a in 0..16u32 {
-        mark_place(t, b, s, r, Member(a));
+        mark_place(table, block, authors, Member(a), round);
     }
 }
 
-// Puts what is in no block yet, of the history of the set s of round top, into block b.
+// Puts what is in no block yet, of the history of the set `authors` of round top, into `block`.
 // seen has what earlier walks reached, by round: where a walk reaches nothing else it ends.
 #[tactic(auto, using(crate::proofs::SeenLaws::seen_end), unfolding(base::specs::Sets::is_subset))]
-fn mark_history(t: &mut [u32], seen: &mut [u32; 1025], b: u32, s: u32, top: Round)
-    requires { HistoryReady t.old seen.old top.0 × (0 < b) }
-    ensures { (t.new ≡ mark_history b top.0 s t.old) × Seen t.new seen.new seen.new }
+fn mark_history(table: &mut [u32], seen: &mut [u32; 1025], block: u32, authors: u32, top: Round)
+    requires { HistoryReady table.old seen.old top.0 × (0 < block) }
+    ensures { (table.new ≡ mark_history block top.0 authors table.old)
+        × Seen table.new seen.new seen.new }
 {
     let mut r = top.0;
-    let mut here = s;
+    let mut here = authors;
     while 0 < r {
         let q = r - 1;
         let old = seen[r as usize];
         if base::is_subset(here, old) {
             return;
         }
-        let next = histories::step_down(t, here, Round(r));
-        mark_row(t, b, here, Round(r));
-        seen[r as usize] = base::joined(old, here);
+        let next = histories::step_down(table, here, Round(r));
+        mark_row(table, block, here, Round(r));
+        seen[r as usize] = base::union(old, here);
         here = next;
         r = q;
     }
 }
 
-/// Makes block k, from 1 on, of the anchor of author a and round r: what is in no block yet, of the anchor's history, gets the mark k, and row k the round r. What the walk reached is added to seen.
-pub fn add_block(t: &mut [u32], seen: &mut [u32; 1025], k: u32, a: Member, r: Round)
-    requires { NewBlockReady t.old seen.old k a.0 r.0 }
-    ensures { (t.new ≡ add_block k a.0 r.0 t.old) × Seen t.new seen.new seen.new }
+/// Makes `block`, from 1 on, of the anchor of `author` and `round`: what is in no block yet, of the anchor's history, gets the mark `block`, and row `block` this round. What the walk reached is added to seen.
+pub fn add_block(
+    table: &mut [u32],
+    seen: &mut [u32; 1025],
+    block: u32,
+    author: Member,
+    round: Round,
+)
+    requires { NewBlockReady table.old seen.old block author.0 round.0 }
+    ensures { (table.new ≡ add_block block author.0 round.0 table.old)
+        × Seen table.new seen.new seen.new }
 {
-    let s = base::just(a.0);
-    mark_history(t, seen, k, s, r);
-    writes::set_block(t, k, r);
+    let anchor = base::only(author.0);
+    mark_history(table, seen, block, anchor, round);
+    writes::set_block(table, block, round);
 }

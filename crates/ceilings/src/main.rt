@@ -12,7 +12,7 @@ use terms::sheet::{Rights, Setting, Sheet};
 const TABLE: usize = 278800;
 
 // Opens with a ceiling and writes the answer out.
-fn try_ceiling<W: Write>(output: &mut W, t: &mut [u32], ceiling: u32) -> io::Result<()> {
+fn try_ceiling<W: Write>(output: &mut W, table: &mut [u32], ceiling: u32) -> io::Result<()> {
     let blank = Sheet::blank();
     let weights = blank.weights;
     let written = Sheet {
@@ -23,7 +23,7 @@ fn try_ceiling<W: Write>(output: &mut W, t: &mut [u32], ceiling: u32) -> io::Res
         margin: Setting::Blank,
         rights: Rights(0),
     };
-    let answer = open::open(&mut open::closed(), t, Member(0), written);
+    let answer = open::open(&mut open::closed(), table, Member(0), written);
     let mut out = [0u8; 20];
     let n = replies::answer::put_answer(answer, &mut out, 0);
     output.write_all(&out[..n])

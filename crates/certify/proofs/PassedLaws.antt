@@ -1,9 +1,8 @@
 -- What an accepted certify has passed, as the state and the table show it.
-use Rattle.std.proofs.Common.{◌≡◌, refl, sym, ◌∙◌, true, false, true≢false, List, ℕ}
-use mathlib.Core.Option.{Option, none, some}
+use Rattle.std.proofs.Common.{◌≡◌, refl, sym, ◌∙◌, true, false, true≢false, List, ℕ, Option, Some, None}
 use Rattle.base.specs.Checks.{refusal}
 use Rattle.base.proofs.CheckLaws.{numbered}
-use Rattle.base.specs.Sets.{is_in}
+use Rattle.base.specs.Sets.{contains}
 use Rattle.agreement.specs.Dag.{is_held}
 use Rattle.terms.specs.Proposals.{Content}
 use Rattle.store.specs.Table.{held_at}
@@ -23,19 +22,19 @@ module _ (s : State) (t : List ℕ) where
     pub formed : Formed s t
     pub proposing : is_proposing s ≡ true
     pub free : held_at t s.own.0 s.round.0 ≡ false
-    pub not_among : is_in i s.own.0 ≡ false
+    pub not_among : contains i s.own.0 ≡ false
 
   pub certify-passed : (i : ℕ) → certify_refusal s t i ≡ 0 → CertifyPassed i
   unfolding certify_refusal numbered
   certify-passed i e = let n = refusal-passed s t (rules.certify i) e in go (formed s t n.0) (view s t).proposal (held-proposal s) n.1
     where
       go : Formed s t → (o : Option Content) → is_held o ≡ (is_proposing s) → refusal (rules.certifying s.settings s.own.0 (view s t) i o) ≡ 0 → CertifyPassed i
-      go f none q h = passed _ refl h λ h15. absurd (true≢false h15)
-      go f (some p) q h =
+      go f None q h = passed _ refl h λ h15. absurd (true≢false h15)
+      go f (Some p) q h =
           passed _ refl h λ h10 h14 h8 h9 h13.
           record {
             formed = f;
             proposing = sym q;
-            free = sym (held-dag s.settings.ceiling.0 t s.own.0 s.round.0 f.numbers.round-from f.numbers.round-to) ∙ h10;
+            free = sym (held-dag s.settings.ceiling.0 t s.own.0 s.round.0 f.numbers.round_from f.numbers.round_to) ∙ h10;
             not_among = h14;
           }

@@ -13,4 +13,6 @@ module _ (s : State) (t : List ℕ) where
   certify_refusal e = refusal_of s t (rules.certify e)
 
   unfoldable pub certify_table : ℕ → List ℕ
-  certify_table e = if_accepted (certify_refusal e) (put_certificate t (content_with s.own.0 s.round.0 (own_body s)) e) t
+  certify_table e =
+      if_accepted (certify_refusal e)
+      (put_certificate t (content_with s.own.0 s.round.0 (own_body s)) e) t

@@ -22,32 +22,35 @@ use terms::Proposal;
 
 // The checks of a well-formed state: 15, 10, 14, 8, 9, 13; and one's own proposal.
 #[tactic(auto, unfolding(base::specs::Checks::refusal, rules::specs::Tests::signers_of, state::specs::View::own_proposal))]
-fn check(v: &View, endorsers: u32) -> Result<Proposal, Refusal>
-    ensures refusal { refusal_in result ≡ refusal (certifying (settings_of v.now) v.now.state.now.own.0 (shown v.now) endorsers (shown v.now).proposal) }
-    ensures value { IfOk result (λ p. content_of p ≡ (let s = v.now.state.now in content_with s.own.0 s.round.0 (own_body s))) }
-    ensures fits { IfOk result (FormFits v.now.state.now) }
+fn check(view: &View, endorsers: u32) -> Result<Proposal, Refusal>
+    ensures refusal { refusal_in result
+        ≡ refusal (certifying (settings_of view.now) view.now.state.now.own.0 (shown view.now)
+        endorsers (shown view.now).proposal) }
+    ensures value { IfOk result (λ p. content_of p ≡ (let s = view.now.state.now in
+        content_with s.own.0 s.round.0 (own_body s))) }
+    ensures fits { IfOk result (FormFits view.now.state.now) }
 {
-    let author = v.state.own;
-    let round = v.state.round;
-    let Some(body) = v.state.proposal else {
+    let author = view.state.own;
+    let round = view.state.round;
+    let Some(body) = view.state.proposal else {
         return Err(Refusal::NoProposal);
     };
-    if v.is_held(author, round) {
+    if view.is_held(author, round) {
         return Err(Refusal::PlaceTaken);
     }
-    if base::has(endorsers, author.0) {
-        return Err(Refusal::OwnEndorsement);
+    if base::contains(endorsers, author.0) {
+        return Err(Refusal::SignedTwice);
     }
-    if v.is_unknown(round) {
+    if view.is_unknown(round) {
         return Err(Refusal::CommitteeUnknown);
     }
-    let signers = base::with(endorsers, author.0);
-    let committee = v.committee(round);
+    let signers = base::insert(endorsers, author.0);
+    let committee = view.committee(round);
     if committee.has_outsider(signers) {
-        return Err(Refusal::Outsider);
+        return Err(Refusal::Outside);
     }
     if committee.is_short(signers) {
-        return Err(Refusal::SignersThin);
+        return Err(Refusal::SignersShort);
     }
     Ok(Proposal {
         author,
@@ -61,23 +64,29 @@ fn check(v: &View, endorsers: u32) -> Result<Proposal, Refusal>
 pub fn certify_cached(
     formed: bool,
     cache: &[u64],
-    s: &State,
-    t: &mut [u32],
+    state: &State,
+    table: &mut [u32],
     endorsers: u16,
 ) -> Result<(), Refusal>
-    requires { Cached s.now t.old formed cache.now }
-    ensures refusal { refusal_in result ≡ certify_refusal s.now t.old endorsers }
-    ensures table { t.new ≡ certify_table s.now t.old endorsers }
+    requires { Cached state.now table.old formed cache.now }
+    ensures refusal { refusal_in result ≡ certify_refusal state.now table.old endorsers }
+    ensures table { table.new ≡ certify_table state.now table.old endorsers }
 {
-    let proposal = check(&View::known(formed, cache, s, t)?, endorsers as u32)?;
-    writes::put_certificate(t, proposal, endorsers);
+    let proposal = check(&View::known(formed, cache, state, table)?, endorsers as u32)?;
+    writes::put_certificate(table, proposal, endorsers);
     Ok(())
 }
 
 /// Holds one's own proposal as a certificate, with its endorsers.
-pub fn certify(s: &State, t: &mut [u32], endorsers: u16) -> Result<(), Refusal>
-    ensures refusal { refusal_in result ≡ certify_refusal s.now t.old endorsers }
-    ensures table { t.new ≡ certify_table s.now t.old endorsers }
+pub fn certify(state: &State, table: &mut [u32], endorsers: u16) -> Result<(), Refusal>
+    ensures refusal { refusal_in result ≡ certify_refusal state.now table.old endorsers }
+    ensures table { table.new ≡ certify_table state.now table.old endorsers }
 {
-    certify_cached(state::well_formed(*s, t), &[], s, t, endorsers)
+    certify_cached(
+        state::well_formed(*state, table),
+        &[],
+        state,
+        table,
+        endorsers,
+    )
 }

@@ -1,6 +1,5 @@
 -- The leaders that are left are the anchors that the theory takes.
-use Rattle.std.proofs.Common.{◌≡◌, refl, sym, ap, ◌∙◌, subst, Bool, true, false, cond, List, [], ◌∷◌, ℕ, zero, suc, ◌+◌, ◌-◌, ◌≤◌, ◌<◌, arith, ltb, get_or, length, ltb-true, ltb-false, lt-ltb}
-use mathlib.Core.Option.{Option, none, some}
+use Rattle.std.proofs.Common.{◌≡◌, refl, sym, ap, ◌∙◌, subst, Bool, true, false, cond, List, [], ◌∷◌, ℕ, zero, suc, ◌+◌, ◌-◌, ◌≤◌, ◌<◌, arith, ltb, get_or, length, ltb-true, ltb-false, lt-ltb, Option, Some, None}
 use Rattle.base.specs.Sets.{only}
 use Rattle.agreement.specs.Rules.{last, Rules}
 use Rattle.agreement.specs.View.{View}
@@ -21,16 +20,16 @@ module _ {R : Rules} (s : View R) where
 
   -- the certificate of the leader that a list has for a round, 16 for none
   unfoldable pub anchor_in : List ℕ → ℕ → Option P
-  anchor_in l r = cond (ltb (get_or l r 0) 16) (s.dag (get_or l r 0) r) none
+  anchor_in l r = cond (ltb (get_or l r 0) 16) (s.dag (get_or l r 0) r) None
 
   -- where the list has a
-  pub anchor_in_lem : (l : List ℕ) (r a : ℕ) → get_or l r 0 ≡ a → anchor_in l r ≡ cond (ltb a 16) (s.dag a r) none
+  pub anchor_in_lem : (l : List ℕ) (r a : ℕ) → get_or l r 0 ≡ a → anchor_in l r ≡ cond (ltb a 16) (s.dag a r) None
   unfolding anchor_in
   anchor_in_lem l r a e = rw e refl
 
   abbrev pub onto : Option P → List P → List P
-  onto none l = l
-  onto (some q) l = q ∷ l
+  onto None l = l
+  onto (Some q) l = q ∷ l
 
   -- those of the n rounds above m, the newest first
   unfoldable pub anchors_in : List ℕ → ℕ → ℕ → List P
@@ -106,7 +105,7 @@ module _ {R : Rules} {s : View R} {c k : ℕ} {l t : List ℕ} {x : R.P} (W : Re
             by false z = let w : i ≡ r = omega (arith, ltb-false r i z) in rw (w, e) (omega arith)
 
     -- it is taken
-    kept : (q : P) → theory.in_history s y r a ≡ true → s.dag a r ≡ some q → a < 16 → anchors_in s left m (suc n) ≡ q ∷ taken s n q
+    kept : (q : P) → theory.in_history s y r a ≡ true → s.dag a r ≡ Some q → a < 16 → anchors_in s left m (suc n) ≡ q ∷ taken s n q
     unfolding anchors_in anchor_in
     kept q h g b =
         let p = W.shows.placed.place g in
@@ -124,13 +123,13 @@ module _ {R : Rules} {s : View R} {c k : ℕ} {l t : List ℕ} {x : R.P} (W : Re
     unfolding taken anchor_in
     next = rw (W.led r (omega arith) (omega (arith, L.above, L.below))) (go (ltb a 16) refl)
       where
-        test : (q : P) → s.dag a r ≡ some q → a < 16 → (b : Bool) → theory.in_history s y r a ≡ b → anchors_in s left m (suc n) ≡ cond b (q ∷ taken s n q) (taken s n y)
+        test : (q : P) → s.dag a r ≡ Some q → a < 16 → (b : Bool) → theory.in_history s y r a ≡ b → anchors_in s left m (suc n) ≡ cond b (q ∷ taken s n q) (taken s n y)
         test q g z true h = kept q h g z
         test q g z false h = struck h
 
         held : a < 16 → (o : Option P) → s.dag a r ≡ o → anchors_in s left m (suc n) ≡ choose s y (λ y. taken s n y) o
-        held z none g = struck (history-held W.shows.placed L.held r a (rw g refl))
-        held z (some q) g = let p = W.shows.placed.place g in rw (p.0, p.1) (test q g z (theory.in_history s y r a) refl)
+        held z None g = struck (history-held W.shows.placed L.held r a (rw g refl))
+        held z (Some q) g = let p = W.shows.placed.place g in rw (p.0, p.1) (test q g z (theory.in_history s y r a) refl)
 
         nobody : 16 ≤ a → is_held (s.dag a r) ≡ false
         nobody h = by (is_held (s.dag a r)) refl
@@ -139,7 +138,7 @@ module _ {R : Rules} {s : View R} {c k : ℕ} {l t : List ℕ} {x : R.P} (W : Re
             by true e = absurd (omega (arith, held-member t a r (W.shows.held a r (omega arith) (omega (arith, L.above, L.below, W.inside)) ∙ e)))
             by false e = refl
 
-        go : (b : Bool) → ltb a 16 ≡ b → anchors_in s left m (suc n) ≡ choose s y (λ y. taken s n y) (cond b (s.dag a r) none)
+        go : (b : Bool) → ltb a 16 ≡ b → anchors_in s left m (suc n) ≡ choose s y (λ y. taken s n y) (cond b (s.dag a r) None)
         go true z = held (ltb-true a 16 z) (s.dag a r) refl
         go false z = struck (history-held W.shows.placed L.held r a (nobody (ltb-false a 16 z)))
 

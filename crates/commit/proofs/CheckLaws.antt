@@ -3,7 +3,7 @@ use Rattle.std.proofs.Common.{◌≡◌, refl, sym, ◌∙◌, true, false, List
 use native.Mathlib.Decide.{ℕ_discrete}
 use Rattle.base.specs.Checks.{refusal}
 use Rattle.base.proofs.CheckLaws.{first-refuses, first_passes, numbered}
-use Rattle.base.specs.Sets.{is_in}
+use Rattle.base.specs.Sets.{contains}
 use Rattle.store.specs.Table.{held_set}
 use Rattle.rules.specs.Calls as rules
 use Rattle.state.specs.declared.State.{State}
@@ -41,7 +41,7 @@ module _ (s : State) (t : List ℕ) where
     pub in_time : refusal (time_checks s t) ≡ 0
     pub timely : Timely s t
     pub voted : refusal (vote_checks s t) ≡ 0
-    pub led : is_in (held_set t (s.round.0 - 1)) (leader_on s t (s.round.0 - 1)) ≡ true
+    pub led : contains (held_set t (s.round.0 - 1)) (leader_on s t (s.round.0 - 1)) ≡ true
 
   pub accepted : commit_refusal s t ≡ 0 → Accepted
   unfolding commit_refusal

@@ -1,8 +1,7 @@
 -- An accepted commit is the commit of the rules: the view that its state and table show.
-use Rattle.std.proofs.Common.{◌≡◌, refl, sym, ap₂, ◌∙◌, Bool, true, false, cond, List, ℕ, ◌-◌, ◌<◌, ◌≤◌, arith, ltb, get_or, lt-ltb}
-use mathlib.Core.Option.{Option, none, some}
+use Rattle.std.proofs.Common.{◌≡◌, refl, sym, ap₂, ◌∙◌, Bool, true, false, cond, List, ℕ, ◌-◌, ◌<◌, ◌≤◌, arith, ltb, get_or, lt-ltb, Option, Some, None}
 use Rattle.base.proofs.Bools.{cond_same}
-use Rattle.base.specs.Sets.{is_in}
+use Rattle.base.specs.Sets.{contains}
 use Rattle.base.proofs.SetLaws.{in_member}
 use Rattle.agreement.specs.Commits.{anchor_at, committed}
 use Rattle.terms.specs.Proposals.{Content}
@@ -10,8 +9,8 @@ use Rattle.store.specs.Table.{used_length, held_set, content_at}
 use Rattle.store.proofs.TableLaws.{held_in, content-author, content-round, certificate-present, certificate-absent}
 use Rattle.store.proofs.MarkLaws.{OnlyMarks, certificate-marked, endorsed-marked}
 use Rattle.committee.specs.Chain.{chain_of}
-use Rattle.running.specs.BlockChanges.{last_round}
-use Rattle.running.proofs.ChainLaws.{last-chain}
+use Rattle.chain_committees.specs.BlockChanges.{last_round}
+use Rattle.chain_committees.proofs.ChainLaws.{last-chain}
 use Rattle.blocks.specs.Blocks.{commit_table, commit_count}
 use Rattle.blocks.proofs.CommitLaws.{commit-stage}
 use Rattle.commit.proofs.Anchors.{anchor_in, anchor_in_lem, Ready}
@@ -32,14 +31,14 @@ use Rattle.rules.specs.Calls as rules
 -- the anchor of a round is the certificate of the leader that the list has
 leader-anchor : (s : State) (t : List ℕ) (q : ℕ) → 0 < q → q ≤ s.settings.ceiling.0 → get_or (leaders_for s t) q 0 ≡ leader_on s t q
     → anchor_at (view s t) q ≡ anchor_in (view s t) (leaders_for s t) q
-leader-anchor s t q from to e = anchor-on s t q from to ∙ go (is_in (held_set t q) a) refl ∙ sym (anchor_in_lem (view s t) (leaders_for s t) q a e)
+leader-anchor s t q from to e = anchor-on s t q from to ∙ go (contains (held_set t q) a) refl ∙ sym (anchor_in_lem (view s t) (leaders_for s t) q a e)
   where
     a : ℕ
     a = leader_on s t q
 
-    go : (b : Bool) → is_in (held_set t q) a ≡ b → ◌≡◌ {A = Option Content} (cond b (some (content_at t a q)) none) (cond (ltb a 16) ((view s t).dag a q) none)
+    go : (b : Bool) → contains (held_set t q) a ≡ b → ◌≡◌ {A = Option Content} (cond b (Some (content_at t a q)) None) (cond (ltb a 16) ((view s t).dag a q) None)
     go true h = rw (lt-ltb a 16 (in_member (held_set t q) a h)) (sym (dag-at s.settings.ceiling.0 t a q from to ∙ certificate-present t a q (held_in t a q ∙ h)))
-    go false h = rw (dag-at s.settings.ceiling.0 t a q from to, certificate-absent t a q (held_in t a q ∙ h)) (sym (cond_same (ltb a 16) none))
+    go false h = rw (dag-at s.settings.ceiling.0 t a q from to, certificate-absent t a q (held_in t a q ∙ h)) (sym (cond_same (ltb a 16) None))
 
 -- the state after an accepted commit
 abbrev pub committed_state : State → List ℕ → State
@@ -65,18 +64,18 @@ module _ (s : State) (t : List ℕ) (ok : commit_refusal s t ≡ 0) where
   abbrev x : Content
   x = content_at t a (r - 1)
 
-  pub anchor-held : anchor_at v (r - 1) ≡ some x
+  pub anchor-held : anchor_at v (r - 1) ≡ Some x
   anchor-held =
       let y = accepted s t ok in
-      anchor-on s t (r - 1) (omega (arith, y.timely.from)) (omega (arith, y.formed.numbers.round-to)) ∙ rw y.led refl
+      anchor-on s t (r - 1) (omega (arith, y.timely.from)) (omega (arith, y.formed.numbers.round_to)) ∙ rw y.led refl
 
   ready : Ready v n s.blocks (leaders_for s t) t x
   ready =
       let y = accepted s t ok in
       let f = y.formed in
       let w = y.timely in
-      let to = f.numbers.round-to in
-      let top = f.settings.ceiling-to in
+      let to = f.numbers.round_to in
+      let top = f.settings.ceiling_to in
       let e = last-chain n t s.blocks in
       let i = content-round t a (r - 1) in
       let at : (q : ℕ) → m < q → q < r → get_or (leaders_for s t) q 0 ≡ leader_on s t q = λ q h l. leaders-on s t q h l (omega arith) in
@@ -101,7 +100,7 @@ module _ (s : State) (t : List ℕ) (ok : commit_refusal s t ≡ 0) where
   only-marks =
       let y = accepted s t ok in
       let w = y.timely in
-      let to = y.formed.numbers.round-to in
+      let to = y.formed.numbers.round_to in
       let o = (commit-stage m (r - 1) s.blocks (leaders_for s t) t w.few w.above).only in
       record { size = o.size; words = o.words; beyond = λ j h. o.beyond j (omega arith) }
 

@@ -1,7 +1,7 @@
 -- An accepted commit leaves row 0.
 use Rattle.std.proofs.Common.{◌≡◌, List, ℕ, ◌-◌}
 use Rattle.store.proofs.FirstRow.{SameFirst}
-use Rattle.running.specs.BlockChanges.{last_round}
+use Rattle.chain_committees.specs.BlockChanges.{last_round}
 use Rattle.blocks.proofs.FirstRow.{commit-first}
 use Rattle.state.specs.declared.State.{State}
 use Rattle.votes.specs.Checks.{leaders_for}

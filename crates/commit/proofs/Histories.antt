@@ -1,10 +1,9 @@
 -- The histories on the table are those of the theory.
-use Rattle.std.proofs.Common.{◌≡◌, refl, sym, ap, ap₂, ◌∙◌, Bool, true, false, ◌&&◌, List, ℕ, zero, suc, ◌-◌, ◌≤◌, ◌<◌, arith}
-use mathlib.Core.Option.{some}
+use Rattle.std.proofs.Common.{◌≡◌, refl, sym, ap, ap₂, ◌∙◌, Bool, true, false, ◌&&◌, List, ℕ, zero, suc, ◌-◌, ◌≤◌, ◌<◌, arith, Some}
 use native.Mathlib.Decide.{dec_lt}
 use Rattle.base.specs.Folds.{any_to}
 use Rattle.base.proofs.TestLaws.{any_same}
-use Rattle.base.specs.Sets.{is_in, only}
+use Rattle.base.specs.Sets.{contains, only}
 use Rattle.base.proofs.UnionLaws.{in_only}
 use Rattle.agreement.specs.Rules.{Rules}
 use Rattle.agreement.specs.View.{View}
@@ -20,7 +19,7 @@ pub record Shows {R : Rules} (s : View R) (c : ℕ) (t : List ℕ) : Type 0 wher
   pub placed : Placed s
   pub inside : (a r : ℕ) → is_held (s.dag a r) ≡ true → (0 < r) × (r ≤ c)
   pub held : (a r : ℕ) → 0 < r → r ≤ c → held_at t a r ≡ is_held (s.dag a r)
-  pub naming : (a r i : ℕ) (q : R.P) → s.dag a r ≡ some q → R.names q i ≡ is_in (previous_at t a r) i
+  pub naming : (a r i : ℕ) (q : R.P) → s.dag a r ≡ Some q → R.names q i ≡ contains (previous_at t a r) i
 
 module _ {R : Rules} {s : View R} {c : ℕ} {t : List ℕ} (S : Shows s c t) where
   open R use {size, P, author, round, names}
@@ -40,7 +39,7 @@ module _ {R : Rules} {s : View R} {c : ℕ} {t : List ℕ} (S : Shows s c t) whe
         p = suc (round x - suc d)
 
         f : ℕ → Bool
-        f i = in_history t (round x) (only (author x)) i p && is_in (previous_at t i p) a
+        f i = in_history t (round x) (only (author x)) i p && contains (previous_at t i p) a
 
         g : ℕ → Bool
         g i = theory.in_history s x p i && vote R a (s.dag i p)
@@ -48,7 +47,7 @@ module _ {R : Rules} {s : View R} {c : ℕ} {t : List ℕ} (S : Shows s c t) whe
         one : (i : ℕ) → in_history t (round x) (only (author x)) i p ≡ theory.in_history s x p i → f i ≡ g i
         one i e = rw e (go (theory.in_history s x p i) refl)
           where
-            go : (b : Bool) → theory.in_history s x p i ≡ b → (b && is_in (previous_at t i p) a) ≡ (b && vote R a (s.dag i p))
+            go : (b : Bool) → theory.in_history s x p i ≡ b → (b && contains (previous_at t i p) a) ≡ (b && vote R a (s.dag i p))
             go true h = let q = history_reach S.placed hx p i h in rw q.1 (sym (S.naming i p a q.0 q.1))
             go false h = refl
 

@@ -1,7 +1,7 @@
 -- What an accepted commit relies on and leaves.
 use Rattle.std.proofs.Common.{◌≡◌, refl, sym, ap, ◌∙◌, true, List, ℕ, ◌-◌, ◌<◌, ◌≤◌, arith, length, get_or}
 use Rattle.base.specs.Checks.{refusal}
-use Rattle.running.specs.BlockChanges.{last_round}
+use Rattle.chain_committees.specs.BlockChanges.{last_round}
 use Rattle.blocks.specs.Blocks.{commit_table, commit_count}
 use Rattle.blocks.specs.WalkReady.{CommitReady, CommitMade}
 use Rattle.blocks.proofs.CommitLaws.{commit-stage}
@@ -37,7 +37,7 @@ module _ (s : State) (t : List ℕ) where
         let f = a.formed in
         let w = a.timely in
         let n = leaders-length s t l i in
-        let k : s.round.0 ≤ 1024 = omega (arith, f.numbers.round-to, f.settings.ceiling-to) in
+        let k : s.round.0 ≤ 1024 = omega (arith, f.numbers.round_to, f.settings.ceiling_to) in
         record {
           few = omega (arith, w.few);
           round = omega arith;
@@ -61,7 +61,7 @@ module _ (s : State) (t : List ℕ) where
     ruled k u j h i =
         let n = count-commit s t ok in
         let e : length (ruled_view s t).chain ≡ blocks_then s t = ap (λ (v : MemberView s.settings). length v.chain) (sym (view-commit s t ok)) ∙ n.1 in
-        rw (j, i) (record { its-state = refl; its_view = view-commit s t ok; its-value = rw (n.0, e) (omega arith); its-blocks = omega arith })
+        rw (j, i) (record { its_state = refl; its_view = view-commit s t ok; its_value = rw (n.0, e) (omega arith); its_blocks = omega arith })
 
     blocks-grown : s.blocks ≤ blocks_then s t
     unfolding blocks_then

@@ -10,8 +10,8 @@ use Rattle.ports.proofs.WrittenLaws.{kept_by, first-words}
 use Rattle.scan.specs.Scan.{rows_fit}
 use Rattle.scan.proofs.FitLaws.{rows-marked}
 use Rattle.committee.proofs.ChainLaws.{chain_length}
-use Rattle.running.specs.BlockChanges.{last_round}
-use Rattle.running.proofs.ChainLaws.{BlockFits, fits-at, last_none, last_some}
+use Rattle.chain_committees.specs.BlockChanges.{last_round}
+use Rattle.chain_committees.proofs.ChainLaws.{BlockFits, fits-at, last_none, last_some}
 use Rattle.blocks.proofs.TakenLaws.{taken-left}
 use Rattle.blocks.proofs.CommitLaws.{commit-stage, commit-round-old, commit-mark, commit-rounds, commit-last}
 use Rattle.state.specs.declared.State.{State}
@@ -53,10 +53,10 @@ module _ (s : State) (t : List ℕ) (ok : commit_refusal s t ≡ 0) where
   y = accepted s t ok
 
   long : Row t (r - 1)
-  long = omega (arith, y.formed.long, y.formed.numbers.round-to)
+  long = omega (arith, y.formed.long, y.formed.numbers.round_to)
 
   led : (q : ℕ) → m < q → q < r → get_or l q 0 ≡ leader_on s t q
-  led q h i = leaders-on s t q h i (omega (arith, y.formed.numbers.round-to, y.formed.settings.ceiling-to))
+  led q h i = leaders-on s t q h i (omega (arith, y.formed.numbers.round_to, y.formed.settings.ceiling_to))
 
   -- at least one block is added, and the last of them is the anchor's
   pub blocks-added : (k < c) × (block_round u c ≡ r - 1)
@@ -95,7 +95,7 @@ module _ (s : State) (t : List ℕ) (ok : commit_refusal s t ≡ 0) where
       let q = block_round u j in
       let low : q < r = omega (arith, z.1, w.from) in
       let top = leaders-length s t l refl in
-      let e = (taken-left t m (r - 1) l w.above (omega (arith, y.formed.numbers.round-to, y.formed.settings.ceiling-to)) q z.2).0 in
+      let e = (taken-left t m (r - 1) l w.above (omega (arith, y.formed.numbers.round_to, y.formed.settings.ceiling_to)) q z.2).0 in
       record { even = leader-even s t q (omega (arith, e, z.2, led q z.0 low)); above = z.0; below = low }
 
   rising : (j : ℕ) → k < j → j < c → block_round u j < block_round u (j + 1)
@@ -117,7 +117,7 @@ module _ (s : State) (t : List ℕ) (ok : commit_refusal s t ≡ 0) where
       go (yes i) d = fits-at n u k (blocks-same n t u k old-round y.formed.rounds) j i
       go (no i) d =
           let e = new-round (j + 1) (omega arith) (omega arith) in
-          record { even = e.even; rises = rises d; below = omega (arith, e.below, y.formed.numbers.round-to) }
+          record { even = e.even; rises = rises d; below = omega (arith, e.below, y.formed.numbers.round_to) }
         where
           rises : Dec (j ≡ k) → last_round u j < block_round u (j + 1)
           rises (yes z) = omega (arith, ap (last_round u) z, last-old, (new-round (j + 1) (omega arith) (omega arith)).above)
@@ -136,22 +136,22 @@ module _ (s : State) (t : List ℕ) (ok : commit_refusal s t ≡ 0) where
       (λ p x.
       record {
         held = held-marked (only-marks s t ok) (p % 16) (p / 16);
-        mark = mark-stays (p % 16) (p / 16) (omega arith) (omega (arith, x.from)) x.mark-from;
+        mark = mark-stays (p % 16) (p / 16) (omega arith) (omega (arith, x.from)) x.mark_from;
         content = content-marked (only-marks s t ok) (p % 16) (p / 16);
-        round = old-round (mark_at t (p % 16) (p / 16)) x.mark-to;
+        round = old-round (mark_at t (p % 16) (p / 16)) x.mark_to;
       })
       (first-words t u (first-commit s t ok))
 
   few : c ≤ n
   unfolding blocks_then
-  few = let w = y.timely in omega (arith, (commit-stage m (r - 1) k l t w.few w.above).few, w.few, w.above, y.formed.numbers.round-to)
+  few = let w = y.timely in omega (arith, (commit-stage m (r - 1) k l t w.few w.above).few, w.few, w.above, y.formed.numbers.round_to)
 
   -- the state stays well formed
   pub formed-commit : Formed (committed_state s t) u
   formed-commit =
       let f = y.formed in
       formed-by (committed_state s t) u f.is_in_range f.weighty
-      (record { own = f.numbers.own; round-from = f.numbers.round-from; round-to = f.numbers.round-to; blocks_to = few })
+      (record { own = f.numbers.own; round_from = f.numbers.round_from; round_to = f.numbers.round_to; blocks_to = few })
       f.proposal (omega (arith, f.long, (only-marks s t ok).size)) rows_then (blocks-whole n u c block-fits) (fits-same t u (first-commit s t ok) ∙ f.queues)
 
   -- ---- the answer

@@ -1,8 +1,7 @@
 -- What a state and its table show, as the theory's commit wants it.
-use Rattle.std.proofs.Common.{◌≡◌, refl, sym, ap, ap₂, ◌∙◌, Bool, true, false, cond, List, ◌∷◌, ℕ, zero, suc, ◌≤◌, arith, eqb}
-use mathlib.Core.Option.{Option, none, some}
+use Rattle.std.proofs.Common.{◌≡◌, refl, sym, ap, ap₂, ◌∙◌, Bool, true, false, cond, List, ◌∷◌, ℕ, zero, suc, ◌≤◌, arith, eqb, Option, Some, None}
 use Rattle.base.proofs.Bools.{cond_same}
-use Rattle.base.specs.Sets.{is_in}
+use Rattle.base.specs.Sets.{contains}
 use Rattle.agreement.specs.Dag.{is_held}
 use Rattle.agreement.proofs.DagLaws.{held_by}
 use Rattle.agreement.specs.Marks.{MarksFit}
@@ -39,7 +38,7 @@ module _ (s : State) (t : List ℕ) where
         placed = record { place = λ {a} {r} {p} h. let d = in_dag n t a r p h in (d.author, d.round); member = λ {a} {r} {p} h. (in_dag n t a r p h).member };
         inside = λ a r h. let d = (inside a r h).1 in (d.from, d.to);
         held = λ a r from to. sym (held-dag n t a r from to);
-        naming = λ a r i q h. ap (λ (p : Content). is_in p.previous i) (in_dag n t a r q h).content ∙ ap (λ (z : ℕ). is_in z i) (content-previous t a r);
+        naming = λ a r i q h. ap (λ (p : Content). contains p.previous i) (in_dag n t a r q h).content ∙ ap (λ (z : ℕ). contains z i) (content-previous t a r);
       }
 
   -- every mark of a held certificate names a block
@@ -47,7 +46,7 @@ module _ (s : State) (t : List ℕ) where
   marks-fit f =
       record {
         range = λ a q. rw (marks_in_lem v t a q) (range a q (is_held (v.dag a q)) refl);
-        only-held = λ a q h. marks_in_lem v t a q ∙ ap (λ (b : Bool). cond b (mark_at t a q) 0) h;
+        only_held = λ a q h. marks_in_lem v t a q ∙ ap (λ (b : Bool). cond b (mark_at t a q) 0) h;
       }
     where
       range : (a q : ℕ) (b : Bool) → is_held (v.dag a q) ≡ b → cond b (mark_at t a q) 0 ≤ s.blocks
@@ -57,16 +56,16 @@ module _ (s : State) (t : List ℕ) where
   -- ---- the chain that marks and block rounds tell
 
   module _ (u : List ℕ) (e : dag_of n u ≡ v.dag) where
-    block-shown : (k a r : ℕ) → cond (is_round n r) (holds_at u k a r) none ≡ cond (eqb (marks_in v u a r) k) (v.dag a r) none
+    block-shown : (k a r : ℕ) → cond (is_round n r) (holds_at u k a r) None ≡ cond (eqb (marks_in v u a r) k) (v.dag a r) None
     block-shown k a r =
         rw (holds_at_lem u k a r) (go (is_round n r) (certificate_at u a r))
-        ∙ ap (λ (o : Option Content). cond (eqb (cond (is_held o) (mark_at u a r) 0) k) o none) (sym (dag-place n u a r) ∙ ap (λ (d : ℕ → ℕ → Option Content). d a r) e)
-        ∙ ap (λ (z : ℕ). cond (eqb z k) (v.dag a r) none) (sym (marks_in_lem v u a r))
+        ∙ ap (λ (o : Option Content). cond (eqb (cond (is_held o) (mark_at u a r) 0) k) o None) (sym (dag-place n u a r) ∙ ap (λ (d : ℕ → ℕ → Option Content). d a r) e)
+        ∙ ap (λ (z : ℕ). cond (eqb z k) (v.dag a r) None) (sym (marks_in_lem v u a r))
       where
-        go : (b : Bool) (o : Option Content) → cond b (cond (eqb (mark_at u a r) k) o none) none ≡ cond (eqb (cond (is_held (cond b o none)) (mark_at u a r) 0) k) (cond b o none) none
-        go false o = sym (cond_same (eqb 0 k) none)
-        go true none = cond_same (eqb (mark_at u a r) k) none ∙ sym (cond_same (eqb 0 k) none)
-        go true (some q) = refl
+        go : (b : Bool) (o : Option Content) → cond b (cond (eqb (mark_at u a r) k) o None) None ≡ cond (eqb (cond (is_held (cond b o None)) (mark_at u a r) 0) k) (cond b o None) None
+        go false o = sym (cond_same (eqb 0 k) None)
+        go true None = cond_same (eqb (mark_at u a r) k) None ∙ sym (cond_same (eqb 0 k) None)
+        go true (Some q) = refl
 
     -- is the one that the table shows
     pub chain-shown : (k : ℕ) → chain_of n u k ≡ chain_in v u k

@@ -7,7 +7,7 @@ use Rattle.base.proofs.SumLaws.{sum_same, sum_add, sum_at, sum_only}
 use Rattle.terms.specs.declared.sheet.Weight.{Weight}
 use Rattle.terms.specs.Ranges.{weight_in}
 use Rattle.committee.specs.Shares.{share_of, apart, PartOf}
-use Rattle.committee.proofs.ShareLaws.{nearest-le}
+use Rattle.committee.proofs.ShareLaws.{nearest_le}
 use Rattle.committee.proofs.MoveLaws.{moves}
 use Rattle.committee.specs.Totals.{total_in}
 use Rattle.committee.proofs.ChangeLaws.{bond-at}
@@ -20,7 +20,7 @@ share-at w i h = get_d_tab (share_in w) 16 i 0 h
 -- a non-member's share is 0
 pub share-none : (n : ℕ) → 0 < n → share_of 0 n ≡ 0
 unfolding share_of
-share-none n h = let l = nearest-le (1000 * 0) n 0 h (omega arith) in omega arith
+share-none n h = let l = nearest_le (1000 * 0) n 0 h (omega arith) in omega arith
 
 -- each weight is a part of the total
 pub part_of_total : {w : List Weight} {n : ℕ} → TotalOf w n → (i : ℕ) → i < 16 → PartOf (weight_in w i) n
@@ -37,9 +37,9 @@ unfolding largest_to
 largest_next x y n = fold_next (λ i d. max d (apart (get_or x i 0) (get_or y i 0))) n 0
 
 -- where none is above b, neither is the largest
-pub largest-le : (x y : List ℕ) (b n : ℕ) → ((i : ℕ) → i < n → apart (get_or x i 0) (get_or y i 0) ≤ b) → largest_to n x y ≤ b
-largest-le x y b zero h = omega (arith, largest_none x y)
-largest-le x y b (suc n) h = let p = largest-le x y b n (λ i l. h i (omega arith)) in let q = h n (omega arith) in rw (largest_next x y n) (omega arith)
+pub largest_le : (x y : List ℕ) (b n : ℕ) → ((i : ℕ) → i < n → apart (get_or x i 0) (get_or y i 0) ≤ b) → largest_to n x y ≤ b
+largest_le x y b zero h = omega (arith, largest_none x y)
+largest_le x y b (suc n) h = let p = largest_le x y b n (λ i l. h i (omega arith)) in let q = h n (omega arith) in rw (largest_next x y n) (omega arith)
 
 -- none is above it
 pub at-most-largest : (x y : List ℕ) (n i : ℕ) → i < n → apart (get_or x i 0) (get_or y i 0) ≤ largest_to n x y
@@ -79,9 +79,9 @@ module _ (w : List Weight) (m a : ℕ) (l : length w ≡ 16) (h : m < 16) where
 
   pub ruleset after_bond = total-bonded
 
-  pub effect-le : 0 < total_in w → (bond_effect m a w).largest ≤ most_moved (total_in w) a
+  pub effect_le : 0 < total_in w → (bond_effect m a w).largest ≤ most_moved (total_in w) a
   unfolding bond_effect
-  effect-le z = largest-le (shares_of w) (shares_of (bonded m a w)) (most_moved (total_in w) a) 16 each
+  effect_le z = largest_le (shares_of w) (shares_of (bonded m a w)) (most_moved (total_in w) a) 16 each
     where
       some : (b : Bool) → cond b a 0 ≤ a
       some true = omega arith

@@ -3,7 +3,7 @@ use Rattle.std.proofs.Common.{ℕ, ◌+◌, ◌*◌, ◌/◌, ◌≤◌, ◌<◌
 use native.Mathlib.Decide.{dec_lt}
 use native.Mathlib.Nat.{lt-div-mul-add}
 use Rattle.committee.specs.Shares.{share_of, apart, Near}
-use Rattle.committee.proofs.ShareLaws.{share-near, share-le}
+use Rattle.committee.proofs.ShareLaws.{share-near, share_le}
 
 module _ (n k w w' s s' d : ℕ) (a : Near (1000 * w) n s) (b : Near (1000 * w') (n + k) s') (top : 1000 * k < d * (n + k) + (n + k)) where
   -- a share rises by no more: what a member gains is at most k
@@ -29,5 +29,5 @@ moves n k w w' h l from to =
     let some : 0 < n + k = omega arith in
     let t : 1000 * k < 1000 * k / (n + k) * (n + k) + (n + k) = lt-div-mul-add some in
     let r = rises n k w w' (share_of w n) (share_of w' (n + k)) (1000 * k / (n + k)) a b t to in
-    let f = falls n k w w' (share_of w n) (share_of w' (n + k)) (1000 * k / (n + k)) a b t from (share-le w n h l) in
+    let f = falls n k w w' (share_of w n) (share_of w' (n + k)) (1000 * k / (n + k)) a b t from (share_le w n h l) in
     omega arith

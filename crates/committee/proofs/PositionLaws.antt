@@ -1,12 +1,11 @@
 -- Laws of members by position.
-use Rattle.std.proofs.Common.{◌≡◌, refl, Bool, true, false, cond, ◌&&◌, ℕ, zero, suc, ◌+◌, ◌-◌, ◌<◌, ◌≤◌, arith, add-zero, add-suc, eqb, eq-eqb, ne_eqb}
+use Rattle.std.proofs.Common.{◌≡◌, refl, Bool, true, false, cond, ◌&&◌, ℕ, zero, suc, ◌+◌, ◌-◌, ◌<◌, ◌≤◌, arith, add-zero, add-suc, eqb, eq-eqb, ne_eqb, Option, Some, None, unwrap_or}
 use mathlib.Core.Bool.{and-false}
-use mathlib.Core.Option.{Option, none, some}
 use native.Mathlib.Decide.{ℕ_discrete}
 use Rattle.base.proofs.SumLaws.{sum_same}
 use Rattle.base.proofs.Ranges.{sum_none, sum_next}
 use Rattle.base.specs.Sets.{mem}
-use Rattle.committee.specs.Positions.{count_below, member_below, or_else, place_in}
+use Rattle.committee.specs.Positions.{count_below, member_below, place_in}
 
 -- ---- counting
 
@@ -19,9 +18,9 @@ unfolding count_below
 count_more set n = sum_next (λ i. cond (set i) 1 0) n
 
 -- of the numbers below n at most n are in a set
-pub count-le : (set : ℕ → Bool) (n : ℕ) → count_below set n ≤ n
-count-le set zero = omega (arith, count_none set)
-count-le set (suc n) = rw (count_more set n) (go (set n) (count-le set n))
+pub count_le : (set : ℕ → Bool) (n : ℕ) → count_below set n ≤ n
+count_le set zero = omega (arith, count_none set)
+count_le set (suc n) = rw (count_more set n) (go (set n) (count_le set n))
   where
     go : (b : Bool) → count_below set n ≤ n → count_below set n + cond b 1 0 ≤ suc n
     go true h = omega arith
@@ -35,42 +34,42 @@ count-split set c (suc n) = let h = count-split set c n in rw (add-suc c n, coun
 -- ---- positions
 
 -- nobody stands at a position that the count does not reach
-pub below_none : (set : ℕ → Bool) (n k : ℕ) → count_below set n ≤ k → member_below set n k ≡ none
+pub below_none : (set : ℕ → Bool) (n k : ℕ) → count_below set n ≤ k → member_below set n k ≡ None
 unfolding member_below
 below_none set zero k h = refl
 below_none set (suc n) k h = go (set n) (rw (count_more set n) at h) (λ l. below_none set n k l)
   where
-    go : (b : Bool) → count_below set n + cond b 1 0 ≤ k → (count_below set n ≤ k → member_below set n k ≡ none)
-        → cond (b && eqb (count_below set n) k) (some n) (member_below set n k) ≡ none
+    go : (b : Bool) → count_below set n + cond b 1 0 ≤ k → (count_below set n ≤ k → member_below set n k ≡ None)
+        → cond (b && eqb (count_below set n) k) (Some n) (member_below set n k) ≡ None
     go true h f = rw (ne_eqb (count_below set n) k (λ e. omega arith)) (f (omega arith))
     go false h f = f (omega arith)
 
 -- somebody stands at a position below the count: what is told for none does not matter
-pub below-some : (m m' : ℕ) (set : ℕ → Bool) (n k : ℕ) → k < count_below set n → or_else m (member_below set n k) ≡ or_else m' (member_below set n k)
+pub below-some : (m m' : ℕ) (set : ℕ → Bool) (n k : ℕ) → k < count_below set n → unwrap_or (member_below set n k) m ≡ unwrap_or (member_below set n k) m'
 unfolding member_below
 below-some m m' set zero k h = absurd (omega (arith, count_none set))
 below-some m m' set (suc n) k h = go (set n) (rw (count_more set n) at h) (ℕ_discrete (count_below set n) k) (λ l. below-some m m' set n k l)
   where
     go : (b : Bool) → k < count_below set n + cond b 1 0 → Dec (count_below set n ≡ k)
-        → (k < count_below set n → or_else m (member_below set n k) ≡ or_else m' (member_below set n k))
-        → or_else m (cond (b && eqb (count_below set n) k) (some n) (member_below set n k)) ≡ or_else m' (cond (b && eqb (count_below set n) k) (some n) (member_below set n k))
+        → (k < count_below set n → unwrap_or (member_below set n k) m ≡ unwrap_or (member_below set n k) m')
+        → unwrap_or (cond (b && eqb (count_below set n) k) (Some n) (member_below set n k)) m ≡ unwrap_or (cond (b && eqb (count_below set n) k) (Some n) (member_below set n k)) m'
     go true h (yes e) f = rw (eq-eqb (count_below set n) k e) refl
     go true h (no e) f = rw (ne_eqb (count_below set n) k e) (f (omega arith))
     go false h d f = f (omega arith)
 
 -- a number is below n, or told for none
-pub below-le : (set : ℕ → Bool) (m n k : ℕ) → n ≤ m → or_else m (member_below set n k) ≤ m
+pub below_le : (set : ℕ → Bool) (m n k : ℕ) → n ≤ m → unwrap_or (member_below set n k) m ≤ m
 unfolding member_below
-below-le set m zero k h = omega arith
-below-le set m (suc n) k h = go (set n && eqb (count_below set n) k) (below-le set m n k (omega arith))
+below_le set m zero k h = omega arith
+below_le set m (suc n) k h = go (set n && eqb (count_below set n) k) (below_le set m n k (omega arith))
   where
-    go : (b : Bool) → or_else m (member_below set n k) ≤ m → or_else m (cond b (some n) (member_below set n k)) ≤ m
+    go : (b : Bool) → unwrap_or (member_below set n k) m ≤ m → unwrap_or (cond b (Some n) (member_below set n k)) m ≤ m
     go true l = omega arith
     go false l = l
 
 pub place_le : (s p : ℕ) → place_in s p ≤ 8
 unfolding place_in
-place_le s p = below-le (mem s) 8 8 _ (omega arith)
+place_le s p = below_le (mem s) 8 8 _ (omega arith)
 
 -- ---- a set in two parts
 
@@ -84,8 +83,8 @@ below-low set c (suc n) k h =
 
 -- who has number a in the upper part
 abbrev pub above : ℕ → Option ℕ → Option ℕ
-above c none = none
-above c (some a) = some (c + a)
+above c None = None
+above c (Some a) = Some (c + a)
 
 -- any other is in the upper part, counted from its own start
 pub below-high : (set : ℕ → Bool) (c n k : ℕ) → count_below set c ≤ k → member_below set (c + n) k ≡ above c (member_below (λ i. set (c + i)) n (k - count_below set c))
@@ -101,7 +100,7 @@ below-high set c (suc n) k h = rw (add-suc c n, same_test, below-high set c n k 
         by (yes e) l = rw (eq-eqb (count_below set (c + n)) k e, eq-eqb (count_below (λ i. set (c + i)) n) (k - count_below set c) (omega arith)) refl
         by (no e) l = rw (ne_eqb (count_below set (c + n)) k e, ne_eqb (count_below (λ i. set (c + i)) n) (k - count_below set c) (λ q. e (omega arith))) refl
 
-    go : (b : Bool) → cond b (some (c + n)) (above c (member_below (λ i. set (c + i)) n (k - count_below set c))) ≡ above c (cond b (some n) (member_below (λ i. set (c + i)) n (k - count_below set c)))
+    go : (b : Bool) → cond b (Some (c + n)) (above c (member_below (λ i. set (c + i)) n (k - count_below set c))) ≡ above c (cond b (Some n) (member_below (λ i. set (c + i)) n (k - count_below set c)))
     go true = refl
     go false = refl
 

@@ -39,8 +39,8 @@ half_even a q n h e = go (a / n) (a % n) (mod-lt a h) (rw (div-add-mod a n) e)
             let m : n * p ≡ n * q = rw j refl in
             rw (le-ltb (2 * r) n (omega arith), le-ltb n (2 * r) (omega arith)) (omega arith)
 
-pub nearest-le : (a n m : ℕ) → 0 < n → a ≤ n * m → nearest a n ≤ m
-nearest-le a n m h l =
+pub nearest_le : (a n m : ℕ) → 0 < n → a ≤ n * m → nearest a n ≤ m
+nearest_le a n m h l =
     let u : n * nearest a n < n * (m + 1) = omega (arith, (nearest-near a n h).above) in
     omega (arith, lt_of_mul-lt-mul_left n u)
 
@@ -49,11 +49,11 @@ pub share-near : (w n : ℕ) → 0 < n → Near (1000 * w) n (share_of w n)
 unfolding share_of
 share-near w n h = nearest-near (1000 * w) n h
 
-pub share-le : (w n : ℕ) → 0 < n → w ≤ n → share_of w n ≤ 1000
+pub share_le : (w n : ℕ) → 0 < n → w ≤ n → share_of w n ≤ 1000
 unfolding share_of
-share-le w n h l = nearest-le (1000 * w) n 1000 h (omega arith)
+share_le w n h l = nearest_le (1000 * w) n 1000 h (omega arith)
 
-pub ruleset share_bound = share-le
+pub ruleset share_bound = share_le
 
 -- a number one above another, both near to a / n: an exact half lies between them
 between : (a n s : ℕ) → Near a n s → Near a n (s + 1) → 2 * a ≡ 2 * (n * s) + n

@@ -27,11 +27,17 @@ after m a w i = get_or (bond_effect m a w).after i 0
 unfoldable pub cases : List (ℕ × ℕ)
 cases =
     -- member 1 joins by 2: 0 becomes two thirds, and the bound is met
-    (before 1 2 sole 1, 0) ∷ (after 1 2 sole 1, 667) ∷ (before 1 2 sole 0, 1000) ∷ (after 1 2 sole 0, 333) ∷ ((bond_effect 1 2 sole).largest, 667) ∷ (most_moved (total_in sole) 2, 667)
+    (before 1 2 sole 1, 0) ∷ (after 1 2 sole 1, 667) ∷ (before 1 2 sole 0, 1000)
+    ∷ (after 1 2 sole 0, 333) ∷ ((bond_effect 1 2 sole).largest, 667)
+    ∷ (most_moved (total_in sole) 2, 667)
     -- a sole member has all before and after
-    ∷ (before 0 1000 sole 0, 1000) ∷ (after 0 1000 sole 0, 1000) ∷ ((bond_effect 0 1000 sole).largest, 0)
+    ∷ (before 0 1000 sole 0, 1000) ∷ (after 0 1000 sole 0, 1000)
+    ∷ ((bond_effect 0 1000 sole).largest, 0)
     -- member 0 of sixteen bonds 64: 62.5 becomes 812.5, and the others' 12.5
-    ∷ (before 0 64 alike 0, 62) ∷ (after 0 64 alike 0, 812) ∷ (before 0 64 alike 15, 62) ∷ (after 0 64 alike 15, 12) ∷ ((bond_effect 0 64 alike).largest, 750) ∷ (most_moved (total_in alike) 64, 801)
+    ∷ (before 0 64 alike 0, 62) ∷ (after 0 64 alike 0, 812) ∷ (before 0 64 alike 15, 62)
+    ∷ (after 0 64 alike 15, 12) ∷ ((bond_effect 0 64 alike).largest, 750)
+    ∷ (most_moved (total_in alike) 64, 801)
     -- member 1 bonds 1: it rises by 21, and the heaviest falls by 22
-    ∷ (before 1 1 heavy 1, 23) ∷ (after 1 1 heavy 1, 44) ∷ (before 1 1 heavy 15, 955) ∷ (after 1 1 heavy 15, 933) ∷ ((bond_effect 1 1 heavy).largest, 22)
+    ∷ (before 1 1 heavy 1, 23) ∷ (after 1 1 heavy 1, 44) ∷ (before 1 1 heavy 15, 955)
+    ∷ (after 1 1 heavy 15, 933) ∷ ((bond_effect 1 1 heavy).largest, 22)
     ∷ []

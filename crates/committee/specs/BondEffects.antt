@@ -1,5 +1,5 @@
 -- What a bond does to the shares of a committee (docs/RULES.md, "How far a bond moves the shares").
-use Rattle.std.specs.Prelude.{◌≡◌, List, ℕ, ◌+◌, ◌*◌, ◌/◌, max, ◌<◌, ◌≤◌, get_or}
+use Rattle.std.specs.Prelude.{◌≡◌, List, ℕ, ◌+◌, ◌*◌, ◌^◌, ◌/◌, max, ◌<◌, ◌≤◌, get_or}
 use Rattle.base.specs.Folds.{fold_to, tab}
 use Rattle.terms.specs.declared.Transaction.TheVariants.{Bond}
 use Rattle.terms.specs.declared.sheet.Weight.{Weight}
@@ -27,7 +27,11 @@ largest_to n x y = fold_to (λ i d. max d (apart (get_or x i 0) (get_or y i 0)))
 
 -- all of it
 unfoldable pub bond_effect : ℕ → ℕ → List Weight → Effect
-bond_effect m a w = record { before = shares_of w; after = shares_of (bonded m a w); largest = largest_to 16 (shares_of w) (shares_of (bonded m a w)) }
+bond_effect m a w = record {
+  before = shares_of w;
+  after = shares_of (bonded m a w);
+  largest = largest_to 16 (shares_of w) (shares_of (bonded m a w));
+}
 
 -- how far a share moves at most, where the total before the bond is n: 1 plus the whole part of 1,000 times a divided by n plus a
 abbrev pub most_moved : ℕ → ℕ → ℕ
@@ -37,7 +41,7 @@ most_moved n a = 1 + 1000 * a / (n + a)
 pub record TotalOf (w : List Weight) (n : ℕ) : Type 0 where
   pub total : n ≡ total_in w
   pub some : 0 < n
-  pub bounded : n ≤ 1125899906842624
+  pub bounded : n ≤ 2 ^ 50
 
 -- a committee of the total n, which is not 0, and a member who bonds
 pub record Bonds (w : List Weight) (n m : ℕ) : Type 0 where

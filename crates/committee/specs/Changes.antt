@@ -1,6 +1,5 @@
 -- What transactions, certificates and blocks do to the sixteen weights of a committee.
-use Rattle.std.specs.Prelude.{List, [], ◌∷◌, ◌++◌, if◌then◌else◌, ℕ, zero, suc, ◌+◌, ◌%◌, set, nat_lt}
-use Rattle.std.proofs.Math.Option.{Option, none, some}
+use Rattle.std.specs.Prelude.{List, [], ◌∷◌, ◌++◌, if◌then◌else◌, ℕ, zero, suc, ◌+◌, ◌%◌, set, nat_lt, Option, Some, None}
 use Rattle.agreement.specs.Rules.{Block}
 use Rattle.terms.specs.declared.Transaction.{Transaction}
 use Rattle.terms.specs.declared.Transaction.TheVariants.{Bond, Unbond, Entry}
@@ -25,8 +24,8 @@ changes_of [] w = w
 changes_of (p ∷ l) w = changes_of l (changes p.transactions w)
 
 abbrev pub at_most_one : Option Content → List Content
-at_most_one none = []
-at_most_one (some p) = p ∷ []
+at_most_one None = []
+at_most_one (Some p) = p ∷ []
 
 -- the certificates of round r by n members: numbers rise from that of a, with 0 after 15
 unfoldable pub row : Block Content → ℕ → ℕ → ℕ → List Content

@@ -1,5 +1,5 @@
 -- Committees, fault bounds and quorums. A committee is sixteen weights, 0 for a non-member.
-use Rattle.std.specs.Prelude.{Bool, if◌then◌else◌, not, ◌&&◌, ◌||◌, List, [], ◌∷◌, ℕ, ◌+◌, ◌-◌, ◌/◌, ◌≤◌, nat_le, nat_lt}
+use Rattle.std.specs.Prelude.{Bool, if◌then◌else◌, not, ◌&&◌, ◌||◌, List, [], ◌∷◌, ℕ, ◌+◌, ◌-◌, ◌/◌, ◌≤◌, nat_le, nat_lt, unwrap_or}
 use Rattle.base.specs.Folds.{any_to}
 use Rattle.agreement.specs.Weights.{weigh, total}
 use Rattle.agreement.specs.Rules.{Block, Chain, last}
@@ -8,7 +8,7 @@ use Rattle.terms.specs.declared.sheet.Weight.{Weight}
 use Rattle.terms.specs.declared.sheet.Settings.{Settings}
 use Rattle.terms.specs.Ranges.{weight_in}
 use Rattle.committee.specs.Changes.{changes_of, rows}
-use Rattle.committee.specs.Leaders.{leader_of, leader_number}
+use Rattle.committee.specs.Leaders.{leader_of}
 
 -- the committee of round r, where v is the bonded one of r minus lookback
 unfoldable pub committee_by : Settings → ℕ → List Weight → List Weight
@@ -16,7 +16,7 @@ committee_by S r v = if nat_le r S.lookback then S.weights else v
 
 -- the number of the leader of round r by its committee w, 16 for none
 unfoldable pub leader_by : List Weight → ℕ → ℕ
-leader_by w r = leader_number (leader_of (weight_in w) r)
+leader_by w r = unwrap_or (leader_of (weight_in w) r) 16
 
 -- what the block b, whose rows start with member a, does to the bonded committee of round s
 unfoldable pub step_from : Settings → ℕ → Block Content → ℕ → List Weight → List Weight
@@ -25,7 +25,9 @@ step_from S s b a w = if nat_lt b.round s then changes_of (rows b a S.ceiling.0)
 -- the bonded committee of round s: the starting one changed by all blocks of rounds below s, in order; the rows of each start with the leader of its round
 unfoldable pub bonded_from : Settings → Chain Content → ℕ → List Weight
 bonded_from S [] s = S.weights
-bonded_from S (b ∷ c) s = step_from S s b (leader_by (committee_by S b.round (bonded_from S c (b.round - S.lookback))) b.round) (bonded_from S c s)
+bonded_from S (b ∷ c) s =
+    step_from S s b (leader_by (committee_by S b.round (bonded_from S c (b.round - S.lookback)))
+    b.round) (bonded_from S c s)
 
 -- the committee of round r
 unfoldable pub committee_of : Settings → Chain Content → ℕ → List Weight

@@ -1,8 +1,7 @@
 -- Leaders: of the members of a committee by rising number, the one at position (r / 2) mod their count, for even r.
-use Rattle.std.specs.Prelude.{Bool, ◌&&◌, if◌then◌else◌, List, ℕ, ◌/◌, ◌%◌, ◌==◌, nat_le, nat_lt}
-use Rattle.std.proofs.Math.Option.{Option, none, some}
+use Rattle.std.specs.Prelude.{Bool, ◌&&◌, if◌then◌else◌, List, ℕ, ◌/◌, ◌%◌, ◌==◌, nat_le, nat_lt, Option, None}
 use Rattle.base.specs.Folds.{fold_to}
-use Rattle.base.specs.Sets.{add}
+use Rattle.base.specs.Sets.{insert}
 use Rattle.committee.specs.Positions.{count_below, member_below}
 use Rattle.terms.specs.declared.sheet.Weight.{Weight}
 use Rattle.terms.specs.Ranges.{weight_in}
@@ -19,16 +18,11 @@ members w i = nat_lt 0 (w i)
 unfoldable pub leader_of : (ℕ → ℕ) → ℕ → Option ℕ
 leader_of w r =
     if r % 2 == 0 && nat_le 2 r then member_at (members w) (r / 2 % count_below (members w) 16)
-    else none
-
--- a leader's number, 16 for none
-abbrev pub leader_number : Option ℕ → ℕ
-leader_number none = 16
-leader_number (some a) = a
+    else None
 
 -- the members as a set: s, with member i if it has a weight
 unfoldable pub joined : List Weight → ℕ → ℕ → ℕ
-joined w i s = if members (weight_in w) i then add s i else s
+joined w i s = if members (weight_in w) i then insert s i else s
 
 unfoldable pub member_set : List Weight → ℕ
 member_set w = fold_to (joined w) 16 0

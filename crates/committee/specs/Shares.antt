@@ -1,5 +1,5 @@
 -- Shares: weights in thousandths of a total, to the nearest, an exact half to the even neighbour.
-use Rattle.std.specs.Prelude.{if◌then◌else◌, ℕ, ◌+◌, ◌-◌, ◌*◌, ◌/◌, ◌%◌, ◌<◌, ◌≤◌, nat_lt}
+use Rattle.std.specs.Prelude.{if◌then◌else◌, ℕ, ◌+◌, ◌-◌, ◌*◌, ◌^◌, ◌/◌, ◌%◌, ◌<◌, ◌≤◌, nat_lt}
 
 -- the even one of q and q + 1
 unfoldable pub even_neighbour : ℕ → ℕ
@@ -30,10 +30,10 @@ pub record Near (a n s : ℕ) : Type 0 where
 pub record Division (q r n : ℕ) : Type 0 where
   pub whole : q ≤ 1000
   pub rest : r < n
-  pub bounded : n ≤ 1125899906842624
+  pub bounded : n ≤ 2 ^ 50
 
 -- x is a part of the total n, which is not 0
 pub record PartOf (x n : ℕ) : Type 0 where
   pub some : 0 < n
   pub part : x ≤ n
-  pub bounded : n ≤ 1125899906842624
+  pub bounded : n ≤ 2 ^ 50

@@ -1,5 +1,5 @@
 -- Total weights.
-use Rattle.std.specs.Prelude.{List, ℕ, ◌<◌, ◌≤◌}
+use Rattle.std.specs.Prelude.{List, ℕ, ◌^◌, ◌<◌, ◌≤◌}
 use Rattle.base.specs.Folds.{sum_to}
 use Rattle.terms.specs.declared.sheet.Weight.{Weight}
 use Rattle.terms.specs.Ranges.{weight_in}
@@ -10,7 +10,7 @@ total_in w = sum_to (weight_in w) 16
 
 -- light enough that no sum of weights overflows, nor a thousand times one: below this is every committee that a table tells
 pub record TotalBounded (w : List Weight) : Type 0 where
-  pub total : total_in w ≤ 562949953421312
+  pub total : total_in w ≤ 2 ^ 49
 
 -- member m has a share in the total: a weight of its own
 pub record HasShare (w : List Weight) (m : ℕ) : Type 0 where

@@ -8,7 +8,7 @@ use terms::Member;
 use terms::sheet::Weight;
 
 /// What a bond does to sixteen shares, in thousandths.
-#[derive(Clone, Copy)]
+#[derive(Debug, Clone, Copy)]
 pub struct Effect {
     /// The share of each member before the bond, 0 for a non-member.
     pub before: [u32; 16],
@@ -18,35 +18,35 @@ pub struct Effect {
     pub largest: u32,
 }
 
-// All sixteen shares, where n is the total.
-fn shares_of(w: &[Weight; 16], n: Weight) -> [u32; 16]
-    requires { TotalOf w.now n.0 }
-    ensures { result ≡ shares_of w.now }
+// All sixteen shares of the total.
+fn shares_of(weights: &[Weight; 16], total: Weight) -> [u32; 16]
+    requires { TotalOf weights.now total.0 }
+    ensures { result ≡ shares_of weights.now }
 {
-    std::array::from_fn(|i| shares::thousandths(w[i], n))
+    std::array::from_fn(|i| shares::thousandths(weights[i], total))
 }
 
 // The largest difference of two lists of sixteen numbers.
 #[tactic(auto, unfolding(crate::specs::BondEffects::largest_to, base::specs::Folds::fold_to))]
-fn largest(x: &[u32; 16], y: &[u32; 16]) -> u32
-    ensures { result ≡ largest_to 16 x.now y.now }
+fn largest(before: &[u32; 16], after: &[u32; 16]) -> u32
+    ensures { result ≡ largest_to 16 before.now after.now }
 {
-    (0..16usize).fold(0, |most, i| most.max(x[i].abs_diff(y[i])))
+    (0..16usize).fold(0, |most, i| most.max(before[i].abs_diff(after[i])))
 }
 
-/// What a bond of member m by a does to the shares of the committee w, of the total n.
+/// What a bond of `member` by `amount` does to the shares of the committee `weights`, of the total.
 ///
-/// A member without weight joins. An empty committee is not handed in: n is above 0.
+/// A member without weight joins. An empty committee is not handed in: `total` is above 0.
 #[tactic(auto, using(crate::proofs::BondEffectLaws::after_bond), unfolding(crate::specs::BondEffects::bond_effect, terms::specs::Transactions::read_transaction))]
-pub fn bond_effect(w: [Weight; 16], n: Weight, m: Member, a: u32) -> Effect
-    requires { Bonds w n.0 m.0 }
-    ensures { result ≡ bond_effect m.0 a w }
+pub fn bond_effect(weights: [Weight; 16], total: Weight, member: Member, amount: u32) -> Effect
+    requires { Bonds weights total.0 member.0 }
+    ensures { result ≡ bond_effect member.0 amount weights }
 {
-    let before = shares_of(&w, n);
-    let mut v = w;
+    let before = shares_of(&weights, total);
+    let mut bonded = weights;
     // kind 0 is a bond, and it is there
-    weighing::change::apply(&mut v, true, 0, m.0, a);
-    let after = shares_of(&v, Weight(n.0 + a as u64));
+    weighing::change::apply(&mut bonded, true, 0, member.0, amount);
+    let after = shares_of(&bonded, Weight(total.0 + amount as u64));
     Effect {
         before,
         after,

@@ -262,13 +262,13 @@ static PLACES: [u8; 2048] = *b"\
     \x01\x02\x03\x04\x05\x06\x07\x08\
     \x00\x01\x02\x03\x04\x05\x06\x07";
 
-/// The number of the member at position p of the set s, 8 for none.
+/// The number of the member at `position` of the set, 8 for none.
 ///
 /// It is for sets of members 0 to 7 and positions 0 to 7.
 #[tactic(auto, using(crate::proofs::Rule::place_rule, crate::proofs::PositionLaws::place_le))]
-pub fn member_in(s: u32, p: u32) -> u32
-    requires { (s < 256) × (p < 8) }
-    ensures { (result ≡ place_in s p) × (result ≤ 8) }
+pub(crate) fn member_in(set: u32, position: u32) -> u32
+    requires { (set < 256) × (position < 8) }
+    ensures { (result ≡ place_in set position) × (result ≤ 8) }
 {
-    PLACES[s as usize * 8 + p as usize] as u32
+    PLACES[set as usize * 8 + position as usize] as u32
 }

@@ -1,6 +1,5 @@
 -- The claims of what blocks hold.
-use Rattle.std.proofs.Common.{◌≡◌, refl, ap, sym, ◌∙◌, true, List, [], ◌∷◌, ◌++◌, ℕ, zero, suc, ◌+◌, ◌-◌, ◌*◌, ◌/◌, ◌%◌, ◌<◌, ◌≤◌, arith, add-one, length, length-append, eq-eqb, ne_eqb}
-use mathlib.Core.Option.{Option, none, some}
+use Rattle.std.proofs.Common.{◌≡◌, refl, ap, sym, ◌∙◌, true, List, [], ◌∷◌, ◌++◌, ℕ, zero, suc, ◌+◌, ◌-◌, ◌*◌, ◌/◌, ◌%◌, ◌<◌, ◌≤◌, arith, add-one, length, length-append, eq-eqb, ne_eqb, Option, Some, None}
 use Rattle.base.specs.Folds.{tab}
 use Rattle.base.proofs.Ranges.{tab_none, tab_next}
 use Rattle.base.proofs.FoldLaws.{tab-same}
@@ -13,7 +12,7 @@ use Rattle.committee.specs.Changes.{at_most_one, row, rows}
 use Rattle.committee.specs.Committees.{ordered}
 use Rattle.committee.proofs.OrderLaws.{row-none, row_more, rows_none, rows_more}
 use Rattle.committee.specs.Chain.{block_at}
-use Rattle.running.specs.BlockChanges.{start_at}
+use Rattle.chain_committees.specs.BlockChanges.{start_at}
 use Rattle.state.specs.declared.State.{State}
 use Rattle.state.specs.View.{view}
 use Rattle.state.specs.WellFormed.{well_formed}
@@ -32,7 +31,7 @@ module _ (S : Settings) (b : Block Content) (c : Chain Content) where
   unfolding contents_of
   contents-older k h = rw (ne_eqb k (suc (length c)) (λ e. omega arith)) refl
 
-  newest : block_numbered (b ∷ c) (suc (length c)) ≡ some b
+  newest : block_numbered (b ∷ c) (suc (length c)) ≡ Some b
   unfolding block_numbered
   newest = rw (eq-eqb (suc (length c)) (suc (length c)) refl) refl
 
@@ -63,8 +62,8 @@ module _ (S : Settings) where
 -- ---- there is room
 
 one-most : (o : Option Content) → length (at_most_one o) ≤ 1
-one-most none = omega arith
-one-most (some p) = omega arith
+one-most None = omega arith
+one-most (Some p) = omega arith
 
 module _ (b : Block Content) (a : ℕ) where
   row-most : (r i : ℕ) → length (row b a r i) ≤ i

@@ -8,8 +8,8 @@ use Rattle.base.proofs.CheckLaws.{refuses, passes, passes-all}
 use Rattle.committee.proofs.ChainLaws.{chain_length}
 use Rattle.committee.specs.Changes.{rows}
 use Rattle.committee.specs.Chain.{block_at}
-use Rattle.running.specs.BlockChanges.{start_at}
-use Rattle.running.proofs.StartLaws.{start-le}
+use Rattle.chain_committees.specs.BlockChanges.{start_at}
+use Rattle.chain_committees.proofs.StartLaws.{start_le}
 use Rattle.words.specs.Lengths.{certificate_length}
 use Rattle.state.specs.declared.State.{State}
 use Rattle.state.specs.View.{view}
@@ -34,8 +34,8 @@ module _ (s : State) (t : List ℕ) where
 
   -- ---- check by check
 
-  pub no-block : (k words : ℕ) → k ≡ 0 → 23 ≡ refusal (reading_contents s t k words)
-  no-block k words e = sym (refuses 23 _ (rw (eq-eqb k 0 e) refl))
+  pub no_block : (k words : ℕ) → k ≡ 0 → 23 ≡ refusal (reading_contents s t k words)
+  no_block k words e = sym (refuses 23 _ (rw (eq-eqb k 0 e) refl))
 
   pub beyond-blocks : (k words : ℕ) → s.blocks < k → 23 ≡ refusal (reading_contents s t k words)
   beyond-blocks k words h = sym (refuses 23 _ (rw (shown, ne_eqb k 0 (λ e. omega arith), lt-ltb s.blocks k h) refl))
@@ -44,8 +44,8 @@ module _ (s : State) (t : List ℕ) where
   there k h l = rw (shown, ne_eqb k 0 (λ e. omega arith), le-ltb s.blocks k l) refl
 
   module _ (k words : ℕ) (h : 0 < k) (l : k ≤ s.blocks) where
-    pub too-short : words / certificate_length < length (contents_of s.settings (view s t).chain k) → 25 ≡ refusal (reading_contents s t k words)
-    too-short g = sym (passes 23 _ (there k h l) ∙ refuses 25 _ (lt-ltb (words / certificate_length) (length (contents_of s.settings (view s t).chain k)) g))
+    pub too_short : words / certificate_length < length (contents_of s.settings (view s t).chain k) → 25 ≡ refusal (reading_contents s t k words)
+    too_short g = sym (passes 23 _ (there k h l) ∙ refuses 25 _ (lt-ltb (words / certificate_length) (length (contents_of s.settings (view s t).chain k)) g))
 
     pub fits : length (contents_of s.settings (view s t).chain k) ≤ words / certificate_length → 0 ≡ refusal (reading_contents s t k words)
     fits g = sym (passes 23 _ (there k h l) ∙ passes 25 _ (le-ltb (words / certificate_length) (length (contents_of s.settings (view s t).chain k)) g) ∙ passes-all)
@@ -57,11 +57,11 @@ module _ (s : State) (t : List ℕ) where
   -- ---- what an accepted one goes by
 
   pub rows-ready : Formed s t → {a : ℕ} (k : ℕ) → a ≡ start_at s.settings t (k - 1) → RowsReady t s.settings.ceiling.0 a
-  rows-ready f k e = record { long = f.long; ceiling = f.settings.ceiling-to; start = rw e (start-le s.settings t (k - 1)) }
+  rows-ready f k e = record { long = f.long; ceiling = f.settings.ceiling_to; start = rw e (start_le s.settings t (k - 1)) }
 
   module _ {k : ℕ} {words : ℕ} {b : Block} (x : Found s t k words b) where
     same : contents_of s.settings (view s t).chain k ≡ rows (block_at s.settings.ceiling.0 t k) b.start.0 s.settings.ceiling.0
-    same = contents-shown k x.from x.to ∙ rw x.its-start refl
+    same = contents-shown k x.from x.to ∙ rw x.its_start refl
 
     pub rows-room : (list : List ℕ) → length list ≡ words → RowsRoom t s.settings.ceiling.0 k b.start.0 list
     rows-room list e = let h = x.room in rw (← same, e) h
@@ -80,14 +80,15 @@ module _ {s : State} {x : State} {t : List ℕ} {u : List ℕ} {k : ℕ} {b : Bl
   its : Found s t k (length list) b
   its = rw (v.0, v.1) at found
 
-  pub rows_listable : RowsReady t s.settings.ceiling.0 b.start.0 × RowsRoom t s.settings.ceiling.0 k b.start.0 list
-  rows_listable = (rows-ready s t (formed s t v.2) k its.its-start, rows-room s t its list refl)
+  -- its rows, whatever its number is written as
+  pub rows_listable : {q : ℕ} → q ≡ k → RowsReady t s.settings.ceiling.0 b.start.0 × RowsRoom t s.settings.ceiling.0 q b.start.0 list
+  rows_listable e = rw e (rows-ready s t (formed s t v.2) k its.its_start, rows-room s t its list refl)
 
-  pub list_told : {list' : List ℕ} {to : ℕ} {n : ℕ} → 0 ≡ refusal (reading_contents x u k (length list))
-      → Puts list list' 0 to (stored_words t (rows (block_at s.settings.ceiling.0 t k) b.start.0 s.settings.ceiling.0)) n → list' ≡ contents_list s t k list
-  list_told z p = listed s t its (read-accepted s t k (length list) v.2 (rw (v.0, v.1) at z)) p
+  pub list_told : {q : ℕ} {list' : List ℕ} {to : ℕ} {n : ℕ} → q ≡ k → 0 ≡ refusal (reading_contents x u k (length list))
+      → Puts list list' 0 to (stored_words t (rows (block_at s.settings.ceiling.0 t q) b.start.0 s.settings.ceiling.0)) n → list' ≡ contents_list s t k list
+  list_told e z p = listed s t its (read-accepted s t k (length list) v.2 (rw (v.0, v.1) at z)) (rw e at p)
 
 -- as many words as are counted
 pub number_told : (s : State) (t : List ℕ) {x : State} {u : List ℕ} {k : ℕ} {words : ℕ} {b : Block} → (x ≡ s) × (u ≡ t) × (well_formed s t ≡ true) → Found x u k words b → b.count ≡ length (contents s t k)
 unfolding contents
-number_told s t {k = k} v found = rw (v.0, v.1) at found.its-count ∙ sym (length-map (contents_of s.settings (view s t).chain k) (stored t))
+number_told s t {k = k} v found = rw (v.0, v.1) at found.its_count ∙ sym (length-map (contents_of s.settings (view s t).chain k) (stored t))

@@ -1,29 +1,29 @@
 -- Laws of where a block's rows start, and of the chain that the first blocks of a table make.
-use Rattle.std.proofs.Common.{◌≡◌, refl, ◌∙◌, Bool, true, false, cond, List, ℕ, zero, suc, ◌+◌, ◌-◌, ◌<◌, ◌≤◌, arith, eqb, eqb-true}
+use Rattle.std.proofs.Common.{◌≡◌, refl, ◌∙◌, Bool, true, false, cond, List, ℕ, zero, suc, ◌+◌, ◌-◌, ◌<◌, ◌≤◌, arith, eqb, eqb-true, unwrap_or}
 use borrow.Author.Tests.{eqb-false}
 use Rattle.store.specs.Table.{block_round}
 use Rattle.terms.specs.declared.sheet.Settings.{Settings}
 use Rattle.terms.specs.Proposals.{Content}
 use Rattle.committee.specs.Changes.{rows}
 use Rattle.committee.specs.Chain.{block_at, chain_of}
-use Rattle.committee.specs.Leaders.{leader_of, leader_number}
+use Rattle.committee.specs.Leaders.{leader_of}
 use Rattle.terms.specs.declared.sheet.Weight.{Weight}
 use Rattle.terms.specs.Ranges.{weight_in}
 use Rattle.committee.specs.Committees.{committee_of, leader_by, start_of, ordered}
 use Rattle.committee.proofs.ChainLaws.{chain_more, chain_length}
 use Rattle.committee.proofs.OrderLaws.{ordered-rows}
-use Rattle.running.specs.BlockChanges.{start_at, block_fits, blocks_fit}
-use Rattle.running.specs.ChainInTable.{ChainInTable}
+use Rattle.chain_committees.specs.BlockChanges.{start_at, block_fits, blocks_fit}
+use Rattle.chain_committees.specs.ChainInTable.{ChainInTable}
 use Rattle.base.proofs.TestLaws.{all-at, all_hold}
 use Rattle.contents.specs.Contents.{contents_of}
 
 -- the leader by the committee that the blocks before tell
-pub starts_by : (S : Settings) (t : List ℕ) (k : ℕ) {r : ℕ} {w : List Weight} {m : ℕ} → 0 < k → r ≡ block_round t k → w ≡ committee_of S (chain_of S.ceiling.0 t (k - 1)) r → m ≡ leader_number (leader_of (weight_in w) r)
+pub starts_by : (S : Settings) (t : List ℕ) (k : ℕ) {r q : ℕ} {w : List Weight} {m : ℕ} → 0 < k → r ≡ block_round t k → w ≡ committee_of S (chain_of S.ceiling.0 t (k - 1)) q → m ≡ unwrap_or (leader_of (weight_in w) r) 16 → q ≡ r
     → m ≡ start_at S t (k - 1)
 unfolding start_at start_of block_at leader_by
-starts_by S t k h e f g =
+starts_by S t k h e f g same =
     let i : k - 1 + 1 ≡ k = omega arith in
-    rw (i, ← e, ← f) g
+    rw (i, ← e, ← (rw same at f)) g
 
 module _ (S : Settings) (t : List ℕ) where
   -- block k of the first n is the one that the table tells

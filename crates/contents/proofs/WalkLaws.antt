@@ -1,7 +1,7 @@
 -- Laws of a block's places, one after the other.
-use Rattle.std.proofs.Common.{◌≡◌, refl, ap, ◌∙◌, Bool, true, false, cond, ◌&&◌, List, [], ◌++◌, ℕ, zero, suc, ◌+◌, ◌-◌, ◌%◌, ◌<◌, ◌≤◌, arith, add-one, length, length-append, eqb}
-use mathlib.Core.Option.{Option, none, some}
+use Rattle.std.proofs.Common.{◌≡◌, refl, ap, ◌∙◌, Bool, true, false, cond, ◌&&◌, List, [], ◌++◌, ℕ, zero, suc, ◌+◌, ◌-◌, ◌*◌, ◌%◌, ◌<◌, ◌≤◌, arith, add-one, length, length-append, eqb, Option, Some, None}
 use mir.Val.{bool_byte}
+use Rattle.base.specs.Puts.{Puts}
 use Rattle.agreement.specs.Dag.{is_held}
 use Rattle.terms.specs.Proposals.{Content}
 use Rattle.store.specs.Table.{held_at, mark_at, content_at}
@@ -10,12 +10,14 @@ use Rattle.committee.specs.Changes.{at_most_one, row, rows}
 use Rattle.committee.specs.Chain.{holds_at, block_at}
 use Rattle.committee.proofs.OrderLaws.{row-none, row_more, rows_none, rows_more}
 use Rattle.committee.proofs.ChainLaws.{holds_at_lem, holds-absent, block_inside}
+use Rattle.words.specs.Lengths.{certificate_length}
+use Rattle.contents.specs.Words.{stored_words}
 
 -- a place is in block k if it is held and marked with it
 pub marked_there : (t : List ℕ) (k m r : ℕ) → is_held (holds_at t k m r) ≡ (held_at t m r && eqb (mark_at t m r) k)
 marked_there t k m r = go (held_at t m r) refl
   where
-    by : (b : Bool) → is_held (cond b (some (content_at t m r)) none) ≡ b
+    by : (b : Bool) → is_held (cond b (Some (content_at t m r)) None) ≡ b
     by true = refl
     by false = refl
 
@@ -25,8 +27,8 @@ marked_there t k m r = go (held_at t m r) refl
 
 -- a place has one certificate of it or none
 pub one-long : (o : Option Content) → bool_byte (is_held o) ≡ length (at_most_one o)
-one-long none = refl
-one-long (some p) = refl
+one-long None = refl
+one-long (Some p) = refl
 
 pub byte-most : (b : Bool) → bool_byte b ≤ 1
 byte-most true = omega arith
@@ -96,3 +98,12 @@ module _ (n : ℕ) (t : List ℕ) (k a : ℕ) where
       let e : i + 1 + (n - (i + 1)) ≡ n = omega arith in
       let g = rw e at (rows-up (i + 1) (n - (i + 1))) in
       omega (arith, rows-longer i)
+
+  -- of a round with another spelling
+  pub room_of : (q : ℕ) {r : ℕ} (at : ℕ) (list : List ℕ) → r ≡ q → at + certificate_length * length (row (block_at n t k) a q 16) ≤ length list → at + certificate_length * length (row (block_at n t k) a r 16) ≤ length list
+  room_of q at list e h = rw e h
+
+  pub put_of : (q : ℕ) {r : ℕ} {list list' : List ℕ} {at to : ℕ} → r ≡ q
+      → Puts list list' at to (stored_words t (row (block_at n t k) a r 16)) (certificate_length * length (row (block_at n t k) a r 16))
+      → Puts list list' at to (stored_words t (row (block_at n t k) a q 16)) (certificate_length * length (row (block_at n t k) a q 16))
+  put_of q e h = rw (← e) h

@@ -1,6 +1,5 @@
 -- Laws of certificates as words.
-use Rattle.std.proofs.Common.{◌≡◌, refl, ap, sym, ◌∙◌, Bool, true, false, true≢false, List, [], ◌∷◌, ◌++◌, append_assoc, append-nil, ℕ, ◌+◌, ◌*◌, ◌≤◌, arith, length, length-append, take, drop, take_all, eqb, eqb-true}
-use mathlib.Core.Option.{Option, none, some}
+use Rattle.std.proofs.Common.{◌≡◌, refl, ap, sym, ◌∙◌, Bool, true, false, true≢false, List, [], ◌∷◌, ◌++◌, append_assoc, append-nil, ℕ, ◌+◌, ◌*◌, ◌≤◌, arith, length, length-append, take, drop, take_all, eqb, eqb-true, Option, Some, None}
 use lib.Seq.{paste, sets, sets-eq}
 use Rattle.base.specs.Puts.{Puts}
 use Rattle.terms.specs.declared.Certificate.{Certificate}
@@ -70,8 +69,8 @@ module _ (t : List ℕ) where
     place_none e = go (holds_at t k m r) (sym i ∙ e)
       where
         go : (o : Option Content) → is_held o ≡ false → at_most_one o ≡ []
-        go none e = refl
-        go (some p) e = absurd (true≢false e)
+        go None e = refl
+        go (Some p) e = absurd (true≢false e)
 
     -- and where it does
     pub place_there : h ≡ true → at_most_one (holds_at t k m r) ≡ content_at t m r ∷ []

@@ -21,7 +21,9 @@ contents_of S (b ∷ c) k = if k == suc (length c) then ordered S b c else conte
 
 -- 23 there is no such block, 25 a list of so many words has no room for its certificates, of seventeen words each
 abbrev pub contents_checks : Settings → Chain Content → ℕ → ℕ → Checks
-contents_checks S c k words = (k == 0 || nat_lt (length c) k, 23) ∷ (nat_lt (words / certificate_length) (length (contents_of S c k)), 25) ∷ []
+contents_checks S c k words =
+    (k == 0 || nat_lt (length c) k, 23)
+    ∷ (nat_lt (words / certificate_length) (length (contents_of S c k)), 25) ∷ []
 
 module _ (s : State) (t : List ℕ) where
   abbrev pub reading_contents : ℕ → ℕ → Checks
@@ -36,4 +38,5 @@ module _ (s : State) (t : List ℕ) where
 
   -- what the lent list holds then: the certificates, and its rest as it was
   unfoldable pub contents_list : ℕ → List ℕ → List ℕ
-  contents_list k list = if_accepted (contents_refusal k (length list)) (sets list 0 (words_of (contents k))) list
+  contents_list k list =
+      if_accepted (contents_refusal k (length list)) (sets list 0 (words_of (contents k))) list

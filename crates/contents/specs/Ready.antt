@@ -4,7 +4,7 @@ use Rattle.store.specs.Table.{Row}
 use Rattle.committee.specs.Changes.{row, rows}
 use Rattle.committee.specs.Chain.{block_at}
 use Rattle.words.specs.Lengths.{certificate_length}
-use Rattle.running.specs.BlockChanges.{start_at}
+use Rattle.chain_committees.specs.BlockChanges.{start_at}
 use Rattle.state.specs.declared.State.{State}
 use Rattle.state.specs.View.{view}
 use Rattle.contents.specs.declared.Block.{Block}
@@ -26,7 +26,8 @@ pub record RowsReady (t : List ℕ) (n a : ℕ) : Type 0 where
 
 -- there is room for the certificates of block k of a round
 abbrev pub RowRoom : List ℕ → ℕ → ℕ → ℕ → ℕ → List ℕ → ℕ → Type 0
-RowRoom t n k a r list at = at + certificate_length * length (row (block_at n t k) a r 16) ≤ length list
+RowRoom t n k a r list at =
+    at + certificate_length * length (row (block_at n t k) a r 16) ≤ length list
 
 -- and of all rounds
 abbrev pub RowsRoom : List ℕ → ℕ → ℕ → ℕ → List ℕ → Type 0
@@ -36,6 +37,6 @@ RowsRoom t n k a list = certificate_length * length (rows (block_at n t k) a n) 
 pub record Found (s : State) (t : List ℕ) (k words : ℕ) (b : Block) : Type 0 where
   pub from : 0 < k
   pub to : k ≤ s.blocks
-  pub its-start : b.start.0 ≡ start_at s.settings t (k - 1)
-  pub its-count : b.count ≡ length (contents_of s.settings (view s t).chain k)
+  pub its_start : b.start.0 ≡ start_at s.settings t (k - 1)
+  pub its_count : b.count ≡ length (contents_of s.settings (view s t).chain k)
   pub room : certificate_length * length (contents_of s.settings (view s t).chain k) ≤ words

@@ -7,7 +7,8 @@ use Rattle.words.specs.Bodies.{body_words}
 
 -- author, round, body, endorsers
 unfoldable pub certificate_words : Certificate → List ℕ
-certificate_words c = (c.proposal.author.0 ∷ c.proposal.round.0 ∷ []) ++ body_words c.proposal.body ++ (c.endorsers ∷ [])
+certificate_words c = (c.proposal.author.0 ∷ c.proposal.round.0 ∷ []) ++ body_words c.proposal.body
+    ++ (c.endorsers ∷ [])
 
 -- in order
 unfoldable pub words_of : List Certificate → List ℕ

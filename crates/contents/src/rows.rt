@@ -15,88 +15,126 @@ use terms::{Certificate, Member, Round};
 use words::bodies;
 use words::bodies::lengths::{CERTIFICATE, PROPOSAL};
 
-// Is the certificate of a place in block k?
+// Is the certificate of a place in `block`?
 #[tactic(auto, using(crate::proofs::WalkLaws::marked_there))]
-fn is_in(t: &[u32], k: u32, m: Member, r: Round) -> bool
-    requires { Within t.now m.0 r.0 }
-    ensures { result ≡ is_held (holds_at t.now k m.0 r.0) }
+fn is_in(table: &[u32], block: u32, author: Member, round: Round) -> bool
+    requires { Within table.now author.0 round.0 }
+    ensures { result ≡ is_held (holds_at table.now block author.0 round.0) }
 {
-    store::held(t, m, r) && record::mark(t, m, r) == k
+    store::held(table, author, round) && record::mark(table, author, round) == block
 }
 
-// How many certificates of a round are in block k.
-fn count_row(t: &[u32], k: u32, n: Round, a: Member, r: Round) -> u32
-    requires { RowReady t.now n.0 a.0 r.0 }
-    ensures count { result ≡ length (row (block_at n.0 t.now k) a.0 r.0 16) }
+// How many certificates of a round are in `block`.
+fn count_row(table: &[u32], block: u32, ceiling: Round, start: Member, round: Round) -> u32
+    requires { RowReady table.now ceiling.0 start.0 round.0 }
+    ensures count { result ≡ length (row (block_at ceiling.0 table.now block) start.0 round.0 16) }
     ensures most { result ≤ 16 }
 {
-    let mut c = 0;
+    let mut count = 0;
     for i in 0..16u32 {
-        c += is_in(t, k, Member((a.0 + i) % 16), r) as u32;
+        count += is_in(table, block, Member((start.0 + i) % 16), round) as u32;
     }
-    c
+    count
 }
 
-/// How many certificates block k holds, where the ceiling is n and its rows start with member a, 16 for none.
-pub fn count_rows(t: &[u32], k: u32, n: Round, a: Member) -> u32
-    requires { RowsReady t.now n.0 a.0 }
-    ensures count { result ≡ length (rows (block_at n.0 t.now k) a.0 n.0) }
-    ensures most { result ≤ 16 * n.0 }
+/// How many certificates `block` holds, whose rows go up to the ceiling and start with member `start`, 16 for none.
+pub(crate) fn count_rows(table: &[u32], block: u32, ceiling: Round, start: Member) -> u32
+    requires { RowsReady table.now ceiling.0 start.0 }
+    ensures count { result ≡ length (rows (block_at ceiling.0 table.now block) start.0 ceiling.0) }
+    ensures most { result ≤ 16 * ceiling.0 }
 {
-    let mut c = 0;
-    for i in 0..n.0 {
-        c += count_row(t, k, n, a, Round(i + 1));
+    let mut count = 0;
+    for i in 0..ceiling.0 {
+        count += count_row(table, block, ceiling, start, Round(i + 1));
     }
-    c
+    count
 }
 
 // Puts a certificate, seventeen words, from a place on; gives the next place.
 #[tactic(auto, using(crate::proofs::WordLaws::certificate_put))]
-fn put_certificate(list: &mut [u32], at: usize, c: Certificate) -> usize
+fn put_certificate(list: &mut [u32], at: usize, certificate: Certificate) -> usize
     requires { at + certificate_length ≤ length list.old }
-    ensures { Puts list.old list.new at result (certificate_words c) certificate_length }
+    ensures { Puts list.old list.new at result (certificate_words certificate) certificate_length }
 {
-    bodies::stretch::put(list, at, &[c.proposal.author.0, c.proposal.round.0]);
-    bodies::put_body(list, at + 2, c.proposal.body);
-    bodies::stretch::put(list, at + PROPOSAL, &[c.endorsers as u32]);
+    bodies::stretch::put(
+        list,
+        at,
+        &[certificate.proposal.author.0, certificate.proposal.round.0],
+    );
+    bodies::put_body(list, at + 2, certificate.proposal.body);
+    bodies::stretch::put(list, at + PROPOSAL, &[certificate.endorsers as u32]);
     at + CERTIFICATE
 }
 
-// That of a place, if it is in block k.
-fn put_place(list: &mut [u32], at: usize, t: &[u32], k: u32, m: Member, r: Round) -> usize
-    requires { Within t.now m.0 r.0 × (at + certificate_length * length (at_most_one (holds_at t.now k m.0 r.0)) ≤ length list.old) }
-    ensures { Puts list.old list.new at result (stored_words t.now (at_most_one (holds_at t.now k m.0 r.0))) (certificate_length * length (at_most_one (holds_at t.now k m.0 r.0))) }
+// That of a place, if it is in `block`.
+fn put_place(
+    list: &mut [u32],
+    at: usize,
+    table: &[u32],
+    block: u32,
+    author: Member,
+    round: Round,
+) -> usize
+    requires { Within table.now author.0 round.0
+        × (at + certificate_length
+        * length (at_most_one (holds_at table.now block author.0 round.0)) ≤ length list.old) }
+    ensures { Puts list.old list.new at result
+        (stored_words table.now (at_most_one (holds_at table.now block author.0 round.0)))
+        (certificate_length
+        * length (at_most_one (holds_at table.now block author.0 round.0))) }
 {
-    if !is_in(t, k, m, r) {
+    if !is_in(table, block, author, round) {
         return at;
     }
-    let c = Certificate {
-        proposal: record::proposal_at(t, m, r),
-        endorsers: record::endorsers(t, m, r),
+    let certificate = Certificate {
+        proposal: record::proposal_at(table, author, round),
+        endorsers: record::endorsers(table, author, round),
     };
-    put_certificate(list, at, c)
+    put_certificate(list, at, certificate)
 }
 
 // Those of a round.
-fn put_row(list: &mut [u32], at: usize, t: &[u32], k: u32, n: Round, a: Member, r: Round) -> usize
-    requires { RowReady t.now n.0 a.0 r.0 × RowRoom t.now n.0 k a.0 r.0 list.old at }
-    ensures { Puts list.old list.new at result (stored_words t.now (row (block_at n.0 t.now k) a.0 r.0 16)) (certificate_length * length (row (block_at n.0 t.now k) a.0 r.0 16)) }
+fn put_row(
+    list: &mut [u32],
+    at: usize,
+    table: &[u32],
+    block: u32,
+    ceiling: Round,
+    start: Member,
+    round: Round,
+) -> usize
+    requires { RowReady table.now ceiling.0 start.0 round.0
+        × RowRoom table.now ceiling.0 block start.0 round.0 list.old at }
+    ensures { Puts list.old list.new at result
+        (stored_words table.now (row (block_at ceiling.0 table.now block) start.0 round.0 16))
+        (certificate_length
+        * length (row (block_at ceiling.0 table.now block) start.0 round.0 16)) }
 {
     let mut to = at;
     for i in 0..16u32 {
-        to = put_place(list, to, t, k, Member((a.0 + i) % 16), r);
+        to = put_place(list, to, table, block, Member((start.0 + i) % 16), round);
     }
     to
 }
 
-/// Puts the certificates of block k from the front of the list, where the ceiling is n and its rows start with member a, 16 for none; gives the place behind them.
-pub fn put_rows(list: &mut [u32], t: &[u32], k: u32, n: Round, a: Member) -> usize
-    requires { RowsReady t.now n.0 a.0 × RowsRoom t.now n.0 k a.0 list.old }
-    ensures { Puts list.old list.new 0 result (stored_words t.now (rows (block_at n.0 t.now k) a.0 n.0)) (certificate_length * length (rows (block_at n.0 t.now k) a.0 n.0)) }
+/// Puts the certificates of `block`, whose rows go up to the ceiling and start with member `start`, 16 for none, from the front of the list; gives the place behind them.
+pub(crate) fn put_rows(
+    list: &mut [u32],
+    table: &[u32],
+    block: u32,
+    ceiling: Round,
+    start: Member,
+) -> usize
+    requires { RowsReady table.now ceiling.0 start.0
+        × RowsRoom table.now ceiling.0 block start.0 list.old }
+    ensures { Puts list.old list.new 0 result
+        (stored_words table.now (rows (block_at ceiling.0 table.now block) start.0 ceiling.0))
+        (certificate_length
+        * length (rows (block_at ceiling.0 table.now block) start.0 ceiling.0)) }
 {
     let mut to = 0;
-    for i in 0..n.0 {
-        to = put_row(list, to, t, k, n, a, Round(i + 1));
+    for i in 0..ceiling.0 {
+        to = put_row(list, to, table, block, ceiling, start, Round(i + 1));
     }
     to
 }

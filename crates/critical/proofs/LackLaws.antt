@@ -4,7 +4,7 @@ use mathlib.Core.Bool.{and-false}
 use native.Mathlib.Decide.{dec_lt, ℕ_discrete}
 use borrow.Author.Tests.{lt-leb}
 use Rattle.base.specs.Checks.{refusal}
-use Rattle.base.specs.Sets.{is_in, del}
+use Rattle.base.specs.Sets.{contains, remove}
 use Rattle.base.proofs.CheckLaws.{first_passes, numbered}
 use Rattle.base.proofs.SetLaws.{in_member}
 use Rattle.store.specs.Table.{Row, Within, held_set, held_at}
@@ -46,7 +46,7 @@ module _ {s : State} {t : List ℕ} {a q : ℕ} (m : MayLack s t a q) where
 
   pub lacking_again : set_held (clear_held t a q) q (held_set t q) ≡ t
   unfolding clear_held
-  lacking_again = held-again t q (del (held_set t q) a) row
+  lacking_again = held-again t q (remove (held_set t q) a) row
 
 -- ---- a certificate in no block
 
@@ -70,7 +70,7 @@ module _ {s : State} {t : List ℕ} {x : Weighed} (w : Weighs s t x) where
   time : Timely s t
   time = timely s t (formed) w.timely.in_time
 
-  led : is_in (held_set t (r - 1)) lead ≡ true
+  led : contains (held_set t (r - 1)) lead ≡ true
   led = voted s t (formed) time.from w.voted
 
   -- the votes weigh more than the bound
@@ -82,14 +82,14 @@ module _ {s : State} {t : List ℕ} {x : Weighed} (w : Weighs s t x) where
       go (no n) = absurd (omega (arith, w.voted, votes-few s t (formed) time.from led (few n)))
         where
           few : (x.bound.0 < x.votes.0 → ⊥) → votes_for t (committee_on s t r) r lead ≤ bound
-          few n = rw (sym w.its-weights, sym w.its-leader, sym w.its-votes, sym w.its-bound) (omega arith)
+          few n = rw (sym w.its_weights, sym w.its_leader, sym w.its_votes, sym w.its_bound) (omega arith)
 
   pub leader-low : x.leader.0 < 16
-  leader-low = omega (arith, in_member (held_set t (r - 1)) lead led, w.its-leader)
+  leader-low = omega (arith, in_member (held_set t (r - 1)) lead led, w.its_leader)
 
   -- a vote is one of them
-  pub vote-le : {a v : ℕ} → a < 16 → v ≡ cond (votes_at t r x.leader.0 a) (weight_in x.weights a) 0 → v ≤ x.votes.0
-  vote-le {a} h e = omega (arith, weight_without t a r (omega (arith, formed.long, formed.numbers.round-to)) x.weights x.leader.0 h, e, w.its-votes)
+  pub vote_le : {a v : ℕ} → a < 16 → v ≡ cond (votes_at t r x.leader.0 a) (weight_in x.weights a) 0 → v ≤ x.votes.0
+  vote_le {a} h e = omega (arith, weight_without t a r (omega (arith, formed.long, formed.numbers.round_to)) x.weights x.leader.0 h, e, w.its_votes)
 
   module _ {a q : ℕ} (i : InView s a q) where
     pub may : MayLack s t a q
@@ -100,8 +100,8 @@ module _ {s : State} {t : List ℕ} {x : Weighed} (w : Weighs s t x) where
         low (inr e) = omega (arith, time.from)
 
         high : (q ≡ r) ⊎ (q ≡ r - 1) → q ≤ s.settings.ceiling.0
-        high (inl e) = omega (arith, formed.numbers.round-to)
-        high (inr e) = omega (arith, formed.numbers.round-to)
+        high (inl e) = omega (arith, formed.numbers.round_to)
+        high (inr e) = omega (arith, formed.numbers.round_to)
 
     pub place : Within t a q
     place = record { member = i.member; row = omega (arith, formed.long, may.to) }
@@ -135,10 +135,10 @@ module _ {s : State} {t : List ℕ} {x : Weighed} (w : Weighs s t x) where
         below (inr e) = e
 
         go : Dec (a ≡ lead) → is_critical s t a q ≡ eqb a x.leader.0
-        go (yes e) = anchor-then e (below i.near) ∙ sym (eq-eqb a x.leader.0 (e ∙ sym w.its-leader))
+        go (yes e) = anchor-then e (below i.near) ∙ sym (eq-eqb a x.leader.0 (e ∙ sym w.its_leader))
         go (no k) =
             let other : same_place lead (r - 1) a q ≡ false = rw (ne_eqb lead a (λ e. k (sym e))) refl in
-            enough-then other (rw (all_left other n, sym w.its-weights, sym w.its-leader, sym w.its-votes, sym w.its-bound) enough) ∙ sym (ne_eqb a x.leader.0 (λ e. k (e ∙ w.its-leader)))
+            enough-then other (rw (all_left other n, sym w.its_weights, sym w.its_leader, sym w.its_votes, sym w.its_bound) enough) ∙ sym (ne_eqb a x.leader.0 (λ e. k (e ∙ w.its_leader)))
 
     -- in the present round, where the votes without it weigh not more than the bound
     pub now-critical : q ≡ r → (v : ℕ) → v ≡ cond (votes_at t r x.leader.0 a) (weight_in x.weights a) 0 → is_critical s t a q ≡ leb (x.votes.0 - v) x.bound.0
@@ -148,11 +148,11 @@ module _ {s : State} {t : List ℕ} {x : Weighed} (w : Weighs s t x) where
         other = rw (ne_eqb (r - 1) q (λ k. omega (arith, time.from)), and-false (eqb lead a)) refl
 
         rest : votes_for (clear_held t a q) x.weights r x.leader.0 ≡ x.votes.0 - v
-        rest = rw e (omega (arith, weight_without t a r (omega (arith, formed.long, formed.numbers.round-to)) x.weights x.leader.0 i.member, h, w.its-votes))
+        rest = rw e (omega (arith, weight_without t a r (omega (arith, formed.long, formed.numbers.round_to)) x.weights x.leader.0 i.member, h, w.its_votes))
 
         go : Dec (x.bound.0 < x.votes.0 - v) → is_critical s t a q ≡ leb (x.votes.0 - v) x.bound.0
-        go (yes k) = enough-then other (rw (sym w.its-weights, sym w.its-leader, rest, sym w.its-bound) k) ∙ sym (lt-leb (x.votes.0 - v) x.bound.0 k)
-        go (no k) = few-then other (rw (sym w.its-weights, sym w.its-leader, rest, sym w.its-bound) (omega arith)) ∙ sym (le-leb (x.votes.0 - v) x.bound.0 (omega arith))
+        go (yes k) = enough-then other (rw (sym w.its_weights, sym w.its_leader, rest, sym w.its_bound) k) ∙ sym (lt-leb (x.votes.0 - v) x.bound.0 k)
+        go (no k) = few-then other (rw (sym w.its_weights, sym w.its_leader, rest, sym w.its_bound) (omega arith)) ∙ sym (le-leb (x.votes.0 - v) x.bound.0 (omega arith))
 
 -- ---- what is not held, and what is held
 

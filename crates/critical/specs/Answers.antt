@@ -7,7 +7,7 @@ use Rattle.terms.specs.Ranges.{weight_in}
 use Rattle.committee.specs.Chain.{chain_of}
 use Rattle.committee.specs.Committees.{bound_of}
 use Rattle.committee.specs.Totals.{TotalBounded}
-use Rattle.running.specs.Fill.{leader_at}
+use Rattle.chain_committees.specs.Fill.{leader_at}
 use Rattle.state.specs.declared.State.{State}
 use Rattle.state.specs.Formed.{Formed}
 use Rattle.refusals.specs.Refusals.{refusal_in}
@@ -31,19 +31,21 @@ module _ (s : State) (t : List ℕ) where
 
   -- p has what the votes answer, the leader of the round before and the committee of the present round
   pub record Polls (p : Polled) : Type 0 where
-    pub its-refusal : refusal_in p.answer ≡ refusal (vote_checks s t)
-    pub its-leader : p.leader.0 ≡ leader_at s.settings (chain_of s.settings.ceiling.0 t s.blocks) (s.round.0 - 1)
-    pub its-weights : p.weights ≡ committee_on s t s.round.0
+    pub its_refusal : refusal_in p.answer ≡ refusal (vote_checks s t)
+    pub its_leader : p.leader.0
+        ≡ leader_at s.settings (chain_of s.settings.ceiling.0 t s.blocks) (s.round.0 - 1)
+    pub its_weights : p.weights ≡ committee_on s t s.round.0
     pub bounded : TotalBounded p.weights
 
   -- the state would commit; x has the leader of the round before, and of the present round the committee, its bound and the votes
   pub record Weighs (x : Weighed) : Type 0 where
     pub timely : InTime
     pub voted : refusal (vote_checks s t) ≡ 0
-    pub its-leader : x.leader.0 ≡ leader_at s.settings (chain_of s.settings.ceiling.0 t s.blocks) (s.round.0 - 1)
-    pub its-weights : x.weights ≡ committee_on s t s.round.0
-    pub its-bound : x.bound.0 ≡ bound_of s.settings.margin (total 16 (weight_in x.weights))
-    pub its-votes : x.votes.0 ≡ votes_for t x.weights s.round.0 x.leader.0
+    pub its_leader : x.leader.0
+        ≡ leader_at s.settings (chain_of s.settings.ceiling.0 t s.blocks) (s.round.0 - 1)
+    pub its_weights : x.weights ≡ committee_on s t s.round.0
+    pub its_bound : x.bound.0 ≡ bound_of s.settings.margin (total 16 (weight_in x.weights))
+    pub its_votes : x.votes.0 ≡ votes_for t x.weights s.round.0 x.leader.0
 
 -- q is the present round or the one before
 abbrev pub Near : State → ℕ → Type 0

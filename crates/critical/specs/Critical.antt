@@ -24,7 +24,8 @@ place_words (x ∷ l) = x.round ∷ x.author ∷ place_words l
 module _ (s : State) (t : List ℕ) where
   -- the number that the checks of commit refuse with where the certificate of author a and round q is absent: it is not held, and so in no block either. Check 1 is not asked again
   unfoldable pub refusal_without : ℕ → ℕ → ℕ
-  refusal_without a q = refusal (rules.checks s.settings s.own.0 (view s (clear_held t a q)) rules.commit)
+  refusal_without a q =
+      refusal (rules.checks s.settings s.own.0 (view s (clear_held t a q)) rules.commit)
 
   -- it is held, and its absence alone turns the commit into a refusal
   unfoldable pub is_critical : ℕ → ℕ → Bool
@@ -45,7 +46,8 @@ module _ (s : State) (t : List ℕ) where
 
   -- 25 a list of so many words has fewer than 32 places, of two words each; then the checks of commit
   abbrev pub reading_critical : ℕ → Checks
-  reading_critical words = (nat_lt (words / 2) 32, 25) ∷ rules.checks s.settings s.own.0 (view s t) rules.commit
+  reading_critical words =
+      (nat_lt (words / 2) 32, 25) ∷ rules.checks s.settings s.own.0 (view s t) rules.commit
 
   -- those of a well-formed state before the votes: 25, 19, 20, 8
   abbrev pub late_checks : ℕ → Checks
@@ -56,4 +58,5 @@ module _ (s : State) (t : List ℕ) where
 
   -- what the lent list holds then: the places, and its rest as it was
   unfoldable pub critical_list : List ℕ → List ℕ
-  critical_list list = if_accepted (critical_refusal (length list)) (sets list 0 (place_words critical_places)) list
+  critical_list list =
+      if_accepted (critical_refusal (length list)) (sets list 0 (place_words critical_places)) list

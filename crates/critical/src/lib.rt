@@ -21,15 +21,15 @@ use terms::{Member, Round};
 use votes::checks;
 
 /// What a commit goes by after the checks of time: what those of the votes answer; the leader of the round before, 16 for none; and the committee of the present round.
-#[derive(Clone, Copy)]
-pub struct Polled {
+#[derive(Debug, Clone, Copy)]
+pub(crate) struct Polled {
     pub answer: Result<(), Refusal>,
     pub leader: Member,
     pub weights: [Weight; 16],
 }
 
 /// What an accepted commit is weighed by: the leader of the round before, and of the present round the committee, its fault bound and the votes.
-#[derive(Clone, Copy)]
+#[derive(Debug, Clone, Copy)]
 pub struct Weighed {
     pub leader: Member,
     pub weights: [Weight; 16],
@@ -38,163 +38,194 @@ pub struct Weighed {
 }
 
 // Checks 21, 22, and what they go by. The leaders are worked out here and nowhere else, so that their memory is in use once at a time.
-fn poll(s: State, t: &[u32]) -> Polled
-    requires { InTime s t.now }
-    ensures { Polls s t.now result }
+fn poll(state: State, table: &[u32]) -> Polled
+    requires { InTime state table.now }
+    ensures { Polls state table.now result }
 {
     let mut leaders = [16u32; 1025];
-    let weights = checks::fill_leaders(&s, t, &mut leaders);
-    let answer = checks::check_votes(&s, t, &leaders, &weights);
+    let weights = checks::fill_leaders(&state, table, &mut leaders);
+    let answer = checks::check_votes(&state, table, &leaders, &weights);
     Polled {
         answer,
-        leader: Member(leaders[s.round.0 as usize - 1]),
+        leader: Member(leaders[state.round.0 as usize - 1]),
         weights,
     }
 }
 
 // What the checks of the votes would answer, were the certificate of a place absent; the table is afterwards as it was.
-fn answer_without(s: State, t: &mut [u32], a: Member, q: Round) -> Result<(), Refusal>
-    requires { MayLack s t.old a.0 q.0 }
-    ensures { (refusal_in result ≡ refusal_without s t.old a.0 q.0) × (t.new ≡ t.old) }
+fn answer_without(
+    state: State,
+    table: &mut [u32],
+    author: Member,
+    round: Round,
+) -> Result<(), Refusal>
+    requires { MayLack state table.old author.0 round.0 }
+    ensures { (refusal_in result ≡ refusal_without state table.old author.0 round.0)
+        × (table.new ≡ table.old) }
 {
-    let held = store::held_set(t, q);
-    let left = base::without(held, a.0);
-    writes::set_held(t, q, left);
-    let p = poll(s, t);
-    writes::set_held(t, q, held);
-    p.answer
+    let held = store::held_set(table, round);
+    let left = base::remove(held, author.0);
+    writes::set_held(table, round, left);
+    let polled = poll(state, table);
+    writes::set_held(table, round, held);
+    polled.answer
 }
 
 // Of a certificate that is held and in no block: is it the anchor, or a vote without which the others weigh not more than the bound? One that is no vote adds nothing to them.
-fn is_pivotal(s: State, t: &[u32], x: Weighed, a: Member, q: Round) -> bool
-    requires { Weighs s t.now x × (InView s a.0 q.0 × Free t.now a.0 q.0) }
-    ensures { result ≡ is_critical s t.now a.0 q.0 }
+fn is_pivotal(state: State, table: &[u32], weighed: Weighed, author: Member, round: Round) -> bool
+    requires { Weighs state table.now weighed
+        × (InView state author.0 round.0 × Free table.now author.0 round.0) }
+    ensures { result ≡ is_critical state table.now author.0 round.0 }
 {
-    if q.0 == s.round.0 {
-        let vote = votes::counting::vote_of(t, &x.weights, q, x.leader, a);
-        x.votes.0 - vote.0 <= x.bound.0
+    if round.0 == state.round.0 {
+        let vote = votes::counting::vote_of(table, &weighed.weights, round, weighed.leader, author);
+        weighed.votes.0 - vote.0 <= weighed.bound.0
     } else {
-        a.0 == x.leader.0
+        author.0 == weighed.leader.0
     }
 }
 
 // Is the certificate of a place in a block?
-fn is_in_block(t: &[u32], a: Member, q: Round) -> bool
-    requires { Within t.now a.0 q.0 }
-    ensures { result ≡ not (mark_at t.now a.0 q.0 == 0) }
+fn is_in_block(table: &[u32], author: Member, round: Round) -> bool
+    requires { Within table.now author.0 round.0 }
+    ensures { result ≡ not (mark_at table.now author.0 round.0 == 0) }
 {
-    store::record::mark(t, a, q) != 0
+    store::record::mark(table, author, round) != 0
 }
 
 // Does the commit hang on the certificate of a place?
-fn is_critical(s: State, t: &mut [u32], x: Weighed, a: Member, q: Round) -> bool
-    requires { Weighs s t.old x × InView s a.0 q.0 }
-    ensures { (result ≡ is_critical s t.old a.0 q.0) × (t.new ≡ t.old) }
+fn is_critical(
+    state: State,
+    table: &mut [u32],
+    weighed: Weighed,
+    author: Member,
+    round: Round,
+) -> bool
+    requires { Weighs state table.old weighed × InView state author.0 round.0 }
+    ensures { (result ≡ is_critical state table.old author.0 round.0) × (table.new ≡ table.old) }
 {
-    if !store::held(t, a, q) {
+    if !store::held(table, author, round) {
         return false;
     }
-    if is_in_block(t, a, q) {
-        answer_without(s, t, a, q).is_err()
+    if is_in_block(table, author, round) {
+        answer_without(state, table, author, round).is_err()
     } else {
-        is_pivotal(s, t, x, a, q)
+        is_pivotal(state, table, weighed, author, round)
     }
 }
 
 // One place.
 #[tactic(auto, using(crate::proofs::PlaceLaws::place_put))]
-fn put_place(list: &mut [u32], at: usize, a: Member, q: Round) -> usize
+fn put_place(list: &mut [u32], at: usize, author: Member, round: Round) -> usize
     requires { at + 2 ≤ length list.old }
-    ensures { Puts list.old list.new at result (q.0 ∷ a.0 ∷ []) 2 }
+    ensures { Puts list.old list.new at result (round.0 ∷ author.0 ∷ []) 2 }
 {
-    list[at] = q.0;
-    list[at + 1] = a.0;
+    list[at] = round.0;
+    list[at + 1] = author.0;
     at + 2
 }
 
-// That of a and round q, if the commit hangs on it.
+// That of `author` and `round`, if the commit hangs on it.
 #[tactic(auto, using(crate::proofs::PlaceLaws::place_there, crate::proofs::PlaceLaws::place_none))]
 fn list_place(
-    s: State,
-    t: &mut [u32],
-    x: Weighed,
-    a: Member,
-    q: Round,
+    state: State,
+    table: &mut [u32],
+    weighed: Weighed,
+    author: Member,
+    round: Round,
     list: &mut [u32],
     at: usize,
 ) -> usize
-    requires { Weighs s t.old x × (InView s a.0 q.0 × (at + 2 ≤ length list.old)) }
-    ensures { (t.new ≡ t.old) × Puts list.old list.new at result (place_words (critical_at s t.old a.0 q.0)) 2 }
+    requires { Weighs state table.old weighed
+        × (InView state author.0 round.0 × (at + 2 ≤ length list.old)) }
+    ensures { (table.new ≡ table.old)
+        × Puts list.old list.new at result
+        (place_words (critical_at state table.old author.0 round.0)) 2 }
 {
-    if is_critical(s, t, x, a, q) {
-        put_place(list, at, a, q)
+    if is_critical(state, table, weighed, author, round) {
+        put_place(list, at, author, round)
     } else {
         at
     }
 }
 
-// Those of round q.
-fn list_row(s: State, t: &mut [u32], x: Weighed, q: Round, list: &mut [u32], at: usize) -> usize
-    requires { Weighs s t.old x × (Near s q.0 × (at + 32 ≤ length list.old)) }
-    ensures { (t.new ≡ t.old) × Puts list.old list.new at result (place_words (critical_in s t.old q.0 16)) 32 }
+// Those of `round`.
+fn list_row(
+    state: State,
+    table: &mut [u32],
+    weighed: Weighed,
+    round: Round,
+    list: &mut [u32],
+    at: usize,
+) -> usize
+    requires { Weighs state table.old weighed × (Near state round.0 × (at + 32 ≤ length list.old)) }
+    ensures { (table.new ≡ table.old)
+        × Puts list.old list.new at result (place_words (critical_in state table.old round.0 16))
+        32 }
 {
     let mut to = at;
     for i in 0..16u32 {
-        to = list_place(s, t, x, Member(i), q, list, to);
+        to = list_place(state, table, weighed, Member(i), round, list, to);
     }
     to
 }
 
 // Those of both rounds, the round before first; the words that they take.
-fn list_places(s: State, t: &mut [u32], x: Weighed, list: &mut [u32]) -> usize
-    requires { Weighs s t.old x × (64 ≤ length list.old) }
-    ensures { (t.new ≡ t.old) × Puts list.old list.new 0 result (place_words (critical_places s t.old)) 64 }
+fn list_places(state: State, table: &mut [u32], weighed: Weighed, list: &mut [u32]) -> usize
+    requires { Weighs state table.old weighed × (64 ≤ length list.old) }
+    ensures { (table.new ≡ table.old)
+        × Puts list.old list.new 0 result (place_words (critical_places state table.old)) 64 }
 {
-    let before = Round(s.round.0 - 1);
-    let row = list_row(s, t, x, before, list, 0);
-    list_row(s, t, x, s.round, list, row)
+    let before = Round(state.round.0 - 1);
+    let row = list_row(state, table, weighed, before, list, 0);
+    list_row(state, table, weighed, state.round, list, row)
 }
 
 // What the commit of a state that passes its checks is weighed by.
-fn weigh_up(s: State, t: &[u32], p: Polled) -> Weighed
-    requires { InTime s t.now × (Polls s t.now p × (refusal_in p.answer ≡ 0)) }
-    ensures { Weighs s t.now result }
+fn weigh_up(state: State, table: &[u32], polled: Polled) -> Weighed
+    requires { InTime state table.now
+        × (Polls state table.now polled × (refusal_in polled.answer ≡ 0)) }
+    ensures { Weighs state table.now result }
 {
-    let total = weighing::total_weight(&p.weights);
+    let total = weighing::total_weight(&polled.weights);
     Weighed {
-        leader: p.leader,
-        weights: p.weights,
-        bound: weighing::fault_bound(s.settings.margin, total),
-        votes: votes::counting::votes_for(t, &p.weights, s.round, p.leader),
+        leader: polled.leader,
+        weights: polled.weights,
+        bound: weighing::fault_bound(state.settings.margin, total),
+        votes: votes::counting::votes_for(table, &polled.weights, state.round, polled.leader),
     }
 }
 
 // The checks of a well-formed state before the votes: 25, 19, 20, 8; the list has so many words.
 #[tactic(auto, unfolding(base::specs::Checks::refusal))]
-fn check(v: &View, words: usize) -> Result<(), Refusal>
-    ensures { refusal_in result ≡ refusal (late_checks v.now.state.now v.now.table.now words) }
+fn check(view: &View, words: usize) -> Result<(), Refusal>
+    ensures { refusal_in result
+        ≡ refusal (late_checks view.now.state.now view.now.table.now words) }
 {
     if words / 2 < 32 {
-        return Err(Refusal::ListTooShort);
+        return Err(Refusal::LengthRange);
     }
-    checks::check_time(v)
+    checks::check_time(view)
 }
 
 /// Lists the certificates that a commit hangs on, of the round before and of the present round, by round, then author; the value is their number. The list needs 32 places, of two words each: round and author.
 ///
 /// The table is lent for writing, and is afterwards as it was: a certificate in a block is tried with its bit cleared, and the bit set again.
 #[tactic(auto, using(crate::proofs::AnswerLaws::votes_decide), unfolding(base::specs::Checks::refusal, state::specs::Answers::if_accepted, crate::specs::Critical::critical_refusal, crate::specs::Critical::critical_list))]
-pub fn critical(s: &State, t: &mut [u32], list: &mut [u32]) -> Result<u32, Refusal>
-    ensures refusal { refusal_in result ≡ critical_refusal s.now t.old (length list.old) }
-    ensures value { IfOk result (λ n. n ≡ length (critical_places s.now t.old)) }
-    ensures table { t.new ≡ t.old }
-    ensures list { list.new ≡ critical_list s.now t.old list.old }
+pub fn critical(state: &State, table: &mut [u32], list: &mut [u32]) -> Result<u32, Refusal>
+    ensures refusal { refusal_in result ≡ critical_refusal state.now table.old (length list.old) }
+    ensures value { IfOk result (λ n. n ≡ length (critical_places state.now table.old)) }
+    ensures table { table.new ≡ table.old }
+    ensures list { list.new ≡ critical_list state.now table.old list.old }
 {
     let words = list.len();
-    check(&View::known(state::well_formed(*s, t), &[], s, t)?, words)?;
-    let polled = poll(*s, t);
+    check(
+        &View::known(state::well_formed(*state, table), &[], state, table)?,
+        words,
+    )?;
+    let polled = poll(*state, table);
     polled.answer?;
-    let weighed = weigh_up(*s, t, polled);
-    let put = list_places(*s, t, weighed, list);
+    let weighed = weigh_up(*state, table, polled);
+    let put = list_places(*state, table, weighed, list);
     Ok((put / 2) as u32)
 }

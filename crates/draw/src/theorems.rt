@@ -10,7 +10,8 @@ ghost use Rattle.terms.specs.Proposals.{transactions_of};
 /// What is drawn, in its order, is the transaction list of the proposal.
 #[tactic(auto, using(crate::proofs::ClaimLaws::drawn_seen))]
 pub fn drawn_seen()
-    ensures { (s : State) (t : List ℕ) (v : ℕ) → well_formed s t ≡ true → transactions_of (drawn_body s t v) ≡ transactions_in (draws s t) }
+    ensures { (s : State) (t : List ℕ) (v : ℕ) → well_formed s t ≡ true
+        → transactions_of (drawn_body s t v) ≡ transactions_in (draws s t) }
 {}
 
 /// A draw is never refused with 6: what is drawn is in range and within the allowance.

@@ -34,7 +34,7 @@ allowed e advance a =
 allowed e c a = (a, refl)
 
 pub members_refuse_more : MembersRefuseMore
-members_refuse_more = record { unchanged = refused-same; allowed = allowed; opens-alike = λ e own sheet. refl }
+members_refuse_more = record { unchanged = refused-same; allowed = allowed; opens_alike = λ e own sheet. refl }
 
 -- the first of the checks 1, 18, 8, 28 that fails, and of 1, 18
 first-of : (a b c d : Bool) → refusal ((a, 1) ∷ (b, 18) ∷ []) ≡ answered_earlier (refusal ((a, 1) ∷ (b, 18) ∷ (c, 8) ∷ (d, 28) ∷ []))

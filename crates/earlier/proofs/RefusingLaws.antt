@@ -24,7 +24,7 @@ module _ {E D : Behaviour} (R : RefusesMore E D) (X : Members E) where
 
   same-engine : (l : List Entry) (i : ℕ) → engine_after Y (accepted_only X l) i ≡ engine_after X l i
   unfolding states accepted_only
-  same-engine [] i = R.opens-alike (before i) (record { 0 = i }) (sheet i)
+  same-engine [] i = R.opens_alike (before i) (record { 0 = i }) (sheet i)
   same-engine (e ∷ l) i = go (eqb (number_at e l) 0) refl (eqb i e.who) refl (same-engine l i)
     where
       go : (b : Bool) → eqb (number_at e l) 0 ≡ b → (h : Bool) → eqb i e.who ≡ h → engine_after Y (accepted_only X l) i ≡ engine_after X l i
@@ -57,8 +57,8 @@ module _ {E D : Behaviour} (R : RefusesMore E D) (X : Members E) where
   signed-left : (p : Content) (d : ℕ) (l : List Entry) → Signed X p d l → Signed Y p d (accepted_only X l)
   signed-left p d l x =
       record {
-        by-author = λ c. made-left (λ e c. Proposes e c p) p.author l (x.by-author c);
-        by-endorsers = λ i c n. made-left (λ e c. Endorses c p) i l (x.by-endorsers i c n);
+        by_author = λ c. made-left (λ e c. Proposes e c p) p.author l (x.by_author c);
+        by_endorsers = λ i c n. made-left (λ e c. Endorses c p) i l (x.by_endorsers i c n);
       }
 
   bound-left : (l : List Entry) → WithinBound X l → WithinBound Y (accepted_only X l)
@@ -90,7 +90,7 @@ same_engines E D R X l i = same-engine R X l i
 
 -- every run of E, its refused calls left out, was allowed by D
 pub runs_were_allowed : (E D : Behaviour) (R : RefusesMore E D) (X : Members E) (l : List Entry) → Run X l → WasAllowed R X l
-runs_were_allowed E D R X l r = let p = parts R X l r in record { run = p.0; all-accepted = p.1 }
+runs_were_allowed E D R X l r = let p = parts R X l r in record { run = p.0; all_accepted = p.1 }
 
 -- so what holds of the engines after every run of D holds of them after every run of E
 pub carries_over : (E D : Behaviour) (R : RefusesMore E D) (X : Members E) (Q : (ℕ → Engine) → Type 0)

@@ -60,10 +60,10 @@ module _ (S : Settings) (fits : SettingsFit S) (some : weightless S ≡ false) w
   starting = cond_same (leb 1 S.lookback) S.weights
 
   now-refused : refusal (advancing S (fresh_view S)) ≡ 28
-  now-refused = passes 18 _ (lt-leb S.ceiling.0 1 (omega (arith, fits.ceiling-from))) ∙ passes 8 _ is_known ∙ refuses 28 _ (rw (starting, nobody (margin_fits fits) (weight_in S.weights) weighs) refl)
+  now-refused = passes 18 _ (lt-leb S.ceiling.0 1 (omega (arith, fits.ceiling_from))) ∙ passes 8 _ is_known ∙ refuses 28 _ (rw (starting, nobody (margin_fits fits) (weight_in S.weights) weighs) refl)
 
   then-passed : refusal (earlier_advancing S (fresh_view S)) ≡ 0
-  then-passed = passes 18 _ (lt-leb S.ceiling.0 1 (omega (arith, fits.ceiling-from))) ∙ passes-all
+  then-passed = passes 18 _ (lt-leb S.ceiling.0 1 (omega (arith, fits.ceiling_from))) ∙ passes-all
 
 module _ (x : Opening) where
   abbrev engine : Engine
@@ -76,16 +76,16 @@ module _ (x : Opening) where
   of-view : (P : (S : Settings) → MemberView S → Type 0) → P (filled x.sheet) (fresh_view (filled x.sheet)) → P engine.state.settings (view engine.state engine.table)
   of-view P h =
       let b = subst (P (filled x.sheet)) (sym fresh.shows) h in
-      subst (λ (S : Settings). P S (view_at S engine)) (sym fresh.its-settings) b
+      subst (λ (S : Settings). P S (view_at S engine)) (sym fresh.its_settings) b
 
   whole : Formed engine.state engine.table
   whole = formed engine.state engine.table fresh.formed
 
   fits : SettingsFit (filled x.sheet)
-  fits = subst SettingsFit fresh.its-settings whole.settings
+  fits = subst SettingsFit fresh.its_settings whole.settings
 
   weighty : weightless (filled x.sheet) ≡ false
-  weighty = subst (λ (S : Settings). weightless S ≡ false) fresh.its-settings whole.weighty
+  weighty = subst (λ (S : Settings). weightless S ≡ false) fresh.its_settings whole.weighty
 
   pub thin_refused : refusal_for (after_opening x) advance ≡ 28
   unfolding advance_refusal

@@ -23,13 +23,17 @@ of_advance x y c = y
 
 -- of an advance
 abbrev pub earlier_advance_refusal : Engine → ℕ
-earlier_advance_refusal e = refusal (guarded e.state e.table (earlier_advancing e.state.settings (view e.state e.table)))
+earlier_advance_refusal e =
+    refusal (guarded e.state e.table (earlier_advancing e.state.settings (view e.state e.table)))
 
 abbrev pub earlier_refusal : Engine → Call → ℕ
 earlier_refusal e c = of_advance (earlier_advance_refusal e) (refusal_for e c) c
 
 abbrev pub earlier_after : Engine → Call → Engine
-earlier_after e c = of_advance (record { state = if_accepted (earlier_advance_refusal e) (advanced e.state) e.state; table = e.table }) (after e c) c
+earlier_after e c =
+    of_advance
+    (record e { state = if_accepted (earlier_advance_refusal e) (advanced e.state) e.state })
+    (after e c) c
 
 abbrev pub earlier_behaviour : Behaviour
 earlier_behaviour = record { refusal = earlier_refusal; after = earlier_after }

@@ -24,9 +24,11 @@ pub record RefusesMore (E D : Behaviour) : Type 0 where
   -- what E refuses changes nothing
   pub unchanged : (e : Engine) (c : Call) → E.refusal e c ≢ 0 → E.after e c ≡ e
   -- what E accepts D accepts, and it leaves the same
-  pub allowed : (e : Engine) (c : Call) → E.refusal e c ≡ 0 → (D.refusal e c ≡ 0) × (D.after e c ≡ E.after e c)
+  pub allowed : (e : Engine) (c : Call) → E.refusal e c ≡ 0 → (D.refusal e c ≡ 0)
+      × (D.after e c ≡ E.after e c)
   -- both open alike
-  pub opens-alike : (e : Engine) (own : Member) (sheet : Sheet) → D.after e (opens own sheet) ≡ E.after e (opens own sheet)
+  pub opens_alike : (e : Engine) (own : Member) (sheet : Sheet) → D.after e (opens own sheet)
+      ≡ E.after e (opens own sheet)
 
 module _ {E D : Behaviour} (R : RefusesMore E D) (X : Members E) where
   open X use {correct, before, sheet, accepted, settings, equal}
@@ -38,7 +40,8 @@ module _ {E D : Behaviour} (R : RefusesMore E D) (X : Members E) where
         correct = correct;
         before = before;
         sheet = sheet;
-        accepted = λ k c. (R.allowed (before k) (opens (record { 0 = k }) (sheet k)) (accepted k c)).0;
+        accepted =
+            λ k c. (R.allowed (before k) (opens (record { 0 = k }) (sheet k)) (accepted k c)).0;
         settings = settings;
         equal = equal;
       }
@@ -48,4 +51,4 @@ module _ {E D : Behaviour} (R : RefusesMore E D) (X : Members E) where
     -- it is a run of D: every entry is fair, and the bound holds at the start and after each entry
     pub run : Run answering_as (accepted_only X l)
     -- D accepts every call of it
-    pub all-accepted : AllAccepted answering_as (accepted_only X l)
+    pub all_accepted : AllAccepted answering_as (accepted_only X l)

@@ -16,7 +16,8 @@ pub trait Property {
 /// A list with its refused calls left out leads each member to the same engine by the rules that refuse less as the whole list by those that refuse more.
 #[tactic(auto, using(crate::proofs::RefusingLaws::same_engines))]
 pub fn same_engines()
-    ensures { (E D : Behaviour) (R : RefusesMore E D) (X : Members E) (l : List Entry) (i : ℕ) → engine_after (answering_as R X) (accepted_only X l) i ≡ engine_after X l i }
+    ensures { (E D : Behaviour) (R : RefusesMore E D) (X : Members E) (l : List Entry) (i : ℕ)
+        → engine_after (answering_as R X) (accepted_only X l) i ≡ engine_after X l i }
 {}
 
 /// Every run by the rules that refuse more, its refused calls left out, was allowed by those that refuse less.
@@ -26,7 +27,9 @@ pub fn runs_were_allowed()
 
 /// Whatever property the members' engines have after every run by the rules that refuse less, they have after every run by those that refuse more.
 pub fn carries_over<P: Property>()
-    ensures { (E D : Behaviour) (R : RefusesMore E D) (X : Members E) → ((l : List Entry) → Run (answering_as R X) l → P.holds (engine_after (answering_as R X) l))
+    ensures { (E D : Behaviour) (R : RefusesMore E D) (X : Members E)
+        → ((l : List Entry) → Run (answering_as R X) l
+        → P.holds (engine_after (answering_as R X) l))
         → (l : List Entry) → Run X l → P.holds (engine_after X l) }
 {}
 
@@ -50,13 +53,15 @@ pub fn earlier_refused_same()
 
 /// Every run of now, its refused calls left out, was allowed by the earlier rules.
 pub fn was_allowed_earlier()
-    ensures { (R : MembersRefuseMore) (X : Members engine_behaviour) (l : List Entry) → Run X l → WasAllowed R X l }
+    ensures { (R : MembersRefuseMore) (X : Members engine_behaviour) (l : List Entry) → Run X l
+        → WasAllowed R X l }
 {}
 
 /// If chains never forked by the earlier rules, they never fork now.
 #[tactic(auto, using(crate::proofs::EarlierLaws::agreement_carries_over))]
 pub fn agreement_carries_over()
-    ensures { ((X : Members earlier_behaviour) (l : List Entry) → Run X l → Agreed X l) → ChainsNeverFork }
+    ensures { ((X : Members earlier_behaviour) (l : List Entry) → Run X l → Agreed X l)
+        → ChainsNeverFork }
 {}
 
 /// And members do refuse more: whoever has just opened and holds nothing went on to the next round by the earlier rules, and is refused now.

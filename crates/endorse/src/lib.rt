@@ -21,25 +21,27 @@ use terms::Proposal;
 
 // The checks of a well-formed state: 4, 5, 6, 7, 14, 10, 8, 11, 12.
 #[tactic(auto, unfolding(base::specs::Checks::refusal))]
-fn check(v: &View, p: Proposal) -> Result<(), Refusal>
-    ensures refusal { refusal_in result ≡ refusal (endorsing (settings_of v.now) v.now.state.now.own.0 (shown v.now) (content_of p)) }
-    ensures fits { OnOk result (FormFits v.now.state.now p) }
+fn check(view: &View, proposal: Proposal) -> Result<(), Refusal>
+    ensures refusal { refusal_in result
+        ≡ refusal (endorsing (settings_of view.now) view.now.state.now.own.0 (shown view.now)
+        (content_of proposal)) }
+    ensures fits { OnOk result (FormFits view.now.state.now proposal) }
 {
-    v.check_form(p)?;
-    if p.author.0 == v.state.own.0 {
-        return Err(Refusal::OwnEndorsement);
+    view.check_form(proposal)?;
+    if proposal.author.0 == view.state.own.0 {
+        return Err(Refusal::SignedTwice);
     }
-    if v.is_taken(p.author, p.round) {
+    if view.is_taken(proposal.author, proposal.round) {
         return Err(Refusal::PlaceTaken);
     }
-    if v.is_unknown_before(p.round) {
+    if view.is_unknown_before(proposal.round) {
         return Err(Refusal::CommitteeUnknown);
     }
-    if v.lacks_previous(p) {
+    if view.lacks_previous(proposal) {
         return Err(Refusal::PreviousMissing);
     }
-    if v.lacks_quorum(p) {
-        return Err(Refusal::PreviousThin);
+    if view.lacks_quorum(proposal) {
+        return Err(Refusal::PreviousQuorum);
     }
     Ok(())
 }
@@ -49,23 +51,29 @@ fn check(v: &View, p: Proposal) -> Result<(), Refusal>
 pub fn endorse_cached(
     formed: bool,
     cache: &[u64],
-    s: &State,
-    t: &mut [u32],
-    p: Proposal,
+    state: &State,
+    table: &mut [u32],
+    proposal: Proposal,
 ) -> Result<(), Refusal>
-    requires { Cached s.now t.old formed cache.now }
-    ensures refusal { refusal_in result ≡ endorse_refusal s.now t.old p }
-    ensures table { t.new ≡ endorse_table s.now t.old p }
+    requires { Cached state.now table.old formed cache.now }
+    ensures refusal { refusal_in result ≡ endorse_refusal state.now table.old proposal }
+    ensures table { table.new ≡ endorse_table state.now table.old proposal }
 {
-    check(&View::known(formed, cache, s, t)?, p)?;
-    writes::set_endorsed(t, p.author, p.round);
+    check(&View::known(formed, cache, state, table)?, proposal)?;
+    writes::set_endorsed(table, proposal.author, proposal.round);
     Ok(())
 }
 
 /// Marks the place of a proposal endorsed.
-pub fn endorse(s: &State, t: &mut [u32], p: Proposal) -> Result<(), Refusal>
-    ensures refusal { refusal_in result ≡ endorse_refusal s.now t.old p }
-    ensures table { t.new ≡ endorse_table s.now t.old p }
+pub fn endorse(state: &State, table: &mut [u32], proposal: Proposal) -> Result<(), Refusal>
+    ensures refusal { refusal_in result ≡ endorse_refusal state.now table.old proposal }
+    ensures table { table.new ≡ endorse_table state.now table.old proposal }
 {
-    endorse_cached(state::well_formed(*s, t), &[], s, t, p)
+    endorse_cached(
+        state::well_formed(*state, table),
+        &[],
+        state,
+        table,
+        proposal,
+    )
 }

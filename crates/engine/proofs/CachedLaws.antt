@@ -1,11 +1,10 @@
 -- What is cached beside an engine's state after a call: whether the state is well formed, as the answer tells it, and the committees, where the call leaves settings and chain.
-use Rattle.std.proofs.Common.{◌≡◌, refl, sym, ap, ◌∙◌, subst₂, Bool, true, false, List, ◌≢◌, ℕ, arith}
+use Rattle.std.proofs.Common.{◌≡◌, refl, sym, ap, ◌∙◌, subst₂, Bool, true, false, List, ◌≢◌, ℕ, arith, Option, Some, None}
 use mathlib.Core.Bool.{false≢true}
-use mathlib.Core.Option.{Option, none, some}
 use Rattle.agreement.specs.Rules.{Chain}
 use Rattle.terms.specs.Proposals.{Content}
 use Rattle.terms.specs.declared.sheet.Settings.{Settings}
-use Rattle.running.specs.Caches.{Caches}
+use Rattle.chain_committees.specs.Caches.{Caches}
 use Rattle.rules.specs.Tests.{MemberView}
 use Rattle.rules.specs.Calls as rules
 use Rattle.state.specs.WellFormed.{well_formed}
@@ -30,8 +29,8 @@ module _ (S : Settings) (k : ℕ) (s : MemberView S) where
   chain_left (rules.certify d) h = go s.proposal
     where
       go : (o : Option Content) → (rules.certified S s o).chain ≡ s.chain
-      go none = refl
-      go (some p) = refl
+      go None = refl
+      go (Some p) = refl
   chain_left rules.commit h = absurd (false≢true h)
   chain_left rules.read h = absurd (false≢true h)
   chain_left c h = refl
@@ -60,7 +59,7 @@ module _ (e : Engine) (low : SetInRange e) where
             let same = ap (λ (v : MemberView S). v.chain) n.shows ∙ chain_left S e.state.own.0 (view_at S e) (ruled e c) l in
             record {
               form = formed-after k.form;
-              committees = λ _. subst₂ (λ (T : Settings) (x : Chain Content). Caches T x cache) (sym n.same-settings) (sym same) (k.committees w);
+              committees = λ _. subst₂ (λ (T : Settings) (x : Chain Content). Caches T x cache) (sym n.same_settings) (sym same) (k.committees w);
             }
 
   -- a commit leaves a well-formed state so, and one that is not is not changed

@@ -1,6 +1,5 @@
 -- A call that is no accepted open leaves the chain, or adds newer blocks to it.
-use Rattle.std.proofs.Common.{◌≡◌, refl, ap, ◌∙◌, List, [], ◌∷◌, ◌++◌, ℕ, ◌-◌}
-use mathlib.Core.Option.{Option, none, some}
+use Rattle.std.proofs.Common.{◌≡◌, refl, ap, ◌∙◌, List, [], ◌∷◌, ◌++◌, ℕ, ◌-◌, Option, Some, None}
 use Rattle.agreement.specs.Rules.{Chain, Rules}
 use Rattle.agreement.specs.View.{View}
 use Rattle.agreement.specs.Commits.{anchor_at, block_of, blocks_of, committed}
@@ -34,13 +33,13 @@ module _ (S : Settings) (k : ℕ) (s : MemberView S) where
   ruled-newer (rules.certify d) = go s.proposal
     where
       go : (o : Option Content) → Newer s.chain (rules.certified S s o).chain
-      go none = ([], refl)
-      go (some p) = ([], refl)
+      go None = ([], refl)
+      go (Some p) = ([], refl)
   ruled-newer rules.commit = go (anchor_at s (s.round - 1))
     where
       go : (o : Option Content) → Newer s.chain (rules.added S s o)
-      go none = ([], refl)
-      go (some x) = committed-newer x
+      go None = ([], refl)
+      go (Some x) = committed-newer x
   ruled-newer c = ([], refl)
 
 -- the chain of an engine

@@ -57,8 +57,8 @@ module _ (e : Engine) where
       let k = opened table own (filled sheet) a in
       record {
         its_own = refl;
-        its-settings = refl;
-        its-rights = refl;
+        its_settings = refl;
+        its_rights = refl;
         formed = whole _ _ (open_formed own (filled sheet) sheet.rights table k.member k.is_in_range k.weighty k.long) (ports-clear (filled sheet) (clear_used table (filled sheet).ceiling.0) 0 (cleared-words table (filled sheet).ceiling.0));
         shows = view_open own (filled sheet) sheet.rights table;
         set_in_range = omega arith;
@@ -69,9 +69,9 @@ module _ (e : Engine) where
   propose-next b r a =
       let k = propose-passed state table b a in
       record {
-        same-own = refl;
-        same-settings = refl;
-        same-rights = refl;
+        same_own = refl;
+        same_settings = refl;
+        same_rights = refl;
         formed = whole _ _ (propose-kept state table k.formed b k.fits) (ports-fit e (propose b) refl a (propose-whole e b a));
         shows = view-propose state table b ∙ sym (after-propose state.settings state.own.0 (view state table) b.previous (transactions_of b));
         set_in_range = r;
@@ -84,9 +84,9 @@ module _ (e : Engine) where
       let b = drawn_body state table v in
       let o = only-drawn state.settings.allowance (queues_of table) table k.row in
       record {
-        same-own = refl;
-        same-settings = refl;
-        same-rights = refl;
+        same_own = refl;
+        same_settings = refl;
+        same_rights = refl;
         formed = whole _ _ (first-kept (proposed state b) table (propose-kept state table k.formed b k.fits) o (fits-drawn state.settings.allowance table k.row k.formed.queues)) (ports-fit e (draw v) refl a (draw-whole e v a));
         shows = view-only (proposed state b) o ∙ view-propose state table b ∙ sym (after-propose state.settings state.own.0 (view state table) b.previous (transactions_of b));
         set_in_range = drawn-small state table v r;
@@ -99,9 +99,9 @@ module _ (e : Engine) where
     endorse-next p r a =
         let k = endorse-passed state table p a in
         record {
-          same-own = refl;
-          same-settings = refl;
-          same-rights = refl;
+          same_own = refl;
+          same_settings = refl;
+          same_rights = refl;
           formed = whole _ _ (endorse-kept state table k.formed p.author.0 p.round.0 k.fits.author k.fits.from k.fits.to) (ports-fit e (endorse p) refl a (endorse-whole e p a));
           shows = view-endorse state table (content_of p) k.formed.long (placed state table p k.formed k.fits r) ∙ sym (after-endorse state.settings state.own.0 (view state table) (content_of p));
           set_in_range = low;
@@ -115,13 +115,13 @@ module _ (e : Engine) where
         let b = k.formed.proposal k.proposing in
         let place = own-placed state table k.formed k.proposing low in
         record {
-          same-own = refl;
-          same-settings = refl;
-          same-rights = refl;
+          same_own = refl;
+          same_settings = refl;
+          same_rights = refl;
           formed = whole _ _ (put-kept state table k.formed p d r k.not_among place b.fit b.right) (ports-fit e (certify d) refl a (certify-whole e d a));
           shows = view-certify state table p k.formed.long place d k.free ∙ sym (after-certify state.settings state.own.0 (view state table) d p (proposal-some state k.proposing));
           set_in_range = low;
-          beyond = put-beyond table p d (own-within state table k.formed) state.settings.ceiling.0 k.formed.numbers.round-to;
+          beyond = put-beyond table p d (own-within state table k.formed) state.settings.ceiling.0 k.formed.numbers.round_to;
         }
 
     pub accept-next : (c : Certificate) → InRange (accept c) → refusal_for e (accept c) ≡ 0 → AsRuled e (accept c) (renewed e (accept c))
@@ -133,9 +133,9 @@ module _ (e : Engine) where
         let held = put_certificate table (content_of p) c.endorsers in
         let g = put-kept state table k.formed (content_of p) c.endorsers r.1 k.not_among place f.body.fit f.body.right in
         record {
-          same-own = refl;
-          same-settings = refl;
-          same-rights = refl;
+          same_own = refl;
+          same_settings = refl;
+          same_rights = refl;
           formed = whole _ _ (clear_kept state held g p.author.0 p.round.0 f.author f.from f.to) (ports-fit e (accept c) refl a (accept-whole e c a));
           shows = view-accept state table (content_of p) k.formed.long place c.endorsers k.free ∙ sym (after-accept state.settings state.own.0 (view state table) (content_of p) c.endorsers);
           set_in_range = low;
@@ -147,9 +147,9 @@ module _ (e : Engine) where
     advance-next a =
         let k = advance-passed state table a in
         record {
-          same-own = refl;
-          same-settings = refl;
-          same-rights = refl;
+          same_own = refl;
+          same_settings = refl;
+          same_rights = refl;
           formed = whole _ _ (advance-kept state table k.formed k.below) (ports-fit e advance refl a (advance-whole e a));
           shows = view-advance state table ∙ sym (after-advance state.settings state.own.0 (view state table));
           set_in_range = omega arith;
@@ -159,9 +159,9 @@ module _ (e : Engine) where
     pub commit-next : refusal_for e commit ≡ 0 → AsRuled e commit (renewed e commit)
     commit-next a =
         record {
-          same-own = refl;
-          same-settings = refl;
-          same-rights = refl;
+          same_own = refl;
+          same_settings = refl;
+          same_rights = refl;
           formed = whole _ _ (formed-commit state table a) (ports-fit e commit refl a (commit-whole e a));
           shows = view-commit state table a;
           set_in_range = low;
@@ -173,9 +173,9 @@ module _ (e : Engine) where
         let k = enqueue-passed state table g x a in
         let o = only-added table g x k.place in
         record {
-          same-own = refl;
-          same-settings = refl;
-          same-rights = refl;
+          same_own = refl;
+          same_settings = refl;
+          same_rights = refl;
           formed = whole _ _ (first-kept state table k.formed o (fits-added table g x k.place k.formed.queues k.is_in_range)) (ports-fit e (enqueue g x) refl a (enqueue-whole e g x a));
           shows = view-only state o ∙ sym (after_read state.settings state.own.0 (view state table));
           set_in_range = low;
@@ -188,9 +188,9 @@ module _ (e : Engine) where
         let f = formed state table k.whole in
         let o = only_ported state table x k in
         record {
-          same-own = refl;
-          same-settings = refl;
-          same-rights = refl;
+          same_own = refl;
+          same_settings = refl;
+          same_rights = refl;
           formed = whole _ _ (first-kept state table f o (fits_kept table _ (queues_ported state table x k) ∙ f.queues)) (ports_ported state table x k r);
           shows = view-only state o ∙ sym (after_read state.settings state.own.0 (view state table));
           set_in_range = low;
@@ -200,9 +200,9 @@ module _ (e : Engine) where
     pub aside-next : (x : Aside) → well_formed state table ≡ true → AsRuled e (aside x) e
     aside-next x w =
         record {
-          same-own = refl;
-          same-settings = refl;
-          same-rights = refl;
+          same_own = refl;
+          same_settings = refl;
+          same_rights = refl;
           formed = w;
           shows = sym (after_read state.settings state.own.0 (view state table));
           set_in_range = low;

@@ -45,7 +45,7 @@ module _ (e : Engine) where
       let k = certify-passed state table d a in
       let p = content_with state.own.0 state.round.0 (own_body state) in
       let w = own-within state table k.formed in
-      put-ports table p d w k.free n state.blocks (put_first table p d w k.formed.numbers.round-from)
+      put-ports table p d w k.free n state.blocks (put_first table p d w k.formed.numbers.round_from)
   ports-left (accept c) h a =
       let k = accept-passed state table c a in
       let p = c.proposal in

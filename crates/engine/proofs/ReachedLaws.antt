@@ -1,6 +1,6 @@
 -- Every engine that calls from an accepted open lead to is well formed, with the settings of a sheet; and what calls keep holds of it.
-use Rattle.std.proofs.Common.{◌≡◌, refl, sym, ap, ◌∙◌, subst, Bool, true, false, cond, List, [], ◌∷◌, ◌++◌, append_assoc, ℕ, suc, ◌≤◌, arith, eqb, length, eqb-true, ne_eqb}
-use mathlib.Core.Option.{some, none-ne-some}
+use Rattle.std.proofs.Common.{◌≡◌, refl, sym, ap, ◌∙◌, subst, Bool, true, false, cond, List, [], ◌∷◌, ◌++◌, append_assoc, ℕ, suc, ◌≤◌, arith, eqb, length, eqb-true, ne_eqb, Some}
+use Rattle.std.proofs.lemmas.Option.{none-some}
 use Rattle.agreement.specs.Rules.{Block, Chain}
 use Rattle.agreement.specs.Prefixes.{block_numbered}
 use Rattle.terms.specs.declared.Member.{Member}
@@ -23,7 +23,7 @@ pub opened-fresh : (e : Engine) (own : Member) (sheet : Sheet) → refusal_for e
 opened-fresh e own sheet a = subst (FreshlyOpened own sheet e) (sym (accepted-new e (opens own sheet) a)) (open_fresh e own sheet a)
 
 pub fresh-good : {own : Member} {sheet : Sheet} {e : Engine} {x : Engine} → FreshlyOpened own sheet e x → Good (filled sheet) own.0 x
-fresh-good f = record { own = ap (λ (m : Member). m.0) f.its_own; settings = f.its-settings; formed = f.formed; small = f.set_in_range }
+fresh-good f = record { own = ap (λ (m : Member). m.0) f.its_own; settings = f.its_settings; formed = f.formed; small = f.set_in_range }
 
 -- any call
 pub intact-after : (e : Engine) → Intact e → (c : Call) → InRange c → Intact (after e c)
@@ -37,7 +37,7 @@ intact-after e r c i = go (every_step e r.good.small c i)
         record {
           sheet = r.sheet;
           own = r.own;
-          good = record { own = ap (λ (m : Member). m.0) n.same-own ∙ g.own; settings = n.same-settings ∙ g.settings; formed = n.formed; small = n.set_in_range };
+          good = record { own = ap (λ (m : Member). m.0) n.same_own ∙ g.own; settings = n.same_settings ∙ g.settings; formed = n.formed; small = n.set_in_range };
         }
 
 pub intact : {e : Engine} → Reached e → Intact e
@@ -73,28 +73,28 @@ unfolding after_calls
 blocks_stay e r [] i n = ([], refl)
 blocks_stay e r (c ∷ l) i n = newer-append (blocks_stay e r l i.1 n.1) (chain-newer (after_calls e l) (intact (calls-lead-to e r l i.1)).good.small c i.0 n.0)
 
-block-number : {P : Type 0} (c : Chain P) (n : ℕ) {b : Block P} → block_numbered c n ≡ some b → n ≤ length c
+block-number : {P : Type 0} (c : Chain P) (n : ℕ) {b : Block P} → block_numbered c n ≡ Some b → n ≤ length c
 unfolding block_numbered
-block-number [] n {b} h = absurd (none-ne-some b h)
+block-number [] n {b} h = absurd (none-some b h)
 block-number (a ∷ c) n {b} h = go (eqb n (suc (length c))) refl h (λ k. block-number c n k)
   where
-    go : (t : Bool) → eqb n (suc (length c)) ≡ t → cond t (some a) (block_numbered c n) ≡ some b → (block_numbered c n ≡ some b → n ≤ length c) → n ≤ suc (length c)
+    go : (t : Bool) → eqb n (suc (length c)) ≡ t → cond t (Some a) (block_numbered c n) ≡ Some b → (block_numbered c n ≡ Some b → n ≤ length c) → n ≤ suc (length c)
     go true e k f = omega (arith, eqb-true n (suc (length c)) e)
     go false e k f = omega (arith, f k)
 
-no-shorter : {P : Type 0} (newer c : Chain P) → length c ≤ length (newer ++ c)
-no-shorter [] c = omega arith
-no-shorter (a ∷ l) c = omega (arith, no-shorter l c)
+no_shorter : {P : Type 0} (newer c : Chain P) → length c ≤ length (newer ++ c)
+no_shorter [] c = omega arith
+no_shorter (a ∷ l) c = omega (arith, no_shorter l c)
 
 -- so each block keeps its number, its round and its certificates
-numbered-under : {P : Type 0} (newer c : Chain P) (n : ℕ) {b : Block P} → block_numbered c n ≡ some b → block_numbered (newer ++ c) n ≡ some b
+numbered_under : {P : Type 0} (newer c : Chain P) (n : ℕ) {b : Block P} → block_numbered c n ≡ Some b → block_numbered (newer ++ c) n ≡ Some b
 unfolding block_numbered
-numbered-under [] c n h = h
-numbered-under (a ∷ l) c n h =
+numbered_under [] c n h = h
+numbered_under (a ∷ l) c n h =
     let low = block-number c n h in
-    let long = no-shorter l c in
-    rw (ne_eqb n (suc (length (l ++ c))) (λ e. absurd (omega arith))) (numbered-under l c n h)
+    let long = no_shorter l c in
+    rw (ne_eqb n (suc (length (l ++ c))) (λ e. absurd (omega arith))) (numbered_under l c n h)
 
 pub numbers_stay : (e : Engine) → Reached e → (l : List Call) → AllInRange l → NoOpens e l
-    → (n : ℕ) (b : Block Content) → block_numbered (chain_in e) n ≡ some b → block_numbered (chain_in (after_calls e l)) n ≡ some b
-numbers_stay e r l i o n b h = let m = blocks_stay e r l i o in rw m.1 (numbered-under m.0 (chain_in e) n h)
+    → (n : ℕ) (b : Block Content) → block_numbered (chain_in e) n ≡ Some b → block_numbered (chain_in (after_calls e l)) n ≡ Some b
+numbers_stay e r l i o n b h = let m = blocks_stay e r l i o in rw m.1 (numbered_under m.0 (chain_in e) n h)

@@ -108,13 +108,13 @@ module _ {S : Settings} {k : ℕ} {e : Engine} (g : Good S k e) where
         go (moved b w n) = n.shows
 
     -- and what every state of a run is stays so
-    pub good-after : Good S k (after e c)
-    good-after = go (every_step e g.small c r)
+    pub good_after : Good S k (after e c)
+    good_after = go (every_step e g.small c r)
       where
         go : Step e c → Good S k (after e c)
         go (refused n h) = subst (Good S k) (sym h) g
         go (opened own sheet q b f) = absurd (o own sheet q b)
-        go (moved b w n) = record { own = ap (λ (m : Member). m.0) n.same-own ∙ g.own; settings = n.same-settings ∙ g.settings; formed = n.formed; small = n.set_in_range }
+        go (moved b w n) = record { own = ap (λ (m : Member). m.0) n.same_own ∙ g.own; settings = n.same_settings ∙ g.settings; formed = n.formed; small = n.set_in_range }
 
     -- any call is the rules' call on the view
     pub view-after : view_at S (after e c) ≡ result S k (view_at S e) (ruled e c)

@@ -31,7 +31,8 @@ abbrev pub aside_checks : Engine → Aside → Checks
 aside_checks e (committee r) = reading_committee e.state.settings (view e.state e.table) r.0
 aside_checks e (share m r) = reading_share e.state.settings (view e.state e.table) m.0 r.0
 aside_checks e (effect m r a) = reading_effect e.state.settings (view e.state e.table) m.0 r.0 a
-aside_checks e (certificate m r) = reading_certificate e.state.settings (view e.state e.table) m.0 r.0
+aside_checks e (certificate m r) =
+    reading_certificate e.state.settings (view e.state e.table) m.0 r.0
 aside_checks e (block n) = reading_block e.state.settings (view e.state e.table) n
 aside_checks e (preview n) = previewing e.state e.table n
 aside_checks e (critical n) = reading_critical e.state e.table n
@@ -54,14 +55,23 @@ refusal_for e (aside x) = refusal (guarded e.state e.table (aside_checks e x))
 
 -- the state that the call leaves, and what the lent table holds then; propose and advance leave the table, endorse, certify, accept, enqueue and what is asked of a port the state, and what stands aside leaves both
 abbrev pub after : Engine → Call → Engine
-after e (opens own sheet) = record { state = open_state e.state e.table own sheet; table = open_table e.table own sheet }
+after e (opens own sheet) = record {
+  state = open_state e.state e.table own sheet;
+  table = open_table e.table own sheet;
+}
 after e (propose b) = record { state = propose_state e.state e.table b; table = e.table }
 after e (endorse p) = record { state = e.state; table = endorse_table e.state e.table p }
 after e (certify d) = record { state = e.state; table = certify_table e.state e.table d }
 after e (accept c) = record { state = e.state; table = accept_table e.state e.table c }
 after e advance = record { state = advance_state e.state e.table; table = e.table }
-after e commit = record { state = commit_state e.state e.table; table = commit_table_after e.state e.table }
+after e commit = record {
+  state = commit_state e.state e.table;
+  table = commit_table_after e.state e.table;
+}
 after e (enqueue g x) = record { state = e.state; table = enqueue_table e.state e.table g x }
-after e (draw v) = record { state = draw_state e.state e.table v; table = draw_table e.state e.table v }
+after e (draw v) = record {
+  state = draw_state e.state e.table v;
+  table = draw_table e.state e.table v;
+}
 after e (port x) = record { state = e.state; table = port_table e.state e.table x }
 after e (aside x) = e

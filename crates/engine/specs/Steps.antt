@@ -54,8 +54,8 @@ BeyondSame S e x = drop (used_length S.ceiling.0) x.table ≡ drop (used_length 
 -- x is what an accepted open on e leaves: a well-formed state of round 1 and nothing else
 pub record FreshlyOpened (own : Member) (sheet : Sheet) (e x : Engine) : Type 0 where
   pub its_own : x.state.own ≡ own
-  pub its-settings : x.state.settings ≡ filled sheet
-  pub its-rights : x.state.rights ≡ sheet.rights
+  pub its_settings : x.state.settings ≡ filled sheet
+  pub its_rights : x.state.rights ≡ sheet.rights
   pub formed : well_formed x.state x.table ≡ true
   pub shows : view_at (filled sheet) x ≡ rules.fresh_view (filled sheet)
   pub set_in_range : SetInRange x
@@ -63,16 +63,19 @@ pub record FreshlyOpened (own : Member) (sheet : Sheet) (e x : Engine) : Type 0 
 
 -- x is what any other accepted call c on e leaves: own number, settings and rights as they were, a well-formed state, and the rules' next view
 pub record AsRuled (e : Engine) (c : Call) (x : Engine) : Type 0 where
-  pub same-own : x.state.own ≡ e.state.own
-  pub same-settings : x.state.settings ≡ e.state.settings
-  pub same-rights : x.state.rights ≡ e.state.rights
+  pub same_own : x.state.own ≡ e.state.own
+  pub same_settings : x.state.settings ≡ e.state.settings
+  pub same_rights : x.state.rights ≡ e.state.rights
   pub formed : well_formed x.state x.table ≡ true
-  pub shows : view_at e.state.settings x ≡ rules.after e.state.settings e.state.own.0 (view_at e.state.settings e) (ruled e c)
+  pub shows : view_at e.state.settings x
+      ≡ rules.after e.state.settings e.state.own.0 (view_at e.state.settings e) (ruled e c)
   pub set_in_range : SetInRange x
   pub beyond : BeyondSame e.state.settings e x
 
 -- every call is refused and changes no word, or is an accepted open, or does what the rules say
 pub data Step (e : Engine) (c : Call) : Type 0 where
   refused : refusal_for e c ≢ 0 → after e c ≡ e → Step e c
-  opened : (own : Member) (sheet : Sheet) → c ≡ opens own sheet → refusal_for e c ≡ 0 → FreshlyOpened own sheet e (after e c) → Step e c
-  moved : refusal_for e c ≡ 0 → well_formed e.state e.table ≡ true → AsRuled e c (after e c) → Step e c
+  opened : (own : Member) (sheet : Sheet) → c ≡ opens own sheet → refusal_for e c ≡ 0
+      → FreshlyOpened own sheet e (after e c) → Step e c
+  moved : refusal_for e c ≡ 0 → well_formed e.state e.table ≡ true
+      → AsRuled e c (after e c) → Step e c

@@ -43,8 +43,11 @@ pub data Value : Type 0 where
 abbrev pub aside_value : Engine → Aside → Value
 aside_value e (committee r) = weights (committee_read e.state.settings (view e.state e.table) r.0)
 aside_value e (share m r) = number (share_read e.state.settings (view e.state e.table) m.0 r.0)
-aside_value e (effect m r a) = shares (effect_read e.state.settings (view e.state e.table) m.0 r.0 a)
-aside_value e (certificate m r) = held (reads.proposal_shown ((view e.state e.table).dag m.0 r.0)) (endorsers_at e.table m.0 r.0) (block_number (view e.state e.table).chain m.0 r.0)
+aside_value e (effect m r a) =
+    shares (effect_read e.state.settings (view e.state e.table) m.0 r.0 a)
+aside_value e (certificate m r) =
+    held (reads.proposal_shown ((view e.state e.table).dag m.0 r.0)) (endorsers_at e.table m.0 r.0)
+    (block_number (view e.state e.table).chain m.0 r.0)
 aside_value e (block n) = number (block_read e.state.settings (view e.state e.table) n)
 aside_value e (preview n) = entries (preview_entries e.state e.table)
 aside_value e (critical n) = places (critical_places e.state e.table)

@@ -10,7 +10,8 @@ use Rattle.state.specs.Answers.{if_accepted}
 
 -- 26 guest above 7; 6 transaction out of range; 27 the queue holds eight
 abbrev pub enqueueing : List ℕ → ℕ → Transaction → Checks
-enqueueing t g x = (nat_lt 7 g, 26) ∷ (not (in_range x), 6) ∷ (nat_le 8 (length (queue_of t g)), 27) ∷ []
+enqueueing t g x = (nat_lt 7 g, 26) ∷ (not (in_range x), 6) ∷ (nat_le 8 (length (queue_of t g)), 27)
+    ∷ []
 
 module _ (s : State) (t : List ℕ) where
   unfoldable pub enqueue_refusal : ℕ → Transaction → ℕ

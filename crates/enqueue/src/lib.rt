@@ -7,7 +7,6 @@ ghost use Rattle.std.specs.Prelude.{◌≡◌, OnOk};
 ghost use Rattle.base.specs.Checks.{refusal};
 ghost use Rattle.queues.specs.Words.{Place, waiting_count};
 ghost use Rattle.refusals.specs.Refusals.{refusal_in};
-ghost use Rattle.state.specs.WellFormed.{well_formed};
 ghost use Rattle.enqueue.specs.Enqueue.{enqueueing, enqueue_refusal, enqueue_table};
 
 use member_view::View;
@@ -18,44 +17,37 @@ use terms::Transaction;
 
 // The checks of a well-formed state: 26, 6, 27.
 #[tactic(auto, using(crate::proofs::PassedLaws::as_counted), unfolding(base::specs::Checks::refusal))]
-fn check(v: &View, guest: u32, x: Transaction) -> Result<(), Refusal>
-    ensures refusal { refusal_in result ≡ refusal (enqueueing v.now.table.now guest x) }
-    ensures place { let t = v.now.table.now in OnOk result (Place t guest (waiting_count t guest)) }
+fn check(view: &View, guest: u32, transaction: Transaction) -> Result<(), Refusal>
+    ensures refusal { refusal_in result
+        ≡ refusal (enqueueing view.now.table.now guest transaction) }
+    ensures place { let t = view.now.table.now in
+        OnOk result (Place t guest (waiting_count t guest)) }
 {
     if 7 < guest {
-        return Err(Refusal::NoSuchCaller);
+        return Err(Refusal::GuestRange);
     }
-    if !terms::in_range(x) {
-        return Err(Refusal::BadTransactions);
+    if !terms::in_range(transaction) {
+        return Err(Refusal::TransactionsRange);
     }
-    if queues::PLACES <= queues::waiting_count(v.table, guest) {
+    if queues::PLACES <= queues::waiting_count(view.table, guest) {
         return Err(Refusal::QueueFull);
     }
     Ok(())
 }
 
-/// The call, where it is told whether the state is well formed.
-#[tactic(auto, unfolding(base::specs::Checks::refusal, state::specs::Answers::if_accepted, crate::specs::Enqueue::enqueue_refusal, crate::specs::Enqueue::enqueue_table))]
-pub fn enqueue_cached(
-    formed: bool,
-    s: &State,
-    t: &mut [u32],
-    guest: u32,
-    x: Transaction,
-) -> Result<(), Refusal>
-    requires { formed ≡ well_formed s.now t.old }
-    ensures refusal { refusal_in result ≡ enqueue_refusal s.now t.old guest x }
-    ensures table { t.new ≡ enqueue_table s.now t.old guest x }
-{
-    check(&View::known(formed, &[], s, t)?, guest, x)?;
-    drawing::add(t, guest, x);
-    Ok(())
-}
-
 /// Adds a transaction to a guest's queue.
-pub fn enqueue(s: &State, t: &mut [u32], guest: u32, x: Transaction) -> Result<(), Refusal>
-    ensures refusal { refusal_in result ≡ enqueue_refusal s.now t.old guest x }
-    ensures table { t.new ≡ enqueue_table s.now t.old guest x }
+#[tactic(auto, unfolding(base::specs::Checks::refusal, state::specs::Answers::if_accepted, crate::specs::Enqueue::enqueue_refusal, crate::specs::Enqueue::enqueue_table))]
+pub fn enqueue(
+    state: &State,
+    table: &mut [u32],
+    guest: u32,
+    transaction: Transaction,
+) -> Result<(), Refusal>
+    ensures refusal { refusal_in result ≡ enqueue_refusal state.now table.old guest transaction }
+    ensures table { table.new ≡ enqueue_table state.now table.old guest transaction }
 {
-    enqueue_cached(state::well_formed(*s, t), s, t, guest, x)
+    let formed = state::well_formed(*state, table);
+    check(&View::known(formed, &[], state, table)?, guest, transaction)?;
+    drawing::add(table, guest, transaction);
+    Ok(())
 }

@@ -1,6 +1,5 @@
 -- Batches leave guests' queues, and draws are fair with batches among the calls.
-use Rattle.std.proofs.Common.{◌≡◌, refl, sym, ap, ◌∙◌, subst, Bool, true, false, cond, List, [], ◌∷◌, ◌++◌, ℕ, length, eqb}
-use mathlib.Core.Option.{Option, none, some}
+use Rattle.std.proofs.Common.{◌≡◌, refl, sym, ap, ◌∙◌, subst, Bool, true, false, cond, List, [], ◌∷◌, ◌++◌, ℕ, length, eqb, Option, Some, None}
 use Rattle.base.specs.Options.{if_there}
 use Rattle.terms.specs.declared.Certificate.{Certificate}
 use Rattle.state.proofs.AnswerLaws.{if_accepted-same}
@@ -37,8 +36,8 @@ accepts_keep row (p ∷ l) e =
     ap queues (after_both e (accepts_of row l) m) ∙ accepts_keep row l (after_calls e m) ∙ go (row.at p).certificate
   where
     go : (o : Option Certificate) → queues (after_calls e (if_there o [] (λ c. accept c ∷ []))) ≡ queues e
-    go none = refl
-    go (some c) = accept-keeps e c
+    go None = refl
+    go (Some c) = accept-keeps e c
 
 -- a batch leaves the queues
 pub batch_keeps_queues : (e : Engine) (row : Row) (answers : List ℕ) → queues (after_submission e (batch row answers)) ≡ queues e

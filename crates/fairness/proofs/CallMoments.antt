@@ -1,6 +1,5 @@
 -- The moments of a call follow one another, after what was waiting before it.
-use Rattle.std.proofs.Common.{◌≡◌, refl, sym, ap, List, [], ◌∷◌, ◌++◌, ℕ}
-use mathlib.Core.Option.{none}
+use Rattle.std.proofs.Common.{◌≡◌, refl, sym, ap, List, [], ◌∷◌, ◌++◌, ℕ, None}
 use native.Mathlib.Decide.{ℕ_discrete}
 use Rattle.state.proofs.AnswerLaws.{if_accepted-new, if_accepted-old}
 use Rattle.state.specs.Answers.{if_accepted}
@@ -15,7 +14,7 @@ use Rattle.fairness.proofs.KeptLaws.{queues_kept}
 
 -- what is waiting, with nothing just drawn
 abbrev quiet : Queues → Moment
-quiet q = record { drew = none; then = q }
+quiet q = record { drew = None; then = q }
 
 last_more : (q : Queues) (l : List Moment) (m : Moment) → last q (l ++ (m ∷ [])) ≡ m.then
 last_more q [] m = refl

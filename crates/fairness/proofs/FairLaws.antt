@@ -1,6 +1,6 @@
 -- Between two transactions drawn from one guest every other guest that is waiting all that time has one drawn.
-use Rattle.std.proofs.Common.{◌≡◌, sym, ap, ◌∙◌, subst, true, true≢false, List, [], ◌∷◌, ◌++◌, append_assoc, ◌⊎◌, inl, inr, ◌≢◌, ℕ, ◌<◌}
-use mathlib.Core.Option.{some, some-injective, none-ne-some}
+use Rattle.std.proofs.Common.{◌≡◌, sym, ap, ◌∙◌, subst, true, true≢false, List, [], ◌∷◌, ◌++◌, append_assoc, ◌⊎◌, inl, inr, ◌≢◌, ℕ, ◌<◌, Some}
+use Rattle.std.proofs.lemmas.Option.{same_Some, none-some}
 use native.Mathlib.Decide.{ℕ_discrete}
 use lib.Seq.{append_snoc}
 use Rattle.queues.specs.Queues.{Queues, is_waiting, served}
@@ -14,31 +14,31 @@ use Rattle.fairness.proofs.Timelines.{Follows, by-draw, by_call, by_open, Timeli
 use Rattle.fairness.proofs.CallMoments.{timeline-call, last-call}
 
 -- from the queues q on, where h comes before g, until one is drawn from g
-fair_from : (q : Queues) (h g : ℕ) (l : List Moment) (last : Moment) → Ahead q.from h g → is_waiting q h ≡ true → Timeline q (l ++ (last ∷ [])) → Waits h l → last.drew ≡ some g → Drawn h l
+fair_from : (q : Queues) (h g : ℕ) (l : List Moment) (last : Moment) → Ahead q.from h g → is_waiting q h ≡ true → Timeline q (l ++ (last ∷ [])) → Waits h l → last.drew ≡ Some g → Drawn h l
 fair_from q h g [] last x w t y e = absurd (go last t.0 e)
   where
-    go : (m : Moment) → Follows q m → m.drew ≡ some g → ⊥
+    go : (m : Moment) → Follows q m → m.drew ≡ Some g → ⊥
     go m (by-draw k n) r = not_behind q h g x w (n ∙ r)
-    go m (by_call p f) r = none-ne-some g r
-    go m (by_open p f) r = none-ne-some g r
+    go m (by_call p f) r = none-some g r
+    go m (by_open p f) r = none-some g r
 fair_from q h g (m ∷ l) last x w t y e = go m t.0 y.0 (λ a. fair_from m.then h g l last a y.0 t.1 y.1 e)
   where
-    go : (m : Moment) → Follows q m → is_waiting m.then h ≡ true → (Ahead m.then.from h g → Drawn h l) → (m.drew ≡ some h) ⊎ Drawn h l
+    go : (m : Moment) → Follows q m → is_waiting m.then h ≡ true → (Ahead m.then.from h g → Drawn h l) → (m.drew ≡ Some h) ⊎ Drawn h l
     go m (by-draw k n) v f = by (ℕ_discrete k h)
       where
-        by : Dec (k ≡ h) → (some k ≡ some h) ⊎ Drawn h l
-        by (yes r) = inl (ap some r)
+        by : Dec (k ≡ h) → (Some k ≡ Some h) ⊎ Drawn h l
+        by (yes r) = inl (ap Some r)
         by (no r) = inr (f (still-ahead q h g x w k n r))
     go m (by_call p r) v f = inr (f (rw r x))
     go m (by_open p r) v f = absurd (true≢false (sym v ∙ r h))
 
 -- one is drawn from g after the queues q, later another, and h is waiting from the first on until the second
-fair_after : (q : Queues) (x : Moment) (b : List Moment) (y : Moment) (g h : ℕ) → Follows q x → Timeline x.then (b ++ (y ∷ [])) → x.drew ≡ some g → y.drew ≡ some g → h < 8 → h ≢ g → Waits h (x ∷ b) → Drawn h b
+fair_after : (q : Queues) (x : Moment) (b : List Moment) (y : Moment) (g h : ℕ) → Follows q x → Timeline x.then (b ++ (y ∷ [])) → x.drew ≡ Some g → y.drew ≡ Some g → h < 8 → h ≢ g → Waits h (x ∷ b) → Drawn h b
 fair_after q x b y g h (by-draw k n) t e d l u w =
-    let s = some-injective k g e in
-    fair_from (served q k) h g b y (rw s (ahead-first g h (next-waits q g (n ∙ ap some s)).0 l u)) w.0 t w.1 d
-fair_after q x b y g h (by_call p r) t e d l u w = absurd (none-ne-some g e)
-fair_after q x b y g h (by_open p r) t e d l u w = absurd (none-ne-some g e)
+    let s = same_Some k g e in
+    fair_from (served q k) h g b y (rw s (ahead-first g h (next-waits q g (n ∙ ap Some s)).0 l u)) w.0 t w.1 d
+fair_after q x b y g h (by_call p r) t e d l u w = absurd (none-some g e)
+fair_after q x b y g h (by_open p r) t e d l u w = absurd (none-some g e)
 
 -- of any moments that follow one another
 pub fair_moments : (q : Queues) (m : List Moment) → Timeline q m → FairIn m

@@ -1,6 +1,6 @@
 -- Going round: after one is drawn from a guest everybody else comes before it, and where a guest is waiting nobody behind it is next.
-use Rattle.std.proofs.Common.{◌≡◌, refl, sym, ◌∙◌, Bool, true, false, cond, true≢false, ◌≢◌, ℕ, zero, suc, ◌+◌, ◌-◌, ◌%◌, ◌<◌, ◌≤◌, arith}
-use mathlib.Core.Option.{some, some-injective, none-ne-some}
+use Rattle.std.proofs.Common.{◌≡◌, refl, sym, ◌∙◌, Bool, true, false, cond, true≢false, ◌≢◌, ℕ, zero, suc, ◌+◌, ◌-◌, ◌%◌, ◌<◌, ◌≤◌, arith, Some}
+use Rattle.std.proofs.lemmas.Option.{same_Some, none-some}
 use native.Mathlib.Decide.{dec_lt, ℕ_discrete}
 use Rattle.queues.specs.Queues.{Queues, is_waiting, guest_at, first_from, next_guest}
 
@@ -21,13 +21,13 @@ record Next (q : Queues) (i n g : ℕ) : Type 0 where
   is : guest_at q d ≡ g
   idle : (e : ℕ) → i ≤ e → e < d → is_waiting q (guest_at q e) ≡ false
 
-first_next : (q : Queues) (i n g : ℕ) → first_from q i n ≡ some g → Next q i n g
+first_next : (q : Queues) (i n g : ℕ) → first_from q i n ≡ Some g → Next q i n g
 unfolding first_from
-first_next q i zero g h = absurd (none-ne-some g h)
+first_next q i zero g h = absurd (none-some g h)
 first_next q i (suc n) g h = go (is_waiting q (guest_at q i)) refl h (λ k. first_next q (suc i) n g k)
   where
-    go : (b : Bool) → is_waiting q (guest_at q i) ≡ b → cond b (some (guest_at q i)) (first_from q (suc i) n) ≡ some g → (first_from q (suc i) n ≡ some g → Next q (suc i) n g) → Next q i (suc n) g
-    go true e k f = record { d = i; from = omega arith; near = omega arith; is = some-injective _ g k; idle = λ e x y. absurd (omega arith) }
+    go : (b : Bool) → is_waiting q (guest_at q i) ≡ b → cond b (Some (guest_at q i)) (first_from q (suc i) n) ≡ Some g → (first_from q (suc i) n ≡ Some g → Next q (suc i) n g) → Next q i (suc n) g
+    go true e k f = record { d = i; from = omega arith; near = omega arith; is = same_Some _ g k; idle = λ e x y. absurd (omega arith) }
     go false e k f =
         let z = f k in
         record { d = z.d; from = omega (arith, z.from); near = omega (arith, z.near); is = z.is; idle = λ x l u. by x l z u (ℕ_discrete x i) }
@@ -66,7 +66,7 @@ module _ (q : Queues) (h g : ℕ) (x : Ahead q.from h g) (w : is_waiting q h ≡
       by (no l) = omega arith
 
   -- so g is not
-  pub not_behind : next_guest q ≡ some g → ⊥
+  pub not_behind : next_guest q ≡ Some g → ⊥
   not_behind e =
       let z = first_next q 0 8 g e in
       let l = next-to g z in
@@ -74,7 +74,7 @@ module _ (q : Queues) (h g : ℕ) (x : Ahead q.from h g) (w : is_waiting q h ≡
       omega (arith, x.before)
 
   -- and whoever is, h itself aside, leaves h before g
-  pub still-ahead : (k : ℕ) → next_guest q ≡ some k → k ≢ h → Ahead (suc k) h g
+  pub still-ahead : (k : ℕ) → next_guest q ≡ Some k → k ≢ h → Ahead (suc k) h g
   still-ahead k e n =
       let z = first_next q 0 8 k e in
       let s = by z (next-to k z) (ℕ_discrete z.d x.i) in

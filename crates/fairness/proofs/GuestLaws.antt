@@ -1,6 +1,5 @@
 -- A guest adds to no queue but its own, and draws are fair with guests' requests among the calls.
-use Rattle.std.proofs.Common.{◌≡◌, refl, sym, ap, ◌∙◌, subst, Bool, true, false, cond, List, [], ◌∷◌, ◌++◌, append_assoc, ◌≢◌, ℕ, eqb, ne_eqb, eqb-true}
-use mathlib.Core.Option.{Option, none, some}
+use Rattle.std.proofs.Common.{◌≡◌, refl, sym, ap, ◌∙◌, subst, Bool, true, false, cond, List, [], ◌∷◌, ◌++◌, append_assoc, ◌≢◌, ℕ, eqb, ne_eqb, eqb-true, Option, Some, None}
 use native.Mathlib.Decide.{ℕ_discrete}
 use Rattle.base.specs.Options.{if_there}
 use Rattle.terms.specs.declared.Transaction.{Transaction}
@@ -71,20 +70,20 @@ module _ (e : Engine) (c h : ℕ) (other : h ≢ c) where
 pub adds_to_no_other : (e : Engine) (c : ℕ) (a : Asked) (h : ℕ) → h ≢ c → LeftOf ((queues e).waiting h) ((queues (result_of e (request.guest c a)).engine).waiting h)
 adds_to_no_other e c a h other = rw (left_by e (request.guest c a)) (go (eqb (caller_number e c a) 0))
   where
-    go : (b : Bool) → LeftOf ((queues e).waiting h) ((queues (if_there (cond b (some (submitted_by c a)) none) e (after_submission e))).waiting h)
+    go : (b : Bool) → LeftOf ((queues e).waiting h) ((queues (if_there (cond b (Some (submitted_by c a)) None) e (after_submission e))).waiting h)
     go true = submitted-left e c h other a
     go false = all_left ((queues e).waiting h)
 
 -- ---- lists
 
 module _ (e : Engine) where
-  moments-timeline : (o : Option Submission) → Timeline (queues e) (if_there o (record { drew = none; then = queues e } ∷ []) (submission_moments e))
-  moments-timeline none = (by_call (queues e) refl, tt)
-  moments-timeline (some x) = submission_timeline e x
+  moments-timeline : (o : Option Submission) → Timeline (queues e) (if_there o (record { drew = None; then = queues e } ∷ []) (submission_moments e))
+  moments-timeline None = (by_call (queues e) refl, tt)
+  moments-timeline (Some x) = submission_timeline e x
 
-  moments-last : (o : Option Submission) → last (queues e) (if_there o (record { drew = none; then = queues e } ∷ []) (submission_moments e)) ≡ queues (if_there o e (after_submission e))
-  moments-last none = refl
-  moments-last (some x) = submission_last e x
+  moments-last : (o : Option Submission) → last (queues e) (if_there o (record { drew = None; then = queues e } ∷ []) (submission_moments e)) ≡ queues (if_there o e (after_submission e))
+  moments-last None = refl
+  moments-last (Some x) = submission_last e x
 
 timeline-asked : (e : Engine) (l : List Request) → Timeline (queues e) (moments_asked e l)
 unfolding moments_asked

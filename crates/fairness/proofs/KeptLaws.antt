@@ -34,7 +34,7 @@ module _ (e : Engine) where
   renewed-queues (endorse p) a = let k = endorse-passed state table p a in queues-same table _ (set-endorsed-first table p.author.0 p.round.0 k.fits.from) k.formed.queues
   renewed-queues (certify d) a =
       let k = certify-passed state table d a in
-      queues-same table _ (put_first table (content_with state.own.0 state.round.0 (own_body state)) d (own-within state table k.formed) k.formed.numbers.round-from) k.formed.queues
+      queues-same table _ (put_first table (content_with state.own.0 state.round.0 (own_body state)) d (own-within state table k.formed) k.formed.numbers.round_from) k.formed.queues
   renewed-queues (accept c) a =
       let k = accept-passed state table c a in
       let p = c.proposal in

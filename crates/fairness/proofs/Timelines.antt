@@ -1,15 +1,14 @@
 -- What moments may follow one another: each draws from the next guest, or leaves the guest served last, or finds all queues empty.
-use Rattle.std.proofs.Common.{◌≡◌, refl, false, List, [], ◌∷◌, ◌++◌, ℕ, zero, suc}
-use mathlib.Core.Option.{Option, none, some}
+use Rattle.std.proofs.Common.{◌≡◌, refl, false, List, [], ◌∷◌, ◌++◌, ℕ, zero, suc, Option, Some, None}
 use Rattle.queues.specs.Queues.{Queues, Draw, is_waiting, next_guest, served, drawn, after_draws}
 use Rattle.queues.proofs.DrawLaws.{drawn-none, drawn-more}
 use Rattle.fairness.specs.Fairness.{Moment, draw_moments}
 
 -- what a moment may be after the queues q: a transaction is drawn; or the guest served last is the same; or nothing is waiting
 pub data Follows (q : Queues) : Moment → Type 0 where
-  by-draw : (g : ℕ) → next_guest q ≡ some g → Follows q (record { drew = some g; then = served q g })
-  by_call : (p : Queues) → p.from ≡ q.from → Follows q (record { drew = none; then = p })
-  by_open : (p : Queues) → ((g : ℕ) → is_waiting p g ≡ false) → Follows q (record { drew = none; then = p })
+  by-draw : (g : ℕ) → next_guest q ≡ Some g → Follows q (record { drew = Some g; then = served q g })
+  by_call : (p : Queues) → p.from ≡ q.from → Follows q (record { drew = None; then = p })
+  by_open : (p : Queues) → ((g : ℕ) → is_waiting p g ≡ false) → Follows q (record { drew = None; then = p })
 
 -- moments, oldest first, after the queues q
 abbrev pub Timeline : Queues → List Moment → Type 0
@@ -46,5 +45,5 @@ timeline-draws zero q = tt
 timeline-draws (suc a) q = go (next_guest q) refl (λ g. timeline-draws a (served q g))
   where
     go : (o : Option ℕ) → next_guest q ≡ o → ((g : ℕ) → Timeline (served q g) (draw_moments (served q g) (drawn a (served q g)))) → Timeline q (draw_moments q (drawn (suc a) q))
-    go none e f = rw (drawn-none (suc a) q e) tt
-    go (some g) e f = rw (drawn-more a q g e) (by-draw g e, f g)
+    go None e f = rw (drawn-none (suc a) q e) tt
+    go (Some g) e f = rw (drawn-more a q g e) (by-draw g e, f g)

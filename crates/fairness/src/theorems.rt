@@ -26,7 +26,8 @@ pub fn fairness_over_calls()
 /// A batch leaves the queues as they were.
 #[tactic(auto, using(crate::proofs::BatchLaws::batch_keeps_queues))]
 pub fn batch_keeps_queues()
-    ensures { (e : Engine) (row : Row) (answers : List ℕ) → queues (after_submission e (batch row answers)) ≡ queues e }
+    ensures { (e : Engine) (row : Row) (answers : List ℕ)
+        → queues (after_submission e (batch row answers)) ≡ queues e }
 {}
 
 /// Draws are fair over every list of calls and batches.
@@ -38,7 +39,8 @@ pub fn fairness_with_batches()
 /// What a caller asks adds to no queue but its own.
 #[tactic(auto, using(crate::proofs::GuestLaws::adds_to_no_other))]
 pub fn adds_to_no_other()
-    ensures { (e : Engine) (c : ℕ) (a : Asked) (h : ℕ) → h ≢ c → LeftOf ((queues e).waiting h) ((queues (result_of e (guest c a)).engine).waiting h) }
+    ensures { (e : Engine) (c : ℕ) (a : Asked) (h : ℕ) → h ≢ c → LeftOf ((queues e).waiting h)
+        ((queues (result_of e (guest c a)).engine).waiting h) }
 {}
 
 /// Draws are fair over every list of requests of hosts and guests.

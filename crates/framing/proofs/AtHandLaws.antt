@@ -72,8 +72,8 @@ module _ (h : AtHand) (s : Step) (e : s ≡ step_of h.skipping h.hand) (rest : L
     waits = λ n. cc;
   }
 
-  pub step-unreadable : s.event ≡ Unreadable → Tells h (Some None) (record { hand = rest; skipping = s.skipping })
-  step-unreadable q = record {
+  pub step_unreadable : s.event ≡ Unreadable → Tells h (Some None) (record { hand = rest; skipping = s.skipping })
+  step_unreadable q = record {
     taken = s.next;
     rest = r;
     whole = λ over more. rw (r, e) (step-told over h.skipping h.hand more ∙ rw (ap (λ (z : Step). z.event) (sym e) ∙ q) refl);

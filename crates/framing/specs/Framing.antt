@@ -1,6 +1,7 @@
 -- One step through a stream of which only the first bytes are at hand.
 use Rattle.std.specs.Prelude.{Bool, true, false, if◌then◌else◌, List, [], ◌∷◌, ℕ, ◌+◌, ◌<◌, length, ◌==◌, nat_le, nat_lt, ◌≡◌}
 use Rattle.std.specs.Prelude.{Option, None, Some}
+use Rattle.framing.specs.declared.TheConstants.{LONGEST, LONGEST_ENDED}
 use Rattle.framing.specs.declared.Event.{Event}
 use Rattle.framing.specs.declared.Event.TheVariants.{Nothing, Record, Unreadable}
 use Rattle.framing.specs.declared.Step.{Step}
@@ -26,16 +27,21 @@ passed (x ∷ y ∷ s) = passed (y ∷ s) + 1
 -- a record whose CRLF is n bytes from here
 abbrev pub ended_event : Bool → ℕ → Event
 ended_event true n = Nothing
-ended_event false n = if nat_le n 1022 then Record else Unreadable
+ended_event false n = if nat_le n LONGEST then Record else Unreadable
 
 abbrev pub ended_step : Bool → ℕ → Step
-ended_step skipping n = record { event = ended_event skipping n; length = n; next = n + 2; skipping = false }
+ended_step skipping n = record {
+  event = ended_event skipping n;
+  length = n;
+  next = n + 2;
+  skipping = false;
+}
 
 -- no CRLF at hand: a record that is too long is answered at once, for another more bytes are wanted
 abbrev pub open_step : Bool → List ℕ → Step
 open_step true s = record { event = Nothing; length = 0; next = passed s; skipping = true }
 open_step false s =
-    if nat_lt (length s) 1024
+    if nat_lt (length s) LONGEST_ENDED
     then record { event = Nothing; length = 0; next = 0; skipping = false }
     else record { event = Unreadable; length = 0; next = passed s; skipping = true }
 
@@ -53,5 +59,5 @@ is_begun false (x ∷ s) = true
 
 -- a step that stays where it is waits for more bytes: those at hand are few, and have no CRLF
 pub record Waits (l : List ℕ) : Type 0 where
-  pub few : length l < 1024
+  pub few : length l < LONGEST_ENDED
   pub open_ended : has_end l ≡ false

@@ -1,6 +1,7 @@
 -- Records in a stream of bytes: each runs to the next CRLF or to the end of input.
 use Rattle.std.specs.Prelude.{Bool, true, false, if◌then◌else◌, ◌&&◌, ◌||◌, List, [], ◌∷◌, map, ℕ, length, ◌==◌, nat_le}
 use Rattle.std.specs.Prelude.{Option, None, Some}
+use Rattle.framing.specs.declared.TheConstants.{LONGEST, LONGEST_ENDED}
 
 -- a record's bytes without its CRLF, and whether it has one
 pub record StreamRecord : Type 0 where
@@ -26,7 +27,7 @@ records_of (x ∷ y ∷ s) =
 
 -- the bytes of a record that has its CRLF and is at most 1,024 bytes with it; none is an unreadable record
 unfoldable pub fitting : StreamRecord → Option (List ℕ)
-fitting r = if r.ended && nat_le (length r.bytes) 1022 then Some r.bytes else None
+fitting r = if r.ended && nat_le (length r.bytes) LONGEST then Some r.bytes else None
 
 -- what a stream asks to be read, record by record
 unfoldable pub readables : List ℕ → List (Option (List ℕ))
@@ -34,7 +35,7 @@ readables s = map fitting (records_of s)
 
 -- a record is to be answered once it has ended or is too long, and any is where the input is over
 abbrev pub is_due : Bool → StreamRecord → Bool
-is_due over r = r.ended || (nat_le 1024 (length r.bytes) || over)
+is_due over r = r.ended || (nat_le LONGEST_ENDED (length r.bytes) || over)
 
 -- those of these records that are to be answered
 unfoldable pub due_of : Bool → List StreamRecord → List (Option (List ℕ))

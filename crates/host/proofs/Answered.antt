@@ -8,7 +8,7 @@ use Rattle.words.specs.States.{state_reads}
 use Rattle.engine.specs.Calls.{Call, port}
 use Rattle.hosting.specs.Calls.{plain, Done, use_of, unread, serves, engine_for, refused, answered, result_of}
 use Rattle.hosting.proofs.RefusalLaws.{refused-same}
-use Rattle.hosting.proofs.PortLaws.{done-early, done-unread-port}
+use Rattle.hosting.proofs.PortLaws.{done_early, done-unread-port}
 
 module _ (w t o : List ℕ) (b : Bool) where
   pub result_read : (c : Call) → (serves w t o (use_of c) && b) ≡ true → result_of w t o b c ≡ answered w t o (engine_for w t o (use_of c)) c
@@ -23,8 +23,8 @@ module _ (w t o : List ℕ) (b : Bool) where
   pub port_early : (x : PortCall) → 0 < refusal (early_checks x) → result_of w t o b (port x) ≡ refused w t o (refusal (early_checks x))
   port_early x h =
       let n = refusal (early_checks x) in
-      let d : Done plain (result_of w t o b (port x)) n w t o = done-early w t o b x refl (λ z. omega arith) refl in
-      refused-same w t o b (port x) (λ z. omega (arith, d.its-answer)) ∙ rw (sym d.its-answer) refl
+      let d : Done plain (result_of w t o b (port x)) n w t o = done_early w t o b x refl (λ z. omega arith) refl in
+      refused-same w t o b (port x) (λ z. omega (arith, d.its_answer)) ∙ rw (sym d.its_answer) refl
 
   all_numbered : (x : PortCall) → numbered (early_checks x) ≡ true
   unfolding numbered
@@ -34,4 +34,4 @@ module _ (w t o : List ℕ) (b : Bool) where
   pub port_unread : (x : PortCall) → refusal (early_checks x) ≡ 0 → state_reads w ≡ false → result_of w t o b (port x) ≡ refused w t o 1
   port_unread x z h =
       let d : Done plain (result_of w t o b (port x)) 1 w t o = done-unread-port w t o b x refl (all_numbered x) z h refl in
-      refused-same w t o b (port x) (λ k. omega (arith, d.its-answer)) ∙ rw (sym d.its-answer) refl
+      refused-same w t o b (port x) (λ k. omega (arith, d.its_answer)) ∙ rw (sym d.its_answer) refl

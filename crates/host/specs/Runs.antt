@@ -34,11 +34,16 @@ newest (e ∷ es) l = newest es (record { who = e.who; call = told e.call } ∷ 
 abbrev pub NeverFork : Hosts → List Words → Type 0
 NeverFork X l =
     (i j : ℕ) (d : Words) → i < length l → j < length l → X.correct i ≡ true → X.correct j ≡ true
-    → Prefix (engine_of (words_of (slice_index_or l i d))) (engine_of (words_of (slice_index_or l j d))) ⊎ Prefix (engine_of (words_of (slice_index_or l j d))) (engine_of (words_of (slice_index_or l i d)))
+    → Prefix (engine_of (words_of (slice_index_or l i d)))
+    (engine_of (words_of (slice_index_or l j d)))
+    ⊎ Prefix (engine_of (words_of (slice_index_or l j d)))
+    (engine_of (words_of (slice_index_or l i d)))
 
 -- in the committee of every round that both know, every member has the same weight
 abbrev pub SameCommittees : Hosts → List Words → Type 0
 SameCommittees X l =
     (i j r : ℕ) (d : Words) → i < length l → j < length l → X.correct i ≡ true → X.correct j ≡ true
-    → Knows (engine_of (words_of (slice_index_or l i d))) r → Knows (engine_of (words_of (slice_index_or l j d))) r
-    → (m : ℕ) → weights (engine_of (words_of (slice_index_or l i d))) r m ≡ weights (engine_of (words_of (slice_index_or l j d))) r m
+    → Knows (engine_of (words_of (slice_index_or l i d))) r
+    → Knows (engine_of (words_of (slice_index_or l j d))) r
+    → (m : ℕ) → weights (engine_of (words_of (slice_index_or l i d))) r m
+    ≡ weights (engine_of (words_of (slice_index_or l j d))) r m

@@ -17,7 +17,8 @@ pub extern "C" fn forgelilac_batch(
     row: &[CertificateRecord],
     answers: &mut [u32],
 ) -> u32
-    ensures { Done plain (batch_result state.now table.old row.now answers.old) result state.now table.new answers.new }
+    ensures { Done plain (batch_result state.now table.old row.now answers.old) result state.now
+        table.new answers.new }
 {
     let start = batching::begin(state, table, row.len(), answers.len());
     let mut progress = start.progress;
@@ -35,7 +36,9 @@ pub extern "C" fn forgelilac_guest_batch(
     row: &[CertificateRecord],
     answers: &mut [u32],
 ) -> u32
-    ensures { Done plain (as_guest state.now table.old answers.old caller batch_needs (batch_result state.now table.old row.now answers.old)) result state.now table.new answers.new }
+    ensures { Done plain (as_guest state.now table.old answers.old caller batch_needs
+        (batch_result state.now table.old row.now answers.old)) result state.now
+        table.new answers.new }
 {
     match guesting::check(state, Right::Sign, caller) {
         Ok(()) => forgelilac_batch(state, table, row, answers),

@@ -18,7 +18,9 @@ pub extern "C" fn forgelilac_block_rows(
     number: u32,
     list: &mut [u32],
 ) -> u64
-    ensures { Done packed (comes_to state.now table.now (aside (blocks known number (length list.old)) list.old)) result state.now table.now list.new }
+    ensures { Done packed
+        (comes_to state.now table.now (aside (blocks known number (length list.old)) list.old))
+        result state.now table.now list.new }
 {
     hosting::packed(blocks(state, table, known, number, list))
 }
@@ -31,7 +33,9 @@ fn blocks(
     number: u32,
     list: &mut [u32],
 ) -> Result<u32, Refusal>
-    ensures { Done packed (comes_to state.now table.now (aside (blocks known number (length list.old)) list.old)) (packed_in result) state.now table.now list.new }
+    ensures { Done packed
+        (comes_to state.now table.now (aside (blocks known number (length list.old)) list.old))
+        (packed_in result) state.now table.now list.new }
 {
     let Some(s) = words::states::state(state) else {
         return Err(Refusal::Malformed);

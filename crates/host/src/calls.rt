@@ -20,7 +20,8 @@ pub extern "C" fn forgelilac_open(
     sheet: &[u32],
     rights: u32,
 ) -> u32
-    ensures { Done plain (comes_to state.old table.old (opens own sheet.now rights)) result state.new table.new [] }
+    ensures { Done plain (comes_to state.old table.old (opens own sheet.now rights)) result
+        state.new table.new [] }
 {
     hosting::plain(open(state, table, own, sheet, rights))
 }
@@ -33,7 +34,8 @@ fn open(
     sheet: &[u32],
     rights: u32,
 ) -> Result<(), Refusal>
-    ensures { Done plain (comes_to state.old table.old (opens own sheet.now rights)) (refusal_in result) state.new table.new [] }
+    ensures { Done plain (comes_to state.old table.old (opens own sheet.now rights))
+        (refusal_in result) state.new table.new [] }
 {
     if state.len() < STATE {
         return Err(Refusal::Malformed);
@@ -50,14 +52,16 @@ fn open(
 /// Proposes a body of 14 words for the member's own place of the present round. Accepted: the proposal is kept in the state's words; the table is only read. Answers 0, or the number that refuses: 1, 6, 7, 10, 8, 9, 11, 12. docs/RULES.md, "Propose".
 #[unsafe(no_mangle)]
 pub extern "C" fn forgelilac_propose(state: &mut [u32], table: &[u32], body: &[u32]) -> u32
-    ensures { Done plain (comes_to state.old table.now (propose body.now)) result state.new table.now [] }
+    ensures { Done plain (comes_to state.old table.now (propose body.now)) result
+        state.new table.now [] }
 {
     hosting::plain(propose(state, table, body))
 }
 
 // The call, told as a result.
 fn propose(state: &mut [u32], table: &[u32], body: &[u32]) -> Result<(), Refusal>
-    ensures { Done plain (comes_to state.old table.now (propose body.now)) (refusal_in result) state.new table.now [] }
+    ensures { Done plain (comes_to state.old table.now (propose body.now)) (refusal_in result)
+        state.new table.now [] }
 {
     let Some(mut s) = words::states::state(state) else {
         return Err(Refusal::Malformed);
@@ -73,14 +77,16 @@ fn propose(state: &mut [u32], table: &[u32], body: &[u32]) -> Result<(), Refusal
 /// Endorses a proposal of another member, 16 words. Accepted: its place is marked endorsed in the table; the state is only read. Answers 0, or the number that refuses: 1, 4, 5, 6, 7, 14, 10, 8, 11, 12. docs/RULES.md, "Endorse".
 #[unsafe(no_mangle)]
 pub extern "C" fn forgelilac_endorse(state: &[u32], table: &mut [u32], proposal: &[u32]) -> u32
-    ensures { Done plain (comes_to state.now table.old (endorse proposal.now)) result state.now table.new [] }
+    ensures { Done plain (comes_to state.now table.old (endorse proposal.now)) result
+        state.now table.new [] }
 {
     hosting::plain(endorse(state, table, proposal))
 }
 
 // The call, told as a result.
 fn endorse(state: &[u32], table: &mut [u32], proposal: &[u32]) -> Result<(), Refusal>
-    ensures { Done plain (comes_to state.now table.old (endorse proposal.now)) (refusal_in result) state.now table.new [] }
+    ensures { Done plain (comes_to state.now table.old (endorse proposal.now)) (refusal_in result)
+        state.now table.new [] }
 {
     let s = words::states::state(state).ok_or(Refusal::Malformed)?;
     let p = words::proposals::proposal(proposal).ok_or(Refusal::Malformed)?;
@@ -97,7 +103,8 @@ pub extern "C" fn forgelilac_certify(state: &[u32], table: &mut [u32], endorsers
 
 // The call, told as a result.
 fn certify(state: &[u32], table: &mut [u32], endorsers: u32) -> Result<(), Refusal>
-    ensures { Done plain (comes_to state.now table.old (certify endorsers)) (refusal_in result) state.now table.new [] }
+    ensures { Done plain (comes_to state.now table.old (certify endorsers)) (refusal_in result)
+        state.now table.new [] }
 {
     let s = words::states::state(state).ok_or(Refusal::Malformed)?;
     let Ok(endorsers) = u16::try_from(endorsers) else {
@@ -109,14 +116,16 @@ fn certify(state: &[u32], table: &mut [u32], endorsers: u32) -> Result<(), Refus
 /// Takes a certificate of 17 words. Accepted: it is held in the table with its endorsers, and its endorsed mark cleared; the state is only read. Answers 0, or the number that refuses: 1, 4, 5, 6, 7, 14, 16, 17, 8, 9, 13, 11. docs/RULES.md, "Accept".
 #[unsafe(no_mangle)]
 pub extern "C" fn forgelilac_accept(state: &[u32], table: &mut [u32], certificate: &[u32]) -> u32
-    ensures { Done plain (comes_to state.now table.old (accept certificate.now)) result state.now table.new [] }
+    ensures { Done plain (comes_to state.now table.old (accept certificate.now)) result
+        state.now table.new [] }
 {
     hosting::plain(accept(state, table, certificate))
 }
 
 // The call, told as a result.
 fn accept(state: &[u32], table: &mut [u32], certificate: &[u32]) -> Result<(), Refusal>
-    ensures { Done plain (comes_to state.now table.old (accept certificate.now)) (refusal_in result) state.now table.new [] }
+    ensures { Done plain (comes_to state.now table.old (accept certificate.now)) (refusal_in result)
+        state.now table.new [] }
 {
     let s = words::states::state(state).ok_or(Refusal::Malformed)?;
     let c = words::proposals::certificate(certificate).ok_or(Refusal::Malformed)?;
@@ -133,7 +142,8 @@ pub extern "C" fn forgelilac_advance(state: &mut [u32], table: &[u32]) -> u32
 
 // The call, told as a result.
 fn advance(state: &mut [u32], table: &[u32]) -> Result<(), Refusal>
-    ensures { Done plain (comes_to state.old table.now advance) (refusal_in result) state.new table.now [] }
+    ensures { Done plain (comes_to state.old table.now advance) (refusal_in result)
+        state.new table.now [] }
 {
     let Some(mut s) = words::states::state(state) else {
         return Err(Refusal::Malformed);
@@ -153,7 +163,8 @@ pub extern "C" fn forgelilac_commit(state: &mut [u32], table: &mut [u32]) -> u64
 
 // The call, told as a result.
 fn commit(state: &mut [u32], table: &mut [u32]) -> Result<u32, Refusal>
-    ensures { Done packed (comes_to state.old table.old commit) (packed_in result) state.new table.new [] }
+    ensures { Done packed (comes_to state.old table.old commit) (packed_in result)
+        state.new table.new [] }
 {
     let Some(mut s) = words::states::state(state) else {
         return Err(Refusal::Malformed);

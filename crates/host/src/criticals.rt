@@ -12,14 +12,18 @@ use refusals::Refusal;
 /// Lists the certificates whose absence alone would turn a commit into a refusal, two words each, into `list`, which has room for 32 at least. The table is lent for writing, and is afterwards as it was. The low half of the answer is how many were listed, the high half the number that refuses, 0 for none: 1, 25, 19, 20, 8, 21, 22. docs/RULES.md, "What a commit hangs on".
 #[unsafe(no_mangle)]
 pub extern "C" fn forgelilac_critical(state: &[u32], table: &mut [u32], list: &mut [u32]) -> u64
-    ensures { Done packed (comes_to state.now table.old (aside (critical (length list.old)) list.old)) result state.now table.new list.new }
+    ensures { Done packed
+        (comes_to state.now table.old (aside (critical (length list.old)) list.old)) result
+        state.now table.new list.new }
 {
     hosting::packed(critical(state, table, list))
 }
 
 // The call, told as a result.
 fn critical(state: &[u32], table: &mut [u32], list: &mut [u32]) -> Result<u32, Refusal>
-    ensures { Done packed (comes_to state.now table.old (aside (critical (length list.old)) list.old)) (packed_in result) state.now table.new list.new }
+    ensures { Done packed
+        (comes_to state.now table.old (aside (critical (length list.old)) list.old))
+        (packed_in result) state.now table.new list.new }
 {
     let Some(s) = words::states::state(state) else {
         return Err(Refusal::Malformed);

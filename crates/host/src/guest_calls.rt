@@ -16,7 +16,8 @@ pub extern "C" fn forgelilac_guest_propose(
     table: &[u32],
     body: &[u32],
 ) -> u32
-    ensures { Done plain (comes_to_guest state.old table.now caller (propose body.now)) result state.new table.now [] }
+    ensures { Done plain (comes_to_guest state.old table.now caller (propose body.now)) result
+        state.new table.now [] }
 {
     match guesting::check(state, Right::Propose, caller) {
         Ok(()) => crate::calls::forgelilac_propose(state, table, body),
@@ -32,7 +33,8 @@ pub extern "C" fn forgelilac_guest_draw(
     table: &mut [u32],
     previous: u32,
 ) -> u32
-    ensures { Done plain (comes_to_guest state.old table.old caller (draw previous)) result state.new table.new [] }
+    ensures { Done plain (comes_to_guest state.old table.old caller (draw previous)) result
+        state.new table.new [] }
 {
     match guesting::check(state, Right::Propose, caller) {
         Ok(()) => crate::queue_calls::forgelilac_draw(state, table, previous),
@@ -48,7 +50,8 @@ pub extern "C" fn forgelilac_guest_enqueue(
     table: &mut [u32],
     transaction: &[u32],
 ) -> u32
-    ensures { Done plain (comes_to_guest state.now table.old caller (enqueue transaction.now)) result state.now table.new [] }
+    ensures { Done plain (comes_to_guest state.now table.old caller (enqueue transaction.now))
+        result state.now table.new [] }
 {
     match guesting::check(state, Right::Propose, caller) {
         Ok(()) => crate::queue_calls::forgelilac_enqueue(state, table, caller, transaction),
@@ -64,7 +67,8 @@ pub extern "C" fn forgelilac_guest_endorse(
     table: &mut [u32],
     proposal: &[u32],
 ) -> u32
-    ensures { Done plain (comes_to_guest state.now table.old caller (endorse proposal.now)) result state.now table.new [] }
+    ensures { Done plain (comes_to_guest state.now table.old caller (endorse proposal.now)) result
+        state.now table.new [] }
 {
     match guesting::check(state, Right::Sign, caller) {
         Ok(()) => crate::calls::forgelilac_endorse(state, table, proposal),
@@ -96,7 +100,8 @@ pub extern "C" fn forgelilac_guest_accept(
     table: &mut [u32],
     certificate: &[u32],
 ) -> u32
-    ensures { Done plain (comes_to_guest state.now table.old caller (accept certificate.now)) result state.now table.new [] }
+    ensures { Done plain (comes_to_guest state.now table.old caller (accept certificate.now)) result
+        state.now table.new [] }
 {
     match guesting::check(state, Right::Sign, caller) {
         Ok(()) => crate::calls::forgelilac_accept(state, table, certificate),
@@ -107,7 +112,8 @@ pub extern "C" fn forgelilac_guest_accept(
 /// A guest has the member go on to the next round. It answers 26 for a caller above 7 and 29 for one without the right, and then no word changes. Else it does and answers what `forgelilac_advance` does. Right: drive. docs/RULES.md, "Rights".
 #[unsafe(no_mangle)]
 pub extern "C" fn forgelilac_guest_advance(caller: u32, state: &mut [u32], table: &[u32]) -> u32
-    ensures { Done plain (comes_to_guest state.old table.now caller advance) result state.new table.now [] }
+    ensures { Done plain (comes_to_guest state.old table.now caller advance) result
+        state.new table.now [] }
 {
     match guesting::check(state, Right::Drive, caller) {
         Ok(()) => crate::calls::forgelilac_advance(state, table),
@@ -118,7 +124,8 @@ pub extern "C" fn forgelilac_guest_advance(caller: u32, state: &mut [u32], table
 /// A guest has blocks made. It refuses with 26 a caller above 7 and with 29 one without the right, in the high half of the answer; then no word changes, and the low half is 0. Else it does and answers what `forgelilac_commit` does. Right: drive. docs/RULES.md, "Rights".
 #[unsafe(no_mangle)]
 pub extern "C" fn forgelilac_guest_commit(caller: u32, state: &mut [u32], table: &mut [u32]) -> u64
-    ensures { Done packed (comes_to_guest state.old table.old caller commit) result state.new table.new [] }
+    ensures { Done packed (comes_to_guest state.old table.old caller commit) result
+        state.new table.new [] }
 {
     match guesting::check(state, Right::Drive, caller) {
         Ok(()) => crate::calls::forgelilac_commit(state, table),

@@ -17,7 +17,8 @@ pub extern "C" fn forgelilac_guest_port_read(
     table: &mut [u32],
     offset: u32,
 ) -> u64
-    ensures { Done packed (comes_to_guest state.now table.old caller (access (read offset))) result state.now table.new [] }
+    ensures { Done packed (comes_to_guest state.now table.old caller (access (read offset))) result
+        state.now table.new [] }
 {
     match guesting::check(state, Right::Read, caller) {
         Ok(()) => hosting::packed(crate::port_calls::port_read(state, table, caller, offset)),
@@ -34,7 +35,8 @@ pub extern "C" fn forgelilac_guest_port_write(
     offset: u32,
     value: u8,
 ) -> u32
-    ensures { Done plain (comes_to_guest state.now table.old caller (access (write offset value))) result state.now table.new [] }
+    ensures { Done plain (comes_to_guest state.now table.old caller (access (write offset value)))
+        result state.now table.new [] }
 {
     match guesting::check(state, Right::Read, caller) {
         Ok(()) => hosting::plain(crate::port_calls::port_write(

@@ -18,7 +18,9 @@ pub extern "C" fn forgelilac_guest_committee(
     round: u32,
     out: &mut [u32],
 ) -> u32
-    ensures { Done plain (comes_to_guest state.now table.now caller (aside (committee (record { 0 = round })) out.old)) result state.now table.now out.new }
+    ensures { Done plain (comes_to_guest state.now table.now caller
+        (aside (committee (record { 0 = round })) out.old)) result state.now
+        table.now out.new }
 {
     match guesting::check(state, Right::Read, caller) {
         Ok(()) => crate::views::forgelilac_committee(state, table, round, out),
@@ -54,7 +56,9 @@ pub extern "C" fn forgelilac_guest_bond_effect(
     amount: u32,
     out: &mut [u32],
 ) -> u32
-    ensures { Done plain (comes_to_guest state.now table.now caller (aside (effect (record { 0 = member }) (record { 0 = round }) amount) out.old)) result state.now table.now out.new }
+    ensures { Done plain (comes_to_guest state.now table.now caller
+        (aside (effect (record { 0 = member }) (record { 0 = round }) amount) out.old))
+        result state.now table.now out.new }
 {
     match guesting::check(state, Right::Read, caller) {
         Ok(()) => crate::views::forgelilac_bond_effect(state, table, member, round, amount, out),
@@ -72,7 +76,9 @@ pub extern "C" fn forgelilac_guest_certificate(
     round: u32,
     out: &mut [u32],
 ) -> u32
-    ensures { Done plain (comes_to_guest state.now table.now caller (aside (certificate (record { 0 = author }) (record { 0 = round })) out.old)) result state.now table.now out.new }
+    ensures { Done plain (comes_to_guest state.now table.now caller
+        (aside (certificate (record { 0 = author }) (record { 0 = round })) out.old)) result
+        state.now table.now out.new }
 {
     match guesting::check(state, Right::Read, caller) {
         Ok(()) => crate::views::forgelilac_certificate(state, table, author, round, out),
@@ -88,7 +94,8 @@ pub extern "C" fn forgelilac_guest_block(
     table: &[u32],
     number: u32,
 ) -> u64
-    ensures { Done packed (comes_to_guest state.now table.now caller (aside (block number) [])) result state.now table.now [] }
+    ensures { Done packed (comes_to_guest state.now table.now caller (aside (block number) []))
+        result state.now table.now [] }
 {
     match guesting::check(state, Right::Read, caller) {
         Ok(()) => crate::views::forgelilac_block(state, table, number),
@@ -104,7 +111,8 @@ pub extern "C" fn forgelilac_guest_preview(
     table: &[u32],
     list: &mut [u32],
 ) -> u64
-    ensures { Done packed (comes_to_guest state.now table.now caller (aside (preview (length list.old)) list.old)) result state.now table.now list.new }
+    ensures { Done packed (comes_to_guest state.now table.now caller
+        (aside (preview (length list.old)) list.old)) result state.now table.now list.new }
 {
     match guesting::check(state, Right::Read, caller) {
         Ok(()) => crate::previews::forgelilac_preview(state, table, list),
@@ -120,7 +128,8 @@ pub extern "C" fn forgelilac_guest_critical(
     table: &mut [u32],
     list: &mut [u32],
 ) -> u64
-    ensures { Done packed (comes_to_guest state.now table.old caller (aside (critical (length list.old)) list.old)) result state.now table.new list.new }
+    ensures { Done packed (comes_to_guest state.now table.old caller
+        (aside (critical (length list.old)) list.old)) result state.now table.new list.new }
 {
     match guesting::check(state, Right::Read, caller) {
         Ok(()) => crate::criticals::forgelilac_critical(state, table, list),
@@ -138,7 +147,9 @@ pub extern "C" fn forgelilac_guest_block_rows(
     number: u32,
     list: &mut [u32],
 ) -> u64
-    ensures { Done packed (comes_to_guest state.now table.now caller (aside (blocks known number (length list.old)) list.old)) result state.now table.now list.new }
+    ensures { Done packed (comes_to_guest state.now table.now caller
+        (aside (blocks known number (length list.old)) list.old)) result state.now
+        table.now list.new }
 {
     match guesting::check(state, Right::Read, caller) {
         Ok(()) => crate::block_rows::forgelilac_block_rows(state, table, known, number, list),

@@ -10,8 +10,14 @@ ghost use Rattle.hosting.specs.HostCalls.{comes_to, port};
 use refusals::Refusal;
 
 /// Reads a register of a guest's port, 0 to 7, by its offset 0 to 7. The value is the byte.
-pub fn port_read(state: &[u32], table: &mut [u32], guest: u32, offset: u32) -> Result<u32, Refusal>
-    ensures { Done packed (comes_to state.now table.old (port (access guest (read offset)))) (packed_in result) state.now table.new [] }
+pub(crate) fn port_read(
+    state: &[u32],
+    table: &mut [u32],
+    guest: u32,
+    offset: u32,
+) -> Result<u32, Refusal>
+    ensures { Done packed (comes_to state.now table.old (port (access guest (read offset))))
+        (packed_in result) state.now table.new [] }
 {
     serial::check_access(guest, offset)?;
     let s = words::states::state(state).ok_or(Refusal::Malformed)?;
@@ -19,14 +25,15 @@ pub fn port_read(state: &[u32], table: &mut [u32], guest: u32, offset: u32) -> R
 }
 
 /// Writes a byte to a register of a guest's port, 0 to 7, by its offset 0 to 7.
-pub fn port_write(
+pub(crate) fn port_write(
     state: &[u32],
     table: &mut [u32],
     guest: u32,
     offset: u32,
     value: u8,
 ) -> Result<(), Refusal>
-    ensures { Done plain (comes_to state.now table.old (port (access guest (write offset value)))) (refusal_in result) state.now table.new [] }
+    ensures { Done plain (comes_to state.now table.old (port (access guest (write offset value))))
+        (refusal_in result) state.now table.new [] }
 {
     serial::check_access(guest, offset)?;
     let s = words::states::state(state).ok_or(Refusal::Malformed)?;
@@ -36,14 +43,16 @@ pub fn port_write(
 /// Resets the port of a guest, 0 to 7: its eight words of the table become 0. Only the table changes. Answers 0, or the number that refuses: 26, which comes before everything else, then 1. docs/RULES.md, "Serial ports".
 #[unsafe(no_mangle)]
 pub extern "C" fn forgelilac_port_reset(state: &[u32], table: &mut [u32], guest: u32) -> u32
-    ensures { Done plain (comes_to state.now table.old (port (reset guest))) result state.now table.new [] }
+    ensures { Done plain (comes_to state.now table.old (port (reset guest))) result
+        state.now table.new [] }
 {
     hosting::plain(port_reset(state, table, guest))
 }
 
 // The call, told as a result.
 fn port_reset(state: &[u32], table: &mut [u32], guest: u32) -> Result<(), Refusal>
-    ensures { Done plain (comes_to state.now table.old (port (reset guest))) (refusal_in result) state.now table.new [] }
+    ensures { Done plain (comes_to state.now table.old (port (reset guest))) (refusal_in result)
+        state.now table.new [] }
 {
     serial::check_reset(guest)?;
     let s = words::states::state(state).ok_or(Refusal::Malformed)?;

@@ -87,19 +87,23 @@ pub struct Words {
 }
 
 // A read of the host's own.
-fn read(w: &mut Words, view: View) -> u64
-    ensures words { words_of w.new ≡ after_call (words_of w.old) (told_host (HostCall.Read view)) }
-    ensures answer { result ≡ answer_of_read view (comes_of (words_of w.old) (told_host (HostCall.Read view))) }
+fn read(words: &mut Words, view: View) -> u64
+    ensures words { words_of words.new
+        ≡ after_call (words_of words.old) (told_host (HostCall.Read view)) }
+    ensures answer { result
+        ≡ answer_of_read view (comes_of (words_of words.old) (told_host (HostCall.Read view))) }
 {
     match view {
         View::Committee(round) => {
-            views::forgelilac_committee(&w.state, &w.table, round, &mut [0; 16]) as u64
+            views::forgelilac_committee(&words.state, &words.table, round, &mut [0; 16]) as u64
         }
-        View::Share(member, round) => { views::forgelilac_share(&w.state, &w.table, member, round) }
+        View::Share(member, round) => {
+            views::forgelilac_share(&words.state, &words.table, member, round)
+        }
         View::Effect(member, round, amount) => {
             views::forgelilac_bond_effect(
-                &w.state,
-                &w.table,
+                &words.state,
+                &words.table,
                 member,
                 round,
                 amount,
@@ -107,79 +111,102 @@ fn read(w: &mut Words, view: View) -> u64
             ) as u64
         }
         View::Certificate(author, round) => {
-            views::forgelilac_certificate(&w.state, &w.table, author, round, &mut [0; 18]) as u64
+            views::forgelilac_certificate(
+                &words.state,
+                &words.table,
+                author,
+                round,
+                &mut [0; 18],
+            ) as u64
         }
-        View::Block(number) => { views::forgelilac_block(&w.state, &w.table, number) }
-        View::Preview => { previews::forgelilac_preview(&w.state, &w.table, &mut [0; 192]) }
-        View::Critical => { criticals::forgelilac_critical(&w.state, &mut w.table, &mut [0; 64]) }
+        View::Block(number) => { views::forgelilac_block(&words.state, &words.table, number) }
+        View::Preview => { previews::forgelilac_preview(&words.state, &words.table, &mut [0; 192]) }
+        View::Critical => {
+            criticals::forgelilac_critical(&words.state, &mut words.table, &mut [0; 64])
+        }
         View::BlockRows(known, number) => {
-            block_rows::forgelilac_block_rows(&w.state, &w.table, known, number, &mut [0; 576])
+            block_rows::forgelilac_block_rows(
+                &words.state,
+                &words.table,
+                known,
+                number,
+                &mut [0; 576],
+            )
         }
     }
 }
 
 // A call of the host's own.
-fn make_host(w: &mut Words, call: HostCall) -> u64
-    ensures words { words_of w.new ≡ after_call (words_of w.old) (told_host call.entry) }
-    ensures answer { result ≡ answer_of_host call.entry (comes_of (words_of w.old) (told_host call.entry)) }
+fn make_host(words: &mut Words, call: HostCall) -> u64
+    ensures words { words_of words.new ≡ after_call (words_of words.old) (told_host call.entry) }
+    ensures answer { result
+        ≡ answer_of_host call.entry (comes_of (words_of words.old) (told_host call.entry)) }
 {
     match call {
         HostCall::Open(own, sheet, rights) => {
-            calls::forgelilac_open(&mut w.state, &mut w.table, own, sheet, rights) as u64
+            calls::forgelilac_open(&mut words.state, &mut words.table, own, sheet, rights) as u64
         }
         HostCall::Propose(body) => {
-            calls::forgelilac_propose(&mut w.state, &w.table, body) as u64
+            calls::forgelilac_propose(&mut words.state, &words.table, body) as u64
         }
         HostCall::Endorse(proposal) => {
-            calls::forgelilac_endorse(&w.state, &mut w.table, proposal) as u64
+            calls::forgelilac_endorse(&words.state, &mut words.table, proposal) as u64
         }
         HostCall::Certify(endorsers) => {
-            calls::forgelilac_certify(&w.state, &mut w.table, endorsers) as u64
+            calls::forgelilac_certify(&words.state, &mut words.table, endorsers) as u64
         }
         HostCall::Accept(certificate) => {
-            calls::forgelilac_accept(&w.state, &mut w.table, certificate) as u64
+            calls::forgelilac_accept(&words.state, &mut words.table, certificate) as u64
         }
-        HostCall::Advance => { calls::forgelilac_advance(&mut w.state, &w.table) as u64 }
-        HostCall::Commit => { calls::forgelilac_commit(&mut w.state, &mut w.table) }
+        HostCall::Advance => { calls::forgelilac_advance(&mut words.state, &words.table) as u64 }
+        HostCall::Commit => { calls::forgelilac_commit(&mut words.state, &mut words.table) }
         HostCall::Enqueue(guest, transaction) => {
-            queue_calls::forgelilac_enqueue(&w.state, &mut w.table, guest, transaction) as u64
+            queue_calls::forgelilac_enqueue(
+                &words.state,
+                &mut words.table,
+                guest,
+                transaction,
+            ) as u64
         }
         HostCall::Draw(previous) => {
-            queue_calls::forgelilac_draw(&mut w.state, &mut w.table, previous) as u64
+            queue_calls::forgelilac_draw(&mut words.state, &mut words.table, previous) as u64
         }
         HostCall::PortReset(guest) => {
-            port_calls::forgelilac_port_reset(&w.state, &mut w.table, guest) as u64
+            port_calls::forgelilac_port_reset(&words.state, &mut words.table, guest) as u64
         }
-        HostCall::Read(view) => read(w, view),
+        HostCall::Read(view) => read(words, view),
         HostCall::Batch(row) => {
-            batches::forgelilac_batch(&w.state, &mut w.table, row, &mut [0; 64]) as u64
+            batches::forgelilac_batch(&words.state, &mut words.table, row, &mut [0; 64]) as u64
         }
     }
 }
 
 // A read that a guest makes.
-fn guest_read(w: &mut Words, caller: u32, view: View) -> u64
-    ensures words { words_of w.new ≡ after_call (words_of w.old) (told_guest caller (GuestForm.Read view)) }
-    ensures answer { result ≡ answer_of_read view (comes_of (words_of w.old) (told_guest caller (GuestForm.Read view))) }
+fn guest_read(words: &mut Words, caller: u32, view: View) -> u64
+    ensures words { words_of words.new
+        ≡ after_call (words_of words.old) (told_guest caller (GuestForm.Read view)) }
+    ensures answer { result
+        ≡ answer_of_read view
+        (comes_of (words_of words.old) (told_guest caller (GuestForm.Read view))) }
 {
     match view {
         View::Committee(round) => {
             guest_views::forgelilac_guest_committee(
                 caller,
-                &w.state,
-                &w.table,
+                &words.state,
+                &words.table,
                 round,
                 &mut [0; 16],
             ) as u64
         }
         View::Share(member, round) => {
-            guest_views::forgelilac_guest_share(caller, &w.state, &w.table, member, round)
+            guest_views::forgelilac_guest_share(caller, &words.state, &words.table, member, round)
         }
         View::Effect(member, round, amount) => {
             guest_views::forgelilac_guest_bond_effect(
                 caller,
-                &w.state,
-                &w.table,
+                &words.state,
+                &words.table,
                 member,
                 round,
                 amount,
@@ -189,27 +216,32 @@ fn guest_read(w: &mut Words, caller: u32, view: View) -> u64
         View::Certificate(author, round) => {
             guest_views::forgelilac_guest_certificate(
                 caller,
-                &w.state,
-                &w.table,
+                &words.state,
+                &words.table,
                 author,
                 round,
                 &mut [0; 18],
             ) as u64
         }
         View::Block(number) => {
-            guest_views::forgelilac_guest_block(caller, &w.state, &w.table, number)
+            guest_views::forgelilac_guest_block(caller, &words.state, &words.table, number)
         }
         View::Preview => {
-            guest_views::forgelilac_guest_preview(caller, &w.state, &w.table, &mut [0; 192])
+            guest_views::forgelilac_guest_preview(caller, &words.state, &words.table, &mut [0; 192])
         }
         View::Critical => {
-            guest_views::forgelilac_guest_critical(caller, &w.state, &mut w.table, &mut [0; 64])
+            guest_views::forgelilac_guest_critical(
+                caller,
+                &words.state,
+                &mut words.table,
+                &mut [0; 64],
+            )
         }
         View::BlockRows(known, number) => {
             guest_views::forgelilac_guest_block_rows(
                 caller,
-                &w.state,
-                &w.table,
+                &words.state,
+                &words.table,
                 known,
                 number,
                 &mut [0; 576],
@@ -219,73 +251,110 @@ fn guest_read(w: &mut Words, caller: u32, view: View) -> u64
 }
 
 // A row of certificates that a guest hands in.
-fn guest_batch(w: &mut Words, caller: u32, row: &[CertificateRecord]) -> u64
-    ensures words { words_of w.new ≡ after_call (words_of w.old) (batch_by_guest caller row.now (replicate 64 0)) }
-    ensures answer { result ≡ plain (comes_of (words_of w.old) (batch_by_guest caller row.now (replicate 64 0))) }
+fn guest_batch(words: &mut Words, caller: u32, row: &[CertificateRecord]) -> u64
+    ensures words { words_of words.new
+        ≡ after_call (words_of words.old) (batch_by_guest caller row.now (replicate 64 0)) }
+    ensures answer { result
+        ≡ plain (comes_of (words_of words.old) (batch_by_guest caller row.now (replicate 64 0))) }
 {
-    batches::forgelilac_guest_batch(caller, &w.state, &mut w.table, row, &mut [0; 64]) as u64
+    batches::forgelilac_guest_batch(
+        caller,
+        &words.state,
+        &mut words.table,
+        row,
+        &mut [0; 64],
+    ) as u64
 }
 
 // A guest's call.
-fn make_guest(w: &mut Words, caller: u32, form: GuestForm) -> u64
-    ensures words { words_of w.new ≡ after_call (words_of w.old) (told_guest caller form.entry) }
-    ensures answer { result ≡ answer_of_guest form.entry (comes_of (words_of w.old) (told_guest caller form.entry)) }
+fn make_guest(words: &mut Words, caller: u32, form: GuestForm) -> u64
+    ensures words { words_of words.new
+        ≡ after_call (words_of words.old) (told_guest caller form.entry) }
+    ensures answer { result
+        ≡ answer_of_guest form.entry
+        (comes_of (words_of words.old) (told_guest caller form.entry)) }
 {
     match form {
         GuestForm::Propose(body) => {
-            guest_calls::forgelilac_guest_propose(caller, &mut w.state, &w.table, body) as u64
+            guest_calls::forgelilac_guest_propose(
+                caller,
+                &mut words.state,
+                &words.table,
+                body,
+            ) as u64
         }
         GuestForm::Draw(previous) => {
-            guest_calls::forgelilac_guest_draw(caller, &mut w.state, &mut w.table, previous) as u64
+            guest_calls::forgelilac_guest_draw(
+                caller,
+                &mut words.state,
+                &mut words.table,
+                previous,
+            ) as u64
         }
         GuestForm::Enqueue(transaction) => {
             guest_calls::forgelilac_guest_enqueue(
                 caller,
-                &w.state,
-                &mut w.table,
+                &words.state,
+                &mut words.table,
                 transaction,
             ) as u64
         }
         GuestForm::Endorse(proposal) => {
-            guest_calls::forgelilac_guest_endorse(caller, &w.state, &mut w.table, proposal) as u64
+            guest_calls::forgelilac_guest_endorse(
+                caller,
+                &words.state,
+                &mut words.table,
+                proposal,
+            ) as u64
         }
         GuestForm::Certify(endorsers) => {
-            guest_calls::forgelilac_guest_certify(caller, &w.state, &mut w.table, endorsers) as u64
+            guest_calls::forgelilac_guest_certify(
+                caller,
+                &words.state,
+                &mut words.table,
+                endorsers,
+            ) as u64
         }
         GuestForm::Accept(certificate) => {
-            guest_calls::forgelilac_guest_accept(caller, &w.state, &mut w.table, certificate) as u64
+            guest_calls::forgelilac_guest_accept(
+                caller,
+                &words.state,
+                &mut words.table,
+                certificate,
+            ) as u64
         }
         GuestForm::Advance => {
-            guest_calls::forgelilac_guest_advance(caller, &mut w.state, &w.table) as u64
+            guest_calls::forgelilac_guest_advance(caller, &mut words.state, &words.table) as u64
         }
         GuestForm::Commit => {
-            guest_calls::forgelilac_guest_commit(caller, &mut w.state, &mut w.table)
+            guest_calls::forgelilac_guest_commit(caller, &mut words.state, &mut words.table)
         }
         GuestForm::PortRead(offset) => {
-            guest_ports::forgelilac_guest_port_read(caller, &w.state, &mut w.table, offset)
+            guest_ports::forgelilac_guest_port_read(caller, &words.state, &mut words.table, offset)
         }
         GuestForm::PortWrite(offset, value) => {
             guest_ports::forgelilac_guest_port_write(
                 caller,
-                &w.state,
-                &mut w.table,
+                &words.state,
+                &mut words.table,
                 offset,
                 value,
             ) as u64
         }
-        GuestForm::Read(view) => guest_read(w, caller, view),
-        GuestForm::Batch(row) => guest_batch(w, caller, row),
+        GuestForm::Read(view) => guest_read(words, caller, view),
+        GuestForm::Batch(row) => guest_batch(words, caller, row),
     }
 }
 
 /// Makes a call of the library on a member's words, and gives the library's answer.
-pub fn make(w: &mut Words, call: LibraryCall) -> u64
-    ensures words { words_of w.new ≡ after_call (words_of w.old) (told call.entry) }
-    ensures answer { result ≡ answer_of call.entry (comes_of (words_of w.old) (told call.entry)) }
+pub fn make(words: &mut Words, call: LibraryCall) -> u64
+    ensures words { words_of words.new ≡ after_call (words_of words.old) (told call.entry) }
+    ensures answer { result
+        ≡ answer_of call.entry (comes_of (words_of words.old) (told call.entry)) }
 {
     match call {
-        LibraryCall::Host(x) => make_host(w, x),
-        LibraryCall::Guest(caller, form) => make_guest(w, caller, form),
+        LibraryCall::Host(x) => make_host(words, x),
+        LibraryCall::Guest(caller, form) => make_guest(words, caller, form),
     }
 }
 
@@ -293,9 +362,14 @@ pub fn make(w: &mut Words, call: LibraryCall) -> u64
 /// Where the words are those that the members' accepted opens left, and the calls that they count as are a run: of the chains that two correct members' words tell one is a prefix of the other, and in the committee of every round that both know every member has the same weight.
 pub fn run(hosts: &mut [Words], entries: &[Entry])
     requires { All (λ e. e.who < length hosts.old) entries.now }
-    ensures run { (at : ℕ → library.Words) → Stand hosts.old at → Stand hosts.new (after_run at entries.now) }
-    ensures chains { (X : Hosts) → Stand hosts.old (words_after X []) → AllTyped (newest entries.now []) → Run (members X) (calls_in X (newest entries.now [])) → NeverFork X hosts.new }
-    ensures committees { (X : Hosts) → Stand hosts.old (words_after X []) → AllTyped (newest entries.now []) → Run (members X) (calls_in X (newest entries.now [])) → SameCommittees X hosts.new }
+    ensures run { (at : ℕ → library.Words) → Stand hosts.old at
+        → Stand hosts.new (after_run at entries.now) }
+    ensures chains { (X : Hosts) → Stand hosts.old (words_after X [])
+        → AllTyped (newest entries.now []) → Run (members X) (calls_in X (newest entries.now []))
+        → NeverFork X hosts.new }
+    ensures committees { (X : Hosts) → Stand hosts.old (words_after X [])
+        → AllTyped (newest entries.now []) → Run (members X) (calls_in X (newest entries.now []))
+        → SameCommittees X hosts.new }
 {
     for entry in entries {
         let _ = make(&mut hosts[entry.who], entry.call);

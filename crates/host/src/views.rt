@@ -10,7 +10,7 @@ ghost use Rattle.hosting.specs.HostCalls.{comes_to, aside};
 
 use reads::{bonding, standing};
 use refusals::Refusal;
-use store::lengths::ROW;
+use store::places;
 use terms::{Member, Round};
 use words::bodies::lengths::{COMMITTEE, EFFECT, HELD};
 
@@ -22,14 +22,18 @@ pub extern "C" fn forgelilac_committee(
     round: u32,
     out: &mut [u32],
 ) -> u32
-    ensures { Done plain (comes_to state.now table.now (aside (committee (record { 0 = round })) out.old)) result state.now table.now out.new }
+    ensures { Done plain
+        (comes_to state.now table.now (aside (committee (record { 0 = round })) out.old)) result
+        state.now table.now out.new }
 {
     hosting::plain(committee(state, table, round, out))
 }
 
 // The call, told as a result.
 fn committee(state: &[u32], table: &[u32], round: u32, out: &mut [u32]) -> Result<(), Refusal>
-    ensures { Done plain (comes_to state.now table.now (aside (committee (record { 0 = round })) out.old)) (refusal_in result) state.now table.now out.new }
+    ensures { Done plain
+        (comes_to state.now table.now (aside (committee (record { 0 = round })) out.old))
+        (refusal_in result) state.now table.now out.new }
 {
     let Some(s) = words::states::state(state) else {
         return Err(Refusal::Malformed);
@@ -52,7 +56,10 @@ pub extern "C" fn forgelilac_share(state: &[u32], table: &[u32], member: u32, ro
 
 // The call, told as a result.
 fn share(state: &[u32], table: &[u32], member: u32, round: u32) -> Result<u32, Refusal>
-    ensures { Done packed (comes_to state.now table.now (aside (share (record { 0 = member }) (record { 0 = round })) [])) (packed_in result) state.now table.now [] }
+    ensures { Done packed
+        (comes_to state.now table.now
+        (aside (share (record { 0 = member }) (record { 0 = round })) []))
+        (packed_in result) state.now table.now [] }
 {
     let s = words::states::state(state).ok_or(Refusal::Malformed)?;
     standing::share(&s, table, Member(member), Round(round))
@@ -68,7 +75,10 @@ pub extern "C" fn forgelilac_bond_effect(
     amount: u32,
     out: &mut [u32],
 ) -> u32
-    ensures { Done plain (comes_to state.now table.now (aside (effect (record { 0 = member }) (record { 0 = round }) amount) out.old)) result state.now table.now out.new }
+    ensures { Done plain
+        (comes_to state.now table.now
+        (aside (effect (record { 0 = member }) (record { 0 = round }) amount) out.old))
+        result state.now table.now out.new }
 {
     hosting::plain(bond_effect(state, table, member, round, amount, out))
 }
@@ -82,7 +92,10 @@ fn bond_effect(
     amount: u32,
     out: &mut [u32],
 ) -> Result<(), Refusal>
-    ensures { Done plain (comes_to state.now table.now (aside (effect (record { 0 = member }) (record { 0 = round }) amount) out.old)) (refusal_in result) state.now table.now out.new }
+    ensures { Done plain
+        (comes_to state.now table.now
+        (aside (effect (record { 0 = member }) (record { 0 = round }) amount) out.old))
+        (refusal_in result) state.now table.now out.new }
 {
     let Some(s) = words::states::state(state) else {
         return Err(Refusal::Malformed);
@@ -104,7 +117,10 @@ pub extern "C" fn forgelilac_certificate(
     round: u32,
     out: &mut [u32],
 ) -> u32
-    ensures { Done plain (comes_to state.now table.now (aside (certificate (record { 0 = author }) (record { 0 = round })) out.old)) result state.now table.now out.new }
+    ensures { Done plain
+        (comes_to state.now table.now
+        (aside (certificate (record { 0 = author }) (record { 0 = round })) out.old)) result
+        state.now table.now out.new }
 {
     hosting::plain(certificate(state, table, author, round, out))
 }
@@ -117,7 +133,10 @@ fn certificate(
     round: u32,
     out: &mut [u32],
 ) -> Result<(), Refusal>
-    ensures { Done plain (comes_to state.now table.now (aside (certificate (record { 0 = author }) (record { 0 = round })) out.old)) (refusal_in result) state.now table.now out.new }
+    ensures { Done plain
+        (comes_to state.now table.now
+        (aside (certificate (record { 0 = author }) (record { 0 = round })) out.old))
+        (refusal_in result) state.now table.now out.new }
 {
     let Some(s) = words::states::state(state) else {
         return Err(Refusal::Malformed);
@@ -133,14 +152,16 @@ fn certificate(
 /// Gives the round of a block by its number, from 1 on. State and table are only read. The low half of the answer is the round, the high half the number that refuses, 0 for none: 1, 23. docs/RULES.md, "Reads".
 #[unsafe(no_mangle)]
 pub extern "C" fn forgelilac_block(state: &[u32], table: &[u32], number: u32) -> u64
-    ensures { Done packed (comes_to state.now table.now (aside (block number) [])) result state.now table.now [] }
+    ensures { Done packed (comes_to state.now table.now (aside (block number) [])) result
+        state.now table.now [] }
 {
     hosting::packed(block(state, table, number))
 }
 
 // The call, told as a result.
 fn block(state: &[u32], table: &[u32], number: u32) -> Result<u32, Refusal>
-    ensures { Done packed (comes_to state.now table.now (aside (block number) [])) (packed_in result) state.now table.now [] }
+    ensures { Done packed (comes_to state.now table.now (aside (block number) []))
+        (packed_in result) state.now table.now [] }
 {
     let s = words::states::state(state).ok_or(Refusal::Malformed)?;
     let round = reads::block(&s, table, number)?;
@@ -152,5 +173,5 @@ fn block(state: &[u32], table: &[u32], number: u32) -> Result<u32, Refusal>
 pub extern "C" fn forgelilac_table_words(ceiling: u32) -> u64
     ensures { result ≡ used_length ceiling }
 {
-    ceiling as u64 * ROW as u64 + ROW as u64
+    places::used_length(Round(ceiling)) as u64
 }

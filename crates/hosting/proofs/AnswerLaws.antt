@@ -5,7 +5,7 @@ use Rattle.terms.specs.Ranges.{weight_in}
 use Rattle.terms.specs.declared.sheet.Weight.{Weight}
 use Rattle.committee.specs.Committees.{committee_of}
 use Rattle.committee.specs.Chain.{chain_of}
-use Rattle.running.proofs.TotalBound.{committee-total}
+use Rattle.chain_committees.proofs.TotalBound.{committee-total}
 use Rattle.rules.specs.Reads.{committee_read}
 use Rattle.state.specs.declared.State.{State}
 use Rattle.state.specs.View.{view}

@@ -4,7 +4,7 @@ use Rattle.base.proofs.Bools.{both}
 use Rattle.engine.specs.Calls.{Call}
 use Rattle.engine.specs.Engine.{Engine, refusal_for, after}
 use Rattle.engine.specs.Values.{value_of}
-use Rattle.serial.proofs.PassedLaws.{early-some}
+use Rattle.serial.proofs.PassedLaws.{early_some}
 use Rattle.hosting.specs.Calls.{Result, Done, Use, writes, rewrites, accesses, reads, use_of, unread, serves, engine_for, state_over, out_over, refused, answered, result_of}
 
 pub both_read : {a : Bool} {b : Bool} → a ≡ true → b ≡ true → (a && b) ≡ true
@@ -18,7 +18,7 @@ no_out e = both_read e (le-leb 0 (length {A = ℕ} []) (omega arith))
 unread-some : (u : Use) → unread u ≢ 0
 unread-some writes z = absurd (omega arith)
 unread-some rewrites z = absurd (omega arith)
-unread-some (accesses x) z = early-some x z
+unread-some (accesses x) z = early_some x z
 unread-some (reads n) z = absurd (omega arith)
 
 module _ (w t o : List ℕ) where
@@ -29,9 +29,9 @@ module _ (w t o : List ℕ) where
     -- ---- what cannot be read, and what can
 
     module _ {answer : Result → ℕ} {r : ℕ} where
-      pub done-unserved : serves w t o (use_of c) ≡ false → r ≡ answer (refused w t o (unread (use_of c))) → Done answer (result_of w t o b c) r w t o
+      pub done_unserved : serves w t o (use_of c) ≡ false → r ≡ answer (refused w t o (unread (use_of c))) → Done answer (result_of w t o b c) r w t o
       unfolding result_of
-      done-unserved e h = rw e (record { its-answer = h; its-state = refl; its-table = refl; its_out = refl })
+      done_unserved e h = rw e (record { its_answer = h; its_state = refl; its_table = refl; its_out = refl })
 
       pub done-read : {s : List ℕ} {u : List ℕ} {z : List ℕ} → serves w t o (use_of c) ≡ true → b ≡ true → Done answer (answered w t o engine c) r s u z → Done answer (result_of w t o b c) r s u z
       unfolding result_of
@@ -57,8 +57,8 @@ pub record AcceptedCall (w t o : List ℕ) (b : Bool) (c : Call) : Type 0 where
   pub serving : serves w t o (use_of c) ≡ true
   pub read : b ≡ true
   pub accepted : refusal_for (engine_for w t o (use_of c)) c ≡ 0
-  pub its-state : (result_of w t o b c).state ≡ state_over w t o (use_of c) (after (engine_for w t o (use_of c)) c).state
-  pub its-table : (result_of w t o b c).table ≡ (after (engine_for w t o (use_of c)) c).table
+  pub its_state : (result_of w t o b c).state ≡ state_over w t o (use_of c) (after (engine_for w t o (use_of c)) c).state
+  pub its_table : (result_of w t o b c).table ≡ (after (engine_for w t o (use_of c)) c).table
   pub its_out : (result_of w t o b c).out ≡ out_over w t o (value_of (engine_for w t o (use_of c)) c)
 
 pub accepted-call : (w t o : List ℕ) (b : Bool) (c : Call) → (result_of w t o b c).refusal ≡ 0 → AcceptedCall w t o b c
@@ -71,7 +71,7 @@ accepted-call w t o b c h =
       serving = p.0;
       read = p.1;
       accepted = a;
-      its-state = ap (λ (x : Result). x.state) q ∙ rw (eq-eqb (refusal_for e c) 0 a) refl;
-      its-table = ap (λ (x : Result). x.table) q;
+      its_state = ap (λ (x : Result). x.state) q ∙ rw (eq-eqb (refusal_for e c) 0 a) refl;
+      its_table = ap (λ (x : Result). x.table) q;
       its_out = ap (λ (x : Result). x.out) q;
     }

@@ -10,4 +10,4 @@ use Rattle.hosting.proofs.NextLaws.{well-left, accepted-gives}
 
 -- every accepted call
 pub accepted-formed : (w t o : List ℕ) {b : Bool} {c : Call} → Handed b c → (result_of w t o b c).refusal ≡ 0 → well_formed (state_in (result_of w t o b c).state) (result_of w t o b c).table ≡ true
-accepted-formed w t o {b} {c} h z = let a = accepted-call w t o b c z in rw ((accepted-gives w t o h z).gives, a.its-table) (well-left w t o h a).formed
+accepted-formed w t o {b} {c} h z = let a = accepted-call w t o b c z in rw ((accepted-gives w t o h z).gives, a.its_table) (well-left w t o h a).formed

@@ -8,14 +8,14 @@ use Rattle.words.specs.Proposals.{proposal_reads, proposal_in, certificate_reads
 use Rattle.terms.specs.declared.sheet.Rights.{Rights}
 use Rattle.words.specs.Sheets.{sheet_reads, sheet_in}
 use Rattle.hosting.specs.Handed.{Handed}
-use Rattle.words.proofs.ReadingLaws.{lone_body-read, proposal-read, certificate-read}
+use Rattle.words.proofs.ReadingLaws.{lone_body_read, proposal-read, certificate-read}
 use Rattle.words.proofs.TidyLaws.{body-tidy}
 
 pub open_handed : (own : Member) (sheet : List ℕ) (R : Rights) → Handed (sheet_reads sheet) (opens own (sheet_in sheet R))
 open_handed own sheet R = record { is_in_range = λ r. tt; tidy = λ x q. cc }
 
 pub propose-handed : (b : List ℕ) → Handed (lone_body_reads b) (propose (body_in b 0))
-propose-handed b = record { is_in_range = lone_body-read b; tidy = λ x q. cc (body-tidy b 0) }
+propose-handed b = record { is_in_range = lone_body_read b; tidy = λ x q. cc (body-tidy b 0) }
 
 pub endorse-handed : (p : List ℕ) → Handed (proposal_reads p) (endorse (proposal_in p))
 endorse-handed p = record { is_in_range = proposal-read p; tidy = λ x q. cc }

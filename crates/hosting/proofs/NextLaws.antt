@@ -83,4 +83,4 @@ module _ (w t o : List ℕ) where
   accepted-gives {b} {c} h z =
       let a = accepted-call w t o b c z in
       let e = engine_for w t o (use_of c) in
-      rw a.its-state (over-gives (use_of c) (after e c).state a.serving (well-left h a).set_in_range (rw (accepted-new e c a.accepted) (left c h.tidy)))
+      rw a.its_state (over-gives (use_of c) (after e c).state a.serving (well-left h a).set_in_range (rw (accepted-new e c a.accepted) (left c h.tidy)))

@@ -62,7 +62,7 @@ module _ (w t o : List ℕ) (b : Bool) (c : Call) where
 
   module _ {answer : hosting.Result → ℕ} {r : ℕ} {u : List ℕ} (k : serves w t o (use_of c) ≡ true) (f : b ≡ true) (q : out_over w t o (accepted_value engine c) ≡ o) (h : r ≡ answer (answered w t o engine c)) (j : u ≡ (after engine c).table) where
     done-still : {s : List ℕ} → s ≡ (answered w t o engine c).state → Done answer (result_of w t o b c) r s u o
-    done-still i = done-read w t o b c k f (record { its-answer = h; its-state = i; its-table = j; its_out = sym (out-still q) })
+    done-still i = done-read w t o b c k f (record { its_answer = h; its_state = i; its_table = j; its_out = sym (out-still q) })
 
     -- of a call that does not write the state's words
     pub done-kept : ((s : State) → state_over w t o (use_of c) s ≡ w) → Done answer (result_of w t o b c) r w u o
@@ -115,10 +115,10 @@ module _ (w t : List ℕ) (b : Bool) (c : Call) (k : use_of c ≡ rewrites) (e :
   rewritten r s g i j h = rewritten-by r s g i j h g
 
 -- a call that writes them without reading them
-pub freshly-written : (w t : List ℕ) (b : Bool) (c : Call) (r : Result Unit Refusal) {u v : List ℕ} (s : State) → use_of c ≡ writes → state_length ≤ length w → b ≡ true
+pub freshly_written : (w t : List ℕ) (b : Bool) (c : Call) (r : Result Unit Refusal) {u v : List ℕ} (s : State) → use_of c ≡ writes → state_length ≤ length w → b ≡ true
     → let e = engine_for w t [] writes in out_over w t [] (accepted_value e c) ≡ [] → refusal_in r ≡ refusal_for e c → s ≡ (after e c).state → v ≡ (after e c).table
     → u ≡ over r w (state_words s) state_length → Done plain (result_of w t [] b c) (refusal_in r) u v []
-freshly-written w t b c r s k l f q g i j h =
+freshly_written w t b c r s k l f q g i j h =
     let e = engine_for w t [] writes in
     done-still w t [] b c (rw k (le-leb state_length (length w) l)) f (rw k q) (rw k g) (rw k j)
     (h ∙ over_by (refusal_for e c) r w (state_words s) state_length g ∙ rw (k, i) refl)
@@ -147,7 +147,7 @@ unfolding value_of
 shown w t o x {A} r new {u} e h g i q =
     let m = refusal_for (engine_in w t) (aside x) in
     done-read w t o true (aside x) (both_read e (le-leb (room_for x) (length o) h)) refl
-    (record { its-answer = g; its-state = sym (cond_same (eqb m 0) w); its-table = refl; its_out = i ∙ words r g q })
+    (record { its_answer = g; its_state = sym (cond_same (eqb m 0) w); its_table = refl; its_out = i ∙ words r g q })
   where
     words : (y : Result A Refusal) → refusal_in y ≡ refusal_for (engine_in w t) (aside x) → IfOk y (λ z. out_over w t o (aside_value (engine_in w t) x) ≡ paste o 0 new (room_for x)) → over y o new (room_for x) ≡ out_over w t o (value_of (engine_in w t) (aside x))
     words (Ok v) z k = rw (eq-eqb (refusal_for (engine_in w t) (aside x)) 0 (sym z)) (sym k)
@@ -161,7 +161,7 @@ unfolding value_of if_accepted
 listed w t o x r k e g i j l =
     let m = refusal_for (engine_in w t) (aside x) in
     done-read w t o true (aside x) (both_read e (le-leb (room_for x) (length o) (omega (arith, k)))) refl
-    (record { its-answer = packed-by (engine_in w t) (aside x) r g i; its-state = sym (cond_same (eqb m 0) w); its-table = j; its_out = l ∙ words })
+    (record { its_answer = packed-by (engine_in w t) (aside x) r g i; its_state = sym (cond_same (eqb m 0) w); its_table = j; its_out = l ∙ words })
   where
     words : if_accepted (refusal_for (engine_in w t) (aside x)) (out_over w t o (aside_value (engine_in w t) x)) o ≡ out_over w t o (value_of (engine_in w t) (aside x))
     words = go (eqb (refusal_for (engine_in w t) (aside x)) 0)
@@ -178,7 +178,7 @@ module _ (w t : List ℕ) (x : PortCall) (e : state_reads w ≡ true) (q : out_o
 -- ---- what fits a word each
 
 pub narrow : (S : Settings) → SettingsFit S → Narrow S.weights
-narrow S f i h = let k = f.weight-to i h in omega arith
+narrow S f i h = let k = f.weight_to i h in omega arith
 
 -- the weights of the state that an accepted call leaves
 pub narrow-left : (e : Engine) → SetInRange e → (c : Call) → InRange c → {s : State} → refusal_for e c ≡ 0 → s ≡ (after e c).state → Narrow s.settings.weights

@@ -36,9 +36,9 @@ packed x = x.value + x.refusal * 4294967296
 
 -- the answer r, and the stretches as they are afterwards, are those of a result
 pub record Done (answer : Result → ℕ) (x : Result) (r : ℕ) (state table out : List ℕ) : Type 0 where
-  pub its-answer : r ≡ answer x
-  pub its-state : state ≡ x.state
-  pub its-table : table ≡ x.table
+  pub its_answer : r ≡ answer x
+  pub its_state : state ≡ x.state
+  pub its_table : table ≡ x.table
   pub its_out : out ≡ x.out
 
 -- ---- what a call does with the words that are lent

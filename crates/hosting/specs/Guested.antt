@@ -7,12 +7,13 @@ use Rattle.terms.specs.declared.rights.Right.{Right}
 use Rattle.terms.specs.Rights.{caller_refusal}
 use Rattle.engine.specs.Calls.{Call, opens}
 use Rattle.engine.specs.Guests.{GuestCall, needs, as_host}
+use Rattle.words.specs.declared.places.TheConstants.{STATE_RIGHTS}
 use Rattle.words.specs.Words.{word}
 use Rattle.hosting.specs.Calls.{Result, refused, result_of}
 
--- word 38 of a state, whatever else its words are; where there are fewer words nobody has a right
+-- the word of a state for its rights, whatever else its words are; where there are fewer words nobody has a right
 abbrev pub rights_in : List ℕ → Rights
-rights_in w = record { 0 = word w 38 }
+rights_in w = record { 0 = word w STATE_RIGHTS }
 
 -- the number that refuses caller c who needs right r, 0 for none
 abbrev pub caller_number : List ℕ → ℕ → Right → ℕ

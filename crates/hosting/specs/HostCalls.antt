@@ -38,7 +38,8 @@ host_reads c = true
 
 -- the call that they give
 abbrev pub host_in : HostCall → Call
-host_in (opens own sheet rights) = engine.opens (record { 0 = own }) (sheet_in sheet (record { 0 = rights }))
+host_in (opens own sheet rights) =
+    engine.opens (record { 0 = own }) (sheet_in sheet (record { 0 = rights }))
 host_in (propose b) = engine.propose (body_in b 0)
 host_in (endorse p) = engine.endorse (proposal_in p)
 host_in (certify d) = engine.certify d

@@ -9,12 +9,13 @@ use refusals::Refusal;
 use terms::rights;
 use terms::rights::Right;
 use terms::sheet::Rights;
+use words::places::STATE_RIGHTS;
 
 // The rights that the words of a state give, well formed or not; too few words give nobody a right.
 fn rights_in(state: &[u32]) -> Rights
     ensures { result ≡ rights_in state.now }
 {
-    Rights(state.get(38).copied().unwrap_or(0))
+    Rights(state.get(STATE_RIGHTS).copied().unwrap_or(0))
 }
 
 /// Is the caller 0 to 7, and has it the right? Refused with 26 where it is above 7, and with 29 where it has not.
@@ -23,10 +24,10 @@ pub fn check(state: &[u32], right: Right, caller: u32) -> Result<(), Refusal>
     ensures { refusal_in result ≡ caller_refusal (rights_in state.now) right caller }
 {
     if 7 < caller {
-        return Err(Refusal::NoSuchCaller);
+        return Err(Refusal::GuestRange);
     }
     if !rights::has_right(rights_in(state), right, caller) {
-        return Err(Refusal::RightMissing);
+        return Err(Refusal::NoRight);
     }
     Ok(())
 }

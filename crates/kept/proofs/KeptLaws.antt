@@ -1,6 +1,5 @@
 -- Laws of what a held certificate keeps over every list of requests.
-use Rattle.std.proofs.Common.{◌≡◌, refl, sym, ap, ◌∙◌, subst, Bool, true, false, cond, List, [], ◌∷◌, ◌++◌, ℕ, ◌≤◌, eqb, length}
-use mathlib.Core.Option.{Option, none, some}
+use Rattle.std.proofs.Common.{◌≡◌, refl, sym, ap, ◌∙◌, subst, Bool, true, false, cond, List, [], ◌∷◌, ◌++◌, ℕ, ◌≤◌, eqb, length, Option, Some, None}
 use Rattle.base.specs.Options.{if_there}
 use Rattle.agreement.specs.Prefixes.{block_numbered}
 use Rattle.agreement.specs.Rules.{Block}
@@ -41,8 +40,8 @@ leaves_as_calls e (x ∷ l) = left_by (after_requests e l) x ∙ go (submission_
   where
     go : (o : Option Submission) → after_requests e l ≡ after_calls e (calls_asked e l)
         → if_there o (after_requests e l) (after_submission (after_requests e l)) ≡ after_calls e (if_there o [] (calls_of (after_requests e l)) ++ calls_asked e l)
-    go none h = h
-    go (some s) h =
+    go None h = h
+    go (Some s) h =
         leaves_as_its_calls (after_requests e l) s
         ∙ ap (λ (d : Engine). after_calls d (calls_of (after_requests e l) s)) h
         ∙ sym (after-join e (calls_of (after_requests e l) s) (calls_asked e l))
@@ -63,8 +62,8 @@ accepts_open_none row (p ∷ l) e =
     no_opens-join e (accepts_of row l) m (accepts_open_none row l (after_calls e m)) (go (row.at p).certificate)
   where
     go : (o : Option Certificate) → NoOpens e (if_there o [] (λ c. accept c ∷ []))
-    go none = tt
-    go (some c) = ((λ own sheet q. absurd (cc q)), tt)
+    go None = tt
+    go (Some c) = ((λ own sheet q. absurd (cc q)), tt)
 
 batch-opens-none : (e : Engine) (row : Row) (answers : List ℕ) → NoOpens e (calls_of e (batch row answers))
 batch-opens-none e row answers = go (eqb (batch_refusal e.state e.table row.count (length answers)) 0)
@@ -73,10 +72,10 @@ batch-opens-none e row answers = go (eqb (batch_refusal e.state e.table row.coun
     go true = accepts_open_none row (turns_of row) e
     go false = tt
 
-guest-calls_open_none : (e : Engine) (c : ℕ) (a : Asked) → NoOpens e (calls_of e (submitted_by c a))
+guest_calls_open_none : (e : Engine) (c : ℕ) (a : Asked) → NoOpens e (calls_of e (submitted_by c a))
 unfolding after_calls
-guest-calls_open_none e c (asks k) = (guest-opens-none e c k, tt)
-guest-calls_open_none e c (asks_batch row answers) = batch-opens-none e row answers
+guest_calls_open_none e c (asks k) = (guest-opens-none e c k, tt)
+guest_calls_open_none e c (asks_batch row answers) = batch-opens-none e row answers
 
 pub asked-opens-none : (e : Engine) (x : Request) → NoOpenAsked e x → NoOpens e (if_there (submission_of e x) [] (calls_of e))
 unfolding after_calls
@@ -84,8 +83,8 @@ asked-opens-none e (host (one c)) n = (n, tt)
 asked-opens-none e (host (batch row answers)) n = batch-opens-none e row answers
 asked-opens-none e (guest c a) n = go (eqb (caller_number e c a) 0)
   where
-    go : (b : Bool) → NoOpens e (if_there (cond b (some (submitted_by c a)) none) [] (calls_of e))
-    go true = guest-calls_open_none e c a
+    go : (b : Bool) → NoOpens e (if_there (cond b (Some (submitted_by c a)) None) [] (calls_of e))
+    go true = guest_calls_open_none e c a
     go false = tt
 
 no_opens : (e : Engine) (l : List Request) → NoOpensAsked e l → NoOpens e (calls_asked e l)
@@ -107,9 +106,9 @@ pub blocks_stay_then : (e : Engine) → Reached e → (l : List Request) → Ask
 blocks_stay_then e r l i n = subst (λ (d : Engine). Newer (chain e) (chain d)) (sym (leaves_as_calls e l)) (blocks_stay e r (calls_asked e l) i (no_opens e l n))
 
 pub numbers_stay_then : (e : Engine) → Reached e → (l : List Request) → AskedInRange e l → NoOpensAsked e l → (n : ℕ) (b : Block Content)
-    → block_numbered (chain e) n ≡ some b → block_numbered (chain (after_requests e l)) n ≡ some b
+    → block_numbered (chain e) n ≡ Some b → block_numbered (chain (after_requests e l)) n ≡ Some b
 numbers_stay_then e r l i o n b h =
-    subst (λ (d : Engine). block_numbered (chain d) n ≡ some b) (sym (leaves_as_calls e l)) (numbers_stay e r (calls_asked e l) i (no_opens e l o) n b h)
+    subst (λ (d : Engine). block_numbered (chain d) n ≡ Some b) (sym (leaves_as_calls e l)) (numbers_stay e r (calls_asked e l) i (no_opens e l o) n b h)
 
 -- a held certificate stays held, with its proposal and its endorsers, as long as no open is accepted
 pub certificate_stays_then : (e : Engine) (l : List Request) → NoOpensAsked e l → (a r : ℕ) (p : Content) (d : ℕ) → Holds e.table a r p d → Holds (after_requests e l).table a r p d

@@ -12,7 +12,9 @@ use Rattle.submissions.specs.Requests.{Request, submission_of, after_requests}
 -- the calls that a list of requests counts as, newest first: of a batch the accepts of its turns, of what is refused by rights none
 unfoldable pub calls_asked : Engine → List Request → List Call
 calls_asked e [] = []
-calls_asked e (x ∷ l) = if_there (submission_of (after_requests e l) x) [] (calls_of (after_requests e l)) ++ calls_asked e l
+calls_asked e (x ∷ l) =
+    if_there (submission_of (after_requests e l) x) [] (calls_of (after_requests e l))
+    ++ calls_asked e l
 
 -- with values of their types
 abbrev pub AskedInRange : Engine → List Request → Type 0

@@ -12,6 +12,8 @@ abbrev pub counted : Members engine_behaviour → List (entries.Entry Request) �
 counted X l = unrolled X (submitted X l)
 
 -- the calls that the requests l count as, the refused ones left out, were allowed before an advance asked for a quorum, and led to the same engines
-pub record AllowedThen (R : MembersRefuseMore) (X : Members engine_behaviour) (l : List (entries.Entry Request)) : Type 0 where
+pub record AllowedThen (R : MembersRefuseMore) (X : Members engine_behaviour)
+    (l : List (entries.Entry Request)) : Type 0 where
   pub allowed : WasAllowed R X (counted X l)
-  pub engines : (i : ℕ) → engine_after (answering_as R X) (accepted_only X (counted X l)) i ≡ engine_asked X l i
+  pub engines : (i : ℕ) → engine_after (answering_as R X) (accepted_only X (counted X l)) i
+      ≡ engine_asked X l i

@@ -1,6 +1,5 @@
 -- Laws of several members' hosts: each one's words give its engine, and chains never fork.
-use Rattle.std.proofs.Common.{◌≡◌, refl, sym, ◌∙◌, subst₂, Bool, true, false, cond, List, [], ◌∷◌, ◌⊎◌, ℕ, eqb}
-use mathlib.Core.Option.{Option, none, some}
+use Rattle.std.proofs.Common.{◌≡◌, refl, sym, ◌∙◌, subst₂, Bool, true, false, cond, List, [], ◌∷◌, ◌⊎◌, ℕ, eqb, Option, Some, None}
 use Rattle.base.specs.Options.{if_there}
 use Rattle.agreement.specs.Entries.{states}
 use Rattle.engine.specs.Engine.{Engine}
@@ -24,10 +23,10 @@ module _ (X : Hosts) where
     where
       go : (b : Bool) → eqb i x.who ≡ b → (q : Option Request) → Gives (words_after X l i) (engine_asked (members X) (asked l) i) → Gives (after_call (words_after X l i) x.call) (left (engine_asked (members X) (asked l) i) q)
           → Gives (cond b (after_call (words_after X l i) x.call) (words_after X l i)) (engine_asked (members X) (if_there q (asked l) (λ r. record { who = x.who; call = r } ∷ asked l)) i)
-      go true e none g h = h
-      go false e none g h = g
-      go true e (some r) g h = rw e h
-      go false e (some r) g h = rw e g
+      go true e None g h = h
+      go false e None g h = g
+      go true e (Some r) g h = rw e h
+      go false e (Some r) g h = rw e g
 
 -- chains never fork, over the library's words: whatever lists of calls hosts, guests and batches make, if the calls that their words count as are a run
 pub chains_never_fork_over_words : (X : Hosts) (l : List Entry) → AllTyped l → Run (members X) (calls_in X l) → Agreed X l

@@ -1,6 +1,5 @@
 -- The words that the library leaves give engines that calls from an opening lead to: what can be read has values of its types.
-use Rattle.std.proofs.Common.{◌≡◌, refl, sym, subst, Bool, true, false, cond, ◌&&◌, List, [], ◌∷◌, ◌++◌, ℕ, length, get_or, eqb}
-use mathlib.Core.Option.{Option, none, some}
+use Rattle.std.proofs.Common.{◌≡◌, refl, sym, subst, Bool, true, false, cond, ◌&&◌, List, [], ◌∷◌, ◌++◌, ℕ, length, get_or, eqb, Option, Some, None}
 use Rattle.base.specs.Options.{if_there}
 use Rattle.open.specs.Open.{closed_state}
 use Rattle.engine.specs.Calls.{Call, accept}
@@ -29,8 +28,8 @@ use Rattle.library.proofs.ListLaws.{words_give_engines}
 
 -- what is asked, if anything, has values of their types
 abbrev pub RequestInRange : Engine → Option Request → Type 0
-RequestInRange e none = Unit {0}
-RequestInRange e (some q) = InRangeThen e (submission_of e q)
+RequestInRange e None = Unit {0}
+RequestInRange e (Some q) = InRangeThen e (submission_of e q)
 
 -- ---- rows
 
@@ -42,7 +41,7 @@ record_in_range : (x : CertificateRecord) → AllInRange (if_there (certificate_
 unfolding certificate_of
 record_in_range x = go (certificate_reads (record_words x)) refl
   where
-    go : (b : Bool) → certificate_reads (record_words x) ≡ b → AllInRange (if_there (cond b (some (certificate_in (record_words x))) none) [] (λ c. accept c ∷ []))
+    go : (b : Bool) → certificate_reads (record_words x) ≡ b → AllInRange (if_there (cond b (Some (certificate_in (record_words x))) None) [] (λ c. accept c ∷ []))
     go true r = ((accept-handed (record_words x)).is_in_range r, tt)
     go false r = tt
 
@@ -64,7 +63,7 @@ batch_in_range e row answers = go (eqb (batch_refusal e.state e.table (length ro
 guest_in_range : (e : Engine) (c : ℕ) (a : Asked) → AllInRange (calls_of e (submitted_by c a)) → InRangeThen e (submission_of e (guest c a))
 guest_in_range e c a i = go (eqb (caller_number e c a) 0)
   where
-    go : (b : Bool) → InRangeThen e (cond b (some (submitted_by c a)) none)
+    go : (b : Bool) → InRangeThen e (cond b (Some (submitted_by c a)) None)
     go true = i
     go false = tt
 
@@ -72,13 +71,13 @@ pub request_in_range : (e : Engine) (x : LibraryCall) → Typed x → RequestInR
 unfolding request_in
 request_in_range e (by_host x) i = go (has_room (use_of (host_in x)) (host_out x)) (host_reads x) refl
   where
-    go : (m b : Bool) → host_reads x ≡ b → RequestInRange e (cond (m && b) (some (host (one (host_in x)))) none)
+    go : (m b : Bool) → host_reads x ≡ b → RequestInRange e (cond (m && b) (Some (host (one (host_in x)))) None)
     go true true r = ((host-handed x i).is_in_range r, tt)
     go true false r = tt
     go false b r = tt
 request_in_range e (by_guest c x) i = go (has_room (use_of (as_host c (guest_in x))) (guest_out x)) (guest_reads x) refl
   where
-    go : (m b : Bool) → guest_reads x ≡ b → RequestInRange e (cond (m && b) (some (guest c (asks (guest_in x)))) none)
+    go : (m b : Bool) → guest_reads x ≡ b → RequestInRange e (cond (m && b) (Some (guest c (asks (guest_in x)))) None)
     go true true r = guest_in_range e c (asks (guest_in x)) ((guest-handed c x i).is_in_range r, tt)
     go true false r = tt
     go false b r = tt
@@ -104,8 +103,8 @@ requests_reach e h [] i = h
 requests_reach e h (c ∷ l) i = go (request_in c) (request_in_range (after_requests e (requests_in l)) c i.0) (requests_reach e h l i.1)
   where
     go : (q : Option Request) → RequestInRange (after_requests e (requests_in l)) q → Reached (after_requests e (requests_in l)) → Reached (after_requests e (if_there q (requests_in l) (λ q. q ∷ requests_in l)))
-    go none p h = h
-    go (some q) p h = requests_lead_to (after_requests e (requests_in l)) h q p
+    go None p h = h
+    go (Some q) p h = requests_lead_to (after_requests e (requests_in l)) h q p
 
 -- so what is claimed of every engine that calls from an opening lead to is so of every engine that the library's words give, with no premise but that they were opened
 pub words_reach : (x : Opening) (l : List LibraryCall) → AllTyped l → Reached (engine_of (after_list (after_opening x) l))

@@ -1,6 +1,5 @@
 -- Laws of one call of the library: its words give the engine that the request leaves.
-use Rattle.std.proofs.Common.{◌≡◌, refl, sym, ap, ap₂, ◌∙◌, Bool, true, false, cond, ◌&&◌, List, ◌≢◌, ℕ, length, leb, le-leb, eq-eqb, ne_eqb}
-use mathlib.Core.Option.{Option, none, some}
+use Rattle.std.proofs.Common.{◌≡◌, refl, sym, ap, ap₂, ◌∙◌, Bool, true, false, cond, ◌&&◌, List, ◌≢◌, ℕ, length, leb, le-leb, eq-eqb, ne_eqb, Option, Some, None}
 use native.Mathlib.Decide.{ℕ_discrete}
 use Rattle.base.specs.Options.{if_there}
 use Rattle.base.proofs.Bools.{both}
@@ -77,13 +76,13 @@ module _ (w t o : List ℕ) where
     served-room (reads n) h = rw (r, h) refl
 
     module _ {b : Bool} {c : Call} (h : Handed b c) where
-      host-accepted : (result_of w t o b c).refusal ≡ 0 → Leaves w t (result_of w t o b c) (cond (has_room (use_of c) o && b) (some (host (one c))) none)
+      host-accepted : (result_of w t o b c).refusal ≡ 0 → Leaves w t (result_of w t o b c) (cond (has_room (use_of c) o && b) (Some (host (one c))) None)
       host-accepted z =
           let a = accepted-call w t o b c z in
           let g = accepted-gives w t o h z in
           record {
             can_read = g.can_read;
-            gives = rw (g.gives, a.its-table, room-served (use_of c) a.serving, a.read) (after-same c a.accepted ∙ sym (host-left (engine_in w t) c));
+            gives = rw (g.gives, a.its_table, room-served (use_of c) a.serving, a.read) (after-same c a.accepted ∙ sym (host-left (engine_in w t) c));
           }
 
       -- what the engine refuses
@@ -91,18 +90,18 @@ module _ (w t o : List ℕ) where
       unfolding result_of
       engine-refused n m f z = n (rw (served-room (use_of c) m, f) (refusal-same c ∙ z))
 
-      host-refused : (result_of w t o b c).refusal ≢ 0 → Leaves w t (result_of w t o b c) (cond (has_room (use_of c) o && b) (some (host (one c))) none)
+      host-refused : (result_of w t o b c).refusal ≢ 0 → Leaves w t (result_of w t o b c) (cond (has_room (use_of c) o && b) (Some (host (one c))) None)
       host-refused n = let q = refused-same w t o b c n in unchanged r (ap (λ (x : Result). x.state) q) (ap (λ (x : Result). x.table) q) (go (has_room (use_of c) o) b refl refl)
         where
-          go : (m f : Bool) → has_room (use_of c) o ≡ m → b ≡ f → left (engine_in w t) (cond (m && f) (some (host (one c))) none) ≡ engine_in w t
+          go : (m f : Bool) → has_room (use_of c) o ≡ m → b ≡ f → left (engine_in w t) (cond (m && f) (Some (host (one c))) None) ≡ engine_in w t
           go true true k l = host-left (engine_in w t) c ∙ engine.refused-same (engine_in w t) c (engine-refused n k l)
           go true false k l = refl
           go false f k l = refl
 
-      pub host-leaves : Leaves w t (result_of w t o b c) (cond (has_room (use_of c) o && b) (some (host (one c))) none)
+      pub host-leaves : Leaves w t (result_of w t o b c) (cond (has_room (use_of c) o && b) (Some (host (one c))) None)
       host-leaves = go (ℕ_discrete (result_of w t o b c).refusal 0)
         where
-          go : Dec ((result_of w t o b c).refusal ≡ 0) → Leaves w t (result_of w t o b c) (cond (has_room (use_of c) o && b) (some (host (one c))) none)
+          go : Dec ((result_of w t o b c).refusal ≡ 0) → Leaves w t (result_of w t o b c) (cond (has_room (use_of c) o && b) (Some (host (one c))) None)
           go (yes z) = host-accepted z
           go (no n) = host-refused n
 
@@ -118,33 +117,33 @@ module _ (e : Engine) (c : ℕ) (a : Asked) where
   asked-allowed h = rw (eq-eqb (requests.caller_number e c a) 0 h) refl
 
 -- the rights of words are those of the state that they give
-pub caller-same : (w t : List ℕ) (c : ℕ) (a : Asked) → requests.caller_number (engine_in w t) c a ≡ caller_number w c (needed_for a)
+pub caller_same : (w t : List ℕ) (c : ℕ) (a : Asked) → requests.caller_number (engine_in w t) c a ≡ caller_number w c (needed_for a)
 unfolding state_in
-caller-same w t c a = refl
+caller_same w t c a = refl
 
 -- what the host's own leaves, where the caller is not refused
 module _ (w t o : List ℕ) (c : ℕ) (a : Asked) (m : Bool) (x : Result) (r : state_reads w ≡ true) where
-  guest-leaves : Leaves w t x (cond m (some (host (submitted_by c a))) none) → Leaves w t (as_guest w t o c (needed_for a) x) (cond m (some (guest c a)) none)
+  guest-leaves : Leaves w t x (cond m (Some (host (submitted_by c a))) None) → Leaves w t (as_guest w t o c (needed_for a) x) (cond m (Some (guest c a)) None)
   guest-leaves l = go (ℕ_discrete (caller_number w c (needed_for a)) 0)
     where
       e : Engine
       e = engine_in w t
 
-      as_host_lem : caller_number w c (needed_for a) ≡ 0 → (m : Bool) → left e (cond m (some (host (submitted_by c a))) none) ≡ left e (cond m (some (guest c a)) none)
-      as_host_lem z true = sym (asked-allowed e c a (caller-same w t c a ∙ z))
+      as_host_lem : caller_number w c (needed_for a) ≡ 0 → (m : Bool) → left e (cond m (Some (host (submitted_by c a))) None) ≡ left e (cond m (Some (guest c a)) None)
+      as_host_lem z true = sym (asked-allowed e c a (caller_same w t c a ∙ z))
       as_host_lem z false = refl
 
-      as_it_was : caller_number w c (needed_for a) ≢ 0 → (m : Bool) → left e (cond m (some (guest c a)) none) ≡ e
-      as_it_was n true = asked-barred e c a (λ z. n (sym (caller-same w t c a) ∙ z))
+      as_it_was : caller_number w c (needed_for a) ≢ 0 → (m : Bool) → left e (cond m (Some (guest c a)) None) ≡ e
+      as_it_was n true = asked-barred e c a (λ z. n (sym (caller_same w t c a) ∙ z))
       as_it_was n false = refl
 
-      go : Dec (caller_number w c (needed_for a) ≡ 0) → Leaves w t (as_guest w t o c (needed_for a) x) (cond m (some (guest c a)) none)
+      go : Dec (caller_number w c (needed_for a) ≡ 0) → Leaves w t (as_guest w t o c (needed_for a) x) (cond m (Some (guest c a)) None)
       go (yes z) = rw (guest-allowed w t o c (needed_for a) x z) (record { can_read = l.can_read; gives = l.gives ∙ as_host_lem z m })
       go (no n) = rw (guest-barred w t o c (needed_for a) x n) (unchanged r refl refl (as_it_was n m))
 
 -- ---- a batch
 
-batch-leaves : (w t : List ℕ) (row : List CertificateRecord) (answers : List ℕ) → state_reads w ≡ true → Leaves w t (batch_result w t row answers) (some (host (batch (row_of row) answers)))
+batch-leaves : (w t : List ℕ) (row : List CertificateRecord) (answers : List ℕ) → state_reads w ≡ true → Leaves w t (batch_result w t row answers) (Some (host (batch (row_of row) answers)))
 unfolding batch_result requests.result_of
 batch-leaves w t row answers r = rw r (record { can_read = r; gives = refl })
 

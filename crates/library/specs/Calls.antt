@@ -1,6 +1,5 @@
 -- The library's functions as hosts call them: the request that its words are read as, and what comes of it.
-use Rattle.std.specs.Prelude.{Bool, true, if◌then◌else◌, ◌&&◌, List, ℕ, length, nat_le}
-use Rattle.std.proofs.Math.Option.{Option, none, some}
+use Rattle.std.specs.Prelude.{Bool, true, if◌then◌else◌, ◌&&◌, List, ℕ, length, nat_le, Option, Some, None}
 use Rattle.serial.specs.Calls.{PortInRange, AccessInRange}
 use Rattle.engine.specs.Guests.{batch_needs, as_host}
 use Rattle.submissions.specs.Submissions.{one, batch}
@@ -50,14 +49,14 @@ has_room (reads n) o = nat_le n (length o)
 -- the request that it is read as, none where its words cannot be read or the out stretch is too short
 unfoldable pub request_in : LibraryCall → Option Request
 request_in (by_host x) =
-    if has_room (use_of (host_in x)) (host_out x) && host_reads x then some (host (one (host_in x)))
-    else none
+    if has_room (use_of (host_in x)) (host_out x) && host_reads x then Some (host (one (host_in x)))
+    else None
 request_in (by_guest c x) =
     if has_room (use_of (as_host c (guest_in x))) (guest_out x) && guest_reads x
-    then some (guest c (asks (guest_in x)))
-    else none
-request_in (batch_by_host row answers) = some (host (batch (row_of row) answers))
-request_in (batch_by_guest c row answers) = some (guest c (asks_batch (row_of row) answers))
+    then Some (guest c (asks (guest_in x)))
+    else None
+request_in (batch_by_host row answers) = Some (host (batch (row_of row) answers))
+request_in (batch_by_guest c row answers) = Some (guest c (asks_batch (row_of row) answers))
 
 -- ---- what comes of it
 
@@ -66,4 +65,5 @@ abbrev pub comes_to : List ℕ → List ℕ → LibraryCall → Result
 comes_to w t (by_host x) = hosts.comes_to w t x
 comes_to w t (by_guest c x) = comes_to_guest w t c x
 comes_to w t (batch_by_host row answers) = batch_result w t row answers
-comes_to w t (batch_by_guest c row answers) = as_guest w t answers c batch_needs (batch_result w t row answers)
+comes_to w t (batch_by_guest c row answers) =
+    as_guest w t answers c batch_needs (batch_result w t row answers)

@@ -24,10 +24,13 @@ pub record Hosts : Type 0 where
   pub before : ℕ → Words
   pub sheet : ℕ → List ℕ
   pub rights : ℕ → ℕ
-  pub accepted : (k : ℕ) → correct k ≡ true → (comes_to (before k).state (before k).table (by_host (opens k (sheet k) (rights k)))).refusal ≡ 0
+  pub accepted : (k : ℕ) → correct k ≡ true
+      → (comes_to (before k).state (before k).table
+      (by_host (opens k (sheet k) (rights k)))).refusal ≡ 0
   -- the filled settings that their words give are equal
   pub settings : Settings
-  pub equal : (k : ℕ) → correct k ≡ true → filled (sheet_in (sheet k) (record { 0 = rights k })) ≡ settings
+  pub equal : (k : ℕ) → correct k ≡ true
+      → filled (sheet_in (sheet k) (record { 0 = rights k })) ≡ settings
 
 -- the members whose hosts they are
 abbrev pub members : Hosts → Members engine_behaviour
@@ -36,7 +39,9 @@ members X =
       correct = X.correct;
       before = λ k. record { state = closed_state; table = (X.before k).table };
       sheet = λ k. sheet_in (X.sheet k) (record { 0 = X.rights k });
-      accepted = λ k c. (accepted-call (X.before k).state (X.before k).table [] (sheet_reads (X.sheet k)) (host_in (opens k (X.sheet k) (X.rights k))) (X.accepted k c)).accepted;
+      accepted =
+          λ k c. (accepted-call (X.before k).state (X.before k).table [] (sheet_reads (X.sheet k))
+          (host_in (opens k (X.sheet k) (X.rights k))) (X.accepted k c)).accepted;
       settings = X.settings;
       equal = X.equal;
     }
@@ -52,7 +57,8 @@ AllTyped (x ∷ l) = Typed x.call × AllTyped l
 -- the requests that the words of a list are read as
 unfoldable pub asked : List Entry → List (entries.Entry Request)
 asked [] = []
-asked (x ∷ l) = if_there (request_in x.call) (asked l) (λ q. record { who = x.who; call = q } ∷ asked l)
+asked (x ∷ l) =
+    if_there (request_in x.call) (asked l) (λ q. record { who = x.who; call = q } ∷ asked l)
 
 module _ (X : Hosts) where
   open X use {correct, before, sheet, rights}
@@ -68,9 +74,14 @@ module _ (X : Hosts) where
   -- the conclusion, of any two correct members, of the words that their hosts hold
   pub record Agreed (l : List Entry) : Type 0 where
     -- they can be read, and give the engine that the requests lead to
-    pub gives : (i : ℕ) → correct i ≡ true → Gives (words_after l i) (engine_asked (members X) (asked l) i)
+    pub gives : (i : ℕ) → correct i ≡ true
+        → Gives (words_after l i) (engine_asked (members X) (asked l) i)
     -- of the two chains that they tell one is a prefix of the other
-    pub chains : (i j : ℕ) → correct i ≡ true → correct j ≡ true → Prefix (engine_of (words_after l i)) (engine_of (words_after l j)) ⊎ Prefix (engine_of (words_after l j)) (engine_of (words_after l i))
+    pub chains : (i j : ℕ) → correct i ≡ true → correct j ≡ true
+        → Prefix (engine_of (words_after l i)) (engine_of (words_after l j))
+        ⊎ Prefix (engine_of (words_after l j)) (engine_of (words_after l i))
     -- and in the committee of every round that both know, every member has the same weight
-    pub committees : (i j r : ℕ) → correct i ≡ true → correct j ≡ true → Knows (engine_of (words_after l i)) r → Knows (engine_of (words_after l j)) r
-        → (m : ℕ) → weights (engine_of (words_after l i)) r m ≡ weights (engine_of (words_after l j)) r m
+    pub committees : (i j r : ℕ) → correct i ≡ true → correct j ≡ true
+        → Knows (engine_of (words_after l i)) r → Knows (engine_of (words_after l j)) r
+        → (m : ℕ) → weights (engine_of (words_after l i)) r m
+        ≡ weights (engine_of (words_after l j)) r m

@@ -1,6 +1,5 @@
 -- Lists of the library's calls: each gets the words that the last one left. From an accepted open they give the engine that the requests lead to.
-use Rattle.std.specs.Prelude.{◌≡◌, ◌≢◌, true, List, [], ◌∷◌, ℕ}
-use Rattle.std.proofs.Math.Option.{Option, none, some}
+use Rattle.std.specs.Prelude.{◌≡◌, ◌≢◌, true, List, [], ◌∷◌, ℕ, Option, Some, None}
 use Rattle.base.specs.Options.{if_there}
 use Rattle.open.specs.Open.{closed_state}
 use Rattle.engine.specs.Engine.{Engine, after}
@@ -23,7 +22,10 @@ engine_of x = engine_in x.state x.table
 
 -- after a call
 abbrev pub after_call : Words → LibraryCall → Words
-after_call x c = record { state = (comes_to x.state x.table c).state; table = (comes_to x.state x.table c).table }
+after_call x c = record {
+  state = (comes_to x.state x.table c).state;
+  table = (comes_to x.state x.table c).table;
+}
 
 -- after a list of calls, newest first
 unfoldable pub after_list : Words → List LibraryCall → Words
@@ -52,7 +54,9 @@ after_opening x = after_call x.before (by_host (opens x.own x.sheet x.rights))
 
 -- the engine's own open, on no state
 abbrev pub engine_opened : Opening → Engine
-engine_opened x = after (record { state = closed_state; table = x.before.table }) (host_in (opens x.own x.sheet x.rights))
+engine_opened x =
+    after (record { state = closed_state; table = x.before.table })
+    (host_in (opens x.own x.sheet x.rights))
 
 -- the words can be read, and give the engine e
 pub record Gives (x : Words) (e : Engine) : Type 0 where
@@ -88,5 +92,7 @@ pub record RefusedUnread (r : Result) (x : Words) (o : List ℕ) : Type 0 where
 
 -- on the words x, a call that is read as the request q is answered as the engine answers that; what cannot be read is refused
 abbrev pub Answered : Words → LibraryCall → Option Request → Type 0
-Answered x c none = RefusedUnread (comes_to x.state x.table c) x (lent_out c)
-Answered x c (some q) = AnsweredAs (comes_to x.state x.table c) (requests.result_of (engine_of x) q) (out_given x c (requests.result_of (engine_of x) q))
+Answered x c None = RefusedUnread (comes_to x.state x.table c) x (lent_out c)
+Answered x c (Some q) =
+    AnsweredAs (comes_to x.state x.table c) (requests.result_of (engine_of x) q)
+    (out_given x c (requests.result_of (engine_of x) q))

@@ -14,22 +14,27 @@ ghost use Rattle.library.specs.Hosts.{Hosts, Entry, AllTyped, members, calls_in,
 
 /// The words that a list of the library's calls leaves, from words opened by an accepted open, can be read, and give the engine that the requests lead to which the words are read as.
 pub fn words_give_engines()
-    ensures { (x : Opening) (l : List LibraryCall) → lists.AllTyped l → Gives (after_list (after_opening x) l) (after_requests (engine_opened x) (requests_in l)) }
+    ensures { (x : Opening) (l : List LibraryCall)
+        → lists.AllTyped l → Gives (after_list (after_opening x) l) (after_requests
+        (engine_opened x) (requests_in l)) }
 {}
 
 /// So it is an engine that calls from an opening lead to: what is claimed of every such engine is so of all words that the library leaves.
 #[tactic(auto, using(crate::proofs::ReachLaws::words_reach))]
 pub fn words_reach()
-    ensures { (x : Opening) (l : List LibraryCall) → lists.AllTyped l → Reached (engine_of (after_list (after_opening x) l)) }
+    ensures { (x : Opening) (l : List LibraryCall)
+        → lists.AllTyped l → Reached (engine_of (after_list (after_opening x) l)) }
 {}
 
 /// And each later call is answered as that engine answers: with its number, its value and every word that is lent for it, the answers of a batch among them. A call whose words cannot be read is refused, and changes no word.
 pub fn answers_as_engines()
-    ensures { (x : Opening) (l : List LibraryCall) → lists.AllTyped l → (c : LibraryCall) → Answered (after_list (after_opening x) l) c (request_in c) }
+    ensures { (x : Opening) (l : List LibraryCall) → lists.AllTyped l → (c : LibraryCall)
+        → Answered (after_list (after_opening x) l) c (request_in c) }
 {}
 
 /// Whatever lists of calls hosts and guests make, batches among them, with whatever words: if the calls that they count as are a run, of the chains that two correct members' words tell one is a prefix of the other, and committees that both know are alike.
 #[tactic(auto, using(crate::proofs::HostLaws::chains_never_fork_over_words))]
 pub fn chains_never_fork_over_words()
-    ensures { (X : Hosts) (l : List Entry) → AllTyped l → Run (members X) (calls_in X l) → Agreed X l }
+    ensures { (X : Hosts) (l : List Entry) → AllTyped l
+        → Run (members X) (calls_in X l) → Agreed X l }
 {}

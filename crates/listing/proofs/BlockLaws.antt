@@ -10,10 +10,10 @@ use Rattle.committee.proofs.OrderLaws.{row-none, row_more, rows_none, rows_more,
 use Rattle.committee.specs.Chain.{holds_at, block_at, chain_of}
 use Rattle.committee.proofs.ChainLaws.{block-round, block_inside, chain-none, chain_more, chain_length}
 use Rattle.committee.specs.Committees.{start_of, ordered}
-use Rattle.running.specs.BlockChanges.{start_at}
-use Rattle.running.specs.Links.{Marked}
-use Rattle.running.specs.LinkRuns.{places_over, rows_over}
-use Rattle.running.proofs.RunLaws.{SameAt}
+use Rattle.chain_committees.specs.BlockChanges.{start_at}
+use Rattle.chain_committees.specs.Links.{Marked}
+use Rattle.chain_committees.specs.LinkRuns.{places_over, rows_over}
+use Rattle.chain_committees.proofs.RunLaws.{SameAt}
 use Rattle.listing.specs.Listing.{content_lines, chain_lines, place_lines, add_lines, row_lines}
 use Rattle.listing.proofs.ListingLaws.{lines-append, place-absent, place_other, place-present}
 use Rattle.listing.specs.Counts.{in_block}

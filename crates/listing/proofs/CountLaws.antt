@@ -6,7 +6,7 @@ use Rattle.base.specs.Folds.{sum_to}
 use Rattle.base.proofs.Ranges.{sum_none, sum_next}
 use Rattle.base.proofs.SumLaws.{sum_same, sum_add, sum_le, sum_up, sum_turned}
 use Rattle.store.specs.Table.{mark_at}
-use Rattle.running.proofs.StartLaws.{start-le}
+use Rattle.chain_committees.proofs.StartLaws.{start_le}
 use Rattle.listing.specs.Counts.{in_block, in_first, block_count, chain_count, row_count}
 
 -- so many places from p on, after those below it
@@ -53,4 +53,4 @@ pub count_all : (n : ℕ) (t : List ℕ) (k : ℕ) → chain_count n t k ≤ n *
 count_all n t k = let h = sum_le (in_first t k) 1 (n * 16 + 16) (λ p _. first-most t k p) in omega arith
 
 -- where the lines of the next block begin, and that there is room for them
-pub ruleset block_room = (start-le, count_more, count_all)
+pub ruleset block_room = (start_le, count_more, count_all)

@@ -6,10 +6,10 @@ use Rattle.base.proofs.Ranges.{tab_next}
 use Rattle.terms.specs.declared.Transaction.{Transaction}
 use Rattle.listing.specs.Lines.{digits_to, decimal, triple_fields, triples_fields}
 
-digits-small : (k n : ℕ) → n < 10 → digits_to k n ≡ (48 + n) ∷ []
+digits_small : (k n : ℕ) → n < 10 → digits_to k n ≡ (48 + n) ∷ []
 unfolding digits_to
-digits-small zero n h = refl
-digits-small (suc k) n h = rw (lt-ltb n 10 h) refl
+digits_small zero n h = refl
+digits_small (suc k) n h = rw (lt-ltb n 10 h) refl
 
 digits_more : (k n : ℕ) → 10 ≤ n → digits_to (suc k) n ≡ digits_to k (n / 10) ++ ((48 + n % 10) ∷ [])
 unfolding digits_to
@@ -17,12 +17,12 @@ digits_more k n h = rw (le-ltb n 10 h) refl
 
 -- a larger bound gives the same digits
 digits_same : (j k n : ℕ) → n ≤ j → n ≤ k → digits_to j n ≡ digits_to k n
-digits_same zero k n h l = digits-small zero n (omega arith) ∙ sym (digits-small k n (omega arith))
-digits_same (suc j) zero n h l = digits-small (suc j) n (omega arith) ∙ sym (digits-small zero n (omega arith))
+digits_same zero k n h l = digits_small zero n (omega arith) ∙ sym (digits_small k n (omega arith))
+digits_same (suc j) zero n h l = digits_small (suc j) n (omega arith) ∙ sym (digits_small zero n (omega arith))
 digits_same (suc j) (suc k) n h l = go (dec_lt n 10) (λ h l. digits_same j k (n / 10) h l)
   where
     go : Dec (n < 10) → (n / 10 ≤ j → n / 10 ≤ k → digits_to j (n / 10) ≡ digits_to k (n / 10)) → digits_to (suc j) n ≡ digits_to (suc k) n
-    go (yes s) f = digits-small (suc j) n s ∙ sym (digits-small (suc k) n s)
+    go (yes s) f = digits_small (suc j) n s ∙ sym (digits_small (suc k) n s)
     go (no s) f =
         let g : 10 ≤ n = omega arith in
         digits_more j n g ∙ rw (f (omega arith) (omega arith)) (sym (digits_more k n g))
@@ -30,7 +30,7 @@ digits_same (suc j) (suc k) n h l = go (dec_lt n 10) (λ h l. digits_same j k (n
 -- a number below ten is its digit, and another is its tenth part and its last digit
 pub decimal-small : (n : ℕ) → n < 10 → decimal n ≡ (48 + n) ∷ []
 unfolding decimal
-decimal-small n h = digits-small n n h
+decimal-small n h = digits_small n n h
 
 pub decimal-more : (n : ℕ) → 10 ≤ n → decimal n ≡ decimal (n / 10) ++ ((48 + n % 10) ∷ [])
 unfolding decimal

@@ -11,8 +11,8 @@ use std::io;
 use std::io::Write;
 
 // The checksum with one number more. Its modulus is a prime: by a power of two the sets of a line would cancel out.
-fn join(sum: u32, n: u32) -> u32 {
-    ((sum as u64 * 31 + n as u64) % 2147483647) as u32
+fn join(sum: u32, number: u32) -> u32 {
+    ((sum as u64 * 31 + number as u64) % 2147483647) as u32
 }
 
 // With the members of a set, positions rising.
@@ -37,10 +37,11 @@ fn half_sum(upper: u32) -> u32
 }
 
 // A number on a line of its own.
-fn print_line<W: Write>(output: &mut W, n: u32) -> io::Result<()>
-    ensures { OnOk result (Appends (W.contents output.old) (W.contents output.new) (decimal n ++ 10 ∷ [])) }
+fn print_line<W: Write>(output: &mut W, number: u32) -> io::Result<()>
+    ensures { OnOk result (Appends (W.contents output.old) (W.contents output.new)
+        (decimal number ++ 10 ∷ [])) }
 {
-    writeln!(output, "{n}")
+    writeln!(output, "{number}")
 }
 
 fn main(rt: HostRuntime) -> io::Result<()> {

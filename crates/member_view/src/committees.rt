@@ -1,7 +1,7 @@
 //! A committee as the calls ask it: its weights, with the margin that its quorums are by.
 
 ghost use Rattle.std.specs.Prelude.{◌≡◌, ◌<◌};
-ghost use Rattle.base.specs.Sets.{is_in};
+ghost use Rattle.base.specs.Sets.{contains};
 ghost use Rattle.terms.specs.Ranges.{weight_in};
 ghost use Rattle.committee.specs.Committees.{MarginFits, outsider, short, quorum};
 ghost use Rattle.committee.specs.Leaders.{members};
@@ -12,7 +12,7 @@ use terms::Member;
 use terms::sheet::Weight;
 
 /// Sixteen weights, 0 for a non-member; their sum, a thousandfold, fits 64 bits.
-#[derive(Clone, Copy)]
+#[derive(Debug, Clone, Copy)]
 pub struct Committee {
     /// The weight of each member.
     pub weights: [Weight; 16],
@@ -23,7 +23,7 @@ pub struct Committee {
 }
 
 /// The committees of a round and of the one before it.
-#[derive(Clone, Copy)]
+#[derive(Debug, Clone, Copy)]
 pub struct Committees {
     /// That of the round before.
     pub before: Committee,
@@ -33,30 +33,30 @@ pub struct Committees {
 
 impl Committee {
     /// Is the member in the committee? Check 9, of one member.
-    pub fn has_member(&self, m: Member) -> bool
-        requires { m.0 < 16 }
-        ensures { result ≡ members (weight_in self.now.weights) m.0 }
+    pub fn has_member(&self, member: Member) -> bool
+        requires { member.0 < 16 }
+        ensures { result ≡ members (weight_in self.now.weights) member.0 }
     {
-        weighing::is_member(&self.weights, m)
+        weighing::is_member(&self.weights, member)
     }
 
     /// Is somebody of the set outside the committee? Check 9, of signers.
     pub fn has_outsider(&self, set: u32) -> bool
-        ensures { result ≡ outsider (weight_in self.now.weights) (is_in set) }
+        ensures { result ≡ outsider (weight_in self.now.weights) (contains set) }
     {
         weighing::has_outsider(&self.weights, set)
     }
 
     /// Does the set weigh less than a quorum? Check 13.
     pub fn is_short(&self, set: u32) -> bool
-        ensures { result ≡ short self.now.margin (weight_in self.now.weights) (is_in set) }
+        ensures { result ≡ short self.now.margin (weight_in self.now.weights) (contains set) }
     {
         weighing::is_short(self.margin, &self.weights, set)
     }
 
     /// Is the set a quorum?
     pub fn has_quorum(&self, set: u32) -> bool
-        ensures { result ≡ quorum self.now.margin (weight_in self.now.weights) (is_in set) }
+        ensures { result ≡ quorum self.now.margin (weight_in self.now.weights) (contains set) }
     {
         weighing::is_quorum(self.margin, &self.weights, set)
     }

@@ -11,15 +11,15 @@ ghost use Rattle.state.specs.Formed.{Formed};
 ghost use Rattle.state.specs.Cached.{CachesFor};
 
 use crate::committees::{Committee, Committees};
+use chain_committees::{bonded, cache};
 use refusals::Refusal;
-use running::{bonded, cache};
 use state::State;
 use terms::{Body, Member, Proposal, Round};
 
 /// A state and its table, and what is cached beside them: committees of theirs.
 ///
 /// State and table are well formed: `known` tells. The tests here rely on less, that all but the serial ports is (`Formed`, state/specs/Formed).
-#[derive(Clone, Copy)]
+#[derive(Debug, Clone, Copy)]
 pub struct View<'a> {
     /// The member's state.
     pub state: &'a State,
@@ -36,7 +36,7 @@ impl<'a> View<'a> {
     ghost use Rattle.std.specs.Prelude.{◌≡◌, false, not, ◌||◌, ◌-◌, ◌≤◌, ◌<◌, IfOk, IfErr, OnOk};
     ghost use Rattle.agreement.specs.Dag.{is_held};
     ghost use Rattle.base.specs.Checks.{refusal};
-    ghost use Rattle.base.specs.Sets.{is_in};
+    ghost use Rattle.base.specs.Sets.{contains};
     ghost use Rattle.terms.specs.Ranges.{weight_in};
     ghost use Rattle.terms.specs.Proposals.{content_of, content_with, bad_transactions, bad_previous_set, transactions_of};
     ghost use Rattle.committee.specs.Committees.{quorum, committee_of};
@@ -54,8 +54,10 @@ impl<'a> View<'a> {
         table: &'a [u32],
     ) -> Result<View<'a>, Refusal>
         requires { Cached state.now table.now formed cache.now }
-        ensures ok { IfOk result (λ v. (v.state.now ≡ state.now) × (v.table.now ≡ table.now) × (well_formed state.now table.now ≡ true)) }
-        ensures err { IfErr result (λ e. (e ≡ Refusal.Malformed) × (well_formed state.now table.now ≡ false)) }
+        ensures ok { IfOk result (λ v. (v.state.now ≡ state.now) × (v.table.now ≡ table.now)
+            × (well_formed state.now table.now ≡ true)) }
+        ensures err { IfErr result (λ e. (e ≡ Refusal.Malformed)
+            × (well_formed state.now table.now ≡ false)) }
     {
         if !formed {
             return Err(Refusal::Malformed);
@@ -69,58 +71,63 @@ impl<'a> View<'a> {
 
     /// Check 5: is the round 0 or over the ceiling?
     #[tactic(auto, unfolding(rules::specs::Tests::bad_round))]
-    pub fn is_bad_round(&self, r: Round) -> bool
-        ensures { result ≡ bad_round (settings_of self.now) r.0 }
+    pub fn is_bad_round(&self, round: Round) -> bool
+        ensures { result ≡ bad_round (settings_of self.now) round.0 }
     {
-        r.0 == 0 || self.state.settings.ceiling.0 < r.0
+        round.0 == 0 || self.state.settings.ceiling.0 < round.0
     }
 
     /// Check 6: is a transaction out of range, or are there too many?
-    pub fn has_bad_transactions(&self, b: Body) -> bool
-        ensures { result ≡ bad_transactions (settings_of self.now).allowance (transactions_of b) }
+    pub fn has_bad_transactions(&self, body: Body) -> bool
+        ensures { result ≡ bad_transactions (settings_of self.now).allowance
+            (transactions_of body) }
     {
-        terms::has_bad_transactions(self.state.settings.allowance, b)
+        terms::has_bad_transactions(self.state.settings.allowance, body)
     }
 
     /// Check 8: is the committee of the round unknown?
     #[tactic(auto, unfolding(rules::specs::Tests::unknown))]
-    pub fn is_unknown(&self, r: Round) -> bool
-        ensures { result ≡ unknown (settings_of self.now) (shown self.now) r.0 }
+    pub fn is_unknown(&self, round: Round) -> bool
+        ensures { result ≡ unknown (settings_of self.now) (shown self.now) round.0 }
     {
-        !bonded::known(self.table, self.state.settings, self.state.blocks, r)
+        !bonded::known(self.table, self.state.settings, self.state.blocks, round)
     }
 
     /// Check 8 of an endorsement: above round 1, is the committee of the round before unknown?
     #[tactic(auto, unfolding(rules::specs::Tests::above))]
-    pub fn is_unknown_before(&self, r: Round) -> bool
-        requires { 0 < r.0 }
-        ensures { result ≡ above r.0 (unknown (settings_of self.now) (shown self.now) (r.0 - 1)) }
+    pub fn is_unknown_before(&self, round: Round) -> bool
+        requires { 0 < round.0 }
+        ensures { result
+            ≡ above round.0 (unknown (settings_of self.now) (shown self.now) (round.0 - 1)) }
     {
-        r.0 != 1 && self.is_unknown(Round(r.0 - 1))
+        round.0 != 1 && self.is_unknown(Round(round.0 - 1))
     }
 
     /// The committee of a round.
-    pub fn committee(&self, r: Round) -> Committee
-        ensures weights { result.weights ≡ committee_of (settings_of self.now) (shown self.now).chain r.0 }
+    pub fn committee(&self, round: Round) -> Committee
+        ensures weights { result.weights
+            ≡ committee_of (settings_of self.now) (shown self.now).chain round.0 }
         ensures margin { result.margin ≡ (settings_of self.now).margin }
     {
         let settings = self.state.settings;
         Committee {
-            weights: cache::committee(self.cache, self.table, settings, self.state.blocks, r),
+            weights: cache::committee(self.cache, self.table, settings, self.state.blocks, round),
             margin: settings.margin,
         }
     }
 
     /// The committees of a round and of the one before, by one walk.
-    pub fn committees(&self, r: Round) -> Committees
-        ensures at { result.at.weights ≡ committee_of (settings_of self.now) (shown self.now).chain r.0 }
-        ensures before { result.before.weights ≡ committee_of (settings_of self.now) (shown self.now).chain (r.0 - 1) }
+    pub fn committees(&self, round: Round) -> Committees
+        ensures at { result.at.weights
+            ≡ committee_of (settings_of self.now) (shown self.now).chain round.0 }
+        ensures before { result.before.weights
+            ≡ committee_of (settings_of self.now) (shown self.now).chain (round.0 - 1) }
         ensures margin_at { result.at.margin ≡ (settings_of self.now).margin }
         ensures margin_before { result.before.margin ≡ (settings_of self.now).margin }
     {
         let settings = self.state.settings;
         let margin = settings.margin;
-        let pair = cache::committees(self.cache, self.table, settings, self.state.blocks, r);
+        let pair = cache::committees(self.cache, self.table, settings, self.state.blocks, round);
         let weights = pair.before;
         let before = Committee { weights, margin };
         let weights = pair.at;
@@ -129,28 +136,33 @@ impl<'a> View<'a> {
     }
 
     /// Is the member's place of the round held?
-    pub fn is_held(&self, m: Member, r: Round) -> bool
-        requires place { m.0 < 16 }
-        requires from { 0 < r.0 }
-        requires to { r.0 ≤ (settings_of self.now).ceiling.0 }
-        ensures { result ≡ is_held ((shown self.now).dag m.0 r.0) }
+    pub fn is_held(&self, member: Member, round: Round) -> bool
+        requires place { member.0 < 16 }
+        requires from { 0 < round.0 }
+        requires to { round.0 ≤ (settings_of self.now).ceiling.0 }
+        ensures { result ≡ is_held ((shown self.now).dag member.0 round.0) }
     {
-        store::held(self.table, m, r)
+        store::held(self.table, member, round)
     }
 
     /// Check 10 of an endorsement: is the member's place of the round held or already endorsed?
-    pub fn is_taken(&self, m: Member, r: Round) -> bool
-        requires place { m.0 < 16 }
-        requires from { 0 < r.0 }
-        requires to { r.0 ≤ (settings_of self.now).ceiling.0 }
-        ensures { result ≡ (is_held ((shown self.now).dag m.0 r.0) || (shown self.now).endorsed m.0 r.0) }
+    pub fn is_taken(&self, member: Member, round: Round) -> bool
+        requires place { member.0 < 16 }
+        requires from { 0 < round.0 }
+        requires to { round.0 ≤ (settings_of self.now).ceiling.0 }
+        ensures { result ≡ (is_held ((shown self.now).dag member.0 round.0)
+            || (shown self.now).endorsed member.0 round.0) }
     {
-        self.is_held(m, r) || store::endorsed(self.table, m, r)
+        self.is_held(member, round) || store::endorsed(self.table, member, round)
     }
 
     /// Check 28: do the authors of the certificates held in the present round form no quorum of its committee?
     pub fn is_thin(&self) -> bool
-        ensures { let v = self.now in result ≡ not (quorum (settings_of v).margin (committee_in (settings_of v) (shown v) (shown v).round) (authors_in (settings_of v) (shown v) (shown v).round)) }
+        ensures { let v = self.now in
+            result
+            ≡ not
+            (quorum (settings_of v).margin (committee_in (settings_of v) (shown v)
+            (shown v).round) (authors_in (settings_of v) (shown v) (shown v).round)) }
     {
         let round = self.state.round;
         !self
@@ -160,53 +172,59 @@ impl<'a> View<'a> {
 
     /// Check 10 of propose: is there a proposal, or is one's own place held?
     pub fn has_proposed(&self) -> bool
-        ensures { let v = self.now in result ≡ (is_held (shown v).proposal || is_held ((shown v).dag v.state.now.own.0 (shown v).round)) }
+        ensures { let v = self.now in
+            result ≡ (is_held (shown v).proposal
+            || is_held ((shown v).dag v.state.now.own.0 (shown v).round)) }
     {
         self.state.proposal.is_some() || self.is_held(self.state.own, self.state.round)
     }
 
     /// Check 11: above round 1, is a named previous certificate not held?
-    pub fn lacks_previous(&self, p: Proposal) -> bool
-        requires from { 0 < p.round.0 }
-        requires to { p.round.0 ≤ (settings_of self.now).ceiling.0 }
-        ensures { result ≡ above p.round.0 (missing (settings_of self.now) (shown self.now) (content_of p)) }
+    pub fn lacks_previous(&self, proposal: Proposal) -> bool
+        requires from { 0 < proposal.round.0 }
+        requires to { proposal.round.0 ≤ (settings_of self.now).ceiling.0 }
+        ensures { result
+            ≡ above proposal.round.0 (missing (settings_of self.now) (shown self.now)
+            (content_of proposal)) }
     {
-        p.round.0 != 1
+        proposal.round.0 != 1
             && !base::is_subset(
-                p.body.previous as u32,
-                store::held_set(self.table, Round(p.round.0 - 1)),
+                proposal.body.previous as u32,
+                store::held_set(self.table, Round(proposal.round.0 - 1)),
             )
     }
 
     /// Check 12: above round 1, is the previous set no quorum of the round before?
     #[tactic(auto, unfolding(rules::specs::Tests::above))]
-    pub fn lacks_quorum(&self, p: Proposal) -> bool
-        requires { 0 < p.round.0 }
-        ensures { result ≡ too_few_previous (settings_of self.now) (shown self.now) (content_of p) }
+    pub fn lacks_quorum(&self, proposal: Proposal) -> bool
+        requires { 0 < proposal.round.0 }
+        ensures { result ≡ too_few_previous (settings_of self.now) (shown self.now)
+            (content_of proposal) }
     {
-        p.round.0 != 1
+        proposal.round.0 != 1
             && !self
-                .committee(Round(p.round.0 - 1))
-                .has_quorum(p.body.previous as u32)
+                .committee(Round(proposal.round.0 - 1))
+                .has_quorum(proposal.body.previous as u32)
     }
 
     /// Checks 4, 5, 6, 7 of a proposal.
     #[tactic(auto, unfolding(base::specs::Checks::refusal))]
-    pub fn check_form(&self, p: Proposal) -> Result<(), Refusal>
-        ensures refusal { refusal_in result ≡ refusal (form_checks (settings_of self.now) (content_of p)) }
-        ensures fits { OnOk result (FormFits self.now.state.now p) }
+    pub fn check_form(&self, proposal: Proposal) -> Result<(), Refusal>
+        ensures refusal { refusal_in result
+            ≡ refusal (form_checks (settings_of self.now) (content_of proposal)) }
+        ensures fits { OnOk result (FormFits self.now.state.now proposal) }
     {
-        if 15 < p.author.0 {
-            return Err(Refusal::NoSuchMember);
+        if 15 < proposal.author.0 {
+            return Err(Refusal::MemberRange);
         }
-        if self.is_bad_round(p.round) {
-            return Err(Refusal::NoSuchRound);
+        if self.is_bad_round(proposal.round) {
+            return Err(Refusal::RoundRange);
         }
-        if self.has_bad_transactions(p.body) {
-            return Err(Refusal::BadTransactions);
+        if self.has_bad_transactions(proposal.body) {
+            return Err(Refusal::TransactionsRange);
         }
-        if terms::is_bad_previous_set(p.round, p.body.previous as u32) {
-            return Err(Refusal::BadPreviousSet);
+        if terms::is_bad_previous_set(proposal.round, proposal.body.previous as u32) {
+            return Err(Refusal::PreviousEmpty);
         }
         Ok(())
     }

@@ -20,7 +20,7 @@ use Rattle.engine.specs.Calls.{Call, propose, endorse, draw}
 use Rattle.engine.specs.Engine.{Engine, refusal_for, after}
 use Rattle.engine.specs.Steps.{view_at, ruled}
 use Rattle.engine.specs.Reached.{Good}
-use Rattle.engine.proofs.RuledLaws.{refusal-ruled, accepted-ruled, good-after, view-after}
+use Rattle.engine.proofs.RuledLaws.{refusal-ruled, accepted-ruled, good_after, view-after}
 use Rattle.nonforking.specs.Statement.{chain, Members, Entry, Takes, certifies, accepts, Proposes, proposes, draws, Endorses, endorses, engine_after, Made, Signed, Fair, WithinBound, Run, engine_behaviour}
 use Rattle.nonforking.proofs.Implemented.{Handed}
 use Rattle.nonforking.proofs.StartLaws.{starts, start-view, correct-below, group}
@@ -78,7 +78,7 @@ module _ (X : Members engine_behaviour) (fit : out_of_range X.settings ≡ false
       next : (k : ℕ) (e : Engine) (s : Engine × MemberView settings) (c : Call) → Handed k e c → Shown settings k e s → Shown settings k (after e c) ((beside_engines settings).after k s c)
       next k e s c h x =
           record {
-            good = good-after x.good c h.0 h.1;
+            good = good_after x.good c h.0 h.1;
             same = ap (λ (d : Engine). after d c) x.same;
             shows = view-after x.good c h.0 h.1 ∙ ap₂ (λ (d : Engine) (v : MemberView settings). result settings k v (ruled d c)) x.same x.shows;
           }
@@ -99,8 +99,8 @@ module _ (X : Members engine_behaviour) (fit : out_of_range X.settings ≡ false
   signed_back : (l : List Entry) → AllHanded X l → (p : Content) (d : ℕ) → runs.Signed on_their_views p d l → Signed X p d l
   signed_back l k p d x =
       record {
-        by-author = λ c. made-back (λ e c. Proposes e c p) (λ s c. signatures.Proposes settings p.author s c p) p.author (λ s z. elim z [ ]) (λ e g c. propose-back g c p) c l k (x.by-author c);
-        by-endorsers = λ i c n. made-back (λ e c. Endorses c p) (λ s c. signatures.Endorses c p) i (λ s z. elim z [ ]) (λ e g c. endorse-back g c p) c l k (x.by-endorsers i c n);
+        by_author = λ c. made-back (λ e c. Proposes e c p) (λ s c. signatures.Proposes settings p.author s c p) p.author (λ s z. elim z [ ]) (λ e g c. propose-back g c p) c l k (x.by_author c);
+        by_endorsers = λ i c n. made-back (λ e c. Endorses c p) (λ s c. signatures.Endorses c p) i (λ s z. elim z [ ]) (λ e g c. endorse-back g c p) c l k (x.by_endorsers i c n);
       }
 
   fair_back : (e : Entry) (l : List Entry) → AllHanded X (e ∷ l) → runs.Fair on_their_views e l → Fair X e l

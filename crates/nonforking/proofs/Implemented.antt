@@ -1,6 +1,5 @@
 -- The engine is an implementation of the rules.
-use Rattle.std.proofs.Common.{◌≡◌, ap, subst, ℕ, ◌<◌, arith}
-use mathlib.Core.Option.{some}
+use Rattle.std.proofs.Common.{◌≡◌, ap, subst, ℕ, ◌<◌, arith, Some}
 use Rattle.terms.specs.Proposals.{Content}
 use Rattle.terms.specs.declared.sheet.Settings.{Settings}
 use Rattle.rules.specs.Tests.{MemberView}
@@ -17,7 +16,7 @@ use Rattle.engine.specs.Steps.{view_at, ruled}
 use Rattle.engine.specs.Sequences.{NoOpen}
 use Rattle.engine.specs.Reached.{Good}
 use Rattle.engine.proofs.AfterLaws.{refused-same}
-use Rattle.engine.proofs.RuledLaws.{accepted-ruled, accepted-view, good-after}
+use Rattle.engine.proofs.RuledLaws.{accepted-ruled, accepted-view, good_after}
 
 -- what is handed in: any values of their types; an accepted open, which starts another state, is none of the calls
 abbrev pub Handed : ℕ → Engine → Call → Type 0
@@ -39,7 +38,7 @@ module _ (S : Settings) (k : ℕ) (e : Engine) (s : MemberView S) where
 
 module _ (S : Settings) (k : ℕ) (e : Engine) (g : Good S k e) where
   -- what the table shows of a round up to the ceiling
-  pub held-rounds : (a r : ℕ) (p : Content) → (view_at S e).dag a r ≡ some p → IsRound S p.round
+  pub held-rounds : (a r : ℕ) (p : Content) → (view_at S e).dag a r ≡ Some p → IsRound S p.round
   held-rounds a r p h =
       let i = in_dag e.state.settings.ceiling.0 e.table a r p h in
       subst (λ (T : Settings). IsRound T p.round) g.settings (omega (arith, i.from, i.round), omega (arith, i.to, i.round))
@@ -47,7 +46,7 @@ module _ (S : Settings) (k : ℕ) (e : Engine) (g : Good S k e) where
   pub follows : (c : Call) → Handed k e c → refusal_for e c ≡ 0 → Follows S k (view_at S e) (ruled e c) (view_at S (after e c))
   follows c h a =
       record {
-        started = (formed e.state e.table g.formed).numbers.round-from;
+        started = (formed e.state e.table g.formed).numbers.round_from;
         fits = sets-fit S k e (view_at S e) c h.0;
         accepted = accepted-ruled g c a;
         becomes = accepted-view g c h.0 h.1 a;
@@ -64,7 +63,7 @@ implementation S =
       after = λ k e c. after e c;
       Handed = Handed;
       Good = Good S;
-      good-after = λ k e c h g. good-after g c h.0 h.1;
+      good_after = λ k e c h g. good_after g c h.0 h.1;
       held-rounds = held-rounds S;
       refused = λ k e c g n. ap (view_at S) (refused-same e c n);
       follows = λ k e c g. follows S k e g c;

@@ -1,6 +1,5 @@
 -- What lasts in a run: a block once made stays under every later call, and every state is well formed.
-use Rattle.std.proofs.Common.{◌≡◌, true, List, [], ◌∷◌, ◌++◌, ℕ}
-use mathlib.Core.Option.{some}
+use Rattle.std.proofs.Common.{◌≡◌, true, List, [], ◌∷◌, ◌++◌, ℕ, Some}
 use Rattle.agreement.specs.Rules.{Block}
 use Rattle.agreement.proofs.ListingLaws.{lists-prefix}
 use Rattle.agreement.specs.Prefixes.{block_numbered}
@@ -27,7 +26,7 @@ module _ (X : Members engine_behaviour) where
   -- the entries m follow the entries l
   module _ (m l : List Entry) (r : Run X (m ++ l)) (i : ℕ) (c : correct i ≡ true) where
     -- a block once made stays, with its number, its round and its certificates
-    pub block_kept : (n : ℕ) {b : Block Content} → block_numbered (chain (engine_after X l i)) n ≡ some b → block_numbered (chain (engine_after X (m ++ l) i)) n ≡ some b
+    pub block_kept : (n : ℕ) {b : Block Content} → block_numbered (chain (engine_after X l i)) n ≡ Some b → block_numbered (chain (engine_after X (m ++ l) i)) n ≡ Some b
     block_kept n = agreement.block-kept (group X) m l (run-ruled X (m ++ l) r) i c n
 
     -- and as chains are listed: the later one lists the same blocks, with the same certificates in the same order, and perhaps more

@@ -1,6 +1,6 @@
 -- A run of engines is a run of the rules, on the same list of calls.
-use Rattle.std.proofs.Common.{◌≡◌, sym, ◌∙◌, subst, subst₂, true, List, [], ◌∷◌, ◌++◌, inl, inr, ℕ, ◌≤◌}
-use mathlib.Core.Option.{some, some-injective}
+use Rattle.std.proofs.Common.{◌≡◌, sym, ◌∙◌, subst, subst₂, true, List, [], ◌∷◌, ◌++◌, inl, inr, ℕ, ◌≤◌, Some}
+use Rattle.std.proofs.lemmas.Option.{same_Some}
 use Rattle.agreement.specs.Weights.{weigh, total, outside}
 use Rattle.agreement.specs.Listing.{listing, Lists}
 use Rattle.agreement.proofs.EntryLaws.{Each, kept}
@@ -20,7 +20,7 @@ use Rattle.engine.specs.Calls.{Call, certify, accept}
 use Rattle.engine.specs.Engine.{Engine, refusal_for, after}
 use Rattle.engine.specs.Steps.{view_at, ruled}
 use Rattle.engine.specs.Reached.{Good}
-use Rattle.engine.proofs.RuledLaws.{good-after}
+use Rattle.engine.proofs.RuledLaws.{good_after}
 use Rattle.nonforking.specs.Statement.{chain, Prefix, draft, Members, Entry, Takes, certifies, accepts, Proposes, proposes, draws, Endorses, endorses, engine_after, Made, Signed, Fair, WithinBound, Run, engine_behaviour}
 use Rattle.nonforking.proofs.Implemented.{Handed}
 use Rattle.nonforking.proofs.StartLaws.{starts, group}
@@ -29,7 +29,7 @@ use Rattle.state.specs.States.{own_body}
 -- ---- one call
 
 -- an accepted certify has a proposal
-pub proposal-there : (e : Engine) (d : ℕ) → refusal_for e (certify d) ≡ 0 → own_proposal e.state ≡ some (draft e (own_body e.state))
+pub proposal-there : (e : Engine) (d : ℕ) → refusal_for e (certify d) ≡ 0 → own_proposal e.state ≡ Some (draft e (own_body e.state))
 proposal-there e d a = proposal-some e.state (certify-passed e.state e.table d a).proposing
 
 module _ (S : Settings) (e : Engine) where
@@ -43,7 +43,7 @@ module _ (S : Settings) (e : Engine) where
   -- what the rules' call takes in, the engine's does
   takes_back : (c : Call) → refusal_for e c ≡ 0 → (p : Content) (d : ℕ) → signatures.Takes S (view_at S e) (ruled e c) p d → Takes e c p d
   takes_back (certify d) a p x (signatures.certifies q y i) =
-      subst (λ (z : Content). Takes e (certify d) z d) (some-injective _ q (sym (proposal-there e d a) ∙ i)) (certifies d)
+      subst (λ (z : Content). Takes e (certify d) z d) (same_Some _ q (sym (proposal-there e d a) ∙ i)) (certifies d)
   takes_back (accept c) a p x (signatures.accepts q y) = accepts c
   takes_back c a p x y = elim y [ ]
 
@@ -70,8 +70,8 @@ module _ (X : Members engine_behaviour) where
   signed-ruled : (l : List Entry) (p : Content) (d : ℕ) → Signed X p d l → runs.Signed (group X) p d l
   signed-ruled l p d x =
       record {
-        by-author = λ c. made-ruled (λ e c. Proposes e c p) (λ s c. signatures.Proposes settings p.author s c p) (λ e c. propose-ruled settings e c p) p.author l (x.by-author c);
-        by-endorsers = λ i c n. made-ruled (λ e c. Endorses c p) (λ s c. signatures.Endorses c p) (λ e c. endorse-ruled settings e c p) i l (x.by-endorsers i c n);
+        by_author = λ c. made-ruled (λ e c. Proposes e c p) (λ s c. signatures.Proposes settings p.author s c p) (λ e c. propose-ruled settings e c p) p.author l (x.by_author c);
+        by_endorsers = λ i c n. made-ruled (λ e c. Endorses c p) (λ s c. signatures.Endorses c p) (λ e c. endorse-ruled settings e c p) i l (x.by_endorsers i c n);
       }
 
   fair_ruled : (e : Entry) (l : List Entry) → Fair X e l → runs.Fair (group X) e l
@@ -87,7 +87,7 @@ module _ (X : Members engine_behaviour) where
   all-handed (e ∷ l) r = ((r.0.is_in_range, r.0.still_open), all-handed l r.2)
 
   pub run-good : (l : List Entry) → Run X l → (i : ℕ) → correct i ≡ true → Good settings i (engine_after X l i)
-  run-good l r i c = kept (λ k e c. after e c) (starts X) Handed (Good settings) (λ k e c h g. good-after g c h.0 h.1) i ((group X).good i c) l (all-handed l r)
+  run-good l r i c = kept (λ k e c. after e c) (starts X) Handed (Good settings) (λ k e c h g. good_after g c h.0 h.1) i ((group X).good i c) l (all-handed l r)
 
   bound-ruled : (l : List Entry) → Run X l → WithinBound X l → runs.WithinBound (group X) l
   bound-ruled l r b j q c i =

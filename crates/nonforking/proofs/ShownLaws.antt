@@ -11,7 +11,7 @@ use Rattle.engine.specs.Calls.{Call, InRange}
 use Rattle.engine.specs.Engine.{Engine, after}
 use Rattle.engine.specs.Sequences.{after_calls, AllInRange, NoOpen, Opening, after_opening}
 use Rattle.engine.specs.Reached.{Good}
-use Rattle.engine.proofs.RuledLaws.{good-after}
+use Rattle.engine.proofs.RuledLaws.{good_after}
 use Rattle.engine.proofs.ReachedLaws.{intact, reached}
 use Rattle.nonforking.specs.Stored.{Holds, Stored, Shows}
 use Rattle.nonforking.proofs.StoredLaws.{taking_no_open, taken-fits, stored_held}
@@ -37,7 +37,7 @@ IsRound e r = (0 < r) × (r ≤ e.state.settings.ceiling.0)
 
 -- it stays one, as long as no open is accepted
 round-stays : {S : Settings} {own : ℕ} {e : Engine} → Good S own e → (c : Call) → InRange c → NoOpen e c → (r : ℕ) → IsRound e r → IsRound (after e c) r
-round-stays g c w o r = subst (λ (z : Settings). (0 < r) × (r ≤ z.ceiling.0)) (g.settings ∙ sym (good-after g c w o).settings)
+round-stays g c w o r = subst (λ (z : Settings). (0 < r) × (r ≤ z.ceiling.0)) (g.settings ∙ sym (good_after g c w o).settings)
 
 stored-round : (x : Opening) (l : List Call) → AllInRange l → (p : Content) (d : ℕ) → Stored (after_opening x) l p d → IsRound (after_calls (after_opening x) l) p.round
 unfolding after_calls

@@ -31,7 +31,7 @@ use Rattle.engine.specs.Engine.{Engine, refusal_for, after}
 use Rattle.engine.specs.Sequences.{after_calls, AllInRange, NoOpen, Opening, after_opening, NoOpens}
 use Rattle.engine.specs.Reached.{Good, Intact}
 use Rattle.engine.proofs.AfterLaws.{renewed, refused-same, accepted-new}
-use Rattle.engine.proofs.RuledLaws.{good-after}
+use Rattle.engine.proofs.RuledLaws.{good_after}
 use Rattle.engine.proofs.ReachedLaws.{intact, reached}
 use Rattle.nonforking.specs.Statement.{Takes, certifies, accepts}
 use Rattle.nonforking.specs.Stored.{Holds, Stored}
@@ -231,7 +231,7 @@ stored-by x c l i a r p d to h older = by (ℕ_discrete (refusal_for e c) 0)
 
     before : NoOpen e c → Holds e.table a r p d → Stored (after_opening x) (c ∷ l) p d
     before o y =
-        inr (o, older (subst (λ (S : Settings). r ≤ S.ceiling.0) ((good-after g.good c i.0 o).settings ∙ sym g.good.settings) to) y)
+        inr (o, older (subst (λ (S : Settings). r ≤ S.ceiling.0) ((good_after g.good c i.0 o).settings ∙ sym g.good.settings) to) y)
 
     no_open : (IsOpen c → ⊥) → NoOpen e c
     no_open f own sheet q n = f (subst IsOpen (sym q) (is_open own sheet))

@@ -3,7 +3,7 @@ use Rattle.std.proofs.Common.{◌≡◌, refl, ◌∙◌, true, false, [], ℕ, 
 use Rattle.base.specs.Checks.{refusal}
 use Rattle.base.proofs.CheckLaws.{passes, passes-all}
 use Rattle.base.specs.Folds.{tab, any_to, all_to, sum_to}
-use Rattle.base.specs.Sets.{mem, is_in, add, is_empty}
+use Rattle.base.specs.Sets.{mem, contains, insert, is_empty}
 use Rattle.agreement.specs.Places.{is_place, put, mark}
 use Rattle.agreement.specs.Histories.{level, in_history}
 use Rattle.agreement.specs.Commits.{in_chain, anchor_at, block_of, blocks_of, taken, committed}
@@ -66,28 +66,28 @@ record Computed : Type 0 where
   plain : are_plain calls ≡ true
   run : is_run views (λ k s c. is_plain c) calls ≡ true
   answers : are_answered members settings-fit round4 ≡ true
-  listed-by_0 : listing (ordered settings) (chain_after views calls 0) ≡ made
-  listed-by_1 : listing (ordered settings) (chain_after views calls 1) ≡ made
-  listed-by_2 : listing (ordered settings) (chain_after views calls 2) ≡ []
-  weight-before : committee_in settings (view_after views calls 1) 3 0 ≡ 3
-  weight-after : committee_in settings (view_after views calls 1) 4 0 ≡ 8
-  short-before : quorum settings.margin (committee_in settings (view_after views calls 1) 1) (is_in 9) ≡ false
-  enough-after : quorum settings.margin (committee_in settings (view_after views calls 1) 4) (is_in 9) ≡ true
+  listed_by_0 : listing (ordered settings) (chain_after views calls 0) ≡ made
+  listed_by_1 : listing (ordered settings) (chain_after views calls 1) ≡ made
+  listed_by_2 : listing (ordered settings) (chain_after views calls 2) ≡ []
+  weight_before : committee_in settings (view_after views calls 1) 3 0 ≡ 3
+  weight_after : committee_in settings (view_after views calls 1) 4 0 ≡ 8
+  short_before : quorum settings.margin (committee_in settings (view_after views calls 1) 1) (contains 9) ≡ false
+  enough_after : quorum settings.margin (committee_in settings (view_after views calls 1) 4) (contains 9) ≡ true
 
 computed : Computed
-unfolding transactions_of slot_of tab states result ruled_refusal after put mark is_place refusal bad_transactions all_in_range bond_in_range bad_previous_set is_empty unknown known_by committee_of committee_by leader_by step_from bonded_from start_of ordered rows row changes_of changes above missing quorum outsider short quorum_weight bound_of any_to sum_to is_in mem add signers_of bad_round same_proposal same_transactions same_transaction unvoted anchor_at leader_of member_at member_below count_below in_chain block_of blocks_of taken committed level in_history listing is_made is_signed is_bounded is_fair is_run all_to
+unfolding transactions_of slot_of tab states result ruled_refusal after put mark is_place refusal bad_transactions all_in_range bond_in_range bad_previous_set is_empty unknown known_by committee_of committee_by leader_by step_from bonded_from start_of ordered rows row changes_of changes above missing quorum outsider short quorum_weight bound_of any_to sum_to contains mem insert signers_of bad_round same_proposal same_transactions same_transaction unvoted anchor_at leader_of member_at member_below count_below in_chain block_of blocks_of taken committed level in_history listing is_made is_signed is_bounded is_fair is_run all_to
 computed =
     record {
       plain = refl;
       run = refl;
       answers = refl;
-      listed-by_0 = refl;
-      listed-by_1 = refl;
-      listed-by_2 = refl;
-      weight-before = refl;
-      weight-after = refl;
-      short-before = refl;
-      enough-after = refl;
+      listed_by_0 = refl;
+      listed_by_1 = refl;
+      listed_by_2 = refl;
+      weight_before = refl;
+      weight_after = refl;
+      short_before = refl;
+      enough_after = refl;
     }
 
 pub premises_can_be_met : (X : Members engine_behaviour) × Met X
@@ -100,12 +100,12 @@ premises_can_be_met =
         opened = λ i. refl;
         premises = run-back members settings-fit calls plain (run-found views (λ k s c. is_plain c) (λ k s c h. sets-fit settings k s.0 s.1 c (is_in_range c h)) calls computed.run);
         answers = answered-found members settings-fit round4 computed.plain computed.answers;
-        listed-by_0 = by-view members settings-fit (λ S x. listing (ordered S) x ≡ made) (at 0 refl) computed.listed-by_0;
-        listed-by_1 = by-view members settings-fit (λ S x. listing (ordered S) x ≡ made) (at 1 refl) computed.listed-by_1;
-        listed-by_2 = by-view members settings-fit (λ S x. listing (ordered S) x ≡ []) (at 2 refl) computed.listed-by_2;
-        weight-before = by-view members settings-fit (λ S x. weight_in (committee_of S x 3) 0 ≡ 3) (at 1 refl) computed.weight-before;
-        weight-after = by-view members settings-fit (λ S x. weight_in (committee_of S x 4) 0 ≡ 8) (at 1 refl) computed.weight-after;
-        short-before = by-view members settings-fit (λ S x. quorum settings.margin (weight_in (committee_of S x 1)) (is_in 9) ≡ false) (at 1 refl) computed.short-before;
-        enough-after = by-view members settings-fit (λ S x. quorum settings.margin (weight_in (committee_of S x 4)) (is_in 9) ≡ true) (at 1 refl) computed.enough-after;
+        listed_by_0 = by-view members settings-fit (λ S x. listing (ordered S) x ≡ made) (at 0 refl) computed.listed_by_0;
+        listed_by_1 = by-view members settings-fit (λ S x. listing (ordered S) x ≡ made) (at 1 refl) computed.listed_by_1;
+        listed_by_2 = by-view members settings-fit (λ S x. listing (ordered S) x ≡ []) (at 2 refl) computed.listed_by_2;
+        weight_before = by-view members settings-fit (λ S x. weight_in (committee_of S x 3) 0 ≡ 3) (at 1 refl) computed.weight_before;
+        weight_after = by-view members settings-fit (λ S x. weight_in (committee_of S x 4) 0 ≡ 8) (at 1 refl) computed.weight_after;
+        short_before = by-view members settings-fit (λ S x. quorum settings.margin (weight_in (committee_of S x 1)) (contains 9) ≡ false) (at 1 refl) computed.short_before;
+        enough_after = by-view members settings-fit (λ S x. quorum settings.margin (weight_in (committee_of S x 4)) (contains 9) ≡ true) (at 1 refl) computed.enough_after;
       },
     )

@@ -1,6 +1,6 @@
 -- What is claimed of every list of calls: chains never fork (docs/RULES.md, "What is claimed of runs").
 use Rattle.std.specs.Prelude.{◌≡◌, Bool, true, List, [], ◌∷◌, ◌++◌, ◌⊎◌, ◌≢◌, ℕ, ◌≤◌}
-use Rattle.base.specs.Sets.{is_in}
+use Rattle.base.specs.Sets.{contains}
 use Rattle.agreement.specs.Weights.{weigh, total, outside}
 use Rattle.agreement.specs.Rules.{Chain}
 use Rattle.agreement.specs.Listing.{listing}
@@ -63,7 +63,8 @@ pub record Members (B : Behaviour) : Type 0 where
   -- each correct member has opened with its own number and a sheet, on whatever state and table were there; those of other numbers mean nothing
   pub before : ℕ → Engine
   pub sheet : ℕ → Sheet
-  pub accepted : (k : ℕ) → correct k ≡ true → B.refusal (before k) (opens (record { 0 = k }) (sheet k)) ≡ 0
+  pub accepted : (k : ℕ) → correct k ≡ true
+      → B.refusal (before k) (opens (record { 0 = k }) (sheet k)) ≡ 0
   -- the filled settings are equal
   pub settings : Settings
   pub equal : (k : ℕ) → correct k ≡ true → filled (sheet k) ≡ settings
@@ -92,17 +93,21 @@ module _ {B : Behaviour} (X : Members B) where
 
   -- member i's engine after a list of entries, newest first: each call gets what the member's last one left
   abbrev pub engine_after : List Entry → ℕ → Engine
-  engine_after l i = states (λ k. after) (λ k. after (before k) (opens (record { 0 = k }) (sheet k))) l i
+  engine_after l i =
+      states (λ k. after) (λ k. after (before k) (opens (record { 0 = k }) (sheet k))) l i
 
   -- the list has an accepted call of member i for which f holds
   abbrev pub Made : (Engine → Call → Type 0) → ℕ → List Entry → Type 0
   Made f i [] = ⊥
-  Made f i (e ∷ l) = ((i ≡ e.who) × (refusal (engine_after l i) e.call ≡ 0) × f (engine_after l i) e.call) ⊎ Made f i l
+  Made f i (e ∷ l) =
+      ((i ≡ e.who) × (refusal (engine_after l i) e.call ≡ 0) × f (engine_after l i) e.call)
+      ⊎ Made f i l
 
   -- a correct author has an accepted propose of p in the list, and each correct endorser an accepted endorse of it
   pub record Signed (p : Content) (endorsers : ℕ) (l : List Entry) : Type 0 where
-    pub by-author : correct p.author ≡ true → Made (λ e c. Proposes e c p) p.author l
-    pub by-endorsers : (i : ℕ) → correct i ≡ true → is_in endorsers i ≡ true → Made (λ e c. Endorses c p) i l
+    pub by_author : correct p.author ≡ true → Made (λ e c. Proposes e c p) p.author l
+    pub by_endorsers : (i : ℕ) → correct i ≡ true → contains endorsers i ≡ true
+        → Made (λ e c. Endorses c p) i l
 
   -- the entry e after the entries l
   pub record Fair (e : Entry) (l : List Entry) : Type 0 where
@@ -110,14 +115,18 @@ module _ {B : Behaviour} (X : Members B) where
     pub by : correct e.who ≡ true
     pub is_in_range : InRange e.call
     -- an accepted open is no entry, as it starts another state; a refused one may be
-    pub still_open : (own : Member) (other : Sheet) → e.call ≡ opens own other → refusal (engine_after l e.who) e.call ≢ 0
+    pub still_open : (own : Member) (other : Sheet) → e.call ≡ opens own other
+        → refusal (engine_after l e.who) e.call ≢ 0
     -- where a certify or an accept is accepted, the correct signers have signed earlier in the list
-    pub signed : refusal (engine_after l e.who) e.call ≡ 0 → (p : Content) (endorsers : ℕ) → Takes (engine_after l e.who) e.call p endorsers → Signed p endorsers l
+    pub signed : refusal (engine_after l e.who) e.call ≡ 0 → (p : Content) (endorsers : ℕ)
+        → Takes (engine_after l e.who) e.call p endorsers → Signed p endorsers l
 
   -- in the committee of every round that a correct member knows, the faulty members weigh together at most the fault bound
   abbrev pub WithinBound : List Entry → Type 0
-  WithinBound l = (j r : ℕ) → correct j ≡ true → 1 ≤ r → r ≤ settings.ceiling.0 → Knows (engine_after l j) r
-      → weigh 16 (weights (engine_after l j) r) (outside correct) ≤ bound_of settings.margin (total 16 (weights (engine_after l j) r))
+  WithinBound l = (j r : ℕ) → correct j ≡ true → 1 ≤ r → r ≤ settings.ceiling.0
+      → Knows (engine_after l j) r
+      → weigh 16 (weights (engine_after l j) r) (outside correct)
+      ≤ bound_of settings.margin (total 16 (weights (engine_after l j) r))
 
   -- the premises: every entry is fair, and the bound holds at the start and after each entry
   abbrev pub Run : List Entry → Type 0
@@ -127,9 +136,12 @@ module _ {B : Behaviour} (X : Members B) where
   -- the conclusion, of any two correct members
   pub record Agreed (l : List Entry) : Type 0 where
     -- of the two chains one is a prefix of the other
-    pub chains : (i j : ℕ) → correct i ≡ true → correct j ≡ true → Prefix (engine_after l i) (engine_after l j) ⊎ Prefix (engine_after l j) (engine_after l i)
+    pub chains : (i j : ℕ) → correct i ≡ true → correct j ≡ true
+        → Prefix (engine_after l i) (engine_after l j)
+        ⊎ Prefix (engine_after l j) (engine_after l i)
     -- in the committee of every round that both know, every member has the same weight
-    pub committees : (i j r : ℕ) → correct i ≡ true → correct j ≡ true → Knows (engine_after l i) r → Knows (engine_after l j) r
+    pub committees : (i j r : ℕ) → correct i ≡ true → correct j ≡ true
+        → Knows (engine_after l i) r → Knows (engine_after l j) r
         → (m : ℕ) → weights (engine_after l i) r m ≡ weights (engine_after l j) r m
 
 -- the engine's own, as the contracts of its calls tell it

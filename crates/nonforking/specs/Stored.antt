@@ -19,7 +19,8 @@ pub record Holds (t : List ℕ) (a r : ℕ) (p : Content) (d : ℕ) : Type 0 whe
 -- an accepted certify or accept of the list, newest first, took the certificate of p with the endorsers d, and no open was accepted since
 abbrev pub Stored : Engine → List Call → Content → ℕ → Type 0
 Stored e [] p d = ⊥
-Stored e (c ∷ l) p d = ((refusal_for (after_calls e l) c ≡ 0) × Takes (after_calls e l) c p d) ⊎ (NoOpen (after_calls e l) c × Stored e l p d)
+Stored e (c ∷ l) p d = ((refusal_for (after_calls e l) c ≡ 0) × Takes (after_calls e l) c p d)
+    ⊎ (NoOpen (after_calls e l) c × Stored e l p d)
 
 -- the certificate read of author a and round r is accepted, and gives the proposal p and the endorsers d
 pub record Shows (e : Engine) (a r : ℕ) (p : Content) (d : ℕ) : Type 0 where

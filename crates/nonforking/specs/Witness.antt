@@ -2,7 +2,7 @@
 -- Members 0 and 1 make a block, whose bond changes a committee, and then a certificate whose signers are a quorum of that committee and were none of the starting one; member 2 has no block.
 -- Reads and refused calls are among the entries.
 use Rattle.std.specs.Prelude.{◌≡◌, true, false, List, [], ◌∷◌, ℕ, nat_lt, replicate}
-use Rattle.base.specs.Sets.{is_in}
+use Rattle.base.specs.Sets.{contains}
 use Rattle.terms.specs.declared.Transaction.{Transaction}
 use Rattle.terms.specs.declared.Transaction.TheVariants.{Bond}
 use Rattle.terms.specs.declared.Body.{Body}
@@ -20,10 +20,23 @@ use Rattle.nonforking.specs.Statement.{listed, weights, Members, Entry, engine_a
 
 -- lookback 1, ceiling 4, weight 3 for members 0 and 1, and nothing else written: members 2 and 3 have weight 1
 abbrev pub sheet : Sheet
-sheet = record { lookback = Written 1; ceiling = Written 4; allowance = Blank; weights = Written 3 ∷ Written 3 ∷ replicate 14 Blank; margin = Blank; rights = record { 0 = 0 } }
+sheet = record {
+  lookback = Written 1;
+  ceiling = Written 4;
+  allowance = Blank;
+  weights = Written 3 ∷ Written 3 ∷ replicate 14 Blank;
+  margin = Blank;
+  rights = record { 0 = 0 };
+}
 
 abbrev pub settings : Settings
-settings = record { lookback = 1; ceiling = record { 0 = 4 }; allowance = 4; weights = weight 3 ∷ weight 3 ∷ weight 1 ∷ weight 1 ∷ replicate 12 (weight 0); margin = 3 }
+settings = record {
+  lookback = 1;
+  ceiling = record { 0 = 4 };
+  allowance = 4;
+  weights = weight 3 ∷ weight 3 ∷ weight 1 ∷ weight 1 ∷ replicate 12 (weight 0);
+  margin = 3;
+}
 
 -- an entry, and the number that answers it: 0 where it is accepted
 pub record Answered : Type 0 where
@@ -37,7 +50,8 @@ entries (x ∷ l) = x.entry ∷ entries l
 -- each entry is answered with its number
 abbrev pub AreAnswered : Members engine_behaviour → List Answered → Type 0
 AreAnswered X [] = Unit {0}
-AreAnswered X (x ∷ l) = (refusal_for (engine_after X (entries l) x.entry.who) x.entry.call ≡ x.answer) × AreAnswered X l
+AreAnswered X (x ∷ l) =
+    (refusal_for (engine_after X (entries l) x.entry.who) x.entry.call ≡ x.answer) × AreAnswered X l
 
 -- an accepted call of member i
 abbrev pub by : ℕ → Call → Answered
@@ -67,7 +81,8 @@ abbrev pub round1 : List Answered
 round1 =
     by 1 (of 3 1 (with 0) 3) ∷ by 0 (of 3 1 (with 0) 3) ∷ by 1 (of 0 1 bond 10)
     ∷ by 0 (of 1 1 (with 0) 9) ∷ by 1 (certify 9) ∷ by 0 (certify 10)
-    ∷ by 1 (endorse (at 3 1 (with 0))) ∷ by 0 (endorse (at 3 1 (with 0))) ∷ by 0 (endorse (at 1 1 (with 0)))
+    ∷ by 1 (endorse (at 3 1 (with 0))) ∷ by 0 (endorse (at 3 1 (with 0)))
+    ∷ by 0 (endorse (at 1 1 (with 0)))
     ∷ by 1 (endorse (at 0 1 bond)) ∷ by 1 (propose (with 0)) ∷ by 0 (propose bond)
     ∷ []
 
@@ -101,13 +116,17 @@ round3 =
 -- the four reads, and an open that is refused; member 2 has no block and does not know round 4
 abbrev pub reading : List Answered
 reading =
-    by 0 (aside (committee (record { 0 = 4 }))) ∷ by 0 (aside (share (record { 0 = 2 }) (record { 0 = 4 }))) ∷ by 0 (aside (certificate (record { 0 = 3 }) (record { 0 = 1 }))) ∷ by 1 (aside (block 1))
-    ∷ refused 8 2 (aside (committee (record { 0 = 4 }))) ∷ refused 23 2 (aside (block 1)) ∷ refused 4 1 (opens (record { 0 = 16 }) sheet)
+    by 0 (aside (committee (record { 0 = 4 })))
+    ∷ by 0 (aside (share (record { 0 = 2 }) (record { 0 = 4 })))
+    ∷ by 0 (aside (certificate (record { 0 = 3 }) (record { 0 = 1 }))) ∷ by 1 (aside (block 1))
+    ∷ refused 8 2 (aside (committee (record { 0 = 4 }))) ∷ refused 23 2 (aside (block 1))
+    ∷ refused 4 1 (opens (record { 0 = 16 }) sheet)
     ∷ round3
 
 -- the committee of round 4 is the one that the bond changed: total 13, quorum 9; members 0 and 3, weighing 8 and 1, sign
 abbrev pub round4 : List Answered
-round4 = by 1 (of 0 4 (with 3) 8) ∷ by 0 (certify 8) ∷ by 0 (propose (with 3)) ∷ by 0 advance ∷ reading
+round4 = by 1 (of 0 4 (with 3) 8) ∷ by 0 (certify 8) ∷ by 0 (propose (with 3))
+    ∷ by 0 advance ∷ reading
 
 abbrev pub calls : List Entry
 calls = entries round4
@@ -118,7 +137,11 @@ listed_at a r previous l = record { author = a; round = r; previous = previous; 
 
 -- the block that members 0 and 1 list
 abbrev pub made : List (ℕ × List Content)
-made = (2, listed_at 1 1 0 [] ∷ listed_at 3 1 0 [] ∷ listed_at 0 1 0 (Bond (record { 0 = 0 }) 5 ∷ []) ∷ listed_at 1 2 11 [] ∷ []) ∷ []
+made = (
+  2,
+  listed_at 1 1 0 [] ∷ listed_at 3 1 0 [] ∷ listed_at 0 1 0 (Bond (record { 0 = 0 }) 5
+      ∷ []) ∷ listed_at 1 2 11 [] ∷ [],
+) ∷ []
 
 -- what is so of these members and calls
 pub record Met (X : Members engine_behaviour) : Type 0 where
@@ -127,12 +150,13 @@ pub record Met (X : Members engine_behaviour) : Type 0 where
   pub premises : Run X calls
   -- each entry is answered with the number that stands at it
   pub answers : AreAnswered X round4
-  pub listed-by_0 : listed (engine_after X calls 0) ≡ made
-  pub listed-by_1 : listed (engine_after X calls 1) ≡ made
-  pub listed-by_2 : listed (engine_after X calls 2) ≡ []
+  pub listed_by_0 : listed (engine_after X calls 0) ≡ made
+  pub listed_by_1 : listed (engine_after X calls 1) ≡ made
+  pub listed_by_2 : listed (engine_after X calls 2) ≡ []
   -- the bond is out in round 3 and in from round 4
-  pub weight-before : weights (engine_after X calls 1) 3 0 ≡ 3
-  pub weight-after : weights (engine_after X calls 1) 4 0 ≡ 8
+  pub weight_before : weights (engine_after X calls 1) 3 0 ≡ 3
+  pub weight_after : weights (engine_after X calls 1) 4 0 ≡ 8
   -- the signers of the certificate of round 4 are no quorum of the starting committee, and are one of the changed committee
-  pub short-before : quorum settings.margin (weights (engine_after X calls 1) 1) (is_in 9) ≡ false
-  pub enough-after : quorum settings.margin (weights (engine_after X calls 1) 4) (is_in 9) ≡ true
+  pub short_before : quorum settings.margin (weights (engine_after X calls 1) 1) (contains 9)
+      ≡ false
+  pub enough_after : quorum settings.margin (weights (engine_after X calls 1) 4) (contains 9) ≡ true

@@ -18,7 +18,13 @@ abbrev pub closed_state : State
 closed_state =
     record {
       own = record { 0 = 0 };
-      settings = record { lookback = 0; ceiling = record { 0 = 0 }; allowance = 0; weights = replicate 16 (weight 0); margin = 0 };
+      settings = record {
+        lookback = 0;
+        ceiling = record { 0 = 0 };
+        allowance = 0;
+        weights = replicate 16 (weight 0);
+        margin = 0;
+      };
       round = record { 0 = 0 };
       proposal = None;
       blocks = 0;
@@ -31,14 +37,17 @@ fresh_state own S R = fresh own S R
 
 -- 4 member above 15; 2 setting out of range; 3 no positive weight; 1 lent table too short
 abbrev pub opening : List ℕ → Member → Settings → Checks
-opening t own S = (nat_lt 15 own.0, 4) ∷ (out_of_range S, 2) ∷ (weightless S, 3) ∷ (nat_lt (length t) (used_length S.ceiling.0), 1) ∷ []
+opening t own S = (nat_lt 15 own.0, 4) ∷ (out_of_range S, 2) ∷ (weightless S, 3)
+    ∷ (nat_lt (length t) (used_length S.ceiling.0), 1) ∷ []
 
 unfoldable pub open_refusal : List ℕ → Member → Settings → ℕ
 open_refusal t own S = refusal (opening t own S)
 
 -- of a sheet only its filled settings and the rights are seen
 unfoldable pub open_state : State → List ℕ → Member → Sheet → State
-open_state s t own sheet = if_accepted (open_refusal t own (filled sheet)) (fresh_state own (filled sheet) sheet.rights) s
+open_state s t own sheet =
+    if_accepted (open_refusal t own (filled sheet)) (fresh_state own (filled sheet) sheet.rights) s
 
 unfoldable pub open_table : List ℕ → Member → Sheet → List ℕ
-open_table t own sheet = if_accepted (open_refusal t own (filled sheet)) (clear_used t (filled sheet).ceiling.0) t
+open_table t own sheet =
+    if_accepted (open_refusal t own (filled sheet)) (clear_used t (filled sheet).ceiling.0) t

@@ -13,8 +13,7 @@ ghost use Rattle.open.specs.Open.{closed_state, fresh_state, open_refusal, open_
 
 use refusals::Refusal;
 use state::State;
-use store::clearing;
-use store::lengths::ROW;
+use store::{clearing, places};
 use terms::sheet::{Rights, Settings, Sheet, Weight};
 use terms::{Member, Round, sheet};
 
@@ -54,20 +53,20 @@ fn fresh(own: Member, settings: Settings, rights: Rights) -> State
 
 // The checks: 4 member above 15; 2 setting out of range; 3 no positive weight; 1 lent table too short.
 #[tactic(auto, unfolding(base::specs::Checks::refusal, crate::specs::Open::open_refusal))]
-fn check(t: &[u32], own: Member, settings: Settings) -> Result<(), Refusal>
-    ensures refusal { refusal_in result ≡ open_refusal t.now own settings }
-    ensures room { OnOk result (Row t.now settings.ceiling.0) }
+fn check(table: &[u32], own: Member, settings: Settings) -> Result<(), Refusal>
+    ensures refusal { refusal_in result ≡ open_refusal table.now own settings }
+    ensures room { OnOk result (Row table.now settings.ceiling.0) }
 {
     if 15 < own.0 {
-        return Err(Refusal::NoSuchMember);
+        return Err(Refusal::MemberRange);
     }
     if sheet::is_out_of_range(settings) {
-        return Err(Refusal::SettingOutOfRange);
+        return Err(Refusal::SettingRange);
     }
     if sheet::is_weightless(settings) {
         return Err(Refusal::NoWeight);
     }
-    if t.len() < settings.ceiling.0 as usize * ROW + ROW {
+    if table.len() < places::used_length(settings.ceiling) {
         return Err(Refusal::Malformed);
     }
     Ok(())
@@ -75,14 +74,19 @@ fn check(t: &[u32], own: Member, settings: Settings) -> Result<(), Refusal>
 
 /// Opens the engine of a member; a refused open leaves the state and the table as they were.
 #[tactic(auto, unfolding(state::specs::Answers::if_accepted, crate::specs::Open::open_state, crate::specs::Open::open_table))]
-pub fn open(s: &mut State, t: &mut [u32], own: Member, written: Sheet) -> Result<(), Refusal>
-    ensures refusal { refusal_in result ≡ open_refusal t.old own (filled written) }
-    ensures state { s.new ≡ open_state s.old t.old own written }
-    ensures table { t.new ≡ open_table t.old own written }
+pub fn open(
+    state: &mut State,
+    table: &mut [u32],
+    own: Member,
+    written: Sheet,
+) -> Result<(), Refusal>
+    ensures refusal { refusal_in result ≡ open_refusal table.old own (filled written) }
+    ensures state { state.new ≡ open_state state.old table.old own written }
+    ensures table { table.new ≡ open_table table.old own written }
 {
     let settings = sheet::fill(written);
-    check(t, own, settings)?;
-    clearing::clear_used(t, settings.ceiling);
-    *s = fresh(own, settings, written.rights);
+    check(table, own, settings)?;
+    clearing::clear_used(table, settings.ceiling);
+    *state = fresh(own, settings, written.rights);
     Ok(())
 }

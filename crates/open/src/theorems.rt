@@ -10,9 +10,12 @@ ghost use Rattle.terms.specs.declared.sheet.Sheet.{Sheet};
 
 /// Sheets with equal filled settings and equal rights open alike, accepted or refused: the same answer, state and table.
 pub fn equal_settings_open()
-    ensures refusal { (t : List ℕ) (own : Member) (a b : Sheet) → filled a ≡ filled b → a.rights ≡ b.rights → open_refusal t own (filled a) ≡ open_refusal t own (filled b) }
-    ensures state { (s : State) (t : List ℕ) (own : Member) (a b : Sheet) → filled a ≡ filled b → a.rights ≡ b.rights → open_state s t own a ≡ open_state s t own b }
-    ensures table { (t : List ℕ) (own : Member) (a b : Sheet) → filled a ≡ filled b → a.rights ≡ b.rights → open_table t own a ≡ open_table t own b }
+    ensures refusal { (t : List ℕ) (own : Member) (a b : Sheet) → filled a ≡ filled b
+        → a.rights ≡ b.rights → open_refusal t own (filled a) ≡ open_refusal t own (filled b) }
+    ensures state { (s : State) (t : List ℕ) (own : Member) (a b : Sheet) → filled a ≡ filled b
+        → a.rights ≡ b.rights → open_state s t own a ≡ open_state s t own b }
+    ensures table { (t : List ℕ) (own : Member) (a b : Sheet) → filled a ≡ filled b
+        → a.rights ≡ b.rights → open_table t own a ≡ open_table t own b }
 {}
 
 /// Accepted opens of such sheets leave equal states and, in the part that is used, equal tables, whatever was there before; the tables whatever the rights.
@@ -20,6 +23,8 @@ pub fn equal_settings_open()
 pub fn same_opened()
     ensures state { (s v : State) (t u : List ℕ) (own : Member) (a b : Sheet) → filled a ≡ filled b → a.rights ≡ b.rights → open_refusal t own (filled a) ≡ 0 → open_refusal u own (filled b) ≡ 0
         → open_state s t own a ≡ open_state v u own b }
-    ensures table { (t u : List ℕ) (own : Member) (a b : Sheet) → filled a ≡ filled b → open_refusal t own (filled a) ≡ 0 → open_refusal u own (filled b) ≡ 0
-        → take (used_length (filled a).ceiling.0) (open_table t own a) ≡ take (used_length (filled b).ceiling.0) (open_table u own b) }
+    ensures table { (t u : List ℕ) (own : Member) (a b : Sheet) → filled a ≡ filled b
+        → open_refusal t own (filled a) ≡ 0 → open_refusal u own (filled b) ≡ 0
+        → take (used_length (filled a).ceiling.0) (open_table t own a)
+        ≡ take (used_length (filled b).ceiling.0) (open_table u own b) }
 {}

@@ -34,7 +34,8 @@ pub extern "C" fn forgelilac_owned_accept(
     certificate: &[u32],
 ) -> u32
     requires { Owned state.now table.old kept.now }
-    ensures done { Done plain (result_of state.now table.old [] (certificate_reads certificate.now) (accept (certificate_in certificate.now))) result state.now table.new [] }
+    ensures done { Done plain (result_of state.now table.old [] (certificate_reads certificate.now)
+        (accept (certificate_in certificate.now))) result state.now table.new [] }
     ensures owned { Owned state.now table.new kept.now }
 {
     hosting::plain(accept(state, table, kept, certificate))
@@ -48,7 +49,9 @@ fn accept(
     certificate: &[u32],
 ) -> Result<(), Refusal>
     requires { Owned state.now table.old kept.now }
-    ensures done { Done plain (result_of state.now table.old [] (certificate_reads certificate.now) (accept (certificate_in certificate.now))) (refusal_in result) state.now table.new [] }
+    ensures done { Done plain (result_of state.now table.old [] (certificate_reads certificate.now)
+        (accept (certificate_in certificate.now))) (refusal_in result)
+        state.now table.new [] }
     ensures owned { Owned state.now table.new kept.now }
 {
     let Some(s) = words::states::state(state) else {
@@ -66,7 +69,8 @@ fn accept(
 #[unsafe(no_mangle)]
 pub extern "C" fn forgelilac_owned_advance(state: &mut [u32], table: &[u32], kept: &[u64]) -> u32
     requires { Owned state.old table.now kept.now }
-    ensures done { Done plain (result_of state.old table.now [] true advance) result state.new table.now [] }
+    ensures done { Done plain (result_of state.old table.now [] true advance) result
+        state.new table.now [] }
     ensures owned { Owned state.new table.now kept.now }
 {
     hosting::plain(advance(state, table, kept))
@@ -75,7 +79,8 @@ pub extern "C" fn forgelilac_owned_advance(state: &mut [u32], table: &[u32], kep
 // The call, told as a result.
 fn advance(state: &mut [u32], table: &[u32], kept: &[u64]) -> Result<(), Refusal>
     requires { Owned state.old table.now kept.now }
-    ensures done { Done plain (result_of state.old table.now [] true advance) (refusal_in result) state.new table.now [] }
+    ensures done { Done plain (result_of state.old table.now [] true advance) (refusal_in result)
+        state.new table.now [] }
     ensures owned { Owned state.new table.now kept.now }
 {
     let Some(mut s) = words::states::state(state) else {
@@ -96,7 +101,8 @@ pub extern "C" fn forgelilac_owned_commit(
     kept: &mut [u64],
 ) -> u64
     requires { Owned state.old table.old kept.old }
-    ensures done { Done packed (result_of state.old table.old [] true commit) result state.new table.new [] }
+    ensures done { Done packed (result_of state.old table.old [] true commit) result
+        state.new table.new [] }
     ensures owned { Owned state.new table.new kept.new }
 {
     hosting::packed(commit(state, table, kept))
@@ -105,7 +111,8 @@ pub extern "C" fn forgelilac_owned_commit(
 // The call, told as a result.
 fn commit(state: &mut [u32], table: &mut [u32], kept: &mut [u64]) -> Result<u32, Refusal>
     requires { Owned state.old table.old kept.old }
-    ensures done { Done packed (result_of state.old table.old [] true commit) (packed_in result) state.new table.new [] }
+    ensures done { Done packed (result_of state.old table.old [] true commit) (packed_in result)
+        state.new table.new [] }
     ensures owned { Owned state.new table.new kept.new }
 {
     let Some(mut s) = words::states::state(state) else {

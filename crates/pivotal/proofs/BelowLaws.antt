@@ -1,6 +1,5 @@
 -- Every block holds certificates of rounds up to its own, in every engine that calls lead to.
-use Rattle.std.proofs.Common.{◌≡◌, sym, ap, ◌∙◌, subst, Bool, true, not, cond, ◌&&◌, true≢false, List, [], ◌∷◌, ℕ, ◌-◌, suc, ◌<◌, ◌≤◌, arith}
-use mathlib.Core.Option.{Option, none, some}
+use Rattle.std.proofs.Common.{◌≡◌, sym, ap, ◌∙◌, subst, Bool, true, not, cond, ◌&&◌, true≢false, List, [], ◌∷◌, ℕ, ◌-◌, suc, ◌<◌, ◌≤◌, arith, Option, Some, None}
 use native.Mathlib.Decide.{dec_lt}
 use Rattle.agreement.specs.Rules.{Chain, last, Rules}
 use Rattle.agreement.specs.View.{View}
@@ -35,7 +34,7 @@ module _ {R : Rules} (s : View R) where
   block-below x c a r h = go (dec_lt (round x) r)
     where
       go : Dec (round x < r) → r ≤ round x
-      go (yes l) = absurd (true≢false (sym h ∙ ap (λ (b : Bool). is_held (cond (b && not (in_chain c a r)) (s.dag a r) none)) (history-above s x r a l)))
+      go (yes l) = absurd (true≢false (sym h ∙ ap (λ (b : Bool). is_held (cond (b && not (in_chain c a r)) (s.dag a r) None)) (history-above s x r a l)))
       go (no n) = omega arith
 
   blocks-below : (l : List P) → Below s.chain → Below (blocks_of s l)
@@ -51,12 +50,12 @@ module _ {R : Rules} (s : View R) where
 
 module _ (S : Settings) (k : ℕ) (s : MemberView S) (b : Below s.chain) where
   certified-below : (o : Option Content) → Below (rules.certified S s o).chain
-  certified-below none = b
-  certified-below (some p) = b
+  certified-below None = b
+  certified-below (Some p) = b
 
   added-below : (o : Option Content) → Below (rules.added S s o)
-  added-below none = b
-  added-below (some x) = committed-below s x b
+  added-below None = b
+  added-below (Some x) = committed-below s x b
 
   after-below : (c : rules.Call) → Below (rules.after S k s c).chain
   unfolding rules.after

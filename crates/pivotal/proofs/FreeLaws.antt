@@ -5,8 +5,8 @@ use Rattle.agreement.specs.Dag.{is_held}
 use Rattle.store.specs.Table.{held_at, mark_at, block_round}
 use Rattle.scan.proofs.ScanLaws.{rows-held}
 use Rattle.committee.specs.Chain.{chain_of, block_at}
-use Rattle.running.specs.BlockChanges.{last_round}
-use Rattle.running.proofs.ChainLaws.{last_some, last_up}
+use Rattle.chain_committees.specs.BlockChanges.{last_round}
+use Rattle.chain_committees.proofs.ChainLaws.{last_some, last_up}
 use Rattle.state.specs.declared.State.{State}
 use Rattle.state.specs.Formed.{Formed}
 use Rattle.state.proofs.FormedLaws.{formed}

@@ -68,7 +68,7 @@ module _ (s : State) (t : List ℕ) (y : Accepted s t) (b : Below (chain_of s.se
   weighed = record { leader = record { 0 = lead }; weights = w; bound = record { 0 = bound_of s.settings.margin (total 16 (weight_in w)) }; votes = record { 0 = votes_for t w r lead } }
 
   weighs : Weighs s t weighed
-  weighs = record { timely = record { formed = y.formed; in_time = y.in_time }; voted = y.voted; its-leader = refl; its-weights = refl; its-bound = refl; its-votes = refl }
+  weighs = record { timely = record { formed = y.formed; in_time = y.in_time }; voted = y.voted; its_leader = refl; its_weights = refl; its_bound = refl; its_votes = refl }
 
   above : suc (r - 1) ≡ r
   above = omega (arith, y.timely.from)
@@ -77,7 +77,7 @@ module _ (s : State) (t : List ℕ) (y : Accepted s t) (b : Below (chain_of s.se
   up = ap suc (content-round t lead (r - 1)) ∙ above
 
   free : (a q : ℕ) → held_at t a q ≡ true → r - 1 ≤ q → q ≤ r → Free t a q
-  free a q h l m = record { held = h; unmarked = free-above s t y.formed b a q h (omega (arith, y.timely.above)) (omega (arith, y.formed.numbers.round-to)) }
+  free a q h l m = record { held = h; unmarked = free-above s t y.formed b a q h (omega (arith, y.timely.above)) (omega (arith, y.formed.numbers.round_to)) }
 
   -- ---- the round before: the anchor
 
@@ -107,7 +107,7 @@ module _ (s : State) (t : List ℕ) (y : Accepted s t) (b : Below (chain_of s.se
 
   votes-at : (a : ℕ) → votes (view s t) x a ≡ votes_at t r lead a
   unfolding votes_at
-  votes-at a = rw (content-author t lead (r - 1), content-round t lead (r - 1), above) (vote-dag s.settings.ceiling.0 t a r (omega (arith, y.timely.from)) y.formed.numbers.round-to s.settings lead)
+  votes-at a = rw (content-author t lead (r - 1), content-round t lead (r - 1), above) (vote-dag s.settings.ceiling.0 t a r (omega (arith, y.timely.from)) y.formed.numbers.round_to s.settings lead)
 
   votes-absent : (a : ℕ) → held_at t a r ≡ false → votes_at t r lead a ≡ false
   unfolding votes_at
@@ -156,4 +156,4 @@ module _ (s : State) (t : List ℕ) (y : Accepted s t) (b : Below (chain_of s.se
 pub commits_hang_on_pivots : (e : Engine) → Reached e → refusal_for e commit ≡ 0 → HangsOnPivots e
 commits_hang_on_pivots e h a =
     let y = accepted e.state e.table a in
-    record { anchor = _; is-anchor = anchor-led _ _ y.formed y.timely.from y.led; exactly = hangs e.state e.table y (reached-below h) }
+    record { anchor = _; is_anchor = anchor-led _ _ y.formed y.timely.from y.led; exactly = hangs e.state e.table y (reached-below h) }

@@ -4,7 +4,7 @@ use native.Mathlib.Decide.{ℕ_discrete, dec_lt}
 use lib.ListN.{get_or-eq_default}
 use lib.Seq.{paste}
 use Rattle.base.specs.Checks.{refusal}
-use Rattle.base.specs.Sets.{del}
+use Rattle.base.specs.Sets.{remove}
 use Rattle.base.proofs.PasteLaws.{paste-below}
 use Rattle.store.specs.Table.{row_length, Row, held_set, held_at}
 use Rattle.store.specs.Writes.{set_held, clear_held}
@@ -38,9 +38,9 @@ module _ (t : List ℕ) (row : Row t 0) (g : ℕ) (guest : g < 8) (w : List ℕ)
   only_without : (a q : ℕ) → OnlyFirst (clear_held t a q) (clear_held u a q)
   unfolding clear_held set_held
   only_without a q =
-      let x = del (held_set t q) a in
-      let y = del (held_set u q) a in
-      record { size = length-set u (q * row_length) y ∙ only.size ∙ sym (length-set t (q * row_length) x); rest = λ i h. go x y (ap (λ (z : ℕ). del z a) (set_same q)) i h (ℕ_discrete i (q * row_length)) (dec_lt i (length t)) }
+      let x = remove (held_set t q) a in
+      let y = remove (held_set u q) a in
+      record { size = length-set u (q * row_length) y ∙ only.size ∙ sym (length-set t (q * row_length) x); rest = λ i h. go x y (ap (λ (z : ℕ). remove z a) (set_same q)) i h (ℕ_discrete i (q * row_length)) (dec_lt i (length t)) }
     where
       go : (x y : ℕ) → y ≡ x → (i : ℕ) → row_length ≤ i → Dec (i ≡ q * row_length) → Dec (i < length t) → get_or (set u (q * row_length) y) i 0 ≡ get_or (set t (q * row_length) x) i 0
       go x y e i h (no n) d = get_or-set_other u (q * row_length) i y 0 n ∙ only.rest i h ∙ sym (get_or-set_other t (q * row_length) i x 0 n)

@@ -1,6 +1,5 @@
 -- What a commit hangs on: its anchor, and each vote without which the others weigh not more than the bound; and what the claims of the list speak of (pivotal::theorems).
-use Rattle.std.specs.Prelude.{◌≡◌, Bool, not, if◌then◌else◌, ◌&&◌, List, [], ◌∷◌, ◌++◌, ℕ, zero, suc, ◌-◌, ◌==◌, nat_lt}
-use Rattle.std.proofs.Math.Option.{some}
+use Rattle.std.specs.Prelude.{◌≡◌, Bool, not, if◌then◌else◌, ◌&&◌, List, [], ◌∷◌, ◌++◌, ℕ, zero, suc, ◌-◌, ◌==◌, nat_lt, Some}
 use Rattle.agreement.specs.Weights.{weigh, total}
 use Rattle.agreement.specs.Anchors.{votes}
 use Rattle.agreement.specs.Commits.{anchor_at}
@@ -20,12 +19,17 @@ module _ (S : Settings) (s : MemberView S) (x : Content) where
 
   -- the votes for x but a's weigh not more than the fault bound
   unfoldable pub unvoted_without : ℕ → Bool
-  unvoted_without a = not (nat_lt (bound_of S.margin (total 16 voters)) (weigh 16 voters (λ i. votes s x i && not (i == a))))
+  unvoted_without a =
+      not (nat_lt (bound_of S.margin (total 16 voters))
+      (weigh 16 voters (λ i. votes s x i && not (i == a))))
 
   -- the votes for x without which the others weigh not more than the fault bound, of authors below n, by rising author
   unfoldable pub pivotal_votes : ℕ → List Place
   pivotal_votes zero = []
-  pivotal_votes (suc n) = pivotal_votes n ++ (if votes s x n && unvoted_without n then record { round = suc x.round; author = n } ∷ [] else [])
+  pivotal_votes (suc n) = pivotal_votes n ++ (if votes s x n && unvoted_without n then record {
+    round = suc x.round;
+    author = n;
+  } ∷ [] else [])
 
   -- the anchor, then they
   abbrev pub pivots : List Place
@@ -34,5 +38,6 @@ module _ (S : Settings) (s : MemberView S) (x : Content) where
 -- the anchor of the round before is held, and the critical places are these and no other
 pub record HangsOnPivots (e : Engine) : Type 0 where
   pub anchor : Content
-  pub is-anchor : anchor_at (view_at e.state.settings e) (e.state.round.0 - 1) ≡ some anchor
-  pub exactly : critical_places e.state e.table ≡ pivots e.state.settings (view_at e.state.settings e) anchor
+  pub is_anchor : anchor_at (view_at e.state.settings e) (e.state.round.0 - 1) ≡ Some anchor
+  pub exactly : critical_places e.state e.table
+      ≡ pivots e.state.settings (view_at e.state.settings e) anchor

@@ -1,6 +1,6 @@
 -- Where a reader stands after n bytes tells that it has read n.
-use Rattle.std.proofs.Common.{◌≡◌, refl, sym, ap, ◌∙◌, Bool, true, false, cond, ◌&&◌, List, [], ◌∷◌, ◌≢◌, ℕ, ◌-◌, ◌<◌, ◌≤◌, arith, length, length-append, eqb, eq-eqb, ne_eqb, le-leb}
-use mathlib.Core.Option.{none, some, none-ne-some}
+use Rattle.std.proofs.Common.{◌≡◌, refl, sym, ap, ◌∙◌, Bool, true, false, cond, ◌&&◌, List, [], ◌∷◌, ◌≢◌, ℕ, ◌-◌, ◌<◌, ◌≤◌, arith, length, length-append, eqb, eq-eqb, ne_eqb, le-leb, Some, None}
+use Rattle.std.proofs.lemmas.Option.{none-some}
 use native.Mathlib.Decide.{ℕ_discrete, dec_lt}
 use borrow.Author.Tests.{lt-leb}
 use Rattle.ports.specs.Cursors.{Lines, text, line_of, Once, read_to, bytes_read, cursor_of}
@@ -14,18 +14,18 @@ cursor-zero (e ∷ l) = refl
 -- byte c .1 of the line of place c .0 is byte n of the listing, both counted from 1
 pub record Stands (l : Lines) (n : ℕ) (c : ℕ × ℕ) : Type 0 where
   pub line : List ℕ
-  pub there : line_of l c.0 ≡ some line
+  pub there : line_of l c.0 ≡ Some line
   pub from : 1 ≤ c.1
   pub to : c.1 ≤ length line
   pub count : read_to l c.0 c.1 ≡ n
 
 -- behind the first line
-later : (e : ℕ × List ℕ) (l : Lines) (n : ℕ) (c : ℕ × ℕ) → line_of l e.0 ≡ none → Stands l (n - length e.1) c → length e.1 < n → Stands (e ∷ l) n c
+later : (e : ℕ × List ℕ) (l : Lines) (n : ℕ) (c : ℕ × ℕ) → line_of l e.0 ≡ None → Stands l (n - length e.1) c → length e.1 < n → Stands (e ∷ l) n c
 unfolding read_to
 later e l n c o x h = record { line = x.line; there = line_else e l c.0 other ∙ x.there; from = x.from; to = x.to; count = rw (ne_eqb e.0 c.0 other, x.count) (omega arith) }
   where
     other : e.0 ≢ c.0
-    other q = none-ne-some x.line (sym o ∙ ap (line_of l) q ∙ x.there)
+    other q = none-some x.line (sym o ∙ ap (line_of l) q ∙ x.there)
 
 stands : (l : Lines) → Once l → (n : ℕ) → 1 ≤ n → n ≤ length (text l) → Stands l n (cursor_of l n)
 unfolding text cursor_of read_to

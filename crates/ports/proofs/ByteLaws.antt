@@ -1,5 +1,5 @@
 -- The next byte of a port: the next one of its line, or the first of the next line, or none.
-use Rattle.std.proofs.Common.{◌≡◌, refl, sym, ap, ◌∙◌, Bool, true, false, cond, ◌&&◌, List, [], ◌∷◌, ◌++◌, ◌≢◌, ℕ, suc, ◌+◌, ◌/◌, ◌%◌, ◌<◌, ◌≤◌, arith, length, length-append, get_or, eqb, leb, eq-eqb, ne_eqb, leb-true, le-leb}
+use Rattle.std.proofs.Common.{◌≡◌, refl, sym, ap, ◌∙◌, Bool, true, false, cond, ◌&&◌, List, [], ◌∷◌, ◌++◌, ◌≢◌, ℕ, suc, ◌+◌, ◌/◌, ◌%◌, ◌<◌, ◌≤◌, arith, length, length-append, get_or, eqb, leb, eq-eqb, ne_eqb, leb-true, le-leb, Option, Some, None}
 use lib.ListN.{get_or-append}
 use Rattle.base.proofs.Bools.{both}
 use Rattle.terms.specs.declared.sheet.Settings.{Settings}
@@ -134,24 +134,20 @@ module _ (S : Settings) (t : List ℕ) (blocks p j : ℕ) where
 
   -- ---- after the last byte of a line, or before the first: what the search for the next line tells
 
-  -- nothing more waits where it has found none, else the first byte of the line of place v
-  pub record NextLine (v : ℕ) : Type 0 where
-    pub over : v ≡ 0 → read ≡ length (listing_of S t blocks)
-    pub listed : v ≢ 0 → LinePlace t n blocks v
-    pub byte : v ≢ 0 → ByteAt v 1 (get_or (line_in v) 0 0)
+  -- nothing more waits where it has found none, else the first byte of the line of its place
+  abbrev pub NextLine : Option ℕ → Type 0
+  NextLine None = read ≡ length (listing_of S t blocks)
+  NextLine (Some q) = LinePlace t n blocks q × ByteAt q 1 (get_or (line_in q) 0 0)
 
-  found : (q : ℕ) → is_listed t n blocks q ≡ true → ByteAt q 1 (get_or (line_in q) 0 0) → NextLine q
-  found q h b = let x = listed_place t n blocks q h in record { over = λ e. absurd (omega (arith, x.from)); listed = λ _. x; byte = λ _. b }
-
-  over : read ≡ length (listing_of S t blocks) → NextLine 0
-  over e = record { over = λ _. e; listed = λ f. absurd (f refl); byte = λ f. absurd (f refl) }
+  found : (q : ℕ) → is_listed t n blocks q ≡ true → ByteAt q 1 (get_or (line_in q) 0 0) → NextLine (Some q)
+  found q h b = (listed_place t n blocks q h, b)
 
   pub next-after : cursor_fits t n blocks p j ≡ true → p ≢ 0 → length (line_in p) ≤ j → NextLine (first_place (lines_from S t blocks p))
   unfolding lines_from
   next-after fits s h = rw (ne_eqb p 0 s) (go (lines_after lines p) refl)
     where
       go : (l : Lines) → lines_after lines p ≡ l → NextLine (first_place l)
-      go [] x = over (byte-none fits s h x)
+      go [] x = byte-none fits s h x
       go (e ∷ m) x =
           let y = listed-line S t blocks e.0 e.1 (line-follows lines (once-chain S t blocks) p (line_in p) e.0 e.1 m (line-listed S t blocks p (here fits s)) x) in
           found e.0 y.0 (byte_next fits s h e.0 e.1 m x y.0 y.1)
@@ -164,7 +160,7 @@ module _ (S : Settings) (t : List ℕ) (blocks p j : ℕ) where
       none_read = start fits z
 
       go : (l : Lines) → lines ≡ l → NextLine (first_place l)
-      go [] x = over (none_read ∙ sym (ap length (sym (text-lines S (chain_of n t blocks)) ∙ ap text x) ∙ no_text))
+      go [] x = none_read ∙ sym (ap length (sym (text-lines S (chain_of n t blocks)) ∙ ap text x) ∙ no_text)
       go (e ∷ m) x =
           let y = listed-line S t blocks e.0 e.1 (ap (λ (l : Lines). line_of l e.0) x ∙ line-here e m) in
           let b = line_long t (e.0 % 16) (e.0 / 16) in

@@ -1,6 +1,6 @@
 -- Two words alone tell whether a port has read past the listing's end.
-use Rattle.std.proofs.Common.{◌≡◌, refl, sym, ap, ◌∙◌, Bool, true, false, cond, ◌&&◌, true≢false, List, ℕ, ◌+◌, ◌*◌, ◌/◌, ◌%◌, arith, length, get_or, eqb, leb, ltb, eq-eqb, ne_eqb, leb-true, ltb-true, le-leb, lt-ltb}
-use mathlib.Core.Option.{none, some, some-injective, none-ne-some}
+use Rattle.std.proofs.Common.{◌≡◌, refl, sym, ap, ◌∙◌, Bool, true, false, cond, ◌&&◌, true≢false, List, ℕ, ◌+◌, ◌*◌, ◌/◌, ◌%◌, arith, length, get_or, eqb, leb, ltb, eq-eqb, ne_eqb, leb-true, ltb-true, le-leb, lt-ltb, Some, None}
+use Rattle.std.proofs.lemmas.Option.{same_Some, none-some}
 use native.Mathlib.Decide.{ℕ_discrete}
 use Rattle.base.specs.Folds.{all_to}
 use Rattle.base.proofs.Bools.{both}
@@ -29,8 +29,8 @@ listed_place t n blocks p e =
       from = leb-true 16 p a.0;
       to = ltb-true p (n * 16 + 16) b.0;
       held = c.0;
-      mark-from = leb-true 1 (mark_at t (p % 16) (p / 16)) d.0;
-      mark-to = leb-true (mark_at t (p % 16) (p / 16)) blocks d.1;
+      mark_from = leb-true 1 (mark_at t (p % 16) (p / 16)) d.0;
+      mark_to = leb-true (mark_at t (p % 16) (p / 16)) blocks d.1;
     }
 
 module _ (S : Settings) (t : List ℕ) (blocks : ℕ) where
@@ -41,7 +41,7 @@ module _ (S : Settings) (t : List ℕ) (blocks : ℕ) where
   pub is-listed : (p : ℕ) → is_listed t n blocks p ≡ true → Listed S t blocks (p % 16) (p / 16)
   is-listed p e =
       let x = listed_place t n blocks p e in
-      record { member = omega arith; from = omega (arith, x.from); to = omega (arith, x.to); held = x.held; mark-from = x.mark-from; mark-to = x.mark-to }
+      record { member = omega arith; from = omega (arith, x.from); to = omega (arith, x.to); held = x.held; mark_from = x.mark_from; mark_to = x.mark_to }
 
   pub listed-is : (p : ℕ) → Listed S t blocks (p % 16) (p / 16) → is_listed t n blocks p ≡ true
   unfolding is_listed
@@ -50,25 +50,25 @@ module _ (S : Settings) (t : List ℕ) (blocks : ℕ) where
         le-leb 16 p (omega (arith, x.from)),
         lt-ltb p (n * 16 + 16) (omega (arith, x.to)),
         x.held,
-        le-leb 1 (mark_at t (p % 16) (p / 16)) x.mark-from,
-        le-leb (mark_at t (p % 16) (p / 16)) blocks x.mark-to,
+        le-leb 1 (mark_at t (p % 16) (p / 16)) x.mark_from,
+        le-leb (mark_at t (p % 16) (p / 16)) blocks x.mark_to,
       )
       refl
 
   -- the line of a place, by the test
-  pub line-listed : (p : ℕ) → is_listed t n blocks p ≡ true → line_of (placed_lines S t blocks) p ≡ some (line_at t (p % 16) (p / 16))
+  pub line-listed : (p : ℕ) → is_listed t n blocks p ≡ true → line_of (placed_lines S t blocks) p ≡ Some (line_at t (p % 16) (p / 16))
   line-listed p e = rw (by_place p) at (listed S t blocks (p % 16) (p / 16) (is-listed p e))
 
-  line-unlisted : (p : ℕ) → is_listed t n blocks p ≡ false → line_of (placed_lines S t blocks) p ≡ none
+  line-unlisted : (p : ℕ) → is_listed t n blocks p ≡ false → line_of (placed_lines S t blocks) p ≡ None
   line-unlisted p e = rw (by_place p) at (unlisted S t blocks (p % 16) (p / 16) (omega arith) (λ x. true≢false (sym (listed-is p x) ∙ e)))
 
   -- a line is that of a listed place
-  pub listed-line : (q : ℕ) (v : List ℕ) → line_of (placed_lines S t blocks) q ≡ some v → (is_listed t n blocks q ≡ true) × (v ≡ line_at t (q % 16) (q / 16))
+  pub listed-line : (q : ℕ) (v : List ℕ) → line_of (placed_lines S t blocks) q ≡ Some v → (is_listed t n blocks q ≡ true) × (v ≡ line_at t (q % 16) (q / 16))
   listed-line q v h = go (is_listed t n blocks q) refl
     where
       go : (b : Bool) → is_listed t n blocks q ≡ b → (b ≡ true) × (v ≡ line_at t (q % 16) (q / 16))
-      go true e = (refl, some-injective v (line_at t (q % 16) (q / 16)) (sym h ∙ line-listed q e))
-      go false e = absurd (none-ne-some v (sym (line-unlisted q e) ∙ h))
+      go true e = (refl, same_Some v (line_at t (q % 16) (q / 16)) (sym h ∙ line-listed q e))
+      go false e = absurd (none-some v (sym (line-unlisted q e) ∙ h))
 
   -- past the end or not, where something was read: the rules' words, and the test
   read_fits : (p j : ℕ) → leb (read_to (placed_lines S t blocks) p j) (length (listing_of S t blocks)) ≡ (is_listed t n blocks p && in_line j (length (line_at t (p % 16) (p / 16))))

@@ -1,7 +1,7 @@
 -- What the searches over keys and over blocks have found.
 use Rattle.std.proofs.Common.{◌≡◌, List, ℕ, ◌+◌, ◌*◌, ◌<◌, ◌≤◌, arith, get_or}
 use Rattle.std.specs.Prelude.{Option, Some, None, MatchOption, unwrap_or}
-use Rattle.running.specs.Links.{Marked}
+use Rattle.chain_committees.specs.Links.{Marked}
 use Rattle.ports.specs.Next.{key_place, KeyFound, BlockFound, Heads}
 
 -- the first number from a to e for which P holds, if there is one

@@ -33,7 +33,7 @@ kept_then x y =
 pub place-listed : (t : List ℕ) (n k p : ℕ) → LinePlace t n k p → is_listed t n k p ≡ true
 unfolding is_listed
 place-listed t n k p x =
-    rw (le-leb 16 p x.from, lt-ltb p (n * 16 + 16) x.to, x.held, le-leb 1 (mark_at t (p % 16) (p / 16)) x.mark-from, le-leb (mark_at t (p % 16) (p / 16)) k x.mark-to) refl
+    rw (le-leb 16 p x.from, lt-ltb p (n * 16 + 16) x.to, x.held, le-leb 1 (mark_at t (p % 16) (p / 16)) x.mark_from, le-leb (mark_at t (p % 16) (p / 16)) k x.mark_to) refl
 
 module _ (S : Settings) (t u : List ℕ) (k c : ℕ) (x : PortsKept t u S.ceiling.0 k c) where
   abbrev n : ℕ

@@ -1,6 +1,6 @@
 -- The line of each place of a table: that of a held certificate in a block, and none else.
-use Rattle.std.proofs.Common.{◌≡◌, refl, sym, ap, ◌∙◌, Bool, true, false, cond, List, [], ◌∷◌, ◌++◌, ◌≢◌, ℕ, zero, suc, ◌+◌, ◌-◌, ◌*◌, ◌/◌, ◌<◌, ◌≤◌, arith, length, eqb, eqb-true}
-use mathlib.Core.Option.{none, some, none-ne-some}
+use Rattle.std.proofs.Common.{◌≡◌, refl, sym, ap, ◌∙◌, Bool, true, false, cond, List, [], ◌∷◌, ◌++◌, ◌≢◌, ℕ, zero, suc, ◌+◌, ◌-◌, ◌*◌, ◌/◌, ◌<◌, ◌≤◌, arith, length, eqb, eqb-true, Some, None}
+use Rattle.std.proofs.lemmas.Option.{none-some}
 use native.Mathlib.Decide.{ℕ_discrete}
 use Rattle.terms.specs.declared.sheet.Settings.{Settings}
 use Rattle.store.specs.Table.{held_at, mark_at, content_at, certificate_at, block_round}
@@ -40,17 +40,17 @@ module _ (t : List ℕ) (n k a : ℕ) where
   abbrev pub block_places : Lines
   block_places = key_lines (key_line t k a) (key_place a) 16 (n * 16)
 
-  pub line-present : (m r : ℕ) → held_at t m r ≡ true → mark_at t m r ≡ k → line_in k (block_round t k) (holds_at t k m r) ≡ some (line_at t m r)
+  pub line-present : (m r : ℕ) → held_at t m r ≡ true → mark_at t m r ≡ k → line_in k (block_round t k) (holds_at t k m r) ≡ Some (line_at t m r)
   unfolding line_at
   line-present m r h q = rw (holds-present t k m r h q, content-author t m r, content-round t m r, q) refl
 
   pub block_listed : (m r : ℕ) → m < 16 → 1 ≤ r → r ≤ n → held_at t m r ≡ true → mark_at t m r ≡ k
-      → (line_of block_places (r * 16 + m) ≡ some (line_at t m r)) × (lines_after block_places (r * 16 + m) ≡ key_lines (key_line t k a) (key_place a) (suc (key_of a m r)) (16 + n * 16 - suc (key_of a m r)))
+      → (line_of block_places (r * 16 + m) ≡ Some (line_at t m r)) × (lines_after block_places (r * 16 + m) ≡ key_lines (key_line t k a) (key_place a) (suc (key_of a m r)) (16 + n * 16 - suc (key_of a m r)))
   block_listed m r l from to h q =
       let d = key_of a m r - 16 in
       let s : 16 + d ≡ key_of a m r = omega arith in
       let z : n * 16 - suc d ≡ 16 + n * 16 - suc (key_of a m r) = omega arith in
-      let w : key_line t k a (16 + d) ≡ some (line_at t m r) = rw (s, key-member a m r l, key-round a m r) (line-present m r h q) in
+      let w : key_line t k a (16 + d) ≡ Some (line_at t m r) = rw (s, key-member a m r l, key-round a m r) (line-present m r h q) in
       let x = keys-at (key_line t k a) (key_place a) 16 (n * 16) d (line_at t m r) (omega arith) apart w in
       let p : key_place a (16 + d) ≡ r * 16 + m = rw s (key-place a m r l) in
       (rw p at x.0, ap (lines_after block_places) (sym p) ∙ x.1 ∙ rw (s, z) refl)
@@ -59,19 +59,19 @@ module _ (t : List ℕ) (n k a : ℕ) where
       apart i j u v y e = let z = key_apart a i j e in absurd (omega arith)
 
   -- what a line tells
-  held-present : (m r : ℕ) (w : List ℕ) → line_in k (block_round t k) (holds_at t k m r) ≡ some w → (held_at t m r ≡ true) × (mark_at t m r ≡ k)
+  held-present : (m r : ℕ) (w : List ℕ) → line_in k (block_round t k) (holds_at t k m r) ≡ Some w → (held_at t m r ≡ true) × (mark_at t m r ≡ k)
   unfolding holds_at certificate_at
   held-present m r w e = go (eqb (mark_at t m r) k) (held_at t m r) refl e
     where
-      go : (b h : Bool) → eqb (mark_at t m r) k ≡ b → line_in k (block_round t k) (cond b (cond h (some (content_at t m r)) none) none) ≡ some w → (h ≡ true) × (mark_at t m r ≡ k)
+      go : (b h : Bool) → eqb (mark_at t m r) k ≡ b → line_in k (block_round t k) (cond b (cond h (Some (content_at t m r)) None) None) ≡ Some w → (h ≡ true) × (mark_at t m r ≡ k)
       go true true q x = (refl, eqb-true (mark_at t m r) k q)
-      go true false q x = absurd (none-ne-some w x)
-      go false h q x = absurd (none-ne-some w x)
+      go true false q x = absurd (none-some w x)
+      go false h q x = absurd (none-some w x)
 
-  pub block-unlisted : (m r : ℕ) → m < 16 → (1 ≤ r → r ≤ n → held_at t m r ≡ true → mark_at t m r ≡ k → ⊥) → line_of block_places (r * 16 + m) ≡ none
+  pub block-unlisted : (m r : ℕ) → m < 16 → (1 ≤ r → r ≤ n → held_at t m r ≡ true → mark_at t m r ≡ k → ⊥) → line_of block_places (r * 16 + m) ≡ None
   block-unlisted m r l f = keys_nowhere (key_line t k a) (key_place a) 16 (n * 16) (r * 16 + m) each
     where
-      each : (q : ℕ) → 16 ≤ q → q < 16 + n * 16 → (w : List ℕ) → key_line t k a q ≡ some w → key_place a q ≢ r * 16 + m
+      each : (q : ℕ) → 16 ≤ q → q < 16 + n * 16 → (w : List ℕ) → key_line t k a q ≡ Some w → key_place a q ≢ r * 16 + m
       each q u v w e p =
           let x = place-round a q m r l p in
           let y = held-present m r w (rw (x.0, x.1) at e) in
@@ -79,7 +79,7 @@ module _ (t : List ℕ) (n k a : ℕ) where
 
 -- ---- a chain
 
-none-there : (p : ℕ) → line_of [] p ≡ none
+none-there : (p : ℕ) → line_of [] p ≡ None
 unfolding line_of
 none-there p = refl
 
@@ -123,20 +123,20 @@ module _ (S : Settings) (t : List ℕ) where
     pub from : 1 ≤ r
     pub to : r ≤ S.ceiling.0
     pub held : held_at t m r ≡ true
-    pub mark-from : 1 ≤ mark_at t m r
-    pub mark-to : mark_at t m r ≤ k
+    pub mark_from : 1 ≤ mark_at t m r
+    pub mark_to : mark_at t m r ≤ k
 
-  pub unlisted : (k m r : ℕ) → m < 16 → (Listed k m r → ⊥) → line_of (chain k) (r * 16 + m) ≡ none
+  pub unlisted : (k m r : ℕ) → m < 16 → (Listed k m r → ⊥) → line_of (chain k) (r * 16 + m) ≡ None
   unlisted zero m r l f = rw lines_none (none-there (r * 16 + m))
   unlisted (suc k) m r l f =
       ap (λ (x : Lines). line_of x (r * 16 + m)) (lines_more k)
-      ∙ (line-right (chain k) (places_of k) (r * 16 + m) (unlisted k m r l (λ x. f (record { member = l; from = x.from; to = x.to; held = x.held; mark-from = x.mark-from; mark-to = omega (arith, x.mark-to) })))).0
-      ∙ block-unlisted t S.ceiling.0 (suc k) (start_after k) m r l (λ from to h e. f (record { member = l; from = from; to = to; held = h; mark-from = omega arith; mark-to = omega arith }))
+      ∙ (line-right (chain k) (places_of k) (r * 16 + m) (unlisted k m r l (λ x. f (record { member = l; from = x.from; to = x.to; held = x.held; mark_from = x.mark_from; mark_to = omega (arith, x.mark_to) })))).0
+      ∙ block-unlisted t S.ceiling.0 (suc k) (start_after k) m r l (λ from to h e. f (record { member = l; from = from; to = to; held = h; mark_from = omega arith; mark_to = omega arith }))
 
-  pub listed : (k m r : ℕ) → Listed k m r → line_of (chain k) (r * 16 + m) ≡ some (line_at t m r)
-  listed zero m r x = absurd (omega (arith, x.mark-from, x.mark-to))
-  listed (suc k) m r x = ap (λ (l : Lines). line_of l (r * 16 + m)) (lines_more k) ∙ go (ℕ_discrete (mark_at t m r) (suc k)) (λ h. listed k m r (record { member = x.member; from = x.from; to = x.to; held = x.held; mark-from = x.mark-from; mark-to = h }))
+  pub listed : (k m r : ℕ) → Listed k m r → line_of (chain k) (r * 16 + m) ≡ Some (line_at t m r)
+  listed zero m r x = absurd (omega (arith, x.mark_from, x.mark_to))
+  listed (suc k) m r x = ap (λ (l : Lines). line_of l (r * 16 + m)) (lines_more k) ∙ go (ℕ_discrete (mark_at t m r) (suc k)) (λ h. listed k m r (record { member = x.member; from = x.from; to = x.to; held = x.held; mark_from = x.mark_from; mark_to = h }))
     where
-      go : Dec (mark_at t m r ≡ suc k) → (mark_at t m r ≤ k → line_of (chain k) (r * 16 + m) ≡ some (line_at t m r)) → line_of (chain k ++ places_of k) (r * 16 + m) ≡ some (line_at t m r)
-      go (yes e) f = (line-right (chain k) (places_of k) (r * 16 + m) (unlisted k m r x.member (λ y. absurd (omega (arith, y.mark-to))))).0 ∙ (block_listed t S.ceiling.0 (suc k) (start_after k) m r x.member x.from x.to x.held e).0
-      go (no d) f = line-left (chain k) (places_of k) (r * 16 + m) (line_at t m r) (f (omega (arith, x.mark-to)))
+      go : Dec (mark_at t m r ≡ suc k) → (mark_at t m r ≤ k → line_of (chain k) (r * 16 + m) ≡ Some (line_at t m r)) → line_of (chain k ++ places_of k) (r * 16 + m) ≡ Some (line_at t m r)
+      go (yes e) f = (line-right (chain k) (places_of k) (r * 16 + m) (unlisted k m r x.member (λ y. absurd (omega (arith, y.mark_to))))).0 ∙ (block_listed t S.ceiling.0 (suc k) (start_after k) m r x.member x.from x.to x.held e).0
+      go (no d) f = line-left (chain k) (places_of k) (r * 16 + m) (line_at t m r) (f (omega (arith, x.mark_to)))

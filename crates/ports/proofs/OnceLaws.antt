@@ -1,7 +1,7 @@
 -- No place of a listing has two lines; and the lines after a place's: those of the later keys of its block, and of the later blocks.
-use Rattle.std.proofs.Common.{◌≡◌, refl, sym, ap, ◌∙◌, Bool, true, false, List, [], ◌++◌, append_assoc, append-nil, ℕ, zero, suc, ◌+◌, ◌-◌, ◌*◌, ◌/◌, ◌%◌, ◌<◌, ◌≤◌, arith}
+use Rattle.std.proofs.Common.{◌≡◌, refl, sym, ap, ◌∙◌, Bool, true, false, List, [], ◌++◌, append_assoc, append-nil, ℕ, zero, suc, ◌+◌, ◌-◌, ◌*◌, ◌/◌, ◌%◌, ◌<◌, ◌≤◌, arith, Option, Some, None}
 use mathlib.Core.Bool.{false≢true}
-use mathlib.Core.Option.{Option, none, some, none-ne-some}
+use Rattle.std.proofs.lemmas.Option.{none-some}
 use native.Mathlib.Decide.{ℕ_discrete, dec_lt}
 use Rattle.terms.specs.declared.sheet.Settings.{Settings}
 use Rattle.store.specs.Table.{held_at, mark_at}
@@ -41,26 +41,26 @@ module _ (t : List ℕ) (n k a : ℕ) where
   abbrev lines : Lines
   lines = block_places t n k a
 
-  none_in_block : (p : ℕ) → (InBlock t n k (p % 16) (p / 16) → ⊥) → line_of lines p ≡ none
+  none_in_block : (p : ℕ) → (InBlock t n k (p % 16) (p / 16) → ⊥) → line_of lines p ≡ None
   none_in_block p f = rw (by_place p) at (block-unlisted t n k a (p % 16) (p / 16) (omega arith) (λ i j h e. f (record { from = i; to = j; held = h; mark = e })))
 
   -- the keys after a place's
   abbrev pub later_keys : ℕ → Lines
   later_keys p = let q = suc (key_of a (p % 16) (p / 16)) in key_lines (key_line t k a) (key_place a) q (16 + n * 16 - q)
 
-  pub after_in_block : (p : ℕ) → InBlock t n k (p % 16) (p / 16) → (line_of lines p ≡ some (line_at t (p % 16) (p / 16))) × (lines_after lines p ≡ later_keys p)
+  pub after_in_block : (p : ℕ) → InBlock t n k (p % 16) (p / 16) → (line_of lines p ≡ Some (line_at t (p % 16) (p / 16))) × (lines_after lines p ≡ later_keys p)
   after_in_block p x = rw (by_place p) at (block_listed t n k a (p % 16) (p / 16) (omega arith) x.from x.to x.held x.mark)
 
   single_block : Single lines
   single_block p w h = go (in_block t n k (p % 16) (p / 16))
     where
-      later : line_of (later_keys p) p ≡ none
+      later : line_of (later_keys p) p ≡ None
       later = keys_nowhere (key_line t k a) (key_place a) (suc (key_of a (p % 16) (p / 16))) (16 + n * 16 - suc (key_of a (p % 16) (p / 16))) p
           (λ q u v _ _ e. let z = key_apart a (key_of a (p % 16) (p / 16)) q (key-place a (p % 16) (p / 16) (omega arith) ∙ by_place p ∙ sym e) in absurd (omega arith))
 
-      go : Dec (InBlock t n k (p % 16) (p / 16)) → line_of (lines_after lines p) p ≡ none
+      go : Dec (InBlock t n k (p % 16) (p / 16)) → line_of (lines_after lines p) p ≡ None
       go (yes x) = rw (after_in_block p x).1 later
-      go (no f) = absurd (none-ne-some w (sym (none_in_block p f) ∙ h))
+      go (no f) = absurd (none-some w (sym (none_in_block p f) ∙ h))
 
 -- ---- a chain
 
@@ -69,23 +69,23 @@ module _ (S : Settings) (t : List ℕ) where
   chain k = lines_of S (chain_of S.ceiling.0 t k)
 
   -- a place of the first k blocks is not of the next one
-  not_next : (k p : ℕ) (w : List ℕ) → line_of (chain k) p ≡ some w → line_of (places_of S t k) p ≡ none
+  not_next : (k p : ℕ) (w : List ℕ) → line_of (chain k) p ≡ Some w → line_of (places_of S t k) p ≡ None
   not_next k p w h = none_in_block t S.ceiling.0 (suc k) (start_after S t k) p λ x.
-      none-ne-some w (sym (rw (by_place p) at (unlisted S t k (p % 16) (p / 16) (omega arith) (λ y. absurd (omega (arith, y.mark-to, x.mark))))) ∙ h)
+      none-some w (sym (rw (by_place p) at (unlisted S t k (p % 16) (p / 16) (omega arith) (λ y. absurd (omega (arith, y.mark_to, x.mark))))) ∙ h)
 
   single_chain : (k : ℕ) → Single (chain k)
-  single_chain zero p w h = absurd (none-ne-some w (sym (unlisted-none p) ∙ h))
+  single_chain zero p w h = absurd (none-some w (sym (unlisted-none p) ∙ h))
     where
-      unlisted-none : (p : ℕ) → line_of (chain 0) p ≡ none
-      unlisted-none p = rw (by_place p) at (unlisted S t 0 (p % 16) (p / 16) (omega arith) (λ y. absurd (omega (arith, y.mark-from, y.mark-to))))
+      unlisted-none : (p : ℕ) → line_of (chain 0) p ≡ None
+      unlisted-none p = rw (by_place p) at (unlisted S t 0 (p % 16) (p / 16) (omega arith) (λ y. absurd (omega (arith, y.mark_from, y.mark_to))))
   single_chain (suc k) p w h = ap (λ (l : Lines). line_of (lines_after l p) p) (lines_more S t k) ∙ go (line_of (chain k) p) refl (λ v i. single_chain k p v i)
     where
-      h' : line_of (chain k ++ places_of S t k) p ≡ some w
+      h' : line_of (chain k ++ places_of S t k) p ≡ Some w
       h' = ap (λ (l : Lines). line_of l p) (sym (lines_more S t k)) ∙ h
 
-      go : (o : Option (List ℕ)) → line_of (chain k) p ≡ o → ((v : List ℕ) → line_of (chain k) p ≡ some v → line_of (lines_after (chain k) p) p ≡ none) → line_of (lines_after (chain k ++ places_of S t k) p) p ≡ none
-      go (some v) e f = ap (λ (l : Lines). line_of l p) (after-left (chain k) (places_of S t k) p v e) ∙ (line-right (lines_after (chain k) p) (places_of S t k) p (f v e)).0 ∙ not_next k p v e
-      go none e f =
+      go : (o : Option (List ℕ)) → line_of (chain k) p ≡ o → ((v : List ℕ) → line_of (chain k) p ≡ Some v → line_of (lines_after (chain k) p) p ≡ None) → line_of (lines_after (chain k ++ places_of S t k) p) p ≡ None
+      go (Some v) e f = ap (λ (l : Lines). line_of l p) (after-left (chain k) (places_of S t k) p v e) ∙ (line-right (lines_after (chain k) p) (places_of S t k) p (f v e)).0 ∙ not_next k p v e
+      go None e f =
           let x = line-right (chain k) (places_of S t k) p e in
           ap (λ (l : Lines). line_of l p) x.1 ∙ single_block t S.ceiling.0 (suc k) (start_after S t k) p w (sym x.0 ∙ h')
 
@@ -110,9 +110,9 @@ module _ (S : Settings) (t : List ℕ) where
   after-place k d p x =
       let w = line_at t (p % 16) (p / 16) in
       let b = after_in_block t S.ceiling.0 (suc k) (start_after S t k) p x in
-      let n : line_of (chain k) p ≡ none = rw (by_place p) at (unlisted S t k (p % 16) (p / 16) (omega arith) (λ y. absurd (omega (arith, y.mark-to, x.mark)))) in
+      let n : line_of (chain k) p ≡ None = rw (by_place p) at (unlisted S t k (p % 16) (p / 16) (omega arith) (λ y. absurd (omega (arith, y.mark_to, x.mark)))) in
       let r = line-right (chain k) (places_of S t k) p n in
-      let e : line_of (chain (suc k)) p ≡ some w = ap (λ (l : Lines). line_of l p) (lines_more S t k) ∙ r.0 ∙ b.0 in
+      let e : line_of (chain (suc k)) p ≡ Some w = ap (λ (l : Lines). line_of l p) (lines_more S t k) ∙ r.0 ∙ b.0 in
       ap (λ (l : Lines). lines_after l p) (chain-later (suc k) d)
       ∙ after-left (chain (suc k)) (later_blocks (suc k) d) p w e
       ∙ ap (λ (l : Lines). l ++ later_blocks (suc k) d) (ap (λ (l : Lines). lines_after l p) (lines_more S t k) ∙ r.1 ∙ b.1)

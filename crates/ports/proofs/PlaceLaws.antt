@@ -1,6 +1,6 @@
 -- The lines of a chain with their places are those of its listing; and in a table, the line of each place.
-use Rattle.std.proofs.Common.{◌≡◌, refl, sym, ap, ◌∙◌, Bool, true, false, cond, List, [], ◌∷◌, ◌++◌, append_assoc, ℕ, zero, suc, ◌+◌, ◌*◌, ◌/◌, ◌%◌, ◌≤◌, arith, length, eqb}
-use mathlib.Core.Option.{Option, none, some, some-injective, none-ne-some}
+use Rattle.std.proofs.Common.{◌≡◌, refl, sym, ap, ◌∙◌, Bool, true, false, cond, List, [], ◌∷◌, ◌++◌, append_assoc, ℕ, zero, suc, ◌+◌, ◌*◌, ◌/◌, ◌%◌, ◌≤◌, arith, length, eqb, Option, Some, None}
+use Rattle.std.proofs.lemmas.Option.{same_Some, none-some}
 use Rattle.agreement.specs.Rules.{Block, Chain}
 use Rattle.terms.specs.Proposals.{Content}
 use Rattle.terms.specs.declared.sheet.Settings.{Settings}
@@ -44,8 +44,8 @@ contents_append k b (p ∷ l) m = rw (contents_append k b l m) refl
 
 -- the line of a place that block k holds
 abbrev pub line_in : ℕ → ℕ → Option Content → Option (List ℕ)
-line_in k b none = none
-line_in k b (some p) = some (listing_line k b p.round p.author p.transactions)
+line_in k b None = None
+line_in k b (Some p) = Some (listing_line k b p.round p.author p.transactions)
 
 abbrev pub key_line : List ℕ → ℕ → ℕ → ℕ → Option (List ℕ)
 key_line t k a q = line_in k (block_round t k) (holds_at t k (key_member a q) (q / 16))
@@ -64,22 +64,22 @@ module _ (t : List ℕ) (n k a : ℕ) where
   unfolding content_places key_lines
   none-keyed q = refl
 
-  holds-place : (m r : ℕ) (p : Content) → holds_at t k m r ≡ some p → (p.author ≡ m) × (p.round ≡ r)
+  holds-place : (m r : ℕ) (p : Content) → holds_at t k m r ≡ Some p → (p.author ≡ m) × (p.round ≡ r)
   unfolding holds_at certificate_at
   holds-place m r p e = go (eqb (mark_at t m r) k) (held_at t m r) e
     where
-      go : (b h : Bool) → cond b (cond h (some (content_at t m r)) none) none ≡ some p → (p.author ≡ m) × (p.round ≡ r)
-      go true true q = let i = some-injective (content_at t m r) p q in (sym (ap (λ (x : Content). x.author) i) ∙ content-author t m r, sym (ap (λ (x : Content). x.round) i) ∙ content-round t m r)
-      go true false q = absurd (none-ne-some p q)
-      go false h q = absurd (none-ne-some p q)
+      go : (b h : Bool) → cond b (cond h (Some (content_at t m r)) None) None ≡ Some p → (p.author ≡ m) × (p.round ≡ r)
+      go true true q = let i = same_Some (content_at t m r) p q in (sym (ap (λ (x : Content). x.author) i) ∙ content-author t m r, sym (ap (λ (x : Content). x.round) i) ∙ content-round t m r)
+      go true false q = absurd (none-some p q)
+      go false h q = absurd (none-some p q)
 
   key_one : (q : ℕ) → content_places k round (at_most_one (holds_at t k (key_member a q) (q / 16))) ≡ keyed q 1
   unfolding content_places key_lines
   key_one q = go (holds_at t k (key_member a q) (q / 16)) refl
     where
       go : (o : Option Content) → holds_at t k (key_member a q) (q / 16) ≡ o → content_places k round (at_most_one o) ≡ one (key_line t k a) (key_place a) q (line_in k round o) ++ []
-      go none e = refl
-      go (some p) e = let x = holds-place (key_member a q) (q / 16) p e in ap (λ (z : ℕ). (z, listing_line k round p.round p.author p.transactions) ∷ []) (rw (x.0, x.1) refl)
+      go None e = refl
+      go (Some p) e = let x = holds-place (key_member a q) (q / 16) p e in ap (λ (z : ℕ). (z, listing_line k round p.round p.author p.transactions) ∷ []) (rw (x.0, x.1) refl)
 
   row-keys : (r m : ℕ) → 1 ≤ r → r ≤ n → m ≤ 16 → content_places k round (row block a r m) ≡ keyed (r * 16) m
   row-keys r zero l u h = rw (row-none block a r) (none-keyed (r * 16))

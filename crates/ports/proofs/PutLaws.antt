@@ -34,9 +34,9 @@ own_at t g (suc (suc (suc (suc (suc (suc (suc (suc k)))))))) h = absurd (omega a
 
 module _ (t : List ℕ) (g : ℕ) (room : port_start g + 8 ≤ length t) where
   -- put over themselves
-  pub same-own : t ≡ paste t (port_start g) (own t g) 8
+  pub same_own : t ≡ paste t (port_start g) (own t g) 8
   unfolding port_word
-  same-own = paste-by t t (port_start g) (own t g) 8 room refl refl (λ i h. refl) (λ i h. refl) (λ k h. sym (own_at t g k h))
+  same_own = paste-by t t (port_start g) (own t g) 8 room refl refl (λ i h. refl) (λ i h. refl) (λ k h. sym (own_at t g k h))
 
   -- one of them set
   pub set_own : (k v : ℕ) → k < 8 → set t (port_start g + k) v ≡ paste t (port_start g) (set (own t g) k v) 8

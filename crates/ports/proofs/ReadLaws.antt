@@ -1,7 +1,9 @@
 -- What a read leaves.
-use Rattle.std.proofs.Common.{◌≡◌, refl, sym, ◌∙◌, Bool, true, false, cond, not, ◌&&◌, List, ℕ, suc, ◌+◌, ◌/◌, ◌%◌, ◌≤◌, arith, length, set, eqb, leb, eq-eqb, ne_eqb, eqb-true, leb-true}
+use Rattle.std.proofs.Common.{◌≡◌, refl, sym, ap, ◌∙◌, Bool, true, false, cond, not, ◌&&◌, List, ℕ, suc, ◌+◌, ◌/◌, ◌%◌, ◌≤◌, arith, length, set, eqb, leb, eq-eqb, ne_eqb, eqb-true, leb-true, ltb, ltb-false, get_or, is_some, Option, Some, None}
 use native.Mathlib.Decide.{ℕ_discrete}
-use borrow.Author.Tests.{eqb-false, not-true}
+use lib.ListN.{get_or-eq_default}
+use Rattle.std.proofs.lemmas.Option.{same_Some, none-some}
+use Rattle.base.specs.Options.{if_there}
 use Rattle.base.proofs.Bools.{both}
 use Rattle.terms.specs.declared.sheet.Settings.{Settings}
 use Rattle.ports.specs.Cursors.{Lines, in_line, read_to, bytes_read, cursor_of}
@@ -9,12 +11,52 @@ use Rattle.ports.specs.Places.{line_at}
 use Rattle.ports.proofs.NextLaws.{cursor-back}
 use Rattle.ports.proofs.BackLaws.{cursor-zero}
 use Rattle.ports.specs.declared.registers.Next.{Next}
-use Rattle.ports.specs.Uart.{Port, takes, after_read}
+use Rattle.ports.specs.Uart.{Port, waits, values_at, takes, after_read}
 use Rattle.ports.specs.Ports.{port_start, port_word, listing_of, placed_lines, port_in, is_listed, cursor_fits, FormedPort, port_words, put_port}
-use Rattle.ports.specs.Bytes.{NextByte, looks_at_next}
+use Rattle.ports.specs.Bytes.{next_byte, looks_at_next}
 use Rattle.ports.proofs.FitLaws.{line-listed}
 use Rattle.ports.proofs.RegisterNextLaws.{cursor}
-use Rattle.ports.proofs.PutLaws.{same-own, set-two}
+use Rattle.ports.proofs.PutLaws.{same_own, set-two}
+
+-- ---- what the registers show of the next byte
+
+module _ (S : Settings) (t : List ℕ) (blocks g : ℕ) where
+  waits-next : is_some (next_byte S t blocks g) ≡ waits (listing_of S t blocks) (port_in S t blocks g)
+  unfolding next_byte
+  waits-next = go _ (waits (listing_of S t blocks) (port_in S t blocks g))
+    where
+      go : (v : Next) (b : Bool) → is_some (cond b (Some v) None) ≡ b
+      go v true = refl
+      go v false = refl
+
+  byte-next : if_there (next_byte S t blocks g) 0 (λ (x : Next). x.byte) ≡ get_or (listing_of S t blocks) (port_in S t blocks g).read 0
+  unfolding next_byte
+  byte-next = go _ _ (ltb r (length l)) refl
+    where
+      l : List ℕ
+      l = listing_of S t blocks
+
+      r : ℕ
+      r = (port_in S t blocks g).read
+
+      go : (c d : ℕ) (b : Bool) → ltb r (length l) ≡ b → if_there (cond b (Some (record { place = c; bytes = d; byte = get_or l r 0 })) None) 0 (λ (x : Next). x.byte) ≡ get_or l r 0
+      go c d true h = refl
+      go c d false h = sym (get_or-eq_default l 0 {n = r} (ltb-false r (length l) h))
+
+  module _ {n : Option Next} {o v : ℕ} (h : looks_at_next o ≡ true → n ≡ next_byte S t blocks g) where
+    pub data_shown : o ≡ 0 → v ≡ cond (leb 128 (port_word t g 3)) (port_word t g 6) (if_there n 0 (λ (x : Next). x.byte)) → v ≡ get_or (values_at (listing_of S t blocks) (port_in S t blocks g)) o 0
+    unfolding values_at port_in looks_at_next
+    data_shown e f = rw (f, h (rw e refl), byte-next, e) refl
+
+    pub interrupt_shown : o ≡ 2 → v ≡ cond (eqb (port_word t g 2) 1 && is_some n) 4 1 → v ≡ get_or (values_at (listing_of S t blocks) (port_in S t blocks g)) o 0
+    unfolding values_at port_in looks_at_next
+    interrupt_shown e f = rw (f, h (rw e refl), waits-next, e) refl
+
+    pub status_shown : o ≡ 5 → v ≡ cond (is_some n) 97 96 → v ≡ get_or (values_at (listing_of S t blocks) (port_in S t blocks g)) o 0
+    unfolding values_at port_in looks_at_next
+    status_shown e f = rw (f, h (rw e refl), waits-next, e) refl
+
+-- ---- what a read takes
 
 module _ (S : Settings) (t : List ℕ) (blocks g : ℕ) (x : FormedPort S t blocks g) where
   abbrev lines : Lines
@@ -44,7 +86,7 @@ module _ (S : Settings) (t : List ℕ) (blocks g : ℕ) (x : FormedPort S t bloc
   -- nothing taken
   pub put_same : put_port S t blocks g (port_in S t blocks g) ≡ t
   unfolding put_port port_words port_in
-  put_same = rw cursor-own (sym (same-own t g room))
+  put_same = rw cursor-own (sym (same_own t g room))
 
   abbrev listing : List ℕ
   listing = listing_of S t blocks
@@ -62,23 +104,37 @@ module _ (S : Settings) (t : List ℕ) (blocks g : ℕ) (x : FormedPort S t bloc
   unfolding after_read put_port port_words port_in
   put-taken o n e c = rw (e, c) (set-two t g room n.place n.bytes)
 
-  -- whether it does, by the next byte
-  takes-by : (o : ℕ) (n : Next) → o ≡ 0 → (looks_at_next o ≡ true → NextByte S t blocks g n) → takes listing port o ≡ (not (leb 128 (port_word t g 3)) && not (eqb n.place 0))
-  unfolding port_in looks_at_next
-  takes-by o n e h = let x = h (rw e refl) in rw (e, x.waiting) refl
+  -- whether it does, by the next byte, and where the port stands then
+  takes-by : (o : ℕ) → o ≡ 0 → takes listing port o ≡ (not (leb 128 (port_word t g 3)) && is_some (next_byte S t blocks g))
+  unfolding port_in
+  takes-by o e = rw (e, waits-next S t blocks g) refl
 
-  pub put_read : (o : ℕ) (n : Next) → (looks_at_next o ≡ true → NextByte S t blocks g n)
-      → cond (eqb o 0 && (not (leb 128 (port_word t g 3)) && not (eqb n.place 0))) (set (set t (port_start g + 0) n.place) (port_start g + 1) n.bytes) t
+  stands-next : (v : Next) → next_byte S t blocks g ≡ Some v → cursor_of lines (suc port.read) ≡ (v.place, v.bytes)
+  unfolding next_byte
+  stands-next v e = go (waits listing port) e
+    where
+      c : ℕ × ℕ
+      c = cursor_of lines (suc port.read)
+
+      n : Next
+      n = record { place = c.0; bytes = c.1; byte = get_or listing port.read 0 }
+
+      go : (b : Bool) → cond b (Some n) None ≡ Some v → c ≡ (v.place, v.bytes)
+      go true e = ap (λ (x : Next). (x.place, x.bytes)) (same_Some n v e)
+      go false e = absurd (none-some v e)
+
+  pub put_read : (o : ℕ) (n : Option Next) → (looks_at_next o ≡ true → n ≡ next_byte S t blocks g)
+      → cond (eqb o 0 && not (leb 128 (port_word t g 3))) (if_there n t (λ (x : Next). set (set t (port_start g + 0) x.place) (port_start g + 1) x.bytes)) t
       ≡ put_port S t blocks g (after_read listing port o)
   unfolding looks_at_next
   put_read o n h = go (ℕ_discrete o 0)
     where
-      by : (b : Bool) → (not (leb 128 (port_word t g 3)) && not (eqb n.place 0)) ≡ b → o ≡ 0 → cond b (set (set t (port_start g + 0) n.place) (port_start g + 1) n.bytes) t ≡ put_port S t blocks g (after_read listing port o)
-      by true i e =
-          let k = (both (not (leb 128 (port_word t g 3))) (not (eqb n.place 0)) i).1 in
-          put-taken o n (takes-by o n e h ∙ i) ((h (rw e refl)).then (eqb-false n.place 0 (not-true (eqb n.place 0) k)))
-      by false i e = put-still o (takes-by o n e h ∙ i)
+      by : o ≡ 0 → (b : Bool) → leb 128 (port_word t g 3) ≡ b → (m : Option Next) → next_byte S t blocks g ≡ m
+          → cond (not b) (if_there m t (λ (x : Next). set (set t (port_start g + 0) x.place) (port_start g + 1) x.bytes)) t ≡ put_port S t blocks g (after_read listing port o)
+      by e true d m k = put-still o (takes-by o e ∙ rw d refl)
+      by e false d None k = put-still o (takes-by o e ∙ rw (d, k) refl)
+      by e false d (Some v) k = put-taken o v (takes-by o e ∙ rw (d, k) refl) (stands-next v k)
 
-      go : Dec (o ≡ 0) → cond (eqb o 0 && (not (leb 128 (port_word t g 3)) && not (eqb n.place 0))) (set (set t (port_start g + 0) n.place) (port_start g + 1) n.bytes) t ≡ put_port S t blocks g (after_read listing port o)
+      go : Dec (o ≡ 0) → cond (eqb o 0 && not (leb 128 (port_word t g 3))) (if_there n t (λ (x : Next). set (set t (port_start g + 0) x.place) (port_start g + 1) x.bytes)) t ≡ put_port S t blocks g (after_read listing port o)
       go (no f) = rw (ne_eqb o 0 f) (put-still o (rw (ne_eqb o 0 f) refl))
-      go (yes e) = rw (eq-eqb o 0 e) (by (not (leb 128 (port_word t g 3)) && not (eqb n.place 0)) refl e)
+      go (yes e) = rw (eq-eqb o 0 e) (by e (leb 128 (port_word t g 3)) refl n (sym (h (rw e refl))))

@@ -1,22 +1,20 @@
 -- What the code finds is the next byte of a port.
-use Rattle.std.proofs.Common.{◌≡◌, sym, ap, ◌∙◌, true, not, List, ◌≢◌, ℕ, suc, ◌+◌, ◌/◌, ◌%◌, ◌<◌, ◌≤◌, arith, length, get_or, eq-eqb, ne_eqb, lt-ltb, le-ltb}
+use Rattle.std.proofs.Common.{◌≡◌, refl, sym, ◌∙◌, true, List, ◌≢◌, ℕ, suc, ◌+◌, ◌/◌, ◌%◌, ◌<◌, ◌≤◌, arith, length, get_or, lt-ltb, le-ltb, Option, Some, None}
 use native.Mathlib.Decide.{ℕ_discrete}
-use lib.ListN.{get_or-eq_default}
 use Rattle.base.proofs.Bools.{both}
 use Rattle.terms.specs.declared.sheet.Settings.{Settings}
-use Rattle.running.specs.ChainInTable.{ChainInTable}
+use Rattle.chain_committees.specs.ChainInTable.{ChainInTable}
 use Rattle.ports.specs.Cursors.{bytes_read}
 use Rattle.ports.specs.Places.{line_at, HasLine}
 use Rattle.ports.specs.Next.{first_place, lines_from, LinePlace}
-use Rattle.ports.specs.declared.registers.Next.{Next}
 use Rattle.ports.specs.Ports.{port_word, listing_of, placed_lines, port_in, cursor_fits, FormedPort}
-use Rattle.ports.specs.Bytes.{NextByte}
+use Rattle.ports.specs.Bytes.{next_byte}
 use Rattle.ports.proofs.FitLaws.{port_local}
 use Rattle.ports.proofs.ByteLaws.{ByteAt, NextLine, place, byte_inside, next-after, next-first}
 
 -- a place of a line is in the table
 pub has_line : (S : Settings) (t : List ℕ) (blocks p : ℕ) → ChainInTable S t blocks → LinePlace t S.ceiling.0 blocks p → HasLine t p
-has_line S t blocks p c x = record { within = record { member = omega arith; row = omega (arith, x.to, c.long) }; block = omega (arith, x.mark-to, c.few, c.long) }
+has_line S t blocks p c x = record { within = record { member = omega arith; row = omega (arith, x.to, c.long) }; block = omega (arith, x.mark_to, c.few, c.long) }
 
 module _ (S : Settings) (t : List ℕ) (blocks g : ℕ) (x : FormedPort S t blocks g) where
   abbrev p : ℕ
@@ -31,15 +29,9 @@ module _ (S : Settings) (t : List ℕ) (blocks g : ℕ) (x : FormedPort S t bloc
   pub stands : p ≢ 0 → LinePlace t S.ceiling.0 blocks p
   stands n = place S t blocks p j cursor n
 
-  told : (v : Next) → ByteAt S t blocks p j v.place v.bytes v.byte → v.place ≢ 0 → NextByte S t blocks g v
-  unfolding port_in
-  told v b n = record { waiting = lt-ltb _ _ b.waiting ∙ sym (ap not (ne_eqb v.place 0 n)); is-next = sym b.byte; then = λ _. b.cursor }
-
-  -- inside the line
-  pub inside-told : (v : Next) → p ≢ 0 → j < length (line_at t (p % 16) (p / 16)) → v.place ≡ p → v.bytes ≡ j + 1 → v.byte ≡ get_or (line_at t (p % 16) (p / 16)) j 0 → NextByte S t blocks g v
-  inside-told v n h a b c =
-      let z : j + 1 ≡ suc j = omega arith in
-      told v (rw (a, b, c, z) (byte_inside S t blocks p j cursor n h)) (λ e. n (sym a ∙ e))
+  told : (q i b : ℕ) → ByteAt S t blocks p j q i b → Some (record { place = q; bytes = i; byte = b }) ≡ next_byte S t blocks g
+  unfolding next_byte port_in
+  told q i b x = rw (lt-ltb (bytes_read (placed_lines S t blocks) p j) (length (listing_of S t blocks)) x.waiting, x.cursor, x.byte) refl
 
   -- after its end, or before the first line
   pub line-told : (p ≢ 0 → length (line_at t (p % 16) (p / 16)) ≤ j) → NextLine S t blocks p j (first_place (lines_from S t blocks p))
@@ -49,20 +41,16 @@ module _ (S : Settings) (t : List ℕ) (blocks g : ℕ) (x : FormedPort S t bloc
       go (yes e) = next-first S t blocks p j cursor e
       go (no n) = next-after S t blocks p j cursor n (h n)
 
-  pub search_told : (v : Next) (q : ℕ) → NextLine S t blocks p j q → v.place ≡ q → v.bytes ≡ 1 → (q ≡ 0 → v.byte ≡ 0) → (q ≢ 0 → v.byte ≡ get_or (line_at t (q % 16) (q / 16)) 0 0) → NextByte S t blocks g v
-  unfolding port_in
-  search_told v q l a b z c = go (ℕ_discrete q 0)
-    where
-      go : Dec (q ≡ 0) → NextByte S t blocks g v
-      go (yes e) =
-          let r = bytes_read (placed_lines S t blocks) p j in
-          let n = length (listing_of S t blocks) in
-          record {
-            waiting = le-ltb r n (omega (arith, l.over e)) ∙ sym (ap not (eq-eqb v.place 0 (a ∙ e)));
-            is-next = z e ∙ sym (get_or-eq_default (listing_of S t blocks) 0 {n = r} (omega (arith, l.over e)));
-            then = λ n. absurd (n (a ∙ e));
-          }
-      go (no n) = told v (rw (a, b, c n) (l.byte n)) (λ e. n (sym a ∙ e))
+  -- nothing waits, or the first byte of a line
+  pub none_told : NextLine S t blocks p j None → None ≡ next_byte S t blocks g
+  unfolding next_byte port_in
+  none_told l = rw (le-ltb (bytes_read (placed_lines S t blocks) p j) (length (listing_of S t blocks)) (omega (arith, l))) refl
+
+  pub line_found : {q : ℕ} → NextLine S t blocks p j (Some q) → HasLine t q
+  line_found l = has_line S t blocks _ x.chain l.0
+
+  pub first_told : {q y : ℕ} → NextLine S t blocks p j (Some q) → y ≡ get_or (line_at t (q % 16) (q / 16)) 0 0 → Some (record { place = q; bytes = 1; byte = y }) ≡ next_byte S t blocks g
+  first_told {q} l e = rw e (told q 1 _ l.1)
 
   -- ---- the same, of two numbers that are these words
 
@@ -70,8 +58,10 @@ module _ (S : Settings) (t : List ℕ) (blocks g : ℕ) (x : FormedPort S t bloc
     pub stands_at : a ≢ 0 → LinePlace t S.ceiling.0 blocks a
     stands_at n = rw e (stands (λ z. n (e ∙ z)))
 
-    pub inside_at : {y : ℕ} → a ≢ 0 → b < length (line_at t (a % 16) (a / 16)) → y ≡ get_or (line_at t (a % 16) (a / 16)) b 0 → NextByte S t blocks g (record { place = a; bytes = b + 1; byte = y })
-    inside_at n h l = inside-told (record { place = _; bytes = _; byte = _ }) (λ z. n (e ∙ z)) (rw (e, f) at h) e (ap (λ (z : ℕ). z + 1) f) (rw (e, f) at l)
+    pub inside_at : {y : ℕ} → a ≢ 0 → b < length (line_at t (a % 16) (a / 16)) → y ≡ get_or (line_at t (a % 16) (a / 16)) b 0 → Some (record { place = a; bytes = b + 1; byte = y }) ≡ next_byte S t blocks g
+    inside_at n h l =
+        let z : j + 1 ≡ suc j = omega arith in
+        rw (l, e, f, z) (told p (suc j) _ (byte_inside S t blocks p j cursor (λ z. n (e ∙ z)) (rw (e, f) at h)))
 
-    pub next_line_at : {v : ℕ} → v ≡ first_place (lines_from S t blocks a) → (a ≢ 0 → length (line_at t (a % 16) (a / 16)) ≤ b) → NextLine S t blocks p j v
+    pub next_line_at : {v : Option ℕ} → v ≡ first_place (lines_from S t blocks a) → (a ≢ 0 → length (line_at t (a % 16) (a / 16)) ≤ b) → NextLine S t blocks p j v
     next_line_at y h = rw (y, e) (line-told (λ n. rw (e, f) at (h (λ z. n (sym e ∙ z)))))

@@ -1,15 +1,14 @@
 -- What the search for the next line has found is the next line.
-use Rattle.std.proofs.Common.{◌≡◌, refl, sym, ap, ◌∙◌, Bool, true, false, List, [], ◌∷◌, ◌++◌, append_assoc, append-nil, ℕ, zero, suc, ◌+◌, ◌-◌, ◌*◌, ◌/◌, ◌%◌, ◌<◌, ◌≤◌, arith, add-one, length, drop, ne_eqb}
-use mathlib.Core.Option.{none, some}
+use Rattle.std.proofs.Common.{◌≡◌, refl, sym, ap, ◌∙◌, Bool, true, false, List, [], ◌∷◌, ◌++◌, append_assoc, append-nil, ℕ, zero, suc, ◌+◌, ◌-◌, ◌*◌, ◌/◌, ◌%◌, ◌<◌, ◌≤◌, arith, add-one, length, drop, ne_eqb, Some, None}
 use native.Mathlib.Decide.{dec_lt}
 use lib.Seq.{drop-append-add}
 use Rattle.terms.specs.declared.sheet.Settings.{Settings}
 use Rattle.store.specs.Table.{held_at, mark_at, block_round}
 use Rattle.committee.specs.Chain.{holds_at, chain_of}
 use Rattle.committee.proofs.ChainLaws.{holds-other, holds-absent}
-use Rattle.running.specs.BlockChanges.{start_at}
-use Rattle.running.specs.Links.{Marked}
-use Rattle.running.proofs.StartLaws.{start-le}
+use Rattle.chain_committees.specs.BlockChanges.{start_at}
+use Rattle.chain_committees.specs.Links.{Marked}
+use Rattle.chain_committees.proofs.StartLaws.{start_le}
 use Rattle.ports.specs.Cursors.{Lines, lines_after}
 use Rattle.ports.specs.Places.{lines_of, line_at}
 use Rattle.ports.specs.Next.{first_place, lines_from, lines_beyond, key_member, key_place, key_of, KeyFound, BlockFound, LinePlace, NextInBlock}
@@ -30,13 +29,13 @@ module _ (t : List ℕ) (n k a : ℕ) where
   place-round : (q : ℕ) → key_place a q / 16 ≡ q / 16
   place-round q = omega arith
 
-  key-some : (q : ℕ) → Marked t k (key_place a q) → key_line t k a q ≡ some (line_at t (key_member a q) (q / 16))
+  key-some : (q : ℕ) → Marked t k (key_place a q) → key_line t k a q ≡ Some (line_at t (key_member a q) (q / 16))
   key-some q x = line-present t n k a (key_member a q) (q / 16) (rw (place-member q, place-round q) at x.held) (rw (place-member q, place-round q) at x.mark)
 
-  key-none : (q : ℕ) → (Marked t k (key_place a q) → ⊥) → key_line t k a q ≡ none
+  key-none : (q : ℕ) → (Marked t k (key_place a q) → ⊥) → key_line t k a q ≡ None
   key-none q f = go (held_at t (key_member a q) (q / 16)) refl
     where
-      go : (b : Bool) → held_at t (key_member a q) (q / 16) ≡ b → line_in k (block_round t k) (holds_at t k (key_member a q) (q / 16)) ≡ none
+      go : (b : Bool) → held_at t (key_member a q) (q / 16) ≡ b → line_in k (block_round t k) (holds_at t k (key_member a q) (q / 16)) ≡ None
       go true h = ap (line_in k (block_round t k)) (holds-other t k (key_member a q) (q / 16) (λ e. f (record { held = rw (place-member q, place-round q) h; mark = rw (place-member q, place-round q) e })))
       go false h = ap (line_in k (block_round t k)) (holds-absent t k (key_member a q) (q / 16) h)
 
@@ -44,7 +43,7 @@ module _ (t : List ℕ) (n k a : ℕ) where
   unfolding key_lines
   keyed-none q = refl
 
-  keyed-one : (q d : ℕ) (w : List ℕ) → key_line t k a q ≡ some w → keyed q (suc d) ≡ (key_place a q, w) ∷ keyed (suc q) d
+  keyed-one : (q d : ℕ) (w : List ℕ) → key_line t k a q ≡ Some w → keyed q (suc d) ≡ (key_place a q, w) ∷ keyed (suc q) d
   unfolding key_lines
   keyed-one q d w e = rw e refl
 
@@ -134,11 +133,11 @@ module _ (S : Settings) (t : List ℕ) where
   unfolding lines_from
   from_place blocks p x =
       let k = mark_at t (p % 16) (p / 16) in
-      let z : suc (k - 1) ≡ k = omega (arith, x.mark-from) in
-      let y : suc (k - 1) + (blocks - k) ≡ blocks = omega (arith, x.mark-from, x.mark-to) in
+      let z : suc (k - 1) ≡ k = omega (arith, x.mark_from) in
+      let y : suc (k - 1) + (blocks - k) ≡ blocks = omega (arith, x.mark_from, x.mark_to) in
       let b : InBlock t ceiling (suc (k - 1)) (p % 16) (p / 16) = record { from = omega (arith, x.from); to = omega (arith, x.to); held = x.held; mark = sym z } in
       let e = after-place S t (k - 1) (blocks - k) p b in
-      rw (ne_eqb p 0 (λ q. absurd (omega (arith, x.from))), beyond-later blocks k x.mark-to) (ap (λ (i : ℕ). lines_after (chain i) p) (sym y) ∙ e ∙ rw z refl)
+      rw (ne_eqb p 0 (λ q. absurd (omega (arith, x.from))), beyond-later blocks k x.mark_to) (ap (λ (i : ℕ). lines_after (chain i) p) (sym y) ∙ e ∙ rw z refl)
 
   -- where rows start, as the code has it
   start-after : (k : ℕ) → start_after S t k ≡ start_at S t k
@@ -156,24 +155,26 @@ module _ (S : Settings) (t : List ℕ) where
     from-keys = rw (← start-after (mark - 1)) (from_place blocks p x)
 
     -- a key that was found after p's, or none
-    pub next_key_in : (v : ℕ) → KeyFound t ceiling mark start (key_of start (p % 16) (p / 16) + 1) v → v < ceiling * 16 + 16 → NextInBlock S t blocks p (key_place start v)
+    pub next_key_in : (v : ℕ) → KeyFound t ceiling mark start (key_of start (p % 16) (p / 16) + 1) v → v < ceiling * 16 + 16 → NextInBlock S t blocks p (Some (key_place start v))
+    unfolding NextInBlock
     next_key_in v f l =
         let z : key_of start (p % 16) (p / 16) + 1 ≡ suc (key_of start (p % 16) (p / 16)) = omega arith in
         let e = found-key t ceiling mark start (suc (key_of start (p % 16) (p / 16))) v (rw z at f) l in
-        record { here = λ _. sym (ap first_place (from-keys ∙ ap (λ (y : Lines). y ++ lines_beyond S t blocks mark) e)); later = λ q. absurd (omega (arith, f.from, x.from)) }
+        sym (ap first_place (from-keys ∙ ap (λ (y : Lines). y ++ lines_beyond S t blocks mark) e))
 
-    pub no_key_in : (v : ℕ) → KeyFound t ceiling mark start (key_of start (p % 16) (p / 16) + 1) v → ceiling * 16 + 16 ≤ v → NextInBlock S t blocks p 0
+    pub no_key_in : (v : ℕ) → KeyFound t ceiling mark start (key_of start (p % 16) (p / 16) + 1) v → ceiling * 16 + 16 ≤ v → NextInBlock S t blocks p None
+    unfolding NextInBlock
     no_key_in v f l =
         let z : key_of start (p % 16) (p / 16) + 1 ≡ suc (key_of start (p % 16) (p / 16)) = omega arith in
         let e = no_key t ceiling mark start (suc (key_of start (p % 16) (p / 16))) v (rw z at f) l in
-        record { here = λ q. absurd (q refl); later = λ _. from-keys ∙ ap (λ (y : Lines). y ++ lines_beyond S t blocks mark) e }
+        from-keys ∙ ap (λ (y : Lines). y ++ lines_beyond S t blocks mark) e
 
   module _ (blocks k v : ℕ) (l : k ≤ blocks) (x : BlockFound t ceiling blocks k v) where
-    pub none_beyond : blocks < v → 0 ≡ first_place (lines_beyond S t blocks k)
+    pub none_beyond : blocks < v → None ≡ first_place (lines_beyond S t blocks k)
     none_beyond h = sym (ap first_place (beyond-later blocks k l ∙ no_block blocks k v l x h))
 
     -- a block that was found has a first key
-    pub first_beyond : v ≤ blocks → (q : ℕ) → KeyFound t ceiling v (start_at S t (v - 1)) 16 q → key_place (start_at S t (v - 1)) q ≡ first_place (lines_beyond S t blocks k)
+    pub first_beyond : v ≤ blocks → (q : ℕ) → KeyFound t ceiling v (start_at S t (v - 1)) 16 q → Some (key_place (start_at S t (v - 1)) q) ≡ first_place (lines_beyond S t blocks k)
     first_beyond h q f =
         let a = start_at S t (v - 1) in
         let z : suc (v - 1) ≡ v = omega (arith, x.from) in
@@ -200,4 +201,4 @@ module _ (S : Settings) (t : List ℕ) where
                 absurd (f.skipped i (omega (arith, m.1)) (omega (arith, m.2)) (rw e m.3))
 
 -- a start is 16 or below, for the code
-pub ruleset start_low = start-le
+pub ruleset start_low = start_le

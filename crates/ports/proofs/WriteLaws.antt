@@ -1,11 +1,11 @@
 -- What a write leaves.
-use Rattle.std.proofs.Common.{◌≡◌, refl, sym, ap, ◌∙◌, true, false, cond, not, ◌&&◌, List, [], ◌∷◌, ℕ, ◌+◌, ◌%◌, ◌<◌, ◌≤◌, arith, ◌≢◌, ne_eqb, length, set, replicate, eqb, leb}
+use Rattle.std.proofs.Common.{◌≡◌, refl, sym, ap, ◌∙◌, true, false, List, ℕ, ◌+◌, ◌%◌, ◌<◌, ◌≤◌, arith, ◌≢◌, ne_eqb, length, set, replicate, leb}
 use lib.Seq.{paste}
 use Rattle.terms.specs.declared.sheet.Settings.{Settings}
 use Rattle.ports.specs.Uart.{after_write, reset_port}
 use Rattle.store.specs.Table.{Row}
 use Rattle.ports.specs.Ports.{port_start, port_word, placed_lines, port_in, FormedPort, words_written, port_words, put_port}
-use Rattle.ports.proofs.PutLaws.{own, same-own, set_own}
+use Rattle.ports.proofs.PutLaws.{own, same_own, set_own}
 use Rattle.ports.proofs.BackLaws.{cursor-zero}
 use Rattle.ports.proofs.ReadLaws.{cursor-own}
 
@@ -27,7 +27,7 @@ module _ (t : List ℕ) (g b : ℕ) (long : Row t 0) (guest : g < 8) where
 
   -- or none
   none-set : (o : ℕ) → words_written (port_word t g) o b ≡ own t g → t ≡ after o
-  none-set o e = same-own t g room ∙ ap (λ (w : List ℕ). paste t (port_start g) w 8) (sym e)
+  none-set o e = same_own t g room ∙ ap (λ (w : List ℕ). paste t (port_start g) w 8) (sym e)
 
   -- ---- by offset, and by bit 7 of offset 3
 

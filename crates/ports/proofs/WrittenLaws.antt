@@ -23,7 +23,7 @@ pub record Stays (t u : List ℕ) (p : ℕ) : Type 0 where
 
 module _ (t u : List ℕ) (n k c : ℕ) (grows : k ≤ c) (f : (p : ℕ) → LinePlace t n k p → Stays t u p) where
   place-stays : (p : ℕ) → LinePlace t n k p → LinePlace u n c p
-  place-stays p x = let y = f p x in record { from = x.from; to = x.to; held = y.held ∙ x.held; mark-from = omega (arith, y.mark, x.mark-from); mark-to = omega (arith, y.mark, x.mark-to) }
+  place-stays p x = let y = f p x in record { from = x.from; to = x.to; held = y.held ∙ x.held; mark_from = omega (arith, y.mark, x.mark_from); mark_to = omega (arith, y.mark, x.mark_to) }
 
   line_stays : (p : ℕ) → LinePlace t n k p → line_at u (p % 16) (p / 16) ≡ line_at t (p % 16) (p / 16)
   unfolding line_at
@@ -48,7 +48,7 @@ endorse-ports {q} {t} {u} n k o s =
 pub first-ports : {t : List ℕ} {u : List ℕ} (n k : ℕ) → OnlyFirst t u → ((g i : ℕ) → g < 8 → i < 8 → port_word u g i ≡ port_word t g i) → PortsKept t u n k k
 first-ports {t} {u} n k o w =
     kept_by t u n k k (omega arith)
-    (λ p x. let r : 0 < p / 16 = omega (arith, x.from) in record { held = held-only o (p % 16) (p / 16) r; mark = mark-only o (p % 16) (p / 16) r; content = content-only o (p % 16) (p / 16) r; round = block-round-only o (mark_at t (p % 16) (p / 16)) x.mark-from })
+    (λ p x. let r : 0 < p / 16 = omega (arith, x.from) in record { held = held-only o (p % 16) (p / 16) r; mark = mark-only o (p % 16) (p / 16) r; content = content-only o (p % 16) (p / 16) r; round = block-round-only o (mark_at t (p % 16) (p / 16)) x.mark_from })
     w
 
 -- a certificate put at a place that is free

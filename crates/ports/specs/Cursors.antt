@@ -1,6 +1,5 @@
 -- Where a port stands in a listing: the last byte that it has read.
-use Rattle.std.specs.Prelude.{◌≡◌, Bool, if◌then◌else◌, ◌&&◌, List, [], ◌∷◌, ◌++◌, ℕ, suc, ◌+◌, ◌-◌, ◌==◌, nat_le, length}
-use Rattle.std.proofs.Math.Option.{Option, none, some}
+use Rattle.std.specs.Prelude.{◌≡◌, Bool, if◌then◌else◌, ◌&&◌, List, [], ◌∷◌, ◌++◌, ℕ, suc, ◌+◌, ◌-◌, ◌==◌, nat_le, length, Option, Some, None}
 
 -- the lines of a listing, each with the place of its certificate: 16 r + m for member m and round r
 abbrev pub Lines : Type 0
@@ -13,8 +12,8 @@ text (e ∷ l) = e.1 ++ text l
 
 -- the line of a place
 unfoldable pub line_of : Lines → ℕ → Option (List ℕ)
-line_of [] p = none
-line_of (e ∷ l) p = if e.0 == p then some e.1 else line_of l p
+line_of [] p = None
+line_of (e ∷ l) p = if e.0 == p then Some e.1 else line_of l p
 
 -- the lines after it
 unfoldable pub lines_after : Lines → ℕ → Lines
@@ -24,7 +23,7 @@ lines_after (e ∷ l) p = if e.0 == p then l else lines_after l p
 -- no place has two lines
 abbrev pub Once : Lines → Type 0
 Once [] = Unit {0}
-Once (e ∷ l) = (line_of l e.0 ≡ none) × Once l
+Once (e ∷ l) = (line_of l e.0 ≡ None) × Once l
 
 -- byte j, counted from 1, of a line of n bytes
 abbrev pub in_line : ℕ → ℕ → Bool

@@ -1,18 +1,18 @@
 -- The line after a place's, in the table: what the search for it has found.
-use Rattle.std.specs.Prelude.{◌≡◌, true, if◌then◌else◌, List, [], ◌∷◌, ◌≢◌, ℕ, ◌+◌, ◌-◌, ◌*◌, ◌/◌, ◌%◌, ◌<◌, ◌≤◌, length, get_or, drop, ◌==◌}
+use Rattle.std.specs.Prelude.{◌≡◌, true, if◌then◌else◌, List, [], ◌∷◌, ℕ, ◌+◌, ◌-◌, ◌*◌, ◌/◌, ◌%◌, ◌<◌, ◌≤◌, length, get_or, drop, ◌==◌, Option, Some, None}
 use Rattle.terms.specs.declared.sheet.Settings.{Settings}
 use Rattle.store.specs.Table.{held_at, mark_at}
 use Rattle.committee.specs.Chain.{chain_of}
-use Rattle.running.specs.BlockChanges.{start_at}
-use Rattle.running.specs.ChainInTable.{ChainInTable}
-use Rattle.running.specs.Links.{Marked, First}
+use Rattle.chain_committees.specs.BlockChanges.{start_at}
+use Rattle.chain_committees.specs.ChainInTable.{ChainInTable}
+use Rattle.chain_committees.specs.Links.{Marked, First}
 use Rattle.ports.specs.Cursors.{Lines, lines_after}
 use Rattle.ports.specs.Places.{lines_of}
 
--- the place of the first line, 0 for none
-abbrev pub first_place : Lines → ℕ
-first_place [] = 0
-first_place (e ∷ l) = e.0
+-- the place of the first line, if there is one
+abbrev pub first_place : Lines → Option ℕ
+first_place [] = None
+first_place (e ∷ l) = Some e.0
 
 -- the lines after a place's; all of them after 0, which is no certificate's
 unfoldable pub lines_from : Settings → List ℕ → ℕ → ℕ → Lines
@@ -22,7 +22,9 @@ lines_from S t blocks p =
 
 -- the lines of the blocks after the first k
 unfoldable pub lines_beyond : Settings → List ℕ → ℕ → ℕ → Lines
-lines_beyond S t blocks k = drop (length (lines_of S (chain_of S.ceiling.0 t k))) (lines_of S (chain_of S.ceiling.0 t blocks))
+lines_beyond S t blocks k =
+    drop (length (lines_of S (chain_of S.ceiling.0 t k)))
+    (lines_of S (chain_of S.ceiling.0 t blocks))
 
 -- ---- keys: key q of a block whose rows start with member a is of round q / 16, and of the member that is q % 16 after a
 
@@ -62,17 +64,18 @@ pub record LinePlace (t : List ℕ) (n blocks p : ℕ) : Type 0 where
   pub from : 16 ≤ p
   pub to : p < n * 16 + 16
   pub held : held_at t (p % 16) (p / 16) ≡ true
-  pub mark-from : 1 ≤ mark_at t (p % 16) (p / 16)
-  pub mark-to : mark_at t (p % 16) (p / 16) ≤ blocks
+  pub mark_from : 1 ≤ mark_at t (p % 16) (p / 16)
+  pub mark_to : mark_at t (p % 16) (p / 16) ≤ blocks
 
 -- the start of each block
 abbrev pub Starts : Settings → List ℕ → ℕ → List ℕ → Type 0
 Starts S t blocks starts = (i : ℕ) → i < blocks → get_or starts i 0 ≡ start_at S t i
 
--- what the place v tells of the lines after p's: it is the first of them, in the same block, or 0, and then they are those of the later blocks
-pub record NextInBlock (S : Settings) (t : List ℕ) (blocks p v : ℕ) : Type 0 where
-  pub here : v ≢ 0 → v ≡ first_place (lines_from S t blocks p)
-  pub later : v ≡ 0 → lines_from S t blocks p ≡ lines_beyond S t blocks (mark_at t (p % 16) (p / 16))
+-- of the lines after p's, the place of the first one in the same block; where there is none, the lines are those of the later blocks
+unfoldable pub NextInBlock : Settings → List ℕ → ℕ → ℕ → Option ℕ → Type 0
+NextInBlock S t blocks p None =
+    lines_from S t blocks p ≡ lines_beyond S t blocks (mark_at t (p % 16) (p / 16))
+NextInBlock S t blocks p (Some v) = Some v ≡ first_place (lines_from S t blocks p)
 
 -- a chain in a table, with the head and the start of each block
 pub record Walked (S : Settings) (t : List ℕ) (blocks : ℕ) (head starts : List ℕ) : Type 0 where

@@ -11,7 +11,9 @@ use Rattle.ports.specs.Cursors.{Lines}
 -- those of certificates of block k, of round b, in order
 unfoldable pub content_places : ℕ → ℕ → List Content → Lines
 content_places k b [] = []
-content_places k b (p ∷ l) = (p.round * 16 + p.author, listing_line k b p.round p.author p.transactions) ∷ content_places k b l
+content_places k b (p ∷ l) =
+    (p.round * 16 + p.author, listing_line k b p.round p.author p.transactions)
+    ∷ content_places k b l
 
 -- those of a chain, block by block from 1
 unfoldable pub lines_of : Settings → Chain Content → Lines
@@ -20,7 +22,8 @@ lines_of S (b ∷ c) = lines_of S c ++ content_places (length c + 1) b.round (or
 
 -- the line of the certificate at a place, by its mark
 unfoldable pub line_at : List ℕ → ℕ → ℕ → List ℕ
-line_at t m r = listing_line (mark_at t m r) (block_round t (mark_at t m r)) r m (content_at t m r).transactions
+line_at t m r =
+    listing_line (mark_at t m r) (block_round t (mark_at t m r)) r m (content_at t m r).transactions
 
 -- a place whose record and whose block's round are in the table
 pub record HasLine (t : List ℕ) (p : ℕ) : Type 0 where

@@ -1,6 +1,7 @@
 -- The registers of a 16450 as a guest sees them, over a listing of bytes (docs/RULES.md, "Serial ports").
 use Rattle.std.specs.Prelude.{Bool, if◌then◌else◌, not, ◌&&◌, List, [], ◌∷◌, ℕ, suc, ◌%◌, ◌==◌, nat_le, nat_lt, length, get_or}
 use Rattle.base.specs.Folds.{all_to}
+use Rattle.ports.specs.declared.places.TheConstants.{OFFSET_DATA, OFFSET_ENABLE, OFFSET_LINE, OFFSET_MODEM, OFFSET_SCRATCH}
 
 -- how many bytes of the listing it has read since reset, and the registers that it holds
 pub record Port : Type 0 where
@@ -39,22 +40,22 @@ values_at l p =
 
 -- a read takes a byte at offset 0, while bit 7 of offset 3 is clear and one waits
 abbrev pub takes : List ℕ → Port → ℕ → Bool
-takes l p o = o == 0 && (not (divisor p) && waits l p)
+takes l p o = o == OFFSET_DATA && (not (divisor p) && waits l p)
 
 unfoldable pub after_read : List ℕ → Port → ℕ → Port
-after_read l p o = record { read = if takes l p o then suc p.read else p.read; enable = p.enable; line = p.line; modem = p.modem; scratch = p.scratch; low = p.low; high = p.high }
+after_read l p o = record p { read = if takes l p o then suc p.read else p.read }
 
 -- a write of the byte b: each register that is held, at its offset
 unfoldable pub after_write : Port → ℕ → ℕ → Port
 after_write p o b =
     record {
       read = p.read;
-      enable = if o == 1 && not (divisor p) then b % 2 else p.enable;
-      line = if o == 3 then b else p.line;
-      modem = if o == 4 then b % 32 else p.modem;
-      scratch = if o == 7 then b else p.scratch;
-      low = if o == 0 && divisor p then b else p.low;
-      high = if o == 1 && divisor p then b else p.high;
+      enable = if o == OFFSET_ENABLE && not (divisor p) then b % 2 else p.enable;
+      line = if o == OFFSET_LINE then b else p.line;
+      modem = if o == OFFSET_MODEM then b % 32 else p.modem;
+      scratch = if o == OFFSET_SCRATCH then b else p.scratch;
+      low = if o == OFFSET_DATA && divisor p then b else p.low;
+      high = if o == OFFSET_ENABLE && divisor p then b else p.high;
     }
 
 -- all 0

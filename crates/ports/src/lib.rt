@@ -4,86 +4,98 @@
 #![tactic(auto)]
 
 pub mod cursors;
+pub mod places;
 pub mod registers;
 pub mod theorems;
 
 ghost use Rattle.std.specs.Prelude.{◌≡◌, true, not, ◌+◌, ◌/◌, ◌%◌, ◌<◌, ◌≤◌, nat_le, get_or};
 ghost use Rattle.base.specs.Folds.{all_to};
 ghost use Rattle.store.specs.Table.{Row};
-ghost use Rattle.running.specs.Rows.{RowsTo};
+ghost use Rattle.chain_committees.specs.Rows.{RowsTo};
 ghost use Rattle.terms.specs.declared.sheet.Settings.{Settings};
 ghost use Rattle.ports.specs.Uart.{limits};
 ghost use Rattle.ports.specs.Ports.{port_start, port_word, is_listed, cursor_fits, port_fits, ports_fit};
 
+use crate::places::{PORT_BYTE, PORT_ENABLE, PORT_PLACE};
+use store::lengths::GUEST;
+use store::places::FIRST_PORT;
 use terms::sheet::Settings;
 use terms::{Member, Round};
 
-// Where the eight words of port g start, in row 0 of the table.
-fn start(g: u32) -> usize
-    requires { g < 8 }
-    ensures { result ≡ port_start g }
+// Where the eight words of `port` start, in row 0 of the table.
+fn start(port: u32) -> usize
+    requires { port < 8 }
+    ensures { result ≡ port_start port }
 {
-    16 + g as usize * 32
+    FIRST_PORT + port as usize * GUEST
 }
 
-/// Word i of port g, of eight ports and eight words each: 0 and 1 tell the last byte that was read, the place of its line and which byte of it; 2 to 7 are the held registers.
+/// Word `index` of `port`, of eight ports and eight words each: 0 and 1 tell the last byte that was read, the place of its line and which byte of it; 2 to 7 are the held registers.
 #[tactic(auto, unfolding(crate::specs::Ports::port_word))]
-pub fn word(t: &[u32], g: u32, i: u32) -> u32
-    requires { Row t.now 0 × (g < 8) × (i < 8) }
-    ensures { result ≡ port_word t.now g i }
+pub(crate) fn word(table: &[u32], port: u32, index: u32) -> u32
+    requires { Row table.now 0 × (port < 8) × (index < 8) }
+    ensures { result ≡ port_word table.now port index }
 {
-    t[start(g) + i as usize]
+    table[start(port) + index as usize]
 }
 
-// Is place p of a certificate in one of the first blocks?
+// Is `place` of a certificate in one of the first blocks?
 #[tactic(auto, unfolding(crate::specs::Ports::is_listed))]
-fn is_listed(t: &[u32], n: Round, blocks: u32, p: u32) -> bool
-    requires { RowsTo t.now n.0 }
-    ensures { result ≡ is_listed t.now n.0 blocks p }
+fn is_listed(table: &[u32], ceiling: Round, blocks: u32, place: u32) -> bool
+    requires { RowsTo table.now ceiling.0 }
+    ensures { result ≡ is_listed table.now ceiling.0 blocks place }
 {
-    let m = Member(p % 16);
-    let r = Round(p / 16);
-    (16..n.0 * 16 + 16).contains(&p)
-        && store::held(t, m, r)
-        && (1..=blocks).contains(&store::record::mark(t, m, r))
+    let author = Member(place % 16);
+    let round = Round(place / 16);
+    (16..ceiling.0 * 16 + 16).contains(&place)
+        && store::held(table, author, round)
+        && (1..=blocks).contains(&store::record::mark(table, author, round))
 }
 
-// Is byte j of the line of place p one of the listing, or are both 0?
+// Is `byte` of the line of `place` one of the listing, or are both 0?
 #[tactic(auto, using(crate::proofs::FitLaws::listed_place), unfolding(crate::specs::Ports::cursor_fits))]
-fn cursor_fits(t: &[u32], n: Round, blocks: u32, p: u32, j: u32) -> bool
-    requires { RowsTo t.now n.0 × (blocks ≤ n.0) }
-    ensures { result ≡ cursor_fits t.now n.0 blocks p j }
+fn cursor_fits(table: &[u32], ceiling: Round, blocks: u32, place: u32, byte: u32) -> bool
+    requires { RowsTo table.now ceiling.0 × (blocks ≤ ceiling.0) }
+    ensures { result ≡ cursor_fits table.now ceiling.0 blocks place byte }
 {
-    if p == 0 {
-        return j == 0;
+    if place == 0 {
+        return byte == 0;
     }
-    is_listed(t, n, blocks, p) && (1..=cursors::line_length(t, p)).contains(&j)
+    is_listed(table, ceiling, blocks, place)
+        && (1..=cursors::line_length(table, place)).contains(&byte)
 }
 
-// Do the registers of port g hold what they can?
+// Do the registers of `port` hold what they can?
 #[tactic(auto, unfolding(base::specs::Folds::all_to))]
-fn registers_fit(t: &[u32], g: u32) -> bool
-    requires { Row t.now 0 × (g < 8) }
-    ensures { result ≡ all_to (λ i. nat_le (port_word t.now g (2 + i)) (get_or limits i 0)) 6 }
+fn registers_fit(table: &[u32], port: u32) -> bool
+    requires { Row table.now 0 × (port < 8) }
+    ensures { result
+        ≡ all_to (λ i. nat_le (port_word table.now port (2 + i)) (get_or limits i 0)) 6 }
 {
     let most = [1u32, 255, 31, 255, 255, 255];
-    (0..6).all(|i| word(t, g, 2 + i) <= most[i as usize])
+    (0..6).all(|i| word(table, port, PORT_ENABLE + i) <= most[i as usize])
 }
 
-// Has port g not read past the end of the listing, and do its registers hold what they can?
+// Has `port` not read past the end of the listing, and do its registers hold what they can?
 #[tactic(auto, using(crate::proofs::FitLaws::port_local))]
-fn port_fits(t: &[u32], s: Settings, blocks: u32, g: u32) -> bool
-    requires { RowsTo t.now s.ceiling.0 × (blocks ≤ s.ceiling.0) × (g < 8) }
-    ensures { result ≡ port_fits s t.now blocks g }
+fn port_fits(table: &[u32], settings: Settings, blocks: u32, port: u32) -> bool
+    requires { RowsTo table.now settings.ceiling.0 × (blocks ≤ settings.ceiling.0) × (port < 8) }
+    ensures { result ≡ port_fits settings table.now blocks port }
 {
-    cursor_fits(t, s.ceiling, blocks, word(t, g, 0), word(t, g, 1)) && registers_fit(t, g)
+    cursor_fits(
+        table,
+        settings.ceiling,
+        blocks,
+        word(table, port, PORT_PLACE),
+        word(table, port, PORT_BYTE),
+    ) && registers_fit(table, port)
 }
 
 /// Are all eight ports well formed: none has read past the end of the listing, and their registers hold what they can?
 #[tactic(auto, unfolding(crate::specs::Ports::ports_fit, base::specs::Folds::all_to))]
-pub fn ports_fit(t: &[u32], s: Settings, blocks: u32) -> bool
-    requires { RowsTo t.now s.ceiling.0 × (blocks ≤ s.ceiling.0) }
-    ensures { result ≡ ports_fit s t.now blocks }
+pub fn ports_fit(table: &[u32], settings: Settings, blocks: u32) -> bool
+    requires { RowsTo table.now settings.ceiling.0 × (blocks ≤ settings.ceiling.0) }
+    ensures { result ≡ ports_fit settings table.now blocks }
 {
-    (0..8).all(|g| port_fits(t, s, blocks, g))
+    (0..8).all(|g| port_fits(table, settings, blocks, g))
 }

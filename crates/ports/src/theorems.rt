@@ -19,7 +19,8 @@ pub fn registers_hold()
     ensures written { (p : Port) (b : ℕ) → Written p b }
     ensures ignored { (p : Port) (b : ℕ) → Ignored p b }
     ensures by_writes { (p : Port) (o b : ℕ) → (after_write p o b).read ≡ p.read }
-    ensures by_reads { (l : List ℕ) (p : Port) (o : ℕ) → registers_of (after_read l p o) ≡ registers_of p }
+    ensures by_reads { (l : List ℕ) (p : Port) (o : ℕ)
+        → registers_of (after_read l p o) ≡ registers_of p }
 {}
 
 /// The lines of a chain, each with the place of its certificate, have the bytes of the listing and no closing ok.

@@ -8,9 +8,9 @@ use Rattle.store.proofs.TableLaws.{held_in}
 use Rattle.scan.proofs.ScanLaws.{rows-held}
 use Rattle.committee.specs.Chain.{chain_of}
 use Rattle.committee.specs.Committees.{committee_of, leader_by, known_by}
-use Rattle.running.specs.BlockChanges.{last_round}
-use Rattle.running.proofs.ChainLaws.{last-chain}
-use Rattle.running.specs.Fill.{leader_at}
+use Rattle.chain_committees.specs.BlockChanges.{last_round}
+use Rattle.chain_committees.proofs.ChainLaws.{last-chain}
+use Rattle.chain_committees.specs.Fill.{leader_at}
 use Rattle.blocks.specs.Anchors.{taken_leaders}
 use Rattle.blocks.proofs.TakenLaws.{taken-left}
 use Rattle.rules.proofs.TestLaws.{is_known}
@@ -62,8 +62,8 @@ module _ (s : State) (t : List ℕ) (ok : commit_refusal s t ≡ 0) where
     leads =
         let f = y.formed in
         let size = leaders-length s t l refl in
-        (taken-left t m top l y.timely.above (omega (arith, f.numbers.round-to, f.settings.ceiling-to)) r low).0
-        ∙ leaders-on s t r from (omega (arith, y.timely.from)) (omega (arith, f.numbers.round-to, f.settings.ceiling-to))
+        (taken-left t m top l y.timely.above (omega (arith, f.numbers.round_to, f.settings.ceiling_to)) r low).0
+        ∙ leaders-on s t r from (omega (arith, y.timely.from)) (omega (arith, f.numbers.round_to, f.settings.ceiling_to))
 
     led : leader_by (committee_of s.settings (chain_of n t k) r) r ≡ get_or left r 0
     unfolding leader_at
@@ -78,7 +78,7 @@ module _ (s : State) (t : List ℕ) (ok : commit_refusal s t ≡ 0) where
         go (no e) =
             let f = y.formed in
             let size = leaders-length s t l refl in
-            let w = taken-left t m top l y.timely.above (omega (arith, f.numbers.round-to, f.settings.ceiling-to)) r low in
+            let w = taken-left t m top l y.timely.above (omega (arith, f.numbers.round_to, f.settings.ceiling_to)) r low in
             rw w.0 (w.1 from (omega arith))
 
   pub anchored : Anchored s.settings t l m top k
@@ -87,7 +87,7 @@ module _ (s : State) (t : List ℕ) (ok : commit_refusal s t ≡ 0) where
       record {
         few = y.timely.few;
         above = y.timely.above;
-        inside = omega (arith, f.numbers.round-to);
+        inside = omega (arith, f.numbers.round_to);
         known = known;
         table = f.long;
         marked = λ i q from to h. ((rows-held t s.settings.allowance k n f.rows q from to).records i h).mark;

@@ -1,7 +1,7 @@
 -- What an accepted preview answers and leaves in the list.
 use Rattle.std.proofs.Common.{◌≡◌, sym, ap, ◌∙◌, true, List, ℕ, ◌-◌, ◌*◌, ◌/◌, ◌≤◌, arith, length}
 use Rattle.base.specs.Puts.{Puts}
-use Rattle.running.specs.BlockChanges.{last_round}
+use Rattle.chain_committees.specs.BlockChanges.{last_round}
 use Rattle.blocks.specs.Anchors.{taken_leaders}
 use Rattle.base.specs.Checks.{refusal}
 use Rattle.blocks.specs.HistoryReady.{AnchorsReady}
@@ -64,7 +64,7 @@ module _ {s : State} {t l l' : List ℕ} {m : ℕ} (list : List ℕ) (p : Passed
     pub number_fits : n ≤ 3 * (16 * 1024)
     number_fits =
         let few : length words ≤ 3 * (16 * s.settings.ceiling.0) = rw same (words-room s t ok) in
-        omega (arith, x.past, (accepted s t ok).formed.settings.ceiling-to)
+        omega (arith, x.past, (accepted s t ok).formed.settings.ceiling_to)
 
     pub number_told : n / 3 ≡ length (preview_entries s t)
     number_told = omega (arith, counted, x.past)

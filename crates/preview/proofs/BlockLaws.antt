@@ -1,7 +1,7 @@
 -- One block more: the blocks before it stay, and what it holds.
-use Rattle.std.proofs.Common.{◌≡◌, refl, sym, ap, ap₂, ◌∙◌, Bool, true, false, cond, ◌&&◌, List, ◌∷◌, ◌++◌, ℕ, zero, suc, ◌+◌, ◌-◌, ◌<◌, ◌≤◌, arith, eqb, eq-eqb, ne_eqb, eqb-true}
+use Rattle.std.proofs.Common.{◌≡◌, refl, sym, ap, ap₂, ◌∙◌, Bool, true, false, cond, ◌&&◌, List, ◌∷◌, ◌++◌, ℕ, zero, suc, ◌+◌, ◌-◌, ◌<◌, ◌≤◌, arith, eqb, eq-eqb, ne_eqb, eqb-true, Option, Some, None}
 use mathlib.Core.Bool.{and-false, false≢true}
-use mathlib.Core.Option.{Option, none, some, none-ne-some}
+use Rattle.std.proofs.lemmas.Option.{none-some}
 use native.Mathlib.Decide.{dec_lt, ℕ_discrete}
 use Rattle.base.proofs.Bools.{both}
 use Rattle.base.specs.Sets.{only}
@@ -43,13 +43,13 @@ committee-more S b c q h =
     rw e refl
 
 -- certificates of a block that a table tells are at their own places
-pub block-placed : (n : ℕ) (t : List ℕ) (k i q : ℕ) (p : Content) → (block_at n t k).holds i q ≡ some p → (p.author ≡ i) × (p.round ≡ q)
-block-placed n t k i q p e = go (is_round n q) (eqb (mark_at t i q) k) (sym (block-holds n t k i q ∙ ap (λ (o : Option Content). cond (is_round n q) o none) (holds_at_lem t k i q)) ∙ e)
+pub block-placed : (n : ℕ) (t : List ℕ) (k i q : ℕ) (p : Content) → (block_at n t k).holds i q ≡ Some p → (p.author ≡ i) × (p.round ≡ q)
+block-placed n t k i q p e = go (is_round n q) (eqb (mark_at t i q) k) (sym (block-holds n t k i q ∙ ap (λ (o : Option Content). cond (is_round n q) o None) (holds_at_lem t k i q)) ∙ e)
   where
-    go : (a b : Bool) → cond a (cond b (certificate_at t i q) none) none ≡ some p → (p.author ≡ i) × (p.round ≡ q)
+    go : (a b : Bool) → cond a (cond b (certificate_at t i q) None) None ≡ Some p → (p.author ≡ i) × (p.round ≡ q)
     go true true h = let z = (held-certificate t i q p h).1 in rw z (content-author t i q, content-round t i q)
-    go true false h = absurd (none-ne-some p h)
-    go false b h = absurd (none-ne-some p h)
+    go true false h = absurd (none-some p h)
+    go false b h = absurd (none-some p h)
 
 -- marks of blocks up to c stay where block c + 1 is made
 mark-old : (c : ℕ) (h : Bool) (x j : ℕ) → 0 < j → j ≤ c → eqb (new_mark (suc c) h x) j ≡ eqb x j
@@ -64,13 +64,13 @@ mark-old c h x j z l = go (eqb x 0) refl h
 mark-new : (c : ℕ) (h : Bool) (x : ℕ) → x ≤ c → eqb (new_mark (suc c) h x) (suc c) ≡ (eqb x 0 && h)
 mark-new c h x l = go (eqb x 0) h
   where
-    none : eqb x (suc c) ≡ false
-    none = ne_eqb x (suc c) (λ q. omega arith)
+    None : eqb x (suc c) ≡ false
+    None = ne_eqb x (suc c) (λ q. omega arith)
 
     go : (b h : Bool) → eqb (cond (b && h) (suc c) x) (suc c) ≡ (b && h)
     go true true = eq-eqb (suc c) (suc c) refl
-    go true false = none
-    go false h = none
+    go true false = None
+    go false h = None
 
 -- ---- block c + 1, of the anchor of author a and round r
 
@@ -95,7 +95,7 @@ module _ (n c a r : ℕ) (u : List ℕ) (long : Row u r) where
   block-old j z l =
       block-by n v j (block_at n u j) (block-round-old (suc c) a r j u (λ e. omega arith) ∙ sym (block-round n u j)) (λ i q. go i q (is_round n q) refl ∙ sym (block-holds n u j i q))
     where
-      go : (i q : ℕ) (b : Bool) → is_round n q ≡ b → cond b (holds_at v j i q) none ≡ cond (is_round n q) (holds_at u j i q) none
+      go : (i q : ℕ) (b : Bool) → is_round n q ≡ b → cond b (holds_at v j i q) None ≡ cond (is_round n q) (holds_at u j i q) None
       go i q true e = rw e (holds-old j i q z l (round-parts n q e).0)
       go i q false e = rw e refl
 
@@ -109,11 +109,11 @@ module _ (n c a r : ℕ) (u : List ℕ) (long : Row u r) where
     block_new i q h z l =
         rw (block_inside n v (suc c) i q z l, holds_at_lem v (suc c) i q, block-mark (suc c) a r u long i q h z, certificate-marked block-marks i q) (go (held_at u i q) refl)
       where
-        chosen : (b : Bool) (o : Option Content) → is_held o ≡ true → is_held (cond b o none) ≡ b
+        chosen : (b : Bool) (o : Option Content) → is_held o ≡ true → is_held (cond b o None) ≡ b
         chosen true o e = e
         chosen false o e = refl
 
-        nothing : (b : Bool) (o : Option Content) → is_held o ≡ false → is_held (cond b o none) ≡ false
+        nothing : (b : Bool) (o : Option Content) → is_held o ≡ false → is_held (cond b o None) ≡ false
         nothing true o e = e
         nothing false o e = refl
 
@@ -124,7 +124,7 @@ module _ (n c a r : ℕ) (u : List ℕ) (long : Row u r) where
         its : Bool
         its = eqb (new_mark (suc c) (in_history u r (only a) i q) (mark_at u i q)) (suc c)
 
-        go : (b : Bool) → held_at u i q ≡ b → is_held (cond its (certificate_at u i q) none) ≡ (eqb (mark_at u i q) 0 && in_history u r (only a) i q)
+        go : (b : Bool) → held_at u i q ≡ b → is_held (cond its (certificate_at u i q) None) ≡ (eqb (mark_at u i q) 0 && in_history u r (only a) i q)
         go true e = chosen its (certificate_at u i q) (rw (certificate-present u i q e) refl) ∙ mark-new c (in_history u r (only a) i q) (mark_at u i q) (low i q z l e)
         go false e =
             nothing its (certificate_at u i q) (rw (certificate-absent u i q e) refl)

@@ -1,6 +1,5 @@
 -- The words of a block's certificates are the entries of its rows.
-use Rattle.std.proofs.Common.{◌≡◌, refl, ap, ap₂, ◌∙◌, List, [], ◌∷◌, ◌++◌, ℕ, zero, suc, ◌+◌, ◌*◌, ◌%◌, arith, length}
-use mathlib.Core.Option.{Option, none, some}
+use Rattle.std.proofs.Common.{◌≡◌, refl, ap, ap₂, ◌∙◌, List, [], ◌∷◌, ◌++◌, ℕ, zero, suc, ◌+◌, ◌*◌, ◌%◌, arith, length, Option, Some, None}
 use Rattle.agreement.specs.Rules.{Block}
 use Rattle.agreement.specs.Dag.{is_held}
 use Rattle.terms.specs.Proposals.{Content}
@@ -37,14 +36,14 @@ module _ (k : ℕ) where
   more l m = ap words_of (entries-append k l m) ∙ words_append (entries_of k l) (entries_of k m)
 
   -- where certificates are at their own places
-  module _ (b : Block Content) (placed : (i q : ℕ) (p : Content) → b.holds i q ≡ some p → (p.author ≡ i) × (p.round ≡ q)) (a : ℕ) where
+  module _ (b : Block Content) (placed : (i q : ℕ) (p : Content) → b.holds i q ≡ Some p → (p.author ≡ i) × (p.round ≡ q)) (a : ℕ) where
     place-words : (i q : ℕ) → words (at_most_one (b.holds i q)) ≡ entry_if (is_held (b.holds i q)) k q i
     unfolding entries_of words_of entry_if
     place-words i q = go (b.holds i q) refl
       where
         go : (o : Option Content) → b.holds i q ≡ o → words (at_most_one o) ≡ entry_if (is_held o) k q i
-        go none e = refl
-        go (some p) e = let z = placed i q p e in rw (z.0, z.1) refl
+        go None e = refl
+        go (Some p) e = let z = placed i q p e in rw (z.0, z.1) refl
 
     row_words : (q n : ℕ) → words (row b a q n) ≡ row_entries (λ i. is_held (b.holds i q)) k q a n
     unfolding row row_entries entries_of words_of

@@ -1,7 +1,7 @@
 -- The entries of a preview are what it tells without committing, and fit into a list of three words for each place.
 use Rattle.std.proofs.Common.{◌≡◌, sym, ap, ap₂, ◌∙◌, List, ℕ, ◌-◌, ◌*◌, ◌≤◌, arith, length}
 use Rattle.committee.specs.Chain.{chain_of}
-use Rattle.running.specs.BlockChanges.{last_round}
+use Rattle.chain_committees.specs.BlockChanges.{last_round}
 use Rattle.blocks.specs.Anchors.{taken_leaders}
 use Rattle.state.specs.declared.State.{State}
 use Rattle.votes.specs.Checks.{leaders_for}

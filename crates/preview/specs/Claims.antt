@@ -13,7 +13,8 @@ listed_entries k [] = []
 listed_entries k (x ∷ l) = entries_of (suc k) x.1 ++ listed_entries (suc k) l
 
 -- the chain d lists what c, which has k blocks, lists, and then blocks with these entries
-pub record ListsBeyond (S : Settings) (k : ℕ) (c d : Chain Content) (entries : List Entry) : Type 0 where
-  pub more : List (ℕ × List Content)
-  pub lists : listing (ordered S) d ≡ listing (ordered S) c ++ more
-  pub told : listed_entries k more ≡ entries
+pub record ListsBeyond (S : Settings) (k : ℕ) (c d : Chain Content) (entries : List Entry) : Type 0
+  where
+    pub more : List (ℕ × List Content)
+    pub lists : listing (ordered S) d ≡ listing (ordered S) c ++ more
+    pub told : listed_entries k more ≡ entries

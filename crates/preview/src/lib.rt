@@ -12,43 +12,45 @@ ghost use Rattle.votes.specs.Checks.{leaders_for};
 ghost use Rattle.preview.specs.Preview.{previewing, preview_refusal, preview_entries, preview_list};
 
 use blocks::histories::anchors;
+use chain_committees::bonded;
 use member_view::View;
 use refusals::Refusal;
-use running::bonded;
 use state::State;
 use terms::Round;
 use votes::checks;
 
-// The checks of a well-formed state: 25, and those of commit, by which l gets the leaders by round. The list has so many words.
+// The checks of a well-formed state: 25, and those of commit, by which `leaders` gets the leaders by round. The list has so many words.
 #[tactic(auto, unfolding(base::specs::Checks::refusal))]
-fn check(v: &View, words: usize, l: &mut [u32; 1025]) -> Result<(), Refusal>
-    ensures refusal { refusal_in result ≡ refusal (previewing v.now.state.now v.now.table.now words) }
-    ensures leaders { OnOk result (l.new ≡ leaders_for v.now.state.now v.now.table.now) }
+fn check(view: &View, words: usize, leaders: &mut [u32; 1025]) -> Result<(), Refusal>
+    ensures refusal { refusal_in result
+        ≡ refusal (previewing view.now.state.now view.now.table.now words) }
+    ensures leaders { OnOk result (leaders.new
+        ≡ leaders_for view.now.state.now view.now.table.now) }
 {
-    let ceiling = v.state.settings.ceiling.0 as usize;
+    let ceiling = view.state.settings.ceiling.0 as usize;
     if words / 3 < 16 * ceiling {
-        return Err(Refusal::ListTooShort);
+        return Err(Refusal::LengthRange);
     }
-    checks::check(v, l)
+    checks::check(view, leaders)
 }
 
 /// Lists the certificates that a commit would put into blocks, block by block, in each block's order; the value is their number. The list needs sixteen places for each round of the ceiling, of three words each: block number, round, author. State and table stay as they are.
 #[tactic(auto, unfolding(base::specs::Checks::refusal, state::specs::Answers::if_accepted, crate::specs::Preview::preview_refusal, crate::specs::Preview::preview_list))]
-pub fn preview(s: &State, t: &[u32], list: &mut [u32]) -> Result<u32, Refusal>
-    ensures refusal { refusal_in result ≡ preview_refusal s.now t.now (length list.old) }
-    ensures value { IfOk result (λ n. n ≡ length (preview_entries s.now t.now)) }
-    ensures list { list.new ≡ preview_list s.now t.now list.old }
+pub fn preview(state: &State, table: &[u32], list: &mut [u32]) -> Result<u32, Refusal>
+    ensures refusal { refusal_in result ≡ preview_refusal state.now table.now (length list.old) }
+    ensures value { IfOk result (λ n. n ≡ length (preview_entries state.now table.now)) }
+    ensures list { list.new ≡ preview_list state.now table.now list.old }
 {
     let words = list.len();
     let mut leaders = [0u32; 1025];
     check(
-        &View::known(state::well_formed(*s, t), &[], s, t)?,
+        &View::known(state::well_formed(*state, table), &[], state, table)?,
         words,
         &mut leaders,
     )?;
-    let last = bonded::last_round(t, s.blocks);
-    let top = Round(s.round.0 - 1);
-    anchors::take_leaders(t, &mut leaders, last, top);
-    let put = prospects::list_blocks(t, &leaders, last, top, s.blocks, list);
+    let last = bonded::last_round(table, state.blocks);
+    let top = Round(state.round.0 - 1);
+    anchors::take_leaders(table, &mut leaders, last, top);
+    let put = prospects::list_blocks(table, &leaders, last, top, state.blocks, list);
     Ok((put / 3) as u32)
 }

@@ -25,13 +25,13 @@ module _ (t l : List ℕ) (f : ℕ → ℕ → Bool) (r k : ℕ) where
   unfolding reach_step
   step_reach h i q = rw (lt-ltb a 16 h) refl
 
-  pub pass-count : 16 ≤ a → count_step l r k ≡ k
+  pub pass_count : 16 ≤ a → count_step l r k ≡ k
   unfolding count_step
-  pass-count h = rw (le-ltb a 16 h) refl
+  pass_count h = rw (le-ltb a 16 h) refl
 
-  pub pass-words : 16 ≤ a → words_step t l f r k ≡ []
+  pub pass_words : 16 ≤ a → words_step t l f r k ≡ []
   unfolding words_step
-  pass-words h = rw (le-ltb a 16 h) refl
+  pass_words h = rw (le-ltb a 16 h) refl
 
   pub pass_reach : 16 ≤ a → (i q : ℕ) → reach_step t l f r i q ≡ f i q
   unfolding reach_step
@@ -48,8 +48,8 @@ module _ {t v l : List ℕ} {r k : ℕ} {list : List ℕ} {at : ℕ} where
       let f = in_sets v in
       record {
         rounds = p.walk.rounds;
-        blocks = sym (pass-count t l f r k h);
-        words = puts_none (pass-words t l f r k h);
+        blocks = sym (pass_count t l f r k h);
+        words = puts_none (pass_words t l f r k h);
         again = p.walk.earlier;
         reaches = λ q i z. sym (pass_reach t l f r k h i q);
       }

@@ -39,15 +39,15 @@ closed_none t n h =
       closed = λ q _ a e. absurd (false≢true (sym (in_none a) ∙ (rw (zeros n (suc q), below_none t (suc q)) at e)));
     }
 
-pub steps_begin : (t l : List ℕ) (m k rounds : ℕ) (list fresh : List ℕ) → 1024 < length fresh → Stepping t l m k rounds list list (replicate 1025 0) fresh k 0 0
+pub steps_begin : (t l : List ℕ) (m k rounds : ℕ) (list fresh : List ℕ) {n : ℕ} → 1024 < length fresh → n ≡ k → Stepping t l m k rounds list list (replicate 1025 0) fresh n 0 0
 unfolding count_after words_after reach_after
-steps_begin t l m k rounds list fresh h =
+steps_begin t l m k rounds list fresh h e =
     record {
       so_far = omega arith;
       kept = refl;
       sets = h;
       few = omega arith;
-      count = refl;
+      count = e;
       words = puts_none refl;
       again = closed_none t 1025 (omega arith);
       reached = λ q i z. rw (zeros 1025 q) (in_none i);

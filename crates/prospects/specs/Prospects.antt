@@ -18,7 +18,8 @@ module _ (t : List ℕ) where
   module _ (l : List ℕ) where
     -- what the anchor of round r reaches, if there is one, beside what earlier ones have reached
     unfoldable pub reach_step : (ℕ → ℕ → Bool) → ℕ → ℕ → ℕ → Bool
-    reach_step f r i q = f i q || (nat_lt (get_or l r 0) 16 && in_history t r (only (get_or l r 0)) i q)
+    reach_step f r i q =
+        f i q || (nat_lt (get_or l r 0) 16 && in_history t r (only (get_or l r 0)) i q)
 
     -- the words of its block, where there were k blocks
     unfoldable pub words_step : (ℕ → ℕ → Bool) → ℕ → ℕ → List ℕ
@@ -35,4 +36,5 @@ module _ (t : List ℕ) where
       -- the words of their blocks, oldest first, where there were k blocks
       unfoldable pub words_after : ℕ → ℕ → List ℕ
       words_after zero k = []
-      words_after (suc n) k = words_after n k ++ words_step (reach_after n) (m + suc n) (count_after l m n k)
+      words_after (suc n) k =
+          words_after n k ++ words_step (reach_after n) (m + suc n) (count_after l m n k)

@@ -1,6 +1,6 @@
 -- What walks down histories have reached, and what is new in them: v and fresh have a set of authors for each round.
 use Rattle.std.specs.Prelude.{◌≡◌, true, not, ◌&&◌, ◌||◌, List, ℕ, suc, ◌<◌, ◌≤◌, ◌==◌, length, get_or}
-use Rattle.base.specs.Sets.{is_in}
+use Rattle.base.specs.Sets.{contains}
 use Rattle.store.specs.Table.{Row, mark_at}
 use Rattle.blocks.specs.History.{below, in_history}
 use Rattle.blocks.specs.Seen.{Inside}
@@ -8,7 +8,8 @@ use Rattle.blocks.specs.Seen.{Inside}
 -- the set x has those of `here` that are not in `old` and whose certificates of round r are in no block
 pub record NewOf (t : List ℕ) (here old r x : ℕ) : Type 0 where
   pub small : x < 65536
-  pub each : (a : ℕ) → is_in x a ≡ (is_in here a && (not (is_in old a) && mark_at t a r == 0))
+  pub each : (a : ℕ)
+      → contains x a ≡ (contains here a && (not (contains old a) && mark_at t a r == 0))
 
 -- what a set of v reaches one round below is in w
 pub record Closed (t v w : List ℕ) : Type 0 where
@@ -27,7 +28,10 @@ pub record WentDown (t v : List ℕ) (s top low : ℕ) (v' fresh : List ℕ) : T
   pub down : low ≤ top
   pub rounds : 1024 < length fresh
   pub now : Closed t v' v'
-  pub reaches : (q a : ℕ) → 0 < q → is_in (get_or v' q 0) a ≡ (is_in (get_or v q 0) a || in_history t top s a q)
+  pub reaches : (q a : ℕ) → 0 < q
+      → contains (get_or v' q 0) a ≡ (contains (get_or v q 0) a || in_history t top s a q)
   -- at low and below all of the history was reached before
-  pub old : (q a : ℕ) → 0 < q → q ≤ low → in_history t top s a q ≡ true → is_in (get_or v q 0) a ≡ true
-  pub new : (q a : ℕ) → low < q → q ≤ top → is_in (get_or fresh q 0) a ≡ (in_history t top s a q && (not (is_in (get_or v q 0) a) && mark_at t a q == 0))
+  pub old : (q a : ℕ) → 0 < q → q ≤ low → in_history t top s a q ≡ true
+      → contains (get_or v q 0) a ≡ true
+  pub new : (q a : ℕ) → low < q → q ≤ top → contains (get_or fresh q 0) a
+      ≡ (in_history t top s a q && (not (contains (get_or v q 0) a) && mark_at t a q == 0))

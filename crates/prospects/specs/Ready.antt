@@ -20,9 +20,11 @@ pub record BlockReady (t v fresh : List ℕ) (k a r : ℕ) (list : List ℕ) (at
   pub room : at + length (block_words t (in_sets v) k a r) ≤ length list
 
 -- its words are put, and v' has what it reaches too
-pub record BlockListed (t v : List ℕ) (k a r : ℕ) (list list' : List ℕ) (at next : ℕ) (v' fresh' : List ℕ) : Type 0 where
+pub record BlockListed (t v : List ℕ) (k a r : ℕ) (list list' : List ℕ) (at next : ℕ)
+    (v' fresh' : List ℕ) : Type 0 where
   pub rounds : 1024 < length fresh'
-  pub words : Puts list list' at next (block_words t (in_sets v) k a r) (length (block_words t (in_sets v) k a r))
+  pub words : Puts list list' at next (block_words t (in_sets v) k a r)
+      (length (block_words t (in_sets v) k a r))
   pub again : Closed t v' v'
   pub reaches : Tells v' (λ i q. in_sets v i q || in_history t r (only a) i q)
 
@@ -34,10 +36,12 @@ pub record StepReady (t v fresh l : List ℕ) (r k : ℕ) (list : List ℕ) (at 
   pub room : at + length (words_step t l (in_sets v) r k) ≤ length list
 
 -- and what is so then
-pub record StepListed (t v l : List ℕ) (r k : ℕ) (list list' : List ℕ) (at count next : ℕ) (v' fresh' : List ℕ) : Type 0 where
+pub record StepListed (t v l : List ℕ) (r k : ℕ) (list list' : List ℕ) (at count next : ℕ)
+    (v' fresh' : List ℕ) : Type 0 where
   pub rounds : 1024 < length fresh'
   pub blocks : count ≡ count_step l r k
-  pub words : Puts list list' at next (words_step t l (in_sets v) r k) (length (words_step t l (in_sets v) r k))
+  pub words : Puts list list' at next (words_step t l (in_sets v) r k)
+      (length (words_step t l (in_sets v) r k))
   pub again : Closed t v' v'
   pub reaches : Tells v' (reach_step t l (in_sets v) r)
 

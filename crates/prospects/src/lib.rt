@@ -14,82 +14,99 @@ ghost use Rattle.prospects.specs.Ready.{BlockReady, BlockListed, StepReady, Step
 use terms::{Member, Round};
 
 /// How many blocks there would be, and the next place of the list.
-#[derive(Clone, Copy)]
-pub struct Listed {
+#[derive(Debug, Clone, Copy)]
+pub(crate) struct Listed {
     pub blocks: u32,
     pub next: usize,
 }
 
-// Block k, of the anchor of author a and round r. seen has what earlier anchors have reached, by round.
+// The block of the anchor of `author` and `round`, by its number. `seen` has what earlier anchors have reached, by round.
 fn list_block(
-    t: &[u32],
+    table: &[u32],
     seen: &mut [u32; 1025],
     fresh: &mut [u32; 1025],
-    k: u32,
-    a: Member,
-    r: Round,
+    block: u32,
+    author: Member,
+    round: Round,
     list: &mut [u32],
     at: usize,
 ) -> usize
-    requires { BlockReady t.now seen.old fresh.old k a.0 r.0 list.old at }
-    ensures { BlockListed t.now seen.old k a.0 r.0 list.old list.new at result seen.new fresh.new }
+    requires { BlockReady table.now seen.old fresh.old block author.0 round.0 list.old at }
+    ensures { BlockListed table.now seen.old block author.0 round.0 list.old list.new at result
+        seen.new fresh.new }
 {
-    let low = reaching::go_down(t, seen, fresh, base::just(a.0), r);
-    entries::put_rows(list, at, fresh, k, low, r, a)
+    let low = reaching::go_down(table, seen, fresh, base::only(author.0), round);
+    entries::put_rows(list, at, fresh, block, low, round, author)
 }
 
-// The block of the anchor of round r, if it has one, where there are k.
+// The block of the anchor of `round`, if it has one, where there are `blocks`.
 fn list_step(
-    t: &[u32],
+    table: &[u32],
     seen: &mut [u32; 1025],
     fresh: &mut [u32; 1025],
-    l: &[u32],
-    r: Round,
-    k: u32,
+    leaders: &[u32],
+    round: Round,
+    blocks: u32,
     list: &mut [u32],
     at: usize,
 ) -> Listed
-    requires { StepReady t.now seen.old fresh.old l.now r.0 k list.old at }
-    ensures { StepListed t.now seen.old l.now r.0 k list.old list.new at result.blocks result.next seen.new fresh.new }
+    requires { StepReady table.now seen.old fresh.old leaders.now round.0 blocks list.old at }
+    ensures { StepListed table.now seen.old leaders.now round.0 blocks list.old list.new at
+        result.blocks result.next seen.new fresh.new }
 {
-    let a = l[r.0 as usize];
-    if a < 16 {
+    let author = leaders[round.0 as usize];
+    if author < 16 {
         Listed {
-            blocks: k + 1,
-            next: list_block(t, seen, fresh, k + 1, Member(a), r, list, at),
+            blocks: blocks + 1,
+            next: list_block(
+                table,
+                seen,
+                fresh,
+                blocks + 1,
+                Member(author),
+                round,
+                list,
+                at,
+            ),
         }
     } else {
-        Listed {
-            blocks: k,
-            next: at,
-        }
+        Listed { blocks, next: at }
     }
 }
 
-/// Lists the blocks of the anchors above round m up to round top, oldest first, where there are k blocks: three words for each certificate, from the front of the list. l has the authors of the anchors by round, 16 for none. The number of words that were put.
-pub fn list_blocks(t: &[u32], l: &[u32], m: Round, top: Round, k: u32, list: &mut [u32]) -> usize
-    requires { StepsReady t.now l.now m.0 top.0 k list.old }
-    ensures { Puts list.old list.new 0 result (words_after t.now l.now m.0 (top.0 - m.0) k) (length (words_after t.now l.now m.0 (top.0 - m.0) k)) }
+/// Lists the blocks of the anchors above round `low` up to round `top`, oldest first, where there are `blocks` already: three words for each certificate, from the front of the list. `leaders` has the authors of the anchors by round, 16 for none. The number of words that were put.
+pub fn list_blocks(
+    table: &[u32],
+    leaders: &[u32],
+    low: Round,
+    top: Round,
+    blocks: u32,
+    list: &mut [u32],
+) -> usize
+    requires { StepsReady table.now leaders.now low.0 top.0 blocks list.old }
+    ensures { Puts list.old list.new 0 result (words_after table.now leaders.now low.0
+        (top.0 - low.0) blocks)
+        (length (words_after table.now leaders.now low.0 (top.0 - low.0) blocks)) }
 {
-    let last = m.0;
+    let last = low.0;
     let rounds = top.0 - last;
     let mut seen = [0u32; 1025];
     let mut fresh = [0u32; 1025];
-    let mut n = k;
+    let mut count = blocks;
     let mut at: usize = 0;
     for i in 0..rounds {
-        let x = list_step(
-            t,
+        let listed = list_step(
+            table,
             &mut seen,
             &mut fresh,
-            l,
+            leaders,
             Round(last + 1 + i),
-            n,
+            count,
             list,
             at,
         );
-        n = x.blocks;
-        at = x.next;
+        count = listed.blocks;
+        at = listed.next;
     }
     at
 }

@@ -1,6 +1,5 @@
 -- A draw that a loop makes, transaction by transaction.
-use Rattle.std.proofs.Common.{◌≡◌, refl, sym, ap, ◌∙◌, true, List, [], ◌∷◌, ◌++◌, append-nil, ℕ, suc, ◌+◌, ◌-◌, ◌<◌, ◌≤◌, arith, length}
-use mathlib.Core.Option.{none, some}
+use Rattle.std.proofs.Common.{◌≡◌, refl, sym, ap, ◌∙◌, true, List, [], ◌∷◌, ◌++◌, append-nil, ℕ, suc, ◌+◌, ◌-◌, ◌<◌, ◌≤◌, arith, length, Some, None}
 use lib.Seq.{append_snoc}
 use Rattle.terms.specs.declared.Transaction.{Transaction}
 use Rattle.terms.specs.declared.Body.{Body}
@@ -21,7 +20,7 @@ pub record Drawing (t₀ : List ℕ) (v a i : ℕ) (body : Body) (t : List ℕ) 
   pub done : List Transaction
   pub all : transactions_in (drawn a (queues_of t₀)) ≡ done ++ transactions_in (drawn (a - i) (queues_of t))
   pub its-body : body ≡ body_of v done
-  pub its-table : drawn_table (drawn a (queues_of t₀)) t₀ ≡ drawn_table (drawn (a - i) (queues_of t)) t
+  pub its_table : drawn_table (drawn a (queues_of t₀)) t₀ ≡ drawn_table (drawn (a - i) (queues_of t)) t
   pub count : body.count ≡ i
   pub row : Row t 0
   pub fits : queues_fit t ≡ true
@@ -35,11 +34,11 @@ pub drawing_none : {t : List ℕ} {v a : ℕ} {b : Body} → Row t 0 → queues_
 drawing_none {t} {v} {a} {b} r f e =
     let z : a - 0 ≡ a = omega arith in
     let h : b ≡ body_of v [] = e ∙ bare_of v in
-    record { so_far = omega arith; done = []; all = rw z refl; its-body = h; its-table = rw z refl; count = rw h (body-length v []); row = r; fits = f; kept = refl }
+    record { so_far = omega arith; done = []; all = rw z refl; its-body = h; its_table = rw z refl; count = rw h (body-length v []); row = r; fits = f; kept = refl }
 
 module _ {t₀ : List ℕ} {v a i : ℕ} {body : Body} {t : List ℕ} (p : Drawing t₀ v a i body t) where
   -- one more
-  module _ {g : ℕ} (l : i < a) (e : next_guest (queues_of t) ≡ some g) where
+  module _ {g : ℕ} (l : i < a) (e : next_guest (queues_of t) ≡ Some g) where
     place : Place t g 0
     place = guest_place t e p.row
 
@@ -61,7 +60,7 @@ module _ {t₀ : List ℕ} {v a i : ℕ} {body : Body} {t : List ℕ} (p : Drawi
           done = d ++ (waiting_at t g 0 ∷ []);
           all = rw eu (p.all ∙ rw drawn-next (sym (append_snoc d (waiting_at t g 0) (transactions_in (drawn (a - (i + 1)) (queues_of (served_table t g)))))));
           its-body = rw (eb, ex, p.its-body) (push-body v d (waiting_at t g 0));
-          its-table = rw eu (p.its-table ∙ rw drawn-next (table_more (record { guest = g; transaction = waiting_at t g 0 }) (drawn (a - (i + 1)) (queues_of (served_table t g))) t));
+          its_table = rw eu (p.its_table ∙ rw drawn-next (table_more (record { guest = g; transaction = waiting_at t g 0 }) (drawn (a - (i + 1)) (queues_of (served_table t g))) t));
           count = rw eb (omega arith);
           row = rw eu (omega arith);
           fits = rw eu (fits-served-table t g k.row k.guest p.fits);
@@ -69,10 +68,10 @@ module _ {t₀ : List ℕ} {v a i : ℕ} {body : Body} {t : List ℕ} (p : Drawi
         }
 
   done_all : drawn (a - i) (queues_of t) ≡ [] → Drawn t₀ v a body t
-  done_all n = (p.its-body ∙ ap (body_of v) (sym (p.all ∙ rw n (append-nil p.done))), sym (p.its-table ∙ rw n (table-nothing t)))
+  done_all n = (p.its-body ∙ ap (body_of v) (sym (p.all ∙ rw n (append-nil p.done))), sym (p.its_table ∙ rw n (table-nothing t)))
 
   -- where no guest waits
-  pub drawing_end : next_guest (queues_of t) ≡ none → Drawn t₀ v a body t
+  pub drawing_end : next_guest (queues_of t) ≡ None → Drawn t₀ v a body t
   drawing_end e = done_all (drawn-none (a - i) (queues_of t) e)
 
   -- where there are as many as the allowance lets

@@ -1,6 +1,5 @@
 -- Blocks by their numbers: the round of each, and which of them holds a certificate.
-use Rattle.std.proofs.Common.{◌≡◌, refl, sym, ap, ◌∙◌, Bool, true, false, cond, List, ℕ, zero, suc, ◌<◌, ◌≤◌, arith, eqb, eqb-true, length}
-use mathlib.Core.Option.{Option, none, some}
+use Rattle.std.proofs.Common.{◌≡◌, refl, sym, ap, ◌∙◌, Bool, true, false, cond, List, ℕ, zero, suc, ◌<◌, ◌≤◌, arith, eqb, eqb-true, length, Option, Some, None}
 use borrow.Author.Tests.{eqb-false}
 use Rattle.agreement.specs.Rules.{Block}
 use Rattle.agreement.specs.Dag.{is_held}
@@ -16,14 +15,14 @@ use Rattle.state.specs.View.{view}
 
 module _ (n : ℕ) (t : List ℕ) where
   -- block j of the first k is the one that the table tells
-  chain-block : (k j : ℕ) → 0 < j → j ≤ k → chains.block_numbered (chain_of n t k) j ≡ some (block_at n t j)
+  chain-block : (k j : ℕ) → 0 < j → j ≤ k → chains.block_numbered (chain_of n t k) j ≡ Some (block_at n t j)
   unfolding chains.block_numbered
   chain-block zero j h l = absurd (omega arith)
   chain-block (suc k) j h l = rw (chain_more n t k, chain_length n t k) (go (eqb j (suc k)) refl (λ i. chain-block k j h i))
     where
-      go : (b : Bool) → eqb j (suc k) ≡ b → (j ≤ k → chains.block_numbered (chain_of n t k) j ≡ some (block_at n t j))
-          → ◌≡◌ {A = Option (Block Content)} (cond b (some (block_at n t (suc k))) (chains.block_numbered (chain_of n t k) j)) (some (block_at n t j))
-      go true e f = ap (λ (i : ℕ). some (block_at n t i)) (sym (eqb-true j (suc k) e))
+      go : (b : Bool) → eqb j (suc k) ≡ b → (j ≤ k → chains.block_numbered (chain_of n t k) j ≡ Some (block_at n t j))
+          → ◌≡◌ {A = Option (Block Content)} (cond b (Some (block_at n t (suc k))) (chains.block_numbered (chain_of n t k) j)) (Some (block_at n t j))
+      go true e f = ap (λ (i : ℕ). Some (block_at n t i)) (sym (eqb-true j (suc k) e))
       go false e f = let d = eqb-false j (suc k) e in f (omega arith)
 
   -- and so its round
@@ -35,7 +34,7 @@ module _ (n : ℕ) (t : List ℕ) where
     pub block_held : (k : ℕ) → is_held ((block_at n t k).holds a r) ≡ eqb (mark_at t a r) k
     block_held k = rw (block_inside n t k a r from to, holds_at_lem t k a r, certificate-present t a r held) (go (eqb (mark_at t a r) k))
       where
-        go : (b : Bool) → is_held (cond b (some (content_at t a r)) none) ≡ b
+        go : (b : Bool) → is_held (cond b (Some (content_at t a r)) None) ≡ b
         go true = refl
         go false = refl
 

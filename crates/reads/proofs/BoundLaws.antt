@@ -7,7 +7,7 @@ use Rattle.committee.specs.Totals.{total_in}
 use Rattle.committee.proofs.ChangeLaws.{bond-at}
 use Rattle.committee.proofs.BondedLaws.{length-committee}
 use Rattle.committee.specs.BondEffects.{shares_of, bonded, bond_effect, most_moved}
-use Rattle.committee.proofs.BondEffectLaws.{share-at, share-none, at-most-largest, is-largest, total-bonded, effect-le}
+use Rattle.committee.proofs.BondEffectLaws.{share-at, share-none, at-most-largest, is-largest, total-bonded, effect_le}
 use Rattle.rules.specs.Reads.{committee_read, effect_read, share_read}
 use Rattle.state.specs.declared.State.{State}
 use Rattle.state.specs.View.{view}
@@ -32,7 +32,7 @@ module _ (s : State) (t : List ℕ) where
   pub effect_bounded : length s.settings.weights ≡ 16 → (m r a : ℕ) → effect_refusal s t m r a ≡ 0 → (effect_read s.settings (view s t) m r a).largest ≤ most_moved (total_at s t r) a
   effect_bounded l m r a e =
       let k = accepted-total m r a e in
-      (effect-le (weights r) m a (length-committee s.settings (view s t).chain r ∙ l) k.0 k.1)
+      (effect_le (weights r) m a (length-committee s.settings (view s t).chain r ∙ l) k.0 k.1)
 
   -- no share moves further than the largest difference
   pub none_moves_further : (m r a : ℕ) → effect_refusal s t m r a ≡ 0 → (i : ℕ) → i < 16

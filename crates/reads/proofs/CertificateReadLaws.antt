@@ -55,8 +55,8 @@ module _ (s : State) (t : List ℕ) where
       ∙ passes 23 _ (ap not (held-dag c t m r k.from k.to ∙ k.held))
       ∙ passes-all
 
-  pub place-in : Formed s t → (m r : ℕ) → m < 16 → r ≤ s.settings.ceiling.0 → Within t m r
-  place-in f m r a b = record { member = a; row = omega (arith, f.long) }
+  pub place_in : Formed s t → (m r : ℕ) → m < 16 → r ≤ s.settings.ceiling.0 → Within t m r
+  place_in f m r a b = record { member = a; row = omega (arith, f.long) }
 
   -- what the table tells of a held certificate is what the view shows of it
   pub held-told : (m r : ℕ) {p : Proposal} {d : ℕ} {b : ℕ} → Formed s t → 0 < r → r ≤ s.settings.ceiling.0 → held_at t m r ≡ true → p ≡ proposal_of (content_at t m r) → d ≡ endorsers_at t m r → b ≡ mark_at t m r

@@ -1,6 +1,5 @@
 -- What the read of a certificate gives.
-use Rattle.std.specs.Prelude.{List, ℕ}
-use Rattle.std.proofs.Math.Option.{Option, none, some}
+use Rattle.std.specs.Prelude.{List, ℕ, Option, Some, None}
 use Rattle.terms.specs.declared.Proposal.{Proposal}
 use Rattle.terms.specs.Proposals.{Content}
 use Rattle.store.specs.Table.{endorsers_at, proposal_of}
@@ -16,9 +15,13 @@ no_proposal = record { author = record { 0 = 0 }; round = record { 0 = 0 }; body
 
 -- a certificate as it is handed out, nothing where there is none
 abbrev pub proposal_shown : Option Content → Proposal
-proposal_shown none = no_proposal
-proposal_shown (some p) = proposal_of p
+proposal_shown None = no_proposal
+proposal_shown (Some p) = proposal_of p
 
 -- the proposal, the endorsers that it was stored with, and the number of its block, 0 for none
 unfoldable pub certificate_read : State → List ℕ → ℕ → ℕ → Held
-certificate_read s t m r = record { proposal = proposal_shown ((view s t).dag m r); endorsers = endorsers_at t m r; block = block_number (view s t).chain m r }
+certificate_read s t m r = record {
+  proposal = proposal_shown ((view s t).dag m r);
+  endorsers = endorsers_at t m r;
+  block = block_number (view s t).chain m r;
+}

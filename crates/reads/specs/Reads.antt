@@ -24,7 +24,8 @@ module _ (s : State) (t : List ℕ) where
 
   -- of a certificate: 1, 4, 5, 23
   unfoldable pub certificate_refusal : ℕ → ℕ → ℕ
-  certificate_refusal m r = refusal (guarded s t (rules.reading_certificate s.settings (view s t) m r))
+  certificate_refusal m r =
+      refusal (guarded s t (rules.reading_certificate s.settings (view s t) m r))
 
   -- of a block: 1, 23
   unfoldable pub block_refusal : ℕ → ℕ

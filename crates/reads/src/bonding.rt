@@ -17,35 +17,50 @@ use terms::{Member, Round};
 
 // Checks 4, 5, 6, 8, 30, and the shares.
 #[tactic(auto, unfolding(base::specs::Checks::refusal))]
-fn effect_of(v: &View, m: Member, r: Round, a: u32) -> Result<Effect, Refusal>
-    ensures refusal { refusal_in result ≡ refusal (reading_effect (settings_of v.now) (shown v.now) m.0 r.0 a) }
-    ensures value { IfOk result (λ x. x ≡ effect_read (settings_of v.now) (shown v.now) m.0 r.0 a) }
+fn effect_of(view: &View, member: Member, round: Round, amount: u32) -> Result<Effect, Refusal>
+    ensures refusal { refusal_in result
+        ≡ refusal (reading_effect (settings_of view.now) (shown view.now) member.0 round.0 amount) }
+    ensures value { IfOk result (λ x. x ≡ effect_read (settings_of view.now) (shown view.now)
+        member.0 round.0 amount) }
 {
-    if 15 < m.0 {
-        return Err(Refusal::NoSuchMember);
+    if 15 < member.0 {
+        return Err(Refusal::MemberRange);
     }
-    if v.is_bad_round(r) {
-        return Err(Refusal::NoSuchRound);
+    if view.is_bad_round(round) {
+        return Err(Refusal::RoundRange);
     }
-    if !terms::amount_in_range(a) {
-        return Err(Refusal::BadTransactions);
+    if !terms::amount_in_range(amount) {
+        return Err(Refusal::TransactionsRange);
     }
-    if v.is_unknown(r) {
+    if view.is_unknown(round) {
         return Err(Refusal::CommitteeUnknown);
     }
-    let committee = v.committee(r);
+    let committee = view.committee(round);
     let total = weighing::total_weight(&committee.weights);
     if total.0 == 0 {
-        return Err(Refusal::NoTotal);
+        return Err(Refusal::EmptyCommittee);
     }
-    Ok(effects::bond_effect(committee.weights, total, m, a))
+    Ok(effects::bond_effect(committee.weights, total, member, amount))
 }
 
 /// Sixteen shares before and after a bond of the member by an amount, 1 to 1,000, and the largest difference. Checks 1, 4, 5, 6, 8 and 30, in this order.
 #[tactic(auto, unfolding(base::specs::Checks::refusal, crate::specs::Reads::effect_refusal))]
-pub fn effect(s: &State, t: &[u32], m: Member, r: Round, a: u32) -> Result<Effect, Refusal>
-    ensures refusal { refusal_in result ≡ effect_refusal s.now t.now m.0 r.0 a }
-    ensures value { IfOk result (λ x. x ≡ effect_read s.now.settings (view s.now t.now) m.0 r.0 a) }
+pub fn effect(
+    state: &State,
+    table: &[u32],
+    member: Member,
+    round: Round,
+    amount: u32,
+) -> Result<Effect, Refusal>
+    ensures refusal { refusal_in result
+        ≡ effect_refusal state.now table.now member.0 round.0 amount }
+    ensures value { IfOk result (λ x. x ≡ effect_read state.now.settings (view state.now table.now)
+        member.0 round.0 amount) }
 {
-    effect_of(&View::known(state::well_formed(*s, t), &[], s, t)?, m, r, a)
+    effect_of(
+        &View::known(state::well_formed(*state, table), &[], state, table)?,
+        member,
+        round,
+        amount,
+    )
 }

@@ -23,7 +23,7 @@ use store::record;
 use terms::{Member, Proposal, Round};
 
 /// A held certificate: its proposal, the endorsers that it was stored with, and the number of its block, 0 for none.
-#[derive(Clone, Copy)]
+#[derive(Debug, Clone, Copy)]
 pub struct Held {
     /// Its author, round and body.
     pub proposal: Proposal,
@@ -35,53 +35,70 @@ pub struct Held {
 
 // Checks 4, 5, 23, and the certificate.
 #[tactic(auto, unfolding(base::specs::Checks::refusal))]
-fn certificate_of(v: &View, m: Member, r: Round) -> Result<Held, Refusal>
-    ensures refusal { refusal_in result ≡ refusal (reading_certificate (settings_of v.now) (shown v.now) m.0 r.0) }
-    ensures value { IfOk result (λ h. h ≡ certificate_read v.now.state.now v.now.table.now m.0 r.0) }
+fn certificate_of(view: &View, author: Member, round: Round) -> Result<Held, Refusal>
+    ensures refusal { refusal_in result
+        ≡ refusal (reading_certificate (settings_of view.now) (shown view.now) author.0 round.0) }
+    ensures value { IfOk result (λ h. h ≡ certificate_read view.now.state.now view.now.table.now
+        author.0 round.0) }
 {
-    if 15 < m.0 {
-        return Err(Refusal::NoSuchMember);
+    if 15 < author.0 {
+        return Err(Refusal::MemberRange);
     }
-    if v.is_bad_round(r) {
-        return Err(Refusal::NoSuchRound);
+    if view.is_bad_round(round) {
+        return Err(Refusal::RoundRange);
     }
-    if !v.is_held(m, r) {
+    if !view.is_held(author, round) {
         return Err(Refusal::NoneThere);
     }
-    let t = v.table;
+    let table = view.table;
     Ok(Held {
-        proposal: record::proposal_at(t, m, r),
-        endorsers: record::endorsers(t, m, r),
-        block: record::mark(t, m, r),
+        proposal: record::proposal_at(table, author, round),
+        endorsers: record::endorsers(table, author, round),
+        block: record::mark(table, author, round),
     })
 }
 
 /// The certificate of a place. Checks 1, 4, 5 and 23, in this order.
 #[tactic(auto, unfolding(base::specs::Checks::refusal, crate::specs::Reads::certificate_refusal))]
-pub fn certificate(s: &State, t: &[u32], m: Member, r: Round) -> Result<Held, Refusal>
-    ensures refusal { refusal_in result ≡ certificate_refusal s.now t.now m.0 r.0 }
-    ensures value { IfOk result (λ h. h ≡ certificate_read s.now t.now m.0 r.0) }
+pub fn certificate(
+    state: &State,
+    table: &[u32],
+    author: Member,
+    round: Round,
+) -> Result<Held, Refusal>
+    ensures refusal { refusal_in result ≡ certificate_refusal state.now table.now author.0 round.0 }
+    ensures value { IfOk result (λ h. h ≡ certificate_read state.now table.now author.0 round.0) }
 {
-    certificate_of(&View::known(state::well_formed(*s, t), &[], s, t)?, m, r)
+    certificate_of(
+        &View::known(state::well_formed(*state, table), &[], state, table)?,
+        author,
+        round,
+    )
 }
 
 // Check 23, and the round.
 #[tactic(auto, using(crate::proofs::BlockLaws::blocks_shown, crate::proofs::BlockLaws::round_shown), unfolding(base::specs::Checks::refusal))]
-fn block_of(v: &View, k: u32) -> Result<Round, Refusal>
-    ensures refusal { refusal_in result ≡ refusal (reading_block (settings_of v.now) (shown v.now) k) }
-    ensures value { IfOk result (λ r. r.0 ≡ block_read (settings_of v.now) (shown v.now) k) }
+fn block_of(view: &View, block: u32) -> Result<Round, Refusal>
+    ensures refusal { refusal_in result
+        ≡ refusal (reading_block (settings_of view.now) (shown view.now) block) }
+    ensures value { IfOk result (λ r. r.0
+        ≡ block_read (settings_of view.now) (shown view.now) block) }
 {
-    if k == 0 || v.state.blocks < k {
+    if block == 0 || view.state.blocks < block {
         return Err(Refusal::NoneThere);
     }
-    Ok(store::block_round(v.table, k))
+    Ok(store::block_round(view.table, block))
 }
 
 /// The round of a block, by its number from 1. Checks 1 and 23, in this order.
 #[tactic(auto, unfolding(base::specs::Checks::refusal, crate::specs::Reads::block_refusal))]
-pub fn block(s: &State, t: &[u32], k: u32) -> Result<Round, Refusal>
-    ensures refusal { refusal_in result ≡ block_refusal s.now t.now k }
-    ensures value { IfOk result (λ r. r.0 ≡ block_read s.now.settings (view s.now t.now) k) }
+pub fn block(state: &State, table: &[u32], number: u32) -> Result<Round, Refusal>
+    ensures refusal { refusal_in result ≡ block_refusal state.now table.now number }
+    ensures value { IfOk result (λ r. r.0
+        ≡ block_read state.now.settings (view state.now table.now) number) }
 {
-    block_of(&View::known(state::well_formed(*s, t), &[], s, t)?, k)
+    block_of(
+        &View::known(state::well_formed(*state, table), &[], state, table)?,
+        number,
+    )
 }

@@ -17,55 +17,68 @@ use terms::{Member, Round};
 
 // Checks 5, 8, and the weights.
 #[tactic(auto, unfolding(base::specs::Checks::refusal))]
-fn committee_of(v: &View, r: Round) -> Result<[Weight; 16], Refusal>
-    ensures refusal { refusal_in result ≡ refusal (reading_committee (settings_of v.now) (shown v.now) r.0) }
-    ensures value { IfOk result (λ w. w ≡ committee_read (settings_of v.now) (shown v.now) r.0) }
+fn committee_of(view: &View, round: Round) -> Result<[Weight; 16], Refusal>
+    ensures refusal { refusal_in result
+        ≡ refusal (reading_committee (settings_of view.now) (shown view.now) round.0) }
+    ensures value { IfOk result (λ w. w
+        ≡ committee_read (settings_of view.now) (shown view.now) round.0) }
 {
-    if v.is_bad_round(r) {
-        return Err(Refusal::NoSuchRound);
+    if view.is_bad_round(round) {
+        return Err(Refusal::RoundRange);
     }
-    if v.is_unknown(r) {
+    if view.is_unknown(round) {
         return Err(Refusal::CommitteeUnknown);
     }
-    Ok(v.committee(r).weights)
+    Ok(view.committee(round).weights)
 }
 
 /// The committee of a round: sixteen weights, 0 for a non-member. Checks 1, 5 and 8, in this order.
 #[tactic(auto, unfolding(base::specs::Checks::refusal, crate::specs::Reads::committee_refusal))]
-pub fn committee(s: &State, t: &[u32], r: Round) -> Result<[Weight; 16], Refusal>
-    ensures refusal { refusal_in result ≡ committee_refusal s.now t.now r.0 }
-    ensures value { IfOk result (λ w. w ≡ committee_read s.now.settings (view s.now t.now) r.0) }
+pub fn committee(state: &State, table: &[u32], round: Round) -> Result<[Weight; 16], Refusal>
+    ensures refusal { refusal_in result ≡ committee_refusal state.now table.now round.0 }
+    ensures value { IfOk result (λ w. w
+        ≡ committee_read state.now.settings (view state.now table.now) round.0) }
 {
-    committee_of(&View::known(state::well_formed(*s, t), &[], s, t)?, r)
+    committee_of(
+        &View::known(state::well_formed(*state, table), &[], state, table)?,
+        round,
+    )
 }
 
 // Checks 4, 5, 8, 9, and the share.
 #[tactic(auto, unfolding(base::specs::Checks::refusal))]
-fn share_of(v: &View, m: Member, r: Round) -> Result<u32, Refusal>
-    ensures refusal { refusal_in result ≡ refusal (reading_share (settings_of v.now) (shown v.now) m.0 r.0) }
-    ensures value { IfOk result (λ n. n ≡ share_read (settings_of v.now) (shown v.now) m.0 r.0) }
+fn share_of(view: &View, member: Member, round: Round) -> Result<u32, Refusal>
+    ensures refusal { refusal_in result
+        ≡ refusal (reading_share (settings_of view.now) (shown view.now) member.0 round.0) }
+    ensures value { IfOk result (λ n. n ≡ share_read (settings_of view.now) (shown view.now)
+        member.0 round.0) }
 {
-    if 15 < m.0 {
-        return Err(Refusal::NoSuchMember);
+    if 15 < member.0 {
+        return Err(Refusal::MemberRange);
     }
-    if v.is_bad_round(r) {
-        return Err(Refusal::NoSuchRound);
+    if view.is_bad_round(round) {
+        return Err(Refusal::RoundRange);
     }
-    if v.is_unknown(r) {
+    if view.is_unknown(round) {
         return Err(Refusal::CommitteeUnknown);
     }
-    let committee = v.committee(r);
-    if !committee.has_member(m) {
-        return Err(Refusal::Outsider);
+    let committee = view.committee(round);
+    if !committee.has_member(member) {
+        return Err(Refusal::Outside);
     }
-    Ok(weighing::share(&committee.weights, m))
+    Ok(weighing::share(&committee.weights, member))
 }
 
 /// A member's share in the committee of a round, in thousandths. Checks 1, 4, 5, 8 and 9, in this order.
 #[tactic(auto, unfolding(base::specs::Checks::refusal, crate::specs::Reads::share_refusal))]
-pub fn share(s: &State, t: &[u32], m: Member, r: Round) -> Result<u32, Refusal>
-    ensures refusal { refusal_in result ≡ share_refusal s.now t.now m.0 r.0 }
-    ensures value { IfOk result (λ n. n ≡ share_read s.now.settings (view s.now t.now) m.0 r.0) }
+pub fn share(state: &State, table: &[u32], member: Member, round: Round) -> Result<u32, Refusal>
+    ensures refusal { refusal_in result ≡ share_refusal state.now table.now member.0 round.0 }
+    ensures value { IfOk result (λ n. n ≡ share_read state.now.settings (view state.now table.now)
+        member.0 round.0) }
 {
-    share_of(&View::known(state::well_formed(*s, t), &[], s, t)?, m, r)
+    share_of(
+        &View::known(state::well_formed(*state, table), &[], state, table)?,
+        member,
+        round,
+    )
 }

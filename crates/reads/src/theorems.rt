@@ -21,30 +21,40 @@ pub fn effect_bounded()
 
 /// No share moves further than the largest difference, and one moves as far.
 pub fn largest_of_all()
-    ensures bound { (s : State) (t : List ℕ) (m r a : ℕ) → effect_refusal s t m r a ≡ 0 → (i : ℕ) → i < 16
-        → moved_at (effect_read s.settings (view s t) m r a) i ≤ (effect_read s.settings (view s t) m r a).largest }
+    ensures bound { (s : State) (t : List ℕ) (m r a : ℕ) → effect_refusal s t m r a ≡ 0 → (i : ℕ)
+        → i < 16
+        → moved_at (effect_read s.settings (view s t) m r a) i
+        ≤ (effect_read s.settings (view s t) m r a).largest }
     ensures reached { (s : State) (t : List ℕ) (m r a : ℕ) → effect_refusal s t m r a ≡ 0
-        → (i : ℕ) × (i < 16) × (moved_at (effect_read s.settings (view s t) m r a) i ≡ (effect_read s.settings (view s t) m r a).largest) }
+        → (i : ℕ) × (i < 16)
+        × (moved_at (effect_read s.settings (view s t) m r a) i
+        ≡ (effect_read s.settings (view s t) m r a).largest) }
 {}
 
 /// A share that can be read is the one before the bond.
 #[tactic(auto, using(crate::proofs::BoundLaws::effect_of_shares))]
 pub fn effect_of_shares()
-    ensures { (s : State) (t : List ℕ) (m r a i : ℕ) → effect_refusal s t m r a ≡ 0 → share_refusal s t i r ≡ 0
-        → get_or (effect_read s.settings (view s t) m r a).before i 0 ≡ share_read s.settings (view s t) i r }
+    ensures { (s : State) (t : List ℕ) (m r a i : ℕ) → effect_refusal s t m r a ≡ 0
+        → share_refusal s t i r ≡ 0
+        → get_or (effect_read s.settings (view s t) m r a).before i 0 ≡ share_read
+        s.settings (view s t) i r }
 {}
 
 /// The share of a number that is no member is 0, and stays 0 unless it is the one that bonds.
 pub fn none_without_weight()
-    ensures before { (s : State) (t : List ℕ) (m r a i : ℕ) → effect_refusal s t m r a ≡ 0 → i < 16 → committee_in s.settings (view s t) r i ≡ 0
+    ensures before { (s : State) (t : List ℕ) (m r a i : ℕ) → effect_refusal s t m r a ≡ 0 → i < 16
+        → committee_in s.settings (view s t) r i ≡ 0
         → get_or (effect_read s.settings (view s t) m r a).before i 0 ≡ 0 }
-    ensures after { (s : State) (t : List ℕ) → length s.settings.weights ≡ 16 → (m r a i : ℕ) → effect_refusal s t m r a ≡ 0 → i < 16 → committee_in s.settings (view s t) r i ≡ 0 → i ≢ m
+    ensures after { (s : State) (t : List ℕ) → length s.settings.weights ≡ 16 → (m r a i : ℕ)
+        → effect_refusal s t m r a ≡ 0 → i < 16 → committee_in s.settings (view s t) r i ≡ 0 → i ≢ m
         → get_or (effect_read s.settings (view s t) m r a).after i 0 ≡ 0 }
 {}
 
 /// A held certificate is in at most one block, and its mark is the number of that block, 0 for none.
 pub fn in_one_block()
     ensures once { (n : ℕ) (t : List ℕ) (a r : ℕ) → 0 < r → r ≤ n → held_at t a r ≡ true
-        → (i j : ℕ) → is_held ((block_at n t i).holds a r) ≡ true → is_held ((block_at n t j).holds a r) ≡ true → i ≡ j }
-    ensures marked { (n : ℕ) (t : List ℕ) (a r : ℕ) → 0 < r → r ≤ n → held_at t a r ≡ true → (k : ℕ) → mark_at t a r ≤ k → block_number (chain_of n t k) a r ≡ mark_at t a r }
+        → (i j : ℕ) → is_held ((block_at n t i).holds a r) ≡ true
+        → is_held ((block_at n t j).holds a r) ≡ true → i ≡ j }
+    ensures marked { (n : ℕ) (t : List ℕ) (a r : ℕ) → 0 < r → r ≤ n → held_at t a r ≡ true → (k : ℕ)
+        → mark_at t a r ≤ k → block_number (chain_of n t k) a r ≡ mark_at t a r }
 {}

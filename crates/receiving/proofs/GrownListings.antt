@@ -77,16 +77,16 @@ module _ (e : Engine) (k : Intact e) (c : Call) (h : leaves_ports c ≡ true) (i
   no_open : NoOpen e c
   no_open own sheet q z = true≢false (sym h ∙ ap leaves_ports q)
 
-  same-settings : (after e c).state.settings ≡ e.state.settings
-  same-settings = go (every_step e k.good.small c i)
+  same_settings : (after e c).state.settings ≡ e.state.settings
+  same_settings = go (every_step e k.good.small c i)
     where
       go : Step e c → (after e c).state.settings ≡ e.state.settings
       go (refused n z) = absurd (n a)
       go (opened own sheet q b f) = absurd (no_open own sheet q b)
-      go (moved b w n) = n.same-settings
+      go (moved b w n) = n.same_settings
 
   pub listing-more : (more : List ℕ) × (listing_in (after e c) ≡ listing_in e ++ more)
-  listing-more = listing-grows e k.good.small c i no_open same-settings
+  listing-more = listing-grows e k.good.small c i no_open same_settings
 
   pub port-same : (g : ℕ) → g < 8 → port_at (after e c).state (after e c).table g ≡ port_at e.state e.table g
-  port-same = port-stays e k.good.small c i no_open same-settings k.good.formed h a
+  port-same = port-stays e k.good.small c i no_open same_settings k.good.formed h a

@@ -1,6 +1,5 @@
 -- What a caller asks leaves every other guest's port as it was.
-use Rattle.std.proofs.Common.{◌≡◌, refl, sym, ap, ◌∙◌, Bool, true, false, cond, List, [], ◌∷◌, ◌++◌, ◌⊎◌, inl, inr, ◌≢◌, ℕ, ◌<◌, eqb, length}
-use mathlib.Core.Option.{Option, none, some}
+use Rattle.std.proofs.Common.{◌≡◌, refl, sym, ap, ◌∙◌, Bool, true, false, cond, List, [], ◌∷◌, ◌++◌, ◌⊎◌, inl, inr, ◌≢◌, ℕ, ◌<◌, eqb, length, Option, Some, None}
 use native.Mathlib.Decide.{ℕ_discrete}
 use Rattle.base.specs.Options.{if_there}
 use Rattle.terms.specs.declared.Certificate.{Certificate}
@@ -75,8 +74,8 @@ module _ (h : ℕ) (low : h < 8) where
   accepts_leave row (p ∷ l) = both_leave (accepts_of row l) (if_there (row.at p).certificate [] (λ c. accept c ∷ [])) (accepts_leave row l) (go (row.at p).certificate)
     where
       go : (o : Option Certificate) → AllLeave (if_there o [] (λ c. accept c ∷ []))
-      go none = tt
-      go (some c) = (refl, tt)
+      go None = tt
+      go (Some c) = (refl, tt)
 
   batch-leaves : (e : Engine) (row : Row) (answers : List ℕ) → AllLeave (calls_of e (batch row answers))
   batch-leaves e row answers = go (eqb (batch_refusal e.state e.table row.count (length answers)) 0)
@@ -110,6 +109,6 @@ pub leaves_other_ports : (e : Engine) → Reached e → (c : ℕ) (a : Asked) �
     → port_on (result_of e (requests.guest c a)).engine h ≡ port_on e h
 leaves_other_ports e r c a i h low other = ap (λ (d : Engine). port_on d h) (left_by e (requests.guest c a)) ∙ go (eqb (caller_number e c a) 0) i
   where
-    go : (b : Bool) → InRangeThen e (cond b (some (submitted_by c a)) none) → port_on (if_there (cond b (some (submitted_by c a)) none) e (after_submission e)) h ≡ port_on e h
+    go : (b : Bool) → InRangeThen e (cond b (Some (submitted_by c a)) None) → port_on (if_there (cond b (Some (submitted_by c a)) None) e (after_submission e)) h ≡ port_on e h
     go true j = submitted-leaves h low e (intact r) c other a j
     go false j = refl

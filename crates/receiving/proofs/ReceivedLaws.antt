@@ -1,6 +1,5 @@
 -- What was read from a port since it was reset is a prefix of the listing, over every list of requests.
-use Rattle.std.proofs.Common.{◌≡◌, refl, sym, ap, ◌∙◌, subst, Bool, true, false, cond, not, ◌&&◌, List, [], ◌∷◌, ◌++◌, ◌≢◌, ℕ, ◌<◌, arith, eqb, leb, ltb, length, get_or, length-append, eq-eqb, ne_eqb, eqb-true, ltb-true}
-use mathlib.Core.Option.{Option, none, some}
+use Rattle.std.proofs.Common.{◌≡◌, refl, sym, ap, ◌∙◌, subst, Bool, true, false, cond, not, ◌&&◌, List, [], ◌∷◌, ◌++◌, ◌≢◌, ℕ, ◌<◌, arith, eqb, leb, ltb, length, get_or, length-append, eq-eqb, ne_eqb, eqb-true, ltb-true, Option, Some, None}
 use native.Mathlib.Decide.{ℕ_discrete}
 use borrow.Author.Tests.{not-true}
 use Rattle.base.specs.Options.{if_there}
@@ -159,8 +158,8 @@ module _ (g : ℕ) (guest : g < 8) where
       (requests_lead_to d y.0 q i.0, rw (left_by d q) (go d y.0 (received (after_opening x) g l) y.1 (submission_of d q) i.0))
     where
       go : (d : Engine) → Reached d → (b : List ℕ) → ReadsOf g d b → (o : Option Submission) → InRangeThen d o → ReadsOf g (if_there o d (after_submission d)) (if_there o b (λ s. bytes_then d g (calls_of d s) b))
-      go d k b r none j = r
-      go d k b r (some s) j = rw (leaves_as_its_calls d s) (calls-read d (intact k) b r (calls_of d s) j).1
+      go d k b r None j = r
+      go d k b r (Some s) j = rw (leaves_as_its_calls d s) (calls-read d (intact k) b r (calls_of d s) j).1
 
 -- from an accepted open on, however commits and accesses alternate, whoever signed
 pub reads_a_prefix : (x : Opening) (l : List Request) → AskedInRange (after_opening x) l → (g : ℕ) → g < 8 → Served (after_requests (after_opening x) l) g (received (after_opening x) g l)

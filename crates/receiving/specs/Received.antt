@@ -26,7 +26,10 @@ shown e g o = register e.state e.table g o
 module _ (e : Engine) (g : ℕ) where
   -- port g, whose bytes were l: a reset empties them; a read of offset 0 adds what it answers, while bit 7 of offset 3 is clear and the listing has more bytes than l
   abbrev pub asked_of : PortCall → List ℕ → List ℕ
-  asked_of (access h (read o)) l = if h == g && (o == 0 && (not (nat_le 128 (shown e g 3)) && nat_lt (length l) (length (listing_in e)))) then l ++ (shown e g o ∷ []) else l
+  asked_of (access h (read o)) l =
+      if h == g
+      && (o == 0 && (not (nat_le 128 (shown e g 3)) && nat_lt (length l) (length (listing_in e))))
+      then l ++ (shown e g o ∷ []) else l
   asked_of (access h (write o b)) l = l
   asked_of (reset h) l = if h == g then [] else l
 
@@ -48,14 +51,17 @@ bytes_then e g (c ∷ m) l = bytes_after (after_calls e m) g c (bytes_then e g m
 -- after requests on e, newest first, from nothing on: those of the calls that each counts as
 unfoldable pub received : Engine → ℕ → List Request → List ℕ
 received e g [] = []
-received e g (x ∷ l) = let d = after_requests e l in if_there (submission_of d x) (received e g l) (λ s. bytes_then d g (calls_of d s) (received e g l))
+received e g (x ∷ l) = let d = after_requests e l in
+    if_there (submission_of d x) (received e g l)
+    (λ s. bytes_then d g (calls_of d s) (received e g l))
 
 -- ---- the claims
 
 -- with any values of their types
 abbrev pub AskedInRange : Engine → List Request → Type 0
 AskedInRange e [] = Unit {0}
-AskedInRange e (x ∷ l) = InRangeThen (after_requests e l) (submission_of (after_requests e l) x) × AskedInRange e l
+AskedInRange e (x ∷ l) = InRangeThen (after_requests e l) (submission_of (after_requests e l) x)
+    × AskedInRange e l
 
 -- the bytes l that were read from port g are a prefix of the listing, the port has counted them, and a byte waits exactly while there are more
 pub record Served (e : Engine) (g : ℕ) (l : List ℕ) : Type 0 where

@@ -24,8 +24,8 @@ marked fs = list_any is_damaged fs
 
 -- ---- the fields of a damaged record
 
-comma-no_mark : (x : ℕ) → is_comma x ≡ true → is_mark x ≡ false
-comma-no_mark x q = rw (eqb-true x 44 q) refl
+comma_no_mark : (x : ℕ) → is_comma x ≡ true → is_mark x ≡ false
+comma_no_mark x q = rw (eqb-true x 44 q) refl
 
 marked-onto : (x : ℕ) (fs : List (List ℕ)) → marked (onto_first x fs) ≡ (is_mark x || marked fs)
 marked-onto x [] = go (is_mark x)
@@ -44,7 +44,7 @@ marked_fields [] = refl
 marked_fields (x ∷ s) = go (is_comma x) refl (marked_fields s)
   where
     go : (b : Bool) → is_comma x ≡ b → marked (fields_of s) ≡ is_damaged s → marked (cond b ([] ∷ fields_of s) (onto_first x (fields_of s))) ≡ (is_mark x || is_damaged s)
-    go true q h = h ∙ rw (comma-no_mark x q) refl
+    go true q h = h ∙ rw (comma_no_mark x q) refl
     go false q h = marked-onto x (fields_of s) ∙ rw h refl
 
 -- ---- fields that are read
@@ -62,39 +62,39 @@ mark-cases b h = go (eqb b 34) (eqb b 13) (eqb b 10) refl refl refl h
     go false false true x y z h = inr (inr (eqb-true b 10 z))
     go false false false x y z h = cc
 
-mark-no_digit : (b : ℕ) → is_mark b ≡ true → is_ascii_digit b ≡ false
-mark-no_digit b h = go (mark-cases b h)
+mark_no_digit : (b : ℕ) → is_mark b ≡ true → is_ascii_digit b ≡ false
+mark_no_digit b h = go (mark-cases b h)
   where
     go : (b ≡ 34) ⊎ ((b ≡ 13) ⊎ (b ≡ 10)) → is_ascii_digit b ≡ false
     go (inl e) = rw e refl
     go (inr (inl e)) = rw e refl
     go (inr (inr e)) = rw e refl
 
-digits-refuse : (v : ℕ) (f : List ℕ) → is_damaged f ≡ true → digits_after v f ≡ None
-digits-refuse v [] h = cc
-digits-refuse v (b ∷ f) h = go (is_mark b) refl h (is_ascii_digit b) refl (at_most 4294967295 (v * 10 + (b - 48))) (λ n k. digits-refuse n f k)
+digits_refuse : (v : ℕ) (f : List ℕ) → is_damaged f ≡ true → digits_after v f ≡ None
+digits_refuse v [] h = cc
+digits_refuse v (b ∷ f) h = go (is_mark b) refl h (is_ascii_digit b) refl (at_most 4294967295 (v * 10 + (b - 48))) (λ n k. digits_refuse n f k)
   where
     go : (m : Bool) → is_mark b ≡ m → (m || is_damaged f) ≡ true → (d : Bool) → is_ascii_digit b ≡ d → (o : Option ℕ) → ((n : ℕ) → is_damaged f ≡ true → digits_after n f ≡ None) → cond d (option_and_then (λ n. digits_after n f) o) None ≡ None
     go m q h false e o t = refl
-    go true q h true e o t = let n = mark-no_digit b q in cc
+    go true q h true e o t = let n = mark_no_digit b q in cc
     go false q h true e None t = refl
     go false q h true e (Some n) t = t n h
 
 number-refuses : Refuses number_in
 number-refuses [] h = cc
-number-refuses (b ∷ []) h = digits-refuse 0 (b ∷ []) h
+number-refuses (b ∷ []) h = digits_refuse 0 (b ∷ []) h
 number-refuses (b ∷ c ∷ f) h = go (eqb b 48)
   where
     go : (z : Bool) → cond z None (digits_after 0 (b ∷ c ∷ f)) ≡ None
     go true = refl
-    go false = digits-refuse 0 (b ∷ c ∷ f) h
+    go false = digits_refuse 0 (b ∷ c ∷ f) h
 
 set-refuses : Refuses set_in
 set-refuses f h = rw (number-refuses f h) refl
 
-setting-refuses : Refuses setting_in
-setting-refuses [] h = cc
-setting-refuses (b ∷ f) h = rw (number-refuses (b ∷ f) h) refl
+setting_refuses : Refuses setting_in
+setting_refuses [] h = cc
+setting_refuses (b ∷ f) h = rw (number-refuses (b ∷ f) h) refl
 
 kind-refuses : Refuses kind_named
 kind-refuses [] h = cc
@@ -131,9 +131,9 @@ record NoTriples (fs : List (List ℕ)) : Type 0 where
   numbers : (k : Kind) → from_number k fs ≡ None
   amounts : (k : Kind) (n : ℕ) → from_amount k n fs ≡ None
 
-triples-refuse : (fs : List (List ℕ)) → marked fs ≡ true → NoTriples fs
-triples-refuse [] h = cc
-triples-refuse (f ∷ fs) h = go (is_damaged f) refl h (λ m. triples-refuse fs m)
+triples_refuse : (fs : List (List ℕ)) → marked fs ≡ true → NoTriples fs
+triples_refuse [] h = cc
+triples_refuse (f ∷ fs) h = go (is_damaged f) refl h (λ m. triples_refuse fs m)
   where
     go : (d : Bool) → is_damaged f ≡ d → (d || marked fs) ≡ true → (marked fs ≡ true → NoTriples fs) → NoTriples (f ∷ fs)
     go true e h t = record {
@@ -166,7 +166,7 @@ triples-refuse (f ∷ fs) h = go (is_damaged f) refl h (λ m. triples-refuse fs 
         amount k m (Some a) n = last (transaction_of k m a) n
 
 body-refuses : (fs : List (List ℕ)) (p : ℕ) (k : Body → Record) → marked fs ≡ true → body_then fs p k ≡ None
-body-refuses fs p k h = rw ((triples-refuse fs h).kinds) refl
+body-refuses fs p k h = rw ((triples_refuse fs h).kinds) refl
 
 ended-refuses : (fs : List (List ℕ)) (r : Record) → marked fs ≡ true → ended_as fs r ≡ None
 ended-refuses [] r h = cc
@@ -174,11 +174,11 @@ ended-refuses (f ∷ fs) r h = refl
 
 -- ---- settings
 
-weights-refuse : (n : ℕ) (fs : List (List ℕ)) → marked fs ≡ true → (weights_in n fs ≡ None) ⊎ (marked (drop n fs) ≡ true)
+weights_refuse : (n : ℕ) (fs : List (List ℕ)) → marked fs ≡ true → (weights_in n fs ≡ None) ⊎ (marked (drop n fs) ≡ true)
 unfolding weights_in
-weights-refuse zero fs h = inr h
-weights-refuse (suc n) [] h = cc
-weights-refuse (suc n) (f ∷ fs) h = go (is_damaged f) refl h (λ m. weights-refuse n fs m)
+weights_refuse zero fs h = inr h
+weights_refuse (suc n) [] h = cc
+weights_refuse (suc n) (f ∷ fs) h = go (is_damaged f) refl h (λ m. weights_refuse n fs m)
   where
     none : (o : Option Setting) → weights_in n fs ≡ None → option_and_then (λ x. option_map (λ l. x ∷ l) (weights_in n fs)) o ≡ None
     none None e = refl
@@ -186,21 +186,21 @@ weights-refuse (suc n) (f ∷ fs) h = go (is_damaged f) refl h (λ m. weights-re
 
     go : (d : Bool) → is_damaged f ≡ d → (d || marked fs) ≡ true → (marked fs ≡ true → (weights_in n fs ≡ None) ⊎ (marked (drop n fs) ≡ true))
         → (option_and_then (λ x. option_map (λ l. x ∷ l) (weights_in n fs)) (setting_in f) ≡ None) ⊎ (marked (drop n fs) ≡ true)
-    go true e h t = inl (rw (setting-refuses f e) refl)
+    go true e h t = inl (rw (setting_refuses f e) refl)
     go false e h t = at (t h)
       where
         at : (weights_in n fs ≡ None) ⊎ (marked (drop n fs) ≡ true) → (option_and_then (λ x. option_map (λ l. x ∷ l) (weights_in n fs)) (setting_in f) ≡ None) ⊎ (marked (drop n fs) ≡ true)
         at (inl z) = inl (none (setting_in f) z)
         at (inr z) = inr z
 
-margin-refuses : (fs : List (List ℕ)) → marked fs ≡ true → last_setting fs ≡ None
-margin-refuses [] h = cc
-margin-refuses (f ∷ []) h = go (is_damaged f) refl h
+margin_refuses : (fs : List (List ℕ)) → marked fs ≡ true → last_setting fs ≡ None
+margin_refuses [] h = cc
+margin_refuses (f ∷ []) h = go (is_damaged f) refl h
   where
     go : (d : Bool) → is_damaged f ≡ d → (d || false) ≡ true → setting_in f ≡ None
-    go true e h = setting-refuses f e
+    go true e h = setting_refuses f e
     go false e h = cc
-margin-refuses (f ∷ g ∷ fs) h = refl
+margin_refuses (f ∷ g ∷ fs) h = refl
 
 -- ---- records
 
@@ -212,7 +212,7 @@ abbrev weights_then : Rest → List (List ℕ) → Option Record
 weights_then k fs = option_and_then (λ w. option_map (k w) (last_setting (drop 16 fs))) (weights_in 16 fs)
 
 weights_then-refuses : (k : Rest) (fs : List (List ℕ)) → marked fs ≡ true → weights_then k fs ≡ None
-weights_then-refuses k fs h = at (weights-refuse 16 fs h)
+weights_then-refuses k fs h = at (weights_refuse 16 fs h)
   where
     last : last_setting (drop 16 fs) ≡ None → (o : Option (List Setting)) → option_and_then (λ w. option_map (k w) (last_setting (drop 16 fs))) o ≡ None
     last e None = refl
@@ -220,7 +220,7 @@ weights_then-refuses k fs h = at (weights-refuse 16 fs h)
 
     at : (weights_in 16 fs ≡ None) ⊎ (marked (drop 16 fs) ≡ true) → weights_then k fs ≡ None
     at (inl e) = rw e refl
-    at (inr m) = last (margin-refuses (drop 16 fs) m) (weights_in 16 fs)
+    at (inr m) = last (margin_refuses (drop 16 fs) m) (weights_in 16 fs)
 
 abbrev opening : ℕ → Setting → Setting → Setting → Rest
 opening own l c a w m = Open (record { 0 = own }) (record { lookback = l; ceiling = c; allowance = a; weights = w; margin = m; rights = record { 0 = 0 } })
@@ -237,8 +237,8 @@ lookback_then own fs = next_by setting_in fs (ceiling_then own)
 open-refuses : (fs : List (List ℕ)) → marked fs ≡ true → open_of fs ≡ None
 unfolding open_of
 open-refuses =
-    next-refuses number_in lookback_then number-refuses (λ own. next-refuses setting_in (ceiling_then own) setting-refuses (λ l. next-refuses setting_in (allowance_then own l) setting-refuses
-    (λ c. next-refuses setting_in (λ a. weights_then (opening own l c a)) setting-refuses (λ a fs h. weights_then-refuses (opening own l c a) fs h))))
+    next-refuses number_in lookback_then number-refuses (λ own. next-refuses setting_in (ceiling_then own) setting_refuses (λ l. next-refuses setting_in (allowance_then own l) setting_refuses
+    (λ c. next-refuses setting_in (λ a. weights_then (opening own l c a)) setting_refuses (λ a fs h. weights_then-refuses (opening own l c a) fs h))))
 
 propose-refuses : (fs : List (List ℕ)) → marked fs ≡ true → propose_of fs ≡ None
 unfolding propose_of
@@ -295,9 +295,9 @@ named-refuses w fs h =
     (by_word w fs (codes "commit") _ _ refl h (ended-refuses fs Commit)
     (by_word w fs (codes "chain") _ _ refl h (ended-refuses fs Chain) refl)))))))
 
-fields-refuse : (fs : List (List ℕ)) → marked fs ≡ true → by_fields fs ≡ None
-fields-refuse [] h = cc
-fields-refuse (w ∷ fs) h = named-refuses w fs h
+fields_refuse : (fs : List (List ℕ)) → marked fs ≡ true → by_fields fs ≡ None
+fields_refuse [] h = cc
+fields_refuse (w ∷ fs) h = named-refuses w fs h
 
 -- so the marks need not be looked for
 pub damaged_or_not : (s : List ℕ) → (if is_damaged s then None else by_fields (fields_of s)) ≡ by_fields (fields_of s)
@@ -305,4 +305,4 @@ damaged_or_not s = go (is_damaged s) refl
   where
     go : (b : Bool) → is_damaged s ≡ b → (if b then None else by_fields (fields_of s)) ≡ by_fields (fields_of s)
     go false e = refl
-    go true e = sym (fields-refuse (fields_of s) (marked_fields s ∙ e))
+    go true e = sym (fields_refuse (fields_of s) (marked_fields s ∙ e))

@@ -20,9 +20,9 @@ bytes_left [] = 0
 bytes_left (f ∷ fs) = length f + 1 + bytes_left fs
 
 -- the first field ends at the first comma
-fields-to-end : (s : List ℕ) → length s ≤ prefix_len (λ b. not (is_comma b)) s → fields_of s ≡ s ∷ []
-fields-to-end [] h = refl
-fields-to-end (x ∷ s) h = go (is_comma x) refl h (λ k. fields-to-end s k)
+fields-to_end : (s : List ℕ) → length s ≤ prefix_len (λ b. not (is_comma b)) s → fields_of s ≡ s ∷ []
+fields-to_end [] h = refl
+fields-to_end (x ∷ s) h = go (is_comma x) refl h (λ k. fields-to_end s k)
   where
     go : (b : Bool) → is_comma x ≡ b → length (x ∷ s) ≤ cond (not b) (1 + prefix_len (λ b. not (is_comma b)) s) 0 → (length s ≤ prefix_len (λ b. not (is_comma b)) s → fields_of s ≡ s ∷ []) → cond b ([] ∷ fields_of s) (onto_first x (fields_of s)) ≡ (x ∷ s) ∷ []
     go true q h f = absurd (omega arith)
@@ -33,7 +33,7 @@ fields_none s e = go (ltb (position_or_len is_comma s) (length s)) refl e
   where
     go : (b : Bool) → ltb (position_or_len is_comma s) (length s) ≡ b → cond b (Some (position_or_len is_comma s)) None ≡ None → fields_of s ≡ s ∷ []
     go true q e = cc
-    go false q e = fields-to-end s (ltb-false _ _ q)
+    go false q e = fields-to_end s (ltb-false _ _ q)
 
 fields_some-drop : (s : List ℕ) (i : ℕ) → position is_comma s ≡ Some i → fields_of s ≡ take i s ∷ fields_of (drop (i + 1) s)
 fields_some-drop s i e = go (ltb (position_or_len is_comma s) (length s)) refl e
@@ -97,9 +97,9 @@ all_weights-none weights i fs h e =
     let n : 16 - i ≡ suc (16 - (i + 1)) = omega arith in
     rw (n, e) refl
 
-pub all_weights-end : (weights : List Setting) (fs : List (List ℕ)) → length weights ≡ 16 → all_weights weights 16 fs ≡ Some weights
+pub all_weights_end : (weights : List Setting) (fs : List (List ℕ)) → length weights ≡ 16 → all_weights weights 16 fs ≡ Some weights
 unfolding weights_in
-all_weights-end weights fs h = ap Some (append-nil (take 16 weights) ∙ take_all 16 weights (omega arith))
+all_weights_end weights fs h = ap Some (append-nil (take 16 weights) ∙ take_all 16 weights (omega arith))
 
 -- a record has few fields
 onto-first-length : (x : ℕ) (l : List (List ℕ)) (n : ℕ) → length l ≤ n → 0 < n → length (onto_first x l) ≤ n

@@ -6,6 +6,7 @@ use Rattle.std.specs.Str.{bytes_eq}
 use Rattle.terms.specs.declared.Body.{Body}
 use Rattle.terms.specs.declared.Proposal as P
 use Rattle.terms.specs.Bodies.{body_of}
+use Rattle.records.specs.declared.TheConstants.{LONGEST}
 use Rattle.records.specs.declared.Record.{Record}
 use Rattle.records.specs.declared.Record.TheVariants.{Open, Propose, Endorse, Certify, Accept, Advance, Commit, Chain}
 use Rattle.records.specs.Fields.{fields_of, next_by}
@@ -30,22 +31,36 @@ body_then fs p k = option_map k (option_map (body_of p) (from_kind fs))
 
 unfoldable pub open_of : List (List ℕ) → Option Record
 open_of fs =
-    next_by number_in fs (λ own fs. next_by setting_in fs (λ l fs. next_by setting_in fs (λ c fs. next_by setting_in fs (λ a fs.
-    option_and_then (λ w. option_map (λ m. Open (record { 0 = own }) (record { lookback = l; ceiling = c; allowance = a; weights = w; margin = m; rights = record { 0 = 0 } }))
+    next_by number_in fs
+    (λ own fs. next_by setting_in fs
+    (λ l fs. next_by setting_in fs (λ c fs. next_by setting_in fs (λ a fs.
+    option_and_then (λ w. option_map (λ m. Open (record { 0 = own }) (record {
+      lookback = l;
+      ceiling = c;
+      allowance = a;
+      weights = w;
+      margin = m;
+      rights = record { 0 = 0 };
+    }))
     (last_setting (drop 16 fs))) (weights_in 16 fs)))))
 
 unfoldable pub propose_of : List (List ℕ) → Option Record
 propose_of fs = next_by set_in fs (λ p fs. body_then fs p Propose)
 
 unfoldable pub endorse_of : List (List ℕ) → Option Record
-endorse_of fs = next_by number_in fs (λ a fs. next_by number_in fs (λ r fs. next_by set_in fs (λ p fs. body_then fs p (λ b. Endorse (proposal_of a r b)))))
+endorse_of fs =
+    next_by number_in fs
+    (λ a fs. next_by number_in fs
+    (λ r fs. next_by set_in fs (λ p fs. body_then fs p (λ b. Endorse (proposal_of a r b)))))
 
 unfoldable pub certify_of : List (List ℕ) → Option Record
 certify_of fs = next_by set_in fs (λ e fs. ended_as fs (Certify e))
 
 unfoldable pub accept_of : List (List ℕ) → Option Record
 accept_of fs =
-    next_by number_in fs (λ a fs. next_by number_in fs (λ r fs. next_by set_in fs (λ p fs. next_by set_in fs (λ e fs.
+    next_by number_in fs
+    (λ a fs. next_by number_in fs
+    (λ r fs. next_by set_in fs (λ p fs. next_by set_in fs (λ e fs.
     body_then fs p (λ b. Accept (record { proposal = proposal_of a r b; endorsers = e }))))))
 
 -- by the word that the first field is
@@ -74,4 +89,4 @@ is_damaged = list_any is_mark
 
 -- what the record s, without its CRLF, asks for; none is unreadable, as one of more than 1,024 bytes with the CRLF
 abbrev pub record_in : List ℕ → Option Record
-record_in s = if nat_lt 1022 (length s) || is_damaged s then None else by_fields (fields_of s)
+record_in s = if nat_lt LONGEST (length s) || is_damaged s then None else by_fields (fields_of s)

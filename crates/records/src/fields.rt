@@ -10,7 +10,7 @@ use std::marker::Model;
 
 /// The fields of a record that are not read yet. Contracts see the list of them, each a list of bytes.
 #[derive(Drop)]
-pub struct Fields<'a> {
+pub(crate) struct Fields<'a> {
     rest: Option<&'a [u8]>,
 }
 
@@ -37,7 +37,8 @@ impl<'a> Fields<'a> {
     /// The next field, as the stretch of the record that it stands in. None where no field is left.
     #[tactic(auto, using(crate::proofs::Reading::fields_none, crate::proofs::Reading::fields_some))]
     pub fn next(&mut self) -> Option<&'a [u8]>
-        ensures { MatchOption result ((self.old ≡ []) × (self.new ≡ [])) (λ field. self.old ≡ field.now ∷ self.new) }
+        ensures { MatchOption result ((self.old ≡ []) × (self.new ≡ [])) (λ field. self.old
+            ≡ field.now ∷ self.new) }
     {
         let rest = self.rest?;
         let Some(comma) = comma_in(rest) else {

@@ -20,7 +20,7 @@ use terms::sheet::{Rights, Sheet};
 use terms::{Body, Certificate, Member, Proposal, Round};
 
 /// What a record asks for.
-#[derive(Clone, Copy)]
+#[derive(Debug, Clone, Copy)]
 pub enum Record {
     /// Open as this member, with this sheet. It fixes no rights.
     Open(Member, Sheet),
@@ -41,7 +41,7 @@ pub enum Record {
 }
 
 /// The bytes of the longest record, without its CRLF.
-pub const LONGEST: usize = 1022;
+pub(crate) const LONGEST: usize = 1022;
 
 /// What the bytes of a record, without its CRLF, ask for. None is an unreadable record, one that is too long or holds a quote mark, a CR or an LF included. No field that is read holds any of the three, so they are not looked for.
 #[tactic(auto, using(crate::proofs::Marks::damaged_or_not))]

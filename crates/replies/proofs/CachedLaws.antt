@@ -21,7 +21,7 @@ pub closed-unformed : (t : List ℕ) → well_formed closed_state t ≡ false
 closed-unformed t = go (well_formed closed_state t) refl
   where
     go : (b : Bool) → well_formed closed_state t ≡ b → b ≡ false
-    go true e = let h = (formed closed_state t e).numbers.round-from in absurd (omega arith)
+    go true e = let h = (formed closed_state t e).numbers.round_from in absurd (omega arith)
     go false e = refl
 
 pub cached-closed : (t cache : List ℕ) → Cached closed_state t false cache

@@ -12,15 +12,15 @@ use Rattle.listing.proofs.LineLaws.{decimal-small, decimal-more}
 abbrev with_digit : ℕ → ℕ → Option ℕ
 with_digit b v = cond (is_ascii_digit b) (at_most 4294967295 (v * 10 + (b - 48))) None
 
-and_then-some : (o : Option ℕ) → option_and_then (λ n. Some n) o ≡ o
-and_then-some None = refl
-and_then-some (Some n) = refl
+and_then_some : (o : Option ℕ) → option_and_then (λ n. Some n) o ≡ o
+and_then_some None = refl
+and_then_some (Some n) = refl
 
 digits_snoc : (f : List ℕ) (v b : ℕ) → digits_after v (f ++ (b ∷ [])) ≡ option_and_then (with_digit b) (digits_after v f)
 digits_snoc [] v b = go (is_ascii_digit b)
   where
     go : (d : Bool) → cond d (option_and_then (λ n. Some n) (at_most 4294967295 (v * 10 + (b - 48)))) None ≡ cond d (at_most 4294967295 (v * 10 + (b - 48))) None
-    go true = and_then-some (at_most 4294967295 (v * 10 + (b - 48)))
+    go true = and_then_some (at_most 4294967295 (v * 10 + (b - 48)))
     go false = refl
 digits_snoc (x ∷ f) v b = go (is_ascii_digit x) (at_most 4294967295 (v * 10 + (x - 48))) (λ n. digits_snoc f n b)
   where
@@ -38,7 +38,7 @@ a_digit v d h k =
 -- what the digits of n are
 record Reads (n : ℕ) : Type 0 where
   makes : digits_after 0 (decimal n) ≡ Some n
-  some-digit : 0 < length (decimal n)
+  some_digit : 0 < length (decimal n)
   first : 0 < n → get_or (decimal n) 0 0 ≡ 48 → ⊥
   single : n < 10 → length (decimal n) ≡ 1
 
@@ -48,7 +48,7 @@ reads-small n h =
     let z : 0 * 10 + n ≡ n = omega arith in
     record {
       makes = rw e (digits_snoc [] 0 (48 + n) ∙ a_digit 0 n h (omega arith) ∙ ap Some z);
-      some-digit = rw e (omega arith);
+      some_digit = rw e (omega arith);
       first = λ k q. (let r = rw e at q in omega arith);
       single = λ _. rw e refl;
     }
@@ -62,8 +62,8 @@ reads_more n h m p =
     let s : n / 10 * 10 + n % 10 ≡ n = omega arith in
     record {
       makes = rw e (digits_snoc d 0 b ∙ rw p.makes (a_digit (n / 10) (n % 10) (omega arith) (omega arith) ∙ ap Some s));
-      some-digit = rw (e, length-append d (b ∷ [])) (omega arith);
-      first = λ k q. nz (sym (get_or-append d (b ∷ []) 0 0 p.some-digit) ∙ rw e at q);
+      some_digit = rw (e, length-append d (b ∷ [])) (omega arith);
+      first = λ k q. nz (sym (get_or-append d (b ∷ []) 0 0 p.some_digit) ∙ rw e at q);
       single = λ l. absurd (omega arith);
     }
 
@@ -86,7 +86,7 @@ number-plain (b ∷ c ∷ f) h (inr l) = absurd (omega arith)
 pub read_back : (n : ℕ) → n ≤ 4294967295 → number_in (decimal n) ≡ Some n
 read_back n m =
     let p = reads n n (omega arith) m in
-    number-plain (decimal n) p.some-digit (go (dec_lt n 10)) ∙ p.makes
+    number-plain (decimal n) p.some_digit (go (dec_lt n 10)) ∙ p.makes
   where
     go : Dec (n < 10) → (get_or (decimal n) 0 0 ≡ 48 → ⊥) ⊎ (length (decimal n) ≡ 1)
     go (yes s) = inr ((reads n n (omega arith) m).single s)

@@ -45,11 +45,11 @@ module _ (e : Engine) where
 
 module _ {e : Engine} {x : List ℕ} {y : List ℕ} {next : ℕ} where
   -- an unreadable one
-  pub unreadable-answered : Puts x y 0 next (refused_line 24) 20 → RecordAnswered e None e x y next
+  pub unreadable_answered : Puts x y 0 next (refused_line 24) 20 → RecordAnswered e None e x y next
   unfolding served_engine served_lines
-  unreadable-answered p = record { its-engine = refl; its-lines = puts_as refl (omega arith) p }
+  unreadable_answered p = record { its_engine = refl; its_lines = puts_as refl (omega arith) p }
 
   -- one that asks for the call c
   pub call-answered : (c : Call) {left : Engine} {m : ℕ} → left ≡ after e c → m ≤ length e.table * 9 + 20 → Puts x y 0 next (lines_for e c) m → RecordAnswered e (Some c) left x y next
   unfolding served_engine served_lines
-  call-answered c h l p = record { its-engine = h; its-lines = puts_as refl l p }
+  call-answered c h l p = record { its_engine = h; its_lines = puts_as refl l p }

@@ -26,20 +26,20 @@ module _ (e : Engine) {s : State} {t : List ℕ} {x : List ℕ} {y : List ℕ} w
   module _ {r : Reply} (low : SetInRange e) (c : Call) (i : InRange c) (v : accepted_value e c ≡ nothing) (a : Result Unit Refusal) (g : refusal_in a ≡ refusal_for e c) (h : s ≡ (after e c).state) (d : t ≡ (after e c).table)
       (b : Bool) (p : AnswerReplied (if_accepted (refusal_in a) true b) (answer_line a) r x y) where
     pub replied_formed : b ≡ well_formed e.state e.table → r.formed ≡ well_formed s t
-    replied_formed w = rw (p.its-formed, g, d, h) (formed-after e low c i w)
+    replied_formed w = rw (p.its_formed, g, d, h) (formed-after e low c i w)
 
     pub replied_served : {cache : List ℕ} → Cached s t r.formed cache → CallServed e c s r t cache x y
-    replied_served k = record { its-engine = rw (d, h) refl; its-line = puts_as (sym (answer-lines e c v a g)) (omega arith) p.its-line; cached = k }
+    replied_served k = record { its_engine = rw (d, h) refl; its_line = puts_as (sym (answer-lines e c v a g)) (omega arith) p.its_line; cached = k }
 
     -- where it leaves the chain, the committees are those that were cached
     pub replied_left : leaves_chain (ruled e c) ≡ true → {cache : List ℕ} → Cached e.state e.table b cache → CallServed e c s r t cache x y
-    replied_left l k = replied_served (rw (p.its-formed, g, d, h) (cached-after e low c i l k))
+    replied_left l k = replied_served (rw (p.its_formed, g, d, h) (cached-after e low c i l k))
 
   pub counted-served : (a : Result ℕ Refusal) → refusal_in a ≡ refusal_for e commit → IfOk a (λ n. n ≡ blocks_then e.state e.table - e.state.blocks) → s ≡ commit_state e.state e.table → t ≡ commit_table_after e.state e.table
       → {b : Bool} {next : ℕ} → Puts x y 0 next (committed_line a) 20 → {cache : List ℕ} → Cached s t b cache → CallServed e commit s (record { formed = b; next = next }) t cache x y
-  counted-served a g i h d p k = record { its-engine = rw (d, h) refl; its-line = puts_as (sym (commit-lines e a g i)) (omega arith) p; cached = k }
+  counted-served a g i h d p k = record { its_engine = rw (d, h) refl; its_line = puts_as (sym (commit-lines e a g i)) (omega arith) p; cached = k }
 
   -- the record that asked for the call
   pub served-answered : {o : Option Call} {c : Call} {r : Reply} {cache : List ℕ} → o ≡ Some c → CallServed e c s r t cache x y
       → RecordAnswered e o (engine_of s t) x y r.next × Cached s t r.formed cache
-  served-answered {c = c} h k = (rw h (call-answered c k.its-engine (omega arith) k.its-line), k.cached)
+  served-answered {c = c} h k = (rw h (call-answered c k.its_engine (omega arith) k.its_line), k.cached)

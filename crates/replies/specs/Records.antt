@@ -40,6 +40,7 @@ served_lines e None = refused_line 24
 served_lines e (Some c) = lines_for e c
 
 -- the engine left, and the lines put at the front of a buffer
-pub record RecordAnswered (e : Engine) (o : Option Call) (left : Engine) (x y : List ℕ) (next : ℕ) : Type 0 where
-  pub its-engine : left ≡ served_engine e o
-  pub its-lines : Puts x y 0 next (served_lines e o) (length e.table * 9 + 20)
+pub record RecordAnswered (e : Engine) (o : Option Call) (left : Engine) (x y : List ℕ)
+    (next : ℕ) : Type 0 where
+  pub its_engine : left ≡ served_engine e o
+  pub its_lines : Puts x y 0 next (served_lines e o) (length e.table * 9 + 20)

@@ -19,7 +19,7 @@ pub fn put_answer(answer: Result<(), Refusal>, out: &mut [u8], at: usize) -> usi
 }
 
 /// Puts the line of a commit from `at` on: `ok` and how many blocks were added, or `refused` and the number. Gives the place after it. The line has at most 20 bytes.
-pub fn put_committed(answer: Result<u32, Refusal>, out: &mut [u8], at: usize) -> usize
+pub(crate) fn put_committed(answer: Result<u32, Refusal>, out: &mut [u8], at: usize) -> usize
     requires { at + 20 ≤ length out.old }
     ensures { Puts out.old out.new at result (committed_line answer) 20 }
 {

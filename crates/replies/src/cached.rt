@@ -6,17 +6,17 @@ ghost use Rattle.state.specs.States.{no_body};
 ghost use Rattle.state.specs.Cached.{Cached};
 ghost use Rattle.state.specs.WellFormed.{well_formed};
 
-use running::cache;
+use chain_committees::cache;
 use state::State;
 use terms::{Body, Round};
 
 /// Caches committees anew from round 0 on, as far as there is room, where the state is well formed.
-pub fn renew(formed: bool, s: &State, t: &[u32], cache: &mut [u64])
-    requires { formed ≡ well_formed s.now t.now }
-    ensures { Cached s.now t.now formed cache.new }
+pub fn renew(formed: bool, state: &State, table: &[u32], cache: &mut [u64])
+    requires { formed ≡ well_formed state.now table.now }
+    ensures { Cached state.now table.now formed cache.new }
 {
     if formed {
-        cache::fill_cache(t, s.settings, s.blocks, Round(0), cache);
+        cache::fill_cache(table, state.settings, state.blocks, Round(0), cache);
     }
 }
 

@@ -39,7 +39,8 @@ pub struct Reply {
 #[tactic(auto, unfolding(state::specs::Answers::if_accepted))]
 pub fn replied(formed: bool, answer: Result<(), Refusal>, out: &mut [u8]) -> Reply
     requires { 20 ≤ length out.old }
-    ensures { AnswerReplied (if_accepted (refusal_in answer) true formed) (answer_line answer) result out.old out.new }
+    ensures { AnswerReplied (if_accepted (refusal_in answer) true formed) (answer_line answer)
+        result out.old out.new }
 {
     let then = formed || answer.is_ok();
     let next = crate::answer::put_answer(answer, out, 0);
@@ -51,19 +52,20 @@ pub fn replied(formed: bool, answer: Result<(), Refusal>, out: &mut [u8]) -> Rep
 pub fn opened(
     formed: bool,
     cache: &mut [u64],
-    s: &mut State,
-    t: &mut [u32],
+    state: &mut State,
+    table: &mut [u32],
     own: Member,
     written: Sheet,
     out: &mut [u8],
 ) -> Reply
-    requires { (20 ≤ length out.old) × (formed ≡ well_formed s.old t.old) }
-    ensures { CallServed (engine_of s.old t.old) (opens own written) s.new result t.new cache.new out.old out.new }
+    requires { (20 ≤ length out.old) × (formed ≡ well_formed state.old table.old) }
+    ensures { CallServed (engine_of state.old table.old) (opens own written) state.new result
+        table.new cache.new out.old out.new }
 {
-    crate::cached::previous_fits(s.proposal);
-    let answer = open(s, t, own, written);
+    crate::cached::previous_fits(state.proposal);
+    let answer = open(state, table, own, written);
     let reply = replied(formed, answer, out);
-    crate::cached::renew(reply.formed, s, t, cache);
+    crate::cached::renew(reply.formed, state, table, cache);
     reply
 }
 
@@ -71,31 +73,34 @@ pub fn opened(
 pub fn committed(
     formed: bool,
     cache: &mut [u64],
-    s: &mut State,
-    t: &mut [u32],
+    state: &mut State,
+    table: &mut [u32],
     out: &mut [u8],
 ) -> Reply
-    requires { (20 ≤ length out.old) × Cached s.old t.old formed cache.old }
-    ensures { CallServed (engine_of s.old t.old) commit s.new result t.new cache.new out.old out.new }
+    requires { (20 ≤ length out.old) × Cached state.old table.old formed cache.old }
+    ensures { CallServed (engine_of state.old table.old) commit state.new result table.new
+        cache.new out.old out.new }
 {
-    crate::cached::previous_fits(s.proposal);
-    let answer = commit_cached(formed, s, t);
+    crate::cached::previous_fits(state.proposal);
+    let answer = commit_cached(formed, state, table);
     let next = crate::answer::put_committed(answer, out, 0);
     if let Err(_) = answer {
         return Reply { formed, next };
     }
-    crate::cached::renew(formed, s, t, cache);
+    crate::cached::renew(formed, state, table, cache);
     Reply { formed, next }
 }
 
 /// Puts the lines of the chain, one for each certificate of each block in their order, and `ok` after them; or `refused` and 1, where the state is not well formed. Gives how many bytes they have.
-pub fn listed(formed: bool, s: &State, t: &[u32], out: &mut [u8]) -> usize
-    requires { (length t.now * 9 + 20 ≤ length out.old) × (formed ≡ well_formed s.now t.now) }
-    ensures { Puts out.old out.new 0 result (lines_for (engine_of s.now t.now) (aside listing)) (length t.now * 9 + 20) }
+pub fn listed(formed: bool, state: &State, table: &[u32], out: &mut [u8]) -> usize
+    requires { (length table.now * 9 + 20 ≤ length out.old)
+        × (formed ≡ well_formed state.now table.now) }
+    ensures { Puts out.old out.new 0 result (lines_for (engine_of state.now table.now)
+        (aside listing)) (length table.now * 9 + 20) }
 {
     if !formed {
         return lines::put_refused(out, 0, Refusal::Malformed.number());
     }
-    let next = listing::list_chain(t, s.settings, s.blocks, out, 0);
+    let next = listing::list_chain(table, state.settings, state.blocks, out, 0);
     lines::put_ok(out, next)
 }

@@ -1,6 +1,5 @@
 -- In every state of a run, the order inside a block starts with the author of the block's anchor.
-use Rattle.std.proofs.Common.{◌≡◌, refl, sym, ap, ◌∙◌, subst, Bool, true, List, [], ◌∷◌, ◌++◌, inl, inr, ◌≢◌, ℕ, ◌≤◌, ◌<◌, arith}
-use mathlib.Core.Option.{Option, none, some}
+use Rattle.std.proofs.Common.{◌≡◌, refl, sym, ap, ◌∙◌, subst, Bool, true, List, [], ◌∷◌, ◌++◌, inl, inr, ◌≢◌, ℕ, ◌≤◌, ◌<◌, arith, Option, Some, None, unwrap_or}
 use Rattle.agreement.specs.Rules.{Block, Chain, last}
 use Rattle.agreement.specs.View.{Log}
 use Rattle.agreement.specs.Dag.{Reach, here, back}
@@ -12,7 +11,7 @@ use Rattle.terms.specs.Proposals.{Content}
 use Rattle.terms.specs.declared.sheet.Settings.{Settings}
 use Rattle.terms.specs.Ranges.{weight_in}
 use Rattle.committee.specs.Committees.{leader_by, committee_of, start_of}
-use Rattle.committee.specs.Leaders.{leader_of, leader_number}
+use Rattle.committee.specs.Leaders.{leader_of}
 use Rattle.committee.proofs.Lawful.{committee-below}
 use Rattle.committee.specs.Instance.{rules}
 use Rattle.terms.specs.declared.sheet.Weight.{Weight}
@@ -47,7 +46,7 @@ module _ (S : Settings) {correct : ℕ → Bool} {G : Log (rules S)} {k : ℕ} {
   unfolding start_of leader_by
   starts newer b c e =
       record {
-        leads = seen.leads ∙ ap some (sym start);
+        leads = seen.leads ∙ ap Some (sym start);
         anchor = x;
         by = placed.0 ∙ sym start;
         at = placed.1;
@@ -72,20 +71,20 @@ module _ (S : Settings) {correct : ℕ → Bool} {G : Log (rules S)} {k : ℕ} {
       placed = I.storing.place seen.held
 
       start : start_of S b c ≡ seen.lead
-      start = ap (λ (w : List Weight). leader_number (leader_of (weight_in w) b.round)) (sym (committee-below S below.1) ∙ ap (λ (d : Chain Content). committee_of S d b.round) (sym e)) ∙ ap leader_number seen.leads
+      start = ap (λ (w : List Weight). unwrap_or (leader_of (weight_in w) b.round) 16) (sym (committee-below S below.1) ∙ ap (λ (d : Chain Content). committee_of S d b.round) (sym e)) ∙ ap (λ (o : Option ℕ). unwrap_or o 16) seen.leads
 
-      inside : b.holds seen.lead b.round ≡ some x
+      inside : b.holds seen.lead b.round ≡ Some x
       inside = (link.content seen.lead b.round x).1 (record { by = placed.0; at = placed.1; reached = here; unused = λ h. absurd (omega (arith, in_low c below.0.3 x h, placed.1, link.spaced)) })
 
-      only : (m : ℕ) → m ≢ start_of S b c → (o : Option Content) → b.holds m b.round ≡ o → o ≡ none
-      only m n none h = refl
-      only m n (some p) h =
+      only : (m : ℕ) → m ≢ start_of S b c → (o : Option Content) → b.holds m b.round ≡ o → o ≡ None
+      only m n None h = refl
+      only m n (Some p) h =
           let f = (link.content m b.round p).0 h in
           absurd (n (sym f.by ∙ ap (λ (z : Content). z.author) (reach_same f.reached (f.at ∙ sym placed.1)) ∙ placed.0 ∙ sym start))
 
-      above : (m r : ℕ) → b.round < r → (o : Option Content) → b.holds m r ≡ o → o ≡ none
-      above m r l none h = refl
-      above m r l (some p) h = let f = (link.content m r p).0 h in absurd (omega (arith, l, f.at, reach_low f.reached, placed.1))
+      above : (m r : ℕ) → b.round < r → (o : Option Content) → b.holds m r ≡ o → o ≡ None
+      above m r l None h = refl
+      above m r l (Some p) h = let f = (link.content m r p).0 h in absurd (omega (arith, l, f.at, reach_low f.reached, placed.1))
 
 module _ {S : Settings} {F : Implementation S} (X : Group S F) where
   -- so it is of every block of every correct member in a run

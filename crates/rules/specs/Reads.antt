@@ -1,6 +1,5 @@
 -- The reads: their checks, and what they give.
-use Rattle.std.specs.Prelude.{not, if◌then◌else◌, ◌||◌, List, [], ◌∷◌, ℕ, suc, length, ◌==◌, nat_lt}
-use Rattle.std.proofs.Math.Option.{Option, none, some}
+use Rattle.std.specs.Prelude.{not, if◌then◌else◌, ◌||◌, List, [], ◌∷◌, ℕ, suc, length, ◌==◌, nat_lt, Option, Some, None}
 use Rattle.base.specs.Checks.{Checks}
 use Rattle.agreement.specs.Weights.{total}
 use Rattle.agreement.specs.Rules.{Block, Chain}
@@ -24,8 +23,8 @@ block_number (b ∷ c) a r = if is_held (b.holds a r) then suc (length c) else b
 
 -- the round of a block that is there
 abbrev pub round_of : Option (Block Content) → ℕ
-round_of none = 0
-round_of (some b) = b.round
+round_of None = 0
+round_of (Some b) = b.round
 
 module _ (S : Settings) where
   -- committee: 5, 8
@@ -38,7 +37,8 @@ module _ (S : Settings) where
 
   -- share: 4, 5, 8, 9
   abbrev pub reading_share : MemberView S → ℕ → ℕ → Checks
-  reading_share s m r = (nat_lt 15 m, 4) ∷ (bad_round S r, 5) ∷ (unknown S s r, 8) ∷ (not (members (committee_in S s r) m), 9) ∷ []
+  reading_share s m r = (nat_lt 15 m, 4) ∷ (bad_round S r, 5) ∷ (unknown S s r, 8)
+      ∷ (not (members (committee_in S s r) m), 9) ∷ []
 
   -- the thousandths
   abbrev pub share_read : MemberView S → ℕ → ℕ → ℕ
@@ -46,7 +46,8 @@ module _ (S : Settings) where
 
   -- bond effect: 4, 5, 6 the amount, 8, 30 an empty committee
   abbrev pub reading_effect : MemberView S → ℕ → ℕ → ℕ → Checks
-  reading_effect s m r a = (nat_lt 15 m, 4) ∷ (bad_round S r, 5) ∷ (not (amount_in_range a), 6) ∷ (unknown S s r, 8) ∷ (total 16 (committee_in S s r) == 0, 30) ∷ []
+  reading_effect s m r a = (nat_lt 15 m, 4) ∷ (bad_round S r, 5) ∷ (not (amount_in_range a), 6)
+      ∷ (unknown S s r, 8) ∷ (total 16 (committee_in S s r) == 0, 30) ∷ []
 
   -- all sixteen shares of that committee before and after member m bonds a, and the largest difference
   abbrev pub effect_read : MemberView S → ℕ → ℕ → ℕ → Effect
@@ -54,7 +55,8 @@ module _ (S : Settings) where
 
   -- certificate: 4, 5, 23 none there
   abbrev pub reading_certificate : MemberView S → ℕ → ℕ → Checks
-  reading_certificate s m r = (nat_lt 15 m, 4) ∷ (bad_round S r, 5) ∷ (not (is_held (s.dag m r)), 23) ∷ []
+  reading_certificate s m r =
+      (nat_lt 15 m, 4) ∷ (bad_round S r, 5) ∷ (not (is_held (s.dag m r)), 23) ∷ []
 
   -- block by number from 1: 23
   abbrev pub reading_block : MemberView S → ℕ → Checks

@@ -11,11 +11,11 @@ use stream::tied::Tied;
 fn main(rt: HostRuntime) -> io::Result<()> {
     let mut cache = [0u64; CACHE];
     let mut table = [0u32; TABLE];
-    let mut buf = [0u8; INPUT];
+    let mut buffer = [0u8; INPUT];
     let mut out = [0u8; OUTPUT];
     let mut streams = Tied {
         input: rt.stdin(),
         output: rt.stdout(),
     };
-    serving::serve_streams(&mut streams, &mut cache, &mut table, &mut buf, &mut out)
+    serving::serve_streams(&mut streams, &mut cache, &mut table, &mut buffer, &mut out)
 }

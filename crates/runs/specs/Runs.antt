@@ -32,11 +32,14 @@ newest (e ∷ es) l = newest es (record { who = e.who; call = told e.call } ∷ 
 abbrev pub NeverFork : Members engine_behaviour → List Engine → Type 0
 NeverFork X es =
     (i j : ℕ) (d : Engine) → i < length es → j < length es → X.correct i ≡ true → X.correct j ≡ true
-    → Prefix (engine_of (slice_index_or es i d)) (engine_of (slice_index_or es j d)) ⊎ Prefix (engine_of (slice_index_or es j d)) (engine_of (slice_index_or es i d))
+    → Prefix (engine_of (slice_index_or es i d)) (engine_of (slice_index_or es j d))
+    ⊎ Prefix (engine_of (slice_index_or es j d)) (engine_of (slice_index_or es i d))
 
 -- in the committee of every round that both know, every member has the same weight
 abbrev pub SameCommittees : Members engine_behaviour → List Engine → Type 0
 SameCommittees X es =
-    (i j r : ℕ) (d : Engine) → i < length es → j < length es → X.correct i ≡ true → X.correct j ≡ true
+    (i j r : ℕ) (d : Engine) → i < length es → j < length es → X.correct i ≡ true
+    → X.correct j ≡ true
     → Knows (engine_of (slice_index_or es i d)) r → Knows (engine_of (slice_index_or es j d)) r
-    → (m : ℕ) → weights (engine_of (slice_index_or es i d)) r m ≡ weights (engine_of (slice_index_or es j d)) r m
+    → (m : ℕ) → weights (engine_of (slice_index_or es i d)) r m
+    ≡ weights (engine_of (slice_index_or es j d)) r m

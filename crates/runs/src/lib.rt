@@ -54,69 +54,69 @@ pub struct Engine {
 }
 
 /// Makes a call.
-pub fn make(e: &mut Engine, call: Call)
-    ensures { engine_of e.new ≡ after (engine_of e.old) (told call) }
+pub fn make(engine: &mut Engine, call: Call)
+    ensures { engine_of engine.new ≡ after (engine_of engine.old) (told call) }
 {
     match call {
         Call::Open(own, sheet) => {
-            let _ = open::open(&mut e.state, &mut e.table, own, sheet);
+            let _ = open::open(&mut engine.state, &mut engine.table, own, sheet);
         }
         Call::Propose(b) => {
-            let _ = propose::propose(&mut e.state, &e.table, b);
+            let _ = propose::propose(&mut engine.state, &engine.table, b);
         }
         Call::Endorse(p) => {
-            let _ = endorse::endorse(&e.state, &mut e.table, p);
+            let _ = endorse::endorse(&engine.state, &mut engine.table, p);
         }
         Call::Certify(d) => {
-            let _ = certify::certify(&e.state, &mut e.table, d);
+            let _ = certify::certify(&engine.state, &mut engine.table, d);
         }
         Call::Accept(c) => {
-            let _ = accept::accept(&e.state, &mut e.table, c);
+            let _ = accept::accept(&engine.state, &mut engine.table, c);
         }
         Call::Advance => {
-            let _ = advance::advance(&mut e.state, &e.table);
+            let _ = advance::advance(&mut engine.state, &engine.table);
         }
         Call::Commit => {
-            let _ = commit::commit(&mut e.state, &mut e.table);
+            let _ = commit::commit(&mut engine.state, &mut engine.table);
         }
         Call::Enqueue(g, x) => {
-            let _ = enqueue::enqueue(&e.state, &mut e.table, g, x);
+            let _ = enqueue::enqueue(&engine.state, &mut engine.table, g, x);
         }
         Call::Draw(v) => {
-            let _ = draw::draw(&mut e.state, &mut e.table, v);
+            let _ = draw::draw(&mut engine.state, &mut engine.table, v);
         }
         Call::PortRead(g, o) => {
-            let _ = serial::read(&e.state, &mut e.table, g, o);
+            let _ = serial::read(&engine.state, &mut engine.table, g, o);
         }
         Call::PortWrite(g, o, b) => {
-            let _ = serial::write(&e.state, &mut e.table, g, o, b);
+            let _ = serial::write(&engine.state, &mut engine.table, g, o, b);
         }
         Call::PortReset(g) => {
-            let _ = serial::reset(&e.state, &mut e.table, g);
+            let _ = serial::reset(&engine.state, &mut engine.table, g);
         }
         Call::Committee(r) => {
-            let _ = reads::standing::committee(&e.state, &e.table, r);
+            let _ = reads::standing::committee(&engine.state, &engine.table, r);
         }
         Call::Share(m, r) => {
-            let _ = reads::standing::share(&e.state, &e.table, m, r);
+            let _ = reads::standing::share(&engine.state, &engine.table, m, r);
         }
         Call::Effect(m, r, a) => {
-            let _ = reads::bonding::effect(&e.state, &e.table, m, r, a);
+            let _ = reads::bonding::effect(&engine.state, &engine.table, m, r, a);
         }
         Call::Held(m, r) => {
-            let _ = reads::certificate(&e.state, &e.table, m, r);
+            let _ = reads::certificate(&engine.state, &engine.table, m, r);
         }
         Call::Block(k) => {
-            let _ = reads::block(&e.state, &e.table, k);
+            let _ = reads::block(&engine.state, &engine.table, k);
         }
         Call::Preview => {
-            let _ = preview::preview(&e.state, &e.table, &mut [0; 192]);
+            let _ = preview::preview(&engine.state, &engine.table, &mut [0; 192]);
         }
         Call::Critical => {
-            let _ = critical::critical(&e.state, &mut e.table, &mut [0; 64]);
+            let _ = critical::critical(&engine.state, &mut engine.table, &mut [0; 64]);
         }
         Call::Blocks(m, n) => {
-            let _ = spans::blocks(&e.state, &e.table, m, n, &mut [0; 576]);
+            let _ = spans::blocks(&engine.state, &engine.table, m, n, &mut [0; 576]);
         }
     }
 }
@@ -125,9 +125,12 @@ pub fn make(e: &mut Engine, call: Call)
 /// Where the engines stand as their members opened them, and the list is a run: of two correct members' chains one is a prefix of the other, and in the committee of every round that both know every member has the same weight.
 pub fn run(engines: &mut [Engine], entries: &[Entry])
     requires { All (λ e. e.who < length engines.old) entries.now }
-    ensures run { (at : ℕ → engine.Engine) → Stand engines.old at → Stand engines.new (after_run at entries.now) }
-    ensures chains { (X : Members engine_behaviour) → Stand engines.old (engine_after X []) → Run X (newest entries.now []) → NeverFork X engines.new }
-    ensures committees { (X : Members engine_behaviour) → Stand engines.old (engine_after X []) → Run X (newest entries.now []) → SameCommittees X engines.new }
+    ensures run { (at : ℕ → engine.Engine) → Stand engines.old at
+        → Stand engines.new (after_run at entries.now) }
+    ensures chains { (X : Members engine_behaviour) → Stand engines.old (engine_after X [])
+        → Run X (newest entries.now []) → NeverFork X engines.new }
+    ensures committees { (X : Members engine_behaviour) → Stand engines.old (engine_after X [])
+        → Run X (newest entries.now []) → SameCommittees X engines.new }
 {
     for entry in entries {
         make(&mut engines[entry.who], entry.call);

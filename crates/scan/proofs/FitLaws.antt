@@ -4,8 +4,8 @@ use native.Mathlib.Decide.{ℕ_discrete}
 use borrow.Author.Tests.{not-false}
 use Rattle.base.specs.Folds.{all_to}
 use Rattle.base.proofs.TestLaws.{all-at}
-use Rattle.base.specs.Sets.{is_in}
-use Rattle.base.proofs.SetLaws.{add_lt}
+use Rattle.base.specs.Sets.{contains}
+use Rattle.base.proofs.SetLaws.{insert_lt}
 use Rattle.terms.specs.declared.Transaction.{Transaction}
 use Rattle.terms.specs.declared.Transaction.TheVariants.{Bond, Unbond, Entry}
 use Rattle.terms.specs.Transactions.{kind_of, number_of, amount_of, in_range}
@@ -16,8 +16,8 @@ use Rattle.store.proofs.TableLaws.{held-member}
 use Rattle.store.specs.Writes.{put_certificate, set_endorsed, clear_endorsed, clear_held, clear_used}
 use Rattle.store.proofs.WriteLaws.{same_place, same_place_parts}
 use Rattle.store.proofs.PutLaws.{record_previous, record_count, record_endorsers, endorsers-put, tab_nth, word-at-place, word-elsewhere, triple-put, held-set-put-same, held-set-put-other, endorsed-set-put, held-put, mark-put, mark-kept, previous-put, count-put}
-use Rattle.store.proofs.EndorseLaws.{OnlyEndorsed, held-set-endorse, held-endorse, word-endorse, mark-endorse, set-endorsed, clear-endorsed, endorsed-set_lt, endorsed-clear_lt}
-use Rattle.store.proofs.HeldLaws.{OnlyHeld, clear-held, held-clear, held-clear_lt, endorsed-set-held, word_held, mark-held}
+use Rattle.store.proofs.EndorseLaws.{OnlyEndorsed, held-set-endorse, held-endorse, word-endorse, mark-endorse, set-endorsed, clear-endorsed, endorsed_set_lt, endorsed_clear_lt}
+use Rattle.store.proofs.HeldLaws.{OnlyHeld, clear-held, held-clear, held_clear_lt, endorsed-set-held, word_held, mark-held}
 use Rattle.store.proofs.MarkLaws.{OnlyMarks, held-set-marked, endorsed-set-marked, held-marked, word-marked}
 use Rattle.store.proofs.ClearLaws.{held-set-cleared, endorsed-set-cleared, held-cleared}
 use Rattle.scan.specs.Scan.{triple_fits, transaction_fits, rows_fit}
@@ -47,7 +47,7 @@ fit_parts a p e = go (ltb a (length p.transactions)) refl (sym (bad_transactions
         (ltb-false a (length p.transactions) l, λ k j. all-at (λ k. in_range (nth_of p k)) (length p.transactions) k j i)
 
 module _ (t : List ℕ) (p : Content) (d : ℕ) (at : Within t p.author p.round) (a b : ℕ)
-    (few : a ≤ 4) (fit : bad_transactions a p.transactions ≡ false) (right : bad_previous_set p.round p.previous ≡ false) (small : p.previous < 65536) (low : d < 65536) (apart : is_in d p.author ≡ false) where
+    (few : a ≤ 4) (fit : bad_transactions a p.transactions ≡ false) (right : bad_previous_set p.round p.previous ≡ false) (small : p.previous < 65536) (low : d < 65536) (apart : contains d p.author ≡ false) where
   record_put : RecordFits (put_certificate t p d) a b p.author p.round
   unfolding transaction_fits
   record_put =
@@ -73,7 +73,7 @@ module _ (t : List ℕ) (p : Content) (d : ℕ) (at : Within t p.author p.round)
       }
     where
       by : Dec (r ≡ p.round) → held_set t r < 65536 → held_set (put_certificate t p d) r < 65536
-      by (yes e) h = rw (e, held-set-put-same t p d at) (add_lt 16 p.author (held_set t p.round) at.member (rw e at h))
+      by (yes e) h = rw (e, held-set-put-same t p d at) (insert_lt 16 p.author (held_set t p.round) at.member (rw e at h))
       by (no n) h = rw (held-set-put-other t p d at r n) h
 
       go : (m : ℕ) → held_at (put_certificate t p d) m r ≡ true → (z : Bool) → same_place m r p.author p.round ≡ z → RecordFits (put_certificate t p d) a b m r
@@ -102,10 +102,10 @@ rows-endorse {t = t} {u = u} o s a b n e = rows-kept t u a b b n e (λ r _ _ w. 
 
 module _ (t : List ℕ) (m r : ℕ) (at : Within t m r) (a b n : ℕ) where
   pub rows-set-endorsed : rows_fit t a b n ≡ true → rows_fit (set_endorsed t m r) a b n ≡ true
-  rows-set-endorsed = rows-endorse (set-endorsed t m r) (endorsed-set_lt t m r at) a b n
+  rows-set-endorsed = rows-endorse (set-endorsed t m r) (endorsed_set_lt t m r at) a b n
 
   pub rows-clear-endorsed : rows_fit t a b n ≡ true → rows_fit (clear_endorsed t m r) a b n ≡ true
-  rows-clear-endorsed = rows-endorse (clear-endorsed t m r) (endorsed-clear_lt t m r at) a b n
+  rows-clear-endorsed = rows-endorse (clear-endorsed t m r) (endorsed_clear_lt t m r at) a b n
 
 -- ---- a certificate held no more
 
@@ -123,7 +123,7 @@ rows-clear-held t a q at allowance blocks n e = rows-kept t u allowance blocks b
     still m r false k h = sym (held-clear t a q at m r ∙ rw k refl) ∙ h
 
     row : (r : ℕ) → RowFits t allowance blocks r → RowFits u allowance blocks r
-    row r w = record { held = held-clear_lt t a q at r w.held; endorsed = rw (endorsed-set-held o r) w.endorsed; records = λ m h. go m (still m r (same_place m r a q) refl h) }
+    row r w = record { held = held_clear_lt t a q at r w.held; endorsed = rw (endorsed-set-held o r) w.endorsed; records = λ m h. go m (still m r (same_place m r a q) refl h) }
       where
         go : (m : ℕ) → held_at t m r ≡ true → RecordFits u allowance blocks m r
         go m h =

@@ -4,15 +4,15 @@ use mathlib.Core.Bool.{and-false, and_comm}
 use native.Mathlib.Decide.{ℕ_discrete}
 use borrow.Author.Tests.{lt-leb}
 use Rattle.base.specs.Folds.{all_to}
-use Rattle.base.specs.Sets.{is_in}
+use Rattle.base.specs.Sets.{contains}
 use Rattle.base.proofs.TestLaws.{all-high, all_same}
 use Rattle.terms.specs.Transactions.{bond_in_range}
 use Rattle.scan.specs.Scan.{triple_fits}
 use Rattle.scan.specs.Limits.{limit_table, limit_of, slot_fits}
 
 -- an amount of none
-none-le : (amount : ℕ) → eqb amount 0 ≡ leb amount 0
-none-le amount = go (ℕ_discrete amount 0)
+none_le : (amount : ℕ) → eqb amount 0 ≡ leb amount 0
+none_le amount = go (ℕ_discrete amount 0)
   where
     go : Dec (amount ≡ 0) → eqb amount 0 ≡ leb amount 0
     go (yes e) = rw (eq-eqb amount 0 e, le-leb amount 0 (omega arith)) refl
@@ -42,8 +42,8 @@ module _ (number amount : ℕ) (small : number < 4294967296) (little : amount < 
   unfolding limit_of triple_fits bond_in_range
   by_most false kind h l = le-leb amount 4294967295 (omega arith)
   by_most true zero h l = rw (lt-ltb number 16 (omega arith), le-leb 1 amount (omega arith)) refl
-  by_most true (suc zero) h l = rw (lt-ltb number 16 (omega arith), and_comm (eqb amount 0) true) (sym (none-le amount))
-  by_most true (suc (suc zero)) h l = rw (and_comm (eqb amount 0) true) (sym (none-le amount))
+  by_most true (suc zero) h l = rw (lt-ltb number 16 (omega arith), and_comm (eqb amount 0) true) (sym (none_le amount))
+  by_most true (suc (suc zero)) h l = rw (and_comm (eqb amount 0) true) (sym (none_le amount))
   by_most true (suc (suc (suc k))) h l =
       let m = rw (lt-ltb 2 (suc (suc (suc k))) (omega arith)) at l in
       rw (lt-ltb 2 (suc (suc (suc k))) (omega arith), ne_eqb (suc (suc (suc k))) 0 (λ e. omega arith), ne_eqb amount 0 (λ e. omega (arith, m)), lt-leb amount 0 (omega (arith, m))) refl
@@ -68,5 +68,5 @@ all_there f n h =
     ∙ all_same (λ k. cond (ltb k n) (f k) true) f n (λ k l. rw (lt-ltb k n l) refl)
 
 -- a word of 16 bits is its low 16 bits
-pub low_bits : (d m : ℕ) → d < 65536 → is_in (d % 65536) m ≡ is_in d m
+pub low_bits : (d m : ℕ) → d < 65536 → contains (d % 65536) m ≡ contains d m
 low_bits d m h = let e : d % 65536 ≡ d = omega arith in rw e refl

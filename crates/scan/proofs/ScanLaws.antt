@@ -4,7 +4,7 @@ use borrow.Author.Tests.{not-true}
 use Rattle.base.proofs.Bools.{both}
 use Rattle.base.specs.Folds.{all_to}
 use Rattle.base.proofs.TestLaws.{all-at, all_hold}
-use Rattle.base.specs.Sets.{is_in}
+use Rattle.base.specs.Sets.{contains}
 use Rattle.base.proofs.UnionLaws.{in_none}
 use Rattle.terms.specs.declared.Transaction.TheVariants.{Bond, Unbond, Entry}
 use Rattle.terms.specs.Transactions.{read_transaction, in_range, bond_in_range}
@@ -23,7 +23,7 @@ pub record RecordFits (t : List ℕ) (allowance blocks m r : ℕ) : Type 0 where
   pub previous : bad_previous_set r (previous_at t m r) ≡ false
   pub mark : mark_at t m r ≤ blocks
   pub endorsers : record_word t m r 3 < 65536
-  pub apart : is_in (endorsers_at t m r) m ≡ false
+  pub apart : contains (endorsers_at t m r) m ≡ false
 
 -- a row: its sets are sets of members, and each held record fits
 pub record RowFits (t : List ℕ) (allowance blocks r : ℕ) : Type 0 where
@@ -104,7 +104,7 @@ module _ (t : List ℕ) (allowance blocks : ℕ) where
       let c = both (ltb (record_word t m r 0) 65536) _ b.1 in
       let d = both (not (bad_previous_set r (previous_at t m r))) _ c.1 in
       let f = both (leb (mark_at t m r) blocks) _ d.1 in
-      let g = both (ltb (record_word t m r 3) 65536) (not (is_in (endorsers_at t m r) m)) f.1 in
+      let g = both (ltb (record_word t m r 3) 65536) (not (contains (endorsers_at t m r) m)) f.1 in
       record {
         count = leb-true (record_word t m r 1) allowance a.0;
         triples = λ k h. all-at (transaction_fits t m r) (count_at t m r) k h b.0;
@@ -112,7 +112,7 @@ module _ (t : List ℕ) (allowance blocks : ℕ) where
         previous = not-true (bad_previous_set r (previous_at t m r)) d.0;
         mark = leb-true (mark_at t m r) blocks f.0;
         endorsers = ltb-true (record_word t m r 3) 65536 g.0;
-        apart = not-true (is_in (endorsers_at t m r) m) g.1;
+        apart = not-true (contains (endorsers_at t m r) m) g.1;
       }
 
   record_whole : (m r : ℕ) → RecordFits t allowance blocks m r → record_fits t allowance blocks m r ≡ true

@@ -30,105 +30,142 @@ fn limit(there: bool, kind: u32) -> u32
 
 // Are the three words a transaction in range, if one is there?
 #[tactic(auto, using(crate::proofs::LimitLaws::by_limits))]
-fn slot_fits(l: &[u32; 15], there: bool, kind: u32, number: u32, amount: u32) -> bool
-    requires { l.now ≡ limit_table }
+fn slot_fits(limits: &[u32; 15], there: bool, kind: u32, number: u32, amount: u32) -> bool
+    requires { limits.now ≡ limit_table }
     ensures { result ≡ slot_fits there kind number amount }
 {
-    let i = limit(there, kind) as usize;
+    let at = limit(there, kind) as usize;
     // written this way the limit is loaded and the word compared in memory: with <= the walk over a table takes a twentieth more
-    !(l[i] < number) & (l[i + 5] <= amount) & (amount <= l[i + 10])
+    !(limits[at] < number) & (limits[at + 5] <= amount) & (amount <= limits[at + 10])
 }
 
-// Is transaction k of a record of n in range, if it is there?
+// Is transaction `index` of a record of `count` in range, if it is there?
 #[tactic(auto, unfolding(crate::specs::Scan::transaction_fits))]
-fn transaction_fits(t: &[u32], l: &[u32; 15], m: Member, r: Round, n: u32, k: u32) -> bool
-    requires { Scannable t.now l.now m.0 r.0 k 3 }
-    ensures { result ≡ (if nat_lt k n then transaction_fits t.now m.0 r.0 k else true) }
+fn transaction_fits(
+    table: &[u32],
+    limits: &[u32; 15],
+    author: Member,
+    round: Round,
+    count: u32,
+    index: u32,
+) -> bool
+    requires { Scannable table.now limits.now author.0 round.0 index 3 }
+    ensures { result ≡ (if nat_lt index count then transaction_fits table.now author.0 round.0 index
+        else true) }
 {
-    let kind = store::record::kind_at(t, m, r, k);
-    let number = store::record::number_at(t, m, r, k);
-    let amount = store::record::amount_at(t, m, r, k);
-    slot_fits(l, k < n, kind, number, amount)
+    let kind = store::record::kind_at(table, author, round, index);
+    let number = store::record::number_at(table, author, round, index);
+    let amount = store::record::amount_at(table, author, round, index);
+    slot_fits(limits, index < count, kind, number, amount)
 }
 
-// Are those of the four slots of a record of n transactions in range that are there? All four are looked at.
+// Are those of the four slots of a record of `count` transactions in range that are there? All four are looked at.
 #[tactic(auto, unfolding(base::specs::Folds::all_to))]
-fn slots_fit(t: &[u32], l: &[u32; 15], m: Member, r: Round, n: u32) -> bool
-    requires { Scannable t.now l.now m.0 r.0 n 4 }
-    ensures { result ≡ all_to (λ k. if nat_lt k n then transaction_fits t.now m.0 r.0 k else true) 4 }
+fn slots_fit(table: &[u32], limits: &[u32; 15], author: Member, round: Round, count: u32) -> bool
+    requires { Scannable table.now limits.now author.0 round.0 count 4 }
+    ensures { result
+        ≡ all_to (λ k. if nat_lt k count then transaction_fits table.now author.0 round.0 k
+        else true) 4 }
 {
-    (0..4).all(|k| transaction_fits(t, l, m, r, n, k))
+    (0..4).all(|k| transaction_fits(table, limits, author, round, count, k))
 }
 
-// Are the first n transactions of a record in range?
+// Are the first `count` transactions of a record in range?
 #[tactic(auto, using(crate::proofs::LimitLaws::all_there), unfolding(base::specs::Folds::all_to))]
-fn transactions_fit(t: &[u32], l: &[u32; 15], m: Member, r: Round, n: u32) -> bool
-    requires { Scannable t.now l.now m.0 r.0 n 4 }
-    ensures { result ≡ all_to (transaction_fits t.now m.0 r.0) n }
+fn transactions_fit(
+    table: &[u32],
+    limits: &[u32; 15],
+    author: Member,
+    round: Round,
+    count: u32,
+) -> bool
+    requires { Scannable table.now limits.now author.0 round.0 count 4 }
+    ensures { result ≡ all_to (transaction_fits table.now author.0 round.0) count }
 {
-    n == 0 || slots_fit(t, l, m, r, n)
+    count == 0 || slots_fit(table, limits, author, round, count)
 }
 
 // Are the endorsers of a record a set of members, the author not among them?
 #[tactic(auto, using(crate::proofs::LimitLaws::low_bits), unfolding(crate::specs::Scan::endorsers_fit, store::specs::Table::endorsers_at))]
-fn endorsers_fit(t: &[u32], m: Member, r: Round) -> bool
-    requires { Within t.now m.0 r.0 }
-    ensures { result ≡ endorsers_fit t.now m.0 r.0 }
+fn endorsers_fit(table: &[u32], author: Member, round: Round) -> bool
+    requires { Within table.now author.0 round.0 }
+    ensures { result ≡ endorsers_fit table.now author.0 round.0 }
 {
-    let endorsers = store::record::word_at(t, m, r, 3);
-    endorsers < 65536 && !base::has(endorsers, m.0)
+    let endorsers = store::record::word_at(table, author, round, 3);
+    endorsers < 65536 && !base::contains(endorsers, author.0)
 }
 
 // Is the record of a held certificate well formed: transactions in range and within the allowance, a previous set that is empty exactly in round 1, a mark that names one of the blocks or none, and endorsers without the author?
 #[tactic(auto, using(store::proofs::TableLaws::count_le), unfolding(crate::specs::Scan::record_fits))]
-fn record_fits(t: &[u32], l: &[u32; 15], allowance: u32, blocks: u32, m: Member, r: Round) -> bool
-    requires { Within t.now m.0 r.0 × (l.now ≡ limit_table) }
-    ensures { result ≡ record_fits t.now allowance blocks m.0 r.0 }
+fn record_fits(
+    table: &[u32],
+    limits: &[u32; 15],
+    allowance: u32,
+    blocks: u32,
+    author: Member,
+    round: Round,
+) -> bool
+    requires { Within table.now author.0 round.0 × (limits.now ≡ limit_table) }
+    ensures { result ≡ record_fits table.now allowance blocks author.0 round.0 }
 {
-    store::record::word_at(t, m, r, 1) <= allowance
-        && transactions_fit(t, l, m, r, store::record::count(t, m, r))
-        && store::record::word_at(t, m, r, 0) < 65536
-        && !terms::is_bad_previous_set(r, store::record::previous(t, m, r))
-        && store::record::mark(t, m, r) <= blocks
-        && endorsers_fit(t, m, r)
+    store::record::word_at(table, author, round, 1) <= allowance
+        && transactions_fit(
+            table,
+            limits,
+            author,
+            round,
+            store::record::count(table, author, round),
+        )
+        && store::record::word_at(table, author, round, 0) < 65536
+        && !terms::is_bad_previous_set(round, store::record::previous(table, author, round))
+        && store::record::mark(table, author, round) <= blocks
+        && endorsers_fit(table, author, round)
 }
 
 // Is nothing held at the place, or is its record well formed?
 #[tactic(auto, unfolding(crate::specs::Scan::place_fits))]
-fn place_fits(t: &[u32], l: &[u32; 15], allowance: u32, blocks: u32, m: Member, r: Round) -> bool
-    requires { Within t.now m.0 r.0 × (l.now ≡ limit_table) }
-    ensures { result ≡ place_fits t.now allowance blocks r.0 m.0 }
+fn place_fits(
+    table: &[u32],
+    limits: &[u32; 15],
+    allowance: u32,
+    blocks: u32,
+    author: Member,
+    round: Round,
+) -> bool
+    requires { Within table.now author.0 round.0 × (limits.now ≡ limit_table) }
+    ensures { result ≡ place_fits table.now allowance blocks round.0 author.0 }
 {
-    !store::held(t, m, r) || record_fits(t, l, allowance, blocks, m, r)
+    !store::held(table, author, round)
+        || record_fits(table, limits, allowance, blocks, author, round)
 }
 
 // Are the sixteen places of a round well formed?
 #[tactic(auto, unfolding(base::specs::Folds::all_to))]
-fn places_fit(t: &[u32], l: &[u32; 15], allowance: u32, blocks: u32, r: Round) -> bool
-    requires { Row t.now r.0 × (l.now ≡ limit_table) }
-    ensures { result ≡ all_to (place_fits t.now allowance blocks r.0) 16 }
+fn places_fit(table: &[u32], limits: &[u32; 15], allowance: u32, blocks: u32, round: Round) -> bool
+    requires { Row table.now round.0 × (limits.now ≡ limit_table) }
+    ensures { result ≡ all_to (place_fits table.now allowance blocks round.0) 16 }
 {
-    (0..16).all(|m| place_fits(t, l, allowance, blocks, Member(m), r))
+    (0..16).all(|m| place_fits(table, limits, allowance, blocks, Member(m), round))
 }
 
 // Is a row well formed: its sets are sets of members, and each held certificate's record is well formed?
 #[tactic(auto, unfolding(crate::specs::Scan::row_fits), using(crate::proofs::ScanLaws::free_row))]
-fn row_fits(t: &[u32], l: &[u32; 15], allowance: u32, blocks: u32, r: Round) -> bool
-    requires { Row t.now r.0 × (l.now ≡ limit_table) }
-    ensures { result ≡ row_fits t.now allowance blocks r.0 }
+fn row_fits(table: &[u32], limits: &[u32; 15], allowance: u32, blocks: u32, round: Round) -> bool
+    requires { Row table.now round.0 × (limits.now ≡ limit_table) }
+    ensures { result ≡ row_fits table.now allowance blocks round.0 }
 {
-    let held = store::held_set(t, r);
+    let held = store::held_set(table, round);
     held < 65536
-        && store::endorsed_set(t, r) < 65536
-        && (held == 0 || places_fit(t, l, allowance, blocks, r))
+        && store::endorsed_set(table, round) < 65536
+        && (held == 0 || places_fit(table, limits, allowance, blocks, round))
 }
 
-/// Are the rows of the rounds 1 to n, at most 1,024, well formed for an allowance and a number of blocks?
+/// Are the rows of the rounds 1 to `ceiling`, at most 1,024, well formed for an allowance and a number of blocks?
 #[tactic(auto, unfolding(crate::specs::Scan::rows_fit, base::specs::Folds::all_to))]
-pub fn rows_fit(t: &[u32], allowance: u32, blocks: u32, n: Round) -> bool
-    requires { Row t.now n.0 × (n.0 ≤ 1024) }
-    ensures { result ≡ rows_fit t.now allowance blocks n.0 }
+pub fn rows_fit(table: &[u32], allowance: u32, blocks: u32, ceiling: Round) -> bool
+    requires { Row table.now ceiling.0 × (ceiling.0 ≤ 1024) }
+    ensures { result ≡ rows_fit table.now allowance blocks ceiling.0 }
 {
     let l = limits();
-    (0..n.0).all(|r| row_fits(t, &l, allowance, blocks, Round(r + 1)))
+    (0..ceiling.0).all(|r| row_fits(table, &l, allowance, blocks, Round(r + 1)))
 }

@@ -16,10 +16,10 @@ use Rattle.serial.specs.Calls.{PortCall, access, reset}
 use Rattle.serial.specs.Serial.{access_checks, reset_checks, early_checks}
 
 -- 26, 31 or 1, where the words of a state cannot be read
-pub early-some : (x : PortCall) → refusal (early_checks x ++ ((true, 1) ∷ [])) ≢ 0
+pub early_some : (x : PortCall) → refusal (early_checks x ++ ((true, 1) ∷ [])) ≢ 0
 unfolding numbered
-early-some (access g a) z = passed _ refl z λ h26 h31 h1. absurd (true≢false h1)
-early-some (reset g) z = passed _ refl z λ h26 h1. absurd (true≢false h1)
+early_some (access g a) z = passed _ refl z λ h26 h31 h1. absurd (true≢false h1)
+early_some (reset g) z = passed _ refl z λ h26 h1. absurd (true≢false h1)
 
 module _ (s : State) (t : List ℕ) where
   abbrev late : Checks
@@ -28,8 +28,8 @@ module _ (s : State) (t : List ℕ) where
   -- ---- the number, where the checks before 1 have come to n
 
   module _ (l : Checks) {n : ℕ} (q : n ≡ refusal l) where
-    pub early-refused : n ≢ 0 → n ≡ refusal (l ++ late)
-    early-refused h = q ∙ sym (first-refuses l late (omega arith))
+    pub early_refused : n ≢ 0 → n ≡ refusal (l ++ late)
+    early_refused h = q ∙ sym (first-refuses l late (omega arith))
 
     module _ (p : numbered l ≡ true) (z : n ≡ 0) where
       pub none-refused : well_formed s t ≡ true → 0 ≡ refusal (l ++ late)
@@ -79,9 +79,9 @@ module _ (s : State) (t : List ℕ) where
   -- ---- so where the checks of the port let an access pass, in a well-formed state
 
   module _ (w : well_formed s t ≡ true) where
-    pub access-let : (g o : ℕ) → 0 ≡ refusal (access_checks g o) → AccessPassed g o
+    pub access_let : (g o : ℕ) → 0 ≡ refusal (access_checks g o) → AccessPassed g o
     unfolding numbered
-    access-let g o e = access-passed g o (sym (none-refused (access_checks g o) e refl refl w))
+    access_let g o e = access-passed g o (sym (none-refused (access_checks g o) e refl refl w))
 
 -- for the calls: a port may be read and written, and what a reset leaves
 pub ruleset ported = (port-opened, port_row, put-reset)

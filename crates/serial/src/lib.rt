@@ -19,10 +19,10 @@ pub fn check_access(port: u32, offset: u32) -> Result<(), Refusal>
     ensures { refusal_in result ≡ refusal (access_checks port offset) }
 {
     if 7 < port {
-        return Err(Refusal::NoSuchCaller);
+        return Err(Refusal::GuestRange);
     }
     if 7 < offset {
-        return Err(Refusal::NoSuchRegister);
+        return Err(Refusal::OffsetRange);
     }
     Ok(())
 }
@@ -33,49 +33,57 @@ pub fn check_reset(port: u32) -> Result<(), Refusal>
     ensures { refusal_in result ≡ refusal (reset_checks port) }
 {
     if 7 < port {
-        return Err(Refusal::NoSuchCaller);
+        return Err(Refusal::GuestRange);
     }
     Ok(())
 }
 
 /// A read of a port at an offset.
 #[tactic(auto, unfolding(base::specs::Checks::refusal, state::specs::Answers::if_accepted, crate::specs::Serial::port_refusal, crate::specs::Serial::register, crate::specs::Serial::ported_table, crate::specs::Serial::port_table))]
-pub fn read(s: &State, t: &mut [u32], port: u32, offset: u32) -> Result<u32, Refusal>
-    ensures refusal { refusal_in result ≡ port_refusal s.now t.old (access port (read offset)) }
-    ensures value { IfOk result (λ v. v ≡ register s.now t.old port offset) }
-    ensures table { t.new ≡ port_table s.now t.old (access port (read offset)) }
+pub fn read(state: &State, table: &mut [u32], port: u32, offset: u32) -> Result<u32, Refusal>
+    ensures refusal { refusal_in result
+        ≡ port_refusal state.now table.old (access port (read offset)) }
+    ensures value { IfOk result (λ v. v ≡ register state.now table.old port offset) }
+    ensures table { table.new ≡ port_table state.now table.old (access port (read offset)) }
 {
     check_access(port, offset)?;
-    if !state::well_formed(*s, t) {
+    if !state::well_formed(*state, table) {
         return Err(Refusal::Malformed);
     }
-    Ok(registers::read(t, s.settings, s.blocks, port, offset))
+    Ok(registers::read(table, state.settings, state.blocks, port, offset))
 }
 
 /// A write of a byte there.
 #[tactic(auto, using(crate::proofs::PassedLaws::ported), unfolding(base::specs::Checks::refusal, state::specs::Answers::if_accepted, crate::specs::Serial::port_refusal, crate::specs::Serial::ported_table, crate::specs::Serial::port_table))]
-pub fn write(s: &State, t: &mut [u32], port: u32, offset: u32, byte: u8) -> Result<(), Refusal>
-    ensures refusal { refusal_in result ≡ port_refusal s.now t.old (access port (write offset byte)) }
-    ensures table { t.new ≡ port_table s.now t.old (access port (write offset byte)) }
+pub fn write(
+    state: &State,
+    table: &mut [u32],
+    port: u32,
+    offset: u32,
+    byte: u8,
+) -> Result<(), Refusal>
+    ensures refusal { refusal_in result
+        ≡ port_refusal state.now table.old (access port (write offset byte)) }
+    ensures table { table.new ≡ port_table state.now table.old (access port (write offset byte)) }
 {
     check_access(port, offset)?;
-    if !state::well_formed(*s, t) {
+    if !state::well_formed(*state, table) {
         return Err(Refusal::Malformed);
     }
-    registers::write(t, port, offset, byte);
+    registers::write(table, port, offset, byte);
     Ok(())
 }
 
 /// A reset: every held register is 0, and reading resumes at the listing's start.
 #[tactic(auto, using(crate::proofs::PassedLaws::ported), unfolding(base::specs::Checks::refusal, state::specs::Answers::if_accepted, crate::specs::Serial::port_refusal, crate::specs::Serial::ported_table, crate::specs::Serial::port_table))]
-pub fn reset(s: &State, t: &mut [u32], port: u32) -> Result<(), Refusal>
-    ensures refusal { refusal_in result ≡ port_refusal s.now t.old (reset port) }
-    ensures table { t.new ≡ port_table s.now t.old (reset port) }
+pub fn reset(state: &State, table: &mut [u32], port: u32) -> Result<(), Refusal>
+    ensures refusal { refusal_in result ≡ port_refusal state.now table.old (reset port) }
+    ensures table { table.new ≡ port_table state.now table.old (reset port) }
 {
     check_reset(port)?;
-    if !state::well_formed(*s, t) {
+    if !state::well_formed(*state, table) {
         return Err(Refusal::Malformed);
     }
-    registers::reset(t, port);
+    registers::reset(table, port);
     Ok(())
 }

@@ -27,9 +27,9 @@ only-last false false true d p = absurd (omega (arith, p))
 only-last false false false true p = (refl, refl)
 only-last false false false false p = absurd (omega (arith, p))
 
-pub serves-to_64 : (t : List ℕ) → length t ≡ table_length → (own : Member) (S : Settings) → ServesTo64 t own S
+pub serves_to_64 : (t : List ℕ) → length t ≡ table_length → (own : Member) (S : Settings) → ServesTo64 t own S
 unfolding open_refusal
-serves-to_64 t l own S =
+serves_to_64 t l own S =
     let short = ltb (length t) (used_length S.ceiling.0) in
     record {
       above = λ p h. last-answers (ltb 15 own.0) (out_of_range S) (weightless S) short p (lt-ltb (length t) (used_length S.ceiling.0) (omega (arith, l, h)));

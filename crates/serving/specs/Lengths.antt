@@ -1,5 +1,6 @@
 -- The words of the runner's table.
 use Rattle.std.specs.Prelude.{ℕ}
+use Rattle.serving.specs.declared.lengths.TheConstants.{TABLE}
 
 abbrev pub table_length : ℕ
-table_length = 17680
+table_length = TABLE

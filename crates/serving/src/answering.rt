@@ -18,23 +18,26 @@ use replies::{Reply, cached, committed, listed, opened, replied};
 use state::State;
 
 /// Serves a record, none an unreadable one: makes its call, and puts the lines that answer it at the front of the buffer. An unreadable one is answered with 24 and changes nothing. `formed` tells whether the state is well formed, and committees are cached.
-pub fn serve(
+pub(crate) fn serve(
     formed: bool,
     cache: &mut [u64],
-    s: &mut State,
-    t: &mut [u32],
+    state: &mut State,
+    table: &mut [u32],
     asked: Option<Record>,
     out: &mut [u8],
 ) -> Reply
-    requires { (length t.old * 9 + 20 ≤ length out.old) × Cached s.old t.old formed cache.old }
-    ensures { RecordAnswered (engine_of s.old t.old) (option_map call_of asked) (engine_of s.new t.new) out.old out.new result.next × Cached s.new t.new result.formed cache.new }
+    requires { (length table.old * 9 + 20 ≤ length out.old)
+        × Cached state.old table.old formed cache.old }
+    ensures { RecordAnswered (engine_of state.old table.old) (option_map call_of asked)
+        (engine_of state.new table.new) out.old out.new result.next
+        × Cached state.new table.new result.formed cache.new }
 {
     match asked {
         None => Reply {
             formed,
             next: lines::put_refused(out, 0, Refusal::Unreadable.number()),
         },
-        Some(call) => serve_call(formed, cache, s, t, call, out),
+        Some(call) => serve_call(formed, cache, state, table, call, out),
     }
 }
 
@@ -42,26 +45,45 @@ pub fn serve(
 fn serve_call(
     formed: bool,
     cache: &mut [u64],
-    s: &mut State,
-    t: &mut [u32],
+    state: &mut State,
+    table: &mut [u32],
     asked: Record,
     out: &mut [u8],
 ) -> Reply
-    requires { (length t.old * 9 + 20 ≤ length out.old) × Cached s.old t.old formed cache.old }
-    ensures { RecordAnswered (engine_of s.old t.old) (Some (call_of asked)) (engine_of s.new t.new) out.old out.new result.next × Cached s.new t.new result.formed cache.new }
+    requires { (length table.old * 9 + 20 ≤ length out.old)
+        × Cached state.old table.old formed cache.old }
+    ensures { RecordAnswered (engine_of state.old table.old) (Some (call_of asked))
+        (engine_of state.new table.new) out.old out.new result.next
+        × Cached state.new table.new result.formed cache.new }
 {
-    cached::previous_fits(s.proposal);
+    cached::previous_fits(state.proposal);
     match asked {
-        Record::Open(own, sheet) => opened(formed, cache, s, t, own, sheet, out),
-        Record::Propose(body) => replied(formed, propose_cached(formed, cache, s, t, body), out),
-        Record::Endorse(p) => replied(formed, endorse_cached(formed, cache, s, t, p), out),
-        Record::Certify(e) => replied(formed, certify_cached(formed, cache, s, t, e), out),
-        Record::Accept(c) => replied(formed, accept_cached(formed, cache, s, t, c), out),
-        Record::Advance => replied(formed, advance_cached(formed, cache, s, t), out),
-        Record::Commit => committed(formed, cache, s, t, out),
+        Record::Open(own, sheet) => opened(formed, cache, state, table, own, sheet, out),
+        Record::Propose(body) => replied(
+            formed,
+            propose_cached(formed, cache, state, table, body),
+            out,
+        ),
+        Record::Endorse(proposal) => replied(
+            formed,
+            endorse_cached(formed, cache, state, table, proposal),
+            out,
+        ),
+        Record::Certify(endorsers) => replied(
+            formed,
+            certify_cached(formed, cache, state, table, endorsers),
+            out,
+        ),
+        Record::Accept(certificate) => replied(
+            formed,
+            accept_cached(formed, cache, state, table, certificate),
+            out,
+        ),
+        Record::Advance => replied(formed, advance_cached(formed, cache, state, table), out),
+        Record::Commit => committed(formed, cache, state, table, out),
         Record::Chain => Reply {
             formed,
-            next: listed(formed, s, t, out),
+            next: listed(formed, state, table, out),
         },
     }
 }

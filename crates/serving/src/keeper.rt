@@ -13,7 +13,7 @@ use stream::Engine;
 
 /// A state, whether it is well formed, the table, and the committees that are cached beside it. Contracts see the engine of state and table.
 #[derive(Drop)]
-pub struct Keeper<'a> {
+pub(crate) struct Keeper<'a> {
     state: State,
     formed: bool,
     cache: &'a mut [u64],

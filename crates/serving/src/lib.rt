@@ -11,6 +11,7 @@ pub mod theorems;
 ghost use Rattle.std.specs.Prelude.{◌≡◌, ◌+◌, ◌*◌, ◌≤◌, length, IfSome, IsOk};
 ghost use Rattle.std.specs.Io.KnownBytes.{Appends};
 ghost use Rattle.engine.specs.Engine.{Engine};
+ghost use Rattle.framing.specs.declared.TheConstants.{LONGEST_ENDED};
 ghost use Rattle.open.specs.Open.{closed_state};
 ghost use Rattle.replies.specs.Records.{engine_of};
 ghost use Rattle.serving.specs.Lengths.{table_length};
@@ -26,17 +27,24 @@ use stream::ended::Ended;
 use stream::peer::Peer;
 use stream::tied::Tied;
 
-/// Serves all records that a peer sends, and hands out the lines that answer them before it reads more. `buf` is for bytes that came, `out` for lines that go out: 9 bytes for each word of the table, and 20 more. Gives how the run ended; where the input came to its end, the lines for all of it were handed out, and otherwise a first part of those that were due.
-pub fn run<P: Peer>(peer: &mut P, keeper: &mut Keeper, buf: &mut [u8], out: &mut [u8]) -> Ended
-    requires buffer { 1024 ≤ length buf.old }
+/// Serves all records that a peer sends, and hands out the lines that answer them before it reads more. `buffer` is for bytes that came, `out` for lines that go out: 9 bytes for each word of the table, and 20 more. Gives how the run ended; where the input came to its end, the lines for all of it were handed out, and otherwise a first part of those that were due.
+pub(crate) fn run<P: Peer>(
+    peer: &mut P,
+    keeper: &mut Keeper,
+    buffer: &mut [u8],
+    out: &mut [u8],
+) -> Ended
+    requires buffer { LONGEST_ENDED ≤ length buffer.old }
     requires room { length keeper.old.table * 9 + 20 ≤ length out.old }
-    ensures ran { Ran engine_after lines_after keeper.old P.talk keeper.new peer.old peer.new result }
+    ensures ran { Ran engine_after lines_after keeper.old P.talk keeper.new
+        peer.old peer.new result }
     ensures whole { result ≡ Ended.Input → IfSome (P.remaining peer.old)
         (λ bytes. Appends (P.contents peer.old) (P.contents peer.new) (output keeper.old bytes)) }
-    ensures part { AddsPart engine_after lines_after keeper.old (P.remaining peer.old) (P.remaining peer.new)
+    ensures part { AddsPart engine_after lines_after keeper.old (P.remaining peer.old)
+        (P.remaining peer.new)
         (P.contents peer.old) (P.contents peer.new) }
 {
-    stream::run::run(peer, keeper, buf, out)
+    stream::run::run(peer, keeper, buffer, out)
 }
 
 /// A member that is not open yet, served to the end of the input, over any reader and any writer: what the runner is. The memory is lent: the committees that are cached and the table of the member, and a buffer each for bytes that came and for lines that go out. Gives what a program ends with: all is well where the input came to its end, and then the lines for all of it were handed out; a read or a write that failed is told as it failed.
@@ -44,20 +52,24 @@ pub fn serve_streams<R: Read, W: Write>(
     streams: &mut Tied<R, W>,
     cache: &mut [u64],
     table: &mut [u32],
-    buf: &mut [u8],
+    buffer: &mut [u8],
     out: &mut [u8],
 ) -> io::Result<()>
     requires table { length table.old ≡ table_length }
-    requires buffer { 1024 ≤ length buf.old }
+    requires buffer { LONGEST_ENDED ≤ length buffer.old }
     requires room { table_length * 9 + 20 ≤ length out.old }
-    ensures ran { (left : Engine) × (ended : Ended) × Ran engine_after lines_after (engine_of closed_state table.old)
-        (λ p l q. Moved (R.remaining p.input) (R.remaining q.input) (W.contents p.output) (W.contents q.output) l)
+    ensures ran { (left : Engine) × (ended : Ended)
+        × Ran engine_after lines_after (engine_of closed_state table.old)
+        (λ p l q. Moved (R.remaining p.input) (R.remaining q.input) (W.contents p.output)
+        (W.contents q.output) l)
         left streams.old streams.new ended × Tells ended result }
     ensures whole { IsOk result → IfSome (R.remaining streams.old.input)
-        (λ bytes. Appends (W.contents streams.old.output) (W.contents streams.new.output) (output (engine_of closed_state table.old) bytes)) }
-    ensures part { AddsPart engine_after lines_after (engine_of closed_state table.old) (R.remaining streams.old.input) (R.remaining streams.new.input)
+        (λ bytes. Appends (W.contents streams.old.output) (W.contents streams.new.output)
+        (output (engine_of closed_state table.old) bytes)) }
+    ensures part { AddsPart engine_after lines_after (engine_of closed_state table.old)
+        (R.remaining streams.old.input) (R.remaining streams.new.input)
         (W.contents streams.old.output) (W.contents streams.new.output) }
 {
     let mut keeper = Keeper::new(cache, table);
-    run(streams, &mut keeper, buf, out).told()
+    run(streams, &mut keeper, buffer, out).told()
 }

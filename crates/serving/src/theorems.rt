@@ -8,5 +8,6 @@ ghost use Rattle.terms.specs.declared.sheet.Settings.{Settings};
 
 /// The runner's table serves the ceilings up to 64 and no other: an open answers 1 exactly where, after checks 4, 2 and 3, the ceiling is above 64.
 pub fn serves_to_64()
-    ensures { (t : List ℕ) → length t ≡ table_length → (own : Member) (S : Settings) → ServesTo64 t own S }
+    ensures { (t : List ℕ) → length t ≡ table_length → (own : Member) (S : Settings)
+        → ServesTo64 t own S }
 {}

@@ -1,6 +1,5 @@
 -- The claims of the read of what blocks hold.
-use Rattle.std.proofs.Common.{◌≡◌, refl, ap, sym, ◌∙◌, Bool, true, false, cond, List, [], ◌∷◌, ◌++◌, map, append_assoc, append-nil, ℕ, zero, suc, ◌+◌, ◌-◌, ◌*◌, ◌/◌, ◌%◌, ◌<◌, ◌≤◌, arith, add-one, eqb, length, length-append, le-ltb, eq-eqb, ne_eqb}
-use mathlib.Core.Option.{Option, none, some}
+use Rattle.std.proofs.Common.{◌≡◌, refl, ap, sym, ◌∙◌, Bool, true, false, cond, List, [], ◌∷◌, ◌++◌, map, append_assoc, append-nil, ℕ, zero, suc, ◌+◌, ◌-◌, ◌*◌, ◌/◌, ◌%◌, ◌<◌, ◌≤◌, arith, add-one, eqb, length, length-append, le-ltb, eq-eqb, ne_eqb, Option, Some, None}
 use native.Mathlib.Decide.{ℕ_discrete}
 use Rattle.base.specs.Folds.{sum_to}
 use Rattle.base.proofs.Ranges.{sum_none, sum_next}
@@ -14,7 +13,7 @@ use Rattle.committee.specs.Changes.{at_most_one, row, rows}
 use Rattle.committee.specs.Chain.{holds_at, block_at, chain_of}
 use Rattle.committee.proofs.ChainLaws.{chain_length, holds-other, block_inside}
 use Rattle.committee.proofs.OrderLaws.{row-none, row_more, rows_none, rows_more}
-use Rattle.running.specs.BlockChanges.{start_at}
+use Rattle.chain_committees.specs.BlockChanges.{start_at}
 use Rattle.listing.specs.Counts.{in_block, row_count, block_count, chain_count}
 use Rattle.listing.proofs.CountLaws.{count_more, count_all, row_turned, row_next}
 use Rattle.state.specs.declared.State.{State}
@@ -50,8 +49,8 @@ module _ (t : List ℕ) (k : ℕ) where
       rw (i, j) (go (ℕ_discrete (mark_at t m r) k))
     where
       one : (o : Option Content) → length (at_most_one o) ≤ 1
-      one none = omega arith
-      one (some p) = omega arith
+      one None = omega arith
+      one (Some p) = omega arith
 
       go : Dec (mark_at t m r ≡ k) → length (at_most_one (holds_at t k m r)) ≤ cond (eqb (mark_at t m r) k) 1 0
       go (yes e) = rw (eq-eqb (mark_at t m r) k e) (one (holds_at t k m r))

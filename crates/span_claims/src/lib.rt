@@ -14,17 +14,20 @@ ghost use Rattle.spans.specs.Listed.{blocks_refusal};
 /// Read in two pieces it is the same as read at once.
 #[tactic(auto, using(crate::proofs::Laws::in_pieces))]
 pub fn in_pieces()
-    ensures { (S : Settings) (c : Chain Content) (t : List ℕ) (m n k : ℕ) → held_after S c t m (n + k) ≡ held_after S c t m n ++ held_after S c t (m + n) k }
+    ensures { (S : Settings) (c : Chain Content) (t : List ℕ) (m n k : ℕ)
+        → held_after S c t m (n + k) ≡ held_after S c t m n ++ held_after S c t (m + n) k }
 {}
 
 /// Whatever blocks come later, what older ones hold stays.
 #[tactic(auto, using(crate::proofs::Laws::stays))]
 pub fn stays()
-    ensures { (S : Settings) (c d : Chain Content) (t : List ℕ) (m n : ℕ) → c ≼ d → m + n ≤ length c → held_after S d t m n ≡ held_after S c t m n }
+    ensures { (S : Settings) (c d : Chain Content) (t : List ℕ) (m n : ℕ) → c ≼ d → m + n ≤ length c
+        → held_after S d t m n ≡ held_after S c t m n }
 {}
 
 /// A list of sixteen certificates for each of the rounds 0 to the ceiling has room for all blocks: then none that are there are refused.
 #[tactic(auto, using(crate::proofs::Laws::room_for_all))]
 pub fn room_for_all()
-    ensures { (s : State) (t : List ℕ) (m n words : ℕ) → well_formed s t ≡ true → m + n ≤ s.blocks → 16 * s.settings.ceiling.0 + 16 ≤ words / 18 → blocks_refusal s t m n words ≡ 0 }
+    ensures { (s : State) (t : List ℕ) (m n words : ℕ) → well_formed s t ≡ true → m + n ≤ s.blocks
+        → 16 * s.settings.ceiling.0 + 16 ≤ words / 18 → blocks_refusal s t m n words ≡ 0 }
 {}

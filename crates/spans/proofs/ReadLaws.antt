@@ -29,13 +29,13 @@ held-counted S c t m (suc n) =
     rw (length-append (held_after S c t m n) (map (stored t (suc (m + n))) l), held-counted S c t m n, length-map l (stored t (suc (m + n)))) refl
 
 module _ (S : Settings) (t : List ℕ) (blocks m n : ℕ) {list : List ℕ} {k : ℕ} (e : k ≡ count_after S (chain_of S.ceiling.0 t blocks) m n) where
-  pub too_short : length list / held_length < k → Lists S t blocks m n list (Err Refusal.ListTooShort) list
+  pub too_short : length list / held_length < k → Lists S t blocks m n list (Err Refusal.LengthRange) list
   unfolding if_accepted
-  too_short h = record { its-refusal = sym (refuses 25 [] (lt-ltb (length list / held_length) _ (omega (arith, e)))); its-value = tt; its-list = refl }
+  too_short h = record { its_refusal = sym (refuses 25 [] (lt-ltb (length list / held_length) _ (omega (arith, e)))); its_value = tt; its_list = refl }
 
   pub all_listed : {list' : List ℕ} {to : ℕ} {x : ℕ} → k ≤ length list / held_length → Puts list list' 0 to (words_of (held_after S (chain_of S.ceiling.0 t blocks) t m n)) x → Lists S t blocks m n list (Ok k) list'
   unfolding if_accepted
-  all_listed h p = record { its-refusal = sym (passes 25 [] (le-ltb (length list / held_length) _ (omega (arith, e))) ∙ passes-all); its-value = e; its-list = p.bytes }
+  all_listed h p = record { its_refusal = sym (passes 25 [] (le-ltb (length list / held_length) _ (omega (arith, e))) ∙ passes-all); its_value = e; its_list = p.bytes }
 
 -- check 23
 module _ (s : State) (t : List ℕ) (m n : ℕ) where

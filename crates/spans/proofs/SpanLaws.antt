@@ -1,5 +1,5 @@
 -- Laws of what blocks hold as words, and of a block's rows by the places that are linked.
-use Rattle.std.proofs.Common.{◌≡◌, refl, ap, sym, ◌∙◌, Bool, true, false, List, [], ◌∷◌, ◌++◌, map, append_assoc, append-nil, ℕ, zero, suc, ◌+◌, ◌-◌, ◌*◌, ◌/◌, ◌%◌, ◌<◌, ◌≤◌, arith, add-one, length, length-append, take, drop, take_all}
+use Rattle.std.proofs.Common.{◌≡◌, refl, ap, sym, ◌∙◌, Bool, true, false, List, [], ◌∷◌, ◌++◌, map, append_assoc, append-nil, ℕ, zero, suc, ◌+◌, ◌-◌, ◌*◌, ◌/◌, ◌%◌, ◌<◌, ◌≤◌, arith, add-one, get_or, length, length-append, take, drop, take_all}
 use Rattle.std.proofs.lemmas.List.{map-append}
 use lib.Seq.{paste, sets, sets-eq}
 use Rattle.base.specs.Folds.{fold_to}
@@ -14,10 +14,11 @@ use Rattle.committee.specs.Changes.{at_most_one, row, rows}
 use Rattle.committee.specs.Chain.{holds_at, block_at, chain_of}
 use Rattle.committee.proofs.ChainLaws.{holds-other, holds-absent, block_inside}
 use Rattle.committee.proofs.OrderLaws.{row-none, row_more, rows_none, rows_more}
-use Rattle.running.specs.BlockChanges.{start_at}
-use Rattle.running.specs.Links.{Marked}
-use Rattle.running.specs.LinkRuns.{places_over, rows_over}
-use Rattle.running.proofs.RunLaws.{SameAt, LinkedFrom, rows-first, rows_step}
+use Rattle.chain_committees.specs.BlockChanges.{start_at}
+use Rattle.chain_committees.specs.Links.{Marked}
+use Rattle.chain_committees.specs.LinkRuns.{places_over, rows_over}
+use Rattle.chain_committees.proofs.StartLaws.{start_le}
+use Rattle.chain_committees.proofs.RunLaws.{SameAt, LinkedFrom, rows-first, rows_step}
 use Rattle.words.specs.Lengths.{body_length, proposal_length, held_length}
 use Rattle.words.specs.Bodies.{body_words}
 use Rattle.words.proofs.BodyLaws.{length-body}
@@ -26,6 +27,7 @@ use Rattle.words.specs.Proposals.{held_words}
 use Rattle.contents.proofs.WordLaws.{place_there}
 use Rattle.contents.proofs.WalkLaws as contents
 use Rattle.spans.specs.Spans.{stored, words_of, block_words, count_after, held_after}
+use Rattle.spans.specs.Ready.{SpanLinked}
 use Rattle.reads.specs.declared.Held.{Held}
 use Rattle.agreement.specs.Rules.{Chain}
 use Rattle.contents.specs.Contents.{contents_of}
@@ -185,3 +187,18 @@ module _ (S : Settings) (t : List ℕ) (blocks m : ℕ) where
   unfolding held_after
   held-next i {a} h e =
       rw (add-one i, its-rows i h e, words-join (held_after S C t m i) (map (stored t (suc (m + i))) (rows (block_at S.ceiling.0 t (m + i + 1)) a S.ceiling.0)), add-one (m + i)) refl
+
+-- ---- of a block whose number, and whose start's place, are written in another way
+
+pub start_there : {S : Settings} {t head next starts : List ℕ} {blocks m n : ℕ} → SpanLinked S t head next blocks m n starts → (j : ℕ) → j < m + n → get_or starts j 0 ≤ 16
+start_there {S} {t} k j h = rw (k.each_start j h) (start_le S t j)
+
+module _ (n : ℕ) (t starts : List ℕ) (k i : ℕ) where
+  pub room_of : {q j : ℕ} (at : ℕ) (list : List ℕ) → q ≡ k → j ≡ i → at + held_length * length (rows (block_at n t k) (get_or starts i 0) n) ≤ length list
+      → at + held_length * length (rows (block_at n t q) (get_or starts j 0) n) ≤ length list
+  room_of at list e f h = rw (e, f) h
+
+  pub put_of : {q j : ℕ} {list list' : List ℕ} {at to : ℕ} → q ≡ k → j ≡ i
+      → Puts list list' at to (block_words t q (rows (block_at n t q) (get_or starts j 0) n)) (held_length * length (rows (block_at n t q) (get_or starts j 0) n))
+      → Puts list list' at to (block_words t k (rows (block_at n t k) (get_or starts i 0) n)) (held_length * length (rows (block_at n t k) (get_or starts i 0) n))
+  put_of e f h = rw (← e, ← f) h

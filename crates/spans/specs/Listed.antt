@@ -15,7 +15,8 @@ use Rattle.spans.specs.Spans.{words_of, count_after, held_after}
 
 -- of the n blocks after the first m: 23 there are fewer, 25 a list of so many words has no room for their certificates, of eighteen words each
 abbrev pub blocks_checks : Settings → Chain Content → ℕ → ℕ → ℕ → Checks
-blocks_checks S c m n words = (nat_lt (length c) (m + n), 23) ∷ (nat_lt (words / held_length) (count_after S c m n), 25) ∷ []
+blocks_checks S c m n words =
+    (nat_lt (length c) (m + n), 23) ∷ (nat_lt (words / held_length) (count_after S c m n), 25) ∷ []
 
 module _ (s : State) (t : List ℕ) where
   abbrev pub reading_blocks : ℕ → ℕ → ℕ → Checks
@@ -30,4 +31,5 @@ module _ (s : State) (t : List ℕ) where
 
   -- what the lent list holds then: these, and its rest as it was
   unfoldable pub blocks_list : ℕ → ℕ → List ℕ → List ℕ
-  blocks_list m n list = if_accepted (blocks_refusal m n (length list)) (sets list 0 (words_of (blocks_held m n))) list
+  blocks_list m n list =
+      if_accepted (blocks_refusal m n (length list)) (sets list 0 (words_of (blocks_held m n))) list

@@ -9,9 +9,9 @@ use Rattle.store.specs.Table.{Row}
 use Rattle.terms.specs.declared.sheet.Settings.{Settings}
 use Rattle.committee.specs.Changes.{row, rows}
 use Rattle.committee.specs.Chain.{block_at, chain_of}
-use Rattle.running.specs.BlockChanges.{start_at}
-use Rattle.running.specs.ChainInTable.{ChainInTable}
-use Rattle.running.specs.Links.{Links}
+use Rattle.chain_committees.specs.BlockChanges.{start_at}
+use Rattle.chain_committees.specs.ChainInTable.{ChainInTable}
+use Rattle.chain_committees.specs.Links.{Links}
 use Rattle.words.specs.Lengths.{held_length}
 use Rattle.spans.specs.Spans.{words_of, count_after, held_after}
 
@@ -42,7 +42,8 @@ pub record BlockLinked (t head next : List ℕ) (n k a : ℕ) : Type 0 where
   pub links : Links t 16 (n * 16 + 16) head next
 
 -- the n blocks after the first m of a chain of so many, block i + 1 from member `starts` i on
-pub record SpanLinked (S : Settings) (t head next : List ℕ) (blocks m n : ℕ) (starts : List ℕ) : Type 0 where
+pub record SpanLinked (S : Settings) (t head next : List ℕ) (blocks m n : ℕ)
+    (starts : List ℕ) : Type 0 where
   pub chain : ChainInTable S t blocks
   pub within : m + n ≤ blocks
   pub links : Links t 16 (S.ceiling.0 * 16 + 16) head next
@@ -50,7 +51,8 @@ pub record SpanLinked (S : Settings) (t head next : List ℕ) (blocks m n : ℕ)
 
 -- there is room for what they hold
 abbrev pub SpanRoom : Settings → List ℕ → ℕ → ℕ → ℕ → List ℕ → Type 0
-SpanRoom S t blocks m n list = held_length * count_after S (chain_of S.ceiling.0 t blocks) m n ≤ length list
+SpanRoom S t blocks m n list =
+    held_length * count_after S (chain_of S.ceiling.0 t blocks) m n ≤ length list
 
 -- the chain, and next has a word for each place
 pub record SpanInTable (S : Settings) (t : List ℕ) (blocks m n : ℕ) (next : List ℕ) : Type 0 where
@@ -59,7 +61,15 @@ pub record SpanInTable (S : Settings) (t : List ℕ) (blocks m n : ℕ) (next : 
   pub words : S.ceiling.0 * 16 + 16 ≤ length next
 
 -- what is answered and what the list holds then: 25 where there is no room, else all is listed
-pub record Lists (S : Settings) (t : List ℕ) (blocks m n : ℕ) (list : List ℕ) (r : Result ℕ Refusal) (list' : List ℕ) : Type 0 where
-  pub its-refusal : refusal_in r ≡ refusal ((nat_lt (length list / held_length) (count_after S (chain_of S.ceiling.0 t blocks) m n), 25) ∷ [])
-  pub its-value : IfOk r (λ c. c ≡ count_after S (chain_of S.ceiling.0 t blocks) m n)
-  pub its-list : list' ≡ if_accepted (refusal_in r) (sets list 0 (words_of (held_after S (chain_of S.ceiling.0 t blocks) t m n))) list
+pub record Lists (S : Settings) (t : List ℕ) (blocks m n : ℕ) (list : List ℕ) (r : Result ℕ Refusal)
+    (list' : List ℕ) : Type 0 where
+  pub its_refusal : refusal_in r
+      ≡ refusal
+      ((
+        nat_lt (length list / held_length) (count_after S (chain_of S.ceiling.0 t blocks) m n),
+        25,
+      ) ∷ [])
+  pub its_value : IfOk r (λ c. c ≡ count_after S (chain_of S.ceiling.0 t blocks) m n)
+  pub its_list : list'
+      ≡ if_accepted (refusal_in r)
+      (sets list 0 (words_of (held_after S (chain_of S.ceiling.0 t blocks) t m n))) list

@@ -10,7 +10,11 @@ use Rattle.contents.specs.Contents.{contents_of}
 
 -- a certificate of block k of the table t, as the read of a certificate gives it
 unfoldable pub stored : List ℕ → ℕ → Content → Held
-stored t k p = record { proposal = proposal_of p; endorsers = endorsers_at t p.author p.round; block = k }
+stored t k p = record {
+  proposal = proposal_of p;
+  endorsers = endorsers_at t p.author p.round;
+  block = k;
+}
 
 -- as words
 unfoldable pub words_of : List Held → List ℕ
@@ -30,4 +34,5 @@ module _ (S : Settings) (c : Chain Content) where
   -- and which, oldest block first, each block in its order
   unfoldable pub held_after : List ℕ → ℕ → ℕ → List Held
   held_after t m zero = []
-  held_after t m (suc n) = held_after t m n ++ map (stored t (suc (m + n))) (contents_of S c (suc (m + n)))
+  held_after t m (suc n) =
+      held_after t m n ++ map (stored t (suc (m + n))) (contents_of S c (suc (m + n)))

@@ -17,7 +17,7 @@ use Rattle.terms.proofs.SheetLaws.{settings-fit}
 use Rattle.std.specs.Prelude.{Option, Some, None, is_some, unwrap_or}
 use Rattle.state.specs.declared.State.{State}
 use Rattle.state.specs.States.{no_body, is_proposing, own_body}
-use Rattle.running.specs.BlockChanges.{blocks_fit}
+use Rattle.chain_committees.specs.BlockChanges.{blocks_fit}
 use Rattle.state.proofs.RoundLaws.{few-blocks, last-below}
 use Rattle.state.specs.WellFormed.{numbers_fit, head_fits, body_fits, fits_if_there, proposal_fits, well_formed}
 use Rattle.state.specs.Formed.{NumbersFit, BodyFits, Formed}
@@ -28,11 +28,11 @@ numbers-parts o r b n e =
     let p = both (ltb o 16) _ e in
     let q = both (leb 1 r) _ p.1 in
     let u = both (leb r n) (leb b n) q.1 in
-    record { own = ltb-true o 16 p.0; round-from = leb-true 1 r q.0; round-to = leb-true r n u.0; blocks_to = leb-true b n u.1 }
+    record { own = ltb-true o 16 p.0; round_from = leb-true 1 r q.0; round_to = leb-true r n u.0; blocks_to = leb-true b n u.1 }
 
 numbers-whole : (o r b n : ℕ) → NumbersFit o r b n → numbers_fit o r b n ≡ true
 unfolding numbers_fit
-numbers-whole o r b n w = rw (lt-ltb o 16 w.own, le-leb 1 r w.round-from, le-leb r n w.round-to, le-leb b n w.blocks_to) refl
+numbers-whole o r b n w = rw (lt-ltb o 16 w.own, le-leb 1 r w.round_from, le-leb r n w.round_to, le-leb b n w.blocks_to) refl
 
 pub head-parts : (s : State) → head_fits s ≡ true
     → (out_of_range s.settings ≡ false) × NumbersFit s.own.0 s.round.0 s.blocks s.settings.ceiling.0 × (weightless s.settings ≡ false)
@@ -77,7 +77,7 @@ module _ (s : State) (t : List ℕ) where
       let f = settings-fit s.settings e in
       let i = few-blocks s.settings.ceiling.0 t s.blocks b s.blocks (omega arith) in
       let j = last-below s.settings.ceiling.0 t s.blocks b (omega arith) s.blocks (omega arith) in
-      record { is_in_range = e; settings = f; weighty = w; numbers = n; proposal = p; long = l; rows = r; rounds = b; queues = q; room = omega arith; last-to = j }
+      record { is_in_range = e; settings = f; weighty = w; numbers = n; proposal = p; long = l; rows = r; rounds = b; queues = q; room = omega arith; last_to = j }
 
   pub formed : well_formed s t ≡ true → Formed s t
   unfolding well_formed

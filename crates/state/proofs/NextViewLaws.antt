@@ -1,6 +1,5 @@
 -- The view after what each accepted call does to the state and the table: the theory's next view.
-use Rattle.std.proofs.Common.{◌≡◌, refl, ap, ◌∙◌, false, List, [], ℕ, add-one}
-use mathlib.Core.Option.{none}
+use Rattle.std.proofs.Common.{◌≡◌, refl, ap, ◌∙◌, false, List, [], ℕ, add-one, None}
 use Rattle.agreement.specs.Places.{mark}
 use Rattle.agreement.specs.Moves.{after_propose, after_endorse, after_certify, after_accept, after_advance}
 use Rattle.terms.specs.declared.Body.{Body}
@@ -62,7 +61,7 @@ module _ (s : State) (t : List ℕ) where
 
 -- a fresh state has round 1 and nothing else
 pub view_open : (own : Member) (S : Settings) (R : Rights) (t : List ℕ)
-    → ◌≡◌ {A = tests.MemberView S} (view (fresh own S R) (clear_used t S.ceiling.0)) (record { round = 1; proposal = none; dag = λ a r. none; endorsed = λ a r. false; chain = [] })
+    → ◌≡◌ {A = tests.MemberView S} (view (fresh own S R) (clear_used t S.ceiling.0)) (record { round = 1; proposal = None; dag = λ a r. None; endorsed = λ a r. false; chain = [] })
 view_open own S R t =
     let n = S.ceiling.0 in
     λ i. record { round = 1; proposal = proposal-none (fresh own S R) refl i; dag = dag-cleared n t i; endorsed = endorsed-of-cleared n t i; chain = chain-none n (clear_used t n) i }

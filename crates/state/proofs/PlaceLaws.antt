@@ -15,7 +15,7 @@ module _ (s : State) (t : List ℕ) where
   fits-within p f q = let h = f.long in let l = q.to in record { member = q.author; row = omega arith }
 
   pub own-within : Formed s t → Within t s.own.0 s.round.0
-  own-within f = let h = f.long in let l = f.numbers.round-to in record { member = f.numbers.own; row = omega arith }
+  own-within f = let h = f.long in let l = f.numbers.round_to in record { member = f.numbers.own; row = omega arith }
 
 -- a proposal that passed the checks of its form has a place
 pub placed : (s : State) (t : List ℕ) (p : Proposal) → Formed s t → FormFits s p → p.body.previous < 65536 → Storable s.settings.ceiling.0 (content_of p)
@@ -24,4 +24,4 @@ placed s t p f k small = storable s.settings.ceiling.0 s.settings.allowance p.au
 -- and so has one's own
 pub own-placed : (s : State) (t : List ℕ) → Formed s t → is_proposing s ≡ true → (own_body s).previous < 65536 → Storable s.settings.ceiling.0 (content_with s.own.0 s.round.0 (own_body s))
 own-placed s t f e small =
-    storable s.settings.ceiling.0 s.settings.allowance s.own.0 s.round.0 (own_body s) f.numbers.own f.numbers.round-from f.numbers.round-to f.settings.allowance_to (f.proposal e) small
+    storable s.settings.ceiling.0 s.settings.allowance s.own.0 s.round.0 (own_body s) f.numbers.own f.numbers.round_from f.numbers.round_to f.settings.allowance_to (f.proposal e) small

@@ -1,7 +1,7 @@
 -- A well-formed state stays well formed: what each accepted call does to the state and the table.
 use Rattle.std.proofs.Common.{◌≡◌, ◌∙◌, true, false, List, ℕ, ◌+◌, ◌<◌, ◌≤◌, arith, length}
 use mathlib.Core.Bool.{false≢true}
-use Rattle.base.specs.Sets.{is_in}
+use Rattle.base.specs.Sets.{contains}
 use Rattle.terms.specs.declared.Body.{Body}
 use Rattle.terms.specs.declared.Member.{Member}
 use Rattle.terms.specs.declared.Round.{Round}
@@ -45,11 +45,11 @@ module _ (s : State) (t : List ℕ) (f : Formed s t) where
       → Formed (with_round s r o) t
   moved-kept r o from to p =
       formed-by (with_round s r o) t f.is_in_range f.weighty
-      (record { own = f.numbers.own; round-from = from; round-to = to; blocks_to = f.numbers.blocks_to }) p f.long f.rows f.rounds f.queues
+      (record { own = f.numbers.own; round_from = from; round_to = to; blocks_to = f.numbers.blocks_to }) p f.long f.rows f.rounds f.queues
 
   -- a proposal that fits is kept
   pub propose-kept : (b : Body) → BodyFits s.settings.allowance s.round.0 b → Formed (proposed s b) t
-  propose-kept b p = moved-kept s.round (Some b) f.numbers.round-from f.numbers.round-to (λ _. p)
+  propose-kept b p = moved-kept s.round (Some b) f.numbers.round_from f.numbers.round_to (λ _. p)
 
   -- below the ceiling the next round, with no proposal
   pub advance-kept : s.round.0 < s.settings.ceiling.0 → Formed (advanced s) t
@@ -84,7 +84,7 @@ module _ (s : State) (t : List ℕ) (f : Formed s t) where
     clear_kept = marked (clear-endorsed t a q) (rows-clear-endorsed t a q at s.settings.allowance s.blocks s.settings.ceiling.0 f.rows) (clear-endorsed-first t a q z)
 
   -- a certificate held that passes checks 6 and 7, its author not among its endorsers
-  pub put-kept : (p : Content) (d : ℕ) → d < 65536 → is_in d p.author ≡ false → Storable s.settings.ceiling.0 p → bad_transactions s.settings.allowance p.transactions ≡ false → bad_previous_set p.round p.previous ≡ false
+  pub put-kept : (p : Content) (d : ℕ) → d < 65536 → contains d p.author ≡ false → Storable s.settings.ceiling.0 p → bad_transactions s.settings.allowance p.transactions ≡ false → bad_previous_set p.round p.previous ≡ false
       → Formed s (put_certificate t p d)
   put-kept p d low apart k fit right =
       let i = within t f.long k in
@@ -108,5 +108,5 @@ open_formed own S R t h e w l =
     let n = S.ceiling.0 in
     let f = settings-fit S e in
     let i = length-cleared t n l in
-    formed-by (fresh own S R) (clear_used t n) e w (record { own = h; round-from = omega arith; round-to = omega arith; blocks_to = omega arith }) (λ x. absurd (false≢true x))
+    formed-by (fresh own S R) (clear_used t n) e w (record { own = h; round_from = omega arith; round_to = omega arith; blocks_to = omega arith }) (λ x. absurd (false≢true x))
     (omega arith) (rows-cleared t n S.allowance 0) (blocks-whole n (clear_used t n) 0 (λ k x. absurd (omega arith))) (fits-clear (clear_used t n) (cleared-first t n))

@@ -10,13 +10,13 @@ use Rattle.terms.specs.Ranges.{out_of_range, weightless, SettingsFit}
 use Rattle.committee.specs.Chain.{chain_of}
 use Rattle.state.specs.declared.State.{State}
 use Rattle.state.specs.States.{is_proposing, own_body}
-use Rattle.running.specs.BlockChanges.{blocks_fit}
+use Rattle.chain_committees.specs.BlockChanges.{blocks_fit}
 
 -- own number, present round and number of blocks are in range
 pub record NumbersFit (o r b n : ℕ) : Type 0 where
   pub own : o < 16
-  pub round-from : 1 ≤ r
-  pub round-to : r ≤ n
+  pub round_from : 1 ≤ r
+  pub round_to : r ≤ n
   pub blocks_to : b ≤ n
 
 -- a proposal's body: few enough transactions and all in range, a previous set that is empty exactly in round 1
@@ -37,4 +37,4 @@ pub record Formed (s : State) (t : List ℕ) : Type 0 where
   pub queues : queues_fit t ≡ true
   -- there is room for one more block below the ceiling
   pub room : 2 * s.blocks < s.settings.ceiling.0
-  pub last-to : last (chain_of s.settings.ceiling.0 t s.blocks) < s.settings.ceiling.0
+  pub last_to : last (chain_of s.settings.ceiling.0 t s.blocks) < s.settings.ceiling.0

@@ -11,7 +11,9 @@ use Rattle.state.specs.Formed.{BodyFits}
 module _ (S : Settings) where
   -- 4, 5, 6, 7
   abbrev pub form_checks : Content → Checks
-  form_checks p = (nat_lt 15 p.author, 4) ∷ (bad_round S p.round, 5) ∷ (bad_transactions S.allowance p.transactions, 6) ∷ (bad_previous_set p.round p.previous, 7) ∷ []
+  form_checks p = (nat_lt 15 p.author, 4) ∷ (bad_round S p.round, 5)
+      ∷ (bad_transactions S.allowance p.transactions, 6) ∷ (bad_previous_set p.round p.previous, 7)
+      ∷ []
 
 -- author, round and body of a proposal that passes checks 4, 5, 6, 7
 pub record FormFits (s : State) (p : Proposal) : Type 0 where

@@ -10,7 +10,7 @@ use Rattle.state.specs.declared.State.{State}
 
 -- another round, another proposal or none
 abbrev pub with_round : State → Round → Option Body → State
-with_round s r o = record { own = s.own; settings = s.settings; round = r; proposal = o; blocks = s.blocks; rights = s.rights }
+with_round s r o = record s { round = r; proposal = o }
 
 -- propose: the proposal is kept
 abbrev pub proposed : State → Body → State
@@ -22,7 +22,14 @@ advanced s = with_round s (record { 0 = s.round.0 + 1 }) None
 
 -- open: round 1 and nothing else, beside the rights
 abbrev pub fresh : Member → Settings → Rights → State
-fresh own S R = record { own = own; settings = S; round = record { 0 = 1 }; proposal = None; blocks = 0; rights = R }
+fresh own S R = record {
+  own = own;
+  settings = S;
+  round = record { 0 = 1 };
+  proposal = None;
+  blocks = 0;
+  rights = R;
+}
 
 -- no proposal
 abbrev pub no_body : Body

@@ -1,8 +1,6 @@
 -- The view that a state and its table show: what the rules speak of.
-use Rattle.std.specs.Prelude.{Bool, if◌then◌else◌, ◌&&◌, List, ℕ, Option, Some, None}
-use Rattle.std.proofs.Math.Option.{none, some}
-use Rattle.std.proofs.Math.Option as shown
-use Rattle.terms.specs.declared.Body.{Body}
+use Rattle.std.specs.Prelude.{Bool, if◌then◌else◌, ◌&&◌, List, ℕ, Option, None}
+use Rattle.std.specs.Option.{option_map}
 use Rattle.terms.specs.Proposals.{Content, content_with}
 use Rattle.store.specs.Table.{endorsed_at, certificate_at}
 use Rattle.committee.specs.Chain.{is_round, chain_of}
@@ -10,20 +8,16 @@ use Rattle.rules.specs.Tests.{MemberView}
 use Rattle.state.specs.declared.State.{State}
 
 -- the certificates of a table with n rounds, by author and round; what lies beyond is no part of the state
-unfoldable pub dag_of : ℕ → List ℕ → ℕ → ℕ → shown.Option Content
-dag_of n t a r = if is_round n r then certificate_at t a r else none
+unfoldable pub dag_of : ℕ → List ℕ → ℕ → ℕ → Option Content
+dag_of n t a r = if is_round n r then certificate_at t a r else None
 
 -- the endorsed places
 unfoldable pub endorsed_of : ℕ → List ℕ → ℕ → ℕ → Bool
 endorsed_of n t a r = is_round n r && endorsed_at t a r
 
 -- the proposal for the present round, if any: author and round are one's own
-abbrev pub proposal_by : ℕ → ℕ → Option Body → shown.Option Content
-proposal_by a r None = none
-proposal_by a r (Some b) = some (content_with a r b)
-
-unfoldable pub own_proposal : State → shown.Option Content
-own_proposal s = proposal_by s.own.0 s.round.0 s.proposal
+unfoldable pub own_proposal : State → Option Content
+own_proposal s = option_map (content_with s.own.0 s.round.0) s.proposal
 
 abbrev pub view : (s : State) → List ℕ → MemberView s.settings
 view s t =

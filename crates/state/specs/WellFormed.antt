@@ -6,21 +6,24 @@ use Rattle.store.specs.Table.{used_length}
 use Rattle.scan.specs.Scan.{rows_fit}
 use Rattle.queues.specs.Words.{queues_fit}
 use Rattle.terms.specs.Ranges.{out_of_range, weightless}
-use Rattle.running.specs.BlockChanges.{blocks_fit}
+use Rattle.chain_committees.specs.BlockChanges.{blocks_fit}
 use Rattle.ports.specs.Ports.{ports_fit}
 use Rattle.state.specs.declared.State.{State}
 
 -- own number, present round and number of blocks are in range
 unfoldable pub numbers_fit : ℕ → ℕ → ℕ → ℕ → Bool
-numbers_fit own round blocks ceiling = nat_lt own 16 && (nat_le 1 round && (nat_le round ceiling && nat_le blocks ceiling))
+numbers_fit own round blocks ceiling =
+    nat_lt own 16 && (nat_le 1 round && (nat_le round ceiling && nat_le blocks ceiling))
 
 -- settings and numbers are in range, some starting weight is positive
 unfoldable pub head_fits : State → Bool
-head_fits s = not (out_of_range s.settings) && (numbers_fit s.own.0 s.round.0 s.blocks s.settings.ceiling.0 && not (weightless s.settings))
+head_fits s = not (out_of_range s.settings)
+    && (numbers_fit s.own.0 s.round.0 s.blocks s.settings.ceiling.0 && not (weightless s.settings))
 
 -- transactions are in range and within the allowance, a previous set is empty exactly in round 1
 unfoldable pub body_fits : ℕ → ℕ → Body → Bool
-body_fits allowance r b = not (bad_transactions allowance (transactions_of b)) && not (bad_previous_set r b.previous)
+body_fits allowance r b = not (bad_transactions allowance (transactions_of b))
+    && not (bad_previous_set r b.previous)
 
 -- so for the proposal, if there is one; held certificates are the store's part (rows_fit), and so is that every commit mark names a block
 abbrev pub fits_if_there : ℕ → ℕ → Option Body → Bool

@@ -8,7 +8,7 @@ pub mod theorems;
 ghost use Rattle.std.specs.Prelude.{◌≡◌, ◌<◌, ◌≤◌};
 ghost use Rattle.state.specs.WellFormed.{numbers_fit, head_fits, body_fits, proposal_fits, well_formed};
 
-use running::bonded;
+use chain_committees::bonded;
 use store::lengths::ROW;
 use terms::sheet::{Rights, Settings};
 use terms::{Body, Member, Round, sheet};
@@ -16,7 +16,7 @@ use terms::{Body, Member, Round, sheet};
 /// A member's state, but for what its table holds: certificates, endorsed places, block rounds, guests' queues and ports.
 ///
 /// Any values may stand here: `well_formed` answers whether they mean a state.
-#[derive(Clone, Copy)]
+#[derive(Debug, Clone, Copy)]
 pub struct State {
     /// The member's own number, 0 to 15.
     pub own: Member,
@@ -42,61 +42,62 @@ fn numbers_fit(own: Member, round: Round, blocks: u32, ceiling: Round) -> bool
 
 // Are the transactions in range and within the allowance, and is the previous set empty exactly in round 1?
 #[tactic(auto, unfolding(crate::specs::WellFormed::body_fits))]
-fn body_fits(allowance: u32, r: Round, b: Body) -> bool
+fn body_fits(allowance: u32, round: Round, body: Body) -> bool
     requires { allowance ≤ 4 }
-    ensures { result ≡ body_fits allowance r.0 b }
+    ensures { result ≡ body_fits allowance round.0 body }
 {
-    !terms::has_bad_transactions(allowance, b) && !terms::is_bad_previous_set(r, b.previous as u32)
+    !terms::has_bad_transactions(allowance, body)
+        && !terms::is_bad_previous_set(round, body.previous as u32)
 }
 
 // So for the proposal, if there is one?
 #[tactic(auto, unfolding(crate::specs::WellFormed::proposal_fits))]
-fn proposal_fits(s: State) -> bool
-    requires { s.settings.allowance ≤ 4 }
-    ensures { result ≡ proposal_fits s }
+fn proposal_fits(state: State) -> bool
+    requires { state.settings.allowance ≤ 4 }
+    ensures { result ≡ proposal_fits state }
 {
-    match s.proposal {
+    match state.proposal {
         None => true,
-        Some(body) => body_fits(s.settings.allowance, s.round, body),
+        Some(body) => body_fits(state.settings.allowance, state.round, body),
     }
 }
 
 // Are the settings in range, with some positive weight, and the numbers?
 #[tactic(auto, unfolding(crate::specs::WellFormed::head_fits))]
-fn head_fits(s: State) -> bool
-    ensures { result ≡ head_fits s }
+fn head_fits(state: State) -> bool
+    ensures { result ≡ head_fits state }
 {
-    !sheet::is_out_of_range(s.settings)
-        && numbers_fit(s.own, s.round, s.blocks, s.settings.ceiling)
-        && !sheet::is_weightless(s.settings)
+    !sheet::is_out_of_range(state.settings)
+        && numbers_fit(state.own, state.round, state.blocks, state.settings.ceiling)
+        && !sheet::is_weightless(state.settings)
 }
 
 /// Are the state and the table well formed, by the conditions of docs/RULES.md, "A member's state"?
 ///
 /// It answers for any words, of a table of any length. Every call but open refuses with 1 where it says no.
-pub fn well_formed(s: State, t: &[u32]) -> bool
-    ensures { result ≡ well_formed s t.now }
+pub fn well_formed(state: State, table: &[u32]) -> bool
+    ensures { result ≡ well_formed state table.now }
 {
-    let settings = s.settings;
-    let n = settings.ceiling;
-    let blocks = s.blocks;
-    if t.len() < n.0 as usize * ROW + ROW {
+    let settings = state.settings;
+    let ceiling = settings.ceiling;
+    let blocks = state.blocks;
+    if table.len() < ceiling.0 as usize * ROW + ROW {
         return false;
     }
-    if !head_fits(s) {
+    if !head_fits(state) {
         return false;
     }
-    if !proposal_fits(s) {
+    if !proposal_fits(state) {
         return false;
     }
-    if !scan::rows_fit(t, settings.allowance, blocks, n) {
+    if !scan::rows_fit(table, settings.allowance, blocks, ceiling) {
         return false;
     }
-    if !bonded::blocks_fit(t, blocks, n) {
+    if !bonded::blocks_fit(table, blocks, ceiling) {
         return false;
     }
-    if !queues::queues_fit(t) {
+    if !queues::queues_fit(table) {
         return false;
     }
-    ports::ports_fit(t, settings, blocks)
+    ports::ports_fit(table, settings, blocks)
 }

@@ -1,6 +1,5 @@
 -- What the table says after its used part is cleared.
-use Rattle.std.proofs.Common.{◌≡◌, ◌∙◌, false, List, ℕ, ◌+◌, ◌*◌, ◌<◌, ◌≤◌, arith, length, get_or, take, drop, replicate, length-append, length-drop, take_at, drop_at}
-use mathlib.Core.Option.{none}
+use Rattle.std.proofs.Common.{◌≡◌, ◌∙◌, false, List, ℕ, ◌+◌, ◌*◌, ◌<◌, ◌≤◌, arith, length, get_or, take, drop, replicate, length-append, length-drop, take_at, drop_at, None}
 use lib.ListN.{length-replicate, get_or-replicate, get_or-append}
 use Rattle.base.proofs.UnionLaws.{in_none}
 use Rattle.store.specs.Table.{row_length, used_length, Row, held_set, endorsed_set, held_at, endorsed_at, certificate_at}
@@ -38,5 +37,5 @@ module _ (t : List ℕ) (n : ℕ) where
   pub endorsed-cleared : (m r : ℕ) → r ≤ n → endorsed_at (clear_used t n) m r ≡ false
   endorsed-cleared m r h = endorsed_in (clear_used t n) m r ∙ rw (endorsed-set-cleared r h) (in_none m)
 
-  pub certificate-cleared : (m r : ℕ) → r ≤ n → certificate_at (clear_used t n) m r ≡ none
+  pub certificate-cleared : (m r : ℕ) → r ≤ n → certificate_at (clear_used t n) m r ≡ None
   certificate-cleared m r h = certificate-absent (clear_used t n) m r (held-cleared m r h)

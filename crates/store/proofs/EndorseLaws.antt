@@ -1,8 +1,8 @@
 -- What the table says after an endorsed mark is set or cleared.
 use Rattle.std.proofs.Common.{◌≡◌, refl, false, cond, ◌||◌, List, ◌≢◌, ℕ, ◌+◌, ◌*◌, ◌<◌, ◌≤◌, arith, length, get_or, set, drop, length-set, get_or-set_same, get_or-set_other}
 use native.Mathlib.Decide.{ℕ_discrete}
-use Rattle.base.specs.Sets.{add, del}
-use Rattle.base.proofs.SetLaws.{add_lt, del-le}
+use Rattle.base.specs.Sets.{insert, remove}
+use Rattle.base.proofs.SetLaws.{insert_lt, remove_le}
 use Rattle.store.specs.Table.{row_length, record_length, record_start, used_length, Row, Within, held_set, endorsed_set, block_round, held_at, endorsed_at, record_word, mark_at, content_at, certificate_at}
 use Rattle.store.specs.Writes.{set_endorsed, clear_endorsed}
 use Rattle.store.proofs.WriteLaws.{same_place, in_added, in_removed, content-same, certificate-same, same-beyond}
@@ -60,24 +60,24 @@ only-endorsed t q x = record { size = length-set t (q * row_length + 1) x; words
 module _ (t : List ℕ) (a q : ℕ) where
   pub set-endorsed : OnlyEndorsed q t (set_endorsed t a q)
   unfolding set_endorsed
-  set-endorsed = only-endorsed t q (add (endorsed_set t q) a)
+  set-endorsed = only-endorsed t q (insert (endorsed_set t q) a)
 
   pub clear-endorsed : OnlyEndorsed q t (clear_endorsed t a q)
   unfolding clear_endorsed
-  clear-endorsed = only-endorsed t q (del (endorsed_set t q) a)
+  clear-endorsed = only-endorsed t q (remove (endorsed_set t q) a)
 
 endorsed-now : (t : List ℕ) (q x : ℕ) → Row t q → endorsed_set (set t (q * row_length + 1) x) q ≡ x
 unfolding endorsed_set
 endorsed-now t q x h = get_or-set_same t (q * row_length + 1) x 0 (omega arith)
 
 module _ (t : List ℕ) (a q : ℕ) (at : Within t a q) where
-  pub endorsed-set-same : endorsed_set (set_endorsed t a q) q ≡ add (endorsed_set t q) a
+  pub endorsed-set-same : endorsed_set (set_endorsed t a q) q ≡ insert (endorsed_set t q) a
   unfolding set_endorsed
-  endorsed-set-same = endorsed-now t q (add (endorsed_set t q) a) at.row
+  endorsed-set-same = endorsed-now t q (insert (endorsed_set t q) a) at.row
 
-  pub endorsed-clear-same : endorsed_set (clear_endorsed t a q) q ≡ del (endorsed_set t q) a
+  pub endorsed-clear-same : endorsed_set (clear_endorsed t a q) q ≡ remove (endorsed_set t q) a
   unfolding clear_endorsed
-  endorsed-clear-same = endorsed-now t q (del (endorsed_set t q) a) at.row
+  endorsed-clear-same = endorsed-now t q (remove (endorsed_set t q) a) at.row
 
   -- the places marked after
   pub endorsed-set : (m r : ℕ) → endorsed_at (set_endorsed t a q) m r ≡ (same_place m r a q || endorsed_at t m r)
@@ -88,8 +88,8 @@ module _ (t : List ℕ) (a q : ℕ) (at : Within t a q) where
   unfolding endorsed_at
   endorsed-clear m r = in_removed (endorsed_set t) (endorsed_set (clear_endorsed t a q)) a q endorsed-clear-same (endorsed-set-other (clear-endorsed t a q)) m r
 
-  pub endorsed-set_lt : (r : ℕ) → endorsed_set t r < 65536 → endorsed_set (set_endorsed t a q) r < 65536
-  endorsed-set_lt = endorsed_lt (set-endorsed t a q) (λ h. rw endorsed-set-same (add_lt 16 a (endorsed_set t q) at.member h))
+  pub endorsed_set_lt : (r : ℕ) → endorsed_set t r < 65536 → endorsed_set (set_endorsed t a q) r < 65536
+  endorsed_set_lt = endorsed_lt (set-endorsed t a q) (λ h. rw endorsed-set-same (insert_lt 16 a (endorsed_set t q) at.member h))
 
-  pub endorsed-clear_lt : (r : ℕ) → endorsed_set t r < 65536 → endorsed_set (clear_endorsed t a q) r < 65536
-  endorsed-clear_lt = endorsed_lt (clear-endorsed t a q) (λ h. rw endorsed-clear-same (omega (arith, del-le a (endorsed_set t q))))
+  pub endorsed_clear_lt : (r : ℕ) → endorsed_set t r < 65536 → endorsed_set (clear_endorsed t a q) r < 65536
+  endorsed_clear_lt = endorsed_lt (clear-endorsed t a q) (λ h. rw endorsed-clear-same (omega (arith, remove_le a (endorsed_set t q))))

@@ -2,7 +2,7 @@
 use Rattle.std.proofs.Common.{◌≡◌, refl, sym, ap, ◌∙◌, List, ℕ, ◌+◌, ◌*◌, ◌<◌, ◌≤◌, arith, length, get_or, set, drop, length-set, get_or-take, get_or-set_other}
 use lib.ListN.{get_or-replicate}
 use lib.Seq.{paste, length-paste}
-use Rattle.base.specs.Sets.{add, del}
+use Rattle.base.specs.Sets.{insert, remove}
 use Rattle.base.proofs.PasteLaws.{paste-below, paste-over}
 use Rattle.terms.specs.Proposals.{Content}
 use Rattle.store.specs.Table.{row_length, record_length, record_start, used_length, Within, held_set, endorsed_set, block_round, held_at, endorsed_at, record_word, previous_at, count_at, mark_at, endorsers_at, content_at, certificate_at}
@@ -106,15 +106,15 @@ set-block-first t k r h = set_first t (k * row_length + 2) r (omega arith)
 module _ (t : List ℕ) (m r : ℕ) (from : 0 < r) where
   pub set-endorsed-first : SameFirst t (set_endorsed t m r)
   unfolding set_endorsed
-  set-endorsed-first = set_first t (r * row_length + 1) (add (endorsed_set t r) m) (omega arith)
+  set-endorsed-first = set_first t (r * row_length + 1) (insert (endorsed_set t r) m) (omega arith)
 
   pub clear-held-first : SameFirst t (clear_held t m r)
   unfolding clear_held set_held
-  clear-held-first = set_first t (r * row_length) (del (held_set t r) m) (omega arith)
+  clear-held-first = set_first t (r * row_length) (remove (held_set t r) m) (omega arith)
 
   pub clear-endorsed-first : SameFirst t (clear_endorsed t m r)
   unfolding clear_endorsed
-  clear-endorsed-first = set_first t (r * row_length + 1) (del (endorsed_set t r) m) (omega arith)
+  clear-endorsed-first = set_first t (r * row_length + 1) (remove (endorsed_set t r) m) (omega arith)
 
 pub put_first : (t : List ℕ) (p : Content) (d : ℕ) → Within t p.author p.round → 0 < p.round → SameFirst t (put_certificate t p d)
 unfolding put_certificate put_record record_of put_transaction
@@ -122,7 +122,7 @@ put_first t p d at h =
     let b = record_start p.author p.round in
     let w = record_of p d in
     let u = paste t b w record_length in
-    same_then t u (put_certificate t p d) (λ j l. paste-below t b w record_length (omega arith) refl j (omega arith)) (set_first u (p.round * row_length) (add (held_set t p.round) p.author) (omega arith))
+    same_then t u (put_certificate t p d) (λ j l. paste-below t b w record_length (omega arith) refl j (omega arith)) (set_first u (p.round * row_length) (insert (held_set t p.round) p.author) (omega arith))
 
 -- a cleared table has nothing there
 pub cleared-first : (t : List ℕ) (n j : ℕ) → j < row_length → get_or (clear_used t n) j 0 ≡ 0

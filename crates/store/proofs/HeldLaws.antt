@@ -1,9 +1,8 @@
 -- What the table says after a certificate is held no more, and that it is as it was when the certificate is held again.
-use Rattle.std.proofs.Common.{◌≡◌, refl, ◌∙◌, Bool, true, false, cond, List, ◌≢◌, ℕ, ◌+◌, ◌*◌, ◌<◌, arith, length, get_or, length-set, get_or-set_same, get_or-set_other, ext_get_or}
-use mathlib.Core.Option.{none, some}
+use Rattle.std.proofs.Common.{◌≡◌, refl, ◌∙◌, Bool, true, false, cond, List, ◌≢◌, ℕ, ◌+◌, ◌*◌, ◌<◌, arith, length, get_or, length-set, get_or-set_same, get_or-set_other, ext_get_or, Some, None}
 use native.Mathlib.Decide.{ℕ_discrete}
-use Rattle.base.specs.Sets.{del}
-use Rattle.base.proofs.SetLaws.{del-le}
+use Rattle.base.specs.Sets.{remove}
+use Rattle.base.proofs.SetLaws.{remove_le}
 use Rattle.store.specs.Table.{row_length, record_length, record_start, Row, held_set, endorsed_set, block_round, held_at, record_word, previous_at, mark_at, content_at, certificate_at}
 use Rattle.store.proofs.TableLaws.{held-member}
 use Rattle.store.specs.Writes.{set_held, clear_held}
@@ -71,30 +70,30 @@ held-again t q x h =
 module _ (t : List ℕ) (a q : ℕ) (row : Row t q) where
   pub clear-held : OnlyHeld q t (clear_held t a q)
   unfolding clear_held
-  clear-held = set-held t q (del (held_set t q) a)
+  clear-held = set-held t q (remove (held_set t q) a)
 
-  held-set-clear : held_set (clear_held t a q) q ≡ del (held_set t q) a
+  held-set-clear : held_set (clear_held t a q) q ≡ remove (held_set t q) a
   unfolding clear_held
-  held-set-clear = held-now t q (del (held_set t q) a) row
+  held-set-clear = held-now t q (remove (held_set t q) a) row
 
   -- the places held then
   pub held-clear : (m r : ℕ) → held_at (clear_held t a q) m r ≡ cond (same_place m r a q) false (held_at t m r)
   unfolding held_at
   held-clear m r = in_removed (held_set t) (held_set (clear_held t a q)) a q held-set-clear (held-set-other clear-held) m r
 
-  pub held-clear_lt : (r : ℕ) → held_set t r < 65536 → held_set (clear_held t a q) r < 65536
-  held-clear_lt r = by (ℕ_discrete r q)
+  pub held_clear_lt : (r : ℕ) → held_set t r < 65536 → held_set (clear_held t a q) r < 65536
+  held_clear_lt r = by (ℕ_discrete r q)
     where
       by : Dec (r ≡ q) → held_set t r < 65536 → held_set (clear_held t a q) r < 65536
-      by (yes e) h = rw (e, held-set-clear) (let k : held_set t q < 65536 = rw e at h in omega (arith, del-le a (held_set t q)))
+      by (yes e) h = rw (e, held-set-clear) (let k : held_set t q < 65536 = rw e at h in omega (arith, remove_le a (held_set t q)))
       by (no n) h = rw (held-set-other clear-held r n) h
 
   -- the certificates held then
-  pub certificate-clear : (m r : ℕ) → certificate_at (clear_held t a q) m r ≡ cond (same_place m r a q) none (certificate_at t m r)
+  pub certificate-clear : (m r : ℕ) → certificate_at (clear_held t a q) m r ≡ cond (same_place m r a q) None (certificate_at t m r)
   unfolding certificate_at
   certificate-clear m r = rw (held-clear m r) (go (same_place m r a q) (held_at t m r) refl)
     where
-      go : (b c : Bool) → held_at t m r ≡ c → cond (cond b false c) (some (content_at (clear_held t a q) m r)) none ≡ cond b none (cond c (some (content_at t m r)) none)
+      go : (b c : Bool) → held_at t m r ≡ c → cond (cond b false c) (Some (content_at (clear_held t a q) m r)) None ≡ cond b None (cond c (Some (content_at t m r)) None)
       go true c h = refl
       go false false h = refl
       go false true h = rw (content-held clear-held m r (held-member t m r h)) refl

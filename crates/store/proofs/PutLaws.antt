@@ -1,7 +1,6 @@
 -- What the table says after a certificate is put.
-use Rattle.std.proofs.Common.{◌≡◌, refl, ◌∙◌, Bool, true, false, cond, ◌||◌, List, ◌≢◌, ℕ, zero, suc, ◌+◌, ◌*◌, ◌%◌, ◌<◌, ◌≤◌, arith, length, get_or, drop, ext_get_or, le-ltb}
-use mathlib.Core.Option.{some}
-use Rattle.base.specs.Sets.{add}
+use Rattle.std.proofs.Common.{◌≡◌, refl, ◌∙◌, Bool, true, false, cond, ◌||◌, List, ◌≢◌, ℕ, zero, suc, ◌+◌, ◌*◌, ◌%◌, ◌<◌, ◌≤◌, arith, length, get_or, drop, ext_get_or, le-ltb, Some}
+use Rattle.base.specs.Sets.{insert}
 use Rattle.base.specs.Folds.{tab}
 use Rattle.base.proofs.FoldLaws.{tab-same, length-tab, get_d_tab}
 use Rattle.terms.specs.declared.Transaction.{Transaction}
@@ -81,7 +80,7 @@ module _ (t : List ℕ) (p : Content) (d : ℕ) (at : Within t p.author p.round)
       let z = record_triple p d k h in
       rw (word-at-place (transaction_start k) (omega arith), word-at-place (transaction_start k + 1) (omega arith), word-at-place (transaction_start k + 2) (omega arith), z.0, z.1, z.2) refl
 
-  pub held-set-put-same : held_set (put_certificate t p d) p.round ≡ add (held_set t p.round) p.author
+  pub held-set-put-same : held_set (put_certificate t p d) p.round ≡ insert (held_set t p.round) p.author
   unfolding put_certificate
   held-set-put-same = held-set-put t p.author p.round (record_of p d) at (length_record p d)
 
@@ -146,10 +145,10 @@ module _ (t : List ℕ) (p : Content) (d : ℕ) (at : Within t p.author p.round)
         rw (previous-put, count-put, e) refl
 
     -- the certificates held after
-    pub certificate-put : (m r : ℕ) → certificate_at (put_certificate t p d) m r ≡ cond (same_place m r p.author p.round) (some p) (certificate_at t m r)
+    pub certificate-put : (m r : ℕ) → certificate_at (put_certificate t p d) m r ≡ cond (same_place m r p.author p.round) (Some p) (certificate_at t m r)
     certificate-put m r = by (same_place m r p.author p.round) refl
       where
-        by : (b : Bool) → same_place m r p.author p.round ≡ b → certificate_at (put_certificate t p d) m r ≡ cond b (some p) (certificate_at t m r)
+        by : (b : Bool) → same_place m r p.author p.round ≡ b → certificate_at (put_certificate t p d) m r ≡ cond b (Some p) (certificate_at t m r)
         by true e =
             let z = same_place_parts m r p.author p.round e in
             certificate-present (put_certificate t p d) m r (rw (held-put m r, e) refl)

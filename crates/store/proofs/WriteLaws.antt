@@ -1,14 +1,13 @@
 -- Which words the store's writes change, and which words a read looks at.
-use Rattle.std.proofs.Common.{◌≡◌, refl, sym, ◌∙◌, Bool, true, false, not, cond, ◌&&◌, ◌||◌, true≢false, List, ⊎_elim, ◌⊎◌, inl, inr, ◌≢◌, ℕ, ◌+◌, ◌*◌, ◌%◌, ◌<◌, ◌≤◌, arith, eqb, length, get_or, drop, length-set, length-drop, get_or-set_same, get_or-set_other, ext_get_or, get_or-drop, eq-eqb, ne_eqb, eqb-true}
+use Rattle.std.proofs.Common.{◌≡◌, refl, sym, ◌∙◌, Bool, true, false, not, cond, ◌&&◌, ◌||◌, true≢false, List, ⊎_elim, ◌⊎◌, inl, inr, ◌≢◌, ℕ, ◌+◌, ◌*◌, ◌%◌, ◌<◌, ◌≤◌, arith, eqb, length, get_or, drop, length-set, length-drop, get_or-set_same, get_or-set_other, ext_get_or, get_or-drop, eq-eqb, ne_eqb, eqb-true, Some, None}
 use mathlib.Core.Bool.{and-true, and-false}
-use mathlib.Core.Option.{none, some}
 use native.Mathlib.Decide.{dec_lt, ℕ_discrete}
 use lib.Seq.{paste, length-paste}
 use Rattle.base.proofs.Bools.{both, eqb_flip}
 use Rattle.base.specs.Folds.{tab}
 use Rattle.base.proofs.FoldLaws.{tab-same}
-use Rattle.base.specs.Sets.{is_in, add, del}
-use Rattle.base.proofs.SetLaws.{in_add, in_del}
+use Rattle.base.specs.Sets.{contains, insert, remove}
+use Rattle.base.proofs.SetLaws.{in_insert, in_remove}
 use Rattle.base.proofs.PasteLaws.{paste-below, paste-inside, paste-above}
 use Rattle.store.specs.Table.{row_length, head_length, record_length, record_start, transaction_start, Within, held_set, held_at, record_word, previous_at, count_at, endorsers_at, transaction_at, content_at, certificate_at}
 use Rattle.store.proofs.TableLaws.{count_le, held-member}
@@ -28,23 +27,23 @@ pub other_place : (m r a q : ℕ) → same_place m r a q ≡ false → m ≡ a �
 other_place m r a q e x y = absurd (true≢false (sym (rw (eq-eqb m a x, eq-eqb r q y) refl) ∙ e))
 
 -- where a row's set gets one member more, one place more is in
-pub in_added : (s s' : ℕ → ℕ) (a q : ℕ) → a < 16 → s' q ≡ add (s q) a → ((r : ℕ) → r ≢ q → s' r ≡ s r) → (m r : ℕ) → is_in (s' r) m ≡ (same_place m r a q || is_in (s r) m)
+pub in_added : (s s' : ℕ → ℕ) (a q : ℕ) → a < 16 → s' q ≡ insert (s q) a → ((r : ℕ) → r ≢ q → s' r ≡ s r) → (m r : ℕ) → contains (s' r) m ≡ (same_place m r a q || contains (s r) m)
 in_added s s' a q h e k m r = by (ℕ_discrete r q)
   where
-    by : Dec (r ≡ q) → is_in (s' r) m ≡ (same_place m r a q || is_in (s r) m)
-    by (yes x) = rw (x, e, in_add (s q) a m h, eq-eqb q q refl, and-true (eqb m a), eqb_flip a m) refl
+    by : Dec (r ≡ q) → contains (s' r) m ≡ (same_place m r a q || contains (s r) m)
+    by (yes x) = rw (x, e, in_insert (s q) a m h, eq-eqb q q refl, and-true (eqb m a), eqb_flip a m) refl
     by (no n) = rw (k r n, ne_eqb r q n, and-false (eqb m a)) refl
 
 -- where it gets one less, that place is out
-pub in_removed : (s s' : ℕ → ℕ) (a q : ℕ) → s' q ≡ del (s q) a → ((r : ℕ) → r ≢ q → s' r ≡ s r) → (m r : ℕ) → is_in (s' r) m ≡ cond (same_place m r a q) false (is_in (s r) m)
+pub in_removed : (s s' : ℕ → ℕ) (a q : ℕ) → s' q ≡ remove (s q) a → ((r : ℕ) → r ≢ q → s' r ≡ s r) → (m r : ℕ) → contains (s' r) m ≡ cond (same_place m r a q) false (contains (s r) m)
 in_removed s s' a q e k m r = by (ℕ_discrete r q)
   where
     off : (b c : Bool) → (not b && c) ≡ cond b false c
     off true c = refl
     off false c = refl
 
-    by : Dec (r ≡ q) → is_in (s' r) m ≡ cond (same_place m r a q) false (is_in (s r) m)
-    by (yes x) = rw (x, e, in_del (s q) a m, eq-eqb q q refl, and-true (eqb m a), eqb_flip a m) (off (eqb m a) (is_in (s q) m))
+    by : Dec (r ≡ q) → contains (s' r) m ≡ cond (same_place m r a q) false (contains (s r) m)
+    by (yes x) = rw (x, e, in_remove (s q) a m, eq-eqb q q refl, and-true (eqb m a), eqb_flip a m) (off (eqb m a) (contains (s q) m))
     by (no n) = rw (k r n, ne_eqb r q n, and-false (eqb m a)) refl
 
 -- the words of a record other than its mark make what it tells
@@ -78,7 +77,7 @@ pub certificate-same : (t u : List ℕ) (m r : ℕ) → held_at u m r ≡ held_a
 unfolding certificate_at
 certificate-same t u m r h e = rw h (go (held_at t m r) refl)
   where
-    go : (b : Bool) → held_at t m r ≡ b → cond b (some (content_at u m r)) none ≡ cond b (some (content_at t m r)) none
+    go : (b : Bool) → held_at t m r ≡ b → cond b (Some (content_at u m r)) None ≡ cond b (Some (content_at t m r)) None
     go false k = refl
     go true k = rw (content-same t u m r (e (held-member t m r k))) refl
 
@@ -113,25 +112,25 @@ apart m r m' r' h h' n = by (ℕ_discrete r' r)
 module _ (t : List ℕ) (m r : ℕ) (w : List ℕ) (at : Within t m r) (lw : length w ≡ record_length) where
   pub length_record_put : length (put_record t m r w) ≡ length t
   unfolding put_record
-  length_record_put = length-set (paste t (record_start m r) w record_length) (r * row_length) (add (held_set t r) m) ∙ length-paste t (record_start m r) w record_length (omega arith) (omega arith)
+  length_record_put = length-set (paste t (record_start m r) w record_length) (r * row_length) (insert (held_set t r) m) ∙ length-paste t (record_start m r) w record_length (omega arith) (omega arith)
 
   -- a word below or above the record that is not the row's held set is as it was
   put-below : (j : ℕ) → j ≢ r * row_length → j < record_start m r → get_or (put_record t m r w) j 0 ≡ get_or t j 0
   unfolding put_record
   put-below j n h =
-      get_or-set_other (paste t (record_start m r) w record_length) (r * row_length) j (add (held_set t r) m) 0 n
+      get_or-set_other (paste t (record_start m r) w record_length) (r * row_length) j (insert (held_set t r) m) 0 n
       ∙ paste-below t (record_start m r) w record_length (omega arith) lw j h
 
   pub put-above : (j : ℕ) → record_start m r + record_length ≤ j → get_or (put_record t m r w) j 0 ≡ get_or t j 0
   unfolding put_record
   put-above j h =
-      get_or-set_other (paste t (record_start m r) w record_length) (r * row_length) j (add (held_set t r) m) 0 (omega arith)
+      get_or-set_other (paste t (record_start m r) w record_length) (r * row_length) j (insert (held_set t r) m) 0 (omega arith)
       ∙ paste-above t (record_start m r) w record_length (omega arith) lw j (omega arith)
 
   pub word-put : (k : ℕ) → k < record_length → record_word (put_record t m r w) m r k ≡ get_or w k 0
   unfolding put_record record_word
   word-put k h =
-      get_or-set_other (paste t (record_start m r) w record_length) (r * row_length) (record_start m r + k) (add (held_set t r) m) 0 (omega arith)
+      get_or-set_other (paste t (record_start m r) w record_length) (r * row_length) (record_start m r + k) (insert (held_set t r) m) 0 (omega arith)
       ∙ paste-inside t (record_start m r) w record_length (omega arith) lw k h
 
   pub word_kept : (m' r' k : ℕ) → m' < 16 → k < record_length → (m' ≡ m → r' ≡ r → ⊥) → record_word (put_record t m r w) m' r' k ≡ record_word t m' r' k
@@ -140,10 +139,10 @@ module _ (t : List ℕ) (m r : ℕ) (w : List ℕ) (at : Within t m r) (lw : len
       ⊎_elim (λ z. put-below (record_start m' r' + k) (omega arith) (omega arith)) (λ z. put-above (record_start m' r' + k) (omega arith))
       (apart m r m' r' at.member h n)
 
-  pub held-set-put : held_set (put_record t m r w) r ≡ add (held_set t r) m
+  pub held-set-put : held_set (put_record t m r w) r ≡ insert (held_set t r) m
   unfolding put_record held_set
   held-set-put = let l = length-paste t (record_start m r) w record_length (omega arith) (omega arith) in
-      get_or-set_same (paste t (record_start m r) w record_length) (r * row_length) (add (held_set t r) m) 0 (omega arith)
+      get_or-set_same (paste t (record_start m r) w record_length) (r * row_length) (insert (held_set t r) m) 0 (omega arith)
 
   -- a word of a row's head, except the held set of the row itself
   pub put-head : (j : ℕ) → j % row_length < head_length → j ≢ r * row_length → get_or (put_record t m r w) j 0 ≡ get_or t j 0

@@ -7,108 +7,112 @@ ghost use Rattle.terms.specs.Proposals.{content_of, transactions_of};
 ghost use Rattle.store.specs.Table.{record_length, Within, Row};
 ghost use Rattle.store.specs.Writes.{put_transaction, record_of, put_certificate, set_endorsed, set_held, set_mark, set_block};
 
-use crate::lengths::{FIRST, HEAD, RECORD, ROW, TRANSACTION};
+use crate::lengths::{RECORD, TRANSACTION};
+use crate::places::{
+    RECORD_BLOCK, RECORD_COUNT, RECORD_ENDORSERS, RECORD_PREVIOUS, RECORD_TRANSACTIONS, ROW_BLOCK,
+    ROW_ENDORSED, record_start, row_start,
+};
 use terms::{Body, Member, Proposal, Round, Transaction};
 
-// Slot k of a body, nothing beyond its transactions.
+// Slot `index` of a body, nothing beyond its transactions.
 #[tactic(auto, using(crate::proofs::RecordLaws::nth_slot), unfolding(terms::specs::Proposals::slot_of))]
-fn slot(b: Body, k: u32) -> Transaction
-    requires { (k < 4) × (b.count ≤ 4) }
-    ensures { result ≡ get_or (transactions_of b) k no_transaction }
+fn slot(body: Body, index: u32) -> Transaction
+    requires { (index < 4) × (body.count ≤ 4) }
+    ensures { result ≡ get_or (transactions_of body) index no_transaction }
 {
-    if k < b.count {
-        b.slots[k as usize]
+    if index < body.count {
+        body.slots[index as usize]
     } else {
         Transaction::Bond(Member(0), 0)
     }
 }
 
-// A transaction as the three words of slot k.
+// A transaction as the three words of slot `index`.
 #[tactic(auto, unfolding(crate::specs::Writes::put_transaction))]
-fn put_transaction(mut w: [u32; RECORD], k: u32, x: Transaction) -> [u32; RECORD]
-    requires { k < 4 }
-    ensures { result ≡ put_transaction w k x }
+fn put_transaction(mut words: [u32; RECORD], index: u32, transaction: Transaction) -> [u32; RECORD]
+    requires { index < 4 }
+    ensures { result ≡ put_transaction words index transaction }
 {
-    let at = (FIRST + k * TRANSACTION) as usize;
-    w[at] = terms::kind(x);
-    w[at + 1] = terms::number(x);
-    w[at + 2] = terms::amount(x);
-    w
+    let at = (RECORD_TRANSACTIONS + index * TRANSACTION) as usize;
+    words[at] = terms::kind(transaction);
+    words[at + 1] = terms::number(transaction);
+    words[at + 2] = terms::amount(transaction);
+    words
 }
 
 // The record of a certificate, in no block.
 #[tactic(auto, using(crate::proofs::RecordLaws::counted), unfolding(crate::specs::Writes::record_of, crate::specs::Table::nth_of))]
-fn record_of(p: Proposal, endorsers: u16) -> [u32; RECORD]
-    requires { p.body.count ≤ 4 }
-    ensures { result ≡ record_of (content_of p) endorsers }
+fn record_of(proposal: Proposal, endorsers: u16) -> [u32; RECORD]
+    requires { proposal.body.count ≤ 4 }
+    ensures { result ≡ record_of (content_of proposal) endorsers }
 {
-    let b = p.body;
-    let mut w = [0u32; RECORD];
-    w[0] = b.previous as u32;
-    w[1] = b.count;
-    w[3] = endorsers as u32;
-    let w = put_transaction(w, 0, slot(b, 0));
-    let w = put_transaction(w, 1, slot(b, 1));
-    let w = put_transaction(w, 2, slot(b, 2));
-    put_transaction(w, 3, slot(b, 3))
+    let body = proposal.body;
+    let mut words = [0u32; RECORD];
+    words[RECORD_PREVIOUS as usize] = body.previous as u32;
+    words[RECORD_COUNT as usize] = body.count;
+    words[RECORD_ENDORSERS as usize] = endorsers as u32;
+    let words = put_transaction(words, 0, slot(body, 0));
+    let words = put_transaction(words, 1, slot(body, 1));
+    let words = put_transaction(words, 2, slot(body, 2));
+    put_transaction(words, 3, slot(body, 3))
 }
 
-// Stores a record from b on.
-fn put_words(t: &mut [u32], b: usize, w: [u32; RECORD])
-    requires { b + record_length ≤ length t.old }
-    ensures { t.new ≡ paste t.old b w record_length }
+// Stores a record from `at` on.
+fn put_words(table: &mut [u32], at: usize, words: [u32; RECORD])
+    requires { at + record_length ≤ length table.old }
+    ensures { table.new ≡ paste table.old at words record_length }
 {
-    t[b..b + RECORD].copy_from_slice(&w);
+    table[at..at + RECORD].copy_from_slice(&words);
 }
 
 /// Puts a certificate of at most four transactions at its place with its endorsers, in no block. It is held from then on.
 #[tactic(auto, unfolding(crate::specs::Writes::put_certificate, crate::specs::Writes::put_record, crate::specs::Table::held_set))]
-pub fn put_certificate(t: &mut [u32], p: Proposal, endorsers: u16)
-    requires { Within t.old p.author.0 p.round.0 × (p.body.count ≤ 4) }
-    ensures { t.new ≡ put_certificate t.old (content_of p) endorsers }
+pub fn put_certificate(table: &mut [u32], proposal: Proposal, endorsers: u16)
+    requires { Within table.old proposal.author.0 proposal.round.0 × (proposal.body.count ≤ 4) }
+    ensures { table.new ≡ put_certificate table.old (content_of proposal) endorsers }
 {
-    let m = p.author.0;
-    let at = p.round.0 as usize * ROW;
-    let place = at + m as usize * RECORD + HEAD;
-    let w = record_of(p, endorsers);
-    let held = base::with(t[at], m);
-    put_words(t, place, w);
-    t[at] = held;
+    let author = proposal.author.0;
+    let at = row_start(proposal.round);
+    let place = record_start(proposal.author, proposal.round);
+    let words = record_of(proposal, endorsers);
+    let held = base::insert(table[at], author);
+    put_words(table, place, words);
+    table[at] = held;
 }
 
 /// Marks a place endorsed.
 #[tactic(auto, unfolding(crate::specs::Writes::set_endorsed, crate::specs::Table::endorsed_set))]
-pub fn set_endorsed(t: &mut [u32], m: Member, r: Round)
-    requires { Within t.old m.0 r.0 }
-    ensures { t.new ≡ set_endorsed t.old m.0 r.0 }
+pub fn set_endorsed(table: &mut [u32], author: Member, round: Round)
+    requires { Within table.old author.0 round.0 }
+    ensures { table.new ≡ set_endorsed table.old author.0 round.0 }
 {
-    let at = r.0 as usize * ROW + 1;
-    t[at] = base::with(t[at], m.0);
+    let at = row_start(round) + ROW_ENDORSED;
+    table[at] = base::insert(table[at], author.0);
 }
 
-/// Writes the authors whose certificates of round r are held, a bit each; their records stay as they are.
+/// Writes the authors whose certificates of `round` are held, a bit each; their records stay as they are.
 #[tactic(auto, unfolding(crate::specs::Writes::set_held))]
-pub fn set_held(t: &mut [u32], r: Round, authors: u32)
-    requires { Row t.old r.0 }
-    ensures { t.new ≡ set_held t.old r.0 authors }
+pub fn set_held(table: &mut [u32], round: Round, authors: u32)
+    requires { Row table.old round.0 }
+    ensures { table.new ≡ set_held table.old round.0 authors }
 {
-    t[r.0 as usize * ROW] = authors;
+    table[row_start(round)] = authors;
 }
 
-/// Puts the certificate of a place into block b, 0 for none.
+/// Puts the certificate of a place into `block`, 0 for none.
 #[tactic(auto, unfolding(crate::specs::Writes::set_mark))]
-pub fn set_mark(t: &mut [u32], m: Member, r: Round, b: u32)
-    requires { Within t.old m.0 r.0 }
-    ensures { t.new ≡ set_mark t.old m.0 r.0 b }
+pub fn set_mark(table: &mut [u32], author: Member, round: Round, block: u32)
+    requires { Within table.old author.0 round.0 }
+    ensures { table.new ≡ set_mark table.old author.0 round.0 block }
 {
-    t[r.0 as usize * ROW + m.0 as usize * RECORD + HEAD + 2] = b;
+    table[record_start(author, round) + RECORD_BLOCK as usize] = block;
 }
 
-/// Writes that block k has the round r.
+/// Writes that `block` has this round.
 #[tactic(auto, unfolding(crate::specs::Writes::set_block))]
-pub fn set_block(t: &mut [u32], k: u32, r: Round)
-    requires { Row t.old k }
-    ensures { t.new ≡ set_block t.old k r.0 }
+pub fn set_block(table: &mut [u32], block: u32, round: Round)
+    requires { Row table.old block }
+    ensures { table.new ≡ set_block table.old block round.0 }
 {
-    t[k as usize * ROW + 2] = r.0;
+    table[row_start(Round(block)) + ROW_BLOCK] = round.0;
 }

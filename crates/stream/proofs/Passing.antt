@@ -43,9 +43,9 @@ module _ {E P : Type 0} (after : E → Option (List ℕ) → E) (answer : E → 
       → Next talk (answers after answer e a.found) failed l p k.here p On
   next-full k p {e = e} {x = x} {y = y} a b r w i = full w i refl (let f = a.full refl in let n : y.bytes ≡ answers after answer e a.found = a.bytes ∙ ap (λ (z : List ℕ). z ++ answers after answer e a.found) b in omega (arith, f, a.room, r, ap length n))
 
-  pub pass-done : {wanted : Wanted} {e e₁ : E} (h k : Held) {l : AtHand} {p p₁ q : P} {x y : Put} {put : List ℕ} {failed : Option Error} {passed : Passed} (a : Answered after answer most wanted e h.here e₁ l x y) → x.bytes ≡ [] → put ≡ y.bytes
+  pub pass_done : {wanted : Wanted} {e e₁ : E} (h k : Held) {l : AtHand} {p p₁ q : P} {x y : Put} {put : List ℕ} {failed : Option Error} {passed : Passed} (a : Answered after answer most wanted e h.here e₁ l x y) → x.bytes ≡ [] → put ≡ y.bytes
       → HandedOut talk p put failed p₁ → k.size ≡ h.size → Next talk (answers after answer e a.found) failed l p₁ k.here q passed → PassDone after answer most talk e h p e₁ k q passed
-  pass-done {e = e} h k {l = l} {p = p} {p₁ = p₁} {failed = failed} a b c g n z = record {
+  pass_done {e = e} h k {l = l} {p = p} {p₁ = p₁} {failed = failed} a b c g n z = record {
     found = a.found;
     left = l;
     finds = a.finds;

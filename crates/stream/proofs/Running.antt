@@ -139,9 +139,9 @@ module _ {E P : Type 0} (after : E → Option (List ℕ) → E) (answer : E → 
       count : failed ≡ None → n + put ≤ length (since start events).read + length (since start events).written
       reached : Reached after answer e₀ (since start events) e
 
-    pass-answered : {p₀ p q : P} {e e₁ : E} {h h₁ : AtHand} {n : ℕ} {failed : Option Error} (found : List (Option (List ℕ))) → Between p₀ e h p n → Found after answer found e h e₁ h₁
+    pass_answered : {p₀ p q : P} {e e₁ : E} {h h₁ : AtHand} {n : ℕ} {failed : Option Error} (found : List (Option (List ℕ))) → Between p₀ e h p n → Found after answer found e h e₁ h₁
         → HandedOut talk p (answers after answer e found) failed q → Answered p₀ e₁ h₁ q n (length (answers after answer e found)) failed
-    pass-answered {p₀} {p} {q} {e} {e₁} {h} {h₁} {n} {failed} f b m g =
+    pass_answered {p₀} {p} {q} {e} {e₁} {h} {h₁} {n} {failed} f b m g =
         let s = since start b.events in
         let put = answers after answer e f in
         let finds : (over : Bool) (more : List ℕ) → due over (s.read ++ more) ≡ (b.found ++ f) ++ left over h₁ more = λ over more. b.finds over more ∙ ap (λ (l : List (Option (List ℕ))). b.found ++ l) (m.whole over more) ∙ sym (append_assoc b.found f (left over h₁ more)) in
@@ -195,14 +195,14 @@ module _ {E P : Type 0} (after : E → Option (List ℕ) → E) (answer : E → 
           reading = a.reading;
         }
 
-    pub pass-on : {most : E → ℕ} {p₀ p q : P} {e e₁ : E} {h h₁ : Held} {n : ℕ} → Between p₀ e h.here p n → PassDone after answer most talk e h p e₁ h₁ q On → Between p₀ e₁ h₁.here q (n + 1)
-    pass-on {p₀ = p₀} {p = p} {q = q} {e = e} {e₁ = e₁} {h₁ = h₁} {n = n} b d = go d.next
+    pub pass_on : {most : E → ℕ} {p₀ p q : P} {e e₁ : E} {h h₁ : Held} {n : ℕ} → Between p₀ e h.here p n → PassDone after answer most talk e h p e₁ h₁ q On → Between p₀ e₁ h₁.here q (n + 1)
+    pass_on {p₀ = p₀} {p = p} {q = q} {e = e} {e₁ = e₁} {h₁ = h₁} {n = n} b d = go d.next
       where
         put : List ℕ
         put = answers after answer e d.found
 
         a : Answered p₀ e₁ d.left d.between n (length put) d.failed
-        a = pass-answered d.found b d.finds d.handed
+        a = pass_answered d.found b d.finds d.handed
 
         s : SoFar
         s = since start a.events
@@ -245,14 +245,14 @@ module _ {E P : Type 0} (after : E → Option (List ℕ) → E) (answer : E → 
                   omega (arith, k, m, r, v);
             })
 
-    pub pass-lost : {most : E → ℕ} {p₀ p q : P} {e e₁ : E} {h h₁ : Held} {n : ℕ} {why : Error} → Between p₀ e h.here p n → PassDone after answer most talk e h p e₁ h₁ q (Lost why) → Ran after answer e₀ talk e₁ p₀ q (WriteFailed why)
-    pass-lost {p₀ = p₀} {q = q} {e = e} {e₁ = e₁} {h₁ = h₁} {n = n} {why = why} b d = go d.next
+    pub pass_lost : {most : E → ℕ} {p₀ p q : P} {e e₁ : E} {h h₁ : Held} {n : ℕ} {why : Error} → Between p₀ e h.here p n → PassDone after answer most talk e h p e₁ h₁ q (Lost why) → Ran after answer e₀ talk e₁ p₀ q (WriteFailed why)
+    pass_lost {p₀ = p₀} {q = q} {e = e} {e₁ = e₁} {h₁ = h₁} {n = n} {why = why} b d = go d.next
       where
         put : List ℕ
         put = answers after answer e d.found
 
         a : Answered p₀ e₁ d.left d.between n (length put) d.failed
-        a = pass-answered d.found b d.finds d.handed
+        a = pass_answered d.found b d.finds d.handed
 
         go : Next talk put d.failed d.left d.between h₁.here q (Lost why) → Ran after answer e₀ talk e₁ p₀ q (WriteFailed why)
         go (lost _ w x y) = rw y (record { events = a.events; talked = a.talked; follows = a.follows; ends = record { partly = a.partly; lost = a.lost ∙ w; reached = a.reached } })
@@ -321,14 +321,14 @@ module _ {E P : Type 0} (after : E → Option (List ℕ) → E) (answer : E → 
           finds = ap (λ (u : SoFar). due true u.read) i ∙ ap (due true) (sym (append-nil s.read)) ∙ a.finds true [] ∙ ap (λ (l : List (Option (List ℕ))). a.found ++ l) (begun-left h z);
         }
 
-    pub pass-over : {most : E → ℕ} {p₀ p q : P} {e e₁ : E} {h h₁ : Held} {n : ℕ} → Between p₀ e h.here p n → PassDone after answer most talk e h p e₁ h₁ q Over → LastRead p₀ e₁ h₁.here q None
-    pass-over {p₀ = p₀} {q = q} {e = e} {e₁ = e₁} {h₁ = h₁} {n = n} b d = go d.next
+    pub pass_over : {most : E → ℕ} {p₀ p q : P} {e e₁ : E} {h h₁ : Held} {n : ℕ} → Between p₀ e h.here p n → PassDone after answer most talk e h p e₁ h₁ q Over → LastRead p₀ e₁ h₁.here q None
+    pass_over {p₀ = p₀} {q = q} {e = e} {e₁ = e₁} {h₁ = h₁} {n = n} b d = go d.next
       where
         put : List ℕ
         put = answers after answer e d.found
 
         a : Answered p₀ e₁ d.left d.between n (length put) d.failed
-        a = pass-answered d.found b d.finds d.handed
+        a = pass_answered d.found b d.finds d.handed
 
         s : SoFar
         s = since start a.events
@@ -336,14 +336,14 @@ module _ {E P : Type 0} (after : E → Option (List ℕ) → E) (answer : E → 
         go : Next talk put d.failed d.left d.between h₁.here q Over → LastRead p₀ e₁ h₁.here q None
         go (at_end w z x t) = rw x (last-read a None (came []) (λ m. m) (ap (λ (l : List ℕ). record { read = l; written = s.written; flushed = s.flushed; over = true; cut = None; lost = s.lost }) (append-nil s.read)) w z t)
 
-    pub pass-cut : {most : E → ℕ} {p₀ p q : P} {e e₁ : E} {h h₁ : Held} {n : ℕ} {why : Error} → Between p₀ e h.here p n → PassDone after answer most talk e h p e₁ h₁ q (Cut why) → LastRead p₀ e₁ h₁.here q (Some why)
-    pass-cut {p₀ = p₀} {q = q} {e = e} {e₁ = e₁} {h₁ = h₁} {n = n} {why = why} b d = go d.next
+    pub pass_cut : {most : E → ℕ} {p₀ p q : P} {e e₁ : E} {h h₁ : Held} {n : ℕ} {why : Error} → Between p₀ e h.here p n → PassDone after answer most talk e h p e₁ h₁ q (Cut why) → LastRead p₀ e₁ h₁.here q (Some why)
+    pass_cut {p₀ = p₀} {q = q} {e = e} {e₁ = e₁} {h₁ = h₁} {n = n} {why = why} b d = go d.next
       where
         put : List ℕ
         put = answers after answer e d.found
 
         a : Answered p₀ e₁ d.left d.between n (length put) d.failed
-        a = pass-answered d.found b d.finds d.handed
+        a = pass_answered d.found b d.finds d.handed
 
         go : Next talk put d.failed d.left d.between h₁.here q (Cut why) → LastRead p₀ e₁ h₁.here q (Some why)
         go (cut_off w z x _ t) = rw x (last-read a (Some why) (read_failed why) (λ m. m) refl w z t)
@@ -431,7 +431,7 @@ module _ {E P : Type 0} (after : E → Option (List ℕ) → E) (answer : E → 
           by (Some why) w = rw (n, w) (finish_lost why w)
 
     pub over-finished : {most : E → ℕ} {p₀ p q r : P} {e e₁ e₂ : E} {h h₁ : Held} {n : ℕ} {result : Ended} → Between p₀ e h.here p n → PassDone after answer most talk e h p e₁ h₁ q Over → FinishDone after answer most talk e₁ h₁ q e₂ r Input result → Ran after answer e₀ talk e₂ p₀ r result
-    over-finished {result = result} b d f = finished (pass-over b d) f.handed f.state Input result (λ s x. x) f.told
+    over-finished {result = result} b d f = finished (pass_over b d) f.handed f.state Input result (λ s x. x) f.told
 
     pub cut-finished : {most : E → ℕ} {p₀ p q r : P} {e e₁ e₂ : E} {h h₁ : Held} {n : ℕ} {result : Ended} {why : Error} → Between p₀ e h.here p n → PassDone after answer most talk e h p e₁ h₁ q (Cut why) → FinishDone after answer most talk e₁ h₁ q e₂ r (ReadFailed why) result → Ran after answer e₀ talk e₂ p₀ r result
-    cut-finished {result = result} {why = why} b d f = finished (pass-cut b d) f.handed f.state (ReadFailed why) result (λ s x. x) f.told
+    cut-finished {result = result} {why = why} b d f = finished (pass_cut b d) f.handed f.state (ReadFailed why) result (λ s x. x) f.told

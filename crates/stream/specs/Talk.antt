@@ -38,17 +38,18 @@ is_none [] = true
 is_none (x ∷ l) = false
 
 abbrev pub then : SoFar → Event → SoFar
-then s (came b) = record { read = s.read ++ b; written = s.written; flushed = s.flushed; over = is_none b; cut = None; lost = s.lost }
-then s (read_failed why) = record { read = s.read; written = s.written; flushed = s.flushed; over = true; cut = Some why; lost = s.lost }
-then s (went b) = record { read = s.read; written = s.written ++ b; flushed = false; over = s.over; cut = s.cut; lost = s.lost }
-then s flushed = record { read = s.read; written = s.written; flushed = true; over = s.over; cut = s.cut; lost = s.lost }
-then s (write_failed why) = record { read = s.read; written = s.written; flushed = s.flushed; over = s.over; cut = s.cut; lost = Some why }
+then s (came b) = record s { read = s.read ++ b; over = is_none b; cut = None }
+then s (read_failed why) = record s { over = true; cut = Some why }
+then s (went b) = record s { written = s.written ++ b; flushed = false }
+then s flushed = record s { flushed = true }
+then s (write_failed why) = record s { lost = Some why }
 
 abbrev pub since : SoFar → List Event → SoFar
 since s [] = s
 since s (x ∷ l) = since (then s x) l
 
-module _ {E : Type 0} (after : E → Option (List ℕ) → E) (answer : E → Option (List ℕ) → List ℕ) (e : E) where
+module _ {E : Type 0} (after : E → Option (List ℕ) → E) (answer : E → Option (List ℕ)
+    → List ℕ) (e : E) where
   -- the answers to what came so far: to each record that has ended or is too long, and to all where no more bytes come
   abbrev pub owed : SoFar → List ℕ
   owed s = answers after answer e (due s.over s.read)
@@ -120,7 +121,8 @@ module _ {E : Type 0} (after : E → Option (List ℕ) → E) (answer : E → Op
   Ends TooLong s left = EndsOpen s left
 
   -- a whole run, and the engine that it left
-  pub record Ran {P : Type 0} (talk : P → List Event → P → Type 0) (left : E) (p q : P) (ended : Ended) : Type 0 where
+  pub record Ran {P : Type 0} (talk : P → List Event → P
+      → Type 0) (left : E) (p q : P) (ended : Ended) : Type 0 where
     pub events : List Event
     pub talked : talk p events q
     pub follows : Follows start events

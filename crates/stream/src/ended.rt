@@ -6,7 +6,7 @@ use std::io;
 use std::io::ErrorKind;
 
 /// How a run ended.
-#[derive(Clone, Copy)]
+#[derive(Debug, Clone, Copy)]
 pub enum Ended {
     /// The input came to its end, and every answer went out.
     Input,

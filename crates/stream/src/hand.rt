@@ -10,7 +10,7 @@ use std::marker::Model;
 
 /// The bytes at hand, and the memory that they lie in.
 #[derive(Drop)]
-pub struct Hand<'a> {
+pub(crate) struct Hand<'a> {
     memory: &'a mut [u8],
     count: usize,
     skipping: bool,
@@ -19,7 +19,10 @@ pub struct Hand<'a> {
 impl<'a> Model for Hand<'a> {
     ghost Value = { Held };
 
-    ghost view = { λ h. record { here = record { hand = take h.count h.memory.now; skipping = h.skipping }; size = length h.memory.now } };
+    ghost view = { λ h. record {
+      here = record { hand = take h.count h.memory.now; skipping = h.skipping };
+      size = length h.memory.now;
+    } };
 
     ghost invariant = { λ h. h.count ≤ length h.memory.now };
 }
@@ -54,7 +57,8 @@ impl<'a> Hand<'a> {
     /// Keeps the last bytes, so many, at the front of the memory. `skipping` tells whether a record that was answered goes on in them.
     pub fn keep(&mut self, count: usize, skipping: bool)
         requires { count ≤ length self.old.here.hand }
-        ensures hand { self.new.here.hand ≡ drop (length self.old.here.hand - count) self.old.here.hand }
+        ensures hand { self.new.here.hand
+            ≡ drop (length self.old.here.hand - count) self.old.here.hand }
         ensures skipping { self.new.here.skipping ≡ skipping }
         ensures size { self.new.size ≡ self.old.size }
     {

@@ -41,8 +41,8 @@ pub trait Engine {
 }
 
 /// What it takes to go on.
-#[derive(Clone, Copy)]
-pub enum Wanted {
+#[derive(Debug, Clone, Copy)]
+pub(crate) enum Wanted {
     /// More bytes: nothing at hand can be answered.
     Bytes,
     /// More room: the longest answer would not fit.
@@ -50,8 +50,13 @@ pub enum Wanted {
 }
 
 /// Serves the records at hand, until more bytes are wanted, or more room.
-pub fn answer_all<E: Engine>(engine: &mut E, records: &mut Records, out: &mut Lines) -> Wanted
-    ensures { Answered E.after E.answer E.most result engine.old records.old engine.new records.new out.old out.new }
+pub(crate) fn answer_all<E: Engine>(
+    engine: &mut E,
+    records: &mut Records,
+    out: &mut Lines,
+) -> Wanted
+    ensures { Answered E.after E.answer E.most result engine.old records.old engine.new
+        records.new out.old out.new }
 {
     while engine.most() <= out.free() {
         let Some(bytes) = records.next() else {

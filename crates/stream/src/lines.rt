@@ -9,7 +9,7 @@ use std::marker::Model;
 
 /// The lines, and the memory that they lie in: at its front, with room behind them.
 #[derive(Drop)]
-pub struct Lines<'a> {
+pub(crate) struct Lines<'a> {
     memory: &'a mut [u8],
     count: usize,
 }
@@ -48,7 +48,8 @@ impl<'a> Lines<'a> {
     /// Has the engine serve a record, and puts its answer behind what was put.
     pub fn put_answer<E: Engine>(&mut self, engine: &mut E, bytes: Option<&[u8]>)
         requires { length self.old.bytes + E.most engine.old ≤ self.old.room }
-        ensures served { Served E.after E.answer engine.old engine.new (record_now bytes.entry) self.old self.new }
+        ensures served { Served E.after E.answer engine.old engine.new (record_now bytes.entry)
+            self.old self.new }
         ensures room { self.new.room ≡ self.old.room }
         ensures most { E.most engine.new ≡ E.most engine.old }
     {

@@ -3,8 +3,8 @@
 use std::io;
 
 /// What a pass came to.
-#[derive(Clone, Copy)]
-pub enum Passed {
+#[derive(Debug, Clone, Copy)]
+pub(crate) enum Passed {
     /// It goes on.
     On,
     /// No more bytes come: at the end of the input.

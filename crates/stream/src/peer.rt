@@ -20,11 +20,11 @@ pub trait Peer {
     ghost contents: { Self → Option (List ℕ) };
 
     /// Reads bytes to the front of the buffer. Gives how many came, 0 at the end of the input; or why the read failed, which is never that a signal broke in.
-    fn read(&mut self, buf: &mut [u8]) -> io::Result<usize>
-        requires { 0 < length buf.old }
-        ensures count { IfOk result (λ n. n ≤ length buf.new) }
+    fn read(&mut self, buffer: &mut [u8]) -> io::Result<usize>
+        requires { 0 < length buffer.old }
+        ensures count { IfOk result (λ n. n ≤ length buffer.new) }
         ensures retried { IfErr result (λ why. error_kind why ≢ ErrorKind.Interrupted) }
-        ensures talks { talk self.old (read_gave result buf.new ∷ []) self.new };
+        ensures talks { talk self.old (read_gave result buffer.new ∷ []) self.new };
 
     /// Writes a first part of the bytes. Gives how many went out, one at least; or why the write failed, which is never that a signal broke in.
     fn write(&mut self, bytes: &[u8]) -> io::Result<usize>
@@ -39,13 +39,15 @@ pub trait Peer {
 
     ghost silent: { (p : Self) → talk p [] p };
 
-    ghost joined: { (p q r : Self) (l m : List Event) → talk p l q → talk q m r → talk p (l ++ m) r };
+    ghost joined: { (p q r : Self) (l m : List Event) → talk p l q → talk q m r
+        → talk p (l ++ m) r };
 
-    ghost moves: { (p q : Self) (l : List Event) → talk p l q → Moved (remaining p) (remaining q) (contents p) (contents q) l };
+    ghost moves: { (p q : Self) (l : List Event) → talk p l q
+        → Moved (remaining p) (remaining q) (contents p) (contents q) l };
 }
 
 /// Writes all of the bytes, in as many writes as it takes, and flushes. Gives why one of these failed, where one did, and then no other follows.
-pub fn hand_out<P: Peer>(peer: &mut P, bytes: &[u8]) -> io::Result<()>
+pub(crate) fn hand_out<P: Peer>(peer: &mut P, bytes: &[u8]) -> io::Result<()>
     ensures { HandedOut P.talk peer.old bytes.now (result_err result) peer.new }
 {
     let mut at = 0;

@@ -1,6 +1,7 @@
 // A whole run: pass after pass to the end of the input, in memory that is lent.
 ghost use Rattle.std.specs.Prelude.{◌≡◌, ◌≤◌, length, IfSome};
 ghost use Rattle.std.specs.Io.KnownBytes.{Appends};
+ghost use Rattle.framing.specs.declared.TheConstants.{LONGEST_ENDED};
 ghost use Rattle.framing.specs.Streams.{readables};
 ghost use Rattle.stream.specs.Answers.{Answered, after_all, answers};
 ghost use Rattle.stream.specs.Known.{AddsPart};
@@ -16,7 +17,8 @@ use crate::{Engine, Wanted, answer_all};
 
 // Answers the records at hand, and keeps the bytes that are left.
 fn answer_hand<E: Engine>(engine: &mut E, hand: &mut Hand, lines: &mut Lines) -> Wanted
-    ensures answers { Answered E.after E.answer E.most result engine.old hand.old.here engine.new hand.new.here lines.old lines.new }
+    ensures answers { Answered E.after E.answer E.most result engine.old hand.old.here engine.new
+        hand.new.here lines.old lines.new }
     ensures size { hand.new.size ≡ hand.old.size }
 {
     let mut records = hand.records();
@@ -29,9 +31,10 @@ fn answer_hand<E: Engine>(engine: &mut E, hand: &mut Hand, lines: &mut Lines) ->
 
 // Answers the records at hand and hands the answers out; only then reads more.
 fn pass<P: Peer, E: Engine>(peer: &mut P, engine: &mut E, hand: &mut Hand, out: &mut [u8]) -> Passed
-    requires buffer { 1024 ≤ hand.old.size }
+    requires buffer { LONGEST_ENDED ≤ hand.old.size }
     requires room { E.most engine.old ≤ length out.old }
-    ensures { PassDone E.after E.answer E.most P.talk engine.old hand.old peer.old engine.new hand.new peer.new result }
+    ensures { PassDone E.after E.answer E.most P.talk engine.old hand.old peer.old engine.new
+        hand.new peer.new result }
 {
     let mut lines = Lines::new(out);
     let wanted = answer_hand(engine, hand, &mut lines);
@@ -57,7 +60,8 @@ fn finish<P: Peer, E: Engine>(
     ended: Ended,
 ) -> Ended
     requires room { E.most engine.old ≤ length out.old }
-    ensures { FinishDone E.after E.answer E.most P.talk engine.old hand.now peer.old engine.new peer.new ended result }
+    ensures { FinishDone E.after E.answer E.most P.talk engine.old hand.now peer.old engine.new
+        peer.new ended result }
 {
     let mut lines = Lines::new(out);
     if hand.is_in_record() {
@@ -73,14 +77,14 @@ fn finish<P: Peer, E: Engine>(
 fn run_passes<P: Peer, E: Engine>(
     peer: &mut P,
     engine: &mut E,
-    buf: &mut [u8],
+    buffer: &mut [u8],
     out: &mut [u8],
 ) -> Ended
-    requires buffer { 1024 ≤ length buf.old }
+    requires buffer { LONGEST_ENDED ≤ length buffer.old }
     requires room { E.most engine.old ≤ length out.old }
     ensures { Ran E.after E.answer engine.old P.talk engine.new peer.old peer.new result }
 {
-    let mut hand = Hand::new(buf);
+    let mut hand = Hand::new(buffer);
     for _ in 0..u64::MAX {
         match pass(peer, engine, &mut hand, out) {
             Passed::On => {}
@@ -92,20 +96,24 @@ fn run_passes<P: Peer, E: Engine>(
     Ended::TooLong
 }
 
-/// Serves all records of the input, and hands the answers out before it reads more. `buf` is for bytes that came, `out` for answers that go out: each answer has room there. Gives how the run ended; what is out by then is a first part of the answers to what came, and all of it where the input came to its end.
+/// Serves all records of the input, and hands the answers out before it reads more. `buffer` is for bytes that came, `out` for answers that go out: each answer has room there. Gives how the run ended; what is out by then is a first part of the answers to what came, and all of it where the input came to its end.
 pub fn run<P: Peer, E: Engine>(
     peer: &mut P,
     engine: &mut E,
-    buf: &mut [u8],
+    buffer: &mut [u8],
     out: &mut [u8],
 ) -> Ended
-    requires buffer { 1024 ≤ length buf.old }
+    requires buffer { LONGEST_ENDED ≤ length buffer.old }
     requires room { E.most engine.old ≤ length out.old }
     ensures ran { Ran E.after E.answer engine.old P.talk engine.new peer.old peer.new result }
     ensures whole { result ≡ Ended.Input → IfSome (P.remaining peer.old)
-        (λ bytes. Appends (P.contents peer.old) (P.contents peer.new) (answers E.after E.answer engine.old (readables bytes))) }
-    ensures state { result ≡ Ended.Input → IfSome (P.remaining peer.old) (λ bytes. engine.new ≡ after_all E.after E.answer engine.old (readables bytes)) }
-    ensures part { AddsPart E.after E.answer engine.old (P.remaining peer.old) (P.remaining peer.new) (P.contents peer.old) (P.contents peer.new) }
+        (λ bytes. Appends (P.contents peer.old) (P.contents peer.new)
+        (answers E.after E.answer engine.old (readables bytes))) }
+    ensures state { result ≡ Ended.Input
+        → IfSome (P.remaining peer.old) (λ bytes. engine.new
+        ≡ after_all E.after E.answer engine.old (readables bytes)) }
+    ensures part { AddsPart E.after E.answer engine.old (P.remaining peer.old)
+        (P.remaining peer.new) (P.contents peer.old) (P.contents peer.new) }
 {
-    run_passes(peer, engine, buf, out)
+    run_passes(peer, engine, buffer, out)
 }

@@ -1,6 +1,7 @@
 // Any reader with any writer.
 ghost use Rattle.std.specs.Prelude.{◌≤◌, length, IfSome, IsOk};
 ghost use Rattle.std.specs.Io.KnownBytes.{Appends};
+ghost use Rattle.framing.specs.declared.TheConstants.{LONGEST_ENDED};
 ghost use Rattle.framing.specs.Streams.{readables};
 ghost use Rattle.stream.specs.Answers.{answers};
 ghost use Rattle.stream.specs.Ended.{Tells};
@@ -38,9 +39,9 @@ impl<R: Read, W: Write> Peer for Tied<R, W> {
     ghost moves = { λ p q l h. h };
 
     // Tries again where a signal broke in.
-    fn read(&mut self, buf: &mut [u8]) -> io::Result<usize> {
+    fn read(&mut self, buffer: &mut [u8]) -> io::Result<usize> {
         for _ in 0..u64::MAX {
-            match self.input.read(buf) {
+            match self.input.read(buffer) {
                 Ok(n) => return Ok(n),
                 Err(why) => {
                     if why.kind() != ErrorKind::Interrupted {
@@ -77,18 +78,21 @@ impl<R: Read, W: Write> Peer for Tied<R, W> {
 pub fn run_tied<R: Read, W: Write, E: Engine>(
     streams: &mut Tied<R, W>,
     engine: &mut E,
-    buf: &mut [u8],
+    buffer: &mut [u8],
     out: &mut [u8],
 ) -> io::Result<()>
-    requires buffer { 1024 ≤ length buf.old }
+    requires buffer { LONGEST_ENDED ≤ length buffer.old }
     requires room { E.most engine.old ≤ length out.old }
     ensures ran { (ended : Ended) × Ran E.after E.answer engine.old
-        (λ p l q. Moved (R.remaining p.input) (R.remaining q.input) (W.contents p.output) (W.contents q.output) l)
+        (λ p l q. Moved (R.remaining p.input) (R.remaining q.input) (W.contents p.output)
+        (W.contents q.output) l)
         engine.new streams.old streams.new ended × Tells ended result }
     ensures whole { IsOk result → IfSome (R.remaining streams.old.input)
-        (λ bytes. Appends (W.contents streams.old.output) (W.contents streams.new.output) (answers E.after E.answer engine.old (readables bytes))) }
-    ensures part { AddsPart E.after E.answer engine.old (R.remaining streams.old.input) (R.remaining streams.new.input)
+        (λ bytes. Appends (W.contents streams.old.output) (W.contents streams.new.output)
+        (answers E.after E.answer engine.old (readables bytes))) }
+    ensures part { AddsPart E.after E.answer engine.old (R.remaining streams.old.input)
+        (R.remaining streams.new.input)
         (W.contents streams.old.output) (W.contents streams.new.output) }
 {
-    run(streams, engine, buf, out).told()
+    run(streams, engine, buffer, out).told()
 }

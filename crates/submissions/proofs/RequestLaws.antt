@@ -1,6 +1,5 @@
 -- Laws of requests: what a caller lacking a right learns and changes, what one with it does, and what lists of requests lead to.
-use Rattle.std.proofs.Common.{◌≡◌, refl, sym, ap, ◌∙◌, Bool, true, false, cond, List, [], ◌∷◌, ◌≢◌, ℕ, eqb, eq-eqb, ne_eqb, eqb-true}
-use mathlib.Core.Option.{Option, none, some}
+use Rattle.std.proofs.Common.{◌≡◌, refl, sym, ap, ◌∙◌, Bool, true, false, cond, List, [], ◌∷◌, ◌≢◌, ℕ, eqb, eq-eqb, ne_eqb, eqb-true, Option, Some, None}
 use Rattle.base.specs.Options.{if_there}
 use Rattle.agreement.specs.Entries as entries
 use Rattle.agreement.specs.Entries.{states}
@@ -39,12 +38,12 @@ noninterference e d q c a h =
     let x = result-barred e c a n in
     let y = result-barred d c a (rw (← q) n) in
     record {
-      same-refusal = rw (x, y, q) refl;
-      same-value = rw (x, y) refl;
-      first-answers = rw x refl;
-      second-answers = rw y refl;
-      first-unchanged = rw x refl;
-      second-unchanged = rw y refl;
+      same_refusal = rw (x, y, q) refl;
+      same_value = rw (x, y) refl;
+      first_answers = rw x refl;
+      second_answers = rw y refl;
+      first_unchanged = rw x refl;
+      second_unchanged = rw y refl;
     }
 
 -- ---- what is left
@@ -60,7 +59,7 @@ left_by e (host x) = host-left e x
 left_by e (guest c a) = go (eqb (caller_number e c a) 0)
   where
     go : (b : Bool) → (cond b (host_result e (submitted_by c a)) (refused_with e (submitted_by c a) (caller_number e c a))).engine
-        ≡ if_there (cond b (some (submitted_by c a)) none) e (after_submission e)
+        ≡ if_there (cond b (Some (submitted_by c a)) None) e (after_submission e)
     go true = host-left e (submitted_by c a)
     go false = refl
 
@@ -69,8 +68,8 @@ pub requests_lead_to : (e : Engine) → Reached e → (x : Request) → InRangeT
 requests_lead_to e r x i = rw (left_by e x) (go (submission_of e x) i)
   where
     go : (o : Option Submission) → InRangeThen e o → Reached (if_there o e (after_submission e))
-    go none i = r
-    go (some s) i = batches_lead_to e r s i
+    go None i = r
+    go (Some s) i = batches_lead_to e r s i
 
 -- ---- rights
 
@@ -107,12 +106,12 @@ module _ (X : Members engine_behaviour) where
           → engine_asked X l i ≡ engine_then X (submitted X l) i
           → cond (eqb i x.who) (result_of (engine_asked X l i) x.call).engine (engine_asked X l i)
           ≡ engine_then X (if_there o (submitted X l) (λ s. record { who = x.who; call = s } ∷ submitted X l)) i
-      go none q h = by-none (eqb i x.who) refl
+      go None q h = by-none (eqb i x.who) refl
         where
           by-none : (b : Bool) → eqb i x.who ≡ b → cond b (result_of (engine_asked X l i) x.call).engine (engine_asked X l i) ≡ engine_then X (submitted X l) i
           by-none true e = ap (λ (k : ℕ). (result_of (engine_asked X l k) x.call).engine) (eqb-true i x.who e) ∙ q ∙ ap (engine_asked X l) (sym (eqb-true i x.who e)) ∙ h
           by-none false e = h
-      go (some s) q h = by-some (eqb i x.who) refl
+      go (Some s) q h = by-some (eqb i x.who) refl
         where
           by-some : (b : Bool) → eqb i x.who ≡ b → cond b (result_of (engine_asked X l i) x.call).engine (engine_asked X l i)
               ≡ cond b (after_submission (engine_then X (submitted X l) i) s) (engine_then X (submitted X l) i)

@@ -1,6 +1,5 @@
 -- Laws of calls and batches: a submission leaves what its calls leave, so chains never fork where a host submits batches too.
-use Rattle.std.proofs.Common.{◌≡◌, refl, sym, ap, ◌∙◌, Bool, true, false, cond, List, [], ◌∷◌, ◌++◌, ℕ, length, eqb, eq-eqb, ne_eqb, eqb-true}
-use mathlib.Core.Option.{Option, none, some}
+use Rattle.std.proofs.Common.{◌≡◌, refl, sym, ap, ◌∙◌, Bool, true, false, cond, List, [], ◌∷◌, ◌++◌, ℕ, length, eqb, eq-eqb, ne_eqb, eqb-true, Option, Some, None}
 use native.Mathlib.Decide.{ℕ_discrete}
 use Rattle.base.specs.Options.{if_there}
 use Rattle.agreement.specs.Entries as entries
@@ -37,8 +36,8 @@ after-turns row (p ∷ l) e =
     ∙ after-turns row l (record { state = e.state; table = table_after e.state row e.table p })
   where
     go : (o : Option Certificate) → after_calls e (if_there o [] (λ c. accept c ∷ [])) ≡ record { state = e.state; table = if_there o e.table (accept_table e.state e.table) }
-    go none = refl
-    go (some c) = after-accepts e c
+    go None = refl
+    go (Some c) = after-accepts e c
 
 -- a submission leaves what its calls leave, one by one
 pub leaves_as_its_calls : (e : Engine) (x : Submission) → after_submission e x ≡ after_calls e (calls_of e x)

@@ -1,6 +1,5 @@
 -- Requests of hosts and of guests: a guest's is refused by the rights that its caller lacks, or it does and answers what the host's own would (docs/RULES.md, "Rights").
-use Rattle.std.specs.Prelude.{◌≡◌, true, false, if◌then◌else◌, List, [], ◌∷◌, ℕ, length, ◌==◌}
-use Rattle.std.proofs.Math.Option.{Option, none, some}
+use Rattle.std.specs.Prelude.{◌≡◌, true, false, if◌then◌else◌, List, [], ◌∷◌, ℕ, length, ◌==◌, Option, Some, None}
 use Rattle.base.specs.Options.{if_there}
 use Rattle.agreement.specs.Entries as entries
 use Rattle.agreement.specs.Entries.{states}
@@ -56,7 +55,12 @@ refused_with e x n = record { refusal = n; value = nothing; answers = lent_answe
 
 -- of the host's own
 abbrev pub host_result : Engine → Submission → Result
-host_result e (one c) = record { refusal = refusal_for e c; value = value_of e c; answers = []; engine = after e c }
+host_result e (one c) = record {
+  refusal = refusal_for e c;
+  value = value_of e c;
+  answers = [];
+  engine = after e c;
+}
 host_result e (batch row answers) =
     record {
       refusal = batch_refusal e.state e.table row.count (length answers);
@@ -93,19 +97,19 @@ lent_by (guest c a) = lent_answers (submitted_by c a)
 
 -- the same answers on e and d, the lent ones as they came, and neither changes
 pub record AlikeAndUnchanged (e d : Engine) (x : Request) : Type 0 where
-  pub same-refusal : (result_of e x).refusal ≡ (result_of d x).refusal
-  pub same-value : (result_of e x).value ≡ (result_of d x).value
-  pub first-answers : (result_of e x).answers ≡ lent_by x
-  pub second-answers : (result_of d x).answers ≡ lent_by x
-  pub first-unchanged : (result_of e x).engine ≡ e
-  pub second-unchanged : (result_of d x).engine ≡ d
+  pub same_refusal : (result_of e x).refusal ≡ (result_of d x).refusal
+  pub same_value : (result_of e x).value ≡ (result_of d x).value
+  pub first_answers : (result_of e x).answers ≡ lent_by x
+  pub second_answers : (result_of d x).answers ≡ lent_by x
+  pub first_unchanged : (result_of e x).engine ≡ e
+  pub second_unchanged : (result_of d x).engine ≡ d
 
 -- ---- claims of lists of requests
 
 -- what is submitted, where the caller is not refused
 abbrev pub submission_of : Engine → Request → Option Submission
-submission_of e (host x) = some x
-submission_of e (guest c a) = if caller_number e c a == 0 then some (submitted_by c a) else none
+submission_of e (host x) = Some x
+submission_of e (guest c a) = if caller_number e c a == 0 then Some (submitted_by c a) else None
 
 -- the request is no accepted open
 abbrev pub NoOpenAsked : Engine → Request → Type 0
@@ -125,26 +129,32 @@ NoOpensAsked e (x ∷ l) = NoOpenAsked (after_requests e l) x × NoOpensAsked e 
 
 -- what is submitted, if anything, has values of their types
 abbrev pub InRangeThen : Engine → Option Submission → Type 0
-InRangeThen e none = Unit {0}
-InRangeThen e (some s) = AllInRange (calls_of e s)
+InRangeThen e None = Unit {0}
+InRangeThen e (Some s) = AllInRange (calls_of e s)
 
 module _ (X : Members engine_behaviour) where
   open X use {before, sheet}
 
   -- member i's engine after a list of requests, newest first
   abbrev pub engine_asked : List (entries.Entry Request) → ℕ → Engine
-  engine_asked l i = states (λ k e x. (result_of e x).engine) (λ k. after (before k) (opens (record { 0 = k }) (sheet k))) l i
+  engine_asked l i =
+      states (λ k e x. (result_of e x).engine)
+      (λ k. after (before k) (opens (record { 0 = k }) (sheet k))) l i
 
   -- what is submitted by them
   unfoldable pub submitted : List (entries.Entry Request) → List (entries.Entry Submission)
   submitted [] = []
-  submitted (x ∷ l) = if_there (submission_of (engine_asked l x.who) x.call) (submitted l) (λ s. record { who = x.who; call = s } ∷ submitted l)
+  submitted (x ∷ l) =
+      if_there (submission_of (engine_asked l x.who) x.call) (submitted l)
+      (λ s. record { who = x.who; call = s } ∷ submitted l)
 
 -- chains never fork with guests' requests as entries: premises and claim are those of the calls that they count as, and each member's engine is the one after those
-pub record AgreedAsked (X : Members engine_behaviour) (l : List (entries.Entry Request)) : Type 0 where
-  pub agreed : Agreed X (unrolled X (submitted X l))
-  pub engines : (i : ℕ) → engine_asked X l i ≡ engine_after X (unrolled X (submitted X l)) i
+pub record AgreedAsked (X : Members engine_behaviour) (l : List (entries.Entry Request)) : Type 0
+  where
+    pub agreed : Agreed X (unrolled X (submitted X l))
+    pub engines : (i : ℕ) → engine_asked X l i ≡ engine_after X (unrolled X (submitted X l)) i
 
 -- the members' rights are any: they need not be equal
 abbrev pub ChainsNeverForkWithGuests : Type 0
-ChainsNeverForkWithGuests = (X : Members engine_behaviour) (l : List (entries.Entry Request)) → Run X (unrolled X (submitted X l)) → AgreedAsked X l
+ChainsNeverForkWithGuests = (X : Members engine_behaviour) (l : List (entries.Entry Request))
+    → Run X (unrolled X (submitted X l)) → AgreedAsked X l

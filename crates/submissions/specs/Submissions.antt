@@ -16,7 +16,10 @@ pub data Submission : Type 0 where
 -- what it leaves, as the contracts tell it
 abbrev pub after_submission : Engine → Submission → Engine
 after_submission e (one c) = after e c
-after_submission e (batch row answers) = record { state = e.state; table = batch_table e.state e.table row answers }
+after_submission e (batch row answers) = record {
+  state = e.state;
+  table = batch_table e.state e.table row answers;
+}
 
 -- the accepts of places of a row, newest first; words that cannot be read are no call
 unfoldable pub accepts_of : Row → List ℕ → List Call
@@ -38,7 +41,9 @@ module _ (X : Members engine_behaviour) where
 
   -- member i's engine after a list of submissions, newest first
   abbrev pub engine_then : List (entries.Entry Submission) → ℕ → Engine
-  engine_then l i = states (λ k. after_submission) (λ k. after (before k) (opens (record { 0 = k }) (sheet k))) l i
+  engine_then l i =
+      states (λ k. after_submission) (λ k. after (before k) (opens (record { 0 = k }) (sheet k))) l
+      i
 
   -- the list with the calls that each submission counts as
   unfoldable pub unrolled : List (entries.Entry Submission) → List Entry
@@ -46,6 +51,7 @@ module _ (X : Members engine_behaviour) where
   unrolled (x ∷ l) = entries_of x.who (calls_of (engine_then l x.who) x.call) ++ unrolled l
 
 -- chains never fork with batches as entries: premises and claim are those of the unrolled list, and each member's engine is the one after it
-pub record AgreedThen (X : Members engine_behaviour) (l : List (entries.Entry Submission)) : Type 0 where
-  pub agreed : Agreed X (unrolled X l)
-  pub engines : (i : ℕ) → engine_then X l i ≡ engine_after X (unrolled X l) i
+pub record AgreedThen (X : Members engine_behaviour) (l : List (entries.Entry Submission)) : Type 0
+  where
+    pub agreed : Agreed X (unrolled X l)
+    pub engines : (i : ℕ) → engine_then X l i ≡ engine_after X (unrolled X l) i

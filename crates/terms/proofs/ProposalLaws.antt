@@ -7,7 +7,7 @@ use Rattle.base.specs.Folds.{all_to, any_to, tab}
 use Rattle.base.proofs.Ranges.{tab_next, all_next}
 use Rattle.base.proofs.FoldLaws.{length-tab, get_d_tab}
 use Rattle.base.proofs.TestLaws.{any_true}
-use Rattle.base.specs.Sets.{is_in, is_empty}
+use Rattle.base.specs.Sets.{contains, is_empty}
 use Rattle.base.proofs.UnionLaws.{in_none, empty_in}
 use Rattle.terms.specs.declared.Transaction.{Transaction}
 use Rattle.terms.specs.declared.Transaction.TheVariants.{Bond, Unbond, Entry}
@@ -126,8 +126,8 @@ same_tabs f g zero = empty
     empty = list_self []
 same_tabs f g (suc n) = rw (tab_next f n, tab_next g n, all_next (λ k. same_transaction (f k) (g k)) n) (same_snoc (tab f n) (tab g n) (f n) (g n) (length-tab f n ∙ sym (length-tab g n)) ∙ rw (same_tabs f g n) refl)
 
-other-lengths : (l m : List Transaction) → eqb (length l) (length m) ≡ false → same_transactions l m ≡ false
-other-lengths l m e = go (same_transactions l m) refl
+other_lengths : (l m : List Transaction) → eqb (length l) (length m) ≡ false → same_transactions l m ≡ false
+other_lengths l m e = go (same_transactions l m) refl
   where
     go : (b : Bool) → same_transactions l m ≡ b → b ≡ false
     go false h = refl
@@ -135,7 +135,7 @@ other-lengths l m e = go (same_transactions l m) refl
 
 -- lists of other lengths are not the same
 pub other_tabs : (f g : ℕ → Transaction) (m n : ℕ) → eqb m n ≡ false → same_transactions (tab f m) (tab g n) ≡ false
-other_tabs f g m n e = other-lengths (tab f m) (tab g n) (rw (length-tab f m, length-tab g n) e)
+other_tabs f g m n e = other_lengths (tab f m) (tab g n) (rw (length-tab f m, length-tab g n) e)
 
 pub transactions_tab : (b : Body) → transactions_of b ≡ tab (slot_of b) b.count
 unfolding transactions_of
@@ -166,14 +166,14 @@ bad_transactions_tab a f n = rw (length-tab f n, range-tab f n) refl
 -- ---- check 7
 
 -- a set that passes it in round 1 names nobody
-pub first-names : (set : ℕ) → bad_previous_set 1 set ≡ false → (i : ℕ) → is_in set i ≡ true → ⊥
+pub first-names : (set : ℕ) → bad_previous_set 1 set ≡ false → (i : ℕ) → contains set i ≡ true → ⊥
 unfolding bad_previous_set is_empty
-first-names set h i n = true≢false (sym n ∙ subst (λ (z : ℕ). is_in z i ≡ false) (sym (eqb-true set 0 (not-false (eqb set 0) h))) (in_none i))
+first-names set h i n = true≢false (sym n ∙ subst (λ (z : ℕ). contains z i ≡ false) (sym (eqb-true set 0 (not-false (eqb set 0) h))) (in_none i))
 
 -- a 16-bit set that passes it above round 1 names somebody
-pub later-names : (r set : ℕ) → r ≢ 1 → set < 65536 → bad_previous_set r set ≡ false → (i : ℕ) × (i < 16) × (is_in set i ≡ true)
+pub later-names : (r set : ℕ) → r ≢ 1 → set < 65536 → bad_previous_set r set ≡ false → (i : ℕ) × (i < 16) × (contains set i ≡ true)
 unfolding bad_previous_set
-later-names r set n small h = any_true (is_in set) 16 (not-false (any_to (is_in set) 16) (sym (empty_in set small) ∙ go (eqb r 1) refl h))
+later-names r set n small h = any_true (contains set) 16 (not-false (any_to (contains set) 16) (sym (empty_in set small) ∙ go (eqb r 1) refl h))
   where
     go : (b : Bool) → eqb r 1 ≡ b → cond b (not (is_empty set)) (is_empty set) ≡ false → is_empty set ≡ false
     go true e k = absurd (n (eqb-true r 1 e))

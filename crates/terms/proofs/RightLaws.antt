@@ -1,5 +1,5 @@
 -- Laws of rights: there are four; a caller with the right is refused by no number, one without it by 26 or 29.
-use Rattle.std.proofs.Common.{◌≡◌, refl, sym, ◌∙◌, Bool, true, false, not, true≢false, [], ◌∷◌, ◌≢◌, ℕ, ◌<◌, arith, ltb, ltb-true, le-ltb}
+use Rattle.std.proofs.Common.{◌≡◌, refl, sym, ap, ◌∙◌, Bool, true, false, not, cond, true≢false, [], ◌∷◌, ◌≢◌, ℕ, ◌<◌, arith, eqb, ltb, ltb-true, le-ltb}
 use Rattle.base.specs.Checks.{refusal}
 use Rattle.base.proofs.Bools.{both}
 use Rattle.base.proofs.CheckLaws.{passes, passes-all}
@@ -13,6 +13,20 @@ four Propose = omega arith
 four Sign = omega arith
 four Drive = omega arith
 four Read = omega arith
+
+-- the right of a number
+abbrev right_at : ℕ → Right
+right_at n = cond (eqb n 0) Propose (cond (eqb n 1) Sign (cond (eqb n 2) Drive Read))
+
+at_number : (r : Right) → right_at (right_number r) ≡ r
+at_number Propose = refl
+at_number Sign = refl
+at_number Drive = refl
+at_number Read = refl
+
+-- and no two have the same number
+pub same_right : (r q : Right) → right_number r ≡ right_number q → r ≡ q
+same_right r q e = sym (at_number r) ∙ ap right_at e ∙ at_number q
 
 module _ (R : Rights) (r : Right) (c : ℕ) where
   -- who has a right is one of the eight

@@ -30,10 +30,10 @@ settings-fit S h =
     record {
       lookback_from = l.0;
       lookback_to = l.1;
-      ceiling-from = c.0;
-      ceiling-to = c.1;
+      ceiling_from = c.0;
+      ceiling_to = c.1;
       allowance_to = (inside S.allowance 0 4 r.0).1;
-      weight-to = λ i k. (inside (weight_in S.weights i) 0 1000000 (any_false (λ j. not_within (weight_in S.weights j) 0 1000000) 16 i k s.0)).1;
+      weight_to = λ i k. (inside (weight_in S.weights i) 0 1000000 (any_false (λ j. not_within (weight_in S.weights j) 0 1000000) 16 i k s.0)).1;
       margin_from = m.0;
       margin_to = m.1;
     }

@@ -33,9 +33,9 @@ weightless S = not (any_to (λ i. nat_lt 0 (weight_in S.weights i)) 16)
 pub record SettingsFit (S : Settings) : Type 0 where
   pub lookback_from : 1 ≤ S.lookback
   pub lookback_to : S.lookback ≤ 1000
-  pub ceiling-from : 3 ≤ S.ceiling.0
-  pub ceiling-to : S.ceiling.0 ≤ 1024
+  pub ceiling_from : 3 ≤ S.ceiling.0
+  pub ceiling_to : S.ceiling.0 ≤ 1024
   pub allowance_to : S.allowance ≤ 4
-  pub weight-to : (i : ℕ) → i < 16 → weight_in S.weights i ≤ 1000000
+  pub weight_to : (i : ℕ) → i < 16 → weight_in S.weights i ≤ 1000000
   pub margin_from : 3 ≤ S.margin
   pub margin_to : S.margin ≤ 5

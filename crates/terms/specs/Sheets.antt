@@ -9,7 +9,14 @@ use Rattle.terms.specs.declared.sheet.Settings.{Settings}
 
 -- the sheet with nothing written, and no rights
 abbrev pub blank_sheet : Sheet
-blank_sheet = record { lookback = Blank; ceiling = Blank; allowance = Blank; weights = replicate 16 Blank; margin = Blank; rights = record { 0 = 0 } }
+blank_sheet = record {
+  lookback = Blank;
+  ceiling = Blank;
+  allowance = Blank;
+  weights = replicate 16 Blank;
+  margin = Blank;
+  rights = record { 0 = 0 };
+}
 
 -- the number of a setting, d where it is blank
 abbrev pub value_or : Setting → ℕ → ℕ

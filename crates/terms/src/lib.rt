@@ -4,6 +4,7 @@
 //! Each test answers what its definition says of every value, in range or not.
 #![tactic(auto)]
 
+pub mod letters;
 pub mod rights;
 pub mod sheet;
 pub mod theorems;
@@ -15,15 +16,15 @@ ghost use Rattle.terms.specs.Bodies.{push};
 ghost use Rattle.terms.specs.Proposals.{bare_body, slot_of, transactions_of, bad_transactions, bad_previous_set};
 
 /// A member by its number: 0 to 15 where it is in range.
-#[derive(Clone, Copy, PartialEq, Eq)]
+#[derive(Debug, Clone, Copy, PartialEq, Eq)]
 pub struct Member(pub u32);
 
 /// A round by its number: 1 to 1,024 where it is in range.
-#[derive(Clone, Copy, PartialEq, Eq)]
+#[derive(Debug, Clone, Copy, PartialEq, Eq)]
 pub struct Round(pub u32);
 
 /// What a proposal may ask for. Two are equal where kind, member and amount or number are.
-#[derive(Clone, Copy, PartialEq, Eq)]
+#[derive(Debug, Clone, Copy, PartialEq, Eq)]
 pub enum Transaction {
     /// A member bonds an amount, 1 to 1,000 where it is in range.
     Bond(Member, u32),
@@ -34,7 +35,7 @@ pub enum Transaction {
 }
 
 /// What a proposal has beside author and round.
-#[derive(Clone, Copy)]
+#[derive(Debug, Clone, Copy)]
 pub struct Body {
     /// The previous set: authors of certificates one round earlier, a bit each.
     pub previous: u16,
@@ -45,7 +46,7 @@ pub struct Body {
 }
 
 /// What an author proposes for a round.
-#[derive(Clone, Copy)]
+#[derive(Debug, Clone, Copy)]
 pub struct Proposal {
     pub author: Member,
     pub round: Round,
@@ -53,7 +54,7 @@ pub struct Proposal {
 }
 
 /// A proposal with its endorsers, a bit each. Author and endorsers are the signers.
-#[derive(Clone, Copy)]
+#[derive(Debug, Clone, Copy)]
 pub struct Certificate {
     pub proposal: Proposal,
     pub endorsers: u16,
@@ -72,51 +73,50 @@ pub fn bare_body(previous: u16) -> Body
 
 /// A body with one transaction more, behind the others. A fifth one is counted and not kept.
 #[tactic(auto, unfolding(crate::specs::Bodies::push))]
-pub fn pushed(b: Body, x: Transaction) -> Body
-    requires { b.count < 4294967295 }
-    ensures { result ≡ push b x }
+pub fn pushed(body: Body, transaction: Transaction) -> Body
+    requires { body.count < 4294967295 }
+    ensures { result ≡ push body transaction }
 {
-    let mut next = b;
-    if b.count < 4 {
-        next.slots[b.count as usize] = x;
+    let mut next = body;
+    if body.count < 4 {
+        next.slots[body.count as usize] = transaction;
     }
-    next.count = b.count + 1;
+    next.count = body.count + 1;
     next
 }
 
 /// A transaction's kind as a number: 0 bond, 1 unbond, 2 entry.
 #[tactic(auto, unfolding(crate::specs::Transactions::kind_of))]
-pub fn kind(x: Transaction) -> u32
-    ensures { result ≡ kind_of x }
+pub fn kind(transaction: Transaction) -> u32
+    ensures { result ≡ kind_of transaction }
 {
-    match x {
-        Transaction::Bond(m, a) => 0,
-        Transaction::Unbond(m) => 1,
-        Transaction::Entry(n) => 2,
+    match transaction {
+        Transaction::Bond(..) => 0,
+        Transaction::Unbond(_) => 1,
+        Transaction::Entry(_) => 2,
     }
 }
 
 /// The member of a bond or unbond, or the number of an entry.
 #[tactic(auto, unfolding(crate::specs::Transactions::number_of))]
-pub fn number(x: Transaction) -> u32
-    ensures { result ≡ number_of x }
+pub fn number(transaction: Transaction) -> u32
+    ensures { result ≡ number_of transaction }
 {
-    match x {
-        Transaction::Bond(m, a) => m.0,
-        Transaction::Unbond(m) => m.0,
-        Transaction::Entry(n) => n,
+    match transaction {
+        Transaction::Bond(member, _) => member.0,
+        Transaction::Unbond(member) => member.0,
+        Transaction::Entry(number) => number,
     }
 }
 
 /// The amount of a bond, 0 of another.
 #[tactic(auto, unfolding(crate::specs::Transactions::amount_of))]
-pub fn amount(x: Transaction) -> u32
-    ensures { result ≡ amount_of x }
+pub fn amount(transaction: Transaction) -> u32
+    ensures { result ≡ amount_of transaction }
 {
-    match x {
-        Transaction::Bond(m, a) => a,
-        Transaction::Unbond(m) => 0,
-        Transaction::Entry(n) => 0,
+    match transaction {
+        Transaction::Bond(_, amount) => amount,
+        Transaction::Unbond(_) | Transaction::Entry(_) => 0,
     }
 }
 
@@ -134,54 +134,54 @@ pub fn read_transaction(kind: u32, number: u32, amount: u32) -> Transaction
 
 /// Is a bond's amount in range: 1 to 1,000?
 #[tactic(auto, unfolding(crate::specs::Transactions::amount_in_range))]
-pub fn amount_in_range(a: u32) -> bool
-    ensures { result ≡ amount_in_range a }
+pub fn amount_in_range(amount: u32) -> bool
+    ensures { result ≡ amount_in_range amount }
 {
-    1 <= a && a <= 1000
+    1 <= amount && amount <= 1000
 }
 
 /// Are a bond's member and amount in range: 0 to 15, and 1 to 1,000?
 #[tactic(auto, unfolding(crate::specs::Transactions::bond_in_range))]
-pub fn bond_in_range(m: Member, a: u32) -> bool
-    ensures { result ≡ bond_in_range m.0 a }
+pub fn bond_in_range(member: Member, amount: u32) -> bool
+    ensures { result ≡ bond_in_range member.0 amount }
 {
-    m.0 < 16 && amount_in_range(a)
+    member.0 < 16 && amount_in_range(amount)
 }
 
 /// Is the transaction in range: its member 0 to 15, the amount of a bond 1 to 1,000? An entry always is.
 #[tactic(auto, unfolding(crate::specs::Transactions::in_range))]
-pub fn in_range(x: Transaction) -> bool
-    ensures { result ≡ in_range x }
+pub fn in_range(transaction: Transaction) -> bool
+    ensures { result ≡ in_range transaction }
 {
-    match x {
-        Transaction::Bond(m, a) => bond_in_range(m, a),
-        Transaction::Unbond(m) => m.0 < 16,
-        Transaction::Entry(n) => true,
+    match transaction {
+        Transaction::Bond(member, amount) => bond_in_range(member, amount),
+        Transaction::Unbond(member) => member.0 < 16,
+        Transaction::Entry(_) => true,
     }
 }
 
-// Are the first n transactions of a body in range?
+// Are the first `count` transactions of a body in range?
 #[tactic(auto, unfolding(base::specs::Folds::all_to, crate::specs::Proposals::slot_of))]
-fn slots_in_range(b: Body, n: u32) -> bool
-    requires { n ≤ 4 }
-    ensures { result ≡ all_to (λ k. in_range (slot_of b k)) n }
+fn slots_in_range(body: Body, count: u32) -> bool
+    requires { count ≤ 4 }
+    ensures { result ≡ all_to (λ k. in_range (slot_of body k)) count }
 {
-    (0..n).all(|k| in_range(b.slots[k as usize]))
+    (0..count).all(|k| in_range(body.slots[k as usize]))
 }
 
 /// Check 6: is a transaction out of range, or are there more than the allowance, 0 to 4?
 #[tactic(auto, using(crate::proofs::ProposalLaws::bad_transactions_tab, crate::proofs::ProposalLaws::transactions_tab))]
-pub fn has_bad_transactions(allowance: u32, b: Body) -> bool
+pub fn has_bad_transactions(allowance: u32, body: Body) -> bool
     requires { allowance ≤ 4 }
-    ensures { result ≡ bad_transactions allowance (transactions_of b) }
+    ensures { result ≡ bad_transactions allowance (transactions_of body) }
 {
-    allowance < b.count || !slots_in_range(b, b.count)
+    allowance < body.count || !slots_in_range(body, body.count)
 }
 
-/// Check 7: is the previous set of a proposal of round r empty above round 1, or not empty in it?
+/// Check 7: is the previous set of a proposal of `round` empty above round 1, or not empty in it?
 #[tactic(auto, unfolding(crate::specs::Proposals::bad_previous_set))]
-pub fn is_bad_previous_set(r: Round, set: u32) -> bool
-    ensures { result ≡ bad_previous_set r.0 set }
+pub fn is_bad_previous_set(round: Round, set: u32) -> bool
+    ensures { result ≡ bad_previous_set round.0 set }
 {
-    (r.0 == 1) != base::is_empty(set)
+    (round.0 == 1) != base::is_empty(set)
 }

@@ -6,7 +6,7 @@ ghost use Rattle.terms.specs.Rights.{right_number, may};
 use crate::sheet::Rights;
 
 /// What a caller may do, by the kinds of calls.
-#[derive(Clone, Copy)]
+#[derive(Debug, Clone, Copy)]
 pub enum Right {
     /// Propose, draw, and add to one's own queue.
     Propose,
@@ -19,10 +19,10 @@ pub enum Right {
 }
 
 // Where the callers of a right start in the word of rights, in bytes.
-fn right_number(r: Right) -> u32
-    ensures { result ≡ right_number r }
+fn right_number(right: Right) -> u32
+    ensures { result ≡ right_number right }
 {
-    match r {
+    match right {
         Right::Propose => 0,
         Right::Sign => 1,
         Right::Drive => 2,
@@ -32,9 +32,9 @@ fn right_number(r: Right) -> u32
 
 /// Has the caller, 0 to 7, the right?
 #[tactic(auto, using(crate::proofs::RightLaws::four), unfolding(crate::specs::Rights::may, base::specs::Sets::mem))]
-pub fn has_right(rights: Rights, r: Right, caller: u32) -> bool
+pub fn has_right(rights: Rights, right: Right, caller: u32) -> bool
     requires { caller < 8 }
-    ensures { result ≡ may rights r caller }
+    ensures { result ≡ may rights right caller }
 {
-    (rights.0 >> (8 * right_number(r) + caller)) % 2 == 1
+    (rights.0 >> (8 * right_number(right) + caller)) % 2 == 1
 }

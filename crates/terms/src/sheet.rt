@@ -8,7 +8,7 @@ ghost use Rattle.terms.specs.Ranges.{weight_in, not_within, out_of_range, weight
 use crate::{Member, Round};
 
 /// What the sheet says of a setting: nothing, or a number.
-#[derive(Clone, Copy, PartialEq, Eq)]
+#[derive(Debug, Clone, Copy, PartialEq, Eq)]
 pub enum Setting {
     /// The default is taken.
     Blank,
@@ -17,11 +17,11 @@ pub enum Setting {
 }
 
 /// What callers 0 to 7 may do, a bit each: bit 8 r + c is caller c's right r, where 0 is propose, 1 sign, 2 drive and 3 read (docs/RULES.md, "Rights").
-#[derive(Clone, Copy)]
+#[derive(Debug, Clone, Copy)]
 pub struct Rights(pub u32);
 
 /// The settings as an integrator writes them, and the rights that the host fixes beside them.
-#[derive(Clone, Copy)]
+#[derive(Debug, Clone, Copy)]
 pub struct Sheet {
     pub lookback: Setting,
     pub ceiling: Setting,
@@ -33,11 +33,11 @@ pub struct Sheet {
 }
 
 /// A member's weight, 0 for one that is not in the committee.
-#[derive(Clone, Copy, PartialEq, Eq, PartialOrd, Ord)]
+#[derive(Debug, Clone, Copy, PartialEq, Eq, PartialOrd, Ord)]
 pub struct Weight(pub u64);
 
 /// The filled settings: each as it is written, or its default.
-#[derive(Clone, Copy)]
+#[derive(Debug, Clone, Copy)]
 pub struct Settings {
     pub lookback: u32,
     /// The last round.
@@ -52,55 +52,55 @@ pub struct Settings {
 
 impl Sheet {
     /// The lookback where it is blank.
-    pub const LOOKBACK: u32 = 20;
+    pub(crate) const LOOKBACK: u32 = 20;
 
     /// The least lookback.
-    pub const LOOKBACK_MIN: u32 = 1;
+    pub(crate) const LOOKBACK_MIN: u32 = 1;
 
     /// The greatest lookback.
-    pub const LOOKBACK_MAX: u32 = 1000;
+    pub(crate) const LOOKBACK_MAX: u32 = 1000;
 
     /// The ceiling where it is blank.
-    pub const CEILING: u32 = 1024;
+    pub(crate) const CEILING: u32 = 1024;
 
     /// The least ceiling.
-    pub const CEILING_MIN: u32 = 3;
+    pub(crate) const CEILING_MIN: u32 = 3;
 
     /// The greatest ceiling.
-    pub const CEILING_MAX: u32 = 1024;
+    pub(crate) const CEILING_MAX: u32 = 1024;
 
     /// The allowance where it is blank.
-    pub const ALLOWANCE: u32 = 4;
+    pub(crate) const ALLOWANCE: u32 = 4;
 
     /// The least allowance.
-    pub const ALLOWANCE_MIN: u32 = 0;
+    pub(crate) const ALLOWANCE_MIN: u32 = 0;
 
     /// The greatest allowance.
-    pub const ALLOWANCE_MAX: u32 = 4;
+    pub(crate) const ALLOWANCE_MAX: u32 = 4;
 
     /// The weight, where it is blank, of each member below `FIRST_MEMBERS`.
-    pub const WEIGHT_FIRST: u32 = 1;
+    pub(crate) const WEIGHT_FIRST: u32 = 1;
 
     /// The weight, where it is blank, of the other members.
-    pub const WEIGHT_OTHER: u32 = 0;
+    pub(crate) const WEIGHT_OTHER: u32 = 0;
 
     /// How many members weigh something where nothing is written: 0 to 3.
-    pub const FIRST_MEMBERS: u32 = 4;
+    pub(crate) const FIRST_MEMBERS: u32 = 4;
 
     /// The least weight.
-    pub const WEIGHT_MIN: u32 = 0;
+    pub(crate) const WEIGHT_MIN: u32 = 0;
 
     /// The greatest weight.
-    pub const WEIGHT_MAX: u32 = 1000000;
+    pub(crate) const WEIGHT_MAX: u32 = 1000000;
 
     /// The margin where it is blank.
-    pub const MARGIN: u32 = 3;
+    pub(crate) const MARGIN: u32 = 3;
 
     /// The least margin.
-    pub const MARGIN_MIN: u32 = 3;
+    pub(crate) const MARGIN_MIN: u32 = 3;
 
     /// The greatest margin.
-    pub const MARGIN_MAX: u32 = 5;
+    pub(crate) const MARGIN_MAX: u32 = 5;
 
     /// The sheet with nothing written, and no rights.
     pub fn blank() -> Sheet
@@ -117,22 +117,22 @@ impl Sheet {
     }
 }
 
-// The number of a setting, d where it is blank.
-fn value_or(x: Setting, d: u32) -> u32
-    ensures { result ≡ value_or x d }
+// The number of a setting, `otherwise` where it is blank.
+fn value_or(setting: Setting, otherwise: u32) -> u32
+    ensures { result ≡ value_or setting otherwise }
 {
-    match x {
-        Setting::Blank => d,
-        Setting::Written(n) => n,
+    match setting {
+        Setting::Blank => otherwise,
+        Setting::Written(number) => number,
     }
 }
 
 // A member's weight where it is blank.
 #[tactic(auto, unfolding(crate::specs::Sheets::blank_weight))]
-fn blank_weight(m: Member) -> u32
-    ensures { result ≡ blank_weight m.0 }
+fn blank_weight(member: Member) -> u32
+    ensures { result ≡ blank_weight member.0 }
 {
-    if m.0 < Sheet::FIRST_MEMBERS {
+    if member.0 < Sheet::FIRST_MEMBERS {
         Sheet::WEIGHT_FIRST
     } else {
         Sheet::WEIGHT_OTHER
@@ -141,11 +141,11 @@ fn blank_weight(m: Member) -> u32
 
 // A member's starting weight.
 #[tactic(auto, unfolding(crate::specs::Sheets::weight_at))]
-fn weight_at(weights: &[Setting; 16], m: Member) -> Weight
-    requires { m.0 < 16 }
-    ensures { result.0 ≡ weight_at weights.now m.0 }
+fn weight_at(weights: &[Setting; 16], member: Member) -> Weight
+    requires { member.0 < 16 }
+    ensures { result.0 ≡ weight_at weights.now member.0 }
 {
-    let number = value_or(weights[m.0 as usize], blank_weight(m));
+    let number = value_or(weights[member.0 as usize], blank_weight(member));
     Weight(number as u64)
 }
 
@@ -158,24 +158,24 @@ fn weights(sheet: &[Setting; 16]) -> [Weight; 16]
 
 /// The settings that a sheet is filled to: each blank by its default.
 #[tactic(auto, unfolding(crate::specs::Sheets::filled))]
-pub fn fill(s: Sheet) -> Settings
-    ensures { result ≡ filled s }
+pub fn fill(sheet: Sheet) -> Settings
+    ensures { result ≡ filled sheet }
 {
     Settings {
-        lookback: value_or(s.lookback, Sheet::LOOKBACK),
-        ceiling: Round(value_or(s.ceiling, Sheet::CEILING)),
-        allowance: value_or(s.allowance, Sheet::ALLOWANCE),
-        weights: weights(&s.weights),
-        margin: value_or(s.margin, Sheet::MARGIN),
+        lookback: value_or(sheet.lookback, Sheet::LOOKBACK),
+        ceiling: Round(value_or(sheet.ceiling, Sheet::CEILING)),
+        allowance: value_or(sheet.allowance, Sheet::ALLOWANCE),
+        weights: weights(&sheet.weights),
+        margin: value_or(sheet.margin, Sheet::MARGIN),
     }
 }
 
 // Is the number below its least or above its greatest value?
 #[tactic(auto, unfolding(crate::specs::Ranges::not_within))]
-fn is_outside(x: u64, min: u32, max: u32) -> bool
-    ensures { result ≡ not_within x min max }
+fn is_outside(number: u64, min: u32, max: u32) -> bool
+    ensures { result ≡ not_within number min max }
 {
-    x < min as u64 || (max as u64) < x
+    number < min as u64 || (max as u64) < number
 }
 
 // Is one of the weights out of range?
@@ -188,18 +188,23 @@ fn has_outside(weights: &[Weight; 16]) -> bool
 
 /// Check 2: is a setting out of range?
 #[tactic(auto, unfolding(crate::specs::Ranges::out_of_range))]
-pub fn is_out_of_range(s: Settings) -> bool
-    ensures { result ≡ out_of_range s }
+pub fn is_out_of_range(settings: Settings) -> bool
+    ensures { result ≡ out_of_range settings }
 {
-    is_outside(s.lookback as u64, Sheet::LOOKBACK_MIN, Sheet::LOOKBACK_MAX)
-        || is_outside(s.ceiling.0 as u64, Sheet::CEILING_MIN, Sheet::CEILING_MAX)
-        || is_outside(
-            s.allowance as u64,
-            Sheet::ALLOWANCE_MIN,
-            Sheet::ALLOWANCE_MAX,
-        )
-        || has_outside(&s.weights)
-        || is_outside(s.margin as u64, Sheet::MARGIN_MIN, Sheet::MARGIN_MAX)
+    is_outside(
+        settings.lookback as u64,
+        Sheet::LOOKBACK_MIN,
+        Sheet::LOOKBACK_MAX,
+    ) || is_outside(
+        settings.ceiling.0 as u64,
+        Sheet::CEILING_MIN,
+        Sheet::CEILING_MAX,
+    ) || is_outside(
+        settings.allowance as u64,
+        Sheet::ALLOWANCE_MIN,
+        Sheet::ALLOWANCE_MAX,
+    ) || has_outside(&settings.weights)
+        || is_outside(settings.margin as u64, Sheet::MARGIN_MIN, Sheet::MARGIN_MAX)
 }
 
 // Is one of the weights positive?
@@ -212,8 +217,8 @@ fn has_weight(weights: &[Weight; 16]) -> bool
 
 /// Check 3: is no starting weight positive?
 #[tactic(auto, unfolding(crate::specs::Ranges::weightless))]
-pub fn is_weightless(s: Settings) -> bool
-    ensures { result ≡ weightless s }
+pub fn is_weightless(settings: Settings) -> bool
+    ensures { result ≡ weightless settings }
 {
-    !has_weight(&s.weights)
+    !has_weight(&settings.weights)
 }

@@ -11,8 +11,9 @@ pub fn same_when_equal()
     ensures itself { (p : Content) → same_proposal p p ≡ true }
 {}
 
-/// There are four rights.
-#[tactic(auto, using(crate::proofs::RightLaws::four))]
+/// There are four rights: each has a number below 4, and no two have the same.
+#[tactic(auto, using(crate::proofs::RightLaws::four, crate::proofs::RightLaws::same_right))]
 pub fn four_rights()
-    ensures { (r : Right) → right_number r < 4 }
+    ensures below { (r : Right) → right_number r < 4 }
+    ensures apart { (r q : Right) → right_number r ≡ right_number q → r ≡ q }
 {}

@@ -1,7 +1,7 @@
 -- What the checks of a commit answer where a certificate that is in no block is absent: the anchor's turns the commit into a refusal, and a vote where the others weigh not more than the bound.
 use Rattle.std.proofs.Common.{◌≡◌, refl, sym, ap, ap₂, ◌∙◌, Bool, true, false, cond, ◌&&◌, List, ◌≢◌, ℕ, zero, suc, ◌+◌, ◌-◌, ◌<◌, ◌≤◌, arith, eqb, eq-eqb, ne_eqb}
 use Rattle.base.specs.Checks.{refusal}
-use Rattle.base.specs.Sets.{is_in}
+use Rattle.base.specs.Sets.{contains}
 use Rattle.base.proofs.SumLaws.{sum_same, sum_without}
 use Rattle.agreement.specs.Rules.{Chain, last}
 use Rattle.agreement.specs.Weights.{total}
@@ -14,9 +14,9 @@ use Rattle.store.proofs.HeldLaws.{clear-held, block-round-held, held-clear, prev
 use Rattle.terms.specs.Ranges.{weight_in}
 use Rattle.committee.specs.Chain.{chain_of}
 use Rattle.committee.specs.Committees.{committee_of, known_by, bound_of}
-use Rattle.running.specs.BlockChanges.{last_round}
-use Rattle.running.proofs.ChainLaws.{last-chain}
-use Rattle.running.specs.Fill.{leader_at}
+use Rattle.chain_committees.specs.BlockChanges.{last_round}
+use Rattle.chain_committees.proofs.ChainLaws.{last-chain}
+use Rattle.chain_committees.specs.Fill.{leader_at}
 use Rattle.rules.specs.Tests.{unknown}
 use Rattle.state.specs.declared.State.{State}
 use Rattle.state.specs.Formed.{Formed}
@@ -32,7 +32,7 @@ module _ (t : List ℕ) (a r : ℕ) (row : Row t r) where
   -- the votes of the round without a's
   votes_without : (x i : ℕ) → i < 16 → votes_at (clear_held t a r) r x i ≡ cond (eqb i a) false (votes_at t r x i)
   unfolding votes_at
-  votes_without x i h = rw (held-clear t a r row i r, previous-held (clear-held t a r row) i r h, eq-eqb r r refl) (go (eqb i a) (held_at t i r) (is_in (previous_at t i r) x))
+  votes_without x i h = rw (held-clear t a r row i r, previous-held (clear-held t a r row) i r h, eq-eqb r r refl) (go (eqb i a) (held_at t i r) (contains (previous_at t i r) x))
     where
       go : (b c d : Bool) → (cond (b && true) false c && d) ≡ cond b false (c && d)
       go true c d = refl
@@ -50,7 +50,7 @@ module _ (t : List ℕ) (a r : ℕ) (row : Row t r) where
 votes-elsewhere : (t : List ℕ) (a q r : ℕ) → Row t q → r ≢ q → (w : List Weight) (x : ℕ) → votes_for (clear_held t a q) w r x ≡ votes_for t w r x
 unfolding votes_for votes_at
 votes-elsewhere t a q r row n w x =
-    sum_same _ _ 16 (λ i h. rw (held-clear t a q row i r, previous-held (clear-held t a q row) i r h, ne_eqb r q n) (go (eqb i a) (held_at t i r) (is_in (previous_at t i r) x) (weight_in w i)))
+    sum_same _ _ 16 (λ i h. rw (held-clear t a q row i r, previous-held (clear-held t a q row) i r h, ne_eqb r q n) (go (eqb i a) (held_at t i r) (contains (previous_at t i r) x) (weight_in w i)))
   where
     go : (b c d : Bool) (k : ℕ) → cond (cond (b && false) false c && d) k 0 ≡ cond (c && d) k 0
     go true c d k = refl
@@ -70,7 +70,7 @@ module _ (s : State) (t : List ℕ) (a q : ℕ) (row : Row t q) where
   unfolding unknown known_by
   time-same e = rw last-same e
 
-module _ (s : State) (t : List ℕ) (f : Formed s t) (from : 1 < s.round.0) (led : is_in (held_set t (s.round.0 - 1)) (leader_on s t (s.round.0 - 1)) ≡ true) (a : ℕ) (m : a < 16) where
+module _ (s : State) (t : List ℕ) (f : Formed s t) (from : 1 < s.round.0) (led : contains (held_set t (s.round.0 - 1)) (leader_on s t (s.round.0 - 1)) ≡ true) (a : ℕ) (m : a < 16) where
   abbrev r : ℕ
   r = s.round.0
 
@@ -103,7 +103,7 @@ module _ (s : State) (t : List ℕ) (f : Formed s t) (from : 1 < s.round.0) (led
     committee-same : committee_on s u r ≡ w
     committee-same = ap (λ (c : Chain Content). committee_of s.settings c r) chain_same
 
-    held_then : is_in (held_set u (r - 1)) (leader_on s u (r - 1)) ≡ cond (same_place x (r - 1) a q) false true
+    held_then : contains (held_set u (r - 1)) (leader_on s u (r - 1)) ≡ cond (same_place x (r - 1) a q) false true
     held_then = rw (leader-same, sym (held_in u x (r - 1)), held-clear t a q row x (r - 1), held_in t x (r - 1), led) refl
 
     -- where it is the anchor
@@ -111,7 +111,7 @@ module _ (s : State) (t : List ℕ) (f : Formed s t) (from : 1 < s.round.0) (led
     anchor-absent e k = sym (anchor-none s u kept from (held_then ∙ rw (e, k, place_self x (r - 1)) refl))
 
     module _ (other : same_place x (r - 1) a q ≡ false) where
-      still : is_in (held_set u (r - 1)) (leader_on s u (r - 1)) ≡ true
+      still : contains (held_set u (r - 1)) (leader_on s u (r - 1)) ≡ true
       still = held_then ∙ rw other refl
 
       weighed : votes_for u (committee_on s u r) r (leader_on s u (r - 1)) ≡ votes_for u w r x

@@ -1,8 +1,7 @@
 -- The anchors that a table tells, and the votes for them.
-use Rattle.std.proofs.Common.{◌≡◌, refl, ap, ◌∙◌, Bool, not, cond, List, ℕ, suc, ◌-◌, ◌%◌, ◌<◌, ◌≤◌, arith, ltb, get_or, length, replicate}
-use mathlib.Core.Option.{Option, none, some}
+use Rattle.std.proofs.Common.{◌≡◌, refl, ap, ◌∙◌, Bool, not, cond, List, ℕ, suc, ◌-◌, ◌%◌, ◌<◌, ◌≤◌, arith, ltb, get_or, length, replicate, Option, Some, None, unwrap_or}
 use native.Mathlib.Decide.{ℕ_discrete}
-use Rattle.base.specs.Sets.{is_in}
+use Rattle.base.specs.Sets.{contains}
 use Rattle.base.proofs.SetLaws.{not_in}
 use Rattle.base.proofs.SumLaws.{sum_same}
 use Rattle.agreement.specs.Weights.{total}
@@ -14,11 +13,11 @@ use Rattle.store.proofs.TableLaws.{held_in, certificate-at, content-author, cont
 use Rattle.terms.specs.Ranges.{weight_in}
 use Rattle.committee.specs.Chain.{chain_of}
 use Rattle.committee.specs.Committees.{bound_of}
-use Rattle.committee.specs.Leaders.{leader_of, leader_number}
+use Rattle.committee.specs.Leaders.{leader_of}
 use Rattle.committee.proofs.LeaderLaws.{leader-odd}
-use Rattle.running.specs.BlockChanges.{last_round}
-use Rattle.running.specs.Fill.{leader_at, fill_to}
-use Rattle.running.proofs.FillLaws.{leader-at, fill_at, fill_length}
+use Rattle.chain_committees.specs.BlockChanges.{last_round}
+use Rattle.chain_committees.specs.Fill.{leader_at, fill_to}
+use Rattle.chain_committees.proofs.FillLaws.{leader-at, fill_at, fill_length}
 use Rattle.rules.specs.Tests.{unvoted}
 use Rattle.rules.proofs.TestLaws.{unvoted_not}
 use Rattle.state.specs.declared.State.{State}
@@ -36,13 +35,13 @@ module _ (s : State) (t : List ℕ) where
   leader_on q = leader_at s.settings chain q
 
   -- the anchor of round q is the leader's certificate, if it is held
-  pub anchor-on : (q : ℕ) → 0 < q → q ≤ s.settings.ceiling.0 → anchor_at (view s t) q ≡ cond (is_in (held_set t q) (leader_on q)) (some (content_at t (leader_on q) q)) none
+  pub anchor-on : (q : ℕ) → 0 < q → q ≤ s.settings.ceiling.0 → anchor_at (view s t) q ≡ cond (contains (held_set t q) (leader_on q)) (Some (content_at t (leader_on q) q)) None
   unfolding anchor_at
   anchor-on q from to = rw (leader-at s.settings chain q) (go (leader_of (weight_in (committee_on s t q)) q))
     where
-      go : (o : Option ℕ) → by_leader (view s t) q o ≡ cond (is_in (held_set t q) (leader_number o)) (some (content_at t (leader_number o) q)) none
-      go none = rw (not_in (held_set t q) 16 (omega arith)) refl
-      go (some a) = dag-at s.settings.ceiling.0 t a q from to ∙ rw (certificate-at t a q, held_in t a q) refl
+      go : (o : Option ℕ) → by_leader (view s t) q o ≡ cond (contains (held_set t q) (unwrap_or o 16)) (Some (content_at t (unwrap_or o 16) q)) None
+      go None = rw (not_in (held_set t q) 16 (omega arith)) refl
+      go (Some a) = dag-at s.settings.ceiling.0 t a q from to ∙ rw (certificate-at t a q, held_in t a q) refl
 
   -- check 22: the votes of the round above it weigh not more than the bound
   pub unvoted-on : (a q : ℕ) → suc q ≤ s.settings.ceiling.0
@@ -61,7 +60,7 @@ module _ (s : State) (t : List ℕ) where
     where
       go : Dec (q % 2 ≡ 0) → q % 2 ≡ 0
       go (yes e) = e
-      go (no d) = absurd (omega (arith, leader-at s.settings chain q ∙ ap leader_number (leader-odd (weight_in (committee_on s t q)) q d)))
+      go (no d) = absurd (omega (arith, leader-at s.settings chain q ∙ ap (λ (o : Option ℕ). unwrap_or o 16) (leader-odd (weight_in (committee_on s t q)) q d)))
 
   -- ---- the leaders that a commit uses
 

@@ -1,12 +1,11 @@
 -- The checks of a commit, one by one, and what they let pass.
-use Rattle.std.proofs.Common.{◌≡◌, refl, sym, ap, ◌∙◌, Bool, true, false, not, cond, List, [], ◌∷◌, ◌≢◌, ℕ, suc, ◌-◌, ◌%◌, ◌<◌, ◌≤◌, arith, eqb, ltb, get_or, leb-false, lt-ltb, le-ltb}
-use mathlib.Core.Option.{none, some}
+use Rattle.std.proofs.Common.{◌≡◌, refl, sym, ap, ◌∙◌, Bool, true, false, not, cond, List, [], ◌∷◌, ◌≢◌, ℕ, suc, ◌-◌, ◌%◌, ◌<◌, ◌≤◌, arith, eqb, ltb, get_or, leb-false, lt-ltb, le-ltb, Some, None}
 use native.Mathlib.Decide.{dec_lt}
 use borrow.Author.Tests.{eqb-false}
 use Rattle.base.proofs.Bools.{neither}
 use Rattle.base.specs.Checks.{refusal}
 use Rattle.base.proofs.CheckLaws.{refuses, passes, passes-all, cleared, first-refuses, first_passes, numbered}
-use Rattle.base.specs.Sets.{is_in}
+use Rattle.base.specs.Sets.{contains}
 use Rattle.agreement.specs.Rules.{Chain, last}
 use Rattle.agreement.specs.Weights.{total}
 use Rattle.agreement.specs.Commits.{anchor_at}
@@ -15,8 +14,8 @@ use Rattle.store.specs.Table.{held_set, content_at}
 use Rattle.terms.specs.Ranges.{weight_in}
 use Rattle.committee.specs.Chain.{chain_of}
 use Rattle.committee.specs.Committees.{bound_of}
-use Rattle.running.specs.BlockChanges.{last_round}
-use Rattle.running.proofs.ChainLaws.{last-chain, last-from}
+use Rattle.chain_committees.specs.BlockChanges.{last_round}
+use Rattle.chain_committees.proofs.ChainLaws.{last-chain, last-from}
 use Rattle.refusals.specs.declared.Refusal.{Refusal}
 use Rattle.refusals.specs.Refusals.{number_of}
 use Rattle.refusals.proofs.RefusalLaws.{some-number}
@@ -67,7 +66,7 @@ module _ (s : State) (t : List ℕ) where
       let o = neither (eqb (r % 2) 0) (eqb r 1) p.0 in
       let x = eqb-false r 1 o.1 in
       let y = last-from n t s.blocks f.rounds s.blocks (omega arith) in
-      record { odd = eqb-false (r % 2) 0 o.0; from = omega (arith, f.numbers.round-from); above = leb-false (r - 1) m (rw (last-chain n t s.blocks) at q.0); few = omega arith }
+      record { odd = eqb-false (r % 2) 0 o.0; from = omega (arith, f.numbers.round_from); above = leb-false (r - 1) m (rw (last-chain n t s.blocks) at q.0); few = omega arith }
 
   -- ---- 21, 22
 
@@ -78,18 +77,18 @@ module _ (s : State) (t : List ℕ) where
     abbrev w : List Weight
     w = committee_on s t r
 
-    anchor : anchor_at (view s t) (r - 1) ≡ cond (is_in (held_set t (r - 1)) a) (some (content_at t a (r - 1))) none
-    anchor = anchor-on s t (r - 1) (omega arith) (omega (arith, f.numbers.round-to))
+    anchor : anchor_at (view s t) (r - 1) ≡ cond (contains (held_set t (r - 1)) a) (Some (content_at t a (r - 1))) None
+    anchor = anchor-on s t (r - 1) (omega arith) (omega (arith, f.numbers.round_to))
 
     -- the leader in the list of leaders
     pub led_on : (l : List ℕ) → l ≡ leaders_for s t → m < r - 1 → get_or l (r - 1) 0 ≡ a
-    led_on l e h = ap (λ (z : List ℕ). get_or z (r - 1) 0) e ∙ leaders-on s t (r - 1) h (omega arith) (omega (arith, f.numbers.round-to, f.settings.ceiling-to))
+    led_on l e h = ap (λ (z : List ℕ). get_or z (r - 1) 0) e ∙ leaders-on s t (r - 1) h (omega arith) (omega (arith, f.numbers.round_to, f.settings.ceiling_to))
 
-    pub anchor-none : is_in (held_set t (r - 1)) a ≡ false → 21 ≡ refusal (vote_checks s t)
+    pub anchor-none : contains (held_set t (r - 1)) a ≡ false → 21 ≡ refusal (vote_checks s t)
     anchor-none e = rw (anchor, e) (sym (refuses 21 _ refl))
 
-    module _ (led : is_in (held_set t (r - 1)) a ≡ true) where
-      pub anchor-led : anchor_at (view s t) (r - 1) ≡ some (content_at t a (r - 1))
+    module _ (led : contains (held_set t (r - 1)) a ≡ true) where
+      pub anchor-led : anchor_at (view s t) (r - 1) ≡ Some (content_at t a (r - 1))
       anchor-led = anchor ∙ rw led refl
 
       abbrev bound : ℕ
@@ -98,7 +97,7 @@ module _ (s : State) (t : List ℕ) where
       weighing : refusal (vote_checks s t) ≡ refusal ((not (ltb bound (votes_for t w r a)), 22) ∷ [])
       weighing =
           let e : suc (r - 1) ≡ r = omega arith in
-          rw (anchor-led, rw e at (unvoted-on s t a (r - 1) (omega (arith, f.numbers.round-to)))) refl
+          rw (anchor-led, rw e at (unvoted-on s t a (r - 1) (omega (arith, f.numbers.round_to)))) refl
 
       pub votes-few : votes_for t w r a ≤ bound → 22 ≡ refusal (vote_checks s t)
       votes-few h = sym (weighing ∙ refuses 22 _ (rw (le-ltb bound (votes_for t w r a) h) refl))
@@ -107,17 +106,17 @@ module _ (s : State) (t : List ℕ) where
       votes-enough h = sym (weighing ∙ passes 22 _ (rw (lt-ltb bound (votes_for t w r a) h) refl) ∙ passes-all)
 
     -- what they let pass: the leader's certificate is held
-    pub voted : refusal (vote_checks s t) ≡ 0 → is_in (held_set t (r - 1)) a ≡ true
-    voted e = go (is_in (held_set t (r - 1)) a) refl
+    pub voted : refusal (vote_checks s t) ≡ 0 → contains (held_set t (r - 1)) a ≡ true
+    voted e = go (contains (held_set t (r - 1)) a) refl
       where
-        go : (b : Bool) → is_in (held_set t (r - 1)) a ≡ b → b ≡ true
+        go : (b : Bool) → contains (held_set t (r - 1)) a ≡ b → b ≡ true
         go true h = refl
         go false h = absurd (omega (arith, anchor-none h))
 
 -- the checks of the votes, by the leaders and the committee at hand
 pub votes_told : {s : State} {t l : List ℕ} {w : List Weight} → AnchorReady s t l w
-    → refusal (vote_checks s t) ≡ cond (is_in (held_set t (s.round.0 - 1)) (get_or l (s.round.0 - 1) 0)) (cond (ltb (bound_of s.settings.margin (total 16 (weight_in w))) (votes_for t w s.round.0 (get_or l (s.round.0 - 1) 0))) 0 22) 21
-votes_told {s} {t} {l} {w} p = rw (led_on s t p.formed p.from l p.leaders p.above, p.committee) (go (is_in (held_set t (s.round.0 - 1)) (leader_on s t (s.round.0 - 1))) refl)
+    → refusal (vote_checks s t) ≡ cond (contains (held_set t (s.round.0 - 1)) (get_or l (s.round.0 - 1) 0)) (cond (ltb (bound_of s.settings.margin (total 16 (weight_in w))) (votes_for t w s.round.0 (get_or l (s.round.0 - 1) 0))) 0 22) 21
+votes_told {s} {t} {l} {w} p = rw (led_on s t p.formed p.from l p.leaders p.above, p.committee) (go (contains (held_set t (s.round.0 - 1)) (leader_on s t (s.round.0 - 1))) refl)
   where
     v : ℕ
     v = votes_for t (committee_on s t s.round.0) s.round.0 (leader_on s t (s.round.0 - 1))
@@ -125,7 +124,7 @@ votes_told {s} {t} {l} {w} p = rw (led_on s t p.formed p.from l p.leaders p.abov
     b : ℕ
     b = bound_of s.settings.margin (total 16 (weight_in (committee_on s t s.round.0)))
 
-    go : (h : Bool) → is_in (held_set t (s.round.0 - 1)) (leader_on s t (s.round.0 - 1)) ≡ h → refusal (vote_checks s t) ≡ cond h (cond (ltb b v) 0 22) 21
+    go : (h : Bool) → contains (held_set t (s.round.0 - 1)) (leader_on s t (s.round.0 - 1)) ≡ h → refusal (vote_checks s t) ≡ cond h (cond (ltb b v) 0 22) 21
     go false h = sym (anchor-none s t p.formed p.from h)
     go true h = by (dec_lt b v)
       where

@@ -3,7 +3,7 @@ use Rattle.std.specs.Prelude.{◌≡◌, List, ℕ, ◌-◌, ◌<◌, replicate}
 use Rattle.base.specs.Checks.{refusal}
 use Rattle.store.specs.Table.{Row}
 use Rattle.committee.specs.Totals.{TotalBounded}
-use Rattle.running.specs.BlockChanges.{last_round}
+use Rattle.chain_committees.specs.BlockChanges.{last_round}
 use Rattle.state.specs.declared.State.{State}
 use Rattle.state.specs.Formed.{Formed}
 use Rattle.votes.specs.Checks.{time_checks, committee_on, leaders_for}

@@ -9,67 +9,81 @@ ghost use Rattle.votes.specs.Checks.{time_checks, vote_checks, leaders_for};
 ghost use Rattle.votes.specs.Ready.{AnchorReady, LeadersWanted};
 
 use blocks::histories::anchors;
+use chain_committees::{bonded, leaders};
 use committee::weighing;
 use member_view::View;
 use refusals::Refusal;
-use running::{bonded, leaders};
 use state::State;
 use terms::sheet::Weight;
 use terms::{Member, Round};
 
 /// The checks of time: 19, 20, 8.
 #[tactic(auto, using(crate::proofs::CheckLaws::last_told), unfolding(base::specs::Checks::refusal))]
-pub fn check_time(v: &View) -> Result<(), Refusal>
-    ensures { refusal_in result ≡ refusal (time_checks v.now.state.now v.now.table.now) }
+pub fn check_time(view: &View) -> Result<(), Refusal>
+    ensures { refusal_in result ≡ refusal (time_checks view.now.state.now view.now.table.now) }
 {
-    let round = v.state.round;
+    let round = view.state.round;
     if round.0 % 2 == 0 || round.0 == 1 {
         return Err(Refusal::NoCommitRound);
     }
-    if round.0 - 1 <= bonded::last_round(v.table, v.state.blocks).0 {
-        return Err(Refusal::CommittedAlready);
+    if round.0 - 1 <= bonded::last_round(view.table, view.state.blocks).0 {
+        return Err(Refusal::BlockMade);
     }
-    if v.is_unknown(round) {
+    if view.is_unknown(round) {
         return Err(Refusal::CommitteeUnknown);
     }
     Ok(())
 }
 
-/// Puts the leaders by round into l, which has 16s, and gives the committee of the present round: what the votes of a state that passes those of time are weighed by.
-pub fn fill_leaders(s: &State, t: &[u32], l: &mut [u32; 1025]) -> [Weight; 16]
-    requires { LeadersWanted s.now t.now l.old }
-    ensures { AnchorReady s.now t.now l.new result }
+/// Puts the leaders by round into `leaders`, which has 16s, and gives the committee of the present round: what the votes of a state that passes those of time are weighed by.
+pub fn fill_leaders(state: &State, table: &[u32], leaders: &mut [u32; 1025]) -> [Weight; 16]
+    requires { LeadersWanted state.now table.now leaders.old }
+    ensures { AnchorReady state.now table.now leaders.new result }
 {
-    let last = bonded::last_round(t, s.blocks);
-    leaders::fill_leaders(t, s.settings, s.blocks, last, Round(s.round.0 - 1), l)
+    let last = bonded::last_round(table, state.blocks);
+    leaders::fill_leaders(
+        table,
+        state.settings,
+        state.blocks,
+        last,
+        Round(state.round.0 - 1),
+        leaders,
+    )
 }
 
-/// The checks of the votes, 21 and 22, of a state that passes those of time, where l has the leaders by round and w is the committee of the present round.
-pub fn check_votes(s: &State, t: &[u32], l: &[u32; 1025], w: &[Weight; 16]) -> Result<(), Refusal>
-    requires { AnchorReady s.now t.now l.now w.now }
-    ensures { refusal_in result ≡ refusal (vote_checks s.now t.now) }
+/// The checks of the votes, 21 and 22, of a state that passes those of time, where `leaders` has the leaders by round and `weights` is the committee of the present round.
+pub fn check_votes(
+    state: &State,
+    table: &[u32],
+    leaders: &[u32; 1025],
+    weights: &[Weight; 16],
+) -> Result<(), Refusal>
+    requires { AnchorReady state.now table.now leaders.now weights.now }
+    ensures { refusal_in result ≡ refusal (vote_checks state.now table.now) }
 {
-    let top = Round(s.round.0 - 1);
-    let anchor = Member(l[top.0 as usize]);
-    if !anchors::is_held_leader(store::held_set(t, top), anchor) {
+    let top = Round(state.round.0 - 1);
+    let anchor = Member(leaders[top.0 as usize]);
+    if !anchors::is_held_leader(store::held_set(table, top), anchor) {
         return Err(Refusal::NoAnchor);
     }
-    let bound = weighing::fault_bound(s.settings.margin, weighing::total_weight(w));
-    let votes = crate::counting::votes_for(t, w, s.round, anchor);
+    let bound = weighing::fault_bound(state.settings.margin, weighing::total_weight(weights));
+    let votes = crate::counting::votes_for(table, weights, state.round, anchor);
     if votes.0 <= bound.0 {
-        return Err(Refusal::TooFewVotes);
+        return Err(Refusal::VotesShort);
     }
     Ok(())
 }
 
-/// The checks of a well-formed state: 19, 20, 8, 21, 22. Where those of time pass, l gets the leaders by round, 16 for none.
+/// The checks of a well-formed state: 19, 20, 8, 21, 22. Where those of time pass, `leaders` gets the leaders by round, 16 for none.
 #[tactic(auto, using(crate::proofs::CheckLaws::refused_in_time, crate::proofs::CheckLaws::refused_by_votes))]
-pub fn check(v: &View, l: &mut [u32; 1025]) -> Result<(), Refusal>
-    ensures refusal { let s = v.now.state.now in refusal_in result ≡ refusal (checks s.settings s.own.0 (shown v.now) commit) }
-    ensures leaders { OnOk result (l.new ≡ leaders_for v.now.state.now v.now.table.now) }
+pub fn check(view: &View, leaders: &mut [u32; 1025]) -> Result<(), Refusal>
+    ensures refusal { let s = view.now.state.now in
+        refusal_in result ≡ refusal (checks s.settings s.own.0 (shown view.now) commit) }
+    ensures leaders { OnOk result (leaders.new
+        ≡ leaders_for view.now.state.now view.now.table.now) }
 {
-    check_time(v)?;
-    l.fill(16);
-    let w = fill_leaders(v.state, v.table, l);
-    check_votes(v.state, v.table, l, &w)
+    check_time(view)?;
+    leaders.fill(16);
+    let weights = fill_leaders(view.state, view.table, leaders);
+    check_votes(view.state, view.table, leaders, &weights)
 }

@@ -1,6 +1,5 @@
 -- What a run's submissions count as, and which of its requests are submitted: by the sets and the rights alone.
-use Rattle.std.proofs.Common.{◌≡◌, refl, sym, ap, ap₂, ◌∙◌, subst, Bool, true, false, cond, ◌&&◌, List, [], ◌∷◌, ◌++◌, ℕ, length, eqb, eqb-true}
-use mathlib.Core.Option.{Option, none, some}
+use Rattle.std.proofs.Common.{◌≡◌, refl, sym, ap, ap₂, ◌∙◌, subst, Bool, true, false, cond, ◌&&◌, List, [], ◌∷◌, ◌++◌, ℕ, length, eqb, eqb-true, Option, Some, None}
 use Rattle.base.specs.Checks.{refusal}
 use Rattle.base.specs.Options.{if_there}
 use Rattle.base.proofs.Bools.{both}
@@ -38,8 +37,8 @@ counted (x ∷ l) = entries_of x.who (count_of x.call) ++ counted l
 
 -- what a request submits where the rights are R
 abbrev pub submits_by : Rights → Request → Option Submission
-submits_by R (host x) = some x
-submits_by R (guest c a) = cond (eqb (caller_refusal R (needed_for a) c) 0) (some (submitted_by c a)) none
+submits_by R (host x) = Some x
+submits_by R (guest c a) = cond (eqb (caller_refusal R (needed_for a) c) 0) (Some (submitted_by c a)) None
 
 count-so : (e : Engine) → well_formed e.state e.table ≡ true → (x : Submission) → calls_of e x ≡ count_of x
 unfolding batch_refusal
@@ -68,7 +67,7 @@ module _ (X : Members engine_behaviour) where
   -- a member's rights are those of its sheet
   rights-so : (l : List Entry) → Run X l → (i : ℕ) → correct i ≡ true → (engine_after X l i).state.rights ≡ (sheet i).rights
   unfolding states
-  rights-so [] r i c = (opened-fresh (before i) (record { 0 = i }) (sheet i) (X.accepted i c)).its-rights
+  rights-so [] r i c = (opened-fresh (before i) (record { 0 = i }) (sheet i) (X.accepted i c)).its_rights
   rights-so (e ∷ l) r i c = go (eqb i e.who) refl (rights-so l r.2 i c)
     where
       go : (b : Bool) → eqb i e.who ≡ b → (engine_after X l i).state.rights ≡ (sheet i).rights → (cond b (after (engine_after X l i) e.call) (engine_after X l i)).state.rights ≡ (sheet i).rights
@@ -117,8 +116,8 @@ module _ (X : Members engine_behaviour) where
           → Run X (counted (if_there o (submits l) (λ s. record { who = x.who; call = s } ∷ submits l)))
           → if_there (submission_of (engine_asked X l x.who) x.call) (submitted X l) (λ s. record { who = x.who; call = s } ∷ submitted X l)
           ≡ if_there (submits_by (sheet x.who).rights x.call) (submits l) (λ s. record { who = x.who; call = s } ∷ submits l)
-      go none f d r = both_so f d r
-      go (some s) f d r = both_so f (both (correct x.who) _ d).1 (earlier (entries_of x.who (count_of s)) (counted (submits l)) r)
+      go None f d r = both_so f d r
+      go (Some s) f d r = both_so f (both (correct x.who) _ d).1 (earlier (entries_of x.who (count_of s)) (counted (submits l)) r)
 
   -- who is refused by the sheet's rights is refused
   pub barred-so : (l : List (entries.Entry Request)) → are_by correct l ≡ true → are_by correct (submits l) ≡ true → Run X (counted (submits l)) → (i : ℕ) → correct i ≡ true

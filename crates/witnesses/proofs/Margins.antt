@@ -4,7 +4,7 @@ use native.Mathlib.Decide.{ℕ_discrete}
 use Rattle.base.specs.Checks.{refusal}
 use Rattle.base.proofs.CheckLaws.{passes, passes-all}
 use Rattle.base.specs.Folds.{tab, any_to, all_to, sum_to}
-use Rattle.base.specs.Sets.{mem, is_in, add, is_empty}
+use Rattle.base.specs.Sets.{mem, contains, insert, is_empty}
 use Rattle.agreement.specs.Weights.{total}
 use Rattle.agreement.specs.Places.{is_place, put, mark}
 use Rattle.agreement.specs.Histories.{level, in_history}
@@ -69,13 +69,13 @@ module _ (m : ℕ) (fit : out_of_range (settings m) ≡ false) where
     plain : are_plain calls ≡ true
     run : is_run views (λ k s c. is_plain c) calls ≡ true
     answers : are_answered members fit round4 ≡ true
-    listed-by_0 : listing (ordered (settings m)) (chain_after views calls 0) ≡ made
-    listed-by_1 : listing (ordered (settings m)) (chain_after views calls 1) ≡ made
-    listed-by_2 : listing (ordered (settings m)) (chain_after views calls 2) ≡ []
-    total-before : total 16 (committee_in (settings m) (view_after views calls 1) 3) ≡ 8
-    total-after : total 16 (committee_in (settings m) (view_after views calls 1) 4) ≡ 13
-    short-before : quorum m (committee_in (settings m) (view_after views calls 1) 1) (is_in 3) ≡ false
-    enough-after : quorum m (committee_in (settings m) (view_after views calls 1) 4) (is_in 3) ≡ true
+    listed_by_0 : listing (ordered (settings m)) (chain_after views calls 0) ≡ made
+    listed_by_1 : listing (ordered (settings m)) (chain_after views calls 1) ≡ made
+    listed_by_2 : listing (ordered (settings m)) (chain_after views calls 2) ≡ []
+    total_before : total 16 (committee_in (settings m) (view_after views calls 1) 3) ≡ 8
+    total_after : total 16 (committee_in (settings m) (view_after views calls 1) 4) ≡ 13
+    short_before : quorum m (committee_in (settings m) (view_after views calls 1) 1) (contains 3) ≡ false
+    enough_after : quorum m (committee_in (settings m) (view_after views calls 1) 4) (contains 3) ≡ true
 
   met : Computed → (X : Members engine_behaviour) × Met m X
   met computed =
@@ -88,61 +88,61 @@ module _ (m : ℕ) (fit : out_of_range (settings m) ≡ false) where
           filled_so = refl;
           premises = run-back members fit calls plain (run-found views (λ k s c. is_plain c) (λ k s c h. sets-fit (settings m) k s.0 s.1 c (is_in_range c h)) calls computed.run);
           answers = answered-found members fit round4 computed.plain computed.answers;
-          listed-by_0 = by-view members fit (λ S x. listing (ordered S) x ≡ made) (at 0 refl) computed.listed-by_0;
-          listed-by_1 = by-view members fit (λ S x. listing (ordered S) x ≡ made) (at 1 refl) computed.listed-by_1;
-          listed-by_2 = by-view members fit (λ S x. listing (ordered S) x ≡ []) (at 2 refl) computed.listed-by_2;
-          total-before = by-view members fit (λ S x. total 16 (weight_in (committee_of S x 3)) ≡ 8) (at 1 refl) computed.total-before;
-          total-after = by-view members fit (λ S x. total 16 (weight_in (committee_of S x 4)) ≡ 13) (at 1 refl) computed.total-after;
-          short-before = by-view members fit (λ S x. quorum m (weight_in (committee_of S x 1)) (is_in 3) ≡ false) (at 1 refl) computed.short-before;
-          enough-after = by-view members fit (λ S x. quorum m (weight_in (committee_of S x 4)) (is_in 3) ≡ true) (at 1 refl) computed.enough-after;
+          listed_by_0 = by-view members fit (λ S x. listing (ordered S) x ≡ made) (at 0 refl) computed.listed_by_0;
+          listed_by_1 = by-view members fit (λ S x. listing (ordered S) x ≡ made) (at 1 refl) computed.listed_by_1;
+          listed_by_2 = by-view members fit (λ S x. listing (ordered S) x ≡ []) (at 2 refl) computed.listed_by_2;
+          total_before = by-view members fit (λ S x. total 16 (weight_in (committee_of S x 3)) ≡ 8) (at 1 refl) computed.total_before;
+          total_after = by-view members fit (λ S x. total 16 (weight_in (committee_of S x 4)) ≡ 13) (at 1 refl) computed.total_after;
+          short_before = by-view members fit (λ S x. quorum m (weight_in (committee_of S x 1)) (contains 3) ≡ false) (at 1 refl) computed.short_before;
+          enough_after = by-view members fit (λ S x. quorum m (weight_in (committee_of S x 4)) (contains 3) ≡ true) (at 1 refl) computed.enough_after;
         },
       )
 
-margin-fits_4 : not_within 4 3 5 ≡ false
+margin_fits_4 : not_within 4 3 5 ≡ false
 unfolding not_within
-margin-fits_4 = refl
+margin_fits_4 = refl
 
-margin-fits_5 : not_within 5 3 5 ≡ false
+margin_fits_5 : not_within 5 3 5 ≡ false
 unfolding not_within
-margin-fits_5 = refl
+margin_fits_5 = refl
 
-computed_4 : Computed 4 (settings-fit 4 margin-fits_4)
-unfolding transactions_of slot_of tab states result ruled_refusal after put mark is_place refusal bad_transactions all_in_range bond_in_range bad_previous_set is_empty unknown known_by committee_of committee_by leader_by step_from bonded_from start_of ordered rows row changes_of changes above missing quorum outsider short quorum_weight bound_of any_to sum_to is_in mem add signers_of bad_round same_proposal same_transactions same_transaction unvoted anchor_at leader_of member_at member_below count_below in_chain block_of blocks_of taken committed level in_history listing is_made is_signed is_bounded is_fair is_run all_to
+computed_4 : Computed 4 (settings-fit 4 margin_fits_4)
+unfolding transactions_of slot_of tab states result ruled_refusal after put mark is_place refusal bad_transactions all_in_range bond_in_range bad_previous_set is_empty unknown known_by committee_of committee_by leader_by step_from bonded_from start_of ordered rows row changes_of changes above missing quorum outsider short quorum_weight bound_of any_to sum_to contains mem insert signers_of bad_round same_proposal same_transactions same_transaction unvoted anchor_at leader_of member_at member_below count_below in_chain block_of blocks_of taken committed level in_history listing is_made is_signed is_bounded is_fair is_run all_to
 computed_4 =
     record {
       plain = refl;
       run = refl;
       answers = refl;
-      listed-by_0 = refl;
-      listed-by_1 = refl;
-      listed-by_2 = refl;
-      total-before = refl;
-      total-after = refl;
-      short-before = refl;
-      enough-after = refl;
+      listed_by_0 = refl;
+      listed_by_1 = refl;
+      listed_by_2 = refl;
+      total_before = refl;
+      total_after = refl;
+      short_before = refl;
+      enough_after = refl;
     }
 
-computed_5 : Computed 5 (settings-fit 5 margin-fits_5)
-unfolding transactions_of slot_of tab states result ruled_refusal after put mark is_place refusal bad_transactions all_in_range bond_in_range bad_previous_set is_empty unknown known_by committee_of committee_by leader_by step_from bonded_from start_of ordered rows row changes_of changes above missing quorum outsider short quorum_weight bound_of any_to sum_to is_in mem add signers_of bad_round same_proposal same_transactions same_transaction unvoted anchor_at leader_of member_at member_below count_below in_chain block_of blocks_of taken committed level in_history listing is_made is_signed is_bounded is_fair is_run all_to
+computed_5 : Computed 5 (settings-fit 5 margin_fits_5)
+unfolding transactions_of slot_of tab states result ruled_refusal after put mark is_place refusal bad_transactions all_in_range bond_in_range bad_previous_set is_empty unknown known_by committee_of committee_by leader_by step_from bonded_from start_of ordered rows row changes_of changes above missing quorum outsider short quorum_weight bound_of any_to sum_to contains mem insert signers_of bad_round same_proposal same_transactions same_transaction unvoted anchor_at leader_of member_at member_below count_below in_chain block_of blocks_of taken committed level in_history listing is_made is_signed is_bounded is_fair is_run all_to
 computed_5 =
     record {
       plain = refl;
       run = refl;
       answers = refl;
-      listed-by_0 = refl;
-      listed-by_1 = refl;
-      listed-by_2 = refl;
-      total-before = refl;
-      total-after = refl;
-      short-before = refl;
-      enough-after = refl;
+      listed_by_0 = refl;
+      listed_by_1 = refl;
+      listed_by_2 = refl;
+      total_before = refl;
+      total_after = refl;
+      short_before = refl;
+      enough_after = refl;
     }
 
 pub met_by_margins : (m : ℕ) → 4 ≤ m → m ≤ 5 → (X : Members engine_behaviour) × Met m X
 met_by_margins m a b = go (ℕ_discrete m 4)
   where
     go : Dec (m ≡ 4) → (X : Members engine_behaviour) × Met m X
-    go (yes e) = subst (λ (n : ℕ). (X : Members engine_behaviour) × Met n X) (sym e) (met 4 (settings-fit 4 margin-fits_4) computed_4)
+    go (yes e) = subst (λ (n : ℕ). (X : Members engine_behaviour) × Met n X) (sym e) (met 4 (settings-fit 4 margin_fits_4) computed_4)
     go (no n) =
         let e : m ≡ 5 = omega arith in
-        subst (λ (n : ℕ). (X : Members engine_behaviour) × Met n X) (sym e) (met 5 (settings-fit 5 margin-fits_5) computed_5)
+        subst (λ (n : ℕ). (X : Members engine_behaviour) × Met n X) (sym e) (met 5 (settings-fit 5 margin_fits_5) computed_5)

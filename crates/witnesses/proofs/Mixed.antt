@@ -7,7 +7,7 @@ use Rattle.base.specs.Checks.{refusal}
 use Rattle.base.proofs.Bools.{both}
 use Rattle.base.proofs.CheckLaws.{passes, passes-all}
 use Rattle.base.specs.Folds.{tab, any_to, all_to, sum_to}
-use Rattle.base.specs.Sets.{mem, is_in, add, is_empty}
+use Rattle.base.specs.Sets.{mem, contains, insert, is_empty}
 use Rattle.agreement.specs.Places.{is_place, put, mark}
 use Rattle.agreement.specs.Histories.{level, in_history}
 use Rattle.agreement.specs.Commits.{in_chain, anchor_at, block_of, blocks_of, taken, committed}
@@ -55,7 +55,7 @@ use Rattle.library.specs.Calls.{LibraryCall, by_host, by_guest, Typed, request_i
 use Rattle.library.specs.Hosts.{Hosts, members, AllTyped, asked, calls_in}
 use Rattle.witnesses.specs.Lines.{Line, record_of, answers_for, batched, library_calls, requests, submissions, answered}
 use Rattle.engine.specs.Guests.{enqueue}
-use Rattle.witnesses.specs.Mixed.{sheet_words, rights, bond, first, filling, signing, offered, offered-to_1, offering, with, run, calls, made, OpenedSo, MetWithADraw, MetWithBatches, MetWithGuests, MetOverWords}
+use Rattle.witnesses.specs.Mixed.{sheet_words, rights, bond, first, filling, signing, offered, offered_to_1, offering, with, run, calls, made, OpenedSo, MetWithADraw, MetWithBatches, MetWithGuests, MetOverWords}
 use Rattle.witnesses.proofs.Queued.{Seen, beside_queues, in_queues, told, is_met, seen, answers-met, run-met, drawn-seen, by-seen}
 use Rattle.witnesses.proofs.Counted.{are_by, counted, submits, unrolled-so, submitted-so, barred-so}
 
@@ -106,13 +106,13 @@ record Computed : Type 0 where
   met-signing : is_met mine settings-fit (answered signing) ≡ true
   met-offering : is_met mine settings-fit (answered offering) ≡ true
   drawn : body_of 0 (transactions_in (drawn settings.allowance (state_after views (told (answered filling)) 0).0)) ≡ body_of 0 (bond ∷ [])
-  listed-by_0 : listing (ordered settings) (chain_after views (told (answered run)) 0) ≡ made (bond ∷ [])
-  listed-by_1 : listing (ordered settings) (chain_after views (told (answered run)) 1) ≡ made (bond ∷ [])
-  weight-before : committee_in settings (view_after views (told (answered run)) 1) 3 0 ≡ 3
-  weight-after : committee_in settings (view_after views (told (answered run)) 1) 4 0 ≡ 8
+  listed_by_0 : listing (ordered settings) (chain_after views (told (answered run)) 0) ≡ made (bond ∷ [])
+  listed_by_1 : listing (ordered settings) (chain_after views (told (answered run)) 1) ≡ made (bond ∷ [])
+  weight_before : committee_in settings (view_after views (told (answered run)) 1) 3 0 ≡ 3
+  weight_after : committee_in settings (view_after views (told (answered run)) 1) 4 0 ≡ 8
 
 computed : Computed
-unfolding transactions_of slot_of body_of first_from drawn after_draws tab states result ruled_refusal after put mark is_place refusal bad_transactions all_in_range bond_in_range bad_previous_set is_empty unknown known_by committee_of committee_by leader_by step_from bonded_from start_of ordered rows row changes_of changes above missing quorum outsider short quorum_weight bound_of any_to sum_to is_in mem add signers_of bad_round same_proposal same_transactions same_transaction unvoted anchor_at leader_of member_at member_below count_below in_chain block_of blocks_of taken committed level in_history listing is_made is_signed is_bounded is_fair is_run all_to
+unfolding transactions_of slot_of body_of first_from drawn after_draws tab states result ruled_refusal after put mark is_place refusal bad_transactions all_in_range bond_in_range bad_previous_set is_empty unknown known_by committee_of committee_by leader_by step_from bonded_from start_of ordered rows row changes_of changes above missing quorum outsider short quorum_weight bound_of any_to sum_to contains mem insert signers_of bad_round same_proposal same_transactions same_transaction unvoted anchor_at leader_of member_at member_below count_below in_chain block_of blocks_of taken committed level in_history listing is_made is_signed is_bounded is_fair is_run all_to
 computed =
     record {
       met = refl;
@@ -120,34 +120,34 @@ computed =
       met-signing = refl;
       met-offering = refl;
       drawn = refl;
-      listed-by_0 = refl;
-      listed-by_1 = refl;
-      weight-before = refl;
-      weight-after = refl;
+      listed_by_0 = refl;
+      listed_by_1 = refl;
+      weight_before = refl;
+      weight_after = refl;
     }
 
 -- the members, the sets and the rights
 record Counts (l : List Line) : Type 0 where
   by-submissions : are_by mine.correct (submissions l) ≡ true
   by-requests : are_by mine.correct (requests l) ≡ true
-  submits-them : submits mine (requests l) ≡ submissions l
+  submits_them : submits mine (requests l) ≡ submissions l
   counts : counted (submissions l) ≡ calls l
 
 counts_first : Counts first
 unfolding sheet_in may caller_refusal refusal mem
-counts_first = record { by-submissions = refl; by-requests = refl; submits-them = refl; counts = refl }
+counts_first = record { by-submissions = refl; by-requests = refl; submits_them = refl; counts = refl }
 
 counts_signing : Counts signing
 unfolding sheet_in may caller_refusal refusal mem
-counts_signing = record { by-submissions = refl; by-requests = refl; submits-them = refl; counts = refl }
+counts_signing = record { by-submissions = refl; by-requests = refl; submits_them = refl; counts = refl }
 
 counts_offering : Counts offering
 unfolding sheet_in may caller_refusal refusal mem accepts_of before first_of in_turn record_words certificate_of certificate_reads proposal_reads body_reads triple_reads is_triple certificate_in proposal_in body_in slot_in read_transaction body_words used_words used_of slot_of body_of tab all_to
-counts_offering = record { by-submissions = refl; by-requests = refl; submits-them = refl; counts = refl }
+counts_offering = record { by-submissions = refl; by-requests = refl; submits_them = refl; counts = refl }
 
 counts_run : Counts run
 unfolding sheet_in may caller_refusal refusal mem accepts_of before first_of in_turn record_words certificate_of certificate_reads proposal_reads body_reads triple_reads is_triple certificate_in proposal_in body_in slot_in read_transaction body_words used_words used_of slot_of body_of tab all_to
-counts_run = record { by-submissions = refl; by-requests = refl; submits-them = refl; counts = refl }
+counts_run = record { by-submissions = refl; by-requests = refl; submits_them = refl; counts = refl }
 
 -- nothing is asked of ports, so all values are of their types
 abbrev asks_no_port : LibraryCall → Bool
@@ -186,13 +186,13 @@ module _ (l : List Line) (n : Counts l) (met : is_met mine settings-fit (answere
   unrolled_so = unrolled-so mine (submissions l) n.by-submissions run-counted ∙ n.counts
 
   by-submits : are_by mine.correct (submits mine (requests l)) ≡ true
-  by-submits = subst (λ (m : List (entries.Entry Submission)). are_by mine.correct m ≡ true) (sym n.submits-them) n.by-submissions
+  by-submits = subst (λ (m : List (entries.Entry Submission)). are_by mine.correct m ≡ true) (sym n.submits_them) n.by-submissions
 
   run-submits : Run mine (counted (submits mine (requests l)))
-  run-submits = subst (λ (m : List (entries.Entry Submission)). Run mine (counted m)) (sym n.submits-them) run-counted
+  run-submits = subst (λ (m : List (entries.Entry Submission)). Run mine (counted m)) (sym n.submits_them) run-counted
 
   submitted_so : submitted mine (requests l) ≡ submissions l
-  submitted_so = submitted-so mine (requests l) n.by-requests by-submits run-submits ∙ n.submits-them
+  submitted_so = submitted-so mine (requests l) n.by-requests by-submits run-submits ∙ n.submits_them
 
 -- guest 5 of member 0 may not propose, and guest 1 of member 1 not sign
 lacks_enqueue : (eqb (caller_refusal (mine.sheet 0).rights Propose 5) 0 ≡ false) × (caller_refusal (mine.sheet 0).rights Propose 5 ≡ 29)
@@ -217,10 +217,10 @@ met_with_a_draw =
         premises = premises;
         answers = answers-met mine settings-fit (answered run) c;
         drawn = drawn-seen (seen mine settings-fit (answered filling) computed.met-filling 0 refl) 0 ∙ computed.drawn;
-        listed-by_0 = by-seen (at 0 refl) (λ S x. listing (ordered S) x ≡ made (bond ∷ [])) computed.listed-by_0;
-        listed-by_1 = by-seen (at 1 refl) (λ S x. listing (ordered S) x ≡ made (bond ∷ [])) computed.listed-by_1;
-        weight-before = by-seen (at 1 refl) (λ S x. weight_in (committee_of S x 3) 0 ≡ 3) computed.weight-before;
-        weight-after = by-seen (at 1 refl) (λ S x. weight_in (committee_of S x 4) 0 ≡ 8) computed.weight-after;
+        listed_by_0 = by-seen (at 0 refl) (λ S x. listing (ordered S) x ≡ made (bond ∷ [])) computed.listed_by_0;
+        listed_by_1 = by-seen (at 1 refl) (λ S x. listing (ordered S) x ≡ made (bond ∷ [])) computed.listed_by_1;
+        weight_before = by-seen (at 1 refl) (λ S x. weight_in (committee_of S x 3) 0 ≡ 3) computed.weight_before;
+        weight_after = by-seen (at 1 refl) (λ S x. weight_in (committee_of S x 4) 0 ≡ 8) computed.weight_after;
       },
     )
 
@@ -270,8 +270,8 @@ met_with_guests = (
     premises = subst (λ (l : List (entries.Entry Submission)). Run mine (unrolled mine l)) (sym (submitted_so run counts_run computed.met)) (subst (Run mine) (sym (unrolled_so run counts_run computed.met)) premises);
     submits = submitted_so run counts_run computed.met;
     answers = answers-met mine settings-fit (answered run) computed.met;
-    barred-enqueue = barred-so mine (requests first) counts_first.by-requests (by-submits first counts_first computed.met-filling) (run-submits first counts_first computed.met-filling) 0 refl 5 (asks (enqueue bond)) lacks_enqueue.0 ∙ lacks_enqueue.1;
-    barred-batch = barred-so mine (requests offering) counts_offering.by-requests (by-submits offering counts_offering computed.met-offering) (run-submits offering counts_offering computed.met-offering) 1 refl 1 (asks_batch (row_of (map record_of offered-to_1)) (answers_for offered-to_1)) lacks_batch.0 ∙ lacks_batch.1;
+    barred_enqueue = barred-so mine (requests first) counts_first.by-requests (by-submits first counts_first computed.met-filling) (run-submits first counts_first computed.met-filling) 0 refl 5 (asks (enqueue bond)) lacks_enqueue.0 ∙ lacks_enqueue.1;
+    barred_batch = barred-so mine (requests offering) counts_offering.by-requests (by-submits offering counts_offering computed.met-offering) (run-submits offering counts_offering computed.met-offering) 1 refl 1 (asks_batch (row_of (map record_of offered_to_1)) (answers_for offered_to_1)) lacks_batch.0 ∙ lacks_batch.1;
   },
 )
 

@@ -36,7 +36,7 @@ use Rattle.engine.specs.Engine.{Engine, refusal_for, after}
 use Rattle.engine.specs.Steps.{view_at, ruled_propose, ruled}
 use Rattle.engine.specs.Sequences.{NoOpen}
 use Rattle.engine.specs.Reached.{Good}
-use Rattle.engine.proofs.RuledLaws.{good-after, view-after}
+use Rattle.engine.proofs.RuledLaws.{good_after, view-after}
 use Rattle.nonforking.specs.Statement.{chain, Members, engine_after, Run, engine_behaviour}
 use Rattle.nonforking.specs.Witness.{Answered, entries, AreAnswered}
 use Rattle.nonforking.proofs.Implemented.{sets-fit}
@@ -169,7 +169,7 @@ module _ {S : Settings} {k : ℕ} {e : Engine} {s : Queues × MemberView S} (m :
       let r = told-range c h.0 in
       let o = told_open e c h.0 in
       record {
-        good = good-after m.good c r o;
+        good = good_after m.good c r o;
         queued = queues_kept e c
             ∙ ap₂ (λ (n : ℕ) (q : Queues). cond (eqb n 0) q (queues e)) (answer-seen x f) (accepted-by m.good c)
             ∙ ap (λ (q : Queues). cond (eqb x.answer 0) (queues_by S q c) q) m.queued;
@@ -286,12 +286,12 @@ module _ (X : Members engine_behaviour) (fit : out_of_range X.settings ≡ false
   signed-same : (l : List Answered) → AllFit l → (p : Content) (d : ℕ) → runs.Signed in_queues p d (told l) → runs.Signed in_engines p d (entries l)
   signed-same l f p d x =
       record {
-        by-author = λ c. made-same (λ s c. Proposes settings p.author s c p) p.author c l f (x.by-author c);
-        by-endorsers = λ i c n. made-same (λ s c. Endorses c p) i c l f (x.by-endorsers i c n);
+        by_author = λ c. made-same (λ s c. Proposes settings p.author s c p) p.author c l f (x.by_author c);
+        by_endorsers = λ i c n. made-same (λ s c. Endorses c p) i c l f (x.by_endorsers i c n);
       }
 
-  fair-same : (x : Answered) (l : List Answered) → AllFit (x ∷ l) → runs.Fair in_queues (record { who = x.entry.who; call = told_of x }) (told l) → runs.Fair in_engines x.entry (entries l)
-  fair-same x l f z =
+  fair_same : (x : Answered) (l : List Answered) → AllFit (x ∷ l) → runs.Fair in_queues (record { who = x.entry.who; call = told_of x }) (told l) → runs.Fair in_engines x.entry (entries l)
+  fair_same x l f z =
       let i = x.entry.who in
       let c = x.entry.call in
       let s = same l f.2 i f.0 in
@@ -311,7 +311,7 @@ module _ (X : Members engine_behaviour) (fit : out_of_range X.settings ≡ false
 
   run-same : (l : List Answered) → AllFit l → runs.Run in_queues (told l) → runs.Run in_engines (entries l)
   run-same [] f r = bound-same [] f r
-  run-same (x ∷ l) f r = (fair-same x l f r.0, bound-same (x ∷ l) f r.1, run-same l f.2 r.2)
+  run-same (x ∷ l) f r = (fair_same x l f r.0, bound-same (x ∷ l) f r.1, run-same l f.2 r.2)
 
   -- a list that passes the test is a run of engines
   pub run-met : (l : List Answered) → is_met l ≡ true → Run X (entries l)

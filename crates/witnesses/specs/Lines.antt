@@ -53,7 +53,12 @@ abbrev pub certificate_words : Certificate → List ℕ
 certificate_words c = proposal_words c.proposal ++ (c.endorsers ∷ [])
 
 abbrev pub record_of : Certificate → CertificateRecord
-record_of c = record { author = c.proposal.author.0; round = c.proposal.round.0; body = body_words c.proposal.body; endorsers = c.endorsers }
+record_of c = record {
+  author = c.proposal.author.0;
+  round = c.proposal.round.0;
+  body = body_words c.proposal.body;
+  endorsers = c.endorsers;
+}
 
 -- of a guest; where it reads, no out stretch is lent
 abbrev pub guest_form : GuestCall → GuestForm
@@ -100,7 +105,12 @@ module _ (i : ℕ) where
 
   -- an accepted call of member i's host, for guest g
   abbrev pub for_guest : ℕ → GuestCall → Line
-  for_guest g k = record { library = entry (by_host (host_form g k)); request = entry (host (one (as_host g k))); submissions = entry (one (as_host g k)) ∷ []; calls = by i (as_host g k) ∷ [] }
+  for_guest g k = record {
+    library = entry (by_host (host_form g k));
+    request = entry (host (one (as_host g k)));
+    submissions = entry (one (as_host g k)) ∷ [];
+    calls = by i (as_host g k) ∷ [];
+  }
 
   -- and for none; to an enqueue it is one for guest 0
   abbrev pub own : GuestCall → Line
@@ -108,20 +118,45 @@ module _ (i : ℕ) where
 
   -- an accepted call of guest g, who has the right
   abbrev pub allowed : ℕ → GuestCall → Line
-  allowed g k = record { library = entry (by_guest g (guest_form k)); request = entry (guest g (asks k)); submissions = entry (one (as_host g k)) ∷ []; calls = by i (as_host g k) ∷ [] }
+  allowed g k = record {
+    library = entry (by_guest g (guest_form k));
+    request = entry (guest g (asks k));
+    submissions = entry (one (as_host g k)) ∷ [];
+    calls = by i (as_host g k) ∷ [];
+  }
 
   -- one of guest g, who lacks the right
   abbrev pub barred : ℕ → GuestCall → Line
-  barred g k = record { library = entry (by_guest g (guest_form k)); request = entry (guest g (asks k)); submissions = []; calls = [] }
+  barred g k = record {
+    library = entry (by_guest g (guest_form k));
+    request = entry (guest g (asks k));
+    submissions = [];
+    calls = [];
+  }
 
   -- an accepted batch of the host, and the calls that it counts as
   abbrev pub in_batch : List Certificate → List Answered → Line
-  in_batch l calls = record { library = entry (batch_by_host (map record_of l) (answers_for l)); request = entry (host (batched l)); submissions = entry (batched l) ∷ []; calls = calls }
+  in_batch l calls = record {
+    library = entry (batch_by_host (map record_of l) (answers_for l));
+    request = entry (host (batched l));
+    submissions = entry (batched l) ∷ [];
+    calls = calls;
+  }
 
   -- of guest g, who has the right
   abbrev pub batch_allowed : ℕ → List Certificate → List Answered → Line
-  batch_allowed g l calls = record { library = entry (batch_by_guest g (map record_of l) (answers_for l)); request = entry (batch_asked g l); submissions = entry (batched l) ∷ []; calls = calls }
+  batch_allowed g l calls = record {
+    library = entry (batch_by_guest g (map record_of l) (answers_for l));
+    request = entry (batch_asked g l);
+    submissions = entry (batched l) ∷ [];
+    calls = calls;
+  }
 
   -- of guest g, who lacks it
   abbrev pub batch_barred : ℕ → List Certificate → Line
-  batch_barred g l = record { library = entry (batch_by_guest g (map record_of l) (answers_for l)); request = entry (batch_asked g l); submissions = []; calls = [] }
+  batch_barred g l = record {
+    library = entry (batch_by_guest g (map record_of l) (answers_for l));
+    request = entry (batch_asked g l);
+    submissions = [];
+    calls = [];
+  }

@@ -1,7 +1,7 @@
 -- The premises of chains_never_fork can be met under the margins 4 and 5: a run of engines in which members 0, 1 and 2 are correct and 3 is faulty.
 -- Members 0, 1 and 3 sign three rounds and members 0 and 1 make a block, whose bond changes the committee of round 4. There 0 and 1 alone sign: they were no quorum of the starting committee.
 use Rattle.std.specs.Prelude.{◌≡◌, false, true, List, [], ◌∷◌, ℕ, nat_lt, replicate}
-use Rattle.base.specs.Sets.{is_in}
+use Rattle.base.specs.Sets.{contains}
 use Rattle.agreement.specs.Weights.{total}
 use Rattle.terms.specs.declared.Transaction.TheVariants.{Bond}
 use Rattle.terms.specs.declared.Body.{Body}
@@ -17,10 +17,23 @@ use Rattle.nonforking.specs.Witness.{Answered, entries, AreAnswered, by, refused
 
 -- lookback 1, ceiling 4, weight 3 for members 0 and 1, margin m, and nothing else written: members 2 and 3 have weight 1
 abbrev pub sheet : ℕ → Sheet
-sheet m = record { lookback = Written 1; ceiling = Written 4; allowance = Blank; weights = Written 3 ∷ Written 3 ∷ replicate 14 Blank; margin = Written m; rights = record { 0 = 0 } }
+sheet m = record {
+  lookback = Written 1;
+  ceiling = Written 4;
+  allowance = Blank;
+  weights = Written 3 ∷ Written 3 ∷ replicate 14 Blank;
+  margin = Written m;
+  rights = record { 0 = 0 };
+}
 
 abbrev pub settings : ℕ → Settings
-settings m = record { lookback = 1; ceiling = record { 0 = 4 }; allowance = 4; weights = weight 3 ∷ weight 3 ∷ weight 1 ∷ weight 1 ∷ replicate 12 (weight 0); margin = m }
+settings m = record {
+  lookback = 1;
+  ceiling = record { 0 = 4 };
+  allowance = 4;
+  weights = weight 3 ∷ weight 3 ∷ weight 1 ∷ weight 1 ∷ replicate 12 (weight 0);
+  margin = m;
+}
 
 -- ---- the calls, newest first
 
@@ -40,7 +53,8 @@ abbrev pub round2 : List Answered
 round2 = signed 2 (with 11) (with 11) (by 1 advance ∷ by 0 advance ∷ round1)
 
 abbrev pub round3 : List Answered
-round3 = by 1 commit ∷ by 0 commit ∷ signed 3 (with 11) (with 11) (by 1 advance ∷ by 0 advance ∷ round2)
+round3 = by 1 commit ∷ by 0 commit ∷ signed 3 (with 11) (with 11) (by 1 advance
+    ∷ by 0 advance ∷ round2)
 
 -- members 0 and 1 alone sign
 abbrev pub round4 : List Answered
@@ -54,7 +68,11 @@ calls = entries round4
 
 -- the block that members 0 and 1 list
 abbrev pub made : List (ℕ × List Content)
-made = (2, listed_at 1 1 0 [] ∷ listed_at 3 1 0 [] ∷ listed_at 0 1 0 (Bond (record { 0 = 0 }) 5 ∷ []) ∷ listed_at 1 2 11 [] ∷ []) ∷ []
+made = (
+  2,
+  listed_at 1 1 0 [] ∷ listed_at 3 1 0 [] ∷ listed_at 0 1 0 (Bond (record { 0 = 0 }) 5
+      ∷ []) ∷ listed_at 1 2 11 [] ∷ [],
+) ∷ []
 
 -- what is so of these members and calls
 pub record Met (m : ℕ) (X : Members engine_behaviour) : Type 0 where
@@ -64,12 +82,12 @@ pub record Met (m : ℕ) (X : Members engine_behaviour) : Type 0 where
   pub premises : Run X calls
   -- each entry is answered with the number that stands at it
   pub answers : AreAnswered X round4
-  pub listed-by_0 : listed (engine_after X calls 0) ≡ made
-  pub listed-by_1 : listed (engine_after X calls 1) ≡ made
-  pub listed-by_2 : listed (engine_after X calls 2) ≡ []
+  pub listed_by_0 : listed (engine_after X calls 0) ≡ made
+  pub listed_by_1 : listed (engine_after X calls 1) ≡ made
+  pub listed_by_2 : listed (engine_after X calls 2) ≡ []
   -- the bond is out in round 3 and in from round 4
-  pub total-before : total 16 (weights (engine_after X calls 1) 3) ≡ 8
-  pub total-after : total 16 (weights (engine_after X calls 1) 4) ≡ 13
+  pub total_before : total 16 (weights (engine_after X calls 1) 3) ≡ 8
+  pub total_after : total 16 (weights (engine_after X calls 1) 4) ≡ 13
   -- members 0 and 1 are no quorum of the starting committee, and are one of the changed committee
-  pub short-before : quorum m (weights (engine_after X calls 1) 1) (is_in 3) ≡ false
-  pub enough-after : quorum m (weights (engine_after X calls 1) 4) (is_in 3) ≡ true
+  pub short_before : quorum m (weights (engine_after X calls 1) 1) (contains 3) ≡ false
+  pub enough_after : quorum m (weights (engine_after X calls 1) 4) (contains 3) ≡ true

@@ -57,36 +57,42 @@ drawing = for_guest 0 3 (enqueue seven) ∷ allowed 0 0 (draw 0) ∷ filling
 abbrev pub signing : List Line
 signing =
     own 1 (certify 9) ∷ own 0 (certify 10)
-    ∷ own 1 (endorse (at 3 1 (with 0))) ∷ own 0 (endorse (at 3 1 (with 0))) ∷ allowed 0 1 (endorse (at 1 1 (with 0)))
+    ∷ own 1 (endorse (at 3 1 (with 0))) ∷ own 0 (endorse (at 3 1 (with 0)))
+    ∷ allowed 0 1 (endorse (at 1 1 (with 0)))
     ∷ own 1 (endorse (at 0 1 (body_of 0 (bond ∷ [])))) ∷ own 1 (propose (with 0)) ∷ drawing
 
 -- a certificate of round 2 by member 3, which names one that is not held, then two of round 1: they are tried by rising round
 abbrev pub offered : List Certificate
 offered = certificate 3 2 (with 7) 3 ∷ certificate 3 1 (with 0) 3 ∷ certificate 1 1 (with 0) 9 ∷ []
 
-abbrev pub offered-to_1 : List Certificate
-offered-to_1 = certificate 0 1 (body_of 0 (bond ∷ [])) 10 ∷ certificate 3 1 (with 0) 3 ∷ []
+abbrev pub offered_to_1 : List Certificate
+offered_to_1 = certificate 0 1 (body_of 0 (bond ∷ [])) 10 ∷ certificate 3 1 (with 0) 3 ∷ []
 
 -- guest 1 of member 0 hands them in at once
 abbrev pub offering : List Line
-offering = batch_allowed 0 1 offered (refused 11 0 (of 3 2 (with 7) 3) ∷ by 0 (of 3 1 (with 0) 3) ∷ by 0 (of 1 1 (with 0) 9) ∷ []) ∷ signing
+offering = batch_allowed 0 1 offered (refused 11 0 (of 3 2 (with 7) 3) ∷ by 0 (of 3 1 (with 0) 3)
+    ∷ by 0 (of 1 1 (with 0) 9) ∷ []) ∷ signing
 
 -- and guest 1 of member 1 may not, so its host does
 abbrev pub round1 : List Line
-round1 = in_batch 1 offered-to_1 (by 1 (of 3 1 (with 0) 3) ∷ by 1 (of 0 1 (body_of 0 (bond ∷ [])) 10) ∷ []) ∷ batch_barred 1 1 offered-to_1 ∷ offering
+round1 = in_batch 1 offered_to_1 (by 1 (of 3 1 (with 0) 3)
+    ∷ by 1 (of 0 1 (body_of 0 (bond ∷ [])) 10) ∷ []) ∷ batch_barred 1 1 offered_to_1 ∷ offering
 
 -- in rounds 2 and 3 members 0 and 1 alone sign; the host of member 0 draws what guest 3 was given
 abbrev pub round2 : List Line
 round2 =
-    own 1 (accept (certificate 0 2 (body_of 11 (seven ∷ [])) 2)) ∷ own 0 (accept (certificate 1 2 (with 11) 1)) ∷ own 1 (certify 1)
-    ∷ own 0 (certify 2) ∷ own 0 (endorse (at 1 2 (with 11))) ∷ own 1 (endorse (at 0 2 (body_of 11 (seven ∷ []))))
+    own 1 (accept (certificate 0 2 (body_of 11 (seven ∷ [])) 2))
+    ∷ own 0 (accept (certificate 1 2 (with 11) 1)) ∷ own 1 (certify 1)
+    ∷ own 0 (certify 2) ∷ own 0 (endorse (at 1 2 (with 11)))
+    ∷ own 1 (endorse (at 0 2 (body_of 11 (seven ∷ []))))
     ∷ own 1 (propose (with 11)) ∷ own 0 (draw 11) ∷ own 1 advance ∷ own 0 advance
     ∷ round1
 
 abbrev pub run : List Line
 run =
     own 1 commit ∷ own 0 commit
-    ∷ own 1 (accept (certificate 0 3 (with 3) 2)) ∷ own 0 (accept (certificate 1 3 (with 3) 1)) ∷ own 1 (certify 1)
+    ∷ own 1 (accept (certificate 0 3 (with 3) 2)) ∷ own 0 (accept (certificate 1 3 (with 3) 1))
+    ∷ own 1 (certify 1)
     ∷ own 0 (certify 2) ∷ own 0 (endorse (at 1 3 (with 3))) ∷ own 1 (endorse (at 0 3 (with 3)))
     ∷ own 1 (propose (with 3)) ∷ own 0 (propose (with 3)) ∷ own 1 advance ∷ own 0 advance
     ∷ round2
@@ -97,7 +103,8 @@ calls l = entries (answered l)
 
 -- the block that members 0 and 1 list, where the transactions l were drawn
 abbrev pub made : List Transaction → List (ℕ × List Content)
-made l = (2, listed_at 1 1 0 [] ∷ listed_at 3 1 0 [] ∷ listed_at 0 1 0 l ∷ listed_at 1 2 11 [] ∷ []) ∷ []
+made l = (2, listed_at 1 1 0 [] ∷ listed_at 3 1 0 [] ∷ listed_at 0 1 0 l ∷ listed_at 1 2 11 [] ∷ [])
+    ∷ []
 
 -- ---- what is so
 
@@ -113,13 +120,14 @@ pub record MetWithADraw (X : Members engine_behaviour) (l : List Transaction) : 
   -- each call is answered with the number that stands at it
   pub answers : AreAnswered X (answered run)
   -- the draw proposes them
-  pub drawn : drawn_body (engine_after X (calls filling) 0).state (engine_after X (calls filling) 0).table 0 ≡ body_of 0 l
+  pub drawn : drawn_body (engine_after X (calls filling) 0).state
+      (engine_after X (calls filling) 0).table 0 ≡ body_of 0 l
   -- and they stand in the block
-  pub listed-by_0 : listed (engine_after X (calls run) 0) ≡ made l
-  pub listed-by_1 : listed (engine_after X (calls run) 1) ≡ made l
+  pub listed_by_0 : listed (engine_after X (calls run) 0) ≡ made l
+  pub listed_by_1 : listed (engine_after X (calls run) 1) ≡ made l
   -- where they change a committee
-  pub weight-before : weights (engine_after X (calls run) 1) 3 0 ≡ 3
-  pub weight-after : weights (engine_after X (calls run) 1) 4 0 ≡ 8
+  pub weight_before : weights (engine_after X (calls run) 1) 3 0 ≡ 3
+  pub weight_after : weights (engine_after X (calls run) 1) 4 0 ≡ 8
 
 -- batches among the submissions: one gets the answers l, each at its place in the row
 pub record MetWithBatches (X : Members engine_behaviour) (l : List ℕ) : Type 0 where
@@ -140,8 +148,10 @@ pub record MetWithGuests (X : Members engine_behaviour) (n : ℕ) : Type 0 where
   pub submits : submitted X (requests run) ≡ submissions run
   pub answers : AreAnswered X (answered run)
   -- the enqueue of guest 5 of member 0, and the batch of guest 1 of member 1
-  pub barred-enqueue : (result_of (engine_asked X (requests first) 0) (guest 5 (asks (enqueue bond)))).refusal ≡ n
-  pub barred-batch : (result_of (engine_asked X (requests offering) 1) (batch_asked 1 offered-to_1)).refusal ≡ n
+  pub barred_enqueue : (result_of (engine_asked X (requests first) 0)
+      (guest 5 (asks (enqueue bond)))).refusal ≡ n
+  pub barred_batch : (result_of (engine_asked X (requests offering) 1)
+      (batch_asked 1 offered_to_1)).refusal ≡ n
 
 -- over the words of hosts: they count as the calls l
 pub record MetOverWords (X : Hosts) (l : List Entry) : Type 0 where

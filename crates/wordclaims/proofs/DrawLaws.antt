@@ -1,6 +1,5 @@
 -- Draws are fair over every list of the library's calls.
-use Rattle.std.proofs.Common.{◌≡◌, refl, sym, ap, ◌∙◌, subst, List, [], ◌∷◌, ◌++◌}
-use mathlib.Core.Option.{Option, none, some}
+use Rattle.std.proofs.Common.{◌≡◌, refl, sym, ap, ◌∙◌, subst, List, [], ◌∷◌, ◌++◌, Option, Some, None}
 use Rattle.base.specs.Options.{if_there}
 use Rattle.engine.specs.Engine.{Engine}
 use Rattle.submissions.specs.Requests.{Request, result_of}
@@ -22,8 +21,8 @@ moments-asked x e g (c ∷ l) i =
   where
     go : (q : Option Request) → Gives (after_call x c) (left e q) → ((d : Engine) → Gives (after_call x c) d → moments_left (after_call x c) l ≡ moments_asked d (requests_in l))
         → if_there q [] (request_moments e) ++ moments_left (after_call x c) l ≡ moments_asked e (if_there q (requests_in l) (λ q. q ∷ requests_in l))
-    go none h f = f e h
-    go (some q) h f = ap (λ (m : List Moment). request_moments e q ++ m) (f (result_of e q).engine h)
+    go None h f = f e h
+    go (Some q) h f = ap (λ (m : List Moment). request_moments e q ++ m) (f (result_of e q).engine h)
 
 pub draws_are_fair : (x : Opening) (l : List LibraryCall) → AllTyped l → FairIn (moments_left (after_opening x) l)
 draws_are_fair x l i = subst FairIn (sym (moments-asked (after_opening x) (engine_opened x) (opening-gives x) l i)) (fairness_with_guests (engine_opened x) (requests_in l))

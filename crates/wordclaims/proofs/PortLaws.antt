@@ -1,6 +1,5 @@
 -- What a port has given by the library's answers is a listing's prefix, and calls leave other ports.
-use Rattle.std.proofs.Common.{◌≡◌, refl, sym, ap, ◌∙◌, Bool, true, false, cond, true≢false, not, ◌&&◌, List, [], ◌∷◌, ◌++◌, ◌≢◌, ℕ, suc, ◌<◌, eqb, leb, ltb, length, arith, eq-eqb, eqb-true}
-use mathlib.Core.Option.{Option, none, some}
+use Rattle.std.proofs.Common.{◌≡◌, refl, sym, ap, ◌∙◌, Bool, true, false, cond, true≢false, not, ◌&&◌, List, [], ◌∷◌, ◌++◌, ◌≢◌, ℕ, suc, ◌<◌, eqb, leb, ltb, length, arith, eq-eqb, eqb-true, Option, Some, None}
 use native.Mathlib.Decide.{ℕ_discrete}
 use Rattle.base.specs.Options.{if_there}
 use Rattle.terms.specs.declared.Certificate.{Certificate}
@@ -36,7 +35,7 @@ use Rattle.batching.specs.Rows.{row_of}
 use Rattle.library.specs.Calls.{LibraryCall, by_host, by_guest, batch_by_host, batch_by_guest, HostTyped, GuestTyped, Typed, request_in}
 use Rattle.library.specs.Lists.{Words, engine_of, after_call, after_list, requests_in, Opening, after_opening, engine_opened, AllTyped, Gives, Answered}
 use Rattle.library.proofs.StepLaws.{left}
-use Rattle.library.proofs.ListLaws.{call-gives, list-gives, opening-gives, words_give_engines}
+use Rattle.library.proofs.ListLaws.{call-gives, list_gives, opening-gives, words_give_engines}
 use Rattle.library.proofs.ReachLaws.{RequestInRange, request_in_range, words_reach, engine-opening}
 use Rattle.library.proofs.AnswerLaws.{call-answered}
 use Rattle.wordclaims.specs.Claims.{left_after, answer_on, NoOpen}
@@ -60,8 +59,8 @@ module _ (x : Opening) (l : List LibraryCall) (i : AllTyped l) where
   can_read : state_reads words.state ≡ true
   can_read = (words_give_engines x l i).can_read
 
-  leaves-as-request : (c : LibraryCall) → Typed c → (h : ℕ) → port_on (engine_of (after_call words c)) h ≡ port_on (left told (request_in c)) h
-  leaves-as-request c t h = ap (λ (d : Engine). port_on d h) (call-gives words told (itself words can_read) c t).gives
+  leaves_as_request : (c : LibraryCall) → Typed c → (h : ℕ) → port_on (engine_of (after_call words c)) h ≡ port_on (left told (request_in c)) h
+  leaves_as_request c t h = ap (λ (d : Engine). port_on d h) (call-gives words told (itself words can_read) c t).gives
 
   -- a batch leaves every port
   batch-port : (row : List CertificateRecord) (answers : List ℕ) (h : ℕ) → h < 8 → port_on (after_submission told (batch (row_of row) answers)) h ≡ port_on told h
@@ -70,35 +69,35 @@ module _ (x : Opening) (l : List LibraryCall) (i : AllTyped l) where
 
   pub host_batch_leaves : (row : List CertificateRecord) (answers : List ℕ) (h : ℕ) → h < 8 → port_on (engine_of (after_call words (batch_by_host row answers))) h ≡ port_on told h
   unfolding request_in requests.result_of
-  host_batch_leaves row answers h low = leaves-as-request (batch_by_host row answers) tt h ∙ batch-port row answers h low
+  host_batch_leaves row answers h low = leaves_as_request (batch_by_host row answers) tt h ∙ batch-port row answers h low
 
   pub batch_leaves : (c : ℕ) (row : List CertificateRecord) (answers : List ℕ) (h : ℕ) → h < 8 → port_on (engine_of (after_call words (batch_by_guest c row answers))) h ≡ port_on told h
   unfolding request_in
   batch_leaves c row answers h low =
-      leaves-as-request (batch_by_guest c row answers) tt h
+      leaves_as_request (batch_by_guest c row answers) tt h
       ∙ ap (λ (d : Engine). port_on d h) (left_by told (guest c (asks_batch (row_of row) answers)))
       ∙ go (eqb (requests.caller_number told c (asks_batch (row_of row) answers)) 0)
     where
-      go : (b : Bool) → port_on (if_there (cond b (some (batch (row_of row) answers)) none) told (after_submission told)) h ≡ port_on told h
+      go : (b : Bool) → port_on (if_there (cond b (Some (batch (row_of row) answers)) None) told (after_submission told)) h ≡ port_on told h
       go true = batch-port row answers h low
       go false = refl
 
   -- what a caller asks leaves every other guest's
   pub form_leaves : (c : ℕ) (f : GuestForm) → GuestTyped f → (h : ℕ) → h < 8 → h ≢ c → port_on (engine_of (after_call words (by_guest c f))) h ≡ port_on told h
   unfolding request_in
-  form_leaves c f t h low other = leaves-as-request (by_guest c f) t h ∙ go (form_can c f) (request_in_range told (by_guest c f) t)
+  form_leaves c f t h low other = leaves_as_request (by_guest c f) t h ∙ go (form_can c f) (request_in_range told (by_guest c f) t)
     where
-      go : (b : Bool) → RequestInRange told (cond b (some (guest c (asks (guest_in f)))) none) → port_on (left told (cond b (some (guest c (asks (guest_in f)))) none)) h ≡ port_on told h
+      go : (b : Bool) → RequestInRange told (cond b (Some (guest c (asks (guest_in f)))) None) → port_on (left told (cond b (Some (guest c (asks (guest_in f)))) None)) h ≡ port_on told h
       go true p = leaves_other_ports told (words_reach x l i) c (asks (guest_in f)) p h low other
       go false p = refl
 
   -- and of the host's own calls all but an accepted open and what is asked of the port
   pub host_leaves : (c : HostCall) → HostTyped c → NoOpen words (by_host c) → (h : ℕ) → h < 8 → ((a : PortCall) → c ≡ hosts.port a → port_of a ≢ h) → port_on (engine_of (after_call words (by_host c))) h ≡ port_on told h
   unfolding request_in requests.result_of
-  host_leaves c t n h low m = leaves-as-request (by_host c) t h ∙ go (host_can c) (request_in_range told (by_host c) t) (call-answered words can_read (by_host c))
+  host_leaves c t n h low m = leaves_as_request (by_host c) t h ∙ go (host_can c) (request_in_range told (by_host c) t) (call-answered words can_read (by_host c))
     where
-      go : (b : Bool) → RequestInRange told (cond b (some (host (one (host_in c)))) none) → Answered words (by_host c) (cond b (some (host (one (host_in c)))) none)
-          → port_on (left told (cond b (some (host (one (host_in c)))) none)) h ≡ port_on told h
+      go : (b : Bool) → RequestInRange told (cond b (Some (host (one (host_in c)))) None) → Answered words (by_host c) (cond b (Some (host (one (host_in c)))) None)
+          → port_on (left told (cond b (Some (host (one (host_in c)))) None)) h ≡ port_on told h
       go true p a = leaves_ports told (words_reach x l i) (host_in c) p.0 (no_open-host words c n a) h low (asks_no_port h c m)
       go false p a = refl
 
@@ -131,8 +130,8 @@ module _ (g : ℕ) where
   accepts_quiet row (p ∷ m) = quiet_join (accepts_of row m) (if_there (row.at p).certificate [] (λ c. accept c ∷ [])) (accepts_quiet row m) (go (row.at p).certificate)
     where
       go : (o : Option Certificate) → Quiet (if_there o [] (λ c. accept c ∷ []))
-      go none = tt
-      go (some c) = ((λ e l. refl), tt)
+      go None = tt
+      go (Some c) = ((λ e l. refl), tt)
 
   batch_quiet : (e : Engine) (row : Row) (answers l : List ℕ) → receiving.bytes_then e g (calls_of e (batch row answers)) l ≡ l
   unfolding receiving.bytes_then
@@ -172,20 +171,20 @@ module _ (g : ℕ) where
     guest-accepted k f v z q = refl
 
     -- with the number and the value of the engine's own call
-    as-call : (n : ℕ) (c : Call) (new : List ℕ) → n ≡ refusal_for e c → (refusal_for e c ≡ 0 → new ≡ accepted_bytes e g c l) → if_accepted n new l ≡ receiving.bytes_then e g (c ∷ []) l
+    as_call : (n : ℕ) (c : Call) (new : List ℕ) → n ≡ refusal_for e c → (refusal_for e c ≡ 0 → new ≡ accepted_bytes e g c l) → if_accepted n new l ≡ receiving.bytes_then e g (c ∷ []) l
     unfolding receiving.bytes_then bytes_after after_calls
-    as-call n c new m f = rw m (go (ℕ_discrete (refusal_for e c) 0))
+    as_call n c new m f = rw m (go (ℕ_discrete (refusal_for e c) 0))
       where
         go : Dec (refusal_for e c ≡ 0) → if_accepted (refusal_for e c) new l ≡ if_accepted (refusal_for e c) (accepted_bytes e g c l) l
         go (yes z) = ap (λ (k : List ℕ). if_accepted (refusal_for e c) k l) (f z)
         go (no z) = if_accepted-old (refusal_for e c) new l z ∙ sym (if_accepted-old (refusal_for e c) (accepted_bytes e g c l) l z)
 
-    host-bytes : (c : HostCall) (b : Bool) → Answered x (by_host c) (cond b (some (host (one (host_in c)))) none) → bytes_then x g (by_host c) l ≡ bytes_by e (cond b (some (host (one (host_in c)))) none) l
+    host-bytes : (c : HostCall) (b : Bool) → Answered x (by_host c) (cond b (Some (host (one (host_in c)))) None) → bytes_then x g (by_host c) l ≡ bytes_by e (cond b (Some (host (one (host_in c)))) None) l
     unfolding requests.result_of
-    host-bytes c true a = as-call (answer_on x (by_host c)).refusal (host_in c) (accepted_then x g (by_host c) (answer_on x (by_host c)).value l) a.number (λ z. host-accepted c (answer_on x (by_host c)).value z a.word)
+    host-bytes c true a = as_call (answer_on x (by_host c)).refusal (host_in c) (accepted_then x g (by_host c) (answer_on x (by_host c)).value l) a.number (λ z. host-accepted c (answer_on x (by_host c)).value z a.word)
     host-bytes c false a = if_accepted-old (answer_on x (by_host c)).refusal (accepted_then x g (by_host c) (answer_on x (by_host c)).value l) l a.number
 
-    guest-bytes : (k : ℕ) (f : GuestForm) (b : Bool) → Answered x (by_guest k f) (cond b (some (guest k (asks (guest_in f)))) none) → bytes_then x g (by_guest k f) l ≡ bytes_by e (cond b (some (guest k (asks (guest_in f)))) none) l
+    guest-bytes : (k : ℕ) (f : GuestForm) (b : Bool) → Answered x (by_guest k f) (cond b (Some (guest k (asks (guest_in f)))) None) → bytes_then x g (by_guest k f) l ≡ bytes_by e (cond b (Some (guest k (asks (guest_in f)))) None) l
     unfolding requests.result_of
     guest-bytes k f false a = if_accepted-old (answer_on x (by_guest k f)).refusal (accepted_then x g (by_guest k f) (answer_on x (by_guest k f)).value l) l a.number
     guest-bytes k f true a = go (eqb (requests.caller_number e k (asks (guest_in f))) 0) refl a.number a.word
@@ -203,8 +202,8 @@ module _ (g : ℕ) where
         by-number = requests.caller_number e k (asks (guest_in f))
 
         go : (b : Bool) → eqb by-number 0 ≡ b → n ≡ (cond b (host_result e (one c)) (refused_with e (one c) by-number)).refusal → v ≡ value_word (cond b (host_result e (one c)) (refused_with e (one c) by-number)).value
-            → if_accepted n (accepted_then x g (by_guest k f) v l) l ≡ if_there (cond b (some (one c)) none) l (λ s. receiving.bytes_then e g (calls_of e s) l)
-        go true h m w = as-call n c (accepted_then x g (by_guest k f) v l) m (λ z. guest-accepted k f v z w)
+            → if_accepted n (accepted_then x g (by_guest k f) v l) l ≡ if_there (cond b (Some (one c)) None) l (λ s. receiving.bytes_then e g (calls_of e s) l)
+        go true h m w = as_call n c (accepted_then x g (by_guest k f) v l) m (λ z. guest-accepted k f v z w)
         go false h m w = if_accepted-old n (accepted_then x g (by_guest k f) v l) l (λ z. true≢false (sym (eq-eqb by-number 0 (sym m ∙ z)) ∙ h))
 
     -- a batch reads nothing
@@ -221,7 +220,7 @@ module _ (g : ℕ) where
         n : ℕ
         n = (answer_on x (batch_by_guest k row answers)).refusal
 
-        go : (b : Bool) → if_accepted n l l ≡ if_there (cond b (some (batch (row_of row) answers)) none) l (λ s. receiving.bytes_then e g (calls_of e s) l)
+        go : (b : Bool) → if_accepted n l l ≡ if_there (cond b (Some (batch (row_of row) answers)) None) l (λ s. receiving.bytes_then e g (calls_of e s) l)
         go true = batch-bytes n (row_of row) answers
         go false = if_accepted-same n l
 
@@ -232,15 +231,15 @@ module _ (g : ℕ) where
   unfolding bytes_answered received requests_in
   bytes-received x e w [] i = refl
   bytes-received x e w (c ∷ l) i =
-      let h = list-gives x e w l i.1 in
+      let h = list_gives x e w l i.1 in
       call-bytes (after_list x l) h.can_read (bytes_answered x g l) c
       ∙ ap (λ (d : Engine). bytes_by d (request_in c) (bytes_answered x g l)) h.gives
       ∙ ap (λ (k : List ℕ). bytes_by (after_requests e (requests_in l)) (request_in c) k) (bytes-received x e w l i.1)
       ∙ go (request_in c)
     where
       go : (q : Option Request) → bytes_by (after_requests e (requests_in l)) q (received e g (requests_in l)) ≡ received e g (if_there q (requests_in l) (λ q. q ∷ requests_in l))
-      go none = refl
-      go (some q) = refl
+      go None = refl
+      go (Some q) = refl
 
 -- what is asked has values of its types, as it is said of what ports give
 in_range : (e : Engine) (l : List LibraryCall) → AllTyped l → receiving.AskedInRange e (requests_in l)
@@ -249,8 +248,8 @@ in_range e [] i = tt
 in_range e (c ∷ l) i = go (request_in c) (request_in_range (after_requests e (requests_in l)) c i.0) (in_range e l i.1)
   where
     go : (q : Option Request) → RequestInRange (after_requests e (requests_in l)) q → receiving.AskedInRange e (requests_in l) → receiving.AskedInRange e (if_there q (requests_in l) (λ q. q ∷ requests_in l))
-    go none p h = h
-    go (some q) p h = (p, h)
+    go None p h = h
+    go (Some q) p h = (p, h)
 
 pub reads_a_prefix : (x : Opening) (l : List LibraryCall) → AllTyped l → (g : ℕ) → g < 8 → Served (engine_of (left_after x l)) g (bytes_answered (after_opening x) g l)
 reads_a_prefix x l i g low =

@@ -1,6 +1,5 @@
 -- What stays in the words that lists of the library's calls leave.
-use Rattle.std.proofs.Common.{◌≡◌, sym, subst, true, List, ℕ, ◌≤◌}
-use mathlib.Core.Option.{some}
+use Rattle.std.proofs.Common.{◌≡◌, sym, subst, true, List, ℕ, ◌≤◌, Some}
 use Rattle.agreement.specs.Prefixes.{block_numbered}
 use Rattle.agreement.specs.Rules.{Block}
 use Rattle.terms.specs.Proposals.{Content}
@@ -14,7 +13,7 @@ use Rattle.submissions.specs.Requests.{NoOpensAsked, after_requests}
 use Rattle.kept.proofs.KeptLaws.{blocks_stay_then, numbers_stay_then, certificate_stays_then, stored_held_then, held_stored_then}
 use Rattle.library.specs.Calls.{LibraryCall}
 use Rattle.library.specs.Lists.{engine_of, after_list, requests_in, Opening, after_opening, engine_opened, AllTyped, Gives}
-use Rattle.library.proofs.ListLaws.{list-gives, opening-gives, words_give_engines}
+use Rattle.library.proofs.ListLaws.{list_gives, opening-gives, words_give_engines}
 use Rattle.library.proofs.ReachLaws.{words_reach, engine-opening}
 use Rattle.wordclaims.specs.Claims.{left_after, NoOpens, TookSince}
 use Rattle.wordclaims.proofs.WordLaws.{itself, asked_in_range, no_opens_asked}
@@ -35,7 +34,7 @@ module _ (x : Opening) (l m : List LibraryCall) (i : AllTyped l) (j : AllTyped m
 
   -- the words after m give what its requests lead to
   pub ends : engine_of (after_list (left_after x l) m) ≡ after_requests start (requests_in m)
-  ends = (list-gives (left_after x l) start starts m j).gives
+  ends = (list_gives (left_after x l) start starts m j).gives
 
   pub opens_none : NoOpensAsked start (requests_in m)
   opens_none = no_opens_asked (left_after x l) start starts m j n
@@ -44,9 +43,9 @@ module _ (x : Opening) (l m : List LibraryCall) (i : AllTyped l) (j : AllTyped m
   pub blocks_grow : Newer (chain start) (chain (engine_of (after_list (left_after x l) m)))
   blocks_grow = subst (λ (e : Engine). Newer (chain start) (chain e)) (sym ends) (blocks_stay_then start (words_reach x l i) (requests_in m) (asked_in_range start m j) opens_none)
 
-  pub blocks_keep : (k : ℕ) (b : Block Content) → block_numbered (chain start) k ≡ some b → block_numbered (chain (engine_of (after_list (left_after x l) m))) k ≡ some b
+  pub blocks_keep : (k : ℕ) (b : Block Content) → block_numbered (chain start) k ≡ Some b → block_numbered (chain (engine_of (after_list (left_after x l) m))) k ≡ Some b
   blocks_keep k b h =
-      subst (λ (e : Engine). block_numbered (chain e) k ≡ some b) (sym ends)
+      subst (λ (e : Engine). block_numbered (chain e) k ≡ Some b) (sym ends)
       (numbers_stay_then start (words_reach x l i) (requests_in m) (asked_in_range start m j) opens_none k b h)
 
   -- and so does a held certificate

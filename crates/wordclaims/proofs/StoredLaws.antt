@@ -1,6 +1,6 @@
 -- What calls of the library took over words is what the calls took that they count as.
-use Rattle.std.proofs.Common.{◌≡◌, refl, sym, ap, ◌∙◌, subst, Bool, true, false, cond, true≢false, List, [], ◌∷◌, ◌++◌, ◌⊎◌, inl, inr, ◌≢◌, ℕ, ◌<◌, length, get_or, eqb, arith, eq-eqb, eqb-true}
-use mathlib.Core.Option.{Option, none, some, some-injective, none-ne-some}
+use Rattle.std.proofs.Common.{◌≡◌, refl, sym, ap, ◌∙◌, subst, Bool, true, false, cond, true≢false, List, [], ◌∷◌, ◌++◌, ◌⊎◌, inl, inr, ◌≢◌, ℕ, ◌<◌, length, get_or, eqb, arith, eq-eqb, eqb-true, Option, Some, None}
+use Rattle.std.proofs.lemmas.Option.{same_Some, none-some}
 use Rattle.base.specs.Options.{if_there}
 use Rattle.terms.specs.declared.Certificate.{Certificate}
 use Rattle.terms.specs.Proposals.{Content, content_of}
@@ -27,7 +27,7 @@ use Rattle.batching.specs.declared.rows.CertificateRecord.{CertificateRecord}
 use Rattle.batching.specs.Rows.{no_record, record_words, certificate_of, row_of}
 use Rattle.library.specs.Calls.{LibraryCall, by_host, by_guest, batch_by_host, batch_by_guest, request_in}
 use Rattle.library.specs.Lists.{Words, engine_of, after_list, requests_in, AllTyped, Gives, Answered}
-use Rattle.library.proofs.ListLaws.{list-gives}
+use Rattle.library.proofs.ListLaws.{list_gives}
 use Rattle.library.proofs.AnswerLaws.{call-answered}
 use Rattle.wordclaims.specs.Claims.{answer_on, NoOpen, OneTaken, Took, TookSince}
 use Rattle.wordclaims.proofs.WordLaws.{host_can, form_can, NoOpenThen, no_open_then}
@@ -39,20 +39,20 @@ counted e q = if_there q [] (λ y. if_there (submission_of e y) [] (calls_of e))
 
 -- ---- a record of a row
 
-certificate-there : (r : CertificateRecord) (c : Certificate) → certificate_of r ≡ some c → certificate_in (record_words r) ≡ c
+certificate-there : (r : CertificateRecord) (c : Certificate) → certificate_of r ≡ Some c → certificate_in (record_words r) ≡ c
 unfolding certificate_of
 certificate-there r c = go (certificate_reads (record_words r))
   where
-    go : (b : Bool) → cond b (some (certificate_in (record_words r))) none ≡ some c → certificate_in (record_words r) ≡ c
-    go true q = some-injective (certificate_in (record_words r)) c q
-    go false q = absurd (none-ne-some c q)
+    go : (b : Bool) → cond b (Some (certificate_in (record_words r))) None ≡ Some c → certificate_in (record_words r) ≡ c
+    go true q = same_Some (certificate_in (record_words r)) c q
+    go false q = absurd (none-some c q)
 
 -- what is answered as 0 can be read
-answered-reads : (r : CertificateRecord) (f : Certificate → ℕ) → if_there (certificate_of r) 1 f ≡ 0 → (certificate_of r ≡ some (certificate_in (record_words r))) × (f (certificate_in (record_words r)) ≡ 0)
+answered-reads : (r : CertificateRecord) (f : Certificate → ℕ) → if_there (certificate_of r) 1 f ≡ 0 → (certificate_of r ≡ Some (certificate_in (record_words r))) × (f (certificate_in (record_words r)) ≡ 0)
 unfolding certificate_of
 answered-reads r f = go (certificate_reads (record_words r))
   where
-    go : (b : Bool) → if_there (cond b (some (certificate_in (record_words r))) none) 1 f ≡ 0 → (cond b (some (certificate_in (record_words r))) none ≡ some (certificate_in (record_words r))) × (f (certificate_in (record_words r)) ≡ 0)
+    go : (b : Bool) → if_there (cond b (Some (certificate_in (record_words r))) None) 1 f ≡ 0 → (cond b (Some (certificate_in (record_words r))) None ≡ Some (certificate_in (record_words r))) × (f (certificate_in (record_words r)) ≡ 0)
     go true q = (refl, q)
     go false q = absurd (omega (arith, q))
 
@@ -114,21 +114,21 @@ module _ (x : Words) (p : Content) (d : ℕ) where
     abbrev barred : ℕ
     barred = requests.caller_number e c a
 
-    guest_stored : n ≡ 0 → (requests.result_of e (guest c a) ≡ host_result e (submitted_by c a) → Stored e (calls_of e (submitted_by c a)) p d) → Stored e (counted e (some (guest c a))) p d
+    guest_stored : n ≡ 0 → (requests.result_of e (guest c a) ≡ host_result e (submitted_by c a) → Stored e (calls_of e (submitted_by c a)) p d) → Stored e (counted e (Some (guest c a))) p d
     unfolding requests.result_of
     guest_stored z = go (eqb barred 0) refl m
       where
         go : (b : Bool) → eqb barred 0 ≡ b → n ≡ (cond b (host_result e (submitted_by c a)) (refused_with e (submitted_by c a) barred)).refusal
             → (cond b (host_result e (submitted_by c a)) (refused_with e (submitted_by c a) barred) ≡ host_result e (submitted_by c a) → Stored e (calls_of e (submitted_by c a)) p d)
-            → Stored e (if_there (cond b (some (submitted_by c a)) none) [] (calls_of e)) p d
+            → Stored e (if_there (cond b (Some (submitted_by c a)) None) [] (calls_of e)) p d
         go true k m f = f refl
         go false k m f = absurd (true≢false (sym (eq-eqb barred 0 (sym m ∙ z)) ∙ k))
 
-    stored_guest : Stored e (counted e (some (guest c a))) p d → (requests.result_of e (guest c a) ≡ host_result e (submitted_by c a)) × Stored e (calls_of e (submitted_by c a)) p d
+    stored_guest : Stored e (counted e (Some (guest c a))) p d → (requests.result_of e (guest c a) ≡ host_result e (submitted_by c a)) × Stored e (calls_of e (submitted_by c a)) p d
     unfolding requests.result_of
     stored_guest = go (eqb barred 0)
       where
-        go : (b : Bool) → Stored e (if_there (cond b (some (submitted_by c a)) none) [] (calls_of e)) p d
+        go : (b : Bool) → Stored e (if_there (cond b (Some (submitted_by c a)) None) [] (calls_of e)) p d
             → (cond b (host_result e (submitted_by c a)) (refused_with e (submitted_by c a) barred) ≡ host_result e (submitted_by c a)) × Stored e (calls_of e (submitted_by c a)) p d
         go true y = (refl, y)
         go false y = absurd y
@@ -136,50 +136,50 @@ module _ (x : Words) (p : Content) (d : ℕ) where
   -- ---- every call
 
   module _ (r : state_reads x.state ≡ true) where
-    call_took-stored : (c : LibraryCall) → Took x c p d → Stored e (counted e (request_in c)) p d
+    call_took_stored : (c : LibraryCall) → Took x c p d → Stored e (counted e (request_in c)) p d
     unfolding request_in requests.result_of
-    call_took-stored (by_host c) t = go (host_can c) (call-answered x r (by_host c))
+    call_took_stored (by_host c) t = go (host_can c) (call-answered x r (by_host c))
       where
-        go : (b : Bool) → Answered x (by_host c) (cond b (some (host (one (host_in c)))) none) → Stored e (counted e (cond b (some (host (one (host_in c)))) none)) p d
+        go : (b : Bool) → Answered x (by_host c) (cond b (Some (host (one (host_in c)))) None) → Stored e (counted e (cond b (Some (host (one (host_in c)))) None)) p d
         go true a = call_stored (answer_on x (by_host c)).refusal (host_in c) a.number t
         go false a = absurd (a.number t.0)
-    call_took-stored (by_guest k f) t = go (form_can k f) (call-answered x r (by_guest k f))
+    call_took_stored (by_guest k f) t = go (form_can k f) (call-answered x r (by_guest k f))
       where
-        go : (b : Bool) → Answered x (by_guest k f) (cond b (some (guest k (asks (guest_in f)))) none) → Stored e (counted e (cond b (some (guest k (asks (guest_in f)))) none)) p d
+        go : (b : Bool) → Answered x (by_guest k f) (cond b (Some (guest k (asks (guest_in f)))) None) → Stored e (counted e (cond b (Some (guest k (asks (guest_in f)))) None)) p d
         go true a =
             let n = (answer_on x (by_guest k f)).refusal in
             guest_stored k (asks (guest_in f)) n a.number t.0 (λ q. call_stored n (as_host k (guest_in f)) (a.number ∙ ap (λ (z : requests.Result). z.refusal) q) t)
         go false a = absurd (a.number t.0)
-    call_took-stored (batch_by_host row answers) t =
+    call_took_stored (batch_by_host row answers) t =
         let a = call-answered x r (batch_by_host row answers) in
         let u = answer_on x (batch_by_host row answers) in
         batch_stored row answers u.out a.lent u.refusal a.number t
-    call_took-stored (batch_by_guest k row answers) t =
+    call_took_stored (batch_by_guest k row answers) t =
         let a = call-answered x r (batch_by_guest k row answers) in
         let u = answer_on x (batch_by_guest k row answers) in
         guest_stored k (asks_batch (row_of row) answers) u.refusal a.number t.0
         (λ q. batch_stored row answers u.out (a.lent ∙ ap (λ (z : requests.Result). z.answers) q) u.refusal (a.number ∙ ap (λ (z : requests.Result). z.refusal) q) t)
 
-    call_stored-took : (c : LibraryCall) → Stored e (counted e (request_in c)) p d → Took x c p d
+    call_stored_took : (c : LibraryCall) → Stored e (counted e (request_in c)) p d → Took x c p d
     unfolding request_in requests.result_of
-    call_stored-took (by_host c) y = go (host_can c) (call-answered x r (by_host c)) y
+    call_stored_took (by_host c) y = go (host_can c) (call-answered x r (by_host c)) y
       where
-        go : (b : Bool) → Answered x (by_host c) (cond b (some (host (one (host_in c)))) none) → Stored e (counted e (cond b (some (host (one (host_in c)))) none)) p d → Took x (by_host c) p d
+        go : (b : Bool) → Answered x (by_host c) (cond b (Some (host (one (host_in c)))) None) → Stored e (counted e (cond b (Some (host (one (host_in c)))) None)) p d → Took x (by_host c) p d
         go true a y = stored_call (answer_on x (by_host c)).refusal (host_in c) a.number y
         go false a y = absurd y
-    call_stored-took (by_guest k f) y = go (form_can k f) (call-answered x r (by_guest k f)) y
+    call_stored_took (by_guest k f) y = go (form_can k f) (call-answered x r (by_guest k f)) y
       where
-        go : (b : Bool) → Answered x (by_guest k f) (cond b (some (guest k (asks (guest_in f)))) none) → Stored e (counted e (cond b (some (guest k (asks (guest_in f)))) none)) p d → Took x (by_guest k f) p d
+        go : (b : Bool) → Answered x (by_guest k f) (cond b (Some (guest k (asks (guest_in f)))) None) → Stored e (counted e (cond b (Some (guest k (asks (guest_in f)))) None)) p d → Took x (by_guest k f) p d
         go true a y =
             let n = (answer_on x (by_guest k f)).refusal in
             let s = stored_guest k (asks (guest_in f)) n a.number y in
             stored_call n (as_host k (guest_in f)) (a.number ∙ ap (λ (z : requests.Result). z.refusal) s.0) s.1
         go false a y = absurd y
-    call_stored-took (batch_by_host row answers) y =
+    call_stored_took (batch_by_host row answers) y =
         let a = call-answered x r (batch_by_host row answers) in
         let u = answer_on x (batch_by_host row answers) in
         stored_batch row answers u.out a.lent u.refusal a.number y
-    call_stored-took (batch_by_guest k row answers) y =
+    call_stored_took (batch_by_guest k row answers) y =
         let a = call-answered x r (batch_by_guest k row answers) in
         let u = answer_on x (batch_by_guest k row answers) in
         let s = stored_guest k (asks_batch (row_of row) answers) u.refusal a.number y in
@@ -188,8 +188,8 @@ module _ (x : Words) (p : Content) (d : ℕ) where
 -- ---- opens
 
 counted_opens_none : (e : Engine) (q : Option Request) → NoOpenThen e q → NoOpens e (counted e q)
-counted_opens_none e none n = tt
-counted_opens_none e (some q) n = asked-opens-none e q n
+counted_opens_none e None n = tt
+counted_opens_none e (Some q) n = asked-opens-none e q n
 
 module _ (x : Words) (r : state_reads x.state ≡ true) where
   open_counted : (own : ℕ) (sheet : List ℕ) (rights : ℕ) → NoOpens (engine_of x) (counted (engine_of x) (request_in (by_host (opens own sheet rights)))) → (answer_on x (by_host (opens own sheet rights))).refusal ≢ 0
@@ -199,7 +199,7 @@ module _ (x : Words) (r : state_reads x.state ≡ true) where
       c : HostCall
       c = opens own sheet rights
 
-      go : (b : Bool) → Answered x (by_host c) (cond b (some (host (one (host_in c)))) none) → NoOpens (engine_of x) (counted (engine_of x) (cond b (some (host (one (host_in c)))) none)) → (answer_on x (by_host c)).refusal ≢ 0
+      go : (b : Bool) → Answered x (by_host c) (cond b (Some (host (one (host_in c)))) None) → NoOpens (engine_of x) (counted (engine_of x) (cond b (Some (host (one (host_in c)))) None)) → (answer_on x (by_host c)).refusal ≢ 0
       go true a n z = n.0 (record { 0 = own }) (sheet_in sheet (record { 0 = rights })) refl (sym a.number ∙ z)
       go false a n z = a.number z
 
@@ -220,36 +220,36 @@ module _ (x : Words) (e : Engine) (g : Gives x e) (p : Content) (d : ℕ) where
     -- a property of the words that stand then is one of the engine after the calls
     moved : (P : Engine → Engine → Type 0) → P (engine_of then) (engine_of then) → P (after_calls e (calls_asked e asked)) (after_requests e asked)
     moved P h =
-        let k = (list-gives x e g l i).gives in
+        let k = (list_gives x e g l i).gives in
         subst (λ (b : Engine). P b (after_requests e asked)) (leaves_as_calls e asked) (subst (λ (b : Engine). P b b) k h)
 
     moved_back : (P : Engine → Engine → Type 0) → P (after_calls e (calls_asked e asked)) (after_requests e asked) → P (engine_of then) (engine_of then)
     moved_back P h =
-        let k = (list-gives x e g l i).gives in
+        let k = (list_gives x e g l i).gives in
         subst (λ (b : Engine). P b b) (sym k) (subst (λ (b : Engine). P b (after_requests e asked)) (sym (leaves_as_calls e asked)) h)
 
     -- the calls that the list counts as
     listed : (q : Option Request) → Stored e (counted (after_requests e asked) q ++ calls_asked e asked) p d → Stored e (calls_asked e (if_there q asked (λ y. y ∷ asked))) p d
     unfolding calls_asked
-    listed none h = h
-    listed (some q) h = h
+    listed None h = h
+    listed (Some q) h = h
 
     parted : (q : Option Request) → Stored e (calls_asked e (if_there q asked (λ y. y ∷ asked))) p d → Stored e (counted (after_requests e asked) q ++ calls_asked e asked) p d
     unfolding calls_asked
-    parted none h = h
-    parted (some q) h = h
+    parted None h = h
+    parted (Some q) h = h
 
   pub took_stored : (l : List LibraryCall) → AllTyped l → TookSince x l p d → StoredThen e (requests_in l) p d
   unfolding requests_in
   took_stored [] i t = absurd t
   took_stored (c ∷ l) i (inl t) =
-      let r = (list-gives x e g l i.1).can_read in
+      let r = (list_gives x e g l i.1).can_read in
       let m = calls_asked e (requests_in l) in
       listed c l i.1 (request_in c)
       (stored_join e m p d (counted (after_requests e (requests_in l)) (request_in c))
-      (moved c l i.1 (λ (a b : Engine). Stored a (counted b (request_in c)) p d) (call_took-stored (after_list x l) p d r c t)))
+      (moved c l i.1 (λ (a b : Engine). Stored a (counted b (request_in c)) p d) (call_took_stored (after_list x l) p d r c t)))
   took_stored (c ∷ l) i (inr t) =
-      let r = (list-gives x e g l i.1).can_read in
+      let r = (list_gives x e g l i.1).can_read in
       let m = calls_asked e (requests_in l) in
       listed c l i.1 (request_in c)
       (stored_since e m p d (counted (after_requests e (requests_in l)) (request_in c))
@@ -262,7 +262,7 @@ module _ (x : Words) (e : Engine) (g : Gives x e) (p : Content) (d : ℕ) where
   stored_took (c ∷ l) i h = go (stored_parts e (calls_asked e (requests_in l)) p d (counted (after_requests e (requests_in l)) (request_in c)) (parted c l i.1 (request_in c) h)) (stored_took l i.1)
     where
       r : state_reads (after_list x l).state ≡ true
-      r = (list-gives x e g l i.1).can_read
+      r = (list_gives x e g l i.1).can_read
 
       q : Option Request
       q = request_in c
@@ -271,5 +271,5 @@ module _ (x : Words) (e : Engine) (g : Gives x e) (p : Content) (d : ℕ) where
       b = after_calls e (calls_asked e (requests_in l))
 
       go : Stored b (counted (after_requests e (requests_in l)) q) p d ⊎ (NoOpens b (counted (after_requests e (requests_in l)) q) × Stored e (calls_asked e (requests_in l)) p d) → (StoredThen e (requests_in l) p d → TookSince x l p d) → TookSince x (c ∷ l) p d
-      go (inl y) f = inl (call_stored-took (after_list x l) p d r c (moved_back c l i.1 (λ (a b : Engine). Stored a (counted b (request_in c)) p d) y))
+      go (inl y) f = inl (call_stored_took (after_list x l) p d r c (moved_back c l i.1 (λ (a b : Engine). Stored a (counted b (request_in c)) p d) y))
       go (inr y) f = inr (no_open_back (after_list x l) r c (moved_back c l i.1 (λ (a b : Engine). NoOpens a (counted b (request_in c))) y.0), f y.1)

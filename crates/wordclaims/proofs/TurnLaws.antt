@@ -1,6 +1,5 @@
 -- Certificates that lists of calls take, parted, and those that batches take: at a turn an accept took one exactly where its place is answered 0.
-use Rattle.std.proofs.Common.{◌≡◌, refl, sym, ap, ◌∙◌, subst, List, [], ◌∷◌, ◌++◌, ◌⊎◌, inl, inr, ℕ, ◌+◌, ◌<◌, length, get_or, arith}
-use mathlib.Core.Option.{Option, none, some}
+use Rattle.std.proofs.Common.{◌≡◌, refl, sym, ap, ◌∙◌, subst, List, [], ◌∷◌, ◌++◌, ◌⊎◌, inl, inr, ℕ, ◌+◌, ◌<◌, length, get_or, arith, Option, Some, None}
 use Rattle.base.specs.Options.{if_there}
 use Rattle.base.specs.Folds.{tab}
 use Rattle.base.proofs.FoldLaws.{length-tab, get_d_tab}
@@ -62,8 +61,8 @@ module _ (row : Row) where
       ∙ after-turns l (record { state = e.state; table = table_after e.state row e.table p })
     where
       go : (o : Option Certificate) → after_calls e (if_there o [] (λ c. accept c ∷ [])) ≡ record { state = e.state; table = if_there o e.table (accept_table e.state e.table) }
-      go none = refl
-      go (some c) = after-accepts e c
+      go None = refl
+      go (Some c) = after-accepts e c
 
   -- of the turns l one takes the certificate of p with the endorsers d
   pub record AtTurn (e : Engine) (l : List ℕ) (p : Content) (d : ℕ) : Type 0 where
@@ -72,12 +71,12 @@ module _ (row : Row) where
     pub latter : List ℕ
     pub whole : l ≡ former ++ (place ∷ latter)
     pub certificate : Certificate
-    pub offered : (row.at place).certificate ≡ some certificate
+    pub offered : (row.at place).certificate ≡ Some certificate
     pub accepted : refusal_for (after_calls e (accepts_of row former)) (accept certificate) ≡ 0
     pub proposal : content_of certificate.proposal ≡ p
     pub endorsers : certificate.endorsers ≡ d
 
-  pub turn_stored : (f m : List ℕ) (q : ℕ) (c : Certificate) → (row.at q).certificate ≡ some c → (e : Engine) → refusal_for (after_calls e (accepts_of row f)) (accept c) ≡ 0
+  pub turn_stored : (f m : List ℕ) (q : ℕ) (c : Certificate) → (row.at q).certificate ≡ Some c → (e : Engine) → refusal_for (after_calls e (accepts_of row f)) (accept c) ≡ 0
       → Stored e (accepts_of row (f ++ (q ∷ m))) (content_of c.proposal) c.endorsers
   unfolding accepts_of after_calls
   turn_stored [] m q c o e z = stored_since e (this q) (content_of c.proposal) c.endorsers (accepts_of row m) (accepts_open_none row m (after_calls e (this q))) (rw o (inl (z, accepts c)))
@@ -94,9 +93,9 @@ module _ (row : Row) where
   stored_turn (q ∷ l) e p d x = go (stored_parts e (this q) p d (accepts_of row l) x) (λ y. stored_turn l (after_calls e (this q)) p d y)
     where
       here : (o : Option Certificate) → (row.at q).certificate ≡ o → Stored e (if_there o [] (λ c. accept c ∷ [])) p d → AtTurn e (q ∷ l) p d
-      here none k y = absurd y
-      here (some c) k (inr y) = absurd y.1
-      here (some c) k (inl y) =
+      here None k y = absurd y
+      here (Some c) k (inr y) = absurd y.1
+      here (Some c) k (inl y) =
           let t = taken_back e c p d y.1 in
           record { place = q; former = []; latter = l; whole = refl; certificate = c; offered = k; accepted = y.0; proposal = t.0; endorsers = t.1 }
 

@@ -25,7 +25,8 @@ answer_on x c = comes_to x.state x.table c
 
 -- on the words x the call is no accepted open
 abbrev pub NoOpen : Words → LibraryCall → Type 0
-NoOpen x c = (own : ℕ) (sheet : List ℕ) (rights : ℕ) → c ≡ by_host (opens own sheet rights) → (answer_on x c).refusal ≢ 0
+NoOpen x c = (own : ℕ) (sheet : List ℕ) (rights : ℕ) → c ≡ by_host (opens own sheet rights)
+    → (answer_on x c).refusal ≢ 0
 
 -- no open of a list, newest first, is accepted; each call is asked of the words that stand then
 abbrev pub NoOpens : Words → List LibraryCall → Type 0
@@ -35,11 +36,13 @@ NoOpens x (c ∷ l) = NoOpen (after_list x l) c × NoOpens x l
 -- ---- certificates that are taken
 
 -- of a row with such answers, a record that is answered 0: its words give the proposal p and the endorsers d
-pub record OneTaken (row : List CertificateRecord) (answers : List ℕ) (p : Content) (d : ℕ) : Type 0 where
+pub record OneTaken (row : List CertificateRecord) (answers : List ℕ) (p : Content)
+    (d : ℕ) : Type 0 where
   pub place : ℕ
   pub low : place < length row
   pub answered : get_or answers place 0 ≡ 0
-  pub proposal : content_of (certificate_in (record_words (get_or row place no_record))).proposal ≡ p
+  pub proposal : content_of (certificate_in (record_words (get_or row place no_record))).proposal
+      ≡ p
   pub endorsers : (certificate_in (record_words (get_or row place no_record))).endorsers ≡ d
 
 -- what an accepted call takes, alone, for a guest or in a batch with such answers: a certify the own proposal, an accept what its words give
@@ -56,13 +59,15 @@ Took x c p d = ((answer_on x c).refusal ≡ 0) × Brings x c (answer_on x c).out
 -- a call of the list, newest first, took it, and no open was accepted since
 abbrev pub TookSince : Words → List LibraryCall → Content → ℕ → Type 0
 TookSince x [] p d = ⊥
-TookSince x (c ∷ l) p d = Took (after_list x l) c p d ⊎ (NoOpen (after_list x l) c × TookSince x l p d)
+TookSince x (c ∷ l) p d = Took (after_list x l) c p d
+    ⊎ (NoOpen (after_list x l) c × TookSince x l p d)
 
 -- ---- certificates that are passed on
 
 -- what forgelilac_certificate comes to, of author and round of p, with the stretch o lent
 abbrev pub certificate_read : Words → Content → List ℕ → Result
-certificate_read x p o = answer_on x (by_host (aside (certificate (record { 0 = p.author }) (record { 0 = p.round })) o))
+certificate_read x p o =
+    answer_on x (by_host (aside (certificate (record { 0 = p.author }) (record { 0 = p.round })) o))
 
 -- it is accepted, and what it writes can be handed to forgelilac_accept: the proposal p and the endorsers d
 pub record PassesOn (x : Words) (p : Content) (d : ℕ) (o : List ℕ) : Type 0 where

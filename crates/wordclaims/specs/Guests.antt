@@ -35,7 +35,8 @@ abbrev pub Barred : Words → ℕ → LibraryCall → Type 0
 Barred x c (by_host y) = ⊥
 Barred x c (by_guest k y) = (k ≡ c) × (may (rights_in x.state) (needs (guest_in y)) c ≡ false)
 Barred x c (batch_by_host row answers) = ⊥
-Barred x c (batch_by_guest k row answers) = (k ≡ c) × (may (rights_in x.state) batch_needs c ≡ false)
+Barred x c (batch_by_guest k row answers) =
+    (k ≡ c) × (may (rights_in x.state) batch_needs c ≡ false)
 
 -- each call of a list
 abbrev pub AllBarred : Words → ℕ → List LibraryCall → Type 0
@@ -66,7 +67,9 @@ module _ (x : Words) (g : ℕ) where
   -- what has been read from port g, l before, after what is asked of a port was answered with the value v: a reset empties it; a read of offset 0 adds v, while bit 7 of offset 3 is clear and the listing has more bytes than l
   abbrev pub with_answer : PortCall → ℕ → List ℕ → List ℕ
   with_answer (access h (read o)) v l =
-      if h == g && (o == 0 && (not (nat_le 128 (shown (engine_of x) g 3)) && nat_lt (length l) (length (listing_in (engine_of x)))))
+      if h == g
+      && (o == 0 && (not (nat_le 128 (shown (engine_of x) g 3))
+      && nat_lt (length l) (length (listing_in (engine_of x)))))
       then l ++ (v ∷ [])
       else l
   with_answer (access h (write o b)) v l = l

@@ -20,16 +20,21 @@ ghost use Rattle.wordclaims.specs.Claims.{left_after, TookSince, PassesOn};
 
 /// What an accepted certify or accept took, alone, for a guest or in a batch, can be passed on ever after with the endorsers that it was taken with, until the next accepted open.
 pub fn stored_passes_on()
-    ensures { (x : Opening) (l : List LibraryCall) → AllTyped l → (p : Content) (d : ℕ) → TookSince (after_opening x) l p d → (o : List ℕ) → held_length ≤ length o → PassesOn (left_after x l) p d o }
+    ensures { (x : Opening) (l : List LibraryCall) → AllTyped l → (p : Content) (d : ℕ)
+        → TookSince (after_opening x) l p d → (o : List ℕ) → held_length ≤ length o
+        → PassesOn (left_after x l) p d o }
 {}
 
 /// In all words that the library leaves weights add up.
 pub fn weights_add_up()
-    ensures { (x : Opening) (l : List LibraryCall) → AllTyped l → AddsUp (engine_of (left_after x l)) }
+    ensures { (x : Opening) (l : List LibraryCall)
+        → AllTyped l → AddsUp (engine_of (left_after x l)) }
 {}
 
 /// Where a commit would be accepted, it hangs on exactly its pivots.
 #[tactic(auto, using(crate::proofs::ClaimLaws::commits_hang_over_words))]
 pub fn commits_hang_on_pivots()
-    ensures { (x : Opening) (l : List LibraryCall) → AllTyped l → refusal_for (engine_of (left_after x l)) commit ≡ 0 → HangsOnPivots (engine_of (left_after x l)) }
+    ensures { (x : Opening) (l : List LibraryCall)
+        → AllTyped l → refusal_for (engine_of (left_after x l)) commit ≡ 0 → HangsOnPivots
+        (engine_of (left_after x l)) }
 {}

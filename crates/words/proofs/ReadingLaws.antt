@@ -19,9 +19,9 @@ module _ (w : List ℕ) where
   unfolding body_reads body_in
   body-set a e = ltb-true (word w a) 65536 (both (ltb (word w a) 65536) _ e).0
 
-  pub lone_body-read : lone_body_reads w ≡ true → (body_in w 0).previous < 65536
+  pub lone_body_read : lone_body_reads w ≡ true → (body_in w 0).previous < 65536
   unfolding lone_body_reads
-  lone_body-read e = body-set 0 (both (leb body_length (length w)) _ e).1
+  lone_body_read e = body-set 0 (both (leb body_length (length w)) _ e).1
 
   pub proposal-read : proposal_reads w ≡ true → (proposal_in w).body.previous < 65536
   unfolding proposal_reads proposal_in

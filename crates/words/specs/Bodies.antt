@@ -5,6 +5,7 @@ use Rattle.terms.specs.declared.Transaction.{Transaction}
 use Rattle.terms.specs.declared.Body.{Body}
 use Rattle.terms.specs.Transactions.{kind_of, number_of, amount_of, read_transaction, no_transaction}
 use Rattle.terms.specs.Proposals.{slot_of}
+use Rattle.words.specs.declared.places.TheConstants.{BODY_COUNT, BODY_TRANSACTIONS}
 use Rattle.words.specs.Lengths.{transaction_length, body_length}
 use Rattle.words.specs.Words.{word}
 
@@ -17,8 +18,9 @@ is_triple kind amount = kind == 0 || (nat_le kind 2 && amount == 0)
 -- transaction k of the body from word a on; what lies beyond the count is not looked at
 unfoldable pub triple_reads : List ℕ → ℕ → ℕ → Bool
 triple_reads w a k =
-    if nat_lt k (word w (a + 1))
-    then is_triple (word w (a + 2 + k * transaction_length)) (word w (a + 2 + k * transaction_length + 2))
+    if nat_lt k (word w (a + BODY_COUNT))
+    then is_triple (word w (a + BODY_TRANSACTIONS + k * transaction_length))
+    (word w (a + BODY_TRANSACTIONS + k * transaction_length + 2))
     else true
 
 -- the previous set is a set of members, and so for each of four transactions
@@ -38,15 +40,17 @@ lone_triple_reads w = nat_le transaction_length (length w) && is_triple (word w 
 -- what lies beyond the count is not looked at
 unfoldable pub slot_in : List ℕ → ℕ → ℕ → Transaction
 slot_in w a k =
-    if nat_lt k (word w (a + 1))
-    then read_transaction (word w (a + 2 + k * transaction_length)) (word w (a + 2 + k * transaction_length + 1)) (word w (a + 2 + k * transaction_length + 2))
+    if nat_lt k (word w (a + BODY_COUNT))
+    then read_transaction (word w (a + BODY_TRANSACTIONS + k * transaction_length))
+    (word w (a + BODY_TRANSACTIONS + k * transaction_length + 1))
+    (word w (a + BODY_TRANSACTIONS + k * transaction_length + 2))
     else no_transaction
 
 abbrev pub slots_in : List ℕ → ℕ → List Transaction
 slots_in w a = tab (slot_in w a) 4
 
 unfoldable pub body_in : List ℕ → ℕ → Body
-body_in w a = record { previous = word w a; count = word w (a + 1); slots = slots_in w a }
+body_in w a = record { previous = word w a; count = word w (a + BODY_COUNT); slots = slots_in w a }
 
 -- a transaction by itself
 unfoldable pub triple_in : List ℕ → Transaction

@@ -17,4 +17,11 @@ setting_in w k = if word w (k * 2) == 0 then Blank else Written (word w (k * 2 +
 
 -- and the rights beside it
 unfoldable pub sheet_in : List ℕ → Rights → Sheet
-sheet_in w R = record { lookback = setting_in w 0; ceiling = setting_in w 1; allowance = setting_in w 2; weights = tab (λ i. setting_in w (3 + i)) 16; margin = setting_in w 19; rights = R }
+sheet_in w R = record {
+  lookback = setting_in w 0;
+  ceiling = setting_in w 1;
+  allowance = setting_in w 2;
+  weights = tab (λ i. setting_in w (3 + i)) 16;
+  margin = setting_in w 19;
+  rights = R;
+}

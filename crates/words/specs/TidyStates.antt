@@ -8,7 +8,7 @@ use Rattle.state.specs.declared.State.{State}
 use Rattle.words.specs.Bodies.{used_of}
 
 unfoldable pub tidy_body : Body → Body
-tidy_body b = record { previous = b.previous; count = b.count; slots = tab (used_of b) 4 }
+tidy_body b = record b { slots = tab (used_of b) 4 }
 
 -- the first sixteen weights
 unfoldable pub sixteen_weights : List Weight → List Weight
@@ -18,7 +18,13 @@ unfoldable pub tidy : State → State
 tidy s =
     record {
       own = s.own;
-      settings = record { lookback = s.settings.lookback; ceiling = s.settings.ceiling; allowance = s.settings.allowance; weights = sixteen_weights s.settings.weights; margin = s.settings.margin };
+      settings = record {
+        lookback = s.settings.lookback;
+        ceiling = s.settings.ceiling;
+        allowance = s.settings.allowance;
+        weights = sixteen_weights s.settings.weights;
+        margin = s.settings.margin;
+      };
       round = s.round;
       proposal = option_map tidy_body s.proposal;
       blocks = s.blocks;

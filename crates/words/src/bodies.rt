@@ -10,6 +10,7 @@ ghost use Rattle.words.specs.Given.{Given};
 ghost use Rattle.words.specs.Bodies.{is_triple, triple_reads, body_reads, lone_body_reads, lone_triple_reads, slot_in, slots_in, body_in, triple_in, used_of, triple_words, body_words};
 
 use crate::bodies::lengths::{BODY, TRANSACTION};
+use crate::places::{BODY_COUNT, BODY_TRANSACTIONS};
 use terms::{Body, Member, Transaction};
 
 // Are three words with this kind and amount a transaction?
@@ -20,34 +21,34 @@ fn is_triple(kind: u32, amount: u32) -> bool
     kind == 0 || (kind <= 2 && amount == 0)
 }
 
-// Can transaction k of the body from `at` on be read? What lies beyond the count is not looked at.
+// Can transaction `index` of the body from `at` on be read? What lies beyond the count is not looked at.
 #[tactic(auto, unfolding(crate::specs::Bodies::triple_reads))]
-fn triple_reads(w: &[u32], at: usize, k: u32) -> bool
-    requires { (at + body_length ≤ length w.now) × (k < 4) }
-    ensures { result ≡ triple_reads w.now at k }
+fn triple_reads(words: &[u32], at: usize, index: u32) -> bool
+    requires { (at + body_length ≤ length words.now) × (index < 4) }
+    ensures { result ≡ triple_reads words.now at index }
 {
-    let i = at + 2 + k as usize * TRANSACTION;
-    w[at + 1] <= k || is_triple(w[i], w[i + 2])
+    let start = at + BODY_TRANSACTIONS + index as usize * TRANSACTION;
+    words[at + BODY_COUNT] <= index || is_triple(words[start], words[start + 2])
 }
 
 // Can the body from `at` on be read?
 #[tactic(auto, unfolding(crate::specs::Bodies::body_reads, base::specs::Folds::all_to))]
-fn body_reads(w: &[u32], at: usize) -> bool
-    requires { at + body_length ≤ length w.now }
-    ensures { result ≡ body_reads w.now at }
+fn body_reads(words: &[u32], at: usize) -> bool
+    requires { at + body_length ≤ length words.now }
+    ensures { result ≡ body_reads words.now at }
 {
-    w[at] < 65536 && (0..4u32).all(|k| triple_reads(w, at, k))
+    words[at] < 65536 && (0..4u32).all(|k| triple_reads(words, at, k))
 }
 
-// Slot k of the body from `at` on.
+// Slot `index` of the body from `at` on.
 #[tactic(auto, unfolding(crate::specs::Bodies::slot_in))]
-fn slot_in(w: &[u32], at: usize, k: u32) -> Transaction
-    requires { (at + body_length ≤ length w.now) × (k < 4) }
-    ensures { result ≡ slot_in w.now at k }
+fn slot_in(words: &[u32], at: usize, index: u32) -> Transaction
+    requires { (at + body_length ≤ length words.now) × (index < 4) }
+    ensures { result ≡ slot_in words.now at index }
 {
-    let i = at + 2 + k as usize * TRANSACTION;
-    if k < w[at + 1] {
-        terms::read_transaction(w[i], w[i + 1], w[i + 2])
+    let start = at + BODY_TRANSACTIONS + index as usize * TRANSACTION;
+    if index < words[at + BODY_COUNT] {
+        terms::read_transaction(words[start], words[start + 1], words[start + 2])
     } else {
         Transaction::Bond(Member(0), 0)
     }
@@ -55,64 +56,64 @@ fn slot_in(w: &[u32], at: usize, k: u32) -> Transaction
 
 // The four slots of the body from `at` on.
 #[tactic(auto, unfolding(base::specs::Folds::tab))]
-fn slots_in(w: &[u32], at: usize) -> [Transaction; 4]
-    requires { at + body_length ≤ length w.now }
-    ensures { result ≡ slots_in w.now at }
+fn slots_in(words: &[u32], at: usize) -> [Transaction; 4]
+    requires { at + body_length ≤ length words.now }
+    ensures { result ≡ slots_in words.now at }
 {
     [
-        slot_in(w, at, 0),
-        slot_in(w, at, 1),
-        slot_in(w, at, 2),
-        slot_in(w, at, 3),
+        slot_in(words, at, 0),
+        slot_in(words, at, 1),
+        slot_in(words, at, 2),
+        slot_in(words, at, 3),
     ]
 }
 
 /// The body from `at` on, whose fourteen words must be there; `None` where the previous set is beyond sixteen bits, or where three words within the count are no transaction.
 #[tactic(auto, unfolding(crate::specs::Bodies::body_reads, crate::specs::Bodies::body_in))]
-pub fn body_at(w: &[u32], at: usize) -> Option<Body>
-    requires { at + body_length ≤ length w.now }
-    ensures { Given (body_reads w.now at) (body_in w.now at) result }
+pub(crate) fn body_at(words: &[u32], at: usize) -> Option<Body>
+    requires { at + body_length ≤ length words.now }
+    ensures { Given (body_reads words.now at) (body_in words.now at) result }
 {
-    if !body_reads(w, at) {
+    if !body_reads(words, at) {
         return None;
     }
     Some(Body {
-        previous: w[at] as u16,
-        count: w[at + 1],
-        slots: slots_in(w, at),
+        previous: words[at] as u16,
+        count: words[at + BODY_COUNT],
+        slots: slots_in(words, at),
     })
 }
 
 /// A body by itself: words beyond the fourteen are not looked at, fewer are none.
 #[tactic(auto, unfolding(crate::specs::Bodies::lone_body_reads))]
-pub fn body(w: &[u32]) -> Option<Body>
-    ensures { Given (lone_body_reads w.now) (body_in w.now 0) result }
+pub fn body(words: &[u32]) -> Option<Body>
+    ensures { Given (lone_body_reads words.now) (body_in words.now 0) result }
 {
-    if w.len() < BODY {
+    if words.len() < BODY {
         return None;
     }
-    body_at(w, 0)
+    body_at(words, 0)
 }
 
 /// A transaction by itself, three words: kind 0 bond, 1 unbond, 2 entry; number; amount. `None` where there are fewer, the kind is another, or one that is no bond has an amount.
 #[tactic(auto, unfolding(crate::specs::Bodies::lone_triple_reads, crate::specs::Bodies::triple_in))]
-pub fn transaction(w: &[u32]) -> Option<Transaction>
-    ensures { Given (lone_triple_reads w.now) (triple_in w.now) result }
+pub fn transaction(words: &[u32]) -> Option<Transaction>
+    ensures { Given (lone_triple_reads words.now) (triple_in words.now) result }
 {
-    if w.len() < TRANSACTION || !is_triple(w[0], w[2]) {
+    if words.len() < TRANSACTION || !is_triple(words[0], words[2]) {
         return None;
     }
-    Some(terms::read_transaction(w[0], w[1], w[2]))
+    Some(terms::read_transaction(words[0], words[1], words[2]))
 }
 
-// Transaction k of a body, none beyond its count.
+// Transaction `index` of a body, none beyond its count.
 #[tactic(auto, unfolding(crate::specs::Bodies::used_of, terms::specs::Proposals::slot_of))]
-fn used_at(b: Body, k: u32) -> Transaction
-    requires { k < 4 }
-    ensures { result ≡ used_of b k }
+fn used_at(body: Body, index: u32) -> Transaction
+    requires { index < 4 }
+    ensures { result ≡ used_of body index }
 {
-    if k < b.count {
-        b.slots[k as usize]
+    if index < body.count {
+        body.slots[index as usize]
     } else {
         Transaction::Bond(Member(0), 0)
     }
@@ -120,26 +121,31 @@ fn used_at(b: Body, k: u32) -> Transaction
 
 /// Puts a body from `at` on, fourteen words: what lies beyond its count is put as zeros.
 #[tactic(auto, unfolding(crate::specs::Bodies::body_words, crate::specs::Bodies::used_words))]
-pub fn put_body(w: &mut [u32], at: usize, b: Body)
-    requires { at + body_length ≤ length w.old }
-    ensures { w.new ≡ paste w.old at (body_words b) body_length }
+pub fn put_body(out: &mut [u32], at: usize, body: Body)
+    requires { at + body_length ≤ length out.old }
+    ensures { out.new ≡ paste out.old at (body_words body) body_length }
 {
-    let x = [used_at(b, 0), used_at(b, 1), used_at(b, 2), used_at(b, 3)];
-    let words = [
-        b.previous as u32,
-        b.count,
-        terms::kind(x[0]),
-        terms::number(x[0]),
-        terms::amount(x[0]),
-        terms::kind(x[1]),
-        terms::number(x[1]),
-        terms::amount(x[1]),
-        terms::kind(x[2]),
-        terms::number(x[2]),
-        terms::amount(x[2]),
-        terms::kind(x[3]),
-        terms::number(x[3]),
-        terms::amount(x[3]),
+    let used = [
+        used_at(body, 0),
+        used_at(body, 1),
+        used_at(body, 2),
+        used_at(body, 3),
     ];
-    stretch::put(w, at, &words);
+    let words = [
+        body.previous as u32,
+        body.count,
+        terms::kind(used[0]),
+        terms::number(used[0]),
+        terms::amount(used[0]),
+        terms::kind(used[1]),
+        terms::number(used[1]),
+        terms::amount(used[1]),
+        terms::kind(used[2]),
+        terms::number(used[2]),
+        terms::amount(used[2]),
+        terms::kind(used[3]),
+        terms::number(used[3]),
+        terms::amount(used[3]),
+    ];
+    stretch::put(out, at, &words);
 }

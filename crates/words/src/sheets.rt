@@ -12,48 +12,48 @@ use terms::sheet::{Rights, Setting, Sheet};
 
 // Is the first word of each of the twenty settings 0 or 1?
 #[tactic(auto, unfolding(base::specs::Folds::all_to))]
-fn has_flags(w: &[u32]) -> bool
-    requires { sheet_length ≤ length w.now }
-    ensures { result ≡ all_to (λ k. nat_le (word w.now (k * 2)) 1) 20 }
+fn has_flags(words: &[u32]) -> bool
+    requires { sheet_length ≤ length words.now }
+    ensures { result ≡ all_to (λ k. nat_le (word words.now (k * 2)) 1) 20 }
 {
-    (0..20usize).all(|k| w[k * 2] <= 1)
+    (0..20usize).all(|k| words[k * 2] <= 1)
 }
 
-// Setting k of the words: blank, or written with the value.
+// Setting `index` of the words: blank, or written with the value.
 #[tactic(auto, unfolding(crate::specs::Sheets::setting_in))]
-fn setting_in(w: &[u32], k: usize) -> Setting
-    requires { (sheet_length ≤ length w.now) × (k < 20) }
-    ensures { result ≡ setting_in w.now k }
+fn setting_in(words: &[u32], index: usize) -> Setting
+    requires { (sheet_length ≤ length words.now) × (index < 20) }
+    ensures { result ≡ setting_in words.now index }
 {
-    if w[k * 2] == 0 {
+    if words[index * 2] == 0 {
         Setting::Blank
     } else {
-        Setting::Written(w[k * 2 + 1])
+        Setting::Written(words[index * 2 + 1])
     }
 }
 
 // The sixteen weights of the words.
-fn weights_in(w: &[u32]) -> [Setting; 16]
-    requires { sheet_length ≤ length w.now }
-    ensures { result ≡ tab (λ i. setting_in w.now (3 + i)) 16 }
+fn weights_in(words: &[u32]) -> [Setting; 16]
+    requires { sheet_length ≤ length words.now }
+    ensures { result ≡ tab (λ i. setting_in words.now (3 + i)) 16 }
 {
-    std::array::from_fn(|i| setting_in(w, 3 + i))
+    std::array::from_fn(|i| setting_in(words, 3 + i))
 }
 
 /// A sheet, forty words, with the rights beside it: two words for each setting, 0 for blank or 1 for written, then its value. `None` where there are fewer, or a first word is another.
 #[tactic(auto, unfolding(crate::specs::Sheets::sheet_reads, crate::specs::Sheets::sheet_in))]
-pub fn sheet(w: &[u32], rights: Rights) -> Option<Sheet>
-    ensures { Given (sheet_reads w.now) (sheet_in w.now rights) result }
+pub fn sheet(words: &[u32], rights: Rights) -> Option<Sheet>
+    ensures { Given (sheet_reads words.now) (sheet_in words.now rights) result }
 {
-    if w.len() < SHEET || !has_flags(w) {
+    if words.len() < SHEET || !has_flags(words) {
         return None;
     }
     Some(Sheet {
-        lookback: setting_in(w, 0),
-        ceiling: setting_in(w, 1),
-        allowance: setting_in(w, 2),
-        weights: weights_in(w),
-        margin: setting_in(w, 19),
+        lookback: setting_in(words, 0),
+        ceiling: setting_in(words, 1),
+        allowance: setting_in(words, 2),
+        weights: weights_in(words),
+        margin: setting_in(words, 19),
         rights,
     })
 }

@@ -10,85 +10,93 @@ ghost use Rattle.words.specs.Given.{Given};
 
 use crate::bodies;
 use crate::bodies::lengths::STATE;
+use crate::places::{
+    STATE_ALLOWANCE, STATE_BLOCKS, STATE_BODY, STATE_CEILING, STATE_LOOKBACK, STATE_MARGIN,
+    STATE_OWN, STATE_PROPOSED, STATE_RIGHTS, STATE_ROUND, STATE_WEIGHTS,
+};
 use state::State;
 use terms::sheet::{Rights, Settings, Weight};
 use terms::{Body, Member, Round};
 
 // The sixteen starting weights that the words give.
-fn weights_in(w: &[u32]) -> [Weight; 16]
-    requires { state_length ≤ length w.now }
-    ensures { result ≡ weights_in w.now }
+fn weights_in(words: &[u32]) -> [Weight; 16]
+    requires { state_length ≤ length words.now }
+    ensures { result ≡ weights_in words.now }
 {
-    std::array::from_fn(|i| Weight(w[4 + i] as u64))
+    std::array::from_fn(|i| Weight(words[STATE_WEIGHTS + i] as u64))
 }
 
 // The settings that the words give.
 #[tactic(auto, unfolding(crate::specs::States::settings_in))]
-fn settings_in(w: &[u32]) -> Settings
-    requires { state_length ≤ length w.now }
-    ensures { result ≡ settings_in w.now }
+fn settings_in(words: &[u32]) -> Settings
+    requires { state_length ≤ length words.now }
+    ensures { result ≡ settings_in words.now }
 {
     Settings {
-        lookback: w[1],
-        ceiling: Round(w[2]),
-        allowance: w[3],
-        weights: weights_in(w),
-        margin: w[37],
+        lookback: words[STATE_LOOKBACK],
+        ceiling: Round(words[STATE_CEILING]),
+        allowance: words[STATE_ALLOWANCE],
+        weights: weights_in(words),
+        margin: words[STATE_MARGIN],
     }
 }
 
-/// A state, thirty-nine words. `None` where there are fewer, where word 21 is neither 0 nor 1, or where it says that there is a proposal and the body means none; without a proposal the body's words are not looked at.
+/// A state, thirty-nine words. `None` where there are fewer, where the word that tells of a proposal is neither 0 nor 1, or where it says that there is a proposal and the body means none; without a proposal the body's words are not looked at.
 #[tactic(auto, unfolding(crate::specs::States::state_reads, crate::specs::States::state_in, crate::specs::States::own_proposal_in))]
-pub fn state(w: &[u32]) -> Option<State>
-    ensures { Given (state_reads w.now) (state_in w.now) result }
+pub fn state(words: &[u32]) -> Option<State>
+    ensures { Given (state_reads words.now) (state_in words.now) result }
 {
-    if w.len() < STATE {
+    if words.len() < STATE {
         return None;
     }
-    let proposal = match w[21] {
+    let proposal = match words[STATE_PROPOSED] {
         0 => None,
-        1 => Some(bodies::body_at(w, 23)?),
+        1 => Some(bodies::body_at(words, STATE_BODY)?),
         _ => return None,
     };
     Some(State {
-        own: Member(w[0]),
-        settings: settings_in(w),
-        round: Round(w[20]),
+        own: Member(words[STATE_OWN]),
+        settings: settings_in(words),
+        round: Round(words[STATE_ROUND]),
         proposal,
-        blocks: w[22],
-        rights: Rights(w[38]),
+        blocks: words[STATE_BLOCKS],
+        rights: Rights(words[STATE_RIGHTS]),
     })
 }
 
 // The body of the proposal in a state, none where there is no proposal.
-fn own_body(s: State) -> Body
-    ensures { result ≡ own_body s }
+fn own_body(state: State) -> Body
+    ensures { result ≡ own_body state }
 {
-    s.proposal.unwrap_or(terms::bare_body(0))
+    state.proposal.unwrap_or(terms::bare_body(0))
 }
 
 // 1 for yes, 0 for no.
-fn flag(p: bool) -> u32
-    ensures { result ≡ (if p then 1 else 0) }
+fn flag(yes: bool) -> u32
+    ensures { result ≡ (if yes then 1 else 0) }
 {
-    p as u32
+    yes as u32
 }
 
 /// Puts a state, thirty-nine words, the body's as zeros where there is no proposal: each weight must fit 32 bits.
-pub fn put_state(w: &mut [u32], s: State)
-    requires { (state_length ≤ length w.old) × Narrow s.settings.weights }
-    ensures { w.new ≡ paste w.old 0 (state_words s) state_length }
+pub fn put_state(out: &mut [u32], state: State)
+    requires { (state_length ≤ length out.old) × Narrow state.settings.weights }
+    ensures { out.new ≡ paste out.old 0 (state_words state) state_length }
 {
-    let settings = s.settings;
+    let settings = state.settings;
     let head = [
-        s.own.0,
+        state.own.0,
         settings.lookback,
         settings.ceiling.0,
         settings.allowance,
     ];
-    bodies::stretch::put(w, 0, &head);
-    crate::put_weights(w, 4, settings.weights);
-    bodies::stretch::put(w, 20, &[s.round.0, flag(s.proposal.is_some()), s.blocks]);
-    bodies::put_body(w, 23, own_body(s));
-    bodies::stretch::put(w, 37, &[settings.margin, s.rights.0]);
+    bodies::stretch::put(out, STATE_OWN, &head);
+    crate::put_weights(out, STATE_WEIGHTS, settings.weights);
+    bodies::stretch::put(
+        out,
+        STATE_ROUND,
+        &[state.round.0, flag(state.proposal.is_some()), state.blocks],
+    );
+    bodies::put_body(out, STATE_BODY, own_body(state));
+    bodies::stretch::put(out, STATE_MARGIN, &[settings.margin, state.rights.0]);
 }

@@ -1,46 +1,47 @@
 //! The anchors that a commit takes: leaders that are not taken are struck out (docs/RULES.md, "Commit").
 ghost use Rattle.std.specs.Prelude.{◌≡◌, ◌<◌, length};
-ghost use Rattle.base.specs.Sets.{is_in};
+ghost use Rattle.base.specs.Sets.{contains};
 ghost use Rattle.blocks.specs.Anchors.{take_set, take_row, taken_leaders};
 ghost use Rattle.blocks.specs.HistoryReady.{AnchorsReady};
 
 use terms::{Member, Round};
 
-/// Is a, which may be no member, in the set u?
+/// Is `leader`, which may be no member, in the set?
 #[tactic(auto, using(base::proofs::SetLaws::not_in))]
-pub fn is_held_leader(u: u32, a: Member) -> bool
-    ensures { result ≡ is_in u a.0 }
+pub fn is_held_leader(set: u32, leader: Member) -> bool
+    ensures { result ≡ contains set leader.0 }
 {
-    a.0 < 16 && base::has(u, a.0)
+    leader.0 < 16 && base::contains(set, leader.0)
 }
 
-// The leader of round r is taken, if it is in u, which is what the latest anchor reaches of r, or struck out. What the latest anchor reaches of r then.
+// The leader of `round` is taken, if it is in `reached`, which is what the latest anchor reaches of `round`, or struck out. What the latest anchor reaches of `round` then.
 #[tactic(auto, using(base::proofs::SetLaws::in_member), unfolding(crate::specs::Anchors::take_set, crate::specs::Anchors::take_row))]
-fn take_leader(l: &mut [u32], r: Round, u: u32) -> u32
-    requires { r.0 < length l.old }
-    ensures { (result ≡ take_set l.old r.0 u) × (l.new ≡ take_row l.old r.0 u) }
+fn take_leader(leaders: &mut [u32], round: Round, reached: u32) -> u32
+    requires { round.0 < length leaders.old }
+    ensures { (result ≡ take_set leaders.old round.0 reached)
+        × (leaders.new ≡ take_row leaders.old round.0 reached) }
 {
-    let at = r.0 as usize;
-    let a = l[at];
-    if is_held_leader(u, Member(a)) {
-        return base::just(a);
+    let at = round.0 as usize;
+    let leader = leaders[at];
+    if is_held_leader(reached, Member(leader)) {
+        return base::only(leader);
     }
-    l[at] = 16;
-    u
+    leaders[at] = 16;
+    reached
 }
 
-/// Strikes out the leaders between rounds m and top that are not taken, going down from the anchor of top; l has the leaders by round, 16 for none. A leader is taken exactly if its certificate is in the history of the latest one taken.
+/// Strikes out the leaders between rounds `low` and top that are not taken, going down from the anchor of top; `leaders` has the leaders by round, 16 for none. A leader is taken exactly if its certificate is in the history of the latest one taken.
 #[tactic(auto, using(crate::proofs::AnchorLaws::take_step, crate::proofs::AnchorLaws::take_done), unfolding(crate::specs::Anchors::taken_leaders))]
-pub fn take_leaders(t: &[u32], l: &mut [u32], m: Round, top: Round)
-    requires { AnchorsReady t.now l.old m.0 top.0 }
-    ensures { l.new ≡ taken_leaders t.now m.0 top.0 l.old }
+pub fn take_leaders(table: &[u32], leaders: &mut [u32], low: Round, top: Round)
+    requires { AnchorsReady table.now leaders.old low.0 top.0 }
+    ensures { leaders.new ≡ taken_leaders table.now low.0 top.0 leaders.old }
 {
-    let last = m.0;
-    let mut s = base::just(l[top.0 as usize]);
+    let last = low.0;
+    let mut history = base::only(leaders[top.0 as usize]);
     let mut r = top.0 - 1;
     while last < r {
-        let u = crate::histories::step_down(t, s, Round(r + 1));
-        s = take_leader(l, Round(r), u);
+        let reached = crate::histories::step_down(table, history, Round(r + 1));
+        history = take_leader(leaders, Round(r), reached);
         r -= 1;
     }
 }

@@ -1,5 +1,5 @@
 //! What transactions do to the weights of a committee: each weight by sums and products, since kinds come in any order and a branch would be guessed wrong.
-ghost use Rattle.std.specs.Prelude.{◌≡◌, if◌then◌else◌, ◌*◌, ◌≤◌};
+ghost use Rattle.std.specs.Prelude.{◌≡◌, if◌then◌else◌, ◌*◌, ◌^◌, ◌≤◌};
 ghost use Rattle.terms.specs.Transactions.{read_transaction};
 ghost use Rattle.committee.specs.Changes.{change};
 ghost use Rattle.committee.specs.WeightEffects.{effect_of, weight_after};
@@ -15,21 +15,21 @@ fn effect(there: bool, kind: u32, number: u32) -> u32
     if there && number < 16 { kind.min(2) } else { 2 }
 }
 
-// All of x, or nothing.
-fn times(x: Weight, k: u32) -> Weight
-    requires { k ≤ 1 }
-    ensures { (result.0 ≡ x.0 * k) × (result.0 ≤ x.0) }
+// All of `weight`, or nothing.
+fn times(weight: Weight, factor: u32) -> Weight
+    requires { factor ≤ 1 }
+    ensures { (result.0 ≡ weight.0 * factor) × (result.0 ≤ weight.0) }
 {
-    Weight(x.0 * k as u64)
+    Weight(weight.0 * factor as u64)
 }
 
-// The weight x after an effect: an unbond removes it, then a bond adds its amount.
-fn weight_after(e: u32, amount: u32, x: Weight) -> Weight
-    requires { (e ≤ 2) × (x.0 ≤ 4611686018427387904) }
-    ensures { result.0 ≡ weight_after e amount x.0 }
+// The weight after an effect: an unbond removes it, then a bond adds its amount.
+fn weight_after(effect: u32, amount: u32, weight: Weight) -> Weight
+    requires { (effect ≤ 2) × (weight.0 ≤ 2 ^ 62) }
+    ensures { result.0 ≡ weight_after effect amount weight.0 }
 {
-    let kept = times(x, 1 - e % 2);
-    let added = times(Weight(amount as u64), (2 - e) / 2);
+    let kept = times(weight, 1 - effect % 2);
+    let added = times(Weight(amount as u64), (2 - effect) / 2);
     Weight(kept.0 + added.0)
 }
 
@@ -37,11 +37,12 @@ fn weight_after(e: u32, amount: u32, x: Weight) -> Weight
 ///
 /// A number above 15 is no member's and changes nothing either. The weights are light enough for no sum to overflow.
 #[tactic(auto, using(crate::proofs::EffectLaws::effect_changes))]
-pub fn apply(w: &mut [Weight; 16], there: bool, kind: u32, number: u32, amount: u32)
-    requires { total_in w.old ≤ 4611686018427387904 }
-    ensures { w.new ≡ (if there then change (read_transaction kind number amount) w.old else w.old) }
+pub fn apply(weights: &mut [Weight; 16], there: bool, kind: u32, number: u32, amount: u32)
+    requires { total_in weights.old ≤ 2 ^ 62 }
+    ensures { weights.new ≡ (if there then change (read_transaction kind number amount) weights.old
+        else weights.old) }
 {
     let e = effect(there, kind, number);
-    let i = (number % 16) as usize;
-    w[i] = weight_after(e, amount, w[i]);
+    let place = (number % 16) as usize;
+    weights[place] = weight_after(e, amount, weights[place]);
 }

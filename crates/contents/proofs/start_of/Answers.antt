@@ -6,4 +6,4 @@ pub committee_of-weights-requires : goal.committee_of-weights-requires
 committee_of-weights-requires c = first_blocks _ (omega arith) c.requires.0
 
 pub returns : goal.returns
-returns c = starts_by c.args.s c.args.t.now c.args.k c.requires.1 c.block_round-round.ensures c.committee_of-weights.ensures.0 c.leader.ensures
+returns c = starts_by c.args.settings c.args.table.now c.args.block c.requires.1 c.block_round-round.ensures c.committee_of-weights.ensures.0 c.leader.ensures (omega arith)

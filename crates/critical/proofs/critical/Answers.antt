@@ -4,4 +4,4 @@ use Rattle.critical.proofs.PlaceLaws.{words-length}
 use Rattle.critical.proofs.critical.Goals as goal
 
 pub returns-clause-value : goal.returns-clause-value
-returns-clause-value c = let put = c.list_places-put.ensures.1 in omega (arith, put.past, words-length (critical_places c.args.s.now c.args.t.now))
+returns-clause-value c = let put = c.list_places-put.ensures.1 in omega (arith, put.past, words-length (critical_places c.args.state.now c.args.table.now))

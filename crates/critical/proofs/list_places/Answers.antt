@@ -4,7 +4,7 @@ use Rattle.critical.proofs.PlaceLaws.{places-words}
 use Rattle.critical.proofs.list_places.Goals as goal
 
 pub overflow_sub-before : goal.overflow_sub-before
-overflow_sub-before c = c.requires.0.timely.formed.numbers.round-from
+overflow_sub-before c = c.requires.0.timely.formed.numbers.round_from
 
 pub list_row-row-requires : goal.list_row-row-requires
 list_row-row-requires c = let p = c.requires in (p.0, (inr refl, omega (arith, p.1)))

@@ -3,4 +3,4 @@ use Rattle.critical.proofs.poll.Goals as goal
 
 pub returns : goal.returns
 returns c = let p = c.fill_leaders-weights.ensures in
-    record { its-refusal = c.check_votes-answer.ensures; its-leader = led_on _ _ p.formed p.from _ p.leaders p.above; its-weights = p.committee; bounded = p.bounded }
+    record { its_refusal = c.check_votes-answer.ensures; its_leader = led_on _ _ p.formed p.from _ p.leaders p.above; its_weights = p.committee; bounded = p.bounded }

@@ -8,7 +8,7 @@ take_leaders-requires c = let x = c.in_ok-check.ensures in
 
 pub list_blocks-put-requires : goal.list_blocks-put-requires
 list_blocks-put-requires c = let x = c.in_ok-check.ensures in
-    steps_ready _ (passed c.in_ok-known.ensures.ok x.refusal x.leaders) c.last_round-last.ensures c.take_leaders.ensures c.take_leaders.auto.l
+    steps_ready _ (passed c.in_ok-known.ensures.ok x.refusal x.leaders) c.last_round-last.ensures c.take_leaders.ensures c.take_leaders.auto.leaders
 
 pub overflow_cast-result : goal.overflow_cast-result
 overflow_cast-result c = let x = c.in_ok-check.ensures in

@@ -3,10 +3,10 @@ use Rattle.prospects.proofs.Stepping.{steps_begin, steps_room, steps_more}
 use Rattle.prospects.proofs.list_blocks.Goals as goal
 
 pub loop-i-init : goal.loop-i-init
-loop-i-init c = steps_begin _ _ _ _ _ _ _ (omega arith)
+loop-i-init c = steps_begin _ _ _ _ _ _ _ (omega arith) (omega arith)
 
-pub list_step-x-requires : goal.list_step-x-requires
-list_step-x-requires c = let k = c.requires in
+pub list_step-listed-requires : goal.list_step-listed-requires
+list_step-listed-requires c = let k = c.requires in
     let x = c.loop-i.invariant in
     record {
       listed = omega (arith, k.listed);
@@ -16,5 +16,5 @@ list_step-x-requires c = let k = c.requires in
     }
 
 pub loop-i-preserved : goal.loop-i-preserved
-loop-i-preserved c = let y = c.list_step-x in
+loop-i-preserved c = let y = c.list_step-listed in
     steps_more c.loop-i.invariant (omega arith) y.auto.list y.ensures

@@ -2,4 +2,4 @@ use Rattle.prospects.proofs.Stepping.{Stepping}
 use Rattle.prospects.proofs.list_blocks.Given as goal
 
 abbrev pub invariant-loop-i : goal.invariant-loop-i
-invariant-loop-i l = Stepping l.t l.l l.last l.k l.rounds l.initial.list l.list l.seen l.fresh l.n l.at l.i
+invariant-loop-i l = Stepping l.table l.leaders l.last l.blocks l.rounds l.initial.list l.list l.seen l.fresh l.count l.at l.i

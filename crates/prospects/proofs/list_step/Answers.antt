@@ -2,10 +2,10 @@ use Rattle.prospects.proofs.StepLaws.{block_ready, step_passed, step_listed}
 use Rattle.prospects.proofs.list_step.Goals as goal
 
 pub list_block-requires : goal.list_block-requires
-list_block-requires c = block_ready c.if-a-lt16.true c.requires
+list_block-requires c = block_ready c.if-author-lt16.true c.requires
 
-pub returns-then-a-lt16 : goal.returns-then-a-lt16
-returns-then-a-lt16 c = step_listed c.if-a-lt16.true c.list_block.ensures
+pub returns-then-author-lt16 : goal.returns-then-author-lt16
+returns-then-author-lt16 c = step_listed c.if-author-lt16.true c.list_block.ensures
 
-pub returns-else-a-lt16 : goal.returns-else-a-lt16
-returns-else-a-lt16 c = step_passed c.if-a-lt16.false c.requires
+pub returns-else-author-lt16 : goal.returns-else-author-lt16
+returns-else-author-lt16 c = step_passed c.if-author-lt16.false c.requires

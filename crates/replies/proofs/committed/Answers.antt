@@ -17,17 +17,17 @@ cached_as : {s : State} {t x y : List ℕ} {b : Bool} → Cached s t b x → y �
 cached_as h e = rw e h
 
 pub returns-in-Err : goal.returns-in-Err
-returns-in-Err c = let e = engine_of c.args.s.now c.args.t.now in
+returns-in-Err c = let e = engine_of c.args.state.now c.args.table.now in
     let h = c.commit_cached-answer.ensures in
     let n = ap (λ (a : Result ℕ Refusal). refusal_in a) (sym c.in-Err.is) ∙ h.refusal in
     counted-served e _ h.refusal h.value h.state h.table c.put_committed-next.ensures (cached_uncommitted e h.state h.table (λ z. some-number _ (n ∙ z)) c.requires.1)
 
 pub renew-requires : goal.renew-requires
-renew-requires c = let e = engine_of c.args.s.now c.args.t.now in
+renew-requires c = let e = engine_of c.args.state.now c.args.table.now in
     let low : SetInRange e = c.previous_fits.ensures in
     let h = c.commit_cached-answer.ensures in
     committed-formed e h.state h.table low c.requires.1.form
 
 pub returns : goal.returns
 returns c = let h = c.commit_cached-answer.ensures in
-    counted-served (engine_of c.args.s.now c.args.t.now) _ h.refusal h.value h.state h.table c.put_committed-next.ensures (cached_as c.renew.ensures (grind (arith, common_steps)))
+    counted-served (engine_of c.args.state.now c.args.table.now) _ h.refusal h.value h.state h.table c.put_committed-next.ensures (cached_as c.renew.ensures (grind (arith, common_steps)))

@@ -3,11 +3,11 @@ use Rattle.state.proofs.Walkable.{readable}
 use Rattle.spans.proofs.ReadLaws.{beyond, there}
 use Rattle.spans.proofs.check.Goals as goal
 
-pub returns-then-v-m-clause-refusal : goal.returns-then-v-m-clause-refusal
-returns-then-v-m-clause-refusal c = let v = c.args.v.now in beyond v.state.now v.table.now _ _ (omega arith)
+pub returns-then-view-known-clause-refusal : goal.returns-then-view-known-clause-refusal
+returns-then-view-known-clause-refusal c = let v = c.args.view.now in beyond v.state.now v.table.now _ _ (omega arith)
 
 pub returns-clause-refusal : goal.returns-clause-refusal
-returns-clause-refusal c = let v = c.args.v.now in there v.state.now v.table.now _ _ (omega arith)
+returns-clause-refusal c = let v = c.args.view.now in there v.state.now v.table.now _ _ (omega arith)
 
 pub returns-clause-there : goal.returns-clause-there
-returns-clause-there c = let v = c.args.v.now in (readable v.state.now v.table.now v.formed, omega arith)
+returns-clause-there c = let v = c.args.view.now in (readable v.state.now v.table.now v.formed, omega arith)

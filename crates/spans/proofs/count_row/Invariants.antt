@@ -10,4 +10,4 @@ pub record Counted (t : List ℕ) (n k a r i c : ℕ) : Type 0 where
   pub most : c ≤ i
 
 abbrev pub invariant-loop-i : goal.invariant-loop-i
-invariant-loop-i l = Counted l.t l.fn.n.0 l.k l.a.0 l.r.0 l.i l.c
+invariant-loop-i l = Counted l.table l.fn.ceiling.0 l.block l.start.0 l.round.0 l.i l.count

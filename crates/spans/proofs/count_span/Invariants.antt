@@ -11,4 +11,4 @@ pub record Counted (S : Settings) (t : List ℕ) (blocks m n i c : ℕ) : Type 0
   pub most : c ≤ 16384 * i
 
 abbrev pub invariant-loop-i : goal.invariant-loop-i
-invariant-loop-i l = Counted l.s l.t l.fn.blocks l.m l.n l.i l.c
+invariant-loop-i l = Counted l.settings l.table l.fn.blocks l.known l.number l.i l.count

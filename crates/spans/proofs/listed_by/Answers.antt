@@ -1,5 +1,5 @@
 use Rattle.std.proofs.Common.{arith}
-use Rattle.running.proofs.StartLaws.{started_none}
+use Rattle.chain_committees.proofs.StartLaws.{started_none}
 use Rattle.contents.proofs.StartLaws.{first_blocks}
 use Rattle.spans.proofs.ReadLaws.{too_short, all_listed}
 use Rattle.spans.proofs.listed_by.Goals as goal
@@ -9,8 +9,8 @@ all_starts-requires c = (record { chain = first_blocks _ c.requires.within c.req
 
 pub returns-then-list-count : goal.returns-then-list-count
 returns-then-list-count c = let a = c.args in
-    too_short a.s a.t.now _ a.m a.n c.count_span-count.ensures (omega arith)
+    too_short a.settings a.table.now _ a.known a.number c.count_span-count.ensures (omega arith)
 
 pub returns : goal.returns
 returns c = let a = c.args in
-    all_listed a.s a.t.now _ a.m a.n c.count_span-count.ensures (omega arith) c.put_span.ensures
+    all_listed a.settings a.table.now _ a.known a.number c.count_span-count.ensures (omega arith) c.put_span.ensures

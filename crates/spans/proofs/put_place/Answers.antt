@@ -5,7 +5,7 @@ use Rattle.spans.proofs.SpanLaws.{words-none, place_put}
 use Rattle.spans.proofs.put_place.Goals as goal
 
 pub returns-then-not-is_in : goal.returns-then-not-is_in
-returns-then-not-is_in c = rw (place_none c.args.t.now c.args.k _ _ c.is_in.ensures c.if-not-is_in.true) (puts_none (words-none c.args.t.now c.args.k))
+returns-then-not-is_in c = rw (place_none c.args.table.now c.args.block _ _ c.is_in.ensures c.if-not-is_in.true) (puts_none (words-none c.args.table.now c.args.block))
 
 pub returns : goal.returns
-returns c = place_put c.args.t.now c.args.k _ _ c.is_in.ensures c.if-not-is_in.false (rw (c.proposal_at.ensures, c.endorsers.ensures) refl) c.put_held.ensures
+returns c = place_put c.args.table.now c.args.block _ _ c.is_in.ensures c.if-not-is_in.false (rw (c.proposal_at.ensures, c.endorsers.ensures) refl) c.put_held.ensures

@@ -7,14 +7,14 @@ use Rattle.spans.proofs.put_row.Goals as goal
 
 pub loop-i-init : goal.loop-i-init
 loop-i-init c = let a = c.args in
-    record { so_far = omega arith; kept = refl; puts = rw (no_row a.n.0 a.t.now a.k a.a.0 a.r.0) (puts_none (words-none a.t.now a.k)) }
+    record { so_far = omega arith; kept = refl; puts = rw (no_row a.ceiling.0 a.table.now a.block a.start.0 a.round.0) (puts_none (words-none a.table.now a.block)) }
 
 pub put_place-to-requires : goal.put_place-to-requires
 put_place-to-requires c = let a = c.args in
     let x = c.loop-i in
     let k = c.requires in (
       record { member = omega arith; row = omega (arith, k.long, k.to) },
-      omega (arith, row-room a.n.0 a.t.now a.k a.a.0 a.r.0 x.i (omega arith) k.from k.to, k.room, x.invariant.kept, x.invariant.puts.past, x.invariant.puts.room),
+      omega (arith, row-room a.ceiling.0 a.table.now a.block a.start.0 a.round.0 x.i (omega arith) k.from k.to, k.room, x.invariant.kept, x.invariant.puts.past, x.invariant.puts.room),
     )
 
 pub loop-i-preserved : goal.loop-i-preserved
@@ -25,7 +25,7 @@ loop-i-preserved c = let a = c.args in
       so_far = omega arith;
       kept = c.put_place-to.auto.list ∙ x.invariant.kept;
       puts =
-          puts_as (ap (block_words a.t.now a.k) (row-next a.n.0 a.t.now a.k a.a.0 a.r.0 x.i k.from k.to) ∙ words-append a.t.now a.k _ _)
-          (omega (arith, row-longer a.n.0 a.t.now a.k a.a.0 a.r.0 x.i k.from k.to))
+          puts_as (ap (block_words a.table.now a.block) (row-next a.ceiling.0 a.table.now a.block a.start.0 a.round.0 x.i k.from k.to) ∙ words-append a.table.now a.block _ _)
+          (omega (arith, row-longer a.ceiling.0 a.table.now a.block a.start.0 a.round.0 x.i k.from k.to))
           (puts_then x.invariant.puts c.put_place-to.ensures);
     }

@@ -7,4 +7,4 @@ use Rattle.spans.specs.Spans.{block_words}
 use Rattle.spans.proofs.put_row.Given as goal
 
 abbrev pub invariant-loop-i : goal.invariant-loop-i
-invariant-loop-i l = Putting l.initial.list l.list l.fn.at l.to (block_words l.t l.k (row (block_at l.fn.n.0 l.t l.k) l.a.0 l.r.0 l.i)) (held_length * length (row (block_at l.fn.n.0 l.t l.k) l.a.0 l.r.0 l.i)) 16 l.i
+invariant-loop-i l = Putting l.initial.list l.list l.fn.at l.to (block_words l.table l.block (row (block_at l.fn.ceiling.0 l.table l.block) l.start.0 l.round.0 l.i)) (held_length * length (row (block_at l.fn.ceiling.0 l.table l.block) l.start.0 l.round.0 l.i)) 16 l.i

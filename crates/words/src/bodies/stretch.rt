@@ -3,10 +3,10 @@
 ghost use Rattle.std.specs.Prelude.{◌≡◌, ◌+◌, ◌≤◌, length};
 ghost use Rattle.std.proofs.Math.Seq.{paste};
 
-/// Puts the words x from `at` on, where there is room for them; the others stay.
-pub fn put(w: &mut [u32], at: usize, x: &[u32])
-    requires { at + length x.now ≤ length w.old }
-    ensures { w.new ≡ paste w.old at x.now (length x.now) }
+/// Puts the words from `at` on, where there is room for them; the others stay.
+pub fn put(out: &mut [u32], at: usize, words: &[u32])
+    requires { at + length words.now ≤ length out.old }
+    ensures { out.new ≡ paste out.old at words.now (length words.now) }
 {
-    w[at..at + x.len()].copy_from_slice(x);
+    out[at..at + words.len()].copy_from_slice(words);
 }

@@ -12,8 +12,8 @@ pub record Left (row : List CertificateRecord) (s : State) (k : ℕ) (w : Progre
   pub stage : ran_stage row s k w.stage t ≡ ran_stage row s turns start.stage t₀
   pub table : ran_table row s k w.stage t ≡ ran_table row s turns start.stage t₀
 
-abbrev pub invariant-loop-k : goal.invariant-loop-k
-invariant-loop-k l = Left l.row l.s l.k l.w l.t l.turns l.fn.w l.fn.t
+abbrev pub invariant-loop-left : goal.invariant-loop-left
+invariant-loop-left l = Left l.row l.state l.left l.progress l.table l.turns l.fn.progress l.fn.table
 
-abbrev pub decreases-loop-k : goal.decreases-loop-k
-decreases-loop-k l = l.k
+abbrev pub decreases-loop-left : goal.decreases-loop-left
+decreases-loop-left l = l.left

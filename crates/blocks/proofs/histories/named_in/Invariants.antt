@@ -4,4 +4,4 @@ use Rattle.blocks.specs.History.{named_by}
 use Rattle.blocks.proofs.histories.named_in.Given as goal
 
 abbrev pub invariant-loop-a : goal.invariant-loop-a
-invariant-loop-a l = (l.a ≤ 16) × (l.u ≡ fold_to (named_by l.t l.s l.r.0) l.a 0)
+invariant-loop-a l = (l.a ≤ 16) × (l.found ≡ fold_to (named_by l.table l.authors l.round.0) l.a 0)

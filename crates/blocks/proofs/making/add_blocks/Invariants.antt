@@ -13,4 +13,4 @@ pub record BlocksMade (t₀ l : List ℕ) (k last rounds : ℕ) (t v : List ℕ)
   pub seen : Seen t v v
 
 abbrev pub invariant-loop-i : goal.invariant-loop-i
-invariant-loop-i l = BlocksMade l.initial.t l.l l.k l.last l.rounds l.t l.seen l.n l.i
+invariant-loop-i l = BlocksMade l.initial.table l.leaders l.blocks l.last l.rounds l.table l.seen l.count l.i

@@ -6,4 +6,4 @@ use Rattle.blocks.proofs.marks.add_block.Goals as goal
 pub returns : goal.returns
 unfolding add_block
 returns c = let m = c.mark_history.ensures in
-    (rw (c.set_block.ensures, m.0, c.just-s.ensures) refl, seen_block _ _ _ _ _ c.set_block.ensures m.1)
+    (rw (c.set_block.ensures, m.0, c.only-anchor.ensures) refl, seen_block _ _ _ _ _ c.set_block.ensures m.1)

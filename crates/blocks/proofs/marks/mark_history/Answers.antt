@@ -14,9 +14,9 @@ loop-r-preserved c = let z = c.loop-r-test.true in
     let i = c.loop-r in
     record {
       to = omega arith;
-      size = m.auto.t ∙ i.invariant.size;
-      rest = rw (d, m.ensures) (sym (history_step c.args.b i.r i.here i.t (omega arith)) ∙ i.invariant.rest);
+      size = m.auto.table ∙ i.invariant.size;
+      rest = rw (d, m.ensures) (sym (history_step c.args.block i.r i.here i.table (omega arith)) ∙ i.invariant.rest);
       seen =
-          rw (d, m.ensures, see_is i.seen i.r i.here _ c.joined.ensures)
-          (seen_step c.args.b i.r i.here i.t i.seen c.requires.1 (omega arith) (omega arith) (omega arith) i.invariant.seen);
+          rw (d, m.ensures, see_is i.seen i.r i.here _ c.union.ensures)
+          (seen_step c.args.block i.r i.here i.table i.seen c.requires.1 (omega arith) (omega arith) (omega arith) i.invariant.seen);
     }

@@ -12,7 +12,7 @@ pub record HistoryLeft (t₀ : List ℕ) (b s r₀ : ℕ) (t v : List ℕ) (r he
   pub seen : Seen t v (see v r here)
 
 abbrev pub invariant-loop-r : goal.invariant-loop-r
-invariant-loop-r l = HistoryLeft l.initial.t l.b l.s l.initial.r l.t l.seen l.r l.here
+invariant-loop-r l = HistoryLeft l.initial.table l.block l.authors l.initial.r l.table l.seen l.r l.here
 
 abbrev pub decreases-loop-r : goal.decreases-loop-r
 decreases-loop-r l = l.r

@@ -10,4 +10,4 @@ pub record PlacesMarked (t₀ : List ℕ) (b s r : ℕ) (t : List ℕ) (a : ℕ)
   pub size : length t ≡ length t₀
 
 abbrev pub invariant-loop-a : goal.invariant-loop-a
-invariant-loop-a l = PlacesMarked l.initial.t l.b l.s l.r.0 l.t l.a
+invariant-loop-a l = PlacesMarked l.initial.table l.block l.authors l.round.0 l.table l.a

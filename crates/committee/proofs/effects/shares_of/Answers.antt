@@ -10,4 +10,4 @@ from_fn-requires c = grind (serving, part_of_total c.requires)
 
 pub returns : goal.returns
 unfolding shares_of
-returns c = tab_from_fn (share_in c.args.w.now) _ _ 0 (λ k y q e. search rules) 16 c.from_fn.ensures.items
+returns c = tab_from_fn (share_in c.args.weights.now) _ _ 0 (λ k y q e. search rules) 16 c.from_fn.ensures.items

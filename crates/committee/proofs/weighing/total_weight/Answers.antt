@@ -9,7 +9,7 @@ use Rattle.committee.proofs.weighing.total_weight.Goals as goal
 pub sum-requires-clause-fits : goal.sum-requires-clause-fits
 unfolding sum_to
 sum-requires-clause-fits c =
-    let w = weight_in c.args.w.now in
+    let w = weight_in c.args.weights.now in
     fits_by_from_yields_list w (range_with_len 0 16) c.map.result _
     (YieldsList-from_map _ w (YieldsList-from_range 0 16 16 c.map.ensures.source refl) c.map.ensures.closure (λ x r q k. search rules))
     (omega (arith, c.requires.total))

@@ -9,6 +9,6 @@ pub loop-i-preserved : goal.loop-i-preserved
 loop-i-preserved c = let x = c.loop-i in
     record {
       so_far = omega arith;
-      count = rows-counted _ _ _ _ x.i x.invariant.count c.count_row-c.ensures.count;
-      most = omega (arith, x.invariant.most, c.count_row-c.ensures.most);
+      count = rows-counted _ _ _ _ x.i x.invariant.count c.count_row-count.ensures.count;
+      most = omega (arith, x.invariant.most, c.count_row-count.ensures.most);
     }

@@ -7,4 +7,4 @@ use Rattle.contents.specs.Words.{stored_words}
 use Rattle.contents.proofs.rows.put_rows.Given as goal
 
 abbrev pub invariant-loop-i : goal.invariant-loop-i
-invariant-loop-i l = Putting l.initial.list l.list 0 l.to (stored_words l.t (rows (block_at l.n.0 l.t l.k) l.a.0 l.i)) (certificate_length * length (rows (block_at l.n.0 l.t l.k) l.a.0 l.i)) l.n.0 l.i
+invariant-loop-i l = Putting l.initial.list l.list 0 l.to (stored_words l.table (rows (block_at l.ceiling.0 l.table l.block) l.start.0 l.i)) (certificate_length * length (rows (block_at l.ceiling.0 l.table l.block) l.start.0 l.i)) l.ceiling.0 l.i

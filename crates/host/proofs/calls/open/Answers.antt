@@ -4,7 +4,7 @@ use Rattle.refusals.specs.Refusals.{number_of, refusal_in}
 use Rattle.open.specs.Open.{closed_state}
 use Rattle.engine.specs.Calls.{opens}
 use Rattle.words.specs.Sheets.{sheet_in}
-use Rattle.hosting.proofs.SettledLaws.{freshly-written, narrow-left}
+use Rattle.hosting.proofs.SettledLaws.{freshly_written, narrow-left}
 use Rattle.host.proofs.calls.open.Goals as goal
 
 pub put_state-requires : goal.put_state-requires
@@ -17,4 +17,4 @@ pub returns-in_err-open : goal.returns-in_err-open
 returns-in_err-open c = let b = c.in-Some.ensures in
     let x = rw (c.closed-s.ensures, b.1) at c.in_err-open.ensures in
     let n : refusal_in c.from_residual.result ≡ number_of c.in_err-open.field-0.0 = search rules in
-    rw n (freshly-written _ _ _ _ (Err c.in_err-open.field-0.0) _ refl c.if-state-lt-STATE.false b.0 refl x.refusal x.state x.table refl)
+    rw n (freshly_written _ _ _ _ (Err c.in_err-open.field-0.0) _ refl c.if-state-lt-STATE.false b.0 refl x.refusal x.state x.table refl)

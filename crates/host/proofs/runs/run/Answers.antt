@@ -20,7 +20,7 @@ loop-entry-preserved c at h =
     let within : c.loop-entry.entry-index < length c.args.entries.now = omega arith in
     let who = c.requires c.loop-entry.entry-index first within in
     let rest = after_more at c.args.entries.now c.loop-entry.entry-index first within in
-    let stand = stand_more c.loop-entry.hosts (after_run at (take c.loop-entry.entry-index c.args.entries.now)) (get_or c.args.entries.now c.loop-entry.entry-index first) c.make.new.w c.index-hosts-entry.result (c.loop-entry.invariant at h) (omega (arith, who)) c.make.ensures.words in
+    let stand = stand_more c.loop-entry.hosts (after_run at (take c.loop-entry.entry-index c.args.entries.now)) (get_or c.args.entries.now c.loop-entry.entry-index first) c.make.new.words c.index-hosts-entry.result (c.loop-entry.invariant at h) (omega (arith, who)) c.make.ensures.words in
     rw rest stand
 
 pub returns-clause-run : goal.returns-clause-run

@@ -9,4 +9,4 @@ copied : (w t : List ℕ) (at : ℕ) → at + length w ≤ length t → put_mid 
 copied w t at h = let n : at + length w - at ≡ length w = omega arith in rw (n, drop-drop (length w) at t) (sym (sets-eq w t at h ∙ append_assoc (take at t) w (drop (at + length w) t)))
 
 pub returns : goal.returns
-returns c = record { bytes = rw c.copy_from_slice.ensures.after (copied c.args.w.now c.args.buf.now c.args.at c.requires); past = refl; room = omega arith }
+returns c = record { bytes = rw c.copy_from_slice.ensures.after (copied c.args.bytes.now c.args.buffer.now c.args.at c.requires); past = refl; room = omega arith }

@@ -23,7 +23,7 @@ loop-k-preserved c = let a = c.args in
     let p = c.put_triple-next.ensures in
     record {
       so_far = omega arith;
-      kept = c.put_triple-next.auto.buf ∙ l.invariant.kept;
+      kept = c.put_triple-next.auto.buffer ∙ l.invariant.kept;
       puts = rw (triples_next (slot_of a.body) l.k) (puts-within ((l.k + 1) * 24) (omega arith) (puts_then l.invariant.puts p));
     }
 

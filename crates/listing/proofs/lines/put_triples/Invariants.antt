@@ -6,4 +6,4 @@ use Rattle.base.proofs.PutLaws.{Putting}
 use Rattle.listing.proofs.lines.put_triples.Given as goal
 
 abbrev pub invariant-loop-k : goal.invariant-loop-k
-invariant-loop-k l = Putting l.initial.buf l.buf l.at l.next (triples_fields (tab (slot_of l.body) l.k)) (l.k * 24) l.body.count l.k
+invariant-loop-k l = Putting l.initial.buffer l.buffer l.at l.next (triples_fields (tab (slot_of l.body) l.k)) (l.k * 24) l.body.count l.k

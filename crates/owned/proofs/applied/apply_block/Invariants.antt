@@ -1,6 +1,6 @@
 use Rattle.std.proofs.Common.{◌≡◌, ℕ, ◌≤◌, List}
-use Rattle.running.specs.BlockChanges.{place_change}
-use Rattle.running.specs.LinkRuns.{rows_over}
+use Rattle.chain_committees.specs.BlockChanges.{place_change}
+use Rattle.chain_committees.specs.LinkRuns.{rows_over}
 use Rattle.terms.specs.declared.sheet.Weight.{Weight}
 use Rattle.owned.proofs.applied.apply_block.Given as goal
 
@@ -10,4 +10,4 @@ pub record RowsDone (t : List ℕ) (b a r : ℕ) (w₀ w : List Weight) (q : ℕ
   pub weights : w ≡ rows_over (place_change t b) a q w₀
 
 abbrev pub invariant-loop-q : goal.invariant-loop-q
-invariant-loop-q l = RowsDone l.t l.b l.a.0 l.fn.r.0 l.initial.w l.w l.q
+invariant-loop-q l = RowsDone l.table l.block l.start.0 l.fn.top.0 l.initial.weights l.weights l.q

@@ -1,7 +1,7 @@
 use Rattle.std.proofs.Common.{◌≡◌, ℕ, ◌+◌, ◌*◌, ◌%◌, ◌≤◌, List}
 use Rattle.base.specs.Folds.{fold_to}
 use Rattle.committee.specs.Totals.{total_in}
-use Rattle.running.specs.BlockChanges.{place_change}
+use Rattle.chain_committees.specs.BlockChanges.{place_change}
 use Rattle.terms.specs.declared.sheet.Weight.{Weight}
 use Rattle.owned.proofs.applied.apply_row.Given as goal
 
@@ -12,4 +12,4 @@ pub record PlacesDone (t : List ℕ) (b a r : ℕ) (w₀ w : List Weight) (i : �
   pub total : total_in w ≤ total_in w₀ + i * 17179869180
 
 abbrev pub invariant-loop-i : goal.invariant-loop-i
-invariant-loop-i l = PlacesDone l.t l.b l.a.0 l.r.0 l.initial.w l.w l.i
+invariant-loop-i l = PlacesDone l.table l.block l.start.0 l.round.0 l.initial.weights l.weights l.i

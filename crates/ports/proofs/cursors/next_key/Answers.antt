@@ -1,10 +1,10 @@
 use Rattle.std.proofs.Common.{rules}
 use Rattle.std.proofs.lemmas.Iterator.{first_from_Range}
-use Rattle.running.specs.Links.{Marked}
+use Rattle.chain_committees.specs.Links.{Marked}
 use Rattle.ports.specs.Next.{key_place}
 use Rattle.ports.proofs.FoundLaws.{key_found}
 use Rattle.ports.proofs.cursors.next_key.Goals as goal
 
 pub returns : goal.returns
 returns c = let a = c.args in
-    rw c.unwrap_or.ensures (key_found _ _ _ _ _ _ c.requires.2 (first_from_Range _ _ _ _ (λ i. Marked a.t.now a.k (key_place a.a.0 i)) (λ i. Marked a.t.now a.k (key_place a.a.0 i) → ⊥) c.find.ensures.ran (λ x q k. search rules) (λ x q k. search rules)))
+    rw c.unwrap_or.ensures (key_found _ _ _ _ _ _ c.requires.2 (first_from_Range _ _ _ _ (λ i. Marked a.table.now a.block (key_place a.start.0 i)) (λ i. Marked a.table.now a.block (key_place a.start.0 i) → ⊥) c.find.ensures.ran (λ x q k. search rules) (λ x q k. search rules)))

@@ -1,8 +1,8 @@
 use Rattle.std.proofs.Common.{length}
 use Rattle.base.proofs.PutLaws.{Putting}
-use Rattle.base.specs.Sets.{is_in}
+use Rattle.base.specs.Sets.{contains}
 use Rattle.prospects.specs.Entries.{row_entries}
 use Rattle.prospects.proofs.entries.put_row.Given as goal
 
 abbrev pub invariant-loop-i : goal.invariant-loop-i
-invariant-loop-i l = Putting l.initial.list l.list l.at l.to (row_entries (is_in l.x) l.k l.r.0 l.a.0 l.i) (length (row_entries (is_in l.x) l.k l.r.0 l.a.0 l.i)) 16 l.i
+invariant-loop-i l = Putting l.initial.list l.list l.at l.to (row_entries (contains l.authors) l.block l.round.0 l.start.0 l.i) (length (row_entries (contains l.authors) l.block l.round.0 l.start.0 l.i)) 16 l.i

@@ -9,7 +9,7 @@ pub returns-then-is_subset : goal.returns-then-is_subset
 returns-then-is_subset c = walk_end c.requires.earlier c.loop-r.invariant (λ _. sym c.is_subset.ensures ∙ c.if-is_subset.true)
 
 pub loop-r-preserved : goal.loop-r-preserved
-loop-r-preserved c = rw (c.joined.ensures, c.step_down-next.ensures) (walk_step (omega arith) c.requires.round c.loop-r.invariant c.new_of.ensures)
+loop-r-preserved c = rw (c.union.ensures, c.step_down-next.ensures) (walk_step (omega arith) c.requires.round c.loop-r.invariant c.new_of.ensures)
 
 pub returns : goal.returns
 returns c = let e : c.loop-r.r ≡ 0 = omega arith in

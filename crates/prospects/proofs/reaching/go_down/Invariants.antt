@@ -2,7 +2,7 @@ use Rattle.prospects.proofs.WalkLaws.{Walking}
 use Rattle.prospects.proofs.reaching.go_down.Given as goal
 
 abbrev pub invariant-loop-r : goal.invariant-loop-r
-invariant-loop-r l = Walking l.t l.initial.seen l.s l.initial.r l.seen l.fresh l.r l.here
+invariant-loop-r l = Walking l.table l.initial.seen l.authors l.initial.r l.seen l.fresh l.r l.here
 
 abbrev pub decreases-loop-r : goal.decreases-loop-r
 decreases-loop-r l = l.r

@@ -32,35 +32,35 @@ pub listed-requires : goal.listed-requires
 listed-requires c = let p = c.requires in (p.0, p.1.form)
 
 pub returns-in-Open : goal.returns-in-Open
-returns-in-Open c = served-answered (engine_of c.args.s.now c.args.t.now) (ap (λ q. Some (call_of q)) c.in-Open.is) c.opened.ensures
+returns-in-Open c = served-answered (engine_of c.args.state.now c.args.table.now) (ap (λ q. Some (call_of q)) c.in-Open.is) c.opened.ensures
 
 pub returns-in-Propose : goal.returns-in-Propose
-returns-in-Propose c = let low : SetInRange (engine_of c.args.s.now c.args.t.now) = c.previous_fits.ensures in
+returns-in-Propose c = let low : SetInRange (engine_of c.args.state.now c.args.table.now) = c.previous_fits.ensures in
     let h = c.propose_cached.ensures in
-    by_reply c.args.s.now c.args.t.now c.args.formed c.args.cache.now c.args.asked c.requires.1 low _ (ap call_of c.in-Propose.is) refl refl (omega arith) _ h.refusal h.state refl c.replied.ensures
+    by_reply c.args.state.now c.args.table.now c.args.formed c.args.cache.now c.args.asked c.requires.1 low _ (ap call_of c.in-Propose.is) refl refl (omega arith) _ h.refusal h.state refl c.replied.ensures
 
 pub returns-in-Endorse : goal.returns-in-Endorse
-returns-in-Endorse c = let low : SetInRange (engine_of c.args.s.now c.args.t.now) = c.previous_fits.ensures in
+returns-in-Endorse c = let low : SetInRange (engine_of c.args.state.now c.args.table.now) = c.previous_fits.ensures in
     let h = c.endorse_cached.ensures in
-    by_reply c.args.s.now c.args.t.now c.args.formed c.args.cache.now c.args.asked c.requires.1 low _ (ap call_of c.in-Endorse.is) refl refl (omega arith) _ h.refusal refl h.table c.replied-in-Endorse.ensures
+    by_reply c.args.state.now c.args.table.now c.args.formed c.args.cache.now c.args.asked c.requires.1 low _ (ap call_of c.in-Endorse.is) refl refl (omega arith) _ h.refusal refl h.table c.replied-in-Endorse.ensures
 
 pub returns-in-Certify : goal.returns-in-Certify
-returns-in-Certify c = let low : SetInRange (engine_of c.args.s.now c.args.t.now) = c.previous_fits.ensures in
+returns-in-Certify c = let low : SetInRange (engine_of c.args.state.now c.args.table.now) = c.previous_fits.ensures in
     let h = c.certify_cached.ensures in
-    by_reply c.args.s.now c.args.t.now c.args.formed c.args.cache.now c.args.asked c.requires.1 low _ (ap call_of c.in-Certify.is) refl refl (omega arith) _ h.refusal refl h.table c.replied-in-Certify.ensures
+    by_reply c.args.state.now c.args.table.now c.args.formed c.args.cache.now c.args.asked c.requires.1 low _ (ap call_of c.in-Certify.is) refl refl (omega arith) _ h.refusal refl h.table c.replied-in-Certify.ensures
 
 pub returns-in-Accept : goal.returns-in-Accept
-returns-in-Accept c = let low : SetInRange (engine_of c.args.s.now c.args.t.now) = c.previous_fits.ensures in
+returns-in-Accept c = let low : SetInRange (engine_of c.args.state.now c.args.table.now) = c.previous_fits.ensures in
     let h = c.accept_cached.ensures in
-    by_reply c.args.s.now c.args.t.now c.args.formed c.args.cache.now c.args.asked c.requires.1 low _ (ap call_of c.in-Accept.is) refl refl (omega arith, omega arith) _ h.refusal refl h.table c.replied-in-Accept.ensures
+    by_reply c.args.state.now c.args.table.now c.args.formed c.args.cache.now c.args.asked c.requires.1 low _ (ap call_of c.in-Accept.is) refl refl (omega arith, omega arith) _ h.refusal refl h.table c.replied-in-Accept.ensures
 
 pub returns-in-Advance : goal.returns-in-Advance
-returns-in-Advance c = let low : SetInRange (engine_of c.args.s.now c.args.t.now) = c.previous_fits.ensures in
+returns-in-Advance c = let low : SetInRange (engine_of c.args.state.now c.args.table.now) = c.previous_fits.ensures in
     let h = c.advance_cached.ensures in
-    by_reply c.args.s.now c.args.t.now c.args.formed c.args.cache.now c.args.asked c.requires.1 low _ (ap call_of c.in-Advance.is) refl refl tt _ h.refusal h.state refl c.replied-in-Advance.ensures
+    by_reply c.args.state.now c.args.table.now c.args.formed c.args.cache.now c.args.asked c.requires.1 low _ (ap call_of c.in-Advance.is) refl refl tt _ h.refusal h.state refl c.replied-in-Advance.ensures
 
 pub returns-in-Commit : goal.returns-in-Commit
-returns-in-Commit c = served-answered (engine_of c.args.s.now c.args.t.now) (ap (λ q. Some (call_of q)) c.in-Commit.is) c.committed.ensures
+returns-in-Commit c = served-answered (engine_of c.args.state.now c.args.table.now) (ap (λ q. Some (call_of q)) c.in-Commit.is) c.committed.ensures
 
 pub returns-in-Chain : goal.returns-in-Chain
 returns-in-Chain c = (rw c.in-Chain.is (call-answered (aside listing) refl (omega arith) c.listed.ensures), c.requires.1)

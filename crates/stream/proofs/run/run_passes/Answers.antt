@@ -1,5 +1,5 @@
 use Rattle.std.proofs.Common.{refl, ◌∙◌, arith}
-use Rattle.stream.proofs.Running.{at-start, pass-on, pass-lost, ran_too_long, over-finished, cut-finished}
+use Rattle.stream.proofs.Running.{at-start, pass_on, pass_lost, ran_too_long, over-finished, cut-finished}
 use Rattle.stream.proofs.run.run_passes.Goals as goal
 
 pub loop-init : goal.loop-init
@@ -11,13 +11,13 @@ loop-init g c = record {
 
 pub loop-preserved : goal.loop-preserved
 loop-preserved g c = record {
-  between = pass-on _ _ _ _ g.met.P.Peer.joined c.loop.invariant.between (rw c.in-On.is at c.pass.ensures);
+  between = pass_on _ _ _ _ g.met.P.Peer.joined c.loop.invariant.between (rw c.in-On.is at c.pass.ensures);
   size = c.pass.ensures.size ∙ c.loop.invariant.size;
   steady = c.pass.ensures.steady ∙ c.loop.invariant.steady;
 }
 
 pub returns-in-Lost : goal.returns-in-Lost
-returns-in-Lost g c = pass-lost _ _ _ _ g.met.P.Peer.joined c.loop.invariant.between (rw c.in-Lost.is at c.pass.ensures)
+returns-in-Lost g c = pass_lost _ _ _ _ g.met.P.Peer.joined c.loop.invariant.between (rw c.in-Lost.is at c.pass.ensures)
 
 pub returns-in-Over : goal.returns-in-Over
 returns-in-Over g c = over-finished _ _ _ _ g.met.P.Peer.joined c.loop.invariant.between (rw c.in-Over.is at c.pass.ensures) c.finish.ensures

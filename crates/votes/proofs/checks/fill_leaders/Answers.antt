@@ -1,5 +1,5 @@
 use Rattle.std.proofs.Common.{◌≡◌, ◌+◌, ◌-◌, arith}
-use Rattle.running.proofs.ChainInTableLaws.{chain_in_table}
+use Rattle.chain_committees.proofs.ChainInTableLaws.{chain_in_table}
 use Rattle.votes.proofs.AnchorLaws.{leaders-filled}
 use Rattle.votes.proofs.CheckLaws.{timely}
 use Rattle.votes.proofs.checks.fill_leaders.Goals as goal
@@ -7,11 +7,11 @@ use Rattle.votes.proofs.checks.fill_leaders.Goals as goal
 pub fill_leaders-requires : goal.fill_leaders-requires
 fill_leaders-requires c = let f = c.requires.formed in
     let w = timely _ _ f c.requires.in_time in
-    (chain_in_table _ _ _ f.settings f.long f.rounds, record { from = omega (arith, w.above, c.last_round-last.ensures); to = omega (arith, f.numbers.round-to, f.settings.ceiling-to) })
+    (chain_in_table _ _ _ f.settings f.long f.rounds, record { from = omega (arith, w.above, c.last_round-last.ensures); to = omega (arith, f.numbers.round_to, f.settings.ceiling_to) })
 
 pub returns : goal.returns
 returns c = let w = timely _ _ c.requires.formed c.requires.in_time in
-    let r = c.args.s.now.round.0 in
+    let r = c.args.state.now.round.0 in
     let i : r - 1 + 1 ≡ r = omega (arith, w.from) in
     let x = c.fill_leaders.ensures in
     record {

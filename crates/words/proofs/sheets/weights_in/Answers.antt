@@ -5,4 +5,4 @@ use Rattle.words.specs.Sheets.{setting_in}
 use Rattle.words.proofs.sheets.weights_in.Goals as goal
 
 pub returns : goal.returns
-returns c = let w = c.args.w.now in tab_from_fn (λ i. setting_in w (3 + i)) _ _ Blank (λ k y q e. search rules) 16 c.from_fn.ensures.items
+returns c = let w = c.args.words.now in tab_from_fn (λ i. setting_in w (3 + i)) _ _ Blank (λ k y q e. search rules) 16 c.from_fn.ensures.items

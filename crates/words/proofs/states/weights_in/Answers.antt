@@ -4,4 +4,4 @@ use Rattle.terms.specs.Ranges.{weight}
 use Rattle.words.proofs.states.weights_in.Goals as goal
 
 pub returns : goal.returns
-returns c = let w = c.args.w.now in tab_from_fn (λ i. weight (get_or w (4 + i) 0)) _ _ (weight 0) (λ k y q e. search rules) 16 c.from_fn.ensures.items
+returns c = let w = c.args.words.now in tab_from_fn (λ i. weight (get_or w (4 + i) 0)) _ _ (weight 0) (λ k y q e. search rules) 16 c.from_fn.ensures.items

@@ -13,7 +13,7 @@ pub record LeadersLeft (t l₀ : List ℕ) (last s₀ r₀ : ℕ) (l : List ℕ)
   pub rest : take_from t last (r - last) s l ≡ take_from t last (r₀ - last) s₀ l₀
 
 abbrev pub invariant-loop-r : goal.invariant-loop-r
-invariant-loop-r l = LeadersLeft l.t l.initial.l l.last l.initial.s l.initial.r l.l l.s l.r
+invariant-loop-r l = LeadersLeft l.table l.initial.leaders l.last l.initial.history l.initial.r l.leaders l.history l.r
 
 abbrev pub decreases-loop-r : goal.decreases-loop-r
 decreases-loop-r l = l.r

@@ -1,6 +1,6 @@
 use Rattle.std.proofs.Common.{◌+◌, ◌∙◌, ◌≡◌, sym, ap, arith, set, length-set}
 use Rattle.records.specs.Fields.{other_fields}
-use Rattle.records.proofs.Reading.{all_weights, all_weights-next, all_weights-none, all_weights-end, other_fields-drop}
+use Rattle.records.proofs.Reading.{all_weights, all_weights-next, all_weights-none, all_weights_end, other_fields-drop}
 use Rattle.records.proofs.fields.Fields.weights.Goals as goal
 
 pub loop-i-preserved : goal.loop-i-preserved
@@ -22,4 +22,4 @@ pub returns-clause-value : goal.returns-clause-value
 returns-clause-value c =
     let l = c.loop-i in
     let e : l.i ≡ 16 = omega arith in
-    sym (l.invariant.all ∙ rw e (all_weights-end l.weights l.self l.invariant.sixteen))
+    sym (l.invariant.all ∙ rw e (all_weights_end l.weights l.self l.invariant.sixteen))

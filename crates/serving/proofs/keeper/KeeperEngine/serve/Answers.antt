@@ -14,5 +14,5 @@ returns-clause-answer c =
     let i = c.self.inside in
     let asked : c.and_then-asked.result ≡ option_and_then record_in (record_now c.args.bytes) = search rules in
     let size = ap (λ (e : Engine). length e.table) c.self.view_is in
-    let lines = put_first (omega (arith, c.requires, size)) c.serve-reply.ensures.0.its-lines in
+    let lines = put_first (omega (arith, c.requires, size)) c.serve-reply.ensures.0.its_lines in
     rw (← c.self.view_is) (lines ∙ ap (λ (o : Option Record). served_lines (engine_of i.state i.table.now) (option_map call_of o)) asked)

@@ -1,0 +1,105 @@
+-- Laws of the starts that are written beside a running committee.
+use Rattle.std.proofs.Common.{◌≡◌, sym, ◌∙◌, List, ℕ, zero, suc, ◌+◌, ◌-◌, ◌<◌, ◌≤◌, arith, get_or, set, replicate, length-set, get_or-set_same, get_or-set_other}
+use native.Mathlib.Decide.{ℕ_discrete}
+use lib.ListN.{length-replicate}
+use Rattle.store.specs.Table.{block_round}
+use Rattle.terms.specs.declared.sheet.Settings.{Settings}
+use Rattle.committee.specs.Committees.{leader_by, start_of}
+use Rattle.committee.proofs.LeaderLaws.{leader_le}
+use Rattle.chain_committees.specs.declared.Applied.{Applied}
+use Rattle.chain_committees.specs.BlockChanges.{place_change, start_at}
+use Rattle.chain_committees.proofs.BlockChangeLaws.{block-rows}
+use Rattle.chain_committees.proofs.BoundLaws.{after_total}
+use Rattle.chain_committees.specs.LinkRuns.{rows_over}
+use Rattle.chain_committees.proofs.ChainLaws.{last_some, fits-at, start-now}
+use Rattle.chain_committees.specs.ChainInTable.{ChainInTable, AfterBlocks}
+use Rattle.chain_committees.proofs.ChainInTableLaws.{after-start, after-at, after_next}
+use Rattle.chain_committees.specs.Starts.{Started, Running, StartsAhead}
+use Rattle.terms.specs.declared.sheet.Weight.{Weight}
+
+-- a start is the number of a member, or 16 for none
+pub start_le : (S : Settings) (t : List ℕ) (k : ℕ) → start_at S t k ≤ 16
+unfolding start_at start_of leader_by
+start_le S t k = leader_le _ _
+
+module _ {S : Settings} {t : List ℕ} {blocks : ℕ} where
+  -- the rounds of blocks rise
+  round-next : ChainInTable S t blocks → (i : ℕ) → i + 1 < blocks → block_round t (i + 1) < block_round t (i + 1 + 1)
+  round-next a i h = let p = (fits-at S.ceiling.0 t blocks a.rounds (i + 1) h).rises in let q = last_some t (i + 1) (λ z. omega arith) in omega arith
+
+  pub round_after : ChainInTable S t blocks → (k i : ℕ) → i < blocks → k ≤ i → block_round t (k + 1) ≤ block_round t (i + 1)
+  round_after a k zero h l = let e : k ≡ 0 = omega arith in rw e (omega arith)
+  round_after a k (suc i) h l = go (ℕ_discrete k (suc i)) (λ q. round_after a k i (omega arith) q)
+    where
+      go : Dec (k ≡ suc i) → (k ≤ i → block_round t (k + 1) ≤ block_round t (i + 1)) → block_round t (k + 1) ≤ block_round t (suc i + 1)
+      go (yes e) f = rw e (omega arith)
+      go (no e) f =
+          let p = f (omega arith) in
+          let q = round-next a i (omega arith) in
+          let j : i + 1 + 1 ≡ suc i + 1 = omega arith in
+          let r : block_round t (i + 1) < block_round t (suc i + 1) = rw j at q in
+          omega arith
+
+  -- none is written yet
+  pub started_none : (n : ℕ) → Started S t blocks 0 0 (replicate 512 n)
+  started_none n = record { size = length-replicate 512 n; from = omega arith; to = omega arith; written = λ i h. absurd (omega arith); ahead = λ h. absurd (omega arith) }
+
+  -- one start more: that of a block within lookback rounds of the one to be applied next
+  pub started_next : {k i : ℕ} {q : ℕ} {w : List Weight} {starts : List ℕ} {v : ℕ} → ChainInTable S t blocks → i < blocks → block_round t (i + 1) ≤ block_round t (k + 1) + S.lookback → v ≡ leader_by w (block_round t (i + 1))
+      → AfterBlocks S t blocks q k w → Started S t blocks k i starts → Started S t blocks k (i + 1) (set starts i v)
+  started_next {k} {i} {q} {w} {starts} {v} a h near e x s =
+      record {
+        size = length-set starts i v ∙ s.size;
+        from = let l = s.from in omega arith;
+        to = omega arith;
+        written = λ j l. go j l (ℕ_discrete j i);
+        ahead = λ z l. let p = s.ahead z h in let r = round-next a i l in omega arith;
+      }
+    where
+      start : v ≡ start_at S t i
+      start = e ∙ rw x.weights (sym (start-now S t blocks a.rounds k i s.from h (λ z. s.ahead z h) near))
+
+      few : i < 512
+      few = let f = a.few in let c = a.ceiling in omega arith
+
+      go : (j : ℕ) → j < i + 1 → Dec (j ≡ i) → get_or (set starts i v) j 0 ≡ start_at S t j
+      go j l (yes d) = rw (d, get_or-set_same starts i v 0 (let z = s.size in let f = few in omega arith)) start
+      go j l (no d) = get_or-set_other starts i j v 0 d ∙ s.written j (omega arith)
+
+  -- one block more is applied
+  started_applied : {k f : ℕ} {starts : List ℕ} → StartsAhead S t blocks k f starts → Started S t blocks (k + 1) f starts
+  started_applied {k} a =
+      let s = a.started in
+      let o = a.own in
+      record {
+        size = s.size;
+        from = omega arith;
+        to = s.to;
+        written = s.written;
+        ahead = λ _ u. rw (last_some t (k + 1) (λ z. omega arith)) (a.ahead u);
+      }
+
+  -- one block more, in its own order
+  pub running_next : {k f : ℕ} {w v : List Weight} {starts : List ℕ} (n : ℕ) → ChainInTable S t blocks → k < blocks → AfterBlocks S t blocks 1024 k w → StartsAhead S t blocks k f starts
+      → n ≡ k + 1
+      → v ≡ rows_over (place_change t n) (get_or starts k 0) S.ceiling.0 w
+      → Running S t blocks 1024 (record { blocks = k + 1; starts = f }) v starts
+  running_next {k} {f} {w} {v} {starts} n a h x s i e' =
+      let e = rw i at e' in
+      let b = (fits-at S.ceiling.0 t blocks a.rounds k h).below in
+      let c = a.ceiling in
+      record {
+        after = after_next v h (omega arith) (e ∙ rw (s.started.written k s.own) (sym (block-rows S t k w))) x;
+        started = started_applied s;
+      }
+
+  -- where the last block's round is below q
+  pub running_below : (k q : ℕ) {y : Applied} {w : List Weight} {starts : List ℕ} → y.blocks ≡ k + 1 → block_round t (k + 1) < q → Running S t blocks 1024 y w starts → Running S t blocks (q - 1) y w starts
+  running_below k q e h r = record { after = after-at (q - 1) (rw (e, last_some t (k + 1) (λ z. omega arith)) (omega arith)) r.after; started = r.started }
+
+  -- at the start
+  pub running_none : {x : Applied} {w : List Weight} {starts : List ℕ} (q : ℕ) → (x.blocks ≡ 0) × (x.starts ≡ 0) → w ≡ S.weights → Started S t blocks 0 0 starts → Running S t blocks q x w starts
+  running_none q z e s = record { after = rw (z.0, e) (after-start q); started = rw (z.0, z.1) s }
+
+-- how far the next block may start, and how heavy the committee before it is
+pub ruleset next_bounds = (start_le, after_total)

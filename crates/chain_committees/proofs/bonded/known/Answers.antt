@@ -1,0 +1,8 @@
+use Rattle.std.proofs.Common.{refl}
+use Rattle.committee.specs.Committees.{known_by}
+use Rattle.chain_committees.proofs.ChainLaws.{last-chain}
+use Rattle.chain_committees.proofs.bonded.known.Goals as goal
+
+pub returns : goal.returns
+unfolding known_by
+returns c = let a = c.args in rw (last-chain a.settings.ceiling.0 a.table.now a.blocks, ← c.last_round.ensures) refl

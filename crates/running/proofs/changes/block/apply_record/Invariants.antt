@@ -1,8 +1,0 @@
-use mathlib.Core.Path.{◌≡◌}
-use Prim.Native.Nat.{◌≤◌}
-use Rattle.base.specs.Folds.{fold_to}
-use Rattle.running.specs.BlockChanges.{slot_change}
-use Rattle.running.proofs.changes.block.apply_record.Given as goal
-
-abbrev pub invariant-loop-k : goal.invariant-loop-k
-invariant-loop-k l = (l.k ≤ 4) × (l.w ≡ fold_to (slot_change l.t l.m.0 l.r.0) l.k l.initial.w)

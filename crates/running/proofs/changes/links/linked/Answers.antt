@@ -1,5 +1,0 @@
-use Rattle.running.proofs.LinkLaws.{links-start}
-use Rattle.running.proofs.changes.links.linked.Goals as goal
-
-pub link_rows-requires : goal.link_rows-requires
-link_rows-requires c = (c.requires.rows, links-start _ _ _ c.requires.places)

@@ -1,7 +1,0 @@
-use mathlib.Core.Path.{◌≡◌}
-use Prim.Native.Nat.{◌-◌, ◌≤◌}
-use Rattle.running.specs.LinkRuns.{run_end}
-use Rattle.running.proofs.changes.links.run_end.Given as goal
-
-abbrev pub invariant-loop-i : goal.invariant-loop-i
-invariant-loop-i l = (l.i ≤ 16) × (run_end l.next l.z (16 - l.i) l.q ≡ run_end l.next l.z 16 l.p)
