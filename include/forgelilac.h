@@ -4,9 +4,9 @@
  * a freestanding compiler serves. The archive asks for memcpy and memset and for nothing else.
  *
  * Stretches. Every stretch is a pointer and a length in 32-bit words; a row of certificates has its
- * length in records. Stretches of one call do not overlap, and no pointer is null, also where a
- * length is 0. Any length and any content is safe. A stretch may be longer than its layout: what
- * lies beyond is not looked at and never changes.
+ * length in records. Stretches of one call do not overlap. Words are aligned as uint32_t is; a
+ * pointer may be null where its length is 0. Any length and any content is safe. A stretch may be
+ * longer than its layout: what lies beyond is not looked at and never changes.
  *
  * Answers. A call answers 0 when accepted, else the refusal number; the first check that fails
  * gives it. A refused call changes no word. The numbers at the end of a function's comment are its
@@ -673,7 +673,8 @@ forgelilac_record_of(const uint32_t words[FORGELILAC_CERTIFICATE_WORDS]) {
 /* ---- the chain */
 
 /* 1 where the state is well formed, else 0: whether calls but open would answer other than 1.
- * For words that come from storage. */
+ * For words that come from storage, behind a check of their bytes: this is none (docs/HOSTS.md,
+ * "Stored words"). */
 static inline int forgelilac_is_well_formed(const uint32_t *state, size_t state_words,
                                             const uint32_t *table, size_t table_words) {
     /* There is no block 0: 23, unless the state is not well formed. */

@@ -1,10 +1,12 @@
 #!/bin/sh
-# Builds everything into bin/ and writes the edge streams into edges/.
+# Builds the package: every program and the unit tests, into bin/; then writes the edge streams into edges/.
 set -e
 cd "$(dirname "$0")"
 mkdir -p bin edges
-for program in runner_ref shuffle stats shares batches queues previews criticals rights effects serial received ledger committees fair lookups edge_stream; do
-    rustc --edition 2021 -C opt-level=3 -C codegen-units=1 "$program.rs" -o "bin/$program"
+built=$(cargo build --release --offline --locked --target-dir target --bins --test tests_ref --message-format json-render-diagnostics)
+# The tests' name has a dash and a hash behind it.
+printf '%s\n' "$built" | sed -n 's/.*"executable":"\([^"]*\)".*/\1/p' | while read -r program; do
+    name=$(basename "$program")
+    cp -f "$program" "bin/${name%%-*}"
 done
-rustc --edition 2021 -O --test tests_ref.rs -o bin/tests_ref
 bin/edge_stream edges

@@ -21,7 +21,7 @@ for runner in bin/runner_ref "python3 naive.py" $RUNNER; do
 done
 python3 margins.py > /dev/null || differs margins
 mkdir -p out
-python3 pairs.py 1000 > out/pairs
+python3 shares.py 1000 > out/pairs
 bin/shares < out/pairs > out/shares
 python3 naive.py shares < out/pairs | cmp - out/shares || differs shares
 bin/lookups | cmp - ../crates/lookups/stdout || differs lookups
@@ -34,27 +34,11 @@ for seed in $(seq "${2:-1}" "${1:-50}"); do
     for runner in "python3 naive.py" $RUNNER; do
         $runner < out/stream | cmp - out/expected || differs "seed $seed"
     done
-    python3 rows.py "$seed" > out/rows
-    bin/batches < out/rows > out/expected
-    python3 naive.py batches < out/rows | cmp - out/expected || differs "rows of seed $seed"
-    python3 guests.py "$seed" > out/guests
-    bin/queues < out/guests > out/expected
-    python3 naive.py queues < out/guests | cmp - out/expected || differs "guests of seed $seed"
-    python3 leads.py "$seed" > out/leads
-    bin/previews < out/leads > out/expected
-    python3 naive.py previews < out/leads | cmp - out/expected || differs "leads of seed $seed"
-    python3 plugs.py "$seed" > out/plugs
-    bin/criticals < out/plugs > out/expected
-    python3 naive.py criticals < out/plugs | cmp - out/expected || differs "plugs of seed $seed"
-    python3 callers.py "$seed" > out/callers
-    bin/rights < out/callers > out/expected
-    python3 naive.py rights < out/callers | cmp - out/expected || differs "callers of seed $seed"
-    python3 bonds.py "$seed" > out/bonds
-    bin/effects < out/bonds > out/expected || differs "bound of seed $seed"
-    python3 naive.py effects < out/bonds | cmp - out/expected || differs "bonds of seed $seed"
-    python3 polls.py "$seed" > out/polls
-    bin/serial < out/polls > out/expected
-    python3 naive.py serial < out/polls | cmp - out/expected || differs "polls of seed $seed"
+    for name in batches queues previews criticals rights effects serial; do
+        python3 "$name.py" "$seed" > out/stream
+        "bin/$name" < out/stream > out/expected || differs "bin/$name of seed $seed"
+        python3 naive.py "$name" < out/stream | cmp - out/expected || differs "$name of seed $seed"
+    done
 done
 first=${2:-1}
 for runner in bin/runner_ref $RUNNER; do

@@ -15,76 +15,76 @@ whether the unit tests do: no stream comes to a state that no run reaches. Of a 
 of advance or of the margin that no stream notices it says whether the unit tests do: none
 of the streams comes to hold an outsider.
 
-    mutants.py N [SORT]        (build.sh first; works in the directory mutants)
+    mutants.py N [SORT]        (build.sh first; works in the directory target/mutants)
 
 With SORT only that one: share, batch, queue, preview, critical, right, effect, port,
 ledger, advance, margin or rule.
 
 Six of the changes cannot show in a runner's answers; they are marked same.
 """
-import subprocess, os, sys, shutil
+import json, os, shutil, subprocess, sys
 from concurrent.futures import ThreadPoolExecutor
 base = os.path.dirname(os.path.abspath(__file__))
 SAME = {4, 12, 45, 46, 49, 52}
 M=[
-('reference.rs','if votes <= self.fault_bound(committee)','if votes < self.fault_bound(committee)'),
-('reference.rs','chain.partition_point(|b| b.round < s)','chain.partition_point(|b| b.round <= s)'),
-('reference.rs','s > self.last_block_round() + 2','s > self.last_block_round() + 1'),
-('reference.rs','s > self.last_block_round() + 2','s > self.last_block_round() + 3'),
-('reference.rs','if r <= self.settings.lookback {','if r < self.settings.lookback {'),
-('reference.rs','for (round, history) in taken.into_iter().rev()','for (round, history) in taken.into_iter()'),
-('reference.rs','self.proposal == other.proposal','self.proposal == other.proposal && self.endorsers == other.endorsers'),
-('reference.rs','members[(round / 2) as usize % members.len()]','members[(round / 2 - 1) as usize % members.len()]'),
-('reference.rs','members[(round / 2) as usize % members.len()]','members[round as usize % members.len()]'),
-('reference.rs','(n - 1) / u64::from(margin)','n / u64::from(margin)'),
-('reference.rs','>= quorum_weight(total(committee), margin)','> quorum_weight(total(committee), margin)'),
-('reference.rs','self.endorsed[place(p.author, p.round)] = true;',''),
-('reference.rs','self.endorsed[here] = false;',''),
-('reference.rs','        self.round += 1;\n        self.proposal = None;','        self.round += 1;'),
-('reference.rs','        self.round += 1;\n        self.proposal = None;','        self.round += 1;\n        self.proposal = None;\n        self.endorsed.iter_mut().for_each(|e| *e = false);'),
-('reference.rs','                    history = self.history(a, round);\n                    taken.push((round, history.clone()));','                    taken.push((round, self.history(a, round)));'),
-('reference.rs','if in_set(history[round as usize], a) {','{'),
-('reference.rs','while round > last + 2 {','while round > last + 4 {'),
-('reference.rs','while round > last + 2 {','while round > last + 2 && round > 4 {'),
-('reference.rs','committee[member as usize] += u64::from(amount)','committee[member as usize] = u64::from(amount)'),
-('reference.rs','let committee = self.committee_of(r).ok_or(8u32)?;\n        let anchor','let committee = self.committee_of(r - 1).ok_or(8u32)?;\n        let anchor'),
-('reference.rs','            let before = self.committee_of(p.round - 1).ok_or(8u32)?;','            let before = self.committee_of(p.round).ok_or(8u32)?;'),
-('reference.rs','            let before = self.committee_of(r - 1).ok_or(8u32)?;','            let before = self.committee_of(r).ok_or(8u32)?;'),
-('reference.rs','if self.proposal.is_some() || self.is_held(self.own, r)','if self.proposal.is_some()'),
-('reference.rs','self.is_held(p.author, p.round) || self.is_endorsed(p.author, p.round)','self.is_endorsed(p.author, p.round)'),
-('reference.rs','        if p.round > 1 && !self.all_held(p.previous, p.round - 1) {\n            return Err(11);\n        }',''),
-('reference.rs','transactions.len() <= self.settings.allowance as usize','transactions.len() < self.settings.allowance as usize + 2'),
-('reference.rs','Transaction::Unbond { member } => committee[member as usize] = 0,','Transaction::Unbond { .. } => {}'),
-('reference.rs','                    if held.block == 0 {','                    if held.block == 0 || r == 1 {'),
-('reference.rs','(round, (author + MEMBERS - first) % MEMBERS)','(round, (first + MEMBERS - author) % MEMBERS)'),
-('reference.rs','votes += committee[a as usize];','votes += 1;'),
-('reference.rs','members_of(set).map(|m| committee[m as usize]).sum()','members_of(set).map(|m| committee[m as usize].min(1)).sum()'),
-('reference.rs','if in_set(held.certificate.proposal.previous, anchor) {','{'),
-('reference.rs','self.last_block_round() >= r - 1','self.last_block_round() > r - 1'),
-('reference.rs','        if settings.ceiling > serves {\n            return Err(1);\n        }',''),
-('reference.rs','(1..=1_000).contains(&amount)','(0..=1_000).contains(&amount)'),
-('reference.rs','(1..=1_000).contains(&amount)','(1..=1_001).contains(&amount)'),
-('reference.rs','            Transaction::Unbond { member } => member < MEMBERS,','            Transaction::Unbond { .. } => true,'),
-('reference.rs','below.last().map_or(settings.weights, |b| b.after)','settings.weights'),
-('reference.rs','if self.is_held(leader, round) { Some(leader) } else { None }','Some(leader)'),
-('runner_ref.rs','text.len() + 2 > LONGEST','text.len() + 2 >= LONGEST'),
-('runner_ref.rs','kept.len() + part.len() > LONGEST','kept.len() + part.len() >= LONGEST'),
-('runner_ref.rs',"(b\"U\", 0) =>","(b\"U\", _) =>"),
-('runner_ref.rs',"(b\"E\", 0) =>","(b\"E\", _) =>"),
-('runner_ref.rs',"|| (field.len() > 1 && field[0] == b'0')",""),
-('runner_ref.rs',"b == b'\"' || ",""),
-('runner_ref.rs','            after_cr = false;\n',''),
-('runner_ref.rs','    if long || !kept.is_empty() {\n        handle(None)?;','    if long || !kept.is_empty() {\n        if long {handle(None)?} else {handle(Some(&kept))?}'),
-('runner_ref.rs','Err(number) => Outcome::Refused(number),\n            };\n        }\n        let Some(member)','Err(number) => { self.member = None; Outcome::Refused(number) }\n            };\n        }\n        let Some(member)'),
+('rules.rs','if votes <= self.fault_bound(committee)','if votes < self.fault_bound(committee)'),
+('rules.rs','chain.partition_point(|b| b.round < s)','chain.partition_point(|b| b.round <= s)'),
+('rules.rs','s > self.last_block_round() + 2','s > self.last_block_round() + 1'),
+('rules.rs','s > self.last_block_round() + 2','s > self.last_block_round() + 3'),
+('rules.rs','if r <= self.settings.lookback {','if r < self.settings.lookback {'),
+('rules.rs','for (round, history) in taken.into_iter().rev()','for (round, history) in taken.into_iter()'),
+('rules.rs','self.proposal == other.proposal','self.proposal == other.proposal && self.endorsers == other.endorsers'),
+('rules.rs','members[(round / 2) as usize % members.len()]','members[(round / 2 - 1) as usize % members.len()]'),
+('rules.rs','members[(round / 2) as usize % members.len()]','members[round as usize % members.len()]'),
+('rules.rs','(n - 1) / u64::from(margin)','n / u64::from(margin)'),
+('rules.rs','>= quorum_weight(total(committee), margin)','> quorum_weight(total(committee), margin)'),
+('rules.rs','self.endorsed[place(p.author, p.round)] = true;',''),
+('rules.rs','self.endorsed[here] = false;',''),
+('rules.rs','        self.round += 1;\n        self.proposal = None;','        self.round += 1;'),
+('rules.rs','        self.round += 1;\n        self.proposal = None;','        self.round += 1;\n        self.proposal = None;\n        self.endorsed.iter_mut().for_each(|e| *e = false);'),
+('rules.rs','                    history = self.history(a, round);\n                    taken.push((round, history.clone()));','                    taken.push((round, self.history(a, round)));'),
+('rules.rs','if in_set(history[round as usize], a) {','{'),
+('rules.rs','while round > last + 2 {','while round > last + 4 {'),
+('rules.rs','while round > last + 2 {','while round > last + 2 && round > 4 {'),
+('rules.rs','committee[member as usize] += u64::from(amount)','committee[member as usize] = u64::from(amount)'),
+('rules.rs','let committee = self.committee_of(r).ok_or(8u32)?;\n        let anchor','let committee = self.committee_of(r - 1).ok_or(8u32)?;\n        let anchor'),
+('rules.rs','            let before = self.committee_of(p.round - 1).ok_or(8u32)?;','            let before = self.committee_of(p.round).ok_or(8u32)?;'),
+('rules.rs','            let before = self.committee_of(r - 1).ok_or(8u32)?;','            let before = self.committee_of(r).ok_or(8u32)?;'),
+('rules.rs','if self.proposal.is_some() || self.is_held(self.own, r)','if self.proposal.is_some()'),
+('rules.rs','self.is_held(p.author, p.round) || self.is_endorsed(p.author, p.round)','self.is_endorsed(p.author, p.round)'),
+('rules.rs','        if p.round > 1 && !self.all_held(p.previous, p.round - 1) {\n            return Err(11);\n        }',''),
+('rules.rs','transactions.len() <= self.settings.allowance as usize','transactions.len() < self.settings.allowance as usize + 2'),
+('rules.rs','Transaction::Unbond { member } => committee[member as usize] = 0,','Transaction::Unbond { .. } => {}'),
+('rules.rs','                    if held.block == 0 {','                    if held.block == 0 || r == 1 {'),
+('rules.rs','(round, (author + MEMBERS - first) % MEMBERS)','(round, (first + MEMBERS - author) % MEMBERS)'),
+('rules.rs','votes += committee[a as usize];','votes += 1;'),
+('rules.rs','members_of(set).map(|m| committee[m as usize]).sum()','members_of(set).map(|m| committee[m as usize].min(1)).sum()'),
+('rules.rs','if in_set(held.certificate.proposal.previous, anchor) {','{'),
+('rules.rs','self.last_block_round() >= r - 1','self.last_block_round() > r - 1'),
+('rules.rs','        if settings.ceiling > serves {\n            return Err(1);\n        }',''),
+('rules.rs','(1..=1_000).contains(&amount)','(0..=1_000).contains(&amount)'),
+('rules.rs','(1..=1_000).contains(&amount)','(1..=1_001).contains(&amount)'),
+('rules.rs','            Transaction::Unbond { member } => member < MEMBERS,','            Transaction::Unbond { .. } => true,'),
+('rules.rs','below.last().map_or(settings.weights, |b| b.after)','settings.weights'),
+('rules.rs','if self.is_held(leader, round) { Some(leader) } else { None }','Some(leader)'),
+('runner.rs','text.len() + 2 > LONGEST','text.len() + 2 >= LONGEST'),
+('runner.rs','kept.len() + part.len() > LONGEST','kept.len() + part.len() >= LONGEST'),
+('runner.rs',"(b\"U\", 0) =>","(b\"U\", _) =>"),
+('runner.rs',"(b\"E\", 0) =>","(b\"E\", _) =>"),
+('runner.rs',"|| (field.len() > 1 && field[0] == b'0')",""),
+('runner.rs',"b == b'\"' || ",""),
+('runner.rs','            after_cr = false;\n',''),
+('runner.rs','    if long || !kept.is_empty() {\n        handle(None)?;','    if long || !kept.is_empty() {\n        if long {handle(None)?} else {handle(Some(&kept))?}'),
+('runner.rs','Err(number) => Outcome::Refused(number),\n            };\n        }\n        let Some(member)','Err(number) => { self.member = None; Outcome::Refused(number) }\n            };\n        }\n        let Some(member)'),
 # order of checks
-('reference.rs','''        if self.proposal.is_some() || self.is_held(self.own, r) {
+('rules.rs','''        if self.proposal.is_some() || self.is_held(self.own, r) {
             return Err(10);
         }
         let committee = self.committee_of(r).ok_or(8u32)?;''','''        let committee = self.committee_of(r).ok_or(8u32)?;
         if self.proposal.is_some() || self.is_held(self.own, r) {
             return Err(10);
         }'''),
-('reference.rs','''        if !inside(c.signers(), committee) {
+('rules.rs','''        if !inside(c.signers(), committee) {
             return Err(9);
         }
         if !self.is_quorum(c.signers(), committee) {
@@ -101,14 +101,14 @@ M=[
         if !self.is_quorum(c.signers(), committee) {
             return Err(13);
         }'''),
-('reference.rs','''            let before = self.committee_of(p.round - 1).ok_or(8u32)?;
+('rules.rs','''            let before = self.committee_of(p.round - 1).ok_or(8u32)?;
             if !self.all_held(p.previous, p.round - 1) {
                 return Err(11);
             }''','''            if !self.all_held(p.previous, p.round - 1) {
                 return Err(11);
             }
             let before = self.committee_of(p.round - 1).ok_or(8u32)?;'''),
-('reference.rs','''        if r % 2 == 0 || r == 1 {
+('rules.rs','''        if r % 2 == 0 || r == 1 {
             return Err(19);
         }
         if self.last_block_round() >= r - 1 {
@@ -119,7 +119,7 @@ M=[
         if r % 2 == 0 || r == 1 {
             return Err(19);
         }'''),
-('reference.rs','''        if self.is_held(self.own, self.round) {
+('rules.rs','''        if self.is_held(self.own, self.round) {
             return Err(10);
         }
         if in_set(endorsers, self.own) {
@@ -130,28 +130,28 @@ M=[
         if self.is_held(self.own, self.round) {
             return Err(10);
         }'''),
-('reference.rs','let Some(proposal) = &self.proposal else {\n            return Err(15);\n        };\n        if self.is_held(self.own, self.round) {\n            return Err(10);\n        }','if self.is_held(self.own, self.round) {\n            return Err(10);\n        }\n        let Some(proposal) = &self.proposal else {\n            return Err(15);\n        };'),
-('reference.rs','''        let committee = self.committee_of(r).ok_or(8u32)?;
+('rules.rs','let Some(proposal) = &self.proposal else {\n            return Err(15);\n        };\n        if self.is_held(self.own, self.round) {\n            return Err(10);\n        }','if self.is_held(self.own, self.round) {\n            return Err(10);\n        }\n        let Some(proposal) = &self.proposal else {\n            return Err(15);\n        };'),
+('rules.rs','''        let committee = self.committee_of(r).ok_or(8u32)?;
         let anchor = self.anchor(r - 1).ok_or(21u32)?;''','''        let anchor = self.anchor(r - 1).ok_or(21u32)?;
         let committee = self.committee_of(r).ok_or(8u32)?;'''),
-('reference.rs','''        self.held[place(self.own, self.round)] = Some(Held { certificate, block: 0 });
+('rules.rs','''        self.held[place(self.own, self.round)] = Some(Held { certificate, block: 0 });
         Ok(())''','''        self.held[place(self.own, self.round)] = Some(Held { certificate, block: 0 });
         self.proposal = None;
         Ok(())'''),
 # order inside a block: that by round, then author; of it alone the committees, the listing
-('reference.rs','let first = leader.unwrap_or(0);','let first = leader.map_or(0, |_| 0);'),
-('reference.rs','for &(r, a) in &certificates {','let mut before = certificates.clone();\n        before.sort();\n        for &(r, a) in &before {'),
-('reference.rs','        Block { round, certificates, after }\n','        certificates.sort();\n        Block { round, certificates, after }\n'),
+('rules.rs','let first = leader.unwrap_or(0);','let first = leader.map_or(0, |_| 0);'),
+('rules.rs','for &(r, a) in &certificates {','let mut before = certificates.clone();\n        before.sort();\n        for &(r, a) in &before {'),
+('rules.rs','        Block { round, certificates, after }\n','        certificates.sort();\n        Block { round, certificates, after }\n'),
 # rounds fall; numbers before rounds; one after the leader; back down from 0
-('reference.rs','(round, (author + MEMBERS - first) % MEMBERS)','(u32::MAX - round, (author + MEMBERS - first) % MEMBERS)'),
-('reference.rs','(round, (author + MEMBERS - first) % MEMBERS)','((author + MEMBERS - first) % MEMBERS, round)'),
-('reference.rs','let first = leader.unwrap_or(0);','let first = leader.map_or(0, |l| (l + 1) % MEMBERS);'),
-('reference.rs','(round, (author + MEMBERS - first) % MEMBERS)','(round, if author < first { 2 * MEMBERS - author } else { author })'),
+('rules.rs','(round, (author + MEMBERS - first) % MEMBERS)','(u32::MAX - round, (author + MEMBERS - first) % MEMBERS)'),
+('rules.rs','(round, (author + MEMBERS - first) % MEMBERS)','((author + MEMBERS - first) % MEMBERS, round)'),
+('rules.rs','let first = leader.unwrap_or(0);','let first = leader.map_or(0, |l| (l + 1) % MEMBERS);'),
+('rules.rs','(round, (author + MEMBERS - first) % MEMBERS)','(round, if author < first { 2 * MEMBERS - author } else { author })'),
 # another number for each round
-('reference.rs','(round, (author + MEMBERS - first) % MEMBERS)','(round, (author + 65 * MEMBERS - first - round) % MEMBERS)'),
+('rules.rs','(round, (author + MEMBERS - first) % MEMBERS)','(round, (author + 65 * MEMBERS - first - round) % MEMBERS)'),
 # by the chain so far, by that with the block, by the starting weights
-('reference.rs','leader(round, bonded_by(settings, below, round - settings.lookback))','leader(round, bonded_by(settings, below, round))'),
-('reference.rs','        put_in_order(&mut certificates, block_leader(settings, below, round));\n','''        let mut with = below.last().map_or(settings.weights, |b| b.after);
+('rules.rs','leader(round, bonded_by(settings, below, round - settings.lookback))','leader(round, bonded_by(settings, below, round))'),
+('rules.rs','        put_in_order(&mut certificates, block_leader(settings, below, round));\n','''        let mut with = below.last().map_or(settings.weights, |b| b.after);
         for &(r, a) in certificates.iter() {
             for t in &held[place(a, r)].as_ref().unwrap().certificate.proposal.transactions {
                 change(&mut with, t);
@@ -159,11 +159,11 @@ M=[
         }
         put_in_order(&mut certificates, leader(round, &with));
 '''),
-('reference.rs','leader(round, bonded_by(settings, below, round - settings.lookback))','leader(round, &settings.weights)'),
+('rules.rs','leader(round, bonded_by(settings, below, round - settings.lookback))','leader(round, &settings.weights)'),
 # the leader of the next even round; the first member of the committee
-('reference.rs','leader(round, bonded_by(settings, below, round - settings.lookback))','leader(round + 2, bonded_by(settings, below, round - settings.lookback))'),
-('reference.rs','leader(round, bonded_by(settings, below, round - settings.lookback))','leader(0, bonded_by(settings, below, round - settings.lookback))'),
-('reference.rs','        leader(round, &settings.weights)\n','        leader(0, &settings.weights)\n'),
+('rules.rs','leader(round, bonded_by(settings, below, round - settings.lookback))','leader(round + 2, bonded_by(settings, below, round - settings.lookback))'),
+('rules.rs','leader(round, bonded_by(settings, below, round - settings.lookback))','leader(0, bonded_by(settings, below, round - settings.lookback))'),
+('rules.rs','        leader(round, &settings.weights)\n','        leader(0, &settings.weights)\n'),
 ]
 # wrong rules of shares
 S=[
@@ -349,63 +349,63 @@ OPENED = '            return match Member::open(*own, sheet, SERVES) {\n'
 NOT_OPENED = 'Err(number) => Outcome::Refused(number),\n            };\n        }\n        let Some(member)'
 G=[
 # by 3 whatever the margin: votes; all quorums; both
-('reference.rs', BOUND, BOUND.replace('self.settings.margin', '3')),
-('reference.rs', 'is_quorum(set, committee, self.settings.margin)', 'is_quorum(set, committee, 3)'),
-('reference.rs', RANGE, RANGE.replace('?;', '?.min(3);')),
+('rules.rs', BOUND, BOUND.replace('self.settings.margin', '3')),
+('rules.rs', 'is_quorum(set, committee, self.settings.margin)', 'is_quorum(set, committee, 3)'),
+('rules.rs', RANGE, RANGE.replace('?;', '?.min(3);')),
 # by 3: the signers of certify, of accept; the previous set of propose, of endorse; the authors of advance
-('reference.rs', '!self.is_quorum(certificate.signers(), committee)', '!is_quorum(certificate.signers(), committee, 3)'),
-('reference.rs', '!self.is_quorum(c.signers(), committee)', '!is_quorum(c.signers(), committee, 3)'),
-('reference.rs', '!self.is_quorum(previous, before)', '!is_quorum(previous, before, 3)'),
-('reference.rs', '!self.is_quorum(p.previous, before)', '!is_quorum(p.previous, before, 3)'),
-('reference.rs', '!self.is_quorum(self.held_authors(r), committee)', '!is_quorum(self.held_authors(r), committee, 3)'),
+('rules.rs', '!self.is_quorum(certificate.signers(), committee)', '!is_quorum(certificate.signers(), committee, 3)'),
+('rules.rs', '!self.is_quorum(c.signers(), committee)', '!is_quorum(c.signers(), committee, 3)'),
+('rules.rs', '!self.is_quorum(previous, before)', '!is_quorum(previous, before, 3)'),
+('rules.rs', '!self.is_quorum(p.previous, before)', '!is_quorum(p.previous, before, 3)'),
+('rules.rs', '!self.is_quorum(self.held_authors(r), committee)', '!is_quorum(self.held_authors(r), committee, 3)'),
 # by 5 whatever the margin: votes, quorums; 4 taken as 5, 5 as 4
-('reference.rs', BOUND, BOUND.replace('self.settings.margin', '5')),
-('reference.rs', 'is_quorum(set, committee, self.settings.margin)', 'is_quorum(set, committee, 5)'),
-('reference.rs', RANGE, RANGE + '\n        let margin = if margin == 4 { 5 } else { margin };'),
-('reference.rs', RANGE, RANGE.replace('?;', '?.min(4);')),
+('rules.rs', BOUND, BOUND.replace('self.settings.margin', '5')),
+('rules.rs', 'is_quorum(set, committee, self.settings.margin)', 'is_quorum(set, committee, 5)'),
+('rules.rs', RANGE, RANGE + '\n        let margin = if margin == 4 { 5 } else { margin };'),
+('rules.rs', RANGE, RANGE.replace('?;', '?.min(4);')),
 # 2 let in, 6 let in, any number above 3; 3 refused, 5 refused
-('reference.rs', RANGE, RANGE.replace('3, 5, 3', '2, 5, 3')),
-('reference.rs', RANGE, RANGE.replace('3, 5, 3', '3, 6, 3')),
-('reference.rs', RANGE, RANGE.replace('3, 5, 3', '3, u32::MAX, 3')),
-('reference.rs', RANGE, RANGE.replace('3, 5, 3', '4, 5, 3')),
-('reference.rs', RANGE, RANGE.replace('3, 5, 3', '3, 4, 3')),
+('rules.rs', RANGE, RANGE.replace('3, 5, 3', '2, 5, 3')),
+('rules.rs', RANGE, RANGE.replace('3, 5, 3', '3, 6, 3')),
+('rules.rs', RANGE, RANGE.replace('3, 5, 3', '3, u32::MAX, 3')),
+('rules.rs', RANGE, RANGE.replace('3, 5, 3', '4, 5, 3')),
+('rules.rs', RANGE, RANGE.replace('3, 5, 3', '3, 4, 3')),
 # blank means 4, 5
-('reference.rs', RANGE, RANGE.replace('3, 5, 3', '3, 5, 4')),
-('reference.rs', RANGE, RANGE.replace('3, 5, 3', '3, 5, 5')),
+('rules.rs', RANGE, RANGE.replace('3, 5, 3', '3, 5, 4')),
+('rules.rs', RANGE, RANGE.replace('3, 5, 3', '3, 5, 5')),
 # out of range: the nearest, blank
-('reference.rs', RANGE, 'let margin = one(self.margin, 0, u32::MAX, 3)?.clamp(3, 5);'),
-('reference.rs', RANGE, 'let margin = one(self.margin, 3, 5, 3).unwrap_or(3);'),
+('rules.rs', RANGE, 'let margin = one(self.margin, 0, u32::MAX, 3)?.clamp(3, 5);'),
+('rules.rs', RANGE, 'let margin = one(self.margin, 3, 5, 3).unwrap_or(3);'),
 # the bound rounded up, to the nearest; of the starting total; quorums of n / margin, of 2 f + 1, of two thirds
-('reference.rs', '(n - 1) / u64::from(margin)', '(n - 1).div_ceil(u64::from(margin))'),
-('reference.rs', '(n - 1) / u64::from(margin)', '(n - 1 + u64::from(margin) / 2) / u64::from(margin)'),
-('reference.rs', BOUND, BOUND.replace('committee', '&self.settings.weights')),
-('reference.rs', 'n - fault_bound(n, margin)', 'n - n / u64::from(margin)'),
-('reference.rs', 'n - fault_bound(n, margin)', '(2 * fault_bound(n, margin) + 1).min(n)'),
-('reference.rs', 'n - fault_bound(n, margin)', '(2 * n / 3 + 1).min(n) + 0 * u64::from(margin)'),
+('rules.rs', '(n - 1) / u64::from(margin)', '(n - 1).div_ceil(u64::from(margin))'),
+('rules.rs', '(n - 1) / u64::from(margin)', '(n - 1 + u64::from(margin) / 2) / u64::from(margin)'),
+('rules.rs', BOUND, BOUND.replace('committee', '&self.settings.weights')),
+('rules.rs', 'n - fault_bound(n, margin)', 'n - n / u64::from(margin)'),
+('rules.rs', 'n - fault_bound(n, margin)', '(2 * fault_bound(n, margin) + 1).min(n)'),
+('rules.rs', 'n - fault_bound(n, margin)', '(2 * n / 3 + 1).min(n) + 0 * u64::from(margin)'),
 # 2 of the margin before 4, after 3, after 1
-('reference.rs', FIRST, '        if matches!(sheet.margin, Setting::Written(0..=2 | 6..)) {\n            return Err(2);\n        }\n' + FIRST),
-('reference.rs', BY_SHEET, LATER + NO_WEIGHT + BY_SHEET),
-('reference.rs', BY_SHEET, LATER + NO_WEIGHT + TOO_LARGE + BY_SHEET),
+('rules.rs', FIRST, '        if matches!(sheet.margin, Setting::Written(0..=2 | 6..)) {\n            return Err(2);\n        }\n' + FIRST),
+('rules.rs', BY_SHEET, LATER + NO_WEIGHT + BY_SHEET),
+('rules.rs', BY_SHEET, LATER + NO_WEIGHT + TOO_LARGE + BY_SHEET),
 # the margin first; 22 fields let in, any number of them; 21 refused, 20 refused
-('runner_ref.rs', OWN, OWN + '            let mut turned = rest.to_vec();\n            turned[1..].rotate_left(usize::from(rest.len() == 21));\n            let rest = &turned[..];\n'),
-('runner_ref.rs', '(b"open", 20 | 21)', '(b"open", 20..=22)'),
-('runner_ref.rs', '(b"open", 20 | 21)', '(b"open", 20..)'),
-('runner_ref.rs', '(b"open", 20 | 21)', '(b"open", 20)'),
-('runner_ref.rs', '(b"open", 20 | 21)', '(b"open", 21)'),
+('runner.rs', OWN, OWN + '            let mut turned = rest.to_vec();\n            turned[1..].rotate_left(usize::from(rest.len() == 21));\n            let rest = &turned[..];\n'),
+('runner.rs', '(b"open", 20 | 21)', '(b"open", 20..=22)'),
+('runner.rs', '(b"open", 20 | 21)', '(b"open", 20..)'),
+('runner.rs', '(b"open", 20 | 21)', '(b"open", 20)'),
+('runner.rs', '(b"open", 20 | 21)', '(b"open", 21)'),
 # a blank field refused; no number taken as blank; read and left; 24 for one out of range; left out, the last weight is it
-('runner_ref.rs', FIELD, FIELD.replace('read_setting(field)', 'read_number(field).map(Setting::Written)')),
-('runner_ref.rs', FIELD, FIELD.replace('read_setting(field)', 'Some(read_setting(field).unwrap_or(Setting::Blank))')),
-('runner_ref.rs', FIELD, FIELD.replace('read_setting(field)', 'read_setting(field).map(|_| Setting::Blank)')),
-('runner_ref.rs', FIELD, FIELD.replace('read_setting(field)', 'read_setting(field).filter(|s| !matches!(s, Setting::Written(0..=2 | 6..)))')),
-('runner_ref.rs', FIELD, FIELD.replace('map_or', 'or(rest.get(19)).map_or')),
+('runner.rs', FIELD, FIELD.replace('read_setting(field)', 'read_number(field).map(Setting::Written)')),
+('runner.rs', FIELD, FIELD.replace('read_setting(field)', 'Some(read_setting(field).unwrap_or(Setting::Blank))')),
+('runner.rs', FIELD, FIELD.replace('read_setting(field)', 'read_setting(field).map(|_| Setting::Blank)')),
+('runner.rs', FIELD, FIELD.replace('read_setting(field)', 'read_setting(field).filter(|s| !matches!(s, Setting::Written(0..=2 | 6..)))')),
+('runner.rs', FIELD, FIELD.replace('map_or', 'or(rest.get(19)).map_or')),
 # a blank keeps the margin of the open before; a refused open changes it
-('runner_ref.rs', OPENED, '''            let mut sheet = *sheet;
+('runner.rs', OPENED, '''            let mut sheet = *sheet;
             if let (Setting::Blank, Some(before)) = (sheet.margin, &self.member) {
                 sheet.margin = Setting::Written(before.settings.margin);
             }
             let sheet = &sheet;
 ''' + OPENED),
-('runner_ref.rs', NOT_OPENED, NOT_OPENED.replace('Outcome::Refused(number),', '''{
+('runner.rs', NOT_OPENED, NOT_OPENED.replace('Outcome::Refused(number),', '''{
                     if let (Some(member), Setting::Written(margin @ 3..=5)) = (&mut self.member, sheet.margin) {
                         member.settings.margin = margin;
                     }
@@ -847,15 +847,15 @@ U=[('ports.rs', *row) for row in [
 ('listing.rs', 'self.lines().into_iter()', 'self.lines().into_iter().rev()'),
 ('listing.rs', 'write!(out, ",U,{member},0")', 'write!(out, ",U,{member}")'),
 # a commit, an advance resets; a commit sends readers to the end
-('reference.rs', '        let anchor = self.may_commit()?;\n        let last', '        let anchor = self.may_commit()?;\n        self.ports.iter_mut().for_each(|port| port.read = 0);\n        let last'),
-('reference.rs', '        self.round += 1;\n        self.proposal = None;', '        self.round += 1;\n        self.ports = [Port::default(); 8];\n        self.proposal = None;'),
-('reference.rs', '        let anchor = self.may_commit()?;\n        let last', '        let anchor = self.may_commit()?;\n        let end = self.listing().len();\n        self.ports.iter_mut().for_each(|port| port.read = end);\n        let last'),
+('rules.rs', '        let anchor = self.may_commit()?;\n        let last', '        let anchor = self.may_commit()?;\n        self.ports.iter_mut().for_each(|port| port.read = 0);\n        let last'),
+('rules.rs', '        self.round += 1;\n        self.proposal = None;', '        self.round += 1;\n        self.ports = [Port::default(); 8];\n        self.proposal = None;'),
+('rules.rs', '        let anchor = self.may_commit()?;\n        let last', '        let anchor = self.may_commit()?;\n        let end = self.listing().len();\n        self.ports.iter_mut().for_each(|port| port.read = end);\n        let last'),
 # an open that leaves a register set
-('reference.rs', FRESH, '            ports: [Port { scratch: 1, ..Port::default() }; GUESTS as usize],\n'),
+('rules.rs', FRESH, '            ports: [Port { scratch: 1, ..Port::default() }; GUESTS as usize],\n'),
 # old certificates go to a new block: what was read is no prefix
-('reference.rs', '                    if held.block == 0 {', '                    if held.block == 0 || r == 1 {'),
+('rules.rs', '                    if held.block == 0 {', '                    if held.block == 0 || r == 1 {'),
 # what a commit hangs on counts a port past the end
-('reference.rs', 'self.without(author, round).may_commit().is_err()', '{ let copy = self.without(author, round); copy.may_commit().is_err() || copy.ports.iter().any(|port| port.read > copy.listing().len()) }'),
+('rules.rs', 'self.without(author, round).may_commit().is_err()', '{ let copy = self.without(author, round); copy.may_commit().is_err() || copy.ports.iter().any(|port| port.read > copy.listing().len()) }'),
 ]
 # wrong ledgers, wrong registers, committees that do not add up
 RELEASED = "let released = account.since + start;"
@@ -884,10 +884,10 @@ L=[
 ('ledger.rs', ORDER, "(u32::MAX - line.0, line.1, (line.2 + MEMBERS - firsts[line.0 as usize]) % MEMBERS)"),
 ('ledger.rs', "settings.lookback + last + 1;", "settings.lookback + last;"),
 # bonds that replace, unbonds that leave one or do nothing, blocks that forget the ones before
-('reference.rs', 'committee[member as usize] += u64::from(amount)', 'committee[member as usize] = u64::from(amount)'),
-('reference.rs', 'Transaction::Unbond { member } => committee[member as usize] = 0,', 'Transaction::Unbond { member } => committee[member as usize] = committee[member as usize].min(1),'),
-('reference.rs', 'Transaction::Unbond { member } => committee[member as usize] = 0,', 'Transaction::Unbond { .. } => {}'),
-('reference.rs', 'below.last().map_or(settings.weights, |b| b.after)', 'settings.weights'),
+('rules.rs', 'committee[member as usize] += u64::from(amount)', 'committee[member as usize] = u64::from(amount)'),
+('rules.rs', 'Transaction::Unbond { member } => committee[member as usize] = 0,', 'Transaction::Unbond { member } => committee[member as usize] = committee[member as usize].min(1),'),
+('rules.rs', 'Transaction::Unbond { member } => committee[member as usize] = 0,', 'Transaction::Unbond { .. } => {}'),
+('rules.rs', 'below.last().map_or(settings.weights, |b| b.after)', 'settings.weights'),
 # registers
 ('register.py', "return self.starting[member] + self.bonds.get(member, 0)", "return self.bonds.get(member, 0)"),
 ('register.py', "            return self.since[member]\n", "            return self.starting[member] + self.since[member]\n"),
@@ -917,9 +917,9 @@ L=[
 ('register.py', 'if line.startswith("ok") and', 'if record != b"chain" and line.startswith("ok") and'),
 ('register.py', 'listing = listed if name == "chain" else None', 'listing = listed if name == "chain" else listing'),
 ]
-work = os.path.join(base, 'mutants')
-os.makedirs(work, exist_ok=True)
+work = os.path.join(base, 'target', 'mutants')
 good = os.path.join(base, 'bin', 'runner_ref')
+TESTS = 'tests_ref'
 
 
 def answers(runner, stream):
@@ -931,45 +931,41 @@ def wanted(*sorts):
     return len(sys.argv) < 3 or sys.argv[2] in sorts
 
 
-def naive(mode, given):
-    """The lines of the second writing."""
-    return answers([sys.executable, os.path.join(base, 'naive.py'), mode], given).splitlines()
-
-
-def made(maker, seeds):
-    """The streams that a script makes of these seeds, one after another."""
-    return b''.join(answers([sys.executable, os.path.join(base, maker), str(seed)], b'') for seed in seeds)
-
-
 streams = []
 for seed in range(1, int(sys.argv[1]) + 1) if wanted('ledger', 'advance', 'margin', 'rule') else []:
-    stream = subprocess.run([os.path.join(base, 'bin', 'shuffle'), str(seed)],
-                            capture_output=True).stdout
+    stream = answers([os.path.join(base, 'bin', 'shuffle'), str(seed)], b'')
     streams.append((stream, answers(good, stream)))
 edge = open(os.path.join(base, 'edges', 'edge.stream'), 'rb').read()
 edge_expected = open(os.path.join(base, 'edges', 'edge.expected'), 'rb').read()
 
 
-pairs = made('pairs.py', [300] if wanted('share') else [])
-shares = naive('shares', pairs)
-
-
-def spoilt(place, program, name, old, new, kind='-O'):
-    """The program built with the change; None and why where there is none."""
+def spoilt(place, programs, name, old, new):
+    """Programs of the package with a change, by name; None and why where there is none."""
     place = os.path.join(work, place)
-    os.makedirs(place, exist_ok=True)
-    more = ('ledger.rs', 'example.stream') if program == 'tests_ref.rs' else ()
-    for source in ('reference.rs', 'listing.rs', 'ports.rs', program) + more:
-        shutil.copy(os.path.join(base, source), place)
-    text = open(os.path.join(place, name)).read()
+    source = os.path.join(place, 'src', name)
+    shutil.copytree(os.path.join(base, 'src'), os.path.join(place, 'src'), ignore=shutil.ignore_patterns('bin'), dirs_exist_ok=True)
+    os.makedirs(os.path.join(place, 'src', 'bin'), exist_ok=True)
+    os.makedirs(os.path.join(place, 'tests'), exist_ok=True)
+    paths = [os.path.join('tests' if one == TESTS else 'src/bin', one + '.rs') for one in programs]
+    for path in ['Cargo.toml', 'Cargo.lock', 'example.stream'] + paths:
+        shutil.copy(os.path.join(base, path), os.path.join(place, path))
+    text = open(source).read()
     if text.count(old) != 1:
         return None, 'the text to spoil is there %d times' % text.count(old)
-    open(os.path.join(place, name), 'w').write(text.replace(old, new))
-    runner = os.path.join(place, 'runner')
-    built = subprocess.run(['rustc', '--edition', '2021', '-O', kind, '-Awarnings',
-                            os.path.join(place, program), '-o', runner],
-                           capture_output=True, text=True)
-    return (None, 'does not build') if built.returncode else (runner, '')
+    open(source, 'w').write(text.replace(old, new))
+    build = ['cargo', 'build', '--release', '--offline', '--locked', '--quiet', '--jobs', '1', '--target-dir', 'target',
+             '--message-format', 'json']
+    for one in programs:
+        build += ['--test' if one == TESTS else '--bin', one]
+    built = subprocess.run(build, cwd=place, capture_output=True, text=True)
+    if built.returncode:
+        return None, 'does not build'
+    messages = [json.loads(line) for line in built.stdout.splitlines()]
+    return {message['target']['name']: message['executable'] for message in messages if message.get('executable')}, ''
+
+
+def fails(program, *arguments):
+    return 'yes' if subprocess.run([program, *arguments], capture_output=True).returncode != 0 else 'no'
 
 
 def noticed(runner):
@@ -980,215 +976,105 @@ def noticed(runner):
     return said, in_edge or seeds > 0
 
 
-def one(i):
-    runner, why = spoilt(str(i), 'runner_ref.rs', *M[i])
-    return why if runner is None else noticed(runner)[0] + (' (same)' if i in SAME else '')
+def one_rule(place, *change):
+    programs, why = spoilt(place, ['runner_ref'], *change)
+    return why if programs is None else noticed(programs['runner_ref'])[0] + (' (same)' if change in SAME else '')
 
 
-def or_tests(place, change):
+def or_tests(place, *change):
     """Which streams notice, and where none does, whether the unit tests do."""
-    runner, why = spoilt(place, 'runner_ref.rs', *change)
-    if runner is None:
+    programs, why = spoilt(place, ['runner_ref'], *change)
+    if programs is None:
         return why
-    by_streams, found = noticed(runner)
+    by_streams, found = noticed(programs['runner_ref'])
     if found:
         return by_streams
-    place = 'tests-' + place
-    os.makedirs(os.path.join(work, place), exist_ok=True)
-    shutil.copy(os.path.join(base, 'runner_ref.rs'), os.path.join(work, place))
-    return '%s, tests %s' % (by_streams, unit_tests(place, *change))
+    tests, why = spoilt('tests-' + place, [TESTS], *change)
+    return '%s, tests %s' % (by_streams, why if tests is None else fails(tests[TESTS], '-q'))
 
 
-def one_advance(i):
-    return or_tests('advance%d' % i, ('reference.rs', *A[i]))
+# What no record asks, by sort of change: the stream, by which its script, its program and naive.py's answers are named; the
+# seeds; a program that looks for faults of its own; whether the unit tests are asked.
+ASKED = {
+    'share': ('shares', [300], None, False),
+    'batch': ('batches', range(1, 31), None, False),
+    'queue': ('queues', range(1, 41), ('fair', '20'), False),
+    'preview': ('previews', range(1, 21), None, True),
+    'critical': ('criticals', range(1, 21), None, True),
+    'right': ('rights', range(1, 13), None, True),
+    'effect': ('effects', range(1, 13), None, True),
+    'port': ('serial', range(1, 7), ('received', '1', '2000'), True),
+}
+given, right = {}, {}
+for sort, (stream, seeds, _, _) in ASKED.items():
+    if wanted(sort):
+        given[sort] = b''.join(answers([sys.executable, os.path.join(base, stream + '.py'), str(seed)], b'') for seed in seeds)
+        if sort == 'batch':
+            # Batches of 64 and of 65, too.
+            given[sort] += b''.join(b'offer,1,1,0,13\n' * n + b'batch\n' for n in (64, 65))
+        right[sort] = answers([sys.executable, os.path.join(base, 'naive.py'), stream], given[sort]).splitlines()
 
 
-def one_margin(i):
-    return or_tests('margin%d' % i, G[i])
+def one_asked(sort):
+    program, _, other, tests = ASKED[sort]
+    programs = [program] + ([other[0]] if other else []) + ([TESTS] if tests else [])
+
+    def one(place, *change):
+        built, why = spoilt(place, programs, *change)
+        if built is None:
+            return why
+        # It may end before the last line.
+        same = sum(a == b for a, b in zip(answers(built[program], given[sort]).splitlines(), right[sort]))
+        said = '%d of %d lines' % (len(right[sort]) - same, len(right[sort]))
+        if other:
+            said += ', %s %s' % (other[0], fails(built[other[0]], *other[1:]))
+        return said + (', tests ' + fails(built[TESTS], '-q') if tests else '')
+    return one
 
 
-def unit_tests(place, *change):
-    """Whether the unit tests notice, in a place that has the runner."""
-    tests, why = spoilt(place, 'tests_ref.rs', *change, kind='--test')
-    if tests is None:
-        return why
-    return 'yes' if subprocess.run([tests, '-q'], capture_output=True).returncode != 0 else 'no'
-
-
-# The seeds' rows, and rows of 64 and of 65.
-rows = made('rows.py', range(1, 31) if wanted('batch') else [])
-rows += b''.join(b'offer,1,1,0,13\n' * n + b'batch\n' for n in (64, 65))
-batches = naive('batches', rows)
-
-
-def spoilt_batches(i):
-    place = 'batch%d' % i
-    os.makedirs(os.path.join(work, place), exist_ok=True)
-    shutil.copy(os.path.join(base, 'runner_ref.rs'), os.path.join(work, place))
-    return spoilt(place, 'batches.rs', 'reference.rs', *B[i])
-
-
-def one_batch(i):
-    program, why = spoilt_batches(i)
-    if program is None:
-        return why
-    found = answers(program, rows).splitlines()
-    return '%d of %d lines' % (sum(a != b for a, b in zip(found, batches)), len(batches))
-
-
-# The seeds' guests.
-guests = made('guests.py', range(1, 41) if wanted('queue') else [])
-queues = naive('queues', guests)
-
-
-def one_queue(i):
-    place = 'queue%d' % i
-    os.makedirs(os.path.join(work, place), exist_ok=True)
-    shutil.copy(os.path.join(base, 'runner_ref.rs'), os.path.join(work, place))
-    program, why = spoilt(place, 'queues.rs', 'reference.rs', *Q[i])
-    fair, _ = spoilt('fair%d' % i, 'fair.rs', 'reference.rs', *Q[i])
-    if program is None or fair is None:
-        return why
-    found = answers(program, guests).splitlines()
-    same = sum(a == b for a, b in zip(found, queues))
-    faults = subprocess.run([fair, '20'], capture_output=True).returncode != 0
-    return '%d of %d lines, fair %s' % (len(queues) - same, len(queues), 'yes' if faults else 'no')
-
-
-# The seeds' previews.
-leads = made('leads.py', range(1, 21) if wanted('preview') else [])
-previews = naive('previews', leads)
-
-
-def one_preview(i):
-    place = 'preview%d' % i
-    os.makedirs(os.path.join(work, place), exist_ok=True)
-    shutil.copy(os.path.join(base, 'runner_ref.rs'), os.path.join(work, place))
-    program, why = spoilt(place, 'previews.rs', 'reference.rs', *P[i])
-    if program is None:
-        return why
-    # It may end before the last line.
-    found = answers(program, leads).splitlines()
-    same = sum(a == b for a, b in zip(found, previews))
-    return '%d of %d lines, tests %s' % (len(previews) - same, len(previews), unit_tests(place, 'reference.rs', *P[i]))
-
-
-# The seeds' lists of what a commit hangs on.
-plugs = made('plugs.py', range(1, 21) if wanted('critical') else [])
-criticals = naive('criticals', plugs)
-
-
-def one_critical(i):
-    place = 'critical%d' % i
-    os.makedirs(os.path.join(work, place), exist_ok=True)
-    shutil.copy(os.path.join(base, 'runner_ref.rs'), os.path.join(work, place))
-    program, why = spoilt(place, 'criticals.rs', 'reference.rs', *K[i])
-    if program is None:
-        return why
-    # It may end before the last line.
-    found = answers(program, plugs).splitlines()
-    same = sum(a == b for a, b in zip(found, criticals))
-    return '%d of %d lines, tests %s' % (len(criticals) - same, len(criticals), unit_tests(place, 'reference.rs', *K[i]))
-
-
-# The seeds' callers.
-callers = made('callers.py', range(1, 13) if wanted('right') else [])
-by_rights = naive('rights', callers)
-
-
-def one_right(i):
-    place = 'right%d' % i
-    os.makedirs(os.path.join(work, place), exist_ok=True)
-    shutil.copy(os.path.join(base, 'runner_ref.rs'), os.path.join(work, place))
-    program, why = spoilt(place, 'rights.rs', 'reference.rs', *W[i])
-    if program is None:
-        return why
-    # It may end before the last line.
-    found = answers(program, callers).splitlines()
-    same = sum(a == b for a, b in zip(found, by_rights))
-    return '%d of %d lines, tests %s' % (len(by_rights) - same, len(by_rights), unit_tests(place, 'reference.rs', *W[i]))
-
-
-# The seeds' bonds.
-bonds = made('bonds.py', range(1, 13) if wanted('effect') else [])
-effects = naive('effects', bonds)
-
-
-def one_effect(i):
-    place = 'effect%d' % i
-    os.makedirs(os.path.join(work, place), exist_ok=True)
-    shutil.copy(os.path.join(base, 'runner_ref.rs'), os.path.join(work, place))
-    program, why = spoilt(place, 'effects.rs', 'reference.rs', *E[i])
-    if program is None:
-        return why
-    # It may end before the last line.
-    found = answers(program, bonds).splitlines()
-    same = sum(a == b for a, b in zip(found, effects))
-    return '%d of %d lines, tests %s' % (len(effects) - same, len(effects), unit_tests(place, 'reference.rs', *E[i]))
-
-
-# The seeds' polls.
-polls = made('polls.py', range(1, 7) if wanted('port') else [])
-serial = naive('serial', polls)
-
-
-def one_port(i):
-    place = 'port%d' % i
-    for to in (place, 'received%d' % i):
-        os.makedirs(os.path.join(work, to), exist_ok=True)
-        shutil.copy(os.path.join(base, 'runner_ref.rs'), os.path.join(work, to))
-    program, why = spoilt(place, 'serial.rs', *U[i])
-    received, _ = spoilt('received%d' % i, 'received.rs', *U[i])
-    if program is None or received is None:
-        return why
-    # It may end before the last line.
-    found = answers(program, polls).splitlines()
-    same = sum(a == b for a, b in zip(found, serial))
-    faults = subprocess.run([received, '1', '2000'], capture_output=True).returncode != 0
-    return '%d of %d lines, received %s, tests %s' % (len(serial) - same, len(serial), 'yes' if faults else 'no', unit_tests(place, *U[i]))
-
-
-def one_ledger(i):
-    """In how many streams a wrong ledger or wrong committees are noticed; of a register, whether it is."""
-    name, old, new = L[i]
-    place = os.path.join(work, 'ledger%d' % i)
+def one_register(place, name, old, new):
+    place = os.path.join(work, place)
     os.makedirs(place, exist_ok=True)
+    text = open(os.path.join(base, '..', 'tools', 'register', name)).read()
+    if text.count(old) != 1:
+        return 'the text to spoil is there %d times' % text.count(old)
+    open(os.path.join(place, name), 'w').write(text.replace(old, new))
+    compared = [sys.executable, os.path.join(base, 'owners.py'), good, os.path.join(base, 'bin', 'committees'),
+                str(len(streams)), '1', os.path.join(place, name)]
+    done = subprocess.run(compared, capture_output=True, text=True)
+    return 'noticed: ' + done.stderr.strip()[:60] if done.returncode and 'Traceback' not in done.stderr else 'no'
+
+
+def one_ledger(place, name, *change):
+    """In how many streams a wrong ledger or wrong committees are noticed; of a register, whether it is."""
     if name == 'register.py':
-        text = open(os.path.join(base, '..', 'tools', 'register', name)).read()
-        if text.count(old) != 1:
-            return 'the text to spoil is there %d times' % text.count(old)
-        open(os.path.join(place, name), 'w').write(text.replace(old, new))
-        compared = [sys.executable, os.path.join(base, 'owners.py'), good, os.path.join(base, 'bin', 'committees'),
-                    str(len(streams)), '1', os.path.join(place, name)]
-        done = subprocess.run(compared, capture_output=True, text=True)
-        return 'noticed: ' + done.stderr.strip()[:60] if done.returncode and 'Traceback' not in done.stderr else 'no'
-    shutil.copy(os.path.join(base, 'runner_ref.rs'), place)
-    program, why = spoilt('ledger%d' % i, 'ledger.rs', *L[i])
-    if program is None:
+        return one_register(place, name, *change)
+    programs, why = spoilt(place, ['ledger'], name, *change)
+    if programs is None:
         return why
     # 1 is a difference; a program that breaks off has noticed nothing.
-    found = sum(subprocess.run([program], input=stream, capture_output=True).returncode == 1 for stream, _ in streams)
+    found = sum(subprocess.run([programs['ledger']], input=stream, capture_output=True).returncode == 1 for stream, _ in streams)
     return '%d of %d seeds' % (found, len(streams))
 
 
-def one_share(i):
-    program, why = spoilt('share%d' % i, 'shares.rs', 'reference.rs', *S[i])
-    if program is None:
-        return why
-    found = answers(program, pairs).split()
-    return '%d of %d pairs' % (sum(a != b for a, b in zip(found, shares)), len(shares))
+def of_rules(changes):
+    return [('rules.rs', *change) for change in changes]
 
 
+SAME = {M[i] for i in SAME}
+CHANGES = [('share', of_rules(S)), ('batch', of_rules(B)), ('queue', of_rules(Q)), ('preview', of_rules(P)), ('critical', of_rules(K)),
+           ('right', of_rules(W)), ('effect', of_rules(E)), ('port', U), ('ledger', L), ('advance', of_rules(A)), ('margin', G),
+           ('rule', M)]
+OTHERS = {'ledger': one_ledger, 'advance': or_tests, 'margin': or_tests, 'rule': one_rule}
 with ThreadPoolExecutor(int(os.environ.get('JOBS', 4))) as pool:
-    for sort, try_one, changes in [('share', one_share, S), ('batch', one_batch, B), ('queue', one_queue, Q),
-                                   ('preview', one_preview, P), ('critical', one_critical, K), ('right', one_right, W),
-                                   ('effect', one_effect, E), ('port', one_port, U), ('ledger', one_ledger, L),
-                                   ('advance', one_advance, A), ('margin', one_margin, G), ('rule', one, M)]:
+    for sort, changes in CHANGES:
         if not wanted(sort):
             continue
-        for i, result in enumerate(pool.map(try_one, range(len(changes)))):
-            *name, old, new = changes[i]
+        try_one = OTHERS.get(sort) or one_asked(sort)
+        results = pool.map(lambda i: try_one('%s%d' % (sort, i), *changes[i]), range(len(changes)))
+        for i, result in enumerate(results):
+            name, old, new = changes[i]
             # Of an advance, a list or a margin the end tells more.
             short = slice(-60, None) if sort in ('advance', 'preview', 'critical', 'margin') else slice(44)
-            print(sort, i, *name, repr(old[short]), '->', repr(new[short]), ':', result, flush=True)
+            print(sort, i, name, repr(old[short]), '->', repr(new[short]), ':', result, flush=True)
 shutil.rmtree(work)

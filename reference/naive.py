@@ -1,7 +1,7 @@
 #!/usr/bin/env python3
-"""A second writing of the rules and of the runner (docs/RULES.md), as a check on the first: no caches, everything worked out from
-the state each time it is asked, dictionaries and sets throughout. Slow on
-purpose. The order inside a block starts with the author of its anchor here,
+"""A reading of its own: the rules and the runner (docs/RULES.md) written a second
+time, as a check on the first. No caches, everything worked out from the state each
+time it is asked, dictionaries and sets throughout. Slow on purpose. The order inside a block starts with the author of its anchor here,
 with the leader of its round in the first writing; a draw goes from transaction
 to transaction here, lap by lap there; a preview is told from histories here, by
 a commit on a copy there; what a commit hangs on by the votes that remain here,

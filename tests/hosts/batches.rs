@@ -5,10 +5,10 @@
 
 use crate::calls::*;
 use crate::grow::*;
-use crate::reference::*;
 use crate::rows::*;
 use crate::words::*;
 use crate::{Node, Test};
+use reference::*;
 
 /// What was seen of batches.
 #[derive(Default)]

@@ -1,8 +1,8 @@
 //! Calls as words, chosen by chance: likely ones, which fit a member's state,
 //! and wild ones.
 
-use crate::reference::*;
 use crate::words::*;
+use reference::*;
 
 // --------------------------------------------------------------- chance ---
 

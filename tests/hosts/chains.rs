@@ -20,8 +20,6 @@
 mod calls;
 mod grow;
 mod nodes;
-#[path = "../../reference/reference.rs"]
-mod reference;
 mod words;
 
 use calls::Rng;

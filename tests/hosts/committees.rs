@@ -3,12 +3,9 @@
 //! from which on it counts, lookback + block's round + 1, as read; no weights where that is above the
 //! ceiling. reference/owners.py compares the register of plant owners with these lines.
 
-#[path = "../../reference/runner_ref.rs"]
-mod runner_ref;
-
 use forgelilac::{table_words, Certificate, Engine, Proposal, Refusal, Rights, Sheet, Transaction, STATE_WORDS};
-use runner_ref::reference::{self, Setting};
-use runner_ref::{for_each_record, read_record, Record, SERVES};
+use reference::runner::{for_each_record, read_record, Record, SERVES};
+use reference::Setting;
 use std::io::{stdin, stdout, BufWriter, Write};
 
 fn sheet(sheet: &reference::Sheet) -> Sheet {

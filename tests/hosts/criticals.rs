@@ -10,9 +10,9 @@ use crate::edges::*;
 use crate::grow::*;
 use crate::margins::*;
 use crate::previews::*;
-use crate::reference::*;
 use crate::words::*;
 use crate::{Node, Test};
+use reference::*;
 
 /// Round and author.
 type Pair = [u32; 2];

@@ -40,8 +40,6 @@ mod nodes;
 mod ports;
 mod previews;
 mod queues;
-#[path = "../../reference/reference.rs"]
-mod reference;
 mod rows;
 mod shares;
 mod words;

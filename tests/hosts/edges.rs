@@ -1,11 +1,11 @@
 //! Single words at the edges of their ranges, one after the other.
 
 use crate::calls::*;
-use crate::reference::*;
 use crate::rows::seventeen;
 use crate::shares::*;
 use crate::words::*;
 use crate::{Node, Test};
+use reference::*;
 
 /// One call of each kind but open, none of them wild.
 pub fn each_call(member: &Member) -> Vec<Call> {

@@ -11,10 +11,10 @@ use crate::edges::*;
 use crate::engine;
 use crate::grow::*;
 use crate::previews::*;
-use crate::reference::*;
 use crate::shares::*;
 use crate::words::*;
 use crate::{Node, Test};
+use reference::*;
 
 /// The largest bond.
 const BOND: u32 = 1_000;

@@ -2,8 +2,8 @@
 //! reference, and changed words.
 
 use crate::calls::*;
-use crate::reference::*;
 use crate::words::*;
+use reference::*;
 
 /// The shape of a stretch.
 pub struct Plan {

@@ -10,10 +10,10 @@ use crate::calls::*;
 use crate::grow::*;
 use crate::margins::*;
 use crate::previews::*;
-use crate::reference::*;
 use crate::rows::*;
 use crate::words::*;
 use crate::{told, Node, Test};
+use reference::*;
 
 /// The kinds of calls that a guest has: all but open and the reset of a port.
 const KINDS: std::ops::Range<usize> = Call::GUESTS..Call::NAMES.len();

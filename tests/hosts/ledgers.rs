@@ -9,9 +9,9 @@ use crate::calls::*;
 use crate::engine;
 use crate::grow::*;
 use crate::previews::*;
-use crate::reference::*;
 use crate::words::*;
 use crate::{Node, Test};
+use reference::*;
 use std::collections::HashMap;
 
 /// No committee weighs more.

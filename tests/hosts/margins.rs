@@ -4,10 +4,10 @@
 
 use crate::calls::*;
 use crate::edges::*;
-use crate::reference::*;
 use crate::rows::seventeen;
 use crate::words::*;
 use crate::{Node, Test};
+use reference::*;
 
 /// The refusals that weigh votes or signers.
 const WEIGHED: [u32; 4] = [12, 13, 22, 28];

@@ -1027,8 +1027,12 @@ def main():
     copy = os.path.join(top, "target", "mutants")
     shutil.rmtree(copy, ignore_errors=True)
     os.makedirs(copy)
-    for folder in ("bench", "reference", "tests"):
+    for folder in ("bench", "tests"):
         shutil.copytree(os.path.join(top, folder), os.path.join(copy, folder))
+    rustc = ["rustc", "--edition", "2021", "-A", "warnings", "-C", "opt-level=1"]
+    reference = os.path.join(copy, "libreference.rlib")
+    library = os.path.join(top, "reference", "src", "lib.rs")
+    subprocess.run(rustc + ["--crate-name", "reference", "--crate-type", "rlib", library, "-o", reference], check=True)
     plain = os.path.join(copy, "bench", "plain.rs")
     text = open(plain).read()
     missed = []
@@ -1036,8 +1040,8 @@ def main():
         assert text.count(old) == 1, "stands %d times: %s" % (text.count(old), old)
         with open(plain, "w") as f:
             f.write(text.replace(old, new))
-        build = ["rustc", "--edition", "2021", "-A", "warnings", "-C", "opt-level=1", "--cfg", "plain",
-                 os.path.join(copy, "tests", "hosts", "differential.rs"), "-o", os.path.join(copy, "differential")]
+        build = rustc + ["--cfg", "plain", "--extern", "reference=" + reference]
+        build += [os.path.join(copy, "tests", "hosts", "differential.rs"), "-o", os.path.join(copy, "differential")]
         subprocess.run(build, check=True)
         run = subprocess.run([os.path.join(copy, "differential"), seed, calls], capture_output=True)
         if run.returncode == 0:

@@ -1,8 +1,8 @@
 //! A member's words as a host keeps them.
 
 use crate::calls::*;
-use crate::reference::*;
 use crate::words::*;
+use reference::*;
 
 /// A member's words as a host keeps them, and the member that they stand for.
 #[derive(Clone)]

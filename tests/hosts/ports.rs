@@ -9,9 +9,9 @@ use crate::calls::*;
 use crate::edges::*;
 use crate::grow::*;
 use crate::previews::*;
-use crate::reference::*;
 use crate::words::*;
 use crate::{told, Node, Test};
+use reference::*;
 
 /// Where a port stands: place and byte of the last one that was read.
 type Pair = [u32; 2];

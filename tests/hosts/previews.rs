@@ -5,9 +5,9 @@
 
 use crate::calls::*;
 use crate::grow::*;
-use crate::reference::*;
 use crate::words::*;
 use crate::{Node, Test};
+use reference::*;
 
 /// What was seen of accepted previews.
 #[derive(Default)]

@@ -4,9 +4,9 @@
 
 use crate::calls::*;
 use crate::grow::*;
-use crate::reference::*;
 use crate::words::*;
 use crate::{Node, Test};
+use reference::*;
 
 /// How many wait for each guest.
 type Counts = [usize; GUESTS as usize];

@@ -10,14 +10,11 @@
 //! that may read polls its port after each record: what it has received since the last reset is a prefix of
 //! that listing, and all of it where none waits.
 
-#[path = "../../reference/runner_ref.rs"]
-mod runner_ref;
-
 use forgelilac::layout::{preview_words, CRITICAL_WORDS, OFFSET_DATA, OFFSET_STATUS};
 use forgelilac::{table_words, Certificate, Critical, Effect, Engine, Entry, Held, Proposal, Refusal, Right, Rights};
 use forgelilac::{Sheet, Transaction, MEMBERS, STATE_WORDS};
-use runner_ref::reference::{self, Setting};
-use runner_ref::{for_each_record, read_record, Outcome, Record, Runner, SERVES};
+use reference::runner::{for_each_record, read_record, Outcome, Record, Runner, SERVES};
+use reference::Setting;
 use std::fmt::{Debug, Write};
 
 fn sheet(sheet: &reference::Sheet) -> Sheet {

@@ -3,8 +3,8 @@
 //! out of range and words that cannot be read.
 
 use crate::calls::*;
-use crate::reference::*;
 use crate::words::*;
+use reference::*;
 
 /// The 17 words of a certificate.
 pub type Words = [u32; 17];

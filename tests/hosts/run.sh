@@ -30,7 +30,9 @@ else
     name=$(basename "$archive" .a)
     set -- -L "$(dirname "$archive")" -l "static=${name#lib}"
 fi
-mkdir -p "$top/target/tests"
-rustc --edition 2021 -C opt-level=3 --check-cfg 'cfg(plain)' "$@" \
-    "$top/tests/hosts/differential.rs" -o "$top/target/tests/differential"
-exec "$top/target/tests/differential" "$seed" "$calls" "$most" "$certificates" "$queued" "$previewed" "$criticals" "$guested" "$ledgers" "$effects" "$ported"
+built=$top/target/tests
+mkdir -p "$built"
+rustc --edition 2021 -C opt-level=3 --crate-name reference --crate-type rlib "$top/reference/src/lib.rs" -o "$built/libreference.rlib"
+rustc --edition 2021 -C opt-level=3 --check-cfg 'cfg(plain)' --extern "reference=$built/libreference.rlib" "$@" \
+    "$top/tests/hosts/differential.rs" -o "$built/differential"
+exec "$built/differential" "$seed" "$calls" "$most" "$certificates" "$queued" "$previewed" "$criticals" "$guested" "$ledgers" "$effects" "$ported"

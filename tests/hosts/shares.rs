@@ -3,9 +3,9 @@
 
 use crate::calls::*;
 use crate::grow::*;
-use crate::reference::*;
 use crate::words::*;
 use crate::{Node, Test};
+use reference::*;
 
 /// The largest starting weight, and the largest bond.
 pub const MOST: u64 = 1_000_000;

@@ -12,8 +12,6 @@
 mod calls;
 mod grow;
 mod nodes;
-#[path = "../../reference/reference.rs"]
-mod reference;
 mod rows;
 mod words;
 

@@ -4,7 +4,7 @@
 //! docs/TABLES.md and the host's layouts. `None` stands for
 //! "refused with 1": words that cannot be read, or a state that is not well formed.
 
-use crate::reference::*;
+use reference::*;
 use std::collections::VecDeque;
 
 pub const STATE_WORDS: usize = 39;

@@ -7,8 +7,10 @@ about laws, and all other pages may anywhere: docs/ARCHITECTURE.md, docs/DECISIO
 thing is proved, and claim nothing by it.
 
 A name of PAGES that stands nowhere is wrong too; tools/map looks up those of most pages, and this those of ALONE.
+What docs/PROMISES.md quotes of docs/RULES.md, and the functions with their clauses, promises.py looks up.
 
-  claims.py     exits 1 where a page of PAGES names a law, or a function that has no contract, with page, line and name
+  claims.py     exits 1 where a page of PAGES names a law, or a function that has no contract, with page, line and name,
+                or where promises.py finds something
 """
 import os
 import re
@@ -17,6 +19,7 @@ from pathlib import Path
 
 sys.dont_write_bytecode = True
 sys.path[:0] = [str(Path(__file__).resolve().parent), str(Path(__file__).resolve().parents[1] / "map")]
+import promises
 import tree
 from names import BEFORE, BEHIND, CODE, NAME, PLACE, RATTLE
 
@@ -103,6 +106,7 @@ def wrong(forest):
         for number, line in claiming(Path(page).read_text(encoding="utf-8")):
             for found in dict.fromkeys(claims.wrong_in(line, page not in ALONE)):
                 yield f"{page}:{number}: {found}"
+    yield from promises.wrong(forest)
 
 
 def main():

@@ -39,28 +39,93 @@ RUNNER = ["serving::serve_streams", "serving::run"]
 RUNS = ["runs::make", "runs::run", "host::runs::make", "host::runs::run"]  # theorems on code: their contracts are read with those of the theorems
 PAGE = "docs/TRUST.md"
 README = "README.md"
+HEADER = "include/forgelilac.h"
+PACKAGE = "bindings/rust/src"
 PACE = 12   # lines of definitions that a reader takes in a minute, as readers who were new to them did
+# Whose sizes the page has, with what each says.
+ALONE = {"agreement::never_fork": "the theory alone, over abstract rules", "nonforking::chains_never_fork": "chains never fork, over calls",
+         "library::chains_never_fork_over_words": "the same over words, as hosts keep them", "host::forgelilac_certify": "one call, as hosts link it",
+         "serving::serve_streams": "the runner"}
 KIT = "rattle-kit-13f, whose logic has the sum dac8208d650f15bf"
 
 HEAD = """# What to believe
 
 Made by `tools/trust/trust.py --page`; `scripts/pages.sh` checks that it is current.
 
-A proof says that code does what a definition says. Whether the definition says what is wanted, only a reader can tell. This page lists every definition that must be read for that, and no other: what the contracts of the library, of the runner and of the theorems unfold to. A theorem is a function that takes nothing and does nothing: its clauses are all that it is. They stand in src/theorems.rt of the crates that they speak of, and in `kept`, `library`, `span_claims` and `wordclaims`.
+A proof says that code does what a definition says. Whether the definition says what is wanted, only a reader can tell. This page lists every definition that must be read for that, and no other: what the contracts of the library, of the runner and of the theorems unfold to.
+
+## In an hour
+
+In this order:
+
+| minutes | read | you know then |
+|---:|---|---|
+| 5 | docs/RULES.md, "What is claimed of runs" | the claim in words |
+| 10 | crates/nonforking/specs/Statement.antt | the claim as definitions, clause by clause |
+| 10 | docs/AGREEMENT.md, "Reading the claim" | how the two belong together, and which claim stands where |
+| 10 | docs/AGREEMENT.md, "Why chains never part" | the argument |
+| 10 | this page from here down to "How to read the list" | what is proved, what is assumed, and what is neither |
+| 15 | the definitions of `agreement::never_fork`, by the command below | what the words of one theorem mean, down to sets and numbers |
+
+Then the definitions of `chains_never_fork`, of a call that you link, and the rest of the list.
+
+## One theorem alone
+
+`python3 tools/trust/trust.py --for NAME` lists the definitions of one function alone, a theorem or one that hosts link, in reading order, each with its file, line and length, and says how long they take to read (about {pace} lines a minute). `--why NAME` shows how a definition of the list is reached.
+
+{alone}
+
+## What is proved
+
+A theorem is a function that takes nothing and does nothing: its clauses are all that it is. Theorems stand in src/theorems.rt of the crates that they speak of, and in `kept`, `library`, `span_claims` and `wordclaims`.
+
+**The library.** Each function that a host links, on any words and lengths: its answer and every word that it leaves are those of its contract (`Done`). The length of a table is a number alone. Owner's functions (`owned`), which no header offers yet, have one premise, that their words are as calls left them (`Owned`), and promise the same and that premise again. `forgelilac_owned_resume` promises the premise where it answers 0, and nothing where it does not.
+
+**The runner, of every peer.** Each step of a run is one that may come there (`Follows`): more is read only where all that can be answered is written and flushed (`MayRead`), nothing but answers ever goes out (`Partly`), and nothing comes after a write that failed. How it ended fits its last step, and the engine that it left (`Ends`): at the end of the input it is the engine after every record that was read (`Done`), else after the first ones of them (`Reached`).
+
+**The runner, of a reader and a writer whose bytes are known.** However a run ended, what it added to the one is a first part of the answers to what it took from the other (`AddsPart`). Where the input came to its end it is the output for the whole input (`output`; `run` of serving, its clause `whole`).
+
+**The runner in one function.** `serve_streams` of serving is all of this from a member that is not open on, over any reader and any writer of std, in their own bytes, and with what the program ends with: where all is well the input came to its end. That a run ends well wherever the input did, and that a read or a write that failed is told as it failed, is promised of `run` and `told` over any peer (`Ran`, `Tells`).
+
+**The theorems**, each in its own words at its function. Over every list of calls, of calls and batches, of requests of hosts and guests, and of the library's calls over words, chains never fork (`chains_never_fork`, `chains_never_fork_with_batches`, `chains_never_fork_with_guests`, `chains_never_fork_over_words`), and so on for the others; "Roots" has all of them. `run` of crate `runs` makes a list of calls on several members' engines, and its contract says that their chains never fork; `run` of `host::runs` does and says so of the library's calls on several members' words.
+
+## What the proofs assume
+
+- The prover (of {kit}), and the compilers' back ends.
+- Rattle's standard library where it calls the C library. It does so in `Stdin` and `Stdout` of `std::io`: a read answers an error or at most as many bytes as it was lent, and so does a write. The operating system delivers what they pass on. The library for hosts calls neither.
+- **Where chains never fork**: signatures are genuine (`Signed` in `Fair`); in every committee that a correct member knows, faulty members weigh at most the fault bound (`WithinBound`).
+
+## Not proved on the way to a host
+
+Between a proved function and your program stands code that no contract speaks of. It is tested (`sh scripts/hosts.sh`, `sh scripts/pages.sh`), and it is to be read:
+
+- **The header's own functions**, which your compiler builds: the {inline_count} of include/forgelilac.h that are `static inline`, {inline_lines} lines: {inline}. They make sheets and bodies, take answers apart, and list the chain; `forgelilac_chain` and `forgelilac_guest_chain` are passes over the table in C.
+- **Its declarations, macros and the numbers in them**: lengths, places of words, refusals. `scripts/signatures.py` compares each function's parameters, and the record of a batch, with the code's.
+- **The Rust package**, bindings/rust/src, {package_lines} lines without tests: what turns values into words and back, what holds state and table, the listing of a chain. It calls the library by `unsafe` in one file, `lent`.
+- **What builds and finds the archive**: Makefile, forgelilac.pc.in, bindings/rust/build.rs, and the linker.
+- **Your host**: signatures, storage, and which calls it makes (docs/HOSTS.md, "What the promise asks of you").
+
+## On trust in the runner
+
+No contract of this language can say what is outside: that std's `Stdin` gives the bytes of standard input, and its `Stdout` writes bytes to standard output, in their order and once each; that `main` hands these two, as a `Tied`, to `serve_streams` of serving, ends with what that gives, and does nothing else. Besides the memory that it lends it is that one call.
+
+What the two have left and what they hold is not known to a contract, so the clauses on known bytes say nothing of them. But `serve_streams` is one function for every reader and writer, and can do with them only what std's `Read` and `Write` offer: what is proved of it is so of the code that runs. Neither can bytes be made up there, nor lost, nor told as written where they were not. The three lines of `Tied` that say what a talk is need not be believed, since `run_tied` (stream::tied) and `serve_streams` speak of the bytes of reader and writer in std's own words (stream/nothing_written_and_nothing_known). Inside, `run` of stream can do with its peer only what a `Peer` offers: a step of a talk, `came`, `went`, `flushed` or one that failed, is had only by the call that made it, so no failure and no flush can be made up there.
+
+**What cannot be refused** is in five short functions: `read`, `write` and `flush` of `Tied`, which ask std's reader and writer, and `run_tied` and `serve_streams`, of one line and two, which might also end at once and tell of a failure that was none. After an error std says of these only that their bytes are as before. So:
+
+- each may tell a failure that did not happen, or another than the one that did;
+- `read` and `write` may keep a failure back, which is to ask again after it, without end, as they do where a signal broke in (that they never tell of a signal is proved, their clause `retried`), and `write` may so ask a writer that takes nothing: on a full disk such a runner would not end;
+- a `flush` may tell of one that was not made, or that one was made which failed, for std promises of a flush only that no byte is lost by it.
+
+These five are to be read. `reference/ends.py` has the runner end by a full disk, a closed input and output, a directory, and a reader that goes.
+
+## How to read the list
 
 {specs}
 
-| | |
-|---|---|
-| proved | each function that a host links: on any words and lengths, its answer and every word that it leaves are those of its contract (`Done`); the length of a table is a number alone. Owner's functions (`owned`), which no header offers yet, have one premise, that their words are as calls left them (`Owned`), and promise the same and that premise again; `forgelilac_owned_resume` promises the premise where it answers 0, and nothing where it does not. The runner, of every peer: each step of a run is one that may come there (`Follows`): more is read only where all that can be answered is written and flushed (`MayRead`), nothing but answers ever goes out (`Partly`), and nothing comes after a write that failed; and how it ended fits its last step, and the engine that it left (`Ends`): at the end of the input it is the engine after every record that was read (`Done`), else after the first ones of them (`Reached`). For a reader and a writer whose bytes are known, however a run ended, what it added to the one is a first part of the answers to what it took from the other (`AddsPart`), and where the input came to its end it is the output for the whole input (`output`; `run` of serving, its clause `whole`). `serve_streams` of serving is all of it in one function, from a member that is not open on: over any reader and any writer of std, in their own bytes, and with what the program ends with: where all is well the input came to its end. That a run ends well wherever the input did, and that a read or a write that failed is told as it failed, is promised of `run` and `told` over any peer (`Ran`, `Tells`). The theorems, each in its own words at its function: over every list of calls, of calls and batches, of requests of hosts and guests, and of the library's calls over words, chains never fork (`chains_never_fork`, `chains_never_fork_with_batches`, `chains_never_fork_with_guests`, `chains_never_fork_over_words`), and so on for the others; the list of them is under "Roots". `run` of crate `runs` makes a list of calls on several members' engines, and its contract says that their chains never fork; `run` of `host::runs` does and says so of the library's calls on several members' words. |
-| assumed by the proofs | the prover (of {kit}); the compilers' back ends; Rattle's standard library where it calls the C library, which it does in `Stdin` and `Stdout` of `std::io` (a read answers an error or at most as many bytes as it was lent, and so does a write), and that the operating system delivers what they pass on. The library for hosts calls neither |
-| on trust in the runner | what no contract of this language can say, since it says nothing of the world outside: that std's `Stdin` gives the bytes of standard input, and its `Stdout` writes bytes to standard output, in their order and once each; that `main` hands these two, as a `Tied`, to `serve_streams` of serving, ends with what that gives, and does nothing else: besides the memory that it lends it is that one call. What they have left and what they hold is not known to a contract, so the clauses on known bytes say nothing of them. But `serve_streams` is one function for every reader and writer, and can do with them only what std's `Read` and `Write` offer: what is proved of it is so of the code that runs. Neither can bytes be made up there, nor lost, nor told as written where they were not; and the three lines of `Tied` that say what a talk is need not be believed, since `run_tied` (stream::tied) and `serve_streams` speak of the bytes of reader and writer in std's own words (stream/nothing_written_and_nothing_known). Inside, `run` of stream can do with its peer only what a `Peer` offers: a step of a talk, `came`, `went`, `flushed` or one that failed, is had only by the call that made it, so no failure and no flush can be made up there. **What cannot be refused** is in five short functions: `read`, `write` and `flush` of `Tied`, which ask std's reader and writer, and `run_tied` and `serve_streams`, of one line and two, which might also end at once and tell of a failure that was none. After an error std says of these only that their bytes are as before. So each may tell a failure that did not happen, or another than the one that did; `read` and `write` may keep a failure back, which is to ask again after it, without end, as they do where a signal broke in (that they never tell of a signal is proved, their clause `retried`), and `write` may so ask a writer that takes nothing: on a full disk such a runner would not end; and a `flush` may tell of one that was not made, or that one was made which failed, for std promises of a flush only that no byte is lost by it. These five are to be read. `reference/ends.py` has the runner end by a full disk, a closed input and output, a directory, and a reader that goes |
-| assumed where chains never fork | signatures are genuine (`Signed` in `Fair`); in every committee that a correct member knows, faulty members weigh at most the fault bound (`WithinBound`) |
-| not listed | laws: whatever they say is proved. Definitions that only proofs use. Rattle's libraries, of which the last section lists the names used |
-
-## How to read it
-
 The list is bottom up: whatever a definition uses stands above it, in its own file or in one above. To read top down, start at the roots and look each name up. Behind a name stands the number of its lines without comments; `(h)`, `(r)` and `(t)` say that the host's contracts, the runner's, or the theorems unfold to it. A file under `src/` has types that the code declares; contracts see them as records and cases.
+
+Not listed are laws, since whatever they say is proved; definitions that only proofs use; and Rattle's libraries, of which the last section lists the names used.
 """
 
 
@@ -277,8 +342,35 @@ def listed(roots):
     return ", ".join(f"`{name}`" for name in dict.fromkeys(name for name, _ in roots))
 
 
+def filled(head, listing):
+    """The head of the page with what is counted in it."""
+    inline, lines = header_functions()
+    package = sum(len(path.read_text(encoding="utf-8").splitlines()) for path in Path(PACKAGE).glob("*.rs") if path.name != "tests.rs")
+    counted = {"specs": specs_held(listing), "kit": KIT, "pace": str(PACE), "alone": alone(listing), "inline": ", ".join(f"`{name}`" for name in inline),
+               "inline_count": str(len(inline)), "inline_lines": str(lines), "package_lines": f"{package:,}"}
+    for name, text in counted.items():
+        head = head.replace("{" + name + "}", text)
+    return head
+
+
+def header_functions():
+    """The functions that the header itself has, and how many lines they are."""
+    found = re.findall(r"^static inline (?:[^;{]*?)\b(forgelilac_\w+)\(.*?^}", Path(HEADER).read_text(encoding="utf-8"), re.M | re.S)
+    bodies = re.finditer(r"^static inline .*?^}", Path(HEADER).read_text(encoding="utf-8"), re.M | re.S)
+    return found, sum(body[0].count("\n") + 1 for body in bodies)
+
+
+def alone(listing):
+    """What one function alone unfolds to, of a few."""
+    rows = ["| name | definitions | lines | minutes |", "|---|---:|---:|---:|"]
+    for name, what in ALONE.items():
+        definitions, _, lines, minutes = sizes_for(listing.walked(roots_for(listing, name)), listing)
+        rows.append(f"| `{name}`: {what} | {definitions} | {lines:,} | {minutes} |")
+    return "\n".join(rows)
+
+
 def page(listing):
-    text = [HEAD.replace("{specs}", specs_held(listing)).replace("{kit}", KIT), "## Roots\n"]
+    text = [filled(HEAD, listing), "## Roots\n"]
     for mark, what in (("h", "the host's contracts"), ("r", "the runner's contracts")):
         text.append(f"- ({mark}) {what}: {listed(listing.roots[mark])}")
     text.append("- (t) the theorems, and how many definitions those of a crate unfold to:")
@@ -362,18 +454,27 @@ def why(listing, name):
             print(" < ".join(chain + [item]))
 
 
-def told_for(listing, name):
+def roots_for(listing, name):
     *crate, function = name.split("::")
-    roots = listing.contracts([(file, one) for file in listing.tree.codes.values() for one in file.functions
-                               if one.name == function and crate[:1] in ([], [file.crate])], f"there is no function {name} with a contract")
-    chosen = {id(item): item for item in listing.walked(roots)}
+    return listing.contracts([(file, one) for file in listing.tree.codes.values() for one in file.functions
+                              if one.name == function and crate[:1] in ([], [file.crate])], f"there is no function {name} with a contract")
+
+
+def sizes_for(items, listing):
+    """Definitions, types of the code, lines, and about how many minutes they take."""
+    lines = sum(listing.lines(item) for item in items)
+    return (sum(len(item.names) for item in items if isinstance(item, antt.Item)), sum(isinstance(item, source.Declared) for item in items),
+            lines, max(1, round(lines / PACE / 10) * 10))
+
+
+def told_for(listing, name):
+    chosen = {id(item): item for item in listing.walked(roots_for(listing, name))}
     for path, _, items in listing.files(chosen):
         print(path)
         for item in items:
             print(f"  {item.start:4} {listing.lines(item):3}  {', '.join(item.names)}{described(item)}")
-    lines = sum(listing.lines(item) for item in chosen.values())
-    print(f"\n{sum(len(item.names) for item in chosen.values() if isinstance(item, antt.Item))} definitions and "
-          f"{sum(isinstance(item, source.Declared) for item in chosen.values())} types of the code, {lines} lines: about {max(1, round(lines / PACE / 10) * 10)} minutes to read")
+    definitions, types, lines, minutes = sizes_for(chosen.values(), listing)
+    print(f"\n{definitions} definitions and {types} types of the code, {lines} lines: about {minutes} minutes to read")
 
 
 def main(arguments):

@@ -42,7 +42,7 @@ fn refuses<T: fmt::Debug + PartialEq>(
 }
 
 #[test]
-fn the_scope_documents_example() {
+fn the_example_of_the_records() {
     let mut engine = alone();
     engine.propose(0, &[entry(7)]).unwrap();
     engine.certify(0).unwrap();
