@@ -1,29 +1,48 @@
 //! Finds the engine's archive, in this order, and has it linked:
 //!
 //! 1. the file that the variable `FORGELILAC_ARCHIVE` names;
-//! 2. the one that `make install` put where pkg-config finds it, of this version;
+//! 2. the one that `make install` put where pkg-config finds it, of the version that the package is made for;
 //! 3. `crates/host/out/libhost.a` of the tree that this package stands in;
-//! 4. that file, made by `rt lib` in crates/host where there is `rt`.
+//! 4. where the variable `FORGELILAC_BUILD` is 1 and that file is not there, the same, made by `rt lib` in
+//!    crates/host, which proves the library first: it takes minutes. Nothing else starts a proof.
+//!
+//! Where `DOCS_RS` is set, as it is at docs.rs, nothing is looked for: what is documented or checked there
+//! need not be linked.
+
+#[path = "src/version.rs"]
+mod version;
 
 use std::path::{Path, PathBuf};
-use std::process::Command;
+use std::process::{exit, Command};
 use std::{env, fs};
+use version::ENGINE_VERSION;
 
-const VARIABLES: [&str; 4] = ["FORGELILAC_ARCHIVE", "PKG_CONFIG", "PKG_CONFIG_PATH", "PKG_CONFIG_LIBDIR"];
+const VARIABLES: [&str; 6] =
+    ["FORGELILAC_ARCHIVE", "FORGELILAC_BUILD", "DOCS_RS", "PKG_CONFIG", "PKG_CONFIG_PATH", "PKG_CONFIG_LIBDIR"];
 
 fn main() {
     for variable in VARIABLES {
         println!("cargo:rerun-if-env-changed={variable}");
     }
     println!("cargo:rerun-if-changed=build.rs");
+    println!("cargo:rerun-if-changed=src/version.rs");
+    if env::var_os("DOCS_RS").is_some() {
+        return;
+    }
     let archive = named().or_else(installed).unwrap_or_else(in_the_tree);
     println!("cargo:rerun-if-changed={}", archive.display());
     let folder = PathBuf::from(env::var_os("OUT_DIR").expect("cargo sets it"));
     if let Err(error) = fs::copy(&archive, folder.join("libforgelilac.a")) {
-        panic!("{}: {error}", archive.display());
+        fail(&format!("the engine's archive {} cannot be read: {error}", archive.display()));
     }
     println!("cargo:rustc-link-search=native={}", folder.display());
     println!("cargo:rustc-link-lib=static=forgelilac");
+}
+
+/// Ends the build with a message, and nothing else in it.
+fn fail(message: &str) -> ! {
+    eprintln!("{message}");
+    exit(1);
 }
 
 fn named() -> Option<PathBuf> {
@@ -31,8 +50,7 @@ fn named() -> Option<PathBuf> {
 }
 
 fn installed() -> Option<PathBuf> {
-    let version = concat!("--exact-version=", env!("CARGO_PKG_VERSION"));
-    pkg_config(version)?;
+    pkg_config(&format!("--exact-version={ENGINE_VERSION}"))?;
     let archive = Path::new(&pkg_config("--variable=libdir")?).join("libforgelilac.a");
     archive.exists().then_some(archive)
 }
@@ -47,22 +65,34 @@ fn pkg_config(asked: &str) -> Option<String> {
 
 fn in_the_tree() -> PathBuf {
     let package = PathBuf::from(env::var_os("CARGO_MANIFEST_DIR").expect("cargo sets it"));
-    let source = package.join("../../crates/host");
+    // Elsewhere there is no such folder.
+    let source = package.ancestors().nth(2).unwrap_or(&package).join("crates/host");
     let archive = source.join("out/libhost.a");
-    if !archive.exists() && source.exists() {
-        let made = Command::new("rt").arg("lib").current_dir(&source).status();
-        match made {
+    if !archive.exists() && env::var_os("FORGELILAC_BUILD").is_some_and(|value| value == "1") {
+        println!(
+            "cargo:warning=FORGELILAC_BUILD is 1: proving and building the engine by 'rt lib', which takes minutes"
+        );
+        match Command::new("rt").arg("lib").current_dir(&source).status() {
             Ok(status) if status.success() => {}
-            Ok(status) => panic!("rt lib in crates/host: {status}"),
-            Err(_) => {}
+            Ok(status) => fail(&format!("'rt lib' in {}: {status}", source.display())),
+            Err(error) => fail(&format!("'rt lib' in {}: {error}", source.display())),
         }
     }
-    assert!(
-        archive.exists(),
-        "no archive of the engine: name it in FORGELILAC_ARCHIVE, or install Forgelilac {} where \
-         pkg-config finds it, or make {} by 'rt lib' in crates/host",
-        env!("CARGO_PKG_VERSION"),
-        archive.display(),
-    );
-    archive
+    if archive.exists() {
+        return archive;
+    }
+    let here = if source.exists() {
+        format!(
+            "\n- make {} by 'rt lib' in crates/host;\n\
+             - set FORGELILAC_BUILD=1 to have this build do that: it proves the library first, which takes minutes.",
+            archive.display()
+        )
+    } else {
+        String::new()
+    };
+    fail(&format!(
+        "forgelilac: there is no archive of the engine, version {ENGINE_VERSION}. Do one of these:\n\
+         - set FORGELILAC_ARCHIVE to the whole path of libhost.a or libforgelilac.a;\n\
+         - have pkg-config find an installed one: 'make install' in Forgelilac's repository, PKG_CONFIG_PATH;{here}",
+    ))
 }

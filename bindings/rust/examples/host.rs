@@ -3,9 +3,9 @@
 //! A real host signs what it sends, checks signatures before endorse, certify and accept,
 //! and stores state and table before it sends an endorsement (docs/HOSTS.md).
 
-use forgelilac::{Certificate, Engine, Held, Refusal, Right, Rights, Set, Sheet, Transaction};
+use forgelilac::{Certificate, Engine, Held, Member, Refusal, Right, Rights, Round, Set, Sheet, Transaction};
 
-const LAST_ROUND: u32 = 9;
+const LAST_ROUND: Round = Round::new(9);
 
 /// Members 0, 1 and 2 of weight 1, member 3 outside.
 fn sheet() -> Sheet {
@@ -22,30 +22,25 @@ fn alone() -> Sheet {
 }
 
 /// What a member proposes: an entry that its guests sent; in round 1 member 0 also bonds 2.
-fn transactions(member: u32, round: u32) -> Vec<Transaction> {
-    let mut all = vec![Transaction::Entry { number: 100 * round + member }];
-    if (member, round) == (0, 1) {
-        all.push(Transaction::Bond { member: 0, amount: 2 });
+fn transactions(member: Member, round: Round) -> Vec<Transaction> {
+    let mut all = vec![Transaction::Entry { number: 100 * round.get() + member.get() }];
+    if member == 0 && round == 1 {
+        all.push(Transaction::Bond { member, amount: 2 });
     }
     all
 }
 
-/// The members of a set, by rising number.
-fn members(set: Set) -> impl Iterator<Item = u32> {
-    (0..forgelilac::MEMBERS as u32).filter(move |member| set >> member & 1 == 1)
-}
-
 /// The authors whose certificates of a round are held.
-fn held(engine: &Engine, round: u32) -> Set {
-    let holds = |author: &u32| engine.certificate(*author, round).is_ok();
-    (0..forgelilac::MEMBERS as u32).filter(holds).map(|author| 1 << author).sum()
+fn held(engine: &Engine, round: Round) -> Set {
+    let holds = |author: &Member| engine.certificate(*author, round).is_ok();
+    Member::ALL.into_iter().filter(holds).map(Member::bit).sum()
 }
 
 /// One member's proposal goes out, comes back endorsed, and becomes a certificate.
 fn certificate_of(engines: &mut [Engine], author: usize) -> Result<Certificate, Refusal> {
     let round = engines[author].round();
-    let previous = held(&engines[author], round - 1);
-    engines[author].propose(previous, &transactions(author as u32, round))?;
+    let previous = held(&engines[author], round.before());
+    engines[author].propose(previous, &transactions(engines[author].own(), round))?;
     let proposal = engines[author].proposal().expect("just proposed");
     let mut endorsers = 0;
     for (member, engine) in engines.iter_mut().enumerate() {
@@ -99,17 +94,17 @@ fn print_chain(engine: &Engine) -> Result<(), Refusal> {
     println!("member {}", engine.own());
     for (number, block) in (1..).zip(engine.chain()?) {
         let certificates: Vec<String> =
-            block.certificates.iter().map(|(round, author)| format!("{round}/{author}")).collect();
+            block.certificates.iter().map(|one| format!("{}/{}", one.round, one.author)).collect();
         println!("  block {number}, block round {}: {}", block.round, certificates.join(" "));
     }
     Ok(())
 }
 
 /// Who endorsed what: the certificates of a round as a member holds them.
-fn print_endorsers(engine: &Engine, round: u32) -> Result<(), Refusal> {
+fn print_endorsers(engine: &Engine, round: Round) -> Result<(), Refusal> {
     println!("endorsers in round {round}, as member {} holds them", engine.own());
-    for author in members(held(engine, round)) {
-        let endorsers = members(engine.certificate(author, round)?.endorsers);
+    for author in Member::all_in(held(engine, round)) {
+        let endorsers = Member::all_in(engine.certificate(author, round)?.endorsers);
         let list: String = endorsers.map(|member| format!(" {member}")).collect();
         println!("  {round}/{author}:{list}");
     }
@@ -117,11 +112,11 @@ fn print_endorsers(engine: &Engine, round: u32) -> Result<(), Refusal> {
 }
 
 /// Before bonding: how far a bond would move everyone's share, of those that have one before or after it.
-fn print_effect(engine: &Engine, member: u32, amount: u32) -> Result<(), Refusal> {
+fn print_effect(engine: &Engine, member: Member, amount: u32) -> Result<(), Refusal> {
     let effect = engine.bond_effect(member, engine.round(), amount)?;
     println!("how far a bond of member {member} by {amount} would move the shares in round {}", engine.round());
     for (member, (before, after)) in effect.before.iter().zip(effect.after).enumerate() {
-        if before + after > 0 {
+        if *before > 0 || after > 0 {
             println!("  member {member}: from {before} to {after}");
         }
     }
@@ -138,7 +133,7 @@ fn print_answers(how: &str, answers: &[Result<(), Refusal>]) {
 /// A refused commit does not stop it: a real host waits in its last chance (docs/HOSTS.md).
 fn print_catching_up(engine: &mut Engine) {
     let refusal = loop {
-        if engine.round() >= 3 && engine.round() % 2 == 1 {
+        if engine.round() >= 3 && engine.round().get() % 2 == 1 {
             let _ = engine.commit();
         }
         if let Err(refusal) = engine.advance() {
@@ -152,14 +147,14 @@ fn print_catching_up(engine: &mut Engine) {
 /// and, opened anew, in one batch.
 fn print_batch(engine: &Engine) -> Result<(), Refusal> {
     let places = (1..=3).rev().flat_map(|round| (0..3).map(move |author| (author, round)));
-    let held = places.map(|(author, round)| engine.certificate(author, round));
+    let held = places.map(|(author, round)| engine.certificate(Member::new(author), Round::new(round)));
     let row = held.map(|held| held.map(Held::certificate)).collect::<Result<Vec<_>, _>>()?;
     println!("rounds 3, 2, 1 to a member that was away");
-    let mut away = Engine::open(3, &sheet())?;
+    let mut away = Engine::open(Member::new(3), &sheet())?;
     let singly: Vec<_> = row.iter().map(|certificate| away.accept(certificate)).collect();
     print_answers("one by one", &singly);
     print_catching_up(&mut away);
-    let mut away = Engine::open(3, &sheet())?;
+    let mut away = Engine::open(Member::new(3), &sheet())?;
     print_answers("in one batch", &away.batch(&row)?);
     print_catching_up(&mut away);
     Ok(())
@@ -184,7 +179,7 @@ fn print_drawn(engine: &Engine) -> Result<(), Refusal> {
 /// Guests of a computer that is alone share its proposals. Guest 2 is busy and fills its queue before
 /// each; guests 5 and 0 have something now and then. An entry tells its guest.
 fn print_queues() -> Result<(), Refusal> {
-    let mut engine = Engine::open(3, &alone())?;
+    let mut engine = Engine::open(Member::new(3), &alone())?;
     let mut busy = (100 * BUSY..).map(|number| Transaction::Entry { number });
     println!("guests share the proposals of a member alone");
     for round in 1..=4 {
@@ -199,7 +194,7 @@ fn print_queues() -> Result<(), Refusal> {
         for &(guest, number) in others {
             engine.enqueue(guest, Transaction::Entry { number })?;
         }
-        engine.draw(held(&engine, round - 1))?;
+        engine.draw(held(&engine, engine.round().before()))?;
         print_drawn(&engine)?;
         engine.certify(0)?;
         engine.advance()?;
@@ -224,14 +219,14 @@ fn given(answer: Result<String, Refusal>) -> String {
 /// the host signs. A hypervisor passes the number of the guest that was running, which it knows itself.
 fn print_guests() -> Result<(), Refusal> {
     let rights = Rights::NONE.allow(LINE, Right::Propose)?.allow(LINE, Right::Read)?.allow(CLOCK, Right::Drive)?;
-    let mut engine = Engine::open_with_rights(3, &alone(), rights)?;
+    let mut engine = Engine::open_with_rights(Member::new(3), &alone(), rights)?;
     println!("guests call by themselves: {LINE} may propose and read, {CLOCK} may drive");
     for round in 1..=3 {
         let entry = Transaction::Entry { number: 100 * LINE };
         let mut line = format!("  round {round}");
         line += &answered(LINE, "enqueue", engine.guest(LINE).enqueue(entry));
         line += &answered(CLOCK, "enqueue", engine.guest(CLOCK).enqueue(entry));
-        let previous = held(&engine, round - 1);
+        let previous = held(&engine, engine.round().before());
         line += &answered(LINE, "draw", engine.guest(LINE).draw(previous));
         engine.certify(0)?;
         if round < 3 {
@@ -247,7 +242,7 @@ fn print_guests() -> Result<(), Refusal> {
     for guest in [LINE, CLOCK] {
         let places = engine.reader(guest).chain().map(|blocks| {
             let places = blocks.iter().flat_map(|block| &block.certificates);
-            places.map(|(round, author)| format!(" {round}/{author}")).collect()
+            places.map(|one| format!(" {}/{}", one.round, one.author)).collect()
         });
         println!("  guest {guest} chain:{}", given(places));
     }
@@ -256,10 +251,10 @@ fn print_guests() -> Result<(), Refusal> {
 
 fn main() -> Result<(), Refusal> {
     println!("certificates as round/author");
-    let mut engines = (0..3).map(|own| Engine::open(own, &sheet())).collect::<Result<Vec<_>, _>>()?;
-    for round in 1..=LAST_ROUND {
+    let mut engines = (0..3).map(|own| Engine::open(Member::new(own), &sheet())).collect::<Result<Vec<_>, _>>()?;
+    for round in Round::FIRST.through(LAST_ROUND) {
         play(&mut engines)?;
-        if round + 1 >= LAST_ROUND {
+        if round.next() >= LAST_ROUND {
             print_preview(&engines[0]);
         }
         for engine in &mut engines {
@@ -276,9 +271,10 @@ fn main() -> Result<(), Refusal> {
         print_chain(engine)?;
     }
     print_endorsers(&engines[0], LAST_ROUND)?;
-    let shares = (0..3).map(|member| engines[0].share(member, LAST_ROUND)).collect::<Result<Vec<_>, _>>()?;
+    let shares =
+        Member::ALL[..3].iter().map(|&member| engines[0].share(member, LAST_ROUND)).collect::<Result<Vec<_>, _>>()?;
     println!("shares in round {LAST_ROUND}, in thousandths: {shares:?}");
-    print_effect(&engines[0], 3, 11)?;
+    print_effect(&engines[0], Member::new(3), 11)?;
     print_batch(&engines[0])?;
     print_queues()?;
     print_guests()

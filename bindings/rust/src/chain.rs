@@ -1,10 +1,10 @@
 //! The chain, by one read that tests the state and then the words of the table.
 
 use crate::layout::{
-    record, row, BLOCKS, RECORD_BLOCK, RECORD_COUNT, RECORD_TRANSACTIONS, ROW_BLOCK, ROW_HELD,
-    STATE_BLOCKS, STATE_CEILING, STATE_LOOKBACK, STATE_WEIGHTS,
+    record, row, BLOCKS, RECORD_BLOCK, RECORD_COUNT, RECORD_TRANSACTIONS, ROW_BLOCK, ROW_HELD, STATE_BLOCKS,
+    STATE_CEILING, STATE_LOOKBACK, STATE_WEIGHTS,
 };
-use crate::{leader, lent, Refusal, MEMBERS};
+use crate::{leader, lent, Member, Refusal, Round, MEMBERS};
 
 /// A certificate of the chain, or of a block that a commit would add. One that a commit hangs on is a
 /// [`crate::Critical`], which names no block.
@@ -12,10 +12,10 @@ use crate::{leader, lent, Refusal, MEMBERS};
 pub struct Place {
     /// The number of its block, from 1.
     pub block: u32,
-    /// Its round.
-    pub round: u32,
     /// Its author.
-    pub author: u32,
+    pub author: Member,
+    /// Its round.
+    pub round: Round,
 }
 
 /// A well-formed state whose chain is to be listed.
@@ -29,7 +29,7 @@ pub(crate) struct Listing<'a> {
 impl<'a> Listing<'a> {
     /// By what a read of block 0 has answered. There is none: 23, unless the state is not well formed or
     /// a guest may not read.
-    pub(crate) fn of(asked: Result<u32, Refusal>, state: &'a [u32], table: &'a [u32]) -> Result<Self, Refusal> {
+    pub(crate) fn of(asked: Result<Round, Refusal>, state: &'a [u32], table: &'a [u32]) -> Result<Self, Refusal> {
         match asked {
             Err(Refusal::NoneThere) => {}
             Err(refusal) => return Err(refusal),
@@ -51,10 +51,10 @@ impl<'a> Listing<'a> {
     }
 
     /// Round of each block, and where its certificates stand in the list.
-    pub(crate) fn blocks(&self) -> impl Iterator<Item = (u32, core::ops::Range<usize>)> + '_ {
+    pub(crate) fn blocks(&self) -> impl Iterator<Item = (Round, core::ops::Range<usize>)> + '_ {
         (1..=self.state[STATE_BLOCKS]).map(|number| {
             let k = number as usize;
-            (self.table[row(number) + ROW_BLOCK], self.ends[k - 1]..self.ends[k])
+            (Round::new(self.table[row(number) + ROW_BLOCK]), self.ends[k - 1]..self.ends[k])
         })
     }
 
@@ -63,8 +63,9 @@ impl<'a> Listing<'a> {
         let (table, ceiling) = (self.table, self.state[STATE_CEILING]);
         let in_round = move |round| {
             let held = table[row(round) + ROW_HELD];
-            let authors = (0..MEMBERS as u32).filter(move |author| held >> author & 1 == 1);
-            authors.map(move |author| Place { block: table[record(author, round) + RECORD_BLOCK], round, author })
+            let authors = Member::ALL.into_iter().filter(move |author| held >> author.get() & 1 == 1);
+            let round = Round::new(round);
+            authors.map(move |author| Place { block: table[record(author, round) + RECORD_BLOCK], author, round })
         };
         (1..=ceiling).flat_map(in_round).filter(|place| place.block > 0)
     }
@@ -89,7 +90,7 @@ impl<'a> Listing<'a> {
         weights.copy_from_slice(&self.state[STATE_WEIGHTS..STATE_WEIGHTS + MEMBERS]);
         let mut below = self.blocks().peekable();
         for (round, places) in self.blocks() {
-            let counts = |block: &(u32, _)| block.0 + self.state[STATE_LOOKBACK] < round;
+            let counts = |block: &(Round, _)| block.0.get() + self.state[STATE_LOOKBACK] < round.get();
             while let Some((_, places)) = below.next_if(counts) {
                 list[places].iter().for_each(|place| self.apply(place, &mut weights));
             }
@@ -113,8 +114,8 @@ impl<'a> Listing<'a> {
 
 /// Of a block that is listed by round, then author: within a round numbers rise from the leader's,
 /// with 0 after 15. Without a leader they just rise.
-fn turn(block: &mut [Place], leader: Option<u32>) {
-    let first = leader.unwrap_or(0);
+fn turn(block: &mut [Place], leader: Option<Member>) {
+    let first = leader.unwrap_or_default();
     for round in block.chunk_by_mut(|one, next| one.round == next.round) {
         let below = round.partition_point(|place| place.author < first);
         round.rotate_left(below);
@@ -127,8 +128,7 @@ fn turn(block: &mut [Place], leader: Option<u32>) {
 /// Sixteen places for each round of the ceiling always serve.
 ///
 /// # Errors
-/// [`Refusal::Malformed`] where the state is not well formed or the list is too short; nothing is
-/// written then.
+/// [`Refusal::Malformed`] where the state is not well formed or the list is too short; nothing is written then.
 pub fn chain(state: &[u32], table: &[u32], list: &mut [Place]) -> Result<usize, Refusal> {
     Listing::of(lent::block(state, table, 0), state, table)?.fill(list)
 }
@@ -136,7 +136,7 @@ pub fn chain(state: &[u32], table: &[u32], list: &mut [Place]) -> Result<usize, 
 /// The chain for a guest, who needs the right to read.
 ///
 /// # Errors
-/// 26, 29, then as [`chain`]; nothing is written then.
+/// [`Refusal::GuestRange`], [`Refusal::NoRight`], then as [`chain`]; nothing is written then.
 pub fn guest_chain(caller: u32, state: &[u32], table: &[u32], list: &mut [Place]) -> Result<usize, Refusal> {
     Listing::of(lent::guest_block(caller, state, table, 0), state, table)?.fill(list)
 }

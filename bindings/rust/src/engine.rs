@@ -6,18 +6,35 @@ use crate::layout::{
 };
 use crate::lent::{self, CertificateRecord, Entry, Place};
 use crate::{body_words, table_words, CEILING, MEMBERS};
-use crate::{Block, Certificate, Critical, Effect, Guest, Held, Proposal, Refusal, Rights, Set, Sheet, Transaction};
+use crate::{
+    Answers, Block, Certificate, Critical, Effect, Guest, Held, Member, Proposal, Refusal, Rights, Round, Set, Share,
+    Sheet, Transaction,
+};
 use alloc::vec;
 use alloc::vec::Vec;
+use core::fmt;
 
 /// One member's engine: a state and the table that belongs to it. It has no part outside
 /// itself, so engines may be called from several threads at once, each by one at a time.
 ///
-/// Numbers in the lists of errors are [`Refusal::number`]s, in the order of the checks.
-#[derive(Clone, PartialEq, Eq, Debug)]
+/// `Debug` shows a few words of it. What is listed under Errors stands in the order of the checks, and a
+/// refused call changes no word.
+#[derive(Clone, PartialEq, Eq)]
 pub struct Engine {
     pub(crate) state: [u32; STATE_WORDS],
     pub(crate) table: Vec<u32>,
+}
+
+impl fmt::Debug for Engine {
+    fn fmt(&self, f: &mut fmt::Formatter<'_>) -> fmt::Result {
+        f.debug_struct("Engine")
+            .field("own", &self.own())
+            .field("round", &self.round())
+            .field("ceiling", &self.state[STATE_CEILING])
+            .field("blocks", &self.blocks())
+            .field("table_words", &self.table.len())
+            .finish_non_exhaustive()
+    }
 }
 
 impl Engine {
@@ -25,8 +42,8 @@ impl Engine {
     /// It starts a new run: go on with one by [`Engine::try_restore`].
     ///
     /// # Errors
-    /// 4 member above 15; 2 setting out of range; 3 no positive weight.
-    pub fn open(own: u32, sheet: &Sheet) -> Result<Engine, Refusal> {
+    /// [`Refusal::MemberRange`], [`Refusal::SettingRange`], [`Refusal::NoWeight`].
+    pub fn open(own: Member, sheet: &Sheet) -> Result<Engine, Refusal> {
         Engine::open_with_rights(own, sheet, Rights::NONE)
     }
 
@@ -34,7 +51,7 @@ impl Engine {
     ///
     /// # Errors
     /// As [`Engine::open`]; no rights are refused.
-    pub fn open_with_rights(own: u32, sheet: &Sheet, rights: Rights) -> Result<Engine, Refusal> {
+    pub fn open_with_rights(own: Member, sheet: &Sheet, rights: Rights) -> Result<Engine, Refusal> {
         let ceiling = sheet.ceiling.unwrap_or(CEILING).min(CEILING);
         Engine::open_on(vec![0; table_words(ceiling) as usize], own, sheet, rights)
     }
@@ -42,8 +59,8 @@ impl Engine {
     /// Opens a member on a table of the host's; what lies beyond the used part never changes.
     ///
     /// # Errors
-    /// As [`Engine::open`], and then 1 for a table that is too short.
-    pub fn open_on(mut table: Vec<u32>, own: u32, sheet: &Sheet, rights: Rights) -> Result<Engine, Refusal> {
+    /// As [`Engine::open`], and then [`Refusal::Malformed`] for a table that is too short.
+    pub fn open_on(mut table: Vec<u32>, own: Member, sheet: &Sheet, rights: Rights) -> Result<Engine, Refusal> {
         let mut state = [0; STATE_WORDS];
         lent::open(&mut state, &mut table, own, &sheet.to_words(), rights.to_word())?;
         Ok(Engine { state, table })
@@ -107,7 +124,9 @@ impl Engine {
     /// proposal is kept until advance; store the engine before the signature leaves.
     ///
     /// # Errors
-    /// 1, 6, 7, 10, 8, 9, 11, 12.
+    /// [`Refusal::Malformed`], [`Refusal::TransactionsRange`], [`Refusal::PreviousEmpty`],
+    /// [`Refusal::PlaceTaken`], [`Refusal::CommitteeUnknown`], [`Refusal::Outside`],
+    /// [`Refusal::PreviousMissing`], [`Refusal::PreviousQuorum`].
     pub fn propose(&mut self, previous: Set, transactions: &[Transaction]) -> Result<(), Refusal> {
         lent::propose(&mut self.state, &self.table, &body_words(previous, transactions))
     }
@@ -116,7 +135,7 @@ impl Engine {
     /// transaction may be lost.
     ///
     /// # Errors
-    /// 1, 26, 6, 27.
+    /// [`Refusal::Malformed`], [`Refusal::GuestRange`], [`Refusal::TransactionsRange`], [`Refusal::QueueFull`].
     pub fn enqueue(&mut self, guest: u32, transaction: Transaction) -> Result<(), Refusal> {
         lent::enqueue(&self.state, &mut self.table, guest, &transaction.to_words())
     }
@@ -129,7 +148,9 @@ impl Engine {
     /// the signature leaves.
     ///
     /// # Errors
-    /// 1, 7, 10, 8, 9, 11, 12.
+    /// [`Refusal::Malformed`], [`Refusal::PreviousEmpty`], [`Refusal::PlaceTaken`],
+    /// [`Refusal::CommitteeUnknown`], [`Refusal::Outside`], [`Refusal::PreviousMissing`],
+    /// [`Refusal::PreviousQuorum`].
     pub fn draw(&mut self, previous: Set) -> Result<(), Refusal> {
         lent::draw(&mut self.state, &mut self.table, previous)
     }
@@ -138,7 +159,10 @@ impl Engine {
     /// Store the engine before the signature leaves.
     ///
     /// # Errors
-    /// 1, 4, 5, 6, 7, 14, 10, 8, 11, 12.
+    /// [`Refusal::Malformed`], [`Refusal::MemberRange`], [`Refusal::RoundRange`],
+    /// [`Refusal::TransactionsRange`], [`Refusal::PreviousEmpty`], [`Refusal::SignedTwice`],
+    /// [`Refusal::PlaceTaken`], [`Refusal::CommitteeUnknown`], [`Refusal::PreviousMissing`],
+    /// [`Refusal::PreviousQuorum`].
     pub fn endorse(&mut self, proposal: &Proposal) -> Result<(), Refusal> {
         lent::endorse(&self.state, &mut self.table, &proposal.to_words())
     }
@@ -147,7 +171,8 @@ impl Engine {
     /// checked: it is held.
     ///
     /// # Errors
-    /// 1, 15, 10, 14, 8, 9, 13.
+    /// [`Refusal::Malformed`], [`Refusal::NoProposal`], [`Refusal::PlaceTaken`], [`Refusal::SignedTwice`],
+    /// [`Refusal::CommitteeUnknown`], [`Refusal::Outside`], [`Refusal::SignersShort`].
     pub fn certify(&mut self, endorsers: Set) -> Result<(), Refusal> {
         lent::certify(&self.state, &mut self.table, endorsers)
     }
@@ -156,7 +181,10 @@ impl Engine {
     /// endorsed mark cleared.
     ///
     /// # Errors
-    /// 1, 4, 5, 6, 7, 14, 16, 17, 8, 9, 13, 11.
+    /// [`Refusal::Malformed`], [`Refusal::MemberRange`], [`Refusal::RoundRange`],
+    /// [`Refusal::TransactionsRange`], [`Refusal::PreviousEmpty`], [`Refusal::SignedTwice`],
+    /// [`Refusal::SameHeld`], [`Refusal::OtherHeld`], [`Refusal::CommitteeUnknown`], [`Refusal::Outside`],
+    /// [`Refusal::SignersShort`], [`Refusal::PreviousMissing`].
     pub fn accept(&mut self, certificate: &Certificate) -> Result<(), Refusal> {
         lent::accept(&self.state, &mut self.table, &certificate.to_words())
     }
@@ -168,8 +196,8 @@ impl Engine {
     /// the row has filled its place with another.
     ///
     /// # Errors
-    /// 1, 25: then nothing is tried.
-    pub fn batch(&mut self, row: &[Certificate]) -> Result<Vec<Result<(), Refusal>>, Refusal> {
+    /// [`Refusal::Malformed`], [`Refusal::LengthRange`]: then nothing is tried.
+    pub fn batch(&mut self, row: &[Certificate]) -> Result<Answers, Refusal> {
         by_batch(row, |row, answers| lent::batch(&self.state, &mut self.table, row, answers))
     }
 
@@ -178,7 +206,8 @@ impl Engine {
     /// certificates of this round, and try again.
     ///
     /// # Errors
-    /// 1, 18, 8 for the present round unknown, 28.
+    /// [`Refusal::Malformed`], [`Refusal::AtCeiling`], [`Refusal::CommitteeUnknown`] for that of the present
+    /// round, [`Refusal::ThinRound`].
     pub fn advance(&mut self) -> Result<(), Refusal> {
         lent::advance(&mut self.state, &self.table)
     }
@@ -186,7 +215,8 @@ impl Engine {
     /// Makes blocks: the number of blocks added.
     ///
     /// # Errors
-    /// 1, 19, 20, 8, 21, 22.
+    /// [`Refusal::Malformed`], [`Refusal::NoCommitRound`], [`Refusal::BlockMade`],
+    /// [`Refusal::CommitteeUnknown`], [`Refusal::NoAnchor`], [`Refusal::VotesShort`].
     pub fn commit(&mut self) -> Result<u32, Refusal> {
         lent::commit(&mut self.state, &mut self.table)
     }
@@ -196,7 +226,7 @@ impl Engine {
     /// only this does, and no guest has it. [`Guest::port_read`] and [`Guest::port_write`] are the accesses.
     ///
     /// # Errors
-    /// 26, 1.
+    /// [`Refusal::GuestRange`], [`Refusal::Malformed`].
     pub fn port_reset(&mut self, port: u32) -> Result<(), Refusal> {
         lent::port_reset(&self.state, &mut self.table, port)
     }
@@ -209,7 +239,8 @@ impl Engine {
     /// order. Nothing changes.
     ///
     /// # Errors
-    /// Those of [`Engine::commit`]: 1, 19, 20, 8, 21, 22.
+    /// Those of [`Engine::commit`]: [`Refusal::Malformed`], [`Refusal::NoCommitRound`], [`Refusal::BlockMade`],
+    /// [`Refusal::CommitteeUnknown`], [`Refusal::NoAnchor`], [`Refusal::VotesShort`].
     pub fn preview(&self) -> Result<Vec<Entry>, Refusal> {
         by_preview(self.preview_room(), |list| lent::preview(&self.state, &self.table, list))
     }
@@ -230,12 +261,17 @@ impl Engine {
     /// Two of four members of weight 1 have voted; without either of them there are not enough:
     ///
     /// ```
-    /// use forgelilac::{Certificate, Critical, Engine, Proposal, Refusal, Sheet};
+    /// use forgelilac::{Certificate, Critical, Engine, Member, Proposal, Refusal, Round, Sheet};
     ///
-    /// let mut engine = Engine::open(0, &Sheet { ceiling: Some(64), ..Sheet::default() })?;
+    /// let mut engine = Engine::open(Member::new(0), &Sheet { ceiling: Some(64), ..Sheet::default() })?;
     /// for (round, previous, authors) in [(1, 0, 0..4), (2, 0b1111, 0..4), (3, 0b1111, 0..2)] {
     ///     for author in authors {
-    ///         let proposal = Proposal { author, round, previous, transactions: Vec::new() };
+    ///         let proposal = Proposal {
+    ///             author: Member::new(author),
+    ///             round: Round::new(round),
+    ///             previous,
+    ///             transactions: Vec::new(),
+    ///         };
     ///         engine.accept(&Certificate { proposal, endorsers: 0b1111 & !(1 << author) })?;
     ///     }
     ///     if round < 3 {
@@ -244,12 +280,20 @@ impl Engine {
     ///     }
     /// }
     /// let place = |round, author| Critical { round, author };
-    /// assert_eq!(engine.critical()?, [place(2, 1), place(3, 0), place(3, 1)]);
+    /// assert_eq!(
+    ///     engine.critical()?,
+    ///     [
+    ///         place(Round::new(2), Member::new(1)),
+    ///         place(Round::new(3), Member::new(0)),
+    ///         place(Round::new(3), Member::new(1))
+    ///     ]
+    /// );
     /// # Ok::<(), Refusal>(())
     /// ```
     ///
     /// # Errors
-    /// Those of [`Engine::commit`]: 1, 19, 20, 8, 21, 22.
+    /// Those of [`Engine::commit`]: [`Refusal::Malformed`], [`Refusal::NoCommitRound`], [`Refusal::BlockMade`],
+    /// [`Refusal::CommitteeUnknown`], [`Refusal::NoAnchor`], [`Refusal::VotesShort`].
     pub fn critical(&mut self) -> Result<Vec<Critical>, Refusal> {
         by_critical(|list| lent::critical(&self.state, &mut self.table, list))
     }
@@ -257,8 +301,8 @@ impl Engine {
     /// Sixteen weights of a round's committee, 0 for a non-member.
     ///
     /// # Errors
-    /// 1, 5, 8.
-    pub fn committee(&self, round: u32) -> Result<[u32; MEMBERS], Refusal> {
+    /// [`Refusal::Malformed`], [`Refusal::RoundRange`], [`Refusal::CommitteeUnknown`].
+    pub fn committee(&self, round: Round) -> Result<[u32; MEMBERS], Refusal> {
         lent::committee(&self.state, &self.table, round)
     }
 
@@ -267,8 +311,9 @@ impl Engine {
     /// have 0 (1 of 2,000); a non-member is refused.
     ///
     /// # Errors
-    /// 1, 4, 5, 8, 9.
-    pub fn share(&self, member: u32, round: u32) -> Result<u32, Refusal> {
+    /// [`Refusal::Malformed`], [`Refusal::MemberRange`], [`Refusal::RoundRange`],
+    /// [`Refusal::CommitteeUnknown`], [`Refusal::Outside`].
+    pub fn share(&self, member: Member, round: Round) -> Result<Share, Refusal> {
         lent::share(&self.state, &self.table, member, round)
     }
 
@@ -284,37 +329,40 @@ impl Engine {
     /// Four members of weight 1. Member 5 would join with 2, or member 0 add 2 to its 1:
     ///
     /// ```
-    /// use forgelilac::{Engine, Refusal, Sheet};
+    /// use forgelilac::{Engine, Member, Refusal, Round, Sheet};
     ///
-    /// let engine = Engine::open(0, &Sheet { ceiling: Some(64), ..Sheet::default() })?;
-    /// let joining = engine.bond_effect(5, 1, 2)?;
+    /// let engine = Engine::open(Member::new(0), &Sheet { ceiling: Some(64), ..Sheet::default() })?;
+    /// let joining = engine.bond_effect(Member::new(5), Round::new(1), 2)?;
     /// assert_eq!(joining.before[..6], [250, 250, 250, 250, 0, 0]);
     /// assert_eq!(joining.after[..6], [167, 167, 167, 167, 0, 333]);
     /// assert_eq!(joining.largest, 333);
-    /// let adding = engine.bond_effect(0, 1, 2)?;
-    /// assert_eq!((&adding.after[..4], adding.largest), (&[500, 167, 167, 167][..], 250));
+    /// let adding = engine.bond_effect(Member::new(0), Round::new(1), 2)?;
+    /// assert_eq!(adding.after[..4], [500, 167, 167, 167]);
+    /// assert_eq!(adding.largest, 250);
     /// # Ok::<(), Refusal>(())
     /// ```
     ///
     /// # Errors
-    /// 1, 4, 5, 6 for an amount other than 1 to 1,000, 8, 30.
-    pub fn bond_effect(&self, member: u32, round: u32, amount: u32) -> Result<Effect, Refusal> {
+    /// [`Refusal::Malformed`], [`Refusal::MemberRange`], [`Refusal::RoundRange`],
+    /// [`Refusal::TransactionsRange`] for an amount other than 1 to 1,000, [`Refusal::CommitteeUnknown`],
+    /// [`Refusal::EmptyCommittee`].
+    pub fn bond_effect(&self, member: Member, round: Round, amount: u32) -> Result<Effect, Refusal> {
         lent::bond_effect(&self.state, &self.table, member, round, amount)
     }
 
     /// The certificate held at a place: proposal, endorsers, block.
     ///
     /// # Errors
-    /// 1, 4, 5, 23.
-    pub fn certificate(&self, author: u32, round: u32) -> Result<Held, Refusal> {
+    /// [`Refusal::Malformed`], [`Refusal::MemberRange`], [`Refusal::RoundRange`], [`Refusal::NoneThere`].
+    pub fn certificate(&self, author: Member, round: Round) -> Result<Held, Refusal> {
         Held::from_words(&lent::certificate(&self.state, &self.table, author, round)?)
     }
 
     /// The round of a block; blocks count from 1.
     ///
     /// # Errors
-    /// 1, 23.
-    pub fn block(&self, number: u32) -> Result<u32, Refusal> {
+    /// [`Refusal::Malformed`], [`Refusal::NoneThere`].
+    pub fn block(&self, number: u32) -> Result<Round, Refusal> {
         lent::block(&self.state, &self.table, number)
     }
 
@@ -323,12 +371,17 @@ impl Engine {
     /// commit that answered n has added are the n blocks after those there were.
     ///
     /// ```
-    /// use forgelilac::{Certificate, Engine, Proposal, Refusal, Sheet};
+    /// use forgelilac::{Certificate, Engine, Member, Proposal, Refusal, Round, Sheet};
     ///
-    /// let mut engine = Engine::open(0, &Sheet { ceiling: Some(64), ..Sheet::default() })?;
+    /// let mut engine = Engine::open(Member::new(0), &Sheet { ceiling: Some(64), ..Sheet::default() })?;
     /// for (round, previous) in [(1, 0), (2, 0b1111), (3, 0b1111)] {
     ///     for author in 0..4 {
-    ///         let proposal = Proposal { author, round, previous, transactions: Vec::new() };
+    ///         let proposal = Proposal {
+    ///             author: Member::new(author),
+    ///             round: Round::new(round),
+    ///             previous,
+    ///             transactions: Vec::new(),
+    ///         };
     ///         engine.accept(&Certificate { proposal, endorsers: 0b1111 & !(1 << author) })?;
     ///     }
     ///     if round < 3 {
@@ -338,15 +391,16 @@ impl Engine {
     /// let known = engine.blocks();
     /// let added = engine.commit()?;
     /// let held = engine.block_rows(known, added)?;
-    /// let places: Vec<_> = held.iter().map(|one| (one.proposal.round, one.proposal.author)).collect();
-    /// assert_eq!(places, engine.chain()?[0].certificates);
-    /// assert_eq!(held[0], engine.certificate(places[0].1, places[0].0)?);
+    /// for (held, entry) in held.iter().zip(&engine.chain()?[0].certificates) {
+    ///     assert_eq!(*held, engine.certificate(entry.author, entry.round)?);
+    ///     assert_eq!(held.block, Some(entry.block));
+    /// }
     /// assert_eq!(engine.block_rows(1, 1), Err(Refusal::NoneThere));
     /// # Ok::<(), Refusal>(())
     /// ```
     ///
     /// # Errors
-    /// 1, 23 where there are fewer blocks.
+    /// [`Refusal::Malformed`], [`Refusal::NoneThere`] where there are fewer blocks.
     pub fn block_rows(&self, known: u32, number: u32) -> Result<Vec<Held>, Refusal> {
         by_rows(self.rows_room(), |list| lent::block_rows(&self.state, &self.table, known, number, list))
     }
@@ -360,7 +414,7 @@ impl Engine {
     /// block 0 has told that the state is well formed.
     ///
     /// # Errors
-    /// 1, 26.
+    /// [`Refusal::Malformed`], [`Refusal::GuestRange`].
     pub fn waiting(&self, guest: u32) -> Result<u32, Refusal> {
         lent::waiting(&self.state, &self.table, guest)
     }
@@ -369,14 +423,14 @@ impl Engine {
 
     /// One's own number.
     #[must_use]
-    pub fn own(&self) -> u32 {
-        self.state[STATE_OWN]
+    pub fn own(&self) -> Member {
+        Member::new(self.state[STATE_OWN])
     }
 
     /// The present round.
     #[must_use]
-    pub fn round(&self) -> u32 {
-        self.state[STATE_ROUND]
+    pub fn round(&self) -> Round {
+        Round::new(self.state[STATE_ROUND])
     }
 
     /// The number of blocks.
@@ -408,11 +462,11 @@ impl Engine {
 /// The certificates as a row, and the answers to each, by a call that is lent both.
 pub(crate) fn by_batch(
     row: &[Certificate], call: impl FnOnce(&[CertificateRecord], &mut [u32]) -> Result<(), Refusal>,
-) -> Result<Vec<Result<(), Refusal>>, Refusal> {
+) -> Result<Answers, Refusal> {
     let records: Vec<_> = row.iter().map(|one| CertificateRecord::from(one.to_words())).collect();
     let mut answers = vec![0; row.len()];
     call(&records, &mut answers)?;
-    Ok(answers.into_iter().map(lent::accepted).collect())
+    Ok(Answers(answers.into_iter().map(lent::accepted).collect()))
 }
 
 /// The entries of a preview, by a call that is lent a list of so many words.
@@ -444,6 +498,5 @@ pub(crate) fn by_critical(call: impl FnOnce(&mut [u32]) -> Result<u32, Refusal>)
 pub(crate) fn blocks_of(listing: &Listing) -> Vec<Block> {
     let mut list = vec![Place::default(); listing.len()];
     listing.write(&mut list);
-    let certificates = |places: &[Place]| places.iter().map(|place| (place.round, place.author)).collect();
-    listing.blocks().map(|(round, at)| Block { round, certificates: certificates(&list[at]) }).collect()
+    listing.blocks().map(|(round, at)| Block { round, certificates: list[at].to_vec() }).collect()
 }

@@ -4,7 +4,10 @@ use crate::chain::Listing;
 use crate::engine::{blocks_of, by_batch, by_critical, by_preview, by_rows};
 use crate::lent::{self, Entry};
 use crate::{body_words, MEMBERS};
-use crate::{Block, Certificate, Critical, Effect, Engine, Held, Proposal, Refusal, Right, Set, Transaction};
+use crate::{
+    Answers, Block, Certificate, Critical, Effect, Engine, Held, Member, Proposal, Refusal, Right, Round, Set, Share,
+    Transaction,
+};
 use alloc::vec::Vec;
 use core::ops::{Deref, DerefMut};
 
@@ -20,12 +23,12 @@ use core::ops::{Deref, DerefMut};
 /// Guest 3 may propose and read, guest 5 may drive; the host signs:
 ///
 /// ```
-/// use forgelilac::{Engine, Refusal, Right, Rights, Sheet, Transaction};
+/// use forgelilac::{Engine, Member, Refusal, Right, Rights, Sheet, Transaction};
 ///
 /// let mut sheet = Sheet { ceiling: Some(64), ..Sheet::default() };
 /// sheet.weights[1..4].fill(Some(0));
 /// let rights = Rights::NONE.allow(3, Right::Propose)?.allow(3, Right::Read)?.allow(5, Right::Drive)?;
-/// let mut engine = Engine::open_with_rights(0, &sheet, rights)?;
+/// let mut engine = Engine::open_with_rights(Member::new(0), &sheet, rights)?;
 /// for round in 1..=3 {
 ///     engine.guest(3).enqueue(Transaction::Entry { number: round })?;
 ///     engine.guest(3).draw((round > 1).into())?;
@@ -66,7 +69,7 @@ impl<E: DerefMut<Target = Engine>> Guest<E> {
     /// As [`Engine::propose`]. It needs the right to propose.
     ///
     /// # Errors
-    /// 26, 29, then those of [`Engine::propose`].
+    /// [`Refusal::GuestRange`], [`Refusal::NoRight`], then those of [`Engine::propose`].
     pub fn propose(&mut self, previous: Set, transactions: &[Transaction]) -> Result<(), Refusal> {
         let engine = &mut *self.engine;
         lent::guest_propose(self.caller, &mut engine.state, &engine.table, &body_words(previous, transactions))
@@ -75,7 +78,8 @@ impl<E: DerefMut<Target = Engine>> Guest<E> {
     /// As [`Engine::enqueue`], to the caller's own queue. It needs the right to propose.
     ///
     /// # Errors
-    /// 26, 29, 1, 6, 27.
+    /// [`Refusal::GuestRange`], [`Refusal::NoRight`], [`Refusal::Malformed`], [`Refusal::TransactionsRange`],
+    /// [`Refusal::QueueFull`].
     pub fn enqueue(&mut self, transaction: Transaction) -> Result<(), Refusal> {
         let engine = &mut *self.engine;
         lent::guest_enqueue(self.caller, &engine.state, &mut engine.table, &transaction.to_words())
@@ -84,7 +88,7 @@ impl<E: DerefMut<Target = Engine>> Guest<E> {
     /// As [`Engine::draw`], from the queues of all guests. It needs the right to propose.
     ///
     /// # Errors
-    /// 26, 29, then those of [`Engine::draw`].
+    /// [`Refusal::GuestRange`], [`Refusal::NoRight`], then those of [`Engine::draw`].
     pub fn draw(&mut self, previous: Set) -> Result<(), Refusal> {
         let engine = &mut *self.engine;
         lent::guest_draw(self.caller, &mut engine.state, &mut engine.table, previous)
@@ -93,7 +97,7 @@ impl<E: DerefMut<Target = Engine>> Guest<E> {
     /// As [`Engine::endorse`]. It needs the right to sign.
     ///
     /// # Errors
-    /// 26, 29, then those of [`Engine::endorse`].
+    /// [`Refusal::GuestRange`], [`Refusal::NoRight`], then those of [`Engine::endorse`].
     pub fn endorse(&mut self, proposal: &Proposal) -> Result<(), Refusal> {
         let engine = &mut *self.engine;
         lent::guest_endorse(self.caller, &engine.state, &mut engine.table, &proposal.to_words())
@@ -102,7 +106,7 @@ impl<E: DerefMut<Target = Engine>> Guest<E> {
     /// As [`Engine::certify`]. It needs the right to sign.
     ///
     /// # Errors
-    /// 26, 29, then those of [`Engine::certify`].
+    /// [`Refusal::GuestRange`], [`Refusal::NoRight`], then those of [`Engine::certify`].
     pub fn certify(&mut self, endorsers: Set) -> Result<(), Refusal> {
         let engine = &mut *self.engine;
         lent::guest_certify(self.caller, &engine.state, &mut engine.table, endorsers)
@@ -111,7 +115,7 @@ impl<E: DerefMut<Target = Engine>> Guest<E> {
     /// As [`Engine::accept`]. It needs the right to sign.
     ///
     /// # Errors
-    /// 26, 29, then those of [`Engine::accept`].
+    /// [`Refusal::GuestRange`], [`Refusal::NoRight`], then those of [`Engine::accept`].
     pub fn accept(&mut self, certificate: &Certificate) -> Result<(), Refusal> {
         let engine = &mut *self.engine;
         lent::guest_accept(self.caller, &engine.state, &mut engine.table, &certificate.to_words())
@@ -120,8 +124,8 @@ impl<E: DerefMut<Target = Engine>> Guest<E> {
     /// As [`Engine::batch`]. It needs the right to sign.
     ///
     /// # Errors
-    /// 26, 29, then those of [`Engine::batch`]: then nothing is tried.
-    pub fn batch(&mut self, row: &[Certificate]) -> Result<Vec<Result<(), Refusal>>, Refusal> {
+    /// [`Refusal::GuestRange`], [`Refusal::NoRight`], then those of [`Engine::batch`]: then nothing is tried.
+    pub fn batch(&mut self, row: &[Certificate]) -> Result<Answers, Refusal> {
         let engine = &mut *self.engine;
         by_batch(row, |row, answers| lent::guest_batch(self.caller, &engine.state, &mut engine.table, row, answers))
     }
@@ -129,7 +133,7 @@ impl<E: DerefMut<Target = Engine>> Guest<E> {
     /// As [`Engine::advance`]. It needs the right to drive.
     ///
     /// # Errors
-    /// 26, 29, then those of [`Engine::advance`].
+    /// [`Refusal::GuestRange`], [`Refusal::NoRight`], then those of [`Engine::advance`].
     pub fn advance(&mut self) -> Result<(), Refusal> {
         let engine = &mut *self.engine;
         lent::guest_advance(self.caller, &mut engine.state, &engine.table)
@@ -138,7 +142,7 @@ impl<E: DerefMut<Target = Engine>> Guest<E> {
     /// As [`Engine::commit`]. It needs the right to drive.
     ///
     /// # Errors
-    /// 26, 29, then those of [`Engine::commit`].
+    /// [`Refusal::GuestRange`], [`Refusal::NoRight`], then those of [`Engine::commit`].
     pub fn commit(&mut self) -> Result<u32, Refusal> {
         let engine = &mut *self.engine;
         lent::guest_commit(self.caller, &mut engine.state, &mut engine.table)
@@ -147,7 +151,7 @@ impl<E: DerefMut<Target = Engine>> Guest<E> {
     /// As [`Engine::critical`]. It needs the right to read.
     ///
     /// # Errors
-    /// 26, 29, then those of [`Engine::critical`].
+    /// [`Refusal::GuestRange`], [`Refusal::NoRight`], then those of [`Engine::critical`].
     pub fn critical(&mut self) -> Result<Vec<Critical>, Refusal> {
         let engine = &mut *self.engine;
         by_critical(|list| lent::guest_critical(self.caller, &engine.state, &mut engine.table, list))
@@ -159,7 +163,7 @@ impl<E: DerefMut<Target = Engine>> Guest<E> {
     /// after a restore the guest may be given bytes again.
     ///
     /// # Errors
-    /// 26, 29, 31, 1.
+    /// [`Refusal::GuestRange`], [`Refusal::NoRight`], [`Refusal::OffsetRange`], [`Refusal::Malformed`].
     pub fn port_read(&mut self, offset: u32) -> Result<u8, Refusal> {
         let engine = &mut *self.engine;
         lent::guest_port_read(self.caller, &engine.state, &mut engine.table, offset)
@@ -171,11 +175,11 @@ impl<E: DerefMut<Target = Engine>> Guest<E> {
     ///
     /// ```
     /// use forgelilac::layout::{OFFSET_DATA, OFFSET_ENABLE, OFFSET_INTERRUPT, OFFSET_LINE};
-    /// use forgelilac::{Engine, Refusal, Rights, Sheet};
+    /// use forgelilac::{Engine, Member, Refusal, Rights, Sheet};
     ///
     /// let mut sheet = Sheet { ceiling: Some(64), ..Sheet::default() };
     /// sheet.weights[1..4].fill(Some(0));
-    /// let mut engine = Engine::open_with_rights(0, &sheet, Rights { read: 1 << 3, ..Rights::NONE })?;
+    /// let mut engine = Engine::open_with_rights(Member::new(0), &sheet, Rights { read: 1 << 3, ..Rights::NONE })?;
     /// let set_up = [(OFFSET_LINE, 0x80), (OFFSET_DATA, 12), (OFFSET_ENABLE, 0), (OFFSET_LINE, 3), (OFFSET_ENABLE, 1)];
     /// set_up.iter().try_for_each(|&(offset, value)| engine.guest(3).port_write(offset, value))?;
     /// assert_eq!(engine.guest(3).port_read(OFFSET_INTERRUPT), Ok(1));
@@ -195,7 +199,7 @@ impl<E: DerefMut<Target = Engine>> Guest<E> {
     /// ```
     ///
     /// # Errors
-    /// 26, 29, 31, 1.
+    /// [`Refusal::GuestRange`], [`Refusal::NoRight`], [`Refusal::OffsetRange`], [`Refusal::Malformed`].
     pub fn port_write(&mut self, offset: u32, value: u8) -> Result<(), Refusal> {
         let engine = &mut *self.engine;
         lent::guest_port_write(self.caller, &engine.state, &mut engine.table, offset, value)
@@ -207,7 +211,7 @@ impl<E: Deref<Target = Engine>> Guest<E> {
     /// As [`Engine::preview`].
     ///
     /// # Errors
-    /// 26, 29, then those of [`Engine::preview`].
+    /// [`Refusal::GuestRange`], [`Refusal::NoRight`], then those of [`Engine::preview`].
     pub fn preview(&self) -> Result<Vec<Entry>, Refusal> {
         let engine = &*self.engine;
         // A caller without the right costs no list.
@@ -218,32 +222,32 @@ impl<E: Deref<Target = Engine>> Guest<E> {
     /// As [`Engine::committee`].
     ///
     /// # Errors
-    /// 26, 29, then those of [`Engine::committee`].
-    pub fn committee(&self, round: u32) -> Result<[u32; MEMBERS], Refusal> {
+    /// [`Refusal::GuestRange`], [`Refusal::NoRight`], then those of [`Engine::committee`].
+    pub fn committee(&self, round: Round) -> Result<[u32; MEMBERS], Refusal> {
         lent::guest_committee(self.caller, &self.engine.state, &self.engine.table, round)
     }
 
     /// As [`Engine::share`].
     ///
     /// # Errors
-    /// 26, 29, then those of [`Engine::share`].
-    pub fn share(&self, member: u32, round: u32) -> Result<u32, Refusal> {
+    /// [`Refusal::GuestRange`], [`Refusal::NoRight`], then those of [`Engine::share`].
+    pub fn share(&self, member: Member, round: Round) -> Result<Share, Refusal> {
         lent::guest_share(self.caller, &self.engine.state, &self.engine.table, member, round)
     }
 
     /// As [`Engine::bond_effect`].
     ///
     /// # Errors
-    /// 26, 29, then those of [`Engine::bond_effect`].
-    pub fn bond_effect(&self, member: u32, round: u32, amount: u32) -> Result<Effect, Refusal> {
+    /// [`Refusal::GuestRange`], [`Refusal::NoRight`], then those of [`Engine::bond_effect`].
+    pub fn bond_effect(&self, member: Member, round: Round, amount: u32) -> Result<Effect, Refusal> {
         lent::guest_bond_effect(self.caller, &self.engine.state, &self.engine.table, member, round, amount)
     }
 
     /// As [`Engine::certificate`].
     ///
     /// # Errors
-    /// 26, 29, then those of [`Engine::certificate`].
-    pub fn certificate(&self, author: u32, round: u32) -> Result<Held, Refusal> {
+    /// [`Refusal::GuestRange`], [`Refusal::NoRight`], then those of [`Engine::certificate`].
+    pub fn certificate(&self, author: Member, round: Round) -> Result<Held, Refusal> {
         let engine = &*self.engine;
         Held::from_words(&lent::guest_certificate(self.caller, &engine.state, &engine.table, author, round)?)
     }
@@ -251,15 +255,15 @@ impl<E: Deref<Target = Engine>> Guest<E> {
     /// As [`Engine::block`].
     ///
     /// # Errors
-    /// 26, 29, then those of [`Engine::block`].
-    pub fn block(&self, number: u32) -> Result<u32, Refusal> {
+    /// [`Refusal::GuestRange`], [`Refusal::NoRight`], then those of [`Engine::block`].
+    pub fn block(&self, number: u32) -> Result<Round, Refusal> {
         lent::guest_block(self.caller, &self.engine.state, &self.engine.table, number)
     }
 
     /// As [`Engine::block_rows`].
     ///
     /// # Errors
-    /// 26, 29, then those of [`Engine::block_rows`].
+    /// [`Refusal::GuestRange`], [`Refusal::NoRight`], then those of [`Engine::block_rows`].
     pub fn block_rows(&self, known: u32, number: u32) -> Result<Vec<Held>, Refusal> {
         let engine = &*self.engine;
         // A caller without the right costs no list.
@@ -270,7 +274,7 @@ impl<E: Deref<Target = Engine>> Guest<E> {
     /// As [`Engine::chain`].
     ///
     /// # Errors
-    /// 26, 29, then that of [`Engine::chain`].
+    /// [`Refusal::GuestRange`], [`Refusal::NoRight`], then that of [`Engine::chain`].
     pub fn chain(&self) -> Result<Vec<Block>, Refusal> {
         let engine = &*self.engine;
         Ok(blocks_of(&Listing::of(self.block(0), &engine.state, &engine.table)?))

@@ -1,7 +1,7 @@
 //! Where what stands in words, as `include/forgelilac.h` has it, and the offsets of a serial port.
 //! docs/TABLES.md explains the words, docs/GUESTS.md the offsets.
 
-use crate::{Refusal, MEMBERS};
+use crate::{Member, Refusal, Round, MEMBERS};
 
 /// The format of the words of state and table; no word of theirs has it. Store it beside them.
 /// A state of format 1 or 2 becomes one of this format by [`brought_along`].
@@ -166,10 +166,10 @@ pub const OFFSET_SCRATCH: u32 = 7;
 /// lost its last word. What lies beyond the words of the format is not looked at.
 ///
 /// ```
-/// use forgelilac::{layout, lent, table_words, Sheet, STATE_WORDS};
+/// use forgelilac::{layout, lent, table_words, Member, Sheet, STATE_WORDS};
 ///
 /// let (mut state, mut table) = ([0; STATE_WORDS], [0; table_words(64) as usize]);
-/// lent::open(&mut state, &mut table, 0, &Sheet { ceiling: Some(64), ..Sheet::default() }.to_words(), 7)?;
+/// lent::open(&mut state, &mut table, Member::new(0), &Sheet { ceiling: Some(64), ..Sheet::default() }.to_words(), 7)?;
 /// for (format, words) in [(1, 37), (2, 38)] {
 ///     let stored = &state[..words];
 ///     assert!(!lent::is_well_formed(stored, &table));
@@ -220,14 +220,14 @@ pub const fn port(guest: u32) -> usize {
     16 + 32 * guest as usize
 }
 
-/// Where the row of a round begins in a table.
+/// Where a row begins in a table: that of a round, which is that of the block of this number too.
 #[must_use]
-pub const fn row(round: u32) -> usize {
-    ROW_WORDS * round as usize
+pub const fn row(number: u32) -> usize {
+    ROW_WORDS * number as usize
 }
 
 /// Where the record of an author and a round begins in a table.
 #[must_use]
-pub const fn record(author: u32, round: u32) -> usize {
-    row(round) + ROW_RECORDS + RECORD_WORDS * author as usize
+pub const fn record(author: Member, round: Round) -> usize {
+    row(round.get()) + ROW_RECORDS + RECORD_WORDS * author.get() as usize
 }

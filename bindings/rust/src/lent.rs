@@ -1,6 +1,6 @@
 //! Calls and reads on words that the host lends: what a host without an allocator uses. The words
 //! are those of docs/HOSTS.md; any length and any content is safe. A refused call changes no word.
-//! Numbers in the lists of errors are [`Refusal::number`]s, in the order of the checks.
+//! What is listed under Errors stands in the order of the checks.
 //!
 //! What a guest asks for goes by the guest's form of the call, with the number of the caller first:
 //! [`guest_commit`] and so on. The number is the one that the host knows itself, never one that the guest
@@ -10,14 +10,14 @@
 //! [`guest_port_read`] and [`guest_port_write`], are guests' alone; [`port_reset`] is the host's alone.
 //!
 //! ```
-//! use forgelilac::{body_words, lent, table_words, Sheet, STATE_WORDS};
+//! use forgelilac::{body_words, lent, table_words, Member, Round, Sheet, STATE_WORDS};
 //!
 //! let (mut state, mut table) = ([0; STATE_WORDS], [0; table_words(64) as usize]);
 //! let sheet = Sheet { ceiling: Some(64), ..Sheet::default() };
-//! lent::open(&mut state, &mut table, 0, &sheet.to_words(), 0)?;
+//! lent::open(&mut state, &mut table, Member::new(0), &sheet.to_words(), 0)?;
 //! lent::propose(&mut state, &table, &body_words(0, &[]))?;
 //! lent::certify(&state, &mut table, 0b0110)?;
-//! assert_eq!(lent::certificate(&state, &table, 0, 1)?[16], 0b0110);
+//! assert_eq!(lent::certificate(&state, &table, Member::new(0), Round::new(1))?[16], 0b0110);
 //! # Ok::<(), forgelilac::Refusal>(())
 //! ```
 
@@ -27,10 +27,11 @@ use crate::layout::{
     HELD_WORDS, PLACE_AUTHOR, PLACE_ROUND, PLACE_WORDS, PROPOSAL_WORDS, STATE_BODY, STATE_OWN, STATE_PROPOSED,
     STATE_RIGHTS, STATE_ROUND, STATE_WORDS, WAITING,
 };
-use crate::{Effect, Refusal, Rights, Set, MEMBERS};
+use crate::{Effect, Member, Refusal, Rights, Round, Set, Share, MEMBERS};
 
 /// The exported functions. Each slice is a pointer and a length in words, of a row in records. Any
 /// length and any content is safe; pointers that come from slices are never null and do not overlap.
+#[rustfmt::skip]
 mod abi {
     use super::CertificateRecord;
 
@@ -255,15 +256,18 @@ impl From<[u32; CERTIFICATE_WORDS]> for CertificateRecord {
 /// changes them.
 ///
 /// # Errors
-/// 1, 4, 2, 3, 1: words that cannot be read, own number, sheet, table too short.
-pub fn open(state: &mut [u32], table: &mut [u32], own: u32, sheet: &[u32], rights: u32) -> Result<(), Refusal> {
-    accepted(call!(forgelilac_open, write(state), write(table), own; read(sheet), rights))
+/// [`Refusal::Malformed`] for words that cannot be read, [`Refusal::MemberRange`], [`Refusal::SettingRange`],
+/// [`Refusal::NoWeight`], [`Refusal::Malformed`] for a table that is too short.
+pub fn open(state: &mut [u32], table: &mut [u32], own: Member, sheet: &[u32], rights: u32) -> Result<(), Refusal> {
+    accepted(call!(forgelilac_open, write(state), write(table), own.get(); read(sheet), rights))
 }
 
 /// Proposes a body for one's own place of the present round; the state keeps it until advance.
 ///
 /// # Errors
-/// 1, 6, 7, 10, 8, 9, 11, 12.
+/// [`Refusal::Malformed`], [`Refusal::TransactionsRange`], [`Refusal::PreviousEmpty`], [`Refusal::PlaceTaken`],
+/// [`Refusal::CommitteeUnknown`], [`Refusal::Outside`], [`Refusal::PreviousMissing`],
+/// [`Refusal::PreviousQuorum`].
 pub fn propose(state: &mut [u32], table: &[u32], body: &[u32]) -> Result<(), Refusal> {
     accepted(call!(forgelilac_propose, write(state), read(table); read(body)))
 }
@@ -274,22 +278,25 @@ pub fn propose(state: &mut [u32], table: &[u32], body: &[u32]) -> Result<(), Ref
 /// A busy guest and two others share a proposal of four:
 ///
 /// ```
-/// use forgelilac::{lent, proposal_words, table_words, Sheet, Transaction, STATE_WORDS};
+/// use forgelilac::{lent, proposal_words, table_words, Member, Round, Sheet, Transaction, STATE_WORDS};
 ///
 /// let (mut state, mut table) = ([0; STATE_WORDS], [0; table_words(64) as usize]);
-/// lent::open(&mut state, &mut table, 0, &Sheet { ceiling: Some(64), ..Sheet::default() }.to_words(), 0)?;
+/// lent::open(&mut state, &mut table, Member::new(0), &Sheet { ceiling: Some(64), ..Sheet::default() }.to_words(), 0)?;
 /// let entry = |number| Transaction::Entry { number };
 /// for (guest, number) in [(2, 20), (2, 21), (2, 22), (7, 70), (1, 10)] {
 ///     lent::enqueue(&state, &mut table, guest, &entry(number).to_words())?;
 /// }
 /// lent::draw(&mut state, &mut table, 0)?;
-/// assert_eq!(lent::own_proposal(&state), Some(proposal_words(0, 1, 0, &[10, 20, 70, 21].map(entry))));
+/// assert_eq!(
+///     lent::own_proposal(&state),
+///     Some(proposal_words(Member::new(0), Round::new(1), 0, &[10, 20, 70, 21].map(entry)))
+/// );
 /// assert_eq!(lent::waiting(&state, &table, 2), Ok(1));
 /// # Ok::<(), forgelilac::Refusal>(())
 /// ```
 ///
 /// # Errors
-/// 1, 26, 6, 27.
+/// [`Refusal::Malformed`], [`Refusal::GuestRange`], [`Refusal::TransactionsRange`], [`Refusal::QueueFull`].
 pub fn enqueue(state: &[u32], table: &mut [u32], guest: u32, transaction: &[u32]) -> Result<(), Refusal> {
     accepted(call!(forgelilac_enqueue, read(state), write(table), guest; read(transaction)))
 }
@@ -300,7 +307,8 @@ pub fn enqueue(state: &[u32], table: &mut [u32], guest: u32, transaction: &[u32]
 /// guest served last; the state keeps the proposal until advance.
 ///
 /// # Errors
-/// 1, 7, 10, 8, 9, 11, 12.
+/// [`Refusal::Malformed`], [`Refusal::PreviousEmpty`], [`Refusal::PlaceTaken`], [`Refusal::CommitteeUnknown`],
+/// [`Refusal::Outside`], [`Refusal::PreviousMissing`], [`Refusal::PreviousQuorum`].
 pub fn draw(state: &mut [u32], table: &mut [u32], previous: Set) -> Result<(), Refusal> {
     accepted(call!(forgelilac_draw, write(state), write(table), previous.into()))
 }
@@ -308,7 +316,9 @@ pub fn draw(state: &mut [u32], table: &mut [u32], previous: Set) -> Result<(), R
 /// Endorses another's proposal: its place is marked endorsed.
 ///
 /// # Errors
-/// 1, 4, 5, 6, 7, 14, 10, 8, 11, 12.
+/// [`Refusal::Malformed`], [`Refusal::MemberRange`], [`Refusal::RoundRange`], [`Refusal::TransactionsRange`],
+/// [`Refusal::PreviousEmpty`], [`Refusal::SignedTwice`], [`Refusal::PlaceTaken`],
+/// [`Refusal::CommitteeUnknown`], [`Refusal::PreviousMissing`], [`Refusal::PreviousQuorum`].
 pub fn endorse(state: &[u32], table: &mut [u32], proposal: &[u32]) -> Result<(), Refusal> {
     accepted(call!(forgelilac_endorse, read(state), write(table); read(proposal)))
 }
@@ -316,7 +326,8 @@ pub fn endorse(state: &[u32], table: &mut [u32], proposal: &[u32]) -> Result<(),
 /// Makes a certificate of one's own proposal with these endorsers: it is held.
 ///
 /// # Errors
-/// 1, 15, 10, 14, 8, 9, 13.
+/// [`Refusal::Malformed`], [`Refusal::NoProposal`], [`Refusal::PlaceTaken`], [`Refusal::SignedTwice`],
+/// [`Refusal::CommitteeUnknown`], [`Refusal::Outside`], [`Refusal::SignersShort`].
 pub fn certify(state: &[u32], table: &mut [u32], endorsers: Set) -> Result<(), Refusal> {
     accepted(call!(forgelilac_certify, read(state), write(table), endorsers.into()))
 }
@@ -324,7 +335,10 @@ pub fn certify(state: &[u32], table: &mut [u32], endorsers: Set) -> Result<(), R
 /// Takes a certificate: it is held with its endorsers, and its endorsed mark cleared.
 ///
 /// # Errors
-/// 1, 4, 5, 6, 7, 14, 16, 17, 8, 9, 13, 11.
+/// [`Refusal::Malformed`], [`Refusal::MemberRange`], [`Refusal::RoundRange`], [`Refusal::TransactionsRange`],
+/// [`Refusal::PreviousEmpty`], [`Refusal::SignedTwice`], [`Refusal::SameHeld`], [`Refusal::OtherHeld`],
+/// [`Refusal::CommitteeUnknown`], [`Refusal::Outside`], [`Refusal::SignersShort`],
+/// [`Refusal::PreviousMissing`].
 pub fn accept(state: &[u32], table: &mut [u32], certificate: &[u32]) -> Result<(), Refusal> {
     accepted(call!(forgelilac_accept, read(state), write(table); read(certificate)))
 }
@@ -338,13 +352,14 @@ pub fn accept(state: &[u32], table: &mut [u32], certificate: &[u32]) -> Result<(
 /// Rounds 2 and 1, newest first: one by one the first would get 11.
 ///
 /// ```
-/// use forgelilac::{certificate_words, lent, proposal_words, table_words, Sheet, STATE_WORDS};
+/// use forgelilac::{certificate_words, lent, proposal_words, table_words, Member, Round, Sheet, STATE_WORDS};
 ///
 /// let (mut state, mut table) = ([0; STATE_WORDS], [0; table_words(64) as usize]);
 /// let sheet = Sheet { ceiling: Some(64), ..Sheet::default() };
-/// lent::open(&mut state, &mut table, 0, &sheet.to_words(), 0)?;
-/// let certificate = |round, previous| certificate_words(&proposal_words(3, round, previous, &[]), 0b0110);
-/// let row = [certificate(2, 0b1000), certificate(1, 0)].map(Into::into);
+/// lent::open(&mut state, &mut table, Member::new(0), &sheet.to_words(), 0)?;
+/// let certificate =
+///     |round, previous| certificate_words(&proposal_words(Member::new(3), round, previous, &[]), 0b0110);
+/// let row = [certificate(Round::new(2), 0b1000), certificate(Round::new(1), 0)].map(Into::into);
 /// let mut answers = [77; 3];
 /// lent::batch(&state, &mut table, &row, &mut answers)?;
 /// assert_eq!(answers, [0, 0, 77]);
@@ -352,10 +367,8 @@ pub fn accept(state: &[u32], table: &mut [u32], certificate: &[u32]) -> Result<(
 /// ```
 ///
 /// # Errors
-/// 1, 25: then nothing is tried.
-pub fn batch(
-    state: &[u32], table: &mut [u32], row: &[CertificateRecord], answers: &mut [u32],
-) -> Result<(), Refusal> {
+/// [`Refusal::Malformed`], [`Refusal::LengthRange`]: then nothing is tried.
+pub fn batch(state: &[u32], table: &mut [u32], row: &[CertificateRecord], answers: &mut [u32]) -> Result<(), Refusal> {
     let (records, count) = (row.as_ptr(), row.len());
     accepted(call!(forgelilac_batch, read(state), write(table), records, count; write(answers)))
 }
@@ -366,13 +379,16 @@ pub fn batch(
 /// Of four members of weight 1 a quorum is three:
 ///
 /// ```
-/// use forgelilac::{certificate_words, lent, proposal_words, table_words, Refusal, Sheet, STATE_WORDS};
+/// use forgelilac::{
+///     certificate_words, lent, proposal_words, table_words, Member, Refusal, Round, Sheet, STATE_WORDS,
+/// };
 ///
 /// let (mut state, mut table) = ([0; STATE_WORDS], [0; table_words(64) as usize]);
-/// lent::open(&mut state, &mut table, 0, &Sheet { ceiling: Some(64), ..Sheet::default() }.to_words(), 0)?;
+/// lent::open(&mut state, &mut table, Member::new(0), &Sheet { ceiling: Some(64), ..Sheet::default() }.to_words(), 0)?;
 /// for author in 1..4 {
 ///     assert_eq!(lent::advance(&mut state, &table), Err(Refusal::ThinRound));
-///     let certificate = certificate_words(&proposal_words(author, 1, 0, &[]), 0b1111 & !(1 << author));
+///     let certificate =
+///         certificate_words(&proposal_words(Member::new(author), Round::new(1), 0, &[]), 0b1111 & !(1 << author));
 ///     lent::accept(&state, &mut table, &certificate)?;
 /// }
 /// lent::advance(&mut state, &table)?;
@@ -380,7 +396,8 @@ pub fn batch(
 /// ```
 ///
 /// # Errors
-/// 1, 18, 8 for the present round unknown, 28.
+/// [`Refusal::Malformed`], [`Refusal::AtCeiling`], [`Refusal::CommitteeUnknown`] for that of the present round,
+/// [`Refusal::ThinRound`].
 pub fn advance(state: &mut [u32], table: &[u32]) -> Result<(), Refusal> {
     accepted(call!(forgelilac_advance, write(state), read(table)))
 }
@@ -388,7 +405,8 @@ pub fn advance(state: &mut [u32], table: &[u32]) -> Result<(), Refusal> {
 /// Makes blocks: the number of blocks added.
 ///
 /// # Errors
-/// 1, 19, 20, 8, 21, 22.
+/// [`Refusal::Malformed`], [`Refusal::NoCommitRound`], [`Refusal::BlockMade`], [`Refusal::CommitteeUnknown`],
+/// [`Refusal::NoAnchor`], [`Refusal::VotesShort`].
 pub fn commit(state: &mut [u32], table: &mut [u32]) -> Result<u32, Refusal> {
     value(call!(forgelilac_commit, write(state), write(table)))
 }
@@ -398,7 +416,7 @@ pub fn commit(state: &mut [u32], table: &mut [u32]) -> Result<u32, Refusal> {
 /// does, and no guest has it. Only the table changes.
 ///
 /// # Errors
-/// 26, 1: 26 comes first, also where the words of the state cannot be read.
+/// [`Refusal::GuestRange`], also where the words of the state cannot be read; [`Refusal::Malformed`].
 pub fn port_reset(state: &[u32], table: &mut [u32], port: u32) -> Result<(), Refusal> {
     accepted(call!(forgelilac_port_reset, read(state), write(table), port))
 }
@@ -417,12 +435,12 @@ pub fn port_reset(state: &[u32], table: &mut [u32], port: u32) -> Result<(), Ref
 ///
 /// ```
 /// use forgelilac::lent::{self, Entry};
-/// use forgelilac::{body_words, layout, table_words, Refusal, Sheet, STATE_WORDS};
+/// use forgelilac::{body_words, layout, table_words, Member, Refusal, Round, Sheet, STATE_WORDS};
 ///
 /// let (mut state, mut table) = ([0; STATE_WORDS], [0; table_words(64) as usize]);
 /// let mut sheet = Sheet { ceiling: Some(64), ..Sheet::default() };
 /// sheet.weights[1..4].fill(Some(0));
-/// lent::open(&mut state, &mut table, 0, &sheet.to_words(), 0)?;
+/// lent::open(&mut state, &mut table, Member::new(0), &sheet.to_words(), 0)?;
 /// let mut list = [77; layout::preview_words(64)];
 /// for round in 1..=3 {
 ///     lent::propose(&mut state, &table, &body_words((round > 1).into(), &[]))?;
@@ -434,12 +452,18 @@ pub fn port_reset(state: &[u32], table: &mut [u32], port: u32) -> Result<(), Ref
 /// }
 /// assert_eq!(lent::preview(&state, &table, &mut list), Ok(2));
 /// assert_eq!(list[..7], [1, 1, 0, 1, 2, 0, 77]);
-/// assert!(lent::entries(&list, 2).eq([1, 2].map(|round| Entry { block: 1, round, author: 0 })));
+/// assert!(lent::entries(&list, 2).eq([1, 2].map(|round| Entry {
+///     block: 1,
+///     round: Round::new(round),
+///     author: Member::new(0)
+/// })));
 /// # Ok::<(), Refusal>(())
 /// ```
 ///
 /// # Errors
-/// 1, 25, then those of [`commit`]: 19, 20, 8, 21, 22. Nothing is written then.
+/// [`Refusal::Malformed`], [`Refusal::LengthRange`], then those of [`commit`]: [`Refusal::NoCommitRound`],
+/// [`Refusal::BlockMade`], [`Refusal::CommitteeUnknown`], [`Refusal::NoAnchor`], [`Refusal::VotesShort`].
+/// Nothing is written then.
 pub fn preview(state: &[u32], table: &[u32], list: &mut [u32]) -> Result<u32, Refusal> {
     value(call!(forgelilac_preview, read(state), read(table); write(list)))
 }
@@ -447,7 +471,11 @@ pub fn preview(state: &[u32], table: &[u32], list: &mut [u32]) -> Result<u32, Re
 /// The first entries of a list that [`preview`] has written, as many as it has told.
 pub fn entries(list: &[u32], count: u32) -> impl Iterator<Item = Entry> + '_ {
     let words = list.chunks_exact(ENTRY_WORDS).take(count as usize);
-    words.map(|at| Entry { block: at[ENTRY_BLOCK], round: at[ENTRY_ROUND], author: at[ENTRY_AUTHOR] })
+    words.map(|at| Entry {
+        block: at[ENTRY_BLOCK],
+        author: Member::new(at[ENTRY_AUTHOR]),
+        round: Round::new(at[ENTRY_ROUND]),
+    })
 }
 
 /// Which certificates does a commit hang on? The words of every held certificate of the present round
@@ -469,34 +497,36 @@ pub fn entries(list: &[u32], count: u32) -> impl Iterator<Item = Entry> + '_ {
 /// on none of three:
 ///
 /// ```
-/// use forgelilac::{certificate_words, lent, proposal_words, table_words};
+/// use forgelilac::{certificate_words, lent, proposal_words, table_words, Member, Round};
 /// use forgelilac::{layout::CRITICAL_WORDS, Critical, Refusal, Sheet, STATE_WORDS};
 ///
 /// let (mut state, mut table) = ([0; STATE_WORDS], [0; table_words(64) as usize]);
-/// lent::open(&mut state, &mut table, 0, &Sheet { ceiling: Some(64), ..Sheet::default() }.to_words(), 0)?;
+/// lent::open(&mut state, &mut table, Member::new(0), &Sheet { ceiling: Some(64), ..Sheet::default() }.to_words(), 0)?;
 /// let certificate = |author, round, previous| {
-///     certificate_words(&proposal_words(author, round, previous, &[]), 0b1111 & !(1 << author))
+///     certificate_words(&proposal_words(author, round, previous, &[]), 0b1111 & !author.bit())
 /// };
 /// for (round, previous) in [(1, 0), (2, 0b0111)] {
 ///     for author in 0..3 {
-///         lent::accept(&state, &mut table, &certificate(author, round, previous))?;
+///         lent::accept(&state, &mut table, &certificate(Member::new(author), Round::new(round), previous))?;
 ///     }
 ///     lent::advance(&mut state, &table)?;
 /// }
 /// let mut list = [77; CRITICAL_WORDS];
-/// lent::accept(&state, &mut table, &certificate(0, 3, 0b0111))?;
+/// lent::accept(&state, &mut table, &certificate(Member::new(0), Round::new(3), 0b0111))?;
 /// assert_eq!(lent::critical(&state, &mut table, &mut list), Err(Refusal::VotesShort));
-/// lent::accept(&state, &mut table, &certificate(2, 3, 0b0111))?;
+/// lent::accept(&state, &mut table, &certificate(Member::new(2), Round::new(3), 0b0111))?;
 /// assert_eq!(lent::critical(&state, &mut table, &mut list), Ok(3));
 /// assert_eq!(list[..7], [2, 1, 3, 0, 3, 2, 77]);
-/// lent::accept(&state, &mut table, &certificate(3, 3, 0b0111))?;
+/// lent::accept(&state, &mut table, &certificate(Member::new(3), Round::new(3), 0b0111))?;
 /// assert_eq!(lent::critical(&state, &mut table, &mut list), Ok(1));
-/// assert!(lent::criticals(&list, 1).eq([Critical { round: 2, author: 1 }]));
+/// assert!(lent::criticals(&list, 1).eq([Critical { round: Round::new(2), author: Member::new(1) }]));
 /// # Ok::<(), Refusal>(())
 /// ```
 ///
 /// # Errors
-/// 1, 25, then those of [`commit`]: 19, 20, 8, 21, 22. The list is not written then.
+/// [`Refusal::Malformed`], [`Refusal::LengthRange`], then those of [`commit`]: [`Refusal::NoCommitRound`],
+/// [`Refusal::BlockMade`], [`Refusal::CommitteeUnknown`], [`Refusal::NoAnchor`], [`Refusal::VotesShort`]. The
+/// list is not written then.
 pub fn critical(state: &[u32], table: &mut [u32], list: &mut [u32]) -> Result<u32, Refusal> {
     value(call!(forgelilac_critical, read(state), write(table); write(list)))
 }
@@ -504,16 +534,16 @@ pub fn critical(state: &[u32], table: &mut [u32], list: &mut [u32]) -> Result<u3
 /// The first places of a list that [`critical`] has written, as many as it has told.
 pub fn criticals(list: &[u32], count: u32) -> impl Iterator<Item = crate::Critical> + '_ {
     let words = list.chunks_exact(PLACE_WORDS).take(count as usize);
-    words.map(|at| crate::Critical { round: at[PLACE_ROUND], author: at[PLACE_AUTHOR] })
+    words.map(|at| crate::Critical { round: Round::new(at[PLACE_ROUND]), author: Member::new(at[PLACE_AUTHOR]) })
 }
 
 /// Sixteen weights of a round's committee, 0 for a non-member.
 ///
 /// # Errors
-/// 1, 5, 8.
-pub fn committee(state: &[u32], table: &[u32], round: u32) -> Result<[u32; MEMBERS], Refusal> {
+/// [`Refusal::Malformed`], [`Refusal::RoundRange`], [`Refusal::CommitteeUnknown`].
+pub fn committee(state: &[u32], table: &[u32], round: Round) -> Result<[u32; MEMBERS], Refusal> {
     let mut out = [0; MEMBERS];
-    accepted(call!(forgelilac_committee, read(state), read(table), round; write(&mut out)))?;
+    accepted(call!(forgelilac_committee, read(state), read(table), round.get(); write(&mut out)))?;
     Ok(out)
 }
 
@@ -521,9 +551,10 @@ pub fn committee(state: &[u32], table: &[u32], round: u32) -> Result<[u32; MEMBE
 /// the even one. A member may have 0; a non-member is refused.
 ///
 /// # Errors
-/// 1, 4, 5, 8, 9.
-pub fn share(state: &[u32], table: &[u32], member: u32, round: u32) -> Result<u32, Refusal> {
-    value(call!(forgelilac_share, read(state), read(table), member, round))
+/// [`Refusal::Malformed`], [`Refusal::MemberRange`], [`Refusal::RoundRange`], [`Refusal::CommitteeUnknown`],
+/// [`Refusal::Outside`].
+pub fn share(state: &[u32], table: &[u32], member: Member, round: Round) -> Result<Share, Refusal> {
+    value(call!(forgelilac_share, read(state), read(table), member.get(), round.get())).map(Share::new)
 }
 
 /// How far does a bond move the shares? Those of a round's committee, those that it would have after a
@@ -535,23 +566,29 @@ pub fn share(state: &[u32], table: &[u32], member: u32, round: u32) -> Result<u3
 /// Four members of weight 1, and member 5 would join with 2:
 ///
 /// ```
-/// use forgelilac::{lent, table_words, Refusal, Sheet, STATE_WORDS};
+/// use forgelilac::{lent, table_words, Member, Refusal, Round, Sheet, STATE_WORDS};
 ///
 /// let (mut state, mut table) = ([0; STATE_WORDS], [0; table_words(64) as usize]);
-/// lent::open(&mut state, &mut table, 0, &Sheet { ceiling: Some(64), ..Sheet::default() }.to_words(), 0)?;
-/// let effect = lent::bond_effect(&state, &table, 5, 1, 2)?;
+/// lent::open(&mut state, &mut table, Member::new(0), &Sheet { ceiling: Some(64), ..Sheet::default() }.to_words(), 0)?;
+/// let effect = lent::bond_effect(&state, &table, Member::new(5), Round::new(1), 2)?;
 /// assert_eq!(effect.before[..6], [250, 250, 250, 250, 0, 0]);
 /// assert_eq!(effect.after[..6], [167, 167, 167, 167, 0, 333]);
 /// assert_eq!(effect.largest, 333);
-/// assert_eq!(lent::bond_effect(&state, &table, 5, 1, 1_001), Err(Refusal::TransactionsRange));
+/// assert_eq!(
+///     lent::bond_effect(&state, &table, Member::new(5), Round::new(1), 1_001),
+///     Err(Refusal::TransactionsRange)
+/// );
 /// # Ok::<(), Refusal>(())
 /// ```
 ///
 /// # Errors
-/// 1, 4, 5, 6 for an amount other than 1 to 1,000, 8, 30.
-pub fn bond_effect(state: &[u32], table: &[u32], member: u32, round: u32, amount: u32) -> Result<Effect, Refusal> {
+/// [`Refusal::Malformed`], [`Refusal::MemberRange`], [`Refusal::RoundRange`], [`Refusal::TransactionsRange`]
+/// for an amount other than 1 to 1,000, [`Refusal::CommitteeUnknown`], [`Refusal::EmptyCommittee`].
+pub fn bond_effect(state: &[u32], table: &[u32], member: Member, round: Round, amount: u32) -> Result<Effect, Refusal> {
     let mut out = [0; EFFECT_WORDS];
-    accepted(call!(forgelilac_bond_effect, read(state), read(table), member, round, amount; write(&mut out)))?;
+    accepted(
+        call!(forgelilac_bond_effect, read(state), read(table), member.get(), round.get(), amount; write(&mut out)),
+    )?;
     Ok(Effect::from_words(&out))
 }
 
@@ -559,19 +596,19 @@ pub fn bond_effect(state: &[u32], table: &[u32], member: u32, round: u32, amount
 /// first 17 are a certificate as [`accept`] takes it.
 ///
 /// # Errors
-/// 1, 4, 5, 23.
-pub fn certificate(state: &[u32], table: &[u32], author: u32, round: u32) -> Result<[u32; HELD_WORDS], Refusal> {
+/// [`Refusal::Malformed`], [`Refusal::MemberRange`], [`Refusal::RoundRange`], [`Refusal::NoneThere`].
+pub fn certificate(state: &[u32], table: &[u32], author: Member, round: Round) -> Result<[u32; HELD_WORDS], Refusal> {
     let mut out = [0; HELD_WORDS];
-    accepted(call!(forgelilac_certificate, read(state), read(table), author, round; write(&mut out)))?;
+    accepted(call!(forgelilac_certificate, read(state), read(table), author.get(), round.get(); write(&mut out)))?;
     Ok(out)
 }
 
 /// The round of a block; blocks count from 1.
 ///
 /// # Errors
-/// 1, 23.
-pub fn block(state: &[u32], table: &[u32], number: u32) -> Result<u32, Refusal> {
-    value(call!(forgelilac_block, read(state), read(table), number))
+/// [`Refusal::Malformed`], [`Refusal::NoneThere`].
+pub fn block(state: &[u32], table: &[u32], number: u32) -> Result<Round, Refusal> {
+    value(call!(forgelilac_block, read(state), read(table), number)).map(Round::new)
 }
 
 /// What blocks hold: of `number` blocks after the first `known`, the words of every certificate, oldest
@@ -585,12 +622,12 @@ pub fn block(state: &[u32], table: &[u32], number: u32) -> Result<u32, Refusal> 
 /// One member alone, after its first block:
 ///
 /// ```
-/// use forgelilac::{body_words, layout, lent, table_words, Refusal, Sheet, STATE_WORDS};
+/// use forgelilac::{body_words, layout, lent, table_words, Member, Refusal, Round, Sheet, STATE_WORDS};
 ///
 /// let (mut state, mut table) = ([0; STATE_WORDS], [0; table_words(64) as usize]);
 /// let mut sheet = Sheet { ceiling: Some(64), ..Sheet::default() };
 /// sheet.weights[1..4].fill(Some(0));
-/// lent::open(&mut state, &mut table, 0, &sheet.to_words(), 0)?;
+/// lent::open(&mut state, &mut table, Member::new(0), &sheet.to_words(), 0)?;
 /// for round in 1..=3 {
 ///     lent::propose(&mut state, &table, &body_words((round > 1).into(), &[]))?;
 ///     lent::certify(&state, &mut table, 0)?;
@@ -603,14 +640,15 @@ pub fn block(state: &[u32], table: &[u32], number: u32) -> Result<u32, Refusal> 
 /// lent::commit(&mut state, &mut table)?;
 /// assert_eq!(lent::block_rows(&state, &table, 0, 1, &mut list), Ok(2));
 /// assert_eq!(list[2 * layout::HELD_WORDS], 77);
-/// let held = [1, 2].map(|round| lent::certificate(&state, &table, 0, round).unwrap());
+/// let held = [1, 2].map(|round| lent::certificate(&state, &table, Member::new(0), Round::new(round)).unwrap());
 /// assert!(lent::rows(&list, 2).eq(held));
 /// assert_eq!(lent::block_rows(&state, &table, 0, 1, &mut list[..35]), Err(Refusal::LengthRange));
 /// # Ok::<(), Refusal>(())
 /// ```
 ///
 /// # Errors
-/// 1, 23 where there are fewer blocks, 25 where the list has no room. Nothing is written then.
+/// [`Refusal::Malformed`], [`Refusal::NoneThere`] where there are fewer blocks, [`Refusal::LengthRange`] where
+/// the list has no room. Nothing is written then.
 pub fn block_rows(state: &[u32], table: &[u32], known: u32, number: u32, list: &mut [u32]) -> Result<u32, Refusal> {
     value(call!(forgelilac_block_rows, read(state), read(table), known, number; write(list)))
 }
@@ -628,7 +666,7 @@ pub fn rows(list: &[u32], count: u32) -> impl Iterator<Item = [u32; HELD_WORDS]>
 /// told that the state is well formed.
 ///
 /// # Errors
-/// 1, 26.
+/// [`Refusal::Malformed`], [`Refusal::GuestRange`].
 pub fn waiting(state: &[u32], table: &[u32], guest: u32) -> Result<u32, Refusal> {
     if !is_well_formed(state, table) {
         return Err(Refusal::Malformed);
@@ -670,7 +708,7 @@ pub fn is_well_formed(state: &[u32], table: &[u32]) -> bool {
 /// A guest's [`propose`]. It needs the right to propose.
 ///
 /// # Errors
-/// 26, 29, then those of [`propose`].
+/// [`Refusal::GuestRange`], [`Refusal::NoRight`], then those of [`propose`].
 pub fn guest_propose(caller: u32, state: &mut [u32], table: &[u32], body: &[u32]) -> Result<(), Refusal> {
     accepted(call!(forgelilac_guest_propose(caller), write(state), read(table); read(body)))
 }
@@ -678,7 +716,7 @@ pub fn guest_propose(caller: u32, state: &mut [u32], table: &[u32], body: &[u32]
 /// A guest's [`draw`], which draws from the queues of all guests. It needs the right to propose.
 ///
 /// # Errors
-/// 26, 29, then those of [`draw`].
+/// [`Refusal::GuestRange`], [`Refusal::NoRight`], then those of [`draw`].
 pub fn guest_draw(caller: u32, state: &mut [u32], table: &mut [u32], previous: Set) -> Result<(), Refusal> {
     accepted(call!(forgelilac_guest_draw(caller), write(state), write(table), previous.into()))
 }
@@ -688,11 +726,11 @@ pub fn guest_draw(caller: u32, state: &mut [u32], table: &mut [u32], previous: S
 /// Guest 3 may propose and do nothing else, guest 5 may do nothing:
 ///
 /// ```
-/// use forgelilac::{lent, table_words, Refusal, Right, Rights, Sheet, Transaction, STATE_WORDS};
+/// use forgelilac::{lent, table_words, Member, Refusal, Right, Rights, Sheet, Transaction, STATE_WORDS};
 ///
 /// let (mut state, mut table) = ([0; STATE_WORDS], [0; table_words(64) as usize]);
 /// let (sheet, rights) = (Sheet { ceiling: Some(64), ..Sheet::default() }, Rights::NONE.allow(3, Right::Propose)?);
-/// lent::open(&mut state, &mut table, 0, &sheet.to_words(), rights.to_word())?;
+/// lent::open(&mut state, &mut table, Member::new(0), &sheet.to_words(), rights.to_word())?;
 /// let words = Transaction::Entry { number: 7 }.to_words();
 /// lent::guest_enqueue(3, &state, &mut table, &words)?;
 /// assert_eq!(lent::waiting(&state, &table, 3), Ok(1));
@@ -703,7 +741,8 @@ pub fn guest_draw(caller: u32, state: &mut [u32], table: &mut [u32], previous: S
 /// ```
 ///
 /// # Errors
-/// 26, 29, 1, 6, 27.
+/// [`Refusal::GuestRange`], [`Refusal::NoRight`], [`Refusal::Malformed`], [`Refusal::TransactionsRange`],
+/// [`Refusal::QueueFull`].
 pub fn guest_enqueue(caller: u32, state: &[u32], table: &mut [u32], transaction: &[u32]) -> Result<(), Refusal> {
     accepted(call!(forgelilac_guest_enqueue(caller), read(state), write(table); read(transaction)))
 }
@@ -711,7 +750,7 @@ pub fn guest_enqueue(caller: u32, state: &[u32], table: &mut [u32], transaction:
 /// A guest's [`endorse`]. It needs the right to sign.
 ///
 /// # Errors
-/// 26, 29, then those of [`endorse`].
+/// [`Refusal::GuestRange`], [`Refusal::NoRight`], then those of [`endorse`].
 pub fn guest_endorse(caller: u32, state: &[u32], table: &mut [u32], proposal: &[u32]) -> Result<(), Refusal> {
     accepted(call!(forgelilac_guest_endorse(caller), read(state), write(table); read(proposal)))
 }
@@ -719,7 +758,7 @@ pub fn guest_endorse(caller: u32, state: &[u32], table: &mut [u32], proposal: &[
 /// A guest's [`certify`]. It needs the right to sign.
 ///
 /// # Errors
-/// 26, 29, then those of [`certify`].
+/// [`Refusal::GuestRange`], [`Refusal::NoRight`], then those of [`certify`].
 pub fn guest_certify(caller: u32, state: &[u32], table: &mut [u32], endorsers: Set) -> Result<(), Refusal> {
     accepted(call!(forgelilac_guest_certify(caller), read(state), write(table), endorsers.into()))
 }
@@ -727,7 +766,7 @@ pub fn guest_certify(caller: u32, state: &[u32], table: &mut [u32], endorsers: S
 /// A guest's [`accept`]. It needs the right to sign.
 ///
 /// # Errors
-/// 26, 29, then those of [`accept`].
+/// [`Refusal::GuestRange`], [`Refusal::NoRight`], then those of [`accept`].
 pub fn guest_accept(caller: u32, state: &[u32], table: &mut [u32], certificate: &[u32]) -> Result<(), Refusal> {
     accepted(call!(forgelilac_guest_accept(caller), read(state), write(table); read(certificate)))
 }
@@ -735,7 +774,7 @@ pub fn guest_accept(caller: u32, state: &[u32], table: &mut [u32], certificate: 
 /// A guest's [`batch`]. It needs the right to sign.
 ///
 /// # Errors
-/// 26, 29, then those of [`batch`]: then nothing is tried.
+/// [`Refusal::GuestRange`], [`Refusal::NoRight`], then those of [`batch`]: then nothing is tried.
 pub fn guest_batch(
     caller: u32, state: &[u32], table: &mut [u32], row: &[CertificateRecord], answers: &mut [u32],
 ) -> Result<(), Refusal> {
@@ -746,7 +785,7 @@ pub fn guest_batch(
 /// A guest's [`advance`]. It needs the right to drive.
 ///
 /// # Errors
-/// 26, 29, then those of [`advance`].
+/// [`Refusal::GuestRange`], [`Refusal::NoRight`], then those of [`advance`].
 pub fn guest_advance(caller: u32, state: &mut [u32], table: &[u32]) -> Result<(), Refusal> {
     accepted(call!(forgelilac_guest_advance(caller), write(state), read(table)))
 }
@@ -754,7 +793,7 @@ pub fn guest_advance(caller: u32, state: &mut [u32], table: &[u32]) -> Result<()
 /// A guest's [`commit`]. It needs the right to drive.
 ///
 /// # Errors
-/// 26, 29, then those of [`commit`].
+/// [`Refusal::GuestRange`], [`Refusal::NoRight`], then those of [`commit`].
 pub fn guest_commit(caller: u32, state: &mut [u32], table: &mut [u32]) -> Result<u32, Refusal> {
     value(call!(forgelilac_guest_commit(caller), write(state), write(table)))
 }
@@ -762,7 +801,7 @@ pub fn guest_commit(caller: u32, state: &mut [u32], table: &mut [u32]) -> Result
 /// A guest's [`preview`]. It needs the right to read.
 ///
 /// # Errors
-/// 26, 29, then those of [`preview`]. Nothing is written then.
+/// [`Refusal::GuestRange`], [`Refusal::NoRight`], then those of [`preview`]. Nothing is written then.
 pub fn guest_preview(caller: u32, state: &[u32], table: &[u32], list: &mut [u32]) -> Result<u32, Refusal> {
     value(call!(forgelilac_guest_preview(caller), read(state), read(table); write(list)))
 }
@@ -770,7 +809,7 @@ pub fn guest_preview(caller: u32, state: &[u32], table: &[u32], list: &mut [u32]
 /// A guest's [`critical`]. It needs the right to read.
 ///
 /// # Errors
-/// 26, 29, then those of [`critical`]. The list is not written then.
+/// [`Refusal::GuestRange`], [`Refusal::NoRight`], then those of [`critical`]. The list is not written then.
 pub fn guest_critical(caller: u32, state: &[u32], table: &mut [u32], list: &mut [u32]) -> Result<u32, Refusal> {
     value(call!(forgelilac_guest_critical(caller), read(state), write(table); write(list)))
 }
@@ -778,58 +817,62 @@ pub fn guest_critical(caller: u32, state: &[u32], table: &mut [u32], list: &mut 
 /// A guest's [`committee`]. It needs the right to read.
 ///
 /// # Errors
-/// 26, 29, then those of [`committee`].
-pub fn guest_committee(caller: u32, state: &[u32], table: &[u32], round: u32) -> Result<[u32; MEMBERS], Refusal> {
+/// [`Refusal::GuestRange`], [`Refusal::NoRight`], then those of [`committee`].
+pub fn guest_committee(caller: u32, state: &[u32], table: &[u32], round: Round) -> Result<[u32; MEMBERS], Refusal> {
     let mut out = [0; MEMBERS];
-    accepted(call!(forgelilac_guest_committee(caller), read(state), read(table), round; write(&mut out)))?;
+    accepted(call!(forgelilac_guest_committee(caller), read(state), read(table), round.get(); write(&mut out)))?;
     Ok(out)
 }
 
 /// A guest's [`share`]. It needs the right to read.
 ///
 /// # Errors
-/// 26, 29, then those of [`share`].
-pub fn guest_share(caller: u32, state: &[u32], table: &[u32], member: u32, round: u32) -> Result<u32, Refusal> {
-    value(call!(forgelilac_guest_share(caller), read(state), read(table), member, round))
+/// [`Refusal::GuestRange`], [`Refusal::NoRight`], then those of [`share`].
+pub fn guest_share(caller: u32, state: &[u32], table: &[u32], member: Member, round: Round) -> Result<Share, Refusal> {
+    value(call!(forgelilac_guest_share(caller), read(state), read(table), member.get(), round.get())).map(Share::new)
 }
 
 /// A guest's [`bond_effect`]. It needs the right to read.
 ///
 /// # Errors
-/// 26, 29, then those of [`bond_effect`].
+/// [`Refusal::GuestRange`], [`Refusal::NoRight`], then those of [`bond_effect`].
 pub fn guest_bond_effect(
-    caller: u32, state: &[u32], table: &[u32], member: u32, round: u32, amount: u32,
+    caller: u32, state: &[u32], table: &[u32], member: Member, round: Round, amount: u32,
 ) -> Result<Effect, Refusal> {
     let mut out = [0; EFFECT_WORDS];
     let (state, table) = (read(state), read(table));
-    accepted(call!(forgelilac_guest_bond_effect(caller), state, table, member, round, amount; write(&mut out)))?;
+    accepted(
+        call!(forgelilac_guest_bond_effect(caller), state, table, member.get(), round.get(), amount; write(&mut out)),
+    )?;
     Ok(Effect::from_words(&out))
 }
 
 /// A guest's [`certificate`]. It needs the right to read.
 ///
 /// # Errors
-/// 26, 29, then those of [`certificate`].
+/// [`Refusal::GuestRange`], [`Refusal::NoRight`], then those of [`certificate`].
 pub fn guest_certificate(
-    caller: u32, state: &[u32], table: &[u32], author: u32, round: u32,
+    caller: u32, state: &[u32], table: &[u32], author: Member, round: Round,
 ) -> Result<[u32; HELD_WORDS], Refusal> {
     let mut out = [0; HELD_WORDS];
-    accepted(call!(forgelilac_guest_certificate(caller), read(state), read(table), author, round; write(&mut out)))?;
+    accepted(
+        call!(forgelilac_guest_certificate(caller), read(state), read(table), author.get(), round.get(); write(&mut out)),
+    )?;
     Ok(out)
 }
 
 /// A guest's [`block`]. It needs the right to read.
 ///
 /// # Errors
-/// 26, 29, then those of [`block`].
-pub fn guest_block(caller: u32, state: &[u32], table: &[u32], number: u32) -> Result<u32, Refusal> {
-    value(call!(forgelilac_guest_block(caller), read(state), read(table), number))
+/// [`Refusal::GuestRange`], [`Refusal::NoRight`], then those of [`block`].
+pub fn guest_block(caller: u32, state: &[u32], table: &[u32], number: u32) -> Result<Round, Refusal> {
+    value(call!(forgelilac_guest_block(caller), read(state), read(table), number)).map(Round::new)
 }
 
 /// A guest's [`block_rows`]. It needs the right to read.
 ///
 /// # Errors
-/// 26, 29, then those of [`block_rows`]. Nothing is written then.
+/// [`Refusal::GuestRange`], [`Refusal::NoRight`], then those of [`block_rows`]. Nothing is written then.
 pub fn guest_block_rows(
     caller: u32, state: &[u32], table: &[u32], known: u32, number: u32, list: &mut [u32],
 ) -> Result<u32, Refusal> {
@@ -852,13 +895,13 @@ pub fn guest_block_rows(
 ///
 /// ```
 /// use forgelilac::layout::{OFFSET_DATA, OFFSET_STATUS};
-/// use forgelilac::{body_words, lent, table_words, Refusal, Rights, Sheet, Transaction, STATE_WORDS};
+/// use forgelilac::{body_words, lent, table_words, Member, Refusal, Rights, Sheet, Transaction, STATE_WORDS};
 ///
 /// let (mut state, mut table) = ([0; STATE_WORDS], [0; table_words(64) as usize]);
 /// let mut sheet = Sheet { ceiling: Some(64), ..Sheet::default() };
 /// sheet.weights[1..4].fill(Some(0));
 /// let rights = Rights { read: 1 << 3, ..Rights::NONE };
-/// lent::open(&mut state, &mut table, 0, &sheet.to_words(), rights.to_word())?;
+/// lent::open(&mut state, &mut table, Member::new(0), &sheet.to_words(), rights.to_word())?;
 /// for round in 1..=3 {
 ///     let entry = Transaction::Entry { number: 10 * round };
 ///     lent::propose(&mut state, &table, &body_words((round > 1).into(), &[entry]))?;
@@ -883,7 +926,8 @@ pub fn guest_block_rows(
 /// ```
 ///
 /// # Errors
-/// 26, 29, 31, 1: 31 comes before 1 also where the words of the state cannot be read.
+/// [`Refusal::GuestRange`], [`Refusal::NoRight`], [`Refusal::OffsetRange`], also where the words of the state
+/// cannot be read; [`Refusal::Malformed`].
 pub fn guest_port_read(caller: u32, state: &[u32], table: &mut [u32], offset: u32) -> Result<u8, Refusal> {
     // A byte, so the low half of the answer fits.
     value(call!(forgelilac_guest_port_read(caller), read(state), write(table), offset)).map(|byte| byte as u8)
@@ -893,9 +937,7 @@ pub fn guest_port_read(caller: u32, state: &[u32], table: &mut [u32], offset: u3
 /// register. It needs the right to read.
 ///
 /// # Errors
-/// 26, 29, 31, 1: as [`guest_port_read`].
-pub fn guest_port_write(
-    caller: u32, state: &[u32], table: &mut [u32], offset: u32, value: u8,
-) -> Result<(), Refusal> {
+/// As [`guest_port_read`].
+pub fn guest_port_write(caller: u32, state: &[u32], table: &mut [u32], offset: u32, value: u8) -> Result<(), Refusal> {
     accepted(call!(forgelilac_guest_port_write(caller), read(state), write(table), offset, value))
 }

@@ -7,32 +7,43 @@
 //! and storage are the host's. Guests call by their rights, which the host fixes at opening:
 //! `Engine::guest`, and the guests' forms of [`lent`]; an old guest's serial port is among them.
 //!
-//! The build script finds the engine's archive: the file that `FORGELILAC_ARCHIVE` names, an
-//! installed one by pkg-config, or that of the tree.
+//! The build script finds the engine's archive: the file that the variable `FORGELILAC_ARCHIVE` names, an
+//! installed one by pkg-config, or that of the tree; README.md of the package has the rest.
+//!
+//! A [`Member`], a [`Round`] and a [`Share`] are types of their own, so that arguments cannot be exchanged;
+//! where a member and a round stand together, the member comes first. Numbers of blocks, guests and ports
+//! are plain.
 //!
 //! One member alone, three rounds, one block:
 //!
 //! ```
-//! use forgelilac::{Block, Critical, Engine, Entry, Refusal, Sheet, Transaction};
+//! use forgelilac::{Engine, Entry, Member, Refusal, Round, Sheet, Transaction};
 //!
+//! let own = Member::new(0);
 //! let mut sheet = Sheet { ceiling: Some(64), ..Sheet::default() };
 //! sheet.weights[1..4].fill(Some(0));
-//! let mut engine = Engine::open(0, &sheet)?;
+//! let mut engine = Engine::open(own, &sheet)?;
 //! engine.propose(0, &[Transaction::Entry { number: 7 }])?;
 //! engine.certify(0)?;
 //! for _ in 2..=3 {
 //!     engine.advance()?;
-//!     engine.propose(0b1, &[])?;
+//!     engine.propose(own.bit(), &[])?;
 //!     engine.certify(0)?;
 //! }
-//! let entry = |round| Entry { block: 1, round, author: 0 };
-//! assert_eq!(engine.preview()?, [1, 2].map(entry));
-//! assert_eq!(engine.critical()?, [2, 3].map(|round| Critical { round, author: 0 }));
+//! let entries = [1, 2].map(|round| Entry { block: 1, author: own, round: Round::new(round) });
+//! assert_eq!(engine.preview()?, entries);
 //! assert_eq!(engine.commit(), Ok(1));
-//! assert_eq!(engine.chain()?, [Block { round: 2, certificates: vec![(1, 0), (2, 0)] }]);
+//! assert_eq!(engine.chain()?[0].certificates, entries);
 //! assert_eq!(engine.commit(), Err(Refusal::BlockMade));
 //! # Ok::<(), Refusal>(())
 //! ```
+//!
+//! # Panics
+//!
+//! No call panics, whatever it is handed and whatever words it is lent, but for two things that are none of
+//! its arguments: where memory for what it gives cannot be had, it ends as `alloc` does; and an archive of a
+//! later version may answer a number that this one has no [`Refusal`] for, which is a panic
+//! ([`ENGINE_VERSION`] is the one that it is made for). Calls use up to [`layout::STACK_BYTES`] of stack.
 
 #![no_std]
 #![deny(missing_docs)]
@@ -47,13 +58,17 @@ mod engine;
 mod guest;
 pub mod layout;
 pub mod lent;
+mod numbers;
 #[cfg(feature = "alloc")]
 mod owned;
 mod refusal;
 mod rights;
+#[cfg(feature = "alloc")]
+mod stored;
 mod terms;
 #[cfg(all(test, feature = "alloc"))]
 mod tests;
+mod version;
 
 #[cfg(feature = "alloc")]
 pub use engine::Engine;
@@ -61,12 +76,21 @@ pub use engine::Engine;
 pub use guest::Guest;
 pub use layout::STATE_WORDS;
 pub use lent::Entry;
+pub use numbers::{Member, Round, Share};
 #[cfg(feature = "alloc")]
-pub use owned::{Block, Certificate, Held, Proposal};
+pub use owned::{Answers, Block, Certificate, Held, Proposal};
 pub use refusal::Refusal;
 pub use rights::{Right, Rights};
+#[cfg(feature = "alloc")]
+pub use stored::FromBytesError;
 pub use terms::{body_words, certificate_words, leader, proposal_words, transactions_of};
 pub use terms::{Critical, Effect, Sheet, Transaction};
+pub use version::ENGINE_VERSION;
+
+/// The examples of README.md.
+#[cfg(all(doctest, feature = "alloc"))]
+#[doc = include_str!("../README.md")]
+struct Readme;
 
 /// Members are 0 to 15.
 pub const MEMBERS: usize = 16;

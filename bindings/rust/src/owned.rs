@@ -1,16 +1,17 @@
 //! Proposals, certificates and blocks that own what they hold.
 
 use crate::layout::{CERTIFICATE_WORDS, HELD_WORDS, PROPOSAL_WORDS};
-use crate::{certificate_words, proposal_words, transactions_of, Refusal, Set, Transaction};
+use crate::{certificate_words, proposal_words, transactions_of, Entry, Member, Refusal, Round, Set, Transaction};
 use alloc::vec::Vec;
+use core::ops::Deref;
 
 /// Transactions of an author for a round.
 #[derive(Clone, PartialEq, Eq, Hash, Debug)]
 pub struct Proposal {
     /// The member that proposes.
-    pub author: u32,
+    pub author: Member,
     /// From 1.
-    pub round: u32,
+    pub round: Round,
     /// Authors of certificates one round earlier.
     pub previous: Set,
     /// At most as many as the allowance.
@@ -32,7 +33,8 @@ impl Proposal {
     /// for a number of transactions above four.
     pub fn from_words(words: &[u32]) -> Result<Proposal, Refusal> {
         let transactions = transactions_of(words)?.collect();
-        Ok(Proposal { author: words[0], round: words[1], previous: words[2] as Set, transactions })
+        let (author, round) = (Member::new(words[0]), Round::new(words[1]));
+        Ok(Proposal { author, round, previous: words[2] as Set, transactions })
     }
 }
 
@@ -64,8 +66,40 @@ impl Certificate {
     }
 }
 
-/// A held certificate as it is read.
+/// What a batch answers to each certificate, at its own place in the row: a slice of results.
+#[must_use = "each certificate of the row may have been refused"]
 #[derive(Clone, PartialEq, Eq, Hash, Debug)]
+pub struct Answers(pub(crate) Vec<Result<(), Refusal>>);
+
+impl Deref for Answers {
+    type Target = [Result<(), Refusal>];
+
+    fn deref(&self) -> &[Result<(), Refusal>] {
+        &self.0
+    }
+}
+
+impl IntoIterator for Answers {
+    type Item = Result<(), Refusal>;
+    type IntoIter = alloc::vec::IntoIter<Result<(), Refusal>>;
+
+    fn into_iter(self) -> Self::IntoIter {
+        self.0.into_iter()
+    }
+}
+
+impl<'a> IntoIterator for &'a Answers {
+    type Item = &'a Result<(), Refusal>;
+    type IntoIter = core::slice::Iter<'a, Result<(), Refusal>>;
+
+    fn into_iter(self) -> Self::IntoIter {
+        self.0.iter()
+    }
+}
+
+/// A held certificate as it is read. Later versions may have more.
+#[derive(Clone, PartialEq, Eq, Hash, Debug)]
+#[non_exhaustive]
 pub struct Held {
     /// What was signed.
     pub proposal: Proposal,
@@ -93,11 +127,11 @@ impl Held {
     }
 }
 
-/// A block as it is read: its round, and (round, author) of each certificate, in order.
+/// A block as it is read: its round, and its certificates, in order.
 #[derive(Clone, PartialEq, Eq, Hash, Debug)]
 pub struct Block {
     /// The round of its anchor.
-    pub round: u32,
-    /// Round and author of each certificate.
-    pub certificates: Vec<(u32, u32)>,
+    pub round: Round,
+    /// Its certificates, each with the number of the block.
+    pub certificates: Vec<Entry>,
 }

@@ -7,6 +7,7 @@ macro_rules! refusals {
         /// Why a call was refused; the numbers are those of docs/RULES.md. Later versions may
         /// have more.
         #[derive(Clone, Copy, PartialEq, Eq, Hash, Debug)]
+        #[must_use = "what was asked for was not done"]
         #[non_exhaustive]
         pub enum Refusal { $(#[doc = $meaning] $name = $number,)* }
 

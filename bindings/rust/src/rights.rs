@@ -42,7 +42,7 @@ pub struct Rights {
     pub sign: u8,
     /// Who may advance and commit.
     pub drive: u8,
-    /// Who may read, preview and list, and access its own port.
+    /// Who may read, preview and list, what blocks hold among it, and access its own port.
     pub read: u8,
 }
 
@@ -69,7 +69,7 @@ impl Rights {
     /// These rights, and this one for this caller.
     ///
     /// # Errors
-    /// 26 for a caller above 7.
+    /// [`Refusal::GuestRange`] for a caller above 7.
     pub const fn allow(self, caller: u32, right: Right) -> Result<Rights, Refusal> {
         if caller >= GUESTS as u32 {
             return Err(Refusal::GuestRange);

@@ -4,22 +4,23 @@ use crate::layout::{
     BODY_WORDS, CERTIFICATE_WORDS, EFFECT_AFTER, EFFECT_BEFORE, EFFECT_LARGEST, EFFECT_WORDS, PROPOSAL_WORDS,
     SHEET_WORDS, TRANSACTIONS, TRANSACTION_WORDS,
 };
-use crate::{Refusal, Set, MEMBERS};
+use crate::{Member, Refusal, Round, Set, Share, MEMBERS};
 
-/// A transaction of a proposal.
+/// A transaction of a proposal. Later versions may have more kinds.
 #[derive(Clone, Copy, PartialEq, Eq, Hash, Debug)]
+#[non_exhaustive]
 pub enum Transaction {
     /// The member's weight rises by the amount, 1 to 1,000.
     Bond {
         /// Whose weight rises.
-        member: u32,
+        member: Member,
         /// By how much.
         amount: u32,
     },
     /// The member leaves.
     Unbond {
         /// Who leaves.
-        member: u32,
+        member: Member,
     },
     /// Any number, meaningless to the engine.
     Entry {
@@ -33,8 +34,8 @@ impl Transaction {
     #[must_use]
     pub const fn to_words(self) -> [u32; TRANSACTION_WORDS] {
         match self {
-            Transaction::Bond { member, amount } => [0, member, amount],
-            Transaction::Unbond { member } => [1, member, 0],
+            Transaction::Bond { member, amount } => [0, member.get(), amount],
+            Transaction::Unbond { member } => [1, member.get(), 0],
             Transaction::Entry { number } => [2, number, 0],
         }
     }
@@ -45,8 +46,8 @@ impl Transaction {
     /// [`Refusal::Malformed`] for a kind above 2, and for an unbond or entry with an amount.
     pub const fn from_words(words: [u32; TRANSACTION_WORDS]) -> Result<Transaction, Refusal> {
         match words {
-            [0, member, amount] => Ok(Transaction::Bond { member, amount }),
-            [1, member, 0] => Ok(Transaction::Unbond { member }),
+            [0, member, amount] => Ok(Transaction::Bond { member: Member::new(member), amount }),
+            [1, member, 0] => Ok(Transaction::Unbond { member: Member::new(member) }),
             [2, number, 0] => Ok(Transaction::Entry { number }),
             _ => Err(Refusal::Malformed),
         }
@@ -68,11 +69,11 @@ pub fn body_words(previous: Set, transactions: &[Transaction]) -> [u32; BODY_WOR
 /// The words of a proposal.
 #[must_use]
 pub fn proposal_words(
-    author: u32, round: u32, previous: Set, transactions: &[Transaction],
+    author: Member, round: Round, previous: Set, transactions: &[Transaction],
 ) -> [u32; PROPOSAL_WORDS] {
     let mut words = [0; PROPOSAL_WORDS];
-    words[0] = author;
-    words[1] = round;
+    words[0] = author.get();
+    words[1] = round.get();
     words[2..].copy_from_slice(&body_words(previous, transactions));
     words
 }
@@ -139,19 +140,21 @@ impl Sheet {
 #[derive(Clone, Copy, PartialEq, Eq, PartialOrd, Ord, Hash, Debug, Default)]
 pub struct Critical {
     /// Its round.
-    pub round: u32,
+    pub round: Round,
     /// Its author.
-    pub author: u32,
+    pub author: Member,
 }
 
-/// How far a bond moves the shares of a committee, in thousandths: of its total before the bond, and of its total after it.
+/// How far a bond moves the shares of a committee, in thousandths: of its total before the bond, and of its
+/// total after it. Later versions may have more.
 #[derive(Clone, Copy, PartialEq, Eq, Hash, Debug)]
+#[non_exhaustive]
 pub struct Effect {
     /// The share of each member before the bond, 0 for a non-member.
-    pub before: [u32; MEMBERS],
+    pub before: [Share; MEMBERS],
     /// The share of each member after it, 0 for a non-member.
-    pub after: [u32; MEMBERS],
-    /// The largest difference of a member's two shares, without sign.
+    pub after: [Share; MEMBERS],
+    /// The largest difference of a member's two shares, in thousandths, without sign.
     pub largest: u32,
 }
 
@@ -159,7 +162,7 @@ impl Effect {
     /// The effect of its words: sixteen shares before, sixteen after, the largest difference.
     #[must_use]
     pub fn from_words(words: &[u32; EFFECT_WORDS]) -> Effect {
-        let shares = |first| core::array::from_fn(|member| words[first + member]);
+        let shares = |first| core::array::from_fn(|member| Share::new(words[first + member]));
         Effect { before: shares(EFFECT_BEFORE), after: shares(EFFECT_AFTER), largest: words[EFFECT_LARGEST] }
     }
 }
@@ -168,11 +171,12 @@ impl Effect {
 /// number, the one at position (round / 2) mod m. An empty committee has none, and so has an
 /// odd round.
 #[must_use]
-pub fn leader(round: u32, weights: &[u32; MEMBERS]) -> Option<u32> {
+pub fn leader(round: Round, weights: &[u32; MEMBERS]) -> Option<Member> {
+    let round = round.get();
     if round % 2 != 0 || round == 0 {
         return None;
     }
-    let members = || (0..).zip(weights).filter(|(_, weight)| **weight > 0).map(|(member, _)| member);
+    let members = || Member::ALL.into_iter().zip(weights).filter(|(_, weight)| **weight > 0).map(|(member, _)| member);
     let position = (round as usize / 2).checked_rem(members().count())?;
     members().nth(position)
 }

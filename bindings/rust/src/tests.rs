@@ -9,6 +9,7 @@ use crate::layout::{
 };
 use crate::lent::{self, CertificateRecord};
 use crate::*;
+use alloc::format;
 use alloc::string::{String, ToString};
 use alloc::vec;
 use alloc::vec::Vec;
@@ -25,11 +26,16 @@ fn entry(number: u32) -> Transaction {
 fn alone() -> Engine {
     let mut sheet = Sheet { ceiling: Some(64), ..Sheet::default() };
     sheet.weights[..4].copy_from_slice(&[Some(1), Some(0), Some(0), Some(0)]);
-    Engine::open(0, &sheet).unwrap()
+    Engine::open(Member::new(0), &sheet).unwrap()
+}
+
+/// A certificate of the chain.
+fn place(block: u32, author: u32, round: u32) -> Entry {
+    Entry { block, author: Member::new(author), round: Round::new(round) }
 }
 
 fn of_four(own: u32) -> Engine {
-    Engine::open(own, &Sheet { ceiling: Some(8), ..Sheet::default() }).unwrap()
+    Engine::open(Member::new(own), &Sheet { ceiling: Some(8), ..Sheet::default() }).unwrap()
 }
 
 /// Calls that must be refused with a number and change nothing.
@@ -53,15 +59,23 @@ fn the_example_of_the_records() {
     engine.propose(1, &[entry(9)]).unwrap();
     engine.certify(0).unwrap();
     assert_eq!(engine.commit(), Ok(1));
-    assert_eq!(engine.chain(), Ok(vec![Block { round: 2, certificates: vec![(1, 0), (2, 0)] }]));
-    assert_eq!(engine.certificate(0, 1).unwrap().proposal.transactions, [entry(7)]);
-    assert_eq!(engine.certificate(0, 3).unwrap().block, None);
+    assert_eq!(
+        engine.chain(),
+        Ok(vec![Block { round: Round::new(2), certificates: vec![place(1, 0, 1), place(1, 0, 2)] }])
+    );
+    assert_eq!(engine.certificate(Member::new(0), Round::new(1)).unwrap().proposal.transactions, [entry(7)]);
+    assert_eq!(engine.certificate(Member::new(0), Round::new(3)).unwrap().block, None);
     refuses(&mut engine, 20, Engine::commit);
 }
 
 /// A certificate that the other three of four endorse.
 fn of_all_four(author: u32, round: u32, previous: Set, transactions: &[Transaction]) -> Certificate {
-    let proposal = Proposal { author, round, previous, transactions: transactions.to_vec() };
+    let proposal = Proposal {
+        author: Member::new(author),
+        round: Round::new(round),
+        previous,
+        transactions: transactions.to_vec(),
+    };
     Certificate { proposal, endorsers: 0b1111 & !(1 << author) }
 }
 
@@ -78,20 +92,21 @@ fn a_full_round_reads_2_3_0_1() {
         }
     }
     assert_eq!(engine.commit(), Ok(2));
-    let rounds = |numbers: &[(u32, &[u32])]| -> Vec<(u32, u32)> {
-        numbers.iter().flat_map(|&(round, all)| all.iter().map(move |&author| (round, author))).collect()
+    let rounds = |block, numbers: &[(u32, &[u32])]| -> Vec<Entry> {
+        numbers.iter().flat_map(|&(round, all)| all.iter().map(move |&author| place(block, author, round))).collect()
     };
-    let first = Block { round: 2, certificates: rounds(&[(1, &[1, 2, 3, 0]), (2, &[1])]) };
-    let second = Block { round: 4, certificates: rounds(&[(2, &[2, 3, 0]), (3, &[2, 3, 0, 1]), (4, &[2])]) };
+    let first = Block { round: Round::new(2), certificates: rounds(1, &[(1, &[1, 2, 3, 0]), (2, &[1])]) };
+    let second =
+        Block { round: Round::new(4), certificates: rounds(2, &[(2, &[2, 3, 0]), (3, &[2, 3, 0, 1]), (4, &[2])]) };
     assert_eq!(engine.chain(), Ok(vec![first, second]));
 }
 
 #[test]
 fn leaders_by_the_committee_read() {
     let weights = ones(&[0, 1, 14, 15]);
-    let leaders: Vec<_> = [2, 4, 6, 8].map(|round| leader(round, &weights)).into();
-    assert_eq!(leaders, [Some(1), Some(14), Some(15), Some(0)]);
-    assert_eq!(leader(2, &ones(&[])), None);
+    let leaders: Vec<_> = [2, 4, 6, 8].map(|round| leader(Round::new(round), &weights)).into();
+    assert_eq!(leaders, [1, 14, 15, 0].map(|member| Some(Member::new(member))));
+    assert_eq!(leader(Round::new(2), &ones(&[])), None);
 }
 
 fn ones(members: &[usize]) -> [u32; MEMBERS] {
@@ -103,7 +118,7 @@ fn ones(members: &[usize]) -> [u32; MEMBERS] {
 /// What is no state of a run, and well formed: records written into the table by hand.
 fn write_record(engine: &mut Engine, author: u32, round: u32, block: u32, transaction: [u32; 3]) {
     engine.table[row(round) + ROW_HELD] |= 1 << author;
-    let record = &mut engine.table[record(author, round)..][..16];
+    let record = &mut engine.table[record(Member::new(author), Round::new(round))..][..16];
     record.fill(0);
     record[..4].copy_from_slice(&[(round > 1).into(), 1, block, 0]);
     record[4..7].copy_from_slice(&transaction);
@@ -113,7 +128,7 @@ fn write_record(engine: &mut Engine, author: u32, round: u32, block: u32, transa
 fn where_a_round_has_no_leader_numbers_just_rise() {
     let mut sheet = Sheet { lookback: Some(1), ceiling: Some(8), ..Sheet::default() };
     sheet.weights[..4].copy_from_slice(&[Some(0), Some(0), Some(1), Some(0)]);
-    let mut engine = Engine::open(0, &sheet).unwrap();
+    let mut engine = Engine::open(Member::new(0), &sheet).unwrap();
     let (entry, unbond_2, bond_3) = ([2, 7, 0], [1, 2, 0], [0, 3, 1]);
     for author in 0..4 {
         write_record(&mut engine, author, 1, 1, if author == 1 { unbond_2 } else { entry });
@@ -122,13 +137,13 @@ fn where_a_round_has_no_leader_numbers_just_rise() {
     }
     engine.state[STATE_BLOCKS] = 3;
     (1..=3).for_each(|number| engine.table[row(number) + ROW_BLOCK] = 2 * number);
-    assert_eq!(engine.committee(4), Ok([0; MEMBERS]));
-    assert_eq!(engine.committee(6), Ok(ones(&[3])));
+    assert_eq!(engine.committee(Round::new(4)), Ok([0; MEMBERS]));
+    assert_eq!(engine.committee(Round::new(6)), Ok(ones(&[3])));
     // Leaders 2, none and 3; no block has an anchor.
     let orders = [[2, 3, 0, 1], [0, 1, 2, 3], [3, 0, 1, 2]];
     let blocks = orders.iter().zip([1, 3, 5]).map(|(order, round)| Block {
-        round: round + 1,
-        certificates: order.iter().map(|&author| (round, author)).collect(),
+        round: Round::new(round + 1),
+        certificates: order.iter().map(|&author| place(round / 2 + 1, author, round)).collect(),
     });
     assert_eq!(engine.chain(), Ok(blocks.collect()));
 }
@@ -137,7 +152,8 @@ fn where_a_round_has_no_leader_numbers_just_rise() {
 #[test]
 fn order_decides_committees() {
     let weight_of_4 = |of_0, of_1| {
-        let mut engine = Engine::open(0, &Sheet { lookback: Some(1), ceiling: Some(8), ..Sheet::default() }).unwrap();
+        let mut engine =
+            Engine::open(Member::new(0), &Sheet { lookback: Some(1), ceiling: Some(8), ..Sheet::default() }).unwrap();
         // The anchor, 1 in round 2, names 0 and 1; the others are there for a quorum in each round.
         engine.accept(&of_all_four(0, 1, 0, &[of_0])).unwrap();
         engine.accept(&of_all_four(1, 1, 0, &[of_1])).unwrap();
@@ -150,12 +166,106 @@ fn order_decides_committees() {
         engine.accept(&of_all_four(0, 3, 0b0010, &[])).unwrap();
         engine.accept(&of_all_four(2, 3, 0b0010, &[])).unwrap();
         assert_eq!(engine.commit(), Ok(1));
-        assert_eq!(engine.chain().unwrap()[0].certificates, [(1, 1), (1, 0), (2, 1)]);
-        engine.committee(4).unwrap()[4]
+        assert_eq!(engine.chain().unwrap()[0].certificates, [place(1, 1, 1), place(1, 0, 1), place(1, 1, 2)]);
+        engine.committee(Round::new(4)).unwrap()[4]
     };
-    let (bond, unbond) = (Transaction::Bond { member: 4, amount: 5 }, Transaction::Unbond { member: 4 });
+    let (bond, unbond) =
+        (Transaction::Bond { member: Member::new(4), amount: 5 }, Transaction::Unbond { member: Member::new(4) });
     assert_eq!(weight_of_4(bond, unbond), 5);
     assert_eq!(weight_of_4(unbond, bond), 0);
+}
+
+#[test]
+fn members_and_sets() {
+    assert_eq!(Member::ALL.map(Member::index), core::array::from_fn(|number| number));
+    assert_eq!(Member::ALL.map(|member| member.bit()), core::array::from_fn(|number| 1 << number));
+    assert_eq!([16, 17, u32::MAX].map(|number| Member::new(number).bit()), [0; 3]);
+    for set in [0, 1, 0b1010, 0x8000, Set::MAX] {
+        assert_eq!(Member::all_in(set).map(Member::bit).sum::<Set>(), set);
+    }
+}
+
+#[test]
+fn rounds_before_and_after() {
+    let ends = [Round::new(0), Round::FIRST, Round::new(u32::MAX)];
+    assert_eq!(ends.map(Round::before), [0, 0, u32::MAX - 1].map(Round::new));
+    assert_eq!(ends.map(Round::next), [1, 2, u32::MAX].map(Round::new));
+    assert_eq!(Round::new(3).through(Round::new(2)).count(), 0);
+    assert!(Round::new(u32::MAX).through(Round::new(u32::MAX)).eq([Round::new(u32::MAX)]));
+    assert!(Round::FIRST.through(Round::new(3)).rev().eq([3, 2, 1].map(Round::new)));
+}
+
+/// A number shows itself and compares with a bare one, and the engine alone says what is in range.
+#[test]
+fn any_number_is_a_member() {
+    let member = Member::new(u32::MAX);
+    assert_eq!((format!("{member}"), format!("{member:?}")), (u32::MAX.to_string(), u32::MAX.to_string()));
+    assert!(member == u32::MAX && member > 15 && u32::from(member) == Member::from(u32::MAX).get());
+    assert_eq!(of_four(0).certificate(member, Round::FIRST), Err(Refusal::MemberRange));
+    assert_eq!(of_four(0).certificate(Member::new(0), Round::new(u32::MAX)), Err(Refusal::RoundRange));
+}
+
+#[test]
+fn the_readme_names_the_engines_version() {
+    assert!(include_str!("../README.md").contains(&format!("version {ENGINE_VERSION} (")));
+}
+
+#[test]
+fn an_engine_shows_a_few_words() {
+    let shown = "Engine { own: 2, round: 1, ceiling: 8, blocks: 0, table_words: 2448, .. }";
+    assert_eq!(format!("{:?}", of_four(2)), shown);
+    let closed = Engine::restore([u32::MAX; STATE_WORDS], Vec::new());
+    assert!(format!("{:?} {:?}", closed, closed.reader(9)).len() < 300);
+}
+
+// ---- bytes
+
+#[test]
+fn bytes_go_both_ways() {
+    let (engine, _) = endorsed_by_two();
+    let longer = Engine { table: [&engine.table[..], &[77; 5]].concat(), ..engine.clone() };
+    for engine in [engine, longer, alone()] {
+        let bytes = engine.to_bytes();
+        assert_eq!(bytes[..8], [3, 0, 0, 0, 39, 0, 0, 0]);
+        assert_eq!(bytes[8..16], (engine.table.len() as u64).to_le_bytes());
+        assert_eq!(bytes[16..20], engine.state[0].to_le_bytes());
+        assert_eq!(bytes[16 + 4 * STATE_WORDS..][..4], engine.table[0].to_le_bytes());
+        assert_eq!(Engine::from_bytes(&bytes), Ok(engine));
+    }
+}
+
+/// Every length but the right one, every number in front but the right one, a state that is none.
+#[test]
+fn bytes_that_do_not_fit() {
+    let bytes = of_four(0).to_bytes();
+    for length in (0..bytes.len()).filter(|length| length % 101 == 0 || *length < 200) {
+        assert_eq!(Engine::from_bytes(&bytes[..length]), Err(FromBytesError::Length), "{length}");
+    }
+    assert_eq!(Engine::from_bytes(&[&bytes[..], &[0]].concat()), Err(FromBytesError::Length));
+    assert_eq!(Engine::from_bytes(&[&bytes[..], &[0; 4]].concat()), Err(FromBytesError::Length));
+    for at in 0..16 {
+        for value in (0..=255).filter(|value| *value != bytes[at]) {
+            let mut other = bytes.clone();
+            other[at] = value;
+            let format = u32::from_le_bytes([other[0], other[1], other[2], other[3]]);
+            let expected = if at < 4 { FromBytesError::Format(format) } else { FromBytesError::Length };
+            assert_eq!(Engine::from_bytes(&other), Err(expected), "byte {at} is {value}");
+        }
+    }
+    // A word more in the state and one less in the table.
+    let mut other = bytes.clone();
+    (other[4], other[8]) = (40, bytes[8] - 1);
+    assert_eq!(Engine::from_bytes(&other), Err(FromBytesError::Length));
+    // The largest lengths that there are.
+    other[4..16].fill(255);
+    assert_eq!(Engine::from_bytes(&other), Err(FromBytesError::Length));
+    let mut damaged = of_four(0);
+    damaged.state[0] = 16;
+    assert_eq!(Engine::from_bytes(&damaged.to_bytes()), Err(FromBytesError::Malformed));
+    assert_eq!(
+        Engine::from_bytes(&Engine::restore([3; STATE_WORDS], vec![]).to_bytes()),
+        Err(FromBytesError::Malformed)
+    );
 }
 
 #[test]
@@ -172,19 +282,19 @@ fn open_refuses_in_its_order() {
     let open = |own, sheet: &Sheet| Engine::open(own, sheet).unwrap_err().number();
     let none = Sheet { weights: [Some(0); MEMBERS], ..Sheet::default() };
     let wide = Sheet { ceiling: Some(1_025), ..none };
-    assert_eq!(open(16, &wide), 4);
-    assert_eq!(open(15, &wide), 2);
-    assert_eq!(open(15, &none), 3);
+    assert_eq!(open(Member::new(16), &wide), 4);
+    assert_eq!(open(Member::new(15), &wide), 2);
+    assert_eq!(open(Member::new(15), &none), 3);
     let short = vec![0; table_words(8) as usize - 1];
     let sheet = Sheet { ceiling: Some(8), ..Sheet::default() };
-    assert_eq!(Engine::open_on(short, 0, &sheet, Rights::NONE), Err(Refusal::Malformed));
+    assert_eq!(Engine::open_on(short, Member::new(0), &sheet, Rights::NONE), Err(Refusal::Malformed));
 }
 
 #[test]
 fn what_lies_beyond_the_table_stays() {
     let used = table_words(3) as usize;
     let sheet = Sheet { ceiling: Some(3), ..Sheet::default() };
-    let mut engine = Engine::open_on(vec![77; used + 5], 0, &sheet, Rights::NONE).unwrap();
+    let mut engine = Engine::open_on(vec![77; used + 5], Member::new(0), &sheet, Rights::NONE).unwrap();
     engine.propose(0, &[]).unwrap();
     engine.certify(0b1110).unwrap();
     assert_eq!(engine.table[used..], [77; 5]);
@@ -192,17 +302,27 @@ fn what_lies_beyond_the_table_stays() {
 
 #[test]
 fn a_proposal_comes_back_as_it_was_made() {
-    let all = [Transaction::Bond { member: 3, amount: 1_000 }, Transaction::Unbond { member: 15 },
-               entry(u32::MAX), entry(0)];
+    let all = [
+        Transaction::Bond { member: Member::new(3), amount: 1_000 },
+        Transaction::Unbond { member: Member::new(15) },
+        entry(u32::MAX),
+        entry(0),
+    ];
     for count in 0..=4 {
         let mut author = of_four(2);
         author.propose(0, &all[..count]).unwrap();
         let proposal = author.proposal().unwrap();
-        assert_eq!(proposal, Proposal { author: 2, round: 1, previous: 0, transactions: all[..count].to_vec() });
+        assert_eq!(
+            proposal,
+            Proposal { author: Member::new(2), round: Round::new(1), previous: 0, transactions: all[..count].to_vec() }
+        );
         let mut other = of_four(1);
         other.endorse(&proposal).unwrap();
         other.accept(&Certificate { proposal: proposal.clone(), endorsers: 0b1011 }).unwrap();
-        assert_eq!(other.certificate(2, 1), Ok(Held { proposal, endorsers: 0b1011, block: None }));
+        assert_eq!(
+            other.certificate(Member::new(2), Round::new(1)),
+            Ok(Held { proposal, endorsers: 0b1011, block: None })
+        );
     }
 }
 
@@ -218,14 +338,14 @@ fn endorsed_by_two() -> (Engine, Certificate) {
 #[test]
 fn endorsers_stay_those_first_stored() {
     let (author, certificate) = endorsed_by_two();
-    assert_eq!(author.certificate(0, 1).unwrap().endorsers, 0b0110);
-    assert_eq!(author.certificate(0, 1).unwrap().certificate(), certificate);
+    assert_eq!(author.certificate(Member::new(0), Round::new(1)).unwrap().endorsers, 0b0110);
+    assert_eq!(author.certificate(Member::new(0), Round::new(1)).unwrap().certificate(), certificate);
 
     // Another member has it with other endorsers: the same certificate.
     let copy = |endorsers| Certificate { endorsers, ..certificate.clone() };
     let mut other = of_four(1);
     other.accept(&copy(0b1100)).unwrap();
-    assert_eq!(other.certificate(0, 1).unwrap().endorsers, 0b1100);
+    assert_eq!(other.certificate(Member::new(0), Round::new(1)).unwrap().endorsers, 0b1100);
     for mut engine in [author, other] {
         // A quorum, too few, none, outsiders.
         for endorsers in [0b1110, 0b0110, 0b1100, 0b0010, 0, 0xfffe, 0x8000] {
@@ -244,17 +364,17 @@ fn endorsers_stay_those_first_stored() {
 #[test]
 fn a_held_certificate_is_passed_on_as_it_is() {
     let (author, certificate) = endorsed_by_two();
-    let held = lent::certificate(&author.state, &author.table, 0, 1).unwrap();
+    let held = lent::certificate(&author.state, &author.table, Member::new(0), Round::new(1)).unwrap();
     assert_eq!(held[..CERTIFICATE_WORDS], certificate.to_words());
     assert_eq!(held[CERTIFICATE_WORDS..], [0]);
     let mut other = of_four(3);
     lent::accept(&other.state, &mut other.table, &held).unwrap();
-    assert_eq!(other.certificate(0, 1), author.certificate(0, 1));
+    assert_eq!(other.certificate(Member::new(0), Round::new(1)), author.certificate(Member::new(0), Round::new(1)));
 }
 
 /// Word 3 of the record of an author in round 1.
 fn endorsers_of(engine: &mut Engine, author: u32) -> &mut u32 {
-    &mut engine.table[record(author, 1) + RECORD_ENDORSERS]
+    &mut engine.table[record(Member::new(author), Round::new(1)) + RECORD_ENDORSERS]
 }
 
 #[test]
@@ -263,7 +383,7 @@ fn no_author_is_among_its_own_endorsers() {
     for word in [1, 0xffff, 0x1_0000, 0x1_0006, u32::MAX] {
         let mut damaged = engine.clone();
         *endorsers_of(&mut damaged, 0) = word;
-        refuses(&mut damaged, 1, |e| e.certificate(0, 1));
+        refuses(&mut damaged, 1, |e| e.certificate(Member::new(0), Round::new(1)));
         refuses(&mut damaged, 1, |e| e.accept(&certificate));
         refuses(&mut damaged, 1, Engine::advance);
         refuses(&mut damaged, 1, |e| e.block(1));
@@ -272,14 +392,14 @@ fn no_author_is_among_its_own_endorsers() {
     for word in [0xfffe, 0x8000, 2, 0] {
         let mut changed = engine.clone();
         *endorsers_of(&mut changed, 0) = word;
-        assert_eq!(u32::from(changed.certificate(0, 1).unwrap().endorsers), word);
+        assert_eq!(u32::from(changed.certificate(Member::new(0), Round::new(1)).unwrap().endorsers), word);
         refuses(&mut changed, 16, |e| e.accept(&certificate));
         refuses(&mut changed, 28, Engine::advance);
     }
     // Of a place that is not held the word is not looked at, and a put writes over it.
     let mut free = engine.clone();
     *endorsers_of(&mut free, 1) = u32::MAX;
-    let proposal = Proposal { author: 1, round: 1, previous: 0, transactions: Vec::new() };
+    let proposal = Proposal { author: Member::new(1), round: Round::new(1), previous: 0, transactions: Vec::new() };
     free.accept(&Certificate { proposal, endorsers: 0b1001 }).unwrap();
     assert_eq!(*endorsers_of(&mut free, 1), 0b1001);
 }
@@ -289,7 +409,7 @@ fn no_author_is_among_its_own_endorsers() {
 fn certificates_stored_before_show_no_endorsers() {
     let (mut old, certificate) = endorsed_by_two();
     *endorsers_of(&mut old, 0) = 0;
-    let held = old.certificate(0, 1).unwrap();
+    let held = old.certificate(Member::new(0), Round::new(1)).unwrap();
     assert_eq!((held.endorsers, &held.proposal), (0, &certificate.proposal));
     refuses(&mut of_four(1), 13, |e| e.accept(&held.clone().certificate()));
     refuses(&mut old, 16, |e| e.accept(&certificate));
@@ -297,7 +417,7 @@ fn certificates_stored_before_show_no_endorsers() {
     let mut author = alone();
     author.propose(0, &[]).unwrap();
     author.certify(0).unwrap();
-    alone().accept(&author.certificate(0, 1).unwrap().certificate()).unwrap();
+    alone().accept(&author.certificate(Member::new(0), Round::new(1)).unwrap().certificate()).unwrap();
 }
 
 // ---- batches
@@ -322,7 +442,9 @@ fn a_batch_is_accepted_newest_first() {
     let one_by_one: Vec<_> = row.iter().map(|certificate| singly.accept(certificate)).collect();
     assert_eq!(numbers(&one_by_one), [11, 11, 11, 11, 11, 11, 11, 11, 0, 0, 0, 0]);
     let mut engine = of_four(0);
-    assert_eq!(numbers(&engine.batch(&row).unwrap()), [0; 12]);
+    let answers = engine.batch(&row).unwrap();
+    assert_eq!(numbers(&answers), [0; 12]);
+    assert!((&answers).into_iter().eq(answers.iter()) && answers.clone().into_iter().eq(answers.iter().copied()));
     let mut in_order = of_four(0);
     row.iter().rev().for_each(|certificate| in_order.accept(certificate).unwrap());
     assert!(engine == in_order);
@@ -340,7 +462,7 @@ fn of_equals_the_first_in_the_row() {
     let other = of_all_four(0, 1, 0, &[entry(1)]);
     let mut engine = of_four(1);
     assert_eq!(numbers(&engine.batch(&[first.clone(), second.clone(), other.clone()]).unwrap()), [0, 16, 17]);
-    assert_eq!(engine.certificate(0, 1).unwrap().endorsers, 0b0110);
+    assert_eq!(engine.certificate(Member::new(0), Round::new(1)).unwrap().endorsers, 0b0110);
     let mut engine = of_four(1);
     assert_eq!(numbers(&engine.batch(&[other, second, first]).unwrap()), [0, 17, 17]);
 }
@@ -376,8 +498,16 @@ fn records_of_a_row_are_the_words_of_certificates() {
         words[at] = word;
         CertificateRecord::from(words)
     };
-    let row = [spoilt(16, 65_536), spoilt(2, 65_536), spoilt(4, 3), spoilt(0, u32::MAX), spoilt(1, 0),
-               spoilt(1, u32::MAX), spoilt(3, 5), record];
+    let row = [
+        spoilt(16, 65_536),
+        spoilt(2, 65_536),
+        spoilt(4, 3),
+        spoilt(0, u32::MAX),
+        spoilt(1, 0),
+        spoilt(1, u32::MAX),
+        spoilt(3, 5),
+        record,
+    ];
     let (mut engine, mut answers) = (of_four(0), [77; 10]);
     lent::batch(&engine.state, &mut engine.table, &row, &mut answers).unwrap();
     assert_eq!(answers, [1, 1, 1, 4, 5, 5, 6, 0, 77, 77]);
@@ -387,16 +517,24 @@ fn records_of_a_row_are_the_words_of_certificates() {
 fn lengths_of_a_batch() {
     let words = of_all_four(1, 1, 0, &[]).to_words();
     let row = [CertificateRecord::from(words); BATCH_RECORDS + 1];
-    for (records, room, answer) in [(0, 0, Ok(())), (1, 1, Ok(())), (1, 2, Ok(())), (64, 64, Ok(())), (64, 70, Ok(())),
-                                    (1, 0, Err(Refusal::LengthRange)), (64, 63, Err(Refusal::LengthRange)),
-                                    (65, 65, Err(Refusal::LengthRange)), (65, 80, Err(Refusal::LengthRange))] {
+    for (records, room, answer) in [
+        (0, 0, Ok(())),
+        (1, 1, Ok(())),
+        (1, 2, Ok(())),
+        (64, 64, Ok(())),
+        (64, 70, Ok(())),
+        (1, 0, Err(Refusal::LengthRange)),
+        (64, 63, Err(Refusal::LengthRange)),
+        (65, 65, Err(Refusal::LengthRange)),
+        (65, 80, Err(Refusal::LengthRange)),
+    ] {
         let (mut engine, mut answers) = (of_four(0), vec![77; room]);
         let found = lent::batch(&engine.state, &mut engine.table, &row[..records], &mut answers);
         assert_eq!(found, answer, "{records} records, {room} answers");
         let tried = if answer.is_ok() { records } else { 0 };
         assert!(answers[tried..].iter().all(|&word| word == 77));
         assert!((0..tried).all(|i| answers[i] == if i == 0 { 0 } else { 16 }));
-        assert_eq!(engine.certificate(1, 1).is_ok(), tried > 0);
+        assert_eq!(engine.certificate(Member::new(1), Round::new(1)).is_ok(), tried > 0);
         // A malformed state comes first.
         let mut answers = vec![77; room];
         let found = lent::batch(&[0; STATE_WORDS], &mut engine.table, &row[..records], &mut answers);
@@ -406,7 +544,7 @@ fn lengths_of_a_batch() {
     let mut engine = of_four(0);
     let long = vec![of_all_four(1, 1, 0, &[]); BATCH_RECORDS + 1];
     refuses(&mut engine, 25, |e| e.batch(&long));
-    assert_eq!(engine.batch(&[]), Ok(Vec::new()));
+    assert!(engine.batch(&[]).unwrap().is_empty());
 }
 
 // ---- queues
@@ -421,7 +559,7 @@ fn draw(engine: &mut Engine) -> Vec<Transaction> {
     engine.draw((engine.round() > 1).into()).unwrap();
     let drawn = engine.proposal().unwrap().transactions;
     engine.certify(0).unwrap();
-    assert_eq!(engine.certificate(0, engine.round()).unwrap().proposal.transactions, drawn);
+    assert_eq!(engine.certificate(Member::new(0), engine.round()).unwrap().proposal.transactions, drawn);
     engine.advance().unwrap();
     drawn
 }
@@ -451,8 +589,8 @@ fn guests_share_the_proposal() {
 #[test]
 fn words_of_a_queue() {
     let mut engine = alone();
-    engine.enqueue(7, Transaction::Bond { member: 15, amount: 1_000 }).unwrap();
-    engine.enqueue(7, Transaction::Unbond { member: 3 }).unwrap();
+    engine.enqueue(7, Transaction::Bond { member: Member::new(15), amount: 1_000 }).unwrap();
+    engine.enqueue(7, Transaction::Unbond { member: Member::new(3) }).unwrap();
     add(&mut engine, &[(0, 5)]);
     let at = queue(7);
     assert_eq!((at, at + QUEUE_PLACES * TRANSACTION_WORDS), (248, 272));
@@ -464,8 +602,12 @@ fn words_of_a_queue() {
     engine.draw(0).unwrap();
     assert_eq!(engine.table[at..at + 6], [77; 6]);
     assert_eq!(engine.table[SERVED..WAITING + GUESTS], [8, 0, 0, 0, 0, 0, 0, 0, 0]);
-    let drawn = [entry(5), Transaction::Bond { member: 15, amount: 1_000 }, Transaction::Unbond { member: 3 }];
-    assert_eq!(lent::own_proposal(&engine.state), Some(proposal_words(0, 1, 0, &drawn)));
+    let drawn = [
+        entry(5),
+        Transaction::Bond { member: Member::new(15), amount: 1_000 },
+        Transaction::Unbond { member: Member::new(3) },
+    ];
+    assert_eq!(lent::own_proposal(&engine.state), Some(proposal_words(Member::new(0), Round::new(1), 0, &drawn)));
     assert_eq!(lent::own_proposal(&engine.state[1..]), None);
     assert_eq!(lent::own_proposal(&alone().state), None);
 }
@@ -474,8 +616,12 @@ fn words_of_a_queue() {
 #[test]
 fn adding_is_refused_in_its_order() {
     let mut engine = alone();
-    let bad = [Transaction::Bond { member: 16, amount: 1 }, Transaction::Bond { member: 0, amount: 0 },
-               Transaction::Bond { member: 0, amount: 1_001 }, Transaction::Unbond { member: 16 }];
+    let bad = [
+        Transaction::Bond { member: Member::new(16), amount: 1 },
+        Transaction::Bond { member: Member::new(0), amount: 0 },
+        Transaction::Bond { member: Member::new(0), amount: 1_001 },
+        Transaction::Unbond { member: Member::new(16) },
+    ];
     for number in 0..8 {
         bad.iter().for_each(|&one| refuses(&mut engine, 6, |e| e.enqueue(7, one)));
         add(&mut engine, &[(7, number)]);
@@ -532,7 +678,7 @@ fn a_draw_is_a_propose() {
     refuses(&mut engine, 9, |e| e.draw(0));
     // An open empties the queues.
     let sheet = Sheet { ceiling: Some(8), ..Sheet::default() };
-    let again = Engine::open_on(engine.table, 9, &sheet, Rights::NONE).unwrap();
+    let again = Engine::open_on(engine.table, Member::new(9), &sheet, Rights::NONE).unwrap();
     assert_eq!((waiting(&again), again.table[SERVED]), ([0; GUESTS], 0));
 }
 
@@ -547,8 +693,17 @@ fn queues_that_are_not_well_formed() {
         changed
     };
     let at = queue(3);
-    for (at, word) in [(SERVED, 9), (SERVED, u32::MAX), (WAITING, 9), (WAITING + 7, u32::MAX), (WAITING, 1), (at, 3),
-                       (at + 3, 0), (at + 5, 1), (at + 2, 1)] {
+    for (at, word) in [
+        (SERVED, 9),
+        (SERVED, u32::MAX),
+        (WAITING, 9),
+        (WAITING + 7, u32::MAX),
+        (WAITING, 1),
+        (at, 3),
+        (at + 3, 0),
+        (at + 5, 1),
+        (at + 2, 1),
+    ] {
         // An empty queue with a count of 1 has a bond of nothing.
         let mut damaged = changed(at, word);
         refuses(&mut damaged, 1, |e| e.draw(0));
@@ -586,7 +741,7 @@ fn no_advance_past_a_thin_round() {
         for mut engine in [engine.clone(), all] {
             let before = engine.clone();
             engine.advance().unwrap();
-            assert_eq!((engine.round(), engine.proposal()), (round + 1, None));
+            assert_eq!((engine.round(), engine.proposal()), (Round::new(round + 1), None));
             assert!(engine.table == before.table);
         }
         engine.advance().unwrap();
@@ -598,7 +753,7 @@ fn no_advance_past_a_thin_round() {
 fn a_quorum_is_told_by_weight() {
     let mut sheet = Sheet { ceiling: Some(8), ..Sheet::default() };
     sheet.weights[..4].copy_from_slice(&[Some(1), Some(1), Some(1), Some(4)]);
-    let opened = Engine::open(0, &sheet).unwrap();
+    let opened = Engine::open(Member::new(0), &sheet).unwrap();
     for (authors, refused) in [(&[3][..], true), (&[0, 1, 2], true), (&[3, 1], false), (&[0, 1, 2, 3], false)] {
         let mut engine = opened.clone();
         authors.iter().for_each(|&author| engine.accept(&of_all_four(author, 1, 0, &[])).unwrap());
@@ -625,7 +780,7 @@ fn an_outsider_beside_a_quorum() {
 fn alone_with(transaction: Transaction) -> Engine {
     let mut sheet = Sheet { lookback: Some(1), ceiling: Some(8), ..Sheet::default() };
     sheet.weights[..4].copy_from_slice(&[Some(1), Some(0), Some(0), Some(0)]);
-    let mut engine = Engine::open(0, &sheet).unwrap();
+    let mut engine = Engine::open(Member::new(0), &sheet).unwrap();
     engine.propose(0, &[transaction]).unwrap();
     engine.certify(0).unwrap();
     for _ in 2..=3 {
@@ -641,8 +796,8 @@ fn alone_with(transaction: Transaction) -> Engine {
 /// Nothing held is a quorum of an empty committee, and one certificate is not.
 #[test]
 fn an_empty_committee_lets_it_pass() {
-    let mut engine = alone_with(Transaction::Unbond { member: 0 });
-    assert_eq!(engine.committee(4), Ok([0; MEMBERS]));
+    let mut engine = alone_with(Transaction::Unbond { member: Member::new(0) });
+    assert_eq!(engine.committee(Round::new(4)), Ok([0; MEMBERS]));
     let mut damaged = engine.clone();
     write_record(&mut damaged, 0, 4, 0, [2, 7, 0]);
     refuses(&mut damaged, 28, Engine::advance);
@@ -656,7 +811,7 @@ fn advance_is_refused_in_its_order() {
     for (ceiling, number) in [(3, 18), (4, 18), (5, 8)] {
         let mut sheet = Sheet { lookback: Some(1), ceiling: Some(ceiling), ..Sheet::default() };
         sheet.weights[1..4].fill(Some(0));
-        let mut engine = Engine::open(0, &sheet).unwrap();
+        let mut engine = Engine::open(Member::new(0), &sheet).unwrap();
         for round in 1..=ceiling.min(4) {
             if round < 4 {
                 engine.propose((round > 1).into(), &[]).unwrap();
@@ -679,9 +834,14 @@ fn block_rows(engine: &Engine, known: u32, number: u32) -> Result<Vec<Held>, Ref
     let found = engine.block_rows(known, number)?;
     let blocks = engine.chain().unwrap();
     let blocks = &blocks[known as usize..(known + number) as usize];
-    let place = |(at, block): (u32, &Block)| block.certificates.iter().map(move |&place| (at, place)).collect::<Vec<_>>();
-    let places = (known + 1..).zip(blocks).flat_map(place);
-    assert!(found.iter().map(|held| (held.block.unwrap(), (held.proposal.round, held.proposal.author))).eq(places));
+    let places = blocks.iter().flat_map(|block| block.certificates.iter().copied());
+    assert!(found.iter().map(|one| (one.block, one.proposal.author, one.proposal.round)).eq(places.map(|entry| (
+        Some(entry.block),
+        entry.author,
+        entry.round
+    ))));
+    let numbers = (known + 1..).zip(blocks).flat_map(|(number, block)| vec![number; block.certificates.len()]);
+    assert!(found.iter().map(|one| one.block.unwrap()).eq(numbers));
     for held in &found {
         assert_eq!(engine.certificate(held.proposal.author, held.proposal.round).as_ref(), Ok(held));
     }
@@ -721,7 +881,7 @@ fn block_rows_are_certificates_of_the_chain() {
 #[test]
 fn a_list_of_rows_is_lent() {
     let mut engine = of_four(0);
-    engine.batch(&newest_first(3)).unwrap();
+    assert!(engine.batch(&newest_first(3)).unwrap().iter().all(Result::is_ok));
     (0..2).for_each(|_| engine.advance().unwrap());
     assert_eq!(engine.commit(), Ok(1));
     let mut list = vec![77; 5 * HELD_WORDS + 1];
@@ -761,7 +921,7 @@ fn preview(engine: &Engine) -> Result<Vec<Entry>, Refusal> {
 /// Entries of a block: rounds, each with its authors.
 fn of_block(block: u32, rounds: &[(u32, &[u32])]) -> Vec<Entry> {
     let row = |&(round, authors): &(u32, &[u32])| -> Vec<Entry> {
-        authors.iter().map(|&author| Entry { block, round, author }).collect()
+        authors.iter().map(|&author| Entry { block, round: Round::new(round), author: Member::new(author) }).collect()
     };
     rounds.iter().flat_map(row).collect()
 }
@@ -813,7 +973,8 @@ fn a_preview_is_refused_in_its_order() {
         assert!(list.iter().all(|&word| word == 77));
     };
     // No commit in round 1 and in even ones; no anchor; a vote of the weight of the bound.
-    let mut engine = Engine::open(0, &Sheet { lookback: Some(1), ceiling: Some(8), ..Sheet::default() }).unwrap();
+    let mut engine =
+        Engine::open(Member::new(0), &Sheet { lookback: Some(1), ceiling: Some(8), ..Sheet::default() }).unwrap();
     refused(&engine, 19);
     for author in 0..4 {
         engine.accept(&of_all_four(author, 1, 0, &[])).unwrap();
@@ -886,7 +1047,7 @@ fn a_block_without_new_certificates_has_no_entry() {
     // As if block 1, of round 2, held rounds 1 to 4.
     engine.state[STATE_BLOCKS] = 1;
     engine.table[row(1) + ROW_BLOCK] = 2;
-    (1..=4).for_each(|round| engine.table[record(0, round) + RECORD_BLOCK] = 1);
+    (1..=4).for_each(|round| engine.table[record(Member::new(0), Round::new(round)) + RECORD_BLOCK] = 1);
     assert_eq!(preview(&engine), Ok(of_block(3, &[(5, &[0]), (6, &[0])])));
     assert_eq!(engine.commit(), Ok(2));
 }
@@ -899,10 +1060,12 @@ fn by_absence(engine: &Engine) -> Result<Vec<Critical>, Refusal> {
     engine.clone().commit()?;
     let without = |place: &Critical| {
         let mut copy = engine.clone();
-        copy.table[row(place.round) + ROW_HELD] &= !(1 << place.author);
+        copy.table[row(place.round.get()) + ROW_HELD] &= !u32::from(place.author.bit());
         copy.commit()
     };
-    let places = (engine.round() - 1..=engine.round()).flat_map(|round| (0..16).map(move |author| Critical { round, author }));
+    let places = [engine.round().before(), engine.round()]
+        .into_iter()
+        .flat_map(|round| Member::ALL.map(|author| Critical { round, author }));
     let held = places.filter(|place| engine.certificate(place.author, place.round).is_ok());
     Ok(held.filter(|place| without(place).is_err()).collect())
 }
@@ -919,8 +1082,8 @@ fn critical(engine: &mut Engine) -> Result<Vec<Critical>, Refusal> {
 
 /// The anchor of a round, and votes of the next.
 fn hangs_on(anchor: u32, round: u32, votes: &[u32]) -> Result<Vec<Critical>, Refusal> {
-    let votes = votes.iter().map(|&author| Critical { round: round + 1, author });
-    Ok([Critical { round, author: anchor }].into_iter().chain(votes).collect())
+    let votes = votes.iter().map(|&author| Critical { round: Round::new(round + 1), author: Member::new(author) });
+    Ok([Critical { round: Round::new(round), author: Member::new(anchor) }].into_iter().chain(votes).collect())
 }
 
 /// Of four of weight 1 the bound is 1: both of two votes, none of three or four. Then the next anchors.
@@ -955,23 +1118,28 @@ fn a_commit_hangs_on_its_anchor_and_on_few_votes() {
 fn votes_are_told_by_what_remains() {
     let mut sheet = Sheet { ceiling: Some(8), ..Sheet::default() };
     sheet.weights[..4].copy_from_slice(&[Some(1), Some(1), Some(1), Some(4)]);
-    let mut engine = Engine::open(0, &sheet).unwrap();
+    let mut engine = Engine::open(Member::new(0), &sheet).unwrap();
     for round in 1..=2 {
         let previous = if round == 1 { 0 } else { 0b1111 };
         (0..4).for_each(|author| engine.accept(&of_all_four(author, round, previous, &[])).unwrap());
         engine.advance().unwrap();
     }
     // What does not name the anchor, 1, is no vote.
-    for (votes, others, there) in [(&[3][..], &[][..], &[3][..]), (&[3], &[0, 1, 2], &[3]), (&[0, 3], &[], &[3]),
-                                   (&[0, 1, 3], &[2], &[3]), (&[0, 1, 2], &[3], &[0, 1, 2]),
-                                   (&[0, 1, 2, 3], &[], &[])] {
+    for (votes, others, there) in [
+        (&[3][..], &[][..], &[3][..]),
+        (&[3], &[0, 1, 2], &[3]),
+        (&[0, 3], &[], &[3]),
+        (&[0, 1, 3], &[2], &[3]),
+        (&[0, 1, 2], &[3], &[0, 1, 2]),
+        (&[0, 1, 2, 3], &[], &[]),
+    ] {
         let mut engine = engine.clone();
         votes.iter().for_each(|&author| engine.accept(&of_all_four(author, 3, 0b1111, &[])).unwrap());
         others.iter().for_each(|&author| engine.accept(&of_all_four(author, 3, 0b1101, &[])).unwrap());
         assert_eq!(critical(&mut engine), hangs_on(1, 2, there), "votes {votes:?}");
         // No run holds an outsider's certificate; it weighs nothing.
         write_record(&mut engine, 9, 3, 0, [2, 7, 0]);
-        engine.table[record(9, 3)] = 0b1111;
+        engine.table[record(Member::new(9), Round::new(3))] = 0b1111;
         assert_eq!(critical(&mut engine), hangs_on(1, 2, there), "votes {votes:?}, and an outsider's");
     }
 }
@@ -1029,7 +1197,8 @@ fn a_list_of_places_is_refused_in_its_order() {
         refuses(&mut damaged, 1, Engine::critical);
         assert!(list.iter().all(|&word| word == 77));
     };
-    let mut engine = Engine::open(0, &Sheet { lookback: Some(1), ceiling: Some(8), ..Sheet::default() }).unwrap();
+    let mut engine =
+        Engine::open(Member::new(0), &Sheet { lookback: Some(1), ceiling: Some(8), ..Sheet::default() }).unwrap();
     refused(&mut engine, 19);
     (0..4).for_each(|author| engine.accept(&of_all_four(author, 1, 0, &[])).unwrap());
     engine.advance().unwrap();
@@ -1089,7 +1258,8 @@ fn lengths_of_a_list_of_places() {
 /// Four of weight 1 in round 5, with the block of round 2, all of rounds 1 to 4, and votes of some. With
 /// a lookback of 1 that block makes the committees of rounds 4 and 5.
 fn in_round_5(author: u32, transaction: Transaction, votes: &[u32]) -> Engine {
-    let mut engine = Engine::open(0, &Sheet { lookback: Some(1), ceiling: Some(8), ..Sheet::default() }).unwrap();
+    let mut engine =
+        Engine::open(Member::new(0), &Sheet { lookback: Some(1), ceiling: Some(8), ..Sheet::default() }).unwrap();
     for round in 1..=4 {
         let previous = if round == 1 { 0 } else { 0b1111 };
         for one in 0..4 {
@@ -1109,16 +1279,25 @@ fn in_round_5(author: u32, transaction: Transaction, votes: &[u32]) -> Engine {
 /// chain, and with it committees, so that other certificates may be there, and the anchor not.
 #[test]
 fn a_certificate_of_a_block_is_tried_without() {
-    let mark = |engine: &mut Engine, author: u32, round: u32| engine.table[record(author, round) + RECORD_BLOCK] = 1;
+    let mark = |engine: &mut Engine, author: u32, round: u32| {
+        engine.table[record(Member::new(author), Round::new(round)) + RECORD_BLOCK] = 1
+    };
     // A bond of 10 for member 0 gives its vote its weight: total 14, bound 4.
-    let mut engine = in_round_5(3, Transaction::Bond { member: 0, amount: 10 }, &[0]);
+    let mut engine = in_round_5(3, Transaction::Bond { member: Member::new(0), amount: 10 }, &[0]);
     assert_eq!(critical(&mut engine), Err(Refusal::VotesShort));
     mark(&mut engine, 3, 4);
     let place = |round, author| Critical { round, author };
-    assert_eq!(critical(&mut engine), Ok(vec![place(4, 2), place(4, 3), place(5, 0)]));
+    assert_eq!(
+        critical(&mut engine),
+        Ok(vec![
+            place(Round::new(4), Member::new(2)),
+            place(Round::new(4), Member::new(3)),
+            place(Round::new(5), Member::new(0))
+        ])
+    );
     // Without member 0 the leader of round 4 is 3, else 2, and both have a certificate and votes: the
     // commit goes without this anchor, by the other.
-    let mut engine = in_round_5(3, Transaction::Unbond { member: 0 }, &[1, 2, 3]);
+    let mut engine = in_round_5(3, Transaction::Unbond { member: Member::new(0) }, &[1, 2, 3]);
     assert_eq!(critical(&mut engine), hangs_on(2, 4, &[]));
     mark(&mut engine, 3, 4);
     assert_eq!(critical(&mut engine), Ok(Vec::new()));
@@ -1137,10 +1316,12 @@ fn a_commit_may_hang_on_all_that_is_held() {
     engine.state[STATE_ROUND] = 5;
     engine.state[STATE_BLOCKS] = 1;
     engine.table[row(1) + ROW_BLOCK] = 2;
-    let places: Vec<_> = (4..=5).flat_map(|round| (0..16).map(move |author| Critical { round, author })).collect();
-    places.iter().for_each(|place| write_record(&mut engine, place.author, place.round, 1, [0, 0, 1]));
+    let places: Vec<_> = (4..=5)
+        .flat_map(|round| (0..16).map(move |author| Critical { round: Round::new(round), author: Member::new(author) }))
+        .collect();
+    places.iter().for_each(|place| write_record(&mut engine, place.author.get(), place.round.get(), 1, [0, 0, 1]));
     // The anchor is that of 2.
-    engine.table[record(0, 5)] = 0b0100;
+    engine.table[record(Member::new(0), Round::new(5))] = 0b0100;
     assert_eq!(critical(&mut engine), Ok(places));
     let mut list = [77; CRITICAL_WORDS + 1];
     assert_eq!(lent::critical(&engine.state, &mut engine.table, &mut list), Ok(32));
@@ -1153,7 +1334,7 @@ fn a_commit_may_hang_on_all_that_is_held() {
 fn of_sixteen(margin: u32, weights: [u32; MEMBERS]) -> Engine {
     let weights = weights.map(Some);
     let sheet = Sheet { lookback: Some(1), ceiling: Some(8), weights, margin: Some(margin), ..Sheet::default() };
-    Engine::open(0, &sheet).unwrap()
+    Engine::open(Member::new(0), &sheet).unwrap()
 }
 
 /// The members below a number.
@@ -1164,34 +1345,48 @@ fn below(number: u32) -> Set {
 /// A certificate without transactions that its author and the first of the others sign, so many in all.
 fn signed_by(signers: u32, author: u32, round: u32, previous: Set) -> Certificate {
     let endorsers = if author < signers { below(signers) & !(1 << author) } else { below(signers - 1) };
-    Certificate { proposal: Proposal { author, round, previous, transactions: Vec::new() }, endorsers }
+    Certificate {
+        proposal: Proposal {
+            author: Member::new(author),
+            round: Round::new(round),
+            previous,
+            transactions: Vec::new(),
+        },
+        endorsers,
+    }
 }
 
 #[test]
 fn margins_of_a_sheet() {
     let sheet = |margin| Sheet { ceiling: Some(8), margin, ..Sheet::default() };
     for (margin, filled) in [(None, 3), (Some(3), 3), (Some(4), 4), (Some(5), 5)] {
-        let engine = Engine::open(0, &sheet(margin)).unwrap();
+        let engine = Engine::open(Member::new(0), &sheet(margin)).unwrap();
         assert_eq!(engine.state[STATE_MARGIN], filled);
         assert_eq!(sheet(margin).to_words()[38..], [margin.is_some().into(), margin.unwrap_or(0)]);
     }
     // 4, then 2, then 3, then 1.
     for margin in [0, 1, 2, 6, 7, u32::MAX] {
         let wrong = Sheet { weights: [Some(0); MEMBERS], ..sheet(Some(margin)) };
-        assert_eq!(Engine::open(16, &wrong), Err(Refusal::MemberRange));
-        assert_eq!(Engine::open(15, &wrong), Err(Refusal::SettingRange));
-        assert_eq!(Engine::open_on(Vec::new(), 15, &sheet(Some(margin)), Rights::NONE), Err(Refusal::SettingRange));
+        assert_eq!(Engine::open(Member::new(16), &wrong), Err(Refusal::MemberRange));
+        assert_eq!(Engine::open(Member::new(15), &wrong), Err(Refusal::SettingRange));
+        assert_eq!(
+            Engine::open_on(Vec::new(), Member::new(15), &sheet(Some(margin)), Rights::NONE),
+            Err(Refusal::SettingRange)
+        );
     }
-    assert_eq!(Engine::open_on(Vec::new(), 15, &sheet(Some(5)), Rights::NONE), Err(Refusal::Malformed));
+    assert_eq!(Engine::open_on(Vec::new(), Member::new(15), &sheet(Some(5)), Rights::NONE), Err(Refusal::Malformed));
     // What a blank one has for its value is not looked at; a sheet of before is too short.
     let mut engine = of_four(0);
     let mut words = sheet(None).to_words();
     words[39] = 6;
-    lent::open(&mut engine.state, &mut engine.table, 0, &words, 0).unwrap();
+    lent::open(&mut engine.state, &mut engine.table, Member::new(0), &words, 0).unwrap();
     assert_eq!(engine.state[STATE_MARGIN], 3);
-    assert_eq!(lent::open(&mut engine.state, &mut engine.table, 0, &words[..38], 0), Err(Refusal::Malformed));
+    assert_eq!(
+        lent::open(&mut engine.state, &mut engine.table, Member::new(0), &words[..38], 0),
+        Err(Refusal::Malformed)
+    );
     words[38] = 2;
-    assert_eq!(lent::open(&mut engine.state, &mut engine.table, 0, &words, 0), Err(Refusal::Malformed));
+    assert_eq!(lent::open(&mut engine.state, &mut engine.table, Member::new(0), &words, 0), Err(Refusal::Malformed));
 }
 
 /// For total 16 margin 3 gives 5 and 11, margin 5 gives 3 and 13: 13, 28, 12, one short and just enough.
@@ -1248,11 +1443,11 @@ fn votes_by_the_margin() {
 fn what_a_margin_leaves_alone() {
     for margin in 3..=5 {
         let engine = of_sixteen(margin, [1; MEMBERS]);
-        assert_eq!(engine.committee(3), Ok([1; MEMBERS]));
-        assert_eq!(engine.committee(4), Err(Refusal::CommitteeUnknown));
-        assert_eq!(engine.share(15, 3), Ok(62));
-        assert_eq!(engine.bond_effect(15, 3, 64).unwrap().largest, 750);
-        assert_eq!(leader(2, &engine.committee(2).unwrap()), Some(1));
+        assert_eq!(engine.committee(Round::new(3)), Ok([1; MEMBERS]));
+        assert_eq!(engine.committee(Round::new(4)), Err(Refusal::CommitteeUnknown));
+        assert_eq!(engine.share(Member::new(15), Round::new(3)), Ok(Share::new(62)));
+        assert_eq!(engine.bond_effect(Member::new(15), Round::new(3), 64).unwrap().largest, 750);
+        assert_eq!(leader(Round::new(2), &engine.committee(Round::new(2)).unwrap()), Some(Member::new(1)));
     }
 }
 
@@ -1260,12 +1455,17 @@ fn what_a_margin_leaves_alone() {
 /// the margin.
 #[test]
 fn a_proposal_beside_a_margin() {
-    let all = [Transaction::Bond { member: 3, amount: 1_000 }, Transaction::Unbond { member: 15 }, entry(7), entry(u32::MAX)];
+    let all = [
+        Transaction::Bond { member: Member::new(3), amount: 1_000 },
+        Transaction::Unbond { member: Member::new(15) },
+        entry(7),
+        entry(u32::MAX),
+    ];
     let mut sheet = Sheet { ceiling: Some(8), margin: Some(5), ..Sheet::default() };
     sheet.weights[1..4].fill(Some(0));
-    let mut engine = Engine::open(0, &sheet).unwrap();
+    let mut engine = Engine::open(Member::new(0), &sheet).unwrap();
     engine.propose(0, &all).unwrap();
-    assert_eq!(lent::own_proposal(&engine.state), Some(proposal_words(0, 1, 0, &all)));
+    assert_eq!(lent::own_proposal(&engine.state), Some(proposal_words(Member::new(0), Round::new(1), 0, &all)));
     assert_eq!(engine.proposal().unwrap().transactions, all);
     engine.certify(0).unwrap();
     for _ in 2..=3 {
@@ -1292,7 +1492,7 @@ fn states_of_before() {
         assert_eq!(lent::certify(&short, &mut table, 0b1110), Err(Refusal::Malformed));
         assert_eq!(lent::advance(&mut short, &table), Err(Refusal::Malformed));
         assert_eq!(lent::commit(&mut short, &mut table), Err(Refusal::Malformed));
-        assert_eq!(lent::committee(&short, &table, 1), Err(Refusal::Malformed));
+        assert_eq!(lent::committee(&short, &table, Round::new(1)), Err(Refusal::Malformed));
         assert_eq!(lent::chain(&short, &table, &mut []), Err(Refusal::Malformed));
         assert_eq!(lent::own_proposal(&short), None);
         assert!(!lent::is_well_formed(&short, &table) && short == stored && table == engine.table);
@@ -1320,7 +1520,7 @@ fn states_of_before() {
 #[test]
 fn a_margin_out_of_range() {
     let mut engine = of_four(0);
-    let proposal = Proposal { author: 1, round: 1, previous: 0, transactions: Vec::new() };
+    let proposal = Proposal { author: Member::new(1), round: Round::new(1), previous: 0, transactions: Vec::new() };
     let of_three = Certificate { proposal, endorsers: 0b1001 };
     for margin in [0, 1, 2, 6, 7, 0x1_0003, u32::MAX] {
         engine.state[STATE_MARGIN] = margin;
@@ -1328,7 +1528,7 @@ fn a_margin_out_of_range() {
         refuses(&mut engine, 1, |e| e.accept(&of_three));
         refuses(&mut engine, 1, |e| e.enqueue(8, entry(1)));
         refuses(&mut engine, 1, Engine::advance);
-        refuses(&mut engine, 1, |e| e.share(0, 1));
+        refuses(&mut engine, 1, |e| e.share(Member::new(0), Round::new(1)));
         refuses(&mut engine, 1, |e| e.chain());
     }
     // Of four of weight 1 margins 4 and 5 ask for all.
@@ -1343,22 +1543,23 @@ fn a_margin_out_of_range() {
 #[test]
 fn refused_calls_change_nothing() {
     let mut engine = of_four(0);
-    let proposal = |author, round, previous, count| Proposal {
-        author, round, previous, transactions: vec![entry(1); count],
-    };
-    refuses(&mut engine, 4, |e| e.endorse(&proposal(16, 1, 0, 0)));
-    refuses(&mut engine, 5, |e| e.endorse(&proposal(1, 9, 1, 0)));
-    refuses(&mut engine, 6, |e| e.endorse(&proposal(1, 1, 0, 5)));
-    refuses(&mut engine, 7, |e| e.endorse(&proposal(1, 1, 1, 0)));
-    refuses(&mut engine, 14, |e| e.endorse(&proposal(0, 1, 0, 0)));
-    refuses(&mut engine, 11, |e| e.endorse(&proposal(1, 2, 7, 0)));
+    let proposal =
+        |author, round, previous, count| Proposal { author, round, previous, transactions: vec![entry(1); count] };
+    refuses(&mut engine, 4, |e| e.endorse(&proposal(Member::new(16), Round::new(1), 0, 0)));
+    refuses(&mut engine, 5, |e| e.endorse(&proposal(Member::new(1), Round::new(9), 1, 0)));
+    refuses(&mut engine, 6, |e| e.endorse(&proposal(Member::new(1), Round::new(1), 0, 5)));
+    refuses(&mut engine, 7, |e| e.endorse(&proposal(Member::new(1), Round::new(1), 1, 0)));
+    refuses(&mut engine, 14, |e| e.endorse(&proposal(Member::new(0), Round::new(1), 0, 0)));
+    refuses(&mut engine, 11, |e| e.endorse(&proposal(Member::new(1), Round::new(2), 7, 0)));
     refuses(&mut engine, 15, |e| e.certify(0b1110));
     refuses(&mut engine, 19, Engine::commit);
-    refuses(&mut engine, 13, |e| e.accept(&Certificate { proposal: proposal(1, 1, 0, 0), endorsers: 1 }));
+    refuses(&mut engine, 13, |e| {
+        e.accept(&Certificate { proposal: proposal(Member::new(1), Round::new(1), 0, 0), endorsers: 1 })
+    });
     engine.propose(0, &[]).unwrap();
     refuses(&mut engine, 10, |e| e.propose(0, &[]));
     refuses(&mut engine, 9, |e| e.certify(1 << 15));
-    refuses(&mut engine, 23, |e| e.certificate(0, 1));
+    refuses(&mut engine, 23, |e| e.certificate(Member::new(0), Round::new(1)));
     refuses(&mut engine, 23, |e| e.block(0));
 }
 
@@ -1367,24 +1568,24 @@ fn reads_of_a_fresh_state() {
     let engine = of_four(0);
     let mut four = [0; MEMBERS];
     four[..4].fill(1);
-    assert_eq!(engine.committee(8), Ok(four));
-    assert_eq!(engine.committee(9), Err(Refusal::RoundRange));
-    assert_eq!(engine.share(3, 1), Ok(250));
-    assert_eq!(engine.share(4, 1), Err(Refusal::Outside));
-    assert_eq!(engine.share(16, 1), Err(Refusal::MemberRange));
-    assert_eq!((engine.own(), engine.round(), engine.blocks()), (0, 1, 0));
+    assert_eq!(engine.committee(Round::new(8)), Ok(four));
+    assert_eq!(engine.committee(Round::new(9)), Err(Refusal::RoundRange));
+    assert_eq!(engine.share(Member::new(3), Round::new(1)), Ok(Share::new(250)));
+    assert_eq!(engine.share(Member::new(4), Round::new(1)), Err(Refusal::Outside));
+    assert_eq!(engine.share(Member::new(16), Round::new(1)), Err(Refusal::MemberRange));
+    assert_eq!((engine.own(), engine.round(), engine.blocks()), (Member::new(0), Round::FIRST, 0));
     assert_eq!(engine.chain(), Ok(Vec::new()));
 }
 
 #[test]
 fn a_half_goes_to_the_even_thousandth() {
-    let shares = |weights: &[u32]| -> Vec<u32> {
+    let shares = |weights: &[u32]| -> Vec<Share> {
         let mut sheet = Sheet { ceiling: Some(8), weights: [Some(0); MEMBERS], ..Sheet::default() };
         for (setting, weight) in sheet.weights.iter_mut().zip(weights) {
             *setting = Some(*weight);
         }
-        let engine = Engine::open(0, &sheet).unwrap();
-        (0..weights.len() as u32).map(|member| engine.share(member, 1).unwrap()).collect()
+        let engine = Engine::open(Member::new(0), &sheet).unwrap();
+        (0..weights.len() as u32).map(|member| engine.share(Member::new(member), Round::new(1)).unwrap()).collect()
     };
     assert_eq!(shares(&[1; 16]), [62; 16]);
     assert_eq!(shares(&[1_000_000; 16]), [62; 16]);
@@ -1406,17 +1607,19 @@ fn and_none(first: &[u32]) -> [u32; MEMBERS] {
 fn effect(weights: [u32; MEMBERS], member: u32, amount: u32) -> Effect {
     let shares = |weights| {
         let engine = of_sixteen(3, weights);
-        let share = |member| engine.share(member, 1).or_else(|refusal| match refusal {
-            Refusal::Outside => Ok(0),
-            _ => Err(refusal),
-        });
-        core::array::from_fn(|member| share(member as u32).unwrap())
+        let share = |member| {
+            engine.share(member, Round::new(1)).or_else(|refusal| match refusal {
+                Refusal::Outside => Ok(Share::new(0)),
+                _ => Err(refusal),
+            })
+        };
+        core::array::from_fn(|member| share(Member::new(member as u32)).unwrap())
     };
     let mut bonded = weights;
     bonded[member as usize] += amount;
-    let found = of_sixteen(3, weights).bond_effect(member, 1, amount).unwrap();
+    let found = of_sixteen(3, weights).bond_effect(Member::new(member), Round::new(1), amount).unwrap();
     assert_eq!((found.before, found.after), (shares(weights), shares(bonded)));
-    let apart = found.before.iter().zip(found.after).map(|(before, after)| before.abs_diff(after));
+    let apart = found.before.iter().zip(found.after).map(|(before, after)| before.get().abs_diff(after.get()));
     assert_eq!(found.largest, apart.max().unwrap());
     let (total, amount) = (u64::from(bonded.iter().sum::<u32>()), u64::from(amount));
     assert!(u64::from(found.largest) <= 1 + 1_000 * amount / total);
@@ -1442,7 +1645,8 @@ fn a_bond_moves_the_shares() {
         (&[999_999], 1, 1, &[1_000], &[1_000, 0], 0),
         (&[1], 15, 1_000, &[1_000], &[1, 0, 0, 0, 0, 0, 0, 0, 0, 0, 0, 0, 0, 0, 0, 999], 999),
     ] {
-        let expected = Effect { before: and_none(before), after: and_none(after), largest };
+        let expected =
+            Effect { before: and_none(before).map(Share::new), after: and_none(after).map(Share::new), largest };
         assert_eq!(effect(and_none(weights), member, amount), expected, "{weights:?}, {member} by {amount}");
     }
 }
@@ -1450,8 +1654,13 @@ fn a_bond_moves_the_shares() {
 /// Every member and some amounts; the largest weights too, above which no sheet starts.
 #[test]
 fn a_bond_of_every_member() {
-    for weights in [ones(&[0, 1, 2, 3]), [1; MEMBERS], [999_000; MEMBERS], core::array::from_fn(|member| 1 << member),
-                    core::array::from_fn(|member| if member % 3 == 1 { 0 } else { 7 * member as u32 })] {
+    for weights in [
+        ones(&[0, 1, 2, 3]),
+        [1; MEMBERS],
+        [999_000; MEMBERS],
+        core::array::from_fn(|member| 1 << member),
+        core::array::from_fn(|member| if member % 3 == 1 { 0 } else { 7 * member as u32 }),
+    ] {
         for member in 0..16 {
             for amount in [1, 2, 3, 16, 255, 999, 1_000] {
                 effect(weights, member, amount);
@@ -1460,32 +1669,39 @@ fn a_bond_of_every_member() {
     }
     let engine = of_sixteen(3, [1_000_000; MEMBERS]);
     for amount in [1, 1_000] {
-        let mut after = [62; MEMBERS];
-        after[15] = 63;
-        assert_eq!(engine.bond_effect(15, 3, amount), Ok(Effect { before: [62; MEMBERS], after, largest: 1 }));
+        let mut after = [Share::new(62); MEMBERS];
+        after[15] = Share::new(63);
+        assert_eq!(
+            engine.bond_effect(Member::new(15), Round::new(3), amount),
+            Ok(Effect { before: [Share::new(62); MEMBERS], after, largest: 1 })
+        );
     }
 }
 
 /// The committee of the round that is asked for. What a bond was told to do it does, once it counts.
 #[test]
 fn a_bond_effect_is_that_of_the_round() {
-    let told = alone().bond_effect(3, 1, 3).unwrap();
-    assert_eq!(told, Effect { before: and_none(&[1_000]), after: and_none(&[250, 0, 0, 750]), largest: 750 });
-    let engine = alone_with(Transaction::Bond { member: 3, amount: 3 });
+    let shares = |first: &[u32]| and_none(first).map(Share::new);
+    let told = alone().bond_effect(Member::new(3), Round::new(1), 3).unwrap();
+    assert_eq!(told, Effect { before: shares(&[1_000]), after: shares(&[250, 0, 0, 750]), largest: 750 });
+    let engine = alone_with(Transaction::Bond { member: Member::new(3), amount: 3 });
     for round in 1..=3 {
-        assert_eq!(engine.bond_effect(3, round, 3), Ok(told));
+        assert_eq!(engine.bond_effect(Member::new(3), Round::new(round), 3), Ok(told));
     }
     for round in 4..=5 {
-        let next = engine.bond_effect(0, round, 4).unwrap();
-        assert_eq!(next, Effect { before: told.after, after: and_none(&[625, 0, 0, 375]), largest: 375 });
-        assert_eq!((engine.share(0, round), engine.share(3, round)), (Ok(250), Ok(750)));
+        let next = engine.bond_effect(Member::new(0), Round::new(round), 4).unwrap();
+        assert_eq!(next, Effect { before: told.after, after: shares(&[625, 0, 0, 375]), largest: 375 });
+        assert_eq!(
+            (engine.share(Member::new(0), Round::new(round)), engine.share(Member::new(3), Round::new(round))),
+            (Ok(Share::new(250)), Ok(Share::new(750)))
+        );
     }
 }
 
 /// 1, 4, 5, 6, 8, 30, whatever else is wrong.
 #[test]
 fn a_bond_effect_is_refused_in_its_order() {
-    let engine = alone_with(Transaction::Unbond { member: 0 });
+    let engine = alone_with(Transaction::Unbond { member: Member::new(0) });
     let mut damaged = engine.clone();
     damaged.state[STATE_MARGIN] = 6;
     for member in [0, 15, 16, u32::MAX] {
@@ -1499,13 +1715,15 @@ fn a_bond_effect_is_refused_in_its_order() {
                     (_, 4.., _) => 30,
                     _ => 0,
                 };
-                let found = engine.bond_effect(member, round, amount).map_or_else(Refusal::number, |_| 0);
+                let found = engine
+                    .bond_effect(Member::new(member), Round::new(round), amount)
+                    .map_or_else(Refusal::number, |_| 0);
                 assert_eq!(found, number, "member {member}, round {round}, amount {amount}");
-                refuses(&mut damaged, 1, |e| e.bond_effect(member, round, amount));
+                refuses(&mut damaged, 1, |e| e.bond_effect(Member::new(member), Round::new(round), amount));
             }
         }
     }
-    assert_eq!(engine.bond_effect(0, 4, 1), Err(Refusal::EmptyCommittee));
+    assert_eq!(engine.bond_effect(Member::new(0), Round::new(4), 1), Err(Refusal::EmptyCommittee));
     assert_eq!(Refusal::EmptyCommittee.to_string(), "refused with 30: committee of the round empty");
 }
 
@@ -1513,15 +1731,21 @@ fn a_bond_effect_is_refused_in_its_order() {
 fn words_of_a_bond_effect() {
     let words: [u32; EFFECT_WORDS] = core::array::from_fn(|at| 100 + at as u32);
     let found = Effect::from_words(&words);
-    assert_eq!((&found.before[..], &found.after[..]), (&words[..16], &words[16..32]));
+    assert!(found.before[..] == words[..16] && found.after[..] == words[16..32]);
     assert_eq!(found.largest, 132);
     // A longer table and a longer state are fine.
     let engine = of_four(0);
     let table = [&engine.table[..], &[77; 5]].concat();
     let state = [&engine.state[..], &[77; 5]].concat();
-    assert_eq!(lent::bond_effect(&state, &table, 5, 1, 2), engine.bond_effect(5, 1, 2));
-    assert_eq!(lent::bond_effect(&state[1..], &table, 5, 1, 2), Err(Refusal::Malformed));
-    assert_eq!(lent::bond_effect(&state, &engine.table[1..], 5, 1, 2), Err(Refusal::Malformed));
+    assert_eq!(
+        lent::bond_effect(&state, &table, Member::new(5), Round::new(1), 2),
+        engine.bond_effect(Member::new(5), Round::new(1), 2)
+    );
+    assert_eq!(lent::bond_effect(&state[1..], &table, Member::new(5), Round::new(1), 2), Err(Refusal::Malformed));
+    assert_eq!(
+        lent::bond_effect(&state, &engine.table[1..], Member::new(5), Round::new(1), 2),
+        Err(Refusal::Malformed)
+    );
 }
 
 #[test]
@@ -1536,7 +1760,7 @@ fn a_stored_engine_goes_on() {
     let mut damaged = Engine::restore([u32::MAX; STATE_WORDS], stored.1);
     refuses(&mut damaged, 1, |e| e.certify(0b1110));
     refuses(&mut damaged, 1, Engine::advance);
-    refuses(&mut damaged, 1, |e| e.committee(1));
+    refuses(&mut damaged, 1, |e| e.committee(Round::new(1)));
     refuses(&mut damaged, 1, |e| e.chain());
 }
 
@@ -1556,8 +1780,8 @@ fn a_malformed_state_is_refused_everywhere() {
         assert!(!engine.is_well_formed());
         refuses(&mut engine, 1, |e| e.chain());
         refuses(&mut engine, 1, |e| e.block(1));
-        refuses(&mut engine, 1, |e| e.committee(1));
-        refuses(&mut engine, 1, |e| e.bond_effect(0, 1, 1));
+        refuses(&mut engine, 1, |e| e.committee(Round::new(1)));
+        refuses(&mut engine, 1, |e| e.bond_effect(Member::new(0), Round::new(1), 1));
         refuses(&mut engine, 1, Engine::commit);
         refuses(&mut engine, 1, |e| e.preview());
         refuses(&mut engine, 1, Engine::critical);
@@ -1580,22 +1804,31 @@ fn a_list_for_the_chain_may_be_longer_and_not_shorter() {
         engine.certify(0).unwrap();
     }
     engine.commit().unwrap();
-    let blank = lent::Place { block: 9, round: 9, author: 9 };
+    let blank = lent::Place { block: 9, round: Round::new(9), author: Member::new(9) };
     let (mut exact, mut short, mut long) = ([blank; 2], [blank; 1], [blank; 3]);
     assert_eq!(lent::chain(&engine.state, &engine.table, &mut short), Err(Refusal::Malformed));
     assert_eq!(short, [blank]);
     assert_eq!(lent::chain(&engine.state, &engine.table, &mut exact), Ok(2));
-    assert_eq!(exact, [1, 2].map(|round| lent::Place { block: 1, round, author: 0 }));
+    assert_eq!(exact, [1, 2].map(|round| lent::Place { block: 1, round: Round::new(round), author: Member::new(0) }));
     assert_eq!(lent::chain(&engine.state, &engine.table, &mut long), Ok(2));
     assert_eq!((&long[..2], long[2]), (&exact[..], blank));
 }
 
 #[test]
 fn words_of_proposals_and_certificates_go_both_ways() {
-    let transactions = vec![Transaction::Bond { member: 3, amount: 1_000 }, Transaction::Unbond { member: 15 },
-                            entry(u32::MAX), entry(0)];
+    let transactions = [
+        Transaction::Bond { member: Member::new(3), amount: 1_000 },
+        Transaction::Unbond { member: Member::new(15) },
+        entry(u32::MAX),
+        entry(0),
+    ];
     for count in 0..=TRANSACTIONS {
-        let proposal = Proposal { author: 2, round: 7, previous: 0xf00f, transactions: transactions[..count].to_vec() };
+        let proposal = Proposal {
+            author: Member::new(2),
+            round: Round::new(7),
+            previous: 0xf00f,
+            transactions: transactions[..count].to_vec(),
+        };
         let certificate = Certificate { proposal: proposal.clone(), endorsers: 0x8001 };
         assert_eq!(Proposal::from_words(&proposal.to_words()), Ok(proposal.clone()));
         assert_eq!(Certificate::from_words(&certificate.to_words()), Ok(certificate.clone()));
@@ -1609,7 +1842,7 @@ fn words_of_proposals_and_certificates_go_both_ways() {
 /// Words that endorse and accept cannot read are not read here either.
 #[test]
 fn words_that_cannot_be_read() {
-    let certificate = of_all_four(1, 1, 0, &[Transaction::Unbond { member: 2 }, entry(5)]).to_words();
+    let certificate = of_all_four(1, 1, 0, &[Transaction::Unbond { member: Member::new(2) }, entry(5)]).to_words();
     let spoilt = |at: usize, word: u32| {
         let mut words = certificate;
         words[at] = word;
@@ -1635,8 +1868,8 @@ fn a_table_of_every_ceiling() {
     for ceiling in 3..=CEILING {
         let sheet = Sheet { ceiling: Some(ceiling), ..Sheet::default() };
         let words = table_words(ceiling) as usize;
-        assert!(Engine::open_on(vec![0; words], 0, &sheet, Rights::NONE).is_ok());
-        assert_eq!(Engine::open_on(vec![0; words - 1], 0, &sheet, Rights::NONE), Err(Refusal::Malformed));
+        assert!(Engine::open_on(vec![0; words], Member::new(0), &sheet, Rights::NONE).is_ok());
+        assert_eq!(Engine::open_on(vec![0; words - 1], Member::new(0), &sheet, Rights::NONE), Err(Refusal::Malformed));
     }
 }
 
@@ -1650,7 +1883,7 @@ fn engines_may_be_called_at_once() {
             engine.advance().unwrap();
             engine.propose(1, &[]).unwrap();
             engine.certify(0).unwrap();
-            if engine.round() % 2 == 1 {
+            if engine.round().get() % 2 == 1 {
                 engine.commit().unwrap();
             }
         }

@@ -42,10 +42,10 @@ fn all_calls() -> Vec<Asked> {
         Sign: batch(&newest_first(2));
         Drive: advance();
         Drive: commit();
-        Read: committee(3);
-        Read: share(1, 3);
-        Read: bond_effect(5, 3, 2);
-        Read: certificate(1, 1);
+        Read: committee(Round::new(3));
+        Read: share(Member::new(1), Round::new(3));
+        Read: bond_effect(Member::new(5), Round::new(3), 2);
+        Read: certificate(Member::new(1), Round::new(1));
         Read: block(1);
         Read: block_rows(0, 1);
         Read: preview();
@@ -80,7 +80,7 @@ fn scenes() -> Vec<Engine> {
     let mut proposed = fresh.clone();
     proposed.propose(0, &[entry(1)]).unwrap();
     let mut full = fresh.clone();
-    full.batch(&newest_first(3)).unwrap();
+    assert!(full.batch(&newest_first(3)).unwrap().iter().all(Result::is_ok));
     let mut third = full.clone();
     (0..2).for_each(|_| third.advance().unwrap());
     let mut with_block = third.clone();
@@ -163,19 +163,19 @@ fn an_open_fixes_the_rights() {
     assert_eq!(of_four(0).state[STATE_RIGHTS], 0);
     for word in [0, 1, 0x8000_0000, 0x0123_4567, u32::MAX] {
         let rights = Rights::from_word(word);
-        let mut engine = Engine::open_with_rights(0, &sheet, rights).unwrap();
+        let mut engine = Engine::open_with_rights(Member::new(0), &sheet, rights).unwrap();
         assert_eq!((engine.rights(), engine.state[STATE_RIGHTS]), (rights, word));
         assert_eq!(engine.state[..STATE_RIGHTS], of_four(0).state[..STATE_RIGHTS]);
         assert_eq!(engine.table, of_four(0).table);
         assert_eq!(engine == of_four(0), word == 0);
         let table = engine.table.clone();
-        assert_eq!(Engine::open_on(table, 0, &sheet, rights).as_ref(), Ok(&engine));
+        assert_eq!(Engine::open_on(table, Member::new(0), &sheet, rights).as_ref(), Ok(&engine));
         assert!(engine.is_well_formed());
         assert_eq!(Engine::try_restore(engine.state, engine.table.clone()).as_ref(), Ok(&engine));
         // Again on the same words.
         let open = |e: &mut Engine, own| lent::open(&mut e.state, &mut e.table, own, &sheet.to_words(), !word);
-        refuses(&mut engine, 4, |e| open(e, 16));
-        open(&mut engine, 1).unwrap();
+        refuses(&mut engine, 4, |e| open(e, Member::new(16)));
+        open(&mut engine, Member::new(1)).unwrap();
         assert_eq!(lent::rights(&engine.state).to_word(), !word);
     }
 }
@@ -285,10 +285,10 @@ fn stretches_without_the_word_of_rights() {
                 lent::guest_commit(caller, &mut state, &mut table).map(|_| ()),
                 lent::guest_preview(caller, &state, &table, &mut list).map(|_| ()),
                 lent::guest_critical(caller, &state, &mut table, &mut list).map(|_| ()),
-                lent::guest_committee(caller, &state, &table, 1).map(|_| ()),
-                lent::guest_share(caller, &state, &table, 0, 1).map(|_| ()),
-                lent::guest_bond_effect(caller, &state, &table, 0, 1, 1).map(|_| ()),
-                lent::guest_certificate(caller, &state, &table, 0, 1).map(|_| ()),
+                lent::guest_committee(caller, &state, &table, Round::new(1)).map(|_| ()),
+                lent::guest_share(caller, &state, &table, Member::new(0), Round::new(1)).map(|_| ()),
+                lent::guest_bond_effect(caller, &state, &table, Member::new(0), Round::new(1), 1).map(|_| ()),
+                lent::guest_certificate(caller, &state, &table, Member::new(0), Round::new(1)).map(|_| ()),
                 lent::guest_block(caller, &state, &table, 1).map(|_| ()),
                 lent::guest_block_rows(caller, &state, &table, 0, 1, &mut list).map(|_| ()),
                 lent::guest_chain(caller, &state, &table, &mut places).map(|_| ()),
@@ -358,7 +358,7 @@ fn a_guest_adds_to_its_own_queue() {
     assert_eq!(waiting(&engine), [1, 2, 3, 4, 5, 6, 7, 8]);
     assert_eq!(engine.table[queue(7) + 1], 70);
     refuses(&mut engine, 27, |e| e.guest(7).enqueue(entry(1)));
-    refuses(&mut engine, 6, |e| e.guest(0).enqueue(Transaction::Unbond { member: 16 }));
+    refuses(&mut engine, 6, |e| e.guest(0).enqueue(Transaction::Unbond { member: Member::new(16) }));
     engine.guest(4).draw(0).unwrap();
     assert_eq!(engine.proposal().unwrap().transactions, [0, 10, 20, 30].map(entry));
     assert_eq!(waiting(&engine), [0, 1, 2, 3, 5, 6, 7, 8]);
@@ -371,13 +371,18 @@ fn guests_read_together() {
     let (one, two, without) = (engine.reader(0), engine.reader(1), engine.reader(2));
     assert_eq!((one.caller(), two.caller(), without.caller()), (0, 1, 2));
     assert_eq!(one.chain(), engine.chain());
-    assert_eq!((one.block(1), two.block(1), without.block(1)), (Ok(2), Ok(2), Err(Refusal::NoRight)));
-    assert_eq!(two.certificate(1, 1), engine.certificate(1, 1));
-    assert_eq!((one.bond_effect(5, 3, 2), two.bond_effect(5, 3, 0)),
-               (engine.bond_effect(5, 3, 2), Err(Refusal::TransactionsRange)));
-    assert_eq!(without.bond_effect(16, 0, 0), Err(Refusal::NoRight));
+    assert_eq!(
+        (one.block(1), two.block(1), without.block(1)),
+        (Ok(Round::new(2)), Ok(Round::new(2)), Err(Refusal::NoRight))
+    );
+    assert_eq!(two.certificate(Member::new(1), Round::new(1)), engine.certificate(Member::new(1), Round::new(1)));
+    assert_eq!(
+        (one.bond_effect(Member::new(5), Round::new(3), 2), two.bond_effect(Member::new(5), Round::new(3), 0)),
+        (engine.bond_effect(Member::new(5), Round::new(3), 2), Err(Refusal::TransactionsRange))
+    );
+    assert_eq!(without.bond_effect(Member::new(16), Round::new(0), 0), Err(Refusal::NoRight));
     let mut list = [lent::Place::default(); 8];
     assert_eq!(lent::guest_chain(1, &engine.state, &engine.table, &mut list), Ok(5));
     assert_eq!(lent::guest_chain(1, &engine.state, &engine.table, &mut list[..4]), Err(Refusal::Malformed));
-    assert_eq!(engine.guest(0).committee(3), engine.committee(3));
+    assert_eq!(engine.guest(0).committee(Round::new(3)), engine.committee(Round::new(3)));
 }

@@ -20,8 +20,10 @@ fn opened() -> Engine {
 /// Transactions of every kind, and numbers of one digit and of ten.
 fn transactions(author: u32, round: u32) -> Vec<Transaction> {
     let all = [
-        entry(u32::MAX - round), entry(0), Transaction::Bond { member: 15, amount: 1_000 },
-        Transaction::Unbond { member: 15 },
+        entry(u32::MAX - round),
+        entry(0),
+        Transaction::Bond { member: Member::new(15), amount: 1_000 },
+        Transaction::Unbond { member: Member::new(15) },
     ];
     all[..(author + round) as usize % 5].to_vec()
 }
@@ -31,9 +33,9 @@ fn play(engine: &mut Engine) {
     let round = engine.round();
     let previous = if round == 1 { 0 } else { 0b1111 };
     for author in 0..4 {
-        engine.accept(&of_all_four(author, round, previous, &transactions(author, round))).unwrap();
+        engine.accept(&of_all_four(author, round.get(), previous, &transactions(author, round.get()))).unwrap();
     }
-    if round % 2 == 1 && round > 1 {
+    if round.get() % 2 == 1 && round > 1 {
         assert_eq!(engine.commit(), Ok(1));
     }
     engine.advance().unwrap();
@@ -51,13 +53,13 @@ fn with_blocks() -> Engine {
 fn lines(engine: &Engine) -> Vec<(u32, String)> {
     let mut all = Vec::new();
     for (number, block) in (1..).zip(engine.chain().unwrap()) {
-        for (round, author) in block.certificates {
+        for Entry { author, round, .. } in block.certificates {
             let mut line = format!("{number},{},{round},{author}", block.round);
             for transaction in engine.certificate(author, round).unwrap().proposal.transactions {
                 let [kind, number, amount] = transaction.to_words();
                 line += &format!(",{},{number},{amount}", ["B", "U", "E"][kind as usize]);
             }
-            all.push((16 * round + author, line + "\r\n"));
+            all.push((16 * round.get() + author.get(), line + "\r\n"));
         }
     }
     all
@@ -220,8 +222,15 @@ fn where_a_port_stands() {
 fn a_reset() {
     let mut engine = with_blocks();
     for guest in CALLERS {
-        for (offset, value) in [(OFFSET_ENABLE, 1), (OFFSET_LINE, 0x80), (OFFSET_DATA, 0xaa), (OFFSET_ENABLE, 0xbb),
-                                (OFFSET_LINE, 0x1b), (OFFSET_MODEM, 0x1f), (OFFSET_SCRATCH, 0xcc)] {
+        for (offset, value) in [
+            (OFFSET_ENABLE, 1),
+            (OFFSET_LINE, 0x80),
+            (OFFSET_DATA, 0xaa),
+            (OFFSET_ENABLE, 0xbb),
+            (OFFSET_LINE, 0x1b),
+            (OFFSET_MODEM, 0x1f),
+            (OFFSET_SCRATCH, 0xcc),
+        ] {
             engine.guest(guest).port_write(offset, value).unwrap();
         }
         receive(&mut engine, guest, 20 * guest as usize + 1);
@@ -273,8 +282,12 @@ fn an_access_is_refused_in_its_order() {
     for offset in (0..OFFSETS).chain([8, 9, 255, 256, u32::MAX]) {
         let is_wrong = offset >= OFFSETS;
         for (engine, caller, number) in [
-            (&without, 8, 26), (&without, u32::MAX, 26), (&without, 7, 29), (&damaged, 8, 26),
-            (&damaged, 0, if is_wrong { 31 } else { 1 }), (&with_blocks(), 3, if is_wrong { 31 } else { 0 }),
+            (&without, 8, 26),
+            (&without, u32::MAX, 26),
+            (&without, 7, 29),
+            (&damaged, 8, 26),
+            (&damaged, 0, if is_wrong { 31 } else { 1 }),
+            (&with_blocks(), 3, if is_wrong { 31 } else { 0 }),
         ] {
             if number != 0 {
                 let mut engine = engine.clone();
@@ -306,15 +319,15 @@ fn what_resets_a_port() {
     engine.draw(0b1111).unwrap();
     engine.certify(0b1110).unwrap();
     engine.endorse(&of_all_four(1, 8, 0b1111, &[]).proposal).unwrap();
-    engine.batch(&newest_first(8)).unwrap();
+    assert_eq!(engine.batch(&newest_first(8)).unwrap().len(), 32);
     refuses(&mut engine, 18, Engine::advance);
     refuses(&mut engine, 19, Engine::critical);
     assert_eq!(ports(&engine), before);
 
     let sheet = Sheet { ceiling: Some(8), ..Sheet::default() }.to_words();
-    assert_eq!(lent::open(&mut engine.state, &mut engine.table, 16, &sheet, 0), Err(Refusal::MemberRange));
+    assert_eq!(lent::open(&mut engine.state, &mut engine.table, Member::new(16), &sheet, 0), Err(Refusal::MemberRange));
     assert_eq!(ports(&engine), before);
-    lent::open(&mut engine.state, &mut engine.table, 0, &sheet, u32::MAX).unwrap();
+    lent::open(&mut engine.state, &mut engine.table, Member::new(0), &sheet, u32::MAX).unwrap();
     assert_eq!(ports(&engine), [0; GUESTS * PORT_WORDS]);
 }
 
@@ -340,8 +353,14 @@ fn ports_that_are_not_well_formed() {
             refuses(&mut changed, 1, |e| e.waiting(0));
         }
     };
-    let limits = [(PORT_ENABLE, 1), (PORT_LINE, 255), (PORT_MODEM, 31), (PORT_SCRATCH, 255), (PORT_DIVISOR_LOW, 255),
-                  (PORT_DIVISOR_HIGH, 255)];
+    let limits = [
+        (PORT_ENABLE, 1),
+        (PORT_LINE, 255),
+        (PORT_MODEM, 31),
+        (PORT_SCRATCH, 255),
+        (PORT_DIVISOR_LOW, 255),
+        (PORT_DIVISOR_HIGH, 255),
+    ];
     let listed = lines(&engine);
     for guest in CALLERS {
         limits.iter().for_each(|&(word, most)| is_fine(true, guest, &[(word, most)]));
@@ -359,8 +378,8 @@ fn ports_that_are_not_well_formed() {
     }
     // Held and in no block; then in one.
     let mut unmarked = with(2, &[(PORT_PLACE, 16 * 7), (PORT_BYTE, 1)]);
-    assert!(engine.certificate(0, 7).unwrap().block.is_none() && !unmarked.is_well_formed());
-    unmarked.table[record(0, 7) + RECORD_BLOCK] = 3;
+    assert!(engine.certificate(Member::new(0), Round::new(7)).unwrap().block.is_none() && !unmarked.is_well_formed());
+    unmarked.table[record(Member::new(0), Round::new(7)) + RECORD_BLOCK] = 3;
     assert!(unmarked.is_well_formed());
 }
 
@@ -368,12 +387,12 @@ fn ports_that_are_not_well_formed() {
 /// two rounds, which is in a block as no run has it, changes nothing of the list.
 #[test]
 fn a_commit_does_not_hang_on_a_port() {
-    let mut engine = in_round_5(3, Transaction::Bond { member: 0, amount: 10 }, &[0]);
-    engine.table[record(3, 4) + RECORD_BLOCK] = 1;
+    let mut engine = in_round_5(3, Transaction::Bond { member: Member::new(0), amount: 10 }, &[0]);
+    engine.table[record(Member::new(3), Round::new(4)) + RECORD_BLOCK] = 1;
     let expected = engine.critical();
     assert_eq!(expected.as_ref().map(Vec::len), Ok(3));
     let mut unlisted = in_round_5(3, entry(7), &[0, 1, 2]);
-    unlisted.table[record(3, 4) + RECORD_BLOCK] = 1;
+    unlisted.table[record(Member::new(3), Round::new(4)) + RECORD_BLOCK] = 1;
     assert_eq!(unlisted.critical(), hangs_on(2, 4, &[]));
     for guest in CALLERS {
         for engine in [&mut engine, &mut unlisted] {
@@ -407,9 +426,18 @@ fn words_of_a_port() {
     for guest in CALLERS {
         assert_eq!(port(guest) + PORT_WORDS, queue(guest));
     }
-    let all = [PORT_PLACE, PORT_BYTE, PORT_ENABLE, PORT_LINE, PORT_MODEM, PORT_SCRATCH, PORT_DIVISOR_LOW, PORT_DIVISOR_HIGH];
+    let all =
+        [PORT_PLACE, PORT_BYTE, PORT_ENABLE, PORT_LINE, PORT_MODEM, PORT_SCRATCH, PORT_DIVISOR_LOW, PORT_DIVISOR_HIGH];
     assert_eq!(all, [0, 1, 2, 3, 4, 5, 6, 7]);
-    let offsets = [OFFSET_DATA, OFFSET_ENABLE, OFFSET_INTERRUPT, OFFSET_LINE, OFFSET_MODEM, OFFSET_STATUS,
-                   OFFSET_MODEM_STATUS, OFFSET_SCRATCH];
+    let offsets = [
+        OFFSET_DATA,
+        OFFSET_ENABLE,
+        OFFSET_INTERRUPT,
+        OFFSET_LINE,
+        OFFSET_MODEM,
+        OFFSET_STATUS,
+        OFFSET_MODEM_STATUS,
+        OFFSET_SCRATCH,
+    ];
     assert_eq!(offsets, [0, 1, 2, 3, 4, 5, 6, 7]);
 }
