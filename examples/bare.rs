@@ -10,8 +10,10 @@
 #![no_main]
 
 use forgelilac::layout::{preview_words, CRITICAL_WORDS, OFFSET_DATA, OFFSET_STATUS};
-use forgelilac::{lent, table_words, transactions_of, Critical, Entry, Refusal, Rights, Sheet, Transaction, STATE_WORDS};
+use forgelilac::{lent, table_words, transactions_of, Critical, Entry, Member, Refusal, Rights, Round, Sheet};
+use forgelilac::{Transaction, STATE_WORDS};
 
+const OWN: Member = Member::new(0);
 const CEILING: u32 = 64;
 const RIGHTS: Rights = Rights { propose: 1 << 3, read: 1 << 5, ..Rights::NONE };
 /// What guest 5 receives.
@@ -28,7 +30,7 @@ fn sign_alone(state: &mut [u32], table: &mut [u32], previous: u16) -> Result<(),
 
 /// Whether the certificate of a round holds these entries.
 fn holds(state: &[u32], table: &[u32], round: u32, entries: &[u32]) -> Result<bool, Refusal> {
-    let held = lent::certificate(state, table, 0, round)?;
+    let held = lent::certificate(state, table, OWN, Round::new(round))?;
     Ok(transactions_of(&held)?.eq(entries.iter().map(|&number| entry(number))))
 }
 
@@ -37,7 +39,7 @@ fn is_refused(state: &mut [u32], table: &mut [u32]) -> bool {
     lent::guest_enqueue(5, state, table, &entry(51).to_words()) == Err(Refusal::NoRight)
         && lent::guest_commit(3, state, table) == Err(Refusal::NoRight)
         && lent::guest_block(3, state, table, 1) == Err(Refusal::NoRight)
-        && lent::guest_bond_effect(3, state, table, 1, 3, 3) == Err(Refusal::NoRight)
+        && lent::guest_bond_effect(3, state, table, Member::new(1), Round::new(3), 3) == Err(Refusal::NoRight)
         && lent::guest_port_read(3, state, table, OFFSET_DATA) == Err(Refusal::NoRight)
         && lent::guest_port_read(5, state, table, 8) == Err(Refusal::OffsetRange)
         && lent::guest_commit(8, state, table) == Err(Refusal::GuestRange)
@@ -59,7 +61,7 @@ fn run() -> Result<bool, Refusal> {
     let (mut state, mut table) = ([0; STATE_WORDS], [0; table_words(CEILING) as usize]);
     let mut sheet = Sheet { ceiling: Some(CEILING), ..Sheet::default() };
     sheet.weights[1..4].fill(Some(0));
-    lent::open(&mut state, &mut table, 0, &sheet.to_words(), RIGHTS.to_word())?;
+    lent::open(&mut state, &mut table, OWN, &sheet.to_words(), RIGHTS.to_word())?;
     for number in 30..=33 {
         lent::guest_enqueue(3, &state, &mut table, &entry(number).to_words())?;
     }
@@ -76,7 +78,7 @@ fn run() -> Result<bool, Refusal> {
     {
         return Ok(false);
     }
-    let block = [1, 2].map(|round| Entry { block: 1, round, author: 0 });
+    let block = [1, 2].map(|round| Entry { block: 1, round: Round::new(round), author: OWN });
     let mut words = [0; preview_words(CEILING)];
     let count = lent::preview(&state, &table, &mut words)?;
     if !lent::entries(&words, count).eq(block) {
@@ -84,14 +86,15 @@ fn run() -> Result<bool, Refusal> {
     }
     let mut words = [0; CRITICAL_WORDS];
     let count = lent::critical(&state, &mut table, &mut words)?;
-    if !lent::criticals(&words, count).eq([2, 3].map(|round| Critical { round, author: 0 })) {
+    let hangs_on = [2, 3].map(|round| Critical { round: Round::new(round), author: OWN });
+    if !lent::criticals(&words, count).eq(hangs_on) {
         return Ok(false);
     }
     if !is_refused(&mut state, &mut table) || lent::rights(&state) != RIGHTS {
         return Ok(false);
     }
     // Member 1 would join with 3.
-    let effect = lent::guest_bond_effect(5, &state, &table, 1, 3, 3)?;
+    let effect = lent::guest_bond_effect(5, &state, &table, Member::new(1), Round::new(3), 3)?;
     if effect.before[..2] != [1_000, 0] || effect.after[..2] != [250, 750] || effect.largest != 750 {
         return Ok(false);
     }

@@ -43,30 +43,26 @@ static void open_alone(struct engine *e, uint32_t rights) {
     must("open", forgelilac_open(ENGINE(e), 3, WORDS(sheet), rights));
 }
 
-/* The authors whose certificates of a round are held. */
+/* The authors whose certificates of a round are held; none of round 0, since row 0 belongs to no round. */
 static uint32_t held(const struct engine *e, uint32_t round) {
-    uint32_t out[FORGELILAC_HELD_WORDS], set = 0;
-    for (uint32_t author = 0; author < FORGELILAC_MEMBERS; author++)
-        if (forgelilac_certificate(ENGINE(e), author, round, WORDS(out)) == FORGELILAC_ACCEPTED)
-            set |= UINT32_C(1) << author;
-    return set;
+    return round == 0 ? 0 : e->table[FORGELILAC_ROW(round) + FORGELILAC_ROW_HELD];
 }
 
-/* Proposes an entry; in round 1 member 0 also bonds 2. */
-static void propose(struct engine *e) {
+/* Proposes an entry, naming all that it holds of the round before; in round 1 member 0 also bonds 2. */
+static uint32_t propose(struct engine *e) {
     uint32_t body[FORGELILAC_BODY_WORDS];
     uint32_t own = e->state[FORGELILAC_STATE_OWN], round = e->state[FORGELILAC_STATE_ROUND];
     forgelilac_begin_body(body, held(e, round - 1));
     forgelilac_add_entry(body, 100 * round + own);
     if (own == 0 && round == 1) forgelilac_add_bond(body, 0, 2);
-    must("propose", forgelilac_propose(ENGINE(e), WORDS(body)));
+    return forgelilac_propose(ENGINE(e), WORDS(body));
 }
 
 /* One member's proposal is endorsed and certified; the others accept the certificate. */
 static void circulate(uint32_t author) {
     uint32_t certificate[FORGELILAC_CERTIFICATE_WORDS] = {0};
     uint32_t *endorsers = certificate + FORGELILAC_CERTIFICATE_ENDORSERS;
-    propose(&engines[author]);
+    must("propose", propose(&engines[author]));
     forgelilac_own_proposal(engines[author].state, certificate);
     for (uint32_t m = 0; m < MEMBERS; m++)
         if (m != author && forgelilac_endorse(ENGINE(&engines[m]), WORDS(certificate)) == 0)
@@ -179,12 +175,16 @@ static void print_answers(const char *how, const uint32_t answers[BUNDLE]) {
     printf("\n");
 }
 
-/* Goes on while the present round has a quorum, and commits before it leaves an odd one from 3 on.
- * A refused commit does not stop it: a real host waits in its last chance (docs/HOSTS.md). */
+/* Goes on while the present round has a quorum. It proposes in every round on the way too: a real host gets that
+ * certified before it goes on, so that each of its certificates is named by its next one and the last by others.
+ * (This one has no weight, and is refused with 9.) It commits before it leaves an odd round from 3 on. A refused
+ * commit does not stop it: a real host waits in its last chance (docs/HOSTS.md; examples/plant.c does all this). */
 static void print_catching_up(struct engine *e) {
     const uint32_t *round = &e->state[FORGELILAC_STATE_ROUND];
     uint32_t refusal;
     do {
+        refusal = propose(e);
+        if (refusal != FORGELILAC_OUTSIDE) must("propose", refusal);
         if (*round >= 3 && *round % 2 == 1) (void)forgelilac_commit(ENGINE(e));
         refusal = forgelilac_advance(ENGINE(e));
     } while (refusal == FORGELILAC_ACCEPTED);

@@ -14,17 +14,17 @@ enum { CEILING = 64, MEMBERS = 4, ALL = (1 << MEMBERS) - 1, STACK = 1 << 20, PAI
 enum { CALLER = 7, ME = 1 << CALLER };
 enum by { HOST, GUEST, BOTH };
 enum call { NOTHING, OPEN, PROPOSE, ENQUEUE, DRAW, ENDORSE, CERTIFY, ACCEPT, BATCH, ADVANCE, COMMIT,
-            PREVIEW, CRITICAL, COMMITTEE, SHARE, EFFECT, CERTIFICATE, BLOCK, CHAIN, PORT_READ, PORT_WRITE,
-            PORT_RESET, CALLS };
+            PREVIEW, CRITICAL, COMMITTEE, SHARE, EFFECT, CERTIFICATE, BLOCK, ROWS, CHAIN, PORT_READ,
+            PORT_WRITE, PORT_RESET, CALLS };
 static const char *const names[CALLS] = {"", "open", "propose", "enqueue", "draw", "endorse", "certify", "accept",
                                          "batch", "advance", "commit", "preview", "critical", "committee", "share",
-                                         "bond effect", "certificate", "block", "chain", "port read",
-                                         "port write", "port reset"};
+                                         "bond effect", "certificate", "block", "block rows", "chain",
+                                         "port read", "port write", "port reset"};
 
 static uint32_t state[FORGELILAC_STATE_WORDS], table[FORGELILAC_TABLE_WORDS(CEILING)];
 static uint32_t words[FORGELILAC_SHEET_WORDS], out[FORGELILAC_EFFECT_WORDS];
 static uint32_t list[FORGELILAC_CHAIN_WORDS(CEILING)], entries[FORGELILAC_PREVIEW_WORDS(CEILING)];
-static uint32_t places[FORGELILAC_CRITICAL_WORDS];
+static uint32_t places[FORGELILAC_CRITICAL_WORDS], rows[FORGELILAC_ROWS_WORDS(CEILING)];
 static struct forgelilac_certificate row[FORGELILAC_BATCH_RECORDS];
 static uint32_t answers[FORGELILAC_BATCH_RECORDS];
 static unsigned char *stack;
@@ -35,6 +35,7 @@ static enum by by;
 #define WORDS words, sizeof words / 4
 #define OUT out, sizeof out / 4
 #define ROW row, FORGELILAC_BATCH_RECORDS, answers, FORGELILAC_BATCH_RECORDS
+#define ALL_BLOCKS 0, state[FORGELILAC_STATE_BLOCKS], rows, sizeof rows / 4
 
 static uint64_t high(uint32_t refusal) { return (uint64_t)refusal << 32; }
 
@@ -59,6 +60,7 @@ static uint64_t make(enum call call) {
     case EFFECT: return high(forgelilac_bond_effect(ENGINE, words[0], words[1], words[2], OUT));
     case CERTIFICATE: return high(forgelilac_certificate(ENGINE, words[0], words[1], OUT));
     case BLOCK: return forgelilac_block(ENGINE, words[0]);
+    case ROWS: return forgelilac_block_rows(ENGINE, ALL_BLOCKS);
     case CHAIN: return forgelilac_chain(ENGINE, list, sizeof list / 4);
     case PORT_RESET: return high(forgelilac_port_reset(ENGINE, words[0]));
     default: return 0;
@@ -84,6 +86,7 @@ static uint64_t make_by_guest(enum call call) {
     case EFFECT: return high(forgelilac_guest_bond_effect(CALLER, ENGINE, words[0], words[1], words[2], OUT));
     case CERTIFICATE: return high(forgelilac_guest_certificate(CALLER, ENGINE, words[0], words[1], OUT));
     case BLOCK: return forgelilac_guest_block(CALLER, ENGINE, words[0]);
+    case ROWS: return forgelilac_guest_block_rows(CALLER, ENGINE, ALL_BLOCKS);
     case CHAIN: return forgelilac_guest_chain(CALLER, ENGINE, list, sizeof list / 4);
     case PORT_READ: return forgelilac_guest_port_read(CALLER, ENGINE, words[0]);
     case PORT_WRITE: return high(forgelilac_guest_port_write(CALLER, ENGINE, words[0], (uint8_t)words[1]));
@@ -177,6 +180,7 @@ static void look(uint32_t round) {
     measure(EFFECT);
     measure(CERTIFICATE);
     if (state[FORGELILAC_STATE_BLOCKS] > 0) measure(BLOCK);
+    measure(ROWS);
     measure(CHAIN);
 }
 

@@ -9,7 +9,8 @@
  * longer than its layout: what lies beyond is not looked at and never changes.
  *
  * Answers. A call answers 0 when accepted, else the refusal number; the first check that fails
- * gives it. A refused call changes no word. The numbers at the end of a function's comment are its
+ * gives it. An answer of 64 bits has the value in its low half and the refusal number in its high half:
+ * keep it in a uint64_t, and see forgelilac_refusal_of. A refused call changes no word. The numbers at the end of a function's comment are its
  * refusals in the order of its checks. docs/HOSTS.md has the checks and what each refusal asks of
  * you; docs/TABLES.md has the layouts and which words each call changes.
  *
@@ -37,10 +38,10 @@ extern "C" {
 
 /* ---- versions */
 
-/* Of the header, and of the archive that belongs to it. */
+/* Of the header, and of the archive that belongs to it: as text, and as its three parts. */
 #define FORGELILAC_VERSION "0.13.0"
 #define FORGELILAC_VERSION_MAJOR 0
-#define FORGELILAC_VERSION_MINOR 12
+#define FORGELILAC_VERSION_MINOR 13
 #define FORGELILAC_VERSION_PATCH 0
 /* Of the words of state and table; no word of theirs has it. Store it beside them: docs/TABLES.md
  * tells what to do with words of an older format. Those of format 1 have a state of 37 words: write 3
@@ -81,10 +82,10 @@ extern "C" {
 #define FORGELILAC_PREVIEW_WORDS(ceiling) (48u * (ceiling))
 
 /* Bytes of stack that serve every call and every function below on x86-64; examples/stack.c
- * measures what they use. Preview uses about 90 KB, commit and batch about 85 KB, critical about 83 KB,
- * accept and a port read about 79 KB, propose, draw, endorse, certify, advance, committee, share and
- * bond effect 75 to 77 KB, forgelilac_chain about 2 KB, the others less than 1.2 KB; a guest's form
- * little more than the host's call. */
+ * measures what they use. Preview uses about 86 KB, commit and batch about 82 KB, critical and a port
+ * read about 79 KB, accept about 77 KB, propose, draw, endorse, certify, advance, committee, share, bond
+ * effect and block rows 74 to 76 KB, forgelilac_chain about 2 KB, the others less than 1.2 KB; a guest's
+ * form little more than the host's call. */
 #define FORGELILAC_STACK_BYTES 98304
 
 /* ---- words of a state */
@@ -109,7 +110,7 @@ enum forgelilac_right {
     FORGELILAC_RIGHT_PROPOSE = 0, /* propose, draw, enqueue */
     FORGELILAC_RIGHT_SIGN = 1,    /* endorse, certify, accept, batch */
     FORGELILAC_RIGHT_DRIVE = 2,   /* advance, commit */
-    FORGELILAC_RIGHT_READ = 3     /* committee, share, bond effect, certificate, block, preview, critical; the chain; one's own port */
+    FORGELILAC_RIGHT_READ = 3     /* committee, share, bond effect, certificate, block, block rows, preview, critical; the chain; one's own port */
 };
 /* Rights of callers 0 to 7 as a word, of four sets of callers, caller c counting 2 to the power c: bit
  * 8 * right + caller is set where the caller has the right. Any word is some rights. */
@@ -414,7 +415,7 @@ uint64_t forgelilac_table_words(uint32_t ceiling);
 
 /* ---- calls of guests
  *
- * Guests reach the engine directly: the hypervisor takes what a guest asks for, and calls the guest's
+ * Guests may ask for calls in their own name: the hypervisor takes what a guest asks for, and calls the guest's
  * form with the number of that guest. It passes the number that it knows itself, of the guest that was
  * running, never one that the guest wrote. State and table are the host's and out of the guests' reach,
  * the rights among them; and no stretch may change while a call runs, so copy what a guest hands over
@@ -514,10 +515,11 @@ uint64_t forgelilac_guest_block_rows(uint32_t caller,
                                      uint32_t known, uint32_t number,
                                      uint32_t *list, size_t list_words);
 /* Right: read. Reads an offset of the caller's own port (FORGELILAC_OFFSET_DATA and so on), so no port
- * is named. Low half: the byte, 0 to 255. High half: refusal number. The listing that it receives is the
- * runner's answer to a chain record without the closing ok: a line for each certificate in a block, in
- * the order of the chain, each ended by CR and LF. A byte waits exactly while the listing has bytes that
- * this port has not read since reset. A read of offset 0 that takes one changes the port's first two
+ * is named. Low half: the byte, 0 to 255. High half: refusal number. The listing that it receives is text,
+ * a line for each certificate in a block, in the order of the chain, each ended by CR and LF: block, round
+ * of the block, round of the certificate and author, then of each transaction E, B or U, number and
+ * amount, with commas between, as 1,2,1,0,E,100,0,B,2,1. A byte waits exactly while the listing has bytes
+ * that this port has not read since reset. A read of offset 0 that takes one changes the port's first two
  * words of the table; no other read changes a word. Store them, or after a restore the guest may be
  * given bytes again. 31 comes before 1, also where the words of the state cannot be read.
  * 26, 29, 31, 1. */

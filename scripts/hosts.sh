@@ -2,10 +2,12 @@
 # hosts.sh [ARCHIVE [SEEDS [CALLS]]]: builds and runs everything that hosts link, against the
 # static library (crates/host/out/libhost.a where none is given; `rt lib` in crates/host makes it):
 # the header in C99, freestanding too, C11 and C++; `make install`, and the examples in C and C++
-# through pkg-config, an old guest's serial port among them, whose listing must be the reference's;
+# through pkg-config, four members with messages and stores among them, and an old guest's serial port,
+# whose listing must be the reference's;
 # the stack that calls need, the host's own and guests'; the Rust package: its
-# tests and doctests, users of editions 2021 and 2024, one without the standard library, and the
-# archive found in each of the four ways; a replay of shuffled runs (seeds 1 to SEEDS, 20 where not
+# layout and its lints where cargo has them, tests and doctests, users of editions 2021 and 2024, one without
+# the standard library, one documented without an archive, and the archive found in each of the four ways, the
+# last of which proves nothing unless it is told to; a replay of shuffled runs (seeds 1 to SEEDS, 20 where not
 # given) that must answer as the reference does; chains, and which words calls change; the register
 # of plant owners against reads of committees; and CALLS (1,000,000) calls on grown and on damaged
 # states, 50,000 certificates in batches, 50,000 calls on queues, 20,000 previews, 20,000 lists of
@@ -18,7 +20,7 @@ archive=$(realpath -m "${1:-crates/host/out/libhost.a}")
 [ -f "$archive" ] || { echo "no archive $archive: run 'cd crates/host && rt lib'" >&2; exit 2; }
 out=$(mktemp -d)
 trap 'rm -rf "$out"' EXIT
-unset FORGELILAC_ARCHIVE
+unset FORGELILAC_ARCHIVE FORGELILAC_BUILD DOCS_RS
 
 # ---- the header
 
@@ -44,7 +46,7 @@ as_expected() {
     "$@" > "$out/output"
     diff -u "$expected" "$out/output"
 }
-for example in host serial; do
+for example in host serial plant; do
     gcc -std=c99 -O2 $strict $flags examples/$example.c $libs -o "$out/$example-c"
     g++ -std=c++14 -O2 $strict $flags -x c++ examples/$example.c -x none $libs -o "$out/$example-c++"
     for program in $example-c $example-c++; do
@@ -85,12 +87,33 @@ cp "$archive" "$out/tree/crates/host/out/libhost.a"
 cargo test -q --locked --manifest-path "$out/tree/$package/Cargo.toml"
 cargo doc -q --locked --manifest-path "$out/tree/$package/Cargo.toml"
 echo "tests and doctests of the package, archive of the tree: passed"
+as_expected ten_blocks cargo run -q --locked --example ten_blocks --manifest-path "$out/tree/$package/Cargo.toml"
+echo "a host of three members and ten blocks: as examples/ten_blocks.expected"
+for lint in "fmt --check" "clippy -q --all-targets --locked"; do
+    if cargo ${lint%% *} --version > "$out/lint" 2>&1; then
+        cargo $lint --manifest-path "$out/tree/$package/Cargo.toml"
+        echo "package: cargo $lint has nothing to say"
+    else
+        echo "package: cargo ${lint%% *} is not here, not checked"
+    fi
+done
 mv "$out/tree/crates/host/out/libhost.a" "$out/ready.a"
 printf '#!/bin/sh\n[ "$*" = lib ] && cp %s out/libhost.a\n' "$out/ready.a" > "$out/bin/rt"
 chmod +x "$out/bin/rt"
-PATH="$out/bin:$PATH" cargo build -q --locked --no-default-features --manifest-path "$out/tree/$package/Cargo.toml"
+without="cargo build -q --locked --no-default-features --manifest-path $out/tree/$package/Cargo.toml"
+if PATH="$out/bin:$PATH" $without 2> "$out/said"; then
+    echo "the package was built without an archive" >&2
+    exit 1
+fi
+grep -q "FORGELILAC_BUILD=1" "$out/said"
+[ ! -e "$out/tree/crates/host/out/libhost.a" ]
+for features in --all-features --no-default-features; do
+    DOCS_RS=1 cargo doc -q --locked $features --manifest-path "$out/tree/$package/Cargo.toml"
+done
+echo "package without an archive: documented, not built, and the message says what to do"
+PATH="$out/bin:$PATH" FORGELILAC_BUILD=1 $without
 cmp -s "$out/ready.a" "$out/tree/crates/host/out/libhost.a"
-echo "package without alloc, archive by rt lib: built"
+echo "package without alloc, archive by rt lib as FORGELILAC_BUILD asks: built"
 
 # ---- against the reference
 

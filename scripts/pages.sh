@@ -1,10 +1,10 @@
 #!/bin/sh
 # pages.sh [PAGE...]: runs every marked example of the pages (docs/*.md where none is given)
 # and compares what it says with what the page shows; first, that docs/TRUST.md and docs/map.svg are current,
-# that each link and each section that a page, a comment or a script names is there,
+# that each link and each section that a page, a comment or a script names is there, and each line that a page shows as a change,
 # that pages name only crates, files, definitions, laws, functions and edits that are there, that docs/PROMISES.md has
-# each sentence of docs/RULES.md, and that the engine, the header and the Rust package have the same functions and the
-# same record, and that the engine's runner ends as docs/SECOND-SUPPLIER.md has it.
+# each sentence of docs/RULES.md, and that the engine, the header and the Rust package have the same functions, the
+# same record and one version, and that the engine's runner ends as docs/SECOND-SUPPLIER.md has it.
 #   RUNNER   the runner (crates/runner/out/runner, else reference/bin/runner_ref, built where missing)
 #   ARCHIVE  the static library (crates/host/out/libhost.a); without it C and Rust are only compiled
 set -eu
@@ -13,6 +13,7 @@ cd "$(dirname "$0")/.."
 python3 tools/trust/trust.py --check
 python3 tools/map/map.py --check
 python3 scripts/links.py
+python3 scripts/diffs.py
 python3 scripts/signatures.py
 if [ -z "${RUNNER:-}" ]; then
     RUNNER=crates/runner/out/runner

@@ -1,4 +1,5 @@
-"""signatures.py: the functions that hosts link and the record that they lend, compared in the three places that write them out.
+"""signatures.py: the functions that hosts link and the record that they lend, compared in the three places that write them out;
+and the version, in all places that have it.
 
 A contract speaks of a function's parameters by their names; that a host hands them in the same order, and lays a record out
 in the same way, no contract says. So this compares
@@ -10,7 +11,11 @@ parameters for a host: `x: &[u32]` is `const uint32_t *x, size_t x_words`, `&mut
 `row: &[CertificateRecord]` is `const struct forgelilac_certificate *row, size_t row_count`. The record has the same fields in
 the same order, of the same type and at the same offset, and is laid out as C does (`repr(C)`).
 
-It exits 1 at the first difference, in words; else it says how many functions agree.
+The version of header and archive stands in the header as text, FORGELILAC_VERSION, from which the Makefile takes it, and as
+three parts; in the package as the one that it is made for, ENGINE_VERSION; and as a heading of CHANGELOG.md, the newest that is
+not the package's. The package's own stands in Cargo.toml, in Cargo.lock, and as a heading of CHANGELOG.md. Each is the same.
+
+It exits 1 at the first difference, in words; else it says how many functions agree, and the version.
 """
 import os
 import re
@@ -21,9 +26,21 @@ CRATES = ["host"]       # owned has functions too, which the header does not off
 HEADER = "include/forgelilac.h"
 PACKAGE = "bindings/rust/src/lent.rs"
 LAYOUT = "bindings/rust/src/layout.rs"
+VERSION = "bindings/rust/src/version.rs"
 RECORD = "crates/batching/src/rows.rt"
 RECORDS = {"CertificateRecord": "struct forgelilac_certificate"}       # the types of Rattle and of Rust, and C's name of each
 COMPUTED = {"forgelilac_table_words"}       # the package has it as a constant function, and does not link it
+VERSIONS = [        # each place that has the header's version, and the lines that have it: one, or one for each of its parts
+    (HEADER, [r'^#define FORGELILAC_VERSION "(.*)"$']),
+    (HEADER, [rf"^#define FORGELILAC_VERSION_{part} (\d+)$" for part in ("MAJOR", "MINOR", "PATCH")]),
+    (VERSION, [r'^pub const ENGINE_VERSION: &str = "(.*)";$']),
+    ("CHANGELOG.md", [r"^## (\d+\.\d+\.\d+)(?! of the Rust package)\b"]),
+]
+PACKAGE_VERSIONS = [        # the same of the Rust package, which has a version of its own
+    ("bindings/rust/Cargo.toml", [r'^version = "(.*)"$']),
+    ("bindings/rust/Cargo.lock", [r'^name = "forgelilac"\nversion = "(.*)"$']),
+    ("CHANGELOG.md", [r"^## (\d+\.\d+\.\d+) of the Rust package\b"]),
+]
 SIZES = {"uint8_t": 1, "uint16_t": 2, "uint32_t": 4, "uint64_t": 8}
 WORDS = {"u8": "uint8_t", "u16": "uint16_t", "u32": "uint32_t", "u64": "uint64_t", "usize": "size_t"}
 
@@ -213,6 +230,25 @@ def same_record(one, other):
         raise Different(f"CertificateRecord: {len(fields)} fields by {place}, and {len(others)} at {there}")
 
 
+# ---- the version
+
+
+def same_version(versions):
+    """The version, where each place has the same."""
+    told = []
+    for path, forms in versions:
+        text = text_of(path)
+        found = [re.search(form, text, re.M) for form in forms]
+        if None in found:
+            raise Different(f"{path}: no line is {forms[found.index(None)]}")
+        told.append((".".join(one[1] for one in found), f"{path}:{line_of(text, found[0].start(1))}"))
+    (version, place), *others = told
+    for other, there in others:
+        if other != version:
+            raise Different(f"the version is {version} by {place}, and {other} by {there}")
+    return version
+
+
 def main():
     os.chdir(Path(__file__).resolve().parents[1])
     try:
@@ -223,11 +259,13 @@ def main():
         record = of_struct(RECORD, {})
         same_record(record, of_header())
         same_record(record, of_struct(PACKAGE, constants))
+        version, package = same_version(VERSIONS), same_version(PACKAGE_VERSIONS)
     except Different as found:
         print(f"signatures.py: {found}", file=sys.stderr)
         return 1
     print(f"signatures: {len(engine)} functions are the same in {', '.join(f'crates/{crate}' for crate in CRATES)}, the header and the Rust package, "
-          f"and so is the record, {len(record[0])} fields in {sum(count for _, _, count, _ in record[0])} words")
+          f"and so is the record, {len(record[0])} fields in {sum(count for _, _, count, _ in record[0])} words; "
+          f"the version is {version}, and that of the package {package}")
     return 0
 
 

@@ -25,7 +25,7 @@ mod words;
 use calls::Rng;
 use forgelilac::lent::{self, CertificateRecord, Place};
 use forgelilac::{layout, leader, Block, Certificate, Engine, Entry, Proposal, Refusal, Sheet, Transaction, MEMBERS};
-use forgelilac::{Critical, Effect, Right, Rights};
+use forgelilac::{Critical, Effect, Member, Right, Rights, Round};
 use grow::*;
 use nodes::Node;
 use std::ffi::{c_char, CStr};
@@ -72,7 +72,7 @@ const NUMBERS: [usize; 88] = [
     layout::ROW_HELD, layout::ROW_ENDORSED, layout::ROW_BLOCK, layout::ROW_RECORDS,
     layout::RECORD_WORDS, layout::RECORD_PREVIOUS, layout::RECORD_COUNT, layout::RECORD_BLOCK,
     layout::RECORD_ENDORSERS, layout::RECORD_TRANSACTIONS, layout::row(7),
-    layout::record(5, 7), forgelilac::table_words(64) as usize, 3 * MEMBERS * 64,
+    layout::record(Member::new(5), Round::new(7)), forgelilac::table_words(64) as usize, 3 * MEMBERS * 64,
     layout::BATCH_RECORDS, size_of::<CertificateRecord>(), layout::GUESTS, layout::QUEUE_PLACES,
     layout::TRANSACTION_WORDS, layout::SERVED, layout::WAITING, layout::queue(0), layout::queue(7),
     layout::ENTRY_WORDS, layout::ENTRY_BLOCK, layout::ENTRY_ROUND, layout::ENTRY_AUTHOR, layout::preview_words(64),
@@ -104,7 +104,7 @@ fn text(of: *const c_char) -> &'static str {
 fn compare_header() {
     // SAFETY: numbers in, numbers and literals out; 17 words, and a record of as many.
     unsafe {
-        assert_eq!(text(header::header_version()), env!("VERSION"));
+        assert_eq!(text(header::header_version()), forgelilac::ENGINE_VERSION);
         for (which, number) in (0..).zip(NUMBERS) {
             assert_eq!(header::header_number(which) as usize, number, "number {which}");
         }
@@ -138,12 +138,12 @@ fn by_reads(engine: &Engine) -> Result<Vec<Block>, Refusal> {
     let rounds = (1..=engine.blocks()).map(|number| engine.block(number));
     let empty = |round| Block { round, certificates: Vec::new() };
     let mut chain = rounds.map(|round| round.map(empty)).collect::<Result<Vec<_>, _>>()?;
-    let last = chain.last().map_or(0, |block| block.round);
-    for (round, author) in (1..=last).flat_map(|r| (0..MEMBERS as u32).map(move |a| (r, a))) {
+    let last = chain.last().map_or(0, |block| block.round.get());
+    for (author, round) in (1..=last).flat_map(|r| Member::ALL.map(|a| (a, Round::new(r)))) {
         match engine.certificate(author, round) {
             Ok(held) => {
-                if let Some(number) = held.block {
-                    chain[number as usize - 1].certificates.push((round, author));
+                if let Some(block) = held.block {
+                    chain[block as usize - 1].certificates.push(Entry { block, author, round });
                 }
             }
             Err(Refusal::NoneThere) => {}
@@ -154,20 +154,16 @@ fn by_reads(engine: &Engine) -> Result<Vec<Block>, Refusal> {
         let weights = engine.committee(block.round)?;
         let start = leader(block.round, &weights);
         // SAFETY: sixteen weights.
-        let found = unsafe { header::header_leader(block.round, weights.as_ptr()) };
-        assert_eq!(found, start.unwrap_or(MEMBERS as u32));
-        let (first, members) = (start.unwrap_or(0), MEMBERS as u32);
-        block.certificates.sort_by_key(|&(round, author)| (round, (author + members - first) % members));
+        let found = unsafe { header::header_leader(block.round.get(), weights.as_ptr()) };
+        assert_eq!(found, start.map_or(MEMBERS as u32, Member::get));
+        let (first, members) = (start.map_or(0, Member::get), MEMBERS as u32);
+        block.certificates.sort_by_key(|one| (one.round, (one.author.get() + members - first) % members));
     }
     Ok(chain)
 }
 
 fn flat(chain: &[Block]) -> Vec<Place> {
-    let of = |(block, one): (u32, &Block)| {
-        let places = one.certificates.iter().map(move |&(round, author)| Place { block, round, author });
-        places.collect::<Vec<_>>()
-    };
-    (1..).zip(chain).flat_map(of).collect()
+    chain.iter().flat_map(|block| block.certificates.iter().copied()).collect()
 }
 
 /// By the header, as the host or as a guest, into a list of some words that were 77.
@@ -250,16 +246,19 @@ impl Figures {
             assert_eq!(Engine::try_restore(words, table.to_vec()), Err(Refusal::Malformed));
             return;
         };
-        let expected: Vec<Block> =
-            twin.chain.iter().map(|b| Block { round: b.round, certificates: b.certificates.clone() }).collect();
+        let of_twin = |(block, made): (u32, &reference::Block)| {
+            let entry = |&(r, a): &(u32, u32)| Entry { block, author: Member::new(a), round: Round::new(r) };
+            Block { round: Round::new(made.round), certificates: made.certificates.iter().map(entry).collect() }
+        };
+        let expected: Vec<Block> = (1..).zip(&twin.chain).map(of_twin).collect();
         assert_eq!(engine.chain().as_ref(), Ok(&expected));
         self.compare_lent(state, table, &flat(&expected));
         self.blocks += expected.len() as u64;
         self.most = self.most.max(expected.len());
-        self.turned += expected.iter().filter(|block| !block.certificates.is_sorted()).count() as u64;
+        self.turned += twin.chain.iter().filter(|block| !block.certificates.is_sorted()).count() as u64;
         // By reads, certificates above the last block's round were not looked for.
         let last = twin.last_block_round();
-        if expected.iter().any(|block| block.certificates.iter().any(|&(round, _)| round > last)) {
+        if expected.iter().any(|block| block.certificates.iter().any(|one| one.round > last)) {
             self.above += 1;
         } else {
             self.by_reads += 1;
@@ -319,7 +318,7 @@ impl Figures {
         let may = reference::may_ask(&words::rights_in(state), caller, reference::Request::Block);
         let expected = may.and_then(|()| engine.chain().map_err(Refusal::number));
         assert_eq!(engine.reader(caller).chain().map_err(Refusal::number), expected);
-        let mut list = vec![Place { block: 77, round: 77, author: 77 }; room];
+        let mut list = vec![Place { block: 77, round: Round::new(77), author: Member::new(77) }; room];
         let mut by_host = list.clone();
         let expected = may.and_then(|()| lent::chain(state, table, &mut by_host).map_err(Refusal::number));
         assert_eq!(lent::guest_chain(caller, state, table, &mut list).map_err(Refusal::number), expected);
@@ -348,7 +347,7 @@ impl Figures {
             assert_eq!(in_header, answer.map_or_else(|number| u64::from(number) << 32, u64::from));
             assert!(lent_list == expected && header_list == expected);
             if words == needed {
-                let entry = |w: &[u32]| Entry { block: w[0], round: w[1], author: w[2] };
+                let entry = |w: &[u32]| Entry { block: w[0], round: Round::new(w[1]), author: Member::new(w[2]) };
                 let entries = answer.map(|count| expected.chunks(3).take(count as usize).map(entry).collect::<Vec<_>>());
                 self.previewed += u64::from(entries.is_ok());
                 self.entries += entries.as_ref().map_or(0, Vec::len) as u64;
@@ -378,7 +377,7 @@ impl Figures {
             assert!(lent_list == expected && header_list == expected);
             assert!(lent_table == node.table && header_table == node.table);
             if words == layout::CRITICAL_WORDS {
-                let place = |w: &[u32]| Critical { round: w[0], author: w[1] };
+                let place = |w: &[u32]| Critical { round: Round::new(w[0]), author: Member::new(w[1]) };
                 let places = answer.map(|count| expected.chunks(2).take(count as usize).map(place).collect::<Vec<_>>());
                 let before = engine.clone();
                 assert_eq!(engine.critical().map_err(Refusal::number), places);
@@ -400,12 +399,11 @@ impl Figures {
             let answer = node.twin.as_ref().map_or(Err(1), |twin| twin.read_effect(member, round, amount));
             self.effects[0] += u64::from(answer.is_ok());
             self.effects[1] += u64::from(answer == Err(30));
-            let shares = |shares: [u64; MEMBERS]| shares.map(|share| share as u32);
-            let effect = answer.map(|told| {
-                Effect { before: shares(told.before), after: shares(told.after), largest: told.largest as u32 }
-            });
-            assert_eq!(lent::bond_effect(state, table, member, round, amount).map_err(Refusal::number), effect);
-            assert_eq!(engine.bond_effect(member, round, amount).map_err(Refusal::number), effect);
+            let effect = answer.map(|told| Effect::from_words(&told.words()));
+            let (of, in_round) = (Member::new(member), Round::new(round));
+            let found = lent::bond_effect(state, table, of, in_round, amount);
+            assert_eq!(found.map_err(Refusal::number), effect);
+            assert_eq!(engine.bond_effect(of, in_round, amount), found);
             for words in [layout::EFFECT_WORDS, layout::EFFECT_WORDS + 1, layout::EFFECT_WORDS - 1] {
                 let (mut out, mut expected) = (vec![77; words], vec![77; words]);
                 let answer = if words < layout::EFFECT_WORDS { Err(1) } else { answer };
@@ -473,10 +471,11 @@ impl Figures {
     }
 
     fn count_places(&mut self, twin: &reference::Member, places: &[Critical]) {
-        let anchor = Critical { round: twin.round - 1, author: twin.may_commit().expect("a commit would go") };
-        let held = |place: &Critical| twin.held_at(place.author, place.round).expect("listed is held");
+        let author = Member::new(twin.may_commit().expect("a commit would go"));
+        let anchor = Critical { round: Round::new(twin.round - 1), author };
+        let held = |place: &Critical| twin.held_at(place.author.get(), place.round.get()).expect("listed is held");
         let is_vote = |place: &Critical| {
-            place.round == twin.round && held(place).certificate.proposal.previous >> anchor.author & 1 == 1
+            place.round == twin.round && held(place).certificate.proposal.previous & anchor.author.bit() != 0
         };
         self.criticals += 1;
         self.places += places.len() as u64;
@@ -504,7 +503,7 @@ impl Figures {
 
     /// The two that write to a list: one that is just long enough, longer, too short.
     fn compare_lent(&mut self, state: &[u32], table: &[u32], expected: &[Place]) {
-        let (count, blank) = (expected.len(), Place { block: 77, round: 77, author: 77 });
+        let (count, blank) = (expected.len(), Place { block: 77, round: Round::new(77), author: Member::new(77) });
         self.certificates += count as u64;
         for more in [0, 3] {
             let mut list = vec![blank; count + more];
@@ -512,7 +511,8 @@ impl Figures {
             assert!(list[..count] == *expected && list[count..].iter().all(|&place| place == blank));
             let (found, out) = by_header(None, state, table, 3 * count + more).unwrap();
             assert_eq!(found, count);
-            let places = out.chunks_exact(3).map(|w| Place { block: w[0], round: w[1], author: w[2] });
+            let place = |w: &[u32]| Place { block: w[0], round: Round::new(w[1]), author: Member::new(w[2]) };
+            let places = out.chunks_exact(3).map(place);
             assert!(places.take(count).eq(expected.iter().copied()));
             assert!(out[3 * count..].iter().all(|&word| word == 77));
         }
@@ -530,18 +530,18 @@ impl Figures {
 /// A full state: sixteen members, every certificate of 1,024 rounds with four transactions, blocks
 /// made as they can be.
 fn full() -> Engine {
-    let mut engine = Engine::open(0, &Sheet { weights: [Some(5); MEMBERS], ..Sheet::default() }).unwrap();
+    let mut engine = Engine::open(Member::new(0), &Sheet { weights: [Some(5); MEMBERS], ..Sheet::default() }).unwrap();
     for round in 1..=forgelilac::CEILING {
         for author in 0..MEMBERS as u32 {
             let member = (author + round) % 16;
             let transactions = vec![
                 Transaction::Entry { number: round },
-                Transaction::Unbond { member },
-                Transaction::Bond { member, amount: 5 },
+                Transaction::Unbond { member: Member::new(member) },
+                Transaction::Bond { member: Member::new(member), amount: 5 },
                 Transaction::Entry { number: author },
             ];
             let previous = if round == 1 { 0 } else { 0xffff };
-            let proposal = Proposal { author, round, previous, transactions };
+            let proposal = Proposal { author: Member::new(author), round: Round::new(round), previous, transactions };
             engine.accept(&Certificate { proposal, endorsers: 0xffff & !(1 << author) }).unwrap();
         }
         if round > 1 && round % 2 == 1 {
@@ -602,7 +602,8 @@ fn mark_two_rounds(rng: &mut Rng, member: &reference::Member, node: &mut Node) {
         if rng.chance(gone) {
             node.table[layout::row(round) + layout::ROW_HELD] &= !(1 << author);
         } else if rng.chance(400) {
-            let record = &mut node.table[layout::record(author, round)..][..layout::RECORD_WORDS];
+            let at = layout::record(Member::new(author), Round::new(round));
+            let record = &mut node.table[at..][..layout::RECORD_WORDS];
             let transactions = [[0, rng.pick(&few), rng.pick(&[1, 2, 10, 1_000])], [1, rng.pick(&few), 0]];
             record[layout::RECORD_BLOCK] = rng.between(1, node.state[layout::STATE_BLOCKS]);
             record[layout::RECORD_COUNT] = 1;

@@ -3,7 +3,8 @@
 //! from which on it counts, lookback + block's round + 1, as read; no weights where that is above the
 //! ceiling. reference/owners.py compares the register of plant owners with these lines.
 
-use forgelilac::{table_words, Certificate, Engine, Proposal, Refusal, Rights, Sheet, Transaction, STATE_WORDS};
+use forgelilac::{table_words, Certificate, Engine, Member, Proposal, Refusal, Rights, Round, Sheet, Transaction};
+use forgelilac::STATE_WORDS;
 use reference::runner::{for_each_record, read_record, Record, SERVES};
 use reference::Setting;
 use std::io::{stdin, stdout, BufWriter, Write};
@@ -24,15 +25,16 @@ fn sheet(sheet: &reference::Sheet) -> Sheet {
 
 fn transactions(all: &[reference::Transaction]) -> Vec<Transaction> {
     let of = |transaction: &reference::Transaction| match *transaction {
-        reference::Transaction::Bond { member, amount } => Transaction::Bond { member, amount },
-        reference::Transaction::Unbond { member } => Transaction::Unbond { member },
+        reference::Transaction::Bond { member, amount } => Transaction::Bond { member: Member::new(member), amount },
+        reference::Transaction::Unbond { member } => Transaction::Unbond { member: Member::new(member) },
         reference::Transaction::Entry { number } => Transaction::Entry { number },
     };
     all.iter().map(of).collect()
 }
 
 fn proposal(one: &reference::Proposal) -> Proposal {
-    Proposal { author: one.author, round: one.round, previous: one.previous, transactions: transactions(&one.transactions) }
+    let (author, round) = (Member::new(one.author), Round::new(one.round));
+    Proposal { author, round, previous: one.previous, transactions: transactions(&one.transactions) }
 }
 
 /// An engine, and the lookback that it was opened with.
@@ -48,7 +50,7 @@ impl Opened {
         match record {
             Record::Open { own, sheet: written } => {
                 let table = vec![0; table_words(SERVES) as usize];
-                self.engine = Engine::open_on(table, *own, &sheet(written), Rights::NONE)?;
+                self.engine = Engine::open_on(table, Member::new(*own), &sheet(written), Rights::NONE)?;
                 self.lookback = sheet(written).lookback.unwrap_or(20);
                 Ok(())
             }
@@ -77,7 +79,7 @@ fn main() -> std::io::Result<()> {
     let Ok(chain) = opened.engine.chain() else { return Ok(()) };
     for (number, block) in (1..).zip(chain) {
         write!(out, "{number},{}", block.round)?;
-        match opened.engine.committee(opened.lookback + block.round + 1) {
+        match opened.engine.committee(Round::new(opened.lookback + block.round.get() + 1)) {
             Ok(weights) => weights.iter().try_for_each(|weight| write!(out, ",{weight}"))?,
             Err(refusal) => assert_eq!(refusal.number(), 5, "a round from which on a block counts is known"),
         }

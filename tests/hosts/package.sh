@@ -22,8 +22,6 @@ $rust --crate-name forgelilac --crate-type rlib --cfg 'feature="alloc"' -l stati
 $rust --crate-name reference --crate-type rlib reference/src/lib.rs -o "$out/libreference.rlib"
 gcc -std=c99 -O2 -Wall -Wextra -Werror -pedantic -Iinclude -c tests/hosts/header.c -o "$out/header.o"
 ar rcs "$out/libheader.a" "$out/header.o"
-VERSION=$(sed -n 's/^version = "\(.*\)"$/\1/p' bindings/rust/Cargo.toml)
-export VERSION
 program="$rust --extern forgelilac=$out/libforgelilac.rlib --extern reference=$out/libreference.rlib"
 $program tests/hosts/replay.rs -o "$out/replay"
 $program tests/hosts/chains.rs -l static=header -l static=forgelilac -o "$out/chains"

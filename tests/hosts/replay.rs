@@ -11,8 +11,8 @@
 //! that listing, and all of it where none waits.
 
 use forgelilac::layout::{preview_words, CRITICAL_WORDS, OFFSET_DATA, OFFSET_STATUS};
-use forgelilac::{table_words, Certificate, Critical, Effect, Engine, Entry, Held, Proposal, Refusal, Right, Rights};
-use forgelilac::{Sheet, Transaction, MEMBERS, STATE_WORDS};
+use forgelilac::{table_words, Block, Certificate, Critical, Effect, Engine, Entry, Held, Member, Proposal, Refusal};
+use forgelilac::{Right, Rights, Round, Sheet, Transaction, MEMBERS, STATE_WORDS};
 use reference::runner::{for_each_record, read_record, Outcome, Record, Runner, SERVES};
 use reference::Setting;
 use std::fmt::{Debug, Write};
@@ -33,16 +33,16 @@ fn sheet(sheet: &reference::Sheet) -> Sheet {
 
 fn transaction(transaction: &reference::Transaction) -> Transaction {
     match *transaction {
-        reference::Transaction::Bond { member, amount } => Transaction::Bond { member, amount },
-        reference::Transaction::Unbond { member } => Transaction::Unbond { member },
+        reference::Transaction::Bond { member, amount } => Transaction::Bond { member: Member::new(member), amount },
+        reference::Transaction::Unbond { member } => Transaction::Unbond { member: Member::new(member) },
         reference::Transaction::Entry { number } => Transaction::Entry { number },
     }
 }
 
 fn proposal(proposal: &reference::Proposal) -> Proposal {
     Proposal {
-        author: proposal.author,
-        round: proposal.round,
+        author: Member::new(proposal.author),
+        round: Round::new(proposal.round),
         previous: proposal.previous,
         transactions: proposal.transactions.iter().map(transaction).collect(),
     }
@@ -71,13 +71,14 @@ fn counted(answer: Result<u32, Refusal>) -> Outcome {
 fn listing(engine: &Engine) -> Result<String, Refusal> {
     let mut lines = String::new();
     for (number, block) in (1..).zip(engine.chain()?) {
-        for (round, author) in block.certificates {
+        for Entry { author, round, .. } in block.certificates {
             write!(lines, "{number},{},{round},{author}", block.round).unwrap();
             for transaction in engine.certificate(author, round)?.proposal.transactions {
                 match transaction {
                     Transaction::Bond { member, amount } => write!(lines, ",B,{member},{amount}"),
                     Transaction::Unbond { member } => write!(lines, ",U,{member},0"),
                     Transaction::Entry { number } => write!(lines, ",E,{number},0"),
+                    _ => unreachable!("a kind that the records do not have"),
                 }
                 .unwrap();
             }
@@ -95,7 +96,7 @@ fn outcome(answer: Result<(), Refusal>) -> Outcome {
 fn preview(member: &reference::Member) -> reference::Answer<Vec<Entry>> {
     let mut list = vec![0; preview_words(member.settings().ceiling)];
     let count = member.preview(&mut list)?;
-    let entry = |words: &[u32]| Entry { block: words[0], round: words[1], author: words[2] };
+    let entry = |words: &[u32]| Entry { block: words[0], round: Round::new(words[1]), author: Member::new(words[2]) };
     Ok(list.chunks(3).take(count as usize).map(entry).collect())
 }
 
@@ -103,23 +104,18 @@ fn preview(member: &reference::Member) -> reference::Answer<Vec<Entry>> {
 fn critical(member: &reference::Member) -> reference::Answer<Vec<Critical>> {
     let mut list = [0; CRITICAL_WORDS];
     let count = member.critical(&mut list)?;
-    let place = |words: &[u32]| Critical { round: words[0], author: words[1] };
+    let place = |words: &[u32]| Critical { round: Round::new(words[0]), author: Member::new(words[1]) };
     Ok(list.chunks(2).take(count as usize).map(place).collect())
 }
 
 /// What a bond does to the shares, as the reference has it.
 fn effect(member: &reference::Member, of: u32, round: u32, amount: u32) -> reference::Answer<Effect> {
-    let reference::Effect { before, after, largest } = member.read_effect(of, round, amount)?;
-    let (before, after) = (before.map(|share| share as u32), after.map(|share| share as u32));
-    Ok(Effect { before, after, largest: largest as u32 })
+    Ok(Effect::from_words(&member.read_effect(of, round, amount)?.words()))
 }
 
 /// The certificates of the blocks above a number, in their order.
 fn blocks_above(engine: &Engine, number: u32) -> Result<Vec<Entry>, Refusal> {
-    let of = |(block, one): (u32, forgelilac::Block)| {
-        one.certificates.into_iter().map(move |(round, author)| Entry { block, round, author }).collect::<Vec<_>>()
-    };
-    Ok((1..).zip(engine.chain()?).skip(number as usize).flat_map(of).collect())
+    Ok(engine.chain()?.into_iter().skip(number as usize).flat_map(|block| block.certificates).collect())
 }
 
 /// Both sides of a replay, and how much was compared.
@@ -182,7 +178,7 @@ impl Replay {
 
     fn open(&mut self, own: u32, settings: &reference::Sheet) -> Outcome {
         let table = vec![0; table_words(SERVES) as usize];
-        outcome(Engine::open_on(table, own, &sheet(settings), RIGHTS).map(|engine| {
+        outcome(Engine::open_on(table, Member::new(own), &sheet(settings), RIGHTS).map(|engine| {
             self.engine = engine;
             self.received.clear();
         }))
@@ -355,8 +351,8 @@ impl Replay {
             let expected = effect(member, of, round, amount);
             self.effects += u64::from(expected.is_ok());
             let found = match amount {
-                1_000 => self.engine.reader(3).bond_effect(of, round, amount),
-                _ => self.engine.bond_effect(of, round, amount),
+                1_000 => self.engine.reader(3).bond_effect(Member::new(of), Round::new(round), amount),
+                _ => self.engine.bond_effect(Member::new(of), Round::new(round), amount),
             };
             self.same(found, expected);
         }
@@ -365,25 +361,27 @@ impl Replay {
     fn read_all(&mut self) {
         let Some(member) = self.runner.member.clone() else { return };
         for round in 0..=member.settings().ceiling + 1 {
-            let weights = self.engine.committee(round).map(|weights| weights.map(u64::from));
+            let weights = self.engine.committee(Round::new(round)).map(|weights| weights.map(u64::from));
             self.same(weights, member.read_committee(round));
             for author in 0..=MEMBERS as u32 {
-                let share = self.engine.share(author, round).map(u64::from);
+                let share = self.engine.share(Member::new(author), Round::new(round)).map(|share| share.get().into());
                 self.same(share, member.read_share(author, round));
-                let held = member.read_certificate(author, round).map(|(one, endorsers, block)| Held {
-                    proposal: proposal(one),
-                    endorsers,
-                    block: Some(block).filter(|&number| number != 0),
+                let held = member.read_certificate(author, round).map(|(one, endorsers, block)| {
+                    (proposal(one), endorsers, Some(block).filter(|&number| number != 0))
                 });
-                self.same(self.engine.certificate(author, round), held);
+                let parts = |held: Held| (held.proposal, held.endorsers, held.block);
+                self.same(self.engine.certificate(Member::new(author), Round::new(round)).map(parts), held);
                 self.compare_effects(&member, author, round);
             }
         }
         for number in 0..=member.chain().len() as u32 + 1 {
-            self.same(self.engine.block(number), member.read_block(number));
+            self.same(self.engine.block(number).map(Round::get), member.read_block(number));
         }
-        let chain = self.engine.chain().map(|blocks| blocks.into_iter().map(|b| (b.round, b.certificates)).collect());
-        self.same(chain, Ok(member.chain().iter().map(|b| (b.round, b.certificates.clone())).collect::<Vec<_>>()));
+        let expected = (1..).zip(member.chain()).map(|(block, made)| {
+            let entry = |&(r, a): &(u32, u32)| Entry { block, author: Member::new(a), round: Round::new(r) };
+            Block { round: Round::new(made.round), certificates: made.certificates.iter().map(entry).collect() }
+        });
+        self.same(self.engine.chain(), Ok(expected.collect()));
         let mut listed = Vec::new();
         self.runner.answer(Some(&Record::Chain), &mut listed);
         let listed = String::from_utf8(listed).expect("a listing is plain text");

@@ -17,7 +17,7 @@ mod words;
 
 use calls::*;
 use forgelilac::lent::{self, CertificateRecord};
-use forgelilac::{Refusal, Set};
+use forgelilac::{Member, Refusal, Round, Set, Share};
 use grow::*;
 use nodes::Node;
 use rows::some_batch;
@@ -29,7 +29,7 @@ use words::{port_word, rights_in, rights_word, table_words, MARGIN, REGISTERS, R
 fn make(call: &Call, node: &mut Node, answers: &mut [u32]) -> Result<u32, Refusal> {
     let (state, table) = (&mut node.state[..], &mut node.table[..]);
     match call {
-        Call::Open { own, sheet, rights } => lent::open(state, table, *own, sheet, *rights).map(|()| 0),
+        Call::Open { own, sheet, rights } => lent::open(state, table, Member::new(*own), sheet, *rights).map(|()| 0),
         Call::Propose { body } => lent::propose(state, table, body).map(|()| 0),
         Call::Endorse { proposal } => lent::endorse(state, table, proposal).map(|()| 0),
         Call::Certify { endorsers } => {
@@ -48,14 +48,18 @@ fn make(call: &Call, node: &mut Node, answers: &mut [u32]) -> Result<u32, Refusa
             let previous = Set::try_from(*previous).map_err(|_| Refusal::Malformed)?;
             lent::draw(state, table, previous).map(|()| 0)
         }
-        Call::Committee { round, .. } => lent::committee(state, table, *round).map(|_| 0),
-        Call::Share { member, round } => lent::share(state, table, *member, *round),
-        Call::Certificate { author, round, .. } => lent::certificate(state, table, *author, *round).map(|_| 0),
-        Call::Block { number } => lent::block(state, table, *number),
+        Call::Committee { round, .. } => lent::committee(state, table, Round::new(*round)).map(|_| 0),
+        Call::Share { member, round } => {
+            lent::share(state, table, Member::new(*member), Round::new(*round)).map(Share::get)
+        }
+        Call::Certificate { author, round, .. } => {
+            lent::certificate(state, table, Member::new(*author), Round::new(*round)).map(|_| 0)
+        }
+        Call::Block { number } => lent::block(state, table, *number).map(Round::get),
         Call::Preview { .. } => lent::preview(state, table, answers),
         Call::Critical { .. } => lent::critical(state, table, answers),
         Call::Effect { member, round, amount, .. } => {
-            lent::bond_effect(state, table, *member, *round, *amount).map(|_| 0)
+            lent::bond_effect(state, table, Member::new(*member), Round::new(*round), *amount).map(|_| 0)
         }
         Call::PortReset { port } => lent::port_reset(state, table, *port).map(|()| 0),
         Call::PortRead { .. } | Call::PortWrite { .. } => unreachable!("the host has no access"),
@@ -85,16 +89,18 @@ fn make_by_guest(guest: u32, call: &Call, node: &mut Node, answers: &mut [u32]) 
             let previous = Set::try_from(*previous).map_err(|_| Refusal::Malformed)?;
             lent::guest_draw(guest, state, table, previous).map(|()| 0)
         }
-        Call::Committee { round, .. } => lent::guest_committee(guest, state, table, *round).map(|_| 0),
-        Call::Share { member, round } => lent::guest_share(guest, state, table, *member, *round),
-        Call::Certificate { author, round, .. } => {
-            lent::guest_certificate(guest, state, table, *author, *round).map(|_| 0)
+        Call::Committee { round, .. } => lent::guest_committee(guest, state, table, Round::new(*round)).map(|_| 0),
+        Call::Share { member, round } => {
+            lent::guest_share(guest, state, table, Member::new(*member), Round::new(*round)).map(Share::get)
         }
-        Call::Block { number } => lent::guest_block(guest, state, table, *number),
+        Call::Certificate { author, round, .. } => {
+            lent::guest_certificate(guest, state, table, Member::new(*author), Round::new(*round)).map(|_| 0)
+        }
+        Call::Block { number } => lent::guest_block(guest, state, table, *number).map(Round::get),
         Call::Preview { .. } => lent::guest_preview(guest, state, table, answers),
         Call::Critical { .. } => lent::guest_critical(guest, state, table, answers),
         Call::Effect { member, round, amount, .. } => {
-            lent::guest_bond_effect(guest, state, table, *member, *round, *amount).map(|_| 0)
+            lent::guest_bond_effect(guest, state, table, Member::new(*member), Round::new(*round), *amount).map(|_| 0)
         }
         Call::PortRead { offset } => lent::guest_port_read(guest, state, table, *offset).map(u32::from),
         Call::PortWrite { offset, value } => {

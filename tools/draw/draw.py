@@ -16,23 +16,23 @@ import sys
 sys.dont_write_bytecode = True      # leave no folder beside the sources
 
 from effect import EffectPicture, read_effect
+from letters import wide
 from outline import parts_of, path_of
 from run import read_run
-from shapes import (COLOURS, FAINT, INK, LEGEND_COLUMN, LEGEND_ROW, PAGE_STYLE, PAPER, QUIET, RIGHT, STYLE, WIDTH,
+from shapes import (COLOURS, FAINT, INK, LEGEND_COLUMN, LEGEND_ROW, LINK, PAPER, QUIET, RIGHT, STYLE, WIDTH,
                     box, circle, line, svg_of, text)
 from telling import count, of_preview, order_of, tell, transactions_of
 
 CELL = (51, 86), 72                 # a round across, from and to; a member down
-LEFT, TOP = 100, 128                # around the grid
+LEFT, TOP = 100, 128                # around the grid; more where a member has two digits
 DOT, RING, FRAME, INSET, RADIUS = 8.5, 13.5, 18, 4, 13
 TAB = 17, 15                        # a block's number on its area
 CHAIN_GAP, CHAIN_LINE = 30, 18      # grid to chain, one line of text
 CHAIN_LINES = 6                     # lines of certificates or transactions of a block
 COLUMNS = 24, 82, 136, 220, 548     # block, round, commit, certificates, transactions
 CODE_WIDE = 7.6                     # a letter of code, in pixels
-LINK = "#948fa3"
 LIGHT, DASHED = ' fill-opacity="0.4"', ' stroke-dasharray="5 3.5"'     # what is not made yet
-RUN_STYLE = PAGE_STYLE + """.tab { font-size: 12.5px; font-weight: 700; fill: %s; }
+RUN_STYLE = STYLE + """.tab { font-size: 12.5px; font-weight: 700; fill: %s; }
 """ % PAPER
 
 
@@ -83,16 +83,17 @@ class Picture:
         self.rounds, self.members = run.rounds(), run.members()
         self.block_of, self.unblocked, self.critical = run.block_of(), run.unblocked(), run.critical()
         self.anchors = {run.anchor(block): block for block in run.blocks}
-        narrow, wide = CELL[0]
-        self.cell_size = max(narrow, min(wide, (WIDTH - LEFT - RIGHT) // len(self.rounds))), CELL[1]
-        self.width = max(WIDTH, LEFT + self.cell_size[0] * len(self.rounds) + RIGHT)
+        narrow, broad = CELL[0]
+        self.left = max(LEFT, 20 + round(wide(f"member {self.members[-1]}", 14, True)))
+        self.cell_size = max(narrow, min(broad, (WIDTH - self.left - RIGHT) // len(self.rounds))), CELL[1]
+        self.width = max(WIDTH, self.left + self.cell_size[0] * len(self.rounds) + RIGHT)
         self.bottom = TOP + CELL[1] * len(self.members)
 
     def cell(self, place):
         return place[0] - 1, self.members.index(place[1])
 
     def corner(self, cell):
-        return LEFT + cell[0] * self.cell_size[0], TOP + cell[1] * self.cell_size[1]
+        return self.left + cell[0] * self.cell_size[0], TOP + cell[1] * self.cell_size[1]
 
     def at(self, place):
         """The middle of a place, in pixels."""
@@ -127,18 +128,18 @@ class Picture:
                 yield text(x, TOP - 9, words, "small", "middle", self.colours(block)[1])
             elif round % 2 == 0:
                 yield text(x, TOP - 9, "no block" if round < max(blocks, default=0) else "none yet", "small", "middle", QUIET)
-        yield text(LEFT - 12, TOP - 28, "round", "quiet", "end")
+        yield text(self.left - 12, TOP - 28, "round", "quiet", "end")
         for member in self.members:
             y = self.at((1, member))[1]
             own = member == self.run.own
-            yield text(LEFT - 12, y + (1 if own else 5), f"member {member}", "strong" if own else "label", "end")
+            yield text(self.left - 12, y + (1 if own else 5), f"member {member}", "strong" if own else "label", "end")
             if own:
-                yield text(LEFT - 12, y + 18, "own", "quiet", "end")
+                yield text(self.left - 12, y + 18, "own", "quiet", "end")
 
     def areas(self):
         for block in self.run.blocks:
             area, ink = self.colours(block)
-            path = path_of([self.cell(place) for place in block.places], self.cell_size, (LEFT, TOP), INSET, RADIUS)
+            path = path_of([self.cell(place) for place in block.places], self.cell_size, (self.left, TOP), INSET, RADIUS)
             more = ' stroke-width="1.6"' + DASHED + LIGHT if block.planned else ' stroke-width="1.2" stroke-opacity="0.7"'
             yield f'<path d="{path}" fill="{area}" stroke="{ink}"{more}/>'
 

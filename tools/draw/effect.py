@@ -8,7 +8,7 @@ Members go across. Those with 0 before and after are left out. Up to twelve are 
 """
 from collections import namedtuple
 
-from shapes import COLOURS, FAINT, LEGEND_COLUMN, PAGE_STYLE, PAPER, QUIET, RIGHT, WIDTH, box, line, svg_of, text
+from shapes import COLOURS, FAINT, LEGEND_COLUMN, PAPER, QUIET, RIGHT, STYLE, WIDTH, box, line, svg_of, text
 
 Effect = namedtuple("Effect", "before after largest")
 
@@ -19,7 +19,7 @@ CELL, BAR = 56, 42                  # a member across, at least; one of its bars
 APART, BETWEEN = 8, 3               # two members' bars, at least; a member's two
 STEPS = (100, 20), (250, 50), (500, 100), (WHOLE, 200)      # up to this share, a line at every so many
 # Numbers stand on lines and beside bars.
-EFFECT_STYLE = PAGE_STYLE + """.number { font-size: 12.5px; paint-order: stroke; stroke: %s; stroke-width: 2px; }
+EFFECT_STYLE = STYLE + """.number { font-size: 12.5px; paint-order: stroke; stroke: %s; stroke-width: 2px; }
 """ % PAPER
 
 

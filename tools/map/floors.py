@@ -1,73 +1,63 @@
-"""The floors of a room, bottom up: a crate stands above those that it depends on, and lines cross as little as may be."""
-from collections import namedtuple
+"""How things that stand on each other are placed: the crates of a room in rows, the rooms of the house in bands of columns."""
 from itertools import combinations
 
-from rooms import heights_of
-
-Pass = namedtuple("Pass", "upper lower floor")      # where a line goes by a floor between two others
+from rooms import heights_of, turned
 
 
-def raised(heights, below):
-    """A crate that stands on nothing goes up to just beneath the lowest that stands on it."""
-    lowest = {}
-    for upper, lowers in below.items():
-        for lower in lowers:
-            lowest[lower] = min(lowest.get(lower, heights[upper]), heights[upper])
-    return {name: lowest[name] - 1 if not below[name] and name in lowest else height
-            for name, height in heights.items()}
+def rows_of(below, most):
+    """Rows bottom up of at most so many crates each, in their order: each stands only on crates of rows beneath its own."""
+    above, left, placed, rows = heights_of(turned(below)), list(below), set(), []
+    while left:
+        ready = sorted((name for name in left if placed.issuperset(below[name])), key=lambda name: -above[name])[:most]
+        rows.append([name for name in left if name in ready])
+        placed.update(ready)
+        left = [name for name in left if name not in ready]
+    return rows
 
 
-def split(heights, most):
-    """Floors of at most so many crates each."""
-    floors = []
-    for height in range(max(heights.values()) + 1):
-        names = [name for name in heights if heights[name] == height]
-        parts = -(-len(names) // most)
-        floors += [names[part * len(names) // parts:(part + 1) * len(names) // parts] for part in range(parts)]
-    return floors
+def spans_of(below):
+    """The levels of each room: from just above what it stands on to just beneath what stands on it."""
+    heights, above = heights_of(below), turned(below)
+    return {room: range(low, min([heights[one] for one in above[room]], default=low + 1)) for room, low in heights.items()}
 
 
-def lines_of(below, floors):
-    """Each line as the places that it goes through, from the upper crate to the lower."""
-    at = {name: floor for floor, names in enumerate(floors) for name in names}
-    return [[upper] + [Pass(upper, lower, floor) for floor in range(at[upper] - 1, at[lower], -1)] + [lower]
-            for upper, lowers in below.items() for lower in lowers]
+def bands_of(below, most):
+    """Bands bottom up, each of columns left to right, each of rooms bottom up. A band of more columns than so many, or with
+    a room that stands on one of another column, is parted into levels."""
+    bands = []
+    for band in spanned(below):
+        column_of = {room: index for index, column in enumerate(band) for room in column}
+        across = any(column_of.get(one, column_of[room]) != column_of[room] for room in column_of for one in below[room])
+        bands += leveled(column_of, below, most) if across or len(band) > most else [band]
+    return bands
 
 
-def cost(floors, steps, middle):
-    """Crossings, then how far lines lean."""
-    at = {name: middle(names, place) for names in floors for place, name in enumerate(names)}
-    crossings = sum((at[a] - at[c]) * (at[b] - at[d]) < 0
-                    for pairs in steps for (a, b), (c, d) in combinations(pairs, 2))
-    return crossings, sum(abs(at[a] - at[b]) for pairs in steps for a, b in pairs)
+def spanned(below):
+    """As few levels in a band as rooms let be that are higher than one; as few columns as the band's levels let be."""
+    spans, bands = spans_of(below), []
+    for room in sorted(spans, key=lambda one: (spans[one][0], one)):
+        if not bands or spans[room][0] > max(spans[one][-1] for column in bands[-1] for one in column):
+            bands.append([])
+        free = [column for column in bands[-1] if spans[column[-1]][-1] < spans[room][0]]
+        best = next((column for column in free if column[-1] in below[room]), free[0] if free else None)
+        if best is None:
+            bands[-1].append([room])
+        else:
+            best.append(room)
+    return bands
 
 
-def settled(floors, lines, middle):
-    """The floors in an order where no exchange of two on a floor is better."""
-    steps = [[] for _ in floors]
-    floor_of = {name: floor for floor, names in enumerate(floors) for name in names}
-    for line in lines:
-        for upper, lower in zip(line, line[1:]):
-            steps[floor_of[upper]].append((upper, lower))
-    best, better = cost(floors, steps, middle), True
-    while better:
-        better = False
-        for names in floors:
-            for i, j in combinations(range(len(names)), 2):
-                names[i], names[j] = names[j], names[i]
-                now = cost(floors, steps, middle)
-                if now < best:
-                    best, better = now, True
-                else:
-                    names[i], names[j] = names[j], names[i]
-    return floors
+def leveled(rooms, below, most):
+    """The rooms, each in a column of its own, in a band for each level or in several."""
+    heights, bands = heights_of(below), []
+    for height in sorted({heights[room] for room in rooms}):
+        level = sorted(room for room in rooms if heights[room] == height)
+        parts = -(-len(level) // most)
+        bands += [[[room] for room in level[part * len(level) // parts:(part + 1) * len(level) // parts]] for part in range(parts)]
+    return bands
 
 
-def floors_of(below, most, middle):
-    """Floors of names and of passing lines, and the lines."""
-    floors = split(raised(heights_of(below), below), most)
-    lines = lines_of(below, floors)
-    for line in lines:
-        for one in line[1:-1]:
-            floors[one.floor].append(one)
-    return settled(floors, lines, middle), lines
+def parted(many, columns):
+    """Every way to part so many cards between so many columns, the most even first."""
+    ways = [[end - start for start, end in zip((0, *ends), (*ends, many))] for ends in combinations(range(1, many), columns - 1)]
+    return sorted(ways, key=lambda way: max(way) - min(way))

@@ -101,6 +101,15 @@ def missing_names(top, page, names):
             yield f"{shown}:{number}: there is no {one}"
 
 
-def missing_crates(top, page, crates):
-    """A message for each crate that the page does not name."""
-    return [f"{os.path.relpath(page, top)}: the crate {crate} is not there" for crate in crates if f"`{crate}`" not in text_of(page)]
+def wrong_rooms(top, page, rooms):
+    """A message for each room of which the page's table has no row, or a row with other crates or in another place."""
+    shown, wanted = os.path.relpath(page, top), [(room.name, [crate.name for crate in room.crates]) for room in rooms]
+    table = text_of(page).partition("| room |")[2].partition("\n\n")[0]
+    rows = [line.strip("| ").split(" | ") for line in table.splitlines()[2:]]
+    found = [(row[0], NAME.findall(row[-1])) for row in rows]
+    if [name for name, _ in found] != [name for name, _ in wanted]:
+        yield f"{shown}: the rooms of the table are {', '.join(name for name, _ in found)}, those of crates.txt {', '.join(name for name, _ in wanted)}"
+    for name, crates in wanted:
+        for row, named in found:
+            if row == name and sorted(named) != sorted(crates):
+                yield f"{shown}: the row of {name} has not the crates of crates.txt: {', '.join(sorted(set(named) ^ set(crates)))}"

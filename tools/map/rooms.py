@@ -103,11 +103,6 @@ class House:
         return {crate.name: [one for one in self.below[crate.name] if self.place[one] == index]
                 for crate in self.rooms[index].crates}
 
-    def levels(self):
-        """Rooms by level, bottom up: those of one level stand side by side."""
-        heights = heights_of(self.rooms_below)
-        return [[index for index in heights if heights[index] == level] for level in range(max(heights.values()) + 1)]
-
 
 def heights_of(below):
     """How many others stand beneath each one, on the longest way down."""
@@ -119,3 +114,8 @@ def heights_of(below):
         return heights[name]
 
     return {name: height(name) for name in below}
+
+
+def turned(below):
+    """What stands on each one."""
+    return {name: [one for one in below if name in below[one]] for name in below}

@@ -5,6 +5,7 @@
     file.paths      local name to path, of the other `use` lines
     file.functions  Function(name, attributes, line, types, names, contract, is_theorem)
     file.types      Declared(name, form, first, start, last, comment, variants, types)
+    file.constants  the same of each const, with its value as the one variant
 `types` are the paths of the types that stand in a signature or a declaration: ("state", "State").
 """
 import re
@@ -13,6 +14,7 @@ from dataclasses import dataclass, field
 import antt
 
 DECLARED = re.compile(r"^(?:pub(?:\([^)]*\))? )?(struct|enum) (\w+)", re.M)
+CONSTANT = re.compile(r"^(?:pub(?:\([^)]*\))? )?(?:const|static) (\w+):[^=;]*=\s*([^;]+);", re.M)
 FUNCTION = re.compile(r"^[ \t]*(?:pub(?:\([^)]*\))? )?(?:const )?(?:unsafe )?(?:extern \"C\" )?fn (\w+)", re.M)
 CLAUSE = re.compile(r"\s*(requires|ensures)\b([^{]*)\{")
 PATH = re.compile(r"(?:[A-Za-z_]\w*::)*[A-Za-z_]\w*")
@@ -55,6 +57,7 @@ class Code:
     paths: dict = field(default_factory=dict)
     functions: list = field(default_factory=list)
     types: list = field(default_factory=list)
+    constants: list = field(default_factory=list)
 
 
 def balanced(text, i):
@@ -116,6 +119,11 @@ def parse_code(path):
         start = row(match.start())
         _, comment, first = above(code.lines, start)
         code.types.append(Declared(code.path, match[2], match[1], first + 1, start + 1, row(stop) + 1, comment, variants, types))
+    for match in CONSTANT.finditer(text):
+        start = row(match.start())
+        _, comment, first = above(code.lines, start)
+        value = " ".join(match[2].split())
+        code.constants.append(Declared(code.path, match[1], "const", first + 1, start + 1, row(match.end()) + 1, comment, [value], []))
     for match in FUNCTION.finditer(text):
         start = row(match.start())
         opening = text.index("(", match.end())

@@ -53,6 +53,11 @@ class Tree:
                     declared.path = file.path
                     self.home[id(declared)] = file
                     self.types.setdefault((crate, declared.name), []).append((parts, declared))
+                for constant in file.constants:
+                    constant.path = file.path
+                    self.home[id(constant)] = file
+                    module = parts if parts not in (("lib",), ("main",)) else ()
+                    self.types.setdefault((crate, constant.name), []).append((module + ("TheConstants",), constant))
 
     def crates_in_order(self):
         """Bottom to top, as crates.txt has them."""

@@ -19,8 +19,9 @@ so that whatever a definition uses stands above it.
                          file, kind, first line (with its comment), last line, where it is needed (listed; cited by another contract; -),
                          names, names used of this file, lines of the sections and opens around it
   trust.py --why NAME    a chain of uses from a root to a definition of the list
-  trust.py --for NAME    the list for one function alone, a theorem or one that hosts link, and about how long it takes to read;
-                         NAME may be CRATE::NAME
+  trust.py --for NAME    the list for one function alone, a theorem or one that hosts link, with file and line of its contract, and about
+                         how long it takes to read; NAME may be CRATE::NAME. With --near behind it, only what its contract names, what
+                         that uses of its own files, and what these name in others. With --text the contract and the definitions whole
 """
 import os
 import re
@@ -41,6 +42,7 @@ PAGE = "docs/TRUST.md"
 README = "README.md"
 HEADER = "include/forgelilac.h"
 PACKAGE = "bindings/rust/src"
+CLAIM, STATEMENT, THEORY = "nonforking::chains_never_fork", "crates/nonforking/specs/Statement.antt", "agreement::never_fork"
 PACE = 12   # lines of definitions that a reader takes in a minute, as readers who were new to them did
 # Whose sizes the page has, with what each says.
 ALONE = {"agreement::never_fork": "the theory alone, over abstract rules", "nonforking::chains_never_fork": "chains never fork, over calls",
@@ -56,36 +58,52 @@ A proof says that code does what a definition says. Whether the definition says 
 
 ## In an hour
 
+To see that all of it is proved, start `bash .ci/run` before you read: it takes about as long, some 50 minutes from nothing (README.md, "Commands").
+
+Definitions are written in Rattle's logic:
+
+| written | read |
+|---|---|
+| `A → B`, `(x : A) → B` | if A, then B; for every x of A, B |
+| `A × B`, `(x : A) × B` | A and B; there is an x of A for which B |
+| `A ⊎ B`, `⊥`, `Unit` | A or B; never so; always so |
+| `a ≡ b`, `a ≢ b`, `λ x. e`, `f x y` | equal; not equal; the function that gives e for x; f of x and y |
+| `[]`, `x ∷ l`, `l ++ m` | the empty list; x, then the list l; l, then m |
+| `e.f`, `record { f = a }`, `e.0`, `module _ (X : A) where` | field f of e; a record; its field without a name; what is indented below is said of every X of A |
+
+What ends in `: Type 0` is such a statement, or a set of values: a `record` is all of its fields, a `data` one of its cases. An argument in braces, as `{B}`, follows from the others. `pub`, `abbrev` and `unfoldable` change nothing of what is said.
+
 In this order:
 
 | minutes | read | you know then |
 |---:|---|---|
 | 5 | docs/RULES.md, "What is claimed of runs" | the claim in words |
-| 10 | crates/nonforking/specs/Statement.antt | the claim as definitions, clause by clause |
-| 10 | docs/AGREEMENT.md, "Reading the claim" | how the two belong together, and which claim stands where |
-| 10 | docs/AGREEMENT.md, "Why chains never part" | the argument |
-| 10 | this page from here down to "How to read the list" | what is proved, what is assumed, and what is neither |
-| 15 | the definitions of `agreement::never_fork`, by the command below | what the words of one theorem mean, down to sets and numbers |
+| 10 | crates/nonforking/specs/Statement.antt | the claim as definitions, clause by clause. At `sheet` and `equal`: rights are part of a sheet and are not compared, since `filled` leaves them out |
+| 10 | docs/PROMISES.md, "What is claimed of runs" | how the two belong together, sentence by sentence |
+| 5 | docs/AGREEMENT.md, "Reading the claim" | which claim stands where, of calls, of requests and of words |
+| 10 | this page from here down to "How to read the list", but what it says of the runner | what is proved, what is assumed, and what is neither |
+| {near_minutes} | what Statement.antt names in other files, {near}: `python3 tools/trust/trust.py --for nonforking::chains_never_fork --near --text` | what the words of the claim mean, one step down |
+| 10 | crates/library/specs/Hosts.antt, and `chains_never_fork_over_words` in crates/library/src/lib.rt | the claim over the words of the library that you link |
 
-Then the definitions of `chains_never_fork`, of a call that you link, and the rest of the list.
+After the hour: what this page says of the runner, the rest of the definitions of `chains_never_fork`, those of a call that you link, and the rest of the list. Why it is so, which need not be believed: docs/AGREEMENT.md, "Why chains never part", in 15 minutes. The theory behind it is `agreement::never_fork`, of whose {theory} definitions the claim over calls uses {shared}.
 
 ## One theorem alone
 
-`python3 tools/trust/trust.py --for NAME` lists the definitions of one function alone, a theorem or one that hosts link, in reading order, each with its file, line and length, and says how long they take to read (about {pace} lines a minute). `--why NAME` shows how a definition of the list is reached.
+`python3 tools/trust/trust.py --for NAME` lists the definitions of one function alone, a theorem or one that hosts link, in reading order, each with its file, line and length. It says in which file and line the contract stands, and how long the definitions take to read (about {pace} lines a minute). With `--near` behind the name it lists only what the contract names, what that uses in its own files, and what these name in others; with `--text` it shows the contract and the definitions whole. `--why NAME` shows how a definition of the list is reached.
 
 {alone}
 
 ## What is proved
 
-A theorem is a function that takes nothing and does nothing: its clauses are all that it is. Theorems stand in src/theorems.rt of the crates that they speak of, and in `kept`, `library`, `span_claims` and `wordclaims`.
+A theorem is a function that takes nothing and does nothing: its clauses are all that it is. Theorems stand in src/theorems.rt of the crates that they speak of, in src/lib.rt of `kept`, `library` and `span_claims`, and in src/ of `wordclaims`. Names in brackets are definitions of the list below.
 
-**The library.** Each function that a host links, on any words and lengths: its answer and every word that it leaves are those of its contract (`Done`). The length of a table is a number alone. Owner's functions (`owned`), which no header offers yet, have one premise, that their words are as calls left them (`Owned`), and promise the same and that premise again. `forgelilac_owned_resume` promises the premise where it answers 0, and nothing where it does not.
+**The library.** Each function that a host links, on any words and lengths: its answer and every word that it leaves are those of its contract (`Done`, hosting/specs/Calls). The length of a table is a number alone. Owner's functions (`owned`), which no header offers yet, have one premise, that their words are as calls left them (`Owned`, owned/specs/Owned), and promise the same and that premise again. `forgelilac_owned_resume` promises the premise where it answers 0, and nothing where it does not.
 
-**The runner, of every peer.** Each step of a run is one that may come there (`Follows`): more is read only where all that can be answered is written and flushed (`MayRead`), nothing but answers ever goes out (`Partly`), and nothing comes after a write that failed. How it ended fits its last step, and the engine that it left (`Ends`): at the end of the input it is the engine after every record that was read (`Done`), else after the first ones of them (`Reached`).
+**The runner, of every peer** (stream/specs/Talk). Each step of a run is one that may come there (`Follows`): more is read only where all that can be answered is written and flushed (`MayRead`), nothing but answers ever goes out (`Partly`), and nothing comes after a write that failed. How it ended fits its last step, and the engine that it left (`Ends`): at the end of the input it is the engine after every record that was read (`Done`), else after the first ones of them (`Reached`).
 
-**The runner, of a reader and a writer whose bytes are known.** However a run ended, what it added to the one is a first part of the answers to what it took from the other (`AddsPart`). Where the input came to its end it is the output for the whole input (`output`; `run` of serving, its clause `whole`).
+**The runner, of a reader and a writer whose bytes are known.** However a run ended, what it added to the one is a first part of the answers to what it took from the other (`AddsPart`, stream/specs/Known). Where the input came to its end it is the output for the whole input (`output`, serving/specs/Streams; `run` of serving, its clause `whole`).
 
-**The runner in one function.** `serve_streams` of serving is all of this from a member that is not open on, over any reader and any writer of std, in their own bytes, and with what the program ends with: where all is well the input came to its end. That a run ends well wherever the input did, and that a read or a write that failed is told as it failed, is promised of `run` and `told` over any peer (`Ran`, `Tells`).
+**The runner in one function.** `serve_streams` of serving is all of this from a member that is not open on, over any reader and any writer of std, in their own bytes, and with what the program ends with: where all is well the input came to its end. That a run ends well wherever the input did, and that a read or a write that failed is told as it failed, is promised of `run` and `told` over any peer (`Ran`, stream/specs/Talk; `Tells`, stream/specs/Ended).
 
 **The theorems**, each in its own words at its function. Over every list of calls, of calls and batches, of requests of hosts and guests, and of the library's calls over words, chains never fork (`chains_never_fork`, `chains_never_fork_with_batches`, `chains_never_fork_with_guests`, `chains_never_fork_over_words`), and so on for the others; "Roots" has all of them. `run` of crate `runs` makes a list of calls on several members' engines, and its contract says that their chains never fork; `run` of `host::runs` does and says so of the library's calls on several members' words.
 
@@ -93,23 +111,24 @@ A theorem is a function that takes nothing and does nothing: its clauses are all
 
 - The prover (of {kit}), and the compilers' back ends.
 - Rattle's standard library where it calls the C library. It does so in `Stdin` and `Stdout` of `std::io`: a read answers an error or at most as many bytes as it was lent, and so does a write. The operating system delivers what they pass on. The library for hosts calls neither.
+- `memcpy` and `memset`, which your C library gives the archive.
 - **Where chains never fork**: signatures are genuine (`Signed` in `Fair`); in every committee that a correct member knows, faulty members weigh at most the fault bound (`WithinBound`).
 
 ## Not proved on the way to a host
 
 Between a proved function and your program stands code that no contract speaks of. It is tested (`sh scripts/hosts.sh`, `sh scripts/pages.sh`), and it is to be read:
 
-- **The header's own functions**, which your compiler builds: the {inline_count} of include/forgelilac.h that are `static inline`, {inline_lines} lines: {inline}. They make sheets and bodies, take answers apart, and list the chain; `forgelilac_chain` and `forgelilac_guest_chain` are passes over the table in C.
+- **The header's own functions**, which your compiler builds: the {inline_count} of include/forgelilac.h that are `static inline`, {inline_lines} lines: {inline}. They make sheets and bodies, take answers apart, and list the chain; `forgelilac_chain` and `forgelilac_guest_chain` are passes over the table in C. `forgelilac_block_rows` is proved, and gives each block's certificates in order.
 - **Its declarations, macros and the numbers in them**: lengths, places of words, refusals. `scripts/signatures.py` compares each function's parameters, and the record of a batch, with the code's.
-- **The Rust package**, bindings/rust/src, {package_lines} lines without tests: what turns values into words and back, what holds state and table, the listing of a chain. It calls the library by `unsafe` in one file, `lent`.
+- **The Rust package**, bindings/rust/src, {package_lines} lines without tests: what turns values into words and words into bytes and back, what holds state and table, the listing of a chain. It calls the library by `unsafe` in one file, `lent`.
 - **What builds and finds the archive**: Makefile, forgelilac.pc.in, bindings/rust/build.rs, and the linker.
-- **Your host**: signatures, storage, and which calls it makes (docs/HOSTS.md, "What the promise asks of you").
+- **Your host**: signatures, storage, and which calls it makes (docs/HOSTS.md, "What the promise asks of you"). And how it lends words: of stretches that overlap, or that something else writes while a call runs, contracts say nothing (docs/HOSTS.md, "Threads and stack").
 
 ## On trust in the runner
 
 No contract of this language can say what is outside: that std's `Stdin` gives the bytes of standard input, and its `Stdout` writes bytes to standard output, in their order and once each; that `main` hands these two, as a `Tied`, to `serve_streams` of serving, ends with what that gives, and does nothing else. Besides the memory that it lends it is that one call.
 
-What the two have left and what they hold is not known to a contract, so the clauses on known bytes say nothing of them. But `serve_streams` is one function for every reader and writer, and can do with them only what std's `Read` and `Write` offer: what is proved of it is so of the code that runs. Neither can bytes be made up there, nor lost, nor told as written where they were not. The three lines of `Tied` that say what a talk is need not be believed, since `run_tied` (stream::tied) and `serve_streams` speak of the bytes of reader and writer in std's own words (stream/nothing_written_and_nothing_known). Inside, `run` of stream can do with its peer only what a `Peer` offers: a step of a talk, `came`, `went`, `flushed` or one that failed, is had only by the call that made it, so no failure and no flush can be made up there.
+What the two have left and what they hold is not known to a contract, so the clauses on known bytes say nothing of them. But `serve_streams` is one function for every reader and writer, and can do with them only what std's `Read` and `Write` offer: what is proved of it is so of the code that runs. Neither can bytes be made up there, nor lost, nor told as written where they were not. The three lines of `Tied` that say what a talk is need not be believed, since `run_tied` (stream::tied) and `serve_streams` speak of the bytes of reader and writer in std's own words (stream/nothing_written_and_nothing_known, an edit of crates/stream/must-fail that is refused). Inside, `run` of stream can do with its peer only what a `Peer` offers: a step of a talk, `came`, `went`, `flushed` or one that failed, is had only by the call that made it, so no failure and no flush can be made up there.
 
 **What cannot be refused** is in five short functions: `read`, `write` and `flush` of `Tied`, which ask std's reader and writer, and `run_tied` and `serve_streams`, of one line and two, which might also end at once and tell of a failure that was none. After an error std says of these only that their bytes are as before. So:
 
@@ -123,7 +142,7 @@ These five are to be read. `reference/ends.py` has the runner end by a full disk
 
 {specs}
 
-The list is bottom up: whatever a definition uses stands above it, in its own file or in one above. To read top down, start at the roots and look each name up. Behind a name stands the number of its lines without comments; `(h)`, `(r)` and `(t)` say that the host's contracts, the runner's, or the theorems unfold to it. A file under `src/` has types that the code declares; contracts see them as records and cases.
+The list is bottom up: whatever a definition uses stands above it, in its own file or in one above. To read top down, start at the roots and look each name up. Behind a name stands the number of its lines without comments; `(h)`, `(r)` and `(t)` say that the host's contracts, the runner's, or the theorems unfold to it. A file under `src/` has types and constants that the code declares; contracts see types as records and cases, and of constants the numbers (crate `constants` says them again, as theorems).
 
 Not listed are laws, since whatever they say is proved; definitions that only proofs use; and Rattle's libraries, of which the last section lists the names used.
 """
@@ -180,14 +199,15 @@ class List:
         roots += self.roots_named([root for root in RUNS if root.split("::")[0] == crate])
         return roots
 
-    def walked(self, roots):
-        """All that roots unfold to."""
+    def walked(self, roots, near=False):
+        """All that roots unfold to; near them, only what these name, within the files of the roots and one step beyond."""
         seen, todo = {}, [found for _, found in roots]
+        homes = {self.path(found) for found in todo if isinstance(found, antt.Item)}
         while todo:
             item = todo.pop()
             if isinstance(item, (antt.Item, source.Declared)) and id(item) not in seen and self.tree.kind(item) != "law":
                 seen[id(item)] = item
-                todo += self.below(item)
+                todo += self.below(item) if not near or self.path(item) in homes else []
         return list(seen.values())
 
     # ---- what roots unfold to
@@ -297,7 +317,10 @@ def text_lines(item):
 
 
 def described(item):
-    return f": {item.comment}" if item.comment else ""
+    """The value of a constant, and the comment."""
+    short = getattr(item, "form", "") == "const" and len(item.variants[0]) < 60
+    value = f" is `{item.variants[0]}`" if short else ""
+    return value + (f": {item.comment}" if item.comment else "")
 
 
 def roughly(lines):
@@ -347,10 +370,20 @@ def filled(head, listing):
     inline, lines = header_functions()
     package = sum(len(path.read_text(encoding="utf-8").splitlines()) for path in Path(PACKAGE).glob("*.rs") if path.name != "tests.rs")
     counted = {"specs": specs_held(listing), "kit": KIT, "pace": str(PACE), "alone": alone(listing), "inline": ", ".join(f"`{name}`" for name in inline),
-               "inline_count": str(len(inline)), "inline_lines": str(lines), "package_lines": f"{package:,}"}
+               "inline_count": str(len(inline)), "inline_lines": str(lines), "package_lines": f"{package:,}", **in_an_hour(listing)}
     for name, text in counted.items():
         head = head.replace("{" + name + "}", text)
     return head
+
+
+def in_an_hour(listing):
+    """What the way through the claim says of sizes: what the claim names outside its own file, and what it uses of the theory."""
+    claim, theory = roots_for(listing, CLAIM), listing.walked(roots_for(listing, THEORY))
+    named = [item for item in listing.walked(claim, near=True) if listing.path(item) != STATEMENT]
+    definitions, types, lines, minutes = sizes_for(named, listing)
+    used = {id(item) for item in listing.walked(claim)}
+    return {"near": f"{definitions} definitions and {types} types of the code, {lines} lines", "near_minutes": str(minutes),
+            "theory": str(sum(len(item.names) for item in theory)), "shared": str(sum(len(item.names) for item in theory if id(item) in used))}
 
 
 def header_functions():
@@ -454,27 +487,61 @@ def why(listing, name):
             print(" < ".join(chain + [item]))
 
 
-def roots_for(listing, name):
+def functions_for(listing, name):
+    """The functions of that name, with their files."""
     *crate, function = name.split("::")
-    return listing.contracts([(file, one) for file in listing.tree.codes.values() for one in file.functions
-                              if one.name == function and crate[:1] in ([], [file.crate])], f"there is no function {name} with a contract")
+    return [(file, one) for file in listing.tree.codes.values() for one in file.functions
+            if one.name == function and crate[:1] in ([], [file.crate])]
+
+
+def roots_for(listing, name):
+    return listing.contracts(functions_for(listing, name), f"there is no function {name} with a contract")
 
 
 def sizes_for(items, listing):
     """Definitions, types of the code, lines, and about how many minutes they take."""
     lines = sum(listing.lines(item) for item in items)
     return (sum(len(item.names) for item in items if isinstance(item, antt.Item)), sum(isinstance(item, source.Declared) for item in items),
-            lines, max(1, round(lines / PACE / 10) * 10))
+            lines, max(5, round(lines / PACE / 5) * 5))
 
 
-def told_for(listing, name):
-    chosen = {id(item): item for item in listing.walked(roots_for(listing, name))}
-    for path, _, items in listing.files(chosen):
+def told_for(listing, name, near=False, text=False):
+    chosen = {id(item): item for item in listing.walked(roots_for(listing, name), near)}
+    for file, function in functions_for(listing, name):
+        print(f"{file.path}:{function.line}: {function.name}")
+        if text:
+            print("\n".join(contract_lines(file, function)) + "\n")
+    for path, file, items in listing.files(chosen):
         print(path)
+        shown = set()
         for item in items:
-            print(f"  {item.start:4} {listing.lines(item):3}  {', '.join(item.names)}{described(item)}")
+            if text:
+                print("\n".join(heads(file, item, shown) + file.lines[item.first - 1:item.last]) + "\n")
+            else:
+                print(f"  {item.start:4} {listing.lines(item):3}  {', '.join(item.names)}{described(item)}")
     definitions, types, lines, minutes = sizes_for(chosen.values(), listing)
-    print(f"\n{definitions} definitions and {types} types of the code, {lines} lines: about {minutes} minutes to read")
+    print(f"{'' if text else chr(10)}{definitions} definitions and {types} types of the code, {lines} lines: about {minutes} minutes to read")
+
+
+def heads(file, item, shown):
+    """The heads of the modules that it stands in, and what they open, where they were not shown yet."""
+    found = []
+    for part in getattr(item, "context", []):
+        first, last = (part.first, part.where) if isinstance(part, antt.Params) else (part.line, part.line)
+        if first not in shown:
+            shown.add(first)
+            found += file.lines[first - 1:last]
+    return found
+
+
+def contract_lines(file, function):
+    """A function from its comment on, without its body."""
+    first = last = function.line - 1
+    while first > 0 and file.lines[first - 1].lstrip().startswith(("///", "#[")):
+        first -= 1
+    while last + 1 < len(file.lines) and not file.lines[last + 1].startswith("{"):
+        last += 1
+    return file.lines[first:last + 1]
 
 
 def main(arguments):
@@ -498,8 +565,8 @@ def main(arguments):
         items_of(listing, arguments[1])
     elif option == "--why" and len(arguments) == 2:
         why(listing, arguments[1])
-    elif option == "--for" and len(arguments) == 2:
-        told_for(listing, arguments[1])
+    elif option == "--for" and len(arguments) >= 2 and set(arguments[2:]) <= {"--near", "--text"}:
+        told_for(listing, arguments[1], "--near" in arguments, "--text" in arguments)
     elif option:
         print(__doc__.strip())
         return 2

@@ -1,7 +1,7 @@
 //! A reading of its own, which takes nothing from the library: `edge_stream DIRECTORY`
-//! writes edge.stream, edge.expected and edge.comments there, and some tail-N.stream
-//! with tail-N.expected. The expected answers stand here as written by hand from
-//! docs/RULES.md; no runner is asked.
+//! writes edge.stream, edge.expected and edge.comments there, oldest-first likewise,
+//! and some tail-N.stream with tail-N.expected. The expected answers stand here as
+//! written by hand from docs/RULES.md; no runner is asked.
 
 use std::fmt::Write as _;
 use std::fs;
@@ -33,6 +33,17 @@ fn shown(bytes: &[u8]) -> String {
 }
 
 impl Edges {
+    fn new() -> Edges {
+        let comments = "record number | output line | record | last line of the answer | what it shows\n".to_owned();
+        Edges { comments, ..Edges::default() }
+    }
+
+    fn write(&self, directory: &Path, name: &str) {
+        fs::write(directory.join(format!("{name}.stream")), &self.stream).unwrap();
+        fs::write(directory.join(format!("{name}.expected")), &self.expected).unwrap();
+        fs::write(directory.join(format!("{name}.comments")), &self.comments).unwrap();
+    }
+
     fn part(&mut self, title: &str) {
         write!(self.comments, "\n== {title}\n").unwrap();
     }
@@ -224,12 +235,36 @@ fn margins(e: &mut Edges) {
     );
 }
 
+/// Two blocks, with a bond in the older one and the unbond of the same member in the newer one.
+fn oldest_first(e: &mut Edges) {
+    e.part("a committee applies blocks oldest first");
+    e.ok(&open("0", "1", "64", "", &["10", "0", "0", "0"]), "a member alone, lookback 1");
+    e.ok("propose,0,B,1,1", "bonds member 1, in block 1");
+    e.ok("certify,0", "");
+    e.ok("advance", "");
+    e.ok("propose,1", "");
+    e.ok("certify,0", "the anchor of 2");
+    e.ok("advance", "");
+    e.ok("propose,1,U,1,0", "unbonds member 1, in block 2");
+    e.ok("certify,0", "");
+    e.record(b"commit", &["ok,1"], "block 1, of round 2: rounds 1 and 2");
+    e.ok("advance", "");
+    e.ok("propose,1", "");
+    e.ok("certify,0", "the anchor of 4: weights 10 and 1, the leader of 4 is at position 0 of members 0 and 1");
+    e.ok("advance", "");
+    e.ok("propose,1", "");
+    e.ok("certify,0", "10 of 11, the quorum is 8");
+    e.record(b"commit", &["ok,1"], "block 2, of round 4: rounds 3 and 4");
+    e.ok("advance", "to round 6, whose committee both blocks change");
+    e.ok("propose,1", "");
+    e.no(9, "certify,2", "member 1 came and left; newest block first it would be in, and the answer ok");
+}
+
 fn main() {
     let directory = std::env::args().nth(1).unwrap_or(".".to_owned());
     let directory = Path::new(&directory);
-    let mut e = Edges::default();
+    let mut e = Edges::new();
     let e = &mut e;
-    e.comments.push_str("record number | output line | record | last line of the answer | what it shows\n");
 
     e.part("before an open: 24 comes first, then every call answers 1");
     e.no(1, "propose,0", "propose 1");
@@ -1046,9 +1081,11 @@ fn main() {
     e.stream.extend_from_slice(b"advance");
     e.answers(b"advance", &["refused,24"], "unreadable, not executed");
 
-    fs::write(directory.join("edge.stream"), &e.stream).unwrap();
-    fs::write(directory.join("edge.expected"), &e.expected).unwrap();
-    fs::write(directory.join("edge.comments"), &e.comments).unwrap();
+    e.write(directory, "edge");
+
+    let mut e = Edges::new();
+    oldest_first(&mut e);
+    e.write(directory, "oldest-first");
 
     // Ends of the input: stream and number of answers 24.
     let no_end = "0".repeat(5_000);
