@@ -33,7 +33,8 @@ fn main() {
     println!("cargo:rerun-if-changed={}", archive.display());
     let folder = PathBuf::from(env::var_os("OUT_DIR").expect("cargo sets it"));
     if let Err(error) = fs::copy(&archive, folder.join("libforgelilac.a")) {
-        fail(&format!("the engine's archive {} cannot be read: {error}", archive.display()));
+        let whole = if archive.is_relative() { "; FORGELILAC_ARCHIVE is to have its whole path" } else { "" };
+        fail(&format!("the engine's archive {} cannot be read: {error}{whole}", archive.display()));
     }
     println!("cargo:rustc-link-search=native={}", folder.display());
     println!("cargo:rustc-link-lib=static=forgelilac");

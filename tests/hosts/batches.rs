@@ -15,7 +15,7 @@ use reference::*;
 pub struct Figures {
     /// Certificates handed over; those tried, by what they got.
     pub handed: u64,
-    pub got: [u64; 32],
+    pub got: [u64; ANSWERS],
     /// Of those that got 11, what they got straight afterwards.
     pub again_11: u64,
     pub again_17: u64,
@@ -23,7 +23,7 @@ pub struct Figures {
 
 impl Figures {
     pub fn print(&self) {
-        let list: Vec<String> = (0..32)
+        let list: Vec<String> = (0..ANSWERS)
             .filter(|&n| self.got[n] > 0)
             .map(|n| format!("{n} x {}", self.got[n]))
             .collect();

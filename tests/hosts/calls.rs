@@ -51,6 +51,9 @@ impl Rng {
 
 // ---------------------------------------------------------------- calls ---
 
+/// Numbers of refusals that this version has stand below it, 0 for accepted: a new one makes it larger.
+pub const ANSWERS: usize = 32;
+
 #[derive(Clone, Debug)]
 pub enum Call {
     Open { own: u32, sheet: Vec<u32>, rights: u32 },

@@ -233,6 +233,7 @@ impl Figures {
         self.compare_rights(node, &engine);
         self.compare_guest(node, &engine);
         self.compare_waiting(node, &engine);
+        compare_held(node, &engine);
         self.compare_previews(node, &engine);
         self.compare_criticals(node, engine.clone());
         self.compare_effects(node, &engine);
@@ -526,6 +527,18 @@ impl Figures {
 }
 
 // --------------------------------------------------------------- a full one ---
+
+/// The held set of each round, as package and reference have it, and none out of range.
+fn compare_held(node: &Node, engine: &Engine) {
+    let Some(twin) = &node.twin else { return };
+    let ceiling = twin.settings.ceiling;
+    for round in (0..=ceiling + 1).chain([u32::MAX]) {
+        let held = |author: &Member| (1..=ceiling).contains(&round) && twin.is_held(author.get(), round);
+        let expected = Member::ALL.into_iter().filter(held).map(Member::bit).sum();
+        let round = Round::new(round);
+        assert_eq!((engine.held(round), lent::held(&node.state, &node.table, round)), (expected, expected));
+    }
+}
 
 /// A full state: sixteen members, every certificate of 1,024 rounds with four transactions, blocks
 /// made as they can be.

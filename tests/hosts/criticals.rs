@@ -68,7 +68,7 @@ impl Figures {
     }
 
     /// `answers` are those of all lists.
-    pub fn print(&self, answers: &[u64; 32]) {
+    pub fn print(&self, answers: &[u64; ANSWERS]) {
         let (asked, accepted) = (answers.iter().sum::<u64>(), answers[0]);
         let ([changed, of_them], [absent, refused]) = (self.changed, self.absences);
         println!(
@@ -87,7 +87,7 @@ impl Figures {
     }
 
     /// Every number that a list may answer was seen, and no other.
-    fn all_seen(answers: &[u64; 32]) {
+    fn all_seen(answers: &[u64; ANSWERS]) {
         for (number, &times) in answers.iter().enumerate() {
             let is_its = [0, 1, 8, 19, 20, 21, 22, 25].contains(&number);
             assert_eq!(times > 0, is_its, "lists answered with {number}");

@@ -243,8 +243,8 @@ fn write_after(call: &Call, member: &Member, state: &mut [u32], table: &mut [u32
 // --------------------------------------------------------------- figures ---
 
 /// How many calls got each answer.
-fn told(answers: &[u64; 32]) -> String {
-    let refusals = (1..32).filter(|&n| answers[n] > 0);
+fn told(answers: &[u64; ANSWERS]) -> String {
+    let refusals = (1..ANSWERS).filter(|&n| answers[n] > 0);
     let list: Vec<String> = refusals.map(|n| format!("{n} x {}", answers[n])).collect();
     let made: u64 = answers.iter().sum();
     format!("{made} calls, {} accepted; refused: {}", answers[0], list.join(", "))
@@ -252,7 +252,7 @@ fn told(answers: &[u64; 32]) -> String {
 
 #[derive(Default)]
 struct Figures {
-    answers: [[u64; 32]; Call::NAMES.len()],
+    answers: [[u64; ANSWERS]; Call::NAMES.len()],
     calls: u64,
     malformed: u64,
     changed: u64,
@@ -299,7 +299,9 @@ impl Figures {
             Caller::Host => &mut self.answers,
             Caller::Guest(_) => &mut self.guests.answers,
         };
-        answers[call.kind()][(answer >> 32) as usize & 31] += 1;
+        let number = (answer >> 32) as usize;
+        assert!(number < ANSWERS, "{number} is no number of this version: {call:?}");
+        answers[call.kind()][number] += 1;
         if matches!(call, Call::Commit) && answer >> 32 == 0 {
             self.blocks += answer;
             self.most_blocks = self.most_blocks.max(answer);
@@ -374,7 +376,7 @@ impl Figures {
 
     fn print(&self, seed: u64) {
         // The host has no accesses.
-        for (name, answers) in Call::NAMES.iter().zip(&self.answers).filter(|(_, answers)| **answers != [0; 32]) {
+        for (name, answers) in Call::NAMES.iter().zip(&self.answers).filter(|(_, answers)| **answers != [0; ANSWERS]) {
             println!("{name}: {}", told(answers));
         }
         println!("blocks made: {}, at most {} at once", self.blocks, self.most_blocks);

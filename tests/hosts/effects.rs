@@ -112,7 +112,7 @@ impl Figures {
     }
 
     /// Every number that a read may answer was seen, and no other.
-    fn all_seen(answers: &[u64; 32]) {
+    fn all_seen(answers: &[u64; ANSWERS]) {
         for (number, &times) in answers.iter().enumerate() {
             let is_its = [0, 1, 4, 5, 6, 8, 30].contains(&number);
             assert_eq!(times > 0, is_its, "reads of what a bond does answered with {number}");

@@ -21,7 +21,7 @@ const KINDS: std::ops::Range<usize> = Call::GUESTS..Call::NAMES.len();
 /// What was seen of guests' calls.
 #[derive(Default)]
 pub struct Figures {
-    pub answers: [[u64; 32]; Call::NAMES.len()],
+    pub answers: [[u64; ANSWERS]; Call::NAMES.len()],
     /// On states that are not well formed or stretches too short: with 26 or 29, and
     /// with the right, so with 1.
     unfit: [u64; 2],

@@ -598,8 +598,8 @@ impl Test {
                 self.read_along(&plan);
             }
         }
-        let seen = |answers: &[u64; 32], its: &[usize]| {
-            let all = (0..32).all(|number| (answers[number] > 0) == its.contains(&number));
+        let seen = |answers: &[u64; ANSWERS], its: &[usize]| {
+            let all = (0..ANSWERS).all(|number| (answers[number] > 0) == its.contains(&number));
             assert!(all, "{}", told(answers));
         };
         seen(&self.figures.answers[Call::PORT_RESET], &[0, 1, 26]);
@@ -628,7 +628,7 @@ fn read_on(rng: &mut Rng, member: &mut Member) {
 }
 
 impl Test {
-    fn accesses(&self) -> [u64; 32] {
+    fn accesses(&self) -> [u64; ANSWERS] {
         let of_guests = &self.figures.guests.answers;
         std::array::from_fn(|number| of_guests[Call::PORT_READ][number] + of_guests[Call::PORT_WRITE][number])
     }

@@ -37,7 +37,7 @@ impl Figures {
     }
 
     /// `answers` are those of all previews.
-    pub fn print(&self, answers: &[u64; 32]) {
+    pub fn print(&self, answers: &[u64; ANSWERS]) {
         let [none, one, two, three, four, more] = self.blocks;
         println!(
             "previews: {} asked, {} accepted; committed on a copy: of 1 to 4 blocks {one}, {two}, {three}, {four}, of more {more}, \
@@ -51,7 +51,7 @@ impl Figures {
     }
 
     /// Every number that a preview may answer was seen, and no other.
-    fn all_seen(answers: &[u64; 32]) {
+    fn all_seen(answers: &[u64; ANSWERS]) {
         for (number, &times) in answers.iter().enumerate() {
             let is_its = [0, 1, 8, 19, 20, 21, 22, 25].contains(&number);
             assert_eq!(times > 0, is_its, "previews answered with {number}");

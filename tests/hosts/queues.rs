@@ -26,7 +26,7 @@ pub struct Figures {
     drawn: [u64; 5],
     again: u64,
     /// Refused ones with something waiting, by their number.
-    refused: [u64; 32],
+    refused: [u64; ANSWERS],
 }
 
 impl Figures {
@@ -43,7 +43,7 @@ impl Figures {
 
     pub fn print(&self) {
         let [none, one, two, three, four] = self.drawn;
-        let numbers = (0..32).filter(|&n| self.refused[n] > 0);
+        let numbers = (0..ANSWERS).filter(|&n| self.refused[n] > 0);
         let list: Vec<String> = numbers.map(|n| format!("{n} x {}", self.refused[n])).collect();
         println!(
             "draws of nothing: {none}, of 1 to 4: {one}, {two}, {three}, {four}; with two of one guest: {}; \
@@ -56,7 +56,7 @@ impl Figures {
     /// Every number that a draw may answer was seen with something waiting, and
     /// no other; all lengths were.
     fn all_seen(&self) {
-        for number in 0..32 {
+        for number in 0..ANSWERS {
             let is_its = [1, 7, 8, 9, 10, 11, 12].contains(&number);
             assert_eq!(self.refused[number] > 0, is_its, "draws refused with {number}");
         }

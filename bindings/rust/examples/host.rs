@@ -3,7 +3,7 @@
 //! A real host signs what it sends, checks signatures before endorse, certify and accept,
 //! and stores state and table before it sends an endorsement (docs/HOSTS.md).
 
-use forgelilac::{Certificate, Engine, Held, Member, Refusal, Right, Rights, Round, Set, Sheet, Transaction};
+use forgelilac::{Certificate, Engine, Member, Refusal, Right, Rights, Round, Sheet, Transaction};
 
 const LAST_ROUND: Round = Round::new(9);
 
@@ -30,16 +30,10 @@ fn transactions(member: Member, round: Round) -> Vec<Transaction> {
     all
 }
 
-/// The authors whose certificates of a round are held.
-fn held(engine: &Engine, round: Round) -> Set {
-    let holds = |author: &Member| engine.certificate(*author, round).is_ok();
-    Member::ALL.into_iter().filter(holds).map(Member::bit).sum()
-}
-
 /// One member's proposal goes out, comes back endorsed, and becomes a certificate.
 fn certificate_of(engines: &mut [Engine], author: usize) -> Result<Certificate, Refusal> {
     let round = engines[author].round();
-    let previous = held(&engines[author], round.before());
+    let previous = engines[author].held(round.before());
     engines[author].propose(previous, &transactions(engines[author].own(), round))?;
     let proposal = engines[author].proposal().expect("just proposed");
     let mut endorsers = 0;
@@ -103,7 +97,7 @@ fn print_chain(engine: &Engine) -> Result<(), Refusal> {
 /// Who endorsed what: the certificates of a round as a member holds them.
 fn print_endorsers(engine: &Engine, round: Round) -> Result<(), Refusal> {
     println!("endorsers in round {round}, as member {} holds them", engine.own());
-    for author in Member::all_in(held(engine, round)) {
+    for author in Member::all_in(engine.held(round)) {
         let endorsers = Member::all_in(engine.certificate(author, round)?.endorsers);
         let list: String = endorsers.map(|member| format!(" {member}")).collect();
         println!("  {round}/{author}:{list}");
@@ -148,7 +142,7 @@ fn print_catching_up(engine: &mut Engine) {
 fn print_batch(engine: &Engine) -> Result<(), Refusal> {
     let places = (1..=3).rev().flat_map(|round| (0..3).map(move |author| (author, round)));
     let held = places.map(|(author, round)| engine.certificate(Member::new(author), Round::new(round)));
-    let row = held.map(|held| held.map(Held::certificate)).collect::<Result<Vec<_>, _>>()?;
+    let row = held.map(|held| held.map(|one| one.certificate())).collect::<Result<Vec<_>, _>>()?;
     println!("rounds 3, 2, 1 to a member that was away");
     let mut away = Engine::open(Member::new(3), &sheet())?;
     let singly: Vec<_> = row.iter().map(|certificate| away.accept(certificate)).collect();
@@ -194,7 +188,7 @@ fn print_queues() -> Result<(), Refusal> {
         for &(guest, number) in others {
             engine.enqueue(guest, Transaction::Entry { number })?;
         }
-        engine.draw(held(&engine, engine.round().before()))?;
+        engine.draw(engine.held(engine.round().before()))?;
         print_drawn(&engine)?;
         engine.certify(0)?;
         engine.advance()?;
@@ -226,7 +220,7 @@ fn print_guests() -> Result<(), Refusal> {
         let mut line = format!("  round {round}");
         line += &answered(LINE, "enqueue", engine.guest(LINE).enqueue(entry));
         line += &answered(CLOCK, "enqueue", engine.guest(CLOCK).enqueue(entry));
-        let previous = held(&engine, engine.round().before());
+        let previous = engine.held(engine.round().before());
         line += &answered(LINE, "draw", engine.guest(LINE).draw(previous));
         engine.certify(0)?;
         if round < 3 {

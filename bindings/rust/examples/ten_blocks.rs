@@ -5,7 +5,7 @@
 //!
 //!     cargo run --example ten_blocks
 
-use forgelilac::{Certificate, Engine, FromBytesError, Member, Refusal, Round, Set, Sheet, Transaction};
+use forgelilac::{Certificate, Engine, FromBytesError, Member, Refusal, Sheet, Transaction};
 use std::error::Error;
 
 /// The guest of each computer that has something for the chain.
@@ -19,15 +19,10 @@ fn sheet() -> Sheet {
     sheet
 }
 
-/// The authors whose certificates of a round a member holds.
-fn held(engine: &Engine, round: Round) -> Set {
-    Member::ALL.into_iter().filter(|&author| engine.certificate(author, round).is_ok()).map(Member::bit).sum()
-}
-
 /// A member's proposal goes to the others, comes back endorsed, and is a certificate.
 fn certificate_of(engines: &mut [Engine], author: Member) -> Result<Certificate, Refusal> {
     let engine = &mut engines[author.index()];
-    engine.draw(held(engine, engine.round().before()))?;
+    engine.draw(engine.held(engine.round().before()))?;
     let proposal = engine.proposal().ok_or(Refusal::NoProposal)?;
     let mut endorsers = 0;
     for other in engines.iter_mut().filter(|other| other.own() != author) {
@@ -92,8 +87,9 @@ fn main() -> Result<(), Box<dyn Error>> {
         play(&mut engines)?;
         for engine in &mut engines {
             match engine.commit() {
-                // An even round, or round 1: there is nothing to commit.
-                Ok(_) | Err(Refusal::NoCommitRound) => {}
+                // Nothing to commit in an even round or round 1, the block is made already, or its anchor or
+                // votes are missing: no fault. A real host waits in its last chance (docs/HOSTS.md).
+                Ok(_) | Err(Refusal::NoCommitRound | Refusal::BlockMade | Refusal::NoAnchor | Refusal::VotesShort) => {}
                 Err(refusal) => return Err(refusal.into()),
             }
             engine.advance()?;

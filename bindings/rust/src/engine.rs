@@ -439,6 +439,23 @@ impl Engine {
         self.state[STATE_BLOCKS]
     }
 
+    /// The authors whose certificates of a round are held: a word of the table. 0 for a round out of range,
+    /// so `engine.held(engine.round().before())` is the previous set to name, in round 1 too.
+    ///
+    /// ```
+    /// use forgelilac::{Engine, Member, Refusal, Round, Sheet};
+    ///
+    /// let mut engine = Engine::open(Member::new(1), &Sheet { ceiling: Some(64), ..Sheet::default() })?;
+    /// engine.propose(engine.held(engine.round().before()), &[])?;
+    /// engine.certify(0b1101)?;
+    /// assert_eq!(engine.held(Round::FIRST), engine.own().bit());
+    /// # Ok::<(), Refusal>(())
+    /// ```
+    #[must_use]
+    pub fn held(&self, round: Round) -> Set {
+        lent::held(&self.state, &self.table, round)
+    }
+
     /// One's own proposal for the present round, for sending. After a [`Engine::draw`] its
     /// transactions are those drawn.
     #[must_use]

@@ -24,10 +24,10 @@
 pub use crate::chain::{chain, guest_chain, Place};
 use crate::layout::{
     BODY_WORDS, CERTIFICATE_WORDS, EFFECT_WORDS, ENTRY_AUTHOR, ENTRY_BLOCK, ENTRY_ROUND, ENTRY_WORDS, GUESTS,
-    HELD_WORDS, PLACE_AUTHOR, PLACE_ROUND, PLACE_WORDS, PROPOSAL_WORDS, STATE_BODY, STATE_OWN, STATE_PROPOSED,
-    STATE_RIGHTS, STATE_ROUND, STATE_WORDS, WAITING,
+    HELD_WORDS, PLACE_AUTHOR, PLACE_ROUND, PLACE_WORDS, PROPOSAL_WORDS, ROW_HELD, STATE_BODY, STATE_CEILING, STATE_OWN,
+    STATE_PROPOSED, STATE_RIGHTS, STATE_ROUND, STATE_WORDS, WAITING,
 };
-use crate::{Effect, Member, Refusal, Rights, Round, Set, Share, MEMBERS};
+use crate::{layout, Effect, Member, Refusal, Rights, Round, Set, Share, MEMBERS};
 
 /// The exported functions. Each slice is a pointer and a length in words, of a row in records. Any
 /// length and any content is safe; pointers that come from slices are never null and do not overlap.
@@ -673,6 +673,15 @@ pub fn waiting(state: &[u32], table: &[u32], guest: u32) -> Result<u32, Refusal>
     }
     let counts = &table[WAITING..WAITING + GUESTS];
     counts.get(guest as usize).copied().ok_or(Refusal::GuestRange)
+}
+
+/// The authors whose certificates of a round are held: a word of the table, and no call is made. 0 for a
+/// round out of range, so the held set of the round before the present one is the previous set to name.
+#[must_use]
+pub fn held(state: &[u32], table: &[u32], round: Round) -> Set {
+    let in_range = round.get() > 0 && state.get(STATE_CEILING).is_some_and(|&ceiling| round <= Round::new(ceiling));
+    let word = if in_range { table.get(layout::row(round.get()) + ROW_HELD) } else { None };
+    word.and_then(|&word| Set::try_from(word).ok()).unwrap_or(0)
 }
 
 /// The words of one's own proposal for the present round, for sending; nothing where the state keeps

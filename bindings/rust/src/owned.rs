@@ -112,8 +112,8 @@ pub struct Held {
 impl Held {
     /// As accept takes it, for passing on.
     #[must_use]
-    pub fn certificate(self) -> Certificate {
-        Certificate { proposal: self.proposal, endorsers: self.endorsers }
+    pub fn certificate(&self) -> Certificate {
+        Certificate { proposal: self.proposal.clone(), endorsers: self.endorsers }
     }
 
     /// The held certificate of these words, as [`crate::lent::certificate`] gives them.

@@ -411,13 +411,41 @@ fn certificates_stored_before_show_no_endorsers() {
     *endorsers_of(&mut old, 0) = 0;
     let held = old.certificate(Member::new(0), Round::new(1)).unwrap();
     assert_eq!((held.endorsers, &held.proposal), (0, &certificate.proposal));
-    refuses(&mut of_four(1), 13, |e| e.accept(&held.clone().certificate()));
+    refuses(&mut of_four(1), 13, |e| e.accept(&held.certificate()));
     refuses(&mut old, 16, |e| e.accept(&certificate));
     // Where the author alone is a quorum, none are needed.
     let mut author = alone();
     author.propose(0, &[]).unwrap();
     author.certify(0).unwrap();
     alone().accept(&author.certificate(Member::new(0), Round::new(1)).unwrap().certificate()).unwrap();
+}
+
+/// The held set of each round is the authors whose certificates can be read; there is none out of range.
+#[test]
+fn held_sets_are_of_what_is_held() {
+    let mut engine = of_four(0);
+    let certificate = |author: u32, round, previous| Certificate {
+        proposal: Proposal { author: Member::new(author), round: Round::new(round), previous, transactions: vec![] },
+        endorsers: 0b1111 & !(1 << author),
+    };
+    for one in [certificate(1, 1, 0), certificate(3, 1, 0), certificate(2, 1, 0), certificate(3, 2, 0b1110)] {
+        engine.accept(&one).unwrap();
+    }
+    assert_eq!([0, 1, 2, 3].map(|round| engine.held(Round::new(round))), [0, 0b1110, 0b1000, 0]);
+    for round in (0..70).chain([CEILING, u32::MAX]).map(Round::new) {
+        let read = Member::ALL.into_iter().filter(|&author| engine.certificate(author, round).is_ok());
+        assert_eq!(engine.held(round), read.map(Member::bit).sum());
+        assert_eq!(lent::held(&engine.state, &engine.table, round), engine.held(round));
+    }
+    // What lies beyond the ceiling is no row, and words of row 0 are none either.
+    engine.table.extend([0b1111; 272]);
+    engine.table[0] = 1;
+    assert_eq!([0, 65].map(|round| engine.held(Round::new(round))), [0, 0]);
+    // Words that end before, and a word that is no set.
+    assert_eq!(lent::held(&engine.state[..2], &engine.table, Round::FIRST), 0);
+    assert_eq!(lent::held(&engine.state, &engine.table[..272], Round::FIRST), 0);
+    engine.table[row(1) + ROW_HELD] = 1 << 16;
+    assert_eq!(engine.held(Round::FIRST), 0);
 }
 
 // ---- batches
