@@ -25,7 +25,7 @@ fn try_ceiling<W: Write>(output: &mut W, table: &mut [u32], ceiling: u32) -> io:
     };
     let answer = open::open(&mut open::closed(), table, Member(0), written);
     let mut out = [0u8; 20];
-    let n = replies::answer::put_answer(answer, &mut out, 0);
+    let n = replies::answer::put_answer(answer, &mut out);
     output.write_all(&out[..n])
 }
 

@@ -3,7 +3,7 @@
 //! Theorems, no code. Definitions name lengths, places and letters by the code's own constants, so that each stands once; here each is the number that docs/RULES.md, docs/TABLES.md and docs/GUESTS.md give. A constant with another number is refused here.
 #![tactic(auto)]
 
-ghost use Rattle.std.specs.Prelude.{◌≡◌, ◌||◌, if◌then◌else◌, nat_lt, List, ℕ, length, None};
+ghost use Rattle.std.specs.Prelude.{◌≡◌, ◌||◌, if◌then◌else◌, nat_lt, List, ℕ, ◌+◌, ◌*◌, length, None};
 ghost use Rattle.terms.specs.declared.letters.TheConstants.{BOND, UNBOND, ENTRY};
 ghost use Rattle.store.specs.Table as store;
 ghost use Rattle.store.specs.declared.lengths.TheConstants as lengths;
@@ -15,6 +15,8 @@ ghost use Rattle.chain_committees.specs.declared.cache.TheConstants as cache;
 ghost use Rattle.words.specs.Lengths as words;
 ghost use Rattle.words.specs.declared.places.TheConstants as word;
 ghost use Rattle.framing.specs.declared.TheConstants.{LONGEST, LONGEST_ENDED};
+ghost use Rattle.storing.specs.declared.stored.TheConstants as stored;
+ghost use Rattle.storing.specs.declared.signed.TheConstants as signed;
 ghost use Rattle.records.specs.Records.{record_in, is_damaged, by_fields};
 ghost use Rattle.records.specs.Fields.{fields_of};
 
@@ -72,4 +74,16 @@ pub fn record_bytes()
 /// A cached committee's words: its round, and sixteen weights.
 pub fn cache_words()
     ensures { (cache.ROUNDS ≡ 1) × (cache.COMMITTEE ≡ 16) }
+{}
+
+/// What stands at the head of a stored member, and of what is signed: marks of four letters, the lowest byte first, the format, and how many words each part has. docs/TABLES.md, "The stored form"; docs/HOSTS.md, "What is signed, to the byte".
+pub fn stored_and_signed()
+    ensures stored { (stored.MARK ≡ 70 + 76 * 256 + 83 * 65536 + 49 * 16777216)
+        × (stored.FORMAT ≡ 3) }
+    ensures head { (stored.HEAD ≡ 4) × (stored.HEAD_MARK ≡ 0) × (stored.HEAD_FORMAT ≡ 1)
+        × (stored.HEAD_RUN_LOW ≡ 2) × (stored.HEAD_RUN_HIGH ≡ 3) × (stored.DIGEST ≡ 32) }
+    ensures signed { (signed.PROPOSAL_MARK ≡ 70 + 76 * 256 + 80 * 65536 + 49 * 16777216)
+        × (signed.ENDORSEMENT_MARK ≡ 70 + 76 * 256 + 69 * 65536 + 49 * 16777216)
+        × (signed.CERTIFICATE_MARK ≡ 70 + 76 * 256 + 67 * 65536 + 49 * 16777216) }
+    ensures message { (signed.SETTINGS ≡ 19) × (signed.MESSAGE_HEAD ≡ 9) }
 {}

@@ -1,8 +1,9 @@
 -- The bytes at hand of a stream, and what a step through them tells.
 use Rattle.std.specs.Prelude.{◌≡◌, Bool, List, ◌∷◌, ◌++◌, ℕ, ◌<◌, length, drop, Option, None, Some}
 use Rattle.std.specs.Option.{option_map}
-use Rattle.std.specs.Borrow.{Bor}
 use Rattle.framing.specs.Framing.{remaining, Waits}
+use Rattle.framing.specs.declared.records.Framed.{Framed}
+use Rattle.framing.specs.declared.records.Framed.TheVariants.{Readable, Unreadable}
 
 pub record AtHand : Type 0 where
   pub hand : List ℕ
@@ -13,11 +14,12 @@ pub record AtHand : Type 0 where
 abbrev pub left : Bool → AtHand → List ℕ → List (Option (List ℕ))
 left over h more = remaining over h.skipping (h.hand ++ more)
 
--- the record that was found
-abbrev pub record_now : Option (Bor (List ℕ)) → Option (List ℕ)
-record_now o = option_map (λ s. s.now) o
+-- the bytes of the record that was found, none where it is unreadable
+abbrev pub record_now : Framed → Option (List ℕ)
+record_now (Readable bytes) = Some bytes.now
+record_now Unreadable = None
 
-abbrev pub told : Option (Option (Bor (List ℕ))) → Option (Option (List ℕ))
+abbrev pub told : Option Framed → Option (Option (List ℕ))
 told r = option_map record_now r
 
 -- what was found comes first

@@ -6,6 +6,15 @@ ghost use Rattle.framing.specs.AtHand.{AtHand, Tells, told};
 use crate::{Event, next_step};
 use std::marker::Model;
 
+/// A record that is found in a stream.
+#[derive(Clone, Copy)]
+pub enum Framed<'a> {
+    /// These are its bytes, without its CRLF.
+    Readable(&'a [u8]),
+    /// It is too long, or lacks its CRLF.
+    Unreadable,
+}
+
 /// The bytes at hand, and whether a record that was answered goes on in them.
 #[derive(Drop)]
 pub struct Records<'a> {
@@ -42,8 +51,8 @@ impl<'a> Records<'a> {
         self.skipping
     }
 
-    /// The next record, none where it is unreadable; nothing where more bytes are wanted.
-    pub fn next(&mut self) -> Option<Option<&'a [u8]>>
+    /// The next record; none where more bytes are wanted.
+    pub fn next(&mut self) -> Option<Framed<'a>>
         ensures { Tells self.old (told result) self.new }
     {
         loop {
@@ -52,8 +61,8 @@ impl<'a> Records<'a> {
             self.hand = &self.hand[step.next..];
             self.skipping = step.skipping;
             match step.event {
-                Event::Record => return Some(Some(bytes)),
-                Event::Unreadable => return Some(None),
+                Event::Record => return Some(Framed::Readable(bytes)),
+                Event::Unreadable => return Some(Framed::Unreadable),
                 Event::Nothing if step.next == 0 => return None,
                 Event::Nothing => {}
             }

@@ -1,3 +1,5 @@
 pub mod Guests
 pub mod Answered
 pub mod RunsLaws
+pub mod OwnedRunsLaws
+pub mod LeaderLaws

@@ -1,4 +1,3 @@
 pub mod ReadBack
 pub mod CachedLaws
 pub mod RecordLaws
-pub mod ReplyLaws

@@ -53,3 +53,12 @@ module _ {e : Engine} {x : List ℕ} {y : List ℕ} {next : ℕ} where
   pub call-answered : (c : Call) {left : Engine} {m : ℕ} → left ≡ after e c → m ≤ length e.table * 9 + 20 → Puts x y 0 next (lines_for e c) m → RecordAnswered e (Some c) left x y next
   unfolding served_engine served_lines
   call-answered c h l p = record { its_engine = h; its_lines = puts_as refl l p }
+
+module _ {e left : Engine} {x : List ℕ} {y : List ℕ} {next : ℕ} where
+  -- a call c that gives no value was answered with a
+  pub member-answered : (c : Call) → accepted_value e c ≡ nothing → (a : Result Unit Refusal) → refusal_in a ≡ refusal_for e c → left ≡ after e c → Puts x y 0 next (answer_line a) 20 → RecordAnswered e (Some c) left x y next
+  member-answered c v a g h p = call-answered c {m = 20} h (omega arith) (puts_as (sym (answer-lines e c v a g)) (omega arith) p)
+
+  -- and a commit
+  pub commit-answered : (a : Result ℕ Refusal) → refusal_in a ≡ refusal_for e commit → IfOk a (λ n. n ≡ blocks_then e.state e.table - e.state.blocks) → left ≡ after e commit → Puts x y 0 next (committed_line a) 20 → RecordAnswered e (Some commit) left x y next
+  commit-answered a g i h p = call-answered commit {m = 20} h (omega arith) (puts_as (sym (commit-lines e a g i)) (omega arith) p)

@@ -1,4 +1,3 @@
 pub mod Answers
 pub mod Asked
 pub mod Records
-pub mod Replies

@@ -1,15 +1,36 @@
-//! What is kept of a member between the records of a stream.
+//! What is kept of a member between the records of a stream, and what each record does to it.
 
-ghost use Rattle.std.specs.Prelude.{◌≡◌, length};
+ghost use Rattle.std.specs.Prelude.{◌≡◌, ◌+◌, ◌-◌, ◌*◌, ◌≤◌, length, IfOk, Some};
+ghost use Rattle.std.specs.Option.{option_and_then};
+ghost use Rattle.base.specs.Puts.{Puts};
+ghost use Rattle.framing.specs.AtHand.{record_now};
+ghost use Rattle.records.specs.Records.{record_in};
+ghost use Rattle.refusals.specs.Refusals.{refusal_in};
 ghost use Rattle.open.specs.Open.{closed_state};
-ghost use Rattle.replies.specs.Records.{engine_of};
+ghost use Rattle.commit.specs.Commit.{blocks_then};
+ghost use Rattle.engine.specs.Calls.{opens, commit, aside, listing};
+ghost use Rattle.engine.specs.Engine.{refusal_for, after};
+ghost use Rattle.replies.specs.Asked.{call_of};
+ghost use Rattle.replies.specs.Records.{engine_of, lines_for, RecordAnswered};
 ghost use Rattle.serving.specs.Lengths.{table_length};
 
-use crate::answering;
-use records::record_in;
+use accept::accept_cached;
+use advance::advance_cached;
+use certify::certify_cached;
+use commit::commit_cached;
+use endorse::endorse_cached;
+use framing::records::Framed;
+use listing::lines;
+use propose::propose_cached;
+use records::{Record, record_in};
+use refusals::Refusal;
+use replies::answer::{put_answer, put_committed};
+use replies::cached;
 use state::State;
 use std::marker::Model;
 use stream::Engine;
+use terms::Member;
+use terms::sheet::Sheet;
 
 /// A state, whether it is well formed, the table, and the committees that are cached beside it. Contracts see the engine of state and table.
 #[derive(Drop)]
@@ -46,6 +67,86 @@ impl<'a> Keeper<'a> {
             table,
         }
     }
+
+    // Makes the call that a record asks for, and puts the lines that answer it at the front of the buffer. Gives how many bytes they have.
+    fn answer(&mut self, asked: Record, out: &mut [u8]) -> usize
+        requires { length self.old.table * 9 + 20 ≤ length out.old }
+        ensures answered { RecordAnswered self.old (Some (call_of asked)) self.new
+            out.old out.new result }
+        ensures size { length self.new.table ≡ length self.old.table }
+    {
+        let formed = self.formed;
+        let state = &mut self.state;
+        let cache = &mut *self.cache;
+        let table = &mut *self.table;
+        match asked {
+            Record::Open(own, sheet) => put_answer(self.open(own, sheet), out),
+            Record::Propose(body) => {
+                put_answer(propose_cached(formed, cache, state, table, body), out)
+            }
+            Record::Endorse(proposal) => {
+                put_answer(endorse_cached(formed, cache, state, table, proposal), out)
+            }
+            Record::Certify(endorsers) => {
+                put_answer(certify_cached(formed, cache, state, table, endorsers), out)
+            }
+            Record::Accept(certificate) => {
+                put_answer(accept_cached(formed, cache, state, table, certificate), out)
+            }
+            Record::Advance => put_answer(advance_cached(formed, cache, state, table), out),
+            Record::Commit => put_committed(self.commit(), out),
+            Record::Chain => self.list(out),
+        }
+    }
+
+    // Opens the member by its number and a sheet. Where it is accepted the state is well formed then, and the committees are cached anew.
+    #[inline(never)]
+    fn open(&mut self, own: Member, written: Sheet) -> Result<(), Refusal>
+        ensures refusal { refusal_in result ≡ refusal_for self.old (opens own written) }
+        ensures engine { self.new ≡ after self.old (opens own written) }
+        ensures size { length self.new.table ≡ length self.old.table }
+    {
+        open::open(&mut self.state, self.table, own, written)?;
+        self.formed = true;
+        cached::renew(true, &mut self.state, &mut *self.table, self.cache);
+        Ok(())
+    }
+
+    // Commits. Where it is accepted the committees are cached anew, and otherwise those that were cached stay.
+    fn commit(&mut self) -> Result<u32, Refusal>
+        ensures refusal { refusal_in result ≡ refusal_for self.old commit }
+        ensures value { IfOk result
+            (λ n. n ≡ blocks_then self.old.state self.old.table - self.old.state.blocks) }
+        ensures engine { self.new ≡ after self.old commit }
+        ensures size { length self.new.table ≡ length self.old.table }
+    {
+        let added = commit_cached(self.formed, &mut self.state, self.table)?;
+        cached::renew(self.formed, &mut self.state, &mut *self.table, self.cache);
+        Ok(added)
+    }
+
+    // Puts the lines of the chain, one for each certificate of each block in their order, and `ok` after them; or `refused` and 1, where the state is not well formed. Gives how many bytes they have.
+    fn list(&self, out: &mut [u8]) -> usize
+        requires { length self.now.table * 9 + 20 ≤ length out.old }
+        ensures { Puts out.old out.new 0 result (lines_for self.now (aside listing))
+            (length self.now.table * 9 + 20) }
+    {
+        if !self.formed {
+            return lines::put_refused(out, 0, Refusal::Malformed.number());
+        }
+        let next = listing::list_chain(self.table, self.state.settings, self.state.blocks, out, 0);
+        lines::put_ok(out, next)
+    }
+}
+
+// What a record that was found says, none where it cannot be read.
+fn read(found: Framed) -> Option<Record>
+    ensures { result ≡ option_and_then record_in (record_now found.entry) }
+{
+    match found {
+        Framed::Readable(bytes) => record_in(bytes),
+        Framed::Unreadable => None,
+    }
 }
 
 impl Engine for Keeper<'_> {
@@ -63,18 +164,11 @@ impl Engine for Keeper<'_> {
         self.table.len() * 9 + 20
     }
 
-    // The record that the bytes hold, served on what is kept.
-    fn serve(&mut self, bytes: Option<&[u8]>, out: &mut [u8]) -> usize {
-        let asked = bytes.and_then(record_in);
-        let reply = answering::serve(
-            self.formed,
-            self.cache,
-            &mut self.state,
-            self.table,
-            asked,
-            out,
-        );
-        self.formed = reply.formed;
-        reply.next
+    // An unreadable record is answered with 24 and changes nothing.
+    fn serve(&mut self, found: Framed, out: &mut [u8]) -> usize {
+        match read(found) {
+            None => lines::put_refused(out, 0, Refusal::Unreadable.number()),
+            Some(asked) => self.answer(asked, out),
+        }
     }
 }

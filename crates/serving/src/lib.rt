@@ -3,7 +3,6 @@
 //! What goes out is what is answered to what was read (`output`, specs/Streams), whoever the peer is. docs/RULES.md, "Records".
 #![tactic(auto)]
 
-pub mod answering;
 pub mod keeper;
 pub mod lengths;
 pub mod theorems;
@@ -19,33 +18,12 @@ ghost use Rattle.serving.specs.Streams.{engine_after, lines_after, output};
 ghost use Rattle.stream.specs.Ended.{Tells};
 ghost use Rattle.stream.specs.Talk.{Ran};
 ghost use Rattle.stream.specs.Known.{Moved, AddsPart};
+ghost use Rattle.stream.specs.declared.ended.Ended.{Ended};
 
 use crate::keeper::Keeper;
 use std::io;
 use std::io::{Read, Write};
-use stream::ended::Ended;
-use stream::peer::Peer;
 use stream::tied::Tied;
-
-/// Serves all records that a peer sends, and hands out the lines that answer them before it reads more. `buffer` is for bytes that came, `out` for lines that go out: 9 bytes for each word of the table, and 20 more. Gives how the run ended; where the input came to its end, the lines for all of it were handed out, and otherwise a first part of those that were due.
-pub(crate) fn run<P: Peer>(
-    peer: &mut P,
-    keeper: &mut Keeper,
-    buffer: &mut [u8],
-    out: &mut [u8],
-) -> Ended
-    requires buffer { LONGEST_ENDED ≤ length buffer.old }
-    requires room { length keeper.old.table * 9 + 20 ≤ length out.old }
-    ensures ran { Ran engine_after lines_after keeper.old P.talk keeper.new
-        peer.old peer.new result }
-    ensures whole { result ≡ Ended.Input → IfSome (P.remaining peer.old)
-        (λ bytes. Appends (P.contents peer.old) (P.contents peer.new) (output keeper.old bytes)) }
-    ensures part { AddsPart engine_after lines_after keeper.old (P.remaining peer.old)
-        (P.remaining peer.new)
-        (P.contents peer.old) (P.contents peer.new) }
-{
-    stream::run::run(peer, keeper, buffer, out)
-}
 
 /// A member that is not open yet, served to the end of the input, over any reader and any writer: what the runner is. The memory is lent: the committees that are cached and the table of the member, and a buffer each for bytes that came and for lines that go out. Gives what a program ends with: all is well where the input came to its end, and then the lines for all of it were handed out; a read or a write that failed is told as it failed.
 pub fn serve_streams<R: Read, W: Write>(
@@ -71,5 +49,5 @@ pub fn serve_streams<R: Read, W: Write>(
         (W.contents streams.old.output) (W.contents streams.new.output) }
 {
     let mut keeper = Keeper::new(cache, table);
-    run(streams, &mut keeper, buffer, out).told()
+    streams.run(&mut keeper, buffer, out)
 }

@@ -16,7 +16,7 @@ ghost use Rattle.framing.specs.AtHand.{record_now};
 ghost use Rattle.stream.specs.Answers.{Answered};
 
 use crate::lines::Lines;
-use framing::records::Records;
+use framing::records::{Framed, Records};
 
 /// What serves records.
 pub trait Engine {
@@ -31,11 +31,11 @@ pub trait Engine {
     fn most(&self) -> usize
         ensures { result ≡ most self.now };
 
-    /// Serves a record, none an unreadable one, and puts its answer at the front of the memory. Gives how many bytes it has.
-    fn serve(&mut self, bytes: Option<&[u8]>, out: &mut [u8]) -> usize
+    /// Serves a record, and puts its answer at the front of the memory. Gives how many bytes it has.
+    fn serve(&mut self, found: Framed, out: &mut [u8]) -> usize
         requires { most self.old ≤ length out.old }
-        ensures engine { self.new ≡ after self.old (record_now bytes.entry) }
-        ensures answer { take result out.new ≡ answer self.old (record_now bytes.entry) }
+        ensures engine { self.new ≡ after self.old (record_now found.entry) }
+        ensures answer { take result out.new ≡ answer self.old (record_now found.entry) }
         ensures within { result ≤ length out.new }
         ensures steady { most self.new ≡ most self.old };
 }
@@ -59,10 +59,10 @@ pub(crate) fn answer_all<E: Engine>(
         records.new out.old out.new }
 {
     while engine.most() <= out.free() {
-        let Some(bytes) = records.next() else {
+        let Some(found) = records.next() else {
             return Wanted::Bytes;
         };
-        out.put_answer(engine, bytes);
+        out.put_answer(engine, found);
     }
     Wanted::Room
 }

@@ -5,6 +5,7 @@ ghost use Rattle.stream.specs.Lines.{Put};
 ghost use Rattle.stream.specs.Answers.{Served};
 
 use crate::Engine;
+use framing::records::Framed;
 use std::marker::Model;
 
 /// The lines, and the memory that they lie in: at its front, with room behind them.
@@ -46,14 +47,14 @@ impl<'a> Lines<'a> {
     }
 
     /// Has the engine serve a record, and puts its answer behind what was put.
-    pub fn put_answer<E: Engine>(&mut self, engine: &mut E, bytes: Option<&[u8]>)
+    pub fn put_answer<E: Engine>(&mut self, engine: &mut E, found: Framed)
         requires { length self.old.bytes + E.most engine.old ≤ self.old.room }
-        ensures served { Served E.after E.answer engine.old engine.new (record_now bytes.entry)
+        ensures served { Served E.after E.answer engine.old engine.new (record_now found.entry)
             self.old self.new }
         ensures room { self.new.room ≡ self.old.room }
         ensures most { E.most engine.new ≡ E.most engine.old }
     {
-        let n = engine.serve(bytes, &mut self.memory[self.count..]);
+        let n = engine.serve(found, &mut self.memory[self.count..]);
         self.count += n;
     }
 }

@@ -1,10 +1,9 @@
 // Someone who sends records and gets their answers.
-ghost use Rattle.std.specs.Prelude.{◌≡◌, ◌≢◌, List, [], ◌∷◌, ◌++◌, ℕ, Option, ◌≤◌, ◌<◌, length, IfOk, IfErr};
+ghost use Rattle.std.specs.Prelude.{◌≢◌, List, [], ◌∷◌, ◌++◌, ◌≤◌, ◌<◌, length, IfOk, IfErr};
 ghost use Rattle.std.specs.Result.{result_err};
 ghost use Rattle.std.specs.IoError.{error_kind};
 ghost use Rattle.stream.specs.Talk.{Event};
 ghost use Rattle.stream.specs.Peer.{read_gave, write_took, flush_did, HandedOut};
-ghost use Rattle.stream.specs.Known.{Moved};
 
 use std::io;
 use std::io::ErrorKind;
@@ -13,11 +12,6 @@ use std::io::ErrorKind;
 pub trait Peer {
     // These steps, in this order, led from one to the other.
     ghost talk: { Self → List Event → Self → Type 0 };
-
-    // The bytes that reads will give from here on, and those that were written, where they are known.
-    ghost remaining: { Self → Option (List ℕ) };
-
-    ghost contents: { Self → Option (List ℕ) };
 
     /// Reads bytes to the front of the buffer. Gives how many came, 0 at the end of the input; or why the read failed, which is never that a signal broke in.
     fn read(&mut self, buffer: &mut [u8]) -> io::Result<usize>
@@ -41,9 +35,6 @@ pub trait Peer {
 
     ghost joined: { (p q r : Self) (l m : List Event) → talk p l q → talk q m r
         → talk p (l ++ m) r };
-
-    ghost moves: { (p q : Self) (l : List Event) → talk p l q
-        → Moved (remaining p) (remaining q) (contents p) (contents q) l };
 }
 
 /// Writes all of the bytes, in as many writes as it takes, and flushes. Gives why one of these failed, where one did, and then no other follows.

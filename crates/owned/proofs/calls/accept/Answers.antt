@@ -1,0 +1,11 @@
+use Rattle.std.proofs.Common.{refl, sym, arith}
+use Rattle.engine.specs.Calls.{accept}
+use Rattle.state.proofs.FormedLaws.{formed}
+use Rattle.owned.proofs.OwnedLaws.{owned_table}
+use Rattle.owned.proofs.calls.accept.Goals as goal
+
+pub words-words-requires : goal.words-words-requires
+words-words-requires c = rw c.in-Some.ensures.1 (formed _ _ (sym c.requires.cached.form))
+
+pub returns-clause-owned : goal.returns-clause-owned
+returns-clause-owned c = owned_table _ _ _ c.requires (accept c.in_ok-c.c) (omega arith, omega arith) refl refl (rw c.in-Some.ensures.1 at c.accept_cached.ensures.table)

@@ -1,0 +1,24 @@
+-- What resume tests of the words that a host hands in, and what the kept committees are afterwards.
+use Rattle.std.specs.Prelude.{◌≡◌, Bool, true, false, List, ℕ, ◌+◌, ◌*◌, ◌≤◌, length}
+use Rattle.state.specs.declared.State.{State}
+use Rattle.state.specs.Cached.{CachesFor}
+use Rattle.state.specs.WellFormed.{well_formed}
+use Rattle.words.specs.States.{state_reads, state_in}
+use Rattle.owned.specs.Rooted.{Rooted, ProposalRooted}
+
+-- a well-formed state whose histories are whole
+pub record Whole (s : State) (t : List ℕ) : Type 0 where
+  pub formed : well_formed s t ≡ true
+  pub rooted : Rooted s.settings.ceiling.0 t
+  pub proposal : ProposalRooted s t
+
+-- the state's words w can be read, the state is such a one with the table t, and k has room for the committees of all rounds
+pub record Resumable (w t k : List ℕ) : Type 0 where
+  pub reads : state_reads w ≡ true
+  pub whole : Whole (state_in w) t
+  pub room : (state_in w).settings.ceiling.0 * 16 + 17 ≤ length k
+
+-- where b is true k has the committees of all rounds, else it is as it was
+pub record Filled (w t k₀ : List ℕ) (b : Bool) (k : List ℕ) : Type 0 where
+  pub committees : b ≡ true → CachesFor (state_in w) t k
+  pub same : b ≡ false → k ≡ k₀

@@ -1,0 +1,94 @@
+//! Entries of a preview put into a lent list: block number, certificate round, author (docs/RULES.md, "Preview").
+//!
+//! Each function returns the next place. Crate prospects has the same and keeps them to itself.
+
+ghost use Rattle.std.specs.Prelude.{◌+◌, ◌-◌, ◌≤◌, ◌<◌, length};
+ghost use Rattle.base.specs.Sets.{contains};
+ghost use Rattle.base.specs.Puts.{Puts};
+ghost use Rattle.prospects.specs.Entries.{entry_words, entry_if, row_entries, rows_entries, in_sets, RowsFit};
+
+use terms::{Member, Round};
+
+// One entry.
+#[tactic(auto, using(prospects::proofs::EntryLaws::entry_put))]
+fn put_entry(list: &mut [u32], at: usize, block: u32, author: Member, round: Round) -> usize
+    requires { at + 3 ≤ length list.old }
+    ensures { Puts list.old list.new at result (entry_words block round.0 author.0) 3 }
+{
+    list[at] = block;
+    list[at + 1] = round.0;
+    list[at + 2] = author.0;
+    at + 3
+}
+
+// That of `author`, where it is in the set `authors`.
+#[tactic(auto, using(prospects::proofs::EntryLaws::entry_there, prospects::proofs::EntryLaws::entry_none))]
+fn put_member(
+    list: &mut [u32],
+    at: usize,
+    authors: u32,
+    block: u32,
+    author: Member,
+    round: Round,
+) -> usize
+    requires { (author.0 < 16)
+        × (at + length (entry_if (contains authors author.0) block round.0 author.0)
+        ≤ length list.old) }
+    ensures { Puts list.old list.new at result (entry_if (contains authors author.0) block round.0
+        author.0) (length (entry_if (contains authors author.0) block round.0 author.0)) }
+{
+    if base::contains(authors, author.0) {
+        put_entry(list, at, block, author, round)
+    } else {
+        at
+    }
+}
+
+// Those of the set `authors` of a round: numbers rise from that of `start`, with 0 after 15.
+fn put_row(
+    list: &mut [u32],
+    at: usize,
+    authors: u32,
+    block: u32,
+    start: Member,
+    round: Round,
+) -> usize
+    requires { (start.0 < 16)
+        × (at + length (row_entries (contains authors) block round.0 start.0 16)
+        ≤ length list.old) }
+    ensures { Puts list.old list.new at result (row_entries (contains authors) block round.0 start.0
+        16) (length (row_entries (contains authors) block round.0 start.0 16)) }
+{
+    let mut to = at;
+    for i in 0..16u32 {
+        let member = (start.0 + i) % 16;
+        to = put_member(list, to, authors, block, Member(member), round);
+    }
+    to
+}
+
+/// Puts the entries of the rounds above low up to top into the list, by round, from a place on; sets has a set of authors for each round, `block` is the block's number and `author` that of its anchor. The place behind them.
+pub(crate) fn put_rows(
+    list: &mut [u32],
+    at: usize,
+    sets: &[u32; 1025],
+    block: u32,
+    low: Round,
+    top: Round,
+    author: Member,
+) -> usize
+    requires { RowsFit list.old at sets.now block low.0 top.0 author.0 }
+    ensures { Puts list.old list.new at result (rows_entries (in_sets sets.now) block author.0 low.0
+        (top.0 - low.0))
+        (length (rows_entries (in_sets sets.now) block author.0 low.0 (top.0 - low.0))) }
+{
+    let last = low.0;
+    let rounds = top.0 - last;
+    let mut to = at;
+    for i in 0..rounds {
+        let r = last + 1 + i;
+        let authors = sets[r as usize];
+        to = put_row(list, to, authors, block, author, Round(r));
+    }
+    to
+}

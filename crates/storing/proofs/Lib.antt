@@ -1,0 +1,6 @@
+pub mod ByteLaws
+pub mod StoredLaws
+pub mod ReadLaws
+pub mod RoundLaws
+pub mod SignedLaws
+pub mod OnceLaws
