@@ -545,3 +545,48 @@ pub fn port_reset(state: &[u32], table: &mut [u32], port: u32) -> u32 {
     let (s, sn, t, tn) = (state.as_ptr(), state.len(), table.as_mut_ptr(), table.len());
     unsafe { forgelilac_port_reset(s, sn, t, tn, port) }
 }
+
+// ---- block rows: at the end, so that run.sh leaves it out with what is before it
+
+extern "C" {
+    fn forgelilac_block_rows(
+        s: *const u32,
+        sn: usize,
+        t: *const u32,
+        tn: usize,
+        known: u32,
+        number: u32,
+        list: *mut u32,
+        n: usize,
+    ) -> u64;
+    fn forgelilac_guest_block_rows(
+        caller: u32,
+        s: *const u32,
+        sn: usize,
+        t: *const u32,
+        tn: usize,
+        known: u32,
+        number: u32,
+        list: *mut u32,
+        n: usize,
+    ) -> u64;
+}
+
+pub fn block_rows(state: &[u32], table: &[u32], known: u32, number: u32, list: &mut [u32]) -> u64 {
+    let (s, sn, t, tn) = (state.as_ptr(), state.len(), table.as_ptr(), table.len());
+    let (list, n) = (list.as_mut_ptr(), list.len());
+    unsafe { forgelilac_block_rows(s, sn, t, tn, known, number, list, n) }
+}
+
+pub fn guest_block_rows(
+    caller: u32,
+    state: &[u32],
+    table: &[u32],
+    known: u32,
+    number: u32,
+    list: &mut [u32],
+) -> u64 {
+    let (s, sn, t, tn) = (state.as_ptr(), state.len(), table.as_ptr(), table.len());
+    let (list, n) = (list.as_mut_ptr(), list.len());
+    unsafe { forgelilac_guest_block_rows(caller, s, sn, t, tn, known, number, list, n) }
+}

@@ -5,7 +5,7 @@
 # OTHER is another archive, that of before a change: it stands in plain's place,
 # and the two take turns in one process. One of before queues, previews, lists of
 # what a commit hangs on, guests' calls, what a bond does to the shares or ports lacks
-# these, which are then left out.
+# these, which are then left out. Of one archive the tables of owner's calls come last (owner.sh).
 set -e
 top=$(cd "$(dirname "$0")/.." && pwd)
 archive=${1:-$top/crates/host/out/libhost.a}
@@ -13,9 +13,11 @@ pace=$2
 other=$3
 built=$top/target/bench
 mkdir -p "$built"
+command -v rustc > /dev/null || { echo "run.sh: rustc is not here, and it is needed" >&2; exit 2; }
 if [ "$archive" = plain ]; then
     set -- --cfg plain
 else
+    [ -f "$archive" ] || { echo "run.sh: there is no archive $archive: make it by 'cd crates/host && rt lib', or name another" >&2; exit 2; }
     name=$(basename "$archive" .a)
     set -- -L "$(dirname "$archive")" -l "static=${name#lib}"
 fi
@@ -92,6 +94,7 @@ END
     fi
 fi
 before='before_queues, before_previews, before_critical, before_guests, before_effects, before_ports'
-rustc --edition 2021 -C opt-level=3 -C codegen-units=1 --check-cfg "cfg(plain, other, $before)" "$@" \
+rustc --edition 2021 -C opt-level=3 -C codegen-units=1 --check-cfg "cfg(plain, other, kept, $before)" "$@" \
     "$top/bench/bench.rs" -o "$built/bench"
-TOOLCHAIN=${TOOLCHAIN:-$(rt version 2> /dev/null || echo unknown)} exec "$built/bench" $pace
+TOOLCHAIN=${TOOLCHAIN:-$(rt version 2> /dev/null || echo unknown)} "$built/bench" $pace
+[ "$archive" = plain ] || [ -n "$other" ] || { echo; sh "$top/bench/owner.sh" "$archive" $pace; }

@@ -3,6 +3,7 @@
 # optimised, on one stream: the shuffled streams of seeds 1 to LAST (300 if not
 # given) that end in a CRLF, one after another. The two take turns; best of 9 each.
 [ $# -ge 1 ] || { echo "usage: runner.sh RUNNER [LAST]" >&2; exit 2; }
+[ -x "$1" ] && [ -f "$1" ] || { echo "runner.sh: there is no runner $1: make it by 'cd crates/runner && rt run < /dev/null'" >&2; exit 2; }
 runner=$(cd "$(dirname "$1")" && pwd)/$(basename "$1")
 last=${2:-300}
 cd "$(dirname "$0")/../reference" || exit 2

@@ -9,7 +9,7 @@
 #![no_std]
 #![no_main]
 
-use forgelilac::layout::{preview_words, CRITICAL_WORDS, OFFSET_DATA, OFFSET_STATUS};
+use forgelilac::layout::{preview_words, rows_words, CRITICAL_WORDS, OFFSET_DATA, OFFSET_STATUS};
 use forgelilac::{lent, table_words, transactions_of, Critical, Entry, Member, Refusal, Rights, Round, Sheet};
 use forgelilac::{Transaction, STATE_WORDS};
 
@@ -99,9 +99,9 @@ fn run() -> Result<bool, Refusal> {
         return Ok(false);
     }
     lent::commit(&mut state, &mut table)?;
-    let mut list = [Entry::default(); 16 * CEILING as usize];
+    let mut list = [0; rows_words(CEILING)];
     let count = lent::guest_chain(5, &state, &table, &mut list)?;
-    if list[..count] != block || !receives(5, &state, &mut table, LISTING)? {
+    if !lent::places(&list, count).eq(block) || !receives(5, &state, &mut table, LISTING)? {
         return Ok(false);
     }
     lent::port_reset(&state, &mut table, 5)?;

@@ -4,6 +4,7 @@
 #include <stdio.h>
 #include <stdlib.h>
 
+#define FORGELILAC_ANSWERS /* calls with a value answer struct forgelilac_answer */
 #include "forgelilac.h"
 
 enum { MEMBERS = 3, CEILING = 64, LAST_ROUND = 9, BUNDLE = 3 * MEMBERS, BUSY = 2, LINE = 3, CLOCK = 5 };
@@ -30,7 +31,7 @@ static void open_member(struct engine *e, uint32_t own) {
     forgelilac_blank_sheet(sheet);
     forgelilac_write_setting(sheet, FORGELILAC_LOOKBACK, 2);
     forgelilac_write_setting(sheet, FORGELILAC_CEILING, CEILING);
-    forgelilac_write_setting(sheet, FORGELILAC_WEIGHT + 3, 0);
+    forgelilac_write_weight(sheet, 3, 0);
     must("open", forgelilac_open(ENGINE(e), own, WORDS(sheet), FORGELILAC_NO_RIGHTS));
 }
 
@@ -39,7 +40,7 @@ static void open_alone(struct engine *e, uint32_t rights) {
     uint32_t sheet[FORGELILAC_SHEET_WORDS];
     forgelilac_blank_sheet(sheet);
     forgelilac_write_setting(sheet, FORGELILAC_CEILING, CEILING);
-    for (unsigned m = 0; m < 4; m++) forgelilac_write_setting(sheet, FORGELILAC_WEIGHT + m, m == 3);
+    for (unsigned m = 0; m < 4; m++) forgelilac_write_weight(sheet, m, m == 3);
     must("open", forgelilac_open(ENGINE(e), 3, WORDS(sheet), rights));
 }
 
@@ -63,7 +64,7 @@ static void circulate(uint32_t author) {
     uint32_t certificate[FORGELILAC_CERTIFICATE_WORDS] = {0};
     uint32_t *endorsers = certificate + FORGELILAC_CERTIFICATE_ENDORSERS;
     must("propose", propose(&engines[author]));
-    forgelilac_own_proposal(engines[author].state, certificate);
+    if (!forgelilac_own_proposal(engines[author].state, certificate)) must("propose", FORGELILAC_NO_PROPOSAL);
     for (uint32_t m = 0; m < MEMBERS; m++)
         if (m != author && forgelilac_endorse(ENGINE(&engines[m]), WORDS(certificate)) == 0)
             *endorsers |= UINT32_C(1) << m;
@@ -73,8 +74,14 @@ static void circulate(uint32_t author) {
 }
 
 static void commit(struct engine *e) {
-    uint32_t refusal = forgelilac_refusal_of(forgelilac_commit(ENGINE(e)));
-    if (refusal != FORGELILAC_NO_COMMIT_ROUND) must("commit", refusal);
+    struct forgelilac_answer added = forgelilac_commit(ENGINE(e));
+    if (added.refusal != FORGELILAC_NO_COMMIT_ROUND) must("commit", added.refusal);
+}
+
+/* On the way to the others' round a commit may find nothing to do yet (19 to 22), and nothing else. */
+static void try_commit(struct engine *e) {
+    uint32_t refusal = forgelilac_commit(ENGINE(e)).refusal;
+    if (refusal < FORGELILAC_NO_COMMIT_ROUND || refusal > FORGELILAC_VOTES_SHORT) must("commit", refusal);
 }
 
 /* Prints the certificates of block k in a list, and gives where the next block begins. */
@@ -88,13 +95,12 @@ static const uint32_t *print_certificates(uint32_t k, const uint32_t *at, const 
 /* What would a commit do? The blocks before they are made, or why there would be none. */
 static void print_preview(const struct engine *e) {
     static uint32_t list[FORGELILAC_PREVIEW_WORDS(CEILING)];
-    uint64_t answer = forgelilac_preview(ENGINE(e), WORDS(list));
-    uint32_t refusal = forgelilac_refusal_of(answer);
-    const uint32_t *at = list, *end = list + FORGELILAC_ENTRY_WORDS * forgelilac_value_of(answer);
+    struct forgelilac_answer listed = forgelilac_preview(ENGINE(e), WORDS(list));
+    const uint32_t *at = list, *end = list + FORGELILAC_ENTRY_WORDS * listed.value;
     printf("what a commit of member %u in round %u would add\n", (unsigned)e->state[FORGELILAC_STATE_OWN],
            (unsigned)e->state[FORGELILAC_STATE_ROUND]);
-    if (refusal != FORGELILAC_ACCEPTED)
-        printf("  nothing: refused with %u, %s\n", (unsigned)refusal, forgelilac_refusal_text(refusal));
+    if (listed.refusal != FORGELILAC_ACCEPTED)
+        printf("  nothing: refused with %u, %s\n", (unsigned)listed.refusal, forgelilac_refusal_text(listed.refusal));
     while (at < end) {
         printf("  block %u:", (unsigned)at[FORGELILAC_ENTRY_BLOCK]);
         at = print_certificates(at[FORGELILAC_ENTRY_BLOCK], at, end);
@@ -105,9 +111,9 @@ static void print_preview(const struct engine *e) {
  * this author is there too. The table is lent for writing, so the engine is not const here. */
 static void print_critical(struct engine *e, uint32_t author) {
     uint32_t list[FORGELILAC_CRITICAL_WORDS], round = e->state[FORGELILAC_STATE_ROUND];
-    uint64_t answer = forgelilac_critical(ENGINE(e), WORDS(list));
-    const uint32_t *at = list, *end = list + FORGELILAC_PLACE_WORDS * forgelilac_value_of(answer);
-    must("critical", forgelilac_refusal_of(answer));
+    struct forgelilac_answer listed = forgelilac_critical(ENGINE(e), WORDS(list));
+    const uint32_t *at = list, *end = list + FORGELILAC_PLACE_WORDS * listed.value;
+    must("critical", listed.refusal);
     printf("with %u/%u a commit of member %u hangs on", (unsigned)round, (unsigned)author,
            (unsigned)e->state[FORGELILAC_STATE_OWN]);
     for (; at < end; at += FORGELILAC_PLACE_WORDS)
@@ -117,17 +123,17 @@ static void print_critical(struct engine *e, uint32_t author) {
 
 /* Prints block k of a listed chain, and gives where the next one begins. */
 static const uint32_t *print_block(const struct engine *e, uint32_t k, const uint32_t *at, const uint32_t *end) {
-    uint64_t round = forgelilac_block(ENGINE(e), k);
-    must("block", forgelilac_refusal_of(round));
-    printf("  block %u, block round %u:", (unsigned)k, (unsigned)forgelilac_value_of(round));
+    struct forgelilac_answer round = forgelilac_block(ENGINE(e), k);
+    must("block", round.refusal);
+    printf("  block %u, block round %u:", (unsigned)k, (unsigned)round.value);
     return print_certificates(k, at, end);
 }
 
 static void print_chain(const struct engine *e) {
     static uint32_t list[FORGELILAC_CHAIN_WORDS(CEILING)];
-    uint64_t answer = forgelilac_chain(ENGINE(e), WORDS(list));
-    const uint32_t *at = list, *end = list + FORGELILAC_LISTED_WORDS * forgelilac_value_of(answer);
-    must("chain", forgelilac_refusal_of(answer));
+    struct forgelilac_answer listed = forgelilac_chain(ENGINE(e), WORDS(list));
+    const uint32_t *at = list, *end = list + FORGELILAC_LISTED_WORDS * listed.value;
+    must("chain", listed.refusal);
     printf("member %u\n", (unsigned)e->state[FORGELILAC_STATE_OWN]);
     for (uint32_t k = 1; k <= e->state[FORGELILAC_STATE_BLOCKS]; k++) at = print_block(e, k, at, end);
 }
@@ -185,7 +191,7 @@ static void print_catching_up(struct engine *e) {
     do {
         refusal = propose(e);
         if (refusal != FORGELILAC_OUTSIDE) must("propose", refusal);
-        if (*round >= 3 && *round % 2 == 1) (void)forgelilac_commit(ENGINE(e));
+        if (*round >= 3 && *round % 2 == 1) try_commit(e);
         refusal = forgelilac_advance(ENGINE(e));
     } while (refusal == FORGELILAC_ACCEPTED);
     printf("    advances to round %u, then %u; blocks: %u\n", (unsigned)*round, (unsigned)refusal,
@@ -254,22 +260,20 @@ static void print_answer(uint32_t guest, const char *call, uint32_t answer) {
 
 /* Of a guest's commit: how many blocks it adds, or why it adds none. */
 static void print_commit(struct engine *e, uint32_t guest) {
-    uint64_t answer = forgelilac_guest_commit(guest, ENGINE(e));
-    uint32_t refusal = forgelilac_refusal_of(answer);
+    struct forgelilac_answer added = forgelilac_guest_commit(guest, ENGINE(e));
     printf("  guest %u commit: ", (unsigned)guest);
-    if (refusal == FORGELILAC_ACCEPTED) printf("blocks added %u\n", (unsigned)forgelilac_value_of(answer));
-    else printf("refused with %u, %s\n", (unsigned)refusal, forgelilac_refusal_text(refusal));
+    if (added.refusal == FORGELILAC_ACCEPTED) printf("blocks added %u\n", (unsigned)added.value);
+    else printf("refused with %u, %s\n", (unsigned)added.refusal, forgelilac_refusal_text(added.refusal));
 }
 
 /* The chain as a guest reads it, or why it may not. */
 static void print_read(const struct engine *e, uint32_t guest) {
     static uint32_t list[FORGELILAC_CHAIN_WORDS(CEILING)];
-    uint64_t answer = forgelilac_guest_chain(guest, ENGINE(e), WORDS(list));
-    uint32_t refusal = forgelilac_refusal_of(answer);
+    struct forgelilac_answer listed = forgelilac_guest_chain(guest, ENGINE(e), WORDS(list));
     printf("  guest %u chain:", (unsigned)guest);
-    if (refusal == FORGELILAC_ACCEPTED)
-        print_certificates(1, list, list + FORGELILAC_LISTED_WORDS * forgelilac_value_of(answer));
-    else printf(" refused with %u, %s\n", (unsigned)refusal, forgelilac_refusal_text(refusal));
+    if (listed.refusal == FORGELILAC_ACCEPTED)
+        print_certificates(1, list, list + FORGELILAC_LISTED_WORDS * listed.value);
+    else printf(" refused with %u, %s\n", (unsigned)listed.refusal, forgelilac_refusal_text(listed.refusal));
 }
 
 /* Guests of a computer that is alone call by themselves: one may propose and read, one may drive, and
@@ -301,9 +305,9 @@ static void print_end(void) {
     print_endorsers(&engines[0], LAST_ROUND);
     printf("shares in round %d, in thousandths: [", LAST_ROUND);
     for (uint32_t m = 0; m < MEMBERS; m++) {
-        uint64_t share = forgelilac_share(ENGINE(&engines[0]), m, LAST_ROUND);
-        must("share", forgelilac_refusal_of(share));
-        printf("%s%u", m == 0 ? "" : ", ", (unsigned)forgelilac_value_of(share));
+        struct forgelilac_answer share = forgelilac_share(ENGINE(&engines[0]), m, LAST_ROUND);
+        must("share", share.refusal);
+        printf("%s%u", m == 0 ? "" : ", ", (unsigned)share.value);
     }
     printf("]\n");
     print_effect(&engines[0], 3, 11);

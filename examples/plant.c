@@ -208,7 +208,7 @@ static void hand_over(const struct member *m, uint32_t added) {
 static void propose(struct member *m, uint32_t round) {
     uint32_t words[FORGELILAC_PROPOSAL_WORDS];
     if (forgelilac_draw(ENGINE(m), held(m, round - 1)) != 0) return;
-    forgelilac_own_proposal(m->kept.state, words);
+    must(forgelilac_own_proposal(m->kept.state, words), "what was proposed is kept");
     m->kept.held[round][m->own][m->own] = sign(m->own, "FLP1", words);
     store(m);
     send_own(m);

@@ -1,7 +1,8 @@
 /* How much stack the calls need: a run to the ceiling, each call in a thread of its own whose
  * stack was painted before; what is no longer painted was used. Then the same run by a guest who may
- * do everything, with accesses to its port. Prints the most of each call, as the host's and as a guest's;
- * status 1 where one used more than FORGELILAC_STACK_BYTES. */
+ * do everything, with accesses to its port; and both again by owner's calls. Prints the most of each call, as the
+ * host's and as a guest's, then as an owner's; status 1 where one used more than FORGELILAC_STACK_BYTES, or an
+ * owner's more than FORGELILAC_OWNED_STACK_BYTES. */
 #define _POSIX_C_SOURCE 200809L
 #include <pthread.h>
 #include <stdio.h>
@@ -12,26 +13,28 @@
 
 enum { CEILING = 64, MEMBERS = 4, ALL = (1 << MEMBERS) - 1, STACK = 1 << 20, PAINT = 0xa5 };
 enum { CALLER = 7, ME = 1 << CALLER };
-enum by { HOST, GUEST, BOTH };
+enum by { HOST, GUEST, OWNER, OWNERS_GUEST, FORMS };
 enum call { NOTHING, OPEN, PROPOSE, ENQUEUE, DRAW, ENDORSE, CERTIFY, ACCEPT, BATCH, ADVANCE, COMMIT,
             PREVIEW, CRITICAL, COMMITTEE, SHARE, EFFECT, CERTIFICATE, BLOCK, ROWS, CHAIN, PORT_READ,
-            PORT_WRITE, PORT_RESET, CALLS };
+            PORT_WRITE, PORT_RESET, RESUME, CALLS };
 static const char *const names[CALLS] = {"", "open", "propose", "enqueue", "draw", "endorse", "certify", "accept",
                                          "batch", "advance", "commit", "preview", "critical", "committee", "share",
                                          "bond effect", "certificate", "block", "block rows", "chain",
-                                         "port read", "port write", "port reset"};
+                                         "port read", "port write", "port reset", "resume"};
 
 static uint32_t state[FORGELILAC_STATE_WORDS], table[FORGELILAC_TABLE_WORDS(CEILING)];
+static uint64_t kept[FORGELILAC_KEPT_WORDS(CEILING)];
 static uint32_t words[FORGELILAC_SHEET_WORDS], out[FORGELILAC_EFFECT_WORDS];
 static uint32_t list[FORGELILAC_CHAIN_WORDS(CEILING)], entries[FORGELILAC_PREVIEW_WORDS(CEILING)];
 static uint32_t places[FORGELILAC_CRITICAL_WORDS], rows[FORGELILAC_ROWS_WORDS(CEILING)];
 static struct forgelilac_certificate row[FORGELILAC_BATCH_RECORDS];
 static uint32_t answers[FORGELILAC_BATCH_RECORDS];
 static unsigned char *stack;
-static size_t used[BOTH][CALLS];
+static size_t used[FORMS][CALLS];
 static enum by by;
 
 #define ENGINE state, sizeof state / 4, table, sizeof table / 4
+#define OWNED ENGINE, kept, sizeof kept / 8
 #define WORDS words, sizeof words / 4
 #define OUT out, sizeof out / 4
 #define ROW row, FORGELILAC_BATCH_RECORDS, answers, FORGELILAC_BATCH_RECORDS
@@ -94,11 +97,67 @@ static uint64_t make_by_guest(enum call call) {
     }
 }
 
+/* The same as an owner's; an open is anybody's, and a resume follows it. */
+static uint64_t make_owned(enum call call) {
+    switch (call) {
+    case OPEN: return high(forgelilac_open(ENGINE, 0, WORDS, FORGELILAC_RIGHTS(ME, ME, ME, ME)));
+    case PROPOSE: return high(forgelilac_owned_propose(OWNED, WORDS));
+    case ENQUEUE: return high(forgelilac_owned_enqueue(OWNED, words[3] % FORGELILAC_GUESTS, WORDS));
+    case DRAW: return high(forgelilac_owned_draw(OWNED, words[0]));
+    case ENDORSE: return high(forgelilac_owned_endorse(OWNED, WORDS));
+    case CERTIFY: return high(forgelilac_owned_certify(OWNED, words[0]));
+    case ACCEPT: return high(forgelilac_owned_accept(OWNED, WORDS));
+    case BATCH: return high(forgelilac_owned_batch(OWNED, ROW));
+    case ADVANCE: return high(forgelilac_owned_advance(OWNED));
+    case COMMIT: return forgelilac_owned_commit(OWNED);
+    case PREVIEW: return forgelilac_owned_preview(OWNED, entries, sizeof entries / 4);
+    case CRITICAL: return forgelilac_owned_critical(OWNED, places, sizeof places / 4);
+    case COMMITTEE: return high(forgelilac_owned_committee(OWNED, words[0], OUT));
+    case SHARE: return forgelilac_owned_share(OWNED, words[0], words[1]);
+    case EFFECT: return high(forgelilac_owned_bond_effect(OWNED, words[0], words[1], words[2], OUT));
+    case CERTIFICATE: return high(forgelilac_owned_certificate(OWNED, words[0], words[1], OUT));
+    case BLOCK: return forgelilac_owned_block(OWNED, words[0]);
+    case ROWS: return forgelilac_owned_block_rows(OWNED, ALL_BLOCKS);
+    case CHAIN: return forgelilac_owned_chain(OWNED, list, sizeof list / 4);
+    case PORT_RESET: return high(forgelilac_owned_port_reset(OWNED, words[0]));
+    case RESUME: return high(forgelilac_owned_resume(OWNED));
+    default: return 0;
+    }
+}
+
+/* The guest's form of that. */
+static uint64_t make_owned_by_guest(enum call call) {
+    switch (call) {
+    case PROPOSE: return high(forgelilac_owned_guest_propose(CALLER, OWNED, WORDS));
+    case ENQUEUE: return high(forgelilac_owned_guest_enqueue(CALLER, OWNED, WORDS));
+    case DRAW: return high(forgelilac_owned_guest_draw(CALLER, OWNED, words[0]));
+    case ENDORSE: return high(forgelilac_owned_guest_endorse(CALLER, OWNED, WORDS));
+    case CERTIFY: return high(forgelilac_owned_guest_certify(CALLER, OWNED, words[0]));
+    case ACCEPT: return high(forgelilac_owned_guest_accept(CALLER, OWNED, WORDS));
+    case BATCH: return high(forgelilac_owned_guest_batch(CALLER, OWNED, ROW));
+    case ADVANCE: return high(forgelilac_owned_guest_advance(CALLER, OWNED));
+    case COMMIT: return forgelilac_owned_guest_commit(CALLER, OWNED);
+    case PREVIEW: return forgelilac_owned_guest_preview(CALLER, OWNED, entries, sizeof entries / 4);
+    case CRITICAL: return forgelilac_owned_guest_critical(CALLER, OWNED, places, sizeof places / 4);
+    case COMMITTEE: return high(forgelilac_owned_guest_committee(CALLER, OWNED, words[0], OUT));
+    case SHARE: return forgelilac_owned_guest_share(CALLER, OWNED, words[0], words[1]);
+    case EFFECT: return high(forgelilac_owned_guest_bond_effect(CALLER, OWNED, words[0], words[1], words[2], OUT));
+    case CERTIFICATE: return high(forgelilac_owned_guest_certificate(CALLER, OWNED, words[0], words[1], OUT));
+    case BLOCK: return forgelilac_owned_guest_block(CALLER, OWNED, words[0]);
+    case ROWS: return forgelilac_owned_guest_block_rows(CALLER, OWNED, ALL_BLOCKS);
+    case CHAIN: return forgelilac_owned_guest_chain(CALLER, OWNED, list, sizeof list / 4);
+    case PORT_READ: return forgelilac_owned_guest_port_read(CALLER, OWNED, words[0]);
+    case PORT_WRITE: return high(forgelilac_owned_guest_port_write(CALLER, OWNED, words[0], (uint8_t)words[1]));
+    default: return make_owned(call);
+    }
+}
+
 struct job { enum call call; uint64_t answer; };
 
 static void *work(void *argument) {
     struct job *job = argument;
-    job->answer = by == GUEST ? make_by_guest(job->call) : make(job->call);
+    static uint64_t (*const makes[FORMS])(enum call) = {make, make_by_guest, make_owned, make_owned_by_guest};
+    job->answer = makes[by](job->call);
     return NULL;
 }
 
@@ -165,6 +224,7 @@ static void sign(uint32_t round) {
 static void hang(uint32_t round) {
     uint32_t *mark = table + FORGELILAC_RECORD(1, round) + FORGELILAC_RECORD_BLOCK;
     measure(CRITICAL);
+    if (by >= OWNER) return;                            /* nothing else writes owned words */
     *mark = state[FORGELILAC_STATE_BLOCKS] > 0;
     measure(CRITICAL);
     *mark = 0;
@@ -188,7 +248,7 @@ static void look(uint32_t round) {
 static void access_port(uint32_t round) {
     words[0] = CALLER;
     if (round % 16 == 0) measure(PORT_RESET);
-    if (by == HOST || round % 4 != 3) return;
+    if (by == HOST || by == OWNER || round % 4 != 3) return;
     words[0] = FORGELILAC_OFFSET_DATA;
     for (int k = 0; k < 50; k++) measure(PORT_READ);
     words[0] = FORGELILAC_OFFSET_STATUS;
@@ -205,6 +265,7 @@ static void run(void) {
     forgelilac_write_setting(words, FORGELILAC_LOOKBACK, 4);
     forgelilac_write_setting(words, FORGELILAC_CEILING, CEILING);
     measure(OPEN);
+    if (by >= OWNER) measure(RESUME);
     for (uint32_t round = 1; round <= CEILING; round++) {
         sign(round);
         if (round % 2 == 1 && round > 1) measure(PREVIEW);
@@ -217,22 +278,27 @@ static void run(void) {
 }
 
 int main(void) {
-    size_t most = 0;
+    size_t most[FORMS] = {0};
     stack = aligned_alloc(4096, STACK);
     if (stack == NULL) abort();
-    for (by = HOST; by < BOTH; by++) run();
+    for (by = HOST; by < FORMS; by++) run();
     for (int call = OPEN; call < CALLS; call++) {
-        size_t bytes[BOTH];
-        for (int i = HOST; i < BOTH; i++) {
+        size_t bytes[FORMS];
+        for (int i = HOST; i < FORMS; i++) {
             bytes[i] = used[i][call] > 0 ? used[i][call] - used[i][NOTHING] : 0;
-            if (bytes[i] > most) most = bytes[i];
+            if (bytes[i] > most[i]) most[i] = bytes[i];
         }
         if (call == PORT_READ || call == PORT_WRITE)
-            printf("%-12s%8zu bytes of stack, as a guest's alone\n", names[call], bytes[GUEST]);
-        else if (call == OPEN || call == PORT_RESET)
-            printf("%-12s%8zu bytes of stack\n", names[call], bytes[HOST]);
-        else printf("%-12s%8zu bytes of stack, as a guest's %zu\n", names[call], bytes[HOST], bytes[GUEST]);
+            printf("%-12s%8zu bytes of stack, an owner's %zu, as a guest's alone\n", names[call], bytes[GUEST],
+                   bytes[OWNERS_GUEST]);
+        else if (call == OPEN) printf("%-12s%8zu bytes of stack\n", names[call], bytes[HOST]);
+        else if (call == RESUME) printf("%-12s%8zu bytes of stack, an owner's alone\n", names[call], bytes[OWNER]);
+        else if (call == PORT_RESET)
+            printf("%-12s%8zu bytes of stack, an owner's %zu\n", names[call], bytes[HOST], bytes[OWNER]);
+        else printf("%-12s%8zu bytes of stack, an owner's %zu; as a guest's %zu and %zu\n", names[call], bytes[HOST],
+                    bytes[OWNER], bytes[GUEST], bytes[OWNERS_GUEST]);
     }
-    printf("%-12s%8d bytes serve every call\n", "", FORGELILAC_STACK_BYTES);
-    return most > FORGELILAC_STACK_BYTES;
+    printf("%-12s%8d bytes serve every call, an owner's %d\n", "", FORGELILAC_STACK_BYTES, FORGELILAC_OWNED_STACK_BYTES);
+    return most[HOST] > FORGELILAC_STACK_BYTES || most[GUEST] > FORGELILAC_STACK_BYTES
+           || most[OWNER] > FORGELILAC_OWNED_STACK_BYTES || most[OWNERS_GUEST] > FORGELILAC_OWNED_STACK_BYTES;
 }

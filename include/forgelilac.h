@@ -3,16 +3,20 @@
  * Link with `pkg-config --cflags --libs forgelilac`, that is -lforgelilac. C99 or later, or C++;
  * a freestanding compiler serves. The archive asks for memcpy and memset and for nothing else.
  *
- * Stretches. Every stretch is a pointer and a length in 32-bit words; a row of certificates has its
- * length in records. Stretches of one call do not overlap. Words are aligned as uint32_t is; a
- * pointer may be null where its length is 0. Any length and any content is safe. A stretch may be
- * longer than its layout: what lies beyond is not looked at and never changes.
+ * Stretches. A stretch is a pointer and a length: in 32-bit words; of a row of certificates in records; of
+ * bytes in bytes; of kept committees in words of 64 bits. Stretches of one call do not overlap. Words and
+ * records are aligned as uint32_t is, kept committees as uint64_t is; a pointer may be null where its
+ * length is 0. Any length and any content is safe, but of owner's calls. A stretch may be longer than its
+ * layout: what lies beyond is not looked at and never changes.
  *
  * Answers. A call answers 0 when accepted, else the refusal number; the first check that fails
- * gives it. An answer of 64 bits has the value in its low half and the refusal number in its high half:
- * keep it in a uint64_t, and see forgelilac_refusal_of. A refused call changes no word. The numbers at the end of a function's comment are its
- * refusals in the order of its checks. docs/HOSTS.md has the checks and what each refusal asks of
- * you; docs/TABLES.md has the layouts and which words each call changes.
+ * gives it. An answer of 64 bits has the value in its low half and the refusal number in its high half;
+ * forgelilac_answer_of parts them. (forgelilac_table_words and forgelilac_stored_bytes refuse nothing: their
+ * 64 bits are one number.) Define FORGELILAC_ANSWERS before this header, and each of these calls
+ * answers struct forgelilac_answer, of which no half can be dropped unseen: new hosts do. A refused call
+ * changes no word. An answer of a call that is not looked at is warned of. The numbers at the end of a
+ * function's comment are its refusals in the order of its checks. docs/RULES.md has the checks, docs/HOSTS.md
+ * what each refusal asks of you; docs/TABLES.md has the layouts and which words each call changes.
  *
  * Guests. What a guest asks for goes by the guest's form of the call, forgelilac_guest_..., with the
  * number of the caller: it is refused with 26 or 29, or does and answers what the host's own call
@@ -25,7 +29,8 @@
  * the table for writing runs alone: forgelilac_critical, and every access to a port. A guest's form
  * counts as the host's call. No call blocks, allocates, or calls back.
  *
- * Stack. Calls use the caller's stack, as much at every ceiling: see FORGELILAC_STACK_BYTES. */
+ * Stack. Calls use the caller's stack, as much at every ceiling: see FORGELILAC_STACK_BYTES, and for
+ * owner's calls FORGELILAC_OWNED_STACK_BYTES. */
 #ifndef FORGELILAC_H
 #define FORGELILAC_H
 
@@ -38,17 +43,68 @@ extern "C" {
 
 /* ---- versions */
 
-/* Of the header, and of the archive that belongs to it: as text, and as its three parts. */
-#define FORGELILAC_VERSION "0.13.0"
+/* Of the header, and of the archive that belongs to it: as text, as its three parts, and as the number
+ * that forgelilac_version answers. */
+#define FORGELILAC_VERSION "0.15.0"
 #define FORGELILAC_VERSION_MAJOR 0
-#define FORGELILAC_VERSION_MINOR 13
+#define FORGELILAC_VERSION_MINOR 15
 #define FORGELILAC_VERSION_PATCH 0
-/* Of the words of state and table; no word of theirs has it. Store it beside them: docs/TABLES.md
- * tells what to do with words of an older format. Those of format 1 have a state of 37 words: write 3
+#define FORGELILAC_VERSION_NUMBER \
+    (1000000u * FORGELILAC_VERSION_MAJOR + 1000u * FORGELILAC_VERSION_MINOR + FORGELILAC_VERSION_PATCH)
+/* Of the words of state and table; no word of theirs has it. forgelilac_store writes it into its bytes; in
+ * a form of your own store it beside the words: docs/TABLES.md tells what to do with words of an older format. Those of format 1 have a state of 37 words: write 3
  * to word FORGELILAC_STATE_MARGIN behind them, and it is one of format 2. Those of format 2 have a
  * state of 38 words: write the rights of callers to word FORGELILAC_STATE_RIGHTS behind them,
  * FORGELILAC_NO_RIGHTS or others, and it is one of format 3. The table stays as it is. */
 #define FORGELILAC_FORMAT 3
+
+/* ---- what a compiler is told, as far as it has words for it
+ *
+ * FORGELILAC_CHECKED: the answer is to be looked at. FORGELILAC_READS(p, n): parameter p points to as many
+ * words, bytes or records as parameter n says, which are read; FORGELILAC_WRITES: which are written and
+ * never read before; FORGELILAC_CHANGES: both. FORGELILAC_POINTERS: no pointer is null. */
+#ifdef __has_attribute
+#define FORGELILAC_HAS(attribute) __has_attribute(attribute)
+#else
+#define FORGELILAC_HAS(attribute) 0
+#endif
+#if (defined(__cplusplus) && __cplusplus >= 201703L) || (defined(__STDC_VERSION__) && __STDC_VERSION__ > 201710L)
+#define FORGELILAC_CHECKED [[nodiscard]]
+#elif FORGELILAC_HAS(warn_unused_result)
+#define FORGELILAC_CHECKED __attribute__((warn_unused_result))
+#else
+#define FORGELILAC_CHECKED
+#endif
+#if FORGELILAC_HAS(access)
+#define FORGELILAC_READS(pointer, length) __attribute__((access(read_only, pointer, length)))
+#define FORGELILAC_WRITES(pointer, length) __attribute__((access(write_only, pointer, length)))
+#define FORGELILAC_CHANGES(pointer, length) __attribute__((access(read_write, pointer, length)))
+#else
+#define FORGELILAC_READS(pointer, length)
+#define FORGELILAC_WRITES(pointer, length)
+#define FORGELILAC_CHANGES(pointer, length)
+#endif
+#if FORGELILAC_HAS(nonnull)
+#define FORGELILAC_POINTERS __attribute__((nonnull))
+#else
+#define FORGELILAC_POINTERS
+#endif
+/* Of an enumerator; gcc 5 has the attribute for others alone. */
+#if FORGELILAC_HAS(deprecated) && (defined(__clang__) || __GNUC__ > 5)
+#define FORGELILAC_OLD(instead) __attribute__((deprecated(instead)))
+#else
+#define FORGELILAC_OLD(instead)
+#endif
+
+/* Of the archive: FORGELILAC_VERSION_NUMBER, and FORGELILAC_FORMAT. */
+FORGELILAC_CHECKED
+uint32_t forgelilac_version(void);
+FORGELILAC_CHECKED
+uint32_t forgelilac_format(void);
+/* The format too. An archive of another format has no function of this name: forgelilac_open calls it,
+ * so that header and archive of two formats do not link. */
+FORGELILAC_CHECKED
+uint32_t forgelilac_format_3(void);
 
 /* ---- lengths, in words */
 
@@ -76,16 +132,16 @@ extern "C" {
 #define FORGELILAC_ROWS_WORDS(ceiling) (288u * (ceiling) + 288u)
 /* A table for a state of this ceiling; forgelilac_table_words as a constant. */
 #define FORGELILAC_TABLE_WORDS(ceiling) (272u * (ceiling) + 272u)
-/* Room for every chain of a state of this ceiling. */
-#define FORGELILAC_CHAIN_WORDS(ceiling) (48u * (ceiling))
+/* Room for forgelilac_chain at every chain of a state of this ceiling, the same. */
+#define FORGELILAC_CHAIN_WORDS(ceiling) FORGELILAC_ROWS_WORDS(ceiling)
 /* The list that a preview of a state of this ceiling asks for: 16 places for each round. */
 #define FORGELILAC_PREVIEW_WORDS(ceiling) (48u * (ceiling))
 
-/* Bytes of stack that serve every call and every function below on x86-64; examples/stack.c
- * measures what they use. Preview uses about 86 KB, commit and batch about 82 KB, critical and a port
+/* Bytes of stack that serve every call and every function below but owner's calls, which have
+ * FORGELILAC_OWNED_STACK_BYTES, on x86-64; examples/stack.c measures what the calls use. Preview uses about 86 KB, commit and batch about 82 KB, critical and a port
  * read about 79 KB, accept about 77 KB, propose, draw, endorse, certify, advance, committee, share, bond
- * effect and block rows 74 to 76 KB, forgelilac_chain about 2 KB, the others less than 1.2 KB; a guest's
- * form little more than the host's call. */
+ * effect, block rows and forgelilac_chain 74 to 76 KB, the others less than 1.2 KB; a guest's form little
+ * more than the host's call. */
 #define FORGELILAC_STACK_BYTES 98304
 
 /* ---- words of a state */
@@ -218,7 +274,9 @@ enum forgelilac_setting {
     FORGELILAC_LOOKBACK = 0,  /* 1 to 1,000, blank 20 */
     FORGELILAC_CEILING = 1,   /* 3 to 1,024, blank 1,024 */
     FORGELILAC_ALLOWANCE = 2, /* 0 to 4, blank 4 */
-    FORGELILAC_WEIGHT = 3,    /* plus the member: 0 to 1,000,000, blank 1 for 0 to 3, else 0 */
+    /* plus the member: 0 to 1,000,000, blank 1 for 0 to 3, else 0. There is no member 16, and 3 + 16 is
+     * the margin's place: forgelilac_write_weight tells */
+    FORGELILAC_WEIGHT FORGELILAC_OLD("write weights by forgelilac_write_weight: 16 behind it is the margin") = 3,
     FORGELILAC_MARGIN = 19    /* 3 to 5, blank 3 */
 };
 
@@ -265,19 +323,33 @@ enum forgelilac_refusal {
  * part of the table cleared. Neither need be set before. No later call changes the rights, and no
  * rights are refused; members of a plant need not have equal ones. It starts a new run: never open
  * again to go on with one. 1 for words that cannot be read, 4, 2, 3, 1. */
+FORGELILAC_CHECKED FORGELILAC_WRITES(1, 2) FORGELILAC_WRITES(3, 4) FORGELILAC_READS(6, 7)
 uint32_t forgelilac_open(uint32_t *state, size_t state_words,
                          uint32_t *table, size_t table_words,
                          uint32_t own, const uint32_t *sheet, size_t sheet_words,
                          uint32_t rights);
+/* What forgelilac_open stands for below: the same call, for an archive of format 3 and for no other. */
+FORGELILAC_CHECKED FORGELILAC_WRITES(1, 2) FORGELILAC_WRITES(3, 4) FORGELILAC_READS(6, 7)
+static inline uint32_t forgelilac_open_format_3(uint32_t *state, size_t state_words,
+                                                uint32_t *table, size_t table_words,
+                                                uint32_t own, const uint32_t *sheet, size_t sheet_words,
+                                                uint32_t rights) {
+    return forgelilac_format_3() == FORGELILAC_FORMAT
+               ? forgelilac_open(state, state_words, table, table_words, own, sheet, sheet_words, rights)
+               : (uint32_t)FORGELILAC_MALFORMED;
+}
+#define forgelilac_open forgelilac_open_format_3
 /* Proposes a body (previous set, transactions) for one's own place of the present round. Accepted:
- * the proposal is kept in the state until advance. It touches no queue. Store both before the
- * signature leaves. 1, 6, 7, 10, 8, 9, 11, 12. */
+ * the proposal is kept in the state until advance. It touches no queue. Store the state
+ * before the signature leaves. 1, 6, 7, 10, 8, 9, 11, 12. */
+FORGELILAC_CHECKED FORGELILAC_CHANGES(1, 2) FORGELILAC_READS(3, 4) FORGELILAC_READS(5, 6)
 uint32_t forgelilac_propose(uint32_t *state, size_t state_words,
                             const uint32_t *table, size_t table_words,
                             const uint32_t *body, size_t body_words);
 /* Adds a transaction (kind, number, amount) to the queue of a guest, as its youngest. Accepted: it
  * waits there until a draw takes it. Only the table changes; store it, or the transaction may be
  * lost. 1, 26, 6, 27. */
+FORGELILAC_CHECKED FORGELILAC_READS(1, 2) FORGELILAC_CHANGES(3, 4) FORGELILAC_READS(6, 7)
 uint32_t forgelilac_enqueue(const uint32_t *state, size_t state_words,
                             uint32_t *table, size_t table_words,
                             uint32_t guest, const uint32_t *transaction, size_t transaction_words);
@@ -287,19 +359,23 @@ uint32_t forgelilac_enqueue(const uint32_t *state, size_t state_words,
  * Accepted: the proposal is kept in the state until advance, what was drawn leaves its queues, and
  * the guest of the last one is the guest served last; forgelilac_own_proposal gives the proposal.
  * Store both before the signature leaves. 1, 7, 10, 8, 9, 11, 12. */
+FORGELILAC_CHECKED FORGELILAC_CHANGES(1, 2) FORGELILAC_CHANGES(3, 4)
 uint32_t forgelilac_draw(uint32_t *state, size_t state_words,
                          uint32_t *table, size_t table_words, uint32_t previous);
 /* Endorses another's proposal, once its signature is checked. Accepted: its place is marked
  * endorsed. Store the table before the signature leaves. 1, 4, 5, 6, 7, 14, 10, 8, 11, 12. */
+FORGELILAC_CHECKED FORGELILAC_READS(1, 2) FORGELILAC_CHANGES(3, 4) FORGELILAC_READS(5, 6)
 uint32_t forgelilac_endorse(const uint32_t *state, size_t state_words,
                             uint32_t *table, size_t table_words,
                             const uint32_t *proposal, size_t proposal_words);
 /* Makes a certificate of one's own proposal with these endorsers (a set without oneself), whose
  * signatures are checked. Accepted: it is held. 1, 15, 10, 14, 8, 9, 13. */
+FORGELILAC_CHECKED FORGELILAC_READS(1, 2) FORGELILAC_CHANGES(3, 4)
 uint32_t forgelilac_certify(const uint32_t *state, size_t state_words,
                             uint32_t *table, size_t table_words, uint32_t endorsers);
 /* Takes a certificate of anybody's, once its signatures are checked. Accepted: it is held with its
  * endorsers, and its endorsed mark cleared. 1, 4, 5, 6, 7, 14, 16, 17, 8, 9, 13, 11. */
+FORGELILAC_CHECKED FORGELILAC_READS(1, 2) FORGELILAC_CHANGES(3, 4) FORGELILAC_READS(5, 6)
 uint32_t forgelilac_accept(const uint32_t *state, size_t state_words,
                            uint32_t *table, size_t table_words,
                            const uint32_t *certificate, size_t certificate_words);
@@ -309,6 +385,7 @@ uint32_t forgelilac_accept(const uint32_t *state, size_t state_words,
  * answers; a record that cannot be read gets 1, and the others are tried. Answers beyond the row
  * stay. What got 11 gets 11 again straight afterwards, or 17 where the row has filled its place with
  * another. An empty row is accepted. Refused: nothing is tried. 1, 25. */
+FORGELILAC_CHECKED FORGELILAC_READS(1, 2) FORGELILAC_CHANGES(3, 4) FORGELILAC_READS(5, 6) FORGELILAC_WRITES(7, 8)
 uint32_t forgelilac_batch(const uint32_t *state, size_t state_words,
                           uint32_t *table, size_t table_words,
                           const struct forgelilac_certificate *row, size_t row_count,
@@ -316,15 +393,18 @@ uint32_t forgelilac_batch(const uint32_t *state, size_t state_words,
 /* Goes on to the next round, once the authors of the certificates held in the present round form a
  * quorum of its committee. Accepted: the proposal is dropped. Refused with 28: accept more
  * certificates of this round, and try again. 1, 18, 8 for the present round unknown, 28. */
+FORGELILAC_CHECKED FORGELILAC_CHANGES(1, 2) FORGELILAC_READS(3, 4)
 uint32_t forgelilac_advance(uint32_t *state, size_t state_words,
                             const uint32_t *table, size_t table_words);
 /* Makes blocks. Low half: how many were added. High half: refusal number. 1, 19, 20, 8, 21, 22. */
+FORGELILAC_CHECKED FORGELILAC_CHANGES(1, 2) FORGELILAC_CHANGES(3, 4)
 uint64_t forgelilac_commit(uint32_t *state, size_t state_words,
                            uint32_t *table, size_t table_words);
 /* Resets the port of a guest, as when the guest is started anew: all registers that it holds are 0,
  * and reading resumes at the listing's start. An accepted open resets every port; otherwise only this
  * does, and no guest has it. Only the table changes. 26 comes before everything else, also where the
  * words of the state cannot be read. 26, 1. */
+FORGELILAC_CHECKED FORGELILAC_READS(1, 2) FORGELILAC_CHANGES(3, 4)
 uint32_t forgelilac_port_reset(const uint32_t *state, size_t state_words,
                                uint32_t *table, size_t table_words, uint32_t guest);
 
@@ -340,6 +420,7 @@ uint32_t forgelilac_port_reset(const uint32_t *state, size_t state_words,
  * A place is three words, and what is left over is none; 25 for fewer than 16 places per round of
  * the ceiling (FORGELILAC_PREVIEW_WORDS), however few there are to list. Then the checks of commit.
  * 1, 25, 19, 20, 8, 21, 22. */
+FORGELILAC_CHECKED FORGELILAC_READS(1, 2) FORGELILAC_READS(3, 4) FORGELILAC_WRITES(5, 6)
 uint64_t forgelilac_preview(const uint32_t *state, size_t state_words,
                             const uint32_t *table, size_t table_words,
                             uint32_t *list, size_t list_words);
@@ -358,10 +439,12 @@ uint64_t forgelilac_preview(const uint32_t *state, size_t state_words,
  * to from an opening, the engine clears its held bit, makes the checks, and sets the bit again. So
  * lend a table in memory that can be written, and let no other call run on it meanwhile, no read
  * either. The state is only read. There is nothing to store afterwards. 1, 25, 19, 20, 8, 21, 22. */
+FORGELILAC_CHECKED FORGELILAC_READS(1, 2) FORGELILAC_CHANGES(3, 4) FORGELILAC_WRITES(5, 6)
 uint64_t forgelilac_critical(const uint32_t *state, size_t state_words,
                              uint32_t *table, size_t table_words,
                              uint32_t *list, size_t list_words);
 /* Sixteen weights of a round's committee into out, 0 for a non-member. 1, 5, 8. */
+FORGELILAC_CHECKED FORGELILAC_READS(1, 2) FORGELILAC_READS(3, 4) FORGELILAC_WRITES(6, 7)
 uint32_t forgelilac_committee(const uint32_t *state, size_t state_words,
                               const uint32_t *table, size_t table_words,
                               uint32_t round, uint32_t *out, size_t out_words);
@@ -369,6 +452,7 @@ uint32_t forgelilac_committee(const uint32_t *state, size_t state_words,
  * exact half goes to the even one: 1 of 16 (62.5) gives 62, 3 of 16 (187.5) gives 188. A member
  * may have 0 (1 of 2,000). High half: refusal number, 9 for a non-member; the low half is then 0
  * too, so look at the high half first. 1, 4, 5, 8, 9. */
+FORGELILAC_CHECKED FORGELILAC_READS(1, 2) FORGELILAC_READS(3, 4)
 uint64_t forgelilac_share(const uint32_t *state, size_t state_words,
                           const uint32_t *table, size_t table_words,
                           uint32_t member, uint32_t round);
@@ -382,6 +466,7 @@ uint64_t forgelilac_share(const uint32_t *state, size_t state_words,
  * of rounds above that block's plus the lookback, together with what else the chain changes until
  * then: ask for round lookback + last block's round + 1, which all blocks of now change.
  * Refused: no word of out is written. 1, 4, 5, 6 for an amount other than 1 to 1,000, 8, 30. */
+FORGELILAC_CHECKED FORGELILAC_READS(1, 2) FORGELILAC_READS(3, 4) FORGELILAC_WRITES(8, 9)
 uint32_t forgelilac_bond_effect(const uint32_t *state, size_t state_words,
                                 const uint32_t *table, size_t table_words,
                                 uint32_t member, uint32_t round, uint32_t amount,
@@ -389,12 +474,14 @@ uint32_t forgelilac_bond_effect(const uint32_t *state, size_t state_words,
 /* A held certificate into out: proposal, the endorsers that it was first stored with, the
  * number of its block, 0 for none. The first 17 words are a certificate as accept takes it.
  * 1, 4, 5, 23. */
+FORGELILAC_CHECKED FORGELILAC_READS(1, 2) FORGELILAC_READS(3, 4) FORGELILAC_WRITES(7, 8)
 uint32_t forgelilac_certificate(const uint32_t *state, size_t state_words,
                                 const uint32_t *table, size_t table_words,
                                 uint32_t author, uint32_t round,
                                 uint32_t *out, size_t out_words);
 /* Low half: the block's round. High half: refusal number. Blocks count from 1. A block's
  * certificates are those with its number; forgelilac_chain lists them in order. 1, 23. */
+FORGELILAC_CHECKED FORGELILAC_READS(1, 2) FORGELILAC_READS(3, 4)
 uint64_t forgelilac_block(const uint32_t *state, size_t state_words,
                           const uint32_t *table, size_t table_words, uint32_t number);
 /* What blocks hold: of `number` blocks after the first `known` all certificates into list, oldest block
@@ -406,12 +493,74 @@ uint64_t forgelilac_block(const uint32_t *state, size_t state_words,
  * refusal number: 23 where there are fewer blocks, 25 where list has no room for these certificates;
  * FORGELILAC_ROWS_WORDS(ceiling) always serve. What lies beyond them stays; refused, all does.
  * 1, 23, 25. */
+FORGELILAC_CHECKED FORGELILAC_READS(1, 2) FORGELILAC_READS(3, 4) FORGELILAC_WRITES(7, 8)
 uint64_t forgelilac_block_rows(const uint32_t *state, size_t state_words,
                                const uint32_t *table, size_t table_words,
                                uint32_t known, uint32_t number,
                                uint32_t *list, size_t list_words);
 /* The words that a table for this ceiling needs. No refusal. */
+FORGELILAC_CHECKED
 uint64_t forgelilac_table_words(uint32_t ceiling);
+/* The leader of a round, by sixteen weights, 0 for a non-member: of the members by rising number the one at
+ * position (round / 2) mod their number, counted from 0. 16 for none: an odd round, round 0, and an empty
+ * committee have none. Words behind the sixteenth are not looked at; one that is not there counts as 0. No
+ * refusal. */
+FORGELILAC_CHECKED FORGELILAC_READS(2, 3)
+uint32_t forgelilac_leader_of(uint32_t round, const uint32_t *weights, size_t weights_words);
+
+/* ---- storing
+ *
+ * A member as bytes, with a digest over all of them, and back: what a host writes to a disk. And the bytes
+ * that are signed. `run` is a number of the host's choosing, the same on all members and in no other run. A
+ * refused call changes no byte and no word. Its number is one of these, and never one of a call's. A digest
+ * tells bytes that were torn or mixed, and is no signature: whoever can write to the store can store anything.
+ * docs/TABLES.md, "The stored form"; docs/HOSTS.md, "Stored words" and "What is signed, to the byte". */
+
+enum forgelilac_storing_refusal {
+    FORGELILAC_UNREADABLE_WORDS = 101, /* the state's words or those handed in cannot be read, or the table is too short */
+    FORGELILAC_NO_ROOM = 102,          /* too few bytes or words are lent to write to */
+    FORGELILAC_OTHER_MARK = 103,       /* no stored member */
+    FORGELILAC_OTHER_FORMAT = 104,     /* stored in another format than FORGELILAC_FORMAT */
+    FORGELILAC_TORN = 105,             /* of another length than its ceiling tells, or with another digest */
+    FORGELILAC_OTHER_MEMBER = 106,     /* stored by another member */
+    FORGELILAC_OTHER_RUN = 107         /* stored in another run */
+};
+
+/* The bytes that a member of this ceiling is stored in; forgelilac_stored_bytes as a constant. */
+#define FORGELILAC_STORED_BYTES(ceiling) \
+    (16 + 4 * (size_t)FORGELILAC_STATE_WORDS + 4 * FORGELILAC_TABLE_WORDS(ceiling) + 32)
+#define FORGELILAC_SIGNED_BYTES 100             /* what is signed of a proposal, or of an endorsement */
+#define FORGELILAC_SIGNED_CERTIFICATE_BYTES 104 /* of a whole certificate */
+
+/* How many bytes a member of this ceiling is stored in. No refusal. */
+FORGELILAC_CHECKED
+uint64_t forgelilac_stored_bytes(uint32_t ceiling);
+/* Stores state and table in the first forgelilac_stored_bytes of bytes. 101, 102. */
+FORGELILAC_CHECKED FORGELILAC_READS(1, 2) FORGELILAC_READS(3, 4) FORGELILAC_WRITES(6, 7)
+uint32_t forgelilac_store(const uint32_t *state, size_t state_words,
+                          const uint32_t *table, size_t table_words,
+                          uint64_t run, uint8_t *bytes, size_t bytes_count);
+/* Loads what member own stored in this run: exactly its bytes, so bytes_count is their number. State and
+ * table then begin with the words that were stored. 105, 103, 104, 105, 106, 107, 101, 102. */
+FORGELILAC_CHECKED FORGELILAC_READS(1, 2) FORGELILAC_CHANGES(5, 6) FORGELILAC_CHANGES(7, 8)
+uint32_t forgelilac_load(const uint8_t *bytes, size_t bytes_count, uint32_t own, uint64_t run,
+                         uint32_t *state, size_t state_words, uint32_t *table, size_t table_words);
+/* What the author signs of a proposal: 100 bytes. Words of transactions beyond their number count as 0,
+ * and of the state only the filled settings are looked at. 101, 102. */
+FORGELILAC_CHECKED FORGELILAC_READS(1, 2) FORGELILAC_READS(4, 5) FORGELILAC_WRITES(6, 7)
+uint32_t forgelilac_proposal_bytes(const uint32_t *state, size_t state_words, uint64_t run,
+                                   const uint32_t *proposal, size_t proposal_words,
+                                   uint8_t *bytes, size_t bytes_count);
+/* What an endorser signs of a proposal: 100 bytes, with another mark. 101, 102. */
+FORGELILAC_CHECKED FORGELILAC_READS(1, 2) FORGELILAC_READS(4, 5) FORGELILAC_WRITES(6, 7)
+uint32_t forgelilac_endorsement_bytes(const uint32_t *state, size_t state_words, uint64_t run,
+                                      const uint32_t *proposal, size_t proposal_words,
+                                      uint8_t *bytes, size_t bytes_count);
+/* What is signed where whole certificates are: 104 bytes, the endorsers last. 101, 102. */
+FORGELILAC_CHECKED FORGELILAC_READS(1, 2) FORGELILAC_READS(4, 5) FORGELILAC_WRITES(6, 7)
+uint32_t forgelilac_certificate_bytes(const uint32_t *state, size_t state_words, uint64_t run,
+                                      const uint32_t *certificate, size_t certificate_words,
+                                      uint8_t *bytes, size_t bytes_count);
 
 /* ---- calls of guests
  *
@@ -431,84 +580,101 @@ uint64_t forgelilac_table_words(uint32_t ceiling);
  * accesses to a port, are guests' alone: the host has no such call of its own. */
 
 /* Right: propose. */
+FORGELILAC_CHECKED FORGELILAC_CHANGES(2, 3) FORGELILAC_READS(4, 5) FORGELILAC_READS(6, 7)
 uint32_t forgelilac_guest_propose(uint32_t caller,
                                   uint32_t *state, size_t state_words,
                                   const uint32_t *table, size_t table_words,
                                   const uint32_t *body, size_t body_words);
 /* Right: propose. Draws from the queues of all guests, as the host's. */
+FORGELILAC_CHECKED FORGELILAC_CHANGES(2, 3) FORGELILAC_CHANGES(4, 5)
 uint32_t forgelilac_guest_draw(uint32_t caller,
                                uint32_t *state, size_t state_words,
                                uint32_t *table, size_t table_words, uint32_t previous);
 /* Right: propose. To the caller's own queue, so no guest is named. 26, 29, 1, 6, 27. */
+FORGELILAC_CHECKED FORGELILAC_READS(2, 3) FORGELILAC_CHANGES(4, 5) FORGELILAC_READS(6, 7)
 uint32_t forgelilac_guest_enqueue(uint32_t caller,
                                   const uint32_t *state, size_t state_words,
                                   uint32_t *table, size_t table_words,
                                   const uint32_t *transaction, size_t transaction_words);
 /* Right: sign. */
+FORGELILAC_CHECKED FORGELILAC_READS(2, 3) FORGELILAC_CHANGES(4, 5) FORGELILAC_READS(6, 7)
 uint32_t forgelilac_guest_endorse(uint32_t caller,
                                   const uint32_t *state, size_t state_words,
                                   uint32_t *table, size_t table_words,
                                   const uint32_t *proposal, size_t proposal_words);
 /* Right: sign. */
+FORGELILAC_CHECKED FORGELILAC_READS(2, 3) FORGELILAC_CHANGES(4, 5)
 uint32_t forgelilac_guest_certify(uint32_t caller,
                                   const uint32_t *state, size_t state_words,
                                   uint32_t *table, size_t table_words, uint32_t endorsers);
 /* Right: sign. */
+FORGELILAC_CHECKED FORGELILAC_READS(2, 3) FORGELILAC_CHANGES(4, 5) FORGELILAC_READS(6, 7)
 uint32_t forgelilac_guest_accept(uint32_t caller,
                                  const uint32_t *state, size_t state_words,
                                  uint32_t *table, size_t table_words,
                                  const uint32_t *certificate, size_t certificate_words);
 /* Right: sign. */
+FORGELILAC_CHECKED FORGELILAC_READS(2, 3) FORGELILAC_CHANGES(4, 5) FORGELILAC_READS(6, 7) FORGELILAC_WRITES(8, 9)
 uint32_t forgelilac_guest_batch(uint32_t caller,
                                 const uint32_t *state, size_t state_words,
                                 uint32_t *table, size_t table_words,
                                 const struct forgelilac_certificate *row, size_t row_count,
                                 uint32_t *answers, size_t answers_words);
 /* Right: drive. */
+FORGELILAC_CHECKED FORGELILAC_CHANGES(2, 3) FORGELILAC_READS(4, 5)
 uint32_t forgelilac_guest_advance(uint32_t caller,
                                   uint32_t *state, size_t state_words,
                                   const uint32_t *table, size_t table_words);
 /* Right: drive. */
+FORGELILAC_CHECKED FORGELILAC_CHANGES(2, 3) FORGELILAC_CHANGES(4, 5)
 uint64_t forgelilac_guest_commit(uint32_t caller,
                                  uint32_t *state, size_t state_words,
                                  uint32_t *table, size_t table_words);
 /* Right: read. */
+FORGELILAC_CHECKED FORGELILAC_READS(2, 3) FORGELILAC_READS(4, 5) FORGELILAC_WRITES(6, 7)
 uint64_t forgelilac_guest_preview(uint32_t caller,
                                   const uint32_t *state, size_t state_words,
                                   const uint32_t *table, size_t table_words,
                                   uint32_t *list, size_t list_words);
 /* Right: read. The table is lent for writing, as by the host's. */
+FORGELILAC_CHECKED FORGELILAC_READS(2, 3) FORGELILAC_CHANGES(4, 5) FORGELILAC_WRITES(6, 7)
 uint64_t forgelilac_guest_critical(uint32_t caller,
                                    const uint32_t *state, size_t state_words,
                                    uint32_t *table, size_t table_words,
                                    uint32_t *list, size_t list_words);
 /* Right: read. */
+FORGELILAC_CHECKED FORGELILAC_READS(2, 3) FORGELILAC_READS(4, 5) FORGELILAC_WRITES(7, 8)
 uint32_t forgelilac_guest_committee(uint32_t caller,
                                     const uint32_t *state, size_t state_words,
                                     const uint32_t *table, size_t table_words,
                                     uint32_t round, uint32_t *out, size_t out_words);
 /* Right: read. */
+FORGELILAC_CHECKED FORGELILAC_READS(2, 3) FORGELILAC_READS(4, 5)
 uint64_t forgelilac_guest_share(uint32_t caller,
                                 const uint32_t *state, size_t state_words,
                                 const uint32_t *table, size_t table_words,
                                 uint32_t member, uint32_t round);
 /* Right: read. */
+FORGELILAC_CHECKED FORGELILAC_READS(2, 3) FORGELILAC_READS(4, 5) FORGELILAC_WRITES(9, 10)
 uint32_t forgelilac_guest_bond_effect(uint32_t caller,
                                       const uint32_t *state, size_t state_words,
                                       const uint32_t *table, size_t table_words,
                                       uint32_t member, uint32_t round, uint32_t amount,
                                       uint32_t *out, size_t out_words);
 /* Right: read. */
+FORGELILAC_CHECKED FORGELILAC_READS(2, 3) FORGELILAC_READS(4, 5) FORGELILAC_WRITES(8, 9)
 uint32_t forgelilac_guest_certificate(uint32_t caller,
                                       const uint32_t *state, size_t state_words,
                                       const uint32_t *table, size_t table_words,
                                       uint32_t author, uint32_t round,
                                       uint32_t *out, size_t out_words);
 /* Right: read. */
+FORGELILAC_CHECKED FORGELILAC_READS(2, 3) FORGELILAC_READS(4, 5)
 uint64_t forgelilac_guest_block(uint32_t caller,
                                 const uint32_t *state, size_t state_words,
                                 const uint32_t *table, size_t table_words, uint32_t number);
 /* Right: read. */
+FORGELILAC_CHECKED FORGELILAC_READS(2, 3) FORGELILAC_READS(4, 5) FORGELILAC_WRITES(8, 9)
 uint64_t forgelilac_guest_block_rows(uint32_t caller,
                                      const uint32_t *state, size_t state_words,
                                      const uint32_t *table, size_t table_words,
@@ -523,17 +689,286 @@ uint64_t forgelilac_guest_block_rows(uint32_t caller,
  * words of the table; no other read changes a word. Store them, or after a restore the guest may be
  * given bytes again. 31 comes before 1, also where the words of the state cannot be read.
  * 26, 29, 31, 1. */
+FORGELILAC_CHECKED FORGELILAC_READS(2, 3) FORGELILAC_CHANGES(4, 5)
 uint64_t forgelilac_guest_port_read(uint32_t caller,
                                     const uint32_t *state, size_t state_words,
                                     uint32_t *table, size_t table_words, uint32_t offset);
 /* Right: read, also for a write. Writes a byte to an offset of the caller's own port: at most one word of
  * the table changes, that of the register. 26, 29, 31, 1. */
+FORGELILAC_CHECKED FORGELILAC_READS(2, 3) FORGELILAC_CHANGES(4, 5)
 uint32_t forgelilac_guest_port_write(uint32_t caller,
                                      const uint32_t *state, size_t state_words,
                                      uint32_t *table, size_t table_words,
                                      uint32_t offset, uint8_t value);
 
+/* ---- owner's calls
+ *
+ * Each call above first looks at all that is held, so that any words are safe to lend. A host that alone
+ * writes a member's words need not pay for that with each call. It keeps one stretch more with state and
+ * table, the kept committees, and makes the owner's call, forgelilac_owned_..., in place of forgelilac_...:
+ * the same parameters, with the kept committees behind the table. It does and answers what the other one
+ * does, with the same refusals, and takes the same little time however much is held. Of a commit, a
+ * preview and a batch that goes by how many blocks, entries and certificates there are; block rows, the
+ * chain that is made of them, and a guest's read of its port where the next line is looked for or nothing
+ * waits, pass over all that is held here too. docs/HOSTS.md, "A host that owns its words", tells when to
+ * use them.
+ *
+ * The premise of each: the words are owned. Words are owned from an accepted forgelilac_owned_resume on, as
+ * long as state, table and kept committees are as that, the last owner's call or the last other call but
+ * open, load and commit on this member left them, and nobody else has written any of them: no other code of
+ * the host, no guest, no device. Every owner's call keeps them owned, refused or not. Copied together, word for word and in their
+ * whole lengths, they are owned where they are now.
+ *
+ * Where the words are not owned nothing is promised, memory safety included: an owner's call may then
+ * read and write beside its stretches. It tests nothing of the premise. What the other parameters hold is
+ * tested, as everywhere: any length and any content of a body, a certificate, a row, a list is safe.
+ *
+ * After forgelilac_open and after forgelilac_load or another restore, resume; after forgelilac_commit or its
+ * guest's form too, which does not know of kept committees. Every other call above leaves the words that the owner's call leaves,
+ * and so leaves them owned. Rules on threads are those of the calls above: the kept committees belong to the state. */
+
+/* The kept committees of a state of this ceiling, in words of 64 bits, aligned as uint64_t is. */
+#define FORGELILAC_KEPT_WORDS(ceiling) (16u * (ceiling) + 17u)
+/* Bytes of stack that serve every owner's call on x86-64: commit uses about 146 KB, each other one less than
+ * FORGELILAC_STACK_BYTES. examples/stack.c measures it. */
+#define FORGELILAC_OWNED_STACK_BYTES 163840
+
+/* Tests the words once and fills the kept committees, which need not be set before: from here on the
+ * words are owned. 1 where words of the state cannot be read, where the state is not well formed with its
+ * table, where a held certificate or the proposal names one that is not held, or one in a block names one
+ * in none, and where the kept committees are too short: then no word is written, and the words are not
+ * owned. State and table are only read. It makes the test that one call above makes, a look at whom each
+ * certificate names, and one walk for the committees. On owned words it answers 0 at any time, so made now
+ * and then it is a check of their bits. */
+FORGELILAC_CHECKED FORGELILAC_READS(1, 2) FORGELILAC_READS(3, 4) FORGELILAC_WRITES(5, 6)
+uint32_t forgelilac_owned_resume(const uint32_t *state, size_t state_words,
+                                 const uint32_t *table, size_t table_words,
+                                 uint64_t *kept, size_t kept_words);
+
+/* Calls, each as that without owned_. Only commit writes the kept committees. */
+FORGELILAC_CHECKED FORGELILAC_CHANGES(1, 2) FORGELILAC_READS(3, 4) FORGELILAC_READS(5, 6) FORGELILAC_READS(7, 8)
+uint32_t forgelilac_owned_propose(uint32_t *state, size_t state_words,
+                                  const uint32_t *table, size_t table_words,
+                                  const uint64_t *kept, size_t kept_words,
+                                  const uint32_t *body, size_t body_words);
+FORGELILAC_CHECKED FORGELILAC_READS(1, 2) FORGELILAC_CHANGES(3, 4) FORGELILAC_READS(5, 6) FORGELILAC_READS(8, 9)
+uint32_t forgelilac_owned_enqueue(const uint32_t *state, size_t state_words,
+                                  uint32_t *table, size_t table_words,
+                                  const uint64_t *kept, size_t kept_words,
+                                  uint32_t guest, const uint32_t *transaction, size_t transaction_words);
+FORGELILAC_CHECKED FORGELILAC_CHANGES(1, 2) FORGELILAC_CHANGES(3, 4) FORGELILAC_READS(5, 6)
+uint32_t forgelilac_owned_draw(uint32_t *state, size_t state_words,
+                               uint32_t *table, size_t table_words,
+                               const uint64_t *kept, size_t kept_words,
+                               uint32_t previous);
+FORGELILAC_CHECKED FORGELILAC_READS(1, 2) FORGELILAC_CHANGES(3, 4) FORGELILAC_READS(5, 6) FORGELILAC_READS(7, 8)
+uint32_t forgelilac_owned_endorse(const uint32_t *state, size_t state_words,
+                                  uint32_t *table, size_t table_words,
+                                  const uint64_t *kept, size_t kept_words,
+                                  const uint32_t *proposal, size_t proposal_words);
+FORGELILAC_CHECKED FORGELILAC_READS(1, 2) FORGELILAC_CHANGES(3, 4) FORGELILAC_READS(5, 6)
+uint32_t forgelilac_owned_certify(const uint32_t *state, size_t state_words,
+                                  uint32_t *table, size_t table_words,
+                                  const uint64_t *kept, size_t kept_words,
+                                  uint32_t endorsers);
+FORGELILAC_CHECKED FORGELILAC_READS(1, 2) FORGELILAC_CHANGES(3, 4) FORGELILAC_READS(5, 6) FORGELILAC_READS(7, 8)
+uint32_t forgelilac_owned_accept(const uint32_t *state, size_t state_words,
+                                 uint32_t *table, size_t table_words,
+                                 const uint64_t *kept, size_t kept_words,
+                                 const uint32_t *certificate, size_t certificate_words);
+FORGELILAC_CHECKED FORGELILAC_READS(1, 2) FORGELILAC_CHANGES(3, 4) FORGELILAC_READS(5, 6) FORGELILAC_READS(7, 8)
+FORGELILAC_WRITES(9, 10)
+uint32_t forgelilac_owned_batch(const uint32_t *state, size_t state_words,
+                                uint32_t *table, size_t table_words,
+                                const uint64_t *kept, size_t kept_words,
+                                const struct forgelilac_certificate *row, size_t row_count,
+                                uint32_t *answers, size_t answers_words);
+FORGELILAC_CHECKED FORGELILAC_CHANGES(1, 2) FORGELILAC_READS(3, 4) FORGELILAC_READS(5, 6)
+uint32_t forgelilac_owned_advance(uint32_t *state, size_t state_words,
+                                  const uint32_t *table, size_t table_words,
+                                  const uint64_t *kept, size_t kept_words);
+FORGELILAC_CHECKED FORGELILAC_CHANGES(1, 2) FORGELILAC_CHANGES(3, 4) FORGELILAC_CHANGES(5, 6)
+uint64_t forgelilac_owned_commit(uint32_t *state, size_t state_words,
+                                 uint32_t *table, size_t table_words,
+                                 uint64_t *kept, size_t kept_words);
+FORGELILAC_CHECKED FORGELILAC_READS(1, 2) FORGELILAC_CHANGES(3, 4) FORGELILAC_READS(5, 6)
+uint32_t forgelilac_owned_port_reset(const uint32_t *state, size_t state_words,
+                                     uint32_t *table, size_t table_words,
+                                     const uint64_t *kept, size_t kept_words,
+                                     uint32_t guest);
+
+/* Reads, each as that without owned_. */
+FORGELILAC_CHECKED FORGELILAC_READS(1, 2) FORGELILAC_READS(3, 4) FORGELILAC_READS(5, 6) FORGELILAC_WRITES(7, 8)
+uint64_t forgelilac_owned_preview(const uint32_t *state, size_t state_words,
+                                  const uint32_t *table, size_t table_words,
+                                  const uint64_t *kept, size_t kept_words,
+                                  uint32_t *list, size_t list_words);
+FORGELILAC_CHECKED FORGELILAC_READS(1, 2) FORGELILAC_CHANGES(3, 4) FORGELILAC_READS(5, 6) FORGELILAC_WRITES(7, 8)
+uint64_t forgelilac_owned_critical(const uint32_t *state, size_t state_words,
+                                   uint32_t *table, size_t table_words,
+                                   const uint64_t *kept, size_t kept_words,
+                                   uint32_t *list, size_t list_words);
+FORGELILAC_CHECKED FORGELILAC_READS(1, 2) FORGELILAC_READS(3, 4) FORGELILAC_READS(5, 6) FORGELILAC_WRITES(8, 9)
+uint32_t forgelilac_owned_committee(const uint32_t *state, size_t state_words,
+                                    const uint32_t *table, size_t table_words,
+                                    const uint64_t *kept, size_t kept_words,
+                                    uint32_t round, uint32_t *out, size_t out_words);
+FORGELILAC_CHECKED FORGELILAC_READS(1, 2) FORGELILAC_READS(3, 4) FORGELILAC_READS(5, 6)
+uint64_t forgelilac_owned_share(const uint32_t *state, size_t state_words,
+                                const uint32_t *table, size_t table_words,
+                                const uint64_t *kept, size_t kept_words,
+                                uint32_t member, uint32_t round);
+FORGELILAC_CHECKED FORGELILAC_READS(1, 2) FORGELILAC_READS(3, 4) FORGELILAC_READS(5, 6) FORGELILAC_WRITES(10, 11)
+uint32_t forgelilac_owned_bond_effect(const uint32_t *state, size_t state_words,
+                                      const uint32_t *table, size_t table_words,
+                                      const uint64_t *kept, size_t kept_words,
+                                      uint32_t member, uint32_t round, uint32_t amount, uint32_t *out,
+                                      size_t out_words);
+FORGELILAC_CHECKED FORGELILAC_READS(1, 2) FORGELILAC_READS(3, 4) FORGELILAC_READS(5, 6) FORGELILAC_WRITES(9, 10)
+uint32_t forgelilac_owned_certificate(const uint32_t *state, size_t state_words,
+                                      const uint32_t *table, size_t table_words,
+                                      const uint64_t *kept, size_t kept_words,
+                                      uint32_t author, uint32_t round, uint32_t *out, size_t out_words);
+FORGELILAC_CHECKED FORGELILAC_READS(1, 2) FORGELILAC_READS(3, 4) FORGELILAC_READS(5, 6)
+uint64_t forgelilac_owned_block(const uint32_t *state, size_t state_words,
+                                const uint32_t *table, size_t table_words,
+                                const uint64_t *kept, size_t kept_words,
+                                uint32_t number);
+FORGELILAC_CHECKED FORGELILAC_READS(1, 2) FORGELILAC_READS(3, 4) FORGELILAC_READS(5, 6) FORGELILAC_WRITES(9, 10)
+uint64_t forgelilac_owned_block_rows(const uint32_t *state, size_t state_words,
+                                     const uint32_t *table, size_t table_words,
+                                     const uint64_t *kept, size_t kept_words,
+                                     uint32_t known, uint32_t number, uint32_t *list, size_t list_words);
+
+/* Calls of guests, each as that without owned_: 26 and 29 before everything else. Rights: propose. */
+FORGELILAC_CHECKED FORGELILAC_CHANGES(2, 3) FORGELILAC_READS(4, 5) FORGELILAC_READS(6, 7) FORGELILAC_READS(8, 9)
+uint32_t forgelilac_owned_guest_propose(uint32_t caller,
+                                        uint32_t *state, size_t state_words,
+                                        const uint32_t *table, size_t table_words,
+                                        const uint64_t *kept, size_t kept_words,
+                                        const uint32_t *body, size_t body_words);
+FORGELILAC_CHECKED FORGELILAC_CHANGES(2, 3) FORGELILAC_CHANGES(4, 5) FORGELILAC_READS(6, 7)
+uint32_t forgelilac_owned_guest_draw(uint32_t caller,
+                                     uint32_t *state, size_t state_words,
+                                     uint32_t *table, size_t table_words,
+                                     const uint64_t *kept, size_t kept_words,
+                                     uint32_t previous);
+FORGELILAC_CHECKED FORGELILAC_READS(2, 3) FORGELILAC_CHANGES(4, 5) FORGELILAC_READS(6, 7) FORGELILAC_READS(8, 9)
+uint32_t forgelilac_owned_guest_enqueue(uint32_t caller,
+                                        const uint32_t *state, size_t state_words,
+                                        uint32_t *table, size_t table_words,
+                                        const uint64_t *kept, size_t kept_words,
+                                        const uint32_t *transaction, size_t transaction_words);
+/* Right: sign. */
+FORGELILAC_CHECKED FORGELILAC_READS(2, 3) FORGELILAC_CHANGES(4, 5) FORGELILAC_READS(6, 7) FORGELILAC_READS(8, 9)
+uint32_t forgelilac_owned_guest_endorse(uint32_t caller,
+                                        const uint32_t *state, size_t state_words,
+                                        uint32_t *table, size_t table_words,
+                                        const uint64_t *kept, size_t kept_words,
+                                        const uint32_t *proposal, size_t proposal_words);
+FORGELILAC_CHECKED FORGELILAC_READS(2, 3) FORGELILAC_CHANGES(4, 5) FORGELILAC_READS(6, 7)
+uint32_t forgelilac_owned_guest_certify(uint32_t caller,
+                                        const uint32_t *state, size_t state_words,
+                                        uint32_t *table, size_t table_words,
+                                        const uint64_t *kept, size_t kept_words,
+                                        uint32_t endorsers);
+FORGELILAC_CHECKED FORGELILAC_READS(2, 3) FORGELILAC_CHANGES(4, 5) FORGELILAC_READS(6, 7) FORGELILAC_READS(8, 9)
+uint32_t forgelilac_owned_guest_accept(uint32_t caller,
+                                       const uint32_t *state, size_t state_words,
+                                       uint32_t *table, size_t table_words,
+                                       const uint64_t *kept, size_t kept_words,
+                                       const uint32_t *certificate, size_t certificate_words);
+FORGELILAC_CHECKED FORGELILAC_READS(2, 3) FORGELILAC_CHANGES(4, 5) FORGELILAC_READS(6, 7) FORGELILAC_READS(8, 9)
+FORGELILAC_WRITES(10, 11)
+uint32_t forgelilac_owned_guest_batch(uint32_t caller,
+                                      const uint32_t *state, size_t state_words,
+                                      uint32_t *table, size_t table_words,
+                                      const uint64_t *kept, size_t kept_words,
+                                      const struct forgelilac_certificate *row, size_t row_count,
+                                      uint32_t *answers, size_t answers_words);
+/* Right: drive. */
+FORGELILAC_CHECKED FORGELILAC_CHANGES(2, 3) FORGELILAC_READS(4, 5) FORGELILAC_READS(6, 7)
+uint32_t forgelilac_owned_guest_advance(uint32_t caller,
+                                        uint32_t *state, size_t state_words,
+                                        const uint32_t *table, size_t table_words,
+                                        const uint64_t *kept, size_t kept_words);
+FORGELILAC_CHECKED FORGELILAC_CHANGES(2, 3) FORGELILAC_CHANGES(4, 5) FORGELILAC_CHANGES(6, 7)
+uint64_t forgelilac_owned_guest_commit(uint32_t caller,
+                                       uint32_t *state, size_t state_words,
+                                       uint32_t *table, size_t table_words,
+                                       uint64_t *kept, size_t kept_words);
+/* Right: read. The last two are accesses to the caller's own port. */
+FORGELILAC_CHECKED FORGELILAC_READS(2, 3) FORGELILAC_READS(4, 5) FORGELILAC_READS(6, 7) FORGELILAC_WRITES(8, 9)
+uint64_t forgelilac_owned_guest_preview(uint32_t caller,
+                                        const uint32_t *state, size_t state_words,
+                                        const uint32_t *table, size_t table_words,
+                                        const uint64_t *kept, size_t kept_words,
+                                        uint32_t *list, size_t list_words);
+FORGELILAC_CHECKED FORGELILAC_READS(2, 3) FORGELILAC_CHANGES(4, 5) FORGELILAC_READS(6, 7) FORGELILAC_WRITES(8, 9)
+uint64_t forgelilac_owned_guest_critical(uint32_t caller,
+                                         const uint32_t *state, size_t state_words,
+                                         uint32_t *table, size_t table_words,
+                                         const uint64_t *kept, size_t kept_words,
+                                         uint32_t *list, size_t list_words);
+FORGELILAC_CHECKED FORGELILAC_READS(2, 3) FORGELILAC_READS(4, 5) FORGELILAC_READS(6, 7) FORGELILAC_WRITES(9, 10)
+uint32_t forgelilac_owned_guest_committee(uint32_t caller,
+                                          const uint32_t *state, size_t state_words,
+                                          const uint32_t *table, size_t table_words,
+                                          const uint64_t *kept, size_t kept_words,
+                                          uint32_t round, uint32_t *out, size_t out_words);
+FORGELILAC_CHECKED FORGELILAC_READS(2, 3) FORGELILAC_READS(4, 5) FORGELILAC_READS(6, 7)
+uint64_t forgelilac_owned_guest_share(uint32_t caller,
+                                      const uint32_t *state, size_t state_words,
+                                      const uint32_t *table, size_t table_words,
+                                      const uint64_t *kept, size_t kept_words,
+                                      uint32_t member, uint32_t round);
+FORGELILAC_CHECKED FORGELILAC_READS(2, 3) FORGELILAC_READS(4, 5) FORGELILAC_READS(6, 7) FORGELILAC_WRITES(11, 12)
+uint32_t forgelilac_owned_guest_bond_effect(uint32_t caller,
+                                            const uint32_t *state, size_t state_words,
+                                            const uint32_t *table, size_t table_words,
+                                            const uint64_t *kept, size_t kept_words,
+                                            uint32_t member, uint32_t round, uint32_t amount,
+                                            uint32_t *out, size_t out_words);
+FORGELILAC_CHECKED FORGELILAC_READS(2, 3) FORGELILAC_READS(4, 5) FORGELILAC_READS(6, 7) FORGELILAC_WRITES(10, 11)
+uint32_t forgelilac_owned_guest_certificate(uint32_t caller,
+                                            const uint32_t *state, size_t state_words,
+                                            const uint32_t *table, size_t table_words,
+                                            const uint64_t *kept, size_t kept_words,
+                                            uint32_t author, uint32_t round, uint32_t *out,
+                                            size_t out_words);
+FORGELILAC_CHECKED FORGELILAC_READS(2, 3) FORGELILAC_READS(4, 5) FORGELILAC_READS(6, 7)
+uint64_t forgelilac_owned_guest_block(uint32_t caller,
+                                      const uint32_t *state, size_t state_words,
+                                      const uint32_t *table, size_t table_words,
+                                      const uint64_t *kept, size_t kept_words,
+                                      uint32_t number);
+FORGELILAC_CHECKED FORGELILAC_READS(2, 3) FORGELILAC_READS(4, 5) FORGELILAC_READS(6, 7) FORGELILAC_WRITES(10, 11)
+uint64_t forgelilac_owned_guest_block_rows(uint32_t caller,
+                                           const uint32_t *state, size_t state_words,
+                                           const uint32_t *table, size_t table_words,
+                                           const uint64_t *kept, size_t kept_words,
+                                           uint32_t known, uint32_t number, uint32_t *list,
+                                           size_t list_words);
+FORGELILAC_CHECKED FORGELILAC_READS(2, 3) FORGELILAC_CHANGES(4, 5) FORGELILAC_READS(6, 7)
+uint64_t forgelilac_owned_guest_port_read(uint32_t caller,
+                                          const uint32_t *state, size_t state_words,
+                                          uint32_t *table, size_t table_words,
+                                          const uint64_t *kept, size_t kept_words,
+                                          uint32_t offset);
+FORGELILAC_CHECKED FORGELILAC_READS(2, 3) FORGELILAC_CHANGES(4, 5) FORGELILAC_READS(6, 7)
+uint32_t forgelilac_owned_guest_port_write(uint32_t caller,
+                                           const uint32_t *state, size_t state_words,
+                                           uint32_t *table, size_t table_words,
+                                           const uint64_t *kept, size_t kept_words,
+                                           uint32_t offset, uint8_t value);
+
 /* ---- answers */
+
+/* An answer of 64 bits: its value, and beside it why there is none. */
+struct forgelilac_answer {
+    uint32_t refusal; /* FORGELILAC_ACCEPTED, or the refusal number */
+    uint32_t value;   /* 0 where refused */
+};
 
 /* The value of an answer of 64 bits: its low half. */
 static inline uint32_t forgelilac_value_of(uint64_t answer) {
@@ -545,7 +980,17 @@ static inline uint32_t forgelilac_refusal_of(uint64_t answer) {
     return (uint32_t)(answer >> 32);
 }
 
+/* Both halves of an answer of 64 bits. */
+FORGELILAC_CHECKED
+static inline struct forgelilac_answer forgelilac_answer_of(uint64_t answer) {
+    struct forgelilac_answer both;
+    both.refusal = forgelilac_refusal_of(answer);
+    both.value = forgelilac_value_of(answer);
+    return both;
+}
+
 /* A refusal number in words. 24 is the runner's alone: no function here answers it. */
+FORGELILAC_CHECKED
 static inline const char *forgelilac_refusal_text(uint32_t number) {
     static const char *const texts[32] = {
         "accepted",
@@ -589,6 +1034,7 @@ static inline const char *forgelilac_refusal_text(uint32_t number) {
 /* 1 where the caller has the right (FORGELILAC_RIGHT_...), else 0, also for a caller above 7 and where
  * the stretch ends before the word of the rights. A word of the state and no call: it can be read in any
  * state. The guests' forms ask for themselves. */
+FORGELILAC_CHECKED FORGELILAC_READS(1, 2)
 static inline int forgelilac_may(const uint32_t *state, size_t state_words,
                                  uint32_t caller, unsigned right) {
     return state_words > FORGELILAC_STATE_RIGHTS && right <= FORGELILAC_RIGHT_READ
@@ -597,24 +1043,48 @@ static inline int forgelilac_may(const uint32_t *state, size_t state_words,
 }
 
 /* All settings blank. */
+FORGELILAC_POINTERS
 static inline void forgelilac_blank_sheet(uint32_t sheet[FORGELILAC_SHEET_WORDS]) {
     for (int i = 0; i < FORGELILAC_SHEET_WORDS; i++) sheet[i] = 0;
 }
 
-/* Writes setting 0 to 19; a weight is FORGELILAC_WEIGHT plus the member. */
-static inline void forgelilac_write_setting(uint32_t sheet[FORGELILAC_SHEET_WORDS],
-                                            unsigned setting, uint32_t value) {
+/* No setting can be read in this sheet any more, and none is written to it: open answers 1. */
+FORGELILAC_POINTERS
+static inline uint32_t forgelilac_spoil_sheet(uint32_t sheet[FORGELILAC_SHEET_WORDS], uint32_t refusal) {
+    sheet[0] = 2; /* neither blank nor written */
+    return refusal;
+}
+
+/* Writes setting 0 to 19 (FORGELILAC_LOOKBACK and so on), and answers 0. There is no other: 2, and the
+ * sheet is spoiled, so that open answers 1 where nobody looks at this answer. */
+FORGELILAC_POINTERS
+static inline uint32_t forgelilac_write_setting(uint32_t sheet[FORGELILAC_SHEET_WORDS],
+                                                unsigned setting, uint32_t value) {
+    if (setting > FORGELILAC_MARGIN || sheet[0] > 1) return forgelilac_spoil_sheet(sheet, FORGELILAC_SETTING_RANGE);
     sheet[2 * setting] = 1;
     sheet[2 * setting + 1] = value;
+    return FORGELILAC_ACCEPTED;
+}
+
+/* Writes the starting weight of member 0 to 15, and answers 0. There is no other: 4, and the sheet is
+ * spoiled likewise. */
+FORGELILAC_POINTERS
+static inline uint32_t forgelilac_write_weight(uint32_t sheet[FORGELILAC_SHEET_WORDS],
+                                               uint32_t member, uint32_t weight) {
+    if (member >= FORGELILAC_MEMBERS) return forgelilac_spoil_sheet(sheet, FORGELILAC_MEMBER_RANGE);
+    /* the weights' places come right before the margin's */
+    return forgelilac_write_setting(sheet, FORGELILAC_MARGIN - FORGELILAC_MEMBERS + member, weight);
 }
 
 /* A body with this previous set and no transactions. */
+FORGELILAC_POINTERS
 static inline void forgelilac_begin_body(uint32_t body[FORGELILAC_BODY_WORDS], uint32_t previous) {
     for (int i = 0; i < FORGELILAC_BODY_WORDS; i++) body[i] = 0;
     body[FORGELILAC_BODY_PREVIOUS] = previous;
 }
 
 /* Adds a transaction. A fifth is counted and not written: propose then answers 6. */
+FORGELILAC_POINTERS
 static inline void forgelilac_add(uint32_t body[FORGELILAC_BODY_WORDS], uint32_t kind,
                                   uint32_t number, uint32_t amount) {
     uint32_t count = body[FORGELILAC_BODY_COUNT];
@@ -629,22 +1099,26 @@ static inline void forgelilac_add(uint32_t body[FORGELILAC_BODY_WORDS], uint32_t
 }
 
 /* Adds a bond of a member by an amount of 1 to 1,000. */
+FORGELILAC_POINTERS
 static inline void forgelilac_add_bond(uint32_t body[FORGELILAC_BODY_WORDS],
                                        uint32_t member, uint32_t amount) {
     forgelilac_add(body, FORGELILAC_BOND, member, amount);
 }
 
 /* Adds an unbond of a member. */
+FORGELILAC_POINTERS
 static inline void forgelilac_add_unbond(uint32_t body[FORGELILAC_BODY_WORDS], uint32_t member) {
     forgelilac_add(body, FORGELILAC_UNBOND, member, 0);
 }
 
 /* Adds an entry: any number. */
+FORGELILAC_POINTERS
 static inline void forgelilac_add_entry(uint32_t body[FORGELILAC_BODY_WORDS], uint32_t number) {
     forgelilac_add(body, FORGELILAC_ENTRY, number, 0);
 }
 
 /* The proposal that a state keeps, for sending: 1, or 0 where there is none. */
+FORGELILAC_CHECKED FORGELILAC_POINTERS
 static inline int forgelilac_own_proposal(const uint32_t state[FORGELILAC_STATE_WORDS],
                                           uint32_t proposal[FORGELILAC_PROPOSAL_WORDS]) {
     if (state[FORGELILAC_STATE_PROPOSED] == 0) return 0;
@@ -657,11 +1131,13 @@ static inline int forgelilac_own_proposal(const uint32_t state[FORGELILAC_STATE_
 
 /* How many transactions wait in the queue of a guest, 0 for a guest above 7. A word of the table and
  * no call: ask forgelilac_is_well_formed first where something else may have written the words. */
+FORGELILAC_CHECKED FORGELILAC_POINTERS
 static inline uint32_t forgelilac_waiting(const uint32_t *table, uint32_t guest) {
     return guest < FORGELILAC_GUESTS ? table[FORGELILAC_WAITING + guest] : 0;
 }
 
 /* The words of a certificate as a record of a row. The first 17 words of the certificate read serve. */
+FORGELILAC_CHECKED FORGELILAC_POINTERS
 static inline struct forgelilac_certificate
 forgelilac_record_of(const uint32_t words[FORGELILAC_CERTIFICATE_WORDS]) {
     struct forgelilac_certificate record;
@@ -672,132 +1148,146 @@ forgelilac_record_of(const uint32_t words[FORGELILAC_CERTIFICATE_WORDS]) {
     return record;
 }
 
-/* ---- the chain */
+/* The text of a number of enum forgelilac_storing_refusal. */
+FORGELILAC_CHECKED
+static inline const char *forgelilac_storing_text(uint32_t number) {
+    switch (number) {
+    case 0: return "done";
+    case FORGELILAC_UNREADABLE_WORDS: return "words that cannot be read, or a table that is too short";
+    case FORGELILAC_NO_ROOM: return "too few bytes or words to write to";
+    case FORGELILAC_OTHER_MARK: return "no stored member";
+    case FORGELILAC_OTHER_FORMAT: return "stored in another format";
+    case FORGELILAC_TORN: return "torn: another length or another digest";
+    case FORGELILAC_OTHER_MEMBER: return "stored by another member";
+    case FORGELILAC_OTHER_RUN: return "stored in another run";
+    default: return "no number of storing";
+    }
+}
+
+/* ---- over the reads: nothing is decided here */
 
 /* 1 where the state is well formed, else 0: whether calls but open would answer other than 1.
  * For words that come from storage, behind a check of their bytes: this is none (docs/HOSTS.md,
  * "Stored words"). */
+FORGELILAC_CHECKED FORGELILAC_READS(1, 2) FORGELILAC_READS(3, 4)
 static inline int forgelilac_is_well_formed(const uint32_t *state, size_t state_words,
                                             const uint32_t *table, size_t table_words) {
     /* There is no block 0: 23, unless the state is not well formed. */
-    return forgelilac_refusal_of(forgelilac_block(state, state_words, table, table_words, 0))
-           == FORGELILAC_NONE_THERE;
+    return forgelilac_format_3() == FORGELILAC_FORMAT
+           && forgelilac_refusal_of(forgelilac_block(state, state_words, table, table_words, 0))
+                  == FORGELILAC_NONE_THERE;
 }
 
 /* The leader of an even round, by the weights of its committee: of the m members by rising number,
  * the one at position (round / 2) mod m. An empty committee has none, and so has an odd round or
  * round 0: FORGELILAC_MEMBERS. */
+FORGELILAC_CHECKED FORGELILAC_POINTERS
 static inline uint32_t forgelilac_leader(uint32_t round, const uint32_t weights[FORGELILAC_MEMBERS]) {
-    uint32_t members[FORGELILAC_MEMBERS], count = 0;
-    for (uint32_t m = 0; m < FORGELILAC_MEMBERS; m++)
-        if (weights[m] != 0) members[count++] = m;
-    return count == 0 || round % 2 != 0 || round == 0 ? FORGELILAC_MEMBERS
-                                                      : members[round / 2 % count];
+    return forgelilac_leader_of(round, weights, FORGELILAC_MEMBERS);
 }
 
-/* For forgelilac_chain: the transactions of the listed certificates change the weights. */
-static inline void forgelilac_apply_listed(const uint32_t *table, const uint32_t *at,
-                                           const uint32_t *end, uint32_t weights[FORGELILAC_MEMBERS]) {
-    for (; at < end; at += FORGELILAC_LISTED_WORDS) {
-        const uint32_t *record = table + FORGELILAC_RECORD(at[FORGELILAC_LISTED_AUTHOR],
-                                                           at[FORGELILAC_LISTED_ROUND]);
-        const uint32_t *transaction = record + FORGELILAC_RECORD_TRANSACTIONS;
-        for (uint32_t k = 0; k < record[FORGELILAC_RECORD_COUNT]; k++, transaction += 3) {
-            if (transaction[0] == FORGELILAC_BOND) weights[transaction[1]] += transaction[2];
-            if (transaction[0] == FORGELILAC_UNBOND) weights[transaction[1]] = 0;
-        }
-    }
+/* For forgelilac_chain: how many blocks a state has, by its word. */
+static inline uint32_t forgelilac_blocks_of(const uint32_t *state, size_t state_words) {
+    return state_words > FORGELILAC_STATE_BLOCKS ? state[FORGELILAC_STATE_BLOCKS] : 0;
 }
 
-/* For forgelilac_chain: a block that is listed by round, then author; from now on numbers rise
- * from the first one within a round, with 0 after 15. */
-static inline void forgelilac_turn_listed(uint32_t *at, const uint32_t *end, uint32_t first) {
-    while (at < end) {
-        uint32_t authors[FORGELILAC_MEMBERS], round = at[FORGELILAC_LISTED_ROUND];
-        size_t count = 0, below = 0;
-        for (const uint32_t *one = at; one < end && one[FORGELILAC_LISTED_ROUND] == round;
-             one += FORGELILAC_LISTED_WORDS) {
-            below += one[FORGELILAC_LISTED_AUTHOR] < first;
-            authors[count++] = one[FORGELILAC_LISTED_AUTHOR];
-        }
-        for (size_t i = 0; i < count; i++, at += FORGELILAC_LISTED_WORDS)
-            at[FORGELILAC_LISTED_AUTHOR] = authors[(below + i) % count];
+/* For forgelilac_chain: of each certificate that block rows have listed, block, round and author alone. */
+static inline uint64_t forgelilac_shorten(uint64_t answer, uint32_t *out) {
+    const uint32_t *row = out, *end = out + (size_t)FORGELILAC_HELD_WORDS * forgelilac_value_of(answer);
+    for (; row < end; row += FORGELILAC_HELD_WORDS, out += FORGELILAC_LISTED_WORDS) {
+        const uint32_t author = row[FORGELILAC_PROPOSAL_AUTHOR], round = row[FORGELILAC_PROPOSAL_ROUND];
+        out[FORGELILAC_LISTED_BLOCK] = row[FORGELILAC_HELD_BLOCK];
+        out[FORGELILAC_LISTED_ROUND] = round;
+        out[FORGELILAC_LISTED_AUTHOR] = author;
     }
-}
-
-/* For forgelilac_chain: lists the chain, where asked is the answer of a read of block 0. There is none:
- * 23, unless the state is not well formed or a guest may not read. */
-static inline uint64_t forgelilac_list_chain(uint64_t asked, const uint32_t *state, const uint32_t *table,
-                                             uint32_t *out, size_t out_words) {
-    uint32_t weights[FORGELILAC_MEMBERS], ends[FORGELILAC_BLOCKS + 1] = {0};
-    uint32_t blocks, ceiling, lookback, listed = 0, applied = 0;
-    if (forgelilac_refusal_of(asked) != FORGELILAC_NONE_THERE) return asked;
-    blocks = state[FORGELILAC_STATE_BLOCKS];
-    ceiling = state[FORGELILAC_STATE_CEILING];
-    lookback = state[FORGELILAC_STATE_LOOKBACK];
-
-    /* How many each block has; then where each begins. */
-    for (uint32_t round = 1; round <= ceiling; round++)
-        for (uint32_t a = 0, held = table[FORGELILAC_ROW(round)]; held != 0; a++, held >>= 1)
-            if (held & 1) ends[table[FORGELILAC_RECORD(a, round) + FORGELILAC_RECORD_BLOCK]]++;
-    ends[0] = 0;
-    for (uint32_t number = 1; number <= blocks; number++) {
-        uint32_t count = ends[number];
-        ends[number] = listed;
-        listed += count;
-    }
-    if (out_words / FORGELILAC_LISTED_WORDS < listed) return (uint64_t)FORGELILAC_MALFORMED << 32;
-
-    /* Each block by round, then author; then ends has where each ends. */
-    for (uint32_t round = 1; round <= ceiling; round++)
-        for (uint32_t a = 0, held = table[FORGELILAC_ROW(round)]; held != 0; a++, held >>= 1) {
-            uint32_t number = table[FORGELILAC_RECORD(a, round) + FORGELILAC_RECORD_BLOCK];
-            if ((held & 1) == 0 || number == 0) continue;
-            uint32_t *at = out + (size_t)FORGELILAC_LISTED_WORDS * ends[number]++;
-            at[FORGELILAC_LISTED_BLOCK] = number;
-            at[FORGELILAC_LISTED_ROUND] = round;
-            at[FORGELILAC_LISTED_AUTHOR] = a;
-        }
-
-    /* Each block from its leader. The committee of a round is the starting one, changed by the
-     * blocks of rounds that lie more than the lookback below it. */
-    for (int m = 0; m < FORGELILAC_MEMBERS; m++) weights[m] = state[FORGELILAC_STATE_WEIGHTS + m];
-    for (uint32_t number = 1; number <= blocks; number++) {
-        uint32_t round = table[FORGELILAC_ROW(number) + FORGELILAC_ROW_BLOCK];
-        while (applied + 1 < number &&
-               table[FORGELILAC_ROW(applied + 1) + FORGELILAC_ROW_BLOCK] + lookback < round) {
-            applied++;
-            forgelilac_apply_listed(table, out + (size_t)FORGELILAC_LISTED_WORDS * ends[applied - 1],
-                                    out + (size_t)FORGELILAC_LISTED_WORDS * ends[applied], weights);
-        }
-        forgelilac_turn_listed(out + (size_t)FORGELILAC_LISTED_WORDS * ends[number - 1],
-                               out + (size_t)FORGELILAC_LISTED_WORDS * ends[number],
-                               forgelilac_leader(round, weights));
-    }
-    return listed;
+    return answer;
 }
 
 /* The chain into out: number of its block, round and author of each of its certificates, three
- * words each, in the order of the chain. Blocks count from 1; inside a block rounds rise; within a
- * round numbers rise from that of the leader of the block's round, with 0 after 15, and where that
- * round has no leader they just rise. One read that tests the state, then passes over the held
- * certificates alone. Low half: how many are listed. High half: refusal number, 1 also where out is
- * too short (FORGELILAC_CHAIN_WORDS(ceiling) always serve). Refused, it changes no word. */
+ * words each, in the order of the chain: the rows of all blocks, shortened. It asks for the room of
+ * those rows, 18 words for each certificate (FORGELILAC_CHAIN_WORDS(ceiling) always serve), and what
+ * lies behind what is listed is not as it was, as far as that room goes. What certificates hold, and
+ * what is new since, forgelilac_block_rows gives in one read. Low half: how many are listed. High half:
+ * refusal number. Refused, it changes no word. 1, 25. */
+FORGELILAC_CHECKED FORGELILAC_READS(1, 2) FORGELILAC_READS(3, 4) FORGELILAC_WRITES(5, 6)
 static inline uint64_t forgelilac_chain(const uint32_t *state, size_t state_words,
                                         const uint32_t *table, size_t table_words,
                                         uint32_t *out, size_t out_words) {
-    return forgelilac_list_chain(forgelilac_block(state, state_words, table, table_words, 0),
-                                 state, table, out, out_words);
+    return forgelilac_shorten(forgelilac_block_rows(state, state_words, table, table_words, 0,
+                                                    forgelilac_blocks_of(state, state_words), out, out_words),
+                              out);
 }
 
 /* The chain for a guest; right: read. 26, 29, then as forgelilac_chain. */
+FORGELILAC_CHECKED FORGELILAC_READS(2, 3) FORGELILAC_READS(4, 5) FORGELILAC_WRITES(6, 7)
 static inline uint64_t forgelilac_guest_chain(uint32_t caller,
                                               const uint32_t *state, size_t state_words,
                                               const uint32_t *table, size_t table_words,
                                               uint32_t *out, size_t out_words) {
-    return forgelilac_list_chain(forgelilac_guest_block(caller, state, state_words, table, table_words, 0),
-                                 state, table, out, out_words);
+    return forgelilac_shorten(forgelilac_guest_block_rows(caller, state, state_words, table, table_words, 0,
+                                                          forgelilac_blocks_of(state, state_words), out, out_words),
+                              out);
 }
+
+/* The chain of owned words: as forgelilac_chain, by forgelilac_owned_block_rows. */
+FORGELILAC_CHECKED FORGELILAC_READS(1, 2) FORGELILAC_READS(3, 4) FORGELILAC_READS(5, 6) FORGELILAC_WRITES(7, 8)
+static inline uint64_t forgelilac_owned_chain(const uint32_t *state, size_t state_words,
+                                              const uint32_t *table, size_t table_words,
+                                              const uint64_t *kept, size_t kept_words,
+                                              uint32_t *out, size_t out_words) {
+    return forgelilac_shorten(forgelilac_owned_block_rows(state, state_words, table, table_words, kept, kept_words, 0,
+                                                          forgelilac_blocks_of(state, state_words), out, out_words),
+                              out);
+}
+
+/* The same for a guest; right: read. 26, 29, then as forgelilac_chain. */
+FORGELILAC_CHECKED FORGELILAC_READS(2, 3) FORGELILAC_READS(4, 5) FORGELILAC_READS(6, 7) FORGELILAC_WRITES(8, 9)
+static inline uint64_t forgelilac_owned_guest_chain(uint32_t caller,
+                                                    const uint32_t *state, size_t state_words,
+                                                    const uint32_t *table, size_t table_words,
+                                                    const uint64_t *kept, size_t kept_words,
+                                                    uint32_t *out, size_t out_words) {
+    return forgelilac_shorten(forgelilac_owned_guest_block_rows(caller, state, state_words, table, table_words,
+                                                                kept, kept_words, 0,
+                                                                forgelilac_blocks_of(state, state_words),
+                                                                out, out_words),
+                              out);
+}
+
+/* ---- answers of 64 bits as struct forgelilac_answer, where FORGELILAC_ANSWERS was defined (C99, C++11) */
+
+#ifdef FORGELILAC_ANSWERS
+#define forgelilac_commit(...) forgelilac_answer_of(forgelilac_commit(__VA_ARGS__))
+#define forgelilac_preview(...) forgelilac_answer_of(forgelilac_preview(__VA_ARGS__))
+#define forgelilac_critical(...) forgelilac_answer_of(forgelilac_critical(__VA_ARGS__))
+#define forgelilac_share(...) forgelilac_answer_of(forgelilac_share(__VA_ARGS__))
+#define forgelilac_block(...) forgelilac_answer_of(forgelilac_block(__VA_ARGS__))
+#define forgelilac_block_rows(...) forgelilac_answer_of(forgelilac_block_rows(__VA_ARGS__))
+#define forgelilac_chain(...) forgelilac_answer_of(forgelilac_chain(__VA_ARGS__))
+#define forgelilac_guest_commit(...) forgelilac_answer_of(forgelilac_guest_commit(__VA_ARGS__))
+#define forgelilac_guest_preview(...) forgelilac_answer_of(forgelilac_guest_preview(__VA_ARGS__))
+#define forgelilac_guest_critical(...) forgelilac_answer_of(forgelilac_guest_critical(__VA_ARGS__))
+#define forgelilac_guest_share(...) forgelilac_answer_of(forgelilac_guest_share(__VA_ARGS__))
+#define forgelilac_guest_block(...) forgelilac_answer_of(forgelilac_guest_block(__VA_ARGS__))
+#define forgelilac_guest_block_rows(...) forgelilac_answer_of(forgelilac_guest_block_rows(__VA_ARGS__))
+#define forgelilac_guest_chain(...) forgelilac_answer_of(forgelilac_guest_chain(__VA_ARGS__))
+#define forgelilac_guest_port_read(...) forgelilac_answer_of(forgelilac_guest_port_read(__VA_ARGS__))
+#define forgelilac_owned_commit(...) forgelilac_answer_of(forgelilac_owned_commit(__VA_ARGS__))
+#define forgelilac_owned_preview(...) forgelilac_answer_of(forgelilac_owned_preview(__VA_ARGS__))
+#define forgelilac_owned_critical(...) forgelilac_answer_of(forgelilac_owned_critical(__VA_ARGS__))
+#define forgelilac_owned_share(...) forgelilac_answer_of(forgelilac_owned_share(__VA_ARGS__))
+#define forgelilac_owned_block(...) forgelilac_answer_of(forgelilac_owned_block(__VA_ARGS__))
+#define forgelilac_owned_block_rows(...) forgelilac_answer_of(forgelilac_owned_block_rows(__VA_ARGS__))
+#define forgelilac_owned_guest_commit(...) forgelilac_answer_of(forgelilac_owned_guest_commit(__VA_ARGS__))
+#define forgelilac_owned_guest_preview(...) forgelilac_answer_of(forgelilac_owned_guest_preview(__VA_ARGS__))
+#define forgelilac_owned_guest_critical(...) forgelilac_answer_of(forgelilac_owned_guest_critical(__VA_ARGS__))
+#define forgelilac_owned_guest_share(...) forgelilac_answer_of(forgelilac_owned_guest_share(__VA_ARGS__))
+#define forgelilac_owned_guest_block(...) forgelilac_answer_of(forgelilac_owned_guest_block(__VA_ARGS__))
+#define forgelilac_owned_guest_block_rows(...) forgelilac_answer_of(forgelilac_owned_guest_block_rows(__VA_ARGS__))
+#define forgelilac_owned_chain(...) forgelilac_answer_of(forgelilac_owned_chain(__VA_ARGS__))
+#define forgelilac_owned_guest_chain(...) forgelilac_answer_of(forgelilac_owned_guest_chain(__VA_ARGS__))
+#define forgelilac_owned_guest_port_read(...) forgelilac_answer_of(forgelilac_owned_guest_port_read(__VA_ARGS__))
+#endif
 
 #ifdef __cplusplus
 }

@@ -9,7 +9,16 @@
 # them; that no bond moves a share further than its bound; that guests get their turn over
 # long runs, and that what ports have given is a prefix of the listing. A runner given in
 # RUNNER is compared with the reference as well.
+if [ -n "${RUNNER:-}" ]; then
+    if [ -f "$RUNNER" ]; then
+        RUNNER=$(cd "$(dirname "$RUNNER")" && pwd)/$(basename "$RUNNER")
+    elif ! command -v "${RUNNER%% *}" > /dev/null; then
+        echo "check.sh: there is no runner $RUNNER: make it by 'cd crates/runner && rt run < /dev/null'" >&2
+        exit 2
+    fi
+fi
 cd "$(dirname "$0")" || exit 2
+[ -x bin/tests_ref ] && [ -x bin/runner_ref ] || sh build.sh || exit 2
 bin/tests_ref -q || exit 1
 status=0
 differs() { echo "differs: $1"; status=1; }

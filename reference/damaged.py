@@ -3,11 +3,16 @@
 
 Each is a stretch of a shuffled stream, from an open on, in which bytes are changed, taken
 out or put in, or pieces of it repeated: records that are nearly readable. Stops at the first
-difference and leaves that stream in damaged.stream; says how much was compared."""
+difference and leaves that stream in a file of the system's folder for such, which it names; says how much was
+compared, and meanwhile, on standard error, how far it is."""
 import os
 import random
 import subprocess
 import sys
+
+sys.dont_write_bytecode = True
+
+from telling import Progress, left, number_in, runner_at
 
 PIECES = [
     b",", b"\r\n", b"\r", b"\n", b'"', b" ", b"\x00", b"\xff", b"0", b"00", b"-1", b"+1",
@@ -45,8 +50,11 @@ def main():
     if len(sys.argv) < 3:
         sys.exit(__doc__)
     here = os.path.dirname(os.path.abspath(__file__))
-    runner, count = os.path.abspath(sys.argv[1]), int(sys.argv[2])
-    random.seed(int(sys.argv[3]) if len(sys.argv) > 3 else 1)
+    runner, count = runner_at(sys.argv[1]), number_in(sys.argv[2], "COUNT")
+    random.seed(number_in(sys.argv[3], "SEED") if len(sys.argv) > 3 else 1)
+    if not os.path.exists(here + "/bin/runner_ref"):
+        subprocess.run(["sh", here + "/build.sh"], check=True)
+    progress = Progress("damaged.py")
     whole = b"".join(
         subprocess.run([here + "/bin/shuffle", str(seed)], capture_output=True).stdout + b"\r\n"
         for seed in range(1, 101)
@@ -56,10 +64,11 @@ def main():
         start = whole.rfind(b"\r\nopen", 0, random.randrange(10, len(whole))) + 2
         stream = damage(whole[start:start + random.randrange(200, 20000)])
         if answers(runner, stream) != answers(here + "/bin/runner_ref", stream):
-            with open("damaged.stream", "wb") as file:
-                file.write(stream)
-            sys.exit(f"differs: stream {number}, left in damaged.stream")
+            kept = left(stream, "damaged")
+            sys.exit(f"differs: stream {number}, left in {kept}; in words:\n"
+                     f"    forgelilac diff {runner} {here}/bin/runner_ref {kept}")
         compared += len(stream)
+        progress.tell(f"{number + 1:,} of {count:,} streams")
     print(f"the same: {count} streams, {compared} bytes in")
 
 

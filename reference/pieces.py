@@ -8,7 +8,8 @@ next, and, but for most of the stretches, byte by byte. The next piece is given 
 taken in the one before, and only after the lines of all records that have ended by then have come:
 a runner that keeps lines back is found out. The rules do not say when lines come: with `late` they
 may come at any time. What is expected is written by hand (example, edges) or comes from the reference.
-Stops at the first difference and leaves that stream in pieces.stream; says how much was compared."""
+Stops at the first difference and leaves that stream in a file of the system's folder for such, which it names;
+says how much was compared, and meanwhile, on standard error, how far it is."""
 import fcntl
 import glob
 import itertools
@@ -22,7 +23,10 @@ import termios
 import time
 from bisect import bisect_right
 
+sys.dont_write_bytecode = True
+
 from damaged import damage
+from telling import Progress, left, number_in, runner_at
 
 HERE = os.path.dirname(os.path.abspath(__file__))
 LONGEST = 1024          # bytes of a record, with its CRLF
@@ -134,6 +138,7 @@ class Comparison:
     def __init__(self, program, late):
         self.program, self.late = program, late
         self.streams = self.runs = self.pieces = self.records = self.given = 0
+        self.progress = Progress("pieces.py")
 
     def feed(self, runner, stream, cuts):
         at = compared = 0
@@ -162,15 +167,15 @@ class Comparison:
             try:
                 self.feed(runner, stream, cuts)
             except Different as difference:
-                with open("pieces.stream", "wb") as file:
-                    file.write(stream.given)
-                sys.exit(f"differs: {stream.name}, {way}: {difference}; the stream is left in pieces.stream")
+                path = left(stream.given, "pieces")
+                sys.exit(f"differs: {stream.name}, {way}: {difference}; the stream is left in {path}")
             finally:
                 runner.stop()
             self.runs += 1
             self.pieces += len(cuts) + 1
             self.records += stream.records
             self.given += len(stream.given)
+            self.progress.tell(f"{self.runs:,} ways, now {stream.name}")
 
 
 # ---- where streams are cut
@@ -254,10 +259,10 @@ def main():
     if len(sys.argv) < 2:
         sys.exit(__doc__)
     words = sys.argv[2:]
-    seeds = [int(word) for word in words if word != "late"] or list(range(1, 11))
+    seeds = [number_in(word, "SEED") for word in words if word != "late"] or list(range(1, 11))
     if not os.path.exists(HERE + "/bin/runner_ref"):
         subprocess.run(["sh", HERE + "/build.sh"], check=True)
-    comparison = Comparison(os.path.abspath(sys.argv[1]), "late" in words)
+    comparison = Comparison(runner_at(sys.argv[1]), "late" in words)
     chance = random.Random(seeds[0])
     for stream in stored():
         comparison.compare(stream, ways(stream, chance, True))

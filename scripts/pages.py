@@ -3,6 +3,8 @@
 A fenced block is run when its mark is one of these; what it must say stands in the next block:
   records   one record a line, CRLF ended here; then `answers`
   sh        run at the top of the repository, with `runner` to call and a folder $OUT; then `output`
+  sh tool   the same, with `forgelilac` to call (tools/forgelilac) and the archive for `make install`; lines that
+            begin with `export` hold for the later ones of the page. Not run where there is no archive
   c, rust   a whole program, with header or package and the archive; then `output`
 Other blocks are not run.
 """
@@ -11,7 +13,8 @@ import subprocess
 import sys
 import tempfile
 
-EXPECTED = {"records": "answers", "sh": "output", "c": "output", "rust": "output"}
+EXPECTED = {"records": "answers", "sh": "output", "sh tool": "output", "c": "output", "rust": "output"}
+TOOL = "tools/forgelilac"
 
 
 def blocks_of(path):
@@ -46,7 +49,9 @@ class Workshop:
     def __init__(self, folder, runner, archive):
         self.folder, self.package = folder, f"{folder}/libforgelilac"
         self.linked = os.path.exists(archive)
-        self.environment = {**os.environ, "PATH": f"{folder}:{os.environ['PATH']}", "OUT": folder}
+        self.exports = ""
+        self.environment = {**os.environ, "PATH": f"{folder}:{os.environ['PATH']}", "OUT": folder,
+                            "ARCHIVE": os.path.realpath(archive), "FORGELILAC_ARCHIVE": os.path.realpath(archive)}
         os.symlink(runner, f"{folder}/runner")
         os.symlink(archive, f"{folder}/libforgelilac.a")
 
@@ -64,6 +69,21 @@ class Workshop:
     def sh(self, text):
         code, output = self.said(["sh", "-c", text])
         return code, output.replace("\r\n", "\n")
+
+    def sh_tool(self, text):
+        """Where there is an archive, with the tool built; else nothing is said."""
+        if not self.linked:
+            return 0, None
+        tool = f"{self.folder}/forgelilac"
+        if not os.path.exists(tool):
+            code, output = self.said(["cargo", "build", "-q", "--release", "--offline", "--locked", "--manifest-path",
+                                      f"{TOOL}/Cargo.toml"])
+            if code != 0:
+                return code, output
+            os.symlink(os.path.abspath(f"{TOOL}/target/release/forgelilac"), tool)
+        code, output = self.sh(self.exports + text)
+        self.exports += "".join(line for line in text.splitlines(True) if line.startswith("export "))
+        return code, output
 
     def c(self, text):
         link = ["-L", self.folder, "-lforgelilac"] if self.linked else ["-c"]
@@ -93,12 +113,13 @@ class Workshop:
 
 
 def run_pages(workshop, pages):
-    """How many examples of each mark ran, how many were wrong, how many only compiled."""
+    """How many examples of each mark ran, how many were wrong, how many were only compiled or not run."""
     counts, wrong, compiled = dict.fromkeys(EXPECTED, 0), 0, 0
     for page in pages:
+        workshop.exports = ""
         for line, mark, text, expected in examples_of(page):
             counts[mark] += 1
-            code, output = getattr(workshop, mark)(text)
+            code, output = getattr(workshop, mark.replace(" ", "_"))(text)
             if output is None:
                 compiled += 1
             elif (code, output) != (0, expected):
@@ -112,7 +133,7 @@ def main():
     with tempfile.TemporaryDirectory() as folder:
         counts, wrong, compiled = run_pages(Workshop(folder, runner, archive), pages)
     print(", ".join(f"{count} {mark}" for mark, count in counts.items()) + f": {wrong} wrong"
-          + (f", {compiled} only compiled (no archive)" if compiled else ""))
+          + (f", {compiled} only compiled or not run (no archive)" if compiled else ""))
     return 1 if wrong else 0
 
 

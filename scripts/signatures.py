@@ -5,15 +5,20 @@ A contract speaks of a function's parameters by their names; that a host hands t
 in the same way, no contract says. So this compares
   - the exported functions of CRATES, `#[unsafe(no_mangle)] pub extern "C" fn`,
   - the header, include/forgelilac.h,
-  - the Rust package, the module `abi` of bindings/rust/src/lent.rs:
+  - the Rust package, the modules `abi` of bindings/rust/src/lent.rs and, of owner's calls, of bindings/rust/src/owner.rs:
 the same names, of each the same parameters in the same order by name and type, and the same result. A stretch is two
 parameters for a host: `x: &[u32]` is `const uint32_t *x, size_t x_words`, `&mut` not const, and a row of records
-`row: &[CertificateRecord]` is `const struct forgelilac_certificate *row, size_t row_count`. The record has the same fields in
+`row: &[CertificateRecord]` is `const struct forgelilac_certificate *row, size_t row_count`, bytes `bytes: &[u8]` likewise. The record has the same fields in
 the same order, of the same type and at the same offset, and is laid out as C does (`repr(C)`).
 
+In the header each of these declarations begins with what its parameters ask for, so that a compiler tells a host's mistakes:
+FORGELILAC_CHECKED, then for each stretch FORGELILAC_READS where it is const, else FORGELILAC_CHANGES, or FORGELILAC_WRITES where
+it is not read before. And each function that answers a value and a refusal has its line behind FORGELILAC_ANSWERS.
+
 The version of header and archive stands in the header as text, FORGELILAC_VERSION, from which the Makefile takes it, and as
-three parts; in the package as the one that it is made for, ENGINE_VERSION; and as a heading of CHANGELOG.md, the newest that is
-not the package's. The package's own stands in Cargo.toml, in Cargo.lock, and as a heading of CHANGELOG.md. Each is the same.
+three parts; in the archive as a number, the constant VERSION of crates/host; in the package as the one that it is made for,
+ENGINE_VERSION; and as a heading of CHANGELOG.md, the newest that is not the package's. The format stands in the header, the
+archive, the package and docs/TABLES.md, and in the name of a function that the header calls, forgelilac_format_3. The package's own stands in Cargo.toml, in Cargo.lock, and as a heading of CHANGELOG.md. Each is the same.
 
 It exits 1 at the first difference, in words; else it says how many functions agree, and the version.
 """
@@ -22,14 +27,17 @@ import re
 import sys
 from pathlib import Path
 
-CRATES = ["host"]       # owned has functions too, which the header does not offer yet
+CRATES = ["host"]
 HEADER = "include/forgelilac.h"
 PACKAGE = "bindings/rust/src/lent.rs"
+OWNER = "bindings/rust/src/owner.rs"
 LAYOUT = "bindings/rust/src/layout.rs"
 VERSION = "bindings/rust/src/version.rs"
+ARCHIVE = "crates/host/src/versions.rt"
 RECORD = "crates/batching/src/rows.rt"
 RECORDS = {"CertificateRecord": "struct forgelilac_certificate"}       # the types of Rattle and of Rust, and C's name of each
-COMPUTED = {"forgelilac_table_words"}       # the package has it as a constant function, and does not link it
+COMPUTED = {"forgelilac_table_words", "forgelilac_stored_bytes"}       # the package has them as constant functions, and does not link them
+PLAIN = {"forgelilac_table_words", "forgelilac_stored_bytes"}       # answer a number of 64 bits, and no refusal
 VERSIONS = [        # each place that has the header's version, and the lines that have it: one, or one for each of its parts
     (HEADER, [r'^#define FORGELILAC_VERSION "(.*)"$']),
     (HEADER, [rf"^#define FORGELILAC_VERSION_{part} (\d+)$" for part in ("MAJOR", "MINOR", "PATCH")]),
@@ -40,6 +48,15 @@ PACKAGE_VERSIONS = [        # the same of the Rust package, which has a version 
     ("bindings/rust/Cargo.toml", [r'^version = "(.*)"$']),
     ("bindings/rust/Cargo.lock", [r'^name = "forgelilac"\nversion = "(.*)"$']),
     ("CHANGELOG.md", [r"^## (\d+\.\d+\.\d+) of the Rust package\b"]),
+]
+FORMATS = [        # the same of the format
+    (HEADER, [r"^#define FORGELILAC_FORMAT (\d+)$"]),
+    (HEADER, [r"return forgelilac_format_(\d+)\(\) == FORGELILAC_FORMAT$"]),
+    (ARCHIVE, [r"^const FORMAT: u32 = (\d+);$"]),
+    (ARCHIVE, [r'^pub extern "C" fn forgelilac_format_(\d+)\(\)']),
+    (LAYOUT, [r"^pub const FORMAT: u32 = (\d+);$"]),
+    ("bindings/rust/build.rs", [r'^const FORMAT: &str = "forgelilac_format_(\d+)";$']),
+    ("docs/TABLES.md", [r"^The format of these words has a number: \*\*(\d+)\*\* today"]),
 ]
 SIZES = {"uint8_t": 1, "uint16_t": 2, "uint32_t": 4, "uint64_t": 8}
 WORDS = {"u8": "uint8_t", "u16": "uint16_t", "u32": "uint32_t", "u64": "uint64_t", "usize": "size_t"}
@@ -76,8 +93,17 @@ def shown(parameter):
 class Function:
     """A function as C sees it: its parameters, each a type and a name, and its result."""
 
-    def __init__(self, name, parameters, result, place):
-        self.name, self.parameters, self.result, self.place = name, parameters, result, place
+    def __init__(self, name, parameters, result, place, marks=""):
+        self.name, self.parameters, self.result, self.place, self.marks = name, parameters, result, place, marks
+
+    def wanted_marks(self):
+        """What the header's declaration begins with: each alternative of a stretch that is written."""
+        wanted = ["FORGELILAC_CHECKED"]
+        for number, (kind, _) in enumerate(self.parameters, 1):
+            if kind.endswith("*"):
+                form = "READS" if kind.startswith("const ") else "(?:CHANGES|WRITES)"
+                wanted.append(rf"FORGELILAC_{form}\({number}, {number + 1}\)")
+        return " ".join(wanted)
 
 
 def in_words(kind, place):
@@ -95,7 +121,7 @@ def of_rattle(parameter, place):
     stretch = re.fullmatch(r"&(mut )?\[(\w+)\]", kind)
     if not stretch:
         return [(in_words(kind, place), name)]
-    length = f"{name}_count" if stretch[2] in RECORDS else f"{name}_words"
+    length = f"{name}_words" if stretch[2] in ("u32", "u64") else f"{name}_count"
     return [(f"{'' if stretch[1] else 'const '}{in_words(stretch[2], place)} *", name), ("size_t", length)]
 
 
@@ -113,7 +139,8 @@ def of_c(parameter, place):
 
 
 EXPORT = re.compile(r'#\[unsafe\(no_mangle\)\]\s*(?:#\[.*\]\s*)*pub extern "C" fn (\w+)\(([^)]*)\)(?:\s*->\s*(\w+))?')
-DECLARED = re.compile(r"^\s*(?!static\b)(\w+(?:\s+\w+)*?)\s+(forgelilac_\w+)\(([^)]*)\);", re.M)
+MARK = r"FORGELILAC_[A-Z]+(?:\(\d+, \d+\))?"
+DECLARED = re.compile(rf"^((?:{MARK}\s+)*)(?!static\b|FORGELILAC)(\w+(?:\s+\w+)*?)\s+(forgelilac_\w+)\(([^)]*)\);", re.M)
 LINKED = re.compile(r"pub fn (\w+)\(([^)]*)\)(?:\s*->\s*(\w+))?;")
 
 
@@ -137,19 +164,34 @@ def offered():
     text = re.sub(r"^#[^\n]*(?:\\\n[^\n]*)*", lambda found: "\n" * found[0].count("\n"), bare(text_of(HEADER)), flags=re.M)
     functions = {}
     for one in DECLARED.finditer(text):
-        place = f"{HEADER}:{line_of(text, one.start(2))}"
-        functions[one[2]] = Function(one[2], [of_c(parameter, place) for parameter in parts(one[3]) if parameter != "void"], one[1], place)
+        place = f"{HEADER}:{line_of(text, one.start(3))}"
+        parameters = [of_c(parameter, place) for parameter in parts(one[4]) if parameter != "void"]
+        functions[one[3]] = Function(one[3], parameters, one[2], place, " ".join(one[1].split()))
     return functions
+
+
+def marked(functions):
+    """The first declaration of the header without the marks of its parameters, or without its line for answers."""
+    answers = set(re.findall(r"^#define (forgelilac_\w+)\(\.\.\.\) forgelilac_answer_of\(\1\(__VA_ARGS__\)\)$", text_of(HEADER), re.M))
+    for name, function in functions.items():
+        wanted = function.wanted_marks()
+        if not re.fullmatch(wanted, function.marks):
+            readable = wanted.replace("\\", "").replace("(?:CHANGES|WRITES)", "CHANGES")
+            raise Different(f"{function.place}: {name} is to begin with {readable}, CHANGES or WRITES where it writes, and begins with "
+                            f"{function.marks or 'nothing'}")
+        if function.result == "uint64_t" and name not in PLAIN | answers:
+            raise Different(f"{function.place}: {name} has no line behind FORGELILAC_ANSWERS")
 
 
 def linked():
     """By the Rust package."""
-    text = bare(text_of(PACKAGE))
-    block = re.search(r'unsafe extern "C" \{(.*?)\n    \}', text, re.S)
     functions = {}
-    for one in LINKED.finditer(text, block.start(1), block.end(1)):
-        place = f"{PACKAGE}:{line_of(text, one.start(1))}"
-        functions[one[1]] = Function(one[1], [of_rust(parameter, place) for parameter in parts(one[2])], in_words(one[3], place) if one[3] else "void", place)
+    for path in (PACKAGE, OWNER):
+        text = bare(text_of(path))
+        block = re.search(r'unsafe extern "C" \{(.*?)\n    \}', text, re.S)
+        for one in LINKED.finditer(text, block.start(1), block.end(1)):
+            place = f"{path}:{line_of(text, one.start(1))}"
+            functions[one[1]] = Function(one[1], [of_rust(parameter, place) for parameter in parts(one[2])], in_words(one[3], place) if one[3] else "void", place)
     return functions
 
 
@@ -233,8 +275,8 @@ def same_record(one, other):
 # ---- the version
 
 
-def same_version(versions):
-    """The version, where each place has the same."""
+def same_version(versions, what="version"):
+    """The version, or what else it is, where each place has the same."""
     told = []
     for path, forms in versions:
         text = text_of(path)
@@ -245,27 +287,40 @@ def same_version(versions):
     (version, place), *others = told
     for other, there in others:
         if other != version:
-            raise Different(f"the version is {version} by {place}, and {other} by {there}")
+            raise Different(f"the {what} is {version} by {place}, and {other} by {there}")
     return version
+
+
+def same_number(version):
+    """The number that the archive tells is that of the version."""
+    told = re.search(r"^const VERSION: u32 = (\d+);$", text_of(ARCHIVE), re.M)
+    major, minor, patch = map(int, version.split("."))
+    number = 1_000_000 * major + 1_000 * minor + patch
+    if not told or int(told[1]) != number:
+        raise Different(f"{ARCHIVE}: VERSION is {told[1] if told else 'not there'}, and that of {version} is {number}")
 
 
 def main():
     os.chdir(Path(__file__).resolve().parents[1])
     try:
         engine = exported(CRATES)
-        same_functions(engine, offered(), HEADER)
-        same_functions(engine, linked(), PACKAGE, COMPUTED)
+        declared = offered()
+        same_functions(engine, declared, HEADER)
+        marked(declared)
+        same_functions(engine, linked(), f"{PACKAGE} or {OWNER}", COMPUTED)
         constants = {name: int(value.replace("_", "")) for name, value in re.findall(r"^pub const (\w+): usize = ([\d_]+);", text_of(LAYOUT), re.M)}
         record = of_struct(RECORD, {})
         same_record(record, of_header())
         same_record(record, of_struct(PACKAGE, constants))
         version, package = same_version(VERSIONS), same_version(PACKAGE_VERSIONS)
+        same_number(version)
+        form = same_version(FORMATS, "format")
     except Different as found:
         print(f"signatures.py: {found}", file=sys.stderr)
         return 1
     print(f"signatures: {len(engine)} functions are the same in {', '.join(f'crates/{crate}' for crate in CRATES)}, the header and the Rust package, "
           f"and so is the record, {len(record[0])} fields in {sum(count for _, _, count, _ in record[0])} words; "
-          f"the version is {version}, and that of the package {package}")
+          f"the version is {version}, the format {form}, and the version of the package {package}")
     return 0
 
 

@@ -6,6 +6,10 @@
 //! 4. where the variable `FORGELILAC_BUILD` is 1 and that file is not there, the same, made by `rt lib` in
 //!    crates/host, which proves the library first: it takes minutes. Nothing else starts a proof.
 //!
+//! Whichever it is, it must have the functions that the package calls, `forgelilac_format_3` among them, which
+//! only an archive of that format has; else the build ends and says which are missing. The version is tested
+//! when a member is opened or restored (`archive_version`).
+//!
 //! Where `DOCS_RS` is set, as it is at docs.rs, nothing is looked for: what is documented or checked there
 //! need not be linked.
 
@@ -26,15 +30,20 @@ fn main() {
     }
     println!("cargo:rerun-if-changed=build.rs");
     println!("cargo:rerun-if-changed=src/version.rs");
+    println!("cargo:rerun-if-changed=src/lent.rs");
     if env::var_os("DOCS_RS").is_some() {
         return;
     }
     let archive = named().or_else(installed).unwrap_or_else(in_the_tree);
     println!("cargo:rerun-if-changed={}", archive.display());
     let folder = PathBuf::from(env::var_os("OUT_DIR").expect("cargo sets it"));
-    if let Err(error) = fs::copy(&archive, folder.join("libforgelilac.a")) {
+    let bytes = fs::read(&archive).unwrap_or_else(|error| {
         let whole = if archive.is_relative() { "; FORGELILAC_ARCHIVE is to have its whole path" } else { "" };
-        fail(&format!("the engine's archive {} cannot be read: {error}{whole}", archive.display()));
+        fail(&format!("the engine's archive {} cannot be read: {error}{whole}", archive.display()))
+    });
+    test(&archive, &bytes);
+    if let Err(error) = fs::write(folder.join("libforgelilac.a"), bytes) {
+        fail(&format!("{} cannot be written: {error}", folder.display()));
     }
     println!("cargo:rustc-link-search=native={}", folder.display());
     println!("cargo:rustc-link-lib=static=forgelilac");
@@ -44,6 +53,49 @@ fn main() {
 fn fail(message: &str) -> ! {
     eprintln!("{message}");
     exit(1);
+}
+
+/// Ends the build where the archive lacks a function that the package calls.
+fn test(archive: &Path, bytes: &[u8]) {
+    let Some(offered) = index_of(bytes) else {
+        fail(&format!("{} is no archive with an index of its functions", archive.display()));
+    };
+    let missing: Vec<&str> = called().filter(|name| !offered.contains(&name.as_bytes())).collect();
+    let Some(first) = missing.first() else {
+        return;
+    };
+    let why = if missing.contains(&FORMAT) {
+        format!("it has no {FORMAT}, so it is of another format than this package, or of before 0.15.0")
+    } else {
+        format!("it has no {first}, so it is of an earlier version")
+    };
+    fail(&format!(
+        "the engine's archive {} is not the one that this package is made for, version {ENGINE_VERSION}: {why}",
+        archive.display()
+    ));
+}
+
+/// What only an archive of the package's format has.
+const FORMAT: &str = "forgelilac_format_3";
+
+/// The functions that the package calls: those of the module `abi`.
+fn called() -> impl Iterator<Item = &'static str> {
+    let declared = include_str!("src/lent.rs").split("pub fn ").skip(1);
+    declared.filter_map(|text| text.split('(').next()).filter(|name| name.starts_with("forgelilac_"))
+}
+
+/// The names in the index that stands first in an archive: after the magic word a header of 60 bytes with the
+/// length in ten of them, then how many names there are, four bytes for each, and the names, each ended by 0.
+fn index_of(bytes: &[u8]) -> Option<Vec<&[u8]>> {
+    let member = bytes.strip_prefix(b"!<arch>\n")?;
+    let (header, rest) = member.split_at_checked(60)?;
+    if !header.starts_with(b"/ ") {
+        return None;
+    }
+    let length: usize = std::str::from_utf8(&header[48..58]).ok()?.trim().parse().ok()?;
+    let (count, rest) = rest.get(..length)?.split_first_chunk()?;
+    let names = rest.get(4 * u32::from_be_bytes(*count) as usize..)?;
+    Some(names.split(|&byte| byte == 0).collect())
 }
 
 fn named() -> Option<PathBuf> {

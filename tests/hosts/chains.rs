@@ -13,6 +13,7 @@
 //! as no run has them. So is what a bond does to the shares, by `Engine::bond_effect`, `lent::bond_effect`
 //! and `forgelilac_bond_effect`; and what accesses to ports and a reset answer and leave in the table, by
 //! `Guest::port_read`, `lent::guest_port_read`, `forgelilac_guest_port_read` and those beside them.
+//! The archive has the version and the format of both, and a sheet that is written beyond its places is refused.
 //! Then a full state of ceiling 1,024, with times.
 
 #![allow(dead_code)]
@@ -25,7 +26,7 @@ mod words;
 use calls::Rng;
 use forgelilac::lent::{self, CertificateRecord, Place};
 use forgelilac::{layout, leader, Block, Certificate, Engine, Entry, Proposal, Refusal, Sheet, Transaction, MEMBERS};
-use forgelilac::{Critical, Effect, Member, Right, Rights, Round};
+use forgelilac::{Critical, Effect, Member, Right, Rights, Round, Words};
 use grow::*;
 use nodes::Node;
 use std::ffi::{c_char, CStr};
@@ -45,6 +46,9 @@ mod header {
         pub fn header_leader(round: u32, weights: *const u32) -> u32;
         pub fn header_refusal_text(number: u32) -> *const c_char;
         pub fn header_version() -> *const c_char;
+        pub fn header_version_number() -> u32;
+        pub fn header_answer_of(answer: u64, value: *mut u32) -> u32;
+        pub fn header_write(sheet: *mut u32, by_member: i32, place: u32, value: u32) -> u32;
         pub fn header_record_of(words: *const u32, record: *mut super::CertificateRecord);
         pub fn header_waiting(t: *const u32, guest: u32) -> u32;
         pub fn header_preview(s: *const u32, sn: usize, t: *const u32, tn: usize, list: *mut u32, n: usize) -> u64;
@@ -72,7 +76,7 @@ const NUMBERS: [usize; 88] = [
     layout::ROW_HELD, layout::ROW_ENDORSED, layout::ROW_BLOCK, layout::ROW_RECORDS,
     layout::RECORD_WORDS, layout::RECORD_PREVIOUS, layout::RECORD_COUNT, layout::RECORD_BLOCK,
     layout::RECORD_ENDORSERS, layout::RECORD_TRANSACTIONS, layout::row(7),
-    layout::record(Member::new(5), Round::new(7)), forgelilac::table_words(64) as usize, 3 * MEMBERS * 64,
+    layout::record(Member::new(5), Round::new(7)), forgelilac::table_words(64) as usize, layout::rows_words(64),
     layout::BATCH_RECORDS, size_of::<CertificateRecord>(), layout::GUESTS, layout::QUEUE_PLACES,
     layout::TRANSACTION_WORDS, layout::SERVED, layout::WAITING, layout::queue(0), layout::queue(7),
     layout::ENTRY_WORDS, layout::ENTRY_BLOCK, layout::ENTRY_ROUND, layout::ENTRY_AUTHOR, layout::preview_words(64),
@@ -105,6 +109,14 @@ fn compare_header() {
     // SAFETY: numbers in, numbers and literals out; 17 words, and a record of as many.
     unsafe {
         assert_eq!(text(header::header_version()), forgelilac::ENGINE_VERSION);
+        let (major, minor, patch) = forgelilac::archive_version();
+        assert_eq!(header::header_version_number(), 1_000_000 * major + 1_000 * minor + patch);
+        assert_eq!(format!("{major}.{minor}.{patch}"), forgelilac::ENGINE_VERSION);
+        assert_eq!(forgelilac::archive_format(), layout::FORMAT);
+        for (answer, parts) in [(0, (0, 0)), (7, (0, 7)), (9 << 32, (9, 0)), (u64::MAX, (u32::MAX, u32::MAX))] {
+            let mut value = 77;
+            assert_eq!((header::header_answer_of(answer, &mut value), value), parts);
+        }
         for (which, number) in (0..).zip(NUMBERS) {
             assert_eq!(header::header_number(which) as usize, number, "number {which}");
         }
@@ -130,11 +142,60 @@ fn compare_header() {
     }
 }
 
+/// A sheet that the header writes is the package's; beyond the settings and the members it is refused, writes
+/// nothing beyond its words, and the sheet opens nothing any more, whatever is written to it then.
+fn compare_sheets() {
+    let write = |sheet: &mut [u32], by_member, place, value| {
+        // SAFETY: forty words and some more.
+        unsafe { header::header_write(sheet.as_mut_ptr(), by_member, place, value) }
+    };
+    let opened = |sheet: &[u32]| {
+        let (mut state, mut table) = ([0; STATE_WORDS], vec![0; words::table_words(64)]);
+        lent::open(&mut state, &mut table, Member::new(0), &sheet[..layout::SHEET_WORDS], 0)
+    };
+    let mut by_header = [0; layout::SHEET_WORDS + 200];
+    by_header[layout::SHEET_WORDS..].fill(77);
+    let weights = std::array::from_fn(|member| Some(5 + member as u32));
+    let by_package = Sheet { ceiling: Some(64), margin: Some(4), weights, lookback: None, allowance: Some(2) };
+    for (by_member, place, value) in
+        [(0, 1, 64), (0, 2, 2), (0, 19, 4)].into_iter().chain((0..16).map(|member| (1, member, 5 + member)))
+    {
+        assert_eq!(write(&mut by_header, by_member, place, value), 0);
+    }
+    assert_eq!(by_header[..layout::SHEET_WORDS], by_package.to_words());
+    assert_eq!(opened(&by_header), Ok(()));
+    for (by_member, place, refusal) in [(0, 20, 2), (0, 119, 2), (0, u32::MAX, 2), (1, 16, 4), (1, 19, 4), (1, u32::MAX, 4)] {
+        let mut sheet = by_header;
+        assert_eq!(write(&mut sheet, by_member, place, 4), refusal);
+        assert_eq!(sheet[1..], by_header[1..]);
+        assert_eq!(opened(&sheet), Err(Refusal::Malformed));
+        // Told of no other place either.
+        assert_eq!((write(&mut sheet, 0, 0, 20), write(&mut sheet, 1, 3, 1)), (2, 2));
+        assert_eq!(sheet[1..], by_header[1..]);
+        assert_eq!(opened(&sheet), Err(Refusal::Malformed));
+    }
+}
+
+/// Leaders of rounds by weights at and about 0, as header, package and reference have them.
+fn compare_leaders(rng: &mut Rng) {
+    for turn in 0..1_000_000 {
+        let weights: [u32; MEMBERS] = std::array::from_fn(|_| rng.pick(&[0, 0, 1, 2, 1_000, 81_536_000, u32::MAX]));
+        let round = if turn % 50 == 0 { rng.pick(&[0, 1, 2, u32::MAX - 1, u32::MAX]) } else { rng.between(0, 1_100) };
+        let committee: reference::Committee = weights.map(Into::into);
+        // The reference is asked of even rounds alone.
+        let expected = if round % 2 == 0 && round > 0 { reference::leader(round, &committee) } else { None };
+        // SAFETY: sixteen weights.
+        let found = unsafe { header::header_leader(round, weights.as_ptr()) };
+        assert_eq!(found, expected.unwrap_or(MEMBERS as u32));
+        assert_eq!(leader(Round::new(round), &weights).map(Member::get), expected);
+    }
+}
+
 // -------------------------------------------------------------- listing ---
 
 /// The chain by reads alone: one for each place up to the last block's round, one for each block, one
 /// committee for each block.
-fn by_reads(engine: &Engine) -> Result<Vec<Block>, Refusal> {
+fn by_reads<W: Words>(engine: &Engine<W>) -> Result<Vec<Block>, Refusal> {
     let rounds = (1..=engine.blocks()).map(|number| engine.block(number));
     let empty = |round| Block { round, certificates: Vec::new() };
     let mut chain = rounds.map(|round| round.map(empty)).collect::<Result<Vec<_>, _>>()?;
@@ -202,6 +263,8 @@ struct Figures {
     /// Previews that were accepted, and their entries.
     previewed: u64,
     entries: u64,
+    /// Those that an engine could own.
+    owned: u64,
     /// Lists of what a commit hangs on that were accepted, their places, and those of certificates that
     /// are in a block already; lists without the anchor, and with more than it and votes.
     criticals: u64,
@@ -215,7 +278,7 @@ struct Figures {
     ports: [u64; 6],
     /// States of before there was a margin, and of before there were rights, that were brought along.
     brought: [u64; 2],
-    /// Chains asked for by guests: listed, refused with 1, 26 and 29.
+    /// Chains asked for by guests: listed, refused with 1 or 25, with 26 and with 29.
     guests: [u64; 4],
 }
 
@@ -223,28 +286,41 @@ impl Figures {
     fn compare(&mut self, node: &Node) {
         let (state, table) = (&node.state[..], &node.table[..]);
         let words: [u32; STATE_WORDS] = state[..STATE_WORDS].try_into().unwrap();
-        let engine = Engine::restore(words, table.to_vec());
+        // Where no calls leave the words so, each call of the engine tests them.
+        match Engine::try_restore(words, table.to_vec()) {
+            Ok(engine) => {
+                self.owned += 1;
+                self.compare_engine(node, &engine);
+            }
+            Err(refusal) => {
+                assert_eq!(refusal, Refusal::Malformed);
+                self.compare_engine(node, &Engine::lent(words, table.to_vec()));
+            }
+        }
+    }
+
+    fn compare_engine<W: Words>(&mut self, node: &Node, engine: &Engine<W>) {
+        let (state, table) = (&node.state[..], &node.table[..]);
         self.states += 1;
         self.large += u64::from(table.len() >= words::table_words(forgelilac::CEILING));
         // SAFETY: whole slices.
         let formed = unsafe { header::header_is_well_formed(state.as_ptr(), state.len(), table.as_ptr(), table.len()) };
         assert_eq!((formed == 1, engine.is_well_formed()), (node.twin.is_some(), node.twin.is_some()));
         self.compare_before(node);
-        self.compare_rights(node, &engine);
-        self.compare_guest(node, &engine);
-        self.compare_waiting(node, &engine);
-        compare_held(node, &engine);
-        self.compare_previews(node, &engine);
+        self.compare_rights(node, engine);
+        self.compare_guest(node, engine);
+        self.compare_waiting(node, engine);
+        compare_held(node, engine);
+        self.compare_previews(node, engine);
         self.compare_criticals(node, engine.clone());
-        self.compare_effects(node, &engine);
+        self.compare_effects(node, engine);
         self.compare_ports(node, engine.clone());
         let Some(twin) = &node.twin else {
             self.malformed += 1;
             self.without_blocks += u64::from(engine.blocks() == 0);
             assert_eq!(engine.chain(), Err(Refusal::Malformed));
-            assert_eq!(lent::chain(state, table, &mut [Place::default(); 9]), Err(Refusal::Malformed));
-            assert_eq!(by_header(None, state, table, 9), Err(1));
-            assert_eq!(Engine::try_restore(words, table.to_vec()), Err(Refusal::Malformed));
+            assert_eq!(lent::chain(state, table, &mut [0; 54]), Err(Refusal::Malformed));
+            assert_eq!(by_header(None, state, table, 54), Err(1));
             return;
         };
         let of_twin = |(block, made): (u32, &reference::Block)| {
@@ -263,7 +339,7 @@ impl Figures {
             self.above += 1;
         } else {
             self.by_reads += 1;
-            assert_eq!(by_reads(&engine), Ok(expected));
+            assert_eq!(by_reads(engine), Ok(expected));
         }
     }
 
@@ -290,7 +366,7 @@ impl Figures {
     }
 
     /// Rights as header, package and reference tell them.
-    fn compare_rights(&mut self, node: &Node, engine: &Engine) {
+    fn compare_rights<W: Words>(&mut self, node: &Node, engine: &Engine<W>) {
         let (state, rights) = (&node.state[..], words::rights_in(&node.state));
         assert_eq!(lent::rights(state), engine.rights());
         assert_eq!(engine.rights().to_word(), state[layout::STATE_RIGHTS]);
@@ -311,27 +387,27 @@ impl Figures {
 
     /// The chain as a guest lists it: as the host does with the read right, else not at all. At times the
     /// list is short.
-    fn compare_guest(&mut self, node: &Node, engine: &Engine) {
+    fn compare_guest<W: Words>(&mut self, node: &Node, engine: &Engine<W>) {
         let (state, table) = (&node.state[..], &node.table[..]);
         let caller = (self.states % 10) as u32;
         let ceiling = node.twin.as_ref().map_or(3, |twin| twin.settings.ceiling as usize);
-        let room = if self.states % 7 == 0 { 1 } else { MEMBERS * ceiling };
+        let room = layout::HELD_WORDS * if self.states % 7 == 0 { 1 } else { MEMBERS * ceiling };
         let may = reference::may_ask(&words::rights_in(state), caller, reference::Request::Block);
         let expected = may.and_then(|()| engine.chain().map_err(Refusal::number));
         assert_eq!(engine.reader(caller).chain().map_err(Refusal::number), expected);
-        let mut list = vec![Place { block: 77, round: Round::new(77), author: Member::new(77) }; room];
+        let mut list = vec![77; room];
         let mut by_host = list.clone();
         let expected = may.and_then(|()| lent::chain(state, table, &mut by_host).map_err(Refusal::number));
         assert_eq!(lent::guest_chain(caller, state, table, &mut list).map_err(Refusal::number), expected);
         assert!(list == by_host);
-        let by_host = may.and_then(|()| by_header(None, state, table, 3 * room));
-        assert!(by_header(Some(caller), state, table, 3 * room) == by_host);
-        self.guests[match expected { Ok(_) => 0, Err(1) => 1, Err(26) => 2, _ => 3 }] += 1;
+        let by_host = may.and_then(|()| by_header(None, state, table, room));
+        assert!(by_header(Some(caller), state, table, room) == by_host);
+        self.guests[match expected { Ok(_) => 0, Err(1 | 25) => 1, Err(26) => 2, _ => 3 }] += 1;
     }
 
     /// What a commit would add, as package, header and reference have it, into a list that is just
     /// long enough, longer, and one word short.
-    fn compare_previews(&mut self, node: &Node, engine: &Engine) {
+    fn compare_previews<W: Words>(&mut self, node: &Node, engine: &Engine<W>) {
         let (state, table) = (&node.state[..], &node.table[..]);
         let needed = layout::preview_words(state[layout::STATE_CEILING].clamp(3, forgelilac::CEILING));
         for words in [needed, needed + 2, needed - 1] {
@@ -359,7 +435,7 @@ impl Figures {
 
     /// What a commit hangs on, as package, header and reference have it, into a list that is just long
     /// enough, longer, and one word short. The table is lent for writing, and is then as it was.
-    fn compare_criticals(&mut self, node: &Node, mut engine: Engine) {
+    fn compare_criticals<W: Words>(&mut self, node: &Node, mut engine: Engine<W>) {
         let state = &node.state[..];
         for words in [layout::CRITICAL_WORDS, layout::CRITICAL_WORDS + 1, layout::CRITICAL_WORDS - 1] {
             let mut expected = vec![77; words];
@@ -392,7 +468,7 @@ impl Figures {
 
     /// What a bond does to the shares, as package, header and reference have it, into a stretch that is
     /// just long enough, longer, and one word short.
-    fn compare_effects(&mut self, node: &Node, engine: &Engine) {
+    fn compare_effects<W: Words>(&mut self, node: &Node, engine: &Engine<W>) {
         let (state, table) = (&node.state[..], &node.table[..]);
         let known = node.twin.as_ref().map_or(1, |twin| twin.settings.lookback + twin.last_block_round() + 2);
         let bonds = [(0, 1, 1), (5, known, 16), (15, known, 1_000), (15, known + 1, 7), (3, 1, 0), (3, 1, 1_001), (3, 0, 0), (16, 0, 0)];
@@ -421,7 +497,7 @@ impl Figures {
 
     /// Accesses to a port and a reset of it, as package, header and reference have them: what they answer, and
     /// the table after them.
-    fn compare_ports(&mut self, node: &Node, mut engine: Engine) {
+    fn compare_ports<W: Words>(&mut self, node: &Node, mut engine: Engine<W>) {
         let caller = (self.states % 9) as u32;
         let (state, mut twin) = (&node.state[..], node.twin.clone());
         let (mut lent_table, mut header_table) = (node.table.clone(), node.table.clone());
@@ -455,7 +531,7 @@ impl Figures {
             self.ports[1] += u64::from(stands(&lent_table) != before);
             self.ports[match expected { Ok(_) => 0, Err(1) => 2, Err(26) => 3, Err(29) => 4, Err(_) => 5 }] += 1;
         }
-        let same = |engine: &Engine, lent_table: &[u32], header_table: &[u32], twin: &Option<reference::Member>| {
+        let same = |engine: &Engine<W>, lent_table: &[u32], header_table: &[u32], twin: &Option<reference::Member>| {
             let mut table = node.table.clone();
             twin.iter().for_each(|twin| words::write_table(twin, &mut table));
             assert!(engine.words().1 == table && lent_table == table && header_table == table);
@@ -486,7 +562,7 @@ impl Figures {
     }
 
     /// How many wait, as package, header and reference have it; refused where the state is malformed.
-    fn compare_waiting(&mut self, node: &Node, engine: &Engine) {
+    fn compare_waiting<W: Words>(&mut self, node: &Node, engine: &Engine<W>) {
         for guest in [0, 1, 2, 3, 4, 5, 6, 7, 8, 9, u32::MAX] {
             let found = (engine.waiting(guest), lent::waiting(&node.state, &node.table, guest));
             let expected = match &node.twin {
@@ -504,24 +580,25 @@ impl Figures {
 
     /// The two that write to a list: one that is just long enough, longer, too short.
     fn compare_lent(&mut self, state: &[u32], table: &[u32], expected: &[Place]) {
-        let (count, blank) = (expected.len(), Place { block: 77, round: Round::new(77), author: Member::new(77) });
+        let (count, rows) = (expected.len(), layout::HELD_WORDS * expected.len());
         self.certificates += count as u64;
         for more in [0, 3] {
-            let mut list = vec![blank; count + more];
-            assert_eq!(lent::chain(state, table, &mut list), Ok(count));
-            assert!(list[..count] == *expected && list[count..].iter().all(|&place| place == blank));
-            let (found, out) = by_header(None, state, table, 3 * count + more).unwrap();
+            let mut list = vec![77; rows + more];
+            assert_eq!(lent::chain(state, table, &mut list), Ok(count as u32));
+            assert!(lent::places(&list, count as u32).eq(expected.iter().copied()));
+            assert!(list[rows..].iter().all(|&word| word == 77));
+            let (found, out) = by_header(None, state, table, rows + more).unwrap();
             assert_eq!(found, count);
             let place = |w: &[u32]| Place { block: w[0], round: Round::new(w[1]), author: Member::new(w[2]) };
             let places = out.chunks_exact(3).map(place);
             assert!(places.take(count).eq(expected.iter().copied()));
-            assert!(out[3 * count..].iter().all(|&word| word == 77));
+            assert!(out[rows..].iter().all(|&word| word == 77));
         }
         if count > 0 {
-            let mut list = vec![blank; count - 1];
-            assert_eq!(lent::chain(state, table, &mut list), Err(Refusal::Malformed));
-            assert!(list.iter().all(|&place| place == blank));
-            assert_eq!(by_header(None, state, table, 3 * count - 1), Err(1));
+            let mut list = vec![77; rows - 1];
+            assert_eq!(lent::chain(state, table, &mut list), Err(Refusal::LengthRange));
+            assert!(list.iter().all(|&word| word == 77));
+            assert_eq!(by_header(None, state, table, rows - 1), Err(25));
         }
     }
 }
@@ -529,7 +606,7 @@ impl Figures {
 // --------------------------------------------------------------- a full one ---
 
 /// The held set of each round, as package and reference have it, and none out of range.
-fn compare_held(node: &Node, engine: &Engine) {
+fn compare_held<W: Words>(node: &Node, engine: &Engine<W>) {
     let Some(twin) = &node.twin else { return };
     let ceiling = twin.settings.ceiling;
     for round in (0..=ceiling + 1).chain([u32::MAX]) {
@@ -583,11 +660,11 @@ fn time_full() {
     let expected = engine.chain().unwrap();
     assert_eq!(by_reads(&engine).as_ref(), Ok(&expected));
     let count = flat(&expected).len();
-    let mut list = vec![Place::default(); count];
-    let validating = best(20, || assert_eq!(engine.block(0), Err(Refusal::NoneThere)));
+    let mut list = vec![0; layout::HELD_WORDS * count];
+    let validating = best(20, || assert_eq!(lent::block(state, table, 0), Err(Refusal::NoneThere)));
     let owned = best(20, || assert_eq!(engine.chain().unwrap().len(), expected.len()));
-    let lent = best(20, || assert_eq!(lent::chain(state, table, &mut list), Ok(count)));
-    let header = best(20, || assert_eq!(by_header(None, state, table, 3 * count).unwrap().0, count));
+    let lent = best(20, || assert_eq!(lent::chain(state, table, &mut list), Ok(count as u32)));
+    let header = best(20, || assert_eq!(by_header(None, state, table, layout::HELD_WORDS * count).unwrap().0, count));
     let reads = best(3, || assert_eq!(by_reads(&engine).unwrap().len(), expected.len()));
     println!("full state of ceiling 1,024: {} blocks of {count} certificates", expected.len());
     println!("by reads alone {:.0} ms; one read that tests the state {validating:.0} us", reads / 1e3);
@@ -630,7 +707,9 @@ fn main() {
     let seed = arguments.next().map_or(1, |a| a.parse().expect("SEED is a number"));
     let states = arguments.next().map_or(2_000, |a| a.parse().expect("STATES is a number"));
     compare_header();
+    compare_sheets();
     let (mut rng, mut figures) = (Rng::of(seed), Figures::default());
+    compare_leaders(&mut rng);
     while figures.states < states {
         // One plan of fifty has a ceiling of 1,024.
         let mut plan = Plan::any(&mut rng);
@@ -641,7 +720,9 @@ fn main() {
         let to = rng.between(1, plan.ceiling);
         let member = grow(&mut rng, opened, to, &plan);
         let node = Node::of(member.clone(), &mut rng);
+        let owned = figures.owned;
         figures.compare(&node);
+        assert!(figures.owned > owned, "a state that calls lead to is resumed");
         for turn in 0..3 {
             let mut copy = node.clone();
             if rng.chance(200) {
@@ -679,6 +760,7 @@ fn main() {
              f.effects[0], f.effects[1]);
     let [accepted, bytes, malformed, above, without, offsets] = f.ports;
     println!("{accepted} accesses to ports accepted, {bytes} of them took a byte; refused: 1 x {malformed}, 26 x {above}, 29 x {without}, 31 x {offsets}: as the reference has them");
+    println!("{} states owned by an engine, {} looked at in each call", f.owned, f.states - f.owned);
     println!("without their margins all are refused with 1; {} of them brought along, by margin 3", f.brought[0]);
     println!("without their rights all are refused with 1; {} of them brought along, with any rights", f.brought[1]);
     let [listed, malformed, above, without] = f.guests;

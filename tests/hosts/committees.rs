@@ -4,7 +4,6 @@
 //! ceiling. reference/owners.py compares the register of plant owners with these lines.
 
 use forgelilac::{table_words, Certificate, Engine, Member, Proposal, Refusal, Rights, Round, Sheet, Transaction};
-use forgelilac::STATE_WORDS;
 use reference::runner::{for_each_record, read_record, Record, SERVES};
 use reference::Setting;
 use std::io::{stdin, stdout, BufWriter, Write};
@@ -37,23 +36,23 @@ fn proposal(one: &reference::Proposal) -> Proposal {
     Proposal { author, round, previous: one.previous, transactions: transactions(&one.transactions) }
 }
 
-/// An engine, and the lookback that it was opened with.
+/// An engine, once an open was accepted, and the lookback that it was opened with.
 struct Opened {
-    engine: Engine,
+    engine: Option<Engine>,
     lookback: u32,
 }
 
 impl Opened {
     /// What a record does; a listing does nothing.
     fn take(&mut self, record: &Record) -> Result<(), Refusal> {
-        let engine = &mut self.engine;
+        if let Record::Open { own, sheet: written } = record {
+            let table = vec![0; table_words(SERVES) as usize];
+            self.engine = Some(Engine::open_on(table, Member::new(*own), &sheet(written), Rights::NONE)?);
+            self.lookback = sheet(written).lookback.unwrap_or(20);
+        }
+        let engine = self.engine.as_mut().ok_or(Refusal::Malformed)?;
         match record {
-            Record::Open { own, sheet: written } => {
-                let table = vec![0; table_words(SERVES) as usize];
-                self.engine = Engine::open_on(table, Member::new(*own), &sheet(written), Rights::NONE)?;
-                self.lookback = sheet(written).lookback.unwrap_or(20);
-                Ok(())
-            }
+            Record::Open { .. } => Ok(()),
             Record::Propose { previous, transactions: all } => engine.propose(*previous, &transactions(all)),
             Record::Endorse(one) => engine.endorse(&proposal(one)),
             Record::Certify { endorsers } => engine.certify(*endorsers),
@@ -68,7 +67,7 @@ impl Opened {
 }
 
 fn main() -> std::io::Result<()> {
-    let mut opened = Opened { engine: Engine::restore([u32::MAX; STATE_WORDS], Vec::new()), lookback: 0 };
+    let mut opened = Opened { engine: None, lookback: 0 };
     for_each_record(&mut stdin().lock(), |text| {
         // A refused record changes nothing.
         text.and_then(read_record).map(|record| opened.take(&record).is_ok());
@@ -76,10 +75,11 @@ fn main() -> std::io::Result<()> {
     })?;
     let mut out = BufWriter::new(stdout().lock());
     // No open was accepted: no chain.
-    let Ok(chain) = opened.engine.chain() else { return Ok(()) };
+    let Some(engine) = opened.engine else { return Ok(()) };
+    let chain = engine.chain().expect("an engine that was opened has one");
     for (number, block) in (1..).zip(chain) {
         write!(out, "{number},{}", block.round)?;
-        match opened.engine.committee(Round::new(opened.lookback + block.round.get() + 1)) {
+        match engine.committee(Round::new(opened.lookback + block.round.get() + 1)) {
             Ok(weights) => weights.iter().try_for_each(|weight| write!(out, ",{weight}"))?,
             Err(refusal) => assert_eq!(refusal.number(), 5, "a round from which on a block counts is known"),
         }

@@ -11,6 +11,9 @@ uint32_t header_rights(uint32_t propose, uint32_t sign, uint32_t drive, uint32_t
 uint32_t header_leader(uint32_t round, const uint32_t *weights);
 const char *header_refusal_text(uint32_t number);
 const char *header_version(void);
+uint32_t header_version_number(void);
+uint32_t header_answer_of(uint64_t answer, uint32_t *value);
+uint32_t header_write(uint32_t *sheet, int by_member, uint32_t place, uint32_t value);
 void header_record_of(const uint32_t *words, struct forgelilac_certificate *record);
 uint32_t header_waiting(const uint32_t *table, uint32_t guest);
 uint64_t header_preview(const uint32_t *state, size_t state_words, const uint32_t *table, size_t table_words,
@@ -54,6 +57,19 @@ uint32_t header_leader(uint32_t round, const uint32_t *weights) { return forgeli
 const char *header_refusal_text(uint32_t number) { return forgelilac_refusal_text(number); }
 
 const char *header_version(void) { return FORGELILAC_VERSION; }
+
+uint32_t header_version_number(void) { return FORGELILAC_VERSION_NUMBER; }
+
+uint32_t header_answer_of(uint64_t answer, uint32_t *value) {
+    struct forgelilac_answer both = forgelilac_answer_of(answer);
+    *value = both.value;
+    return both.refusal;
+}
+
+/* A setting, or where by_member is set a member's weight. */
+uint32_t header_write(uint32_t *sheet, int by_member, uint32_t place, uint32_t value) {
+    return by_member ? forgelilac_write_weight(sheet, place, value) : forgelilac_write_setting(sheet, place, value);
+}
 
 void header_record_of(const uint32_t *words, struct forgelilac_certificate *record) {
     *record = forgelilac_record_of(words);

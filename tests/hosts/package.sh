@@ -6,7 +6,11 @@
 # the package's reads of committees, seeds 1 to OWNERS (100).
 set -eu
 top=$(cd "$(dirname "$0")/../.." && pwd)
-archive=$(realpath "${1:-$top/crates/host/out/libhost.a}")
+archive=$(realpath -m "${1:-$top/crates/host/out/libhost.a}")
+[ -f "$archive" ] || { echo "package.sh: there is no archive $archive: make it by 'cd crates/host && rt lib', or name another" >&2; exit 2; }
+for tool in gcc ar rustc python3; do
+    command -v $tool > /dev/null || { echo "package.sh: $tool is not here, and it is needed" >&2; exit 2; }
+done
 seeds=${2:-20}
 states=${3:-2000}
 calls=${4:-100000}

@@ -12,7 +12,7 @@
 
 use forgelilac::layout::{preview_words, CRITICAL_WORDS, OFFSET_DATA, OFFSET_STATUS};
 use forgelilac::{table_words, Block, Certificate, Critical, Effect, Engine, Entry, Held, Member, Proposal, Refusal};
-use forgelilac::{Right, Rights, Round, Sheet, Transaction, MEMBERS, STATE_WORDS};
+use forgelilac::{Right, Rights, Round, Sheet, Transaction, Words, MEMBERS, STATE_WORDS};
 use reference::runner::{for_each_record, read_record, Outcome, Record, Runner, SERVES};
 use reference::Setting;
 use std::fmt::{Debug, Write};
@@ -118,8 +118,30 @@ fn blocks_above(engine: &Engine, number: u32) -> Result<Vec<Entry>, Refusal> {
     Ok(engine.chain()?.into_iter().skip(number as usize).flat_map(|block| block.certificates).collect())
 }
 
+/// An engine's answer to a record that opens nothing.
+fn answer_of<W: Words>(engine: &mut Engine<W>, record: &Record) -> Outcome {
+    match record {
+        Record::Open { .. } => unreachable!("an open makes an engine"),
+        Record::Propose { previous, transactions } => {
+            let all: Vec<_> = transactions.iter().map(transaction).collect();
+            outcome(engine.propose(*previous, &all))
+        }
+        Record::Endorse(one) => outcome(engine.endorse(&proposal(one))),
+        Record::Certify { endorsers } => outcome(engine.certify(*endorsers)),
+        Record::Accept(one) => {
+            let certificate = Certificate { proposal: proposal(&one.proposal), endorsers: one.endorsers };
+            outcome(engine.accept(&certificate))
+        }
+        Record::Advance => outcome(engine.advance()),
+        Record::Commit => counted(engine.commit()),
+        Record::Chain => outcome(engine.chain().map(|_| ())),
+    }
+}
+
 /// Both sides of a replay, and how much was compared.
 struct Replay {
+    /// Whether an open was accepted: before, the engine is any, and not asked.
+    opened: bool,
     engine: Engine,
     runner: Runner,
     records: u64,
@@ -151,10 +173,11 @@ struct Replay {
 
 impl Replay {
     fn new() -> Replay {
-        let closed = Engine::restore([u32::MAX; STATE_WORDS], Vec::new());
+        let engine = Engine::open(Member::new(0), &Sheet::default()).expect("a blank sheet is fine");
         let runner = Runner::default();
         Replay {
-            engine: closed,
+            opened: false,
+            engine,
             runner,
             records: 0,
             reads: 0,
@@ -179,7 +202,7 @@ impl Replay {
     fn open(&mut self, own: u32, settings: &reference::Sheet) -> Outcome {
         let table = vec![0; table_words(SERVES) as usize];
         outcome(Engine::open_on(table, Member::new(own), &sheet(settings), RIGHTS).map(|engine| {
-            self.engine = engine;
+            (self.engine, self.opened) = (engine, true);
             self.received.clear();
         }))
     }
@@ -208,24 +231,12 @@ impl Replay {
         }
     }
 
-    /// The engine's answer to a readable record.
+    /// The engine's answer to a readable record; before an accepted open that of words that are no member's.
     fn answer(&mut self, record: &Record) -> Outcome {
-        let engine = &mut self.engine;
         match record {
             Record::Open { own, sheet } => self.open(*own, sheet),
-            Record::Propose { previous, transactions } => {
-                let all: Vec<_> = transactions.iter().map(transaction).collect();
-                outcome(engine.propose(*previous, &all))
-            }
-            Record::Endorse(one) => outcome(engine.endorse(&proposal(one))),
-            Record::Certify { endorsers } => outcome(engine.certify(*endorsers)),
-            Record::Accept(one) => {
-                let certificate = Certificate { proposal: proposal(&one.proposal), endorsers: one.endorsers };
-                outcome(engine.accept(&certificate))
-            }
-            Record::Advance => outcome(engine.advance()),
-            Record::Commit => counted(engine.commit()),
-            Record::Chain => outcome(engine.chain().map(|_| ())),
+            _ if !self.opened => answer_of(&mut Engine::lent([u32::MAX; STATE_WORDS], Vec::new()), record),
+            _ => answer_of(&mut self.engine, record),
         }
     }
 
@@ -410,6 +421,7 @@ fn main() -> std::io::Result<()> {
             Ok(())
         })?;
         replay.read_all();
+        assert!(replay.engine.is_well_formed(), "kept committees are not those of the words after {} records", replay.records);
         streams += 1;
         records += replay.records;
         reads += replay.reads;

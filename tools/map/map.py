@@ -12,7 +12,6 @@ import sys
 
 sys.dont_write_bytecode = True      # leave no folder beside the sources
 TOP = os.path.normpath(os.path.join(os.path.dirname(os.path.abspath(__file__)), "..", ".."))
-sys.path.insert(1, os.path.join(TOP, "tools", "draw"))
 
 from floors import bands_of, parted, rows_of
 from letters import balanced, wide, wrapped

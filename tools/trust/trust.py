@@ -36,7 +36,7 @@ import rt as source
 import tree
 
 HOST = "unsafe(no_mangle)"
-RUNNER = ["serving::serve_streams", "serving::run"]
+RUNNER = ["serving::serve_streams", "stream::run::run"]
 RUNS = ["runs::make", "runs::run", "host::runs::make", "host::runs::run"]  # theorems on code: their contracts are read with those of the theorems
 PAGE = "docs/TRUST.md"
 README = "README.md"
@@ -58,7 +58,7 @@ A proof says that code does what a definition says. Whether the definition says 
 
 ## In an hour
 
-To see that all of it is proved, start `bash .ci/run` before you read: it takes about as long, some 50 minutes from nothing (README.md, "Commands").
+To see that all of it is proved, start `bash .ci/run` before you read: it takes about as long, somewhat over an hour from nothing (README.md, "Commands").
 
 Definitions are written in Rattle's logic:
 
@@ -97,11 +97,11 @@ After the hour: what this page says of the runner, the rest of the definitions o
 
 A theorem is a function that takes nothing and does nothing: its clauses are all that it is. Theorems stand in src/theorems.rt of the crates that they speak of, in src/lib.rt of `kept`, `library` and `span_claims`, and in src/ of `wordclaims`. Names in brackets are definitions of the list below.
 
-**The library.** Each function that a host links, on any words and lengths: its answer and every word that it leaves are those of its contract (`Done`, hosting/specs/Calls). The length of a table is a number alone. Owner's functions (`owned`), which no header offers yet, have one premise, that their words are as calls left them (`Owned`, owned/specs/Owned), and promise the same and that premise again. `forgelilac_owned_resume` promises the premise where it answers 0, and nothing where it does not.
+**The library.** Each function that a host links, on any words and lengths: its answer and every word that it leaves are those of its contract (`Done`, hosting/specs/Calls). The length of a table is a number alone. Owner's functions have one premise, that their words are as calls left them (`Owned`, owned/specs/Owned), and promise the same and that premise again. `forgelilac_owned_resume` has no premise: it promises when it answers 0 (`Resumable`), the premise then, and else that the kept committees are as they were (`Filled`).
 
 **The runner, of every peer** (stream/specs/Talk). Each step of a run is one that may come there (`Follows`): more is read only where all that can be answered is written and flushed (`MayRead`), nothing but answers ever goes out (`Partly`), and nothing comes after a write that failed. How it ended fits its last step, and the engine that it left (`Ends`): at the end of the input it is the engine after every record that was read (`Done`), else after the first ones of them (`Reached`).
 
-**The runner, of a reader and a writer whose bytes are known.** However a run ended, what it added to the one is a first part of the answers to what it took from the other (`AddsPart`, stream/specs/Known). Where the input came to its end it is the output for the whole input (`output`, serving/specs/Streams; `run` of serving, its clause `whole`).
+**The runner, of a reader and a writer whose bytes are known.** However a run ended, what it added to the one is a first part of the answers to what it took from the other (`AddsPart`, stream/specs/Known). Where the input came to its end it is the output for the whole input (`output`, serving/specs/Streams; `serve_streams`, its clause `whole`).
 
 **The runner in one function.** `serve_streams` of serving is all of this from a member that is not open on, over any reader and any writer of std, in their own bytes, and with what the program ends with: where all is well the input came to its end. That a run ends well wherever the input did, and that a read or a write that failed is told as it failed, is promised of `run` and `told` over any peer (`Ran`, stream/specs/Talk; `Tells`, stream/specs/Ended).
 
@@ -118,9 +118,9 @@ A theorem is a function that takes nothing and does nothing: its clauses are all
 
 Between a proved function and your program stands code that no contract speaks of. It is tested (`sh scripts/hosts.sh`, `sh scripts/pages.sh`), and it is to be read:
 
-- **The header's own functions**, which your compiler builds: the {inline_count} of include/forgelilac.h that are `static inline`, {inline_lines} lines: {inline}. They make sheets and bodies, take answers apart, and list the chain; `forgelilac_chain` and `forgelilac_guest_chain` are passes over the table in C. `forgelilac_block_rows` is proved, and gives each block's certificates in order.
+- **The header's own functions**, which your compiler builds: the {inline_count} of include/forgelilac.h that are `static inline`, {inline_lines} lines: {inline}. They make sheets and bodies and take answers apart; they decide nothing of the rules. `forgelilac_chain` and `forgelilac_guest_chain` are `forgelilac_block_rows`, which is proved, with three words kept of each row; `forgelilac_leader` and `forgelilac_is_well_formed` are one call each; `forgelilac_may`, `forgelilac_waiting` and `forgelilac_own_proposal` read words.
 - **Its declarations, macros and the numbers in them**: lengths, places of words, refusals. `scripts/signatures.py` compares each function's parameters, and the record of a batch, with the code's.
-- **The Rust package**, bindings/rust/src, {package_lines} lines without tests: what turns values into words and words into bytes and back, what holds state and table, the listing of a chain. It calls the library by `unsafe` in one file, `lent`.
+- **The Rust package**, bindings/rust/src, {package_lines} lines without tests: what turns values into words and words into bytes and back, what holds state and table. Its chain is the rows of all blocks by `forgelilac_block_rows`, and its `leader` is `forgelilac_leader_of`. It calls the library by `unsafe` in one file, `lent`.
 - **What builds and finds the archive**: Makefile, forgelilac.pc.in, bindings/rust/build.rs, and the linker.
 - **Your host**: signatures, storage, and which calls it makes (docs/HOSTS.md, "What the promise asks of you"). And how it lends words: of stretches that overlap, or that something else writes while a call runs, contracts say nothing (docs/HOSTS.md, "Threads and stack").
 
@@ -128,9 +128,9 @@ Between a proved function and your program stands code that no contract speaks o
 
 No contract of this language can say what is outside: that std's `Stdin` gives the bytes of standard input, and its `Stdout` writes bytes to standard output, in their order and once each; that `main` hands these two, as a `Tied`, to `serve_streams` of serving, ends with what that gives, and does nothing else. Besides the memory that it lends it is that one call.
 
-What the two have left and what they hold is not known to a contract, so the clauses on known bytes say nothing of them. But `serve_streams` is one function for every reader and writer, and can do with them only what std's `Read` and `Write` offer: what is proved of it is so of the code that runs. Neither can bytes be made up there, nor lost, nor told as written where they were not. The three lines of `Tied` that say what a talk is need not be believed, since `run_tied` (stream::tied) and `serve_streams` speak of the bytes of reader and writer in std's own words (stream/nothing_written_and_nothing_known, an edit of crates/stream/must-fail that is refused). Inside, `run` of stream can do with its peer only what a `Peer` offers: a step of a talk, `came`, `went`, `flushed` or one that failed, is had only by the call that made it, so no failure and no flush can be made up there.
+What the two have left and what they hold is not known to a contract, so the clauses on known bytes say nothing of them. But `serve_streams` is one function for every reader and writer, and can do with them only what std's `Read` and `Write` offer: what is proved of it is so of the code that runs. Neither can bytes be made up there, nor lost, nor told as written where they were not. The three lines of `Tied` that say what a talk is need not be believed, since `run` of `Tied` (stream::tied) and `serve_streams` speak of the bytes of reader and writer in std's own words (stream/nothing_written_and_nothing_known, an edit of crates/stream/must-fail that is refused). Inside, `run` of stream can do with its peer only what a `Peer` offers: a step of a talk, `came`, `went`, `flushed` or one that failed, is had only by the call that made it, so no failure and no flush can be made up there.
 
-**What cannot be refused** is in five short functions: `read`, `write` and `flush` of `Tied`, which ask std's reader and writer, and `run_tied` and `serve_streams`, of one line and two, which might also end at once and tell of a failure that was none. After an error std says of these only that their bytes are as before. So:
+**What cannot be refused** is in five short functions: `read`, `write` and `flush` of `Tied`, which ask std's reader and writer, and `run` of `Tied` and `serve_streams`, of one line and two, which might also end at once and tell of a failure that was none. After an error std says of these only that their bytes are as before. So:
 
 - each may tell a failure that did not happen, or another than the one that did;
 - `read` and `write` may keep a failure back, which is to ask again after it, without end, as they do where a signal broke in (that they never tell of a signal is proved, their clause `retried`), and `write` may so ask a writer that takes nothing: on a full disk such a runner would not end;

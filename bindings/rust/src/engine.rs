@@ -1,14 +1,14 @@
-//! An engine that owns its state and table.
+//! One member's engine: its calls and reads, typed.
 
-use crate::chain::Listing;
 use crate::layout::{
-    preview_words, rows_words, CRITICAL_WORDS, STATE_BLOCKS, STATE_CEILING, STATE_OWN, STATE_ROUND, STATE_WORDS,
+    preview_words, row, rows_words, CRITICAL_WORDS, ROW_BLOCK, STATE_CEILING, STATE_OWN, STATE_ROUND, STATE_WORDS,
 };
-use crate::lent::{self, CertificateRecord, Entry, Place};
+use crate::lent::{self, CertificateRecord, Entry};
+use crate::words::{Caller, Lent, Words};
 use crate::{body_words, table_words, CEILING, MEMBERS};
 use crate::{
-    Answers, Block, Certificate, Critical, Effect, Guest, Held, Member, Proposal, Refusal, Rights, Round, Set, Share,
-    Sheet, Transaction,
+    Answers, Block, Certificate, Critical, Effect, Guest, Held, Member, Owned, Proposal, Refusal, Rights, Round, Set,
+    Share, Sheet, Transaction,
 };
 use alloc::vec;
 use alloc::vec::Vec;
@@ -17,26 +17,34 @@ use core::fmt;
 /// One member's engine: a state and the table that belongs to it. It has no part outside
 /// itself, so engines may be called from several threads at once, each by one at a time.
 ///
+/// An `Engine` owns its words, and nothing else writes them: they are tested once, when it is opened or
+/// restored, and a call then takes the same little time however much is held; a chain, block rows and
+/// a port read at a line's end pass over all that is held. For that it keeps the
+/// committees of the rounds it knows too, [`crate::layout::kept_words`] of them in words of 64 bits.
+/// [`Engine::is_well_formed`] tests again, for a host that fears for its memory. An `Engine<Lent>` tests its
+/// words in each call, as the calls of [`lent`] do, and so may have any: see [`Engine::lent`].
+///
 /// `Debug` shows a few words of it. What is listed under Errors stands in the order of the checks, and a
-/// refused call changes no word.
+/// refused call changes no word. [`Refusal::Malformed`] comes of an `Engine<Lent>` alone, but for opening and
+/// restoring.
 #[derive(Clone, PartialEq, Eq)]
-pub struct Engine {
-    pub(crate) state: [u32; STATE_WORDS],
-    pub(crate) table: Vec<u32>,
+pub struct Engine<W = Owned> {
+    pub(crate) words: W,
 }
 
-impl fmt::Debug for Engine {
+impl<W: Words> fmt::Debug for Engine<W> {
     fn fmt(&self, f: &mut fmt::Formatter<'_>) -> fmt::Result {
         f.debug_struct("Engine")
             .field("own", &self.own())
             .field("round", &self.round())
-            .field("ceiling", &self.state[STATE_CEILING])
+            .field("ceiling", &self.words.state()[STATE_CEILING])
             .field("blocks", &self.blocks())
-            .field("table_words", &self.table.len())
+            .field("table_words", &self.words.table().len())
             .finish_non_exhaustive()
     }
 }
 
+/// Opening and restoring.
 impl Engine {
     /// Opens a member with a table of the length that the sheet's ceiling needs; no guest has a right.
     /// It starts a new run: go on with one by [`Engine::try_restore`].
@@ -63,38 +71,65 @@ impl Engine {
     pub fn open_on(mut table: Vec<u32>, own: Member, sheet: &Sheet, rights: Rights) -> Result<Engine, Refusal> {
         let mut state = [0; STATE_WORDS];
         lent::open(&mut state, &mut table, own, &sheet.to_words(), rights.to_word())?;
-        Ok(Engine { state, table })
+        Engine::try_restore(state, table)
     }
 
-    /// An engine as it was stored. Any words are safe: on a state that is not well formed every
-    /// call answers 1. [`Engine::try_restore`] tells at once.
-    #[must_use]
-    pub fn restore(state: [u32; STATE_WORDS], table: Vec<u32>) -> Engine {
-        Engine { state, table }
-    }
-
-    /// An engine as it was stored, where the words are well formed. They must be the latest that
-    /// were stored: an older backup may have forgotten a signature. A state that versions up to 0.7.0
-    /// stored has 37 words, one of 0.8.0 or 0.9.0 has 38: bring it along first, by
-    /// [`crate::layout::brought_along`].
+    /// An engine as it was stored, after one look at all words: where they are a member's, as calls from an
+    /// opening on leave them. They must be the latest that were stored: an older backup may have forgotten a
+    /// signature. A state that versions up to 0.7.0 stored has 37 words, one of 0.8.0 or 0.9.0 has 38: bring
+    /// it along first, by [`crate::layout::brought_along`].
     ///
     /// # Errors
-    /// [`Refusal::Malformed`] where the state is not well formed.
+    /// [`Refusal::Malformed`] where the state is not well formed, and where it is and no calls leave it so: a
+    /// held certificate or the proposal names one that is not held, or one in a block names one in none.
     pub fn try_restore(state: [u32; STATE_WORDS], table: Vec<u32>) -> Result<Engine, Refusal> {
-        let engine = Engine::restore(state, table);
-        engine.is_well_formed().then_some(engine).ok_or(Refusal::Malformed)
+        Ok(Engine { words: Owned::resume(state, table)? })
+    }
+}
+
+impl Engine<Lent> {
+    /// An engine on words that anything may have written, and may go on to write. Any words are safe: each
+    /// call tests them, which takes the longer the more is held, and on a state that is not well formed every
+    /// call answers 1.
+    ///
+    /// ```
+    /// use forgelilac::{Engine, Member, Refusal, Sheet};
+    ///
+    /// let engine = Engine::open(Member::new(0), &Sheet { ceiling: Some(64), ..Sheet::default() })?;
+    /// let (state, table) = engine.words();
+    /// let mut lent = Engine::lent(*state, table.to_vec());
+    /// lent.propose(0, &[])?;
+    /// lent.words_mut().0[0] = 16; // no member has this number
+    /// assert_eq!(lent.certify(0b1110), Err(Refusal::Malformed));
+    /// # Ok::<(), Refusal>(())
+    /// ```
+    #[must_use]
+    pub fn lent(state: [u32; STATE_WORDS], table: Vec<u32>) -> Engine<Lent> {
+        Engine { words: Lent { state, table } }
     }
 
+    /// State and table, to be written by something else than calls.
+    #[must_use]
+    pub fn words_mut(&mut self) -> (&mut [u32; STATE_WORDS], &mut Vec<u32>) {
+        (&mut self.words.state, &mut self.words.table)
+    }
+}
+
+/// Calls and reads.
+impl<W: Words> Engine<W> {
     /// State and table, for storing; docs/TABLES.md has which words each call changes.
     #[must_use]
     pub fn words(&self) -> (&[u32; STATE_WORDS], &[u32]) {
-        (&self.state, &self.table)
+        (self.words.state(), self.words.table())
     }
 
-    /// Whether the state is well formed: an engine that was opened always is.
+    /// Looks at all words: whether the state is well formed, and of an engine that owns its words whether no
+    /// more is wrong with them than [`Engine::try_restore`] tells, and the kept committees are theirs. That
+    /// always holds, unless memory itself has lost a bit: a host that fears that asks now and then, and where
+    /// it is told so goes on from its store. It allocates kept committees.
     #[must_use]
     pub fn is_well_formed(&self) -> bool {
-        lent::is_well_formed(&self.state, &self.table)
+        self.words.is_well_formed()
     }
 
     // ---- guests
@@ -102,20 +137,20 @@ impl Engine {
     /// A guest of this engine by its number, the one that the host knows itself, never one that the guest
     /// wrote. What the guest asks for goes through it, and is refused where it has not the right.
     #[must_use]
-    pub fn guest(&mut self, caller: u32) -> Guest<&mut Engine> {
+    pub fn guest(&mut self, caller: u32) -> Guest<&mut Engine<W>> {
         Guest::of(self, caller)
     }
 
     /// A guest that reads alone: several may read at once, while nothing changes the engine.
     #[must_use]
-    pub fn reader(&self, caller: u32) -> Guest<&Engine> {
+    pub fn reader(&self, caller: u32) -> Guest<&Engine<W>> {
         Guest::of(self, caller)
     }
 
     /// The rights of callers, as they were fixed at opening: a word of the state, in any state.
     #[must_use]
     pub fn rights(&self) -> Rights {
-        lent::rights(&self.state)
+        lent::rights(self.words.state())
     }
 
     // ---- calls
@@ -128,7 +163,7 @@ impl Engine {
     /// [`Refusal::PlaceTaken`], [`Refusal::CommitteeUnknown`], [`Refusal::Outside`],
     /// [`Refusal::PreviousMissing`], [`Refusal::PreviousQuorum`].
     pub fn propose(&mut self, previous: Set, transactions: &[Transaction]) -> Result<(), Refusal> {
-        lent::propose(&mut self.state, &self.table, &body_words(previous, transactions))
+        self.words.propose(Caller::Host, &body_words(previous, transactions))
     }
 
     /// Adds a transaction to the queue of a guest, as its youngest. Store the engine, or the
@@ -137,7 +172,7 @@ impl Engine {
     /// # Errors
     /// [`Refusal::Malformed`], [`Refusal::GuestRange`], [`Refusal::TransactionsRange`], [`Refusal::QueueFull`].
     pub fn enqueue(&mut self, guest: u32, transaction: Transaction) -> Result<(), Refusal> {
-        lent::enqueue(&self.state, &mut self.table, guest, &transaction.to_words())
+        self.words.enqueue(guest, &transaction.to_words())
     }
 
     /// Proposes what it draws from the queues: the oldest transaction of each guest with something
@@ -152,7 +187,7 @@ impl Engine {
     /// [`Refusal::CommitteeUnknown`], [`Refusal::Outside`], [`Refusal::PreviousMissing`],
     /// [`Refusal::PreviousQuorum`].
     pub fn draw(&mut self, previous: Set) -> Result<(), Refusal> {
-        lent::draw(&mut self.state, &mut self.table, previous)
+        self.words.draw(Caller::Host, previous)
     }
 
     /// Endorses another's proposal, once its signature is checked: its place is marked endorsed.
@@ -164,7 +199,7 @@ impl Engine {
     /// [`Refusal::PlaceTaken`], [`Refusal::CommitteeUnknown`], [`Refusal::PreviousMissing`],
     /// [`Refusal::PreviousQuorum`].
     pub fn endorse(&mut self, proposal: &Proposal) -> Result<(), Refusal> {
-        lent::endorse(&self.state, &mut self.table, &proposal.to_words())
+        self.words.endorse(Caller::Host, &proposal.to_words())
     }
 
     /// Makes a certificate of one's own proposal with these endorsers, whose signatures are
@@ -174,7 +209,7 @@ impl Engine {
     /// [`Refusal::Malformed`], [`Refusal::NoProposal`], [`Refusal::PlaceTaken`], [`Refusal::SignedTwice`],
     /// [`Refusal::CommitteeUnknown`], [`Refusal::Outside`], [`Refusal::SignersShort`].
     pub fn certify(&mut self, endorsers: Set) -> Result<(), Refusal> {
-        lent::certify(&self.state, &mut self.table, endorsers)
+        self.words.certify(Caller::Host, endorsers)
     }
 
     /// Takes a certificate, once its signatures are checked: it is held with its endorsers, and its
@@ -186,7 +221,7 @@ impl Engine {
     /// [`Refusal::SameHeld`], [`Refusal::OtherHeld`], [`Refusal::CommitteeUnknown`], [`Refusal::Outside`],
     /// [`Refusal::SignersShort`], [`Refusal::PreviousMissing`].
     pub fn accept(&mut self, certificate: &Certificate) -> Result<(), Refusal> {
-        lent::accept(&self.state, &mut self.table, &certificate.to_words())
+        self.words.accept(Caller::Host, &certificate.to_words())
     }
 
     /// Takes a row of up to 64 certificates in any order, once their signatures are checked. They are
@@ -198,7 +233,7 @@ impl Engine {
     /// # Errors
     /// [`Refusal::Malformed`], [`Refusal::LengthRange`]: then nothing is tried.
     pub fn batch(&mut self, row: &[Certificate]) -> Result<Answers, Refusal> {
-        by_batch(row, |row, answers| lent::batch(&self.state, &mut self.table, row, answers))
+        by_batch(row, |row, answers| self.words.batch(Caller::Host, row, answers))
     }
 
     /// Goes on to the next round, once the authors of the certificates held in the present round form
@@ -209,7 +244,7 @@ impl Engine {
     /// [`Refusal::Malformed`], [`Refusal::AtCeiling`], [`Refusal::CommitteeUnknown`] for that of the present
     /// round, [`Refusal::ThinRound`].
     pub fn advance(&mut self) -> Result<(), Refusal> {
-        lent::advance(&mut self.state, &self.table)
+        self.words.advance(Caller::Host)
     }
 
     /// Makes blocks: the number of blocks added.
@@ -218,7 +253,7 @@ impl Engine {
     /// [`Refusal::Malformed`], [`Refusal::NoCommitRound`], [`Refusal::BlockMade`],
     /// [`Refusal::CommitteeUnknown`], [`Refusal::NoAnchor`], [`Refusal::VotesShort`].
     pub fn commit(&mut self) -> Result<u32, Refusal> {
-        lent::commit(&mut self.state, &mut self.table)
+        self.words.commit(Caller::Host)
     }
 
     /// Resets the serial port of a guest, as when the guest is started anew: all registers that it holds
@@ -228,7 +263,7 @@ impl Engine {
     /// # Errors
     /// [`Refusal::GuestRange`], [`Refusal::Malformed`].
     pub fn port_reset(&mut self, port: u32) -> Result<(), Refusal> {
-        lent::port_reset(&self.state, &mut self.table, port)
+        self.words.port_reset(port)
     }
 
     // ---- reads
@@ -242,12 +277,12 @@ impl Engine {
     /// Those of [`Engine::commit`]: [`Refusal::Malformed`], [`Refusal::NoCommitRound`], [`Refusal::BlockMade`],
     /// [`Refusal::CommitteeUnknown`], [`Refusal::NoAnchor`], [`Refusal::VotesShort`].
     pub fn preview(&self) -> Result<Vec<Entry>, Refusal> {
-        by_preview(self.preview_room(), |list| lent::preview(&self.state, &self.table, list))
+        by_preview(self.preview_room(), |list| self.words.preview(Caller::Host, list))
     }
 
     /// The words of the list that a preview asks for.
     pub(crate) fn preview_room(&self) -> usize {
-        preview_words(self.state[STATE_CEILING].min(CEILING))
+        preview_words(self.words.state()[STATE_CEILING].min(CEILING))
     }
 
     /// Which certificates does a commit hang on? Every held certificate of the present round and the one
@@ -295,7 +330,7 @@ impl Engine {
     /// Those of [`Engine::commit`]: [`Refusal::Malformed`], [`Refusal::NoCommitRound`], [`Refusal::BlockMade`],
     /// [`Refusal::CommitteeUnknown`], [`Refusal::NoAnchor`], [`Refusal::VotesShort`].
     pub fn critical(&mut self) -> Result<Vec<Critical>, Refusal> {
-        by_critical(|list| lent::critical(&self.state, &mut self.table, list))
+        by_critical(|list| self.words.critical(Caller::Host, list))
     }
 
     /// Sixteen weights of a round's committee, 0 for a non-member.
@@ -303,7 +338,7 @@ impl Engine {
     /// # Errors
     /// [`Refusal::Malformed`], [`Refusal::RoundRange`], [`Refusal::CommitteeUnknown`].
     pub fn committee(&self, round: Round) -> Result<[u32; MEMBERS], Refusal> {
-        lent::committee(&self.state, &self.table, round)
+        self.words.committee(Caller::Host, round)
     }
 
     /// A member's weight in thousandths of its committee's total, to the nearest; an exact half
@@ -314,7 +349,7 @@ impl Engine {
     /// [`Refusal::Malformed`], [`Refusal::MemberRange`], [`Refusal::RoundRange`],
     /// [`Refusal::CommitteeUnknown`], [`Refusal::Outside`].
     pub fn share(&self, member: Member, round: Round) -> Result<Share, Refusal> {
-        lent::share(&self.state, &self.table, member, round)
+        self.words.share(Caller::Host, member, round)
     }
 
     /// How far does a bond move the shares? Those of a round's committee, those that it would have after
@@ -347,7 +382,7 @@ impl Engine {
     /// [`Refusal::TransactionsRange`] for an amount other than 1 to 1,000, [`Refusal::CommitteeUnknown`],
     /// [`Refusal::EmptyCommittee`].
     pub fn bond_effect(&self, member: Member, round: Round, amount: u32) -> Result<Effect, Refusal> {
-        lent::bond_effect(&self.state, &self.table, member, round, amount)
+        self.words.bond_effect(Caller::Host, member, round, amount)
     }
 
     /// The certificate held at a place: proposal, endorsers, block.
@@ -355,7 +390,7 @@ impl Engine {
     /// # Errors
     /// [`Refusal::Malformed`], [`Refusal::MemberRange`], [`Refusal::RoundRange`], [`Refusal::NoneThere`].
     pub fn certificate(&self, author: Member, round: Round) -> Result<Held, Refusal> {
-        Held::from_words(&lent::certificate(&self.state, &self.table, author, round)?)
+        Held::from_words(&self.words.certificate(Caller::Host, author, round)?)
     }
 
     /// The round of a block; blocks count from 1.
@@ -363,7 +398,7 @@ impl Engine {
     /// # Errors
     /// [`Refusal::Malformed`], [`Refusal::NoneThere`].
     pub fn block(&self, number: u32) -> Result<Round, Refusal> {
-        lent::block(&self.state, &self.table, number)
+        self.words.block(Caller::Host, number)
     }
 
     /// What blocks hold: of `number` blocks after the first `known` every certificate, oldest block first, as
@@ -402,12 +437,12 @@ impl Engine {
     /// # Errors
     /// [`Refusal::Malformed`], [`Refusal::NoneThere`] where there are fewer blocks.
     pub fn block_rows(&self, known: u32, number: u32) -> Result<Vec<Held>, Refusal> {
-        by_rows(self.rows_room(), |list| lent::block_rows(&self.state, &self.table, known, number, list))
+        by_rows(self.rows_room(), |list| self.words.block_rows(Caller::Host, known, number, list))
     }
 
     /// The words of a list in which all blocks have room.
     pub(crate) fn rows_room(&self) -> usize {
-        rows_words(self.state[STATE_CEILING].min(CEILING))
+        rows_words(self.words.state()[STATE_CEILING].min(CEILING))
     }
 
     /// How many transactions wait in the queue of a guest, 0 to 8: a word of the table, once a read of
@@ -416,7 +451,11 @@ impl Engine {
     /// # Errors
     /// [`Refusal::Malformed`], [`Refusal::GuestRange`].
     pub fn waiting(&self, guest: u32) -> Result<u32, Refusal> {
-        lent::waiting(&self.state, &self.table, guest)
+        // There is no block 0: 23, unless the state is not well formed.
+        match self.block(0) {
+            Err(Refusal::NoneThere) => lent::waiting_in(self.words.table(), guest),
+            other => Err(other.err().unwrap_or(Refusal::Malformed)),
+        }
     }
 
     // ---- words of the state
@@ -424,19 +463,19 @@ impl Engine {
     /// One's own number.
     #[must_use]
     pub fn own(&self) -> Member {
-        Member::new(self.state[STATE_OWN])
+        Member::new(self.words.state()[STATE_OWN])
     }
 
     /// The present round.
     #[must_use]
     pub fn round(&self) -> Round {
-        Round::new(self.state[STATE_ROUND])
+        Round::new(self.words.state()[STATE_ROUND])
     }
 
     /// The number of blocks.
     #[must_use]
     pub fn blocks(&self) -> u32 {
-        self.state[STATE_BLOCKS]
+        lent::blocks(self.words.state())
     }
 
     /// The authors whose certificates of a round are held: a word of the table. 0 for a round out of range,
@@ -453,24 +492,29 @@ impl Engine {
     /// ```
     #[must_use]
     pub fn held(&self, round: Round) -> Set {
-        lent::held(&self.state, &self.table, round)
+        lent::held(self.words.state(), self.words.table(), round)
     }
 
     /// One's own proposal for the present round, for sending. After a [`Engine::draw`] its
     /// transactions are those drawn.
     #[must_use]
     pub fn proposal(&self) -> Option<Proposal> {
-        Proposal::from_words(&lent::own_proposal(&self.state)?).ok()
+        Proposal::from_words(&lent::own_proposal(self.words.state())?).ok()
     }
 
-    /// The chain, by one read that tests the state and passes over the held certificates alone.
-    /// Inside a block rounds rise; within a round numbers rise from that of the leader of the
-    /// block's round, with 0 after 15. Where that round has no leader, numbers just rise.
+    /// The chain, by one read: the places of the rows of all blocks ([`Engine::block_rows`]). Inside a block
+    /// rounds rise; within a round numbers rise from that of the leader of the block's round, with 0 after 15.
+    /// Where that round has no leader, numbers just rise.
     ///
     /// # Errors
     /// [`Refusal::Malformed`] where the state is not well formed.
     pub fn chain(&self) -> Result<Vec<Block>, Refusal> {
-        Ok(blocks_of(&Listing::of(self.block(0), &self.state, &self.table)?))
+        by_chain(self, self.rows_room(), |list| self.words.block_rows(Caller::Host, 0, self.blocks(), list))
+    }
+
+    /// The round of a block of a well-formed state: a word of the table.
+    fn round_of(&self, block: u32) -> Round {
+        Round::new(self.words.table()[row(block) + ROW_BLOCK])
     }
 }
 
@@ -511,9 +555,15 @@ pub(crate) fn by_critical(call: impl FnOnce(&mut [u32]) -> Result<u32, Refusal>)
     Ok(lent::criticals(&list, count).collect())
 }
 
-/// The blocks of a listing.
-pub(crate) fn blocks_of(listing: &Listing) -> Vec<Block> {
-    let mut list = vec![Place::default(); listing.len()];
-    listing.write(&mut list);
-    listing.blocks().map(|(round, at)| Block { round, certificates: list[at].to_vec() }).collect()
+/// The chain, by a call that is lent a list of so many words and, accepted, has told that the state is well
+/// formed.
+pub(crate) fn by_chain<W: Words>(
+    engine: &Engine<W>, room: usize, call: impl FnOnce(&mut [u32]) -> Result<u32, Refusal>,
+) -> Result<Vec<Block>, Refusal> {
+    let mut list = vec![0; room];
+    let count = call(&mut list)?;
+    let empty = |block| Block { round: engine.round_of(block), certificates: Vec::new() };
+    let mut chain: Vec<Block> = (1..=engine.blocks()).map(empty).collect();
+    lent::places(&list, count).for_each(|place| chain[place.block as usize - 1].certificates.push(place));
+    Ok(chain)
 }

@@ -1,8 +1,8 @@
 //! A guest of an engine: its calls, by its rights.
 
-use crate::chain::Listing;
-use crate::engine::{blocks_of, by_batch, by_critical, by_preview, by_rows};
-use crate::lent::{self, Entry};
+use crate::engine::{by_batch, by_chain, by_critical, by_preview, by_rows};
+use crate::lent::Entry;
+use crate::words::{Caller, Words};
 use crate::{body_words, MEMBERS};
 use crate::{
     Answers, Block, Certificate, Critical, Effect, Engine, Held, Member, Proposal, Refusal, Right, Round, Set, Share,
@@ -65,14 +65,13 @@ impl<E> Guest<E> {
 
 /// Calls that change the engine, accesses to its port among them, and critical, which is lent its table
 /// for writing.
-impl<E: DerefMut<Target = Engine>> Guest<E> {
+impl<W: Words, E: DerefMut<Target = Engine<W>>> Guest<E> {
     /// As [`Engine::propose`]. It needs the right to propose.
     ///
     /// # Errors
     /// [`Refusal::GuestRange`], [`Refusal::NoRight`], then those of [`Engine::propose`].
     pub fn propose(&mut self, previous: Set, transactions: &[Transaction]) -> Result<(), Refusal> {
-        let engine = &mut *self.engine;
-        lent::guest_propose(self.caller, &mut engine.state, &engine.table, &body_words(previous, transactions))
+        self.engine.words.propose(Caller::Guest(self.caller), &body_words(previous, transactions))
     }
 
     /// As [`Engine::enqueue`], to the caller's own queue. It needs the right to propose.
@@ -81,8 +80,7 @@ impl<E: DerefMut<Target = Engine>> Guest<E> {
     /// [`Refusal::GuestRange`], [`Refusal::NoRight`], [`Refusal::Malformed`], [`Refusal::TransactionsRange`],
     /// [`Refusal::QueueFull`].
     pub fn enqueue(&mut self, transaction: Transaction) -> Result<(), Refusal> {
-        let engine = &mut *self.engine;
-        lent::guest_enqueue(self.caller, &engine.state, &mut engine.table, &transaction.to_words())
+        self.engine.words.guest_enqueue(self.caller, &transaction.to_words())
     }
 
     /// As [`Engine::draw`], from the queues of all guests. It needs the right to propose.
@@ -90,8 +88,7 @@ impl<E: DerefMut<Target = Engine>> Guest<E> {
     /// # Errors
     /// [`Refusal::GuestRange`], [`Refusal::NoRight`], then those of [`Engine::draw`].
     pub fn draw(&mut self, previous: Set) -> Result<(), Refusal> {
-        let engine = &mut *self.engine;
-        lent::guest_draw(self.caller, &mut engine.state, &mut engine.table, previous)
+        self.engine.words.draw(Caller::Guest(self.caller), previous)
     }
 
     /// As [`Engine::endorse`]. It needs the right to sign.
@@ -99,8 +96,7 @@ impl<E: DerefMut<Target = Engine>> Guest<E> {
     /// # Errors
     /// [`Refusal::GuestRange`], [`Refusal::NoRight`], then those of [`Engine::endorse`].
     pub fn endorse(&mut self, proposal: &Proposal) -> Result<(), Refusal> {
-        let engine = &mut *self.engine;
-        lent::guest_endorse(self.caller, &engine.state, &mut engine.table, &proposal.to_words())
+        self.engine.words.endorse(Caller::Guest(self.caller), &proposal.to_words())
     }
 
     /// As [`Engine::certify`]. It needs the right to sign.
@@ -108,8 +104,7 @@ impl<E: DerefMut<Target = Engine>> Guest<E> {
     /// # Errors
     /// [`Refusal::GuestRange`], [`Refusal::NoRight`], then those of [`Engine::certify`].
     pub fn certify(&mut self, endorsers: Set) -> Result<(), Refusal> {
-        let engine = &mut *self.engine;
-        lent::guest_certify(self.caller, &engine.state, &mut engine.table, endorsers)
+        self.engine.words.certify(Caller::Guest(self.caller), endorsers)
     }
 
     /// As [`Engine::accept`]. It needs the right to sign.
@@ -117,8 +112,7 @@ impl<E: DerefMut<Target = Engine>> Guest<E> {
     /// # Errors
     /// [`Refusal::GuestRange`], [`Refusal::NoRight`], then those of [`Engine::accept`].
     pub fn accept(&mut self, certificate: &Certificate) -> Result<(), Refusal> {
-        let engine = &mut *self.engine;
-        lent::guest_accept(self.caller, &engine.state, &mut engine.table, &certificate.to_words())
+        self.engine.words.accept(Caller::Guest(self.caller), &certificate.to_words())
     }
 
     /// As [`Engine::batch`]. It needs the right to sign.
@@ -126,8 +120,7 @@ impl<E: DerefMut<Target = Engine>> Guest<E> {
     /// # Errors
     /// [`Refusal::GuestRange`], [`Refusal::NoRight`], then those of [`Engine::batch`]: then nothing is tried.
     pub fn batch(&mut self, row: &[Certificate]) -> Result<Answers, Refusal> {
-        let engine = &mut *self.engine;
-        by_batch(row, |row, answers| lent::guest_batch(self.caller, &engine.state, &mut engine.table, row, answers))
+        by_batch(row, |row, answers| self.engine.words.batch(Caller::Guest(self.caller), row, answers))
     }
 
     /// As [`Engine::advance`]. It needs the right to drive.
@@ -135,8 +128,7 @@ impl<E: DerefMut<Target = Engine>> Guest<E> {
     /// # Errors
     /// [`Refusal::GuestRange`], [`Refusal::NoRight`], then those of [`Engine::advance`].
     pub fn advance(&mut self) -> Result<(), Refusal> {
-        let engine = &mut *self.engine;
-        lent::guest_advance(self.caller, &mut engine.state, &engine.table)
+        self.engine.words.advance(Caller::Guest(self.caller))
     }
 
     /// As [`Engine::commit`]. It needs the right to drive.
@@ -144,8 +136,7 @@ impl<E: DerefMut<Target = Engine>> Guest<E> {
     /// # Errors
     /// [`Refusal::GuestRange`], [`Refusal::NoRight`], then those of [`Engine::commit`].
     pub fn commit(&mut self) -> Result<u32, Refusal> {
-        let engine = &mut *self.engine;
-        lent::guest_commit(self.caller, &mut engine.state, &mut engine.table)
+        self.engine.words.commit(Caller::Guest(self.caller))
     }
 
     /// As [`Engine::critical`]. It needs the right to read.
@@ -153,20 +144,18 @@ impl<E: DerefMut<Target = Engine>> Guest<E> {
     /// # Errors
     /// [`Refusal::GuestRange`], [`Refusal::NoRight`], then those of [`Engine::critical`].
     pub fn critical(&mut self) -> Result<Vec<Critical>, Refusal> {
-        let engine = &mut *self.engine;
-        by_critical(|list| lent::guest_critical(self.caller, &engine.state, &mut engine.table, list))
+        by_critical(|list| self.engine.words.critical(Caller::Guest(self.caller), list))
     }
 
     /// Reads an offset of the caller's own serial port, 0 to 7: one of the eight byte registers of the
-    /// 16450, over the chain listing as received bytes ([`lent::guest_port_read`] says what each reads).
+    /// 16450, over the chain listing as received bytes ([`crate::lent::guest_port_read`] says what each reads).
     /// It needs the right to read. A read of offset 0 that takes a byte changes the engine: store it, or
     /// after a restore the guest may be given bytes again.
     ///
     /// # Errors
     /// [`Refusal::GuestRange`], [`Refusal::NoRight`], [`Refusal::OffsetRange`], [`Refusal::Malformed`].
     pub fn port_read(&mut self, offset: u32) -> Result<u8, Refusal> {
-        let engine = &mut *self.engine;
-        lent::guest_port_read(self.caller, &engine.state, &mut engine.table, offset)
+        self.engine.words.port_read(self.caller, offset)
     }
 
     /// Writes a byte to an offset of the caller's own serial port. It needs the right to read.
@@ -201,13 +190,12 @@ impl<E: DerefMut<Target = Engine>> Guest<E> {
     /// # Errors
     /// [`Refusal::GuestRange`], [`Refusal::NoRight`], [`Refusal::OffsetRange`], [`Refusal::Malformed`].
     pub fn port_write(&mut self, offset: u32, value: u8) -> Result<(), Refusal> {
-        let engine = &mut *self.engine;
-        lent::guest_port_write(self.caller, &engine.state, &mut engine.table, offset, value)
+        self.engine.words.port_write(self.caller, offset, value)
     }
 }
 
 /// Reads that only read. Each needs the right to read.
-impl<E: Deref<Target = Engine>> Guest<E> {
+impl<W: Words, E: Deref<Target = Engine<W>>> Guest<E> {
     /// As [`Engine::preview`].
     ///
     /// # Errors
@@ -216,7 +204,7 @@ impl<E: Deref<Target = Engine>> Guest<E> {
         let engine = &*self.engine;
         // A caller without the right costs no list.
         let room = if engine.rights().may(self.caller, Right::Read) { engine.preview_room() } else { 0 };
-        by_preview(room, |list| lent::guest_preview(self.caller, &engine.state, &engine.table, list))
+        by_preview(room, |list| engine.words.preview(Caller::Guest(self.caller), list))
     }
 
     /// As [`Engine::committee`].
@@ -224,7 +212,7 @@ impl<E: Deref<Target = Engine>> Guest<E> {
     /// # Errors
     /// [`Refusal::GuestRange`], [`Refusal::NoRight`], then those of [`Engine::committee`].
     pub fn committee(&self, round: Round) -> Result<[u32; MEMBERS], Refusal> {
-        lent::guest_committee(self.caller, &self.engine.state, &self.engine.table, round)
+        self.engine.words.committee(Caller::Guest(self.caller), round)
     }
 
     /// As [`Engine::share`].
@@ -232,7 +220,7 @@ impl<E: Deref<Target = Engine>> Guest<E> {
     /// # Errors
     /// [`Refusal::GuestRange`], [`Refusal::NoRight`], then those of [`Engine::share`].
     pub fn share(&self, member: Member, round: Round) -> Result<Share, Refusal> {
-        lent::guest_share(self.caller, &self.engine.state, &self.engine.table, member, round)
+        self.engine.words.share(Caller::Guest(self.caller), member, round)
     }
 
     /// As [`Engine::bond_effect`].
@@ -240,7 +228,7 @@ impl<E: Deref<Target = Engine>> Guest<E> {
     /// # Errors
     /// [`Refusal::GuestRange`], [`Refusal::NoRight`], then those of [`Engine::bond_effect`].
     pub fn bond_effect(&self, member: Member, round: Round, amount: u32) -> Result<Effect, Refusal> {
-        lent::guest_bond_effect(self.caller, &self.engine.state, &self.engine.table, member, round, amount)
+        self.engine.words.bond_effect(Caller::Guest(self.caller), member, round, amount)
     }
 
     /// As [`Engine::certificate`].
@@ -248,8 +236,7 @@ impl<E: Deref<Target = Engine>> Guest<E> {
     /// # Errors
     /// [`Refusal::GuestRange`], [`Refusal::NoRight`], then those of [`Engine::certificate`].
     pub fn certificate(&self, author: Member, round: Round) -> Result<Held, Refusal> {
-        let engine = &*self.engine;
-        Held::from_words(&lent::guest_certificate(self.caller, &engine.state, &engine.table, author, round)?)
+        Held::from_words(&self.engine.words.certificate(Caller::Guest(self.caller), author, round)?)
     }
 
     /// As [`Engine::block`].
@@ -257,7 +244,7 @@ impl<E: Deref<Target = Engine>> Guest<E> {
     /// # Errors
     /// [`Refusal::GuestRange`], [`Refusal::NoRight`], then those of [`Engine::block`].
     pub fn block(&self, number: u32) -> Result<Round, Refusal> {
-        lent::guest_block(self.caller, &self.engine.state, &self.engine.table, number)
+        self.engine.words.block(Caller::Guest(self.caller), number)
     }
 
     /// As [`Engine::block_rows`].
@@ -266,9 +253,8 @@ impl<E: Deref<Target = Engine>> Guest<E> {
     /// [`Refusal::GuestRange`], [`Refusal::NoRight`], then those of [`Engine::block_rows`].
     pub fn block_rows(&self, known: u32, number: u32) -> Result<Vec<Held>, Refusal> {
         let engine = &*self.engine;
-        // A caller without the right costs no list.
-        let room = if engine.rights().may(self.caller, Right::Read) { engine.rows_room() } else { 0 };
-        by_rows(room, |list| lent::guest_block_rows(self.caller, &engine.state, &engine.table, known, number, list))
+        let caller = Caller::Guest(self.caller);
+        by_rows(self.rows_room(), |list| engine.words.block_rows(caller, known, number, list))
     }
 
     /// As [`Engine::chain`].
@@ -277,6 +263,16 @@ impl<E: Deref<Target = Engine>> Guest<E> {
     /// [`Refusal::GuestRange`], [`Refusal::NoRight`], then that of [`Engine::chain`].
     pub fn chain(&self) -> Result<Vec<Block>, Refusal> {
         let engine = &*self.engine;
-        Ok(blocks_of(&Listing::of(self.block(0), &engine.state, &engine.table)?))
+        let caller = Caller::Guest(self.caller);
+        by_chain(engine, self.rows_room(), |list| engine.words.block_rows(caller, 0, engine.blocks(), list))
+    }
+
+    /// The words of a list for rows: a caller without the right costs none.
+    fn rows_room(&self) -> usize {
+        if self.engine.rights().may(self.caller, Right::Read) {
+            self.engine.rows_room()
+        } else {
+            0
+        }
     }
 }

@@ -41,8 +41,11 @@ pub const GUESTS: usize = 8;
 pub const QUEUE_PLACES: usize = 8;
 /// The most blocks of a state, at ceiling 1,024.
 pub const BLOCKS: usize = 511;
-/// Bytes of stack that serve every call on x86-64; docs/HOSTS.md has what each uses.
+/// Bytes of stack that serve every call of `lent` and `storing` on x86-64; docs/HOSTS.md has what each uses.
 pub const STACK_BYTES: usize = 98_304;
+/// The same of an owner's calls, those of an `Engine`: its commit uses about 146 KB, each other one
+/// less than [`STACK_BYTES`].
+pub const OWNED_STACK_BYTES: usize = 163_840;
 
 /// Of a state: own number.
 pub const STATE_OWN: usize = 0;
@@ -204,6 +207,13 @@ pub const fn preview_words(ceiling: u32) -> usize {
 #[must_use]
 pub const fn rows_words(ceiling: u32) -> usize {
     HELD_WORDS * MEMBERS * (ceiling as usize + 1)
+}
+
+/// The words of 64 bits of an owner's kept committees, of a state of this ceiling: an `Engine` has
+/// them beside its state and table, and never stores them.
+#[must_use]
+pub const fn kept_words(ceiling: u32) -> usize {
+    MEMBERS * (ceiling as usize + 1) + 1
 }
 
 /// Where the queue of a guest begins in a table: eight places of a transaction's three words, the

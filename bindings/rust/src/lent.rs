@@ -21,21 +21,28 @@
 //! # Ok::<(), forgelilac::Refusal>(())
 //! ```
 
-pub use crate::chain::{chain, guest_chain, Place};
+use crate::archive::test_archive;
 use crate::layout::{
     BODY_WORDS, CERTIFICATE_WORDS, EFFECT_WORDS, ENTRY_AUTHOR, ENTRY_BLOCK, ENTRY_ROUND, ENTRY_WORDS, GUESTS,
-    HELD_WORDS, PLACE_AUTHOR, PLACE_ROUND, PLACE_WORDS, PROPOSAL_WORDS, ROW_HELD, STATE_BODY, STATE_CEILING, STATE_OWN,
-    STATE_PROPOSED, STATE_RIGHTS, STATE_ROUND, STATE_WORDS, WAITING,
+    HELD_WORDS, PLACE_AUTHOR, PLACE_ROUND, PLACE_WORDS, PROPOSAL_WORDS, ROW_HELD, STATE_BLOCKS, STATE_BODY,
+    STATE_CEILING, STATE_OWN, STATE_PROPOSED, STATE_RIGHTS, STATE_ROUND, STATE_WORDS, WAITING,
 };
-use crate::{layout, Effect, Member, Refusal, Rights, Round, Set, Share, MEMBERS};
+use crate::storing::{done, SIGNED_BYTES, SIGNED_CERTIFICATE_BYTES};
+use crate::{layout, Effect, Member, Refusal, Rights, Round, Set, Share, StoringRefusal, MEMBERS};
 
 /// The exported functions. Each slice is a pointer and a length in words, of a row in records. Any
 /// length and any content is safe; pointers that come from slices are never null and do not overlap.
 #[rustfmt::skip]
-mod abi {
+pub(crate) mod abi {
     use super::CertificateRecord;
 
     unsafe extern "C" {
+        pub fn forgelilac_version() -> u32;
+        pub fn forgelilac_format() -> u32;
+        pub fn forgelilac_format_3() -> u32;
+        pub fn forgelilac_leader_of(
+            round: u32, weights: *const u32, weights_words: usize,
+        ) -> u32;
         pub fn forgelilac_open(
             state: *mut u32, state_words: usize, table: *mut u32, table_words: usize,
             own: u32, sheet: *const u32, sheet_words: usize, rights: u32,
@@ -107,6 +114,28 @@ mod abi {
         ) -> u64;
         pub fn forgelilac_port_reset(
             state: *const u32, state_words: usize, table: *mut u32, table_words: usize, guest: u32,
+        ) -> u32;
+
+        // Storing.
+        pub fn forgelilac_store(
+            state: *const u32, state_words: usize, table: *const u32, table_words: usize,
+            run: u64, bytes: *mut u8, bytes_count: usize,
+        ) -> u32;
+        pub fn forgelilac_load(
+            bytes: *const u8, bytes_count: usize, own: u32, run: u64,
+            state: *mut u32, state_words: usize, table: *mut u32, table_words: usize,
+        ) -> u32;
+        pub fn forgelilac_proposal_bytes(
+            state: *const u32, state_words: usize, run: u64,
+            proposal: *const u32, proposal_words: usize, bytes: *mut u8, bytes_count: usize,
+        ) -> u32;
+        pub fn forgelilac_endorsement_bytes(
+            state: *const u32, state_words: usize, run: u64,
+            proposal: *const u32, proposal_words: usize, bytes: *mut u8, bytes_count: usize,
+        ) -> u32;
+        pub fn forgelilac_certificate_bytes(
+            state: *const u32, state_words: usize, run: u64,
+            certificate: *const u32, certificate_words: usize, bytes: *mut u8, bytes_count: usize,
         ) -> u32;
 
         // Guests' forms.
@@ -194,16 +223,16 @@ pub(crate) fn accepted(number: u32) -> Result<(), Refusal> {
 }
 
 /// Low half the value, high half the refusal number.
-fn value(answer: u64) -> Result<u32, Refusal> {
+pub(crate) fn value(answer: u64) -> Result<u32, Refusal> {
     accepted((answer >> 32) as u32)?;
     Ok(answer as u32)
 }
 
-fn read(words: &[u32]) -> (*const u32, usize) {
+pub(crate) fn read(words: &[u32]) -> (*const u32, usize) {
     (words.as_ptr(), words.len())
 }
 
-fn write(words: &mut [u32]) -> (*mut u32, usize) {
+pub(crate) fn write(words: &mut [u32]) -> (*mut u32, usize) {
     (words.as_mut_ptr(), words.len())
 }
 
@@ -221,6 +250,18 @@ macro_rules! call {
             abi::$function($($caller,)? state.0, state.1, table.0, table.1 $(, $number)*, more.0, more.1 $(, $last)*)
         }
     }};
+}
+
+/// A certificate of the chain, or of a block that a commit would add. One that a commit hangs on is a
+/// [`crate::Critical`], which names no block.
+#[derive(Clone, Copy, PartialEq, Eq, Hash, Debug, Default)]
+pub struct Place {
+    /// The number of its block, from 1.
+    pub block: u32,
+    /// Its author.
+    pub author: Member,
+    /// Its round.
+    pub round: Round,
 }
 
 /// A certificate of a block that a commit would add, as [`chain`] lists it once it is there.
@@ -259,6 +300,7 @@ impl From<[u32; CERTIFICATE_WORDS]> for CertificateRecord {
 /// [`Refusal::Malformed`] for words that cannot be read, [`Refusal::MemberRange`], [`Refusal::SettingRange`],
 /// [`Refusal::NoWeight`], [`Refusal::Malformed`] for a table that is too short.
 pub fn open(state: &mut [u32], table: &mut [u32], own: Member, sheet: &[u32], rights: u32) -> Result<(), Refusal> {
+    test_archive();
     accepted(call!(forgelilac_open, write(state), write(table), own.get(); read(sheet), rights))
 }
 
@@ -662,6 +704,32 @@ pub fn rows(list: &[u32], count: u32) -> impl Iterator<Item = [u32; HELD_WORDS]>
     })
 }
 
+/// The chain: the rows of all blocks ([`block_rows`]), and how many certificates it has. [`places`] reads
+/// block, author and round of each, [`rows`] all of its words.
+///
+/// # Errors
+/// [`Refusal::Malformed`], [`Refusal::LengthRange`] where the list has no room for the rows of all blocks; one
+/// of [`crate::layout::rows_words`] always has. Nothing is written then.
+pub fn chain(state: &[u32], table: &[u32], list: &mut [u32]) -> Result<u32, Refusal> {
+    block_rows(state, table, 0, blocks(state), list)
+}
+
+/// Block, author and round of each certificate of a list that [`block_rows`] or [`chain`] has written, as many
+/// as it has told.
+pub fn places(list: &[u32], count: u32) -> impl Iterator<Item = Place> + '_ {
+    rows(list, count).map(|words| Place {
+        block: words[CERTIFICATE_WORDS],
+        author: Member::new(words[0]),
+        round: Round::new(words[1]),
+    })
+}
+
+/// The number of blocks: a word of the state, and no call is made. 0 where the words end before it.
+#[must_use]
+pub fn blocks(state: &[u32]) -> u32 {
+    state.get(STATE_BLOCKS).copied().unwrap_or(0)
+}
+
 /// How many transactions wait in the queue of a guest: a word of the table, once a read of block 0 has
 /// told that the state is well formed.
 ///
@@ -671,6 +739,11 @@ pub fn waiting(state: &[u32], table: &[u32], guest: u32) -> Result<u32, Refusal>
     if !is_well_formed(state, table) {
         return Err(Refusal::Malformed);
     }
+    waiting_in(table, guest)
+}
+
+/// The same, of a state that is well formed.
+pub(crate) fn waiting_in(table: &[u32], guest: u32) -> Result<u32, Refusal> {
     let counts = &table[WAITING..WAITING + GUESTS];
     counts.get(guest as usize).copied().ok_or(Refusal::GuestRange)
 }
@@ -708,6 +781,7 @@ pub fn rights(state: &[u32]) -> Rights {
 /// but open answers 1.
 #[must_use]
 pub fn is_well_formed(state: &[u32], table: &[u32]) -> bool {
+    test_archive();
     // There is no block 0: 23, unless the state is not well formed.
     block(state, table, 0) == Err(Refusal::NoneThere)
 }
@@ -889,6 +963,14 @@ pub fn guest_block_rows(
     value(call!(forgelilac_guest_block_rows(caller), state, table, known, number; write(list)))
 }
 
+/// A guest's [`chain`]. It needs the right to read.
+///
+/// # Errors
+/// [`Refusal::GuestRange`], [`Refusal::NoRight`], then those of [`chain`]. Nothing is written then.
+pub fn guest_chain(caller: u32, state: &[u32], table: &[u32], list: &mut [u32]) -> Result<u32, Refusal> {
+    guest_block_rows(caller, state, table, 0, blocks(state), list)
+}
+
 // ---- a guest's serial port
 
 /// Reads an offset of the caller's own port, one of the eight byte registers of the 16450
@@ -949,4 +1031,117 @@ pub fn guest_port_read(caller: u32, state: &[u32], table: &mut [u32], offset: u3
 /// As [`guest_port_read`].
 pub fn guest_port_write(caller: u32, state: &[u32], table: &mut [u32], offset: u32, value: u8) -> Result<(), Refusal> {
     accepted(call!(forgelilac_guest_port_write(caller), read(state), write(table), offset, value))
+}
+
+// ---- storing, and what is signed (crate::storing)
+
+/// Stores the state's words and the table's used words in the first [`stored_bytes`](crate::storing::stored_bytes) of `bytes`.
+///
+/// # Errors
+/// [`StoringRefusal::UnreadableWords`], [`StoringRefusal::NoRoom`]. No byte is written then.
+pub fn store(state: &[u32], table: &[u32], run: u64, bytes: &mut [u8]) -> Result<(), StoringRefusal> {
+    // SAFETY: each pointer and length is that of a slice.
+    done(unsafe {
+        abi::forgelilac_store(
+            state.as_ptr(),
+            state.len(),
+            table.as_ptr(),
+            table.len(),
+            run,
+            bytes.as_mut_ptr(),
+            bytes.len(),
+        )
+    })
+}
+
+/// Loads what member `own` stored in this run, exactly its bytes, into the first words of state and table.
+///
+/// # Errors
+/// [`StoringRefusal::Torn`] for fewer bytes than any member is stored in, [`StoringRefusal::OtherMark`],
+/// [`StoringRefusal::OtherFormat`], [`StoringRefusal::Torn`], [`StoringRefusal::OtherMember`],
+/// [`StoringRefusal::OtherRun`], [`StoringRefusal::UnreadableWords`], [`StoringRefusal::NoRoom`]. No word is
+/// written then.
+pub fn load(bytes: &[u8], own: Member, run: u64, state: &mut [u32], table: &mut [u32]) -> Result<(), StoringRefusal> {
+    // SAFETY: each pointer and length is that of a slice.
+    done(unsafe {
+        abi::forgelilac_load(
+            bytes.as_ptr(),
+            bytes.len(),
+            own.get(),
+            run,
+            state.as_mut_ptr(),
+            state.len(),
+            table.as_mut_ptr(),
+            table.len(),
+        )
+    })
+}
+
+/// What the author signs of a proposal. Of the state only the filled settings are looked at.
+///
+/// # Errors
+/// [`StoringRefusal::UnreadableWords`].
+pub fn proposal_bytes(
+    state: &[u32], run: u64, proposal: &[u32; PROPOSAL_WORDS],
+) -> Result<[u8; SIGNED_BYTES], StoringRefusal> {
+    let mut bytes = [0; SIGNED_BYTES];
+    // SAFETY: each pointer and length is that of a slice or an array.
+    done(unsafe {
+        abi::forgelilac_proposal_bytes(
+            state.as_ptr(),
+            state.len(),
+            run,
+            proposal.as_ptr(),
+            proposal.len(),
+            bytes.as_mut_ptr(),
+            bytes.len(),
+        )
+    })?;
+    Ok(bytes)
+}
+
+/// What an endorser signs of a proposal: as [`proposal_bytes`], with another mark.
+///
+/// # Errors
+/// [`StoringRefusal::UnreadableWords`].
+pub fn endorsement_bytes(
+    state: &[u32], run: u64, proposal: &[u32; PROPOSAL_WORDS],
+) -> Result<[u8; SIGNED_BYTES], StoringRefusal> {
+    let mut bytes = [0; SIGNED_BYTES];
+    // SAFETY: each pointer and length is that of a slice or an array.
+    done(unsafe {
+        abi::forgelilac_endorsement_bytes(
+            state.as_ptr(),
+            state.len(),
+            run,
+            proposal.as_ptr(),
+            proposal.len(),
+            bytes.as_mut_ptr(),
+            bytes.len(),
+        )
+    })?;
+    Ok(bytes)
+}
+
+/// What is signed where whole certificates are: the endorsers stand last.
+///
+/// # Errors
+/// [`StoringRefusal::UnreadableWords`].
+pub fn certificate_bytes(
+    state: &[u32], run: u64, certificate: &[u32; CERTIFICATE_WORDS],
+) -> Result<[u8; SIGNED_CERTIFICATE_BYTES], StoringRefusal> {
+    let mut bytes = [0; SIGNED_CERTIFICATE_BYTES];
+    // SAFETY: each pointer and length is that of a slice or an array.
+    done(unsafe {
+        abi::forgelilac_certificate_bytes(
+            state.as_ptr(),
+            state.len(),
+            run,
+            certificate.as_ptr(),
+            certificate.len(),
+            bytes.as_mut_ptr(),
+            bytes.len(),
+        )
+    })?;
+    Ok(bytes)
 }

@@ -1,11 +1,13 @@
 //! Forgelilac for Rust hosts: one member's ordering engine as typed calls.
 //!
-//! `Engine` owns its state and table; it needs an allocator, and the feature `alloc`, which is on
+//! `Engine` owns its state and table, and so tests them once and not in each call; it needs an allocator, and
+//! the feature `alloc`, which is on
 //! unless you turn it off. Without it there are the calls of [`lent`] on slices that the host lends:
 //! the crate needs neither the standard library nor any other crate. docs/HOSTS.md explains the
 //! calls, what each refusal asks of a host, and what the promise asks; signatures, network, clocks
 //! and storage are the host's. Guests call by their rights, which the host fixes at opening:
-//! `Engine::guest`, and the guests' forms of [`lent`]; an old guest's serial port is among them.
+//! `Engine::guest`, and the guests' forms of [`lent`]; an old guest's serial port is among them. What a
+//! host does after each call is a type: the module `ready`.
 //!
 //! The build script finds the engine's archive: the file that the variable `FORGELILAC_ARCHIVE` names, an
 //! installed one by pkg-config, or that of the tree; README.md of the package has the rest.
@@ -41,9 +43,10 @@
 //! # Panics
 //!
 //! No call panics, whatever it is handed and whatever words it is lent, but for two things that are none of
-//! its arguments: where memory for what it gives cannot be had, it ends as `alloc` does; and an archive of a
-//! later version may answer a number that this one has no [`Refusal`] for, which is a panic
-//! ([`ENGINE_VERSION`] is the one that it is made for). Calls use up to [`layout::STACK_BYTES`] of stack.
+//! its arguments: where memory for what it gives cannot be had, it ends as `alloc` does; and where the archive
+//! that is linked is of another version than [`ENGINE_VERSION`], by major or minor, opening a member or
+//! restoring one panics and says so ([`archive_version`]). An archive of another format does not link. Calls use
+//! up to [`layout::STACK_BYTES`] of stack, and those of an `Engine` up to [`layout::OWNED_STACK_BYTES`].
 
 #![no_std]
 #![deny(missing_docs)]
@@ -51,7 +54,7 @@
 #[cfg(feature = "alloc")]
 extern crate alloc;
 
-mod chain;
+mod archive;
 #[cfg(feature = "alloc")]
 mod engine;
 #[cfg(feature = "alloc")]
@@ -61,15 +64,23 @@ pub mod lent;
 mod numbers;
 #[cfg(feature = "alloc")]
 mod owned;
+#[cfg(feature = "alloc")]
+mod owner;
+#[cfg(feature = "alloc")]
+pub mod ready;
 mod refusal;
 mod rights;
 #[cfg(feature = "alloc")]
 mod stored;
+pub mod storing;
 mod terms;
 #[cfg(all(test, feature = "alloc"))]
 mod tests;
 mod version;
+#[cfg(feature = "alloc")]
+mod words;
 
+pub use archive::{archive_format, archive_version};
 #[cfg(feature = "alloc")]
 pub use engine::Engine;
 #[cfg(feature = "alloc")]
@@ -79,13 +90,18 @@ pub use lent::Entry;
 pub use numbers::{Member, Round, Share};
 #[cfg(feature = "alloc")]
 pub use owned::{Answers, Block, Certificate, Held, Proposal};
+#[cfg(feature = "alloc")]
+pub use owner::Owned;
 pub use refusal::Refusal;
 pub use rights::{Right, Rights};
 #[cfg(feature = "alloc")]
 pub use stored::FromBytesError;
+pub use storing::StoringRefusal;
 pub use terms::{body_words, certificate_words, leader, proposal_words, transactions_of};
 pub use terms::{Critical, Effect, Sheet, Transaction};
 pub use version::ENGINE_VERSION;
+#[cfg(feature = "alloc")]
+pub use words::{Lent, Words};
 
 /// The examples of README.md.
 #[cfg(all(doctest, feature = "alloc"))]

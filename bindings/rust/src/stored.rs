@@ -1,7 +1,10 @@
 //! An engine's words as bytes.
 
-use crate::layout::{FORMAT, STATE_WORDS};
-use crate::Engine;
+use crate::layout::{FORMAT, STATE_CEILING, STATE_WORDS};
+use crate::storing::{self, stored_bytes};
+use crate::words::Words;
+use crate::{table_words, Engine, Member, StoringRefusal};
+use alloc::vec;
 use alloc::vec::Vec;
 use core::fmt;
 
@@ -39,7 +42,49 @@ fn number(bytes: &[u8]) -> Option<(u32, &[u8])> {
     Some((u32::from_le_bytes(*four), rest))
 }
 
-impl Engine {
+/// What [`Engine::to_bytes`] gives of these words.
+pub(crate) fn to_bytes(state: &[u32; STATE_WORDS], table: &[u32]) -> Vec<u8> {
+    let mut bytes = Vec::with_capacity(FRONT + 4 * (STATE_WORDS + table.len()));
+    bytes.extend(FORMAT.to_le_bytes());
+    bytes.extend((STATE_WORDS as u32).to_le_bytes());
+    bytes.extend((table.len() as u64).to_le_bytes());
+    bytes.extend(state.iter().chain(table).flat_map(|word| word.to_le_bytes()));
+    bytes
+}
+
+impl<W: Words> Engine<W> {
+    /// The member as bytes with a digest over them, stored in the run of this number: what a host writes to a
+    /// disk. What the table has beyond its used part is not there.
+    ///
+    /// A digest tells bytes that were torn or mixed; it is no signature, and an older store is as whole as the
+    /// latest.
+    ///
+    /// # Errors
+    /// [`StoringRefusal::UnreadableWords`], where the words are no state's.
+    ///
+    /// ```
+    /// use forgelilac::{Engine, Member, Sheet, StoringRefusal};
+    ///
+    /// let sheet = Sheet { ceiling: Some(64), ..Sheet::default() };
+    /// let engine = Engine::open(Member::new(2), &sheet).unwrap();
+    /// let mut bytes = engine.store(7)?;
+    /// assert_eq!(Engine::load(&bytes, Member::new(2), 7), Ok(engine));
+    /// assert_eq!(Engine::load(&bytes, Member::new(3), 7), Err(StoringRefusal::OtherMember));
+    /// assert_eq!(Engine::load(&bytes, Member::new(2), 8), Err(StoringRefusal::OtherRun));
+    /// bytes[1000] ^= 1;
+    /// assert_eq!(Engine::load(&bytes, Member::new(2), 7), Err(StoringRefusal::Torn));
+    /// # Ok::<(), StoringRefusal>(())
+    /// ```
+    pub fn store(&self, run: u64) -> Result<Vec<u8>, StoringRefusal> {
+        let (state, table) = self.words();
+        if (table.len() as u64) < table_words(state[STATE_CEILING]) {
+            return Err(StoringRefusal::UnreadableWords);
+        }
+        let mut bytes = vec![0; stored_bytes(state[STATE_CEILING]) as usize];
+        storing::store(state, table, run, &mut bytes)?;
+        Ok(bytes)
+    }
+
     /// State and table as bytes, for storing: [`crate::layout::FORMAT`], the words of the state, in eight
     /// bytes the words of the table, then the words of both, each little-endian. What the table has beyond
     /// its used part is there too.
@@ -60,15 +105,27 @@ impl Engine {
     /// ```
     #[must_use]
     pub fn to_bytes(&self) -> Vec<u8> {
-        let mut bytes = Vec::with_capacity(FRONT + 4 * (STATE_WORDS + self.table.len()));
-        bytes.extend(FORMAT.to_le_bytes());
-        bytes.extend((STATE_WORDS as u32).to_le_bytes());
-        bytes.extend((self.table.len() as u64).to_le_bytes());
-        bytes.extend(self.state.iter().chain(&self.table).flat_map(|word| word.to_le_bytes()));
-        bytes
+        let (state, table) = self.words();
+        to_bytes(state, table)
+    }
+}
+
+impl Engine {
+    /// The member `own` as it stored itself in this run: exactly the bytes of [`Engine::store`]. Any bytes are
+    /// safe, and none are allocated for that are not there. The words are tested as [`Engine::try_restore`]
+    /// tests them.
+    ///
+    /// # Errors
+    /// As [`storing::load`] has them, but for [`StoringRefusal::NoRoom`]; and
+    /// [`StoringRefusal::UnreadableWords`] also where [`Engine::try_restore`] fails.
+    pub fn load(bytes: &[u8], own: Member, run: u64) -> Result<Engine, StoringRefusal> {
+        let words = (bytes.len() as u64).checked_sub(stored_bytes(0)).map_or(0, |more| more / 4 + table_words(0));
+        let (mut state, mut table) = ([0; STATE_WORDS], vec![0; words as usize]);
+        storing::load(bytes, own, run, &mut state, &mut table)?;
+        Engine::try_restore(state, table).map_err(|_| StoringRefusal::UnreadableWords)
     }
 
-    /// An engine of the bytes that [`Engine::to_bytes`] gave, where its state is well formed. Any bytes are
+    /// An engine of the bytes that [`Engine::to_bytes`] gave, as [`Engine::try_restore`] makes one. Any bytes are
     /// safe, and none are allocated for that are not there. As [`Engine::try_restore`] it cannot tell a
     /// damaged or an older store from the latest: check your digest and count first.
     ///

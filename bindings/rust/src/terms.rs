@@ -4,6 +4,7 @@ use crate::layout::{
     BODY_WORDS, CERTIFICATE_WORDS, EFFECT_AFTER, EFFECT_BEFORE, EFFECT_LARGEST, EFFECT_WORDS, PROPOSAL_WORDS,
     SHEET_WORDS, TRANSACTIONS, TRANSACTION_WORDS,
 };
+use crate::lent::abi;
 use crate::{Member, Refusal, Round, Set, Share, MEMBERS};
 
 /// A transaction of a proposal. Later versions may have more kinds.
@@ -172,11 +173,7 @@ impl Effect {
 /// odd round.
 #[must_use]
 pub fn leader(round: Round, weights: &[u32; MEMBERS]) -> Option<Member> {
-    let round = round.get();
-    if round % 2 != 0 || round == 0 {
-        return None;
-    }
-    let members = || Member::ALL.into_iter().zip(weights).filter(|(_, weight)| **weight > 0).map(|(member, _)| member);
-    let position = (round as usize / 2).checked_rem(members().count())?;
-    members().nth(position)
+    // SAFETY: sixteen weights, which are read.
+    let leader = unsafe { abi::forgelilac_leader_of(round.get(), weights.as_ptr(), weights.len()) };
+    Member::ALL.get(leader as usize).copied()
 }

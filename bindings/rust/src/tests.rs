@@ -5,7 +5,8 @@ extern crate std;
 use crate::layout::{
     brought_along, preview_words, queue, record, row, BATCH_RECORDS, CERTIFICATE_WORDS, CRITICAL_WORDS, EFFECT_WORDS,
     ENTRY_WORDS, GUESTS, HELD_WORDS, PLACE_WORDS, QUEUE_PLACES, RECORD_BLOCK, RECORD_ENDORSERS, ROW_BLOCK, ROW_HELD,
-    SERVED, STATE_BLOCKS, STATE_CEILING, STATE_MARGIN, STATE_ROUND, TRANSACTIONS, TRANSACTION_WORDS, WAITING,
+    SERVED, STATE_BLOCKS, STATE_BODY, STATE_CEILING, STATE_MARGIN, STATE_ROUND, TRANSACTIONS, TRANSACTION_WORDS,
+    WAITING,
 };
 use crate::lent::{self, CertificateRecord};
 use crate::*;
@@ -16,7 +17,9 @@ use alloc::vec::Vec;
 use core::fmt;
 
 mod guests;
+mod owner;
 mod ports;
+mod ready;
 
 fn entry(number: u32) -> Transaction {
     Transaction::Entry { number }
@@ -38,9 +41,21 @@ fn of_four(own: u32) -> Engine {
     Engine::open(Member::new(own), &Sheet { ceiling: Some(8), ..Sheet::default() }).unwrap()
 }
 
+/// Its words, as anything may write them.
+fn lent(engine: &Engine) -> Engine<Lent> {
+    Engine::lent(*engine.words().0, engine.words().1.to_vec())
+}
+
+/// Its words with something changed, still those of a member.
+fn changed(engine: &Engine, change: impl FnOnce(&mut [u32; STATE_WORDS], &mut [u32])) -> Engine {
+    let (mut state, mut table) = (*engine.words().0, engine.words().1.to_vec());
+    change(&mut state, &mut table);
+    Engine::try_restore(state, table).unwrap()
+}
+
 /// Calls that must be refused with a number and change nothing.
-fn refuses<T: fmt::Debug + PartialEq>(
-    engine: &mut Engine, number: u32, call: impl Fn(&mut Engine) -> Result<T, Refusal>,
+fn refuses<W: Words, T: fmt::Debug + PartialEq>(
+    engine: &mut Engine<W>, number: u32, call: impl Fn(&mut Engine<W>) -> Result<T, Refusal>,
 ) {
     let before = engine.clone();
     assert_eq!(call(engine).unwrap_err().number(), number);
@@ -116,9 +131,9 @@ fn ones(members: &[usize]) -> [u32; MEMBERS] {
 }
 
 /// What is no state of a run, and well formed: records written into the table by hand.
-fn write_record(engine: &mut Engine, author: u32, round: u32, block: u32, transaction: [u32; 3]) {
-    engine.table[row(round) + ROW_HELD] |= 1 << author;
-    let record = &mut engine.table[record(Member::new(author), Round::new(round))..][..16];
+fn write_record(engine: &mut Engine<Lent>, author: u32, round: u32, block: u32, transaction: [u32; 3]) {
+    engine.words.table[row(round) + ROW_HELD] |= 1 << author;
+    let record = &mut engine.words.table[record(Member::new(author), Round::new(round))..][..16];
     record.fill(0);
     record[..4].copy_from_slice(&[(round > 1).into(), 1, block, 0]);
     record[4..7].copy_from_slice(&transaction);
@@ -128,15 +143,15 @@ fn write_record(engine: &mut Engine, author: u32, round: u32, block: u32, transa
 fn where_a_round_has_no_leader_numbers_just_rise() {
     let mut sheet = Sheet { lookback: Some(1), ceiling: Some(8), ..Sheet::default() };
     sheet.weights[..4].copy_from_slice(&[Some(0), Some(0), Some(1), Some(0)]);
-    let mut engine = Engine::open(Member::new(0), &sheet).unwrap();
+    let mut engine = lent(&Engine::open(Member::new(0), &sheet).unwrap());
     let (entry, unbond_2, bond_3) = ([2, 7, 0], [1, 2, 0], [0, 3, 1]);
     for author in 0..4 {
         write_record(&mut engine, author, 1, 1, if author == 1 { unbond_2 } else { entry });
         write_record(&mut engine, author, 3, 2, if author == 0 { bond_3 } else { entry });
         write_record(&mut engine, author, 5, 3, entry);
     }
-    engine.state[STATE_BLOCKS] = 3;
-    (1..=3).for_each(|number| engine.table[row(number) + ROW_BLOCK] = 2 * number);
+    engine.words.state[STATE_BLOCKS] = 3;
+    (1..=3).for_each(|number| engine.words.table[row(number) + ROW_BLOCK] = 2 * number);
     assert_eq!(engine.committee(Round::new(4)), Ok([0; MEMBERS]));
     assert_eq!(engine.committee(Round::new(6)), Ok(ones(&[3])));
     // Leaders 2, none and 3; no block has an anchor.
@@ -214,7 +229,7 @@ fn the_readme_names_the_engines_version() {
 fn an_engine_shows_a_few_words() {
     let shown = "Engine { own: 2, round: 1, ceiling: 8, blocks: 0, table_words: 2448, .. }";
     assert_eq!(format!("{:?}", of_four(2)), shown);
-    let closed = Engine::restore([u32::MAX; STATE_WORDS], Vec::new());
+    let closed = Engine::lent([u32::MAX; STATE_WORDS], Vec::new());
     assert!(format!("{:?} {:?}", closed, closed.reader(9)).len() < 300);
 }
 
@@ -223,13 +238,13 @@ fn an_engine_shows_a_few_words() {
 #[test]
 fn bytes_go_both_ways() {
     let (engine, _) = endorsed_by_two();
-    let longer = Engine { table: [&engine.table[..], &[77; 5]].concat(), ..engine.clone() };
+    let longer = Engine::try_restore(*engine.words().0, [engine.words().1, &[77; 5]].concat()).unwrap();
     for engine in [engine, longer, alone()] {
         let bytes = engine.to_bytes();
         assert_eq!(bytes[..8], [3, 0, 0, 0, 39, 0, 0, 0]);
-        assert_eq!(bytes[8..16], (engine.table.len() as u64).to_le_bytes());
-        assert_eq!(bytes[16..20], engine.state[0].to_le_bytes());
-        assert_eq!(bytes[16 + 4 * STATE_WORDS..][..4], engine.table[0].to_le_bytes());
+        assert_eq!(bytes[8..16], (engine.words().1.len() as u64).to_le_bytes());
+        assert_eq!(bytes[16..20], engine.words().0[0].to_le_bytes());
+        assert_eq!(bytes[16 + 4 * STATE_WORDS..][..4], engine.words().1[0].to_le_bytes());
         assert_eq!(Engine::from_bytes(&bytes), Ok(engine));
     }
 }
@@ -259,13 +274,10 @@ fn bytes_that_do_not_fit() {
     // The largest lengths that there are.
     other[4..16].fill(255);
     assert_eq!(Engine::from_bytes(&other), Err(FromBytesError::Length));
-    let mut damaged = of_four(0);
-    damaged.state[0] = 16;
+    let mut damaged = lent(&of_four(0));
+    damaged.words.state[0] = 16;
     assert_eq!(Engine::from_bytes(&damaged.to_bytes()), Err(FromBytesError::Malformed));
-    assert_eq!(
-        Engine::from_bytes(&Engine::restore([3; STATE_WORDS], vec![]).to_bytes()),
-        Err(FromBytesError::Malformed)
-    );
+    assert_eq!(Engine::from_bytes(&Engine::lent([3; STATE_WORDS], vec![]).to_bytes()), Err(FromBytesError::Malformed));
 }
 
 #[test]
@@ -297,7 +309,7 @@ fn what_lies_beyond_the_table_stays() {
     let mut engine = Engine::open_on(vec![77; used + 5], Member::new(0), &sheet, Rights::NONE).unwrap();
     engine.propose(0, &[]).unwrap();
     engine.certify(0b1110).unwrap();
-    assert_eq!(engine.table[used..], [77; 5]);
+    assert_eq!(engine.words().1[used..], [77; 5]);
 }
 
 #[test]
@@ -364,24 +376,24 @@ fn endorsers_stay_those_first_stored() {
 #[test]
 fn a_held_certificate_is_passed_on_as_it_is() {
     let (author, certificate) = endorsed_by_two();
-    let held = lent::certificate(&author.state, &author.table, Member::new(0), Round::new(1)).unwrap();
+    let held = lent::certificate(author.words().0, author.words().1, Member::new(0), Round::new(1)).unwrap();
     assert_eq!(held[..CERTIFICATE_WORDS], certificate.to_words());
     assert_eq!(held[CERTIFICATE_WORDS..], [0]);
-    let mut other = of_four(3);
-    lent::accept(&other.state, &mut other.table, &held).unwrap();
+    let mut other = lent(&of_four(3));
+    lent::accept(&other.words.state, &mut other.words.table, &held).unwrap();
     assert_eq!(other.certificate(Member::new(0), Round::new(1)), author.certificate(Member::new(0), Round::new(1)));
 }
 
 /// Word 3 of the record of an author in round 1.
-fn endorsers_of(engine: &mut Engine, author: u32) -> &mut u32 {
-    &mut engine.table[record(Member::new(author), Round::new(1)) + RECORD_ENDORSERS]
+fn endorsers_of(engine: &mut Engine<Lent>, author: u32) -> &mut u32 {
+    &mut engine.words.table[record(Member::new(author), Round::new(1)) + RECORD_ENDORSERS]
 }
 
 #[test]
 fn no_author_is_among_its_own_endorsers() {
     let (engine, certificate) = endorsed_by_two();
     for word in [1, 0xffff, 0x1_0000, 0x1_0006, u32::MAX] {
-        let mut damaged = engine.clone();
+        let mut damaged = lent(&engine);
         *endorsers_of(&mut damaged, 0) = word;
         refuses(&mut damaged, 1, |e| e.certificate(Member::new(0), Round::new(1)));
         refuses(&mut damaged, 1, |e| e.accept(&certificate));
@@ -390,14 +402,14 @@ fn no_author_is_among_its_own_endorsers() {
     }
     // Outsiders, too few, none: well formed.
     for word in [0xfffe, 0x8000, 2, 0] {
-        let mut changed = engine.clone();
+        let mut changed = lent(&engine);
         *endorsers_of(&mut changed, 0) = word;
         assert_eq!(u32::from(changed.certificate(Member::new(0), Round::new(1)).unwrap().endorsers), word);
         refuses(&mut changed, 16, |e| e.accept(&certificate));
         refuses(&mut changed, 28, Engine::advance);
     }
     // Of a place that is not held the word is not looked at, and a put writes over it.
-    let mut free = engine.clone();
+    let mut free = lent(&engine);
     *endorsers_of(&mut free, 1) = u32::MAX;
     let proposal = Proposal { author: Member::new(1), round: Round::new(1), previous: 0, transactions: Vec::new() };
     free.accept(&Certificate { proposal, endorsers: 0b1001 }).unwrap();
@@ -407,7 +419,8 @@ fn no_author_is_among_its_own_endorsers() {
 /// A table of before endorsers were kept has 0 in their word.
 #[test]
 fn certificates_stored_before_show_no_endorsers() {
-    let (mut old, certificate) = endorsed_by_two();
+    let (old, certificate) = endorsed_by_two();
+    let mut old = lent(&old);
     *endorsers_of(&mut old, 0) = 0;
     let held = old.certificate(Member::new(0), Round::new(1)).unwrap();
     assert_eq!((held.endorsers, &held.proposal), (0, &certificate.proposal));
@@ -435,16 +448,17 @@ fn held_sets_are_of_what_is_held() {
     for round in (0..70).chain([CEILING, u32::MAX]).map(Round::new) {
         let read = Member::ALL.into_iter().filter(|&author| engine.certificate(author, round).is_ok());
         assert_eq!(engine.held(round), read.map(Member::bit).sum());
-        assert_eq!(lent::held(&engine.state, &engine.table, round), engine.held(round));
+        assert_eq!(lent::held(engine.words().0, engine.words().1, round), engine.held(round));
     }
     // What lies beyond the ceiling is no row, and words of row 0 are none either.
-    engine.table.extend([0b1111; 272]);
-    engine.table[0] = 1;
+    let mut engine = lent(&engine);
+    engine.words.table.extend([0b1111; 272]);
+    engine.words.table[0] = 1;
     assert_eq!([0, 65].map(|round| engine.held(Round::new(round))), [0, 0]);
     // Words that end before, and a word that is no set.
-    assert_eq!(lent::held(&engine.state[..2], &engine.table, Round::FIRST), 0);
-    assert_eq!(lent::held(&engine.state, &engine.table[..272], Round::FIRST), 0);
-    engine.table[row(1) + ROW_HELD] = 1 << 16;
+    assert_eq!(lent::held(&engine.words().0[..2], engine.words().1, Round::FIRST), 0);
+    assert_eq!(lent::held(engine.words().0, &engine.words().1[..272], Round::FIRST), 0);
+    engine.words.table[row(1) + ROW_HELD] = 1 << 16;
     assert_eq!(engine.held(Round::FIRST), 0);
 }
 
@@ -536,8 +550,8 @@ fn records_of_a_row_are_the_words_of_certificates() {
         spoilt(3, 5),
         record,
     ];
-    let (mut engine, mut answers) = (of_four(0), [77; 10]);
-    lent::batch(&engine.state, &mut engine.table, &row, &mut answers).unwrap();
+    let (mut engine, mut answers) = (lent(&of_four(0)), [77; 10]);
+    lent::batch(&engine.words.state, &mut engine.words.table, &row, &mut answers).unwrap();
     assert_eq!(answers, [1, 1, 1, 4, 5, 5, 6, 0, 77, 77]);
 }
 
@@ -556,8 +570,8 @@ fn lengths_of_a_batch() {
         (65, 65, Err(Refusal::LengthRange)),
         (65, 80, Err(Refusal::LengthRange)),
     ] {
-        let (mut engine, mut answers) = (of_four(0), vec![77; room]);
-        let found = lent::batch(&engine.state, &mut engine.table, &row[..records], &mut answers);
+        let (mut engine, mut answers) = (lent(&of_four(0)), vec![77; room]);
+        let found = lent::batch(&engine.words.state, &mut engine.words.table, &row[..records], &mut answers);
         assert_eq!(found, answer, "{records} records, {room} answers");
         let tried = if answer.is_ok() { records } else { 0 };
         assert!(answers[tried..].iter().all(|&word| word == 77));
@@ -565,7 +579,7 @@ fn lengths_of_a_batch() {
         assert_eq!(engine.certificate(Member::new(1), Round::new(1)).is_ok(), tried > 0);
         // A malformed state comes first.
         let mut answers = vec![77; room];
-        let found = lent::batch(&[0; STATE_WORDS], &mut engine.table, &row[..records], &mut answers);
+        let found = lent::batch(&[0; STATE_WORDS], &mut engine.words.table, &row[..records], &mut answers);
         assert_eq!(found, Err(Refusal::Malformed));
         assert!(answers.iter().all(|&word| word == 77));
     }
@@ -583,7 +597,7 @@ fn add(engine: &mut Engine, waiting: &[(u32, u32)]) {
 }
 
 /// Draws for a member alone, certifies and goes on: what was drawn.
-fn draw(engine: &mut Engine) -> Vec<Transaction> {
+fn draw<W: Words>(engine: &mut Engine<W>) -> Vec<Transaction> {
     engine.draw((engine.round() > 1).into()).unwrap();
     let drawn = engine.proposal().unwrap().transactions;
     engine.certify(0).unwrap();
@@ -608,7 +622,7 @@ fn guests_share_the_proposal() {
     assert_eq!(draw(&mut engine), [30, 2, 22, 23].map(entry));
     // Nothing waits: a proposal without transactions, and guest 2 is still the one served last.
     assert_eq!(draw(&mut engine), []);
-    assert_eq!((waiting(&engine), engine.table[SERVED]), ([0; GUESTS], 3));
+    assert_eq!((waiting(&engine), engine.words().1[SERVED]), ([0; GUESTS], 3));
     add(&mut engine, &[(1, 10), (2, 24), (3, 31)]);
     assert_eq!(draw(&mut engine), [31, 10, 24].map(entry));
 }
@@ -622,22 +636,22 @@ fn words_of_a_queue() {
     add(&mut engine, &[(0, 5)]);
     let at = queue(7);
     assert_eq!((at, at + QUEUE_PLACES * TRANSACTION_WORDS), (248, 272));
-    assert_eq!(engine.table[at..at + 6], [0, 15, 1_000, 1, 3, 0]);
-    assert_eq!(engine.table[queue(0)..queue(0) + 3], [2, 5, 0]);
-    assert_eq!(engine.table[SERVED..WAITING + GUESTS], [0, 1, 0, 0, 0, 0, 0, 0, 2]);
+    assert_eq!(engine.words().1[at..at + 6], [0, 15, 1_000, 1, 3, 0]);
+    assert_eq!(engine.words().1[queue(0)..queue(0) + 3], [2, 5, 0]);
+    assert_eq!(engine.words().1[SERVED..WAITING + GUESTS], [0, 1, 0, 0, 0, 0, 0, 0, 2]);
     // Words beyond what waits stay; what leaves moves the others up.
-    engine.table[at + 6..at + 24].fill(77);
+    let mut engine = changed(&engine, |_, table| table[at + 6..at + 24].fill(77));
     engine.draw(0).unwrap();
-    assert_eq!(engine.table[at..at + 6], [77; 6]);
-    assert_eq!(engine.table[SERVED..WAITING + GUESTS], [8, 0, 0, 0, 0, 0, 0, 0, 0]);
+    assert_eq!(engine.words().1[at..at + 6], [77; 6]);
+    assert_eq!(engine.words().1[SERVED..WAITING + GUESTS], [8, 0, 0, 0, 0, 0, 0, 0, 0]);
     let drawn = [
         entry(5),
         Transaction::Bond { member: Member::new(15), amount: 1_000 },
         Transaction::Unbond { member: Member::new(3) },
     ];
-    assert_eq!(lent::own_proposal(&engine.state), Some(proposal_words(Member::new(0), Round::new(1), 0, &drawn)));
-    assert_eq!(lent::own_proposal(&engine.state[1..]), None);
-    assert_eq!(lent::own_proposal(&alone().state), None);
+    assert_eq!(lent::own_proposal(engine.words().0), Some(proposal_words(Member::new(0), Round::new(1), 0, &drawn)));
+    assert_eq!(lent::own_proposal(&engine.words().0[1..]), None);
+    assert_eq!(lent::own_proposal(alone().words().0), None);
 }
 
 /// 26, then 6, then 27; a place that is freed serves again.
@@ -663,9 +677,9 @@ fn adding_is_refused_in_its_order() {
     refuses(&mut engine, 26, |e| e.waiting(8));
     // Words that cannot be read come first, then a malformed state.
     for words in [&[][..], &[2, 7], &[3, 7, 0], &[2, 7, 1], &[1, 7, 1]] {
-        let mut copy = engine.clone();
-        assert_eq!(lent::enqueue(&copy.state, &mut copy.table, 8, words), Err(Refusal::Malformed));
-        assert!(copy == engine);
+        let mut copy = lent(&engine);
+        assert_eq!(lent::enqueue(&copy.words.state, &mut copy.words.table, 8, words), Err(Refusal::Malformed));
+        assert!(copy == lent(&engine));
     }
     assert_eq!(draw(&mut engine), [0, 1, 2, 3].map(entry));
     add(&mut engine, &[(7, 8), (7, 9), (7, 10), (7, 11)]);
@@ -684,7 +698,7 @@ fn a_draw_is_a_propose() {
     let mut other = engine.clone();
     other.propose(0, &[1, 40, 60, 70].map(entry)).unwrap();
     engine.draw(0).unwrap();
-    assert_eq!(engine.state, other.state);
+    assert_eq!(*engine.words().0, *other.words().0);
     assert_eq!((waiting(&engine), waiting(&other)), ([0, 0, 0, 0, 1, 0, 0, 0], [1, 0, 0, 0, 2, 0, 1, 1]));
     refuses(&mut engine, 10, |e| e.draw(0));
     engine.certify(0).unwrap();
@@ -706,8 +720,8 @@ fn a_draw_is_a_propose() {
     refuses(&mut engine, 9, |e| e.draw(0));
     // An open empties the queues.
     let sheet = Sheet { ceiling: Some(8), ..Sheet::default() };
-    let again = Engine::open_on(engine.table, Member::new(9), &sheet, Rights::NONE).unwrap();
-    assert_eq!((waiting(&again), again.table[SERVED]), ([0; GUESTS], 0));
+    let again = Engine::open_on(engine.words().1.to_vec(), Member::new(9), &sheet, Rights::NONE).unwrap();
+    assert_eq!((waiting(&again), again.words().1[SERVED]), ([0; GUESTS], 0));
 }
 
 /// Row 0 is part of the state, as far as it is used.
@@ -716,8 +730,8 @@ fn queues_that_are_not_well_formed() {
     let mut engine = alone();
     add(&mut engine, &[(3, 30), (3, 31)]);
     let changed = |at: usize, word: u32| {
-        let mut changed = engine.clone();
-        changed.table[at] = word;
+        let mut changed = lent(&engine);
+        changed.words.table[at] = word;
         changed
     };
     let at = queue(3);
@@ -770,7 +784,7 @@ fn no_advance_past_a_thin_round() {
             let before = engine.clone();
             engine.advance().unwrap();
             assert_eq!((engine.round(), engine.proposal()), (Round::new(round + 1), None));
-            assert!(engine.table == before.table);
+            assert!(engine.words().1 == before.words().1);
         }
         engine.advance().unwrap();
     }
@@ -797,7 +811,7 @@ fn a_quorum_is_told_by_weight() {
 fn an_outsider_beside_a_quorum() {
     let mut engine = of_four(0);
     (0..4).for_each(|author| engine.accept(&of_all_four(author, 1, 0, &[])).unwrap());
-    let mut damaged = engine.clone();
+    let mut damaged = lent(&engine);
     write_record(&mut damaged, 9, 1, 0, [2, 7, 0]);
     refuses(&mut damaged, 28, Engine::advance);
     engine.advance().unwrap();
@@ -826,7 +840,7 @@ fn alone_with(transaction: Transaction) -> Engine {
 fn an_empty_committee_lets_it_pass() {
     let mut engine = alone_with(Transaction::Unbond { member: Member::new(0) });
     assert_eq!(engine.committee(Round::new(4)), Ok([0; MEMBERS]));
-    let mut damaged = engine.clone();
+    let mut damaged = lent(&engine);
     write_record(&mut damaged, 0, 4, 0, [2, 7, 0]);
     refuses(&mut damaged, 28, Engine::advance);
     engine.advance().unwrap();
@@ -850,8 +864,9 @@ fn advance_is_refused_in_its_order() {
             }
         }
         refuses(&mut engine, number, Engine::advance);
-        engine.state[0] = 16;
-        refuses(&mut engine, 1, Engine::advance);
+        let mut damaged = lent(&engine);
+        damaged.words.state[0] = 16;
+        refuses(&mut damaged, 1, Engine::advance);
     }
 }
 
@@ -914,13 +929,16 @@ fn a_list_of_rows_is_lent() {
     assert_eq!(engine.commit(), Ok(1));
     let mut list = vec![77; 5 * HELD_WORDS + 1];
     for length in 0..5 * HELD_WORDS {
-        let found = lent::block_rows(&engine.state, &engine.table, 0, 1, &mut list[..length]);
+        let found = lent::block_rows(engine.words().0, engine.words().1, 0, 1, &mut list[..length]);
         assert_eq!(found, Err(Refusal::LengthRange));
-        assert_eq!(lent::block_rows(&engine.state, &engine.table, 0, 2, &mut list[..length]), Err(Refusal::NoneThere));
-        assert_eq!(lent::block_rows(&[0; STATE_WORDS], &engine.table, 0, 2, &mut list), Err(Refusal::Malformed));
+        assert_eq!(
+            lent::block_rows(engine.words().0, engine.words().1, 0, 2, &mut list[..length]),
+            Err(Refusal::NoneThere)
+        );
+        assert_eq!(lent::block_rows(&[0; STATE_WORDS], engine.words().1, 0, 2, &mut list), Err(Refusal::Malformed));
     }
     assert!(list.iter().all(|&word| word == 77));
-    assert_eq!(lent::block_rows(&engine.state, &engine.table, 0, 1, &mut list), Ok(5));
+    assert_eq!(lent::block_rows(engine.words().0, engine.words().1, 0, 1, &mut list), Ok(5));
     assert_eq!(list[5 * HELD_WORDS], 77);
     let held: Result<Vec<_>, _> = lent::rows(&list, 5).map(|words| Held::from_words(&words)).collect();
     assert_eq!(held, block_rows(&engine, 0, 1));
@@ -929,16 +947,16 @@ fn a_list_of_rows_is_lent() {
 // ---- previews
 
 /// What a commit on a copy adds, read there: the refusal, or the certificates of the new blocks.
-fn by_a_copy(engine: &Engine) -> Result<Vec<Entry>, Refusal> {
+fn by_a_copy<W: Words>(engine: &Engine<W>) -> Result<Vec<Entry>, Refusal> {
     let mut copy = engine.clone();
     copy.commit()?;
-    let mut places = vec![Entry::default(); preview_words(copy.state[STATE_CEILING]) / ENTRY_WORDS];
-    let count = lent::chain(&copy.state, &copy.table, &mut places).unwrap();
-    Ok(places[..count].iter().copied().filter(|place| place.block > engine.blocks()).collect())
+    let mut list = vec![0; layout::rows_words(copy.words().0[STATE_CEILING])];
+    let count = lent::chain(copy.words().0, copy.words().1, &mut list).unwrap();
+    Ok(lent::places(&list, count).filter(|place| place.block > engine.blocks()).collect())
 }
 
 /// The preview, once it is what the copy tells and has changed nothing.
-fn preview(engine: &Engine) -> Result<Vec<Entry>, Refusal> {
+fn preview<W: Words>(engine: &Engine<W>) -> Result<Vec<Entry>, Refusal> {
     let before = engine.clone();
     let found = engine.preview();
     assert!(*engine == before, "a preview changed a word");
@@ -993,10 +1011,10 @@ fn a_preview_is_refused_in_its_order() {
     let refused = |engine: &Engine, number| {
         assert_eq!(preview(engine).unwrap_err().number(), number);
         let mut list = vec![77; short];
-        assert_eq!(lent::preview(&engine.state, &engine.table, &mut list), Err(Refusal::LengthRange));
-        let mut damaged = engine.clone();
-        damaged.state[0] = 16;
-        assert_eq!(lent::preview(&damaged.state, &damaged.table, &mut list), Err(Refusal::Malformed));
+        assert_eq!(lent::preview(engine.words().0, engine.words().1, &mut list), Err(Refusal::LengthRange));
+        let mut damaged = lent(engine);
+        damaged.words.state[0] = 16;
+        assert_eq!(lent::preview(damaged.words().0, damaged.words().1, &mut list), Err(Refusal::Malformed));
         assert_eq!(damaged.preview(), Err(Refusal::Malformed));
         assert!(list.iter().all(|&word| word == 77));
     };
@@ -1022,8 +1040,7 @@ fn a_preview_is_refused_in_its_order() {
     refused(&engine, 22);
     engine.accept(&of_all_four(3, 3, 0b1110, &[])).unwrap();
     // The same engine without its commit comes into round 5 by hand: not known.
-    let mut late = engine.clone();
-    late.state[STATE_ROUND] = 5;
+    let late = changed(&engine, |state, _| state[STATE_ROUND] = 5);
     refused(&late, 8);
     assert_eq!(preview(&engine), Ok(of_block(1, &[(1, &[1, 2, 3, 0]), (2, &[1])])));
     engine.commit().unwrap();
@@ -1045,7 +1062,7 @@ fn lengths_of_a_list() {
     assert_eq!((need, preview_words(3), preview_words(CEILING)), (3_072, 144, 49_152));
     for length in [0, 1, 6, need - 3, need - 1, need, need + 1, need + 2, need + 3, 2 * need] {
         let mut list = vec![77; length];
-        let found = lent::preview(&engine.state, &engine.table, &mut list);
+        let found = lent::preview(engine.words().0, engine.words().1, &mut list);
         let count = if length < need { 0 } else { 2 };
         assert_eq!(found, if length < need { Err(Refusal::LengthRange) } else { Ok(2) }, "{length} words");
         assert!(list[..ENTRY_WORDS * count] == [1, 1, 0, 1, 2, 0][..ENTRY_WORDS * count]);
@@ -1053,12 +1070,12 @@ fn lengths_of_a_list() {
         assert_eq!(lent::entries(&list, count as u32).count(), count);
     }
     // A longer table and a longer state are fine.
-    let table = [&engine.table[..], &[77; 5]].concat();
-    let state = [&engine.state[..], &[77; 5]].concat();
+    let table = [engine.words().1, &[77; 5]].concat();
+    let state = [&engine.words().0[..], &[77; 5]].concat();
     let mut list = vec![77; need];
     assert_eq!(lent::preview(&state, &table, &mut list), Ok(2));
     assert_eq!(lent::preview(&state[1..], &table, &mut list), Err(Refusal::Malformed));
-    assert_eq!(lent::preview(&state, &engine.table[1..], &mut list), Err(Refusal::Malformed));
+    assert_eq!(lent::preview(&state, &engine.words().1[1..], &mut list), Err(Refusal::Malformed));
 }
 
 /// No run marks an anchor before its block; words written by hand may. Its block has no entry.
@@ -1073,9 +1090,10 @@ fn a_block_without_new_certificates_has_no_entry() {
         engine.certify(0).unwrap();
     }
     // As if block 1, of round 2, held rounds 1 to 4.
-    engine.state[STATE_BLOCKS] = 1;
-    engine.table[row(1) + ROW_BLOCK] = 2;
-    (1..=4).for_each(|round| engine.table[record(Member::new(0), Round::new(round)) + RECORD_BLOCK] = 1);
+    let mut engine = lent(&engine);
+    engine.words.state[STATE_BLOCKS] = 1;
+    engine.words.table[row(1) + ROW_BLOCK] = 2;
+    (1..=4).for_each(|round| engine.words.table[record(Member::new(0), Round::new(round)) + RECORD_BLOCK] = 1);
     assert_eq!(preview(&engine), Ok(of_block(3, &[(5, &[0]), (6, &[0])])));
     assert_eq!(engine.commit(), Ok(2));
 }
@@ -1084,11 +1102,11 @@ fn a_block_without_new_certificates_has_no_entry() {
 
 /// By absence alone: the refusal of a commit, or the held certificates of the two rounds without which
 /// a commit on a copy is refused.
-fn by_absence(engine: &Engine) -> Result<Vec<Critical>, Refusal> {
+fn by_absence<W: Words>(engine: &Engine<W>) -> Result<Vec<Critical>, Refusal> {
     engine.clone().commit()?;
     let without = |place: &Critical| {
-        let mut copy = engine.clone();
-        copy.table[row(place.round.get()) + ROW_HELD] &= !u32::from(place.author.bit());
+        let mut copy = Engine::lent(*engine.words().0, engine.words().1.to_vec());
+        copy.words.table[row(place.round.get()) + ROW_HELD] &= !u32::from(place.author.bit());
         copy.commit()
     };
     let places = [engine.round().before(), engine.round()]
@@ -1099,7 +1117,7 @@ fn by_absence(engine: &Engine) -> Result<Vec<Critical>, Refusal> {
 }
 
 /// The list, once it is what absence tells and no word has changed.
-fn critical(engine: &mut Engine) -> Result<Vec<Critical>, Refusal> {
+fn critical<W: Words>(engine: &mut Engine<W>) -> Result<Vec<Critical>, Refusal> {
     let before = engine.clone();
     let found = engine.critical();
     assert!(*engine == before, "a word is not as it was");
@@ -1166,8 +1184,9 @@ fn votes_are_told_by_what_remains() {
         others.iter().for_each(|&author| engine.accept(&of_all_four(author, 3, 0b1101, &[])).unwrap());
         assert_eq!(critical(&mut engine), hangs_on(1, 2, there), "votes {votes:?}");
         // No run holds an outsider's certificate; it weighs nothing.
+        let mut engine = lent(&engine);
         write_record(&mut engine, 9, 3, 0, [2, 7, 0]);
-        engine.table[record(Member::new(9), Round::new(3))] = 0b1111;
+        engine.words.table[record(Member::new(9), Round::new(3))] = 0b1111;
         assert_eq!(critical(&mut engine), hangs_on(1, 2, there), "votes {votes:?}, and an outsider's");
     }
 }
@@ -1218,10 +1237,11 @@ fn a_list_of_places_is_refused_in_its_order() {
     let refused = |engine: &mut Engine, number| {
         assert_eq!(critical(engine).unwrap_err().number(), number);
         let mut list = [77; CRITICAL_WORDS - 1];
-        assert_eq!(lent::critical(&engine.state, &mut engine.table, &mut list), Err(Refusal::LengthRange));
-        let mut damaged = engine.clone();
-        damaged.state[0] = 16;
-        assert_eq!(lent::critical(&damaged.state, &mut damaged.table, &mut list), Err(Refusal::Malformed));
+        let mut copy = lent(engine);
+        assert_eq!(lent::critical(&copy.words.state, &mut copy.words.table, &mut list), Err(Refusal::LengthRange));
+        let mut damaged = lent(engine);
+        damaged.words.state[0] = 16;
+        assert_eq!(lent::critical(&damaged.words.state, &mut damaged.words.table, &mut list), Err(Refusal::Malformed));
         refuses(&mut damaged, 1, Engine::critical);
         assert!(list.iter().all(|&word| word == 77));
     };
@@ -1241,8 +1261,7 @@ fn a_list_of_places_is_refused_in_its_order() {
     engine.accept(&of_all_four(2, 3, 0b1101, &[])).unwrap();
     refused(&mut engine, 22);
     engine.accept(&of_all_four(3, 3, 0b1110, &[])).unwrap();
-    let mut late = engine.clone();
-    late.state[STATE_ROUND] = 5;
+    let mut late = changed(&engine, |state, _| state[STATE_ROUND] = 5);
     refused(&mut late, 8);
     assert_eq!(critical(&mut engine), hangs_on(1, 2, &[0, 3]));
     engine.commit().unwrap();
@@ -1262,10 +1281,11 @@ fn lengths_of_a_list_of_places() {
     }
     assert_eq!(critical(&mut engine), hangs_on(0, 2, &[0]));
     assert_eq!(CRITICAL_WORDS, 32 * PLACE_WORDS);
+    let mut engine = lent(&engine);
     let before = engine.clone();
     for length in [0, 1, 4, 31, 32, 62, 63, 64, 65, 66, 128] {
         let mut list = vec![77; length];
-        let found = lent::critical(&engine.state, &mut engine.table, &mut list);
+        let found = lent::critical(&engine.words.state, &mut engine.words.table, &mut list);
         let count = if length < 64 { 0 } else { 2 };
         assert_eq!(found, if length < 64 { Err(Refusal::LengthRange) } else { Ok(2) }, "{length} words");
         assert!(list[..PLACE_WORDS * count] == [2, 0, 3, 0][..PLACE_WORDS * count]);
@@ -1274,12 +1294,12 @@ fn lengths_of_a_list_of_places() {
         assert!(engine == before);
     }
     // A longer table and a longer state are fine.
-    let mut table = [&engine.table[..], &[77; 5]].concat();
-    let state = [&engine.state[..], &[77; 5]].concat();
+    let mut table = [engine.words().1, &[77; 5]].concat();
+    let state = [&engine.words().0[..], &[77; 5]].concat();
     let (mut list, before) = ([77; CRITICAL_WORDS], table.clone());
     assert_eq!(lent::critical(&state, &mut table, &mut list), Ok(2));
     assert_eq!(lent::critical(&state[1..], &mut table, &mut list), Err(Refusal::Malformed));
-    assert_eq!(lent::critical(&state, &mut engine.table[1..], &mut list), Err(Refusal::Malformed));
+    assert_eq!(lent::critical(&state, &mut engine.words.table[1..], &mut list), Err(Refusal::Malformed));
     assert!(table == before);
 }
 
@@ -1307,11 +1327,11 @@ fn in_round_5(author: u32, transaction: Transaction, votes: &[u32]) -> Engine {
 /// chain, and with it committees, so that other certificates may be there, and the anchor not.
 #[test]
 fn a_certificate_of_a_block_is_tried_without() {
-    let mark = |engine: &mut Engine, author: u32, round: u32| {
-        engine.table[record(Member::new(author), Round::new(round)) + RECORD_BLOCK] = 1
+    let mark = |engine: &mut Engine<Lent>, author: u32, round: u32| {
+        engine.words.table[record(Member::new(author), Round::new(round)) + RECORD_BLOCK] = 1
     };
     // A bond of 10 for member 0 gives its vote its weight: total 14, bound 4.
-    let mut engine = in_round_5(3, Transaction::Bond { member: Member::new(0), amount: 10 }, &[0]);
+    let mut engine = lent(&in_round_5(3, Transaction::Bond { member: Member::new(0), amount: 10 }, &[0]));
     assert_eq!(critical(&mut engine), Err(Refusal::VotesShort));
     mark(&mut engine, 3, 4);
     let place = |round, author| Critical { round, author };
@@ -1325,12 +1345,12 @@ fn a_certificate_of_a_block_is_tried_without() {
     );
     // Without member 0 the leader of round 4 is 3, else 2, and both have a certificate and votes: the
     // commit goes without this anchor, by the other.
-    let mut engine = in_round_5(3, Transaction::Unbond { member: Member::new(0) }, &[1, 2, 3]);
+    let mut engine = lent(&in_round_5(3, Transaction::Unbond { member: Member::new(0) }, &[1, 2, 3]));
     assert_eq!(critical(&mut engine), hangs_on(2, 4, &[]));
     mark(&mut engine, 3, 4);
     assert_eq!(critical(&mut engine), Ok(Vec::new()));
     // Marked without a transaction that changes weights: as any other.
-    let mut engine = in_round_5(3, entry(7), &[0, 1]);
+    let mut engine = lent(&in_round_5(3, entry(7), &[0, 1]));
     [(2, 4), (3, 4), (1, 5)].iter().for_each(|&(author, round)| mark(&mut engine, author, round));
     assert_eq!(critical(&mut engine), hangs_on(2, 4, &[0, 1]));
 }
@@ -1340,19 +1360,19 @@ fn a_certificate_of_a_block_is_tried_without() {
 #[test]
 fn a_commit_may_hang_on_all_that_is_held() {
     let weights = core::array::from_fn(|member| if member == 1 { 52 } else { 1 });
-    let mut engine = of_sixteen(3, weights);
-    engine.state[STATE_ROUND] = 5;
-    engine.state[STATE_BLOCKS] = 1;
-    engine.table[row(1) + ROW_BLOCK] = 2;
+    let mut engine = lent(&of_sixteen(3, weights));
+    engine.words.state[STATE_ROUND] = 5;
+    engine.words.state[STATE_BLOCKS] = 1;
+    engine.words.table[row(1) + ROW_BLOCK] = 2;
     let places: Vec<_> = (4..=5)
         .flat_map(|round| (0..16).map(move |author| Critical { round: Round::new(round), author: Member::new(author) }))
         .collect();
     places.iter().for_each(|place| write_record(&mut engine, place.author.get(), place.round.get(), 1, [0, 0, 1]));
     // The anchor is that of 2.
-    engine.table[record(Member::new(0), Round::new(5))] = 0b0100;
+    engine.words.table[record(Member::new(0), Round::new(5))] = 0b0100;
     assert_eq!(critical(&mut engine), Ok(places));
     let mut list = [77; CRITICAL_WORDS + 1];
-    assert_eq!(lent::critical(&engine.state, &mut engine.table, &mut list), Ok(32));
+    assert_eq!(lent::critical(&engine.words.state, &mut engine.words.table, &mut list), Ok(32));
     assert_eq!((list[0], list[63], list[64]), (4, 15, 77));
 }
 
@@ -1389,7 +1409,7 @@ fn margins_of_a_sheet() {
     let sheet = |margin| Sheet { ceiling: Some(8), margin, ..Sheet::default() };
     for (margin, filled) in [(None, 3), (Some(3), 3), (Some(4), 4), (Some(5), 5)] {
         let engine = Engine::open(Member::new(0), &sheet(margin)).unwrap();
-        assert_eq!(engine.state[STATE_MARGIN], filled);
+        assert_eq!(engine.words().0[STATE_MARGIN], filled);
         assert_eq!(sheet(margin).to_words()[38..], [margin.is_some().into(), margin.unwrap_or(0)]);
     }
     // 4, then 2, then 3, then 1.
@@ -1404,17 +1424,20 @@ fn margins_of_a_sheet() {
     }
     assert_eq!(Engine::open_on(Vec::new(), Member::new(15), &sheet(Some(5)), Rights::NONE), Err(Refusal::Malformed));
     // What a blank one has for its value is not looked at; a sheet of before is too short.
-    let mut engine = of_four(0);
+    let mut engine = lent(&of_four(0));
     let mut words = sheet(None).to_words();
     words[39] = 6;
-    lent::open(&mut engine.state, &mut engine.table, Member::new(0), &words, 0).unwrap();
-    assert_eq!(engine.state[STATE_MARGIN], 3);
+    lent::open(&mut engine.words.state, &mut engine.words.table, Member::new(0), &words, 0).unwrap();
+    assert_eq!(engine.words().0[STATE_MARGIN], 3);
     assert_eq!(
-        lent::open(&mut engine.state, &mut engine.table, Member::new(0), &words[..38], 0),
+        lent::open(&mut engine.words.state, &mut engine.words.table, Member::new(0), &words[..38], 0),
         Err(Refusal::Malformed)
     );
     words[38] = 2;
-    assert_eq!(lent::open(&mut engine.state, &mut engine.table, Member::new(0), &words, 0), Err(Refusal::Malformed));
+    assert_eq!(
+        lent::open(&mut engine.words.state, &mut engine.words.table, Member::new(0), &words, 0),
+        Err(Refusal::Malformed)
+    );
 }
 
 /// For total 16 margin 3 gives 5 and 11, margin 5 gives 3 and 13: 13, 28, 12, one short and just enough.
@@ -1439,7 +1462,7 @@ fn quorums_of_sixteen() {
         engine.endorse(&signed_by(quorum, 15, 2, enough).proposal).unwrap();
         engine.clone().propose(enough, &[]).unwrap();
         engine.draw(enough).unwrap();
-        assert_eq!(engine.state[STATE_MARGIN], margin);
+        assert_eq!(engine.words().0[STATE_MARGIN], margin);
     }
 }
 
@@ -1462,7 +1485,7 @@ fn votes_by_the_margin() {
         }
         assert_eq!(preview(&engine).unwrap().len(), 17);
         assert_eq!(engine.commit(), Ok(1));
-        assert_eq!(engine.state[STATE_MARGIN], margin);
+        assert_eq!(engine.words().0[STATE_MARGIN], margin);
     }
 }
 
@@ -1493,19 +1516,19 @@ fn a_proposal_beside_a_margin() {
     sheet.weights[1..4].fill(Some(0));
     let mut engine = Engine::open(Member::new(0), &sheet).unwrap();
     engine.propose(0, &all).unwrap();
-    assert_eq!(lent::own_proposal(&engine.state), Some(proposal_words(Member::new(0), Round::new(1), 0, &all)));
+    assert_eq!(lent::own_proposal(engine.words().0), Some(proposal_words(Member::new(0), Round::new(1), 0, &all)));
     assert_eq!(engine.proposal().unwrap().transactions, all);
     engine.certify(0).unwrap();
     for _ in 2..=3 {
         engine.advance().unwrap();
-        assert_eq!((engine.proposal(), engine.state[STATE_MARGIN]), (None, 5));
+        assert_eq!((engine.proposal(), engine.words().0[STATE_MARGIN]), (None, 5));
         all.iter().for_each(|&one| engine.enqueue(0, one).unwrap());
         engine.draw(1).unwrap();
-        assert_eq!((engine.proposal().unwrap().transactions, engine.state[STATE_MARGIN]), (all.to_vec(), 5));
+        assert_eq!((engine.proposal().unwrap().transactions, engine.words().0[STATE_MARGIN]), (all.to_vec(), 5));
         engine.certify(0).unwrap();
     }
     assert_eq!(engine.commit(), Ok(1));
-    assert_eq!((engine.proposal().unwrap().transactions, engine.state[STATE_MARGIN]), (all.to_vec(), 5));
+    assert_eq!((engine.proposal().unwrap().transactions, engine.words().0[STATE_MARGIN]), (all.to_vec(), 5));
 }
 
 /// States of 37 and 38 words, as earlier versions stored them, are refused, and go on when they are brought
@@ -1515,44 +1538,45 @@ fn states_of_before() {
     let mut engine = of_four(0);
     engine.propose(0, &[entry(5); 4]).unwrap();
     for (format, words) in [(1, 37), (2, 38)] {
-        let stored = engine.state[..words].to_vec();
-        let (mut short, mut table) = (stored.clone(), engine.table.clone());
+        let stored = engine.words().0[..words].to_vec();
+        let (mut short, mut table) = (stored.clone(), engine.words().1.to_vec());
         assert_eq!(lent::certify(&short, &mut table, 0b1110), Err(Refusal::Malformed));
         assert_eq!(lent::advance(&mut short, &table), Err(Refusal::Malformed));
         assert_eq!(lent::commit(&mut short, &mut table), Err(Refusal::Malformed));
         assert_eq!(lent::committee(&short, &table, Round::new(1)), Err(Refusal::Malformed));
         assert_eq!(lent::chain(&short, &table, &mut []), Err(Refusal::Malformed));
         assert_eq!(lent::own_proposal(&short), None);
-        assert!(!lent::is_well_formed(&short, &table) && short == stored && table == engine.table);
+        assert!(!lent::is_well_formed(&short, &table) && short == stored && table == engine.words().1);
         for rights in [0, 0x8000_0001, u32::MAX] {
             let brought = brought_along(format, &stored, rights).unwrap();
             let mut again = Engine::try_restore(brought, table.clone()).unwrap();
-            assert_eq!((again.rights().to_word(), again.state[STATE_MARGIN]), (rights, 3));
-            assert!(again.state[..37] == engine.state[..37] && again.table == engine.table);
+            assert_eq!((again.rights().to_word(), again.words().0[STATE_MARGIN]), (rights, 3));
+            assert!(again.words().0[..37] == engine.words().0[..37] && again.words().1 == engine.words().1);
             again.certify(0b0110).unwrap();
         }
-        assert_eq!(brought_along(format, &stored, 0), Ok(engine.state));
+        assert_eq!(brought_along(format, &stored, 0), Ok(*engine.words().0));
         assert_eq!(brought_along(format, &stored[1..], 0), Err(Refusal::Malformed));
     }
     // Another margin stays, and so does what a state of today has; more words are not looked at.
-    engine.state[STATE_MARGIN..].copy_from_slice(&[5, 7]);
-    assert_eq!(brought_along(2, &engine.state, 9).unwrap()[STATE_MARGIN..], [5, 9]);
-    assert_eq!(brought_along(3, &engine.state, 9), Ok(engine.state));
-    assert_eq!(brought_along(3, &engine.state[1..], 9), Err(Refusal::Malformed));
+    let mut engine = lent(&engine);
+    engine.words.state[STATE_MARGIN..].copy_from_slice(&[5, 7]);
+    assert_eq!(brought_along(2, engine.words().0, 9).unwrap()[STATE_MARGIN..], [5, 9]);
+    assert_eq!(brought_along(3, engine.words().0, 9), Ok(*engine.words().0));
+    assert_eq!(brought_along(3, &engine.words().0[1..], 9), Err(Refusal::Malformed));
     for format in [0, 4, u32::MAX] {
-        assert_eq!(brought_along(format, &engine.state, 9), Err(Refusal::Malformed));
+        assert_eq!(brought_along(format, engine.words().0, 9), Err(Refusal::Malformed));
     }
 }
 
 /// 3 to 5, else the state is not well formed. Another margin is another state.
 #[test]
 fn a_margin_out_of_range() {
-    let mut engine = of_four(0);
+    let mut engine = lent(&of_four(0));
     let proposal = Proposal { author: Member::new(1), round: Round::new(1), previous: 0, transactions: Vec::new() };
     let of_three = Certificate { proposal, endorsers: 0b1001 };
     for margin in [0, 1, 2, 6, 7, 0x1_0003, u32::MAX] {
-        engine.state[STATE_MARGIN] = margin;
-        assert_eq!(Engine::try_restore(engine.state, engine.table.clone()), Err(Refusal::Malformed));
+        engine.words.state[STATE_MARGIN] = margin;
+        assert_eq!(Engine::try_restore(*engine.words().0, engine.words().1.to_vec()), Err(Refusal::Malformed));
         refuses(&mut engine, 1, |e| e.accept(&of_three));
         refuses(&mut engine, 1, |e| e.enqueue(8, entry(1)));
         refuses(&mut engine, 1, Engine::advance);
@@ -1561,10 +1585,10 @@ fn a_margin_out_of_range() {
     }
     // Of four of weight 1 margins 4 and 5 ask for all.
     for margin in [4, 5] {
-        engine.state[STATE_MARGIN] = margin;
+        engine.words.state[STATE_MARGIN] = margin;
         refuses(&mut engine, 13, |e| e.accept(&of_three));
     }
-    engine.state[STATE_MARGIN] = 3;
+    engine.words.state[STATE_MARGIN] = 3;
     engine.accept(&of_three).unwrap();
 }
 
@@ -1730,8 +1754,8 @@ fn a_bond_effect_is_that_of_the_round() {
 #[test]
 fn a_bond_effect_is_refused_in_its_order() {
     let engine = alone_with(Transaction::Unbond { member: Member::new(0) });
-    let mut damaged = engine.clone();
-    damaged.state[STATE_MARGIN] = 6;
+    let mut damaged = lent(&engine);
+    damaged.words.state[STATE_MARGIN] = 6;
     for member in [0, 15, 16, u32::MAX] {
         for round in [0, 1, 3, 4, 5, 6, 8, 9, u32::MAX] {
             for amount in [0, 1, 1_000, 1_001, u32::MAX] {
@@ -1763,15 +1787,15 @@ fn words_of_a_bond_effect() {
     assert_eq!(found.largest, 132);
     // A longer table and a longer state are fine.
     let engine = of_four(0);
-    let table = [&engine.table[..], &[77; 5]].concat();
-    let state = [&engine.state[..], &[77; 5]].concat();
+    let table = [engine.words().1, &[77; 5]].concat();
+    let state = [&engine.words().0[..], &[77; 5]].concat();
     assert_eq!(
         lent::bond_effect(&state, &table, Member::new(5), Round::new(1), 2),
         engine.bond_effect(Member::new(5), Round::new(1), 2)
     );
     assert_eq!(lent::bond_effect(&state[1..], &table, Member::new(5), Round::new(1), 2), Err(Refusal::Malformed));
     assert_eq!(
-        lent::bond_effect(&state, &engine.table[1..], Member::new(5), Round::new(1), 2),
+        lent::bond_effect(&state, &engine.words().1[1..], Member::new(5), Round::new(1), 2),
         Err(Refusal::Malformed)
     );
 }
@@ -1781,11 +1805,11 @@ fn a_stored_engine_goes_on() {
     let mut engine = of_four(0);
     engine.propose(0, &[entry(5)]).unwrap();
     let stored = (*engine.words().0, engine.words().1.to_vec());
-    let mut again = Engine::restore(stored.0, stored.1.clone());
+    let mut again = Engine::try_restore(stored.0, stored.1.clone()).unwrap();
     assert!(again == engine);
     again.certify(0b1110).unwrap();
 
-    let mut damaged = Engine::restore([u32::MAX; STATE_WORDS], stored.1);
+    let mut damaged = Engine::lent([u32::MAX; STATE_WORDS], stored.1);
     refuses(&mut damaged, 1, |e| e.certify(0b1110));
     refuses(&mut damaged, 1, Engine::advance);
     refuses(&mut damaged, 1, |e| e.committee(Round::new(1)));
@@ -1800,11 +1824,11 @@ fn a_malformed_state_is_refused_everywhere() {
     for (state, table) in [
         ([0; STATE_WORDS], Vec::new()),
         ([u32::MAX; STATE_WORDS], Vec::new()),
-        (of_four(0).state, Vec::new()),
-        (of_four(0).state, short),
+        (*of_four(0).words().0, Vec::new()),
+        (*of_four(0).words().0, short),
     ] {
         assert_eq!(Engine::try_restore(state, table.clone()), Err(Refusal::Malformed));
-        let mut engine = Engine::restore(state, table);
+        let mut engine = Engine::lent(state, table);
         assert!(!engine.is_well_formed());
         refuses(&mut engine, 1, |e| e.chain());
         refuses(&mut engine, 1, |e| e.block(1));
@@ -1813,12 +1837,12 @@ fn a_malformed_state_is_refused_everywhere() {
         refuses(&mut engine, 1, Engine::commit);
         refuses(&mut engine, 1, |e| e.preview());
         refuses(&mut engine, 1, Engine::critical);
-        assert_eq!(lent::chain(&engine.state, &engine.table, &mut []), Err(Refusal::Malformed));
-        assert_eq!(lent::preview(&engine.state, &engine.table, &mut []), Err(Refusal::Malformed));
-        assert_eq!(lent::critical(&engine.state, &mut engine.table, &mut []), Err(Refusal::Malformed));
+        assert_eq!(lent::chain(engine.words().0, engine.words().1, &mut []), Err(Refusal::Malformed));
+        assert_eq!(lent::preview(engine.words().0, engine.words().1, &mut []), Err(Refusal::Malformed));
+        assert_eq!(lent::critical(&engine.words.state, &mut engine.words.table, &mut []), Err(Refusal::Malformed));
     }
     let engine = of_four(0);
-    assert_eq!(Engine::try_restore(engine.state, engine.table.clone()), Ok(engine));
+    assert_eq!(Engine::try_restore(*engine.words().0, engine.words().1.to_vec()), Ok(engine));
 }
 
 #[test]
@@ -1832,14 +1856,14 @@ fn a_list_for_the_chain_may_be_longer_and_not_shorter() {
         engine.certify(0).unwrap();
     }
     engine.commit().unwrap();
-    let blank = lent::Place { block: 9, round: Round::new(9), author: Member::new(9) };
-    let (mut exact, mut short, mut long) = ([blank; 2], [blank; 1], [blank; 3]);
-    assert_eq!(lent::chain(&engine.state, &engine.table, &mut short), Err(Refusal::Malformed));
-    assert_eq!(short, [blank]);
-    assert_eq!(lent::chain(&engine.state, &engine.table, &mut exact), Ok(2));
-    assert_eq!(exact, [1, 2].map(|round| lent::Place { block: 1, round: Round::new(round), author: Member::new(0) }));
-    assert_eq!(lent::chain(&engine.state, &engine.table, &mut long), Ok(2));
-    assert_eq!((&long[..2], long[2]), (&exact[..], blank));
+    let (mut exact, mut short, mut long) = ([9; 36], [9; 35], [9; 37]);
+    assert_eq!(lent::chain(engine.words().0, engine.words().1, &mut short), Err(Refusal::LengthRange));
+    assert_eq!(short, [9; 35]);
+    assert_eq!(lent::chain(engine.words().0, engine.words().1, &mut exact), Ok(2));
+    let expected = [1, 2].map(|round| lent::Place { block: 1, round: Round::new(round), author: Member::new(0) });
+    assert!(lent::places(&exact, 2).eq(expected));
+    assert_eq!(lent::chain(engine.words().0, engine.words().1, &mut long), Ok(2));
+    assert_eq!((&long[..36], long[36]), (&exact[..], 9));
 }
 
 #[test]
@@ -1879,13 +1903,16 @@ fn words_that_cannot_be_read() {
     for (at, word) in [(2, 65_536), (4, 3), (6, 1), (7, 3), (9, 1), (16, 65_536)] {
         let words = spoilt(at, word);
         assert_eq!(Certificate::from_words(&words), Err(Refusal::Malformed), "word {at}");
-        let mut engine = of_four(0);
-        assert_eq!(lent::accept(&engine.state, &mut engine.table, &words), Err(Refusal::Malformed));
+        let mut engine = lent(&of_four(0));
+        assert_eq!(lent::accept(&engine.words.state, &mut engine.words.table, &words), Err(Refusal::Malformed));
     }
     // Beyond the transactions nothing is looked at; more than four are over every allowance.
     assert!(Certificate::from_words(&spoilt(10, 9)).is_ok());
-    let mut engine = of_four(0);
-    assert_eq!(lent::accept(&engine.state, &mut engine.table, &spoilt(3, 5)), Err(Refusal::TransactionsRange));
+    let mut engine = lent(&of_four(0));
+    assert_eq!(
+        lent::accept(&engine.words.state, &mut engine.words.table, &spoilt(3, 5)),
+        Err(Refusal::TransactionsRange)
+    );
     assert_eq!(Certificate::from_words(&spoilt(3, 5)), Err(Refusal::TransactionsRange));
     assert_eq!(Proposal::from_words(&spoilt(3, u32::MAX)), Err(Refusal::TransactionsRange));
 }
@@ -1920,5 +1947,67 @@ fn engines_may_be_called_at_once() {
     let threads: Vec<_> = (0..4).map(|_| std::thread::spawn(run)).collect();
     for thread in threads {
         assert_eq!(thread.join().unwrap(), 31);
+    }
+}
+
+#[test]
+fn stores_and_loads() {
+    let mut engine = of_four(0);
+    engine.propose(0, &[Transaction::Entry { number: 5 }]).unwrap();
+    let bytes = engine.store(9).unwrap();
+    assert_eq!(bytes.len() as u64, storing::stored_bytes(8));
+    assert_eq!(&bytes[..8], b"FLS1\x03\0\0\0");
+    assert_eq!(Engine::load(&bytes, Member::new(0), 9), Ok(engine.clone()));
+    assert_eq!(Engine::load(&bytes, Member::new(1), 9), Err(StoringRefusal::OtherMember));
+    assert_eq!(Engine::load(&bytes, Member::new(0), 10), Err(StoringRefusal::OtherRun));
+    for length in [0, 1, 99, 1_291, 1_292, bytes.len() - 1] {
+        assert_eq!(Engine::load(&bytes[..length], Member::new(0), 9), Err(StoringRefusal::Torn), "{length}");
+    }
+    assert_eq!(Engine::load(&[&bytes[..], &[0]].concat(), Member::new(0), 9), Err(StoringRefusal::Torn));
+    for (at, expected) in [(0, StoringRefusal::OtherMark), (4, StoringRefusal::OtherFormat), (9, StoringRefusal::Torn)]
+    {
+        let mut other = bytes.clone();
+        other[at] ^= 1;
+        assert_eq!(Engine::load(&other, Member::new(0), 9), Err(expected), "byte {at}");
+    }
+
+    // A closed state is of ceiling 0, and a table that is too short is not stored.
+    assert!(Engine::lent([0; STATE_WORDS], vec![0; 272]).store(0).is_ok());
+    assert_eq!(Engine::lent([0; STATE_WORDS], vec![]).store(0), Err(StoringRefusal::UnreadableWords));
+    let (state, table) = engine.words();
+    assert_eq!(storing::store(state, table, 9, &mut []), Err(StoringRefusal::NoRoom));
+    assert_eq!(storing::load(&bytes, Member::new(0), 9, &mut [0; STATE_WORDS], &mut []), Err(StoringRefusal::NoRoom));
+}
+
+#[test]
+fn signs_by_kinds() {
+    let engine = of_four(0);
+    let (state, _) = engine.words();
+    let mut proposal = proposal_words(Member::new(1), Round::new(1), 0, &[Transaction::Entry { number: 7 }]);
+    let signed = storing::proposal_bytes(state, 5, &proposal).unwrap();
+    let endorsed = storing::endorsement_bytes(state, 5, &proposal).unwrap();
+    assert_eq!((&signed[..4], &endorsed[..4]), (&b"FLP1"[..], &b"FLE1"[..]));
+    assert_eq!(signed[4..], endorsed[4..]);
+    assert_eq!(signed[36..44], [1, 0, 0, 0, 1, 0, 0, 0]);
+    assert_ne!(storing::proposal_bytes(state, 6, &proposal).unwrap()[4..36], signed[4..36]);
+
+    // What lies beyond the number of transactions is not signed.
+    proposal[15] = 3;
+    assert_eq!(storing::proposal_bytes(state, 5, &proposal), Ok(signed));
+    proposal[2] = 65_536;
+    assert_eq!(storing::proposal_bytes(state, 5, &proposal), Err(StoringRefusal::UnreadableWords));
+    proposal[2] = 0;
+
+    let mut certificate = [0; CERTIFICATE_WORDS];
+    certificate[..16].copy_from_slice(&proposal);
+    certificate[16] = 0b1101;
+    let whole = storing::certificate_bytes(state, 5, &certificate).unwrap();
+    assert_eq!((&whole[..4], &whole[4..100]), (&b"FLC1"[..], &signed[4..]));
+    assert_eq!(whole[100..], [13, 0, 0, 0]);
+    for number in 0..200 {
+        assert_eq!(
+            StoringRefusal::of(number).map(StoringRefusal::number),
+            (101..=107).contains(&number).then_some(number)
+        );
     }
 }

@@ -13,11 +13,11 @@ fn told<T: fmt::Debug>(answer: Result<T, Refusal>) -> Answer {
 
 /// A call as the host's own, for enqueue with the guest, and as a guest's. Accesses to a port are
 /// guests' alone.
-struct Asked {
+struct Asked<W: Words = Owned> {
     name: &'static str,
     right: Right,
-    host: Option<fn(&mut Engine, u32) -> Answer>,
-    guest: fn(&mut Engine, u32) -> Answer,
+    host: Option<fn(&mut Engine<W>, u32) -> Answer>,
+    guest: fn(&mut Engine<W>, u32) -> Answer,
 }
 
 macro_rules! asked {
@@ -32,7 +32,7 @@ macro_rules! asked {
 }
 
 /// Every call that a guest can make. Each is accepted in one of the scenes below.
-fn all_calls() -> Vec<Asked> {
+fn all_calls<W: Words>() -> Vec<Asked<W>> {
     let mut all = asked! {
         Propose: propose(0, &[entry(7)]);
         Propose: draw(0);
@@ -89,21 +89,22 @@ fn scenes() -> Vec<Engine> {
 }
 
 /// The scenes with a word out of range or a table too short.
-fn damaged_scenes() -> Vec<Engine> {
+fn damaged_scenes() -> Vec<Engine<Lent>> {
     let damage = |engine: Engine| {
         [(0, 16), (STATE_MARGIN, 0), (STATE_ROUND, 0)].map(|(at, word)| {
-            let mut damaged = engine.clone();
-            damaged.state[at] = word;
+            let mut damaged = lent(&engine);
+            damaged.words.state[at] = word;
             damaged
         })
     };
-    let mut all: Vec<Engine> = scenes().into_iter().flat_map(damage).collect();
-    let short = scenes().into_iter().map(|mut engine| {
-        engine.table.pop();
-        engine
+    let mut all: Vec<Engine<Lent>> = scenes().into_iter().flat_map(damage).collect();
+    let short = scenes().into_iter().map(|engine| {
+        let mut short = lent(&engine);
+        short.words.table.pop();
+        short
     });
     all.extend(short);
-    all.push(Engine::restore([u32::MAX; STATE_WORDS], Vec::new()));
+    all.push(Engine::lent([u32::MAX; STATE_WORDS], Vec::new()));
     assert!(all.iter().all(|engine| !engine.is_well_formed()));
     all
 }
@@ -118,12 +119,17 @@ fn all_but(caller: u32, right: Right) -> Rights {
 }
 
 fn with_rights(engine: &Engine, rights: Rights) -> Engine {
+    changed(engine, |state, _| state[STATE_RIGHTS] = rights.to_word())
+}
+
+/// The same of words that are no member's.
+fn damaged_with_rights(engine: &Engine<Lent>, rights: Rights) -> Engine<Lent> {
     let mut engine = engine.clone();
-    engine.state[STATE_RIGHTS] = rights.to_word();
+    engine.words.state[STATE_RIGHTS] = rights.to_word();
     engine
 }
 
-fn callers() -> impl Iterator<Item = (u32, Asked)> {
+fn callers<W: Words>() -> impl Iterator<Item = (u32, Asked<W>)> {
     (0..GUESTS as u32).flat_map(|caller| all_calls().into_iter().map(move |call| (caller, call)))
 }
 
@@ -160,23 +166,26 @@ fn rights_as_a_word() {
 fn an_open_fixes_the_rights() {
     let sheet = Sheet { ceiling: Some(8), ..Sheet::default() };
     assert_eq!(of_four(0).rights(), Rights::NONE);
-    assert_eq!(of_four(0).state[STATE_RIGHTS], 0);
+    assert_eq!(of_four(0).words().0[STATE_RIGHTS], 0);
     for word in [0, 1, 0x8000_0000, 0x0123_4567, u32::MAX] {
         let rights = Rights::from_word(word);
-        let mut engine = Engine::open_with_rights(Member::new(0), &sheet, rights).unwrap();
-        assert_eq!((engine.rights(), engine.state[STATE_RIGHTS]), (rights, word));
-        assert_eq!(engine.state[..STATE_RIGHTS], of_four(0).state[..STATE_RIGHTS]);
-        assert_eq!(engine.table, of_four(0).table);
+        let engine = Engine::open_with_rights(Member::new(0), &sheet, rights).unwrap();
+        assert_eq!((engine.rights(), engine.words().0[STATE_RIGHTS]), (rights, word));
+        assert_eq!(engine.words().0[..STATE_RIGHTS], of_four(0).words().0[..STATE_RIGHTS]);
+        assert_eq!(engine.words().1, of_four(0).words().1);
         assert_eq!(engine == of_four(0), word == 0);
-        let table = engine.table.clone();
+        let table = engine.words().1.to_vec();
         assert_eq!(Engine::open_on(table, Member::new(0), &sheet, rights).as_ref(), Ok(&engine));
         assert!(engine.is_well_formed());
-        assert_eq!(Engine::try_restore(engine.state, engine.table.clone()).as_ref(), Ok(&engine));
+        assert_eq!(Engine::try_restore(*engine.words().0, engine.words().1.to_vec()).as_ref(), Ok(&engine));
         // Again on the same words.
-        let open = |e: &mut Engine, own| lent::open(&mut e.state, &mut e.table, own, &sheet.to_words(), !word);
+        let mut engine = lent(&engine);
+        let open = |e: &mut Engine<Lent>, own| {
+            lent::open(&mut e.words.state, &mut e.words.table, own, &sheet.to_words(), !word)
+        };
         refuses(&mut engine, 4, |e| open(e, Member::new(16)));
         open(&mut engine, Member::new(1)).unwrap();
-        assert_eq!(lent::rights(&engine.state).to_word(), !word);
+        assert_eq!(lent::rights(engine.words().0).to_word(), !word);
     }
 }
 
@@ -185,7 +194,7 @@ fn an_open_fixes_the_rights() {
 #[test]
 fn with_its_right_a_guest_does_what_the_host_does() {
     let (all, mut accepted) = (scenes(), Vec::new());
-    for (caller, call) in callers() {
+    for (caller, call) in callers::<Owned>() {
         for scene in &all {
             let rights = only(caller, call.right);
             let mut engine = with_rights(scene, rights);
@@ -201,7 +210,7 @@ fn with_its_right_a_guest_does_what_the_host_does() {
             }
         }
     }
-    for (caller, call) in callers() {
+    for (caller, call) in callers::<Owned>() {
         assert!(accepted.contains(&(caller, call.name)), "{} of {caller} was never accepted", call.name);
     }
 }
@@ -210,28 +219,34 @@ fn with_its_right_a_guest_does_what_the_host_does() {
 /// host's own call would get 1, and no word changes.
 #[test]
 fn without_its_right_a_guest_gets_29() {
-    let all = [scenes(), damaged_scenes()].concat();
-    for (caller, call) in callers() {
-        for rights in [all_but(caller, call.right), Rights::NONE] {
-            for scene in &all {
-                let mut engine = with_rights(scene, rights);
-                refuses(&mut engine, 29, |e| (call.guest)(e, caller));
+    fn refused<W: Words>(all: &[Engine<W>], with_rights: fn(&Engine<W>, Rights) -> Engine<W>) {
+        for (caller, call) in callers::<W>() {
+            for rights in [all_but(caller, call.right), Rights::NONE] {
+                for scene in all {
+                    refuses(&mut with_rights(scene, rights), 29, |e| (call.guest)(e, caller));
+                }
             }
         }
     }
+    refused(&scenes(), with_rights);
+    refused(&damaged_scenes(), damaged_with_rights);
 }
 
 /// 26 above 7, whatever the rights, before 29 and before 1.
 #[test]
 fn no_caller_above_7() {
-    let all = [scenes(), damaged_scenes()].concat();
-    for call in all_calls() {
-        for (scene, caller) in all.iter().flat_map(|scene| [8, 9, 16, 31, 32, u32::MAX].map(|caller| (scene, caller))) {
-            for rights in [Rights::NONE, Rights::ALL] {
-                refuses(&mut with_rights(scene, rights), 26, |e| (call.guest)(e, caller));
+    fn refused<W: Words>(all: &[Engine<W>], with_rights: fn(&Engine<W>, Rights) -> Engine<W>) {
+        let above = |scene| [8, 9, 16, 31, 32, u32::MAX].map(|caller| (scene, caller));
+        for call in all_calls::<W>() {
+            for (scene, caller) in all.iter().flat_map(above) {
+                for rights in [Rights::NONE, Rights::ALL] {
+                    refuses(&mut with_rights(scene, rights), 26, |e| (call.guest)(e, caller));
+                }
             }
         }
     }
+    refused(&scenes(), with_rights);
+    refused(&damaged_scenes(), damaged_with_rights);
 }
 
 /// With the right it is the host's call, which first refuses a state not well formed.
@@ -239,7 +254,7 @@ fn no_caller_above_7() {
 fn with_the_right_a_malformed_state_is_1() {
     for scene in damaged_scenes() {
         for (caller, call) in callers() {
-            let mut engine = with_rights(&scene, only(caller, call.right));
+            let mut engine = damaged_with_rights(&scene, only(caller, call.right));
             refuses(&mut engine, 1, |e| (call.guest)(e, caller));
         }
     }
@@ -248,7 +263,7 @@ fn with_the_right_a_malformed_state_is_1() {
 /// The host's own calls do not look at rights.
 #[test]
 fn the_hosts_calls_pass_as_before() {
-    for host in all_calls().into_iter().filter_map(|call| call.host) {
+    for host in all_calls::<Owned>().into_iter().filter_map(|call| call.host) {
         for scene in scenes() {
             let (mut none, mut all) = (scene.clone(), with_rights(&scene, Rights::ALL));
             assert_eq!(host(&mut none, 3), host(&mut all, 3));
@@ -272,7 +287,7 @@ fn stretches_without_the_word_of_rights() {
                 _ => 1,
             };
             let (mut state, mut table) = (words[..length].to_vec(), vec![77; 9]);
-            let (mut list, mut places) = ([77; CRITICAL_WORDS], [lent::Place::default(); 2]);
+            let mut list = [77; CRITICAL_WORDS];
             for answer in [
                 lent::guest_propose(caller, &mut state, &table, &[]),
                 lent::guest_draw(caller, &mut state, &mut table, 0),
@@ -291,14 +306,14 @@ fn stretches_without_the_word_of_rights() {
                 lent::guest_certificate(caller, &state, &table, Member::new(0), Round::new(1)).map(|_| ()),
                 lent::guest_block(caller, &state, &table, 1).map(|_| ()),
                 lent::guest_block_rows(caller, &state, &table, 0, 1, &mut list).map(|_| ()),
-                lent::guest_chain(caller, &state, &table, &mut places).map(|_| ()),
+                lent::guest_chain(caller, &state, &table, &mut list).map(|_| ()),
                 lent::guest_port_read(caller, &state, &mut table, 0).map(|_| ()),
                 lent::guest_port_write(caller, &state, &mut table, 0, 0),
             ] {
                 assert_eq!(answer.unwrap_err().number(), number, "{length} words, caller {caller}");
             }
             assert!(state == words[..length] && table == [77; 9]);
-            assert!(list == [77; CRITICAL_WORDS] && places == [lent::Place::default(); 2]);
+            assert!(list == [77; CRITICAL_WORDS]);
             assert_eq!(lent::rights(&state), if length < 39 { Rights::NONE } else { Rights::ALL });
         }
     }
@@ -308,7 +323,7 @@ fn stretches_without_the_word_of_rights() {
 /// of the host's call.
 #[test]
 fn what_is_lent_and_handed_in_comes_after_29() {
-    let third = with_rights(&scenes()[3], Rights { sign: 0b10, read: 0b10, propose: 0b10, drive: 0 });
+    let third = lent(&with_rights(&scenes()[3], Rights { sign: 0b10, read: 0b10, propose: 0b10, drive: 0 }));
     let need = preview_words(8);
     for (caller, right) in [(0, false), (1, true), (2, false)] {
         let found = |answer: Result<u32, Refusal>, with_right: Result<u32, Refusal>| {
@@ -317,19 +332,19 @@ fn what_is_lent_and_handed_in_comes_after_29() {
         let mut engine = third.clone();
         for length in [0, need - 1, need, need + 1] {
             let (mut list, mut by_host) = (vec![77; length], vec![77; length]);
-            let expected = lent::preview(&engine.state, &engine.table, &mut by_host);
-            found(lent::guest_preview(caller, &engine.state, &engine.table, &mut list), expected);
+            let expected = lent::preview(&engine.words.state, &engine.words.table, &mut by_host);
+            found(lent::guest_preview(caller, &engine.words.state, &engine.words.table, &mut list), expected);
             assert!(if right { list == by_host } else { list.iter().all(|&word| word == 77) });
         }
         for length in [0, CRITICAL_WORDS - 1, CRITICAL_WORDS, CRITICAL_WORDS + 1] {
             let (mut list, mut by_host) = (vec![77; length], vec![77; length]);
-            let expected = lent::critical(&engine.state, &mut engine.table, &mut by_host);
-            found(lent::guest_critical(caller, &engine.state, &mut engine.table, &mut list), expected);
+            let expected = lent::critical(&engine.words.state, &mut engine.words.table, &mut by_host);
+            found(lent::guest_critical(caller, &engine.words.state, &mut engine.words.table, &mut list), expected);
             assert!(if right { list == by_host } else { list.iter().all(|&word| word == 77) });
         }
         assert!(engine == third);
         let (unreadable, first) = ([3, 0, 0], of_all_four(1, 1, 0, &[]).to_words());
-        let (state, table) = (&mut engine.state, &mut engine.table);
+        let (state, table) = (&mut engine.words.state, &mut engine.words.table);
         for answer in [
             lent::guest_propose(caller, state, table, &unreadable),
             lent::guest_enqueue(caller, state, table, &unreadable),
@@ -356,7 +371,7 @@ fn a_guest_adds_to_its_own_queue() {
         (0..=caller).for_each(|number| engine.guest(caller).enqueue(entry(10 * caller + number)).unwrap());
     }
     assert_eq!(waiting(&engine), [1, 2, 3, 4, 5, 6, 7, 8]);
-    assert_eq!(engine.table[queue(7) + 1], 70);
+    assert_eq!(engine.words().1[queue(7) + 1], 70);
     refuses(&mut engine, 27, |e| e.guest(7).enqueue(entry(1)));
     refuses(&mut engine, 6, |e| e.guest(0).enqueue(Transaction::Unbond { member: Member::new(16) }));
     engine.guest(4).draw(0).unwrap();
@@ -381,8 +396,9 @@ fn guests_read_together() {
         (engine.bond_effect(Member::new(5), Round::new(3), 2), Err(Refusal::TransactionsRange))
     );
     assert_eq!(without.bond_effect(Member::new(16), Round::new(0), 0), Err(Refusal::NoRight));
-    let mut list = [lent::Place::default(); 8];
-    assert_eq!(lent::guest_chain(1, &engine.state, &engine.table, &mut list), Ok(5));
-    assert_eq!(lent::guest_chain(1, &engine.state, &engine.table, &mut list[..4]), Err(Refusal::Malformed));
+    let mut list = [0; 8 * 18];
+    assert_eq!(lent::guest_chain(1, engine.words().0, engine.words().1, &mut list), Ok(5));
+    assert!(lent::places(&list, 5).eq(engine.chain().unwrap().into_iter().flat_map(|block| block.certificates)));
+    assert_eq!(lent::guest_chain(1, engine.words().0, engine.words().1, &mut list[..89]), Err(Refusal::LengthRange));
     assert_eq!(engine.guest(0).committee(Round::new(3)), engine.committee(Round::new(3)));
 }

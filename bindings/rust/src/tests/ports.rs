@@ -12,9 +12,7 @@ const CALLERS: core::ops::Range<u32> = 0..GUESTS as u32;
 
 /// Member 0 of four, its guests with the right to read.
 fn opened() -> Engine {
-    let mut engine = of_four(0);
-    engine.state[STATE_RIGHTS] = Rights { read: 0xff, ..Rights::NONE }.to_word();
-    engine
+    changed(&of_four(0), |state, _| state[STATE_RIGHTS] = Rights { read: 0xff, ..Rights::NONE }.to_word())
 }
 
 /// Transactions of every kind, and numbers of one digit and of ten.
@@ -70,8 +68,8 @@ fn listing(engine: &Engine) -> Vec<u8> {
 }
 
 /// The words of a guest's port.
-fn words(engine: &Engine, guest: u32) -> &[u32] {
-    &engine.table[port(guest)..][..PORT_WORDS]
+fn words<W: Words>(engine: &Engine<W>, guest: u32) -> &[u32] {
+    &engine.words().1[port(guest)..][..PORT_WORDS]
 }
 
 fn is_waiting(engine: &mut Engine, guest: u32) -> bool {
@@ -130,7 +128,7 @@ fn what_a_write_keeps() {
             };
             let mut expected = before.clone();
             if let Some((word, value)) = kept {
-                expected.table[port(5) + word] = value.into();
+                expected = changed(&before, |_, table| table[port(5) + word] = value.into());
                 assert_eq!(engine.guest(5).port_read(offset), Ok(value));
             } else {
                 assert_eq!(values(&engine, 5), values(&before, 5));
@@ -199,12 +197,12 @@ fn where_a_port_stands() {
     for (place, byte, value) in
         lines.iter().flat_map(|(place, line)| bytes(line).into_iter().map(|(byte, value)| (*place, byte, value)))
     {
-        let mut expected = engine.clone();
-        expected.table[port(6) + PORT_PLACE] = place;
-        expected.table[port(6) + PORT_BYTE] = byte;
+        let expected = changed(&engine, |_, table| {
+            (table[port(6) + PORT_PLACE], table[port(6) + PORT_BYTE]) = (place, byte);
+        });
         assert_eq!(engine.guest(6).port_read(OFFSET_DATA), Ok(value));
         assert!(engine == expected);
-        assert_eq!(Engine::try_restore(engine.state, engine.table.clone()).as_ref(), Ok(&engine));
+        assert_eq!(Engine::try_restore(*engine.words().0, engine.words().1.to_vec()).as_ref(), Ok(&engine));
     }
     let end = engine.clone();
     for _ in 0..3 {
@@ -237,8 +235,7 @@ fn a_reset() {
         assert!(words(&engine, guest).iter().all(|&word| word != 0));
     }
     for guest in CALLERS {
-        let mut expected = engine.clone();
-        expected.table[port(guest)..][..PORT_WORDS].fill(0);
+        let expected = changed(&engine, |_, table| table[port(guest)..][..PORT_WORDS].fill(0));
         engine.port_reset(guest).unwrap();
         assert!(engine == expected);
         assert_eq!(values(&engine, guest), [b'1', 0, 1, 0, 0, 0x61, 0, 0]);
@@ -251,23 +248,22 @@ fn a_reset() {
 /// 26 for a port above 7, before 1, also where the words of the state cannot be read. No right is asked for.
 #[test]
 fn a_reset_is_refused_in_its_order() {
-    let mut damaged = with_blocks();
-    damaged.state[0] = 16;
+    let mut damaged = lent(&with_blocks());
+    damaged.words.state[0] = 16;
     for port in [8, 9, 31, u32::MAX] {
         refuses(&mut with_blocks(), 26, |e| e.port_reset(port));
         refuses(&mut damaged, 26, |e| e.port_reset(port));
         for length in 0..=STATE_WORDS {
-            assert_eq!(lent::port_reset(&damaged.state[..length], &mut [], port), Err(Refusal::GuestRange));
+            assert_eq!(lent::port_reset(&damaged.words().0[..length], &mut [], port), Err(Refusal::GuestRange));
         }
     }
     for port in CALLERS {
         refuses(&mut damaged, 1, |e| e.port_reset(port));
         for length in 0..=STATE_WORDS {
-            assert_eq!(lent::port_reset(&damaged.state[..length], &mut [], port), Err(Refusal::Malformed));
+            assert_eq!(lent::port_reset(&damaged.words().0[..length], &mut [], port), Err(Refusal::Malformed));
         }
     }
-    let mut without_rights = with_blocks();
-    without_rights.state[STATE_RIGHTS] = 0;
+    let mut without_rights = changed(&with_blocks(), |state, _| state[STATE_RIGHTS] = 0);
     without_rights.port_reset(7).unwrap();
 }
 
@@ -275,10 +271,10 @@ fn a_reset_is_refused_in_its_order() {
 /// of the state cannot be read.
 #[test]
 fn an_access_is_refused_in_its_order() {
-    let mut damaged = with_blocks();
-    damaged.state[0] = 16;
+    let mut damaged = lent(&with_blocks());
+    damaged.words.state[0] = 16;
     let mut without = damaged.clone();
-    without.state[STATE_RIGHTS] = !Rights { read: 0xff, ..Rights::NONE }.to_word();
+    without.words.state[STATE_RIGHTS] = !Rights { read: 0xff, ..Rights::NONE }.to_word();
     for offset in (0..OFFSETS).chain([8, 9, 255, 256, u32::MAX]) {
         let is_wrong = offset >= OFFSETS;
         for (engine, caller, number) in [
@@ -287,7 +283,7 @@ fn an_access_is_refused_in_its_order() {
             (&without, 7, 29),
             (&damaged, 8, 26),
             (&damaged, 0, if is_wrong { 31 } else { 1 }),
-            (&with_blocks(), 3, if is_wrong { 31 } else { 0 }),
+            (&lent(&with_blocks()), 3, if is_wrong { 31 } else { 0 }),
         ] {
             if number != 0 {
                 let mut engine = engine.clone();
@@ -296,7 +292,7 @@ fn an_access_is_refused_in_its_order() {
             }
         }
         // The rights are word 38; behind it the table may be too short.
-        let state = damaged.state;
+        let state = *damaged.words().0;
         for (words, number) in [(0, 29), (38, 29), (39, if is_wrong { 31 } else { 1 })] {
             let read = lent::guest_port_read(3, &state[..words], &mut [], offset);
             let written = lent::guest_port_write(3, &state[..words], &mut [], offset, 7);
@@ -325,9 +321,14 @@ fn what_resets_a_port() {
     assert_eq!(ports(&engine), before);
 
     let sheet = Sheet { ceiling: Some(8), ..Sheet::default() }.to_words();
-    assert_eq!(lent::open(&mut engine.state, &mut engine.table, Member::new(16), &sheet, 0), Err(Refusal::MemberRange));
+    let mut engine = lent(&engine);
+    let ports = |engine: &Engine<Lent>| CALLERS.flat_map(|guest| words(engine, guest).to_vec()).collect::<Vec<_>>();
+    assert_eq!(
+        lent::open(&mut engine.words.state, &mut engine.words.table, Member::new(16), &sheet, 0),
+        Err(Refusal::MemberRange)
+    );
     assert_eq!(ports(&engine), before);
-    lent::open(&mut engine.state, &mut engine.table, Member::new(0), &sheet, u32::MAX).unwrap();
+    lent::open(&mut engine.words.state, &mut engine.words.table, Member::new(0), &sheet, u32::MAX).unwrap();
     assert_eq!(ports(&engine), [0; GUESTS * PORT_WORDS]);
 }
 
@@ -337,8 +338,8 @@ fn what_resets_a_port() {
 fn ports_that_are_not_well_formed() {
     let engine = with_blocks();
     let with = |guest: u32, changes: &[(usize, u32)]| {
-        let mut changed = engine.clone();
-        changes.iter().for_each(|&(word, value)| changed.table[port(guest) + word] = value);
+        let mut changed = lent(&engine);
+        changes.iter().for_each(|&(word, value)| changed.words.table[port(guest) + word] = value);
         changed
     };
     let is_fine = |fine: bool, guest: u32, changes: &[(usize, u32)]| {
@@ -379,7 +380,7 @@ fn ports_that_are_not_well_formed() {
     // Held and in no block; then in one.
     let mut unmarked = with(2, &[(PORT_PLACE, 16 * 7), (PORT_BYTE, 1)]);
     assert!(engine.certificate(Member::new(0), Round::new(7)).unwrap().block.is_none() && !unmarked.is_well_formed());
-    unmarked.table[record(Member::new(0), Round::new(7)) + RECORD_BLOCK] = 3;
+    unmarked.words.table[record(Member::new(0), Round::new(7)) + RECORD_BLOCK] = 3;
     assert!(unmarked.is_well_formed());
 }
 
@@ -387,22 +388,22 @@ fn ports_that_are_not_well_formed() {
 /// two rounds, which is in a block as no run has it, changes nothing of the list.
 #[test]
 fn a_commit_does_not_hang_on_a_port() {
-    let mut engine = in_round_5(3, Transaction::Bond { member: Member::new(0), amount: 10 }, &[0]);
-    engine.table[record(Member::new(3), Round::new(4)) + RECORD_BLOCK] = 1;
+    let mut engine = lent(&in_round_5(3, Transaction::Bond { member: Member::new(0), amount: 10 }, &[0]));
+    engine.words.table[record(Member::new(3), Round::new(4)) + RECORD_BLOCK] = 1;
     let expected = engine.critical();
     assert_eq!(expected.as_ref().map(Vec::len), Ok(3));
-    let mut unlisted = in_round_5(3, entry(7), &[0, 1, 2]);
-    unlisted.table[record(Member::new(3), Round::new(4)) + RECORD_BLOCK] = 1;
+    let mut unlisted = lent(&in_round_5(3, entry(7), &[0, 1, 2]));
+    unlisted.words.table[record(Member::new(3), Round::new(4)) + RECORD_BLOCK] = 1;
     assert_eq!(unlisted.critical(), hangs_on(2, 4, &[]));
     for guest in CALLERS {
         for engine in [&mut engine, &mut unlisted] {
             let before = engine.critical();
             let at = port(guest);
-            (engine.table[at + PORT_PLACE], engine.table[at + PORT_BYTE]) = (16 * 4 + 3, 1);
+            (engine.words.table[at + PORT_PLACE], engine.words.table[at + PORT_BYTE]) = (16 * 4 + 3, 1);
             assert!(engine.is_well_formed());
             assert_eq!(engine.critical(), before);
             let mut without = engine.clone();
-            without.table[row(4) + ROW_HELD] &= !(1 << 3);
+            without.words.table[row(4) + ROW_HELD] &= !(1 << 3);
             assert!(!without.is_well_formed());
         }
     }

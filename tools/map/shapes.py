@@ -1,13 +1,12 @@
-"""What the drawings share: their colours and type, simple shapes, and the paper that they stand on.
+"""What the drawing of the crates is made of: its colours and type, simple shapes, and the paper that it stands on. The colours
+and the type are those of the pictures of runs (tools/forgelilac/src/picture/shapes.rs).
 
-Each draws its own paper. Where the reader's browser is set to dark, the colours change to DARK. On either, letters have a
+It draws its own paper. Where the reader's browser is set to dark, the colours change to DARK. On either, letters have a
 contrast of at least 4.5 to what they stand on; lines and signs of at least 3, those fainter that are told in words too.
 """
 from html import escape
 
 WIDTH = 830                         # of a picture, at least; a page's
-RIGHT = 16                          # what stays free beside it
-LEGEND_ROW, LEGEND_COLUMN = 34, 268
 INK, QUIET, FAINT, LINK, PAPER = "#2b2a33", "#605d6b", "#868194", "#7a758c", "#fdfcfb"
 # Of each block: area, ink.
 COLOURS = [("#e9e0f7", "#6a46a8"), ("#d8f0ea", "#1b7566"), ("#fcebcf", "#8f5808"),
@@ -33,16 +32,6 @@ text { font-family: "Helvetica Neue", Arial, "DejaVu Sans", sans-serif; fill: %s
 def text(x, y, words, kind="label", anchor="start", fill=None):
     colour = f' style="fill:{fill}"' if fill else ""
     return f'<text x="{x:g}" y="{y:g}" class="{kind}" text-anchor="{anchor}"{colour}>{escape(words)}</text>'
-
-
-def line(start, end, colour, width, more=""):
-    return (f'<line x1="{start[0]:g}" y1="{start[1]:g}" x2="{end[0]:g}" y2="{end[1]:g}" '
-            f'stroke="{colour}" stroke-width="{width}" stroke-linecap="round"{more}/>')
-
-
-def circle(at, radius, fill, stroke="none", width=0.0, more=""):
-    return (f'<circle cx="{at[0]:g}" cy="{at[1]:g}" r="{radius}" fill="{fill}" '
-            f'stroke="{stroke}" stroke-width="{width}"{more}/>')
 
 
 def box(x, y, width, height, fill, stroke, radius=10, more=""):

@@ -1,0 +1,117 @@
+//! Runs of each kind: none inside the bound fails, a fork is found beyond it, and a run is the same again from its
+//! seed.
+
+use forgelilac::{Engine, Member};
+use plant::calls;
+use plant::failure::Failure;
+use plant::kind::Kind;
+use plant::plan::{Plan, Wanted};
+use plant::records;
+use plant::run::{play, recorded, Outcome};
+use plant::shrink::shrink;
+use plant::world::PlantParts;
+use std::time::Duration;
+
+fn played(kind: Kind, seed: u64, wanted: Wanted) -> (Plan, Outcome) {
+    let plan = Plan::new(kind, seed, wanted);
+    let outcome = play(&plan, &PlantParts).unwrap();
+    (plan, outcome)
+}
+
+#[test]
+fn no_run_inside_the_bound_fails() {
+    for kind in Kind::ALL.into_iter().filter(|kind| *kind != Kind::Beyond) {
+        for seed in 1..=15 {
+            let (_, outcome) = played(kind, seed, Wanted::default());
+            assert_eq!(outcome.failure, None, "{kind}, seed {seed}");
+            assert!(outcome.blocks > 0, "{kind}, seed {seed}: no block in {} steps", outcome.steps);
+        }
+    }
+}
+
+/// What a kind is of does happen.
+#[test]
+fn faults_take_place() {
+    let runs = |kind| (1..=15).map(move |seed| played(kind, seed, Wanted::default()).1);
+    assert!(runs(Kind::Equivocation).map(|outcome| outcome.split).sum::<usize>() > 10);
+    assert_eq!(runs(Kind::Crashes).map(|outcome| outcome.split).sum::<usize>(), 0);
+    let failed = |outcome: Outcome| outcome.acts.iter().filter(|act| act.fails.is_some()).count();
+    assert!(runs(Kind::Crashes).map(failed).sum::<usize>() > 100);
+    assert_eq!(runs(Kind::Lossy).map(failed).sum::<usize>(), 0);
+}
+
+#[test]
+fn sixteen_members_agree() {
+    let wanted = Wanted { members: Some(16), ceiling: Some(8), steps: None };
+    for kind in [Kind::Lossy, Kind::Equivocation, Kind::Weights] {
+        let (_, outcome) = played(kind, 3, wanted);
+        assert_eq!((outcome.failure, outcome.finished), (None, true), "{kind}");
+    }
+}
+
+#[test]
+fn beyond_the_bound_chains_part() {
+    for seed in 1..=20 {
+        let (plan, outcome) = played(Kind::Beyond, seed, Wanted::default());
+        assert!(plan.weight(plan.faulty) > plan.bound(plan.total()));
+        assert!(matches!(outcome.failure, Some(Failure::Fork { .. })), "seed {seed}: {:?}", outcome.failure);
+    }
+}
+
+#[test]
+fn the_same_seed_is_the_same_run() {
+    for kind in Kind::ALL {
+        let (_, one) = played(kind, 5, Wanted::default());
+        let (_, other) = played(kind, 5, Wanted::default());
+        assert!(one.acts == other.acts, "{kind}");
+        assert_eq!(one.failure, other.failure);
+        let (_, another) = played(kind, 6, Wanted::default());
+        assert!(one.acts != another.acts, "{kind}");
+    }
+}
+
+/// The list of calls that a run has come to, made again on fresh engines: the same chains.
+#[test]
+fn the_calls_of_a_run_made_again() {
+    for (kind, seed) in [(Kind::All, 2), (Kind::Crashes, 4), (Kind::Guests, 1)] {
+        let (plan, outcome) = played(kind, seed, Wanted::default());
+        let entries = recorded(&plan, &PlantParts, &outcome.acts).unwrap();
+        let members = (0..plan.computers).map(Member::new);
+        let mut engines: Vec<_> =
+            members.map(|own| Engine::open_with_rights(own, &plan.sheet, plan.rights).unwrap()).collect();
+        calls::run(&mut engines, &entries);
+        let chains: Vec<_> = engines.iter().map(|engine| engine.chain().unwrap()).collect();
+        let longest = chains.iter().max_by_key(|chain| chain.len()).unwrap();
+        assert_eq!(longest.len(), outcome.blocks, "{kind}");
+        assert!(chains.iter().all(|chain| longest.starts_with(chain)), "{kind}");
+    }
+}
+
+#[test]
+fn a_fork_made_short() {
+    let (plan, outcome) = played(Kind::Beyond, 5, Wanted::default());
+    let short = shrink(&plan, &PlantParts, &outcome.acts, Duration::from_secs(20)).unwrap();
+    assert!(short.acts.len() < 60 && short.acts.len() < outcome.acts.len(), "{} steps", short.acts.len());
+    let Failure::Fork { members: (one, other), .. } = short.failure else { panic!("{}", short.failure) };
+    for member in [one, other] {
+        let stream = records::stream(&plan, member, &short.entries).unwrap();
+        assert!(stream.starts_with(&format!("open,{member},")) && stream.ends_with("commit\r\nchain\r\n"), "{stream}");
+    }
+    let streams = [one, other].map(|member| records::stream(&plan, member, &short.entries).unwrap());
+    assert_ne!(streams[0], streams[1]);
+    // What does not fail is not made short.
+    let (plan, outcome) = played(Kind::Lossy, 1, Wanted::default());
+    assert!(shrink(&plan, &PlantParts, &outcome.acts, Duration::from_secs(1)).is_none());
+}
+
+#[test]
+fn plans_keep_to_the_bound() {
+    for seed in 0..2_000 {
+        for kind in [Kind::Equivocation, Kind::Weights, Kind::All] {
+            let plan = Plan::new(kind, seed, Wanted::default());
+            let without = plan.total() - plan.weight(plan.movable);
+            assert!(plan.weight(plan.faulty) <= plan.bound(without), "{kind}, seed {seed}");
+            assert_eq!(plan.faulty & plan.movable, 0);
+        }
+    }
+}

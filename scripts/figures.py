@@ -1,0 +1,195 @@
+#!/usr/bin/env python3
+"""figures.py [--write]: the numbers that pages tell, made from what they are numbers of.
+
+Each entry of PAGES is a piece of a page's text with its numbers as expressions in braces. Without --write it says which
+piece is not on its page as it would be made today, and ends with 1; with --write it puts the numbers there.
+Times come of bench/FIGURES.md, which `sh bench/run.sh` writes; counts and lengths of the code itself.
+What scripts/pages.py runs, docs/TRUST.md and README.md's lines of specs/ (tools/trust) have commands of their own.
+"""
+import pathlib
+import re
+import sys
+
+TOP = pathlib.Path(__file__).resolve().parent.parent
+WORDS = ("none one two three four five six seven eight nine ten eleven twelve thirteen fourteen fifteen sixteen seventeen "
+         "eighteen nineteen twenty").split()
+
+
+def text(path):
+    return (TOP / path).read_text(encoding="utf-8")
+
+
+# ---- bench/FIGURES.md
+
+
+def tables():
+    """Each section's rows, as a list of cells."""
+    found, section = {}, None
+    for line in text("bench/FIGURES.md").splitlines():
+        if line.startswith("## "):
+            section = found.setdefault(line[3:], [])
+        elif line.startswith("| ") and section is not None:
+            section.append([cell.strip() for cell in line.strip("| \n").split("|")])
+    return found
+
+
+FIGURES = tables()
+
+
+def row(section, *first):
+    """The row of a section whose cells have these at their places: (place, text) each."""
+    fits = [cells for cells in FIGURES[section] if all(cells[at] == said for at, said in first)]
+    if len(fits) != 1:
+        sys.exit(f"figures: bench/FIGURES.md, {section}: {len(fits)} rows of {first}")
+    return fits[0]
+
+
+def by_call(call, state, ceiling):
+    return row(f"Ceiling {ceiling}", (0, call), (1, state))
+
+
+def rounded(number, small=1):
+    """Three digits at most: 2.5, 10, 166."""
+    return f"{number:.{small}f}" if number < 10 else f"{number:,.0f}"
+
+
+def span(numbers, small=1):
+    """One number, or the least and the largest of several."""
+    least, most = rounded(min(numbers), small), rounded(max(numbers), small)
+    return least if least == most else f"{least} to {most}"
+
+
+def us(calls, ceiling, state="full"):
+    """Microseconds of these calls of the engine, the least and the most."""
+    return span([int(by_call(call, state, ceiling)[4]) / 1000 for call in calls.split("; ")])
+
+
+def times_plain(calls, state="full"):
+    """How many times plain Rust these calls take, over all ceilings."""
+    return span([int(cells[4]) / int(cells[5]) for ceiling in (64, 256, 1024)
+                 for call in calls.split("; ") for cells in [by_call(call, state, ceiling)]])
+
+
+def batch(ceiling, by, column, state="full"):
+    """Of 64 certificates: 4 is one batch, 5 the accepts, both in microseconds."""
+    cells = row("64 certificates, one batch or 64 accepts", (0, str(ceiling)), (1, state), (3, by))
+    return float(cells[column])
+
+
+def batch_ms(ceiling, by):
+    return f"{batch(ceiling, by, 5) / 1000:.1f}"
+
+
+def batch_times(ceiling):
+    return f"{batch(ceiling, 'engine', 5) / batch(ceiling, 'engine', 4):.0f}"
+
+
+def growth(calls):
+    """What one more held certificate adds, in nanoseconds."""
+    return span([float(row("Growth with held certificates, ceiling 1024", (0, call), (1, "engine"))[7])
+                 for call in calls.split("; ")], 0)
+
+
+def round_of_sixteen(ceiling):
+    """A propose, 15 endorses, a certify, 15 accepts, an advance and half a commit, in milliseconds."""
+    ns = lambda call: int(by_call(call, "full", ceiling)[4])
+    whole = ns("propose") + 15 * ns("endorse") + ns("certify") + 15 * ns("accept") + ns("advance") + ns("commit, one block") / 2
+    return rounded(whole / 1_000_000)
+
+
+# ---- the code
+
+
+def exported(guests=False):
+    """The functions that hosts link, or the guests' forms among them, without owner's calls."""
+    names = [name for path in (TOP / "crates/host/src").glob("*.rt")
+             for name in re.findall(r'extern "C" fn (forgelilac_\w+)', path.read_text(encoding="utf-8"))]
+    plain = [name for name in names if not name.startswith("forgelilac_owned_")]
+    return len([name for name in plain if "_guest_" in name]) if guests else len(plain)
+
+
+def table_words(ceiling):
+    return 272 * ceiling + 272
+
+
+PUT = {"us": us, "times_plain": times_plain, "batch": batch, "batch_ms": batch_ms, "batch_times": batch_times,
+       "growth": growth, "round_of_sixteen": round_of_sixteen, "exported": exported, "table_words": table_words,
+       "by_call": by_call, "WORDS": WORDS, "rounded": rounded}
+
+READS = "'read certificate; read block; enqueue'"
+STANDING = "'advance; read committee; read share'"
+SIGNING = "'propose; endorse; certify; accept; draw of 4'"
+COMMIT = "'commit, one block; preview, one block'"
+
+
+def table_row(name, calls):
+    """A line of docs/PERFORMANCE.md's table of calls."""
+    return ("docs/PERFORMANCE.md", f"| {name} | {{us({calls}, 64)}} | {{us({calls}, 256)}} | {{us({calls}, 1024)}} | "
+            f"{{times_plain({calls})}} |")
+
+
+PAGES = [
+    table_row("open", "'open'"),
+    table_row("read certificate, read block, enqueue", READS),
+    table_row("advance, read committee, read share", STANDING),
+    table_row("propose, endorse, certify, accept, draw", SIGNING),
+    table_row("commit that adds one block, its preview", COMMIT),
+    table_row("its preview", "'preview, many blocks'"),
+    ("docs/PERFORMANCE.md", "take {rounded(batch(1024, 'engine', 4))} us at a full ceiling of 1,024 "
+     "(16 authors, the last four rounds, newest first) where 64 accepts in order take {batch_ms(1024, 'engine')} ms: "
+     "{batch_times(1024)} times less"),
+    ("docs/PERFORMANCE.md", "At ceiling 64 it is {rounded(batch(64, 'engine', 4))} us against "
+     "{rounded(batch(64, 'engine', 5))}, {batch_times(64)} times less. Plain Rust takes "
+     "{rounded(batch(1024, 'plain', 4))} us and {batch_ms(1024, 'plain')} ms at 1,024, "
+     "{rounded(batch(64, 'plain', 4))} us and {rounded(batch(64, 'plain', 5))} at 64."),
+    ("docs/PERFORMANCE.md", "One more held certificate adds about {growth('read certificate; read block')} ns to read "
+     "certificate and read block, {growth('propose; certify; read committee')} ns to calls that work out a committee."),
+    ("docs/PERFORMANCE.md", "This is added up from the table"),
+    ("docs/PERFORMANCE.md", "comes to {round_of_sixteen(64)} ms at a full ceiling of 64 and to {round_of_sixteen(1024)} ms "
+     "at 1,024."),
+    ("README.md", "the library for hosts, {exported()} functions, {WORDS[exported(True)]} of them guests' forms"),
+    ("docs/PROMISES.md", "the {exported()} functions of `host` that hosts link, {WORDS[exported(True)]} of them guests' forms"),
+    ("docs/TABLES.md", "| 3 | {table_words(3):,} | {4 * table_words(3):,} |"),
+    ("docs/TABLES.md", "| 1,024 | {table_words(1024):,} | {4 * table_words(1024):,} |"),
+    ("docs/INTEGRATORS.md", "the table, 272 × ceiling + 272 words for each engine: {4 * table_words(64):,} bytes at 64, "
+     "{4 * table_words(1024):,} at 1,024"),
+]
+
+NUMBER = r"(?:[a-z]+|[\d.,]*\d(?: to [\d.,]*\d)?)"
+
+
+def made(piece):
+    """The piece with its numbers, and the expression of it with any numbers."""
+    parts = re.split(r"\{([^{}]*)\}", piece)
+    said, any_numbers = "", ""
+    for at, part in enumerate(parts):
+        if at % 2:
+            expression, _, form = part.partition(":") if part.endswith(":,") else (part, "", "")
+            said += format(eval(expression, dict(PUT)), form)
+            any_numbers += NUMBER
+        else:
+            said += part
+            any_numbers += re.escape(part)
+    return said, any_numbers
+
+
+def main():
+    is_write, wrong = "--write" in sys.argv[1:], 0
+    for page, piece in PAGES:
+        said, any_numbers = made(piece)
+        now = text(page)
+        if said in now:
+            continue
+        found = re.findall(any_numbers, now)
+        if is_write and len(found) == 1:
+            (TOP / page).write_text(now.replace(found[0], said), encoding="utf-8")
+            print(f"figures: {page}: {said}")
+        else:
+            wrong += 1
+            print(f"figures: {page} has not: {said}" + "".join(f"\n    but: {it}" for it in found))
+    print(f"figures: {len(PAGES)} pieces of {len({page for page, _ in PAGES})} pages, {wrong} wrong")
+    return 1 if wrong else 0
+
+
+if __name__ == "__main__":
+    sys.exit(main())
