@@ -10,6 +10,7 @@ ghost use Rattle.state.specs.Cached.{Cached};
 ghost use Rattle.state.specs.SharedChecks.{FormFits};
 ghost use Rattle.member_view.specs.Views.{settings_of, shown};
 
+use chain_committees::chain::Chain;
 use chain_committees::{bonded, cache};
 use member_view::View;
 use refusals::Refusal;
@@ -70,8 +71,7 @@ fn asks_committee(view: &View, certificate: Certificate) -> bool
     ensures { result ≡ true → certificate.proposal.round.0 ≤ (settings_of view.now).ceiling.0 }
 {
     let proposal = certificate.proposal;
-    let settings = view.state.settings;
-    if cache::is_cached(view.cache, settings.ceiling, proposal.round)
+    if cache::is_cached(view.cache, view.state.settings.ceiling, proposal.round)
         || view.check_form(proposal).is_err()
     {
         return false;
@@ -79,7 +79,7 @@ fn asks_committee(view: &View, certificate: Certificate) -> bool
     !base::contains(certificate.endorsers as u32, proposal.author.0)
         && !view.is_held(proposal.author, proposal.round)
         && !view.is_unknown(proposal.round)
-        && !bonded::is_starting(view.table, settings, view.state.blocks, proposal.round)
+        && !bonded::is_starting(view.chain(), proposal.round)
 }
 
 /// Caches committees from the round of a certificate on, as far as there is room, where the checks will ask for one that is not there.
@@ -97,12 +97,7 @@ pub fn cache_committees(
         return;
     };
     if asks_committee(&view, certificate) {
-        cache::fill_cache(
-            table,
-            state.settings,
-            state.blocks,
-            certificate.proposal.round,
-            cache,
-        );
+        let chain = Chain::new(table, &state.settings, state.blocks);
+        cache::fill_cache(chain, certificate.proposal.round, cache);
     }
 }

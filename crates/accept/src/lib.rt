@@ -43,8 +43,8 @@ pub fn accept(state: &State, table: &mut [u32], certificate: Certificate) -> Res
     ensures refusal { refusal_in result ≡ accept_refusal state.now table.old certificate }
     ensures table { table.new ≡ accept_table state.now table.old certificate }
 {
-    let formed = state::well_formed(*state, table);
-    let mut cache = [cache::NO_ROUND; 17];
+    let formed = state::well_formed(state, table);
+    let mut cache = [cache::NO_ROUND; cache::ONE_ROUND];
     admission::cache_committees(formed, state, table, certificate, &mut cache);
     accept_cached(formed, &cache, state, table, certificate)
 }

@@ -31,6 +31,8 @@ module _ (s : State) (row : Row) (t : List ℕ) where
 
   -- c, offered again on the table that the batch left, gets 17 exactly where its place is held then, by another of the row, and 11 else
   pub record AgainAs (q : ℕ) (c : Certificate) : Type 0 where
-    pub number : accept_refusal s (tried_table s row t) c ≡ (if held_at (tried_table s row t) c.proposal.author.0 c.proposal.round.0 then 17 else 11)
+    pub number : accept_refusal s (tried_table s row t) c
+        ≡ (if held_at (tried_table s row t) c.proposal.author.0 c.proposal.round.0
+        then 17 else 11)
     pub filled : held_at (tried_table s row t) c.proposal.author.0 c.proposal.round.0 ≡ true
         → (i : ℕ) × (d : Certificate) × FilledBy q c i d

@@ -1,259 +1,170 @@
--- Laws of all turns of a batch: the looks tell the keys of the row, and then each record is tried at its turn.
-use Rattle.std.proofs.Common.{◌≡◌, refl, sym, ap, ap₂, ◌∙◌, subst₂, Bool, true, false, cond, List, [], ◌∷◌, ◌≢◌, ℕ, zero, suc, ◌+◌, ◌<◌, ◌≤◌, arith, eqb, ltb, length, get_or, set, replicate, length-set, get_or-set_same, get_or-set_other, lt-ltb, le-ltb, eq-eqb, ne_eqb, Option, Some, None}
-use mathlib.Core.List.{nil≢cons, head-eq_of_cons-eq, tail-eq_of_cons-eq}
+-- Laws of the turns of a batch: that one can be taken after another, whose they are, and what all of them leave.
+use Rattle.std.proofs.Common.{◌≡◌, refl, sym, ap, ◌∙◌, subst, true, List, [], ◌∷◌, ◌++◌, ◌≢◌, ℕ, ◌+◌, ◌<◌, ◌≤◌, arith, length, get_or, set, take, drop, length-set, length-take, get_or-take, get_or-set_same, get_or-set_other, length-append, append_assoc, ext_get_or}
 use native.Mathlib.Decide.{ℕ_discrete, dec_lt}
-use lib.ListN.{length-replicate}
-use Rattle.base.specs.Options.{if_there}
+use lib.Seq.{paste, length-paste}
+use Rattle.std.proofs.lemmas.List.{take_more, take_all, take-append-drop}
+use Rattle.base.specs.Folds.{tab}
+use Rattle.base.proofs.FoldLaws.{length-tab, get_d_tab}
+use Rattle.base.proofs.PasteLaws.{paste-over, paste-inside}
+use Rattle.agreement.specs.Rules.{Chain}
+use Rattle.terms.specs.Proposals.{Content}
+use Rattle.terms.specs.declared.Certificate.{Certificate}
+use Rattle.chain_committees.specs.Caches.{Caches, first_round}
 use Rattle.state.specs.declared.State.{State}
-use Rattle.batch.specs.Turns.{Key, but, first_of, in_turn, turns, leaves, answer_to}
-use Rattle.batch.specs.Order.{times}
-use Rattle.batch.proofs.OrderLaws.{first-of, first-same, in_turn-same, turns-length, each_has_one_turn}
-use Rattle.batch.specs.Batch.{number_on, table_after, tried_table, answer_at}
+use Rattle.state.specs.States.{own_body}
+use Rattle.state.specs.WellFormed.{well_formed}
+use Rattle.state.specs.Cached.{CachesFor}
+use Rattle.state.proofs.FormedLaws.{formed}
+use Rattle.accept.specs.Accept.{accept_table}
+use Rattle.engine.specs.Calls.{accept, InRange}
+use Rattle.batch.specs.Turns.{leaves}
+use Rattle.batch.specs.Order.{OneTurnEach}
+use Rattle.batch.specs.Batch.{turns_of, number_on, table_after, answer_at}
+use Rattle.batch.proofs.OrderLaws.{each_has_one_turn, turns-length}
+use Rattle.batch.proofs.AnswerLaws.{leaves-join, turn-parts, turn_low, turn-once, answer-once}
+use Rattle.batch.proofs.BatchLaws.{accept-left}
 use Rattle.batching.specs.declared.rows.CertificateRecord.{CertificateRecord}
-use Rattle.batching.specs.Rows.{row_of}
-use Rattle.batching.specs.Places.{keys_in, left_in}
-use Rattle.batching.specs.declared.offering.Stage.{Stage}
-use Rattle.batching.specs.Stages.{next_place, looked, noted}
-use Rattle.batching.specs.TakenTurns.{stage_next, table_next}
-use Rattle.batching.specs.Ran.{record_at, ran_stage, ran_table}
-use Rattle.batching.proofs.RanLaws.{ran_both}
-use Rattle.batching.specs.Begun.{fresh_stage}
+use Rattle.batching.specs.Rows.{no_record, certificate_of, row_of}
+use Rattle.batching.specs.Ordering.{key_at}
+use Rattle.batching.specs.TakenTurns.{Ready, number_of, table_of, AllTaken}
+use Rattle.batching.proofs.OrderingLaws.{times-at}
 
--- the arrays of a stage have 64 words each
-pub record Sized (g : Stage) : Type 0 where
-  pub rounds : length g.rounds ≡ 64
-  pub authors : length g.authors ≡ 64
-  pub left : length g.left ≡ 64
-  pub answers : length g.answers ≡ 64
+-- ---- one turn after another
 
-module _ (row : List CertificateRecord) (s : State) (few : length row ≤ 64) where
+module _ {s : State} {t cache : List ℕ} where
+  -- with no committee cached
+  pub ready-first : well_formed s t ≡ true → (own_body s).previous < 65536 → first_round cache ≡ 4294967296 → Ready s t cache
+  ready-first k low empty =
+      let f = (formed s t k).settings.ceiling_to in
+      record { formed = k; set_in_range = low; caches = record { committee = λ r u l. absurd (omega (arith, l.from)) } }
+
+  -- after an accept
+  pub ready-next : (c : Certificate) {u cache' : List ℕ} → Ready s t cache → InRange (accept c) → u ≡ accept_table s t c → CachesFor s t cache' → Ready s u cache'
+  ready-next c {u} {cache'} k i e x =
+      let still = accept-left s t k.formed c k.set_in_range i in
+      record {
+        formed = rw e still.formed;
+        set_in_range = k.set_in_range;
+        caches = rw e (subst (λ (z : Chain Content). Caches s.settings z cache') (sym still.chain) x);
+      }
+
+-- ---- all turns
+
+leaves_last : (f : List ℕ → ℕ → List ℕ) (u : List ℕ) (x : ℕ) → leaves f (x ∷ []) u ≡ f u x
+unfolding leaves
+leaves_last f u x = refl
+
+module _ (row : List CertificateRecord) where
   abbrev n : ℕ
   n = length row
 
-  -- by what a place of the row is tried
-  abbrev key_at : ℕ → Key
-  key_at p = ((row_of row).at p).key
+  abbrev all : List ℕ
+  all = turns_of (row_of row)
 
-  -- the place that is visited next is the one that a stage names
-  abbrev Placed : Stage → Type 0
-  Placed g = g.place ≡ next_place g.seen n g.rounds g.authors g.left
+  once : OneTurnEach (key_at row) n all
+  once = each_has_one_turn (key_at row) n
 
-  -- ---- the looks
+  long : length all ≡ n
+  long = turns-length (key_at row) n
 
-  -- the first k records were looked at
-  pub record LookedTo (k : ℕ) (g : Stage) : Type 0 where
-    pub count : g.count ≡ n
-    pub seen : g.seen ≡ k
-    pub placed : Placed g
-    pub sized : Sized g
-    pub keyed : (i : ℕ) → i < k → keys_in g.rounds g.authors i ≡ key_at i
-    pub left : (i : ℕ) → i < n → left_in g.left i ≡ ltb i k
+  -- whose turn i is
+  abbrev pub place_at : ℕ → ℕ
+  place_at i = get_or all i 0
 
-  looked-none : LookedTo 0 (fresh_stage n)
-  unfolding next_place first_of
-  looked-none =
-      record {
-        count = refl;
-        seen = refl;
-        placed = go (dec_lt 0 n);
-        sized = record { rounds = length-replicate {A = ℕ} 64 0; authors = length-replicate {A = ℕ} 64 0; left = length-replicate {A = Bool} 64 false; answers = length-replicate {A = ℕ} 64 0 };
-        keyed = λ i h. absurd (omega arith);
-        left = λ i h. rw (le-ltb i 0 (omega arith)) (none_left i 64);
-      }
+  turn : (i : ℕ) → i < n → all ≡ take i all ++ (place_at i ∷ drop (i + 1) all)
+  turn i h =
+      sym (take-append-drop (i + 1) all) ∙ ap (λ (l : List ℕ). l ++ drop (i + 1) all) (take_more all i 0 (omega (arith, long))) ∙ append_assoc (take i all) (place_at i ∷ []) (drop (i + 1) all)
+
+  low : (i : ℕ) → i < n → place_at i < n
+  low i h = turn_low once (take i all) (place_at i) (drop (i + 1) all) (turn i h)
+
+  -- a turn is that of a place of the row
+  pub place-low : {l : List ℕ} → l ≡ all → (i : ℕ) → i < length l → get_or l i 0 < n
+  place-low e i h = rw e (low i (omega (arith, long, ap (λ (z : List ℕ). length z) e)))
+
+  -- no two turns are of one place
+  other : (i j : ℕ) → i < n → j < i → place_at j ≢ place_at i
+  other i j h l e =
+      let o = turn-once once (take i all) (place_at i) (drop (i + 1) all) (turn i h) in
+      let g : get_or (take i all) j 0 ≡ place_at i = get_or-take i all j 0 l ∙ e in
+      times-at (key_at row) (take i all) j (omega (arith, length-take i all, long)) (rw g o)
+
+  -- every place has one
+  turn-of : (q : ℕ) → q < n → (i : ℕ) × (i < n) × (place_at i ≡ q)
+  turn-of q h =
+      let x = turn-parts once q h in
+      let k = length x.former in
+      let l : k < n = omega (arith, long, ap (λ (z : List ℕ). length z) x.whole, length-append x.former (q ∷ x.latter)) in
+      (k, l, ap (λ (z : List ℕ). get_or z k 0) x.whole ∙ here x.former x.latter)
     where
-      none_left : (i m : ℕ) → get_or (replicate m false) i false ≡ false
-      none_left i zero = refl
-      none_left zero (suc m) = refl
-      none_left (suc i) (suc m) = none_left i m
+      here : (l m : List ℕ) → get_or (l ++ (q ∷ m)) (length l) 0 ≡ q
+      here [] m = refl
+      here (p ∷ l) m = here l m
 
-      go : Dec (0 < n) → 0 ≡ next_place 0 n (replicate 64 0) (replicate 64 0) (replicate 64 false)
-      go (yes h) = rw (lt-ltb 0 n h) refl
-      go (no h) = let e : n ≡ 0 = omega arith in rw e refl
+  module _ (s : State) (t : List ℕ) where
+    -- the table before turn i
+    abbrev pub table_at : ℕ → List ℕ
+    table_at i = leaves (table_after s (row_of row)) (take i all) t
 
-  module _ (k : ℕ) (g : Stage) (h : k < n) (l : LookedTo k g) where
-    abbrev p : ℕ
-    p = g.place
+    -- i turns are taken from the answers o on: their places have their answers, and what lies beyond the row stays
+    pub record Trying (o p u : List ℕ) (i : ℕ) : Type 0 where
+      pub table : u ≡ table_at i
+      pub size : length p ≡ length o
+      pub tried : (j : ℕ) → j < i → get_or p (place_at j) 0 ≡ answer_at s (row_of row) t (place_at j)
+      pub beyond : (q : ℕ) → n ≤ q → get_or p q 0 ≡ get_or o q 0
 
-    abbrev e : CertificateRecord
-    e = record_at row g
+    -- what its place is answered
+    answer : (i : ℕ) → i < n → answer_at s (row_of row) t (place_at i) ≡ number_on s (row_of row) (table_at i) (place_at i)
+    answer i h = answer-once once (take i all) (place_at i) (drop (i + 1) all) (turn i h) (table_after s (row_of row)) (number_on s (row_of row)) t
 
-    place-next : p ≡ k
-    unfolding next_place
-    place-next = l.placed ∙ rw (l.seen, lt-ltb k n h) refl
+    table-next : (i : ℕ) → i < n → table_at (i + 1) ≡ table_after s (row_of row) (table_at i) (place_at i)
+    table-next i h =
+        let f = table_after s (row_of row) in
+        ap (λ (l : List ℕ). leaves f l t) (take_more all i 0 (omega (arith, long))) ∙ leaves-join f (take i all) (place_at i ∷ []) t ∙ leaves_last f (leaves f (take i all) t) (place_at i)
 
-    look_looked : LookedTo (k + 1) (looked g (record_at row g))
-    unfolding looked
-    look_looked =
-        record {
-          count = l.count;
-          seen = ap (λ (z : ℕ). z + 1) l.seen;
-          placed = rw l.count refl;
-          sized = record { rounds = length-set g.rounds p e.round ∙ z.rounds; authors = length-set g.authors p e.author ∙ z.authors; left = length-set g.left p true ∙ z.left; answers = z.answers };
-          keyed = λ i m. keys i m (ℕ_discrete i p);
-          left = λ i m. lefts i m (ℕ_discrete i p);
-        }
+    pub trying-none : (o : List ℕ) → Trying o o t 0
+    unfolding leaves
+    trying-none o = record { table = refl; size = refl; tried = λ j h. absurd (omega arith); beyond = λ q h. refl }
+
+    -- one more
+    pub trying_more : {l o p u v : List ℕ} {i a : ℕ} → l ≡ all → i < length l → n ≤ length o
+        → a ≡ number_of s u (certificate_of (get_or row (get_or l i 0) no_record)) → v ≡ table_of s u (certificate_of (get_or row (get_or l i 0) no_record))
+        → Trying o p u i → Trying o (set p (get_or l i 0) a) v (i + 1)
+    trying_more {l} {o} {p} {u} {v} {i} {a} e h room f g x =
+        let k : i < n = omega (arith, long, ap (λ (z : List ℕ). length z) e) in
+        rw e (next k (rw e at f) (rw e at g))
       where
-        z : Sized g
-        z = l.sized
-
-        keys : (i : ℕ) → i < k + 1 → Dec (i ≡ p) → keys_in (set g.rounds p e.round) (set g.authors p e.author) i ≡ key_at i
-        keys i m (yes d) =
-            rw d (ap₂ (λ (r a : ℕ). record { round = r; author = a }) (get_or-set_same g.rounds p e.round 0 (omega (arith, z.rounds, place-next))) (get_or-set_same g.authors p e.author 0 (omega (arith, z.authors, place-next))))
-        keys i m (no d) =
-            ap₂ (λ (r a : ℕ). record { round = r; author = a }) (get_or-set_other g.rounds p i e.round 0 d) (get_or-set_other g.authors p i e.author 0 d)
-            ∙ l.keyed i (omega (arith, place-next))
-
-        lefts : (i : ℕ) → i < n → Dec (i ≡ p) → left_in (set g.left p true) i ≡ ltb i (k + 1)
-        lefts i m (yes d) = rw (d, get_or-set_same g.left p true false (omega (arith, z.left, place-next)), lt-ltb p (k + 1) (omega (arith, place-next))) refl
-        lefts i m (no d) = get_or-set_other g.left p i true false d ∙ l.left i m ∙ same (dec_lt i k)
+        next : i < n → a ≡ number_of s u (certificate_of (get_or row (place_at i) no_record)) → v ≡ table_of s u (certificate_of (get_or row (place_at i) no_record)) → Trying o (set p (place_at i) a) v (i + 1)
+        next k f g =
+            let b = low i k in
+            record {
+              table = g ∙ rw x.table (sym (table-next i k));
+              size = length-set p (place_at i) a ∙ x.size;
+              tried = λ j l. at j l (ℕ_discrete j i);
+              beyond = λ q l. get_or-set_other p (place_at i) q a 0 (λ z. omega arith) ∙ x.beyond q l;
+            }
           where
-            same : Dec (i < k) → ltb i k ≡ ltb i (k + 1)
-            same (yes j) = lt-ltb i k j ∙ sym (lt-ltb i (k + 1) (omega arith))
-            same (no j) = le-ltb i k (omega arith) ∙ sym (le-ltb i (k + 1) (omega (arith, place-next)))
+            at : (j : ℕ) → j < i + 1 → Dec (j ≡ i) → get_or (set p (place_at i) a) (place_at j) 0 ≡ answer_at s (row_of row) t (place_at j)
+            at j l (yes d) = rw (d, get_or-set_same p (place_at i) a 0 (omega (arith, low i k, x.size))) (f ∙ rw x.table (sym (answer i k)))
+            at j l (no d) = get_or-set_other p (place_at i) (place_at j) a 0 (other i j k (omega (arith, d))) ∙ x.tried j (omega (arith, d))
 
-    look_is : (t : List ℕ) (e : CertificateRecord) → (stage_next s t g e ≡ looked g e) × (table_next s t g e ≡ t)
-    unfolding stage_next table_next
-    look_is t e = (rw (l.seen, l.count, lt-ltb k n h) refl, rw (l.seen, l.count, lt-ltb k n h) refl)
-
-  -- all looks
-  looks : (j k : ℕ) (g : Stage) (t : List ℕ) → k + j ≡ n → LookedTo k g → LookedTo n (ran_stage row s j g t) × (ran_table row s j g t ≡ t)
-  unfolding ran_stage ran_table
-  looks zero k g t h l = let e : k ≡ n = omega arith in (rw e at l, refl)
-  looks (suc j) k g t h l =
-      let m : k < n = omega arith in
-      let x = look_is k g m l t (record_at row g) in
-      let r = looks j (k + 1) (looked g (record_at row g)) t (omega arith) (look_looked k g m l) in
-      rw (x.0, x.1) r
-
-  -- ---- the turns
-
-  -- what accept answers to a place of the row, and the table that it leaves
-  abbrev number : List ℕ → ℕ → ℕ
-  number = number_on s (row_of row)
-
-  abbrev next : List ℕ → ℕ → List ℕ
-  next = table_after s (row_of row)
-
-  -- every record was looked at, and the turns of l are to come
-  pub record Trying (l : List ℕ) (g : Stage) : Type 0 where
-    pub count : g.count ≡ n
-    pub seen : g.seen ≡ n
-    pub placed : Placed g
-    pub sized : Sized g
-    pub keyed : (i : ℕ) → i < n → keys_in g.rounds g.authors i ≡ key_at i
-    pub to_come : in_turn key_at n (length l) (left_in g.left) ≡ l
-    pub once : (q : ℕ) → times q l ≤ 1
-
-  all-looked : (g : Stage) → LookedTo n g → Trying (turns key_at n) g
-  all-looked g l =
-      record {
-        count = l.count;
-        seen = l.seen;
-        placed = l.placed;
-        sized = l.sized;
-        keyed = l.keyed;
-        to_come = ap (λ (j : ℕ). in_turn key_at n j (left_in g.left)) (turns-length key_at n) ∙ in_turn-same key_at key_at n (λ i h. refl) n (left_in g.left) (λ i. true) (λ i h. l.left i h ∙ lt-ltb i n h);
-        once = λ q. go q (dec_lt q n);
-      }
-    where
-      go : (q : ℕ) → Dec (q < n) → times q (turns key_at n) ≤ 1
-      go q (yes h) = omega (arith, (each_has_one_turn key_at n).once q h)
-      go q (no h) = omega (arith, (each_has_one_turn key_at n).no_other q (omega arith))
-
-  module _ (p : ℕ) (l : List ℕ) (g : Stage) (k : Trying (p ∷ l) g) where
-    -- p is the first that is left, and the others come after it
-    pub record Heads : Type 0 where
-      pub first : first_of key_at (left_in g.left) n ≡ Some p
-      pub others : in_turn key_at n (length l) (but p (left_in g.left)) ≡ l
-
-    heads : Heads
-    unfolding in_turn
-    heads = go (first_of key_at (left_in g.left) n) refl k.to_come
+    -- all of them
+    pub trying-all : {l o p u : List ℕ} {i : ℕ} → l ≡ all → i ≡ length l → n ≤ length o → Trying o p u i → AllTaken s t row o u p
+    trying-all {l} {o} {p} {u} {i} e h room x = let k : i ≡ n = h ∙ ap (λ (z : List ℕ). length z) e ∙ long in whole (rw k at x)
       where
-        go : (o : Option ℕ) → first_of key_at (left_in g.left) n ≡ o → if_there o [] (λ q. q ∷ in_turn key_at n (length l) (but q (left_in g.left))) ≡ p ∷ l → Heads
-        go None x y = absurd (nil≢cons y)
-        go (Some q) x y =
-            let e = head-eq_of_cons-eq y in
-            record { first = x ∙ ap Some e; others = ap (λ (z : ℕ). in_turn key_at n (length l) (but z (left_in g.left))) (sym e) ∙ tail-eq_of_cons-eq y }
+        f : ℕ → ℕ
+        f = answer_at s (row_of row) t
 
-    low : p < n
-    low = (first-of key_at (left_in g.left) n p heads.first).low
-
-    place-first : g.place ≡ p
-    unfolding next_place
-    place-first = k.placed ∙ rw (k.seen, le-ltb n n (omega arith), first-same (keys_in g.rounds g.authors) key_at n k.keyed (left_in g.left) (left_in g.left) (λ i h. refl), heads.first) refl
-
-    -- the answer is noted at p, and p is left no more
-    try_noted : (m : ℕ) → Trying l (noted g m)
-    unfolding noted times
-    try_noted m =
-        record {
-          count = k.count;
-          seen = k.seen;
-          placed = rw k.count refl;
-          sized = record { rounds = z.rounds; authors = z.authors; left = length-set g.left g.place false ∙ z.left; answers = length-set g.answers g.place m ∙ z.answers };
-          keyed = k.keyed;
-          to_come = in_turn-same key_at key_at n (λ i h. refl) (length l) (left_in (set g.left g.place false)) (but p (left_in g.left)) (λ i h. lefts i h (ℕ_discrete i p)) ∙ heads.others;
-          once = λ q. let o = k.once q in omega arith;
-        }
-      where
-        z : Sized g
-        z = k.sized
-
-        lefts : (i : ℕ) → i < n → Dec (i ≡ p) → left_in (set g.left g.place false) i ≡ but p (left_in g.left) i
-        lefts i h (yes d) = rw (d, place-first, eq-eqb p p refl) (get_or-set_same g.left p false false (omega (arith, z.left, low)))
-        lefts i h (no d) = rw (place-first, ne_eqb i p d) (get_or-set_other g.left p i false false d)
-
-    -- what is noted of the answers
-    noted_here : (m : ℕ) → get_or (noted g m).answers p 0 ≡ m
-    unfolding noted
-    noted_here m = rw place-first (get_or-set_same g.answers p m 0 (omega (arith, k.sized.answers, low, few)))
-
-    noted-there : (m q : ℕ) → q ≢ p → get_or (noted g m).answers q 0 ≡ get_or g.answers q 0
-    unfolding noted
-    noted-there m q d = rw place-first (get_or-set_other g.answers p q m 0 d)
-
-    -- it has no other turn
-    last_turn : times p l ≡ 0
-    unfolding times
-    last_turn = let o = rw (eq-eqb p p refl) at (k.once p) in omega arith
-
-    -- the turn is that of p
-    try_is : (t : List ℕ) → (stage_next s t g (record_at row g) ≡ noted g (number t p)) × (table_next s t g (record_at row g) ≡ next t p)
-    unfolding stage_next table_next
-    try_is t = rw (place-first, k.seen, k.count, le-ltb n n (omega arith)) (refl, refl)
-
-  -- all turns: what they leave, and at each place that has one the answer at its turn
-  tried : (l : List ℕ) (g : Stage) (t : List ℕ) → Trying l g
-      → (ran_table row s (length l) g t ≡ leaves next l t)
-      × ((q : ℕ) → get_or (ran_stage row s (length l) g t).answers q 0 ≡ cond (eqb (times q l) 0) (get_or g.answers q 0) (answer_to next number l t q))
-  unfolding ran_stage ran_table leaves answer_to times
-  tried [] g t k = (refl, λ q. refl)
-  tried (p ∷ l) g t k =
-      let x = try_is p l g k t in
-      let r = tried l (noted g (number t p)) (next t p) (try_noted p l g k (number t p)) in
-      subst₂
-      (λ (h : Stage) (u : List ℕ). (ran_table row s (length l) h u ≡ leaves next l (next t p))
-      × ((q : ℕ) → get_or (ran_stage row s (length l) h u).answers q 0 ≡ cond (eqb (times q (p ∷ l)) 0) (get_or g.answers q 0) (answer_to next number (p ∷ l) t q)))
-      (sym x.0)
-      (sym x.1)
-      (r.0, λ q. r.1 q ∙ at q (ℕ_discrete q p))
-    where
-      at : (q : ℕ) → Dec (q ≡ p)
-          → cond (eqb (times q l) 0) (get_or (noted g (number t p)).answers q 0) (answer_to next number l (next t p) q)
-          ≡ cond (eqb (cond (eqb q p) 1 0 + times q l) 0) (get_or g.answers q 0) (cond (eqb q p) (number t p) (answer_to next number l (next t p) q))
-      at q (yes d) = rw (d, last_turn p l g k, eq-eqb p p refl) (noted_here p l g k (number t p))
-      at q (no d) = let z : 0 + times q l ≡ times q l = omega arith in rw (ne_eqb q p d, z, noted-there p l g k (number t p) q d) refl
-
-  -- ---- the whole batch
-
-  -- the table after both visits of every record, and the answer at each place
-  pub all-turns : (t : List ℕ)
-      → (ran_table row s (n + n) (fresh_stage n) t ≡ tried_table s (row_of row) t)
-      × ((q : ℕ) → q < n → get_or (ran_stage row s (n + n) (fresh_stage n) t).answers q 0 ≡ answer_at s (row_of row) t q)
-  all-turns t =
-      let b = ran_both row s n n (fresh_stage n) t in
-      let l = looks n 0 (fresh_stage n) t (omega arith) looked-none in
-      let g = ran_stage row s n (fresh_stage n) t in
-      let r = rw (turns-length key_at n) at (tried (turns key_at n) g t (all-looked g l.0)) in
-      rw (b.0, b.1, l.1) (r.0, λ q h. r.1 q ∙ rw ((each_has_one_turn key_at n).once q h) refl)
+        whole : Trying o p u n → AllTaken s t row o u p
+        whole x =
+            record {
+              table = x.table ∙ ap (λ (l : List ℕ). leaves (table_after s (row_of row)) l t) (take_all n all (omega (arith, long)));
+              answers = ext_get_or 0 p (paste o 0 (tab f n) n) (x.size ∙ sym (length-paste o 0 (tab f n) n (omega arith) (omega (arith, length-tab f n)))) (λ q h. at q (dec_lt q n));
+            }
+          where
+            at : (q : ℕ) → Dec (q < n) → get_or p q 0 ≡ get_or (paste o 0 (tab f n) n) q 0
+            at q (yes l) =
+                let y = turn-of q l in
+                let z : 0 + q ≡ q = omega arith in
+                rw (y.2) at (x.tried y.0 y.1) ∙ sym (get_d_tab f n q 0 l) ∙ sym (rw z at (paste-inside o 0 (tab f n) n (omega arith) (omega (arith, length-tab f n)) q l))
+            at q (no l) = x.beyond q (omega arith) ∙ sym (paste-over o 0 (tab f n) n (omega arith) (omega (arith, length-tab f n)) q (omega arith))

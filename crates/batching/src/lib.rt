@@ -1,60 +1,37 @@
 //! A batch from its checks to its answers.
 //!
-//! Turns over the row, in which a record is looked at once and offered once; answers, state and table are those of `batch` (specs/Batched, specs/Claims). docs/RULES.md, "Batches".
+//! A row of certificate records is checked as a whole, and each record offered to accept in the order of the turns; answers and table are those of `batch` (specs/Batched, specs/Claims). docs/RULES.md, "Batches".
 #![tactic(auto)]
 
-pub mod offering;
+pub mod ordering;
 pub mod rows;
 pub mod theorems;
-pub mod trying;
 
-ghost use Rattle.std.specs.Prelude.{◌≡◌, if◌then◌else◌, ◌+◌, ◌≤◌, ◌==◌, length};
-ghost use Rattle.std.proofs.Math.Seq.{paste};
-ghost use Rattle.chain_committees.specs.Caches.{first_round};
-ghost use Rattle.state.specs.Answers.{if_accepted};
+ghost use Rattle.std.specs.Prelude.{◌≡◌, true, ◌<◌, ◌≤◌, length, OnOk};
 ghost use Rattle.refusals.specs.Refusals.{refusal_in};
+ghost use Rattle.state.specs.States.{own_body};
+ghost use Rattle.state.specs.WellFormed.{well_formed};
+ghost use Rattle.hosting.specs.Calls.{plain, Done};
 ghost use Rattle.batch.specs.Batch.{batch_refusal};
-ghost use Rattle.batching.specs.Begun.{fresh_stage, Begun};
+ghost use Rattle.batching.specs.Rows.{certificate_of};
+ghost use Rattle.batching.specs.TakenTurns.{Ready, number_of, table_of, AllTaken};
+ghost use Rattle.batching.specs.Batched.{batch_result};
 
-use crate::offering::{Progress, Stage};
+use crate::rows::CertificateRecord;
+use accept::admission;
 use chain_committees::cache;
 use refusals::Refusal;
 use state::State;
 
-/// What a batch starts from: what the checks give, the state, how many turns are to be taken, and the progress before the first.
-#[derive(Clone, Copy)]
-pub struct Start {
-    /// The first check that fails, if one does: then no turn is to be taken.
-    pub checked: Result<(), Refusal>,
-    /// The state that the words give, where the batch is accepted.
-    pub state: State,
-    /// Two for each record, none where the batch is refused.
-    pub turns: usize,
-    /// Nothing looked at yet.
-    pub progress: Progress,
-}
-
-// Nothing looked at yet, and no committee cached.
-fn fresh(count: usize) -> Progress
-    ensures { (result.stage ≡ fresh_stage count) × (first_round result.cache ≡ 4294967296) }
-{
-    let stage = Stage {
-        count,
-        seen: 0,
-        place: 0,
-        rounds: [0; 64],
-        authors: [0; 64],
-        left: [false; 64],
-        answers: [0; 64],
-    };
-    let cache = [cache::NO_ROUND; 129];
-    Progress { stage, cache }
-}
+// The words of a cache with room for eight rounds.
+const EIGHT_ROUNDS: usize = cache::ROUNDS + 8 * cache::COMMITTEE;
 
 // The checks of a batch in their order: the first that fails refuses it.
 #[tactic(auto, unfolding(base::specs::Checks::refusal, batch::specs::Batch::batch_refusal))]
-fn check(state: State, table: &[u32], count: usize, room: usize) -> Result<(), Refusal>
-    ensures { refusal_in result ≡ batch_refusal state table.now count room }
+fn check(state: &State, table: &[u32], count: usize, room: usize) -> Result<(), Refusal>
+    ensures refusal { refusal_in result ≡ batch_refusal state.now table.now count room }
+    ensures formed { OnOk result (well_formed state.now table.now ≡ true) }
+    ensures fits { OnOk result ((count ≤ 64) × (count ≤ room)) }
 {
     if !state::well_formed(state, table) {
         return Err(Refusal::Malformed);
@@ -65,53 +42,49 @@ fn check(state: State, table: &[u32], count: usize, room: usize) -> Result<(), R
     Ok(())
 }
 
-// Two turns for each record, none where the batch is refused.
-fn turns_for(checked: Result<(), Refusal>, count: usize) -> usize
-    requires { refusal_in checked ≡ 0 → count ≤ 64 }
-    ensures { result ≡ (if refusal_in checked == 0 then count + count else 0) }
+// One turn: a record is offered to accept. Gives its answer, 1 to words that cannot be read.
+#[tactic(auto, unfolding(crate::specs::Rows::certificate_of))]
+fn offer(state: &State, table: &mut [u32], cache: &mut [u64], entry: CertificateRecord) -> u32
+    requires { Ready state.now table.old cache.old }
+    ensures answer { result ≡ number_of state.now table.old (certificate_of entry) }
+    ensures table { table.new ≡ table_of state.now table.old (certificate_of entry) }
+    ensures ready { Ready state.now table.new cache.new }
 {
-    match checked {
-        Ok(()) => count + count,
-        Err(_) => 0,
-    }
-}
-
-/// The checks of a batch of `count` records with room for so many answers, and its start: 1 where the state's words mean none or the state is not well formed, then 25 for more than 64 records or for too little room.
-pub fn begin(state: &[u32], table: &[u32], count: usize, room: usize) -> Start
-    ensures { Begun state.now table.now count room result }
-{
-    let progress = fresh(count);
-    let Some(s) = words::states::state(state) else {
-        return Start {
-            checked: Err(Refusal::Malformed),
-            state: open::closed(),
-            turns: 0,
-            progress,
-        };
+    let Some(certificate) = words::proposals::certificate(&rows::words_of(entry)) else {
+        return Refusal::Malformed.number();
     };
-    let checked = check(s, table, count, room);
-    Start {
-        checked,
-        state: s,
-        turns: turns_for(checked, count),
-        progress,
+    admission::cache_committees(true, state, table, certificate, cache);
+    hosting::plain(accept::accept_cached(true, cache, state, table, certificate))
+}
+
+// All turns in their order, over the committees of up to eight rounds: each record is offered, and its answer put at its place.
+fn offer_all(state: &State, table: &mut [u32], row: &[CertificateRecord], answers: &mut [u32])
+    requires formed { well_formed state.now table.old ≡ true }
+    requires set_in_range { (own_body state.now).previous < 65536 }
+    requires few { length row.now ≤ 64 }
+    requires room { length row.now ≤ length answers.old }
+    ensures { AllTaken state.now table.old row.now answers.old table.new answers.new }
+{
+    let mut cache = [cache::NO_ROUND; EIGHT_ROUNDS];
+    let order = ordering::in_order(row);
+    for &place in &order[..row.len()] {
+        answers[place] = offer(state, table, &mut cache, row[place]);
     }
 }
 
-/// Puts the answers, each at its place, where the batch is not refused; gives the refusal's number, 0 for none.
-#[tactic(auto, unfolding(state::specs::Answers::if_accepted))]
-pub fn put_answers(checked: Result<(), Refusal>, progress: &Progress, answers: &mut [u32]) -> u32
-    requires { refusal_in checked ≡ 0 → (progress.now.stage.count ≤ 64)
-        × (progress.now.stage.count ≤ length answers.old) }
-    ensures { (result ≡ refusal_in checked)
-        × (answers.new
-        ≡ if_accepted (refusal_in checked) (paste answers.old 0 progress.now.stage.answers
-        progress.now.stage.count) answers.old) }
+/// Takes a row of up to 64 certificates: they are tried by rising round, then author, then place, and the answer that accept gives at its turn is put at each one's place in `answers`. Refused, in this order: 1 where the state's words mean none or the state is not well formed, 25 for more than 64 certificates or too little room; then nothing is tried. docs/RULES.md, "Batches".
+#[tactic(auto, using(crate::proofs::DoneLaws::done_unread, crate::proofs::DoneLaws::done_refused))]
+pub fn batch(
+    state: &[u32],
+    table: &mut [u32],
+    row: &[CertificateRecord],
+    answers: &mut [u32],
+) -> Result<(), Refusal>
+    ensures { Done plain (batch_result state.now table.old row.now answers.old)
+        (refusal_in result) state.now table.new answers.new }
 {
-    let refusal = hosting::plain(checked);
-    if refusal == 0 {
-        let count = progress.stage.count;
-        answers[..count].copy_from_slice(&progress.stage.answers[..count]);
-    }
-    refusal
+    let s = words::states::state(state).ok_or(Refusal::Malformed)?;
+    check(&s, table, row.len(), answers.len())?;
+    offer_all(&s, table, row, answers);
+    Ok(())
 }

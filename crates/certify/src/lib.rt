@@ -83,7 +83,7 @@ pub fn certify(state: &State, table: &mut [u32], endorsers: u16) -> Result<(), R
     ensures table { table.new ≡ certify_table state.now table.old endorsers }
 {
     certify_cached(
-        state::well_formed(*state, table),
+        state::well_formed(state, table),
         &[],
         state,
         table,

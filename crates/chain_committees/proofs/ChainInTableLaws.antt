@@ -7,7 +7,7 @@ use Rattle.terms.specs.declared.sheet.Settings.{Settings}
 use Rattle.terms.specs.Ranges.{weight_in, SettingsFit}
 use Rattle.committee.specs.Chain.{chain_of}
 use Rattle.committee.specs.Committees.{bonded_from, committee_of}
-use Rattle.committee.proofs.CommitteeLaws.{committee-start, committee-bonded}
+use Rattle.committee.proofs.CommitteeLaws.{committee-start, committee-bonded, margin_fits}
 use Rattle.committee.specs.Totals.{TotalBounded}
 use Rattle.chain_committees.specs.BlockChanges.{block_change, last_round, blocks_fit}
 use Rattle.chain_committees.proofs.ChainLaws.{last_none, last_some, fits-at, last-from, bonded-split, after_none, after_more}
@@ -24,6 +24,7 @@ chain_in_table S t blocks f l e =
       few = few (ℕ_discrete blocks 0);
       rounds = e;
       total = sum_le (weight_in S.weights) 1000000 16 f.weight_to;
+      margin = margin_fits f;
     }
   where
     few : Dec (blocks ≡ 0) → 2 * blocks < S.ceiling.0

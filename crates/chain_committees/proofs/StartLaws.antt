@@ -1,20 +1,19 @@
 -- Laws of the starts that are written beside a running committee.
-use Rattle.std.proofs.Common.{◌≡◌, sym, ◌∙◌, List, ℕ, zero, suc, ◌+◌, ◌-◌, ◌<◌, ◌≤◌, arith, get_or, set, replicate, length-set, get_or-set_same, get_or-set_other}
+use Rattle.std.proofs.Common.{◌≡◌, sym, ◌∙◌, List, ℕ, zero, suc, ◌+◌, ◌<◌, ◌≤◌, arith, get_or, set, replicate, length-set, get_or-set_same, get_or-set_other}
 use native.Mathlib.Decide.{ℕ_discrete}
 use lib.ListN.{length-replicate}
 use Rattle.store.specs.Table.{block_round}
 use Rattle.terms.specs.declared.sheet.Settings.{Settings}
 use Rattle.committee.specs.Committees.{leader_by, start_of}
 use Rattle.committee.proofs.LeaderLaws.{leader_le}
-use Rattle.chain_committees.specs.declared.Applied.{Applied}
 use Rattle.chain_committees.specs.BlockChanges.{place_change, start_at}
 use Rattle.chain_committees.proofs.BlockChangeLaws.{block-rows}
 use Rattle.chain_committees.proofs.BoundLaws.{after_total}
 use Rattle.chain_committees.specs.LinkRuns.{rows_over}
 use Rattle.chain_committees.proofs.ChainLaws.{last_some, fits-at, start-now}
 use Rattle.chain_committees.specs.ChainInTable.{ChainInTable, AfterBlocks}
-use Rattle.chain_committees.proofs.ChainInTableLaws.{after-start, after-at, after_next}
-use Rattle.chain_committees.specs.Starts.{Started, Running, StartsAhead}
+use Rattle.chain_committees.proofs.ChainInTableLaws.{after_next}
+use Rattle.chain_committees.specs.Starts.{Started, StartsAhead}
 use Rattle.terms.specs.declared.sheet.Weight.{Weight}
 
 -- a start is the number of a member, or 16 for none
@@ -67,7 +66,7 @@ module _ {S : Settings} {t : List ℕ} {blocks : ℕ} where
       go j l (no d) = get_or-set_other starts i j v 0 d ∙ s.written j (omega arith)
 
   -- one block more is applied
-  started_applied : {k f : ℕ} {starts : List ℕ} → StartsAhead S t blocks k f starts → Started S t blocks (k + 1) f starts
+  pub started_applied : {k f : ℕ} {starts : List ℕ} → StartsAhead S t blocks k f starts → Started S t blocks (k + 1) f starts
   started_applied {k} a =
       let s = a.started in
       let o = a.own in
@@ -79,27 +78,13 @@ module _ {S : Settings} {t : List ℕ} {blocks : ℕ} where
         ahead = λ _ u. rw (last_some t (k + 1) (λ z. omega arith)) (a.ahead u);
       }
 
-  -- one block more, in its own order
-  pub running_next : {k f : ℕ} {w v : List Weight} {starts : List ℕ} (n : ℕ) → ChainInTable S t blocks → k < blocks → AfterBlocks S t blocks 1024 k w → StartsAhead S t blocks k f starts
-      → n ≡ k + 1
-      → v ≡ rows_over (place_change t n) (get_or starts k 0) S.ceiling.0 w
-      → Running S t blocks 1024 (record { blocks = k + 1; starts = f }) v starts
-  running_next {k} {f} {w} {v} {starts} n a h x s i e' =
-      let e = rw i at e' in
+  -- one block more is applied, in its own order
+  pub after_applied : {k f : ℕ} {w v : List Weight} {starts : List ℕ} → ChainInTable S t blocks → k < blocks → AfterBlocks S t blocks 1024 k w → StartsAhead S t blocks k f starts
+      → v ≡ rows_over (place_change t (k + 1)) (get_or starts k 0) S.ceiling.0 w → AfterBlocks S t blocks 1024 (k + 1) v
+  after_applied {k} {f} {w} {v} a h x s e =
       let b = (fits-at S.ceiling.0 t blocks a.rounds k h).below in
       let c = a.ceiling in
-      record {
-        after = after_next v h (omega arith) (e ∙ rw (s.started.written k s.own) (sym (block-rows S t k w))) x;
-        started = started_applied s;
-      }
-
-  -- where the last block's round is below q
-  pub running_below : (k q : ℕ) {y : Applied} {w : List Weight} {starts : List ℕ} → y.blocks ≡ k + 1 → block_round t (k + 1) < q → Running S t blocks 1024 y w starts → Running S t blocks (q - 1) y w starts
-  running_below k q e h r = record { after = after-at (q - 1) (rw (e, last_some t (k + 1) (λ z. omega arith)) (omega arith)) r.after; started = r.started }
-
-  -- at the start
-  pub running_none : {x : Applied} {w : List Weight} {starts : List ℕ} (q : ℕ) → (x.blocks ≡ 0) × (x.starts ≡ 0) → w ≡ S.weights → Started S t blocks 0 0 starts → Running S t blocks q x w starts
-  running_none q z e s = record { after = rw (z.0, e) (after-start q); started = rw (z.0, z.1) s }
+      after_next v h (omega arith) (e ∙ rw (s.started.written k s.own) (sym (block-rows S t k w))) x
 
 -- how far the next block may start, and how heavy the committee before it is
 pub ruleset next_bounds = (start_le, after_total)

@@ -17,6 +17,10 @@ first_round cache = get_or cache 0 0
 abbrev pub words_at : ℕ → ℕ → ℕ
 words_at q r = (r - q) * COMMITTEE + ROUNDS
 
+-- the words of one from round 0 on with room up to round r: as hosts are told them, by numbers
+abbrev pub words_to : ℕ → ℕ
+words_to r = r * 16 + 17
+
 -- the sixteen weights from a place on
 unfoldable pub weights_at : List ℕ → ℕ → List Weight
 weights_at cache at = tab (λ i. weight (get_or cache (at + i) 0)) 16

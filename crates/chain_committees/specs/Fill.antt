@@ -4,8 +4,7 @@ use Rattle.agreement.specs.Rules.{Chain}
 use Rattle.terms.specs.Proposals.{Content}
 use Rattle.terms.specs.declared.sheet.Settings.{Settings}
 use Rattle.committee.specs.Committees.{committee_of, leader_by}
-use Rattle.committee.specs.Totals.{TotalBounded}
-use Rattle.terms.specs.declared.sheet.Weight.{Weight}
+use Rattle.committee.specs.declared.committees.Committee.{Committee}
 
 -- the number of the leader of round r, 16 for none
 unfoldable pub leader_at : Settings → Chain Content → ℕ → ℕ
@@ -23,7 +22,7 @@ pub record RoundSpan (m top : ℕ) : Type 0 where
 
 -- l has the leaders of these rounds, written over l₀, and w is the committee of the round above top
 pub record LeadersFilled (S : Settings) (c : Chain Content) (m top : ℕ) (l₀ l : List ℕ)
-    (w : List Weight) : Type 0 where
+    (w : Committee) : Type 0 where
   pub leaders : l ≡ fill_to (leader_at S c) m (top - m) l₀
-  pub committee : w ≡ committee_of S c (top + 1)
-  pub bounded : TotalBounded w
+  pub committee : w.weights ≡ committee_of S c (top + 1)
+  pub margin : w.margin ≡ S.margin

@@ -44,5 +44,5 @@ pub fn commit(state: &mut State, table: &mut [u32]) -> Result<u32, Refusal>
     ensures table { table.new ≡ commit_table_after state.old table.old }
     ensures ruled { IfOk result (λ n. RulesGive state.old table.old n state.new table.new) }
 {
-    commit_cached(state::well_formed(*state, table), state, table)
+    commit_cached(state::well_formed(state, table), state, table)
 }

@@ -16,4 +16,3 @@ pub record TotalBounded (w : List Weight) : Type 0 where
 pub record HasShare (w : List Weight) (m : ℕ) : Type 0 where
   pub member : m < 16
   pub weight : 0 < weight_in w m
-  pub bounded : TotalBounded w

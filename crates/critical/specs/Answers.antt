@@ -6,7 +6,6 @@ use Rattle.store.specs.Table.{held_at, mark_at}
 use Rattle.terms.specs.Ranges.{weight_in}
 use Rattle.committee.specs.Chain.{chain_of}
 use Rattle.committee.specs.Committees.{bound_of}
-use Rattle.committee.specs.Totals.{TotalBounded}
 use Rattle.chain_committees.specs.Fill.{leader_at}
 use Rattle.state.specs.declared.State.{State}
 use Rattle.state.specs.Formed.{Formed}
@@ -34,8 +33,8 @@ module _ (s : State) (t : List ℕ) where
     pub its_refusal : refusal_in p.answer ≡ refusal (vote_checks s t)
     pub its_leader : p.leader.0
         ≡ leader_at s.settings (chain_of s.settings.ceiling.0 t s.blocks) (s.round.0 - 1)
-    pub its_weights : p.weights ≡ committee_on s t s.round.0
-    pub bounded : TotalBounded p.weights
+    pub its_weights : p.committee.weights ≡ committee_on s t s.round.0
+    pub its_margin : p.committee.margin ≡ s.settings.margin
 
   -- the state would commit; x has the leader of the round before, and of the present round the committee, its bound and the votes
   pub record Weighs (x : Weighed) : Type 0 where

@@ -11,7 +11,7 @@ ghost use Rattle.store.specs.Table.{Within, mark_at};
 ghost use Rattle.critical.specs.Critical.{place_words, refusal_without, is_critical, critical_at, critical_in, critical_places, critical_refusal, critical_list, late_checks};
 ghost use Rattle.critical.specs.Answers.{InTime, Polls, MayLack, Weighs, Near, InView, Free};
 
-use committee::weighing;
+use committee::committees::Committee;
 use member_view::View;
 use refusals::Refusal;
 use state::State;
@@ -25,7 +25,7 @@ use votes::checks;
 pub(crate) struct Polled {
     pub answer: Result<(), Refusal>,
     pub leader: Member,
-    pub weights: [Weight; 16],
+    pub committee: Committee,
 }
 
 /// What an accepted commit is weighed by: the leader of the round before, and of the present round the committee, its fault bound and the votes.
@@ -38,29 +38,29 @@ pub struct Weighed {
 }
 
 // Checks 21, 22, and what they go by. The leaders are worked out here and nowhere else, so that their memory is in use once at a time.
-fn poll(state: State, table: &[u32]) -> Polled
-    requires { InTime state table.now }
-    ensures { Polls state table.now result }
+fn poll(state: &State, table: &[u32]) -> Polled
+    requires { InTime state.now table.now }
+    ensures { Polls state.now table.now result }
 {
     let mut leaders = [16u32; 1025];
-    let weights = checks::fill_leaders(&state, table, &mut leaders);
-    let answer = checks::check_votes(&state, table, &leaders, &weights);
+    let committee = checks::fill_leaders(state, table, &mut leaders);
+    let answer = checks::check_votes(state, table, &leaders, &committee);
     Polled {
         answer,
         leader: Member(leaders[state.round.0 as usize - 1]),
-        weights,
+        committee,
     }
 }
 
 // What the checks of the votes would answer, were the certificate of a place absent; the table is afterwards as it was.
 fn answer_without(
-    state: State,
+    state: &State,
     table: &mut [u32],
     author: Member,
     round: Round,
 ) -> Result<(), Refusal>
-    requires { MayLack state table.old author.0 round.0 }
-    ensures { (refusal_in result ≡ refusal_without state table.old author.0 round.0)
+    requires { MayLack state.now table.old author.0 round.0 }
+    ensures { (refusal_in result ≡ refusal_without state.now table.old author.0 round.0)
         × (table.new ≡ table.old) }
 {
     let held = store::held_set(table, round);
@@ -72,10 +72,10 @@ fn answer_without(
 }
 
 // Of a certificate that is held and in no block: is it the anchor, or a vote without which the others weigh not more than the bound? One that is no vote adds nothing to them.
-fn is_pivotal(state: State, table: &[u32], weighed: Weighed, author: Member, round: Round) -> bool
-    requires { Weighs state table.now weighed
-        × (InView state author.0 round.0 × Free table.now author.0 round.0) }
-    ensures { result ≡ is_critical state table.now author.0 round.0 }
+fn is_pivotal(state: &State, table: &[u32], weighed: &Weighed, author: Member, round: Round) -> bool
+    requires { Weighs state.now table.now weighed.now
+        × (InView state.now author.0 round.0 × Free table.now author.0 round.0) }
+    ensures { result ≡ is_critical state.now table.now author.0 round.0 }
 {
     if round.0 == state.round.0 {
         let vote = votes::counting::vote_of(table, &weighed.weights, round, weighed.leader, author);
@@ -95,14 +95,15 @@ fn is_in_block(table: &[u32], author: Member, round: Round) -> bool
 
 // Does the commit hang on the certificate of a place?
 fn is_critical(
-    state: State,
+    state: &State,
     table: &mut [u32],
-    weighed: Weighed,
+    weighed: &Weighed,
     author: Member,
     round: Round,
 ) -> bool
-    requires { Weighs state table.old weighed × InView state author.0 round.0 }
-    ensures { (result ≡ is_critical state table.old author.0 round.0) × (table.new ≡ table.old) }
+    requires { Weighs state.now table.old weighed.now × InView state.now author.0 round.0 }
+    ensures { (result ≡ is_critical state.now table.old author.0 round.0)
+        × (table.new ≡ table.old) }
 {
     if !store::held(table, author, round) {
         return false;
@@ -128,19 +129,19 @@ fn put_place(list: &mut [u32], at: usize, author: Member, round: Round) -> usize
 // That of `author` and `round`, if the commit hangs on it.
 #[tactic(auto, using(crate::proofs::PlaceLaws::place_there, crate::proofs::PlaceLaws::place_none))]
 fn list_place(
-    state: State,
+    state: &State,
     table: &mut [u32],
-    weighed: Weighed,
+    weighed: &Weighed,
     author: Member,
     round: Round,
     list: &mut [u32],
     at: usize,
 ) -> usize
-    requires { Weighs state table.old weighed
-        × (InView state author.0 round.0 × (at + 2 ≤ length list.old)) }
+    requires { Weighs state.now table.old weighed.now
+        × (InView state.now author.0 round.0 × (at + 2 ≤ length list.old)) }
     ensures { (table.new ≡ table.old)
         × Puts list.old list.new at result
-        (place_words (critical_at state table.old author.0 round.0)) 2 }
+        (place_words (critical_at state.now table.old author.0 round.0)) 2 }
 {
     if is_critical(state, table, weighed, author, round) {
         put_place(list, at, author, round)
@@ -151,17 +152,18 @@ fn list_place(
 
 // Those of `round`.
 fn list_row(
-    state: State,
+    state: &State,
     table: &mut [u32],
-    weighed: Weighed,
+    weighed: &Weighed,
     round: Round,
     list: &mut [u32],
     at: usize,
 ) -> usize
-    requires { Weighs state table.old weighed × (Near state round.0 × (at + 32 ≤ length list.old)) }
+    requires { Weighs state.now table.old weighed.now
+        × (Near state.now round.0 × (at + 32 ≤ length list.old)) }
     ensures { (table.new ≡ table.old)
-        × Puts list.old list.new at result (place_words (critical_in state table.old round.0 16))
-        32 }
+        × Puts list.old list.new at result
+        (place_words (critical_in state.now table.old round.0 16)) 32 }
 {
     let mut to = at;
     for i in 0..16u32 {
@@ -170,11 +172,11 @@ fn list_row(
     to
 }
 
-// Those of both rounds, the round before first; the words that they take.
-fn list_places(state: State, table: &mut [u32], weighed: Weighed, list: &mut [u32]) -> usize
-    requires { Weighs state table.old weighed × (64 ≤ length list.old) }
+/// Lists the places of both rounds whose certificates the commit hangs on, the round before first; the words that they take.
+pub fn list_places(state: &State, table: &mut [u32], weighed: &Weighed, list: &mut [u32]) -> usize
+    requires { Weighs state.now table.old weighed.now × (64 ≤ length list.old) }
     ensures { (table.new ≡ table.old)
-        × Puts list.old list.new 0 result (place_words (critical_places state table.old)) 64 }
+        × Puts list.old list.new 0 result (place_words (critical_places state.now table.old)) 64 }
 {
     let before = Round(state.round.0 - 1);
     let row = list_row(state, table, weighed, before, list, 0);
@@ -182,17 +184,17 @@ fn list_places(state: State, table: &mut [u32], weighed: Weighed, list: &mut [u3
 }
 
 // What the commit of a state that passes its checks is weighed by.
-fn weigh_up(state: State, table: &[u32], polled: Polled) -> Weighed
-    requires { InTime state table.now
-        × (Polls state table.now polled × (refusal_in polled.answer ≡ 0)) }
-    ensures { Weighs state table.now result }
+fn weigh_up(state: &State, table: &[u32], polled: Polled) -> Weighed
+    requires { InTime state.now table.now
+        × (Polls state.now table.now polled × (refusal_in polled.answer ≡ 0)) }
+    ensures { Weighs state.now table.now result }
 {
-    let total = weighing::total_weight(&polled.weights);
+    let weights = polled.committee.weights;
     Weighed {
         leader: polled.leader,
-        weights: polled.weights,
-        bound: weighing::fault_bound(state.settings.margin, total),
-        votes: votes::counting::votes_for(table, &polled.weights, state.round, polled.leader),
+        weights,
+        bound: polled.committee.bound(),
+        votes: votes::counting::votes_for(table, &weights, state.round, polled.leader),
     }
 }
 
@@ -219,13 +221,12 @@ pub fn critical(state: &State, table: &mut [u32], list: &mut [u32]) -> Result<u3
     ensures list { list.new ≡ critical_list state.now table.old list.old }
 {
     let words = list.len();
-    check(
-        &View::known(state::well_formed(*state, table), &[], state, table)?,
-        words,
-    )?;
-    let polled = poll(*state, table);
+    let view = View::known(state::well_formed(state, table), &[], state, table)?;
+    check(&view, words)?;
+    checks::check_early(&view)?;
+    let polled = poll(state, table);
     polled.answer?;
-    let weighed = weigh_up(*state, table, polled);
-    let put = list_places(*state, table, weighed, list);
+    let weighed = weigh_up(state, table, polled);
+    let put = list_places(state, table, &weighed, list);
     Ok((put / 2) as u32)
 }

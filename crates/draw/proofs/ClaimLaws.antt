@@ -13,7 +13,7 @@ use Rattle.state.proofs.FormedLaws.{formed}
 use Rattle.state.proofs.RefusalLaws.{refusal-formed}
 use Rattle.propose.specs.Propose.{propose_refusal}
 use Rattle.draw.specs.Draw.{draws, drawn_body, draw_refusal}
-use Rattle.draw.proofs.PassedLaws.{first-row}
+use Rattle.state.proofs.FormedLaws.{first_row}
 use Rattle.std.specs.Prelude.{◌≢◌}
 
 -- what is drawn, in its order, is the transaction list that the usual rules see
@@ -33,7 +33,7 @@ drawn-passes s t v w =
     rw (
       drawn_seen s t v w,
       le-ltb _ _ (transactions-few s.settings.allowance (queues_of t)),
-      drawn-fit s.settings.allowance t (first-row s t f) f.queues,
+      drawn-fit s.settings.allowance t (first_row s t f) f.queues,
     )
     refl
 

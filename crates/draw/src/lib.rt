@@ -5,28 +5,44 @@
 
 pub mod theorems;
 
-ghost use Rattle.std.specs.Prelude.{◌≡◌};
+ghost use Rattle.std.specs.Prelude.{◌≡◌, true};
 ghost use Rattle.refusals.specs.Refusals.{refusal_in};
+ghost use Rattle.state.specs.Cached.{Cached};
 ghost use Rattle.draw.specs.Draw.{draw_refusal, draw_state, draw_table};
 
 use queues::drawing;
 use refusals::Refusal;
 use state::State;
 
-/// Keeps a proposal of what waits in guests' queues. Nothing leaves its queue before the proposal is accepted.
+/// The call, where the state is well formed and committees may be cached. Nothing leaves its queue before the proposal is accepted.
+#[tactic(auto, unfolding(base::specs::Checks::refusal, state::specs::Refusals::refusal_of, state::specs::Answers::if_accepted, propose::specs::Propose::propose_refusal, propose::specs::Propose::propose_state, crate::specs::Draw::drawn_body, crate::specs::Draw::draw_refusal, crate::specs::Draw::draw_state, crate::specs::Draw::draw_table))]
+pub fn draw_formed(
+    cache: &[u64],
+    state: &mut State,
+    table: &mut [u32],
+    previous: u16,
+) -> Result<(), Refusal>
+    requires { Cached state.old table.old true cache.now }
+    ensures refusal { refusal_in result ≡ draw_refusal state.old table.old previous }
+    ensures state { state.new ≡ draw_state state.old table.old previous }
+    ensures table { table.new ≡ draw_table state.old table.old previous }
+{
+    let allowance = state.settings.allowance;
+    let body = drawing::drawn_body(table, allowance, previous);
+    propose::propose_cached(true, cache, state, table, body)?;
+    drawing::draw(table, allowance, previous);
+    Ok(())
+}
+
+/// Keeps a proposal of what waits in guests' queues.
 #[tactic(auto, unfolding(base::specs::Checks::refusal, state::specs::Refusals::refusal_of, state::specs::Answers::if_accepted, propose::specs::Propose::propose_refusal, propose::specs::Propose::propose_state, crate::specs::Draw::drawn_body, crate::specs::Draw::draw_refusal, crate::specs::Draw::draw_state, crate::specs::Draw::draw_table))]
 pub fn draw(state: &mut State, table: &mut [u32], previous: u16) -> Result<(), Refusal>
     ensures refusal { refusal_in result ≡ draw_refusal state.old table.old previous }
     ensures state { state.new ≡ draw_state state.old table.old previous }
     ensures table { table.new ≡ draw_table state.old table.old previous }
 {
-    let formed = state::well_formed(*state, table);
-    if !formed {
+    if !state::well_formed(state, table) {
         return Err(Refusal::Malformed);
     }
-    let allowance = state.settings.allowance;
-    let body = drawing::drawn_body(table, allowance, previous);
-    propose::propose_cached(formed, &[], state, table, body)?;
-    drawing::draw(table, allowance, previous);
-    Ok(())
+    draw_formed(&[], state, table, previous)
 }

@@ -17,7 +17,9 @@ module _ {B : Behaviour} (X : Members B) where
   -- the list, its refused calls left out
   unfoldable pub accepted_only : List Entry → List Entry
   accepted_only [] = []
-  accepted_only (e ∷ l) = if refusal (engine_after X l e.who) e.call == 0 then e ∷ accepted_only l else accepted_only l
+  accepted_only (e ∷ l) =
+      if refusal (engine_after X l e.who) e.call == 0 then e ∷ accepted_only l
+      else accepted_only l
 
 -- E refuses whatever D refuses, and perhaps more
 pub record RefusesMore (E D : Behaviour) : Type 0 where

@@ -22,7 +22,8 @@ pub fn same_engines()
 
 /// Every run by the rules that refuse more, its refused calls left out, was allowed by those that refuse less.
 pub fn runs_were_allowed()
-    ensures { (E D : Behaviour) (R : RefusesMore E D) (X : Members E) (l : List Entry) → Run X l → WasAllowed R X l }
+    ensures { (E D : Behaviour) (R : RefusesMore E D) (X : Members E) (l : List Entry) → Run X l
+        → WasAllowed R X l }
 {}
 
 /// Whatever property the members' engines have after every run by the rules that refuse less, they have after every run by those that refuse more.

@@ -70,7 +70,7 @@ pub fn endorse(state: &State, table: &mut [u32], proposal: Proposal) -> Result<(
     ensures table { table.new ≡ endorse_table state.now table.old proposal }
 {
     endorse_cached(
-        state::well_formed(*state, table),
+        state::well_formed(state, table),
         &[],
         state,
         table,

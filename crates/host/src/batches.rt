@@ -5,7 +5,6 @@ ghost use Rattle.hosting.specs.Guested.{as_guest};
 ghost use Rattle.batching.specs.Batched.{batch_result};
 
 use batching::rows::CertificateRecord;
-use batching::trying;
 use hosting::guesting;
 use terms::rights::Right;
 
@@ -20,10 +19,7 @@ pub extern "C" fn forgelilac_batch(
     ensures { Done plain (batch_result state.now table.old row.now answers.old) result state.now
         table.new answers.new }
 {
-    let start = batching::begin(state, table, row.len(), answers.len());
-    let mut progress = start.progress;
-    trying::run(table, row, &start.state, &mut progress, start.turns);
-    batching::put_answers(start.checked, &progress, answers)
+    hosting::plain(batching::batch(state, table, row, answers))
 }
 
 /// A guest has a row of certificates tried. It answers 26 for a caller above 7 and 29 for one without the right, and then nothing is tried and no word changes. Else it does and answers what `forgelilac_batch` does. Right: sign. docs/RULES.md, "Rights" and "Batches".

@@ -45,7 +45,7 @@ fn open(
     };
     let mut s = open::closed();
     open::open(&mut s, table, Member(own), written)?;
-    words::states::put_state(state, s);
+    words::states::put_state(state, &s);
     Ok(())
 }
 
@@ -70,7 +70,7 @@ fn propose(state: &mut [u32], table: &[u32], body: &[u32]) -> Result<(), Refusal
         return Err(Refusal::Malformed);
     };
     propose::propose(&mut s, table, b)?;
-    words::states::put_state(state, s);
+    words::states::put_state(state, &s);
     Ok(())
 }
 
@@ -96,7 +96,8 @@ fn endorse(state: &[u32], table: &mut [u32], proposal: &[u32]) -> Result<(), Ref
 /// Makes a certificate of the member's own proposal with these endorsers, a set of at most 16 bits without the member itself. Accepted: it is held in the table; the state is only read. Answers 0, or the number that refuses: 1, 15, 10, 14, 8, 9, 13. docs/RULES.md, "Certify".
 #[unsafe(no_mangle)]
 pub extern "C" fn forgelilac_certify(state: &[u32], table: &mut [u32], endorsers: u32) -> u32
-    ensures { Done plain (comes_to state.now table.old (certify endorsers)) result state.now table.new [] }
+    ensures { Done plain (comes_to state.now table.old (certify endorsers)) result
+        state.now table.new [] }
 {
     hosting::plain(certify(state, table, endorsers))
 }
@@ -149,7 +150,7 @@ fn advance(state: &mut [u32], table: &[u32]) -> Result<(), Refusal>
         return Err(Refusal::Malformed);
     };
     advance::advance(&mut s, table)?;
-    words::states::put_state(state, s);
+    words::states::put_state(state, &s);
     Ok(())
 }
 
@@ -170,6 +171,6 @@ fn commit(state: &mut [u32], table: &mut [u32]) -> Result<u32, Refusal>
         return Err(Refusal::Malformed);
     };
     let added = commit::commit(&mut s, table)?;
-    words::states::put_state(state, s);
+    words::states::put_state(state, &s);
     Ok(added)
 }

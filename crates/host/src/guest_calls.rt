@@ -84,7 +84,8 @@ pub extern "C" fn forgelilac_guest_certify(
     table: &mut [u32],
     endorsers: u32,
 ) -> u32
-    ensures { Done plain (comes_to_guest state.now table.old caller (certify endorsers)) result state.now table.new [] }
+    ensures { Done plain (comes_to_guest state.now table.old caller (certify endorsers)) result
+        state.now table.new [] }
 {
     match guesting::check(state, Right::Sign, caller) {
         Ok(()) => crate::calls::forgelilac_certify(state, table, endorsers),

@@ -37,7 +37,9 @@ pub extern "C" fn forgelilac_guest_share(
     member: u32,
     round: u32,
 ) -> u64
-    ensures { Done packed (comes_to_guest state.now table.now caller (aside (share (record { 0 = member }) (record { 0 = round })) [])) result state.now table.now [] }
+    ensures { Done packed (comes_to_guest state.now table.now caller
+        (aside (share (record { 0 = member }) (record { 0 = round })) [])) result
+        state.now table.now [] }
 {
     match guesting::check(state, Right::Read, caller) {
         Ok(()) => crate::views::forgelilac_share(state, table, member, round),

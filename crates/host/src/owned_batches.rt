@@ -19,8 +19,8 @@ pub extern "C" fn forgelilac_owned_batch(
     answers: &mut [u32],
 ) -> u32
     requires { Owned state.now table.old kept.now }
-    ensures done { Done plain (batch_result state.now table.old row.now answers.old) result state.now
-        table.new answers.new }
+    ensures done { Done plain (batch_result state.now table.old row.now answers.old) result
+        state.now table.new answers.new }
     ensures owned { Owned state.now table.new kept.now }
 {
     hosting::plain(owned::batches::batch(state, table, kept, row, answers))

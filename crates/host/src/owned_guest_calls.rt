@@ -60,8 +60,8 @@ pub extern "C" fn forgelilac_owned_guest_enqueue(
     transaction: &[u32],
 ) -> u32
     requires { Owned state.now table.old kept.now }
-    ensures done { Done plain (comes_to_guest state.now table.old caller (enqueue transaction.now)) result
-        state.now table.new [] }
+    ensures done { Done plain (comes_to_guest state.now table.old caller (enqueue transaction.now))
+        result state.now table.new [] }
     ensures owned { Owned state.now table.new kept.now }
 {
     match guesting::check(state, Right::Propose, caller) {
@@ -86,8 +86,8 @@ pub extern "C" fn forgelilac_owned_guest_endorse(
     proposal: &[u32],
 ) -> u32
     requires { Owned state.now table.old kept.now }
-    ensures done { Done plain (comes_to_guest state.now table.old caller (endorse proposal.now)) result
-        state.now table.new [] }
+    ensures done { Done plain (comes_to_guest state.now table.old caller (endorse proposal.now))
+        result state.now table.new [] }
     ensures owned { Owned state.now table.new kept.now }
 {
     match guesting::check(state, Right::Sign, caller) {
@@ -126,8 +126,8 @@ pub extern "C" fn forgelilac_owned_guest_accept(
     certificate: &[u32],
 ) -> u32
     requires { Owned state.now table.old kept.now }
-    ensures done { Done plain (comes_to_guest state.now table.old caller (accept certificate.now)) result
-        state.now table.new [] }
+    ensures done { Done plain (comes_to_guest state.now table.old caller (accept certificate.now))
+        result state.now table.new [] }
     ensures owned { Owned state.now table.new kept.now }
 {
     match guesting::check(state, Right::Sign, caller) {

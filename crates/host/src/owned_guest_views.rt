@@ -42,7 +42,9 @@ pub extern "C" fn forgelilac_owned_guest_share(
     round: u32,
 ) -> u64
     requires { Owned state.now table.now kept.now }
-    ensures { Done packed (comes_to_guest state.now table.now caller (aside (share (record { 0 = member }) (record { 0 = round })) [])) result state.now table.now [] }
+    ensures { Done packed (comes_to_guest state.now table.now caller
+        (aside (share (record { 0 = member }) (record { 0 = round })) [])) result
+        state.now table.now [] }
 {
     match guesting::check(state, Right::Read, caller) {
         Ok(()) => crate::owned_views::forgelilac_owned_share(state, table, kept, member, round),

@@ -8,7 +8,7 @@ ghost use Rattle.hosting.specs.GuestForms.{comes_to_guest, access};
 ghost use Rattle.owned.specs.Owned.{Owned};
 
 use hosting::guesting;
-use owned::port_access;
+use owned::port_calls;
 use terms::rights::Right;
 
 /// A guest reads a register of its own port, of a host that owns its words: `forgelilac_guest_port_read`, with the kept committees. Right: read.
@@ -21,12 +21,12 @@ pub extern "C" fn forgelilac_owned_guest_port_read(
     offset: u32,
 ) -> u64
     requires { Owned state.now table.old kept.now }
-    ensures done { Done packed (comes_to_guest state.now table.old caller (access (read offset))) result
-        state.now table.new [] }
+    ensures done { Done packed (comes_to_guest state.now table.old caller (access (read offset)))
+        result state.now table.new [] }
     ensures owned { Owned state.now table.new kept.now }
 {
     match guesting::check(state, Right::Read, caller) {
-        Ok(()) => hosting::packed(port_access::port_read(state, table, kept, caller, offset)),
+        Ok(()) => hosting::packed(port_calls::port_read(state, table, kept, caller, offset)),
         Err(refusal) => hosting::packed(Err(refusal)),
     }
 }
@@ -42,14 +42,13 @@ pub extern "C" fn forgelilac_owned_guest_port_write(
     value: u8,
 ) -> u32
     requires { Owned state.now table.old kept.now }
-    ensures done { Done plain (comes_to_guest state.now table.old caller (access (write offset value)))
-        result state.now table.new [] }
+    ensures done { Done plain
+        (comes_to_guest state.now table.old caller (access (write offset value))) result
+        state.now table.new [] }
     ensures owned { Owned state.now table.new kept.now }
 {
     match guesting::check(state, Right::Read, caller) {
-        Ok(()) => hosting::plain(port_access::port_write(
-            state, table, kept, caller, offset, value,
-        )),
+        Ok(()) => hosting::plain(port_calls::port_write(state, table, kept, caller, offset, value)),
         Err(refusal) => hosting::plain(Err(refusal)),
     }
 }

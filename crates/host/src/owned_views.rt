@@ -37,7 +37,9 @@ pub extern "C" fn forgelilac_owned_share(
     round: u32,
 ) -> u64
     requires { Owned state.now table.now kept.now }
-    ensures { Done packed (comes_to state.now table.now (aside (share (record { 0 = member }) (record { 0 = round })) [])) result state.now table.now [] }
+    ensures { Done packed (comes_to state.now table.now
+        (aside (share (record { 0 = member }) (record { 0 = round })) [])) result
+        state.now table.now [] }
 {
     hosting::packed(views::share(state, table, kept, member, round))
 }

@@ -53,6 +53,6 @@ fn draw(state: &mut [u32], table: &mut [u32], previous: u32) -> Result<(), Refus
         return Err(Refusal::Malformed);
     };
     draw::draw(&mut s, table, previous)?;
-    words::states::put_state(state, s);
+    words::states::put_state(state, &s);
     Ok(())
 }

@@ -3,10 +3,10 @@
 
 ghost use Rattle.std.specs.Prelude.{◌≡◌};
 
+use storing::stored;
+
 /// Version 0.15.0, as 1,000,000 × major + 1,000 × minor + patch.
 const VERSION: u32 = 15000;
-/// The number of the format: docs/TABLES.md, "Format".
-const FORMAT: u32 = 3;
 
 /// The version of the library, as one number: 1,000,000 × major + 1,000 × minor + patch.
 #[unsafe(no_mangle)]
@@ -16,12 +16,12 @@ pub extern "C" fn forgelilac_version() -> u32
     VERSION
 }
 
-/// The format of the words that the library reads and writes. docs/TABLES.md, "Format".
+/// The format of the words that the library reads and writes, the one that `forgelilac_store` writes. docs/TABLES.md, "Format".
 #[unsafe(no_mangle)]
 pub extern "C" fn forgelilac_format() -> u32
     ensures { result ≡ 3 }
 {
-    FORMAT
+    stored::FORMAT
 }
 
 /// The format, by a name that only a library of this format has: what names it does not link with another one.

@@ -49,7 +49,9 @@ fn committee(state: &[u32], table: &[u32], round: u32, out: &mut [u32]) -> Resul
 /// Gives the share of a member in a round's committee, in thousandths. State and table are only read. The low half of the answer is the share, the high half the number that refuses, 0 for none: 1, 4, 5, 8, 9. docs/RULES.md, "Shares".
 #[unsafe(no_mangle)]
 pub extern "C" fn forgelilac_share(state: &[u32], table: &[u32], member: u32, round: u32) -> u64
-    ensures { Done packed (comes_to state.now table.now (aside (share (record { 0 = member }) (record { 0 = round })) [])) result state.now table.now [] }
+    ensures { Done packed (comes_to state.now table.now
+        (aside (share (record { 0 = member }) (record { 0 = round })) [])) result
+        state.now table.now [] }
 {
     hosting::packed(share(state, table, member, round))
 }

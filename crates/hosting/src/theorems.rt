@@ -71,7 +71,8 @@ pub fn shares_over_words()
     ensures { (w t o : List ℕ) (m i : Member) (r : Round) (a : ℕ)
         → (effect_result w t o m r a).refusal ≡ 0
         → (result_of w t [] true (aside (share i r))).refusal ≡ 0
-        → word (effect_result w t o m r a).out i.0 ≡ (result_of w t [] true (aside (share i r))).value }
+        → word (effect_result w t o m r a).out i.0
+        ≡ (result_of w t [] true (aside (share i r))).value }
 {}
 
 /// Whatever words are lent, read or not: an access or a reset of a port above 7 is refused with 26, and an access at an offset above 7 with 31.

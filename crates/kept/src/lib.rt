@@ -56,7 +56,8 @@ pub fn certificate_stays()
 pub fn stored_held()
     ensures { (x : Opening) (l : List Request) → AskedInRange (after_opening x) l
         → (p : Content) (d : ℕ)
-        → StoredThen (after_opening x) l p d → Holds (after_requests (after_opening x) l).table p.author p.round p d }
+        → StoredThen (after_opening x) l p d
+        → Holds (after_requests (after_opening x) l).table p.author p.round p d }
 {}
 
 /// What is held an accepted certify or accept took, with those endorsers.
@@ -102,5 +103,6 @@ pub fn was_allowed_earlier()
 /// If chains never forked by the earlier rules, they never fork now, batches and guests' requests among what members ask.
 #[tactic(auto, using(crate::proofs::RunLaws::agreement_carries_over_then))]
 pub fn agreement_carries_over()
-    ensures { ((X : Members earlier_behaviour) (l : List Entry) → Run X l → Agreed X l) → ChainsNeverForkWithGuests }
+    ensures { ((X : Members earlier_behaviour) (l : List Entry) → Run X l → Agreed X l)
+        → ChainsNeverForkWithGuests }
 {}

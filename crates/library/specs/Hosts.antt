@@ -65,7 +65,9 @@ module _ (X : Hosts) where
 
   -- the words of member i's host after a list of calls, newest first
   abbrev pub words_after : List Entry → ℕ → Words
-  words_after l i = states (λ k. after_call) (λ k. after_call (before k) (by_host (opens k (sheet k) (rights k)))) l i
+  words_after l i =
+      states (λ k. after_call)
+      (λ k. after_call (before k) (by_host (opens k (sheet k) (rights k)))) l i
 
   -- the calls that the list counts as
   abbrev pub calls_in : List Entry → List (entries.Entry Call)

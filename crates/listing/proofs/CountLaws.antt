@@ -10,7 +10,7 @@ use Rattle.chain_committees.proofs.StartLaws.{start_le}
 use Rattle.listing.specs.Counts.{in_block, in_first, block_count, chain_count, row_count}
 
 -- so many places from p on, after those below it
-sum_join : (f : ℕ → ℕ) (p n : ℕ) → sum_to f (p + n) ≡ sum_to f p + sum_to (λ i. f (p + i)) n
+pub sum_join : (f : ℕ → ℕ) (p n : ℕ) → sum_to f (p + n) ≡ sum_to f p + sum_to (λ i. f (p + i)) n
 sum_join f p zero = let e : p + 0 ≡ p = omega arith in rw (e, sum_none (λ i. f (p + i))) (omega arith)
 sum_join f p (suc n) = let e : p + suc n ≡ suc (p + n) = omega arith in rw (e, sum_next f (p + n), sum_next (λ i. f (p + i)) n, sum_join f p n) (omega arith)
 

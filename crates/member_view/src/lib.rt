@@ -3,15 +3,14 @@
 //! A state that was found well formed, its table and what is cached beside them. Each method is one test of a call, and answers what the rules' test of it says (rules/specs/Tests): `lacks_previous` is `missing` there and `lacks_quorum` is `too_few_previous`, both above round 1. docs/RULES.md, "A member's state".
 #![tactic(auto)]
 
-pub mod committees;
-
 ghost use Rattle.std.specs.Prelude.{◌≡◌, true};
 ghost use Rattle.state.specs.WellFormed.{well_formed};
 ghost use Rattle.state.specs.Formed.{Formed};
 ghost use Rattle.state.specs.Cached.{CachesFor};
 
-use crate::committees::{Committee, Committees};
+use chain_committees::chain::Chain;
 use chain_committees::{bonded, cache};
+use committee::committees::{Committee, Committees};
 use refusals::Refusal;
 use state::State;
 use terms::{Body, Member, Proposal, Round};
@@ -85,12 +84,21 @@ impl<'a> View<'a> {
         terms::has_bad_transactions(self.state.settings.allowance, body)
     }
 
+    /// The chain of the table, whole.
+    pub fn chain(&self) -> Chain<'a>
+        ensures table { result.table.now ≡ self.now.table.now }
+        ensures settings { result.settings.now ≡ settings_of self.now }
+        ensures blocks { result.blocks ≡ self.now.state.now.blocks }
+    {
+        Chain::new(self.table, &self.state.settings, self.state.blocks)
+    }
+
     /// Check 8: is the committee of the round unknown?
     #[tactic(auto, unfolding(rules::specs::Tests::unknown))]
     pub fn is_unknown(&self, round: Round) -> bool
         ensures { result ≡ unknown (settings_of self.now) (shown self.now) round.0 }
     {
-        !bonded::known(self.table, self.state.settings, self.state.blocks, round)
+        !bonded::known(self.chain(), round)
     }
 
     /// Check 8 of an endorsement: above round 1, is the committee of the round before unknown?
@@ -109,11 +117,7 @@ impl<'a> View<'a> {
             ≡ committee_of (settings_of self.now) (shown self.now).chain round.0 }
         ensures margin { result.margin ≡ (settings_of self.now).margin }
     {
-        let settings = self.state.settings;
-        Committee {
-            weights: cache::committee(self.cache, self.table, settings, self.state.blocks, round),
-            margin: settings.margin,
-        }
+        cache::committee(self.cache, self.chain(), round)
     }
 
     /// The committees of a round and of the one before, by one walk.
@@ -125,14 +129,7 @@ impl<'a> View<'a> {
         ensures margin_at { result.at.margin ≡ (settings_of self.now).margin }
         ensures margin_before { result.before.margin ≡ (settings_of self.now).margin }
     {
-        let settings = self.state.settings;
-        let margin = settings.margin;
-        let pair = cache::committees(self.cache, self.table, settings, self.state.blocks, round);
-        let weights = pair.before;
-        let before = Committee { weights, margin };
-        let weights = pair.at;
-        let at = Committee { weights, margin };
-        Committees { before, at }
+        cache::committees(self.cache, self.chain(), round)
     }
 
     /// Is the member's place of the round held?

@@ -53,17 +53,17 @@ fn fresh(own: Member, settings: Settings, rights: Rights) -> State
 
 // The checks: 4 member above 15; 2 setting out of range; 3 no positive weight; 1 lent table too short.
 #[tactic(auto, unfolding(base::specs::Checks::refusal, crate::specs::Open::open_refusal))]
-fn check(table: &[u32], own: Member, settings: Settings) -> Result<(), Refusal>
-    ensures refusal { refusal_in result ≡ open_refusal table.now own settings }
-    ensures room { OnOk result (Row table.now settings.ceiling.0) }
+fn check(table: &[u32], own: Member, settings: &Settings) -> Result<(), Refusal>
+    ensures refusal { refusal_in result ≡ open_refusal table.now own settings.now }
+    ensures room { OnOk result (Row table.now settings.now.ceiling.0) }
 {
     if 15 < own.0 {
         return Err(Refusal::MemberRange);
     }
-    if sheet::is_out_of_range(settings) {
+    if settings.is_out_of_range() {
         return Err(Refusal::SettingRange);
     }
-    if sheet::is_weightless(settings) {
+    if settings.is_weightless() {
         return Err(Refusal::NoWeight);
     }
     if table.len() < places::used_length(settings.ceiling) {
@@ -85,7 +85,7 @@ pub fn open(
     ensures table { table.new ≡ open_table table.old own written }
 {
     let settings = sheet::fill(written);
-    check(table, own, settings)?;
+    check(table, own, &settings)?;
     clearing::clear_used(table, settings.ceiling);
     *state = fresh(own, settings, written.rights);
     Ok(())

@@ -21,7 +21,9 @@ pub fn equal_settings_open()
 /// Accepted opens of such sheets leave equal states and, in the part that is used, equal tables, whatever was there before; the tables whatever the rights.
 #[tactic(auto, using(crate::proofs::OpenLaws::same_state, crate::proofs::OpenLaws::same_used))]
 pub fn same_opened()
-    ensures state { (s v : State) (t u : List ℕ) (own : Member) (a b : Sheet) → filled a ≡ filled b → a.rights ≡ b.rights → open_refusal t own (filled a) ≡ 0 → open_refusal u own (filled b) ≡ 0
+    ensures state { (s v : State) (t u : List ℕ) (own : Member) (a b : Sheet)
+        → filled a ≡ filled b → a.rights ≡ b.rights
+        → open_refusal t own (filled a) ≡ 0 → open_refusal u own (filled b) ≡ 0
         → open_state s t own a ≡ open_state v u own b }
     ensures table { (t u : List ℕ) (own : Member) (a b : Sheet) → filled a ≡ filled b
         → open_refusal t own (filled a) ≡ 0 → open_refusal u own (filled b) ≡ 0

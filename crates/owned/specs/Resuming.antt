@@ -1,5 +1,6 @@
 -- What resume tests of the words that a host hands in, and what the kept committees are afterwards.
-use Rattle.std.specs.Prelude.{◌≡◌, Bool, true, false, List, ℕ, ◌+◌, ◌*◌, ◌≤◌, length}
+use Rattle.std.specs.Prelude.{◌≡◌, Bool, true, false, List, ℕ, ◌≤◌, length}
+use Rattle.chain_committees.specs.Caches.{first_round, words_to}
 use Rattle.state.specs.declared.State.{State}
 use Rattle.state.specs.Cached.{CachesFor}
 use Rattle.state.specs.WellFormed.{well_formed}
@@ -16,9 +17,10 @@ pub record Whole (s : State) (t : List ℕ) : Type 0 where
 pub record Resumable (w t k : List ℕ) : Type 0 where
   pub reads : state_reads w ≡ true
   pub whole : Whole (state_in w) t
-  pub room : (state_in w).settings.ceiling.0 * 16 + 17 ≤ length k
+  pub room : words_to (state_in w).settings.ceiling.0 ≤ length k
 
--- where b is true k has the committees of all rounds, else it is as it was
+-- where b is true k has the committees of all rounds, from round 0 on, else it is as it was
 pub record Filled (w t k₀ : List ℕ) (b : Bool) (k : List ℕ) : Type 0 where
+  pub begins : b ≡ true → first_round k ≡ 0
   pub committees : b ≡ true → CachesFor (state_in w) t k
   pub same : b ≡ false → k ≡ k₀

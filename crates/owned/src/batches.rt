@@ -5,25 +5,14 @@ ghost use Rattle.refusals.specs.Refusals.{refusal_in};
 ghost use Rattle.words.specs.States.{state_in};
 ghost use Rattle.hosting.specs.Calls.{plain, Done};
 ghost use Rattle.batching.specs.Batched.{batch_result};
-ghost use Rattle.batching.specs.Rows.{record_words, certificate_of};
+ghost use Rattle.batching.specs.Rows.{certificate_of};
 ghost use Rattle.batching.specs.TakenTurns.{number_of, table_of};
 ghost use Rattle.owned.specs.Owned.{Owned};
 
-use crate::{calls, ordering};
-use batching::rows::CertificateRecord;
+use crate::calls;
+use batching::ordering;
+use batching::rows::{self, CertificateRecord};
 use refusals::Refusal;
-use words::bodies;
-
-// The words of a record.
-fn words_of(entry: CertificateRecord) -> [u32; 17]
-    ensures { result ≡ record_words entry }
-{
-    let mut words = [0; 17];
-    bodies::stretch::put(&mut words, 0, &[entry.author, entry.round]);
-    bodies::stretch::put(&mut words, 2, &entry.body);
-    bodies::stretch::put(&mut words, 16, &[entry.endorsers]);
-    words
-}
 
 // One turn: a record is offered to accept. Gives its answer, 1 to words that cannot be read.
 fn offer(state: &[u32], table: &mut [u32], kept: &[u64], entry: CertificateRecord) -> u32
@@ -32,7 +21,7 @@ fn offer(state: &[u32], table: &mut [u32], kept: &[u64], entry: CertificateRecor
     ensures table { table.new ≡ table_of (state_in state.now) table.old (certificate_of entry) }
     ensures owned { Owned state.now table.new kept.now }
 {
-    hosting::plain(calls::accept(state, table, kept, &words_of(entry)))
+    hosting::plain(calls::accept(state, table, kept, &rows::words_of(entry)))
 }
 
 /// Takes a row of up to 64 certificates: each is tried at its turn, and its answer put at its place in `answers`.
@@ -52,8 +41,7 @@ pub fn batch(
         return Err(Refusal::LengthRange);
     }
     let order = ordering::in_order(row);
-    for i in 0..row.len() {
-        let place = order[i];
+    for &place in &order[..row.len()] {
         answers[place] = offer(state, table, kept, row[place]);
     }
     Ok(())

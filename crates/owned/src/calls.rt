@@ -30,7 +30,7 @@ pub fn propose(state: &mut [u32], table: &[u32], kept: &[u64], body: &[u32]) -> 
     };
     let words = known::words(&s, table, kept);
     propose_cached(true, &kept[..words], &mut s, table, b)?;
-    words::states::put_state(state, s);
+    words::states::put_state(state, &s);
     Ok(())
 }
 
@@ -108,7 +108,7 @@ pub fn advance(state: &mut [u32], table: &[u32], kept: &[u64]) -> Result<(), Ref
     };
     let words = known::words(&s, table, kept);
     advance_cached(true, &kept[..words], &mut s, table)?;
-    words::states::put_state(state, s);
+    words::states::put_state(state, &s);
     Ok(())
 }
 
@@ -123,6 +123,6 @@ pub fn commit(state: &mut [u32], table: &mut [u32], kept: &mut [u64]) -> Result<
         return Err(Refusal::Malformed);
     };
     let added = committing::commit_kept(&mut s, table, kept)?;
-    words::states::put_state(state, s);
+    words::states::put_state(state, &s);
     Ok(added)
 }

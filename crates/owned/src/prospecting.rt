@@ -2,52 +2,17 @@
 //!
 //! Nothing is written but the list. A walk down a history ends at the first row in which it finds nothing new: whom an old certificate names is old, in a block or reached before. docs/RULES.md, "Preview".
 
-ghost use Rattle.std.specs.Prelude.{◌≡◌, if◌then◌else◌, not, ◌&&◌, ◌==◌, ◌-◌, ◌<◌, ◌≤◌, true, ℕ, length, get_or};
-ghost use Rattle.base.specs.Sets.{contains, insert};
+ghost use Rattle.std.specs.Prelude.{◌≡◌, ◌-◌, ◌<◌, ◌≤◌, true, ℕ, length, get_or};
 ghost use Rattle.base.specs.Puts.{Puts};
-ghost use Rattle.store.specs.Table.{Within, Row, held_at, mark_at};
-ghost use Rattle.prospects.specs.Reaching.{NewOf};
+ghost use Rattle.store.specs.Table.{held_at};
 ghost use Rattle.prospects.specs.Prospects.{words_after};
 ghost use Rattle.prospects.specs.Ready.{StepsReady};
 ghost use Rattle.owned.specs.Rooted.{Rooted};
 ghost use Rattle.owned.specs.Prospecting.{WalkReady, WentDown, BlockReady, BlockListed, StepReady, StepListed};
 
-use crate::entries;
 use blocks::histories;
+use prospects::{Listed, entries, reaching};
 use terms::{Member, Round};
-
-/// How many blocks there would be, and the next place of the list.
-#[derive(Debug, Clone, Copy)]
-pub(crate) struct Listed {
-    pub blocks: u32,
-    pub next: usize,
-}
-
-// The set `found`, and `author`, where it is in `here` and not in `old` and its certificate of `round` is in no block.
-fn with_new(table: &[u32], here: u32, old: u32, author: Member, round: Round, found: u32) -> u32
-    requires { Within table.now author.0 round.0 }
-    ensures { result
-        ≡ (if contains here author.0
-        && (not (contains old author.0) && mark_at table.now author.0 round.0 == 0)
-        then insert found author.0 else found) }
-{
-    if base::contains(here, author.0)
-        && !base::contains(old, author.0)
-        && store::record::mark(table, author, round) == 0
-    {
-        base::insert(found, author.0)
-    } else {
-        found
-    }
-}
-
-// Those of `here` that are not in `old` and whose certificates of `round` are in no block.
-fn new_of(table: &[u32], here: u32, old: u32, round: Round) -> u32
-    requires { Row table.now round.0 }
-    ensures { NewOf table.now here old round.0 result }
-{
-    (0..16).fold(0, |u, a| with_new(table, here, old, Member(a), round, u))
-}
 
 // Walks down the history of the set `authors` of round top, and gives the round where it ended: there and below nothing is new.
 // seen has what earlier walks reached, by round, and gets what this one reaches; fresh gets, for each round that was walked through, what is new.
@@ -65,7 +30,7 @@ fn go_down(
     let mut here = authors;
     while 0 < r {
         let old = seen[r as usize];
-        let new = new_of(table, here, old, Round(r));
+        let new = reaching::new_of(table, here, old, Round(r));
         if new == 0 {
             return Round(r);
         }

@@ -5,47 +5,49 @@
 ghost use Rattle.std.specs.Prelude.{◌≡◌, true, ◌+◌, ◌*◌, ◌≤◌, length, take};
 ghost use Rattle.std.proofs.Math.Seq.{paste};
 ghost use Rattle.committee.specs.Chain.{chain_of};
-ghost use Rattle.chain_committees.specs.Caches.{first_round, words_at, weights_at, numbers, Caches};
+ghost use Rattle.chain_committees.specs.Caches.{first_round, words_at, words_to, weights_at, numbers, Caches};
 ghost use Rattle.owned.specs.Known.{known_words};
 ghost use Rattle.owned.specs.Renewal.{RenewReady, BlocksReady, BlocksKept};
 
 use crate::applied;
 use chain_committees::cache;
+use chain_committees::chain::Chain;
 use terms::sheet::{Settings, Weight};
 use terms::{Member, Round};
 
 // Have the kept committees room for all rounds up to the ceiling, from round 0 on?
 fn is_full(kept: &[u64], ceiling: Round) -> bool
-    ensures { result ≡ true → (first_round kept.now ≡ 0) × (ceiling.0 * 16 + 17 ≤ length kept.now) }
+    ensures { result ≡ true → (first_round kept.now ≡ 0)
+        × (words_to ceiling.0 ≤ length kept.now) }
 {
-    ceiling.0 as usize * 16 + 17 <= kept.len() && kept[0] == 0
+    cache::words_to(ceiling) <= kept.len() && kept[0] == 0
 }
 
 // The kept committee of `round`.
 fn kept_at(kept: &[u64], round: Round) -> [Weight; 16]
-    requires { round.0 * 16 + 17 ≤ length kept.now }
+    requires { words_to round.0 ≤ length kept.now }
     ensures { result ≡ weights_at kept.now (words_at 0 round.0) }
 {
-    let at = round.0 as usize * 16 + 1;
-    std::array::from_fn(|i| Weight(kept[at + i]))
+    cache::weights_at(kept, round.0 as usize * cache::COMMITTEE + cache::ROUNDS)
 }
 
 // Keeps the committee of `round`.
 fn keep(weights: &[Weight; 16], round: Round, kept: &mut [u64])
-    requires { round.0 * 16 + 17 ≤ length kept.old }
+    requires { words_to round.0 ≤ length kept.old }
     ensures { (length weights.now ≡ 16)
         × (kept.new ≡ paste kept.old (words_at 0 round.0) (numbers weights.now) 16) }
 {
-    let at = round.0 as usize * 16 + 1;
-    for i in 0..16usize {
-        kept[at + i] = weights[i].0;
-    }
+    cache::put_weights(
+        weights,
+        round.0 as usize * cache::COMMITTEE + cache::ROUNDS,
+        kept,
+    );
 }
 
 // Applies to the committee `weights` the blocks of the anchors above `last` up to stop, of which `leaders` has the authors, and keeps the committee of each round after them. Gives how many blocks there are up to stop.
 fn renew_blocks(
     table: &[u32],
-    settings: Settings,
+    settings: &Settings,
     leaders: &[u32],
     lows: &[u32],
     last: Round,
@@ -56,10 +58,10 @@ fn renew_blocks(
     weights: &mut [Weight; 16],
     kept: &mut [u64],
 ) -> u32
-    requires { BlocksReady settings table.now leaders.now lows.now last.0 top.0 stop.0 earlier
-        blocks weights.old kept.old }
-    ensures { BlocksKept settings table.now leaders.now last.0 stop.0 earlier blocks kept.old result
-        weights.new kept.new }
+    requires { BlocksReady settings.now table.now leaders.now lows.now last.0 top.0 stop.0
+        earlier blocks weights.old kept.old }
+    ensures { BlocksKept settings.now table.now leaders.now last.0 stop.0 earlier blocks kept.old
+        result weights.new kept.new }
 {
     let mut count = earlier;
     for q in last.0..stop.0 {
@@ -87,7 +89,7 @@ fn renew_blocks(
 /// Only the rounds that are known then are kept. A stretch without room for all rounds is filled anew.
 pub fn renew(
     table: &[u32],
-    settings: Settings,
+    settings: &Settings,
     leaders: &[u32],
     lows: &[u32],
     last: Round,
@@ -96,14 +98,14 @@ pub fn renew(
     blocks: u32,
     kept: &mut [u64],
 )
-    requires { RenewReady settings table.now leaders.now lows.now last.0 top.0
+    requires { RenewReady settings.now table.now leaders.now lows.now last.0 top.0
         earlier blocks kept.old }
-    ensures { Caches settings (chain_of settings.ceiling.0 table.now blocks)
-        (take (known_words settings top.0) kept.new) }
+    ensures { let s = settings.now in
+        Caches s (chain_of s.ceiling.0 table.now blocks) (take (known_words s top.0) kept.new) }
 {
     let ceiling = settings.ceiling.0;
     if !is_full(kept, settings.ceiling) {
-        cache::fill_cache(table, settings, blocks, Round(0), kept);
+        cache::fill_cache(Chain::new(table, settings, blocks), Round(0), kept);
         return;
     }
     if ceiling <= settings.lookback || ceiling - settings.lookback <= last.0 + 1 {

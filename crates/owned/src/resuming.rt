@@ -1,12 +1,14 @@
 //! Resume: the one test of all that is held, and the committees that are kept from there on.
 
-ghost use Rattle.std.specs.Prelude.{◌≡◌, true, ◌+◌, ◌*◌, ◌≤◌, length};
+ghost use Rattle.std.specs.Prelude.{◌≡◌, true, ◌≤◌, length};
+ghost use Rattle.chain_committees.specs.Caches.{words_to};
 ghost use Rattle.owned.specs.Testing.{Tells};
 ghost use Rattle.owned.specs.Resuming.{Whole, Resumable, Filled};
 ghost use Rattle.owned.specs.Owned.{Owned};
 
 use crate::rooted;
 use chain_committees::cache;
+use chain_committees::chain::Chain;
 use state::State;
 use terms::Round;
 
@@ -14,7 +16,7 @@ use terms::Round;
 fn is_whole(state: &State, table: &[u32]) -> bool
     ensures { Tells result (Whole state.now table.now) }
 {
-    if !state::well_formed(*state, table) {
+    if !state::well_formed(state, table) {
         return false;
     }
     if !rooted::is_rooted(table, state.settings.ceiling) {
@@ -25,9 +27,9 @@ fn is_whole(state: &State, table: &[u32]) -> bool
 
 // Has `kept` room for the committees of all rounds up to the ceiling?
 fn has_room(kept: &[u64], ceiling: Round) -> bool
-    ensures { Tells result (ceiling.0 * 16 + 17 ≤ length kept.now) }
+    ensures { Tells result (words_to ceiling.0 ≤ length kept.now) }
 {
-    ceiling.0 as usize * cache::COMMITTEE + cache::ONE_ROUND <= kept.len()
+    cache::words_to(ceiling) <= kept.len()
 }
 
 /// Can the words be owned? Where they can, `kept` gets the committees of all rounds, and they are owned from here on.
@@ -42,6 +44,6 @@ pub fn resume(state: &[u32], table: &[u32], kept: &mut [u64]) -> bool
     if !has_room(kept, s.settings.ceiling) || !is_whole(&s, table) {
         return false;
     }
-    cache::fill_cache(table, s.settings, s.blocks, Round(0), kept);
+    cache::fill_cache(Chain::new(table, &s.settings, s.blocks), Round(0), kept);
     true
 }

@@ -1,6 +1,7 @@
 //! What holds of owned words: a resume takes those that an open leaves, and those that calls leave; and every call but open and commit leaves them owned, whoever makes it.
 
-ghost use Rattle.std.specs.Prelude.{◌≡◌, true, Bool, List, ℕ, ◌+◌, ◌*◌, ◌≤◌, length};
+ghost use Rattle.std.specs.Prelude.{◌≡◌, true, Bool, List, ℕ, ◌≤◌, length};
+ghost use Rattle.chain_committees.specs.Caches.{words_to};
 ghost use Rattle.engine.specs.Calls.{Call};
 ghost use Rattle.words.specs.States.{state_in};
 ghost use Rattle.hosting.specs.Calls.{result_of};
@@ -13,7 +14,7 @@ ghost use Rattle.owned.specs.Resuming.{Resumable};
 pub fn opened_resumes()
     ensures { (w t k : List ℕ) (own : ℕ) (sheet : List ℕ) (rights : ℕ)
         → (comes_to w t (opens own sheet rights)).refusal ≡ 0
-        → (state_in (comes_to w t (opens own sheet rights)).state).settings.ceiling.0 * 16 + 17
+        → words_to (state_in (comes_to w t (opens own sheet rights)).state).settings.ceiling.0
         ≤ length k
         → Resumable (comes_to w t (opens own sheet rights)).state
         (comes_to w t (opens own sheet rights)).table k }
@@ -23,7 +24,7 @@ pub fn opened_resumes()
 #[tactic(auto, using(crate::proofs::ResumingLaws::owned_resumes))]
 pub fn owned_resumes()
     ensures { (w t k l : List ℕ) → Owned w t k
-        → (state_in w).settings.ceiling.0 * 16 + 17 ≤ length l → Resumable w t l }
+        → words_to (state_in w).settings.ceiling.0 ≤ length l → Resumable w t l }
 {}
 
 /// Every call and read but open and commit leaves owned words owned, accepted or refused, by whichever function it is made.

@@ -8,7 +8,8 @@ ghost use Rattle.hosting.specs.Calls.{plain, packed, Done};
 ghost use Rattle.hosting.specs.HostCalls.{comes_to, aside};
 ghost use Rattle.owned.specs.Owned.{Owned};
 
-use crate::{known, reading};
+use crate::known;
+use reads::{bonding, standing};
 use refusals::Refusal;
 use terms::{Member, Round};
 use words::bodies::lengths::{COMMITTEE, EFFECT, HELD};
@@ -32,7 +33,7 @@ pub fn committee(
     if out.len() < COMMITTEE {
         return Err(Refusal::Malformed);
     }
-    let weights = reading::committee(&known::view(&s, table, kept), Round(round))?;
+    let weights = standing::committee_of(&known::view(&s, table, kept), Round(round))?;
     words::put_weights(out, 0, weights);
     Ok(())
 }
@@ -54,7 +55,7 @@ pub fn share(
     let Some(s) = words::states::state(state) else {
         return Err(Refusal::Malformed);
     };
-    reading::share(&known::view(&s, table, kept), Member(member), Round(round))
+    standing::share_of(&known::view(&s, table, kept), Member(member), Round(round))
 }
 
 /// How far a bond of the member by the amount would move the shares of a round's committee, into the first 33 words of `out`.
@@ -79,7 +80,7 @@ pub fn bond_effect(
     if out.len() < EFFECT {
         return Err(Refusal::Malformed);
     }
-    let effect = reading::effect(
+    let effect = bonding::effect_of(
         &known::view(&s, table, kept),
         Member(member),
         Round(round),
@@ -110,7 +111,7 @@ pub fn certificate(
     if out.len() < HELD {
         return Err(Refusal::Malformed);
     }
-    let held = reading::certificate(&known::view(&s, table, kept), Member(author), Round(round))?;
+    let held = reads::certificate_of(&known::view(&s, table, kept), Member(author), Round(round))?;
     words::proposals::put_held(out, held.proposal, held.endorsers, held.block);
     Ok(())
 }
@@ -124,6 +125,6 @@ pub fn block(state: &[u32], table: &[u32], kept: &[u64], number: u32) -> Result<
     let Some(s) = words::states::state(state) else {
         return Err(Refusal::Malformed);
     };
-    let round = reading::block(&known::view(&s, table, kept), number)?;
+    let round = reads::block_of(&known::view(&s, table, kept), number)?;
     Ok(round.0)
 }

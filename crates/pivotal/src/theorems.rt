@@ -31,7 +31,9 @@ pub fn none_above()
 pub fn absent_as_commit()
     ensures { (e : Engine) → well_formed e.state e.table ≡ true → (a q : ℕ) → a < 16 → 0 < q
         → q ≤ e.state.settings.ceiling.0
-        → refusal_for (record { state = e.state; table = clear_held e.table a q }) commit ≡ (if ports_fit e.state.settings (clear_held e.table a q) e.state.blocks then refusal_without e.state e.table a q else 1) }
+        → refusal_for (record { state = e.state; table = clear_held e.table a q }) commit
+        ≡ (if ports_fit e.state.settings (clear_held e.table a q) e.state.blocks
+        then refusal_without e.state e.table a q else 1) }
 {}
 
 /// The list is the same whatever the words of a port are.

@@ -1,8 +1,8 @@
 -- What the searches over keys and over blocks have found.
 use Rattle.std.proofs.Common.{◌≡◌, List, ℕ, ◌+◌, ◌*◌, ◌<◌, ◌≤◌, arith, get_or}
 use Rattle.std.specs.Prelude.{Option, Some, None, MatchOption, unwrap_or}
-use Rattle.chain_committees.specs.Links.{Marked}
-use Rattle.ports.specs.Next.{key_place, KeyFound, BlockFound, Heads}
+use Rattle.chain_committees.specs.Links.{Marked, Links}
+use Rattle.ports.specs.Next.{key_place, KeyFound, BlockFound}
 
 -- the first number from a to e for which P holds, if there is one
 abbrev pub Search : (ℕ → Type 0) → ℕ → ℕ → Option ℕ → Type 0
@@ -17,19 +17,20 @@ above : (h e p : ℕ) → (h < e → ⊥) → p < e → p < h
 above h e p f l = omega arith
 
 -- of the blocks, by their heads
-pub block_found : (t head : List ℕ) (n blocks k : ℕ) (a e : ℕ) (r : Option ℕ) → blocks < 512 → k ≤ blocks → a ≡ k + 1 → e ≡ blocks + 1 → Search (λ j. get_or head j 0 < n * 16 + 16) a e r → Heads t head n → BlockFound t n blocks k (unwrap_or r e)
-block_found t head n blocks k a e (Some v) few h from to s x =
-    let f = x.each v (omega (arith, s.1)) in
+pub block_found : (t head next : List ℕ) (n blocks k : ℕ) (a e : ℕ) (r : Option ℕ) → blocks < 512 → k ≤ blocks → a ≡ k + 1 → e ≡ blocks + 1 → Search (λ j. get_or head j 0 < n * 16 + 16) a e r → Links t 16 (n * 16 + 16) head next
+    → BlockFound t n blocks k (unwrap_or r e)
+block_found t head next n blocks k a e (Some v) few h from to s x =
+    let f = x.heads v (omega (arith, s.1)) in
     record {
       from = omega (arith, s.0);
       to = omega (arith, s.1);
       here = λ l. (get_or head v 0, f.from, s.2, f.here s.2);
-      skipped = λ j p u w c d m. (x.each j (omega (arith, s.1))).skipped p c (above _ _ p (s.3 j (omega arith) w) d) m;
+      skipped = λ j p u w c d m. (x.heads j (omega (arith, s.1))).skipped p c (above _ _ p (s.3 j (omega arith) w) d) m;
     }
-block_found t head n blocks k a e None few h from to s x =
+block_found t head next n blocks k a e None few h from to s x =
     record {
       from = omega arith;
       to = omega arith;
       here = λ l. absurd (omega arith);
-      skipped = λ j p u w c d m. (x.each j (omega arith)).skipped p c (above _ _ p (s j (omega arith) (omega arith)) d) m;
+      skipped = λ j p u w c d m. (x.heads j (omega arith)).skipped p c (above _ _ p (s j (omega arith) (omega arith)) d) m;
     }

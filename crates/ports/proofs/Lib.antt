@@ -18,3 +18,4 @@ pub mod PutLaws
 pub mod ReadLaws
 pub mod WriteLaws
 pub mod GrownLaws
+pub mod RowLaws

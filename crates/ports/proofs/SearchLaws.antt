@@ -8,7 +8,6 @@ use Rattle.committee.specs.Chain.{holds_at, chain_of}
 use Rattle.committee.proofs.ChainLaws.{holds-other, holds-absent}
 use Rattle.chain_committees.specs.BlockChanges.{start_at}
 use Rattle.chain_committees.specs.Links.{Marked}
-use Rattle.chain_committees.proofs.StartLaws.{start_le}
 use Rattle.ports.specs.Cursors.{Lines, lines_after}
 use Rattle.ports.specs.Places.{lines_of, line_at}
 use Rattle.ports.specs.Next.{first_place, lines_from, lines_beyond, key_member, key_place, key_of, KeyFound, BlockFound, LinePlace, NextInBlock}
@@ -199,6 +198,3 @@ module _ (S : Settings) (t : List ℕ) where
                 let i = key_of a (p % 16) (p / 16) in
                 let e : key_place a i ≡ p = key-place a (p % 16) (p / 16) (omega arith) ∙ by_place p in
                 absurd (f.skipped i (omega (arith, m.1)) (omega (arith, m.2)) (rw e m.3))
-
--- a start is 16 or below, for the code
-pub ruleset start_low = start_le

@@ -6,3 +6,4 @@ pub mod Ports
 pub mod Edges
 pub mod Registers
 pub mod Bytes
+pub mod ByRows

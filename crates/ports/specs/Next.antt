@@ -1,11 +1,9 @@
 -- The line after a place's, in the table: what the search for it has found.
-use Rattle.std.specs.Prelude.{◌≡◌, true, if◌then◌else◌, List, [], ◌∷◌, ℕ, ◌+◌, ◌-◌, ◌*◌, ◌/◌, ◌%◌, ◌<◌, ◌≤◌, length, get_or, drop, ◌==◌, Option, Some, None}
+use Rattle.std.specs.Prelude.{◌≡◌, true, if◌then◌else◌, List, [], ◌∷◌, ℕ, ◌+◌, ◌-◌, ◌*◌, ◌/◌, ◌%◌, ◌<◌, ◌≤◌, length, drop, ◌==◌, Option, Some, None}
 use Rattle.terms.specs.declared.sheet.Settings.{Settings}
 use Rattle.store.specs.Table.{held_at, mark_at}
 use Rattle.committee.specs.Chain.{chain_of}
-use Rattle.chain_committees.specs.BlockChanges.{start_at}
-use Rattle.chain_committees.specs.ChainInTable.{ChainInTable}
-use Rattle.chain_committees.specs.Links.{Marked, First}
+use Rattle.chain_committees.specs.Links.{Marked}
 use Rattle.ports.specs.Cursors.{Lines, lines_after}
 use Rattle.ports.specs.Places.{lines_of}
 
@@ -54,11 +52,6 @@ pub record BlockFound (t : List ℕ) (n blocks k v : ℕ) : Type 0 where
 
 -- ---- what the search relies on
 
--- the first place of each block is found by head
-pub record Heads (t head : List ℕ) (n : ℕ) : Type 0 where
-  pub size : length head ≡ 512
-  pub each : (k : ℕ) → k < 512 → First t k 16 (n * 16 + 16) (get_or head k 0)
-
 -- a place of a line: a certificate in one of the first blocks
 pub record LinePlace (t : List ℕ) (n blocks p : ℕ) : Type 0 where
   pub from : 16 ≤ p
@@ -67,18 +60,8 @@ pub record LinePlace (t : List ℕ) (n blocks p : ℕ) : Type 0 where
   pub mark_from : 1 ≤ mark_at t (p % 16) (p / 16)
   pub mark_to : mark_at t (p % 16) (p / 16) ≤ blocks
 
--- the start of each block
-abbrev pub Starts : Settings → List ℕ → ℕ → List ℕ → Type 0
-Starts S t blocks starts = (i : ℕ) → i < blocks → get_or starts i 0 ≡ start_at S t i
-
 -- of the lines after p's, the place of the first one in the same block; where there is none, the lines are those of the later blocks
 unfoldable pub NextInBlock : Settings → List ℕ → ℕ → ℕ → Option ℕ → Type 0
 NextInBlock S t blocks p None =
     lines_from S t blocks p ≡ lines_beyond S t blocks (mark_at t (p % 16) (p / 16))
 NextInBlock S t blocks p (Some v) = Some v ≡ first_place (lines_from S t blocks p)
-
--- a chain in a table, with the head and the start of each block
-pub record Walked (S : Settings) (t : List ℕ) (blocks : ℕ) (head starts : List ℕ) : Type 0 where
-  pub chain : ChainInTable S t blocks
-  pub heads : Heads t head S.ceiling.0
-  pub each_start : Starts S t blocks starts

@@ -5,14 +5,14 @@
 ghost use Rattle.std.specs.Prelude.{◌≡◌, true, false, List, ◌≢◌, ℕ, ◌+◌, ◌*◌, ◌/◌, ◌%◌, ◌<◌, ◌≤◌, length, get_or};
 ghost use Rattle.store.specs.Table.{Within};
 ghost use Rattle.base.specs.Puts.{Puts};
-ghost use Rattle.chain_committees.specs.ChainInTable.{ChainInTable};
 ghost use Rattle.chain_committees.specs.Links.{Marked};
-ghost use Rattle.chain_committees.specs.Rows.{RowsTo};
 ghost use Rattle.ports.specs.Places.{line_at, HasLine, LineRoom};
-ghost use Rattle.ports.specs.Next.{first_place, lines_from, lines_beyond, key_place, key_of, KeyFound, BlockFound, Heads, LinePlace, Starts, NextInBlock, Walked};
+ghost use Rattle.ports.specs.Next.{first_place, lines_from, lines_beyond, key_place, key_of, KeyFound, BlockFound, LinePlace, NextInBlock};
 
-use chain_committees::changes;
-use terms::sheet::Settings;
+use crate::rows::{self, ByRows};
+use chain_committees::chain::Chain;
+use chain_committees::over_blocks;
+use chain_committees::walk::Walk;
 use terms::{Member, Round};
 
 // The line of `place`, from the start of a buffer on; gives its length.
@@ -49,17 +49,6 @@ pub(crate) fn line_byte(table: &[u32], place: u32, index: u32) -> u8
     line[index as usize]
 }
 
-// Has `place` a certificate of `block`?
-fn is_marked(table: &[u32], block: u32, place: u32) -> bool
-    requires { Within table.now (place % 16) (place / 16) }
-    ensures { (result ≡ true → Marked table.now block place)
-        × (result ≡ false → Marked table.now block place → ⊥) }
-{
-    let author = Member(place % 16);
-    let round = Round(place / 16);
-    store::held(table, author, round) && store::record::mark(table, author, round) == block
-}
-
 // The place of `key`, where rows start with member `start`.
 fn place_of(start: Member, key: u32) -> u32
     requires { start.0 ≤ 16 }
@@ -69,27 +58,28 @@ fn place_of(start: Member, key: u32) -> u32
 }
 
 // From `key` on, the first one with a certificate of `block`, whose rows start with member `start`; the end if there is none.
-fn next_key(table: &[u32], ceiling: Round, block: u32, start: Member, key: u32) -> u32
-    requires { RowsTo table.now ceiling.0 × (start.0 ≤ 16) × (key ≤ ceiling.0 * 16 + 16) }
-    ensures { KeyFound table.now ceiling.0 block start.0 key result }
+fn next_key(chain: Chain, block: u32, start: Member, key: u32) -> u32
+    requires { (start.0 ≤ 16) × (key ≤ chain.settings.now.ceiling.0 * 16 + 16) }
+    ensures { let c = chain.entry in
+        KeyFound c.table.now c.settings.now.ceiling.0 block start.0 key result }
 {
-    let end = ceiling.0 * 16 + 16;
+    let end = chain.settings.ceiling.0 * 16 + 16;
     (key..end)
-        .find(|&i| is_marked(table, block, place_of(start, i)))
+        .find(|&i| rows::is_marked(chain.table, block, place_of(start, i)))
         .unwrap_or(end)
 }
 
 // The first block after `block` that has a certificate; one above the last if there is none.
-fn next_block(head: &[u32; 512], ceiling: Round, blocks: u32, block: u32) -> u32
-    requires { (ceiling.0 ≤ 1024) × (blocks < 512) × (block ≤ blocks) }
-    ensures found { (t : List ℕ) → Heads t head.now ceiling.0
-        → BlockFound t ceiling.0 blocks block result }
+fn next_block(walk: &Walk, block: u32) -> u32
+    requires { block ≤ walk.now.chain.blocks }
+    ensures found { let c = walk.now.chain in
+        BlockFound c.table.now c.settings.now.ceiling.0 c.blocks block result }
     ensures later { block < result }
 {
-    let end = ceiling.0 * 16 + 16;
-    let last = blocks + 1;
+    let end = walk.chain.settings.ceiling.0 * 16 + 16;
+    let last = walk.chain.blocks + 1;
     (block + 1..last)
-        .find(|&j| head[j as usize] < end)
+        .find(|&j| walk.head[j as usize] < end)
         .unwrap_or(last)
 }
 
@@ -101,106 +91,81 @@ fn key_after(start: Member, place: u32) -> u32
     place / 16 * 16 + (place % 16 + (16 - start.0 % 16)) % 16 + 1
 }
 
-// The place after `place` in the order of its block, if there is one.
-#[tactic(auto, using(crate::proofs::SearchLaws::start_low, crate::proofs::SearchLaws::next_key_in, crate::proofs::SearchLaws::no_key_in))]
-fn next_in_block(
-    table: &[u32],
-    settings: Settings,
-    blocks: u32,
-    starts: &[u32; 512],
-    place: u32,
-) -> Option<u32>
-    requires { ChainInTable settings table.now blocks × Starts settings table.now blocks starts.now
-        × LinePlace table.now settings.ceiling.0 blocks place }
-    ensures { NextInBlock settings table.now blocks place result }
+// The place after `place` in the order of its block, if there is one, by a walk that goes on to this block.
+#[tactic(auto, using(crate::proofs::SearchLaws::next_key_in, crate::proofs::SearchLaws::no_key_in))]
+fn next_in_block(walk: &mut Walk, place: u32) -> Option<u32>
+    requires { let c = walk.old.chain in
+        LinePlace c.table.now c.settings.now.ceiling.0 c.blocks place }
+    ensures chain { walk.new.chain ≡ walk.old.chain }
+    ensures next { let c = walk.new.chain in
+        NextInBlock c.settings.now c.table.now c.blocks place result }
 {
-    let block = store::record::mark(table, Member(place % 16), Round(place / 16));
-    let start = Member(starts[(block - 1) as usize]);
-    let ceiling = settings.ceiling;
-    let key = next_key(table, ceiling, block, start, key_after(start, place));
-    if key < ceiling.0 * 16 + 16 {
+    let block = store::record::mark(walk.chain.table, Member(place % 16), Round(place / 16));
+    walk.begin(block);
+    let chain = walk.chain;
+    let start = walk.start(block - 1);
+    let key = next_key(chain, block, start, key_after(start, place));
+    if key < chain.settings.ceiling.0 * 16 + 16 {
         Some(place_of(start, key))
     } else {
         None
     }
 }
 
-// The place of the first line of the blocks after `block`, if there is one.
-#[tactic(auto, using(crate::proofs::SearchLaws::start_low))]
-fn first_after(
-    table: &[u32],
-    settings: Settings,
-    blocks: u32,
-    head: &[u32; 512],
-    starts: &[u32; 512],
-    block: u32,
-) -> Option<u32>
-    requires { Walked settings table.now blocks head.now starts.now × (block ≤ blocks) }
-    ensures { result ≡ first_place (lines_beyond settings table.now blocks block) }
+// The place of the first line of the blocks after `block`, if there is one, by a walk that goes on to the block that has it.
+fn first_after(walk: &mut Walk, block: u32) -> Option<u32>
+    requires { block ≤ walk.old.chain.blocks }
+    ensures { let c = walk.old.chain in
+        result ≡ first_place (lines_beyond c.settings.now c.table.now c.blocks block) }
 {
-    let ceiling = settings.ceiling;
-    let next = next_block(head, ceiling, blocks, block);
-    if blocks < next {
+    let next = next_block(walk, block);
+    if walk.chain.blocks < next {
         return None;
     }
-    let start = Member(starts[(next - 1) as usize]);
-    let key = next_key(table, ceiling, next, start, 16);
+    walk.begin(next);
+    let start = walk.start(next - 1);
+    let key = next_key(walk.chain, next, start, 16);
     Some(place_of(start, key))
 }
 
 // The place of the line after that of `place`, if there is one; the first line's after 0.
 #[tactic(auto, using(crate::proofs::SearchLaws::from_start), unfolding(crate::specs::Next::NextInBlock))]
-fn place_after(
-    table: &[u32],
-    settings: Settings,
-    blocks: u32,
-    head: &[u32; 512],
-    starts: &[u32; 512],
-    place: u32,
-) -> Option<u32>
-    requires { Walked settings table.now blocks head.now starts.now
-        × (place ≢ 0 → LinePlace table.now settings.ceiling.0 blocks place) }
-    ensures { result ≡ first_place (lines_from settings table.now blocks place) }
+fn place_after(walk: &mut Walk, place: u32) -> Option<u32>
+    requires { let c = walk.old.chain in
+        place ≢ 0 → LinePlace c.table.now c.settings.now.ceiling.0 c.blocks place }
+    ensures { let c = walk.old.chain in
+        result ≡ first_place (lines_from c.settings.now c.table.now c.blocks place) }
 {
     if place == 0 {
-        return first_after(table, settings, blocks, head, starts, 0);
+        return first_after(walk, 0);
     }
-    if let Some(next) = next_in_block(table, settings, blocks, starts, place) {
+    if let Some(next) = next_in_block(walk, place) {
         return Some(next);
     }
-    let block = store::record::mark(table, Member(place % 16), Round(place / 16));
-    first_after(table, settings, blocks, head, starts, block)
+    let block = store::record::mark(walk.chain.table, Member(place % 16), Round(place / 16));
+    first_after(walk, block)
 }
 
-// The place of the line after that of `place`, if there is one, by a walk over the blocks; next has a word for each place.
-fn searched(
-    table: &[u32],
-    settings: Settings,
-    blocks: u32,
-    place: u32,
-    next: &mut [u32],
-) -> Option<u32>
-    requires { ChainInTable settings table.now blocks
-        × (place ≢ 0 → LinePlace table.now settings.ceiling.0 blocks place)
-        × (settings.ceiling.0 * 16 + 16 ≤ length next.old) }
-    ensures { result ≡ first_place (lines_from settings table.now blocks place) }
+// The place of the line after that of `place`, by a walk over the blocks up to that of the line. A function of its own, since a function clears its words where it is entered.
+fn walked_after(chain: Chain, place: u32) -> Option<u32>
+    requires { place ≢ 0
+        → LinePlace chain.table.now chain.settings.now.ceiling.0 chain.blocks place }
+    ensures { let c = chain.entry in
+        result ≡ first_place (lines_from c.settings.now c.table.now c.blocks place) }
 {
-    let head = changes::links::linked(table, next, settings.ceiling);
-    let mut starts = [16u32; 512];
-    chain_committees::starts::all_starts(table, &head, next, settings, blocks, &mut starts);
-    place_after(table, settings, blocks, &head, &starts, place)
+    over_blocks!(chain, walk => place_after(&mut walk, place))
 }
 
-/// The place of the line after that of `place` in the listing of the first blocks, if there is one; the first line's where `place` is 0. The listing is not made for it.
-pub(crate) fn line_after(table: &[u32], settings: Settings, blocks: u32, place: u32) -> Option<u32>
-    requires { ChainInTable settings table.now blocks
-        × (place ≢ 0 → LinePlace table.now settings.ceiling.0 blocks place) }
-    ensures { result ≡ first_place (lines_from settings table.now blocks place) }
+/// The place of the line after that of `place` in the listing of a chain, if there is one; the first line's where `place` is 0. The listing is not made for it, and the leaders of blocks are worked out only where the rows do not tell it.
+pub(crate) fn line_after(chain: Chain, place: u32) -> Option<u32>
+    requires { place ≢ 0
+        → LinePlace chain.table.now chain.settings.now.ceiling.0 chain.blocks place }
+    ensures { let c = chain.entry in
+        result ≡ first_place (lines_from c.settings.now c.table.now c.blocks place) }
 {
-    if settings.ceiling.0 <= changes::links::FEW_ROUNDS {
-        let mut few = [0u32; changes::links::FEW];
-        return searched(table, settings, blocks, place, &mut few);
+    match rows::line_after(chain, place) {
+        ByRows::Nothing => None,
+        ByRows::Line(next) => Some(next),
+        ByRows::Untold => walked_after(chain, place),
     }
-    let mut many = [0u32; changes::links::MANY];
-    searched(table, settings, blocks, place, &mut many)
 }

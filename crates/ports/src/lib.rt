@@ -6,6 +6,7 @@
 pub mod cursors;
 pub mod places;
 pub mod registers;
+mod rows;
 pub mod theorems;
 
 ghost use Rattle.std.specs.Prelude.{◌≡◌, true, not, ◌+◌, ◌/◌, ◌%◌, ◌<◌, ◌≤◌, nat_le, get_or};
@@ -78,9 +79,10 @@ fn registers_fit(table: &[u32], port: u32) -> bool
 
 // Has `port` not read past the end of the listing, and do its registers hold what they can?
 #[tactic(auto, using(crate::proofs::FitLaws::port_local))]
-fn port_fits(table: &[u32], settings: Settings, blocks: u32, port: u32) -> bool
-    requires { RowsTo table.now settings.ceiling.0 × (blocks ≤ settings.ceiling.0) × (port < 8) }
-    ensures { result ≡ port_fits settings table.now blocks port }
+fn port_fits(table: &[u32], settings: &Settings, blocks: u32, port: u32) -> bool
+    requires { RowsTo table.now settings.now.ceiling.0 × (blocks ≤ settings.now.ceiling.0)
+        × (port < 8) }
+    ensures { result ≡ port_fits settings.now table.now blocks port }
 {
     cursor_fits(
         table,
@@ -93,9 +95,9 @@ fn port_fits(table: &[u32], settings: Settings, blocks: u32, port: u32) -> bool
 
 /// Are all eight ports well formed: none has read past the end of the listing, and their registers hold what they can?
 #[tactic(auto, unfolding(crate::specs::Ports::ports_fit, base::specs::Folds::all_to))]
-pub fn ports_fit(table: &[u32], settings: Settings, blocks: u32) -> bool
-    requires { RowsTo table.now settings.ceiling.0 × (blocks ≤ settings.ceiling.0) }
-    ensures { result ≡ ports_fit settings table.now blocks }
+pub fn ports_fit(table: &[u32], settings: &Settings, blocks: u32) -> bool
+    requires { RowsTo table.now settings.now.ceiling.0 × (blocks ≤ settings.now.ceiling.0) }
+    ensures { result ≡ ports_fit settings.now table.now blocks }
 {
     (0..8).all(|g| port_fits(table, settings, blocks, g))
 }

@@ -15,6 +15,7 @@ use crate::places::{
     OFFSET_STATUS, PORT_BYTE, PORT_DIVISOR_HIGH, PORT_DIVISOR_LOW, PORT_ENABLE, PORT_LINE,
     PORT_MODEM, PORT_PLACE, PORT_SCRATCH,
 };
+use chain_committees::chain::Chain;
 use store::lengths::PORT;
 use terms::sheet::Settings;
 
@@ -31,10 +32,11 @@ pub(crate) struct Next {
 
 // The next byte of `port`, none where no byte waits.
 #[tactic(auto, using(crate::proofs::RegisterNextLaws::has_line, crate::proofs::RegisterNextLaws::stands_at))]
-fn next_byte(table: &[u32], settings: Settings, blocks: u32, port: u32) -> Option<Next>
-    requires { FormedPort settings table.now blocks port }
-    ensures { result ≡ next_byte settings table.now blocks port }
+fn next_byte(chain: Chain, port: u32) -> Option<Next>
+    requires { FormedPort chain.settings.now chain.table.now chain.blocks port }
+    ensures { let c = chain.entry in result ≡ next_byte c.settings.now c.table.now c.blocks port }
 {
+    let table = chain.table;
     let place = crate::word(table, port, PORT_PLACE);
     let bytes = crate::word(table, port, PORT_BYTE);
     if place != 0 && bytes < cursors::line_length(table, place) {
@@ -44,7 +46,7 @@ fn next_byte(table: &[u32], settings: Settings, blocks: u32, port: u32) -> Optio
             byte: cursors::line_byte(table, place, bytes),
         });
     }
-    let Some(q) = cursors::line_after(table, settings, blocks, place) else {
+    let Some(q) = cursors::line_after(chain, place) else {
         return None;
     };
     Some(Next {
@@ -171,28 +173,30 @@ fn looks_at_next(offset: u32) -> bool
 }
 
 // The next byte, where `offset` looks at it.
-fn found(table: &[u32], settings: Settings, blocks: u32, port: u32, offset: u32) -> Option<Next>
-    requires { FormedPort settings table.now blocks port }
-    ensures { looks_at_next offset ≡ true → result ≡ next_byte settings table.now blocks port }
+fn found(chain: Chain, port: u32, offset: u32) -> Option<Next>
+    requires { FormedPort chain.settings.now chain.table.now chain.blocks port }
+    ensures { let c = chain.entry in
+        looks_at_next offset ≡ true → result ≡ next_byte c.settings.now c.table.now c.blocks port }
 {
     if looks_at_next(offset) {
-        next_byte(table, settings, blocks, port)
+        next_byte(chain, port)
     } else {
         None
     }
 }
 
 /// A read of `port`, 0 to 7, at `offset`, 0 to 7: gives the byte that the offset shows. At offset 0, while bit 7 of offset 3 is clear and a byte of the listing waits, that byte is taken; nothing else changes.
-pub fn read(table: &mut [u32], settings: Settings, blocks: u32, port: u32, offset: u32) -> u32
-    requires { FormedPort settings table.old blocks port × (offset < 8) }
-    ensures { (result
-        ≡ get_or (values_at (listing_of settings table.old blocks)
-        (port_in settings table.old blocks port)) offset 0)
+pub fn read(table: &mut [u32], settings: &Settings, blocks: u32, port: u32, offset: u32) -> u32
+    requires { FormedPort settings.now table.old blocks port × (offset < 8) }
+    ensures { let s = settings.now in
+        (result
+        ≡ get_or (values_at (listing_of s table.old blocks) (port_in s table.old blocks port))
+        offset 0)
         × (table.new
-        ≡ put_port settings table.old blocks port (after_read (listing_of settings table.old blocks)
-        (port_in settings table.old blocks port) offset)) }
+        ≡ put_port s table.old blocks port (after_read (listing_of s table.old blocks)
+        (port_in s table.old blocks port) offset)) }
 {
-    let next = found(table, settings, blocks, port, offset);
+    let next = found(Chain::new(table, settings, blocks), port, offset);
     let byte = value(table, port, offset, next);
     take(table, port, offset, next);
     byte

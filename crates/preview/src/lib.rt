@@ -44,7 +44,7 @@ pub fn preview(state: &State, table: &[u32], list: &mut [u32]) -> Result<u32, Re
     let words = list.len();
     let mut leaders = [0u32; 1025];
     check(
-        &View::known(state::well_formed(*state, table), &[], state, table)?,
+        &View::known(state::well_formed(state, table), &[], state, table)?,
         words,
         &mut leaders,
     )?;

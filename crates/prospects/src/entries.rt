@@ -1,4 +1,4 @@
-// Entries of a preview put into a lent list: block number, certificate round, author. Each function returns the next place (docs/RULES.md, "Preview").
+//! Entries of a preview put into a lent list: block number, certificate round, author. Each function returns the next place (docs/RULES.md, "Preview").
 
 ghost use Rattle.std.specs.Prelude.{◌+◌, ◌-◌, ◌≤◌, ◌<◌, length};
 ghost use Rattle.base.specs.Sets.{contains};
@@ -66,7 +66,7 @@ fn put_row(
 }
 
 /// Puts the entries of the rounds above low up to top into the list, by round, from a place on; sets has a set of authors for each round, `block` is the block's number and `author` that of its anchor. The place behind them.
-pub(crate) fn put_rows(
+pub fn put_rows(
     list: &mut [u32],
     at: usize,
     sets: &[u32; 1025],

@@ -15,8 +15,10 @@ use terms::{Member, Round};
 
 /// How many blocks there would be, and the next place of the list.
 #[derive(Debug, Clone, Copy)]
-pub(crate) struct Listed {
+pub struct Listed {
+    /// How many blocks there would be.
     pub blocks: u32,
+    /// The next place of the list.
     pub next: usize,
 }
 

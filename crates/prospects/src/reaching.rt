@@ -1,4 +1,4 @@
-// What a history has that is in no block yet, by round; nothing is written to the table (docs/RULES.md, "Preview").
+//! What a history has that is in no block yet, by round; nothing is written to the table (docs/RULES.md, "Preview").
 
 ghost use Rattle.std.specs.Prelude.{◌≡◌, if◌then◌else◌, not, ◌&&◌, ◌==◌};
 ghost use Rattle.base.specs.Sets.{contains, insert};
@@ -26,8 +26,8 @@ fn with_new(table: &[u32], here: u32, old: u32, author: Member, round: Round, fo
     }
 }
 
-// Those of `here` that are not in `old` and whose certificates of `round` are in no block.
-fn new_of(table: &[u32], here: u32, old: u32, round: Round) -> u32
+/// Those of the set `here` that are not in `old` and whose certificates of `round` are in no block.
+pub fn new_of(table: &[u32], here: u32, old: u32, round: Round) -> u32
     requires { Row table.now round.0 }
     ensures { NewOf table.now here old round.0 result }
 {

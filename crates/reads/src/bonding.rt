@@ -1,25 +1,23 @@
 //! The read of what a bond would do to all sixteen shares. It changes nothing.
 
 ghost use Rattle.std.specs.Prelude.{◌≡◌, IfOk};
-ghost use Rattle.base.specs.Checks.{refusal};
-ghost use Rattle.rules.specs.Reads.{reading_effect, effect_read};
+ghost use Rattle.rules.specs.Reads.{effect_read};
 ghost use Rattle.state.specs.View.{view};
 ghost use Rattle.refusals.specs.Refusals.{refusal_in};
 ghost use Rattle.member_view.specs.Views.{settings_of, shown};
 ghost use Rattle.reads.specs.Reads.{effect_refusal};
 
-use committee::effects::Effect;
-use committee::{effects, weighing};
+use committee::effects::{self, Effect};
 use member_view::View;
 use refusals::Refusal;
 use state::State;
 use terms::{Member, Round};
 
-// Checks 4, 5, 6, 8, 30, and the shares.
-#[tactic(auto, unfolding(base::specs::Checks::refusal))]
-fn effect_of(view: &View, member: Member, round: Round, amount: u32) -> Result<Effect, Refusal>
+/// Sixteen shares before and after a bond of the member by an amount, and the largest difference, of a state that is known to be well formed. Checks 4, 5, 6, 8 and 30, in this order.
+#[tactic(auto, unfolding(base::specs::Checks::refusal, crate::specs::Reads::effect_refusal))]
+pub fn effect_of(view: &View, member: Member, round: Round, amount: u32) -> Result<Effect, Refusal>
     ensures refusal { refusal_in result
-        ≡ refusal (reading_effect (settings_of view.now) (shown view.now) member.0 round.0 amount) }
+        ≡ effect_refusal view.now.state.now view.now.table.now member.0 round.0 amount }
     ensures value { IfOk result (λ x. x ≡ effect_read (settings_of view.now) (shown view.now)
         member.0 round.0 amount) }
 {
@@ -36,7 +34,7 @@ fn effect_of(view: &View, member: Member, round: Round, amount: u32) -> Result<E
         return Err(Refusal::CommitteeUnknown);
     }
     let committee = view.committee(round);
-    let total = weighing::total_weight(&committee.weights);
+    let total = committee.total();
     if total.0 == 0 {
         return Err(Refusal::EmptyCommittee);
     }
@@ -58,7 +56,7 @@ pub fn effect(
         member.0 round.0 amount) }
 {
     effect_of(
-        &View::known(state::well_formed(*state, table), &[], state, table)?,
+        &View::known(state::well_formed(state, table), &[], state, table)?,
         member,
         round,
         amount,

@@ -8,8 +8,7 @@ pub mod standing;
 pub mod theorems;
 
 ghost use Rattle.std.specs.Prelude.{◌≡◌, IfOk};
-ghost use Rattle.base.specs.Checks.{refusal};
-ghost use Rattle.rules.specs.Reads.{reading_certificate, reading_block, block_read};
+ghost use Rattle.rules.specs.Reads.{block_read};
 ghost use Rattle.state.specs.View.{view};
 ghost use Rattle.refusals.specs.Refusals.{refusal_in};
 ghost use Rattle.member_view.specs.Views.{settings_of, shown};
@@ -33,11 +32,11 @@ pub struct Held {
     pub block: u32,
 }
 
-// Checks 4, 5, 23, and the certificate.
-#[tactic(auto, unfolding(base::specs::Checks::refusal))]
-fn certificate_of(view: &View, author: Member, round: Round) -> Result<Held, Refusal>
+/// The certificate of a place, of a state that is known to be well formed. Checks 4, 5 and 23, in this order.
+#[tactic(auto, unfolding(base::specs::Checks::refusal, crate::specs::Reads::certificate_refusal))]
+pub fn certificate_of(view: &View, author: Member, round: Round) -> Result<Held, Refusal>
     ensures refusal { refusal_in result
-        ≡ refusal (reading_certificate (settings_of view.now) (shown view.now) author.0 round.0) }
+        ≡ certificate_refusal view.now.state.now view.now.table.now author.0 round.0 }
     ensures value { IfOk result (λ h. h ≡ certificate_read view.now.state.now view.now.table.now
         author.0 round.0) }
 {
@@ -70,17 +69,17 @@ pub fn certificate(
     ensures value { IfOk result (λ h. h ≡ certificate_read state.now table.now author.0 round.0) }
 {
     certificate_of(
-        &View::known(state::well_formed(*state, table), &[], state, table)?,
+        &View::known(state::well_formed(state, table), &[], state, table)?,
         author,
         round,
     )
 }
 
-// Check 23, and the round.
-#[tactic(auto, using(crate::proofs::BlockLaws::blocks_shown, crate::proofs::BlockLaws::round_shown), unfolding(base::specs::Checks::refusal))]
-fn block_of(view: &View, block: u32) -> Result<Round, Refusal>
+/// The round of a block, by its number from 1, of a state that is known to be well formed. Check 23.
+#[tactic(auto, using(crate::proofs::BlockLaws::blocks_shown, crate::proofs::BlockLaws::round_shown), unfolding(base::specs::Checks::refusal, crate::specs::Reads::block_refusal))]
+pub fn block_of(view: &View, block: u32) -> Result<Round, Refusal>
     ensures refusal { refusal_in result
-        ≡ refusal (reading_block (settings_of view.now) (shown view.now) block) }
+        ≡ block_refusal view.now.state.now view.now.table.now block }
     ensures value { IfOk result (λ r. r.0
         ≡ block_read (settings_of view.now) (shown view.now) block) }
 {
@@ -98,7 +97,7 @@ pub fn block(state: &State, table: &[u32], number: u32) -> Result<Round, Refusal
         ≡ block_read state.now.settings (view state.now table.now) number) }
 {
     block_of(
-        &View::known(state::well_formed(*state, table), &[], state, table)?,
+        &View::known(state::well_formed(state, table), &[], state, table)?,
         number,
     )
 }

@@ -1,25 +1,23 @@
 //! The reads of a committee and of a share in it. They change nothing.
 
 ghost use Rattle.std.specs.Prelude.{◌≡◌, IfOk};
-ghost use Rattle.base.specs.Checks.{refusal};
-ghost use Rattle.rules.specs.Reads.{reading_committee, reading_share, committee_read, share_read};
+ghost use Rattle.rules.specs.Reads.{committee_read, share_read};
 ghost use Rattle.state.specs.View.{view};
 ghost use Rattle.refusals.specs.Refusals.{refusal_in};
 ghost use Rattle.member_view.specs.Views.{settings_of, shown};
 ghost use Rattle.reads.specs.Reads.{committee_refusal, share_refusal};
 
-use committee::weighing;
 use member_view::View;
 use refusals::Refusal;
 use state::State;
 use terms::sheet::Weight;
 use terms::{Member, Round};
 
-// Checks 5, 8, and the weights.
-#[tactic(auto, unfolding(base::specs::Checks::refusal))]
-fn committee_of(view: &View, round: Round) -> Result<[Weight; 16], Refusal>
+/// The committee of a round, of a state that is known to be well formed. Checks 5 and 8, in this order.
+#[tactic(auto, unfolding(base::specs::Checks::refusal, crate::specs::Reads::committee_refusal))]
+pub fn committee_of(view: &View, round: Round) -> Result<[Weight; 16], Refusal>
     ensures refusal { refusal_in result
-        ≡ refusal (reading_committee (settings_of view.now) (shown view.now) round.0) }
+        ≡ committee_refusal view.now.state.now view.now.table.now round.0 }
     ensures value { IfOk result (λ w. w
         ≡ committee_read (settings_of view.now) (shown view.now) round.0) }
 {
@@ -40,16 +38,16 @@ pub fn committee(state: &State, table: &[u32], round: Round) -> Result<[Weight; 
         ≡ committee_read state.now.settings (view state.now table.now) round.0) }
 {
     committee_of(
-        &View::known(state::well_formed(*state, table), &[], state, table)?,
+        &View::known(state::well_formed(state, table), &[], state, table)?,
         round,
     )
 }
 
-// Checks 4, 5, 8, 9, and the share.
-#[tactic(auto, unfolding(base::specs::Checks::refusal))]
-fn share_of(view: &View, member: Member, round: Round) -> Result<u32, Refusal>
+/// A member's share in the committee of a round, in thousandths, of a state that is known to be well formed. Checks 4, 5, 8 and 9, in this order.
+#[tactic(auto, unfolding(base::specs::Checks::refusal, crate::specs::Reads::share_refusal))]
+pub fn share_of(view: &View, member: Member, round: Round) -> Result<u32, Refusal>
     ensures refusal { refusal_in result
-        ≡ refusal (reading_share (settings_of view.now) (shown view.now) member.0 round.0) }
+        ≡ share_refusal view.now.state.now view.now.table.now member.0 round.0 }
     ensures value { IfOk result (λ n. n ≡ share_read (settings_of view.now) (shown view.now)
         member.0 round.0) }
 {
@@ -66,7 +64,7 @@ fn share_of(view: &View, member: Member, round: Round) -> Result<u32, Refusal>
     if !committee.has_member(member) {
         return Err(Refusal::Outside);
     }
-    Ok(weighing::share(&committee.weights, member))
+    Ok(committee.share(member))
 }
 
 /// A member's share in the committee of a round, in thousandths. Checks 1, 4, 5, 8 and 9, in this order.
@@ -77,7 +75,7 @@ pub fn share(state: &State, table: &[u32], member: Member, round: Round) -> Resu
         member.0 round.0) }
 {
     share_of(
-        &View::known(state::well_formed(*state, table), &[], state, table)?,
+        &View::known(state::well_formed(state, table), &[], state, table)?,
         member,
         round,
     )

@@ -15,7 +15,8 @@ ghost use Rattle.store.specs.Table.{held_at, mark_at};
 /// No accepted read of a bond's effect tells a larger difference than the bound: of states with sixteen starting weights, as every state has that is read from words or opened.
 #[tactic(auto, using(crate::proofs::BoundLaws::effect_bounded))]
 pub fn effect_bounded()
-    ensures { (s : State) (t : List ℕ) → length s.settings.weights ≡ 16 → (m r a : ℕ) → effect_refusal s t m r a ≡ 0
+    ensures { (s : State) (t : List ℕ) → length s.settings.weights ≡ 16 → (m r a : ℕ)
+        → effect_refusal s t m r a ≡ 0
         → (effect_read s.settings (view s t) m r a).largest ≤ most_moved (total_at s t r) a }
 {}
 

@@ -6,7 +6,7 @@ use Rattle.std.specs.Str.{bytes_eq}
 use Rattle.terms.specs.declared.Body.{Body}
 use Rattle.terms.specs.declared.Proposal as P
 use Rattle.terms.specs.Bodies.{body_of}
-use Rattle.records.specs.declared.TheConstants.{LONGEST}
+use Rattle.framing.specs.declared.TheConstants.{LONGEST}
 use Rattle.records.specs.declared.Record.{Record}
 use Rattle.records.specs.declared.Record.TheVariants.{Open, Propose, Endorse, Certify, Accept, Advance, Commit, Chain}
 use Rattle.records.specs.Fields.{fields_of, next_by}

@@ -16,6 +16,7 @@ ghost use Rattle.records.specs.Triples.{from_kind};
 ghost use Rattle.records.specs.Records.{record_in, named, ended_as, propose_of, endorse_of, certify_of, accept_of, open_of};
 
 use fields::Fields;
+use framing::LONGEST;
 use terms::sheet::{Rights, Sheet};
 use terms::{Body, Certificate, Member, Proposal, Round};
 
@@ -39,9 +40,6 @@ pub enum Record {
     /// List the chain.
     Chain,
 }
-
-/// The bytes of the longest record, without its CRLF.
-pub(crate) const LONGEST: usize = 1022;
 
 /// What the bytes of a record, without its CRLF, ask for. None is an unreadable record, one that is too long or holds a quote mark, a CR or an LF included. No field that is read holds any of the three, so they are not looked for.
 #[tactic(auto, using(crate::proofs::Marks::damaged_or_not))]

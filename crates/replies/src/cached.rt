@@ -7,6 +7,7 @@ ghost use Rattle.state.specs.Cached.{Cached};
 ghost use Rattle.state.specs.WellFormed.{well_formed};
 
 use chain_committees::cache;
+use chain_committees::chain::Chain;
 use state::State;
 use terms::{Body, Round};
 
@@ -16,7 +17,8 @@ pub fn renew(formed: bool, state: &State, table: &[u32], cache: &mut [u64])
     ensures { Cached state.now table.now formed cache.new }
 {
     if formed {
-        cache::fill_cache(table, state.settings, state.blocks, Round(0), cache);
+        let chain = Chain::new(table, &state.settings, state.blocks);
+        cache::fill_cache(chain, Round(0), cache);
     }
 }
 

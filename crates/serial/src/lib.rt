@@ -3,9 +3,10 @@
 //! On a state and its table: the number that refuses, the byte that is read, and the words of the one port that change (specs/Calls, specs/Serial). docs/RULES.md, "Serial ports".
 #![tactic(auto)]
 
-ghost use Rattle.std.specs.Prelude.{◌≡◌, IfOk};
+ghost use Rattle.std.specs.Prelude.{◌≡◌, true, IfOk};
 ghost use Rattle.base.specs.Checks.{refusal};
 ghost use Rattle.refusals.specs.Refusals.{refusal_in};
+ghost use Rattle.state.specs.WellFormed.{well_formed};
 ghost use Rattle.serial.specs.Calls.{access, reset, read, write};
 ghost use Rattle.serial.specs.Serial.{access_checks, reset_checks, port_refusal, port_table, register};
 
@@ -38,6 +39,50 @@ pub fn check_reset(port: u32) -> Result<(), Refusal>
     Ok(())
 }
 
+/// A read of a port at an offset, where the state is well formed.
+#[tactic(auto, unfolding(base::specs::Checks::refusal, state::specs::Answers::if_accepted, crate::specs::Serial::port_refusal, crate::specs::Serial::register, crate::specs::Serial::ported_table, crate::specs::Serial::port_table))]
+pub fn read_formed(state: &State, table: &mut [u32], port: u32, offset: u32) -> Result<u32, Refusal>
+    requires { well_formed state.now table.old ≡ true }
+    ensures refusal { refusal_in result
+        ≡ port_refusal state.now table.old (access port (read offset)) }
+    ensures value { IfOk result (λ v. v ≡ register state.now table.old port offset) }
+    ensures table { table.new ≡ port_table state.now table.old (access port (read offset)) }
+{
+    check_access(port, offset)?;
+    Ok(registers::read(table, &state.settings, state.blocks, port, offset))
+}
+
+/// A write of a byte there, where the state is well formed.
+#[tactic(auto, using(crate::proofs::PassedLaws::ported), unfolding(base::specs::Checks::refusal, state::specs::Answers::if_accepted, crate::specs::Serial::port_refusal, crate::specs::Serial::ported_table, crate::specs::Serial::port_table))]
+pub fn write_formed(
+    state: &State,
+    table: &mut [u32],
+    port: u32,
+    offset: u32,
+    byte: u8,
+) -> Result<(), Refusal>
+    requires { well_formed state.now table.old ≡ true }
+    ensures refusal { refusal_in result
+        ≡ port_refusal state.now table.old (access port (write offset byte)) }
+    ensures table { table.new ≡ port_table state.now table.old (access port (write offset byte)) }
+{
+    check_access(port, offset)?;
+    registers::write(table, port, offset, byte);
+    Ok(())
+}
+
+/// A reset, where the state is well formed: every held register is 0, and reading resumes at the listing's start.
+#[tactic(auto, using(crate::proofs::PassedLaws::ported), unfolding(base::specs::Checks::refusal, state::specs::Answers::if_accepted, crate::specs::Serial::port_refusal, crate::specs::Serial::ported_table, crate::specs::Serial::port_table))]
+pub fn reset_formed(state: &State, table: &mut [u32], port: u32) -> Result<(), Refusal>
+    requires { well_formed state.now table.old ≡ true }
+    ensures refusal { refusal_in result ≡ port_refusal state.now table.old (reset port) }
+    ensures table { table.new ≡ port_table state.now table.old (reset port) }
+{
+    check_reset(port)?;
+    registers::reset(table, port);
+    Ok(())
+}
+
 /// A read of a port at an offset.
 #[tactic(auto, unfolding(base::specs::Checks::refusal, state::specs::Answers::if_accepted, crate::specs::Serial::port_refusal, crate::specs::Serial::register, crate::specs::Serial::ported_table, crate::specs::Serial::port_table))]
 pub fn read(state: &State, table: &mut [u32], port: u32, offset: u32) -> Result<u32, Refusal>
@@ -47,10 +92,10 @@ pub fn read(state: &State, table: &mut [u32], port: u32, offset: u32) -> Result<
     ensures table { table.new ≡ port_table state.now table.old (access port (read offset)) }
 {
     check_access(port, offset)?;
-    if !state::well_formed(*state, table) {
+    if !state::well_formed(state, table) {
         return Err(Refusal::Malformed);
     }
-    Ok(registers::read(table, state.settings, state.blocks, port, offset))
+    read_formed(state, table, port, offset)
 }
 
 /// A write of a byte there.
@@ -67,11 +112,10 @@ pub fn write(
     ensures table { table.new ≡ port_table state.now table.old (access port (write offset byte)) }
 {
     check_access(port, offset)?;
-    if !state::well_formed(*state, table) {
+    if !state::well_formed(state, table) {
         return Err(Refusal::Malformed);
     }
-    registers::write(table, port, offset, byte);
-    Ok(())
+    write_formed(state, table, port, offset, byte)
 }
 
 /// A reset: every held register is 0, and reading resumes at the listing's start.
@@ -81,9 +125,8 @@ pub fn reset(state: &State, table: &mut [u32], port: u32) -> Result<(), Refusal>
     ensures table { table.new ≡ port_table state.now table.old (reset port) }
 {
     check_reset(port)?;
-    if !state::well_formed(*state, table) {
+    if !state::well_formed(state, table) {
         return Err(Refusal::Malformed);
     }
-    registers::reset(table, port);
-    Ok(())
+    reset_formed(state, table, port)
 }

@@ -17,6 +17,7 @@ ghost use Rattle.serving.specs.Lengths.{table_length};
 use accept::accept_cached;
 use advance::advance_cached;
 use certify::certify_cached;
+use chain_committees::chain::Chain;
 use commit::commit_cached;
 use endorse::endorse_cached;
 use framing::records::Framed;
@@ -134,7 +135,8 @@ impl<'a> Keeper<'a> {
         if !self.formed {
             return lines::put_refused(out, 0, Refusal::Malformed.number());
         }
-        let next = listing::list_chain(self.table, self.state.settings, self.state.blocks, out, 0);
+        let chain = Chain::new(self.table, &self.state.settings, self.state.blocks);
+        let next = listing::list_chain(chain, out, 0);
         lines::put_ok(out, next)
     }
 }

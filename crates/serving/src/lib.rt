@@ -1,6 +1,6 @@
-//! A run of the engine: records served as a peer sends them, and their answers handed out.
+//! A run of the engine: records served as a reader gives them, and their answers handed to a writer.
 //!
-//! What goes out is what is answered to what was read (`output`, specs/Streams), whoever the peer is. docs/RULES.md, "Records".
+//! What is written is what is answered to what was read (`output`, specs/Streams), whatever reader and writer they are. docs/RULES.md, "Records".
 #![tactic(auto)]
 
 pub mod keeper;

@@ -1,2 +1,4 @@
+pub mod RowLaws
+pub mod WordLaws
 pub mod SpanLaws
-pub mod ReadLaws
+pub mod ClaimLaws

@@ -1,3 +1,4 @@
+pub mod Contents
 pub mod Spans
 pub mod Listed
-pub mod Ready
+pub mod Rows

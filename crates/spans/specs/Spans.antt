@@ -6,7 +6,7 @@ use Rattle.terms.specs.declared.sheet.Settings.{Settings}
 use Rattle.store.specs.Table.{endorsers_at, proposal_of}
 use Rattle.reads.specs.declared.Held.{Held}
 use Rattle.words.specs.Proposals.{held_words}
-use Rattle.contents.specs.Contents.{contents_of}
+use Rattle.spans.specs.Contents.{contents_of}
 
 -- a certificate of block k of the table t, as the read of a certificate gives it
 unfoldable pub stored : List ℕ → ℕ → Content → Held

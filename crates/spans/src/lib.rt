@@ -1,277 +1,96 @@
 //! What blocks in a row hold, listed by one walk.
+//!
+//! The certificates of so many blocks after the first known, each block's in its order, as words in a lent list, with the endorsers that each was stored with (specs/Spans, specs/Listed). State and table stay as they are. Read in pieces they are the same, and what was read stays (src/theorems). docs/RULES.md, "Reads" and "Order inside a block".
+//! Its cost is that of one walk over the blocks for their starts, of one step for each certificate in these blocks, and of one row looked at for each round in which a block has some.
 #![tactic(auto)]
 
-ghost use Rattle.std.specs.Prelude.{◌≡◌, [], ◌∷◌, ◌+◌, ◌*◌, ◌≤◌, IfOk, OnOk, length, nat_lt};
-ghost use Rattle.base.specs.Checks.{refusal};
-ghost use Rattle.chain_committees.specs.ChainInTable.{ChainInTable};
-ghost use Rattle.refusals.specs.Refusals.{refusal_in};
-ghost use Rattle.member_view.specs.Views.{settings_of, shown};
-ghost use Rattle.spans.specs.Listed.{blocks_refusal, blocks_held, blocks_list};
-ghost use Rattle.base.specs.Puts.{Puts};
-ghost use Rattle.agreement.specs.Dag.{is_held};
-ghost use Rattle.store.specs.Table.{Within, endorsers_at, proposal_of, content_at};
-ghost use Rattle.committee.specs.Changes.{at_most_one, row, rows};
-ghost use Rattle.committee.specs.Chain.{holds_at, block_at, chain_of};
-ghost use Rattle.contents.specs.Ready as contents;
-ghost use Rattle.words.specs.Lengths.{held_length};
-ghost use Rattle.words.specs.Proposals.{held_words};
-ghost use Rattle.spans.specs.Spans.{block_words, words_of, count_after, held_after};
-ghost use Rattle.spans.specs.Ready.{RowReady, BlockReady, BlockLinked, SpanLinked, SpanRoom, SpanInTable, Lists};
+pub mod block;
+pub mod theorems;
 
-use chain_committees::changes::links;
+ghost use Rattle.std.specs.Prelude.{◌≡◌, [], ◌∷◌, ◌+◌, ◌*◌, ◌/◌, ◌≤◌, IfOk, OnOk, length, nat_lt};
+ghost use Rattle.std.proofs.lemmas.List.Edits.{sets};
+ghost use Rattle.base.specs.Checks.{refusal};
+ghost use Rattle.base.specs.Puts.{Puts};
+ghost use Rattle.chain_committees.specs.Told.{blocks_in};
+ghost use Rattle.refusals.specs.Refusals.{refusal_in};
+ghost use Rattle.state.specs.Answers.{if_accepted};
+ghost use Rattle.member_view.specs.Views.{shown};
+ghost use Rattle.words.specs.Lengths.{held_length};
+ghost use Rattle.spans.specs.Spans.{words_of, count_after, held_after};
+ghost use Rattle.spans.specs.Listed.{blocks_refusal, blocks_held, blocks_list};
+
+use chain_committees::over_blocks;
+use chain_committees::walk::Walk;
 use member_view::View;
 use refusals::Refusal;
 use state::State;
-use store::record;
-use terms::sheet::Settings;
-use terms::{Certificate, Member, Round};
-use words::bodies;
-use words::bodies::lengths::{HELD, PROPOSAL};
+use words::bodies::lengths::HELD;
 
-// Is the certificate of a place in `block`?
-#[tactic(auto, using(contents::proofs::WalkLaws::marked_there))]
-fn is_in(table: &[u32], block: u32, author: Member, round: Round) -> bool
-    requires { Within table.now author.0 round.0 }
-    ensures { result ≡ is_held (holds_at table.now block author.0 round.0) }
-{
-    store::held(table, author, round) && record::mark(table, author, round) == block
-}
-
-// Puts a held certificate of `block` from a place on; gives the next place.
-fn put_held(list: &mut [u32], at: usize, certificate: Certificate, block: u32) -> usize
-    requires { at + held_length ≤ length list.old }
-    ensures { Puts list.old list.new at result
-        (held_words certificate.proposal certificate.endorsers block) held_length }
-{
-    bodies::stretch::put(
-        list,
-        at,
-        &[certificate.proposal.author.0, certificate.proposal.round.0],
-    );
-    bodies::put_body(list, at + 2, certificate.proposal.body);
-    bodies::stretch::put(list, at + PROPOSAL, &[certificate.endorsers as u32, block]);
-    at + HELD
-}
-
-// That of a place, if it is in `block`.
-fn put_place(
-    list: &mut [u32],
-    at: usize,
-    table: &[u32],
-    block: u32,
-    author: Member,
-    round: Round,
-) -> usize
-    requires { Within table.now author.0 round.0
-        × (at + held_length * length (at_most_one (holds_at table.now block author.0 round.0))
-        ≤ length list.old) }
-    ensures { Puts list.old list.new at result
-        (block_words table.now block (at_most_one (holds_at table.now block author.0 round.0)))
-        (held_length * length (at_most_one (holds_at table.now block author.0 round.0))) }
-{
-    if !is_in(table, block, author, round) {
-        return at;
-    }
-    let certificate = Certificate {
-        proposal: record::proposal_at(table, author, round),
-        endorsers: record::endorsers(table, author, round),
-    };
-    put_held(list, at, certificate, block)
-}
-
-// Those of a round.
-fn put_row(
-    list: &mut [u32],
-    at: usize,
-    table: &[u32],
-    block: u32,
-    ceiling: Round,
-    start: Member,
-    round: Round,
-) -> usize
-    requires { RowReady table.now ceiling.0 block start.0 round.0 list.old at }
-    ensures { Puts list.old list.new at result
-        (block_words table.now block (row (block_at ceiling.0 table.now block) start.0 round.0
-        16))
-        (held_length * length (row (block_at ceiling.0 table.now block) start.0 round.0 16)) }
-{
-    let mut to = at;
-    for i in 0..16u32 {
-        to = put_place(list, to, table, block, Member((start.0 + i) % 16), round);
-    }
-    to
-}
-
-// Those of `block`, whose rows start with member `start`: its rows by the places that are linked.
-fn put_block(
-    list: &mut [u32],
-    at: usize,
-    table: &[u32],
-    head: &[u32; 512],
-    next: &[u32],
-    ceiling: Round,
-    block: u32,
-    start: Member,
-) -> usize
-    requires { BlockReady table.now head.now next.now ceiling.0 block start.0 list.old at }
-    ensures { Puts list.old list.new at result
-        (block_words table.now block (rows (block_at ceiling.0 table.now block) start.0
-        ceiling.0))
-        (held_length * length (rows (block_at ceiling.0 table.now block) start.0 ceiling.0)) }
-{
-    let end = ceiling.0 * 16 + 16;
-    let mut to = at;
-    let mut place = head[block as usize];
-    while place < end {
-        to = put_row(list, to, table, block, ceiling, start, Round(place / 16));
-        place = links::run_end(next, place / 16 * 16 + 16, place);
-    }
-    to
-}
-
-// How many certificates of a round are in `block`.
-fn count_row(table: &[u32], block: u32, ceiling: Round, start: Member, round: Round) -> u32
-    requires { contents.RowReady table.now ceiling.0 start.0 round.0 }
-    ensures count { result ≡ length (row (block_at ceiling.0 table.now block) start.0 round.0 16) }
-    ensures most { result ≤ 16 }
-{
-    let mut count = 0;
-    for i in 0..16u32 {
-        count += is_in(table, block, Member((start.0 + i) % 16), round) as u32;
-    }
-    count
-}
-
-// How many certificates `block` holds, by the places that are linked.
-fn count_block(
-    table: &[u32],
-    head: &[u32; 512],
-    next: &[u32],
-    ceiling: Round,
-    block: u32,
-    start: Member,
-) -> u32
-    requires { BlockLinked table.now head.now next.now ceiling.0 block start.0 }
-    ensures count { result ≡ length (rows (block_at ceiling.0 table.now block) start.0 ceiling.0) }
-    ensures most { result ≤ 16 * ceiling.0 }
-{
-    let end = ceiling.0 * 16 + 16;
-    let mut count = 0;
-    let mut place = head[block as usize];
-    while place < end {
-        count += count_row(table, block, ceiling, start, Round(place / 16));
-        place = links::run_end(next, place / 16 * 16 + 16, place);
-    }
-    count
-}
-
-// How many certificates the `number` blocks after the first `known` hold, of so many blocks.
-fn count_span(
-    table: &[u32],
-    head: &[u32; 512],
-    next: &[u32],
-    settings: Settings,
-    blocks: u32,
-    known: u32,
-    number: u32,
-    starts: &[u32; 512],
-) -> u32
-    requires { SpanLinked settings table.now head.now next.now blocks known number starts.now }
-    ensures { result
-        ≡ count_after settings (chain_of settings.ceiling.0 table.now blocks) known number }
+// How many certificates the `number` blocks after the first `known` hold.
+fn count_span(walk: &Walk, known: u32, number: u32) -> u32
+    requires { known + number ≤ walk.now.chain.blocks }
+    ensures { let c = walk.now.chain in
+        result ≡ count_after c.settings.now (blocks_in c) known number }
 {
     let mut count = 0;
     for i in 0..number {
-        let k = known + i;
-        let start = Member(starts[k as usize]);
-        count += count_block(table, head, next, settings.ceiling, k + 1, start);
+        count += block::count(walk, known + i);
     }
     count
 }
 
 // Puts what these blocks hold, oldest first, from the front of the list.
-fn put_span(
-    list: &mut [u32],
-    table: &[u32],
-    head: &[u32; 512],
-    next: &[u32],
-    settings: Settings,
-    blocks: u32,
-    known: u32,
-    number: u32,
-    starts: &[u32; 512],
-) -> usize
-    requires { SpanLinked settings table.now head.now next.now blocks known number starts.now
-        × SpanRoom settings table.now blocks known number list.old }
-    ensures { Puts list.old list.new 0 result
-        (words_of (held_after settings (chain_of settings.ceiling.0 table.now blocks) table.now
-        known number))
-        (held_length * count_after settings (chain_of settings.ceiling.0 table.now blocks) known
-        number) }
+fn put_span(walk: &Walk, known: u32, number: u32, list: &mut [u32]) -> usize
+    requires begun { known + number ≤ walk.now.begun }
+    requires within { known + number ≤ walk.now.chain.blocks }
+    requires room { let c = walk.now.chain in
+        held_length * count_after c.settings.now (blocks_in c) known number ≤ length list.old }
+    ensures { let c = walk.now.chain in
+        Puts list.old list.new 0 result
+        (words_of (held_after c.settings.now (blocks_in c) c.table.now known number))
+        (held_length * count_after c.settings.now (blocks_in c) known number) }
 {
     let mut to = 0;
     for i in 0..number {
-        let k = known + i;
-        let start = Member(starts[k as usize]);
-        to = put_block(list, to, table, head, next, settings.ceiling, k + 1, start);
+        to = block::put(walk, known + i, list, to);
     }
     to
 }
 
-// Check 25, and the list, where next has a word for each place.
-fn listed_by(
-    table: &[u32],
-    settings: Settings,
-    blocks: u32,
-    known: u32,
-    number: u32,
-    next: &mut [u32],
-    list: &mut [u32],
-) -> Result<u32, Refusal>
-    requires { SpanInTable settings table.now blocks known number next.old }
-    ensures { Lists settings table.now blocks known number list.old result list.new }
+// Check 25, and the list.
+#[tactic(auto, using(crate::proofs::SpanLaws::held_counted), unfolding(base::specs::Checks::refusal, state::specs::Answers::if_accepted))]
+fn listed(walk: &Walk, known: u32, number: u32, list: &mut [u32]) -> Result<u32, Refusal>
+    requires begun { known + number ≤ walk.now.begun }
+    requires within { known + number ≤ walk.now.chain.blocks }
+    ensures refusal { let c = walk.now.chain in
+        refusal_in result
+        ≡ refusal ((
+          nat_lt (length list.old / held_length)
+              (count_after c.settings.now (blocks_in c) known number),
+          25,
+        ) ∷ []) }
+    ensures value { let c = walk.now.chain in
+        IfOk result (λ n. n
+        ≡ length (held_after c.settings.now (blocks_in c) c.table.now known number)) }
+    ensures list { let c = walk.now.chain in
+        list.new ≡ if_accepted (refusal_in result)
+        (sets list.old 0
+        (words_of (held_after c.settings.now (blocks_in c) c.table.now known number))) list.old }
 {
-    let head = links::linked(table, next, settings.ceiling);
-    let mut starts = [16; 512];
-    chain_committees::starts::all_starts(table, &head, next, settings, known + number, &mut starts);
-    let count = count_span(table, &head, next, settings, blocks, known, number, &starts);
+    let count = count_span(walk, known, number);
     if list.len() / HELD < count as usize {
         return Err(Refusal::LengthRange);
     }
-    put_span(
-        list, table, &head, next, settings, blocks, known, number, &starts,
-    );
+    put_span(walk, known, number, list);
     Ok(count)
 }
 
-// The same, with words of its own for the places.
-fn listed(
-    table: &[u32],
-    settings: Settings,
-    blocks: u32,
-    known: u32,
-    number: u32,
-    list: &mut [u32],
-) -> Result<u32, Refusal>
-    requires { ChainInTable settings table.now blocks × (known + number ≤ blocks) }
-    ensures { Lists settings table.now blocks known number list.old result list.new }
-{
-    if settings.ceiling.0 <= links::FEW_ROUNDS {
-        let mut few = [0; links::FEW];
-        listed_by(table, settings, blocks, known, number, &mut few, list)
-    } else {
-        let mut many = [0; links::MANY];
-        listed_by(table, settings, blocks, known, number, &mut many, list)
-    }
-}
-
 // Check 23.
-#[tactic(auto, unfolding(base::specs::Checks::refusal))]
+#[tactic(auto, using(committee::proofs::ChainLaws::chain_length), unfolding(base::specs::Checks::refusal))]
 fn check(view: &View, known: u32, number: u32) -> Result<(), Refusal>
     ensures refusal { refusal_in result
         ≡ refusal ((nat_lt (length (shown view.now).chain) (known + number), 23) ∷ []) }
-    ensures there { OnOk result (ChainInTable (settings_of view.now) view.now.table.now
-        view.now.state.now.blocks × (known + number ≤ view.now.state.now.blocks)) }
+    ensures there { OnOk result (known + number ≤ view.now.state.now.blocks) }
 {
     if (view.state.blocks as u64) < known as u64 + number as u64 {
         return Err(Refusal::NoneThere);
@@ -293,10 +112,11 @@ pub fn blocks(
     ensures value { IfOk result (λ c. c ≡ length (blocks_held state.now table.now known number)) }
     ensures list { list.new ≡ blocks_list state.now table.now known number list.old }
 {
-    check(
-        &View::known(state::well_formed(*state, table), &[], state, table)?,
-        known,
-        number,
-    )?;
-    listed(table, state.settings, state.blocks, known, number, list)
+    let view = View::known(state::well_formed(state, table), &[], state, table)?;
+    check(&view, known, number)?;
+    let chain = view.chain();
+    over_blocks!(chain, walk => {
+        walk.begin(known + number);
+        listed(&walk, known, number, list)
+    })
 }

@@ -1,5 +1,5 @@
 -- A well-formed state has what the calls use of it, and a state that has it is well formed.
-use Rattle.std.proofs.Common.{◌≡◌, refl, true, false, not, ◌&&◌, List, ℕ, arith, length, leb, ltb, leb-true, le-leb, ltb-true, lt-ltb, ltb-false}
+use Rattle.std.proofs.Common.{◌≡◌, refl, true, false, not, ◌&&◌, List, ℕ, ◌≤◌, arith, length, leb, ltb, leb-true, le-leb, ltb-true, lt-ltb, ltb-false}
 use mathlib.Core.Bool.{false≢true}
 use borrow.Author.Tests.{not-true}
 use Rattle.base.proofs.Bools.{both, neither}
@@ -42,6 +42,13 @@ head-parts s e =
     let p = both (not (out_of_range s.settings)) (n && not (weightless s.settings)) e in
     let q = both n (not (weightless s.settings)) p.1 in
     (not-true (out_of_range s.settings) p.0, numbers-parts s.own.0 s.round.0 s.blocks s.settings.ceiling.0 q.0, not-true (weightless s.settings) q.1)
+
+-- the ranges by which the rest of a well-formed state is tested
+pub head_ranges : (s : State) → head_fits s ≡ true → (s.settings.allowance ≤ 4) × (s.settings.ceiling.0 ≤ 1024) × (s.blocks ≤ s.settings.ceiling.0)
+head_ranges s e =
+    let h = head-parts s e in
+    let f = settings-fit s.settings h.0 in
+    (f.allowance_to, f.ceiling_to, h.1.blocks_to)
 
 -- what checks 6 and 7 let pass
 pub body-fits : (allowance r : ℕ) (b : Body) → bad_transactions allowance (transactions_of b) ≡ false → bad_previous_set r b.previous ≡ false → BodyFits allowance r b
@@ -120,3 +127,7 @@ module _ (s : State) (t : List ℕ) where
         ports,
       )
       refl
+
+-- a well-formed table has row 0
+pub first_row : (s : State) (t : List ℕ) → Formed s t → Row t 0
+first_row s t f = let l = f.long in omega arith

@@ -5,13 +5,18 @@
 
 pub mod theorems;
 
-ghost use Rattle.std.specs.Prelude.{◌≡◌, ◌<◌, ◌≤◌};
+ghost use Rattle.std.specs.Prelude.{◌≡◌, ◌&&◌, ◌≤◌};
+ghost use Rattle.store.specs.Table.{Row};
+ghost use Rattle.scan.specs.Scan.{rows_fit};
+ghost use Rattle.queues.specs.Words.{queues_fit};
+ghost use Rattle.chain_committees.specs.BlockChanges.{blocks_fit};
+ghost use Rattle.ports.specs.Ports.{ports_fit};
 ghost use Rattle.state.specs.WellFormed.{numbers_fit, head_fits, body_fits, proposal_fits, well_formed};
 
 use chain_committees::bonded;
 use store::lengths::ROW;
 use terms::sheet::{Rights, Settings};
-use terms::{Body, Member, Round, sheet};
+use terms::{Body, Member, Round};
 
 /// A member's state, but for what its table holds: certificates, endorsed places, block rounds, guests' queues and ports.
 ///
@@ -52,9 +57,9 @@ fn body_fits(allowance: u32, round: Round, body: Body) -> bool
 
 // So for the proposal, if there is one?
 #[tactic(auto, unfolding(crate::specs::WellFormed::proposal_fits))]
-fn proposal_fits(state: State) -> bool
-    requires { state.settings.allowance ≤ 4 }
-    ensures { result ≡ proposal_fits state }
+fn proposal_fits(state: &State) -> bool
+    requires { state.now.settings.allowance ≤ 4 }
+    ensures { result ≡ proposal_fits state.now }
 {
     match state.proposal {
         None => true,
@@ -64,40 +69,41 @@ fn proposal_fits(state: State) -> bool
 
 // Are the settings in range, with some positive weight, and the numbers?
 #[tactic(auto, unfolding(crate::specs::WellFormed::head_fits))]
-fn head_fits(state: State) -> bool
-    ensures { result ≡ head_fits state }
+fn head_fits(state: &State) -> bool
+    ensures { result ≡ head_fits state.now }
 {
-    !sheet::is_out_of_range(state.settings)
+    !state.settings.is_out_of_range()
         && numbers_fit(state.own, state.round, state.blocks, state.settings.ceiling)
-        && !sheet::is_weightless(state.settings)
+        && !state.settings.is_weightless()
+}
+
+// Do rows, block rounds, guests' queues and ports fit, in a table that is long enough?
+fn table_fits(state: &State, table: &[u32]) -> bool
+    requires long { Row table.now state.now.settings.ceiling.0 }
+    requires ceiling { state.now.settings.ceiling.0 ≤ 1024 }
+    requires blocks { state.now.blocks ≤ state.now.settings.ceiling.0 }
+    ensures { let s = state.now in let t = table.now in
+        result
+        ≡ (rows_fit t s.settings.allowance s.blocks s.settings.ceiling.0
+        && (blocks_fit s.settings.ceiling.0 t s.blocks
+        && (queues_fit t && ports_fit s.settings t s.blocks))) }
+{
+    let ceiling = state.settings.ceiling;
+    scan::rows_fit(table, state.settings.allowance, state.blocks, ceiling)
+        && bonded::blocks_fit(table, state.blocks, ceiling)
+        && queues::queues_fit(table)
+        && ports::ports_fit(table, &state.settings, state.blocks)
 }
 
 /// Are the state and the table well formed, by the conditions of docs/RULES.md, "A member's state"?
 ///
 /// It answers for any words, of a table of any length. Every call but open refuses with 1 where it says no.
-pub fn well_formed(state: State, table: &[u32]) -> bool
-    ensures { result ≡ well_formed state table.now }
+#[tactic(auto, using(crate::proofs::FormedLaws::head_ranges), unfolding(crate::specs::WellFormed::well_formed))]
+pub fn well_formed(state: &State, table: &[u32]) -> bool
+    ensures { result ≡ well_formed state.now table.now }
 {
-    let settings = state.settings;
-    let ceiling = settings.ceiling;
-    let blocks = state.blocks;
-    if table.len() < ceiling.0 as usize * ROW + ROW {
-        return false;
-    }
-    if !head_fits(state) {
-        return false;
-    }
-    if !proposal_fits(state) {
-        return false;
-    }
-    if !scan::rows_fit(table, settings.allowance, blocks, ceiling) {
-        return false;
-    }
-    if !bonded::blocks_fit(table, blocks, ceiling) {
-        return false;
-    }
-    if !queues::queues_fit(table) {
-        return false;
-    }
-    ports::ports_fit(table, settings, blocks)
+    state.settings.ceiling.0 as usize * ROW + ROW <= table.len()
+        && head_fits(state)
+        && proposal_fits(state)
+        && table_fits(state, table)
 }

@@ -1,8 +1,11 @@
--- What is signed tells the mark, the run's digest and the words: two proposals with the same bytes are the same.
-use Rattle.std.proofs.Common.{◌≡◌, refl, ap, ap₂, sym, subst, ◌∙◌, Bool, true, false, cond, eqb, ltb, List, [], ◌∷◌, ◌++◌, append_assoc, ℕ, zero, suc, ◌+◌, ◌*◌, ◌<◌, ◌≤◌, arith, length, length-append, get_or, take, drop}
+-- What is signed tells the mark, the run's digest and the words: two proposals with the same bytes are the same. And the bytes of the run tell its settings and its number.
+use Rattle.std.proofs.Common.{◌≡◌, ◌≢◌, refl, ap, ap₂, sym, subst, ◌∙◌, Bool, true, false, cond, eqb, ltb, List, [], ◌∷◌, ◌++◌, append_assoc, ℕ, zero, suc, ◌+◌, ◌*◌, ◌/◌, ◌%◌, ◌<◌, ◌≤◌, arith, length, length-append, get_or, take, drop}
 use Rattle.std.proofs.lemmas.List.{take_at, drop_at, take_all}
+use Rattle.sha2.specs.Sha256.{sha256}
 use Rattle.base.specs.Folds.{tab}
+use Rattle.base.specs.Parts.{part}
 use Rattle.base.proofs.FoldLaws.{get_d_tab}
+use Rattle.base.proofs.PasteLaws.{length_part}
 use Rattle.terms.specs.declared.Transaction.{Transaction}
 use Rattle.terms.specs.declared.Transaction.TheVariants.{Bond, Unbond, Entry}
 use Rattle.terms.specs.declared.Body.{Body}
@@ -10,16 +13,18 @@ use Rattle.terms.specs.declared.Proposal.{Proposal}
 use Rattle.terms.specs.declared.Certificate.{Certificate}
 use Rattle.terms.specs.Transactions.{number_of, amount_of, read_transaction, no_transaction}
 use Rattle.terms.specs.Proposals.{slot_of}
+use Rattle.words.specs.Lengths.{state_length}
 use Rattle.words.specs.Bodies.{slot_in, body_in, used_of, used_words, triple_words, body_words}
 use Rattle.words.specs.Proposals.{proposal_in, certificate_in}
 use Rattle.words.specs.TidyStates.{tidy_body}
 use Rattle.words.proofs.BackLaws.{used_back}
 use Rattle.words.proofs.TidyLaws.{body-tidy}
 use Rattle.storing.specs.Bytes.{bytes_of, words_in, IsWords}
-use Rattle.storing.specs.Signed.{run_digest, proposal_words, message, proposal_message, certificate_message}
+use Rattle.storing.specs.Round.{IsRun}
+use Rattle.storing.specs.Signed.{settings_words, run_bytes, run_digest, proposal_words, message, proposal_message, certificate_message}
 use Rattle.storing.proofs.ByteLaws.{length-bytes_of}
-use Rattle.storing.proofs.ReadLaws.{words_back, joined_below}
-use Rattle.storing.proofs.SignedLaws.{length-run_digest, length-sixteen_words}
+use Rattle.storing.proofs.ReadLaws.{words_back, taken_below, joined_below, dropped_below}
+use Rattle.storing.proofs.SignedLaws.{length-message, length-run_digest, length-sixteen_words}
 
 -- words are told by their bytes
 bytes_back : (x : List ℕ) → IsWords x → words_in (bytes_of x ++ []) 0 (length x) ≡ x
@@ -202,3 +207,70 @@ module _ (mark mark' : ℕ) (w w' : List ℕ) (run run' : ℕ) (x x' : List ℕ)
       sym (certificate_back x)
       ∙ ap (λ (z : List ℕ). record { proposal = proposal_in (take 16 z); endorsers = get_or (drop 16 z) 0 0 }) k
       ∙ certificate_back x'
+
+-- ---- messages of two lengths
+
+pub kinds_differ : (mark mark' : ℕ) (w w' : List ℕ) (run run' : ℕ) (x x' : List ℕ) → proposal_message mark w run x ≢ certificate_message mark' w' run' x'
+unfolding proposal_message certificate_message certificate_words certificate_in
+kinds_differ mark mark' w w' run run' x x' e =
+    let l = length-message mark w run (proposal_words (proposal_in x)) in
+    let l' = length-message mark' w' run' (certificate_words x') in
+    absurd (omega (arith, ap length e, l, l', length-sixteen_words (proposal_in x), length-certificate_words x'))
+
+-- ---- the run, by the bytes that its digest is of
+
+pub run_digested : (w : List ℕ) (run : ℕ) → run_digest w run ≡ sha256 (run_bytes w run)
+unfolding run_digest run_bytes
+run_digested w run = refl
+
+-- the words of a run: its settings, and the halves of its number
+run_words : List ℕ → ℕ → List ℕ
+run_words w run = settings_words w ++ run % 4294967296 ∷ run / 4294967296 ∷ []
+
+length-settings_words : (w : List ℕ) → state_length ≤ length w → length (settings_words w) ≡ 20
+length-settings_words w h = length-append (part w 1 19) (get_or w 37 0 ∷ []) ∙ ap (λ (k : ℕ). k + 1) (length_part w 1 19 (omega arith))
+
+settings_fit : (w : List ℕ) → IsWords w → IsWords (settings_words w)
+settings_fit w f =
+    joined_below 4294967296 (part w 1 19) (get_or w 37 0 ∷ [])
+    (taken_below 4294967296 (drop 1 w) 19 (omega arith) (dropped_below 4294967296 w 1 f))
+    (one_fits (get_or w 37 0) (f 37))
+
+module _ (w : List ℕ) (run : ℕ) (r : IsRun w run) where
+  run_fits : IsWords (run_words w run)
+  unfolding run_words
+  run_fits =
+      joined_below 4294967296 (settings_words w) (run % 4294967296 ∷ run / 4294967296 ∷ []) (settings_fit w r.state)
+      (two_fit (run % 4294967296) (run / 4294967296) (omega arith) (omega (arith, r.run_fits)))
+
+  length-run_words : length (run_words w run) ≡ 22
+  unfolding run_words
+  length-run_words =
+      length-append (settings_words w) (run % 4294967296 ∷ run / 4294967296 ∷ []) ∙ ap (λ (k : ℕ). k + 2) (length-settings_words w r.long)
+
+  pub run_bytes_long : length (run_bytes w run) ≡ 88
+  unfolding run_bytes run_words
+  run_bytes_long = length-bytes_of (run_words w run) ∙ ap (λ (k : ℕ). 4 * k) length-run_words
+
+  settings_cut : take 20 (run_words w run) ≡ settings_words w
+  unfolding run_words
+  settings_cut = take_at (settings_words w) (run % 4294967296 ∷ run / 4294967296 ∷ []) 20 (length-settings_words w r.long)
+
+  halves_cut : drop 20 (run_words w run) ≡ run % 4294967296 ∷ run / 4294967296 ∷ []
+  unfolding run_words
+  halves_cut = drop_at (settings_words w) (run % 4294967296 ∷ run / 4294967296 ∷ []) 20 (length-settings_words w r.long)
+
+module _ (w w' : List ℕ) (run run' : ℕ) (r : IsRun w run) (r' : IsRun w' run') (e : run_bytes w run ≡ run_bytes w' run') where
+  same_run_words : run_words w run ≡ run_words w' run'
+  unfolding run_bytes run_words
+  same_run_words = bytes_once (run_words w run) (run_words w' run') (run_fits w run r) (run_fits w' run' r') (length-run_words w run r ∙ sym (length-run_words w' run' r')) e
+
+  pub same_settings : settings_words w ≡ settings_words w'
+  same_settings = sym (settings_cut w run r) ∙ ap (take 20) same_run_words ∙ settings_cut w' run' r'
+
+  pub same_number : run ≡ run'
+  same_number =
+      let h : run % 4294967296 ∷ run / 4294967296 ∷ [] ≡ run' % 4294967296 ∷ run' / 4294967296 ∷ [] = sym (halves_cut w run r) ∙ ap (drop 20) same_run_words ∙ halves_cut w' run' r' in
+      let low : run % 4294967296 ≡ run' % 4294967296 = ap (λ (l : List ℕ). get_or l 0 0) h in
+      let high : run / 4294967296 ≡ run' / 4294967296 = ap (λ (l : List ℕ). get_or l 1 0) h in
+      omega (arith, low, high)

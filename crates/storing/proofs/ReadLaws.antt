@@ -79,7 +79,7 @@ joined_below m [] c f g i = g i
 joined_below m (x ∷ b) c f g zero = f 0
 joined_below m (x ∷ b) c f g (suc i) = joined_below m b c (λ j. f (suc j)) g i
 
-dropped_below : (m : ℕ) (b : List ℕ) (n : ℕ) → Below m b → Below m (drop n b)
+pub dropped_below : (m : ℕ) (b : List ℕ) (n : ℕ) → Below m b → Below m (drop n b)
 dropped_below m b n f i = rw (get_or-drop n b i 0) (f (n + i))
 
 -- the four bytes of a word

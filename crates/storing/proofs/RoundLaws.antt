@@ -51,7 +51,7 @@ module _ (run : ℕ) (w t : List ℕ) (fw : IsWords w) (ft : IsWords t) (hr : ru
   unfolding stored
   stretch_back k n h = words_back (covered_words run w t) (sha256 (bytes_of (covered_words run w t))) k n covered_fits (omega (arith, length-covered run w t hw ht))
 
-  one_back : (k : ℕ) → k < covered_length (ceiling_of w) → word_in (stored run w t) k ≡ get_or (covered_words run w t) k 0
+  pub one_back : (k : ℕ) → k < covered_length (ceiling_of w) → word_in (stored run w t) k ≡ get_or (covered_words run w t) k 0
   unfolding stored
   one_back k h = word_back (covered_words run w t) (sha256 (bytes_of (covered_words run w t))) k (omega (arith, length-covered run w t hw ht)) (covered_fits k)
 
@@ -69,7 +69,7 @@ module _ (run : ℕ) (w t : List ℕ) (fw : IsWords w) (ft : IsWords t) (hr : ru
   unfolding covered_words
   own_cut = get_or-append (take state_length w) (take (used_length (ceiling_of w)) t) 0 0 (omega (arith, length-take-le state_length w hw)) ∙ get_or-take state_length w 0 0 (omega arith)
 
-  ceiling_cut : get_or (covered_words run w t) 6 0 ≡ ceiling_of w
+  pub ceiling_cut : get_or (covered_words run w t) 6 0 ≡ ceiling_of w
   unfolding covered_words
   ceiling_cut = get_or-append (take state_length w) (take (used_length (ceiling_of w)) t) 0 2 (omega (arith, length-take-le state_length w hw)) ∙ get_or-take state_length w 2 0 (omega arith)
 
@@ -77,7 +77,7 @@ module _ (run : ℕ) (w t : List ℕ) (fw : IsWords w) (ft : IsWords t) (hr : ru
   unfolding covered_words
   run_cut = omega arith
 
-  marks_cut : (get_or (covered_words run w t) 0 0 ≡ MARK) × (get_or (covered_words run w t) 1 0 ≡ FORMAT)
+  pub marks_cut : (get_or (covered_words run w t) 0 0 ≡ MARK) × (get_or (covered_words run w t) 1 0 ≡ FORMAT)
   unfolding covered_words
   marks_cut = (refl, refl)
 
@@ -90,7 +90,7 @@ module _ (run : ℕ) (w t : List ℕ) (fw : IsWords w) (ft : IsWords t) (hr : ru
   table_back : table_words_in (stored run w t) ≡ take (used_length (ceiling_of w)) t
   table_back = rw ceiling_back (stretch_back 43 (used_length (ceiling_of w)) (omega arith) ∙ table_cut)
 
-  length-stored : length (stored run w t) ≡ stored_length (ceiling_of w)
+  pub length-stored : length (stored run w t) ≡ stored_length (ceiling_of w)
   unfolding stored
   length-stored =
       length-append (bytes_of (covered_words run w t)) (sha256 (bytes_of (covered_words run w t)))
@@ -212,21 +212,22 @@ module _ (b : List ℕ) (own run n m : ℕ) (f : IsBytes b) (l : Loads b own run
 
 -- ---- the words afterwards
 
--- what store has taken can be read, and the table is long enough
-record Taken (w : List ℕ) (n : ℕ) : Type 0 where
-  reads : state_reads w ≡ true
-  long : state_length ≤ length w
-  table : used_length (ceiling_of w) ≤ n
+-- what store has taken can be read, the table is long enough, and there is room for the bytes
+pub record Taken (w : List ℕ) (n m : ℕ) : Type 0 where
+  pub reads : state_reads w ≡ true
+  pub long : state_length ≤ length w
+  pub table : used_length (ceiling_of w) ≤ n
+  pub room : stored_length (ceiling_of w) ≤ m
 
-taken : (w : List ℕ) (n m : ℕ) → store_refusal w n m ≡ 0 → Taken w n
+pub taken : (w : List ℕ) (n m : ℕ) → store_refusal w n m ≡ 0 → Taken w n m
 unfolding store_refusal numbered
 taken w n m e =
     passed _ refl e λ h1 h2 h3.
     let r = unnot _ h1 in
-    record { reads = r; long = reads_long w r; table = ltb-false n (used_length (ceiling_of w)) h2 }
+    record { reads = r; long = reads_long w r; table = ltb-false n (used_length (ceiling_of w)) h2; room = ltb-false m (stored_length (ceiling_of w)) h3 }
 
 module _ (run : ℕ) (w t b : List ℕ) (s : IsStored run w t b) where
-  p : Taken w (length t)
+  p : Taken w (length t) (length b)
   p = taken w (length t) (length b) s.accepted
 
   pub run_of : run_in (stored run w t) ≡ run

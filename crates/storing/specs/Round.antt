@@ -1,4 +1,4 @@
--- What is stored by one host and loaded by the next.
+-- What is stored by one host and loaded by the next, and what a run is that hosts sign in.
 use Rattle.std.specs.Prelude.{◌≡◌, List, ℕ, ◌<◌, ◌≤◌, length}
 use Rattle.store.specs.Table.{used_length}
 use Rattle.words.specs.Lengths.{state_length}
@@ -17,3 +17,9 @@ pub record IsStored (run : ℕ) (w t b : List ℕ) : Type 0 where
 pub record HasRoom (w u v : List ℕ) : Type 0 where
   pub state : state_length ≤ length u
   pub table : used_length (ceiling_of w) ≤ length v
+
+-- the words w of a state and a run's number, as a host has them
+pub record IsRun (w : List ℕ) (run : ℕ) : Type 0 where
+  pub state : IsWords w
+  pub long : state_length ≤ length w
+  pub run_fits : run < 18446744073709551616

@@ -19,6 +19,10 @@ use Rattle.storing.specs.Bytes.{bytes_of}
 abbrev pub settings_words : List ℕ → List ℕ
 settings_words w = part w STATE_LOOKBACK SETTINGS ++ word w STATE_MARGIN ∷ []
 
+-- the 88 bytes of its settings and its number, the low half first
+unfoldable pub run_bytes : List ℕ → ℕ → List ℕ
+run_bytes w run = bytes_of (settings_words w ++ run % 4294967296 ∷ run / 4294967296 ∷ [])
+
 -- what tells a run from every other: a digest over its settings and its number, the low half first
 unfoldable pub run_digest : List ℕ → ℕ → List ℕ
 run_digest w run =
@@ -40,7 +44,7 @@ message_length n = 4 * (MESSAGE_HEAD + n)
 
 -- ---- asked for with a state's words w, the words x of a proposal or of a certificate, and n bytes to write to
 
--- a state or words that cannot be read, no room
+-- fewer words than a state has, words that tell no proposal or certificate, no room; what the state's words say is not asked
 abbrev pub message_checks : List ℕ → Bool → ℕ → ℕ → Checks
 message_checks w reads needed n =
     (nat_lt (length w) state_length, 101)

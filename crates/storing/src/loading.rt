@@ -50,7 +50,7 @@ fn digest_fits(bytes: &[u8], covered: usize) -> bool
     digest.as_slice() == &bytes[covered..]
 }
 
-// The checks that look at the bytes: 105 shorter than any; 103 mark; 104 format; 105 torn.
+// The checks, in the order of `load_checks` (specs/Loading): 105 shorter than any stored form; 103 another mark; 104 another format; 105 not as long as its ceiling says; 105 another digest; 106 another member; 107 another run; 101 a state that cannot be read; 102 no room.
 #[tactic(auto, using(crate::proofs::StoredLaws::covered_end), unfolding(base::specs::Checks::refusal, crate::specs::Loading::load_refusal))]
 fn check(
     bytes: &[u8],

@@ -6,7 +6,7 @@ ghost use Rattle.storing.specs.Refusals.{number_of};
 /// Why words are not stored or loaded. The discriminant is the number, 101 to 107; no call is refused with one of them.
 #[derive(Debug, Clone, Copy, PartialEq, Eq)]
 pub enum StoringRefusal {
-    /// The state's words cannot be read, or the table is shorter than their ceiling says.
+    /// Words that cannot be read, of a state, a proposal or a certificate; or too few of them: a state is shorter than its layout, or a table than the ceiling says.
     Unreadable = 101,
     /// The lent stretch is too short for what is written.
     NoRoom = 102,

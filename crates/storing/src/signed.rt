@@ -90,7 +90,7 @@ fn put_message(out: &mut [u8], mark: u32, state: &[u32], run: u64, proposal: Pro
     bytes::put_words(out, MESSAGE_HEAD, &proposal_words(proposal));
 }
 
-// The checks of a proposal: 101 a state or words that cannot be read; 102 no room.
+// The checks of a proposal: 101 fewer words than a state has; 101 words that tell no proposal; 102 no room.
 #[tactic(auto, unfolding(base::specs::Checks::refusal, crate::specs::Signed::proposal_message_refusal))]
 fn check_proposal(state: &[u32], proposal: &[u32], room: usize) -> Result<Proposal, StoringRefusal>
     ensures refusal { refusal_in result
@@ -111,7 +111,7 @@ fn check_proposal(state: &[u32], proposal: &[u32], room: usize) -> Result<Propos
     Ok(p)
 }
 
-// The checks of a certificate, which are the same.
+// The checks of a certificate: 101 fewer words than a state has; 101 words that tell no certificate; 102 no room.
 #[tactic(auto, unfolding(base::specs::Checks::refusal, crate::specs::Signed::certificate_message_refusal))]
 fn check_certificate(
     state: &[u32],

@@ -18,7 +18,7 @@ use words::bodies::lengths::STATE;
 
 /// The mark of a stored member, the letters FLS1.
 pub const MARK: u32 = 0x3153_4C46;
-/// The number of the format of state and table (docs/TABLES.md, "Format").
+/// The number of the format of state and table, which `forgelilac_format` tells too (docs/TABLES.md, "Format"). The form of the bytes around them has the mark, and no number.
 pub const FORMAT: u32 = 3;
 
 /// Words of the head.

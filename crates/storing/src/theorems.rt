@@ -1,6 +1,7 @@
 //! What was stored is loaded again, whatever stood there before, and nothing else is loaded; what is signed tells what was signed.
 
-ghost use Rattle.std.specs.Prelude.{◌≡◌, ◌<◌, ◌++◌, List, ℕ, length, take, drop};
+ghost use Rattle.std.specs.Prelude.{◌≡◌, ◌≢◌, ◌<◌, ◌≤◌, ◌++◌, List, ℕ, length, take, drop};
+ghost use Rattle.sha2.specs.Sha256.{sha256};
 ghost use Rattle.store.specs.Table.{used_length};
 ghost use Rattle.words.specs.Lengths.{state_length};
 ghost use Rattle.words.specs.Proposals.{proposal_in, certificate_in};
@@ -8,13 +9,13 @@ ghost use Rattle.words.specs.Words.{word};
 ghost use Rattle.words.specs.declared.places.TheConstants.{STATE_OWN};
 ghost use Rattle.storing.specs.Bytes.{IsBytes, IsWords};
 ghost use Rattle.storing.specs.Loading.{state_words_in, table_words_in, load_refusal, loaded_state, loaded_table};
-ghost use Rattle.storing.specs.Round.{IsStored, HasRoom};
-ghost use Rattle.storing.specs.Signed.{run_digest, proposal_message, certificate_message};
-ghost use Rattle.storing.specs.Stored.{ceiling_of, stored};
-ghost use Rattle.storing.specs.Storing.{store_refusal};
+ghost use Rattle.storing.specs.Round.{IsStored, HasRoom, IsRun};
+ghost use Rattle.storing.specs.Signed.{settings_words, run_bytes, run_digest, proposal_message, certificate_message};
+ghost use Rattle.storing.specs.Stored.{ceiling_of, stored, stored_length};
+ghost use Rattle.storing.specs.Storing.{store_refusal, stored_over};
 
-/// What was stored is loaded by the same member in the same run, wherever there is room: state and table then begin with the words that were stored, and the rest stays.
-#[tactic(auto, using(crate::proofs::RoundLaws::stored_accepted, crate::proofs::RoundLaws::stored_state, crate::proofs::RoundLaws::stored_table))]
+/// What was stored is loaded by the same member in the same run, wherever there is room: state and table then begin with the words that were stored, and the rest stays. Where more bytes are lent than store writes, it writes the front of them and leaves the others. Load takes this front, and refuses the whole stretch and every other front as torn, whoever loads.
+#[tactic(auto, using(crate::proofs::RoundLaws::stored_accepted, crate::proofs::RoundLaws::stored_state, crate::proofs::RoundLaws::stored_table, crate::proofs::LongerLaws::front_written, crate::proofs::LongerLaws::rest_kept, crate::proofs::LongerLaws::whole_torn, crate::proofs::LongerLaws::other_torn))]
 pub fn stored_loads()
     ensures accepted { (run : ℕ) (w t b u v : List ℕ) → IsStored run w t b → HasRoom w u v
         → load_refusal (stored run w t) (word w STATE_OWN) run (length u) (length v) ≡ 0 }
@@ -24,6 +25,17 @@ pub fn stored_loads()
     ensures table { (run : ℕ) (w t b u v : List ℕ) → IsStored run w t b → HasRoom w u v
         → loaded_table (stored run w t) (word w STATE_OWN) run u v
         ≡ take (used_length (ceiling_of w)) t ++ drop (used_length (ceiling_of w)) v }
+    ensures written { (run : ℕ) (w t b : List ℕ) → IsStored run w t b
+        → take (stored_length (ceiling_of w)) (stored_over run w t b) ≡ stored run w t }
+    ensures rest { (run : ℕ) (w t b : List ℕ) → IsStored run w t b
+        → drop (stored_length (ceiling_of w)) (stored_over run w t b)
+        ≡ drop (stored_length (ceiling_of w)) b }
+    ensures whole { (run : ℕ) (w t b : List ℕ) (own run' n m : ℕ) → IsStored run w t b
+        → stored_length (ceiling_of w) < length b
+        → load_refusal (stored_over run w t b) own run' n m ≡ 105 }
+    ensures fronts { (run : ℕ) (w t b : List ℕ) (own run' n m k : ℕ) → IsStored run w t b
+        → k ≤ length b → k ≢ stored_length (ceiling_of w)
+        → load_refusal (take k (stored_over run w t b)) own run' n m ≡ 105 }
 {}
 
 /// Bytes that are loaded are what store writes for the words that they give, so their digest is that of these words; the words are the member's own, and store takes them.
@@ -78,4 +90,22 @@ pub fn certificate_told()
         → IsWords x → IsWords x'
         → certificate_message mark w run x ≡ certificate_message mark' w' run' x'
         → certificate_in x ≡ certificate_in x' }
+{}
+
+/// What is signed of a proposal, or of an endorsement, is never what is signed of a certificate, whatever the marks: they differ in length.
+#[tactic(auto, using(crate::proofs::OnceLaws::kinds_differ))]
+pub fn kinds_apart()
+    ensures { (mark mark' : ℕ) (w w' : List ℕ) (run run' : ℕ) (x x' : List ℕ)
+        → proposal_message mark w run x ≢ certificate_message mark' w' run' x' }
+{}
+
+/// The run's digest is over 88 bytes that tell the filled settings and the run's number: of unequal settings, or of unequal numbers, they are unequal.
+#[tactic(auto, using(crate::proofs::OnceLaws::run_digested, crate::proofs::OnceLaws::run_bytes_long, crate::proofs::OnceLaws::same_settings, crate::proofs::OnceLaws::same_number))]
+pub fn run_told()
+    ensures digest { (w : List ℕ) (run : ℕ) → run_digest w run ≡ sha256 (run_bytes w run) }
+    ensures length { (w : List ℕ) (run : ℕ) → IsRun w run → length (run_bytes w run) ≡ 88 }
+    ensures settings { (w w' : List ℕ) (run run' : ℕ) → IsRun w run → IsRun w' run'
+        → run_bytes w run ≡ run_bytes w' run' → settings_words w ≡ settings_words w' }
+    ensures run { (w w' : List ℕ) (run run' : ℕ) → IsRun w run → IsRun w' run'
+        → run_bytes w run ≡ run_bytes w' run' → run ≡ run' }
 {}

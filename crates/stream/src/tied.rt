@@ -26,7 +26,9 @@ pub struct Tied<R, W> {
 }
 
 impl<R: Read, W: Write> Peer for Tied<R, W> {
-    ghost talk = { λ p l q. Moved (R.remaining p.input) (R.remaining q.input) (W.contents p.output) (W.contents q.output) l };
+    ghost talk = { λ p l q.
+        Moved (R.remaining p.input) (R.remaining q.input)
+        (W.contents p.output) (W.contents q.output) l };
 
     ghost silent = { λ p. nothing_moved _ _ };
 

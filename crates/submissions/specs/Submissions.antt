@@ -29,7 +29,9 @@ accepts_of row (p ∷ l) = accepts_of row l ++ if_there (row.at p).certificate [
 -- the calls that a submission counts as, newest first: of a refused batch none
 abbrev pub calls_of : Engine → Submission → List Call
 calls_of e (one c) = c ∷ []
-calls_of e (batch row answers) = if batch_refusal e.state e.table row.count (length answers) == 0 then accepts_of row (turns_of row) else []
+calls_of e (batch row answers) =
+    if batch_refusal e.state e.table row.count (length answers) == 0
+    then accepts_of row (turns_of row) else []
 
 -- the calls of one member as entries of a list
 abbrev pub entries_of : ℕ → List Call → List Entry

@@ -186,27 +186,6 @@ fn has_outside(weights: &[Weight; 16]) -> bool
     (0..16usize).any(|i| is_outside(weights[i].0, Sheet::WEIGHT_MIN, Sheet::WEIGHT_MAX))
 }
 
-/// Check 2: is a setting out of range?
-#[tactic(auto, unfolding(crate::specs::Ranges::out_of_range))]
-pub fn is_out_of_range(settings: Settings) -> bool
-    ensures { result ≡ out_of_range settings }
-{
-    is_outside(
-        settings.lookback as u64,
-        Sheet::LOOKBACK_MIN,
-        Sheet::LOOKBACK_MAX,
-    ) || is_outside(
-        settings.ceiling.0 as u64,
-        Sheet::CEILING_MIN,
-        Sheet::CEILING_MAX,
-    ) || is_outside(
-        settings.allowance as u64,
-        Sheet::ALLOWANCE_MIN,
-        Sheet::ALLOWANCE_MAX,
-    ) || has_outside(&settings.weights)
-        || is_outside(settings.margin as u64, Sheet::MARGIN_MIN, Sheet::MARGIN_MAX)
-}
-
 // Is one of the weights positive?
 #[tactic(auto, unfolding(base::specs::Folds::any_to))]
 fn has_weight(weights: &[Weight; 16]) -> bool
@@ -215,10 +194,33 @@ fn has_weight(weights: &[Weight; 16]) -> bool
     (0..16usize).any(|i| 0 < weights[i].0)
 }
 
-/// Check 3: is no starting weight positive?
-#[tactic(auto, unfolding(crate::specs::Ranges::weightless))]
-pub fn is_weightless(settings: Settings) -> bool
-    ensures { result ≡ weightless settings }
-{
-    !has_weight(&settings.weights)
+impl Settings {
+    /// Check 2: is a setting out of range?
+    #[tactic(auto, unfolding(crate::specs::Ranges::out_of_range))]
+    pub fn is_out_of_range(&self) -> bool
+        ensures { result ≡ out_of_range self.now }
+    {
+        is_outside(
+            self.lookback as u64,
+            Sheet::LOOKBACK_MIN,
+            Sheet::LOOKBACK_MAX,
+        ) || is_outside(
+            self.ceiling.0 as u64,
+            Sheet::CEILING_MIN,
+            Sheet::CEILING_MAX,
+        ) || is_outside(
+            self.allowance as u64,
+            Sheet::ALLOWANCE_MIN,
+            Sheet::ALLOWANCE_MAX,
+        ) || has_outside(&self.weights)
+            || is_outside(self.margin as u64, Sheet::MARGIN_MIN, Sheet::MARGIN_MAX)
+    }
+
+    /// Check 3: is no starting weight positive?
+    #[tactic(auto, unfolding(crate::specs::Ranges::weightless))]
+    pub fn is_weightless(&self) -> bool
+        ensures { result ≡ weightless self.now }
+    {
+        !has_weight(&self.weights)
+    }
 }

@@ -3,6 +3,7 @@ use Rattle.std.proofs.Common.{◌≡◌, refl, sym, ap, ◌∙◌, Bool, true, f
 use native.Mathlib.Decide.{dec_lt}
 use borrow.Author.Tests.{eqb-false}
 use Rattle.base.proofs.Bools.{neither}
+use Rattle.base.proofs.UnionLaws.{in_none}
 use Rattle.base.specs.Checks.{refusal}
 use Rattle.base.proofs.CheckLaws.{refuses, passes, passes-all, cleared, first-refuses, first_passes, numbered}
 use Rattle.base.specs.Sets.{contains}
@@ -13,8 +14,9 @@ use Rattle.terms.specs.Proposals.{Content}
 use Rattle.store.specs.Table.{held_set, content_at}
 use Rattle.terms.specs.Ranges.{weight_in}
 use Rattle.committee.specs.Chain.{chain_of}
-use Rattle.committee.specs.Committees.{bound_of}
+use Rattle.committee.specs.Committees.{bound_of, leader_by}
 use Rattle.chain_committees.specs.BlockChanges.{last_round}
+use Rattle.chain_committees.specs.Fill.{leader_at}
 use Rattle.chain_committees.proofs.ChainLaws.{last-chain, last-from}
 use Rattle.refusals.specs.declared.Refusal.{Refusal}
 use Rattle.refusals.specs.Refusals.{number_of}
@@ -25,9 +27,10 @@ use Rattle.state.specs.View.{view}
 use Rattle.state.specs.Formed.{Formed}
 use Rattle.votes.specs.Votes.{votes_for}
 use Rattle.votes.specs.Checks.{time_checks, vote_checks, committee_on, leaders_for}
-use Rattle.votes.specs.Ready.{AnchorReady}
+use Rattle.votes.specs.Ready.{AnchorLed, AnchorReady}
 use Rattle.votes.proofs.AnchorLaws.{leader_on, anchor-on, unvoted-on, leaders-on}
 use Rattle.terms.specs.declared.sheet.Weight.{Weight}
+use Rattle.committee.specs.declared.committees.Committee.{Committee}
 
 module _ (s : State) (t : List ℕ) where
   abbrev r : ℕ
@@ -113,10 +116,37 @@ module _ (s : State) (t : List ℕ) where
         go true h = refl
         go false h = absurd (omega (arith, anchor-none h))
 
--- the checks of the votes, by the leaders and the committee at hand
-pub votes_told : {s : State} {t l : List ℕ} {w : List Weight} → AnchorReady s t l w
-    → refusal (vote_checks s t) ≡ cond (contains (held_set t (s.round.0 - 1)) (get_or l (s.round.0 - 1) 0)) (cond (ltb (bound_of s.settings.margin (total 16 (weight_in w))) (votes_for t w s.round.0 (get_or l (s.round.0 - 1) 0))) 0 22) 21
-votes_told {s} {t} {l} {w} p = rw (led_on s t p.formed p.from l p.leaders p.above, p.committee) (go (contains (held_set t (s.round.0 - 1)) (leader_on s t (s.round.0 - 1))) refl)
+-- nobody's certificate of the round before is held
+pub nobody_held : (s : State) (t : List ℕ) → Formed s t → refusal (time_checks s t) ≡ 0 → held_set t (s.round.0 - 1) ≡ 0 → 21 ≡ refusal (vote_checks s t)
+nobody_held s t f e h = anchor-none s t f ((timely s t f e).from) (rw h (in_none (leader_on s t (s.round.0 - 1))))
+
+-- the list of leaders has the leader of the round before
+pub anchor_led : {s : State} {t l : List ℕ} {w : Committee} → AnchorReady s t l w → AnchorLed s t (get_or l (s.round.0 - 1) 0) w
+unfolding leader_at
+anchor_led {s} {t} {l} {w} p = record {
+  formed = p.formed;
+  from = p.from;
+  leader = led_on s t p.formed p.from l p.leaders p.above;
+  committee = p.committee;
+  margin = p.margin;
+}
+
+-- and so have the starting weights, while they are the committees
+pub starting_led : (s : State) (t : List ℕ) (a : ℕ) (w : Committee) → Formed s t → refusal (time_checks s t) ≡ 0 → ((q : ℕ) → q ≤ s.round.0 → committee_on s t q ≡ s.settings.weights) → w.weights ≡ s.settings.weights → w.margin ≡ s.settings.margin → a ≡ leader_by w.weights (s.round.0 - 1)
+    → AnchorLed s t a w
+starting_led s t a w f e h x m l = record {
+  formed = f;
+  from = (timely s t f e).from;
+  leader = rw (h (s.round.0 - 1) (omega arith), ← x) l;
+  committee = rw (h s.round.0 (omega arith)) x;
+  margin = m;
+}
+
+-- the checks of the votes, by the leader and the committee at hand
+pub votes_told : {s : State} {t : List ℕ} {a : ℕ} {w : Committee} → AnchorLed s t a w
+    → refusal (vote_checks s t) ≡ cond (contains (held_set t (s.round.0 - 1)) a) (cond (ltb (bound_of w.margin (total 16 (weight_in w.weights))) (votes_for t w.weights s.round.0 a)) 0 22) 21
+unfolding leader_at
+votes_told {s} {t} {a} {w} p = rw (p.leader, p.committee, p.margin) (go (contains (held_set t (s.round.0 - 1)) (leader_on s t (s.round.0 - 1))) refl)
   where
     v : ℕ
     v = votes_for t (committee_on s t s.round.0) s.round.0 (leader_on s t (s.round.0 - 1))

@@ -1,20 +1,21 @@
 // The checks of a commit in a well-formed state, and the leaders by round that they go by.
 
-ghost use Rattle.std.specs.Prelude.{◌≡◌, OnOk};
+ghost use Rattle.std.specs.Prelude.{◌≡◌, OnOk, IfErr};
 ghost use Rattle.base.specs.Checks.{refusal};
 ghost use Rattle.rules.specs.Calls.{checks, commit};
-ghost use Rattle.refusals.specs.Refusals.{refusal_in};
+ghost use Rattle.refusals.specs.Refusals.{number_of, refusal_in};
 ghost use Rattle.member_view.specs.Views.{shown};
 ghost use Rattle.votes.specs.Checks.{time_checks, vote_checks, leaders_for};
-ghost use Rattle.votes.specs.Ready.{AnchorReady, LeadersWanted};
+ghost use Rattle.votes.specs.Ready.{AnchorLed, AnchorReady, LeadersWanted};
 
 use blocks::histories::anchors;
+use chain_committees::chain::Chain;
 use chain_committees::{bonded, leaders};
-use committee::weighing;
+use committee::committees::Committee;
+use committee::weighing::leader;
 use member_view::View;
 use refusals::Refusal;
 use state::State;
-use terms::sheet::Weight;
 use terms::{Member, Round};
 
 /// The checks of time: 19, 20, 8.
@@ -36,45 +37,72 @@ pub fn check_time(view: &View) -> Result<(), Refusal>
 }
 
 /// Puts the leaders by round into `leaders`, which has 16s, and gives the committee of the present round: what the votes of a state that passes those of time are weighed by.
-pub fn fill_leaders(state: &State, table: &[u32], leaders: &mut [u32; 1025]) -> [Weight; 16]
+pub fn fill_leaders(state: &State, table: &[u32], leaders: &mut [u32; 1025]) -> Committee
     requires { LeadersWanted state.now table.now leaders.old }
     ensures { AnchorReady state.now table.now leaders.new result }
 {
     let last = bonded::last_round(table, state.blocks);
-    leaders::fill_leaders(
-        table,
-        state.settings,
-        state.blocks,
-        last,
-        Round(state.round.0 - 1),
-        leaders,
-    )
+    let chain = Chain::new(table, &state.settings, state.blocks);
+    leaders::fill_leaders(chain, last, Round(state.round.0 - 1), leaders)
 }
 
-/// The checks of the votes, 21 and 22, of a state that passes those of time, where `leaders` has the leaders by round and `weights` is the committee of the present round.
-pub fn check_votes(
+// The checks of the votes, 21 and 22, where `anchor` is the leader of the round before and `committee` that of the present one.
+fn check_anchor(
     state: &State,
     table: &[u32],
-    leaders: &[u32; 1025],
-    weights: &[Weight; 16],
+    anchor: Member,
+    committee: &Committee,
 ) -> Result<(), Refusal>
-    requires { AnchorReady state.now table.now leaders.now weights.now }
+    requires { AnchorLed state.now table.now anchor.0 committee.now }
     ensures { refusal_in result ≡ refusal (vote_checks state.now table.now) }
 {
     let top = Round(state.round.0 - 1);
-    let anchor = Member(leaders[top.0 as usize]);
     if !anchors::is_held_leader(store::held_set(table, top), anchor) {
         return Err(Refusal::NoAnchor);
     }
-    let bound = weighing::fault_bound(state.settings.margin, weighing::total_weight(weights));
-    let votes = crate::counting::votes_for(table, weights, state.round, anchor);
-    if votes.0 <= bound.0 {
+    let votes = crate::counting::votes_for(table, &committee.weights, state.round, anchor);
+    if votes.0 <= committee.bound().0 {
         return Err(Refusal::VotesShort);
     }
     Ok(())
 }
 
-/// The checks of a well-formed state: 19, 20, 8, 21, 22. Where those of time pass, `leaders` gets the leaders by round, 16 for none.
+/// The checks of the votes, 21 and 22, of a state that passes those of time, where `leaders` has the leaders by round and `committee` is that of the present round.
+pub fn check_votes(
+    state: &State,
+    table: &[u32],
+    leaders: &[u32; 1025],
+    committee: &Committee,
+) -> Result<(), Refusal>
+    requires { AnchorReady state.now table.now leaders.now committee.now }
+    ensures { refusal_in result ≡ refusal (vote_checks state.now table.now) }
+{
+    let top = Round(state.round.0 - 1);
+    let anchor = Member(leaders[top.0 as usize]);
+    check_anchor(state, table, anchor, committee)
+}
+
+/// What the checks of the votes answer a state that passes those of time, as far as it is told without a walk: whether any certificate of the round before is held, and both checks where no block has changed a committee yet. `Ok` tells nothing: which refusals are told early no clause says.
+pub fn check_early(view: &View) -> Result<(), Refusal>
+    requires { refusal (time_checks view.now.state.now view.now.table.now) ≡ 0 }
+    ensures { IfErr result (λ e. number_of e
+        ≡ refusal (vote_checks view.now.state.now view.now.table.now)) }
+{
+    let round = view.state.round;
+    let top = Round(round.0 - 1);
+    if store::held_set(view.table, top) == 0 {
+        return Err(Refusal::NoAnchor);
+    }
+    let chain = view.chain();
+    if !bonded::is_starting(chain, round) {
+        return Ok(());
+    }
+    let starting = chain.starting();
+    let anchor = leader::leader(&starting.weights, top);
+    check_anchor(view.state, view.table, anchor, &starting)
+}
+
+/// The checks of a well-formed state: 19, 20, 8, 21, 22. Where it passes, `leaders` has the leaders by round, 16 for none.
 #[tactic(auto, using(crate::proofs::CheckLaws::refused_in_time, crate::proofs::CheckLaws::refused_by_votes))]
 pub fn check(view: &View, leaders: &mut [u32; 1025]) -> Result<(), Refusal>
     ensures refusal { let s = view.now.state.now in
@@ -83,7 +111,8 @@ pub fn check(view: &View, leaders: &mut [u32; 1025]) -> Result<(), Refusal>
         ≡ leaders_for view.now.state.now view.now.table.now) }
 {
     check_time(view)?;
+    check_early(view)?;
     leaders.fill(16);
-    let weights = fill_leaders(view.state, view.table, leaders);
-    check_votes(view.state, view.table, leaders, &weights)
+    let committee = fill_leaders(view.state, view.table, leaders);
+    check_votes(view.state, view.table, leaders, &committee)
 }

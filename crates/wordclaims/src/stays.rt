@@ -20,7 +20,8 @@ pub fn states_formed()
 
 /// A block once made stays, whoever signed: whatever calls of hosts and guests follow, batches among them, as long as no open is accepted, the chain that the words tell is the one of before with newer blocks, or none, and each block keeps its number, its round and its certificates.
 pub fn blocks_stay()
-    ensures grown { (x : Opening) (l m : List LibraryCall) → AllTyped l → AllTyped m → NoOpens (left_after x l) m
+    ensures grown { (x : Opening) (l m : List LibraryCall)
+        → AllTyped l → AllTyped m → NoOpens (left_after x l) m
         → (newer : Chain Content)
         × (chain (engine_of (after_list (left_after x l) m))
         ≡ newer ++ chain (engine_of (left_after x l))) }

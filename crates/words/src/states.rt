@@ -65,8 +65,8 @@ pub fn state(words: &[u32]) -> Option<State>
 }
 
 // The body of the proposal in a state, none where there is no proposal.
-fn own_body(state: State) -> Body
-    ensures { result ≡ own_body state }
+fn own_body(state: &State) -> Body
+    ensures { result ≡ own_body state.now }
 {
     state.proposal.unwrap_or(terms::bare_body(0))
 }
@@ -79,11 +79,11 @@ fn flag(yes: bool) -> u32
 }
 
 /// Puts a state, thirty-nine words, the body's as zeros where there is no proposal: each weight must fit 32 bits.
-pub fn put_state(out: &mut [u32], state: State)
-    requires { (state_length ≤ length out.old) × Narrow state.settings.weights }
-    ensures { out.new ≡ paste out.old 0 (state_words state) state_length }
+pub fn put_state(out: &mut [u32], state: &State)
+    requires { (state_length ≤ length out.old) × Narrow state.now.settings.weights }
+    ensures { out.new ≡ paste out.old 0 (state_words state.now) state_length }
 {
-    let settings = state.settings;
+    let settings = &state.settings;
     let head = [
         state.own.0,
         settings.lookback,

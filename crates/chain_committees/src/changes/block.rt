@@ -1,5 +1,6 @@
-// What the certificates of a block do to a committee: rounds rise, and within a round numbers rise from that of a member on, with 0 after 15.
-// The place of member m and round r is number 16 r + m.
+//! What the certificates of a block do to a committee: rounds rise, and within a round numbers rise from that of a member on, with 0 after 15.
+//!
+//! The place of member m and round r is number 16 r + m.
 
 ghost use Rattle.std.specs.Prelude.{◌≡◌, if◌then◌else◌, ◌+◌, ◌*◌, ◌/◌, ◌%◌, nat_le};
 ghost use Rattle.store.specs.Table.{content_at};
@@ -31,9 +32,9 @@ fn apply_slot(
     weighing::change::apply(weights, index < count, kind, number, amount);
 }
 
-// The transactions of a record, in order. All four slots are looked at, however many there are.
+/// Applies the transactions of a record, in order, to the committee `weights`. All four slots are looked at, however many there are.
 #[tactic(auto, using(base::proofs::FoldLaws::fold_to_none, base::proofs::FoldLaws::fold_more, crate::proofs::BlockChangeLaws::record_slots, crate::proofs::BlockChangeLaws::record_empty, crate::proofs::BoundLaws::slots_total))]
-fn apply_record(table: &[u32], author: Member, round: Round, weights: &mut [Weight; 16])
+pub fn apply_record(table: &[u32], author: Member, round: Round, weights: &mut [Weight; 16])
     requires { RecordReady table.now author.0 round.0 weights.old }
     ensures { weights.new
         ≡ changes (content_at table.now author.0 round.0).transactions weights.old }

@@ -3,7 +3,7 @@
 
 ghost use Rattle.std.specs.Prelude.{◌≡◌, ℕ, ◌+◌, ◌*◌, ◌<◌, ◌≤◌, get_or, set, length};
 ghost use Rattle.chain_committees.specs.Rows.{RowsTo, RowRoom};
-ghost use Rattle.chain_committees.specs.Links.{Links};
+ghost use Rattle.chain_committees.specs.Links.{Links, AllLinked};
 ghost use Rattle.chain_committees.specs.LinkRuns.{run_end};
 
 use terms::{Member, Round};
@@ -61,7 +61,7 @@ fn link_row(table: &[u32], head: &mut [u32; 512], next: &mut [u32], round: Round
 pub(crate) fn link_rows(table: &[u32], head: &mut [u32; 512], next: &mut [u32], ceiling: Round)
     requires { RowsTo table.now ceiling.0
         × Links table.now (ceiling.0 * 16 + 16) (ceiling.0 * 16 + 16) head.old next.old }
-    ensures { Links table.now 16 (ceiling.0 * 16 + 16) head.new next.new }
+    ensures { AllLinked table.now ceiling.0 head.new next.new }
 {
     let end = ceiling.0;
     for i in 0..end {
@@ -73,7 +73,7 @@ pub(crate) fn link_rows(table: &[u32], head: &mut [u32; 512], next: &mut [u32], 
 pub fn linked(table: &[u32], next: &mut [u32], ceiling: Round) -> [u32; 512]
     requires rows { RowsTo table.now ceiling.0 }
     requires places { ceiling.0 * 16 + 16 ≤ length next.old }
-    ensures { Links table.now 16 (ceiling.0 * 16 + 16) result next.new }
+    ensures { AllLinked table.now ceiling.0 result next.new }
 {
     let mut head = [ceiling.0 * 16 + 16; 512];
     link_rows(table, &mut head, next, ceiling);

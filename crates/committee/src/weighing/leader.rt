@@ -15,7 +15,7 @@ fn join(weights: &[Weight; 16], set: u32, member: Member) -> u32
     requires { member.0 < 16 }
     ensures { result ≡ joined weights.now member.0 set }
 {
-    if crate::weighing::is_member(weights, member) {
+    if 0 < weights[member.0 as usize].0 {
         base::insert(set, member.0)
     } else {
         set

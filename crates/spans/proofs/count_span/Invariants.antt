@@ -8,7 +8,7 @@ use Rattle.spans.proofs.count_span.Given as goal
 pub record Counted (S : Settings) (t : List ℕ) (blocks m n i c : ℕ) : Type 0 where
   pub so_far : i ≤ n
   pub count : c ≡ count_after S (chain_of S.ceiling.0 t blocks) m i
-  pub most : c ≤ 16384 * i
+  pub most : c ≤ 16400 * i
 
 abbrev pub invariant-loop-i : goal.invariant-loop-i
-invariant-loop-i l = Counted l.settings l.table l.fn.blocks l.known l.number l.i l.count
+invariant-loop-i l = let c = l.walk.chain in Counted c.settings.now c.table.now c.blocks l.known l.number l.i l.count

@@ -6,4 +6,7 @@ use Rattle.spans.specs.Spans.{words_of, count_after, held_after}
 use Rattle.spans.proofs.put_span.Given as goal
 
 abbrev pub invariant-loop-i : goal.invariant-loop-i
-invariant-loop-i l = Putting l.initial.list l.list 0 l.to (words_of (held_after l.settings (chain_of l.settings.ceiling.0 l.table l.fn.blocks) l.table l.known l.i)) (held_length * count_after l.settings (chain_of l.settings.ceiling.0 l.table l.fn.blocks) l.known l.i) l.number l.i
+invariant-loop-i l = let s = l.walk.chain.settings.now in
+    let t = l.walk.chain.table.now in
+    let c = chain_of s.ceiling.0 t l.walk.chain.blocks in
+    Putting l.initial.list l.list 0 l.to (words_of (held_after s c t l.known l.i)) (held_length * count_after s c l.known l.i) l.number l.i

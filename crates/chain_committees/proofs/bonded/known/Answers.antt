@@ -5,4 +5,4 @@ use Rattle.chain_committees.proofs.bonded.known.Goals as goal
 
 pub returns : goal.returns
 unfolding known_by
-returns c = let a = c.args in rw (last-chain a.settings.ceiling.0 a.table.now a.blocks, ← c.last_round.ensures) refl
+returns c = let a = c.args.chain in rw (last-chain a.settings.now.ceiling.0 a.table.now a.blocks, ← c.last_round-newest.ensures) refl

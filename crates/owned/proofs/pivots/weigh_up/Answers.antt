@@ -1,6 +1,5 @@
-use Rattle.std.proofs.Common.{sym, ap, ◌∙◌, arith}
+use Rattle.std.proofs.Common.{arith}
 use Rattle.base.proofs.SetLaws.{in_member}
-use Rattle.committee.specs.Committees.{bound_of}
 use Rattle.votes.proofs.CheckLaws.{timely, voted}
 use Rattle.owned.proofs.pivots.weigh_up.Goals as goal
 
@@ -8,7 +7,7 @@ pub votes_for-requires : goal.votes_for-requires
 votes_for-requires c = let p = c.requires in
     let f = p.timely.formed in
     let led = voted _ _ f (timely _ _ f p.timely.in_time).from p.voted in
-    record { row = omega (arith, f.long, f.numbers.round_to); member = omega (arith, p.leader, in_member _ _ led); bounded = c.committee.result.bounded }
+    record { row = omega (arith, f.long, f.numbers.round_to); member = omega (arith, p.leader, in_member _ _ led); bounded = c.committee-committee.result.bounded }
 
 pub returns : goal.returns
 returns c = let p = c.requires in
@@ -16,7 +15,7 @@ returns c = let p = c.requires in
       timely = p.timely;
       voted = p.voted;
       its_leader = p.leader;
-      its_weights = c.committee.ensures.weights;
-      its_bound = c.fault_bound.ensures ∙ ap (bound_of c.args.view.now.state.now.settings.margin) c.total_weight-total.ensures;
+      its_weights = c.committee-committee.ensures.weights;
+      its_bound = rw (← c.committee-committee.ensures.margin) c.bound.ensures;
       its_votes = c.votes_for.ensures;
     }

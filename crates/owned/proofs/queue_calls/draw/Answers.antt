@@ -19,27 +19,27 @@ pub put_state-requires : goal.put_state-requires
 put_state-requires c = let s = c.in-Some.ensures in
     let e : c.in-Ok.previous ≡ c.args.previous = grind arith in
     let l : c.args.previous < 65536 = grind arith in
-    let x = rw (s.1, e) at c.in_ok-draw_kept.ensures in
+    let x = rw (s.1, e) at c.in_ok-draw_formed.ensures in
     fits-over _ c.args.table.now (draw c.args.previous) s.0 l (sym x.refusal) x.state
 
 pub returns-clause-owned : goal.returns-clause-owned
 returns-clause-owned c = let s = c.in-Some.ensures in
     let e : c.in-Ok.previous ≡ c.args.previous = grind arith in
     let l : c.args.previous < 65536 = grind arith in
-    let x = rw (s.1, e) at c.in_ok-draw_kept.ensures in
+    let x = rw (s.1, e) at c.in_ok-draw_formed.ensures in
     rw c.put_state.ensures (owned_put _ _ _ c.requires (draw c.args.previous) (rw (lt-ltb _ 65536 l) at (draw-handed c.args.previous)) refl refl (sym x.refusal) x.state x.table)
 
-pub returns-in_err-draw_kept-clause-done : goal.returns-in_err-draw_kept-clause-done
-returns-in_err-draw_kept-clause-done c = let s = c.in-Some.ensures in
+pub returns-in_err-draw_formed-clause-done : goal.returns-in_err-draw_formed-clause-done
+returns-in_err-draw_formed-clause-done c = let s = c.in-Some.ensures in
     let e : c.in-Ok.previous ≡ c.args.previous = grind arith in
     let l : c.args.previous < 65536 = grind arith in
-    let x = rw (s.1, e) at c.in_err-draw_kept.ensures in
-    let n : refusal_in c.from_residual.result ≡ number_of c.in_err-draw_kept.field-0.0 = search rules in
-    rw n (rewritten _ _ _ _ refl s.0 (lt-ltb _ 65536 l) refl (Err c.in_err-draw_kept.field-0.0) _ x.refusal x.state x.table refl)
+    let x = rw (s.1, e) at c.in_err-draw_formed.ensures in
+    let n : refusal_in c.from_residual.result ≡ number_of c.in_err-draw_formed.field-0.0 = search rules in
+    rw n (rewritten _ _ _ _ refl s.0 (lt-ltb _ 65536 l) refl (Err c.in_err-draw_formed.field-0.0) _ x.refusal x.state x.table refl)
 
-pub returns-in_err-draw_kept-clause-owned : goal.returns-in_err-draw_kept-clause-owned
-returns-in_err-draw_kept-clause-owned c = let s = c.in-Some.ensures in
-    let x = rw s.1 at c.in_err-draw_kept.ensures in
+pub returns-in_err-draw_formed-clause-owned : goal.returns-in_err-draw_formed-clause-owned
+returns-in_err-draw_formed-clause-owned c = let s = c.in-Some.ensures in
+    let x = rw s.1 at c.in_err-draw_formed.ensures in
     let e = engine_in c.args.state.now c.args.table.now in
     let n : refusal_for e (draw c.in-Ok.previous) ≢ 0 = λ z. some-number _ (x.refusal ∙ z) in
     let t = x.table ∙ ap (λ (z : Engine). z.table) (refused-same e (draw c.in-Ok.previous) n) in

@@ -10,7 +10,7 @@ pub returns-in_default : goal.returns-in_default
 returns-in_default c = none_told _ _ _ _ c.requires (next_line_at _ _ _ _ c.requires c.word-place.ensures c.word-bytes.ensures c.in_default.ensures (λ k. grind arith))
 
 pub line_byte-requires-2 : goal.line_byte-requires-2
-line_byte-requires-2 c = (line_found _ _ _ _ c.requires (next_line_at _ _ _ _ c.requires c.word-place.ensures c.word-bytes.ensures c.in-Some.ensures (λ k. grind arith)), line_long c.args.table.now (c.in-Some.q % 16) (c.in-Some.q / 16))
+line_byte-requires-2 c = (line_found _ _ _ _ c.requires (next_line_at _ _ _ _ c.requires c.word-place.ensures c.word-bytes.ensures c.in-Some.ensures (λ k. grind arith)), line_long c.args.chain.table.now (c.in-Some.q % 16) (c.in-Some.q / 16))
 
 pub returns : goal.returns
 returns c = first_told _ _ _ _ c.requires (next_line_at _ _ _ _ c.requires c.word-place.ensures c.word-bytes.ensures c.in-Some.ensures (λ k. grind arith)) c.line_byte-2.ensures

@@ -1,7 +1,7 @@
-use Rattle.std.proofs.Common.{sym, ◌∙◌, arith}
+use Rattle.std.proofs.Common.{sym, ◌∙◌}
 use Rattle.state.proofs.FormedLaws.{formed}
 use Rattle.state.proofs.Walkable.{readable}
 use Rattle.replies.proofs.cached.renew.Goals as goal
 
-pub fill_cache-requires : goal.fill_cache-requires
-fill_cache-requires c = (readable _ _ (formed _ _ (sym c.requires ∙ c.if-formed.true)), omega arith)
+pub new-chain-requires : goal.new-chain-requires
+new-chain-requires c = readable _ _ (formed _ _ (sym c.requires ∙ c.if-formed.true))

@@ -1,24 +1,27 @@
 use Rattle.std.proofs.Common.{◌≡◌, ◌+◌, ◌-◌, arith}
-use Rattle.chain_committees.proofs.ChainInTableLaws.{chain_in_table}
+use Rattle.state.proofs.Walkable.{readable}
 use Rattle.votes.proofs.AnchorLaws.{leaders-filled}
 use Rattle.votes.proofs.CheckLaws.{timely}
 use Rattle.votes.proofs.checks.fill_leaders.Goals as goal
 
+pub new-chain-requires : goal.new-chain-requires
+new-chain-requires c = readable _ _ c.requires.formed
+
 pub fill_leaders-requires : goal.fill_leaders-requires
 fill_leaders-requires c = let f = c.requires.formed in
     let w = timely _ _ f c.requires.in_time in
-    (chain_in_table _ _ _ f.settings f.long f.rounds, record { from = omega (arith, w.above, c.last_round-last.ensures); to = omega (arith, f.numbers.round_to, f.settings.ceiling_to) })
+    record { from = omega (arith, w.above, c.last_round-last.ensures); to = omega (arith, f.numbers.round_to, f.settings.ceiling_to) }
 
 pub returns : goal.returns
 returns c = let w = timely _ _ c.requires.formed c.requires.in_time in
     let r = c.args.state.now.round.0 in
     let i : r - 1 + 1 ≡ r = omega (arith, w.from) in
-    let x = c.fill_leaders.ensures in
+    let x = rw (c.new-chain.ensures.table, c.new-chain.ensures.settings, c.new-chain.ensures.blocks) at c.fill_leaders.ensures in
     record {
       formed = c.requires.formed;
       from = w.from;
       above = w.above;
       leaders = leaders-filled _ _ _ _ (rw c.requires.none at x.leaders) c.last_round-last.ensures;
       committee = rw i at x.committee;
-      bounded = x.bounded;
+      margin = x.margin;
     }

@@ -1,0 +1,7 @@
+use Rattle.chain_committees.proofs.StartLaws.{after_applied, started_applied}
+use Rattle.chain_committees.proofs.walk.Walk.step.Goals as goal
+
+pub invariant_of-self : goal.invariant_of-self
+invariant_of-self c = let w = c.args.self.now in
+    let s = c.fill_starts-self.ensures in
+    record { linked = w.linked; after = after_applied w.chain.told c.requires w.after s c.apply_block.ensures; started = started_applied s }

@@ -1,4 +1,0 @@
-pub mod Contents
-pub mod Words
-pub mod Ready
-pub mod Claims

@@ -1,0 +1,106 @@
+//! What a block holds: its certificates are counted along the links of its places, and put into a list row by row.
+//!
+//! The place of member m and round r is number 16 r + m.
+
+ghost use Rattle.std.specs.Prelude.{◌≡◌, ◌+◌, ◌*◌, ◌/◌, ◌<◌, ◌≤◌, length};
+ghost use Rattle.base.specs.Puts.{Puts};
+ghost use Rattle.store.specs.Table.{Row};
+ghost use Rattle.words.specs.Lengths.{held_length};
+ghost use Rattle.words.specs.Proposals.{held_words};
+ghost use Rattle.spans.specs.Rows.{place_held, row_held, block_held, HeldFits, PutsHeld};
+
+use chain_committees::changes::links;
+use chain_committees::walk::Walk;
+use store::record;
+use terms::{Member, Proposal, Round};
+use words::bodies::lengths::HELD;
+use words::proposals;
+
+// Puts a certificate of `block` from `at` on, eighteen words; gives the next place of the list.
+fn put_held(list: &mut [u32], at: usize, proposal: Proposal, endorsers: u16, block: u32) -> usize
+    requires { at + held_length ≤ length list.old }
+    ensures { Puts list.old list.new at result (held_words proposal endorsers block) held_length }
+{
+    proposals::put_held(&mut list[at..at + HELD], proposal, endorsers, block);
+    at + HELD
+}
+
+// Puts what `block` holds at a place, from `at` on.
+#[tactic(auto, using(crate::proofs::RowLaws::held_absent, crate::proofs::RowLaws::held_other), unfolding(crate::specs::Spans::words_of))]
+fn put_place(list: &mut [u32], at: usize, table: &[u32], block: u32, place: u32) -> usize
+    requires row { Row table.now (place / 16) }
+    requires room { HeldFits list.old at (place_held table.now block place) }
+    ensures { PutsHeld list.old list.new at result table.now block
+        (place_held table.now block place) }
+{
+    let author = Member(place % 16);
+    let round = Round(place / 16);
+    if store::held(table, author, round) && record::mark(table, author, round) == block {
+        let proposal = record::proposal_at(table, author, round);
+        let endorsers = record::endorsers(table, author, round);
+        put_held(list, at, proposal, endorsers, block)
+    } else {
+        at
+    }
+}
+
+// Puts what it holds in the row of a place: numbers rise from that of `start`, with 0 after 15.
+fn put_row(
+    list: &mut [u32],
+    at: usize,
+    table: &[u32],
+    block: u32,
+    start: Member,
+    place: u32,
+) -> usize
+    requires row { Row table.now (place / 16) }
+    requires start { start.0 ≤ 16 }
+    requires room { HeldFits list.old at (row_held table.now block start.0 (place / 16)) }
+    ensures { PutsHeld list.old list.new at result table.now block
+        (row_held table.now block start.0 (place / 16)) }
+{
+    let row = place / 16 * 16;
+    let mut to = at;
+    for i in 0..16 {
+        to = put_place(list, to, table, block, row + (start.0 + i) % 16);
+    }
+    to
+}
+
+/// Puts what the block after the first ones, `before` in number, holds, from `at` on; gives the next place of the list.
+pub(crate) fn put(walk: &Walk, before: u32, list: &mut [u32], at: usize) -> usize
+    requires begun { before < walk.now.begun }
+    requires room { let c = walk.now.chain in
+        HeldFits list.old at (block_held c.settings.now c.table.now before) }
+    ensures { let c = walk.now.chain in
+        PutsHeld list.old list.new at result c.table.now (before + 1)
+        (block_held c.settings.now c.table.now before) }
+{
+    let end = walk.chain.settings.ceiling.0 * 16 + 16;
+    let block = before + 1;
+    let start = walk.start(before);
+    let mut to = at;
+    let mut place = walk.head[block as usize];
+    while place < end {
+        to = put_row(list, to, walk.chain.table, block, start, place);
+        place = links::run_end(walk.next, place / 16 * 16 + 16, place);
+    }
+    to
+}
+
+/// How many certificates the block after the first ones, `before` in number, holds.
+pub(crate) fn count(walk: &Walk, before: u32) -> u32
+    requires { before < walk.now.chain.blocks }
+    ensures count { let c = walk.now.chain in
+        result ≡ length (block_held c.settings.now c.table.now before) }
+    ensures most { result ≤ 16 * 1024 + 16 }
+{
+    let end = walk.chain.settings.ceiling.0 * 16 + 16;
+    let mut count = 0;
+    let mut place = walk.head[before as usize + 1];
+    while place < end {
+        count += 1;
+        place = walk.next[place as usize];
+    }
+    count
+}
