@@ -138,10 +138,11 @@ uint32_t forgelilac_format_3(void);
 #define FORGELILAC_PREVIEW_WORDS(ceiling) (48u * (ceiling))
 
 /* Bytes of stack that serve every call and every function below but owner's calls, which have
- * FORGELILAC_OWNED_STACK_BYTES, on x86-64; examples/stack.c measures what the calls use. Preview uses about 86 KB, commit and batch about 82 KB, critical and a port
- * read about 79 KB, accept about 77 KB, propose, draw, endorse, certify, advance, committee, share, bond
- * effect, block rows and forgelilac_chain 74 to 76 KB, the others less than 1.2 KB; a guest's form little
- * more than the host's call. */
+ * FORGELILAC_OWNED_STACK_BYTES, on x86-64; examples/stack.c measures what the calls use. Preview
+ * uses about 98 KB, batch and draw about 96 KB, propose, endorse, certify, accept, advance, commit,
+ * critical, committee, share and bond effect 94 to 95 KB, block rows and forgelilac_chain 89 to 92 KB,
+ * a port read about 77 KB, the others less than 1 KB; a guest's form little more than the host's
+ * call. */
 #define FORGELILAC_STACK_BYTES 98304
 
 /* ---- words of a state */
@@ -729,9 +730,9 @@ uint32_t forgelilac_guest_port_write(uint32_t caller,
 
 /* The kept committees of a state of this ceiling, in words of 64 bits, aligned as uint64_t is. */
 #define FORGELILAC_KEPT_WORDS(ceiling) (16u * (ceiling) + 17u)
-/* Bytes of stack that serve every owner's call on x86-64: commit uses about 146 KB, each other one less than
- * FORGELILAC_STACK_BYTES. examples/stack.c measures it. */
-#define FORGELILAC_OWNED_STACK_BYTES 163840
+/* Bytes of stack that serve every owner's call on x86-64: block rows and a listing of the chain use about 89 KB,
+ * a port read about 77 KB, each other one less than 15 KB. examples/stack.c measures it. */
+#define FORGELILAC_OWNED_STACK_BYTES 98304
 
 /* Tests the words once and fills the kept committees, which need not be set before: from here on the
  * words are owned. 1 where words of the state cannot be read, where the state is not well formed with its

@@ -34,6 +34,7 @@ OWNER = "bindings/rust/src/owner.rs"
 LAYOUT = "bindings/rust/src/layout.rs"
 VERSION = "bindings/rust/src/version.rs"
 ARCHIVE = "crates/host/src/versions.rt"
+STORED = "crates/storing/src/stored.rt"
 RECORD = "crates/batching/src/rows.rt"
 RECORDS = {"CertificateRecord": "struct forgelilac_certificate"}       # the types of Rattle and of Rust, and C's name of each
 COMPUTED = {"forgelilac_table_words", "forgelilac_stored_bytes"}       # the package has them as constant functions, and does not link them
@@ -52,7 +53,7 @@ PACKAGE_VERSIONS = [        # the same of the Rust package, which has a version 
 FORMATS = [        # the same of the format
     (HEADER, [r"^#define FORGELILAC_FORMAT (\d+)$"]),
     (HEADER, [r"return forgelilac_format_(\d+)\(\) == FORGELILAC_FORMAT$"]),
-    (ARCHIVE, [r"^const FORMAT: u32 = (\d+);$"]),
+    (STORED, [r"^pub const FORMAT: u32 = (\d+);$"]),
     (ARCHIVE, [r'^pub extern "C" fn forgelilac_format_(\d+)\(\)']),
     (LAYOUT, [r"^pub const FORMAT: u32 = (\d+);$"]),
     ("bindings/rust/build.rs", [r'^const FORMAT: &str = "forgelilac_format_(\d+)";$']),

@@ -95,7 +95,7 @@ After the hour: what this page says of the runner, the rest of the definitions o
 
 ## What is proved
 
-A theorem is a function that takes nothing and does nothing: its clauses are all that it is. Theorems stand in src/theorems.rt of the crates that they speak of, in src/lib.rt of `kept`, `library` and `span_claims`, and in src/ of `wordclaims`. Names in brackets are definitions of the list below.
+A theorem is a function that takes nothing and does nothing: its clauses are all that it is. Theorems stand in src/theorems.rt of the crates that they speak of, in src/lib.rt of `kept` and `library`, and in src/ of `wordclaims`. Names in brackets are definitions of the list below.
 
 **The library.** Each function that a host links, on any words and lengths: its answer and every word that it leaves are those of its contract (`Done`, hosting/specs/Calls). The length of a table is a number alone. Owner's functions have one premise, that their words are as calls left them (`Owned`, owned/specs/Owned), and promise the same and that premise again. `forgelilac_owned_resume` has no premise: it promises when it answers 0 (`Resumable`), the premise then, and else that the kept committees are as they were (`Filled`).
 

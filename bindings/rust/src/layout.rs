@@ -43,9 +43,9 @@ pub const QUEUE_PLACES: usize = 8;
 pub const BLOCKS: usize = 511;
 /// Bytes of stack that serve every call of `lent` and `storing` on x86-64; docs/HOSTS.md has what each uses.
 pub const STACK_BYTES: usize = 98_304;
-/// The same of an owner's calls, those of an `Engine`: its commit uses about 146 KB, each other one
-/// less than [`STACK_BYTES`].
-pub const OWNED_STACK_BYTES: usize = 163_840;
+/// The same of an owner's calls, those of an `Engine`: block rows and the chain use about 89 KB, a
+/// port read about 77 KB, each other one less than 15 KB.
+pub const OWNED_STACK_BYTES: usize = 98_304;
 
 /// Of a state: own number.
 pub const STATE_OWN: usize = 0;

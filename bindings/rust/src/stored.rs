@@ -2,8 +2,8 @@
 
 use crate::layout::{FORMAT, STATE_CEILING, STATE_WORDS};
 use crate::storing::{self, stored_bytes};
-use crate::words::Words;
-use crate::{table_words, Engine, Member, StoringRefusal};
+use crate::words::{Calls, Words};
+use crate::{table_words, Engine, Member, Owned, StoringRefusal};
 use alloc::vec;
 use alloc::vec::Vec;
 use core::fmt;
@@ -52,6 +52,65 @@ pub(crate) fn to_bytes(state: &[u32; STATE_WORDS], table: &[u32]) -> Vec<u8> {
     bytes
 }
 
+/// What [`Engine::store`] gives of these words.
+fn store(state: &[u32; STATE_WORDS], table: &[u32], run: u64) -> Result<Vec<u8>, StoringRefusal> {
+    if (table.len() as u64) < table_words(state[STATE_CEILING]) {
+        return Err(StoringRefusal::UnreadableWords);
+    }
+    let mut bytes = vec![0; stored_bytes(state[STATE_CEILING]) as usize];
+    storing::store(state, table, run, &mut bytes)?;
+    Ok(bytes)
+}
+
+/// Storing and loading.
+impl Owned {
+    /// State and table as bytes with a digest over them, as [`Engine::store`] gives them. The kept committees
+    /// are not there: they follow from the words.
+    ///
+    /// # Errors
+    /// None of words that are owned; the type is that of [`Engine::store`].
+    ///
+    /// ```
+    /// use forgelilac::{Engine, Member, Owned, Sheet, StoringRefusal};
+    ///
+    /// let sheet = Sheet { ceiling: Some(64), ..Sheet::default() };
+    /// let bytes = Engine::open(Member::new(2), &sheet).unwrap().store(7)?;
+    /// let words = Owned::load(&bytes, Member::new(2), 7)?;
+    /// assert_eq!(words.store(7)?, bytes);
+    /// assert_ne!(words.store(8)?, bytes);
+    /// # Ok::<(), StoringRefusal>(())
+    /// ```
+    pub fn store(&self, run: u64) -> Result<Vec<u8>, StoringRefusal> {
+        store(self.state(), self.table(), run)
+    }
+
+    /// The words that the member `own` stored in this run: exactly the bytes of [`Owned::store`]. They are
+    /// tested as [`Engine::try_restore`] tests them, and owned from here on. Any bytes are safe, and none are
+    /// allocated for that are not there.
+    ///
+    /// # Errors
+    /// As [`storing::load`] has them, but for [`StoringRefusal::NoRoom`]; and
+    /// [`StoringRefusal::UnreadableWords`] also where [`Engine::try_restore`] fails.
+    ///
+    /// ```
+    /// use forgelilac::{Engine, Member, Owned, Sheet, StoringRefusal};
+    ///
+    /// let sheet = Sheet { ceiling: Some(64), ..Sheet::default() };
+    /// let mut bytes = Engine::open(Member::new(2), &sheet).unwrap().store(7)?;
+    /// assert!(Owned::load(&bytes, Member::new(2), 7).is_ok());
+    /// assert_eq!(Owned::load(&bytes, Member::new(3), 7).err(), Some(StoringRefusal::OtherMember));
+    /// bytes.push(0);
+    /// assert_eq!(Owned::load(&bytes, Member::new(2), 7).err(), Some(StoringRefusal::Torn));
+    /// # Ok::<(), StoringRefusal>(())
+    /// ```
+    pub fn load(bytes: &[u8], own: Member, run: u64) -> Result<Owned, StoringRefusal> {
+        let words = (bytes.len() as u64).checked_sub(stored_bytes(0)).map_or(0, |more| more / 4 + table_words(0));
+        let (mut state, mut table) = ([0; STATE_WORDS], vec![0; words as usize]);
+        storing::load(bytes, own, run, &mut state, &mut table)?;
+        Owned::resume(state, table).map_err(|_| StoringRefusal::UnreadableWords)
+    }
+}
+
 impl<W: Words> Engine<W> {
     /// The member as bytes with a digest over them, stored in the run of this number: what a host writes to a
     /// disk. What the table has beyond its used part is not there.
@@ -77,12 +136,7 @@ impl<W: Words> Engine<W> {
     /// ```
     pub fn store(&self, run: u64) -> Result<Vec<u8>, StoringRefusal> {
         let (state, table) = self.words();
-        if (table.len() as u64) < table_words(state[STATE_CEILING]) {
-            return Err(StoringRefusal::UnreadableWords);
-        }
-        let mut bytes = vec![0; stored_bytes(state[STATE_CEILING]) as usize];
-        storing::store(state, table, run, &mut bytes)?;
-        Ok(bytes)
+        store(state, table, run)
     }
 
     /// State and table as bytes, for storing: [`crate::layout::FORMAT`], the words of the state, in eight
@@ -119,10 +173,7 @@ impl Engine {
     /// As [`storing::load`] has them, but for [`StoringRefusal::NoRoom`]; and
     /// [`StoringRefusal::UnreadableWords`] also where [`Engine::try_restore`] fails.
     pub fn load(bytes: &[u8], own: Member, run: u64) -> Result<Engine, StoringRefusal> {
-        let words = (bytes.len() as u64).checked_sub(stored_bytes(0)).map_or(0, |more| more / 4 + table_words(0));
-        let (mut state, mut table) = ([0; STATE_WORDS], vec![0; words as usize]);
-        storing::load(bytes, own, run, &mut state, &mut table)?;
-        Engine::try_restore(state, table).map_err(|_| StoringRefusal::UnreadableWords)
+        Ok(Engine { words: Owned::load(bytes, own, run)? })
     }
 
     /// An engine of the bytes that [`Engine::to_bytes`] gave, as [`Engine::try_restore`] makes one. Any bytes are

@@ -1976,6 +1976,12 @@ fn stores_and_loads() {
     assert_eq!(Engine::lent([0; STATE_WORDS], vec![]).store(0), Err(StoringRefusal::UnreadableWords));
     let (state, table) = engine.words();
     assert_eq!(storing::store(state, table, 9, &mut []), Err(StoringRefusal::NoRoom));
+
+    // Store writes the front of a longer stretch, and load takes that front alone.
+    let mut longer = vec![7; bytes.len() + 9];
+    storing::store(state, table, 9, &mut longer).unwrap();
+    assert_eq!(longer, [&bytes[..], &[7; 9]].concat());
+    assert_eq!(Engine::load(&longer, Member::new(0), 9), Err(StoringRefusal::Torn));
     assert_eq!(storing::load(&bytes, Member::new(0), 9, &mut [0; STATE_WORDS], &mut []), Err(StoringRefusal::NoRoom));
 }
 

@@ -26,7 +26,7 @@ pub enum Source {
 pub const AT: Choice = Choice {
     name: "at",
     value: Some("BYTE"),
-    about: "a store of a host's own: the state begins at this byte, and the table right behind it",
+    about: "the state begins at this byte, and the table right behind it; 16 of what forgelilac_store wrote",
 };
 
 /// One operand is a whole store or a stream, two are state and table.

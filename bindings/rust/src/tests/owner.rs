@@ -1,4 +1,4 @@
-//! Words that an engine owns: what restoring asks of them, and that their calls are those of lent ones.
+//! Words that an engine owns: what restoring asks of them, that their calls are those of lent ones, and their store.
 
 use super::*;
 
@@ -118,4 +118,30 @@ fn waiting_transactions_of_a_restored_engine() {
     engine.enqueue(3, entry(1)).unwrap();
     let again = Engine::try_restore(*engine.words().0, engine.words().1.to_vec()).unwrap();
     assert_eq!((again.waiting(3), again.waiting(0), again.waiting(8)), (Ok(1), Ok(0), Err(Refusal::GuestRange)));
+}
+
+/// The words of an engine, stored and loaded without it.
+#[test]
+fn owned_words_are_stored_and_loaded() {
+    let mut engine = of_four(0);
+    engine.enqueue(3, entry(5)).unwrap();
+    engine.draw(0).unwrap();
+    engine.certify(0b1110).unwrap();
+    let bytes = engine.store(9).unwrap();
+    let words = Owned::load(&bytes, Member::new(0), 9).unwrap();
+    assert!(words == engine.words);
+    assert_eq!(words.store(9), Ok(bytes.clone()));
+    assert_eq!(words.store(10), engine.store(10));
+
+    let refused = |bytes: &[u8], own, run| Owned::load(bytes, Member::new(own), run).err();
+    assert_eq!(refused(&bytes, 1, 9), Some(StoringRefusal::OtherMember));
+    assert_eq!(refused(&bytes, 0, 10), Some(StoringRefusal::OtherRun));
+    assert_eq!(refused(&bytes[1..], 0, 9), Some(StoringRefusal::OtherMark));
+    assert_eq!(refused(&bytes[..bytes.len() - 1], 0, 9), Some(StoringRefusal::Torn));
+
+    // With a digest of theirs, but of no member: a set of endorsers with the author in it.
+    let (state, mut table) = (*engine.words().0, engine.words().1.to_vec());
+    table[record(Member::new(0), Round::FIRST) + RECORD_ENDORSERS] = 0b1111;
+    let unlike = Engine::lent(state, table).store(9).unwrap();
+    assert_eq!(refused(&unlike, 0, 9), Some(StoringRefusal::UnreadableWords));
 }

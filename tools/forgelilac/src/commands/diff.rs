@@ -19,11 +19,12 @@ pub const COMMAND: Command = Command {
     forms: &["A B STREAM"],
     about: "the first record at which two runners part, in words",
     details: "\
-A and B are runners or what runners wrote: a file that may be executed is run, a word with a blank in it is a
-command line for sh, and any other file has answers. Each runner is given STREAM whole. Told is the first
-record that they answer differently: its number and line, what either said and what it means, what the engine
-of this library says, the open that it stands under, the weights that it goes by, and the section of
-docs/RULES.md that decides. Status 0: the same; 1: they part.",
+A and B are runners or what runners wrote: a file that may be executed is run (by its path; PATH is not
+searched), a word with a blank in it is a command line for sh, and any other file has answers. Each runner is
+given STREAM whole. Told is the first record that they answer differently: its number and line, what either
+said and what it means, what the engine of this library says, the open that it stands under, the weights that
+it goes by, and the section of docs/RULES.md that decides. Status 0: the same; 1: they part. Answers alone are
+compared: a runner's own status is told beside, and two that answer nothing are the same.",
     choices: &[Choice { name: "names", value: Some("A,B"), about: "what the two are called, A and B if not given" }],
     run,
 };

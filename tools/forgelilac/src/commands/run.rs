@@ -32,7 +32,7 @@ stream is a copy that goes on with commit and chain (docs/GUESTS.md, \"A picture
     choices: &[
         Choice { name: "svg", value: Some("FILE"), about: "the picture" },
         Choice { name: "page", value: Some("FILE"), about: "the page" },
-        Choice { name: "rounds", value: Some("A-B"), about: "these rounds alone" },
+        Choice { name: "rounds", value: Some("A-B"), about: "these rounds alone, those of them that the run has" },
         Choice { name: "preview", value: None, about: "what a commit would add, and what it hangs on" },
         Choice { name: "answers", value: Some("FILE"), about: "what another runner answered to STREAM" },
         AT,

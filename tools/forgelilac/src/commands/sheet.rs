@@ -19,7 +19,8 @@ allowance, margin, weight.0 to weight.15, and weights, which takes the weights o
 commas, an empty one for a blank. FILE has the same, one to a line; an empty line, and one that begins with #,
 says nothing. What is printed: the sheet with its blanks filled, the record that opens a member by it, what a
 quorum weighs and how many may be away (docs/INTEGRATORS.md), and what one engine takes of memory
-(docs/HOSTS.md, \"Memory\"). A sheet that an open refuses is told, with status 1.",
+(docs/HOSTS.md, \"Memory\"). A sheet that an open refuses is told, with status 1; one whose lookback is too
+short for those that may be away is told among the rest, with status 0.",
     choices: &[
         Choice { name: "own", value: Some("N"), about: "the member whose record is printed, 0 if not given" },
         Choice { name: "file", value: Some("FILE"), about: "settings from a file, before those that are named here" },

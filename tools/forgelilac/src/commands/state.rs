@@ -14,7 +14,7 @@ use std::fmt::Write;
 
 pub const COMMAND: Command = Command {
     name: "state",
-    forms: &["[--all] STORE", "[--all] STATE TABLE"],
+    forms: &["[--all] [--at BYTE] STORE", "[--all] STATE TABLE"],
     about: "what stored words hold: settings, round, chain, what a commit hangs on, ports, queues",
     details: "\
 STORE is what Engine::to_bytes wrote. STATE and TABLE are the words of both as a host in C stores them, four
