@@ -3,7 +3,8 @@
 
 Each entry of PAGES is a piece of a page's text with its numbers as expressions in braces. Without --write it says which
 piece is not on its page as it would be made today, and ends with 1; with --write it puts the numbers there.
-Times come of bench/FIGURES.md, which `sh bench/run.sh` writes; counts and lengths of the code itself.
+Times come of bench/FIGURES.md, which `sh bench/run.sh` writes, and runs of whole plants of plant/FIGURES.md, which
+`python3 scripts/seeds.py` writes; counts and lengths of the code itself.
 What scripts/pages.py runs, docs/TRUST.md and README.md's lines of specs/ (tools/trust) have commands of their own.
 """
 import pathlib
@@ -97,6 +98,78 @@ def round_of_sixteen(ceiling):
     return rounded(whole / 1_000_000)
 
 
+def owners(ceiling):
+    """The rows of a ceiling under "Owner's calls", by call and state."""
+    found, inside = {}, False
+    for line in text("bench/FIGURES.md").splitlines():
+        if line.startswith("#"):
+            inside = line == f"### Ceiling {ceiling}"
+        elif inside and line.startswith("| "):
+            cells = [cell.strip() for cell in line.strip("| \n").split("|")]
+            found[cells[0], cells[1]] = cells
+    return found
+
+
+OWNERS = owners(1024)
+
+
+def owned(calls, by=3):
+    """Nanoseconds of these calls of an owner on a full state of ceiling 1,024: 3 by the engine, 4 by plain Rust."""
+    numbers = [int(OWNERS[call, "full"][by]) for call in calls.split("; ")]
+    least, most = f"{min(numbers):,}", f"{max(numbers):,}"
+    return least if least == most else f"{least} to {most}"
+
+
+def owners_line(name, calls, plain=True):
+    """A line of docs/PERFORMANCE.md's table of owner's calls."""
+    return ("docs/PERFORMANCE.md", f"| {name} | {{owned({calls!r})}} | " + (f"{{owned({calls!r}, 4)}} |" if plain else "|"))
+
+
+def quarters(call):
+    """Nanoseconds of an owner's call in each quarter of a whole run."""
+    numbers = [int(cells[2]) for cells in FIGURES["Owner's calls"] if cells[0] == call and " to " in cells[1]]
+    return f"{min(numbers):,} to {max(numbers):,}"
+
+
+# ---- plant/FIGURES.md
+
+
+def plant_rows():
+    """Each kind's cells by the column's name."""
+    lines = [line for line in text("plant/FIGURES.md").splitlines() if line.startswith("| ")]
+    names, *rows = [[cell.strip() for cell in line.strip("| \n").split("|")] for line in lines]
+    return {cells[0]: dict(zip(names, cells)) for cells in rows}
+
+
+PLANT = plant_rows()
+KINDS = ["lossy", "partitions", "crashes", "equivocation", "weights", "guests", "all"]
+
+
+def played(kind, column):
+    """A cell of a kind's row, a number of it with its commas."""
+    return re.sub(r"\d{4,}(?!\.)", lambda digits: f"{int(digits[0]):,}", PLANT[kind][column])
+
+
+def all_played(column):
+    """The kinds inside the bound together: their sum, or the one number that all have."""
+    return f"{sum(int(PLANT[kind][column]) for kind in KINDS):,}"
+
+
+def processor(kind):
+    """Seconds that the process took."""
+    return rounded(float(PLANT[kind]["processor seconds"]))
+
+
+def to_a_fork():
+    """Steps to a fork, beyond the bound, on the average."""
+    return f"{int(PLANT['beyond']['steps']) / int(PLANT['beyond']['forks']):,.0f}"
+
+
+def archive():
+    """The first digits of the archive's sum."""
+    return re.search(r"^Archive (\w{8}) ", text("plant/FIGURES.md"), re.MULTILINE)[1]
+
+
 # ---- the code
 
 
@@ -114,7 +187,9 @@ def table_words(ceiling):
 
 PUT = {"us": us, "times_plain": times_plain, "batch": batch, "batch_ms": batch_ms, "batch_times": batch_times,
        "growth": growth, "round_of_sixteen": round_of_sixteen, "exported": exported, "table_words": table_words,
-       "by_call": by_call, "WORDS": WORDS, "rounded": rounded}
+       "by_call": by_call, "WORDS": WORDS, "rounded": rounded, "played": played, "all_played": all_played,
+       "processor": processor, "to_a_fork": to_a_fork, "archive": archive, "owned": owned,
+       "quarters": quarters}
 
 READS = "'read certificate; read block; enqueue'"
 STANDING = "'advance; read committee; read share'"
@@ -128,13 +203,51 @@ def table_row(name, calls):
             f"{{times_plain({calls})}} |")
 
 
+PLANT_COLUMNS = ["seeds", "failed", "members", "ceilings", "steps", "at the ceiling", "most rounds between two blocks",
+                 "power failures", "places signed twice"]
+
+
+def plant_row(kind):
+    """A line of docs/PLANT.md's table of runs."""
+    cells = [f"{{played('{kind}', '{column}')}}" for column in PLANT_COLUMNS] + [f"{{processor('{kind}')}}"]
+    return ("docs/PLANT.md", f"| `{kind}` | " + " | ".join(cells) + " |")
+
+
+MILLION = "'a million steps'"
+
 PAGES = [
+    *[plant_row(kind) for kind in KINDS],
+    ("docs/PLANT.md", "with the archive whose sha256 begins with {archive()},"),
+    ("docs/PLANT.md", "{all_played('seeds')} runs of {all_played('steps')} steps, {all_played('failed')} failed."),
+    ("docs/PLANT.md", "a fork in {played('beyond', 'forks')} of {played('beyond', 'seeds')} runs, after "
+     "{played('beyond', 'steps to a failure')} steps, {to_a_fork()} on the average (`plant seeds --kind beyond --from 1 --count {played('beyond', 'seeds')}`)"),
+    ("docs/PLANT.md", f"`plant run --kind all --seed 1 --steps 1000000`, take {{processor({MILLION})}} seconds of a processor"),
+    ("README.md", f"looked at after each | {{processor({MILLION})}} seconds of a processor and the build"),
     table_row("open", "'open'"),
     table_row("read certificate, read block, enqueue", READS),
     table_row("advance, read committee, read share", STANDING),
     table_row("propose, endorse, certify, accept, draw", SIGNING),
     table_row("commit that adds one block, its preview", COMMIT),
     table_row("its preview", "'preview, many blocks'"),
+    owners_line("propose, endorse, certify, accept, advance", "propose; endorse; certify; accept; advance"),
+    owners_line("accept of what is held already", "accept, held already"),
+    owners_line("draw of 4", "draw of 4"),
+    owners_line("read committee, read share", "read committee; read share"),
+    owners_line("read certificate", "read certificate"),
+    owners_line("enqueue, read block, port write", "enqueue; read block; port write"),
+    owners_line("bond effect", "bond effect"),
+    owners_line("commit of one block", "commit, one block"),
+    owners_line("preview of one block", "preview, one block"),
+    owners_line("critical", "critical"),
+    owners_line("commit of 499 blocks", "commit, many blocks"),
+    owners_line("preview of 499 blocks", "preview, many blocks"),
+    owners_line("batch of 64, all held but two", "batch of 64"),
+    owners_line("batch of 64, four rounds to hold", "batch of 64, four rounds to hold"),
+    owners_line("port read in a line", "port read in a line"),
+    owners_line("port read at a line's end", "port read at a line's end"),
+    owners_line("block rows of the last block", "block rows, the last block", False),
+    ("docs/PERFORMANCE.md", "each of its four quarters: accept {quarters('accept')}, advance {quarters('advance')}, "
+                            "propose {quarters('propose')}, certify {quarters('certify')}, commit {quarters('commit')} "),
     ("docs/PERFORMANCE.md", "take {rounded(batch(1024, 'engine', 4))} us at a full ceiling of 1,024 "
      "(16 authors, the last four rounds, newest first) where 64 accepts in order take {batch_ms(1024, 'engine')} ms: "
      "{batch_times(1024)} times less"),
@@ -155,7 +268,7 @@ PAGES = [
      "{4 * table_words(1024):,} at 1,024"),
 ]
 
-NUMBER = r"(?:[a-z]+|[\d.,]*\d(?: to [\d.,]*\d)?)"
+NUMBER = r"(?:[0-9a-f]{8}|[a-z]+|[\d.,]*\d(?: to [\d.,]*\d)?)"
 
 
 def made(piece):

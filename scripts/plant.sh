@@ -16,9 +16,9 @@ export FORGELILAC_ARCHIVE="$archive" CARGO_NET_OFFLINE=true
 export CARGO_TARGET_DIR="${CARGO_TARGET_DIR:-$out/cargo}"
 manifest="--manifest-path plant/Cargo.toml"
 
-for lint in "fmt --check" "clippy -q --all-targets --locked"; do
+for lint in "fmt --check $manifest" "clippy -q --all-targets --locked $manifest -- -D warnings"; do
     if cargo ${lint%% *} --version > "$out/lint" 2>&1; then
-        RUSTFLAGS="" cargo $lint $manifest
+        RUSTFLAGS="" cargo $lint
         echo "plant: cargo $lint has nothing to say"
     else
         echo "plant: cargo ${lint%% *} is not here, not checked"

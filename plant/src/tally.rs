@@ -1,5 +1,6 @@
 //! What runs have come to, counted.
 
+use crate::failure::Failure;
 use crate::kind::Kind;
 use crate::plan::Plan;
 use crate::run::Outcome;
@@ -13,6 +14,12 @@ pub struct Tally {
     pub runs: u64,
     /// How many of them failed.
     pub failed: u64,
+    /// How many of these by a fork.
+    pub forks: u64,
+    /// The fewest, and the most, members.
+    pub members: Option<(u32, u32)>,
+    /// The lowest, and the highest, ceiling.
+    pub ceilings: Option<(u32, u32)>,
     /// How many steps.
     pub steps: u64,
     /// How many blocks.
@@ -41,6 +48,9 @@ impl Tally {
             kind,
             runs: 0,
             failed: 0,
+            forks: 0,
+            members: None,
+            ceilings: None,
             steps: 0,
             blocks: 0,
             finished: 0,
@@ -56,6 +66,8 @@ impl Tally {
     /// Counts a run; a line where it failed.
     pub fn add(&mut self, plan: &Plan, outcome: &Outcome) -> Option<String> {
         self.runs += 1;
+        self.members = widened(self.members, plan.members);
+        self.ceilings = widened(self.ceilings, plan.sheet.ceiling.unwrap_or_default());
         self.steps += u64::from(outcome.steps);
         self.blocks += outcome.blocks as u64;
         self.rounds += u64::from(outcome.lowest.get());
@@ -68,8 +80,8 @@ impl Tally {
         self.widest = self.widest.max(outcome.widest);
         let failure = outcome.failure.as_ref()?;
         self.failed += 1;
-        let (least, most) = self.until.unwrap_or((outcome.steps, outcome.steps));
-        self.until = Some((least.min(outcome.steps), most.max(outcome.steps)));
+        self.forks += u64::from(matches!(failure, Failure::Fork { .. }));
+        self.until = widened(self.until, outcome.steps);
         Some(format!("seed {}, {} members, after {} steps: {failure}", plan.seed, plan.members, outcome.steps))
     }
 
@@ -86,9 +98,13 @@ impl Tally {
         let speed = self.steps as f64 / seconds.max(1e-9);
         let still: Vec<_> = self.still.iter().map(u64::to_string).collect();
         let still = if still.is_empty() { String::new() } else { format!(", not seeds {}", still.join(" ")) };
-        let until = self.until.map_or(String::new(), |(least, most)| format!(", after {least} to {most} steps"));
+        let until = self.until.map_or(String::new(), |(least, most)| {
+            format!(", {} by a fork, after {least} to {most} steps", self.forks)
+        });
+        let (few, many) = self.members.unwrap_or_default();
+        let (low, high) = self.ceilings.unwrap_or_default();
         format!(
-            "{}: {} runs, {} failed{until}\n{} steps in {seconds:.1} s, {speed:.0} a second\n{} blocks, rounds {} in \
+            "{}: {} runs, {} failed{until}\n{few} to {many} members, ceilings {low} to {high}\n{} steps in {seconds:.1} s, {speed:.0} a second\n{} blocks, rounds {} in \
              sum; {} runs came to the ceiling{still}; at most {} rounds between two blocks\n{} power failures; {} places of \
              which correct members signed two proposals",
             self.kind,
@@ -103,4 +119,10 @@ impl Tally {
             self.split
         )
     }
+}
+
+/// The range with one more number in it.
+fn widened(range: Option<(u32, u32)>, number: u32) -> Option<(u32, u32)> {
+    let (least, most) = range.unwrap_or((number, number));
+    Some((least.min(number), most.max(number)))
 }

@@ -49,6 +49,10 @@ fn runs_seeds_and_a_short_fork() {
     let (status, out, _) = said(&plant("seeds --kind guests --from 3 --count 4"));
     assert_eq!(status, Some(0));
     assert!(out.starts_with("guests: 4 runs, 0 failed\n"), "{out}");
+    let (status, out, _) = said(&plant("seeds --kind beyond --from 1 --count 4 --members 5 --ceiling 9"));
+    assert_eq!(status, Some(0));
+    assert!(out.contains("\nbeyond: 4 runs, 4 failed, 4 by a fork, after "), "{out}");
+    assert!(out.contains("\n5 to 5 members, ceilings 9 to 9\n"), "{out}");
     let folder = std::env::temp_dir().join(format!("plant-records-{}", std::process::id()));
     let words = format!("shrink --kind beyond --seed 5 --records {}", folder.display());
     let (status, out, _) = said(&plant(&words));

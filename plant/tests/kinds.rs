@@ -10,6 +10,7 @@ use plant::records;
 use plant::run::{play, recorded, Outcome};
 use plant::shrink::shrink;
 use plant::world::PlantParts;
+use std::collections::BTreeSet;
 use std::time::Duration;
 
 fn played(kind: Kind, seed: u64, wanted: Wanted) -> (Plan, Outcome) {
@@ -102,6 +103,20 @@ fn a_fork_made_short() {
     // What does not fail is not made short.
     let (plan, outcome) = played(Kind::Lossy, 1, Wanted::default());
     assert!(shrink(&plan, &PlantParts, &outcome.acts, Duration::from_secs(1)).is_none());
+}
+
+/// Members, ceilings, lookbacks and guests' rights go by the seed in each kind.
+#[test]
+fn sizes_go_by_the_seed() {
+    for kind in Kind::ALL {
+        let plans: Vec<_> = (1..=1_000).map(|seed| Plan::new(kind, seed, Wanted::default())).collect();
+        let values = |size: fn(&Plan) -> u32| plans.iter().map(size).collect::<BTreeSet<_>>();
+        assert_eq!(values(|plan| plan.members), (4..=16).collect(), "{kind}");
+        assert_eq!(values(|plan| plan.sheet.ceiling.unwrap()), (8..=20).collect(), "{kind}");
+        assert_eq!(values(|plan| plan.sheet.lookback.unwrap()), (3..=8).collect(), "{kind}");
+        let rights: BTreeSet<_> = plans.iter().map(|plan| format!("{:?}", plan.rights)).collect();
+        assert!(rights.len() > 900, "{kind}: {} rights", rights.len());
+    }
 }
 
 #[test]
