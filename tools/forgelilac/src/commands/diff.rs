@@ -24,7 +24,7 @@ searched), a word with a blank in it is a command line for sh, and any other fil
 given STREAM whole. Told is the first record that they answer differently: its number and line, what either
 said and what it means, what the engine of this library says, the open that it stands under, the weights that
 it goes by, and the section of docs/RULES.md that decides. Status 0: the same; 1: they part. Answers alone are
-compared: a runner's own status is told beside, and two that answer nothing are the same.",
+compared, a runner's own status is told beside; two that answer nothing to records are taken for no runners.",
     choices: &[Choice { name: "names", value: Some("A,B"), about: "what the two are called, A and B if not given" }],
     run,
 };
@@ -38,6 +38,14 @@ fn run(arguments: &Arguments) -> Result<Outcome, Failure> {
     let [of_a, of_b] = written;
     let (of_a, of_b) = (of_a?, of_b?);
     let raws = raws_of(&stream);
+    if of_a.is_empty() && of_b.is_empty() && !raws.is_empty() {
+        return input(format!(
+            "{} and {} answer nothing to {}: are they runners?",
+            names.0,
+            names.1,
+            count(raws.len(), "record")
+        ));
+    }
     if of_a == of_b {
         let bytes = count(of_a.len(), "byte");
         return Ok(format!("the same: {}, {bytes} of answers\n", count(raws.len(), "record")).into());
