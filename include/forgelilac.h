@@ -730,8 +730,8 @@ uint32_t forgelilac_guest_port_write(uint32_t caller,
 
 /* The kept committees of a state of this ceiling, in words of 64 bits, aligned as uint64_t is. */
 #define FORGELILAC_KEPT_WORDS(ceiling) (16u * (ceiling) + 17u)
-/* Bytes of stack that serve every owner's call on x86-64: block rows and a listing of the chain use about 89 KB,
- * a port read about 77 KB, each other one less than 15 KB. examples/stack.c measures it. */
+/* Bytes of stack that serve every owner's call on x86-64: resume uses about 93 KB, block rows and a listing of the
+ * chain about 89 KB, a port read about 77 KB, each other one less than 15 KB. examples/stack.c measures it. */
 #define FORGELILAC_OWNED_STACK_BYTES 98304
 
 /* Tests the words once and fills the kept committees, which need not be set before: from here on the
