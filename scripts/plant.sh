@@ -1,15 +1,18 @@
 #!/bin/sh
-# plant.sh [ARCHIVE [SEEDS]]: the plant over the static library (crates/host/out/libhost.a where none is given; `rt lib`
+# plant.sh [ARCHIVE [SEEDS [REPLAYER]]]: the plant over the static library (crates/host/out/libhost.a where none is given; `rt lib`
 # in crates/host makes it): its layout, lints and pages where cargo has them, its tests, the suite from C among them;
 # SEEDS (50) runs of each kind, of which none inside the bound may fail and one beyond it must fork; and the records of
 # runs and of a fork through the reference's runner, which must refuse none of them and list chains that are prefixes
-# of one another, or of the fork part.
+# of one another, or of the fork part; and the calls of runs of each kind through the proved REPLAYER
+# (crates/replayer/out/replayer where none is given; `rt run` in crates/replayer makes it), which must answer and
+# leave what the plant has seen.
 set -eu
 cd "$(dirname "$0")/.."
 archive=$(realpath -m "${1:-crates/host/out/libhost.a}")
 [ -f "$archive" ] || { echo "no archive $archive: run 'cd crates/host && rt lib'" >&2; exit 2; }
 command -v cargo > /dev/null || { echo "cargo is not here: the plant is a Cargo package" >&2; exit 2; }
 seeds=${2:-50}
+replayer=$(realpath -m "${3:-crates/replayer/out/replayer}")
 out=$(mktemp -d)
 trap 'rm -rf "$out"' EXIT
 export FORGELILAC_ARCHIVE="$archive" CARGO_NET_OFFLINE=true
@@ -71,3 +74,32 @@ if agree "$out/fork"; then
     exit 1
 fi
 echo "records of a fork: the reference accepts all of them, and its chains part"
+
+# ---- calls, against the proved replayer
+
+if [ ! -x "$replayer" ]; then
+    echo "plant: no $replayer ('cd crates/replayer && rt run' makes it), the calls of runs were not made again"
+    exit 0
+fi
+runs=0
+for kind in lossy partitions crashes equivocation weights guests all beyond; do
+    for seed in 1 2 3; do
+        "$plant" run --kind $kind --seed $seed --calls "$out/calls" > "$out/said"
+        "$replayer" < "$out/calls/calls.list" > "$out/calls/again"
+        cmp "$out/calls/again" "$out/calls/calls.told" || { echo "$kind, seed $seed: the replayer tells something else" >&2; exit 1; }
+        runs=$((runs + 1))
+    done
+done
+echo "calls of $runs runs: made again by proved code, the same answers and the same words"
+# One call less, one byte less, another mark: nothing of that is told.
+head -c -4 "$out/calls/calls.list" > "$out/short"
+head -c -1 "$out/calls/calls.list" > "$out/torn"
+{ printf X; tail -c +2 "$out/calls/calls.list"; } > "$out/other"
+for damaged in short torn other; do
+    if "$replayer" < "$out/$damaged" > "$out/again" 2> "$out/said"; then
+        echo "the replayer takes a damaged list ($damaged)" >&2
+        exit 1
+    fi
+    [ ! -s "$out/again" ] && grep -q '^replayer: these are the words of no list' "$out/said"
+done
+echo "three damaged lists: refused in words, and nothing told"

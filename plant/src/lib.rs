@@ -15,6 +15,7 @@ pub mod disk;
 pub mod failure;
 pub mod keys;
 pub mod kind;
+pub mod list;
 pub mod options;
 pub mod plan;
 pub mod records;

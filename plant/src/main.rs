@@ -2,9 +2,10 @@
 
 use forgelilac::{Member, Refusal};
 use plant::kind::Kind;
+use plant::list::List;
 use plant::options::{Command, Options, HELP};
 use plant::plan::{Plan, Wanted};
-use plant::run::{play, recorded, Outcome};
+use plant::run::{listed, play, recorded, Outcome};
 use plant::shrink::shrink;
 use plant::world::PlantParts;
 use plant::{records, tally::Tally};
@@ -54,6 +55,10 @@ fn run(options: &Options) -> Result<bool, String> {
         if let Some(folder) = &options.records {
             let entries = recorded(&plan, &PlantParts, &outcome.acts).map_err(|refusal| refusal.to_string())?;
             write_records(&plan, &entries, Path::new(folder))?;
+        }
+        if let Some(folder) = &options.calls {
+            let list = listed(&plan, &PlantParts, &outcome.acts).map_err(|refusal| refusal.to_string())?;
+            write_calls(&list, Path::new(folder))?;
         }
         seed = seed.wrapping_add(1);
         if options.steps.is_none_or(|steps| tally.steps >= steps) {
@@ -107,6 +112,16 @@ fn write_records(plan: &Plan, entries: &[plant::calls::Entry], folder: &Path) ->
         let stream = records::stream(plan, member, entries).map_err(|refusal| refusal.to_string())?;
         let file = folder.join(format!("member-{member}.stream"));
         fs::write(&file, stream).map_err(told)?;
+        println!("{}", file.display());
+    }
+    Ok(())
+}
+
+fn write_calls(list: &List, folder: &Path) -> Result<(), String> {
+    fs::create_dir_all(folder).map_err(|error| format!("{}: {error}", folder.display()))?;
+    for (name, bytes) in [("calls.list", list.bytes()), ("calls.told", list.told())] {
+        let file = folder.join(name);
+        fs::write(&file, bytes).map_err(|error| format!("{}: {error}", file.display()))?;
         println!("{}", file.display());
     }
     Ok(())

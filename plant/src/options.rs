@@ -7,16 +7,19 @@ use crate::plan::Wanted;
 pub const HELP: &str = "\
 plant: a whole plant in one process, by one seed
 
-    plant run --kind KIND --seed N [--members N] [--ceiling N] [--steps N] [--records FOLDER]
+    plant run --kind KIND [--seed N] [--members N] [--ceiling N] [--steps N] [--records FOLDER] [--calls FOLDER]
         plays runs one after another, the first by this seed, until so many steps are made, and says what came of
-        them; without --steps one run. Writes the records of each correct member, as the runner takes them, into
-        FOLDER
-    plant seeds --kind KIND --from N --count N [--members N] [--ceiling N]
+        them; without --steps one run. Writes of the last one, into FOLDER, the records of each correct member, as
+        the runner takes them; or all calls of correct members, calls.list, as the replayer takes them, and what it
+        is to tell of them, calls.told
+    plant seeds --kind KIND [--from N] [--count N] [--members N] [--ceiling N]
         plays a run for each seed, and says how many failed
-    plant shrink --kind KIND --seed N [--members N] [--ceiling N] [--seconds N] [--records FOLDER]
-        plays a run, makes it short if it fails, and tells it step by step; writes the records of each correct
-        member into FOLDER
+    plant shrink --kind KIND [--seed N] [--members N] [--ceiling N] [--seconds N] [--records FOLDER]
+        plays a run, makes it short if it fails, for so many seconds at most, and tells it step by step; writes the
+        records of each correct member into FOLDER
     plant --help, plant COMMAND --help
+
+Seed, first seed and count are 1 where they are not given, and seconds 20; members and ceiling go by the seed.
 
 KIND is one of
     lossy         messages are lost, delayed, doubled and overtake one another
@@ -61,6 +64,8 @@ pub struct Options {
     pub seconds: u64,
     /// Where records go.
     pub records: Option<String>,
+    /// Where the list of all calls goes.
+    pub calls: Option<String>,
 }
 
 impl Command {
@@ -73,7 +78,8 @@ impl Command {
         match words[..] {
             [] | ["--help" | "-h" | "help", ..] | [_, "--help" | "-h"] => Ok(Command::Help),
             ["run", ref rest @ ..] => {
-                Options::of(rest, &["kind", "seed", "members", "ceiling", "steps", "records"]).map(Command::Run)
+                let known = ["kind", "seed", "members", "ceiling", "steps", "records", "calls"];
+                Options::of(rest, &known).map(Command::Run)
             }
             ["seeds", ref rest @ ..] => {
                 Options::of(rest, &["kind", "from", "count", "members", "ceiling"]).map(Command::Seeds)
@@ -97,6 +103,7 @@ impl Options {
             steps: None,
             seconds: 20,
             records: None,
+            calls: None,
         };
         for pair in words.chunks(2) {
             let name = pair[0].strip_prefix("--").filter(|name| known.contains(name));
@@ -110,6 +117,7 @@ impl Options {
                 "ceiling" => options.wanted.ceiling = Some(number(name, value, 3, 1_024)? as u32),
                 "steps" => options.steps = Some(number(name, value, 1, u64::MAX)?),
                 "seconds" => options.seconds = number(name, value, 1, 3_600)?,
+                "calls" => options.calls = Some(value.to_owned()),
                 _ => options.records = Some(value.to_owned()),
             }
         }

@@ -5,6 +5,7 @@ use crate::calls::Entry;
 use crate::chance::{mixed, Chance};
 use crate::failure::Failure;
 use crate::kind::Kind;
+use crate::list::List;
 use crate::plan::Plan;
 use crate::world::{Parts, Sent, World};
 use forgelilac::layout::{GUESTS, OFFSETS, OFFSET_DATA, OFFSET_LINE};
@@ -54,6 +55,16 @@ pub fn recorded(plan: &Plan, parts: &dyn Parts, acts: &[Act]) -> Result<Vec<Entr
     let mut world = World::new(plan, parts)?.recording();
     acts.iter().for_each(|act| drop(world.apply(act)));
     Ok(world.recorded())
+}
+
+/// All calls that the words of correct members are of after these steps, what each answered, and these words.
+///
+/// # Errors
+/// As [`play`].
+pub fn listed(plan: &Plan, parts: &dyn Parts, acts: &[Act]) -> Result<List, Refusal> {
+    let mut world = World::new(plan, parts)?.recording();
+    acts.iter().for_each(|act| drop(world.apply(act)));
+    world.listed()
 }
 
 /// What happens next, and when.

@@ -1,12 +1,13 @@
 //! The computers of a plant, and what a step does to them: the same steps again lead to the same words again.
 
 use crate::act::{Act, Event, Fails, Packet};
-use crate::calls::{Entry, Watched};
+use crate::calls::{Entry, Made, Watched};
 use crate::checks::Chains;
 use crate::disk::Disk;
 use crate::failure::{CameBack, Failure};
 use crate::keys::Keys;
 use crate::kind::Kind;
+use crate::list::{List, Listed};
 use crate::plan::Plan;
 use crate::store::{Places, Store};
 use crate::transport::{is_good, unsigned, Plain, Transport};
@@ -69,8 +70,9 @@ pub struct Computer {
     looked: u32,
     /// What the port of each guest has given.
     received: [usize; GUESTS],
-    /// The accepted calls that its words are of, and how many of them the two records hold.
-    calls: Vec<Call>,
+    /// The calls that its words are of, refused ones among them, each with its place in the order of all, and how
+    /// many of them the two records hold.
+    calls: Vec<(u64, Made)>,
     said_calls: usize,
     tried_calls: usize,
 }
@@ -84,6 +86,8 @@ pub struct World<'a> {
     chains: Chains,
     failure: Option<Failure>,
     recording: bool,
+    /// How many calls were recorded.
+    order: u64,
 }
 
 /// A store with the disk that it is handed.
@@ -154,6 +158,7 @@ impl<'a> World<'a> {
             chains: Chains::new(&fresh),
             failure: None,
             recording: false,
+            order: 0,
         })
     }
 
@@ -168,9 +173,55 @@ impl<'a> World<'a> {
     #[must_use]
     pub fn recorded(&self) -> Vec<Entry> {
         let entries = self.computers.iter().flat_map(|computer| {
-            computer.calls.iter().map(|call| Entry { who: computer.member.index(), call: call.clone() })
+            let accepted = computer.calls.iter().filter(|(_, made)| made.answer.is_ok());
+            accepted.map(|(_, made)| Entry { who: computer.member.index(), call: made.call.clone() })
         });
         entries.collect()
+    }
+
+    /// All calls that the words of correct members are of, where they are recorded, in the order in which they were
+    /// made, and these words. Computers without power get it back before.
+    ///
+    /// # Errors
+    /// What the open answers to a sheet that it refuses.
+    pub fn listed(mut self) -> Result<List, Refusal> {
+        for at in 0..self.computers.len() {
+            // What is wrong with what comes back was told when the run was played.
+            let _ = self.power_returns(at);
+            self.record(at);
+        }
+        let mut calls: Vec<_> = self
+            .computers
+            .iter()
+            .flat_map(|computer| computer.calls.iter().map(|(order, made)| (*order, computer.member, made)))
+            .collect();
+        calls.sort_by_key(|(order, ..)| *order);
+        let calls = calls.into_iter().map(|(_, member, made)| Listed {
+            entry: Entry { who: member.index(), call: made.call.clone() },
+            answer: made.answer.clone(),
+        });
+        let first = &self.computers[..self.plan.computers as usize];
+        let words = first.iter().map(|computer| match &computer.host {
+            Some(host) if !computer.faulty => Ok(host.engine().clone()),
+            // The list has no call of a faulty member.
+            _ => Engine::open_with_rights(computer.member, &self.plan.sheet, self.plan.rights),
+        });
+        Ok(List {
+            sheet: self.plan.sheet,
+            rights: self.plan.rights,
+            calls: calls.collect(),
+            engines: words.collect::<Result<_, _>>()?,
+        })
+    }
+
+    /// Records what a correct member's host has called since the last time.
+    fn record(&mut self, at: usize) {
+        let computer = &mut self.computers[at];
+        let Some(host) = computer.host.as_ref().filter(|_| self.recording && !computer.faulty) else { return };
+        for made in host.calls().take_made() {
+            computer.calls.push((self.order, made));
+            self.order += 1;
+        }
     }
 
     /// The computers: first one of each member, then the second of each faulty one.
@@ -380,8 +431,10 @@ impl<'a> World<'a> {
             }
         }
         if self.recording {
-            let accepted = made.into_iter().filter(|one| one.answer.is_ok());
-            self.computers[at].calls.extend(accepted.map(|one| one.call));
+            for one in made {
+                self.computers[at].calls.push((self.order, one));
+                self.order += 1;
+            }
         }
         if grown {
             self.look_at_chain(at)?;

@@ -16,7 +16,9 @@ fn help_names_each_command_and_kind() {
     for words in ["--help", "", "run --help", "seeds -h", "shrink --help"] {
         let (status, out, errors) = said(&plant(words));
         assert_eq!((status, errors.as_str()), (Some(0), ""), "{words}");
-        for word in ["plant run", "plant seeds", "plant shrink", "partitions", "beyond", "--records"] {
+        for word in
+            ["plant run", "plant seeds", "plant shrink", "partitions", "beyond", "--records", "[--seed N]", "--calls"]
+        {
             assert!(out.contains(word), "{words}: {word}");
         }
     }
@@ -33,6 +35,7 @@ fn what_is_not_understood_is_told_in_a_line() {
         ("seeds --kind all --steps 5", "there is no option '--steps'"),
         ("seeds --kind all --count -1", "--count wants a number"),
         ("shrink kind all", "there is no option 'kind'"),
+        ("shrink --kind all --calls x", "there is no option '--calls'"),
     ];
     for (words, line) in wrong {
         let (status, out, errors) = said(&plant(words));
@@ -64,6 +67,22 @@ fn runs_seeds_and_a_short_fork() {
         let records = std::fs::read_to_string(stream).unwrap();
         assert!(records.starts_with("open,") && records.ends_with("chain\r\n"));
     }
+    std::fs::remove_dir_all(folder).unwrap();
+}
+
+/// The list of a run's calls, and what is to be told of it.
+#[test]
+fn the_calls_of_a_run() {
+    let folder = std::env::temp_dir().join(format!("plant-calls-{}", std::process::id()));
+    let words = format!("run --kind crashes --seed 1 --members 4 --ceiling 8 --calls {}", folder.display());
+    let (status, out, _) = said(&plant(&words));
+    assert_eq!(status, Some(0), "{out}");
+    assert!(out.contains("calls.list\n") && out.contains("calls.told\n"), "{out}");
+    let list = std::fs::read(folder.join("calls.list")).unwrap();
+    assert!(list.starts_with(b"FLC1") && list.len() % 4 == 0);
+    let told = std::fs::read(folder.join("calls.told")).unwrap();
+    // Four members' states and tables, behind eight bytes for each call.
+    assert_eq!((told.len() - 4 * 4 * (39 + 272 * 9)) % 8, 0);
     std::fs::remove_dir_all(folder).unwrap();
 }
 

@@ -1,13 +1,15 @@
 //! Runs of each kind: none inside the bound fails, a fork is found beyond it, and a run is the same again from its
 //! seed.
 
-use forgelilac::{Engine, Member};
-use plant::calls;
+use forgelilac::ready::{Answer, Call, Calls, GuestCall};
+use forgelilac::{Certificate, Engine, Member, Proposal, Refusal, Rights, Round, Sheet, Transaction};
+use plant::calls::{self, Entry};
 use plant::failure::Failure;
 use plant::kind::Kind;
+use plant::list::{List, Listed};
 use plant::plan::{Plan, Wanted};
 use plant::records;
-use plant::run::{play, recorded, Outcome};
+use plant::run::{listed, play, recorded, Outcome};
 use plant::shrink::shrink;
 use plant::world::PlantParts;
 use std::collections::BTreeSet;
@@ -85,6 +87,96 @@ fn the_calls_of_a_run_made_again() {
         let longest = chains.iter().max_by_key(|chain| chain.len()).unwrap();
         assert_eq!(longest.len(), outcome.blocks, "{kind}");
         assert!(chains.iter().all(|chain| longest.starts_with(chain)), "{kind}");
+    }
+}
+
+/// All calls, refused ones among them, made again in the order in which they were made: the answers of the run, and
+/// its words.
+#[test]
+fn the_list_of_a_run_made_again() {
+    for (kind, seed) in [(Kind::All, 2), (Kind::Crashes, 4), (Kind::Guests, 1), (Kind::Beyond, 5)] {
+        let (plan, outcome) = played(kind, seed, Wanted::default());
+        let list = listed(&plan, &PlantParts, &outcome.acts).unwrap();
+        let members = (0..plan.computers).map(Member::new);
+        let mut engines: Vec<_> =
+            members.map(|own| Engine::open_with_rights(own, &plan.sheet, plan.rights).unwrap()).collect();
+        for one in &list.calls {
+            assert_eq!(engines[one.entry.who].make(&one.entry.call), one.answer, "{kind}");
+        }
+        assert!(engines == list.engines, "{kind}");
+        assert!(list.calls.iter().any(|one| one.answer.is_err()), "{kind}");
+        let bytes = list.bytes();
+        assert_eq!(&bytes[..4], b"FLC1");
+        assert_eq!(bytes[4..8], plan.computers.to_le_bytes());
+        let words: usize = engines.iter().map(|engine| engine.words().0.len() + engine.words().1.len()).sum();
+        assert_eq!(list.told().len(), 8 * list.calls.len() + 4 * words);
+    }
+}
+
+/// A list's words, each call with what it is handed: docs/PLANT.md, "The calls of a run, made again".
+#[test]
+fn the_words_of_a_list() {
+    let entry = Transaction::Entry { number: 7 };
+    let proposal = Proposal { author: Member::new(1), round: Round::new(2), previous: 0b11, transactions: vec![entry] };
+    let certificate = Certificate { proposal: proposal.clone(), endorsers: 0b101 };
+    let body = [&[3, 1, 2, 7, 0][..], &[0; 9]].concat();
+    let proposed = [&[1, 2][..], &body].concat();
+    let certified = [&proposed[..], &[5]].concat();
+    let row = [&[2][..], &certified, &certified].concat();
+    let one_of_each: Vec<(Call, Vec<u32>)> = vec![
+        (Call::Propose { previous: 3, transactions: vec![entry] }, [&[0][..], &body].concat()),
+        (Call::Draw { previous: 3 }, vec![1, 3]),
+        (Call::Enqueue { guest: 4, transaction: entry }, vec![2, 4, 2, 7, 0]),
+        (Call::Endorse(proposal.clone()), [&[3][..], &proposed].concat()),
+        (Call::Certify { endorsers: 6 }, vec![4, 6]),
+        (Call::Accept(certificate.clone()), [&[5][..], &certified].concat()),
+        (Call::Batch(vec![certificate.clone(), certificate.clone()]), [&[6][..], &row].concat()),
+        (Call::Advance, vec![7]),
+        (Call::Commit, vec![8]),
+        (Call::PortReset { port: 5 }, vec![9, 5]),
+    ];
+    let of_guest: Vec<(GuestCall, Vec<u32>)> = vec![
+        (GuestCall::Propose { previous: 3, transactions: vec![entry] }, [&[16, 6][..], &body].concat()),
+        (GuestCall::Draw { previous: 3 }, vec![17, 6, 3]),
+        (GuestCall::Enqueue(entry), vec![18, 6, 2, 7, 0]),
+        (GuestCall::Endorse(proposal), [&[19, 6][..], &proposed].concat()),
+        (GuestCall::Certify { endorsers: 6 }, vec![20, 6, 6]),
+        (GuestCall::Accept(certificate.clone()), [&[21, 6][..], &certified].concat()),
+        (GuestCall::Batch(vec![certificate.clone(), certificate]), [&[22, 6][..], &row].concat()),
+        (GuestCall::Advance, vec![23, 6]),
+        (GuestCall::Commit, vec![24, 6]),
+        (GuestCall::PortRead { offset: 5 }, vec![25, 6, 5]),
+        (GuestCall::PortWrite { offset: 3, value: 128 }, vec![26, 6, 3, 128]),
+    ];
+    let of_guest = of_guest.into_iter().map(|(call, words)| (Call::Guest { caller: 6, call }, words));
+    let sheet = Sheet::default();
+    let head = [&[0x3143_4c46, 0, Rights::ALL.to_word()][..], &sheet.to_words()].concat();
+    for (call, words) in one_of_each.into_iter().chain(of_guest) {
+        let calls = vec![Listed { entry: Entry { who: 2, call }, answer: Ok(Answer::Done) }];
+        let list = List { sheet, rights: Rights::ALL, calls, engines: vec![] };
+        let expected = [&head[..], &[2], &words].concat();
+        assert_eq!(list.bytes(), expected.into_iter().flat_map(u32::to_le_bytes).collect::<Vec<_>>());
+    }
+}
+
+/// Answers as the library gives them.
+#[test]
+fn the_answers_of_a_list() {
+    let read = Call::Guest { caller: 1, call: GuestCall::PortRead { offset: 0 } };
+    let commit = Call::Guest { caller: 1, call: GuestCall::Commit };
+    let answers: Vec<(Call, Result<Answer, Refusal>, u64)> = vec![
+        (Call::Advance, Ok(Answer::Done), 0),
+        (Call::Advance, Err(Refusal::AtCeiling), 18),
+        (Call::Commit, Ok(Answer::Blocks(3)), 3),
+        (Call::Commit, Err(Refusal::AtCeiling), 18 << 32),
+        (commit, Err(Refusal::NoRight), 29 << 32),
+        (read.clone(), Ok(Answer::Byte(65)), 65),
+        (read, Err(Refusal::NoRight), 29 << 32),
+    ];
+    for (call, answer, number) in answers {
+        let calls = vec![Listed { entry: Entry { who: 0, call }, answer }];
+        let list = List { sheet: Sheet::default(), rights: Rights::NONE, calls, engines: vec![] };
+        assert_eq!(list.told(), number.to_le_bytes());
     }
 }
 

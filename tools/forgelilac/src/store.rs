@@ -16,6 +16,9 @@ pub struct Words {
 /// Bytes in front of the words of a whole store: the format, the words of the state, in eight bytes those of the table.
 const FRONT: usize = 16;
 
+/// How what `forgelilac_store` and `Engine::store` write begins (docs/TABLES.md, "The stored form").
+const STORED_MARK: &[u8] = b"FLS1";
+
 /// What the operands of a command are.
 pub enum Source {
     Stream(Vec<u8>),
@@ -38,7 +41,7 @@ pub fn source_of(arguments: &Arguments) -> Result<Source, Failure> {
         [state, table] => Ok(Source::Words(Box::new(two_files(state, table)?))),
         [path] => {
             let bytes = bytes_of(path)?;
-            if looks_stored(&bytes) {
+            if holds_words(&bytes) {
                 Ok(Source::Words(Box::new(whole(path, &bytes)?)))
             } else {
                 Ok(Source::Stream(bytes))
@@ -60,7 +63,12 @@ pub fn words_of(arguments: &Arguments) -> Result<Words, Failure> {
     }
 }
 
-/// Whether bytes begin as a whole store does; no record begins so.
+/// Whether bytes begin as stored words of any form do; no record begins so, and no listing.
+pub fn holds_words(bytes: &[u8]) -> bool {
+    looks_stored(bytes) || bytes.starts_with(STORED_MARK)
+}
+
+/// Whether bytes begin as a whole store does.
 fn looks_stored(bytes: &[u8]) -> bool {
     bytes.len() >= FRONT && word(bytes, 0) < 256 && word(bytes, 1) < 256 && word(bytes, 1) != 0
 }
@@ -78,6 +86,11 @@ fn words_in(path: &str, bytes: &[u8]) -> Result<Vec<u32>, Failure> {
 
 /// A store as `Engine::to_bytes` writes it.
 fn whole(path: &str, bytes: &[u8]) -> Result<Words, Failure> {
+    if bytes.starts_with(STORED_MARK) {
+        return input(format!(
+            "{path} is what forgelilac_store or Engine::store wrote: its words are read with --at 16"
+        ));
+    }
     if !looks_stored(bytes) {
         return input(format!(
             "{path} is no store as Engine::to_bytes writes it; where state and table are two files, give both"

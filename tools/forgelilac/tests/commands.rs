@@ -298,6 +298,8 @@ fn stored_words_are_told() {
         // A store of a host's own: two words, both, and a sum, as docs/HOSTS.md, "Stored words", has one.
         let own = [bytes_of(&[3, 17]), bytes_of(state), bytes_of(table), bytes_of(&[0xfeed_f00d])].concat();
         assert_eq!(text, said(&["state", "--at", "8", &folder.file("own", own)]));
+        let stored = folder.file("stored", engine.store(7).unwrap());
+        assert_eq!(text, said(&["state", "--at", "16", &stored]));
         let all = said(&["state", "--all", &store]);
         has(&all, &["round 1: by 0 1 2 3", "round 5: by 0 1 2", "round 9: by 2 3 4"]);
         assert!(!text.contains("round 1: by"));
@@ -399,6 +401,10 @@ fn words_of_other_lengths_and_formats() {
     assert!(found(&["state", "--at", "20", &cut]).contains("not well formed"));
     assert_eq!(refused(&["state", "--at", "8", &state_file, &whole]).0, Some(2));
     assert!(refused(&["state", "docs/run.stream"]).1.contains("no store as Engine::to_bytes writes it"));
+    let stored = folder.file("stored", engine.store(7).unwrap());
+    for command in ["state", "register", "listing", "run"] {
+        assert!(refused(&[command, &stored]).1.contains("its words are read with --at 16"), "{command}");
+    }
 }
 
 // ---- listing, register
@@ -457,6 +463,12 @@ fn the_register_of_a_stream_of_answers_and_of_a_listing() {
         answers.lines().filter(|line| line.matches(',').count() > 2).map(|line| format!("{line}\n")).collect();
     let listing = folder.file("listing", format!("{listing}ok\n"));
     assert_eq!(said(&["register", "--members", "--lookback", "1", "--weights", "20,3,0,0", &listing]), table);
+    let engine = worked_out(64);
+    for (name, bytes) in [("store", engine.to_bytes()), ("stored", engine.store(7).unwrap())] {
+        let (status, line) = refused(&["register", "--weights", "1,1,1,1", &folder.file(name, bytes)]);
+        assert!(line.contains("has stored words, and with them the starting weights: leave --weights out"), "{line}");
+        assert_eq!(status, Some(1));
+    }
     let without: Vec<_> = table.split("\n\n").take(2).collect();
     assert_eq!(said(&["register", &stream]), without.join("\n\n") + "\n");
 }

@@ -9,7 +9,7 @@ use crate::register::Register;
 use crate::runner::listing_of;
 use crate::settings::{sheet_of, start_of, Setting};
 use crate::source;
-use crate::store::AT;
+use crate::store::{holds_words, AT};
 use forgelilac::{Engine, Sheet, MEMBERS};
 
 pub const COMMAND: Command = Command {
@@ -89,7 +89,11 @@ fn of_listing(arguments: &Arguments, weights: &str) -> Result<Register, Failure>
     if start.total() == 0 {
         return usage("register: the weights are all 0: no such sheet is opened");
     }
-    let text = bytes_of(&arguments.operands[0])?;
+    let path = &arguments.operands[0];
+    let text = bytes_of(path)?;
+    if holds_words(&text) {
+        return input(format!("{path} has stored words, and with them the starting weights: leave --weights out"));
+    }
     let lines = lines_of(&text)?;
     let Some(((_, "ok"), lines)) = lines.split_last() else { return input("a listing ends in ok") };
     Ok(Register::of(start.weights, Setting::Lookback.filled(&sheet), &blocks_of(lines.iter().copied())?))

@@ -1,0 +1,6 @@
+pub mod Guests
+pub mod RunsLaws
+pub mod ListLaws
+pub mod ByteLaws
+pub mod ReplayLaws
+pub mod Answered

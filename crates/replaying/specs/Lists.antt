@@ -1,0 +1,69 @@
+-- A list of a run's calls as words: a head, and then each call of each member in the order in which they are made (docs/PLANT.md, "The calls of a run, made again").
+use Rattle.std.specs.Prelude.{List, [], ◌∷◌, ◌++◌, ℕ, length}
+use Rattle.batching.specs.declared.rows.CertificateRecord.{CertificateRecord}
+use Rattle.batching.specs.Rows.{record_words}
+use Rattle.replaying.specs.declared.calls.HostCall.{HostCall}
+use Rattle.replaying.specs.declared.calls.HostCall.TheVariants as host
+use Rattle.replaying.specs.declared.calls.GuestCall.{GuestCall}
+use Rattle.replaying.specs.declared.calls.GuestCall.TheVariants as guest
+use Rattle.replaying.specs.declared.calls.Call.{Call}
+use Rattle.replaying.specs.declared.calls.Call.TheVariants.{Host, Guest}
+use Rattle.replaying.specs.declared.calls.Entry.{Entry}
+use Rattle.replaying.specs.declared.heads.Head.{Head}
+use Rattle.replaying.specs.declared.heads.TheConstants.{MARK}
+
+-- the words of certificates in a row
+unfoldable pub rows_words : List CertificateRecord → List ℕ
+rows_words [] = []
+rows_words (e ∷ l) = record_words e ++ rows_words l
+
+-- a row, its length first
+abbrev pub row_words : List CertificateRecord → List ℕ
+row_words l = length l ∷ rows_words l
+
+-- a call of the host's own: its number, and what is handed in
+abbrev pub host_words : HostCall → List ℕ
+host_words (host.Propose body) = 0 ∷ body
+host_words (host.Draw v) = 1 ∷ v ∷ []
+host_words (host.Enqueue g x) = 2 ∷ g ∷ x
+host_words (host.Endorse proposal) = 3 ∷ proposal
+host_words (host.Certify endorsers) = 4 ∷ endorsers ∷ []
+host_words (host.Accept certificate) = 5 ∷ certificate
+host_words (host.Batch row) = 6 ∷ row_words row.items
+host_words host.Advance = 7 ∷ []
+host_words host.Commit = 8 ∷ []
+host_words (host.PortReset g) = 9 ∷ g ∷ []
+
+-- a guest's call: its number, the caller, and what is handed in
+abbrev pub guest_words : ℕ → GuestCall → List ℕ
+guest_words c (guest.Propose body) = 16 ∷ c ∷ body
+guest_words c (guest.Draw v) = 17 ∷ c ∷ v ∷ []
+guest_words c (guest.Enqueue x) = 18 ∷ c ∷ x
+guest_words c (guest.Endorse proposal) = 19 ∷ c ∷ proposal
+guest_words c (guest.Certify endorsers) = 20 ∷ c ∷ endorsers ∷ []
+guest_words c (guest.Accept certificate) = 21 ∷ c ∷ certificate
+guest_words c (guest.Batch row) = 22 ∷ c ∷ row_words row.items
+guest_words c guest.Advance = 23 ∷ c ∷ []
+guest_words c guest.Commit = 24 ∷ c ∷ []
+guest_words c (guest.PortRead o) = 25 ∷ c ∷ o ∷ []
+guest_words c (guest.PortWrite o b) = 26 ∷ c ∷ o ∷ b ∷ []
+
+abbrev pub call_words : Call → List ℕ
+call_words (Host x) = host_words x
+call_words (Guest c x) = guest_words c x
+
+-- whose call it is, and the call
+abbrev pub entry_words : Entry → List ℕ
+entry_words e = e.who ∷ call_words e.call
+
+unfoldable pub entries_words : List Entry → List ℕ
+entries_words [] = []
+entries_words (e ∷ l) = entry_words e ++ entries_words l
+
+-- the head: a mark, how many members there are, the rights that all open with, and the words of their sheet
+abbrev pub head_words : Head → List ℕ
+head_words h = MARK ∷ h.members ∷ h.rights ∷ h.sheet
+
+-- the words of a whole list
+abbrev pub list_words : Head → List Entry → List ℕ
+list_words h l = head_words h ++ entries_words l

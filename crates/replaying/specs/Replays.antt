@@ -1,0 +1,53 @@
+-- What making a list again comes to, and the bytes that tell it.
+use Rattle.std.specs.Prelude.{◌≡◌, ◌<◌, List, [], ◌++◌, ℕ, length}
+use Rattle.std.specs.Int.{w32, w64, to_le_bytes}
+use Rattle.std.specs.List.{flat_map}
+use Rattle.nonforking.specs.Statement.{Run}
+use Rattle.library.specs.Hosts.{Hosts, members, calls_in}
+use Rattle.replaying.specs.declared.calls.Entry.{Entry}
+use Rattle.replaying.specs.declared.calls.Keeper.{Keeper}
+use Rattle.replaying.specs.declared.heads.Head.{Head}
+use Rattle.replaying.specs.Lists.{list_words}
+use Rattle.replaying.specs.Runs.{Stand, after_run, answers_of, newest, NeverFork, SameCommittees}
+use Rattle.replaying.specs.Opened.{opened, Opens, OpenedAs}
+
+-- the words w are those of a head and of a list of calls; members open, their words and the answers are what the list of the library's calls leaves and answers; and chains never fork over it, where it is a run
+pub record Replays (w : List ℕ) (h : Head) (l : List Entry) (keepers : List Keeper) (answers : List ℕ) : Type 0 where
+  pub listed : w ≡ list_words h l
+  pub hosts : length keepers ≡ h.members
+  pub accepted : (k : ℕ) → k < h.members → Opens h k
+  pub left : Stand keepers (after_run (opened h) l)
+  pub answered : answers ≡ answers_of (opened h) l
+  pub chains : (X : Hosts) → OpenedAs X h → Run (members X) (calls_in X (newest l []))
+      → NeverFork X keepers
+  pub committees : (X : Hosts) → OpenedAs X h → Run (members X) (calls_in X (newest l []))
+      → SameCommittees X keepers
+
+-- ---- as bytes, the lowest of each number first
+
+-- words have four each
+abbrev pub bytes_of : List ℕ → List ℕ
+bytes_of w = flat_map (to_le_bytes w32) w
+
+-- answers eight
+abbrev pub answer_bytes : List ℕ → List ℕ
+answer_bytes a = flat_map (to_le_bytes w64) a
+
+-- a member's state, and its table
+abbrev pub keeper_bytes : Keeper → List ℕ
+keeper_bytes x = bytes_of x.state.items ++ bytes_of x.table.items
+
+-- all answers, and then all members
+abbrev pub told_bytes : List Keeper → List ℕ → List ℕ
+told_bytes keepers answers = answer_bytes answers ++ flat_map keeper_bytes keepers
+
+-- on the bytes b: they are those of words that are made again, and what is told of it is t
+pub record Told (b t : List ℕ) : Type 0 where
+  pub words : List ℕ
+  pub head : Head
+  pub entries : List Entry
+  pub keepers : List Keeper
+  pub answers : List ℕ
+  pub bytes : b ≡ bytes_of words
+  pub made : Replays words head entries keepers answers
+  pub tells : t ≡ told_bytes keepers answers

@@ -1,0 +1,57 @@
+//! A run's calls read from a list, and made again by the calls of hosts that own their words.
+//!
+//! A list has what all members open with, and then call after call. Its words are read (specs/Lists), the members opened and the calls made by `making::run`, whose contract says that chains never fork. What is told are the answers and the words that are left (specs/Replays). docs/PLANT.md, "The list of a run's calls".
+#![tactic(auto)]
+
+pub mod calls;
+pub mod failure;
+pub mod heads;
+pub mod making;
+pub mod opening;
+pub mod reading;
+pub mod telling;
+
+ghost use Rattle.std.specs.Prelude.{◌≡◌, List, ℕ, IfOk, IfSome, IsOk};
+ghost use Rattle.std.specs.Io.KnownBytes.{Appends};
+ghost use Rattle.replaying.specs.declared.calls.Entry.{Entry};
+ghost use Rattle.replaying.specs.declared.heads.Head.{Head};
+ghost use Rattle.replaying.specs.Replays.{Replays, Told};
+
+use crate::calls::Keeper;
+use crate::failure::Failure;
+use std::alloc::Global;
+use std::io::{Read, Write};
+
+/// Makes a list again, by its words: what its members' hosts keep afterwards, and the answer to each call.
+///
+/// # Errors
+/// Words that no list has, an open that is refused, memory.
+pub fn replay(alloc: Global, words: &[u32]) -> Result<(Vec<Keeper>, Vec<u64>), Failure>
+    ensures { IfOk result (λ p. (h : Head) × (l : List Entry)
+        × Replays words.now h l p.0.items p.1.items) }
+{
+    let (head, rest) = reading::head(words)?;
+    let mut keepers = opening::opens(alloc, &head)?;
+    let entries = reading::entries(alloc, head.members, rest)?;
+    let mut answers = vec![in alloc; 0u64; entries.len()]?;
+    making::run(&mut keepers, &entries, &mut answers);
+    Ok((keepers, answers))
+}
+
+/// Makes the list again whose bytes a reader gives, to its end, and hands the bytes that tell what came of it to a writer: the answers, eight bytes each, then each member's state and table, four bytes a word. Nothing is handed out where the list is damaged.
+///
+/// # Errors
+/// Those of `replay`, and a read or a write that failed.
+pub fn serve<R: Read, W: Write>(alloc: Global, input: &mut R, output: &mut W) -> Result<(), Failure>
+    ensures { IsOk result → IfSome (R.remaining input.old) (λ bytes. (told : List ℕ)
+        × Told bytes told × Appends (W.contents output.old) (W.contents output.new) told) }
+{
+    let mut bytes = Vec::new(alloc);
+    input.read_to_end(&mut bytes)?;
+    let words = telling::words_in(alloc, &bytes)?;
+    let (keepers, answers) = replay(alloc, &words)?;
+    let told = telling::told(alloc, &keepers, &answers)?;
+    output.write_all(&told)?;
+    output.flush()?;
+    Ok(())
+}

@@ -1,0 +1,83 @@
+//! The members of a list, opened by its head: each has its words, and the committees beside them.
+
+ghost use Rattle.std.specs.Prelude.{◌≡◌, [], ◌<◌, ℕ, length, IfOk, OnOk};
+ghost use Rattle.refusals.specs.Refusals.{refusal_in};
+ghost use Rattle.hosting.specs.Calls.{plain, Done};
+ghost use Rattle.hosting.specs.HostCalls.{comes_to, opens};
+ghost use Rattle.replaying.specs.Opened.{lent, opened, Opens};
+ghost use Rattle.replaying.specs.Runs.{words_of, OwnedWords, AllOwned, Stand};
+
+use crate::calls::Keeper;
+use crate::failure::{Failure, push};
+use crate::heads::Head;
+use chain_committees::cache;
+use owned::resuming;
+use refusals::Refusal;
+use std::alloc::Global;
+use store::places;
+use terms::sheet::Rights;
+use terms::{Member, sheet};
+use words::bodies::lengths::STATE;
+
+// An open over words: state and table as they are lent, and what the head says.
+#[tactic(auto, using(crate::proofs::Answered::result_read, crate::proofs::Answered::result_unread, crate::proofs::Guests::some_number), unfolding(engine::specs::Values::value_of))]
+fn open(state: &mut [u32], table: &mut [u32], own: u32, head: &Head) -> Result<(), Refusal>
+    ensures { Done plain (comes_to state.old table.old (opens own head.now.sheet head.now.rights))
+        (refusal_in result) state.new table.new [] }
+{
+    if state.len() < STATE {
+        return Err(Refusal::Malformed);
+    }
+    let Some(written) = words::sheets::sheet(&head.sheet, Rights(head.rights)) else {
+        return Err(Refusal::Malformed);
+    };
+    let mut s = open::closed();
+    open::open(&mut s, table, Member(own), written)?;
+    words::states::put_state(state, &s);
+    Ok(())
+}
+
+// What is lent to an open by the head: a state and a table of zeros, and committees with room for all rounds.
+fn lent(alloc: Global, head: &Head) -> Result<Keeper, Failure>
+    ensures { IfOk result (λ k. words_of k ≡ lent head.now) }
+{
+    let Some(written) = words::sheets::sheet(&head.sheet, Rights(head.rights)) else {
+        return Err(Failure::Damaged);
+    };
+    let ceiling = sheet::fill(written).ceiling;
+    Ok(Keeper {
+        state: vec![in alloc; 0; STATE]?,
+        table: vec![in alloc; 0; places::used_length(ceiling)]?,
+        kept: vec![in alloc; 0; cache::words_to(ceiling)]?,
+    })
+}
+
+// A member's words, opened, and the committees that its host keeps beside them.
+fn opened(alloc: Global, own: u32, head: &Head) -> Result<Keeper, Failure>
+    ensures words { IfOk result (λ k. words_of k ≡ opened head.now own) }
+    ensures accepted { OnOk result (Opens head.now own) }
+    ensures owned { IfOk result OwnedWords }
+{
+    let mut keeper = lent(alloc, head)?;
+    if let Err(refusal) = open(&mut keeper.state, &mut keeper.table, own, head) {
+        return Err(Failure::Refused(refusal.number()));
+    }
+    if !resuming::resume(&keeper.state, &keeper.table, &mut keeper.kept) {
+        return Err(Failure::Refused(Refusal::Malformed.number()));
+    }
+    Ok(keeper)
+}
+
+/// The members of a list, opened.
+pub fn opens(alloc: Global, head: &Head) -> Result<Vec<Keeper>, Failure>
+    ensures members { IfOk result (λ v. length v.items ≡ head.now.members) }
+    ensures words { IfOk result (λ v. Stand v.items (opened head.now)) }
+    ensures accepted { OnOk result ((k : ℕ) → k < head.now.members → Opens head.now k) }
+    ensures owned { IfOk result (λ v. AllOwned v.items) }
+{
+    let mut all = Vec::new(alloc);
+    for own in 0..head.members {
+        push(&mut all, opened(alloc, own, head)?)?;
+    }
+    Ok(all)
+}
